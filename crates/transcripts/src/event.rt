@@ -1,0 +1,62 @@
+use lock_modes::Row;
+
+/// Why a statement failed. The numbers are those of the outcome values in a book.
+#[derive(Clone, Copy, Debug, PartialEq, Eq)]
+pub enum Fault {
+    /// A new row has a key that is there already.
+    Duplicate,
+    /// A whole number leaves the range of 64 bits.
+    OutOfRange,
+    /// The request would have to wait in a ring.
+    Deadlock,
+    /// The transaction block has failed before.
+    Aborted,
+}
+
+/// What a session is warned of.
+#[derive(Clone, Copy, Debug, PartialEq, Eq)]
+pub enum Warning {
+    /// A block begins inside a block.
+    InBlock,
+    /// A block ends where there is none.
+    NoBlock,
+}
+
+/// One line of a transcript.
+#[derive(Debug, Drop)]
+pub enum Event {
+    /// The step with this number begins.
+    Sent(u8),
+    /// A row that a select shows.
+    Row(Row),
+    /// How many rows a select has shown.
+    Rows(u64),
+    /// How many rows an insert has made.
+    Inserted(u64),
+    /// How many rows an update has matched.
+    Updated(u64),
+    /// How many rows a delete has removed.
+    Deleted(u64),
+    /// A transaction block begins.
+    Began,
+    /// A transaction has ended and its writes stay.
+    Committed,
+    /// A transaction has ended and its writes are gone.
+    RolledBack,
+    /// A table is locked as the statement asks.
+    Locked,
+    /// A setting was read; it has no effect.
+    Set,
+    /// A statement was out of place and harmless.
+    Warned(Warning),
+    /// The statement failed and its transaction is undone.
+    Failed(Fault),
+    /// The session waits for a lock.
+    Waiting,
+    /// The lock that the session waited for is had.
+    Resumed,
+    /// The step has ended.
+    Done,
+    /// The step with this number is skipped, since its session waits.
+    NotSent(u8),
+}
