@@ -1,0 +1,16 @@
+pub mod Locks
+pub mod LockTable
+pub mod Evaluate
+pub mod Effect
+pub mod Overlay
+pub mod Session
+pub mod Go
+pub mod World
+pub mod Start
+pub mod Footprint
+pub mod Quiet
+pub mod Sound
+pub mod Books
+pub mod Swap
+pub mod Serial
+pub mod Laws

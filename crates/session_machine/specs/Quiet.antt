@@ -1,0 +1,77 @@
+-- Steps that do not meet, and what a side may write.
+use Rattle.std.specs.Prelude.{◌≡◌, ℕ, Bool, true, false, not, ◌&&◌, ◌||◌, ◌==◌, List, [], ◌∷◌, ◌++◌, length, Option, Some, None, is_some}
+use Rattle.std.specs.List.{list_any, list_all}
+use Rattle.lock_modes.specs.Place.{Place}
+use Rattle.version_tree.specs.Map.{get}
+use Rattle.lock_modes.specs.Mode.{compatible, same_mode}
+use Rattle.session_machine.specs.Locks.{fits, waits_now}
+use Rattle.lock_modes.specs.Resource.{same_resource}
+use Rattle.sql_subset.specs.Plan.{Request, plan}
+use Rattle.session_machine.specs.World.{World, session_at, look_of}
+use Rattle.sql_subset.specs.Spec.{Step}
+use Rattle.session_machine.specs.Session.{Held}
+use Rattle.lock_modes.specs.declared.mode.Mode.{Mode}
+use Rattle.lock_modes.specs.declared.mode.Mode.TheVariants.{IntentExclusive, ShareIntent, Exclusive}
+use Rattle.lock_modes.specs.declared.resource.Resource.{Resource}
+use Rattle.lock_modes.specs.declared.resource.Resource.TheVariants.{Table, Row as RowOf}
+use Rattle.transcripts.specs.declared.event.Event.{Event}
+use Rattle.transcripts.specs.declared.event.Event.TheVariants.{Sent, Waiting, Resumed, NotSent}
+use Rattle.sql_subset.specs.declared.bound.Bound.{Bound}
+
+abbrev pub Claims : Type 0
+Claims = Resource → Mode → Bool
+
+-- the mode is held there
+abbrev pub is_mode : Option Mode → Mode → Bool
+is_mode None m = false
+is_mode (Some n) m = same_mode n m
+
+-- what a session claims in a step: what it holds before it, and what it asks in it
+abbrev pub claims_of : Held → List Request → Claims
+claims_of held qs r m = is_mode (get held r) m || list_any (λ q. same_resource q.resource r && same_mode q.mode m) qs
+
+-- a side with these claims may write the row at the place
+abbrev pub may_write : Claims → Place → Bool
+may_write claims p =
+    claims (Table p.0) Exclusive || (claims (RowOf p.0 p.1) Exclusive && (claims (Table p.0) IntentExclusive || claims (Table p.0) ShareIntent))
+
+-- the requests of a step
+abbrev pub plans : List Bound → List Request
+plans [] = []
+plans (s ∷ ss) = plan s ++ plans ss
+
+-- each request fits beside what sessions other than i hold
+abbrev pub all_fit : World → ℕ → List Request → Bool
+all_fit w i qs = list_all (λ q. fits (length w.sessions) (look_of w) i q.resource q.mode) qs
+
+abbrev pub fit_together : Request → Request → Bool
+fit_together q p = not (same_resource q.resource p.resource) || compatible q.mode p.mode
+
+abbrev pub all_fit_together : List Request → List Request → Bool
+all_fit_together qs ps = list_all (λ q. list_all (fit_together q) ps) qs
+
+-- nobody waits where the session holds a lock or asks one
+abbrev pub undisturbed : World → ℕ → List Request → Bool
+undisturbed w i qs = list_all (λ v. not (is_some (look_of w i v.resource)) && list_all (λ q. not (same_resource v.resource q.resource)) qs) w.waits
+
+-- steps s of session i and t of session j do not meet in the world
+abbrev pub is_quiet : World → Step → Step → Bool
+is_quiet w s t =
+    let i = s.session in
+    let j = t.session in
+    let qs = plans s.statements in
+    let ps = plans t.statements in
+    not (i == j) && (not (waits_now w.waits i) && (not (waits_now w.waits j)
+    && (all_fit w i qs && (all_fit w j ps && (all_fit_together qs ps && (undisturbed w i qs && undisturbed w j ps))))))
+
+-- the event tells of no wait
+abbrev pub is_calm : Event → Bool
+is_calm e = elim e [ Waiting ↦ false | Resumed ↦ false | NotSent k ↦ false | _ ↦ true ]
+
+abbrev pub AllCalm : List Event → Type 0
+AllCalm [] = Unit {0}
+AllCalm (e ∷ es) = (is_calm e ≡ true) × AllCalm es
+
+-- from the one world to the other, the session has noted that the step was sent, and then nothing that tells of a wait
+abbrev pub SentCalmly : World → World → ℕ → ℕ → Type 0
+SentCalmly w v i k = (es : List Event) × AllCalm es × ((session_at v i).transcript ≡ (session_at w i).transcript ++ Sent k ∷ es)

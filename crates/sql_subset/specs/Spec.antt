@@ -1,0 +1,71 @@
+-- A spec as the machine runs it: steps, setups and lines, and the line of each rank.
+use Rattle.std.specs.Prelude.{ℕ, zero, suc, ◌==◌, List, [], ◌∷◌, length, map, set, get_or, ◌<◌, ◌≤◌, cond}
+use Rattle.sql_subset.specs.declared.bound.Bound.{Bound}
+use Rattle.perm_ranks.specs.Words.{Word, all_words, word_at}
+
+-- a step of the file
+pub record Step : Type 0 where
+  pub session : ℕ
+  pub statements : List Bound
+
+abbrev pub no_step : Step
+no_step = record { session = 0; statements = [] }
+
+-- `lines` are the lines of step numbers that the spec itself gives, or none where it means all words
+pub record Spec : Type 0 where
+  pub sessions : ℕ
+  pub steps : List Step
+  pub setups : List (List Bound)
+  pub session_setups : List (List Bound)
+  pub lines : List (List ℕ)
+
+-- what is still to be sent: for each session its step numbers, in order
+abbrev pub Queues : Type 0
+Queues = List (List ℕ)
+
+-- each letter i takes the next step of session i
+abbrev pub line : Queues → Word → List ℕ
+line q [] = []
+line q (i ∷ word) = elim (get_or q i []) [ [] ↦ line q word | k ∷ ks ↦ k ∷ line (set q i ks) word ]
+
+-- how many steps each session has
+abbrev pub counts_of : Queues → List ℕ
+counts_of q = map (λ (ks : List ℕ). length ks) q
+
+-- the numbers of the session's steps, counted from k on
+abbrev pub steps_of : ℕ → ℕ → List Step → List ℕ
+steps_of i k [] = []
+steps_of i k (s ∷ ss) = cond (s.session == i) (k ∷ steps_of i (suc k) ss) (steps_of i (suc k) ss)
+
+-- of so many sessions from i on
+abbrev pub queues_from : ℕ → ℕ → List Step → Queues
+queues_from i zero steps = []
+queues_from i (suc n) steps = steps_of i 0 steps ∷ queues_from (suc i) n steps
+
+abbrev pub queues_of : Spec → Queues
+queues_of spec = queues_from 0 spec.sessions spec.steps
+
+-- a spec with lines has these alone; another has a line for each word
+abbrev pub ranks_by : List (List ℕ) → Queues → ℕ
+ranks_by [] q = length (all_words (counts_of q))
+ranks_by (l ∷ ls) q = length (l ∷ ls)
+
+abbrev pub line_by : List (List ℕ) → Queues → ℕ → List ℕ
+line_by [] q r = line q (word_at (counts_of q) r)
+line_by (l ∷ ls) q r = get_or (l ∷ ls) r []
+
+-- how many ranks the spec has, and the line of a rank
+abbrev pub ranks : Spec → ℕ
+ranks spec = ranks_by spec.lines (queues_of spec)
+
+abbrev pub line_of : Spec → ℕ → List ℕ
+line_of spec r = line_by spec.lines (queues_of spec) r
+
+-- what binding gives: each step's session is one of the spec, and at most one session setup comes for each
+abbrev pub EachStep : (Step → Type 0) → List Step → Type 0
+EachStep P [] = Unit {0}
+EachStep P (s ∷ ss) = P s × EachStep P ss
+
+pub record IsBound (spec : Spec) : Type 0 where
+  pub session_setups : length spec.session_setups ≤ spec.sessions
+  pub steps : EachStep (λ s. s.session < spec.sessions) spec.steps
