@@ -18,7 +18,8 @@ use Rattle.lock_modes.specs.declared.mode.Mode.{Mode}
 use Rattle.transcripts.specs.declared.event.Event.TheVariants.{Sent, NotSent}
 use Rattle.lock_modes.specs.declared.resource.Resource.{Resource}
 use Rattle.sql_subset.specs.declared.bound.Bound.{Bound}
-use Rattle.session_machine.proofs.Basics.{Each, Each-append, Each-left, Each-right, Each-map, filter_same, both_true, and_true, or_true_left, or_true_right, known, compatible-cover, compatible-symm, same_mode-refl}
+use Rattle.session_machine.proofs.Basics.{Each, Each-append, Each-left, Each-right, Each-map, filter_same, both_true, and_true, or_true_left, or_true_right, known, compatible-symm, same_mode-refl}
+use Rattle.lock_modes.proofs.ModeLaws.{compatible-cover}
 use Rattle.session_machine.specs.Footprint.{EachAsk, EachDo, HeldFits, IsFree}
 use Rattle.session_machine.proofs.Solo.{Keeps, go-solo, solo-held}
 use Rattle.session_machine.proofs.Footprint.{OverlayUnder, SameStop, solo-same, solo-within, ReadsOff, WritesUnder}

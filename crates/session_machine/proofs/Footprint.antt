@@ -23,7 +23,7 @@ abbrev pub over : Option (Option Tuple) → Option Tuple → Option Tuple
 over None x = x
 over (Some y) x = y
 
-get-laid : (k : Place) (x : Option Tuple) (rows : Rows') (p : Place) → get (laid k x rows) p ≡ cond (same_key place_order p k) x (get rows p)
+pub get-laid : (k : Place) (x : Option Tuple) (rows : Rows') (p : Place) → get (laid k x rows) p ≡ cond (same_key place_order p k) x (get rows p)
 get-laid k None rows p = get-remove rows k p
 get-laid k (Some row) rows p = get-insert rows k row p
 

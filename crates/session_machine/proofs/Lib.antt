@@ -1,4 +1,6 @@
 pub mod Worked
+pub mod Plain
+pub mod PlainStart
 pub mod Basics
 pub mod Looks
 pub mod Solo

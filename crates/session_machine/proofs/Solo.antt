@@ -16,7 +16,8 @@ use Rattle.transcripts.specs.declared.event.Fault.TheVariants.{Deadlock, Aborted
 use Rattle.session_machine.specs.declared.session.Status.{Status}
 use Rattle.session_machine.specs.declared.session.Status.TheVariants.{Outside, InBlock, Broken}
 use Rattle.sql_subset.specs.declared.bound.Bound.{Bound}
-use Rattle.session_machine.proofs.Basics.{both_true, and_true, compatible-cover, or_true_right}
+use Rattle.session_machine.proofs.Basics.{both_true, and_true, or_true_right}
+use Rattle.lock_modes.proofs.ModeLaws.{compatible-cover}
 
 abbrev pub OnGoes : Performed → (Session → Rows' → Type 0) → Type 0
 OnGoes (Goes s rows) P = P s rows

@@ -14,3 +14,5 @@ pub mod Books
 pub mod Swap
 pub mod Serial
 pub mod Laws
+pub mod Transaction
+pub mod Idle

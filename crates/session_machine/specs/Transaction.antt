@@ -1,0 +1,39 @@
+-- A block of statements as one transaction whose requests are all had: each statement has its effect on the rows that the ones before it left, or the first fault undoes them all.
+use Rattle.std.specs.Prelude.{ℕ, suc, List, [], ◌∷◌, ◌++◌, Option, Some, None, Result, Ok, Err}
+use Rattle.session_machine.specs.Effect.{Rows', Write, Gives, Faults, effect}
+use Rattle.session_machine.specs.Overlay.{laid}
+use Rattle.transcripts.specs.declared.event.Event.{Event}
+use Rattle.transcripts.specs.declared.event.Event.TheVariants.{Failed}
+use Rattle.sql_subset.specs.declared.bound.Bound.{Bound}
+
+-- the rows after these writes, one after another
+abbrev pub applied : List Write → Rows' → Rows'
+applied [] rows = rows
+applied (w ∷ ws) rows = applied ws (laid w.place w.left rows)
+
+-- what it tells, and the rows that it leaves, none where it failed
+pub record Transacted : Type 0 where
+  pub events : List Event
+  pub left : Option Rows'
+
+abbrev pub with_events : List Event → Transacted → Transacted
+with_events events x = record { events = events ++ x.events; left = x.left }
+
+-- the transaction of the statements over these rows
+abbrev pub transacted : Rows' → List Bound → Transacted
+transacted rows [] = record { events = []; left = Some rows }
+transacted rows (st ∷ sts) =
+    elim (effect st rows) [
+      | Gives events writes ↦ with_events events (transacted (applied writes rows) sts)
+      | Faults f ↦ record { events = Failed f ∷ []; left = None }
+    ]
+
+-- the rows afterwards: those that it leaves, or the rows as they were
+abbrev pub rows_after : Rows' → Option Rows' → Rows'
+rows_after rows None = rows
+rows_after rows (Some left) = left
+
+-- setup blocks, each a transaction over the rows that the ones before it left: the rows after all of them, or the number of the first that fails, counted from n on
+abbrev pub set_up_from : ℕ → Rows' → List (List Bound) → Result Rows' ℕ
+set_up_from n rows [] = Ok rows
+set_up_from n rows (block ∷ blocks) = elim (transacted rows block).left [ None ↦ Err n | Some left ↦ set_up_from (suc n) left blocks ]
