@@ -1,8 +1,10 @@
+ghost use Rattle.std.specs.Prelude.{◌≡◌};
+
 use lock_modes::{Mode, Row, Value};
 use std::marker::Model;
 
 /// An expression over the columns of a row.
-#[derive(Drop)]
+#[derive(Debug, Drop)]
 pub enum Expression {
     Literal(Value),
     Column(u8),
@@ -23,7 +25,7 @@ pub enum Comparison {
 }
 
 /// A condition over the columns of a row.
-#[derive(Drop)]
+#[derive(Debug, Drop)]
 pub enum Condition {
     Always,
     Compares(Expression, Comparison, Expression),
@@ -33,7 +35,7 @@ pub enum Condition {
 }
 
 /// What a select shows.
-#[derive(Drop)]
+#[derive(Debug, Drop)]
 pub enum Output {
     Columns(Columns),
     Aggregates(Aggregates),
@@ -47,7 +49,7 @@ pub enum Aggregate {
 }
 
 /// Column numbers, seen by contracts as their list.
-#[derive(Drop)]
+#[derive(Debug, Drop)]
 pub struct Columns {
     numbers: Vec<u8>,
 }
@@ -60,8 +62,24 @@ impl Model for Columns {
     ghost view = { λ c. c.numbers.items };
 }
 
+impl Columns {
+    /// These column numbers, in order.
+    pub fn from_vec(numbers: Vec<u8>) -> Columns
+        ensures { result ≡ numbers.items }
+    {
+        Columns { numbers }
+    }
+
+    /// The column numbers, in order.
+    pub fn numbers(&self) -> &[u8]
+        ensures { result.now ≡ self.now }
+    {
+        self.numbers.as_slice()
+    }
+}
+
 /// Aggregates, seen by contracts as their list.
-#[derive(Drop)]
+#[derive(Debug, Drop)]
 pub struct Aggregates {
     each: Vec<Aggregate>,
 }
@@ -75,8 +93,24 @@ impl Model for Aggregates {
     ghost view = { λ a. a.each.items };
 }
 
+impl Aggregates {
+    /// These aggregates, in order.
+    pub fn from_vec(each: Vec<Aggregate>) -> Aggregates
+        ensures { result ≡ each.items }
+    {
+        Aggregates { each }
+    }
+
+    /// The aggregates, in order.
+    pub fn each(&self) -> &[Aggregate]
+        ensures { result.now ≡ self.now }
+    {
+        self.each.as_slice()
+    }
+}
+
 /// Rows, seen by contracts as their list.
-#[derive(Drop)]
+#[derive(Debug, Drop)]
 pub struct NewRows {
     rows: Vec<Row>,
 }
@@ -90,15 +124,31 @@ impl Model for NewRows {
     ghost view = { λ r. r.rows.items };
 }
 
+impl NewRows {
+    /// These rows, in the order of the statement.
+    pub fn from_vec(rows: Vec<Row>) -> NewRows
+        ensures { result ≡ rows.items }
+    {
+        NewRows { rows }
+    }
+
+    /// The rows, in the order of the statement.
+    pub fn rows(&self) -> &[Row]
+        ensures { result.now ≡ self.now }
+    {
+        self.rows.as_slice()
+    }
+}
+
 /// One column that an update sets.
-#[derive(Drop)]
+#[derive(Debug, Drop)]
 pub struct Assignment {
     pub column: u8,
     pub value: Expression,
 }
 
 /// What an update sets, seen by contracts as its list.
-#[derive(Drop)]
+#[derive(Debug, Drop)]
 pub struct Assignments {
     each: Vec<Assignment>,
 }
@@ -116,6 +166,22 @@ impl Model for Assignments {
     ghost view = { λ a. a.each.items };
 }
 
+impl Assignments {
+    /// These assignments, in the order of the statement.
+    pub fn from_vec(each: Vec<Assignment>) -> Assignments
+        ensures { result ≡ each.items }
+    {
+        Assignments { each }
+    }
+
+    /// The assignments, in the order of the statement.
+    pub fn each(&self) -> &[Assignment]
+        ensures { result.now ≡ self.now }
+    {
+        self.each.as_slice()
+    }
+}
+
 /// One column that a select sorts by.
 #[derive(Clone, Copy, Debug, PartialEq, Eq)]
 pub struct SortKey {
@@ -124,7 +190,7 @@ pub struct SortKey {
 }
 
 /// What a select sorts by, seen by contracts as its list.
-#[derive(Drop)]
+#[derive(Debug, Drop)]
 pub struct SortKeys {
     each: Vec<SortKey>,
 }
@@ -138,8 +204,24 @@ impl Model for SortKeys {
     ghost view = { λ k. k.each.items };
 }
 
+impl SortKeys {
+    /// These sort keys, the first one first.
+    pub fn from_vec(each: Vec<SortKey>) -> SortKeys
+        ensures { result ≡ each.items }
+    {
+        SortKeys { each }
+    }
+
+    /// The sort keys, the first one first.
+    pub fn each(&self) -> &[SortKey]
+        ensures { result.now ≡ self.now }
+    {
+        self.each.as_slice()
+    }
+}
+
 /// A bound statement. A key is the literal of the first key part.
-#[derive(Drop)]
+#[derive(Debug, Drop)]
 pub enum Bound {
     Select(u16, Option<Value>, Condition, SortKeys, Output),
     Insert(u16, Option<u8>, NewRows),
@@ -151,4 +233,3 @@ pub enum Bound {
     LockTable(u16, Mode),
     SetVariable,
 }
-

@@ -3,4 +3,7 @@
 
 mod bound;
 
-pub use bound::{Aggregate, Aggregates, Assignment, Assignments, Bound, Columns, Comparison, Condition, Expression, NewRows, Output, SortKey, SortKeys};
+pub use bound::{
+    Aggregate, Aggregates, Assignment, Assignments, Bound, Columns, Comparison, Condition,
+    Expression, NewRows, Output, SortKey, SortKeys,
+};
