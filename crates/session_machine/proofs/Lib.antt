@@ -1,6 +1,7 @@
 pub mod Worked
 pub mod Plain
 pub mod PlainStart
+pub mod PlainEffects
 pub mod Basics
 pub mod Looks
 pub mod Solo

@@ -14,7 +14,7 @@ use Rattle.session_machine.specs.Overlay.{Overlay, laid, lay, written}
 use Rattle.session_machine.specs.Session.{Task, Ask, Do, asks, tasks_of, Held, Session, Kind, Works, kind, Performed, Goes, Fails, perform_by}
 use Rattle.session_machine.specs.Go.{Stop, Run, Scene, solo, failed, go, stopped}
 use Rattle.session_machine.specs.World.{World, fresh, session_at, look_of, scene_of, placed_back, goes}
-use Rattle.session_machine.specs.Transaction.{applied, Transacted, with_events, transacted, rows_after}
+use Rattle.session_machine.specs.Transaction.{applied, Transacted, effected, followed, transacted, rows_after}
 use Rattle.session_machine.specs.Idle.{idle_session, idle_world}
 use Rattle.session_machine.specs.declared.session.Status.TheVariants.{Outside}
 use Rattle.session_machine.proofs.Basics.{Each}
@@ -65,7 +65,7 @@ solo-transacted (st ∷ sts) o h t rows work =
   where
     worked_on : (g : Held) (e : Effect) → ((o2 : Overlay) (t2 : List Event) → solo (open_with o2 g t2) rows (tasks_of sts) ≡ ended_with t2 rows (transacted (lay o2 rows) sts))
         → (let x : Stop = elim (Rattle.session_machine.specs.Session.worked (open_with o g t) rows e) [ Goes s2 rows2 ↦ solo s2 rows2 (tasks_of sts) | Fails f ↦ failed (open_with o g t) rows f ] in x)
-        ≡ ended_with t rows (elim e [ Gives events writes ↦ with_events events (transacted (applied writes (lay o rows)) sts) | Faults f ↦ record { events = Failed f ∷ []; left = None } ])
+        ≡ ended_with t rows (followed (effected (lay o rows) e) (λ left. transacted left sts))
     worked_on g (Gives events writes) rec =
         rec (written writes o) (t ++ events) ∙ ap (λ seen. ended_with (t ++ events) rows (transacted seen sts)) (lay-written writes o rows)
         ∙ (let x = transacted (applied writes (lay o rows)) sts in λ i. record { session = idle_session ((append_assoc t events (x.events ++ Done ∷ []) ∙ ap (λ es. t ++ es) (sym (append_assoc events x.events (Done ∷ [])))) i); rows = rows_after rows x.left })

@@ -14,7 +14,7 @@ use Rattle.session_machine.specs.Session.{Session, tasks_of, note}
 use Rattle.session_machine.specs.World.{World, fresh, session_at, goes, send, settle}
 use Rattle.session_machine.specs.Start.{Start, Started, SetupFailed, SessionSetupFailed, SessionSetupWaits, is_failure, has_failed, is_outside, forgotten, after_setup, main_setups, session_setups, started_then, set_up, start}
 use Rattle.session_machine.specs.Serial.{is_data}
-use Rattle.session_machine.specs.Transaction.{applied, Transacted, with_events, transacted, rows_after, set_up_from}
+use Rattle.session_machine.specs.Transaction.{applied, Transacted, effected, followed, transacted, rows_after, set_up_from}
 use Rattle.session_machine.specs.Idle.{idle_session, idle_world}
 use Rattle.session_machine.proofs.Basics.{Each}
 use Rattle.session_machine.proofs.Calm.{DataEffect, AllData, data-effect}
@@ -67,7 +67,7 @@ failed-left [] rows more h = h
 failed-left (st ∷ sts) rows more h = at (effect st rows) (data-effect st rows) (λ seen. failed-left sts seen more h)
   where
     at : (f : Effect) → DataEffect f → ((seen : Rows') → list_any is_failure ((transacted seen sts).events ++ more) ≡ is_none (transacted seen sts).left)
-        → let x : Transacted = elim f [ Gives events writes ↦ with_events events (transacted (applied writes rows) sts) | Faults f ↦ record { events = Failed f ∷ []; left = None } ] in
+        → let x : Transacted = followed (effected rows f) (λ left. transacted left sts) in
         list_any is_failure (x.events ++ more) ≡ is_none x.left
     at (Gives events writes) d rec =
         let x = transacted (applied writes rows) sts in

@@ -15,4 +15,5 @@ pub mod Swap
 pub mod Serial
 pub mod Laws
 pub mod Transaction
+pub mod Plain
 pub mod Idle

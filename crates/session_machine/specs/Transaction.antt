@@ -1,6 +1,6 @@
 -- A block of statements as one transaction whose requests are all had: each statement has its effect on the rows that the ones before it left, or the first fault undoes them all.
 use Rattle.std.specs.Prelude.{ℕ, suc, List, [], ◌∷◌, ◌++◌, Option, Some, None, Result, Ok, Err}
-use Rattle.session_machine.specs.Effect.{Rows', Write, Gives, Faults, effect}
+use Rattle.session_machine.specs.Effect.{Rows', Write, Effect, Gives, Faults, effect}
 use Rattle.session_machine.specs.Overlay.{laid}
 use Rattle.transcripts.specs.declared.event.Event.{Event}
 use Rattle.transcripts.specs.declared.event.Event.TheVariants.{Failed}
@@ -16,17 +16,26 @@ pub record Transacted : Type 0 where
   pub events : List Event
   pub left : Option Rows'
 
+-- what an effect comes to
+abbrev pub effected : Rows' → Effect → Transacted
+effected rows (Gives events writes) = record { events = events; left = Some (applied writes rows) }
+effected rows (Faults f) = record { events = Failed f ∷ []; left = None }
+
+-- one statement
+abbrev pub stepped : Rows' → Bound → Transacted
+stepped rows st = effected rows (effect st rows)
+
 abbrev pub with_events : List Event → Transacted → Transacted
 with_events events x = record { events = events ++ x.events; left = x.left }
+
+-- what leaves rows is followed by what goes on from them
+abbrev pub followed : Transacted → (Rows' → Transacted) → Transacted
+followed x more = elim x.left [ None ↦ x | Some left ↦ with_events x.events (more left) ]
 
 -- the transaction of the statements over these rows
 abbrev pub transacted : Rows' → List Bound → Transacted
 transacted rows [] = record { events = []; left = Some rows }
-transacted rows (st ∷ sts) =
-    elim (effect st rows) [
-      | Gives events writes ↦ with_events events (transacted (applied writes rows) sts)
-      | Faults f ↦ record { events = Failed f ∷ []; left = None }
-    ]
+transacted rows (st ∷ sts) = followed (stepped rows st) (λ left. transacted left sts)
 
 -- the rows afterwards: those that it leaves, or the rows as they were
 abbrev pub rows_after : Rows' → Option Rows' → Rows'

@@ -3,6 +3,7 @@
 
 mod answer;
 mod laws;
+mod rows;
 mod session;
 
 pub use answer::Answer;
