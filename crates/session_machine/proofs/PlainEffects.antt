@@ -15,8 +15,11 @@ use Rattle.transcripts.specs.declared.event.Event.TheVariants.{Row as RowEvent, 
 use Rattle.transcripts.specs.declared.event.Fault.TheVariants.{Duplicate, OutOfRange}
 use Rattle.session_machine.specs.Evaluate.{holds}
 use Rattle.session_machine.specs.Effect.{Rows', visible, Write, Effect, Gives, Faults, effect, effect_on, matching, passed, sorted_by, shown, projected, placed, consed_write, or_fault}
-use Rattle.session_machine.specs.Transaction.{applied, Transacted, effected, stepped}
-use Rattle.session_machine.specs.Plain.{inserted, insert_tells, shown_if, select_tells}
+use Rattle.session_machine.specs.Transaction.{applied, Transacted, effected, stepped, with_events, transacted}
+use Rattle.session_machine.specs.Plain.{inserted, insert_tells, shown_if, select_tells, IsKeyTest}
+use Rattle.sql_subset.specs.declared.bound.Condition.TheVariants.{Always, Compares, Not', And', Or'}
+use Rattle.sql_subset.specs.declared.bound.Expression.TheVariants.{Literal, Column, Sum', Difference', Product'}
+use Rattle.sql_subset.specs.declared.bound.Comparison.TheVariants.{Same, Differs, Below, AtMost, Above, AtLeast}
 use Rattle.session_machine.proofs.Basics.{Each, Each-map, both_true, and_true, or_true_left, or_true_right}
 
 -- ---- an insert looks at the keys of its rows
@@ -162,3 +165,30 @@ stepped-select t key c columns rows total = at (get rows (t, key)) refl
         ∙ ap (λ o. let f : Effect = elim (passed ((t, key), row) o (Some [])) [ None ↦ Faults OutOfRange | Some es ↦ shown (Columns columns) (sorted_by [] es) ] in effected rows f) b.1
         ∙ ap (effected rows) (one-shown columns (t, key) row b.0)
         ∙ sym (ap (λ o. record { events = select_tells columns c o; left = Some rows }) is ∙ ap (λ o. record { events = shown_if columns row o; left = Some rows }) b.1)
+
+-- ---- for the code
+
+pub inserted-step : (t k : ℕ) (row : Tuple) (more : List Tuple) (rows : Rows') → is_some (get rows (t, key_at k row)) ≡ false → inserted t k (row ∷ more) rows ≡ inserted t k more (insert rows (t, key_at k row) row)
+inserted-step t k row more rows is = ap (λ b. let o : Option Rows' = elim b [ true ↦ None | false ↦ inserted t k more (insert rows (t, key_at k row) row) ] in o) is
+
+pub insert_tells-left : (n : ℕ) (o : Option Rows') → (insert_tells n o).left ≡ o
+insert_tells-left n None = refl
+insert_tells-left n (Some rows) = refl
+
+pub key-test-holds : (c : Condition) → IsKeyTest c → (row : Tuple) → (b : Bool) × (holds row c ≡ Some b)
+key-test-holds (Compares (Column k) Same (Literal v)) h row = (_, refl)
+key-test-holds c h row = absurd h
+
+-- ---- a transaction, statement by statement
+
+pub transacted-goes : (rows : Rows') (st : Bound) (more : List Bound) (left : Rows') → (stepped rows st).left ≡ Some left
+    → ((transacted rows (st ∷ more)).left ≡ (transacted left more).left) × ((transacted rows (st ∷ more)).events ≡ (stepped rows st).events ++ (transacted left more).events)
+transacted-goes rows st more left is =
+    let whole : transacted rows (st ∷ more) ≡ with_events (stepped rows st).events (transacted left more) = ap (λ x. let y : Transacted = elim x [ None ↦ stepped rows st | Some r ↦ with_events (stepped rows st).events (transacted r more) ] in y) is in
+    (ap (λ (x : Transacted). x.left) whole, ap (λ (x : Transacted). x.events) whole)
+
+pub transacted-stops : (rows : Rows') (st : Bound) (more : List Bound) → (stepped rows st).left ≡ None
+    → ((transacted rows (st ∷ more)).left ≡ None) × ((transacted rows (st ∷ more)).events ≡ (stepped rows st).events)
+transacted-stops rows st more is =
+    let whole : transacted rows (st ∷ more) ≡ stepped rows st = ap (λ x. let y : Transacted = elim x [ None ↦ stepped rows st | Some r ↦ with_events (stepped rows st).events (transacted r more) ] in y) is in
+    (ap (λ (x : Transacted). x.left) whole ∙ is, ap (λ (x : Transacted). x.events) whole)

@@ -16,4 +16,5 @@ pub mod Serial
 pub mod Laws
 pub mod Transaction
 pub mod Plain
+pub mod Running
 pub mod Idle

@@ -6,6 +6,9 @@ use Rattle.lock_modes.specs.declared.value.Value.{Value}
 use Rattle.lock_modes.specs.declared.value.Value.TheVariants.{Int}
 use Rattle.sql_subset.specs.Plan.{Tuple, key_at}
 use Rattle.sql_subset.specs.declared.bound.Condition.{Condition}
+use Rattle.sql_subset.specs.declared.bound.Condition.TheVariants.{Always, Compares, Not', And', Or'}
+use Rattle.sql_subset.specs.declared.bound.Expression.TheVariants.{Literal, Column, Sum', Difference', Product'}
+use Rattle.sql_subset.specs.declared.bound.Comparison.TheVariants.{Same, Differs, Below, AtMost, Above, AtLeast}
 use Rattle.transcripts.specs.declared.event.Event.{Event}
 use Rattle.transcripts.specs.declared.event.Event.TheVariants.{Row as RowEvent, Rows, Inserted, Failed}
 use Rattle.transcripts.specs.declared.event.Fault.TheVariants.{Duplicate}
@@ -34,3 +37,8 @@ shown_if columns row (Some true) = RowEvent (projected columns row) ∷ Rows 1 �
 abbrev pub select_tells : List ℕ → Condition → Option Tuple → List Event
 select_tells columns c None = Rows 0 ∷ []
 select_tells columns c (Some row) = shown_if columns row (holds row c)
+
+-- the condition is that a column has a value
+abbrev pub IsKeyTest : Condition → Type 0
+IsKeyTest (Compares (Column c) Same (Literal v)) = Unit {0}
+IsKeyTest c = ⊥
