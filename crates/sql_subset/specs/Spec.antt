@@ -1,6 +1,11 @@
 -- A spec as the machine runs it: steps, setups and lines, and the line of each rank.
-use Rattle.std.specs.Prelude.{ℕ, zero, suc, ◌==◌, List, [], ◌∷◌, length, map, set, get_or, ◌<◌, ◌≤◌, cond}
+use Rattle.std.specs.Prelude.{ℕ, zero, suc, ◌==◌, List, [], ◌∷◌, length, map, set, get_or, ◌<◌, ◌≤◌, cond, Option, Some, None, All, ◌≡◌}
+use Rattle.sql_subset.specs.declared.bound.Expression.TheVariants.{Literal, Column}
+use Rattle.sql_subset.specs.declared.bound.Comparison.TheVariants.{Same}
+use Rattle.sql_subset.specs.declared.bound.Condition.TheVariants.{Compares}
+use Rattle.sql_subset.specs.declared.bound.Output.TheVariants.{Columns}
 use Rattle.sql_subset.specs.declared.bound.Bound.{Bound}
+use Rattle.sql_subset.specs.declared.bound.Bound.TheVariants.{Select, Insert}
 use Rattle.perm_ranks.specs.Words.{Word, all_words, word_at}
 
 -- a step of the file
@@ -69,3 +74,49 @@ EachStep P (s ∷ ss) = P s × EachStep P ss
 pub record IsBound (spec : Spec) : Type 0 where
   pub session_setups : length spec.session_setups ≤ spec.sessions
   pub steps : EachStep (λ s. s.session < spec.sessions) spec.steps
+
+-- a spec with its text and its names
+pub record SpecFile : Type 0 where
+  pub text : List ℕ
+  pub session_names : List (List ℕ)
+  pub step_names : List (List ℕ)
+  pub run : Spec
+
+-- the machine of today runs it: rows into a table with a key, or columns of the row with a key
+abbrev pub RunsToday : Bound → Type 0
+RunsToday (Insert t (Some k) rows) = Unit {0}
+RunsToday (Select t (Some key) (Compares (Column c) Same (Literal v)) [] (Columns cs)) = Unit {0}
+RunsToday s = ⊥
+
+-- each statement of each block is one that the machine of today runs
+abbrev pub AllRunToday : List (List Bound) → Type 0
+AllRunToday blocks = All (λ (statements : List Bound). All RunsToday statements) blocks
+
+-- how many steps a spec may have, by its lines
+abbrev pub step_limit : List (List ℕ) → ℕ
+step_limit [] = 24
+step_limit (l ∷ ls) = 255
+
+-- a line of 1 to 24 steps
+pub record IsLine (steps : ℕ) (line : List ℕ) : Type 0 where
+  pub some : 1 ≤ length line
+  pub few : length line ≤ 24
+  pub known : All (λ k. k < steps) line
+
+-- a step of one of so many sessions, with statements that the machine of today runs
+pub record IsStep (sessions : ℕ) (step : Step) : Type 0 where
+  pub session : step.session < sessions
+  pub today : All RunsToday step.statements
+
+-- what every spec keeps
+pub record IsReady (file : SpecFile) : Type 0 where
+  pub few_sessions : file.run.sessions ≤ 6
+  pub few_steps : length file.run.steps ≤ step_limit file.run.lines
+  pub few_lines : length file.run.lines ≤ 4096
+  pub session_names : length file.session_names ≡ file.run.sessions
+  pub step_names : length file.step_names ≡ length file.run.steps
+  pub session_setups : length file.run.session_setups ≡ file.run.sessions
+  pub steps : All (IsStep file.run.sessions) file.run.steps
+  pub setups_today : AllRunToday file.run.setups
+  pub session_setups_today : AllRunToday file.run.session_setups
+  pub lines : All (IsLine (length file.run.steps)) file.run.lines

@@ -1,9 +1,16 @@
 //! The SQL subset: statements, the spec that a text binds to, and the lock plans of its statements.
 #![tactic(auto)]
 
+mod block;
 mod bound;
+mod orders;
+mod spec;
+mod walking;
 
+pub use block::Block;
 pub use bound::{
     Aggregate, Aggregates, Assignment, Assignments, Bound, Columns, Comparison, Condition,
     Expression, NewRows, Output, SortKey, SortKeys,
 };
+pub use orders::Line;
+pub use spec::Spec;

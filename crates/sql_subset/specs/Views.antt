@@ -1,0 +1,24 @@
+-- What contracts see of a spec, and what it keeps.
+use Rattle.std.specs.Prelude.{string_bytes}
+use Rattle.sql_subset.specs.declared.spec.Parts.{Parts}
+use Rattle.sql_subset.specs.Orders.{lines_of, IsOrderOf}
+use Rattle.sql_subset.specs.Spec.{SpecFile, IsReady}
+
+abbrev pub file_of : Parts → SpecFile
+file_of s = record {
+  text = string_bytes s.text;
+  session_names = s.session_names.items;
+  step_names = s.step_names.items;
+  run = record {
+    sessions = s.sessions;
+    steps = s.steps.items;
+    setups = s.setups.items;
+    session_setups = s.session_setups.items;
+    lines = lines_of s.orders;
+  };
+}
+
+-- what every spec keeps
+pub record IsKept (s : Parts) : Type 0 where
+  pub ready : IsReady (file_of s)
+  pub orders : IsOrderOf s.orders (file_of s).run

@@ -1,0 +1,79 @@
+ghost use Rattle.std.specs.Prelude.{◌≡◌};
+
+use crate::bound::Bound;
+use std::marker::Model;
+
+/// The statements of a setup or a step in their order, seen by contracts as their list.
+#[derive(Drop)]
+pub struct Block {
+    statements: Vec<Bound>,
+}
+
+impl Model for Block {
+    ghost use Rattle.std.specs.Prelude.{List};
+    ghost use Rattle.std.specs.Coded.{codes};
+    ghost use Rattle.sql_subset.specs.declared.bound.Bound.{Bound as One};
+    ghost use Rattle.sql_subset.specs.contracts.bound.Bound as bound;
+
+    ghost Value = { List One };
+
+    ghost coded = { Prim.hlevel (codes, bound.the_row.coded) };
+
+    ghost view = { λ b. b.statements.items };
+}
+
+impl Block {
+    pub(crate) fn from_statements(statements: Vec<Bound>) -> Block
+        ensures { result ≡ statements.items }
+    {
+        Block { statements }
+    }
+
+    pub fn statements(&self) -> &[Bound]
+        ensures { result.now ≡ self.now }
+    {
+        self.statements.as_slice()
+    }
+}
+
+/// A step of the file.
+#[derive(Drop)]
+pub(crate) struct Step {
+    session: u8,
+    statements: Vec<Bound>,
+}
+
+impl Model for Step {
+    ghost use Rattle.std.specs.Coded.{codes};
+    ghost use Rattle.sql_subset.specs.Spec.{Step as OfSpec};
+    ghost use Rattle.sql_subset.specs.contracts.bound.Bound as bound;
+
+    ghost Value = { OfSpec };
+
+    ghost coded = { Prim.hlevel (codes, bound.the_row.coded) };
+
+    ghost view = { λ s. record { session = s.session; statements = s.statements.items } };
+}
+
+impl Step {
+    pub(crate) fn new(session: u8, statements: Vec<Bound>) -> Step
+        ensures { result ≡ record { session = session; statements = statements.items } }
+    {
+        Step {
+            session,
+            statements,
+        }
+    }
+
+    pub(crate) fn session(&self) -> u8
+        ensures { result ≡ self.now.session }
+    {
+        self.session
+    }
+
+    pub(crate) fn statements(&self) -> &[Bound]
+        ensures { result.now ≡ self.now.statements }
+    {
+        self.statements.as_slice()
+    }
+}

@@ -1,0 +1,177 @@
+ghost use Rattle.std.specs.Prelude.{◌≡◌, ◌≢◌, ◌<◌, ◌≤◌, ◌↔◌, [], length, get_or, All, IsTrue, IsSome, IfSome};
+ghost use Rattle.sql_subset.specs.Spec.{no_step, ranks, line_of, RunsToday, AllRunToday, IsBound};
+ghost use Rattle.sql_subset.specs.Views.{file_of as file_of_parts, IsKept as IsKeptBy};
+
+use crate::block::{Block, Step};
+use crate::bound::Bound;
+use crate::orders::{Line, Orders, copied};
+use crate::walking::line_of_word;
+use lock_modes::Text;
+use std::marker::Model;
+
+/// What a spec is made of.
+#[derive(Drop)]
+pub(crate) struct Parts {
+    pub(crate) text: String,
+    pub(crate) session_names: Vec<Text>,
+    pub(crate) step_names: Vec<Text>,
+    pub(crate) sessions: u8,
+    pub(crate) steps: Vec<Step>,
+    pub(crate) setups: Vec<Block>,
+    pub(crate) session_setups: Vec<Block>,
+    pub(crate) orders: Orders,
+}
+
+/// A spec: its text, its names, what its setups and steps send, and in which orders.
+#[derive(Drop)]
+pub struct Spec {
+    parts: Parts,
+}
+
+impl Model for Spec {
+    ghost use Rattle.std.specs.Coded.{codes};
+    ghost use Rattle.sql_subset.specs.Spec.{SpecFile};
+    ghost use Rattle.sql_subset.specs.contracts.bound.Bound as bound;
+
+    ghost Value = { SpecFile };
+
+    ghost coded = { Prim.hlevel (codes, bound.the_row.coded) };
+
+    ghost use Rattle.sql_subset.specs.Views.{file_of, IsKept};
+
+    ghost view = { λ s. file_of s.parts };
+
+    ghost invariant = { λ s. IsKept s.parts };
+}
+
+impl Spec {
+    pub(crate) fn from_parts(parts: Parts) -> Spec
+        requires { IsKeptBy parts }
+        ensures { result ≡ file_of_parts parts }
+    {
+        Spec { parts }
+    }
+
+    /// The text of the file.
+    pub fn text(&self) -> &str
+        ensures { result.now ≡ self.now.text }
+    {
+        self.parts.text.as_str()
+    }
+
+    pub fn sessions(&self) -> u8
+        ensures count { result ≡ self.now.run.sessions }
+        ensures few { result ≤ 6 }
+        ensures bound { IsBound self.now.run }
+    {
+        self.parts.sessions
+    }
+
+    pub fn steps(&self) -> u8
+        ensures count { result ≡ length self.now.run.steps }
+    {
+        self.parts.steps.len() as u8
+    }
+
+    /// The session of a step.
+    pub fn session_of(&self, step: u8) -> u8
+        requires { step < length self.now.run.steps }
+        ensures is { result ≡ (get_or self.now.run.steps step no_step).session }
+        ensures known { result < self.now.run.sessions }
+    {
+        self.parts.steps[step as usize].session()
+    }
+
+    pub fn session_name(&self, session: u8) -> &str
+        requires { session < self.now.run.sessions }
+        ensures { result.now ≡ get_or self.now.session_names session [] }
+    {
+        self.parts.session_names[session as usize].as_str()
+    }
+
+    pub fn step_name(&self, step: u8) -> &str
+        requires { step < length self.now.run.steps }
+        ensures { result.now ≡ get_or self.now.step_names step [] }
+    {
+        self.parts.step_names[step as usize].as_str()
+    }
+
+    /// The names of the sessions, in the order of the file.
+    pub fn session_names(&self) -> &[Text]
+        ensures are { result.now ≡ self.now.session_names }
+        ensures each { length result.now ≡ self.now.run.sessions }
+    {
+        self.parts.session_names.as_slice()
+    }
+
+    /// The names of the steps, in the order of the file.
+    pub fn step_names(&self) -> &[Text]
+        ensures are { result.now ≡ self.now.step_names }
+        ensures each { length result.now ≡ length self.now.run.steps }
+    {
+        self.parts.step_names.as_slice()
+    }
+
+    /// The statements of a step.
+    pub fn statements(&self, step: u8) -> &[Bound]
+        requires { step < length self.now.run.steps }
+        ensures are { result.now ≡ (get_or self.now.run.steps step no_step).statements }
+        ensures today { All RunsToday result.now }
+    {
+        self.parts.steps[step as usize].statements()
+    }
+
+    /// The main setup blocks.
+    pub fn setups(&self) -> &[Block]
+        ensures are { result.now ≡ self.now.run.setups }
+        ensures today { AllRunToday result.now }
+    {
+        self.parts.setups.as_slice()
+    }
+
+    /// For each session its setup, empty where it has none.
+    pub fn session_setups(&self) -> &[Block]
+        ensures are { result.now ≡ self.now.run.session_setups }
+        ensures each { length result.now ≡ self.now.run.sessions }
+        ensures today { AllRunToday result.now }
+    {
+        self.parts.session_setups.as_slice()
+    }
+
+    /// Whether the file has permutation lines.
+    pub fn has_lines(&self) -> bool
+        ensures { IsTrue result ↔ (self.now.run.lines ≢ []) }
+    {
+        matches!(self.parts.orders, Orders::Lines(_))
+    }
+
+    /// How many permutations there are; their ranks are the numbers below.
+    pub fn ranks(&self) -> u64
+        ensures { result ≡ ranks self.now.run }
+    {
+        match &self.parts.orders {
+            Orders::Words(shape) => shape.count(),
+            Orders::Lines(lines) => lines.len() as u64,
+        }
+    }
+
+    /// The line of a rank.
+    pub fn line(&self, rank: u64) -> Option<Line>
+        ensures some { IsSome result ↔ (rank < ranks self.now.run) }
+        ensures line { IfSome result (λ line. line.items ≡ line_of self.now.run rank) }
+        ensures known { IfSome result (λ line. All (λ k. k < length self.now.run.steps) line.items) }
+    {
+        match &self.parts.orders {
+            Orders::Words(shape) => {
+                let word = shape.unrank(rank)?;
+                Some(line_of_word(&self.parts.steps, self.parts.sessions, &word))
+            }
+            Orders::Lines(lines) => {
+                if rank >= lines.len() as u64 {
+                    return None;
+                }
+                Some(copied(&lines[rank as usize]))
+            }
+        }
+    }
+}
