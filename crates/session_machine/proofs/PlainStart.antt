@@ -1,11 +1,13 @@
 -- Steps and setups in an idle world.
 use Rattle.std.specs.Prelude.{Result, Ok, Err, replicate}
 use Rattle.std.specs.Option.{is_none}
-use Rattle.std.specs.List.{list_any}
+use Rattle.std.specs.List.{list_any, All}
+use Rattle.std.proofs.lemmas.List.{replicate_more}
 use Rattle.std.proofs.lemmas.List.{set-get_or, get_or-set_same}
-use Rattle.std.proofs.Common.{◌≡◌, refl, sym, ap, ◌∙◌, subst, ℕ, zero, suc, ◌+◌, ◌<◌, ◌≤◌, Bool, true, false, cond, not, ◌||◌, List, [], ◌∷◌, ◌++◌, length, map, set, get_or, Option, Some, None, arith, length-set}
+use Rattle.std.proofs.Common.{◌≡◌, refl, sym, ap, ◌∙◌, subst, ℕ, zero, suc, ◌+◌, ◌<◌, ◌≤◌, Bool, true, false, cond, not, ◌||◌, List, [], ◌∷◌, ◌++◌, length, map, set, get_or, Option, Some, None, arith, length-set, add-one}
 use Rattle.version_tree.specs.Map.{empty}
-use Rattle.sql_subset.specs.Spec.{Step, no_step, Spec}
+use Rattle.sql_subset.specs.Spec.{Step, no_step, Spec, RunsToday, AllRunToday}
+use Rattle.sql_subset.specs.declared.bound.Bound.TheVariants.{Select, Insert, Update, Delete, Begin, Commit, Rollback, LockTable, SetVariable}
 use Rattle.sql_subset.specs.declared.bound.Bound.{Bound}
 use Rattle.transcripts.specs.declared.event.Event.{Event}
 use Rattle.transcripts.specs.declared.event.Event.TheVariants.{Sent, Row as RowEvent, Rows, Inserted, Updated, Deleted, Began, Committed, RolledBack, Locked, Set, Warned, Failed, Waiting, Resumed, Done, NotSent}
@@ -14,17 +16,16 @@ use Rattle.session_machine.specs.Session.{Session, tasks_of, note}
 use Rattle.session_machine.specs.World.{World, fresh, session_at, goes, send, settle}
 use Rattle.session_machine.specs.Start.{Start, Started, SetupFailed, SessionSetupFailed, SessionSetupWaits, is_failure, has_failed, is_outside, forgotten, after_setup, main_setups, session_setups, started_then, set_up, start}
 use Rattle.session_machine.specs.Serial.{is_data}
-use Rattle.session_machine.specs.Transaction.{applied, Transacted, effected, followed, transacted, rows_after, set_up_from}
+use Rattle.session_machine.specs.Transaction.{applied, Transacted, effected, followed, transacted, rows_after, told_by, set_up_from}
 use Rattle.session_machine.specs.Idle.{idle_session, idle_world}
+use Rattle.session_machine.specs.Running.{StopsAt, IsRefusedBy, setup_failed, session_setup_failed}
+use Rattle.session_machine.specs.declared.transaction.SetUpError.{SetUpError}
+use Rattle.session_machine.specs.declared.transaction.SetUpError.TheVariants.{Failed as FailedAt, NoMemory}
 use Rattle.session_machine.proofs.Basics.{Each}
 use Rattle.session_machine.proofs.Calm.{DataEffect, AllData, data-effect}
 use Rattle.session_machine.proofs.Plain.{IsWork, goes-idle, get_or-map_idle, set-map_idle}
 
 -- ---- a step
-
--- the transcript after a step
-abbrev pub told_by : List Event → ℕ → Transacted → List Event
-told_by t k x = (t ++ Sent k ∷ []) ++ (x.events ++ Done ∷ [])
 
 pub send-idle : (steps : List Step) (rows : Rows') (ts : List (List Event)) (k : ℕ) → Each IsWork (get_or steps k no_step).statements
     → let st = get_or steps k no_step in
@@ -184,3 +185,51 @@ start-idle spec mains sessions le =
         ≡ start_by ts r spec.session_setups
     on n ts blank le (Ok rows) = session_setups-idle 0 rows ts spec.session_setups sessions le blank
     on n ts blank le (Err k) = refl
+
+-- ---- what the machine of today runs
+
+pub today-works : (st : Bound) → RunsToday st → IsWork st
+today-works (Select t key c by out) h = refl
+today-works (Insert t key new) h = refl
+today-works (Update t key sets c) h = absurd h
+today-works (Delete t key c) h = absurd h
+today-works Begin h = absurd h
+today-works Commit h = absurd h
+today-works Rollback h = absurd h
+today-works (LockTable t m) h = absurd h
+today-works SetVariable h = absurd h
+
+all-works : (sts : List Bound) → All RunsToday sts → Each IsWork sts
+all-works [] all = tt
+all-works (st ∷ sts) all = (today-works st (all 0 st (omega arith)), all-works sts (λ k d lt. all (suc k) d (omega arith)))
+
+pub blocks-work : (blocks : List (List Bound)) → AllRunToday blocks → EachBlock blocks
+blocks-work [] all = tt
+blocks-work (block ∷ blocks) all = (all-works block (all 0 block (omega arith)), blocks-work blocks (λ k d lt. all (suc k) d (omega arith)))
+
+pub step-works : (sts : List Bound) → All RunsToday sts → Each IsWork sts
+step-works = all-works
+
+-- ---- what the calls of a start answer
+
+pub record TodaySpec (spec : Spec) : Type 0 where
+  pub setups : AllRunToday spec.setups
+  pub sessions : AllRunToday spec.session_setups
+  pub each : length spec.session_setups ≡ spec.sessions
+
+started-is : (spec : Spec) → TodaySpec spec → start spec ≡ start_by (blank_transcripts spec.sessions) (set_up_from 0 empty spec.setups) spec.session_setups
+started-is spec today = start-idle spec (blocks-work spec.setups today.setups) (blocks-work spec.session_setups today.sessions) (let le : length spec.session_setups ≤ spec.sessions = omega (arith, today.each) in le)
+
+pub start-setup-fails : (spec : Spec) → TodaySpec spec → (e : SetUpError) → StopsAt e (set_up_from 0 empty spec.setups) → IsRefusedBy (setup_failed e) (start spec)
+start-setup-fails spec today (FailedAt n) stops = started-is spec today ∙ ap (λ r. start_by (blank_transcripts spec.sessions) r spec.session_setups) stops
+start-setup-fails spec today NoMemory stops = tt
+
+pub start-session-fails : (spec : Spec) → TodaySpec spec → (rows : Rows') → set_up_from 0 empty spec.setups ≡ Ok rows → (e : SetUpError) → StopsAt e (set_up_from 0 rows spec.session_setups) → IsRefusedBy (session_setup_failed e) (start spec)
+start-session-fails spec today rows is (FailedAt i) stops =
+    started-is spec today ∙ ap (λ r. start_by (blank_transcripts spec.sessions) r spec.session_setups) is ∙ ap (started_by SessionSetupFailed (blank_transcripts spec.sessions)) stops
+start-session-fails spec today rows is NoMemory stops = tt
+
+pub start-starts : (spec : Spec) → TodaySpec spec → (rows left : Rows') → set_up_from 0 empty spec.setups ≡ Ok rows → set_up_from 0 rows spec.session_setups ≡ Ok left → start spec ≡ Started (idle_world left (replicate spec.sessions [] ++ [] ∷ []))
+start-starts spec today rows left is after =
+    started-is spec today ∙ ap (λ r. start_by (blank_transcripts spec.sessions) r spec.session_setups) is ∙ ap (started_by SessionSetupFailed (blank_transcripts spec.sessions)) after
+    ∙ ap (λ ts. Started (idle_world left ts)) (sym (replicate_more spec.sessions [] ∙ ap (λ n. replicate n []) (add-one spec.sessions)))

@@ -23,6 +23,15 @@ abbrev pub StopsAt : SetUpError → Result Rows' ℕ → Type 0
 StopsAt (set_up_error.Failed n) r = r ≡ Err n
 StopsAt set_up_error.NoMemory r = Unit {0}
 
+-- setups that stop are a start that is refused
+abbrev pub setup_failed : SetUpError → StartError
+setup_failed (set_up_error.Failed n) = start_error.SetupFailed n
+setup_failed set_up_error.NoMemory = start_error.NoMemory
+
+abbrev pub session_setup_failed : SetUpError → StartError
+session_setup_failed (set_up_error.Failed i) = start_error.SessionSetupFailed i
+session_setup_failed set_up_error.NoMemory = start_error.NoMemory
+
 -- the spec does not start for that reason, unless memory ran out
 abbrev pub IsRefusedBy : StartError → Start → Type 0
 IsRefusedBy (start_error.SetupFailed n) s = s ≡ SetupFailed n

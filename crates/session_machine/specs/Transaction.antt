@@ -3,7 +3,7 @@ use Rattle.std.specs.Prelude.{ℕ, suc, List, [], ◌∷◌, ◌++◌, Option, S
 use Rattle.session_machine.specs.Effect.{Rows', Write, Effect, Gives, Faults, effect}
 use Rattle.session_machine.specs.Overlay.{laid}
 use Rattle.transcripts.specs.declared.event.Event.{Event}
-use Rattle.transcripts.specs.declared.event.Event.TheVariants.{Failed}
+use Rattle.transcripts.specs.declared.event.Event.TheVariants.{Sent, Failed, Done}
 use Rattle.sql_subset.specs.declared.bound.Bound.{Bound}
 
 -- the rows after these writes, one after another
@@ -41,6 +41,10 @@ transacted rows (st ∷ sts) = followed (stepped rows st) (λ left. transacted l
 abbrev pub rows_after : Rows' → Option Rows' → Rows'
 rows_after rows None = rows
 rows_after rows (Some left) = left
+
+-- the transcript after a step that is one transaction
+abbrev pub told_by : List Event → ℕ → Transacted → List Event
+told_by transcript step x = (transcript ++ Sent step ∷ []) ++ (x.events ++ Done ∷ [])
 
 -- setup blocks, each a transaction over the rows that the ones before it left: the rows after all of them, or the number of the first that fails, counted from n on
 abbrev pub set_up_from : ℕ → Rows' → List (List Bound) → Result Rows' ℕ

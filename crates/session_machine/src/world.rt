@@ -1,0 +1,167 @@
+//! A world of a spec: committed rows, and what each session was told.
+
+ghost use Rattle.std.specs.Prelude.{replicate, IfErr, ◌≡◌, ◌<◌, ◌≤◌, ◌↔◌, ◌++◌, ◌∷◌, [], ℕ, true, false, IfOk, OnOk, OnErr, IsErrOf, MatchResult, length, get_or, map, take};
+ghost use Rattle.sql_subset.specs.Spec.{no_step};
+ghost use Rattle.session_machine.specs.World.{World as spec_world, send, outcome_of};
+ghost use Rattle.session_machine.specs.Start.{Started, start};
+ghost use Rattle.session_machine.specs.Transaction.{transacted, told_by};
+ghost use Rattle.session_machine.specs.Running.{IsRefusedBy, setup_failed, session_setup_failed};
+
+
+use crate::error::{SendError, StartError};
+use crate::rows::Rows;
+use crate::transaction::{SetUpError, run_block, set_up};
+use sql_subset::Spec;
+use std::alloc::{AllocError, Global};
+use std::marker::Model;
+use transcripts::{Event, Outcome, Transcript};
+use version_tree::Fork;
+
+/// The sequential machine over a spec. Contracts see the spec, the world and whether it is spent.
+#[derive(Drop)]
+pub struct World<'a> {
+    spec: &'a Spec,
+    alloc: Global,
+    rows: Rows,
+    transcripts: Vec<Transcript>,
+    is_spent: bool,
+}
+
+impl<'a> Model for World<'a> {
+    ghost use Rattle.std.specs.Prelude.{◌≡◌, [], ◌∷◌, ◌++◌, length};
+    ghost use Rattle.std.specs.Coded.{codes};
+    ghost use Rattle.version_tree.specs.Codes.{map_code};
+    ghost use Rattle.lock_modes.specs.contracts.value.Value as value;
+    ghost use Rattle.lock_modes.specs.contracts.resource.Resource as resource;
+    ghost use Rattle.sql_subset.specs.contracts.bound.Bound as bound;
+    ghost use Rattle.transcripts.specs.contracts.event.Event as event;
+    ghost use Rattle.session_machine.specs.Idle.{idle_world};
+    ghost use Rattle.session_machine.specs.Running.{Running};
+
+    ghost Value = { Running };
+
+    ghost coded = { Prim.hlevel (codes, map_code, value.the_row.coded, bound.the_row.coded, resource.the_row.coded, event.the_row.coded) };
+
+    // The last transcript is that of the control session, which is told nothing once the setups are run.
+    ghost view = { λ w. record { file = w.spec.now; world = idle_world w.rows (w.transcripts.items ++ [] ∷ []); spent = w.is_spent } };
+
+    ghost invariant = { λ w. length w.transcripts.items ≡ w.spec.now.run.sessions };
+}
+
+impl<'a> World<'a> {
+    /// The world after the setups of a spec: its main setups in order, then the setup of each session.
+    pub fn start(alloc: Global, spec: &'a Spec) -> Result<World<'a>, StartError>
+        ensures started { IfOk result (λ world. start spec.now.run ≡ Started world.world) }
+        ensures of_spec { IfOk result (λ world. world.file ≡ spec.now) }
+        ensures whole { IfOk result (λ world. world.spent ≡ false) }
+        ensures refused { IfErr result (λ error. IsRefusedBy error (start spec.now.run)) }
+    {
+        let setups = spec.setups();
+        let session_setups = spec.session_setups();
+        let rows = match set_up(alloc, Rows::new(alloc), setups) {
+            Ok(rows) => rows,
+            Err(error) => return Err(setup_failed(error)),
+        };
+        let rows = match set_up(alloc, rows, session_setups) {
+            Ok(rows) => rows,
+            Err(error) => return Err(session_setup_failed(error)),
+        };
+        let transcripts = blank_transcripts(alloc, spec.sessions())?;
+        Ok(World {
+            spec,
+            alloc,
+            rows,
+            transcripts,
+            is_spent: false,
+        })
+    }
+}
+
+impl World<'_> {
+    /// Sends a step: its statements are one transaction over the committed rows. After a refusal the world is spent.
+    pub fn send(&mut self, step: u8) -> Result<(), SendError>
+        requires { step < length self.old.file.run.steps }
+        ensures sent { OnOk result (self.new.world ≡ send self.old.file.run.steps self.old.world step) }
+        ensures whole { OnOk result (self.new.spent ≡ false) }
+        ensures spent { IsErrOf result SendError.Spent ↔ (self.old.spent ≡ true) }
+        ensures after { OnErr result (self.new.spent ≡ true) }
+        ensures of_spec { self.new.file ≡ self.old.file }
+    {
+        if self.is_spent {
+            return Err(SendError::Spent);
+        }
+        self.is_spent = true;
+        let session = self.spec.session_of(step);
+        let transcript = &mut self.transcripts[session as usize];
+        let left = tell_step(self.alloc, &self.rows, self.spec, step, transcript)?;
+        if let Some(rows) = left {
+            self.rows = rows;
+        }
+        self.is_spent = false;
+        Ok(())
+    }
+
+    /// The transcripts so far, a copy for each session.
+    pub fn outcome(&self) -> Result<Outcome, SendError>
+        ensures told { IfOk result (λ outcome. outcome ≡ outcome_of self.now.file.run.sessions self.now.world) }
+        ensures spent { IsErrOf result SendError.Spent ↔ (self.now.spent ≡ true) }
+    {
+        if self.is_spent {
+            return Err(SendError::Spent);
+        }
+        let mut outcome = Outcome::new(self.alloc);
+        for transcript in &self.transcripts {
+            outcome.push(transcript.fork()?)?;
+        }
+        Ok(outcome)
+    }
+}
+
+/// Runs a step as one transaction and tells its session of it: the rows that it leaves, or none where it fails.
+fn tell_step(
+    alloc: Global,
+    rows: &Rows,
+    spec: &Spec,
+    step: u8,
+    transcript: &mut Transcript,
+) -> Result<Option<Rows>, AllocError>
+    requires { step < length spec.now.run.steps }
+    ensures left { IfOk result (λ left. left ≡ (transacted rows.now (get_or spec.now.run.steps step no_step).statements).left) }
+    ensures told { OnOk result (transcript.new ≡ told_by transcript.old step (transacted rows.now (get_or spec.now.run.steps step no_step).statements)) }
+{
+    transcript.push(Event::Sent(step))?;
+    let left = run_block(alloc, rows, spec.statements(step), transcript)?;
+    transcript.push(Event::Done)?;
+    Ok(left)
+}
+
+/// A main setup block fails.
+fn setup_failed(error: SetUpError) -> StartError
+    ensures { result ≡ setup_failed error }
+{
+    match error {
+        SetUpError::Failed(block) => StartError::SetupFailed { block },
+        SetUpError::NoMemory => StartError::NoMemory,
+    }
+}
+
+/// The setup of a session fails.
+fn session_setup_failed(error: SetUpError) -> StartError
+    ensures { result ≡ session_setup_failed error }
+{
+    match error {
+        SetUpError::Failed(session) => StartError::SessionSetupFailed { session },
+        SetUpError::NoMemory => StartError::NoMemory,
+    }
+}
+
+/// So many transcripts without events.
+fn blank_transcripts(alloc: Global, count: u8) -> Result<Vec<Transcript>, AllocError>
+    ensures { IfOk result (λ transcripts. transcripts.items ≡ replicate count []) }
+{
+    let mut transcripts = Vec::with_capacity(alloc, count as usize)?;
+    for _session in 0..count {
+        transcripts.push(Transcript::new(alloc))?;
+    }
+    Ok(transcripts)
+}
