@@ -1,4 +1,6 @@
 use lock_modes::Row;
+use std::alloc::AllocError;
+use version_tree::Fork;
 
 /// Why a statement failed. The numbers are those of the outcome values in a book.
 #[derive(Clone, Copy, Debug, PartialEq, Eq)]
@@ -59,4 +61,28 @@ pub enum Event {
     Done,
     /// The step with this number is skipped, since its session waits.
     NotSent(u8),
+}
+
+impl Fork for Event {
+    fn fork(&self) -> Result<Event, AllocError> {
+        Ok(match self {
+            Event::Sent(step) => Event::Sent(*step),
+            Event::Row(row) => Event::Row(row.fork()?),
+            Event::Rows(count) => Event::Rows(*count),
+            Event::Inserted(count) => Event::Inserted(*count),
+            Event::Updated(count) => Event::Updated(*count),
+            Event::Deleted(count) => Event::Deleted(*count),
+            Event::Began => Event::Began,
+            Event::Committed => Event::Committed,
+            Event::RolledBack => Event::RolledBack,
+            Event::Locked => Event::Locked,
+            Event::Set => Event::Set,
+            Event::Warned(warning) => Event::Warned(*warning),
+            Event::Failed(fault) => Event::Failed(*fault),
+            Event::Waiting => Event::Waiting,
+            Event::Resumed => Event::Resumed,
+            Event::Done => Event::Done,
+            Event::NotSent(step) => Event::NotSent(*step),
+        })
+    }
 }

@@ -1,0 +1,107 @@
+ghost use Rattle.std.specs.Prelude.{◌≡◌, [], ◌∷◌, ◌++◌, OnOk, OnErr};
+
+use crate::event::Event;
+use lock_modes::Text;
+use std::alloc::{AllocError, Global};
+use std::marker::Model;
+use version_tree::Fork;
+
+/// What one session is told, seen by contracts as the list of its events in order.
+#[derive(Debug, Drop)]
+pub struct Transcript {
+    events: Vec<Event>,
+}
+
+impl Model for Transcript {
+    ghost use Rattle.std.specs.Prelude.{List};
+    ghost use Rattle.transcripts.specs.declared.event.Event.{Event as Told};
+
+    ghost Value = { List Told };
+
+    ghost view = { λ t. t.events.items };
+}
+
+impl Transcript {
+    /// A transcript without events.
+    pub fn new(alloc: Global) -> Transcript
+        ensures { result ≡ [] }
+    {
+        Transcript {
+            events: Vec::new(alloc),
+        }
+    }
+
+    /// Adds an event at the end. It fails for want of memory alone.
+    pub fn push(&mut self, event: Event) -> Result<(), AllocError>
+        ensures ok { OnOk result (self.new ≡ self.old ++ event ∷ []) }
+        ensures err { OnErr result (self.new ≡ self.old) }
+    {
+        self.events.push(event)?;
+        Ok(())
+    }
+
+    /// The events in order.
+    pub fn events(&self) -> &[Event]
+        ensures { result.now ≡ self.now }
+    {
+        self.events.as_slice()
+    }
+}
+
+impl Fork for Transcript {
+    fn fork(&self) -> Result<Transcript, AllocError> {
+        let mut events = Vec::new(*self.events.allocator());
+        for event in &self.events {
+            events.push(event.fork()?)?;
+        }
+        Ok(Transcript { events })
+    }
+}
+
+/// What a run tells: a transcript for each session in order, seen by contracts as their list.
+#[derive(Debug, Drop)]
+pub struct Outcome {
+    sessions: Vec<Transcript>,
+}
+
+impl Model for Outcome {
+    ghost use Rattle.std.specs.Prelude.{List};
+    ghost use Rattle.transcripts.specs.declared.event.Event.{Event as Told};
+
+    ghost Value = { List (List Told) };
+
+    ghost view = { λ o. o.sessions.items };
+}
+
+impl Outcome {
+    /// An outcome without sessions.
+    pub fn new(alloc: Global) -> Outcome
+        ensures { result ≡ [] }
+    {
+        Outcome {
+            sessions: Vec::new(alloc),
+        }
+    }
+
+    /// Adds the transcript of the next session. It fails for want of memory alone.
+    pub fn push(&mut self, transcript: Transcript) -> Result<(), AllocError>
+        ensures ok { OnOk result (self.new ≡ self.old ++ transcript ∷ []) }
+        ensures err { OnErr result (self.new ≡ self.old) }
+    {
+        self.sessions.push(transcript)?;
+        Ok(())
+    }
+
+    /// The transcripts in the order of the sessions.
+    pub fn sessions(&self) -> &[Transcript]
+        ensures { result.now ≡ self.now }
+    {
+        self.sessions.as_slice()
+    }
+}
+
+/// The names that an outcome is printed with, by the numbers of sessions and of steps.
+pub struct Names<'a> {
+    pub sessions: &'a [Text],
+    pub steps: &'a [Text],
+}
