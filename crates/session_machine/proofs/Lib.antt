@@ -2,6 +2,7 @@ pub mod Worked
 pub mod Plain
 pub mod PlainStart
 pub mod PlainEffects
+pub mod NamedLemmas
 pub mod Basics
 pub mod Looks
 pub mod Solo

@@ -13,7 +13,7 @@ use Rattle.transcripts.specs.declared.event.Event.{Event}
 use Rattle.transcripts.specs.declared.event.Event.TheVariants.{Sent, Row as RowEvent, Rows, Inserted, Updated, Deleted, Began, Committed, RolledBack, Locked, Set, Warned, Failed, Waiting, Resumed, Done, NotSent}
 use Rattle.session_machine.specs.Effect.{Rows', Effect, Gives, Faults, effect}
 use Rattle.session_machine.specs.Session.{Session, tasks_of, note}
-use Rattle.session_machine.specs.World.{World, fresh, session_at, goes, send, settle}
+use Rattle.session_machine.specs.World.{World, fresh, session_at, goes, send, settle, outcome_of}
 use Rattle.session_machine.specs.Start.{Start, Started, SetupFailed, SessionSetupFailed, SessionSetupWaits, is_failure, has_failed, is_outside, forgotten, after_setup, main_setups, session_setups, started_then, set_up, start}
 use Rattle.session_machine.specs.Serial.{is_data}
 use Rattle.session_machine.specs.Transaction.{applied, Transacted, effected, followed, transacted, rows_after, told_by, set_up_from}
@@ -233,3 +233,30 @@ pub start-starts : (spec : Spec) → TodaySpec spec → (rows left : Rows') → 
 start-starts spec today rows left is after =
     started-is spec today ∙ ap (λ r. start_by (blank_transcripts spec.sessions) r spec.session_setups) is ∙ ap (started_by SessionSetupFailed (blank_transcripts spec.sessions)) after
     ∙ ap (λ ts. Started (idle_world left ts)) (sym (replicate_more spec.sessions [] ∙ ap (λ n. replicate n []) (add-one spec.sessions)))
+
+-- ---- a world of so many sessions, and the control session
+
+set-left : (ts us : List (List Event)) (i : ℕ) (t : List Event) → i < length ts → set (ts ++ us) i t ≡ set ts i t ++ us
+set-left [] us i t lt = absurd (omega arith)
+set-left (u ∷ ts) us zero t lt = refl
+set-left (u ∷ ts) us (suc i) t lt = ap (λ xs. u ∷ xs) (set-left ts us i t (omega arith))
+
+get_or-left : (ts us : List (List Event)) (i : ℕ) → i < length ts → get_or (ts ++ us) i [] ≡ get_or ts i []
+get_or-left [] us i lt = absurd (omega arith)
+get_or-left (u ∷ ts) us zero lt = refl
+get_or-left (u ∷ ts) us (suc i) lt = get_or-left ts us i (omega arith)
+
+pub send-world : (steps : List Step) (rows : Rows') (ts : List (List Event)) (k i : ℕ) → i ≡ (get_or steps k no_step).session → i < length ts → All RunsToday (get_or steps k no_step).statements
+    → let x = transacted rows (get_or steps k no_step).statements in
+    send steps (idle_world rows (ts ++ [] ∷ [])) k ≡ idle_world (rows_after rows x.left) (set ts i (told_by (get_or ts i []) k x) ++ [] ∷ [])
+send-world steps rows ts k i is lt today =
+    let st = get_or steps k no_step in
+    let x = transacted rows st.statements in
+    send-idle steps rows (ts ++ [] ∷ []) k (all-works st.statements today)
+    ∙ ap (λ j. idle_world (rows_after rows x.left) (set (ts ++ [] ∷ []) j (told_by (get_or (ts ++ [] ∷ []) j []) k x))) (sym is)
+    ∙ ap (λ t. idle_world (rows_after rows x.left) (set (ts ++ [] ∷ []) i (told_by t k x))) (get_or-left ts ([] ∷ []) i lt)
+    ∙ ap (idle_world (rows_after rows x.left)) (set-left ts ([] ∷ []) i (told_by (get_or ts i []) k x) lt)
+
+pub outcome-world : (ts : List (List Event)) (rows : Rows') → outcome_of (length ts) (idle_world rows (ts ++ [] ∷ [])) ≡ ts
+outcome-world [] rows = refl
+outcome-world (t ∷ ts) rows = ap (λ us. t ∷ us) (outcome-world ts rows)

@@ -1,5 +1,6 @@
 -- A world where no session holds a lock, waits, has a step to end or a transaction open.
-use Rattle.std.specs.Prelude.{List, [], map}
+use Rattle.std.specs.Prelude.{◌≡◌, ℕ, Bool, false, List, [], length, map, All}
+use Rattle.transcripts.specs.Outcome.{HasStep}
 use Rattle.version_tree.specs.Map.{empty}
 use Rattle.session_machine.specs.Effect.{Rows'}
 use Rattle.session_machine.specs.Session.{Session}
@@ -14,3 +15,13 @@ idle_session transcript = record { overlay = empty; held = empty; status = Outsi
 -- an idle world, by its committed rows and the transcripts of its sessions
 abbrev pub idle_world : Rows' → List (List Event) → World
 idle_world rows transcripts = record { rows = rows; sessions = map idle_session transcripts; waits = [] }
+
+-- there is a transcript for each session, and each step that it names is one of the spec
+pub record IsTold (sessions steps : ℕ) (transcripts : List (List Event)) : Type 0 where
+  pub each : length transcripts ≡ sessions
+  pub named : All (All (HasStep steps)) transcripts
+
+-- the same, but that a world that is spent may have broken off anywhere
+pub record IsToldUnless (spent : Bool) (sessions steps : ℕ) (transcripts : List (List Event)) : Type 0 where
+  pub each : length transcripts ≡ sessions
+  pub named : spent ≡ false → All (All (HasStep steps)) transcripts

@@ -1,10 +1,11 @@
 //! A world of a spec: committed rows, and what each session was told.
 
-ghost use Rattle.std.specs.Prelude.{replicate, IfErr, ◌≡◌, ◌<◌, ◌≤◌, ◌↔◌, ◌++◌, ◌∷◌, [], ℕ, true, false, IfOk, OnOk, OnErr, IsErrOf, MatchResult, length, get_or, map, take};
-ghost use Rattle.sql_subset.specs.Spec.{no_step};
+ghost use Rattle.std.specs.Prelude.{replicate, IfErr, All, ◌≡◌, ◌<◌, ◌≤◌, ◌↔◌, ◌++◌, ◌∷◌, [], ℕ, true, false, IfOk, OnOk, OnErr, IsErrOf, MatchResult, length, get_or, map, take};
+ghost use Rattle.sql_subset.specs.Spec.{no_step, RunsToday};
 ghost use Rattle.session_machine.specs.World.{World as spec_world, send, outcome_of};
 ghost use Rattle.session_machine.specs.Start.{Started, start};
-ghost use Rattle.session_machine.specs.Transaction.{transacted, told_by};
+ghost use Rattle.session_machine.specs.Transaction.{transacted, told_by, rows_after};
+ghost use Rattle.session_machine.specs.Idle.{IsTold};
 ghost use Rattle.session_machine.specs.Running.{IsRefusedBy, setup_failed, session_setup_failed};
 
 
@@ -35,7 +36,7 @@ impl<'a> Model for World<'a> {
     ghost use Rattle.lock_modes.specs.contracts.resource.Resource as resource;
     ghost use Rattle.sql_subset.specs.contracts.bound.Bound as bound;
     ghost use Rattle.transcripts.specs.contracts.event.Event as event;
-    ghost use Rattle.session_machine.specs.Idle.{idle_world};
+    ghost use Rattle.session_machine.specs.Idle.{idle_world, IsToldUnless};
     ghost use Rattle.session_machine.specs.Running.{Running};
 
     ghost Value = { Running };
@@ -45,7 +46,7 @@ impl<'a> Model for World<'a> {
     // The last transcript is that of the control session, which is told nothing once the setups are run.
     ghost view = { λ w. record { file = w.spec.now; world = idle_world w.rows (w.transcripts.items ++ [] ∷ []); spent = w.is_spent } };
 
-    ghost invariant = { λ w. length w.transcripts.items ≡ w.spec.now.run.sessions };
+    ghost invariant = { λ w. IsToldUnless w.is_spent w.spec.now.run.sessions (length w.spec.now.run.steps) w.transcripts.items };
 }
 
 impl<'a> World<'a> {
@@ -93,10 +94,7 @@ impl World<'_> {
         self.is_spent = true;
         let session = self.spec.session_of(step);
         let transcript = &mut self.transcripts[session as usize];
-        let left = tell_step(self.alloc, &self.rows, self.spec, step, transcript)?;
-        if let Some(rows) = left {
-            self.rows = rows;
-        }
+        self.rows = tell_step(self.alloc, &self.rows, self.spec, step, transcript)?;
         self.is_spent = false;
         Ok(())
     }
@@ -104,6 +102,7 @@ impl World<'_> {
     /// The transcripts so far, a copy for each session.
     pub fn outcome(&self) -> Result<Outcome, SendError>
         ensures told { IfOk result (λ outcome. outcome ≡ outcome_of self.now.file.run.sessions self.now.world) }
+        ensures named { IfOk result (IsTold self.now.file.run.sessions (length self.now.file.run.steps)) }
         ensures spent { IsErrOf result SendError.Spent ↔ (self.now.spent ≡ true) }
     {
         if self.is_spent {
@@ -117,22 +116,27 @@ impl World<'_> {
     }
 }
 
-/// Runs a step as one transaction and tells its session of it: the rows that it leaves, or none where it fails.
+/// Runs a step as one transaction and tells its session of it: the rows afterwards.
 fn tell_step(
     alloc: Global,
     rows: &Rows,
     spec: &Spec,
     step: u8,
     transcript: &mut Transcript,
-) -> Result<Option<Rows>, AllocError>
+) -> Result<Rows, AllocError>
     requires { step < length spec.now.run.steps }
-    ensures left { IfOk result (λ left. left ≡ (transacted rows.now (get_or spec.now.run.steps step no_step).statements).left) }
+    ensures rows { IfOk result (λ left. left ≡ rows_after rows.now (transacted rows.now (get_or spec.now.run.steps step no_step).statements).left) }
     ensures told { OnOk result (transcript.new ≡ told_by transcript.old step (transacted rows.now (get_or spec.now.run.steps step no_step).statements)) }
+    ensures today { All RunsToday (get_or spec.now.run.steps step no_step).statements }
 {
+    let statements = spec.statements(step);
     transcript.push(Event::Sent(step))?;
-    let left = run_block(alloc, rows, spec.statements(step), transcript)?;
+    let left = run_block(alloc, rows, statements, transcript)?;
     transcript.push(Event::Done)?;
-    Ok(left)
+    match left {
+        Some(rows) => Ok(rows),
+        None => rows.fork(),
+    }
 }
 
 /// A main setup block fails.

@@ -1,0 +1,48 @@
+//! Whole runs of a spec.
+
+ghost use Rattle.std.specs.Prelude.{◌≡◌, ◌<◌, ℕ, Some, All, IfOk, IfErr, length};
+ghost use Rattle.session_machine.specs.Start.{Start, start};
+ghost use Rattle.session_machine.specs.Idle.{IsTold};
+ghost use Rattle.session_machine.specs.Running.{IsRefusedBy, IsNotRunBy, outcome_of_line};
+
+use crate::error::{RunError, SendError, StartError};
+use crate::world::World;
+use sql_subset::{Line, Spec};
+use std::alloc::Global;
+use transcripts::Outcome;
+
+/// Runs one permutation: the transcripts after the steps of the line were sent in turn from the start. Of the refusals only
+/// `Start` and `NoMemory` come.
+pub fn run_one(alloc: Global, spec: &Spec, line: &Line) -> Result<Outcome, RunError>
+    requires { All (λ k. k < length spec.now.run.steps) line.now.items }
+    ensures ran { IfOk result (λ outcome. outcome_of_line spec.now.run line.now.items ≡ Some outcome) }
+    ensures named { IfOk result (IsTold spec.now.run.sessions (length spec.now.run.steps)) }
+    ensures refused { IfErr result (λ error. IsNotRunBy error (start spec.now.run)) }
+{
+    let mut world = match World::start(alloc, spec) {
+        Ok(world) => world,
+        Err(error) => return Err(not_started(error)),
+    };
+    for step in line.as_slice() {
+        match world.send(*step) {
+            Ok(()) => {}
+            Err(SendError::NoMemory) => return Err(RunError::NoMemory),
+            Err(SendError::Spent) => unreachable!(),
+        }
+    }
+    match world.outcome() {
+        Ok(outcome) => Ok(outcome),
+        Err(SendError::NoMemory) => Err(RunError::NoMemory),
+        Err(SendError::Spent) => unreachable!(),
+    }
+}
+
+/// A run of a spec that does not start. Want of memory is the run's own.
+fn not_started(error: StartError) -> RunError
+    ensures { (s : Start) → IsRefusedBy error s → IsNotRunBy result s }
+{
+    match error {
+        StartError::NoMemory => RunError::NoMemory,
+        _ => RunError::Start(error),
+    }
+}
