@@ -1,0 +1,47 @@
+//! Why the program stops without an answer.
+
+use thiserror::Error;
+
+/// Why the program stops without an answer. Its text is the line on standard error; a path is the word of the command line.
+#[derive(Debug, Drop, Error)]
+pub enum ProgramFault<'a> {
+    /// The file is no spec.
+    #[error("isofarm: {path}: spec error {kind} at {offset}")]
+    Spec { path: &'a str, kind: u8, offset: u64 },
+    /// A block of the spec is no SQL that the program knows.
+    #[error("isofarm: {path}: sql error {kind} at {offset}")]
+    Sql { path: &'a str, kind: u8, offset: u64 },
+    /// The statements of the spec do not fit its tables.
+    #[error("isofarm: {path}: bind error {kind} at {offset}")]
+    Bind { path: &'a str, kind: u8, offset: u64 },
+    /// The spec does not start. The number is that of the setup block or of the session.
+    #[error("isofarm: {path}: start error {kind} at {number}")]
+    Start { path: &'a str, kind: u8, number: u64 },
+    /// The spec has no permutation of this rank.
+    #[error("isofarm: {path}: rank out of range")]
+    RankOutOfRange { path: &'a str },
+    /// Memory ran out, anywhere.
+    #[error("isofarm: no memory")]
+    NoMemory,
+    /// A file was not opened or not read.
+    #[error("isofarm: {path}: read fault")]
+    Read { path: &'a str },
+    /// Standard output was not written.
+    #[error("isofarm: write fault")]
+    Write,
+}
+
+impl ProgramFault<'_> {
+    /// The exit status: 3 for what is refused, 4 for want of memory, 5 for a read or write fault.
+    pub fn status(&self) -> u8 {
+        match self {
+            ProgramFault::Spec { .. }
+            | ProgramFault::Sql { .. }
+            | ProgramFault::Bind { .. }
+            | ProgramFault::Start { .. }
+            | ProgramFault::RankOutOfRange { .. } => 3,
+            ProgramFault::NoMemory => 4,
+            ProgramFault::Read { .. } | ProgramFault::Write => 5,
+        }
+    }
+}

@@ -1,0 +1,37 @@
+//! Where the program reads from.
+
+ghost use Rattle.std.specs.Prelude.{◌≤◌, IfOk, vec_len};
+
+use crate::fault::ProgramFault;
+use std::alloc::Global;
+use std::io::Read;
+use transcripts::{Counted, ReadError};
+
+/// One byte more than the longest spec file: a longer file is refused by what is read of it.
+pub const MAX_SPEC_READ: usize = 65_537;
+
+/// Opens files for reading.
+pub trait Opener {
+    type Reader: Read + Drop;
+
+    /// A reader of the file at this path, none where it can't be opened.
+    fn open(&self, path: &str) -> Option<Self::Reader>;
+}
+
+/// The bytes of a spec file, as far as its reader looks at them.
+pub(crate) fn read_spec_file<'a, O: Opener>(
+    alloc: Global,
+    opener: &O,
+    path: &'a str,
+) -> Result<Vec<u8>, ProgramFault<'a>>
+    ensures { IfOk result (λ bytes. vec_len bytes ≤ MAX_SPEC_READ) }
+{
+    let Some(reader) = opener.open(path) else {
+        return Err(ProgramFault::Read { path });
+    };
+    match Counted::new(reader).read_up_to(alloc, MAX_SPEC_READ) {
+        Ok(bytes) => Ok(bytes),
+        Err(ReadError::Fault) => Err(ProgramFault::Read { path }),
+        Err(ReadError::NoMemory) => Err(ProgramFault::NoMemory),
+    }
+}
