@@ -57,7 +57,10 @@ pub fn first<'a, 't>(tokens: &'t [Placed<'a>]) -> Result<(Placed<'a>, &'t [Place
 }
 
 /// A token and those after it, as one value.
-pub fn standing<'a, 't>(token: Placed<'a>, tokens: &'t [Placed<'a>]) -> (Placed<'a>, &'t [Placed<'a>])
+pub fn standing<'a, 't>(
+    token: Placed<'a>,
+    tokens: &'t [Placed<'a>],
+) -> (Placed<'a>, &'t [Placed<'a>])
     ensures token { result.0 ≡ token.entry }
     ensures tokens { result.1.now ≡ tokens.now }
 {

@@ -40,7 +40,7 @@ fn front_teardown<'a, 't>(
     requires { is_setup (view_token token.token) ≡ false }
     ensures { (bs : List BlockTree) →
         Reads (λ x. reads_session_word (made_front bs (option_tree x.0)) (view x.1) (views x.2.now)) result
-            (reads (HeadPlace bs None) (view token.entry ∷ views tokens.now)) }
+        (reads (HeadPlace bs None) (view token.entry ∷ views tokens.now)) }
 {
     if !token.token.is_teardown() {
         return Ok((None, token, tokens));

@@ -22,7 +22,7 @@ fn named_marker<'a, 't>(
 ) -> Result<(Marker, Placed<'a>, &'t [Placed<'a>]), Stop>
     ensures reads { (f : FrontTree) (ss : List SessionTree) (ls : List LineTree) (is : List ItemTree) (n : List ℕ) (ms : List MarkerTree) →
         Reads (λ x. reads_listed f ss ls is n (ms ++ marker_tree x.0 ∷ []) (view x.1) (views x.2.now)) result
-            (reads (MarkerNamed f ss ls is n ms (string_bytes name)) (views tokens.now)) }
+        (reads (MarkerNamed f ss ls is n ms (string_bytes name)) (views tokens.now)) }
     ensures shorter { IfOk result (λ x. length x.2.now < length tokens.now) }
 {
     let (next, rest) = first(tokens)?;
@@ -45,7 +45,7 @@ fn marker_of<'a, 't>(
 ) -> Result<(Marker, Placed<'a>, &'t [Placed<'a>]), Stop>
     ensures reads { (f : FrontTree) (ls : List LineTree) (is : List ItemTree) (n : List ℕ) (ms : List MarkerTree) →
         Reads (λ x. reads_listed f (map session_tree sessions.now) ls is n (ms ++ marker_tree x.0 ∷ []) (view x.1) (views x.2.now)) result
-            (reads (MarkerBegun f (map session_tree sessions.now) ls is n ms) (views tokens.now)) }
+        (reads (MarkerBegun f (map session_tree sessions.now) ls is n ms) (views tokens.now)) }
     ensures shorter { IfOk result (λ x. length x.2.now < length tokens.now) }
 {
     let (token, rest) = first(tokens)?;
@@ -66,7 +66,7 @@ fn push_marker<'a, 't>(
 ) -> Result<(Placed<'a>, &'t [Placed<'a>]), Stop>
     ensures reads { (f : FrontTree) (ls : List LineTree) (is : List ItemTree) (n : List ℕ) →
         Reads (λ x. reads_listed f (map session_tree sessions.now) ls is n (map marker_tree markers.new.items) (view x.0) (views x.1.now)) result
-            (reads (MarkerBegun f (map session_tree sessions.now) ls is n (map marker_tree markers.old.items)) (views tokens.now)) }
+        (reads (MarkerBegun f (map session_tree sessions.now) ls is n (map marker_tree markers.old.items)) (views tokens.now)) }
     ensures shorter { IfOk result (λ x. length x.1.now < length tokens.now) }
 {
     let (marker, next, rest) = marker_of(alloc, tokens, sessions)?;
@@ -82,7 +82,7 @@ fn markers_of<'a, 't>(
 ) -> Result<(Vec<Marker>, &'t [Placed<'a>]), Stop>
     ensures reads { (f : FrontTree) (ls : List LineTree) (is : List ItemTree) (n : List ℕ) →
         Reads (λ x. reads (ItemDone f (map session_tree sessions.now) ls (is ++ made_item n (map marker_tree x.0.items) ∷ [])) (views x.1.now)) result
-            (reads (MarkerBegun f (map session_tree sessions.now) ls is n []) (views tokens.now)) }
+        (reads (MarkerBegun f (map session_tree sessions.now) ls is n []) (views tokens.now)) }
     ensures shorter { IfOk result (λ x. length x.1.now < length tokens.now) }
 {
     let mut markers = Vec::new(alloc);
@@ -105,7 +105,7 @@ fn item_of<'a, 't>(
 ) -> Result<(Item, Placed<'a>, &'t [Placed<'a>]), Stop>
     ensures reads { (f : FrontTree) (ls : List LineTree) (is : List ItemTree) →
         Reads (λ x. reads (ItemDone f (map session_tree sessions.now) ls (is ++ item_tree x.0 ∷ [])) (view x.1 ∷ views x.2.now)) result
-            (reads (ItemNamed f (map session_tree sessions.now) ls is (string_bytes name)) (views tokens.now)) }
+        (reads (ItemNamed f (map session_tree sessions.now) ls is (string_bytes name)) (views tokens.now)) }
     ensures shorter { IfOk result (λ x. length x.2.now < length tokens.now) }
 {
     let (next, rest) = first(tokens)?;
@@ -128,7 +128,7 @@ fn named_item<'a, 't>(
 ) -> Result<(Item, Placed<'a>, &'t [Placed<'a>]), Stop>
     ensures reads { (f : FrontTree) (ls : List LineTree) →
         Reads (λ x. reads (ItemDone f (map session_tree sessions.now) ls (map item_tree items.now ++ item_tree x.0 ∷ [])) (view x.1 ∷ views x.2.now)) result
-            (reads_item f (map session_tree sessions.now) ls (map item_tree items.now) (view token.now) (views tokens.now)) }
+        (reads_item f (map session_tree sessions.now) ls (map item_tree items.now) (view token.now) (views tokens.now)) }
     ensures shorter { IfOk result (λ x. length x.2.now < length tokens.now) }
 {
     let name = item_name(alloc, token, sessions, items)?;
@@ -145,7 +145,7 @@ fn push_item<'a, 't>(
 ) -> Result<(Placed<'a>, &'t [Placed<'a>]), Stop>
     ensures reads { (f : FrontTree) (ls : List LineTree) →
         Reads (λ x. reads (ItemDone f (map session_tree sessions.now) ls (map item_tree items.new.items)) (view x.0 ∷ views x.1.now)) result
-            (reads_item f (map session_tree sessions.now) ls (map item_tree items.old.items) (view token.now) (views tokens.now)) }
+        (reads_item f (map session_tree sessions.now) ls (map item_tree items.old.items) (view token.now) (views tokens.now)) }
     ensures shorter { IfOk result (λ x. length x.1.now < length tokens.now) }
 {
     let (item, next, rest) = named_item(alloc, token, tokens, sessions, items)?;
@@ -168,7 +168,7 @@ fn line_of<'a, 't>(
 ) -> Result<(Line, Placed<'a>, &'t [Placed<'a>]), Stop>
     ensures reads { (f : FrontTree) (ls : List LineTree) →
         Reads (λ x. reads_lined f (map session_tree sessions.now) (ls ++ line_tree x.0 ∷ []) (view x.1) (views x.2.now)) result
-            (reads (LineBegun f (map session_tree sessions.now) ls) (views tokens.now)) }
+        (reads (LineBegun f (map session_tree sessions.now) ls) (views tokens.now)) }
     ensures shorter { IfOk result (λ x. length x.2.now < length tokens.now) }
 {
     let mut items = Vec::new(alloc);
@@ -199,7 +199,7 @@ fn push_line<'a, 't>(
     requires { is_permutation (view_token word.now.token) ≡ true }
     ensures reads { (f : FrontTree) →
         Reads (λ x. reads_lined f (map session_tree sessions.now) (map line_tree lines.new.items) (view x.0) (views x.1.now)) result
-            (reads_lined f (map session_tree sessions.now) (map line_tree lines.old.items) (view word.now) (views tokens.now)) }
+        (reads_lined f (map session_tree sessions.now) (map line_tree lines.old.items) (view word.now) (views tokens.now)) }
     ensures shorter { IfOk result (λ x. length x.1.now < length tokens.now) }
 {
     if is_full(lines) {
@@ -221,7 +221,7 @@ pub fn lines_of<'a, 't>(
     requires { is_session (view_token token.token) ≡ false }
     ensures { (f : FrontTree) →
         Reads (λ x. Ok (made_spec f (map session_tree sessions.now) (map line_tree x.items))) result
-            (reads (Sessioned f (map session_tree sessions.now)) (view token.entry ∷ views tokens.now)) }
+        (reads (Sessioned f (map session_tree sessions.now)) (view token.entry ∷ views tokens.now)) }
 {
     let mut lines = Vec::new(alloc);
     let (mut next, mut rest) = standing(token, tokens);

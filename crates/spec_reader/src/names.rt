@@ -55,7 +55,7 @@ pub fn session_name<'a, 't>(
 ) -> Result<(String, &'t [Placed<'a>]), Stop>
     ensures reads { (f : FrontTree) →
         Reads (λ x. reads (Headed f (map session_tree sessions.now) (string_bytes x.0) None None) (views x.1.now)) result
-            (reads (SessionBegun f (map session_tree sessions.now)) (views tokens.now)) }
+        (reads (SessionBegun f (map session_tree sessions.now)) (views tokens.now)) }
     ensures shorter { IfOk result (λ x. length x.1.now < length tokens.now) }
 {
     let (token, rest) = first(tokens)?;
@@ -90,7 +90,7 @@ pub fn step_name<'a, 't>(
 pub fn known_name(alloc: Global, token: &Placed, sessions: &[Session]) -> Result<String, Stop>
     ensures { (f : FrontTree) (ls : List LineTree) (is : List ItemTree) (n : List ℕ) (ms : List MarkerTree) (ts : List PlacedToken) → is_star (view_token token.now.token) ≡ false →
         Reads (λ x. reads (MarkerNamed f (map session_tree sessions.now) ls is n ms (string_bytes x)) ts) result
-            (reads (MarkerBegun f (map session_tree sessions.now) ls is n ms) (view token.now ∷ ts)) }
+        (reads (MarkerBegun f (map session_tree sessions.now) ls is n ms) (view token.now ∷ ts)) }
 {
     let name = name_of(alloc, token)?;
     if !is_step_name_in(sessions, name.as_str()) {
@@ -108,7 +108,7 @@ pub fn item_name(
 ) -> Result<String, Stop>
     ensures { (f : FrontTree) (ls : List LineTree) (ts : List PlacedToken) →
         Reads (λ x. reads (ItemNamed f (map session_tree sessions.now) ls (map item_tree items.now) (string_bytes x)) ts) result
-            (reads_item f (map session_tree sessions.now) ls (map item_tree items.now) (view token.now) ts) }
+        (reads_item f (map session_tree sessions.now) ls (map item_tree items.now) (view token.now) ts) }
 {
     let name = name_of(alloc, token)?;
     if items.len() >= 24 {

@@ -72,7 +72,7 @@ fn steps_of<'a, 't>(
 ) -> Result<(Vec<Step>, Placed<'a>, &'t [Placed<'a>]), Stop>
     ensures reads { (f : FrontTree) (h : HeadTree) →
         Reads (λ x. reads (Stepped f (map session_tree sessions.now) h (map step_tree x.0.items)) (view x.1 ∷ views x.2.now)) result
-            (reads (StepBegun f (map session_tree sessions.now) h []) (views tokens.now)) }
+        (reads (StepBegun f (map session_tree sessions.now) h []) (views tokens.now)) }
     ensures after { IfOk result (λ x. is_step (view_token x.1.token) ≡ false) }
     ensures shorter { IfOk result (λ x. length x.2.now < length tokens.now) }
 {
@@ -92,7 +92,7 @@ fn setup_of<'a, 't>(
 ) -> Result<(Option<Block>, Placed<'a>, &'t [Placed<'a>]), Stop>
     ensures reads { (f : FrontTree) (ss : List SessionTree) (n : List ℕ) →
         Reads (λ x. reads_set_up f ss n (option_tree x.0) (view x.1) (views x.2.now)) result
-            (reads (Headed f ss n None None) (view token.entry ∷ views tokens.now)) }
+        (reads (Headed f ss n None None) (view token.entry ∷ views tokens.now)) }
     ensures shorter { IfOk result (λ x. length x.2.now < length tokens.now + 1) }
 {
     if !token.token.is_setup() {
@@ -110,7 +110,7 @@ fn early_teardown<'a, 't>(
 ) -> Result<(Option<Block>, Placed<'a>, &'t [Placed<'a>]), Stop>
     ensures reads { (f : FrontTree) (ss : List SessionTree) (n : List ℕ) (s : Option BlockTree) →
         Reads (λ x. reads_step_word f ss (made_head n s (option_tree x.0)) (view x.1) (views x.2.now)) result
-            (reads_set_up f ss n s (view token.entry) (views tokens.now)) }
+        (reads_set_up f ss n s (view token.entry) (views tokens.now)) }
     ensures shorter { IfOk result (λ x. length x.2.now < length tokens.now + 1) }
 {
     if !token.token.is_teardown() {
@@ -128,7 +128,7 @@ fn head_of<'a, 't>(
 ) -> Result<(Head, &'t [Placed<'a>]), Stop>
     ensures reads { (f : FrontTree) →
         Reads (λ x. reads (StepBegun f (map session_tree sessions.now) (head_tree x.0) []) (views x.1.now)) result
-            (reads (SessionBegun f (map session_tree sessions.now)) (views tokens.now)) }
+        (reads (SessionBegun f (map session_tree sessions.now)) (views tokens.now)) }
     ensures shorter { IfOk result (λ x. length x.1.now < length tokens.now) }
 {
     let (name, rest) = session_name(alloc, tokens, sessions)?;
@@ -158,7 +158,7 @@ fn late_teardown<'a, 't>(
     requires { is_step (view_token token.token) ≡ false }
     ensures reads { (f : FrontTree) (ss : List SessionTree) (steps : List StepTree) →
         Reads (λ x. reads (Sessioned f (ss ++ made_session (head_tree head.now) steps (option_tree x.0) ∷ [])) (view x.1 ∷ views x.2.now)) result
-            (reads (Stepped f ss (head_tree head.now) steps) (view token.entry ∷ views tokens.now)) }
+        (reads (Stepped f ss (head_tree head.now) steps) (view token.entry ∷ views tokens.now)) }
     ensures shorter { IfOk result (λ x. length x.2.now < length tokens.now + 1) }
 {
     if !token.token.is_teardown() {
@@ -181,7 +181,7 @@ fn session_of<'a, 't>(
 ) -> Result<(Session, Placed<'a>, &'t [Placed<'a>]), Stop>
     ensures reads { (f : FrontTree) →
         Reads (λ x. reads (Sessioned f (map session_tree sessions.now ++ session_tree x.0 ∷ [])) (view x.1 ∷ views x.2.now)) result
-            (reads (SessionBegun f (map session_tree sessions.now)) (views tokens.now)) }
+        (reads (SessionBegun f (map session_tree sessions.now)) (views tokens.now)) }
     ensures shorter { IfOk result (λ x. length x.2.now < length tokens.now) }
 {
     let (head, rest) = head_of(alloc, tokens, sessions)?;
@@ -206,7 +206,7 @@ fn push_session<'a, 't>(
 ) -> Result<(Placed<'a>, &'t [Placed<'a>]), Stop>
     ensures reads { (f : FrontTree) →
         Reads (λ x. reads (Sessioned f (map session_tree sessions.new.items)) (view x.0 ∷ views x.1.now)) result
-            (reads (SessionBegun f (map session_tree sessions.old.items)) (views tokens.now)) }
+        (reads (SessionBegun f (map session_tree sessions.old.items)) (views tokens.now)) }
     ensures shorter { IfOk result (λ x. length x.1.now < length tokens.now) }
 {
     let (session, next, rest) = session_of(alloc, tokens, sessions)?;
@@ -221,7 +221,7 @@ pub fn sessions_of<'a, 't>(
 ) -> Result<(Vec<Session>, Placed<'a>, &'t [Placed<'a>]), Stop>
     ensures reads { (f : FrontTree) →
         Reads (λ x. reads (Sessioned f (map session_tree x.0.items)) (view x.1 ∷ views x.2.now)) result
-            (reads (SessionBegun f []) (views tokens.now)) }
+        (reads (SessionBegun f []) (views tokens.now)) }
     ensures after { IfOk result (λ x. is_session (view_token x.1.token) ≡ false) }
 {
     let mut sessions = Vec::new(alloc);

@@ -1,7 +1,3 @@
-use Rattle.std.proofs.Common.{ℕ, sym, ◌∙◌, ap, subst}
-use Rattle.std.specs.List.{prefix_len}
-use Rattle.std.specs.Str.{IsCharBoundary}
-use Rattle.spec_reader.specs.Bytes.{in_class}
 use Rattle.spec_reader.proofs.Pieces.{run_boundary}
 use Rattle.spec_reader.proofs.cutting.run_of.Goals as goal
 

@@ -1,9 +1,8 @@
-use Rattle.std.proofs.Common.{◌≡◌, ◌++◌, ◌∷◌, [], ap, sym, ◌∙◌, length, arith, subst, length-drop, IsUtf8}
+use Rattle.std.proofs.Common.{ap, sym, ◌∙◌, length, arith, subst, length-drop, IsUtf8}
 use Rattle.std.proofs.lemmas.List.{map_push}
 use Rattle.std.proofs.lemmas.Str.{IsUtf8-drop}
-use Rattle.spec_reader.specs.Tokens.{Placed}
 use Rattle.spec_reader.specs.declared.token.Placed.{Placed as WrittenAt}
-use Rattle.spec_reader.specs.Lexing.{view, view_token, views, token_list, Blank, Next, Last, tokens_past}
+use Rattle.spec_reader.specs.Lexing.{view, view_token, views, token_list, Blank, Next, Last}
 use Rattle.spec_reader.proofs.Pieces.{goes_on, goes_on_after}
 use Rattle.spec_reader.proofs.cutting.tokens_of.Goals as goal
 

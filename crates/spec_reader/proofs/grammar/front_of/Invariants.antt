@@ -1,4 +1,4 @@
-use Rattle.std.proofs.Common.{◌≡◌, ◌<◌, ◌∷◌, [], ℕ, List, Option, None, map, length}
+use Rattle.std.proofs.Common.{◌≡◌, ◌∷◌, None, map, length}
 use Rattle.spec_reader.specs.Lexing.{view, views}
 use Rattle.spec_reader.specs.Reading.{reads, Start, Head}
 use Rattle.spec_reader.specs.Views.{block_tree}

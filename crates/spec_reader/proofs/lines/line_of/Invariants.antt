@@ -1,4 +1,4 @@
-use Rattle.std.proofs.Common.{◌≡◌, ◌<◌, ◌∷◌, ℕ, List, map, length}
+use Rattle.std.proofs.Common.{◌≡◌, ◌<◌, ◌∷◌, List, map, length}
 use Rattle.spec_reader.specs.Lexing.{view, views}
 use Rattle.spec_reader.specs.Grammar.{FrontTree, LineTree}
 use Rattle.spec_reader.specs.Reading.{reads, LineBegun, ItemDone}

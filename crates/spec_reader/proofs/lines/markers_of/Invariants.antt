@@ -1,4 +1,4 @@
-use Rattle.std.proofs.Common.{◌≡◌, ◌<◌, ◌∷◌, [], ℕ, List, map, length}
+use Rattle.std.proofs.Common.{◌≡◌, ◌<◌, [], ℕ, List, map, length}
 use Rattle.spec_reader.specs.Lexing.{view, views}
 use Rattle.spec_reader.specs.Grammar.{FrontTree, LineTree, ItemTree}
 use Rattle.spec_reader.specs.Reading.{reads, reads_listed, MarkerBegun}

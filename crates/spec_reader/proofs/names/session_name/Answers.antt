@@ -1,5 +1,5 @@
 use Rattle.std.specs.String.{string_bytes}
-use Rattle.std.proofs.Common.{rules, arith, refl, ap, sym, ◌∙◌, subst, ◌≡◌}
+use Rattle.std.proofs.Common.{refl}
 use Rattle.spec_reader.proofs.Named.{session_named}
 use Rattle.spec_reader.proofs.names.session_name.Goals as goal
 

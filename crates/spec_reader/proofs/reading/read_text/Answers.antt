@@ -1,9 +1,7 @@
-use Rattle.std.proofs.Common.{◌≡◌, ◌≤◌, Ok, Err, length, refl, sym, ap, ◌∙◌, inr, arith}
+use Rattle.std.proofs.Common.{◌≡◌, sym, ap, ◌∙◌, arith}
 use Rattle.spec_reader.specs.Lexing.{views, token_list}
-use Rattle.spec_reader.specs.Grammar.{SpecTree}
-use Rattle.spec_reader.specs.Reading.{Start, reads, Stop, More, At}
+use Rattle.spec_reader.specs.Reading.{Start, reads}
 use Rattle.spec_reader.specs.Views.{spec_tree, fault_of}
-use Rattle.spec_reader.specs.Text.{too_large, not_utf8}
 use Rattle.spec_reader.proofs.Ended.{never_more}
 use Rattle.spec_reader.proofs.Verdict.{is_spec, same_tree, no_fault, is_fault}
 use Rattle.spec_reader.proofs.reading.read_text.Goals as goal

@@ -1,4 +1,4 @@
-use Rattle.std.proofs.Common.{◌≡◌, ◌<◌, ◌∷◌, [], ℕ, List, Option, map, length}
+use Rattle.std.proofs.Common.{◌≡◌, ◌∷◌, [], map, length}
 use Rattle.spec_reader.specs.Lexing.{view, views}
 use Rattle.spec_reader.specs.Grammar.{FrontTree}
 use Rattle.spec_reader.specs.Reading.{reads, SessionBegun, Sessioned}
