@@ -9,6 +9,7 @@ ghost use Rattle.spec_reader.specs.Reading.{reads, refused, no_session, no_step,
 ghost use Rattle.spec_reader.specs.Views.{block_tree, Reads, Takes};
 
 use crate::error::{Kind, SpecError, Stop};
+use crate::quoted::undoubled;
 use crate::token::{Placed, Token};
 use crate::tree::Block;
 use std::alloc::Global;
@@ -92,6 +93,7 @@ pub fn name_of(alloc: Global, token: &Placed) -> Result<String, Stop>
 {
     match token.token {
         Token::Name(name) => Ok(String::from_str(alloc, name)?),
+        Token::Quoted(name) => Ok(undoubled(alloc, name)?),
         _ => Err(fault(token, refused(&token.token))),
     }
 }

@@ -15,6 +15,9 @@ use crate::token::{Placed, Token};
 use crate::tree::{Item, Line, Marker, Session};
 use std::alloc::Global;
 
+/// The most permutation lines of a file.
+const MAX_LINES: usize = 4096;
+
 /// What follows the name in a marker, and the token after the marker.
 fn named_marker<'a, 't>(
     name: String,
@@ -185,7 +188,7 @@ fn line_of<'a, 't>(
 fn is_full(lines: &[Line]) -> bool
     ensures { result ≡ nat_le 4096 (length (map line_tree lines.now)) }
 {
-    lines.len() >= 4096
+    lines.len() >= MAX_LINES
 }
 
 /// Adds a permutation line, from its first word on, and gives the token after it.

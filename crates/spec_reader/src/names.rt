@@ -15,6 +15,9 @@ use crate::token::Placed;
 use crate::tree::{Item, Session, Step};
 use std::alloc::Global;
 
+/// The most items of a permutation line.
+const MAX_ITEMS: usize = 24;
+
 /// Whether a session has this name.
 fn is_session_name(sessions: &[Session], name: &str) -> bool
     ensures { result ≡ list_any (λ s. bytes_eq name.now (string_bytes s.head.name)) sessions.now }
@@ -111,7 +114,7 @@ pub fn item_name(
         (reads_item f (map session_tree sessions.now) ls (map item_tree items.now) (view token.now) ts) }
 {
     let name = name_of(alloc, token)?;
-    if items.len() >= 24 {
+    if items.len() >= MAX_ITEMS {
         return Err(fault(token, Kind::TooLarge));
     }
     if !is_step_name_in(sessions, name.as_str()) {
