@@ -1,0 +1,216 @@
+use crate::{Block, Item, Line, Marker, Session, SpecError, SpecErrorKind, SpecText, read_spec};
+use std::alloc::{AllocError, Global};
+use std::test::Fail;
+
+fn fault_of(alloc: Global, bytes: &[u8]) -> Option<SpecError> {
+    read_spec(alloc, bytes).err()
+}
+
+fn fault(kind: SpecErrorKind, offset: usize) -> Option<SpecError> {
+    Some(SpecError { kind, offset })
+}
+
+/// A text, and so many times another one.
+fn repeated(alloc: Global, front: &str, part: &str, times: usize) -> Result<String, AllocError> {
+    let mut text = String::from_str(alloc, front)?;
+    for _ in 0..times {
+        text.push_str(part)?;
+    }
+    Ok(text)
+}
+
+fn tell_block(out: &mut String, word: &str, block: &Block) -> Result<(), AllocError> {
+    write!(out, " {word}@{}[{}]", block.at, block.text)
+}
+
+fn tell_session(out: &mut String, session: &Session) -> Result<(), AllocError> {
+    write!(out, " / session {}", session.head.name)?;
+    if let Some(setup) = &session.head.setup {
+        tell_block(out, "setup", setup)?;
+    }
+    if let Some(teardown) = &session.head.teardown {
+        tell_block(out, "first", teardown)?;
+    }
+    for step in &session.steps {
+        tell_block(out, step.name.as_str(), &step.block)?;
+    }
+    if let Some(teardown) = &session.teardown {
+        tell_block(out, "last", teardown)?;
+    }
+    Ok(())
+}
+
+fn tell_item(out: &mut String, item: &Item) -> Result<(), AllocError> {
+    write!(out, " {}", item.name)?;
+    for marker in &item.markers {
+        match marker {
+            Marker::AnyTime => write!(out, " *")?,
+            Marker::Before(name) => write!(out, " <{name}")?,
+            Marker::Notices(name) => write!(out, " !{name}")?,
+        }
+    }
+    Ok(())
+}
+
+fn tell_line(out: &mut String, line: &Line) -> Result<(), AllocError> {
+    write!(out, " / line")?;
+    for item in &line.items {
+        tell_item(out, item)?;
+    }
+    Ok(())
+}
+
+/// What a spec file says, with the offsets of its blocks.
+fn told(alloc: Global, spec: &SpecText) -> Result<String, AllocError> {
+    let mut out = String::new(alloc);
+    for setup in &spec.front.setups {
+        tell_block(&mut out, "setup", setup)?;
+    }
+    if let Some(teardown) = &spec.front.teardown {
+        tell_block(&mut out, "teardown", teardown)?;
+    }
+    for session in &spec.sessions {
+        tell_session(&mut out, session)?;
+    }
+    for line in &spec.lines {
+        tell_line(&mut out, line)?;
+    }
+    Ok(out)
+}
+
+#[test]
+fn a_spec_file_is_read_with_the_offsets_of_its_blocks(rt: HostRuntime) -> Result<(), Fail> {
+    for (text, want) in [
+        ("session a step s {}", " / session a s@18[]"),
+        (
+            "setup { x }\nsetup {y;}\nteardown { z }\n\
+             session a setup { s } step a1 { q } step a2 {} teardown { t }\n\
+             session b teardown {} step b1 {r}\n\
+             permutation a1(*) b1(a1, a1 notices 12) a2\r\n\
+             permutation b1\t\x0c",
+            " setup@7[ x ] setup@19[y;] teardown@33[ z ] \
+             / session a setup@55[ s ] a1@69[ q ] a2@83[] last@95[ t ] \
+             / session b first@120[] b1@131[r] \
+             / line a1 * b1 <a1 !a1 a2 / line b1",
+        ),
+        (
+            "session _x$1 step F {}session f step f{}permutation F(f)f",
+            " / session _x$1 F@21[] / session f f@39[] / line F <f f",
+        ),
+    ] {
+        let spec = read_spec(rt.alloc(), text.as_bytes())?;
+        assert_eq!(rt; spec.text.as_str(), text);
+        assert_eq!(rt; told(rt.alloc(), &spec)?.as_str(), want);
+    }
+    Ok(())
+}
+
+#[test]
+fn the_first_fault_is_named(rt: HostRuntime) {
+    for (text, kind, offset) in [
+        ("", SpecErrorKind::NoStep, 0),
+        ("setup {} permutation s", SpecErrorKind::NoStep, 9),
+        ("session a", SpecErrorKind::NoStep, 9),
+        ("session a permutation s", SpecErrorKind::NoStep, 10),
+        ("session a session b", SpecErrorKind::NoStep, 10),
+        ("step s {}", SpecErrorKind::Misplaced, 0),
+        ("session", SpecErrorKind::Misplaced, 7),
+        (
+            "session a step s {} permutation ",
+            SpecErrorKind::Misplaced,
+            32,
+        ),
+        ("session a step setup {}", SpecErrorKind::Misplaced, 15),
+        (
+            "session a step s {} teardown {} teardown {}",
+            SpecErrorKind::Misplaced,
+            32,
+        ),
+        (
+            "session a step s {} permutation s(s notices 3a)",
+            SpecErrorKind::Misplaced,
+            45,
+        ),
+        ("session a step s {} ;", SpecErrorKind::BadToken, 20),
+        ("session a step s { SELECT", SpecErrorKind::Unclosed, 17),
+        (
+            "session a step s {} step s {",
+            SpecErrorKind::DuplicateStep,
+            25,
+        ),
+        (
+            "session a step s {} session a step t {}",
+            SpecErrorKind::DuplicateSession,
+            28,
+        ),
+        (
+            "session a step s {} permutation x",
+            SpecErrorKind::UnknownStep,
+            32,
+        ),
+        (
+            "session a step s {} permutation s(x)",
+            SpecErrorKind::UnknownStep,
+            34,
+        ),
+        (
+            "session a step Foo {} permutation foo",
+            SpecErrorKind::UnknownStep,
+            34,
+        ),
+    ] {
+        assert_eq!(rt;
+            fault_of(rt.alloc(), text.as_bytes()),
+            fault(kind, offset),
+            "{text}"
+        );
+    }
+    assert_eq!(rt;
+        fault_of(rt.alloc(), &[0xff]),
+        fault(SpecErrorKind::NotUtf8, 0)
+    );
+}
+
+#[test]
+fn each_limit_is_passed_by_one(rt: HostRuntime) -> Result<(), Fail> {
+    let spaces = repeated(rt.alloc(), "", " ", 65_537)?;
+    let spaces = spaces.as_str().as_bytes();
+    assert_eq!(rt;
+        fault_of(rt.alloc(), spaces),
+        fault(SpecErrorKind::TooLarge, 65_536)
+    );
+    assert_eq!(rt;
+        spaces.get(..65_536).and_then(|s| fault_of(rt.alloc(), s)),
+        fault(SpecErrorKind::NoStep, 65_536)
+    );
+
+    let front = "session a step s {}";
+    let items = repeated(rt.alloc(), "session a step s {} permutation", " s", 24)?;
+    assert!(rt; read_spec(rt.alloc(), items.as_str().as_bytes()).is_ok());
+    let items = repeated(rt.alloc(), items.as_str(), " x", 1)?;
+    assert_eq!(rt;
+        fault_of(rt.alloc(), items.as_str().as_bytes()),
+        fault(SpecErrorKind::TooLarge, 80)
+    );
+
+    let lines = repeated(rt.alloc(), front, " permutation s", 4096)?;
+    assert!(rt; read_spec(rt.alloc(), lines.as_str().as_bytes()).is_ok());
+    let lines = repeated(rt.alloc(), lines.as_str(), " permutation s", 1)?;
+    assert_eq!(rt;
+        fault_of(rt.alloc(), lines.as_str().as_bytes()),
+        fault(SpecErrorKind::TooLarge, 57_364)
+    );
+    Ok(())
+}
+
+#[test]
+fn a_refusal_has_a_number_and_words(rt: HostRuntime) -> Result<(), Fail> {
+    let refusal = SpecError {
+        kind: SpecErrorKind::UnknownStep,
+        offset: 32,
+    };
+    assert_eq!(rt; refusal.kind.number(), 8);
+    let words = format!(in rt.alloc(); "{refusal}")?;
+    assert_eq!(rt; words.as_str(), "no step has this name at byte 32");
+    Ok(())
+}
