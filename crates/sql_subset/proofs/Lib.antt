@@ -1,2 +1,3 @@
-pub mod WalkLemmas
 pub mod OrderLemmas
+pub mod Pieces
+pub mod WalkLemmas

@@ -3,8 +3,10 @@
 
 mod block;
 mod bound;
+mod cutting;
 mod orders;
 mod spec;
+mod token;
 mod walking;
 
 pub use block::Block;
