@@ -6,7 +6,7 @@ use Rattle.std.proofs.lemmas.List.{append_assoc, take_all, take_more, flat_map_m
 use Rattle.std.proofs.lemmas.Grind.{flat_map-append}
 use Rattle.std.proofs.Math.Seq.{take-add, take-append-add}
 use Rattle.std.specs.Io.KnownBytes.{Appends}
-use Rattle.transcripts.specs.Counted.{AppendsFront, failures_of, written, Wrote, Stopped, Prints}
+use Rattle.transcripts.specs.Counted.{written, Wrote, Stopped, Prints}
 use Rattle.transcripts.specs.declared.counted.Counted.{Counted}
 
 -- a text, and those of the first elements of a list, with that of the next
@@ -18,7 +18,6 @@ next-of f s xs i x d lt e =
 module _
     {W : Type 0}
     (contents : W → Option (List ℕ)) where
-
   -- nothing is written, and nothing fails
   pub wrote-nil : (a : Counted W) → Wrote contents a a []
   wrote-nil a = record { whole = Appends-nil _; failures = refl }
@@ -27,30 +26,30 @@ module _
   pub wrote-append : (a b c : Counted W) (s t : List ℕ) → Wrote contents a b s → Wrote contents b c t → Wrote contents a c (s ++ t)
   wrote-append a b c s t p q = record {
     whole = Appends-trans _ _ _ s t p.whole q.whole;
-    failures = q.failures ∙ p.failures
+    failures = q.failures ∙ p.failures;
   }
 
   -- what stops within a text stops within a longer one
   pub stopped-append : (a b : Counted W) (s t : List ℕ) → Stopped contents a b s → Stopped contents a b (s ++ t)
   stopped-append a b s t p =
-    let n = p.front.0 in
-    let below : n < length s = p.front.1 in
-    let cut : take n s ≡ take n (s ++ t) = sym (take-append-le n s t (omega arith)) in
-    record {
-      front = (n, omega (arith, length-append s t), subst (λ h. Appends (written contents a) (written contents b) h) cut p.front.2);
-      failures = p.failures
-    }
+      let n = p.front.0 in
+      let below : n < length s = p.front.1 in
+      let cut : take n s ≡ take n (s ++ t) = sym (take-append-le n s t (omega arith)) in
+      record {
+        front = (n, omega (arith, length-append s t), subst (λ h. Appends (written contents a) (written contents b) h) cut p.front.2);
+        failures = p.failures;
+      }
 
   -- what stops within the text after another one stops within both
   pub stopped-after : (a b c : Counted W) (s t : List ℕ) → Wrote contents a b s → Stopped contents b c t → Stopped contents a c (s ++ t)
   stopped-after a b c s t p q =
-    let n = q.front.0 in
-    let below : n < length t = q.front.1 in
-    let cut : s ++ take n t ≡ take (length s + n) (s ++ t) = sym (take-append-add s t n) in
-    record {
-      front = (length s + n, omega (arith, length-append s t), subst (λ h. Appends (written contents a) (written contents c) h) cut (Appends-trans _ _ _ s (take n t) p.whole q.front.2));
-      failures = q.failures ∙ ap (λ k. k + 1) p.failures
-    }
+      let n = q.front.0 in
+      let below : n < length t = q.front.1 in
+      let cut : s ++ take n t ≡ take (length s + n) (s ++ t) = sym (take-append-add s t n) in
+      record {
+        front = (length s + n, omega (arith, length-append s t), subst (λ h. Appends (written contents a) (written contents c) h) cut (Appends-trans _ _ _ s (take n t) p.whole q.front.2));
+        failures = q.failures ∙ ap (λ k. k + 1) p.failures;
+      }
 
   -- a call that prints after a text is written
   pub prints-after : {X E : Type 0} (a b c : Counted W) (result : Result X E) (s t : List ℕ) → Wrote contents a b s → Prints contents b c result t → Prints contents a c result (s ++ t)
@@ -86,9 +85,9 @@ module _
       let front = s ++ flat_map f (take i xs) in
       let both : Stopped contents a c ((front ++ f x) ++ flat_map f (drop (i + 1) xs)) = stopped-append a c (front ++ f x) _ (stopped-after a b c front (f x) p q) in
       let whole : (front ++ f x) ++ flat_map f (drop (i + 1) xs) ≡ s ++ flat_map f xs =
-          ap (λ h. h ++ flat_map f (drop (i + 1) xs)) (next-of f s xs i x d lt e)
-          ∙ append_assoc s (flat_map f (take (i + 1) xs)) (flat_map f (drop (i + 1) xs))
-          ∙ ap (λ h. s ++ h) (sym (flat_map-append f (take (i + 1) xs) (drop (i + 1) xs)) ∙ ap (flat_map f) (take-append-drop (i + 1) xs)) in
+      ap (λ h. h ++ flat_map f (drop (i + 1) xs)) (next-of f s xs i x d lt e)
+      ∙ append_assoc s (flat_map f (take (i + 1) xs)) (flat_map f (drop (i + 1) xs))
+      ∙ ap (λ h. s ++ h) (sym (flat_map-append f (take (i + 1) xs) (drop (i + 1) xs)) ∙ ap (flat_map f) (take-append-drop (i + 1) xs)) in
       subst (λ h. Stopped contents a c h) whole both
 
   -- the texts of all of a list's elements are written

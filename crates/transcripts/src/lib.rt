@@ -3,10 +3,14 @@
 
 mod counted;
 mod event;
+mod names;
 mod outcome;
 mod printing;
+#[cfg(test)]
+mod tests;
 
 pub use counted::{Counted, ReadError, ReadFault, WriteFault};
 pub use event::{Event, Fault, Warning};
-pub use outcome::{Names, Outcome, Transcript};
+pub use names::Names;
+pub use outcome::{Outcome, Transcript};
 pub use printing::{print, print_rank};

@@ -1,7 +1,6 @@
 ghost use Rattle.std.specs.Prelude.{◌≡◌, [], ◌∷◌, ◌++◌, OnOk, OnErr};
 
 use crate::event::Event;
-use lock_modes::Text;
 use std::alloc::{AllocError, Global};
 use std::marker::Model;
 use version_tree::Fork;
@@ -98,10 +97,4 @@ impl Outcome {
     {
         self.sessions.as_slice()
     }
-}
-
-/// The names that an outcome is printed with, by the numbers of sessions and of steps.
-pub struct Names<'a> {
-    pub sessions: &'a [Text],
-    pub steps: &'a [Text],
 }

@@ -6,7 +6,8 @@ ghost use Rattle.transcripts.specs.Text.{barred, doubled, event_line, event_text
 
 use crate::counted::{Counted, WriteFault};
 use crate::event::{Event, Fault, Warning};
-use crate::outcome::{Names, Outcome, Transcript};
+use crate::names::Names;
+use crate::outcome::{Outcome, Transcript};
 use itoa::Buffer;
 use lock_modes::{Text, Value};
 use std::io::Write;

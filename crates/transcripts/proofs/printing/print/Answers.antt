@@ -25,10 +25,10 @@ returns-in_err-print_session g c =
     let named : c.loop-session.session < length c.args.names.now.sessions.now = omega (arith, ap length c.sessions-transcript-items.ensures) in
     rw (← c.sessions-transcript-items.ensures)
     (prints-stopped _ _ _ _ _
-      (stopped-next_of _ (session_text c.args.names.now.steps.now) _ _ _ [] _ _ _ _
-        (in-both _ _ _ named c.loop-session-test.true) (beside _ _ _ c.index-names-session.result _ named c.loop-session-test.true c.transcript-item.is)
-        c.loop-session.invariant c.in_err-print_session.ensures)
-      c.from_residual.ensures.0)
+    (stopped-next_of _ (session_text c.args.names.now.steps.now) _ _ _ [] _ _ _ _
+    (in-both _ _ _ named c.loop-session-test.true) (beside _ _ _ c.index-names-session.result _ named c.loop-session-test.true c.transcript-item.is)
+    c.loop-session.invariant c.in_err-print_session.ensures)
+    c.from_residual.ensures.0)
 
 -- a session is written
 pub loop-session-preserved : goal.loop-session-preserved
@@ -36,8 +36,8 @@ loop-session-preserved g c =
     let few = c.requires.named.each_session in
     let named : c.loop-session.session < length c.args.names.now.sessions.now = omega (arith, ap length c.sessions-transcript-items.ensures) in
     wrote-next_of _ (session_text c.args.names.now.steps.now) _ _ _ [] _ _ _ _
-      (in-both _ _ _ named c.loop-session-test.true) (beside _ _ _ c.index-names-session.result _ named c.loop-session-test.true c.transcript-item.is)
-      c.loop-session.invariant c.in_ok-print_session.ensures
+    (in-both _ _ _ named c.loop-session-test.true) (beside _ _ _ c.index-names-session.result _ named c.loop-session-test.true c.transcript-item.is)
+    c.loop-session.invariant c.in_ok-print_session.ensures
 
 -- all are written
 pub returns : goal.returns

@@ -8,8 +8,8 @@ pub returns-in_err-print_words : goal.returns-in_err-print_words
 returns-in_err-print_words g c =
     let words = event_text c.args.steps.now c.args.event.now in
     prints-stopped _ _ _ _ _
-      (stopped-append _ _ _ (codes "  " ++ words) (codes "\n") (stopped-after _ _ _ _ (codes "  ") words c.in_ok-write_str.ensures c.in_err-print_words.ensures))
-      c.from_residual-in_err-print_words.ensures.0
+    (stopped-append _ _ _ (codes "  " ++ words) (codes "\n") (stopped-after _ _ _ _ (codes "  ") words c.in_ok-write_str.ensures c.in_err-print_words.ensures))
+    c.from_residual-in_err-print_words.ensures.0
 
 -- the line's end
 pub returns : goal.returns

@@ -9,9 +9,9 @@ returns-in_err-print_pair g c =
     let title = codes "session " ++ c.as_str.result.now in
     rw (← c.as_str.ensures)
     (prints-stopped _ _ _ _ _
-      (stopped-append _ _ _ (title ++ codes "\n") (flat_map (event_line c.args.steps.now) c.args.transcript.now)
-        (stopped-append _ _ _ title (codes "\n") c.in_err-print_pair.ensures))
-      c.from_residual.ensures.0)
+    (stopped-append _ _ _ (title ++ codes "\n") (flat_map (event_line c.args.steps.now) c.args.transcript.now)
+    (stopped-append _ _ _ title (codes "\n") c.in_err-print_pair.ensures))
+    c.from_residual.ensures.0)
 
 -- the line's end
 pub returns-in_err-write_str : goal.returns-in_err-write_str
@@ -19,9 +19,9 @@ returns-in_err-write_str g c =
     let title = codes "session " ++ c.as_str.result.now in
     rw (← c.as_str.ensures)
     (prints-stopped _ _ _ _ _
-      (stopped-append _ _ _ (title ++ codes "\n") (flat_map (event_line c.args.steps.now) c.args.transcript.now)
-        (stopped-after _ _ _ _ title (codes "\n") c.in_ok-print_pair.ensures c.in_err-write_str.ensures))
-      c.from_residual-in_err-write_str.ensures.0)
+    (stopped-append _ _ _ (title ++ codes "\n") (flat_map (event_line c.args.steps.now) c.args.transcript.now)
+    (stopped-after _ _ _ _ title (codes "\n") c.in_ok-print_pair.ensures c.in_err-write_str.ensures))
+    c.from_residual-in_err-write_str.ensures.0)
 
 -- an event
 pub returns-in_err-print_event : goal.returns-in_err-print_event
@@ -29,5 +29,5 @@ returns-in_err-print_event g c =
     let title = codes "session " ++ c.args.name.now ++ codes "\n" in
     rw (← c.events-event-items.ensures)
     (prints-stopped _ _ _ _ _
-      (stopped-next_of _ (event_line c.args.steps.now) _ _ _ title _ _ _ _ c.loop-event-test.true c.event-item.is c.loop-event.invariant c.in_err-print_event.ensures)
-      c.from_residual-in_err-print_event.ensures.0)
+    (stopped-next_of _ (event_line c.args.steps.now) _ _ _ title _ _ _ _ c.loop-event-test.true c.event-item.is c.loop-event.invariant c.in_err-print_event.ensures)
+    c.from_residual-in_err-print_event.ensures.0)

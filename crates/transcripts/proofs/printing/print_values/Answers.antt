@@ -1,4 +1,4 @@
-use Rattle.std.specs.Prelude.{codes, flat_map}
+use Rattle.std.specs.Prelude.{flat_map}
 use Rattle.transcripts.specs.Text.{barred, value_text}
 use Rattle.transcripts.proofs.Writing.{prints-after}
 use Rattle.transcripts.proofs.printing.print_values.Goals as goal

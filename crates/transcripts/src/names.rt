@@ -1,0 +1,52 @@
+ghost use Rattle.std.specs.Prelude.{◌↔◌, All, IsTrue, length};
+ghost use Rattle.transcripts.specs.Outcome.{HasNames, HasStep};
+
+use crate::event::Event;
+use crate::outcome::{Outcome, Transcript};
+use lock_modes::Text;
+
+/// The names that an outcome is printed with, by the numbers of the sessions and of the steps.
+#[derive(Clone, Copy, Debug)]
+pub struct Names<'a> {
+    pub sessions: &'a [Text],
+    pub steps: &'a [Text],
+}
+
+impl Names<'_> {
+    /// Whether there is a name for each session of the outcome, and for each step that its events
+    /// name.
+    pub fn fit(&self, outcome: &Outcome) -> bool
+        ensures { IsTrue result ↔ HasNames self.now.sessions.now self.now.steps.now outcome.now }
+    {
+        if outcome.sessions().len() > self.sessions.len() {
+            return false;
+        }
+        for transcript in outcome.sessions() {
+            if !names_few(transcript, self.steps.len()) {
+                return false;
+            }
+        }
+        true
+    }
+}
+
+// Whether each step that an event names is one of the first ones.
+fn names_few(transcript: &Transcript, count: usize) -> bool
+    ensures { IsTrue result ↔ All (HasStep count) transcript.now }
+{
+    for event in transcript.events() {
+        if !names_one(event, count) {
+            return false;
+        }
+    }
+    true
+}
+
+fn names_one(event: &Event, count: usize) -> bool
+    ensures { IsTrue result ↔ HasStep count event.now }
+{
+    match event {
+        Event::Sent(step) | Event::NotSent(step) => (*step as usize) < count,
+        _ => true,
+    }
+}
