@@ -7,7 +7,8 @@ ghost use Rattle.session_machine.specs.Running.{IsNotRunBy};
 ghost use Rattle.transcripts.specs.Counted.{Wrote, Prints, failures_of};
 ghost use Rattle.transcripts.specs.Text.{rank_text, outcome_text};
 ghost use Rattle.session_machine.specs.Idle.{IsTold};
-ghost use Rattle.iso_farm.specs.One.{IsAnswer};
+ghost use Rattle.iso_farm.specs.One.{IsAnswer, IsRefused, faults_of};
+ghost use Rattle.transcripts.specs.declared.counted.WriteFault.{WriteFault};
 
 use session_machine::{RunError, run_one};
 use sql_subset::Spec;
@@ -30,9 +31,8 @@ pub enum OneFault {
 pub fn one_of<W: Write>(alloc: Global, spec: &Spec, rank: u64, out: &mut Counted<W>) -> Result<(), OneFault>
     requires { failures_of out.old < u64.MAX }
     ensures written { OnOk result ((text : List ℕ) × IsAnswer spec.now rank text × Wrote W.contents out.old out.new text) }
-    ensures out_of_range { IsErrOf result OneFault.OutOfRange ↔ (ranks spec.now.run ≤ rank) }
-    ensures not_run { (error : RunError) → IsErrOf result (OneFault.Run error) → IsNotRunBy error (start spec.now.run) }
-    ensures fault { IsErrOf result (OneFault.Write WriteFault) → failures_of out.new ≡ failures_of out.old + 1 }
+    ensures refused { IfErr result (λ error. IsRefused error spec.now rank) }
+    ensures failures { failures_of out.new ≡ failures_of out.old + faults_of result }
 {
     let Some(line) = spec.line(rank) else {
         return Err(OneFault::OutOfRange);
@@ -48,7 +48,7 @@ fn write_one<W: Write>(spec: &Spec, rank: u64, outcome: &Outcome, out: &mut Coun
     requires countable { failures_of out.old < u64.MAX }
     requires told { IsTold spec.now.run.sessions (length spec.now.run.steps) outcome.now }
     ensures text { Prints W.contents out.old out.new result (rank_text rank ++ outcome_text spec.now.session_names spec.now.step_names outcome.now) }
-    ensures fault { IfErr result (λ error. error ≡ OneFault.Write WriteFault) }
+    ensures refused { IfErr result (λ error. (fault : WriteFault) × (error ≡ OneFault.Write fault)) }
 {
     let names = Names {
         sessions: spec.session_names(),
