@@ -53,3 +53,10 @@ IsNotRunBy run_error.TooDeep s = ⊥
 -- the outcome of a line: the transcripts after its steps were sent in turn from the start, none where the spec does not start
 abbrev pub outcome_of_line : Spec → List ℕ → Option (List (List Event))
 outcome_of_line spec line = elim (start spec) [ Started w ↦ Some (outcome_of spec.sessions (send_all spec.steps w line)) | _ ↦ None ]
+
+-- the number of a refused start in fault lines
+abbrev pub number_of : StartError → ℕ
+number_of (start_error.SetupFailed n) = 1
+number_of (start_error.SessionSetupFailed i) = 2
+number_of (start_error.SessionSetupWaits i) = 3
+number_of start_error.NoMemory = 4

@@ -3,6 +3,7 @@ use std::error::Error;
 use std::fmt;
 
 ghost use Rattle.std.specs.Prelude.{◌≡◌};
+ghost use Rattle.session_machine.specs.Running.{number_of};
 ghost use Rattle.session_machine.specs.declared.error.SendError.TheVariants as send_error;
 ghost use Rattle.session_machine.specs.declared.error.StartError.TheVariants as start_error;
 ghost use Rattle.session_machine.specs.declared.error.RunError.TheVariants as run_error;
@@ -42,6 +43,20 @@ pub enum RunError {
     NoMemory,
     /// A job of too many levels.
     TooDeep,
+}
+
+impl StartError {
+    /// The number that a fault line shows.
+    pub fn number(&self) -> u8
+        ensures { result ≡ number_of self.now }
+    {
+        match self {
+            StartError::SetupFailed { .. } => 1,
+            StartError::SessionSetupFailed { .. } => 2,
+            StartError::SessionSetupWaits { .. } => 3,
+            StartError::NoMemory => 4,
+        }
+    }
 }
 
 impl fmt::Display for StartError {
