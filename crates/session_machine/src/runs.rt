@@ -1,7 +1,8 @@
 //! Whole runs of a spec.
 
-ghost use Rattle.std.specs.Prelude.{◌≡◌, ◌<◌, ℕ, Some, All, IfOk, IfErr, length};
+ghost use Rattle.std.specs.Prelude.{◌≡◌, ◌<◌, ℕ, Some, false, All, IfOk, IfErr, OnOk, length};
 ghost use Rattle.session_machine.specs.Start.{Start, start};
+ghost use Rattle.session_machine.specs.World.{send_all};
 ghost use Rattle.session_machine.specs.Idle.{IsTold};
 ghost use Rattle.session_machine.specs.Running.{IsRefusedBy, IsNotRunBy, outcome_of_line};
 
@@ -23,18 +24,29 @@ pub fn run_one(alloc: Global, spec: &Spec, line: &Line) -> Result<Outcome, RunEr
         Ok(world) => world,
         Err(error) => return Err(not_started(error)),
     };
-    for step in line.as_slice() {
+    send_line(&mut world, line.as_slice())?;
+    match world.outcome() {
+        Ok(outcome) => Ok(outcome),
+        Err(SendError::NoMemory) => Err(RunError::NoMemory),
+        Err(SendError::Spent) => unreachable!(),
+    }
+}
+
+/// Sends the steps in turn.
+fn send_line(world: &mut World<'_>, steps: &[u8]) -> Result<(), RunError>
+    requires known { All (λ k. k < length world.old.file.run.steps) steps.now }
+    requires whole { world.old.spent ≡ false }
+    ensures sent { OnOk result (world.new ≡ record world.old { world = send_all world.old.file.run.steps world.old.world steps.now }) }
+    ensures refused { IfErr result (λ error. error ≡ RunError.NoMemory) }
+{
+    for step in steps {
         match world.send(*step) {
             Ok(()) => {}
             Err(SendError::NoMemory) => return Err(RunError::NoMemory),
             Err(SendError::Spent) => unreachable!(),
         }
     }
-    match world.outcome() {
-        Ok(outcome) => Ok(outcome),
-        Err(SendError::NoMemory) => Err(RunError::NoMemory),
-        Err(SendError::Spent) => unreachable!(),
-    }
+    Ok(())
 }
 
 /// A run of a spec that does not start. Want of memory is the run's own.
