@@ -1,21 +1,22 @@
 //! What the words of a command line ask for.
 
-ghost use Rattle.std.specs.Prelude.{◌≡◌};
+ghost use Rattle.std.specs.Prelude.{◌≡◌, ◌<◌};
 ghost use Rattle.transcripts.specs.Counted.{failures_of};
 
 use crate::fault::ProgramFault;
 use crate::files::{Opener, read_spec_file};
-use crate::one::{OneFault, one};
+use crate::single::{OneFault, one};
 use clap::error::ErrorKind;
 use clap::{Arg, ArgAction, ArgMatches, Command, Error, value_parser};
 use session_machine::{RunError, StartError};
-use spec_reader::{Kind as SpecErrorKind, SpecError};
+use spec_reader::{SpecError, SpecErrorKind};
 use sql_subset::{BindError, BindErrorKind};
 use std::alloc::{AllocError, Global};
 use std::io::Write;
 use transcripts::Counted;
 
 /// What the words ask for.
+#[derive(Drop)]
 enum Asked<'a> {
     /// One permutation of the spec at a path.
     One { path: &'a str, rank: u64 },
@@ -33,7 +34,7 @@ pub fn run<O: Opener, W: Write, E: Write>(
     requires out { failures_of out.old ≡ 0 }
     requires err { failures_of err.old ≡ 0 }
 {
-    let asked = match asked(alloc, words) {
+    let asked = match parse_words(alloc, words) {
         Ok(asked) => asked,
         Err(error) => return tell_usage(alloc, &error, out, err),
     };
@@ -64,12 +65,12 @@ fn command<'a>(alloc: Global) -> Result<Command<'a>, AllocError> {
         .subcommand(one)
 }
 
-fn asked<'a>(alloc: Global, words: &'a [String]) -> Result<Asked<'a>, Error> {
+fn parse_words<'a>(alloc: Global, words: &'a [String]) -> Result<Asked<'a>, Error> {
     let matches = command(alloc)?.try_get_matches_from(words)?;
     let Some(one) = matches.subcommand_matches("one") else {
         return Err(no_command(alloc)?);
     };
-    match one_asked(one) {
+    match one_of_words(one) {
         Some(asked) => Ok(asked),
         None => Err(no_command(alloc)?),
     }
@@ -80,7 +81,7 @@ fn no_command(alloc: Global) -> Result<Error, AllocError> {
     command(alloc)?.error(ErrorKind::MissingSubcommand, "no command")
 }
 
-fn one_asked<'a>(matches: &ArgMatches<'a>) -> Option<Asked<'a>> {
+fn one_of_words<'a>(matches: &ArgMatches<'a>) -> Option<Asked<'a>> {
     let path = matches.get_str("SPEC")?;
     let rank = matches.get_one::<u64>("RANK")?;
     Some(Asked::One { path, rank })

@@ -1,10 +1,12 @@
 //! The farm as a library: what each command of the program does, over words, files and two writers.
 #![tactic(auto)]
 
+mod commands;
 mod fault;
 mod files;
-mod one;
+mod single;
 
+pub use commands::run;
 pub use fault::ProgramFault;
 pub use files::{MAX_SPEC_READ, Opener};
-pub use one::{OneFault, one_of};
+pub use single::{OneFault, one, one_of};

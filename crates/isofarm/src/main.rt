@@ -9,6 +9,7 @@ use std::process::ExitCode;
 use transcripts::Counted;
 
 /// The files of the machine.
+#[derive(Drop)]
 struct Disk<'a> {
     rt: &'a HostRuntime,
 }

@@ -11,7 +11,8 @@ ghost use Rattle.iso_farm.specs.One.{IsAnswer, IsRefused, faults_of};
 ghost use Rattle.transcripts.specs.declared.counted.WriteFault.{WriteFault};
 
 use session_machine::{RunError, run_one};
-use sql_subset::Spec;
+use spec_reader::{SpecError, read_spec};
+use sql_subset::{BindError, Spec, bind};
 use std::alloc::Global;
 use std::io::Write;
 use transcripts::{Counted, Names, Outcome, WriteFault, print, print_rank};
@@ -19,12 +20,31 @@ use transcripts::{Counted, Names, Outcome, WriteFault, print, print_rank};
 /// Why one permutation was not written. Each is tried before those below it, but for want of memory.
 #[derive(Clone, Copy, Debug, PartialEq, Eq)]
 pub enum OneFault {
+    /// The bytes are no spec.
+    Spec(SpecError),
+    /// The statements of the spec are refused.
+    Bind(BindError),
     /// The spec has no permutation of this rank.
     OutOfRange,
     /// The line was not run: the spec does not start, or memory ran out.
     Run(RunError),
     /// The outcome was not written; a front of the text may be.
     Write(WriteFault),
+}
+
+/// Reads a spec, and writes the rank and the outcome of its line.
+pub fn one<W: Write>(alloc: Global, bytes: &[u8], rank: u64, out: &mut Counted<W>) -> Result<(), OneFault>
+    requires { failures_of out.old < u64.MAX }
+    ensures failures { failures_of out.new ≡ failures_of out.old + faults_of result }
+{
+    let text = match read_spec(alloc, bytes) {
+        Ok(text) => text,
+        Err(error) => return Err(OneFault::Spec(error)),
+    };
+    match bind(alloc, &text) {
+        Ok(spec) => one_of(alloc, &spec, rank, out),
+        Err(error) => Err(OneFault::Bind(error)),
+    }
 }
 
 /// Writes the rank and the outcome of its line.

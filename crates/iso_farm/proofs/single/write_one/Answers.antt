@@ -2,7 +2,7 @@ use Rattle.std.proofs.Common.{◌++◌, subst}
 use Rattle.transcripts.specs.Counted.{Stopped}
 use Rattle.transcripts.specs.Text.{rank_text, outcome_text}
 use Rattle.transcripts.proofs.Writing.{stopped-after}
-use Rattle.iso_farm.proofs.one.write_one.Goals as goal
+use Rattle.iso_farm.proofs.single.write_one.Goals as goal
 
 -- the rank is written, and then a front of the outcome
 pub returns-in-Err-print-clause-text : goal.returns-in-Err-print-clause-text
