@@ -4,7 +4,7 @@ ghost use Rattle.std.specs.Prelude.{◌≡◌, Ok, ◌+◌, ◌∷◌, [], ◌++
 ghost use Rattle.std.specs.String.{string_bytes};
 ghost use Rattle.spec_reader.specs.declared.error.Stop.TheVariants.{Short};
 ghost use Rattle.spec_reader.specs.Lexing.{view_token, view, views};
-ghost use Rattle.spec_reader.specs.Grammar.{BlockTree, StepTree, HeadTree, SessionTree, FrontTree, SpecTree};
+ghost use Rattle.spec_reader.specs.Tree.{BlockTree, StepTree, HeadTree, SessionTree, FrontTree, SpecTree};
 ghost use Rattle.spec_reader.specs.Reading.{reads, refused, no_session, no_step, as_name, as_block, Head as HeadPlace, HeadSetup, HeadTeardown, Headed, HeadedSetup, HeadedTeardown, LastTeardown, Sessioned, Whole, made_session};
 ghost use Rattle.spec_reader.specs.Views.{block_tree, Reads, Takes};
 

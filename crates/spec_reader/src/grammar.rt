@@ -4,7 +4,7 @@ ghost use Rattle.std.specs.Prelude.{◌≡◌, Ok, ◌∷◌, [], List, None, ma
 ghost use Rattle.std.specs.String.{string_bytes};
 ghost use Rattle.spec_reader.specs.Tokens.{is_setup};
 ghost use Rattle.spec_reader.specs.Lexing.{view_token, view, views};
-ghost use Rattle.spec_reader.specs.Grammar.{BlockTree};
+ghost use Rattle.spec_reader.specs.Tree.{BlockTree};
 ghost use Rattle.spec_reader.specs.Reading.{reads, reads_session_word, Start, Head as HeadPlace, HeadSetup, SessionBegun, made_front};
 ghost use Rattle.spec_reader.specs.Views.{block_tree, front_tree, spec_tree, option_tree, Reads};
 

@@ -4,7 +4,7 @@ ghost use Rattle.std.specs.Prelude.{◌≡◌, Ok, ◌+◌, ◌∷◌, [], ◌++
 ghost use Rattle.std.specs.String.{string_bytes};
 ghost use Rattle.spec_reader.specs.Tokens.{is_permutation, is_end, is_session};
 ghost use Rattle.spec_reader.specs.Lexing.{view_token, view, views};
-ghost use Rattle.spec_reader.specs.Grammar.{SessionTree, MarkerTree, ItemTree, LineTree, FrontTree};
+ghost use Rattle.spec_reader.specs.Tree.{SessionTree, MarkerTree, ItemTree, LineTree, FrontTree};
 ghost use Rattle.spec_reader.specs.Reading.{reads, reads_listed, reads_item, reads_lined, LineBegun, ItemNamed, MarkerBegun, MarkerNamed, ItemDone, Sessioned, made_spec, made_item};
 ghost use Rattle.spec_reader.specs.Views.{line_tree, marker_tree, item_tree, session_tree, Reads};
 

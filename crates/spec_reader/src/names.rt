@@ -5,7 +5,7 @@ ghost use Rattle.std.specs.List.{list_any};
 ghost use Rattle.std.specs.String.{string_bytes};
 ghost use Rattle.spec_reader.specs.Tokens.{Placed as PlacedToken, is_star};
 ghost use Rattle.spec_reader.specs.Lexing.{view_token, view, views};
-ghost use Rattle.spec_reader.specs.Grammar.{HeadTree, MarkerTree, ItemTree, LineTree, FrontTree};
+ghost use Rattle.spec_reader.specs.Tree.{HeadTree, MarkerTree, ItemTree, LineTree, FrontTree};
 ghost use Rattle.spec_reader.specs.Reading.{reads, reads_item, ItemNamed, MarkerBegun, MarkerNamed, SessionBegun, Headed, StepBegun, StepNamed};
 ghost use Rattle.spec_reader.specs.Views.{item_tree, step_tree, session_tree, Reads};
 

@@ -4,7 +4,7 @@ ghost use Rattle.std.specs.Prelude.{◌≡◌, ◌+◌, ◌∷◌, [], ◌++◌,
 ghost use Rattle.std.specs.String.{string_bytes};
 ghost use Rattle.spec_reader.specs.Tokens.{is_step, is_session};
 ghost use Rattle.spec_reader.specs.Lexing.{view_token, view, views};
-ghost use Rattle.spec_reader.specs.Grammar.{BlockTree, StepTree, HeadTree, SessionTree, FrontTree};
+ghost use Rattle.spec_reader.specs.Tree.{BlockTree, StepTree, HeadTree, SessionTree, FrontTree};
 ghost use Rattle.spec_reader.specs.Reading.{reads, reads_set_up, reads_step_word, SessionBegun, Headed, StepBegun, StepNamed, Stepped, Sessioned, made_head, made_session};
 ghost use Rattle.spec_reader.specs.Views.{step_tree, head_tree, session_tree, option_tree, Reads};
 
