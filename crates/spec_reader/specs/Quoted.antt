@@ -1,6 +1,7 @@
 -- Quoted names: where they end, and what they stand for.
 use Rattle.std.specs.Prelude.{ℕ, ◌+◌, Bool, true, false, not, ◌||◌, ◌&&◌, List, [], ◌∷◌, ◌==◌, if◌then◌else◌}
 
+-- whether a quote stands first
 abbrev pub begins_quote : List ℕ → Bool
 begins_quote [] = false
 begins_quote (b ∷ bs) = b == 34
@@ -19,6 +20,7 @@ abbrev pub quoted_len : Bool → List ℕ → ℕ
 quoted_len second [] = 0
 quoted_len second (b ∷ bs) = if not second && ends_quoted b bs then 0 else 1 + quoted_len (not second && b == 34) bs
 
+-- the byte before the others, unless the test says so
 abbrev pub unless : Bool → ℕ → List ℕ → List ℕ
 unless c b bs = if c then bs else b ∷ bs
 

@@ -83,7 +83,8 @@ fn without_quote(text: &str) -> &str
 
 /// Adds the front that has no quote, and gives what follows.
 fn push_unquoted<'a>(name: &mut String, text: &'a str) -> Result<&'a str, AllocError>
-    ensures whole { IfOk result (λ rest. string_bytes name.new ++ undoubled false rest.now ≡ string_bytes name.old ++ undoubled false text.now) }
+    ensures whole { IfOk result (λ rest. string_bytes name.new ++ undoubled false rest.now
+        ≡ string_bytes name.old ++ undoubled false text.now) }
     ensures quote { IfOk result (λ rest. begins_quote rest.now ≡ false → rest.now ≡ []) }
     ensures shorter { IfOk result (λ rest. length rest.now < length text.now + 1) }
 {
@@ -92,10 +93,12 @@ fn push_unquoted<'a>(name: &mut String, text: &'a str) -> Result<&'a str, AllocE
     Ok(rest)
 }
 
-/// Adds a quote for one or two of them at the front, and what follows up to the next one, and gives what follows that.
+/// Adds a quote for one or two of them at the front, and what follows up to the next one.
+/// It gives what follows that.
 fn push_quote<'a>(name: &mut String, text: &'a str) -> Result<&'a str, AllocError>
     requires { begins_quote text.now ≡ true }
-    ensures whole { IfOk result (λ rest. string_bytes name.new ++ undoubled false rest.now ≡ string_bytes name.old ++ undoubled false text.now) }
+    ensures whole { IfOk result (λ rest. string_bytes name.new ++ undoubled false rest.now
+        ≡ string_bytes name.old ++ undoubled false text.now) }
     ensures quote { IfOk result (λ rest. begins_quote rest.now ≡ false → rest.now ≡ []) }
     ensures shorter { IfOk result (λ rest. length rest.now < length text.now) }
 {
