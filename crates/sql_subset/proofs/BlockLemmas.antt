@@ -1,16 +1,18 @@
 -- What is read as a block is spelled so, and what is spelled so is read: a text spells one list of statements at most.
-use Rattle.std.proofs.Common.{◌≡◌, refl, sym, ap, subst, ◌∙◌, ℕ, Bool, true, false, cond, List, [], ◌∷◌, ◌++◌, map, Option, Some, None, append_assoc}
-use Rattle.std.proofs.lemmas.List.{append-nil}
+use Rattle.std.proofs.Common.{◌≡◌, refl, sym, ap, subst, ◌∙◌, ℕ, Bool, true, false, cond, List, [], ◌∷◌, ◌++◌, map, Option, Some, None, append_assoc, zero, suc, ◌+◌, ◌-◌, ◌<◌, length, take, drop, arith}
+use Rattle.std.proofs.lemmas.List.{append-nil, length-map}
 use Rattle.std.specs.Prelude.{not, ◌&&◌, codes}
-use Rattle.std.specs.List.{list_all}
+use Rattle.std.specs.List.{list_all, position_from}
 use Rattle.sql_subset.specs.declared.statement.Form.{Form}
 use Rattle.sql_subset.specs.declared.statement.Form.TheVariants.{Create, Insert, Select}
 use Rattle.sql_subset.specs.declared.statement.Statement.{Statement}
+use Rattle.sql_subset.specs.declared.token.Placed.{Placed as WrittenAt}
+use Rattle.sql_subset.specs.Lexing.{view, view_token, views, Piece, Blank, Next, Last, piece_of, with_piece, tokens_past, token_list}
 use Rattle.sql_subset.specs.Tokens.{Token, Number, Placed, tokens}
 use Rattle.sql_subset.specs.Numeral.{Numeral}
-use Rattle.sql_subset.specs.Grammar.{ends, closing, keeps, spelling, BeginsAt, IsStatement, SpellsAll, none, alone, next}
+use Rattle.sql_subset.specs.Grammar.{ends, closing, keeps, spelling, BeginsAt, IsStatement, IsSpelled, SpellsAll, none, alone, next}
 use Rattle.sql_subset.specs.Grammar as spelled
-use Rattle.sql_subset.specs.Reading.{◌>>=◌, form, statement, none_left, joined, statements}
+use Rattle.sql_subset.specs.Reading.{◌>>=◌, form, statement, none_left, joined, statements, all_with}
 use Rattle.sql_subset.proofs.ReadingLemmas.{bind, both_true, and_true}
 use Rattle.sql_subset.proofs.FormLemmas.{form-sound, form-complete}
 
@@ -122,3 +124,112 @@ statements-complete ts ss (next front p ps us s more is_one f h e) =
 -- tokens spell one list of statements at most
 pub SpellsAll-one : (ts : List Placed) (a b : List Statement) → SpellsAll ts a → SpellsAll ts b → a ≡ b
 SpellsAll-one ts a b h k = let both : Some a ≡ Some b = sym (statements-complete ts a h) ∙ statements-complete ts b k in cc
+
+-- ---- where a statement ends
+
+abbrev ends_at : WrittenAt → Bool
+ends_at p = ends (view_token p.token)
+
+abbrev CutAt : List WrittenAt → List Placed → ℕ → Type 0
+CutAt ts before m = statements before (views ts) ≡ joined (statement (before ++ views (take m ts))) (statements [] (views (drop 1 (drop m ts))))
+
+cut_if : (p : WrittenAt) (ps : List WrittenAt) (before : List Placed) (i n : ℕ) (b : Bool) → ends_at p ≡ b → cond b (Some i) (position_from ends_at (i + 1) ps) ≡ Some n
+    → ((before : List Placed) → position_from ends_at (i + 1) ps ≡ Some n → (m : ℕ) × ((i + 1 + m ≡ n) × CutAt ps before m)) → (m : ℕ) × ((i + m ≡ n) × CutAt (p ∷ ps) before m)
+cut_if p ps before i n true e f h =
+    let same : i ≡ n = cc in
+    (0, (omega (arith, same), end_if (ends_at p) (joined (statement before) (statements [] (views ps))) (statements (before ++ view p ∷ []) (views ps)) e ∙ ap (λ front. joined (statement front) (statements [] (views ps))) (sym (append-nil before))))
+cut_if p ps before i n false e f h =
+    let a = h (before ++ view p ∷ []) f in
+    (suc a.0, (omega (arith, a.1.0),
+      go_on (ends_at p) (joined (statement before) (statements [] (views ps))) (statements (before ++ view p ∷ []) (views ps)) e
+      ∙ a.1.1
+      ∙ ap (λ front. joined (statement front) (statements [] (views (drop 1 (drop a.0 ps))))) (append_assoc before (view p ∷ []) (views (take a.0 ps)))))
+  where
+    go_on : (b : Bool) (x y : Option (List Statement)) → b ≡ false → cond b x y ≡ y
+    go_on true x y e = cc
+    go_on false x y e = refl
+
+cut_at : (ts : List WrittenAt) (before : List Placed) (i n : ℕ) → position_from ends_at i ts ≡ Some n → (m : ℕ) × ((i + m ≡ n) × CutAt ts before m)
+cut_at [] before i n e = absurd (cc e)
+cut_at (p ∷ ps) before i n e = cut_if p ps before i n (ends_at p) refl e (λ b f. cut_at ps b (i + 1) n f)
+
+pub cut-some : (ts : List WrittenAt) (n : ℕ) → position_from ends_at 0 ts ≡ Some n → statements [] (views ts) ≡ joined (statement (views (take n ts))) (statements [] (views (drop 1 (drop n ts))))
+cut-some ts n e =
+    let a = cut_at ts [] 0 n e in
+    let same : a.0 ≡ n = omega (arith, a.1.0) in
+    subst (CutAt ts []) same a.1.1
+
+never_if : (p : WrittenAt) (ps : List WrittenAt) (before : List Placed) (i : ℕ) (b : Bool) → ends_at p ≡ b → cond b (Some i) (position_from ends_at (i + 1) ps) ≡ None
+    → ((before : List Placed) → position_from ends_at (i + 1) ps ≡ None → statements before (views ps) ≡ none_left (before ++ views ps)) → statements before (views (p ∷ ps)) ≡ none_left (before ++ views (p ∷ ps))
+never_if p ps before i true e f h = absurd (cc f)
+never_if p ps before i false e f h =
+    rw e (h (before ++ view p ∷ []) f ∙ ap none_left (append_assoc before (view p ∷ []) (views ps)))
+
+never : (ts : List WrittenAt) (before : List Placed) (i : ℕ) → position_from ends_at i ts ≡ None → statements before (views ts) ≡ none_left (before ++ views ts)
+never [] before i e = ap none_left (sym (append-nil before))
+never (p ∷ ps) before i e = never_if p ps before i (ends_at p) refl e (λ b f. never ps b (i + 1) f)
+
+pub cut-none : (ts : List WrittenAt) → 0 < length ts → position_from ends_at 0 ts ≡ None → statements [] (views ts) ≡ None
+cut-none [] h e = absurd (omega arith)
+cut-none (p ∷ ps) h e = never (p ∷ ps) [] 0 e
+
+-- ---- one statement after another
+
+pub joined-assoc : (a b c : Option (List Statement)) → joined a (joined b c) ≡ joined (joined a b) c
+joined-assoc None b c = refl
+joined-assoc (Some x) None c = refl
+joined-assoc (Some x) (Some y) None = refl
+joined-assoc (Some x) (Some y) (Some z) = ap Some (sym (append_assoc x y z))
+
+pub all_with-step : (old new : List Statement) (here : Option (List Statement)) (ts rest : List Placed) → statements [] ts ≡ joined here (statements [] rest) → joined (Some old) here ≡ Some new → all_with old ts ≡ all_with new rest
+all_with-step old new here ts rest e f = ap (joined (Some old)) e ∙ joined-assoc (Some old) here (statements [] rest) ∙ ap (λ o. joined o (statements [] rest)) f
+
+pub all_with-stop : (old : List Statement) (here : Option (List Statement)) (ts rest : List Placed) → statements [] ts ≡ joined here (statements [] rest) → joined (Some old) here ≡ None → all_with old ts ≡ None
+all_with-stop old here ts rest e f = ap (joined (Some old)) e ∙ joined-assoc (Some old) here (statements [] rest) ∙ ap (λ o. joined o (statements [] rest)) f
+
+pub all_with-start : (ts : List Placed) → all_with [] ts ≡ statements [] ts
+all_with-start ts = none_more (statements [] ts)
+  where
+    none_more : (o : Option (List Statement)) → joined (Some []) o ≡ o
+    none_more None = refl
+    none_more (Some x) = refl
+
+pub all_with-end : (all : List Statement) (ts : List Placed) → ts ≡ [] → all_with all ts ≡ Some all
+all_with-end all ts e = ap (all_with all) e ∙ ap Some (append-nil all)
+
+pub ruleset one_by_one = (all_with-step, all_with-stop, all_with-start)
+
+with_some : (at : ℕ) (p : Piece) (more : ℕ → List Placed) → ((k : ℕ) → 0 < length (more k)) → 0 < length (with_piece at p more)
+with_some at (Blank len) more h = h (len - 1)
+with_some at (Next t len) more h = omega arith
+with_some at (Last t) more h = omega arith
+
+past_some : (skip at : ℕ) (bytes : List ℕ) → 0 < length (tokens_past skip at bytes)
+past_some skip at [] = omega arith
+past_some zero at (b ∷ bytes) = with_some at (piece_of (b ∷ bytes)) (λ k. tokens_past k (at + 1) bytes) (λ k. past_some k (at + 1) bytes)
+past_some (suc k) at (b ∷ bytes) = past_some k (at + 1) bytes
+
+-- a block has a token, its end at least
+pub some_token : (bytes : List ℕ) → 0 < length (token_list bytes)
+some_token bytes = past_some 0 0 bytes
+
+-- ---- a whole block
+
+pub IsSpelled-one : (text : List ℕ) (a b : List Statement) → IsSpelled text a → IsSpelled text b → a ≡ b
+IsSpelled-one text a b h k = SpellsAll-one (token_list text) a b h k
+
+module _ (text : List ℕ) (ts : List WrittenAt) (are : views ts ≡ token_list text) where
+  read : (o : Option (List Statement)) → statements [] (views ts) ≡ o → statements [] (token_list text) ≡ o
+  read o e = ap (statements []) (sym are) ∙ e
+
+  pub read-sound : (ss : List Statement) → statements [] (views ts) ≡ Some ss → IsSpelled text ss
+  read-sound ss e = statements-sound (token_list text) [] ss (read (Some ss) e)
+
+  pub read-complete : (ss : List Statement) → statements [] (views ts) ≡ Some ss → (all : List Statement) → IsSpelled text all → ss ≡ all
+  read-complete ss e all h = let both : Some ss ≡ Some all = sym (read (Some ss) e) ∙ statements-complete (token_list text) all h in cc
+
+  pub read-nothing : statements [] (views ts) ≡ None → (all : List Statement) → IsSpelled text all → ⊥
+  read-nothing e all h = let both : None ≡ Some all = sym (read None e) ∙ statements-complete (token_list text) all h in cc
+
+  pub read-some : (us : List WrittenAt) → us ≡ ts → 0 < length us
+  read-some us e = omega (arith, some_token text, ap length (sym are), length-map ts view, ap length e)

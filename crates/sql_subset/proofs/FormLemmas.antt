@@ -12,7 +12,7 @@ use Rattle.sql_subset.specs.Tokens.{Token, Word}
 use Rattle.sql_subset.specs.Numeral.{Numeral, fits}
 use Rattle.sql_subset.specs.Grammar.{comma, opening, closing, equals, word, has_some, row_keeps, keeps, spelling}
 use Rattle.sql_subset.specs.Grammar as spelled
-use Rattle.sql_subset.specs.Reading.{◌>>=◌, skip, name, literal, column, behind_commas, with_commas, row, ended, key_column, name_after, few, made_create, made_insert, made_select, create, insert, select, or_else, form}
+use Rattle.sql_subset.specs.Reading.{◌>>=◌, skip, name, literal, column, behind_commas, with_commas, row, ended, key_column, with_key, Read, all_columns, name_after, few, made_create, made_insert, made_select, create, insert, select, or_else, form}
 use Rattle.sql_subset.proofs.ReadingLemmas.{bind, some_pair, skip-sound, name-sound, literal-sound, literal-complete, column-sound, column-complete, behind-sound, behind-complete, with-sound, with-complete, row-sound, row-complete, and_true, both_true}
 
 name_after-sound : (w : Token) (ts : List Token) (n : List ℕ) (r : List Token) → name_after w ts ≡ Some (n, r) → ts ≡ w ∷ Word n ∷ r
@@ -30,6 +30,22 @@ key-sound ts k r e =
     ∙ ap (λ us. Word a.0.0 ∷ word (codes "int") ∷ us) (skip-sound (word (codes "primary")) a.0.1 b.0 b.1.0 ∙ ap (λ us. word (codes "primary") ∷ us) (skip-sound (word (codes "key")) b.0 c.0 c.1.0))
     ∙ (λ i. Word (both.0 i) ∷ word (codes "int") ∷ word (codes "primary") ∷ word (codes "key") ∷ both.1 i)
 
+with_key-some : (k : List ℕ) (o : Read (List (List ℕ))) (x : List ℕ × List (List ℕ)) (r : List Token) → with_key k o ≡ Some (x, r) → (cs : List (List ℕ)) × ((o ≡ Some (cs, r)) × (◌≡◌ {A = List ℕ × List (List ℕ)} (k, cs) x))
+with_key-some k None x r e = absurd (cc e)
+with_key-some k (Some y) x r e =
+    let both = some_pair ((k, y.0), y.1) (x, r) e in
+    (y.0, ((λ i. Some (y.0, both.1 i)), both.0))
+
+columns-sound : (ts : List Token) (x : List ℕ × List (List ℕ)) (r : List Token) → all_columns ts ≡ Some (x, r)
+    → ts ≡ Word x.0 ∷ word (codes "int") ∷ word (codes "primary") ∷ word (codes "key") ∷ (spelled.behind_commas spelled.column x.1 ++ r)
+columns-sound ts x r e =
+    let k = bind (key_column ts) _ (x, r) e in
+    let cs = with_key-some k.0.0 (behind_commas column k.0.1) x r k.1.1 in
+    key-sound ts k.0.0 k.0.1 k.1.0
+    ∙ ap (λ us. Word k.0.0 ∷ word (codes "int") ∷ word (codes "primary") ∷ word (codes "key") ∷ us)
+      (behind-sound column spelled.column (λ c. true) column-sound column-complete k.0.1 cs.0 r cs.1.0).0
+    ∙ (λ i. Word ((cs.1.1 i).0) ∷ word (codes "int") ∷ word (codes "primary") ∷ word (codes "key") ∷ (spelled.behind_commas spelled.column ((cs.1.1 i).1) ++ r))
+
 ended-sound : {X : Type 0} (x : X) (ts : List Token) (y : X) → ended x ts ≡ Some y → (ts ≡ []) × (x ≡ y)
 ended-sound x [] y e = (refl, cc)
 ended-sound x (t ∷ ts) y e = absurd (cc e)
@@ -42,19 +58,16 @@ create-sound : (ts : List Token) (f : Form) → create ts ≡ Some f → IsForm 
 create-sound ts f e =
     let t = bind (name_after (word (codes "table")) ts) _ f e in
     let o = bind (skip opening t.0.1) _ f t.1.1 in
-    let k = bind (key_column o.0) _ f o.1.1 in
-    let cs = bind (behind_commas column k.0.1) _ f k.1.1 in
+    let cs = bind (all_columns o.0) _ f o.1.1 in
     let c = bind (skip closing cs.0.1) _ f cs.1.1 in
-    let end = ended-sound (made_create t.0.0 k.0.0 cs.0.0) c.0 f c.1.1 in
+    let end = ended-sound (made_create t.0.0 cs.0.0.0 cs.0.0.1) c.0 f c.1.1 in
     subst (IsForm (word (codes "create")) ts) end.1
     (ap (λ us. word (codes "create") ∷ us) (name_after-sound (word (codes "table")) ts t.0.0 t.0.1 t.1.0)
       ∙ ap (λ us. word (codes "create") ∷ word (codes "table") ∷ Word t.0.0 ∷ us)
         (skip-sound opening t.0.1 o.0 o.1.0
         ∙ ap (λ us. opening ∷ us)
-          (key-sound o.0 k.0.0 k.0.1 k.1.0
-          ∙ ap (λ us. Word k.0.0 ∷ word (codes "int") ∷ word (codes "primary") ∷ word (codes "key") ∷ us)
-            ((behind-sound column spelled.column (λ c. true) column-sound column-complete k.0.1 cs.0.0 cs.0.1 cs.1.0).0
-            ∙ ap (λ us. spelled.behind_commas spelled.column cs.0.0 ++ us) (skip-sound closing cs.0.1 c.0 c.1.0 ∙ ap (λ us. closing ∷ us) end.0)))),
+          (columns-sound o.0 cs.0.0 cs.0.1 cs.1.0
+          ∙ ap (λ us. Word cs.0.0.0 ∷ word (codes "int") ∷ word (codes "primary") ∷ word (codes "key") ∷ (spelled.behind_commas spelled.column cs.0.0.1 ++ us)) (skip-sound closing cs.0.1 c.0 c.1.0 ∙ ap (λ us. closing ∷ us) end.0))),
     refl)
 
 few_if : (rows : List (List Numeral)) (b : Bool) (xs : List (List Numeral)) → nat_le (length rows) 100 ≡ b → cond b (Some rows) None ≡ Some xs → (nat_le (length rows) 100 ≡ true) × (rows ≡ xs)
@@ -115,7 +128,7 @@ all_true (x ∷ xs) = all_true xs
 
 create-complete : (c : CreateTable) → form (spelled.create c) ≡ Some (Create c)
 create-complete c =
-    ap (λ o. o >>= λ cs. (skip closing cs.1 >>= λ rest. ended (made_create c.table c.key cs.0) rest))
+    ap (λ o. with_key c.key o >>= λ cs. (skip closing cs.1 >>= λ rest. ended (made_create c.table cs.0.0 cs.0.1) rest))
     (behind-complete column spelled.column (λ c. true) column-sound column-complete c.columns (closing ∷ []) (all_true c.columns) refl)
 
 insert-complete : (i : InsertRows) → keeps (Insert i) ≡ true → form (spelled.insert i) ≡ Some (Insert i)

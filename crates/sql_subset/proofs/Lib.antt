@@ -4,3 +4,4 @@ pub mod WalkLemmas
 pub mod ReadingLemmas
 pub mod FormLemmas
 pub mod BlockLemmas
+pub mod Loops

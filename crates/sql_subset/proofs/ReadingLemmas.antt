@@ -8,7 +8,7 @@ use Rattle.sql_subset.specs.Tokens.{Token, Key, Word, Sign, Number, Text, End, N
 use Rattle.sql_subset.specs.Numeral.{Numeral, fits, fits_by}
 use Rattle.sql_subset.specs.Grammar.{comma, opening, closing, minus, equals, word, has_some, row_keeps}
 use Rattle.sql_subset.specs.Grammar as spelled
-use Rattle.sql_subset.specs.Reading.{Read, ◌>>=◌, skip, as_name, as_number, name, made_numeral, in_range, numeral, signed, literal, column, with_front, after_comma, more, behind_commas, with_commas, row, ended, key_column, name_after, few}
+use Rattle.sql_subset.specs.Reading.{Read, ◌>>=◌, skip, as_name, as_number, name, made_numeral, in_range, numeral, signed, literal, column, pushed, with_front, after_comma, more, behind_commas, with_commas, row, ended, key_column, name_after, few}
 
 -- ---- one token
 
@@ -197,6 +197,32 @@ module _ {X : Type 0} (item : List Token → Read X) (sp : X → List Token) (ke
 
   pub loop-fails : (xs : List X) (ts rest : List Token) → skip comma ts ≡ Some rest → item rest ≡ None → with_front xs (behind_commas item ts) ≡ None
   loop-fails xs ts rest e f = ap (with_front xs) (behind-next ts rest e ∙ ap (λ o. o >>= λ y. with_front (y.0 ∷ []) (behind_commas item y.1)) f)
+
+  -- the same, where an item is pushed behind those so far
+  pushed_some : (xs : List X) (o : Read X) (ys : List X) (r : List Token) → pushed xs o ≡ Some (ys, r) → (x : X) × ((o ≡ Some (x, r)) × (xs ++ x ∷ [] ≡ ys))
+  pushed_some xs None ys r e = absurd (cc e)
+  pushed_some xs (Some y) ys r e =
+      let both = some_pair (xs ++ y.0 ∷ [], y.1) (ys, r) e in
+      (y.0, ((λ i. Some (y.0, both.1 i)), both.0))
+
+  pushed_none : (xs : List X) (o : Read X) → pushed xs o ≡ None → o ≡ None
+  pushed_none xs None e = refl
+  pushed_none xs (Some y) e = absurd (cc e)
+
+  pub push-starts : (ts : List Token) (xs : List X) (r : List Token) → pushed [] (item ts) ≡ Some (xs, r) → with_commas item ts ≡ with_front xs (behind_commas item r)
+  push-starts ts xs r e = let a = pushed_some [] (item ts) xs r e in loop-starts ts a.0 r a.1.0 ∙ ap (λ ys. with_front ys (behind_commas item r)) a.1.1
+
+  pub push-never_starts : (ts : List Token) → pushed [] (item ts) ≡ None → with_commas item ts ≡ None
+  push-never_starts ts e = ap (λ o. o >>= λ y. with_front (y.0 ∷ []) (behind_commas item y.1)) (pushed_none [] (item ts) e)
+
+  pub push-goes_on : (xs : List X) (ts rest : List Token) (ys : List X) (r : List Token) → skip comma ts ≡ Some rest → pushed xs (item rest) ≡ Some (ys, r) → with_front xs (behind_commas item ts) ≡ with_front ys (behind_commas item r)
+  push-goes_on xs ts rest ys r e f = let a = pushed_some xs (item rest) ys r f in loop-goes_on xs ts rest a.0 r e a.1.0 ∙ ap (λ zs. with_front zs (behind_commas item r)) a.1.1
+
+  pub push-fails : (xs : List X) (ts rest : List Token) → skip comma ts ≡ Some rest → pushed xs (item rest) ≡ None → with_front xs (behind_commas item ts) ≡ None
+  push-fails xs ts rest e f = loop-fails xs ts rest e (pushed_none xs (item rest) f)
+
+  pub push-shorter : (xs : List X) (ts : List Token) (ys : List X) (r : List Token) → pushed xs (item ts) ≡ Some (ys, r) → length r ≤ length ts
+  push-shorter xs ts ys r e = let a = pushed_some xs (item ts) ys r e in shorter ts a.0 r a.1.0
 
   -- ---- whole lists
 

@@ -2,6 +2,9 @@
 -- numbers, and SELECT of one column where a column is a number.
 use Rattle.std.specs.Prelude.{◌≡◌, ℕ, Bool, true, false, ◌&&◌, ◌||◌, List, [], ◌∷◌, ◌++◌, length, nat_le, codes, if◌then◌else◌}
 use Rattle.std.specs.List.{list_all}
+use Rattle.sql_subset.specs.declared.error.SqlError.{SqlError}
+use Rattle.sql_subset.specs.declared.error.SqlErrorKind.{SqlErrorKind}
+use Rattle.sql_subset.specs.declared.error.SqlErrorKind.TheVariants.{Unsupported, NoMemory}
 use Rattle.sql_subset.specs.declared.statement.CreateTable.{CreateTable}
 use Rattle.sql_subset.specs.declared.statement.InsertRows.{InsertRows}
 use Rattle.sql_subset.specs.declared.statement.SelectRow.{SelectRow}
@@ -112,3 +115,12 @@ pub data SpellsAll : List Placed → List Statement → Type 0 where
 -- the text of a block spells these statements
 abbrev pub IsSpelled : List ℕ → List Statement → Type 0
 IsSpelled text ss = SpellsAll (token_list text) ss
+
+-- why a text is refused: memory ran out, or it spells no statements
+abbrev pub IsReason : List ℕ → SqlErrorKind → Type 0
+IsReason text NoMemory = Unit {0}
+IsReason text Unsupported = (ss : List Statement) → IsSpelled text ss → ⊥
+IsReason text kind = ⊥
+
+abbrev pub Explains : List ℕ → SqlError → Type 0
+Explains text e = (e.offset ≡ 0) × IsReason text e.kind

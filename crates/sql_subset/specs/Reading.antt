@@ -10,13 +10,13 @@ use Rattle.sql_subset.specs.declared.statement.Form.TheVariants.{Create, Insert,
 use Rattle.sql_subset.specs.declared.statement.Statement.{Statement}
 use Rattle.sql_subset.specs.declared.token.Placed.{Placed as WrittenAt}
 use Rattle.sql_subset.specs.Tokens.{Token, Word, Number, Placed, tokens, is}
-use Rattle.sql_subset.specs.Lexing.{view_token}
+use Rattle.sql_subset.specs.Lexing.{views}
 use Rattle.sql_subset.specs.Numeral.{Numeral, fits}
 use Rattle.sql_subset.specs.Grammar.{word, comma, opening, closing, minus, equals, ends}
 
 -- the tokens that the code has
 abbrev pub plain : List WrittenAt → List Token
-plain ps = map (λ p. view_token p.token) ps
+plain ps = tokens (views ps)
 
 -- what is read, and the tokens after it
 abbrev pub Read : Type 0 → Type 0
@@ -79,6 +79,11 @@ abbrev pub after_comma : {X : Type 0} → List Token → Option (List Token) →
 after_comma ts None next = Some ([], ts)
 after_comma ts (Some rest) next = next rest
 
+-- the items so far, with one that is read
+abbrev pub pushed : {X : Type 0} → List X → Read X → Read (List X)
+pushed xs None = None
+pushed xs (Some y) = Some (xs ++ y.0 ∷ [], y.1)
+
 -- items with a comma before each; the number bounds how many are looked for
 abbrev pub more : {X : Type 0} → (List Token → Read X) → ℕ → List Token → Read (List X)
 more item zero ts = after_comma ts (skip comma ts) (λ rest. None)
@@ -121,6 +126,14 @@ key_column ts = do
   rest ← skip (word (codes "key")) rest
   Some (k.0, rest)
 
+abbrev pub with_key : List ℕ → Read (List (List ℕ)) → Read (List ℕ × List (List ℕ))
+with_key k None = None
+with_key k (Some cs) = Some ((k, cs.0), cs.1)
+
+-- the key column of a table, and the columns behind it
+abbrev pub all_columns : List Token → Read (List ℕ × List (List ℕ))
+all_columns ts = key_column ts >>= λ k. with_key k.0 (behind_commas column k.1)
+
 -- a word, and the name behind it
 abbrev pub name_after : Token → List Token → Read (List ℕ)
 name_after w ts = skip w ts >>= λ rest. name rest
@@ -129,10 +142,9 @@ abbrev pub create : List Token → Option Form
 create ts = do
   t ← name_after (word (codes "table")) ts
   rest ← skip opening t.1
-  k ← key_column rest
-  cs ← behind_commas column k.1
+  cs ← all_columns rest
   rest ← skip closing cs.1
-  ended (made_create t.0 k.0 cs.0) rest
+  ended (made_create t.0 cs.0.0 cs.0.1) rest
 
 -- as many rows as there may be
 abbrev pub few : {X : Type 0} → List X → Option (List X)
@@ -182,6 +194,10 @@ joined a b = a >>= λ ss. (b >>= λ more. Some (ss ++ more))
 abbrev pub statements : List Placed → List Placed → Option (List Statement)
 statements front [] = none_left front
 statements front (p ∷ ps) = if ends p.token then joined (statement front) (statements [] ps) else statements (front ++ p ∷ []) ps
+
+-- the statements so far, and those of the tokens that are left
+abbrev pub all_with : List Statement → List Placed → Option (List Statement)
+all_with ss ts = joined (Some ss) (statements [] ts)
 
 -- ---- what the code answers
 

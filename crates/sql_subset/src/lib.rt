@@ -6,6 +6,8 @@ mod bound;
 mod cutting;
 mod error;
 mod orders;
+mod parts;
+mod reading;
 mod spec;
 mod statement;
 mod token;
@@ -18,5 +20,8 @@ pub use bound::{
 };
 pub use error::{SqlError, SqlErrorKind};
 pub use orders::Line;
+pub use reading::read_sql;
 pub use spec::Spec;
-pub use statement::{CreateTable, Form, InsertRows, Literal, LiteralRows, Literals, Names, SelectRow, Statement};
+pub use statement::{
+    CreateTable, Form, InsertRows, Literal, LiteralRows, Literals, Names, SelectRow, Statement,
+};
