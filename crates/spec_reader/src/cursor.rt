@@ -4,11 +4,12 @@ ghost use Rattle.std.specs.Prelude.{◌≡◌, Ok, ◌+◌, ◌∷◌, [], ◌++
 ghost use Rattle.std.specs.String.{string_bytes};
 ghost use Rattle.spec_reader.specs.declared.error.Stop.TheVariants.{Short};
 ghost use Rattle.spec_reader.specs.Lexing.{view_token, view, views};
-ghost use Rattle.spec_reader.specs.Grammar.{BlockTree, StepTree, HeadTree, SessionTree, FrontTree, SpecTree};
+ghost use Rattle.spec_reader.specs.Tree.{BlockTree, StepTree, HeadTree, SessionTree, FrontTree, SpecTree};
 ghost use Rattle.spec_reader.specs.Reading.{reads, refused, no_session, no_step, as_name, as_block, Head as HeadPlace, HeadSetup, HeadTeardown, Headed, HeadedSetup, HeadedTeardown, LastTeardown, Sessioned, Whole, made_session};
 ghost use Rattle.spec_reader.specs.Views.{block_tree, Reads, Takes};
 
 use crate::error::{Kind, SpecError, Stop};
+use crate::quoted::undoubled;
 use crate::token::{Placed, Token};
 use crate::tree::Block;
 use std::alloc::Global;
@@ -92,6 +93,7 @@ pub fn name_of(alloc: Global, token: &Placed) -> Result<String, Stop>
 {
     match token.token {
         Token::Name(name) => Ok(String::from_str(alloc, name)?),
+        Token::Quoted(name) => Ok(undoubled(alloc, name)?),
         _ => Err(fault(token, refused(&token.token))),
     }
 }
@@ -113,11 +115,22 @@ pub fn block_then<'a, 't>(
     alloc: Global,
     tokens: &'t [Placed<'a>],
 ) -> Result<(Block, Placed<'a>, &'t [Placed<'a>]), Stop>
-    ensures head_setup { (bs : List BlockTree) → Reads (λ x. reads (HeadPlace (bs ++ block_tree x.0 ∷ []) None) (view x.1 ∷ views x.2.now)) result (reads (HeadSetup bs) (views tokens.now)) }
-    ensures head_teardown { (bs : List BlockTree) → Reads (λ x. reads (HeadPlace bs (Some (block_tree x.0))) (view x.1 ∷ views x.2.now)) result (reads (HeadTeardown bs) (views tokens.now)) }
-    ensures setup { (f : FrontTree) (ss : List SessionTree) (n : List ℕ) → Reads (λ x. reads (Headed f ss n (Some (block_tree x.0)) None) (view x.1 ∷ views x.2.now)) result (reads (HeadedSetup f ss n) (views tokens.now)) }
-    ensures teardown { (f : FrontTree) (ss : List SessionTree) (n : List ℕ) (s : Option BlockTree) → Reads (λ x. reads (Headed f ss n s (Some (block_tree x.0))) (view x.1 ∷ views x.2.now)) result (reads (HeadedTeardown f ss n s) (views tokens.now)) }
-    ensures last { (f : FrontTree) (ss : List SessionTree) (h : HeadTree) (steps : List StepTree) → Reads (λ x. reads (Sessioned f (ss ++ made_session h steps (Some (block_tree x.0)) ∷ [])) (view x.1 ∷ views x.2.now)) result (reads (LastTeardown f ss h steps) (views tokens.now)) }
+    ensures head_setup { (bs : List BlockTree) →
+        Reads (λ x. reads (HeadPlace (bs ++ block_tree x.0 ∷ []) None) (view x.1 ∷ views x.2.now))
+        result (reads (HeadSetup bs) (views tokens.now)) }
+    ensures head_teardown { (bs : List BlockTree) →
+        Reads (λ x. reads (HeadPlace bs (Some (block_tree x.0))) (view x.1 ∷ views x.2.now))
+        result (reads (HeadTeardown bs) (views tokens.now)) }
+    ensures setup { (f : FrontTree) (ss : List SessionTree) (n : List ℕ) →
+        Reads (λ x. reads (Headed f ss n (Some (block_tree x.0)) None) (view x.1 ∷ views x.2.now))
+        result (reads (HeadedSetup f ss n) (views tokens.now)) }
+    ensures teardown { (f : FrontTree) (ss : List SessionTree) (n : List ℕ) (s : Option BlockTree) →
+        Reads (λ x. reads (Headed f ss n s (Some (block_tree x.0))) (view x.1 ∷ views x.2.now))
+        result (reads (HeadedTeardown f ss n s) (views tokens.now)) }
+    ensures last { (f : FrontTree) (ss : List SessionTree) (h : HeadTree) (steps : List StepTree) →
+        Reads (λ x. reads (Sessioned f (ss ++ made_session h steps (Some (block_tree x.0)) ∷ []))
+        (view x.1 ∷ views x.2.now))
+        result (reads (LastTeardown f ss h steps) (views tokens.now)) }
     ensures shorter { IfOk result (λ x. length x.2.now < length tokens.now) }
 {
     let (token, rest) = first(tokens)?;

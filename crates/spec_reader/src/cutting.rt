@@ -1,24 +1,13 @@
 //! Cuts a text into tokens.
 
-ghost use Rattle.std.specs.Prelude.{◌≡◌, ◌+◌, ◌<◌, ◌≤◌, ◌^◌, length, drop, IfOk, slice_index, take_while};
-ghost use Rattle.std.specs.List.{prefix_len};
-ghost use Rattle.spec_reader.specs.Bytes.{in_class, word_of};
-ghost use Rattle.spec_reader.specs.Lexing.{piece_of, block_of, word_piece, view_piece, view_token, views, token_list, sign_of, FitsIn};
+ghost use Rattle.std.specs.Prelude.{◌≡◌, ◌+◌, ◌<◌, ◌^◌, length, IfOk};
+ghost use Rattle.spec_reader.specs.Bytes.{word_of};
+ghost use Rattle.spec_reader.specs.Lexing.{piece_of, block_of, quoted_of, word_piece, view_piece, view_token, views, token_list, sign_of, FitsIn};
 
+use crate::quoted::{has_quote_at, quoted_len};
+use crate::runs::{Class, after_first, run_len, run_of};
 use crate::token::{Placed, Token};
 use std::alloc::{AllocError, Global};
-
-/// A set of bytes.
-#[derive(Clone, Copy, Debug, PartialEq, Eq)]
-pub enum Class {
-    /// What a plain name goes on with.
-    Name,
-    Digit,
-    /// What a comment goes on with.
-    Comment,
-    /// What a block goes on with.
-    Block,
-}
 
 /// What stands at the front of a text.
 #[derive(Clone, Copy, Debug)]
@@ -29,51 +18,6 @@ pub enum Piece<'a> {
     Next(Token<'a>, usize),
     /// A token after which nothing is read.
     Last(Token<'a>),
-}
-
-fn is_in(class: Class, b: u8) -> bool
-    ensures { result ≡ in_class class b }
-{
-    match class {
-        Class::Name => b.is_ascii_alphabetic()
-            || b == b'_'
-            || b >= 128
-            || b.is_ascii_digit()
-            || b == b'$',
-        Class::Digit => b.is_ascii_digit(),
-        Class::Comment => b != b'\n',
-        Class::Block => b != b'}',
-    }
-}
-
-/// How many bytes at the front are of the class.
-fn run_len(class: Class, bytes: &[u8]) -> usize
-    ensures { result ≡ prefix_len (in_class class) bytes.now }
-{
-    let mut n = 0;
-    while n < bytes.len() && is_in(class, bytes[n]) {
-        n += 1;
-    }
-    n
-}
-
-/// The front of the text that is of the class, and what follows.
-fn run_of(class: Class, text: &str) -> (&str, &str)
-    ensures run { result.0.now ≡ take_while (in_class class) text.now }
-    ensures len { length result.0.now ≡ prefix_len (in_class class) text.now }
-    ensures rest { length result.0.now + length result.1.now ≡ length text.now }
-{
-    text.split_at(run_len(class, text.as_bytes()))
-}
-
-/// What follows the first byte, which is a whole character.
-fn after_first(text: &str) -> &str
-    requires some { 0 < length text.now }
-    requires ascii { slice_index text.now 0 < 128 }
-    ensures { result.now ≡ drop 1 text.now }
-{
-    let (_, rest) = text.split_at(1);
-    rest
 }
 
 /// A word of the grammar, or a plain name.
@@ -112,6 +56,22 @@ fn block_of(at: usize, text: &str) -> Piece<'_>
     }
 }
 
+/// A quoted name, of the text after its opening quote.
+fn quoted_of(text: &str) -> Piece<'_>
+    requires { length text.now < 2 ^ 63 }
+    ensures { view_piece result ≡ quoted_of text.now }
+{
+    let len = quoted_len(text.as_bytes());
+    if !has_quote_at(text.as_bytes(), len) {
+        return Piece::Last(Token::NotClosed);
+    }
+    if len == 0 {
+        return Piece::Last(Token::NoToken);
+    }
+    let (name, _) = text.split_at(len);
+    Piece::Next(Token::Quoted(name), len + 2)
+}
+
 /// A sign of one byte.
 fn sign_of<'a>(b: u8) -> Piece<'a>
     ensures { view_piece result ≡ sign_of b }
@@ -143,6 +103,10 @@ fn piece_of(at: usize, text: &str) -> Piece<'_>
         block_of(at, after_first(text))
     } else if b.is_ascii_digit() {
         Piece::Next(Token::Number, run_len(Class::Digit, text.as_bytes()))
+    } else if b == b'#' {
+        Piece::Blank(run_len(Class::Comment, text.as_bytes()))
+    } else if b == b'"' {
+        quoted_of(after_first(text))
     } else {
         sign_of(b)
     }

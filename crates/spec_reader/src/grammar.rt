@@ -4,7 +4,7 @@ ghost use Rattle.std.specs.Prelude.{◌≡◌, Ok, ◌∷◌, [], List, None, ma
 ghost use Rattle.std.specs.String.{string_bytes};
 ghost use Rattle.spec_reader.specs.Tokens.{is_setup};
 ghost use Rattle.spec_reader.specs.Lexing.{view_token, view, views};
-ghost use Rattle.spec_reader.specs.Grammar.{BlockTree};
+ghost use Rattle.spec_reader.specs.Tree.{BlockTree};
 ghost use Rattle.spec_reader.specs.Reading.{reads, reads_session_word, Start, Head as HeadPlace, HeadSetup, SessionBegun, made_front};
 ghost use Rattle.spec_reader.specs.Views.{block_tree, front_tree, spec_tree, option_tree, Reads};
 
@@ -22,8 +22,9 @@ fn push_setup<'a, 't>(
     tokens: &'t [Placed<'a>],
     setups: &mut Vec<Block>,
 ) -> Result<(Placed<'a>, &'t [Placed<'a>]), Stop>
-    ensures reads { Reads (λ x. reads (HeadPlace (map block_tree setups.new.items) None) (view x.0 ∷ views x.1.now)) result
-        (reads (HeadSetup (map block_tree setups.old.items)) (views tokens.now)) }
+    ensures reads { Reads (λ x. reads (HeadPlace (map block_tree setups.new.items) None)
+        (view x.0 ∷ views x.1.now))
+        result (reads (HeadSetup (map block_tree setups.old.items)) (views tokens.now)) }
     ensures shorter { IfOk result (λ x. length x.1.now < length tokens.now) }
 {
     let (block, next, rest) = block_then(alloc, tokens)?;
@@ -39,8 +40,8 @@ fn front_teardown<'a, 't>(
 ) -> Result<(Option<Block>, Placed<'a>, &'t [Placed<'a>]), Stop>
     requires { is_setup (view_token token.token) ≡ false }
     ensures { (bs : List BlockTree) →
-        Reads (λ x. reads_session_word (made_front bs (option_tree x.0)) (view x.1) (views x.2.now)) result
-        (reads (HeadPlace bs None) (view token.entry ∷ views tokens.now)) }
+        Reads (λ x. reads_session_word (made_front bs (option_tree x.0)) (view x.1) (views x.2.now))
+        result (reads (HeadPlace bs None) (view token.entry ∷ views tokens.now)) }
 {
     if !token.token.is_teardown() {
         return Ok((None, token, tokens));
@@ -54,7 +55,8 @@ fn front_of<'a, 't>(
     alloc: Global,
     tokens: &'t [Placed<'a>],
 ) -> Result<(Front, &'t [Placed<'a>]), Stop>
-    ensures { Reads (λ x. reads (SessionBegun (front_tree x.0) []) (views x.1.now)) result (reads Start (views tokens.now)) }
+    ensures { Reads (λ x. reads (SessionBegun (front_tree x.0) []) (views x.1.now))
+        result (reads Start (views tokens.now)) }
 {
     let mut setups = Vec::new(alloc);
     let (mut next, mut rest) = first(tokens)?;

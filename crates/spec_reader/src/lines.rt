@@ -4,7 +4,7 @@ ghost use Rattle.std.specs.Prelude.{◌≡◌, Ok, ◌+◌, ◌∷◌, [], ◌++
 ghost use Rattle.std.specs.String.{string_bytes};
 ghost use Rattle.spec_reader.specs.Tokens.{is_permutation, is_end, is_session};
 ghost use Rattle.spec_reader.specs.Lexing.{view_token, view, views};
-ghost use Rattle.spec_reader.specs.Grammar.{SessionTree, MarkerTree, ItemTree, LineTree, FrontTree};
+ghost use Rattle.spec_reader.specs.Tree.{SessionTree, MarkerTree, ItemTree, LineTree, FrontTree};
 ghost use Rattle.spec_reader.specs.Reading.{reads, reads_listed, reads_item, reads_lined, LineBegun, ItemNamed, MarkerBegun, MarkerNamed, ItemDone, Sessioned, made_spec, made_item};
 ghost use Rattle.spec_reader.specs.Views.{line_tree, marker_tree, item_tree, session_tree, Reads};
 
@@ -15,14 +15,18 @@ use crate::token::{Placed, Token};
 use crate::tree::{Item, Line, Marker, Session};
 use std::alloc::Global;
 
+/// The most permutation lines of a file.
+const MAX_LINES: usize = 4096;
+
 /// What follows the name in a marker, and the token after the marker.
 fn named_marker<'a, 't>(
     name: String,
     tokens: &'t [Placed<'a>],
 ) -> Result<(Marker, Placed<'a>, &'t [Placed<'a>]), Stop>
-    ensures reads { (f : FrontTree) (ss : List SessionTree) (ls : List LineTree) (is : List ItemTree) (n : List ℕ) (ms : List MarkerTree) →
-        Reads (λ x. reads_listed f ss ls is n (ms ++ marker_tree x.0 ∷ []) (view x.1) (views x.2.now)) result
-        (reads (MarkerNamed f ss ls is n ms (string_bytes name)) (views tokens.now)) }
+    ensures reads { (f : FrontTree) (ss : List SessionTree) (ls : List LineTree)
+        (is : List ItemTree) (n : List ℕ) (ms : List MarkerTree) →
+        Reads (λ x. reads_listed f ss ls is n (ms ++ marker_tree x.0 ∷ []) (view x.1) (views x.2.now))
+        result (reads (MarkerNamed f ss ls is n ms (string_bytes name)) (views tokens.now)) }
     ensures shorter { IfOk result (λ x. length x.2.now < length tokens.now) }
 {
     let (next, rest) = first(tokens)?;
@@ -43,9 +47,11 @@ fn marker_of<'a, 't>(
     tokens: &'t [Placed<'a>],
     sessions: &[Session],
 ) -> Result<(Marker, Placed<'a>, &'t [Placed<'a>]), Stop>
-    ensures reads { (f : FrontTree) (ls : List LineTree) (is : List ItemTree) (n : List ℕ) (ms : List MarkerTree) →
-        Reads (λ x. reads_listed f (map session_tree sessions.now) ls is n (ms ++ marker_tree x.0 ∷ []) (view x.1) (views x.2.now)) result
-        (reads (MarkerBegun f (map session_tree sessions.now) ls is n ms) (views tokens.now)) }
+    ensures reads { (f : FrontTree) (ls : List LineTree)
+        (is : List ItemTree) (n : List ℕ) (ms : List MarkerTree) →
+        Reads (λ x. reads_listed f (map session_tree sessions.now) ls is n (ms ++ marker_tree x.0 ∷ [])
+        (view x.1) (views x.2.now))
+        result (reads (MarkerBegun f (map session_tree sessions.now) ls is n ms) (views tokens.now)) }
     ensures shorter { IfOk result (λ x. length x.2.now < length tokens.now) }
 {
     let (token, rest) = first(tokens)?;
@@ -65,8 +71,9 @@ fn push_marker<'a, 't>(
     markers: &mut Vec<Marker>,
 ) -> Result<(Placed<'a>, &'t [Placed<'a>]), Stop>
     ensures reads { (f : FrontTree) (ls : List LineTree) (is : List ItemTree) (n : List ℕ) →
-        Reads (λ x. reads_listed f (map session_tree sessions.now) ls is n (map marker_tree markers.new.items) (view x.0) (views x.1.now)) result
-        (reads (MarkerBegun f (map session_tree sessions.now) ls is n (map marker_tree markers.old.items)) (views tokens.now)) }
+        Reads (λ x. reads_listed f (map session_tree sessions.now) ls is n (map marker_tree markers.new.items)
+        (view x.0) (views x.1.now))
+        result (reads (MarkerBegun f (map session_tree sessions.now) ls is n (map marker_tree markers.old.items)) (views tokens.now)) }
     ensures shorter { IfOk result (λ x. length x.1.now < length tokens.now) }
 {
     let (marker, next, rest) = marker_of(alloc, tokens, sessions)?;
@@ -81,8 +88,8 @@ fn markers_of<'a, 't>(
     sessions: &[Session],
 ) -> Result<(Vec<Marker>, &'t [Placed<'a>]), Stop>
     ensures reads { (f : FrontTree) (ls : List LineTree) (is : List ItemTree) (n : List ℕ) →
-        Reads (λ x. reads (ItemDone f (map session_tree sessions.now) ls (is ++ made_item n (map marker_tree x.0.items) ∷ [])) (views x.1.now)) result
-        (reads (MarkerBegun f (map session_tree sessions.now) ls is n []) (views tokens.now)) }
+        Reads (λ x. reads (ItemDone f (map session_tree sessions.now) ls (is ++ made_item n (map marker_tree x.0.items) ∷ [])) (views x.1.now))
+        result (reads (MarkerBegun f (map session_tree sessions.now) ls is n []) (views tokens.now)) }
     ensures shorter { IfOk result (λ x. length x.1.now < length tokens.now) }
 {
     let mut markers = Vec::new(alloc);
@@ -104,8 +111,9 @@ fn item_of<'a, 't>(
     sessions: &[Session],
 ) -> Result<(Item, Placed<'a>, &'t [Placed<'a>]), Stop>
     ensures reads { (f : FrontTree) (ls : List LineTree) (is : List ItemTree) →
-        Reads (λ x. reads (ItemDone f (map session_tree sessions.now) ls (is ++ item_tree x.0 ∷ [])) (view x.1 ∷ views x.2.now)) result
-        (reads (ItemNamed f (map session_tree sessions.now) ls is (string_bytes name)) (views tokens.now)) }
+        Reads (λ x. reads (ItemDone f (map session_tree sessions.now) ls (is ++ item_tree x.0 ∷ []))
+        (view x.1 ∷ views x.2.now))
+        result (reads (ItemNamed f (map session_tree sessions.now) ls is (string_bytes name)) (views tokens.now)) }
     ensures shorter { IfOk result (λ x. length x.2.now < length tokens.now) }
 {
     let (next, rest) = first(tokens)?;
@@ -127,8 +135,11 @@ fn named_item<'a, 't>(
     items: &[Item],
 ) -> Result<(Item, Placed<'a>, &'t [Placed<'a>]), Stop>
     ensures reads { (f : FrontTree) (ls : List LineTree) →
-        Reads (λ x. reads (ItemDone f (map session_tree sessions.now) ls (map item_tree items.now ++ item_tree x.0 ∷ [])) (view x.1 ∷ views x.2.now)) result
-        (reads_item f (map session_tree sessions.now) ls (map item_tree items.now) (view token.now) (views tokens.now)) }
+        Reads (λ x. reads (ItemDone f (map session_tree sessions.now) ls
+        (map item_tree items.now ++ item_tree x.0 ∷ []))
+        (view x.1 ∷ views x.2.now))
+        result (reads_item f (map session_tree sessions.now) ls
+        (map item_tree items.now) (view token.now) (views tokens.now)) }
     ensures shorter { IfOk result (λ x. length x.2.now < length tokens.now) }
 {
     let name = item_name(alloc, token, sessions, items)?;
@@ -144,8 +155,10 @@ fn push_item<'a, 't>(
     items: &mut Vec<Item>,
 ) -> Result<(Placed<'a>, &'t [Placed<'a>]), Stop>
     ensures reads { (f : FrontTree) (ls : List LineTree) →
-        Reads (λ x. reads (ItemDone f (map session_tree sessions.now) ls (map item_tree items.new.items)) (view x.0 ∷ views x.1.now)) result
-        (reads_item f (map session_tree sessions.now) ls (map item_tree items.old.items) (view token.now) (views tokens.now)) }
+        Reads (λ x. reads (ItemDone f (map session_tree sessions.now) ls (map item_tree items.new.items))
+        (view x.0 ∷ views x.1.now))
+        result (reads_item f (map session_tree sessions.now) ls
+        (map item_tree items.old.items) (view token.now) (views tokens.now)) }
     ensures shorter { IfOk result (λ x. length x.1.now < length tokens.now) }
 {
     let (item, next, rest) = named_item(alloc, token, tokens, sessions, items)?;
@@ -167,8 +180,9 @@ fn line_of<'a, 't>(
     sessions: &[Session],
 ) -> Result<(Line, Placed<'a>, &'t [Placed<'a>]), Stop>
     ensures reads { (f : FrontTree) (ls : List LineTree) →
-        Reads (λ x. reads_lined f (map session_tree sessions.now) (ls ++ line_tree x.0 ∷ []) (view x.1) (views x.2.now)) result
-        (reads (LineBegun f (map session_tree sessions.now) ls) (views tokens.now)) }
+        Reads (λ x. reads_lined f (map session_tree sessions.now) (ls ++ line_tree x.0 ∷ [])
+        (view x.1) (views x.2.now))
+        result (reads (LineBegun f (map session_tree sessions.now) ls) (views tokens.now)) }
     ensures shorter { IfOk result (λ x. length x.2.now < length tokens.now) }
 {
     let mut items = Vec::new(alloc);
@@ -185,7 +199,7 @@ fn line_of<'a, 't>(
 fn is_full(lines: &[Line]) -> bool
     ensures { result ≡ nat_le 4096 (length (map line_tree lines.now)) }
 {
-    lines.len() >= 4096
+    lines.len() >= MAX_LINES
 }
 
 /// Adds a permutation line, from its first word on, and gives the token after it.
@@ -198,8 +212,9 @@ fn push_line<'a, 't>(
 ) -> Result<(Placed<'a>, &'t [Placed<'a>]), Stop>
     requires { is_permutation (view_token word.now.token) ≡ true }
     ensures reads { (f : FrontTree) →
-        Reads (λ x. reads_lined f (map session_tree sessions.now) (map line_tree lines.new.items) (view x.0) (views x.1.now)) result
-        (reads_lined f (map session_tree sessions.now) (map line_tree lines.old.items) (view word.now) (views tokens.now)) }
+        Reads (λ x. reads_lined f (map session_tree sessions.now) (map line_tree lines.new.items)
+        (view x.0) (views x.1.now))
+        result (reads_lined f (map session_tree sessions.now) (map line_tree lines.old.items) (view word.now) (views tokens.now)) }
     ensures shorter { IfOk result (λ x. length x.1.now < length tokens.now) }
 {
     if is_full(lines) {

@@ -4,7 +4,7 @@ ghost use Rattle.std.specs.Prelude.{◌≡◌, ◌+◌, ◌∷◌, [], ◌++◌,
 ghost use Rattle.std.specs.String.{string_bytes};
 ghost use Rattle.spec_reader.specs.Tokens.{is_step, is_session};
 ghost use Rattle.spec_reader.specs.Lexing.{view_token, view, views};
-ghost use Rattle.spec_reader.specs.Grammar.{BlockTree, StepTree, HeadTree, SessionTree, FrontTree};
+ghost use Rattle.spec_reader.specs.Tree.{BlockTree, StepTree, HeadTree, SessionTree, FrontTree};
 ghost use Rattle.spec_reader.specs.Reading.{reads, reads_set_up, reads_step_word, SessionBegun, Headed, StepBegun, StepNamed, Stepped, Sessioned, made_head, made_session};
 ghost use Rattle.spec_reader.specs.Views.{step_tree, head_tree, session_tree, option_tree, Reads};
 
@@ -39,8 +39,8 @@ fn step_of<'a, 't>(
     steps: &[Step],
 ) -> Result<(Step, &'t [Placed<'a>]), Stop>
     ensures reads { (f : FrontTree) (h : HeadTree) →
-        Reads (λ x. reads (Stepped f (map session_tree sessions.now) h (map step_tree steps.now ++ step_tree x.0 ∷ [])) (views x.1.now)) result
-        (reads (StepBegun f (map session_tree sessions.now) h (map step_tree steps.now)) (views tokens.now)) }
+        Reads (λ x. reads (Stepped f (map session_tree sessions.now) h (map step_tree steps.now ++ step_tree x.0 ∷ [])) (views x.1.now))
+        result (reads (StepBegun f (map session_tree sessions.now) h (map step_tree steps.now)) (views tokens.now)) }
     ensures shorter { IfOk result (λ x. length x.1.now < length tokens.now) }
 {
     let (name, rest) = step_name(alloc, tokens, sessions, steps)?;
@@ -55,8 +55,9 @@ fn push_step<'a, 't>(
     steps: &mut Vec<Step>,
 ) -> Result<(Placed<'a>, &'t [Placed<'a>]), Stop>
     ensures reads { (f : FrontTree) (h : HeadTree) →
-        Reads (λ x. reads (Stepped f (map session_tree sessions.now) h (map step_tree steps.new.items)) (view x.0 ∷ views x.1.now)) result
-        (reads (StepBegun f (map session_tree sessions.now) h (map step_tree steps.old.items)) (views tokens.now)) }
+        Reads (λ x. reads (Stepped f (map session_tree sessions.now) h (map step_tree steps.new.items))
+        (view x.0 ∷ views x.1.now))
+        result (reads (StepBegun f (map session_tree sessions.now) h (map step_tree steps.old.items)) (views tokens.now)) }
     ensures shorter { IfOk result (λ x. length x.1.now < length tokens.now) }
 {
     let (step, rest) = step_of(alloc, tokens, sessions, steps)?;
@@ -71,8 +72,9 @@ fn steps_of<'a, 't>(
     sessions: &[Session],
 ) -> Result<(Vec<Step>, Placed<'a>, &'t [Placed<'a>]), Stop>
     ensures reads { (f : FrontTree) (h : HeadTree) →
-        Reads (λ x. reads (Stepped f (map session_tree sessions.now) h (map step_tree x.0.items)) (view x.1 ∷ views x.2.now)) result
-        (reads (StepBegun f (map session_tree sessions.now) h []) (views tokens.now)) }
+        Reads (λ x. reads (Stepped f (map session_tree sessions.now) h (map step_tree x.0.items))
+        (view x.1 ∷ views x.2.now))
+        result (reads (StepBegun f (map session_tree sessions.now) h []) (views tokens.now)) }
     ensures after { IfOk result (λ x. is_step (view_token x.1.token) ≡ false) }
     ensures shorter { IfOk result (λ x. length x.2.now < length tokens.now) }
 {
@@ -109,8 +111,8 @@ fn early_teardown<'a, 't>(
     tokens: &'t [Placed<'a>],
 ) -> Result<(Option<Block>, Placed<'a>, &'t [Placed<'a>]), Stop>
     ensures reads { (f : FrontTree) (ss : List SessionTree) (n : List ℕ) (s : Option BlockTree) →
-        Reads (λ x. reads_step_word f ss (made_head n s (option_tree x.0)) (view x.1) (views x.2.now)) result
-        (reads_set_up f ss n s (view token.entry) (views tokens.now)) }
+        Reads (λ x. reads_step_word f ss (made_head n s (option_tree x.0)) (view x.1) (views x.2.now))
+        result (reads_set_up f ss n s (view token.entry) (views tokens.now)) }
     ensures shorter { IfOk result (λ x. length x.2.now < length tokens.now + 1) }
 {
     if !token.token.is_teardown() {
@@ -127,8 +129,8 @@ fn head_of<'a, 't>(
     sessions: &[Session],
 ) -> Result<(Head, &'t [Placed<'a>]), Stop>
     ensures reads { (f : FrontTree) →
-        Reads (λ x. reads (StepBegun f (map session_tree sessions.now) (head_tree x.0) []) (views x.1.now)) result
-        (reads (SessionBegun f (map session_tree sessions.now)) (views tokens.now)) }
+        Reads (λ x. reads (StepBegun f (map session_tree sessions.now) (head_tree x.0) []) (views x.1.now))
+        result (reads (SessionBegun f (map session_tree sessions.now)) (views tokens.now)) }
     ensures shorter { IfOk result (λ x. length x.1.now < length tokens.now) }
 {
     let (name, rest) = session_name(alloc, tokens, sessions)?;
@@ -157,8 +159,9 @@ fn late_teardown<'a, 't>(
 ) -> Result<(Option<Block>, Placed<'a>, &'t [Placed<'a>]), Stop>
     requires { is_step (view_token token.token) ≡ false }
     ensures reads { (f : FrontTree) (ss : List SessionTree) (steps : List StepTree) →
-        Reads (λ x. reads (Sessioned f (ss ++ made_session (head_tree head.now) steps (option_tree x.0) ∷ [])) (view x.1 ∷ views x.2.now)) result
-        (reads (Stepped f ss (head_tree head.now) steps) (view token.entry ∷ views tokens.now)) }
+        Reads (λ x. reads (Sessioned f (ss ++ made_session (head_tree head.now) steps (option_tree x.0) ∷ []))
+        (view x.1 ∷ views x.2.now))
+        result (reads (Stepped f ss (head_tree head.now) steps) (view token.entry ∷ views tokens.now)) }
     ensures shorter { IfOk result (λ x. length x.2.now < length tokens.now + 1) }
 {
     if !token.token.is_teardown() {
@@ -180,8 +183,9 @@ fn session_of<'a, 't>(
     sessions: &[Session],
 ) -> Result<(Session, Placed<'a>, &'t [Placed<'a>]), Stop>
     ensures reads { (f : FrontTree) →
-        Reads (λ x. reads (Sessioned f (map session_tree sessions.now ++ session_tree x.0 ∷ [])) (view x.1 ∷ views x.2.now)) result
-        (reads (SessionBegun f (map session_tree sessions.now)) (views tokens.now)) }
+        Reads (λ x. reads (Sessioned f (map session_tree sessions.now ++ session_tree x.0 ∷ []))
+        (view x.1 ∷ views x.2.now))
+        result (reads (SessionBegun f (map session_tree sessions.now)) (views tokens.now)) }
     ensures shorter { IfOk result (λ x. length x.2.now < length tokens.now) }
 {
     let (head, rest) = head_of(alloc, tokens, sessions)?;
@@ -205,8 +209,9 @@ fn push_session<'a, 't>(
     sessions: &mut Vec<Session>,
 ) -> Result<(Placed<'a>, &'t [Placed<'a>]), Stop>
     ensures reads { (f : FrontTree) →
-        Reads (λ x. reads (Sessioned f (map session_tree sessions.new.items)) (view x.0 ∷ views x.1.now)) result
-        (reads (SessionBegun f (map session_tree sessions.old.items)) (views tokens.now)) }
+        Reads (λ x. reads (Sessioned f (map session_tree sessions.new.items))
+        (view x.0 ∷ views x.1.now))
+        result (reads (SessionBegun f (map session_tree sessions.old.items)) (views tokens.now)) }
     ensures shorter { IfOk result (λ x. length x.1.now < length tokens.now) }
 {
     let (session, next, rest) = session_of(alloc, tokens, sessions)?;

@@ -97,6 +97,18 @@ fn a_spec_file_is_read_with_the_offsets_of_its_blocks(rt: HostRuntime) -> Result
             "session _x$1 step F {}session f step f{}permutation F(f)f",
             " / session _x$1 F@21[] / session f f@39[] / line F <f f",
         ),
+        (
+            "session \"a\"\"b\" step \"step\" {}",
+            " / session a\"b step@28[]",
+        ),
+        (
+            "# \" {\r session x\nsession \"\"\"\" step \"#\r\"{# }permutation\"#\r\"# }",
+            " / session \" #\r@40[# ] / line #\r",
+        ),
+        (
+            "session \"é\"step ß${}permutation \"ß$\"(*)",
+            " / session é ß$@21[] / line ß$ *",
+        ),
     ] {
         let spec = read_spec(rt.alloc(), text.as_bytes())?;
         assert_eq!(rt; spec.text.as_str(), text);
@@ -110,10 +122,11 @@ fn the_first_fault_is_named(rt: HostRuntime) {
     for (text, kind, offset) in [
         ("", SpecErrorKind::NoStep, 0),
         ("setup {} permutation s", SpecErrorKind::NoStep, 9),
-        ("session a", SpecErrorKind::NoStep, 9),
+        ("session a # step s {}", SpecErrorKind::NoStep, 21),
         ("session a permutation s", SpecErrorKind::NoStep, 10),
         ("session a session b", SpecErrorKind::NoStep, 10),
         ("step s {}", SpecErrorKind::Misplaced, 0),
+        ("\u{feff}session a step s {}", SpecErrorKind::Misplaced, 0),
         ("session", SpecErrorKind::Misplaced, 7),
         (
             "session a step s {} permutation ",
@@ -132,7 +145,13 @@ fn the_first_fault_is_named(rt: HostRuntime) {
             45,
         ),
         ("session a step s {} ;", SpecErrorKind::BadToken, 20),
+        ("session \"\"x\" step s {}", SpecErrorKind::BadToken, 8),
+        ("session \"\"", SpecErrorKind::BadToken, 8),
+        ("\0", SpecErrorKind::BadToken, 0),
         ("session a step s { SELECT", SpecErrorKind::Unclosed, 17),
+        ("session a \"b", SpecErrorKind::Unclosed, 10),
+        ("session \"\"\"", SpecErrorKind::Unclosed, 8),
+        ("session \"a\n\" step s {}", SpecErrorKind::Unclosed, 8),
         (
             "session a step s {} step s {",
             SpecErrorKind::DuplicateStep,

@@ -1,6 +1,6 @@
 use Rattle.std.proofs.Common.{◌≡◌, ◌<◌, ◌∷◌, List, map, length}
 use Rattle.spec_reader.specs.Lexing.{view, views}
-use Rattle.spec_reader.specs.Grammar.{FrontTree, LineTree}
+use Rattle.spec_reader.specs.Tree.{FrontTree, LineTree}
 use Rattle.spec_reader.specs.Reading.{reads, LineBegun, ItemDone}
 use Rattle.spec_reader.specs.Views.{session_tree, item_tree}
 use Rattle.spec_reader.proofs.lines.line_of.Given as goal

@@ -1,6 +1,6 @@
 use Rattle.std.proofs.Common.{◌≡◌, ◌<◌, [], ℕ, List, map, length}
 use Rattle.spec_reader.specs.Lexing.{view, views}
-use Rattle.spec_reader.specs.Grammar.{FrontTree, LineTree, ItemTree}
+use Rattle.spec_reader.specs.Tree.{FrontTree, LineTree, ItemTree}
 use Rattle.spec_reader.specs.Reading.{reads, reads_listed, MarkerBegun}
 use Rattle.spec_reader.specs.Views.{session_tree, marker_tree}
 use Rattle.spec_reader.proofs.lines.markers_of.Given as goal

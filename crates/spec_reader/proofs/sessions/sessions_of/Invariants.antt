@@ -1,6 +1,6 @@
 use Rattle.std.proofs.Common.{◌≡◌, ◌∷◌, [], map, length}
 use Rattle.spec_reader.specs.Lexing.{view, views}
-use Rattle.spec_reader.specs.Grammar.{FrontTree}
+use Rattle.spec_reader.specs.Tree.{FrontTree}
 use Rattle.spec_reader.specs.Reading.{reads, SessionBegun, Sessioned}
 use Rattle.spec_reader.specs.Views.{session_tree}
 use Rattle.spec_reader.proofs.sessions.sessions_of.Given as goal

@@ -1,6 +1,6 @@
 use Rattle.std.proofs.Common.{◌≡◌, ◌<◌, ◌∷◌, [], map, length}
 use Rattle.spec_reader.specs.Lexing.{view, views}
-use Rattle.spec_reader.specs.Grammar.{FrontTree, HeadTree}
+use Rattle.spec_reader.specs.Tree.{FrontTree, HeadTree}
 use Rattle.spec_reader.specs.Reading.{reads, StepBegun, Stepped}
 use Rattle.spec_reader.specs.Views.{step_tree, session_tree}
 use Rattle.spec_reader.proofs.sessions.steps_of.Given as goal
