@@ -1,6 +1,10 @@
+pub mod Grammar
 pub mod Lexing
+pub mod Numeral
 pub mod Orders
 pub mod Plan
+pub mod Reading
+pub mod Refusals
 pub mod Spec
 pub mod Tokens
 pub mod Views

@@ -126,7 +126,6 @@ fn quoted_len(bytes: &[u8]) -> Option<usize>
 
 /// A text, of what follows its opening quote.
 fn text_of(after: &str) -> Piece<'_>
-    requires { length after.now < 2 ^ 63 }
     ensures { view_piece result ≡ text_of after.now }
 {
     match quoted_len(after.as_bytes()) {
@@ -195,7 +194,6 @@ fn number_piece(text: &str) -> Piece<'_>
 /// What stands at the front of the text.
 #[tactic(auto, unfolding(crate::specs::Lexing::piece_of))]
 fn piece_of(text: &str) -> Piece<'_>
-    requires { length text.now < 2 ^ 63 }
     ensures { view_piece result ≡ piece_of text.now }
 {
     let [b, ..] = text.as_bytes() else {
@@ -219,7 +217,6 @@ fn piece_of(text: &str) -> Piece<'_>
 
 /// The same, which is a part of the text.
 fn piece_in(text: &str) -> Piece<'_>
-    requires { length text.now < 2 ^ 63 }
     ensures piece { view_piece result ≡ piece_of text.now }
     ensures fits { FitsIn text.now (view_piece result) }
 {
@@ -228,7 +225,6 @@ fn piece_in(text: &str) -> Piece<'_>
 
 /// The tokens of a text, up to its end or to what is no token.
 pub fn tokens_of(alloc: Global, text: &str) -> Result<Vec<Placed<'_>>, AllocError>
-    requires { length text.now < 2 ^ 62 }
     ensures { IfOk result (λ tokens. views tokens.items ≡ token_list text.now) }
 {
     let mut tokens = Vec::new(alloc);

@@ -4,8 +4,12 @@
 mod block;
 mod bound;
 mod cutting;
+mod error;
 mod orders;
+mod parts;
+mod reading;
 mod spec;
+mod statement;
 mod token;
 mod walking;
 
@@ -14,5 +18,10 @@ pub use bound::{
     Aggregate, Aggregates, Assignment, Assignments, Bound, Columns, Comparison, Condition,
     Expression, NewRows, Output, SortKey, SortKeys,
 };
+pub use error::{SqlError, SqlErrorKind};
 pub use orders::Line;
+pub use reading::read_sql;
 pub use spec::Spec;
+pub use statement::{
+    CreateTable, Form, InsertRows, Literal, LiteralRows, Literals, Names, SelectRow, Statement,
+};

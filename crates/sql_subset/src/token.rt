@@ -2,6 +2,7 @@
 
 ghost use Rattle.std.specs.Prelude.{◌≡◌};
 ghost use Rattle.sql_subset.specs.Tokens.{Sign, is};
+ghost use Rattle.sql_subset.specs.Grammar.{ends};
 ghost use Rattle.sql_subset.specs.Lexing.{view_token, word_of};
 
 /// A token as it is written.
@@ -41,6 +42,13 @@ impl Token<'_> {
             Token::Sign(text) => sign == *text,
             _ => false,
         }
+    }
+
+    /// Whether a statement ends here: a semicolon, or the end of the block.
+    pub fn ends_statement(&self) -> bool
+        ensures { result ≡ ends (view_token self.now) }
+    {
+        self.is_sign(";") || matches!(self, Token::End)
     }
 }
 
