@@ -129,7 +129,11 @@ fn fault_at(path: &str, fault: OneFault) -> ProgramFault<'_> {
 fn spec_fault(path: &str, error: SpecError) -> ProgramFault<'_> {
     match error.kind {
         SpecErrorKind::NoMemory => ProgramFault::NoMemory,
-        kind => ProgramFault::Spec { path, kind: kind.number(), offset: error.offset as u64 },
+        kind => ProgramFault::Spec {
+            path,
+            kind: kind.number(),
+            offset: error.offset as u64,
+        },
     }
 }
 
@@ -137,17 +141,33 @@ fn bind_fault(path: &str, error: BindError) -> ProgramFault<'_> {
     let offset = error.offset as u64;
     match error.kind {
         BindErrorKind::NoMemory => ProgramFault::NoMemory,
-        BindErrorKind::Sql(kind) => ProgramFault::Sql { path, kind: kind.number(), offset },
-        kind => ProgramFault::Bind { path, kind: kind.number(), offset },
+        BindErrorKind::Sql(kind) => ProgramFault::Sql {
+            path,
+            kind: kind.number(),
+            offset,
+        },
+        kind => ProgramFault::Bind {
+            path,
+            kind: kind.number(),
+            offset,
+        },
     }
 }
 
 fn start_fault(path: &str, error: StartError) -> ProgramFault<'_> {
     let kind = error.number();
     match error {
-        StartError::SetupFailed { block } => ProgramFault::Start { path, kind, number: block },
+        StartError::SetupFailed { block } => ProgramFault::Start {
+            path,
+            kind,
+            number: block,
+        },
         StartError::SessionSetupFailed { session } | StartError::SessionSetupWaits { session } => {
-            ProgramFault::Start { path, kind, number: session }
+            ProgramFault::Start {
+                path,
+                kind,
+                number: session,
+            }
         }
         StartError::NoMemory => ProgramFault::NoMemory,
     }
@@ -164,7 +184,12 @@ fn tell_fault<E: Write>(alloc: Global, fault: &ProgramFault<'_>, err: &mut Count
 }
 
 /// Writes what the command line's fault or the help says, and gives the status.
-fn tell_usage<W: Write, E: Write>(alloc: Global, error: &Error, out: &mut Counted<W>, err: &mut Counted<E>) -> u8
+fn tell_usage<W: Write, E: Write>(
+    alloc: Global,
+    error: &Error,
+    out: &mut Counted<W>,
+    err: &mut Counted<E>,
+) -> u8
     requires out { failures_of out.old ≡ 0 }
     requires err { failures_of err.old ≡ 0 }
 {

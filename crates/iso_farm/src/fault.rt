@@ -7,25 +7,45 @@ use thiserror::Error;
 pub enum ProgramFault<'a> {
     /// The file is no spec.
     #[error("isofarm: {path}: spec error {kind} at {offset}")]
-    Spec { path: &'a str, kind: u8, offset: u64 },
+    Spec {
+        path: &'a str,
+        kind: u8,
+        offset: u64,
+    },
     /// A block of the spec is no SQL that the program knows.
     #[error("isofarm: {path}: sql error {kind} at {offset}")]
-    Sql { path: &'a str, kind: u8, offset: u64 },
+    Sql {
+        path: &'a str,
+        kind: u8,
+        offset: u64,
+    },
     /// The statements of the spec do not fit its tables.
     #[error("isofarm: {path}: bind error {kind} at {offset}")]
-    Bind { path: &'a str, kind: u8, offset: u64 },
+    Bind {
+        path: &'a str,
+        kind: u8,
+        offset: u64,
+    },
     /// The spec does not start. The number is that of the setup block or of the session.
     #[error("isofarm: {path}: start error {kind} at {number}")]
-    Start { path: &'a str, kind: u8, number: u64 },
+    Start {
+        path: &'a str,
+        kind: u8,
+        number: u64,
+    },
     /// The spec has no permutation of this rank.
     #[error("isofarm: {path}: rank out of range")]
-    RankOutOfRange { path: &'a str },
+    RankOutOfRange {
+        path: &'a str,
+    },
     /// Memory ran out, anywhere.
     #[error("isofarm: no memory")]
     NoMemory,
     /// A file was not opened or not read.
     #[error("isofarm: {path}: read fault")]
-    Read { path: &'a str },
+    Read {
+        path: &'a str,
+    },
     /// Standard output was not written.
     #[error("isofarm: write fault")]
     Write,

@@ -33,7 +33,12 @@ pub enum OneFault {
 }
 
 /// Reads a spec, and writes the rank and the outcome of its line.
-pub fn one<W: Write>(alloc: Global, bytes: &[u8], rank: u64, out: &mut Counted<W>) -> Result<(), OneFault>
+pub fn one<W: Write>(
+    alloc: Global,
+    bytes: &[u8],
+    rank: u64,
+    out: &mut Counted<W>,
+) -> Result<(), OneFault>
     requires { failures_of out.old < u64.MAX }
     ensures failures { failures_of out.new ≡ failures_of out.old + faults_of result }
 {
@@ -48,7 +53,12 @@ pub fn one<W: Write>(alloc: Global, bytes: &[u8], rank: u64, out: &mut Counted<W
 }
 
 /// Writes the rank and the outcome of its line.
-pub fn one_of<W: Write>(alloc: Global, spec: &Spec, rank: u64, out: &mut Counted<W>) -> Result<(), OneFault>
+pub fn one_of<W: Write>(
+    alloc: Global,
+    spec: &Spec,
+    rank: u64,
+    out: &mut Counted<W>,
+) -> Result<(), OneFault>
     requires { failures_of out.old < u64.MAX }
     ensures written { OnOk result ((text : List ℕ) × IsAnswer spec.now rank text × Wrote W.contents out.old out.new text) }
     ensures refused { IfErr result (λ error. IsRefused error spec.now rank) }
@@ -64,7 +74,12 @@ pub fn one_of<W: Write>(alloc: Global, spec: &Spec, rank: u64, out: &mut Counted
 }
 
 /// Writes the rank and an outcome.
-fn write_one<W: Write>(spec: &Spec, rank: u64, outcome: &Outcome, out: &mut Counted<W>) -> Result<(), OneFault>
+fn write_one<W: Write>(
+    spec: &Spec,
+    rank: u64,
+    outcome: &Outcome,
+    out: &mut Counted<W>,
+) -> Result<(), OneFault>
     requires countable { failures_of out.old < u64.MAX }
     requires told { IsTold spec.now.run.sessions (length spec.now.run.steps) outcome.now }
     ensures text { Prints W.contents out.old out.new result (rank_text rank ++ outcome_text spec.now.session_names spec.now.step_names outcome.now) }

@@ -73,7 +73,6 @@ pub filter_same : {A : Type 0} (f g : A → Bool) (xs : List A) → Each (λ x. 
 filter_same f g [] p = refl
 filter_same f g (x ∷ xs) p = λ i. cond (p.0 i) (x ∷ filter_same f g xs p.1 i) (filter_same f g xs p.1 i)
 
-
 pub compatible-symm : (a b : Mode) → compatible a b ≡ compatible b a
 compatible-symm IntentShare IntentShare = refl
 compatible-symm IntentShare IntentExclusive = refl

@@ -176,8 +176,8 @@ start-idle spec mains sessions le =
     let long : length ts ≡ suc n = Rattle.session_machine.proofs.Starts.length_replicate (suc n) [] in
     let blank : (c : ℕ) → get_or ts c [] ≡ [] = λ c. Rattle.session_machine.proofs.Starts.get_or-replicate (suc n) c [] in
     let setups : set_up spec ≡ started_by SetupFailed ts (set_up_from 0 empty spec.setups) =
-        ap (λ ss. main_setups n 0 (record { rows = empty; sessions = ss; waits = [] }) spec.setups) (sym (map-replicate_idle (suc n)))
-        ∙ main_setups-idle n 0 empty ts spec.setups mains (omega (arith, long)) (blank n) in
+    ap (λ ss. main_setups n 0 (record { rows = empty; sessions = ss; waits = [] }) spec.setups) (sym (map-replicate_idle (suc n)))
+    ∙ main_setups-idle n 0 empty ts spec.setups mains (omega (arith, long)) (blank n) in
     ap (λ s. started_then s (λ w. session_setups 0 w spec.session_setups)) setups ∙ on n ts blank (omega (arith, long)) (set_up_from 0 empty spec.setups)
   where
     on : (n : ℕ) (ts : List (List Event)) → ((c : ℕ) → get_or ts c [] ≡ []) → 0 + length spec.session_setups ≤ length ts → (r : Result Rows' ℕ)

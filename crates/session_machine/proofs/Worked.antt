@@ -83,7 +83,8 @@ module _ (p : Box (Unit {0}) Global) where
         sessions = 3;
         steps = step 0 (Select 0 (Some (number 1)) (id_is 1) [] (Columns (1 ∷ []))) ∷ step 0 all_rows ∷ step 1 all_rows ∷ step 1 Commit ∷ step 2 (sets 2 5) ∷ [];
         setups = two_rows ∷ [];
-        lines = []; session_setups = (Begin ∷ []) ∷ (Begin ∷ []) ∷ [] ∷ [];
+        lines = [];
+        session_setups = (Begin ∷ []) ∷ (Begin ∷ []) ∷ [] ∷ [];
       }
 
   -- a reader that comes after the waiting writer but holds the table already passes it
@@ -107,7 +108,8 @@ module _ (p : Box (Unit {0}) Global) where
         sessions = 2;
         steps = step 0 (Delete 0 (Some (number 1)) (id_is 1)) ∷ step 0 ending ∷ step 1 (Insert 0 (Some 0) ((number 1 ∷ number 7 ∷ []) ∷ [])) ∷ [];
         setups = two_rows ∷ [];
-        lines = []; session_setups = (Begin ∷ []) ∷ [] ∷ [];
+        lines = [];
+        session_setups = (Begin ∷ []) ∷ [] ∷ [];
       }
 
   delete_commits : transcripts (deletes Commit) (0 ∷ 2 ∷ 1 ∷ [])
@@ -137,7 +139,8 @@ module _ (p : Box (Unit {0}) Global) where
         steps = record { session = 0; statements = Insert 0 (Some 0) ((number 3 ∷ number 0 ∷ []) ∷ []) ∷ Insert 0 (Some 0) ((number 3 ∷ number 1 ∷ []) ∷ []) ∷ all_rows ∷ [] }
             ∷ step 0 (Select 0 None Always [] (Aggregates (Count ∷ Sum 1 ∷ []))) ∷ [];
         setups = two_rows ∷ [];
-        lines = []; session_setups = [] ∷ [];
+        lines = [];
+        session_setups = [] ∷ [];
       }
 
   duplicate_row_is : transcripts duplicate_row (0 ∷ 1 ∷ [])
@@ -152,7 +155,8 @@ module _ (p : Box (Unit {0}) Global) where
         sessions = 1;
         steps = step 0 (Insert 0 (Some 0) ((number 3 ∷ number 20 ∷ []) ∷ [])) ∷ step 0 (Select 0 None Always (record { column = 1; falls = true } ∷ []) (Columns (0 ∷ 1 ∷ []))) ∷ [];
         setups = two_rows ∷ [];
-        lines = []; session_setups = [] ∷ [];
+        lines = [];
+        session_setups = [] ∷ [];
       }
 
   ordered_row_is : transcripts ordered_row (0 ∷ 1 ∷ [])
@@ -166,7 +170,8 @@ module _ (p : Box (Unit {0}) Global) where
         sessions = 1;
         steps = step 0 (Update 0 None (record { column = 1; value = Sum' p (Literal (number 9223372036854775807)) p (Column 1) } ∷ []) Always) ∷ step 0 all_rows ∷ step 0 Commit ∷ step 0 Commit ∷ [];
         setups = two_rows ∷ [];
-        lines = []; session_setups = (Begin ∷ []) ∷ [];
+        lines = [];
+        session_setups = (Begin ∷ []) ∷ [];
       }
 
   range_row_is : transcripts range_row (0 ∷ 1 ∷ 2 ∷ 3 ∷ [])
@@ -197,7 +202,8 @@ module _ (p : Box (Unit {0}) Global) where
         sessions = 2;
         steps = step 0 (Insert 0 (Some 0) ((number 2 ∷ []) ∷ [])) ∷ step 0 (Delete 0 (Some (number 2)) (id_is 2)) ∷ step 1 (Insert 1 (Some 0) ((number 2 ∷ []) ∷ [])) ∷ step 1 (Delete 1 (Some (number 2)) (id_is 2)) ∷ [];
         setups = [];
-        lines = []; session_setups = [] ∷ [] ∷ [];
+        lines = [];
+        session_setups = [] ∷ [] ∷ [];
       }
 
   abbrev two_two : Queues

@@ -33,9 +33,23 @@ pub(crate) fn run_statement(
     ensures told { OnOk result (transcript.new ≡ transcript.old ++ (stepped rows.now statement.now).events) }
 {
     match statement {
-        Bound::Insert(table, Some(key_column), new) => insert(rows, *table, *key_column, new.rows(), transcript),
+        Bound::Insert(table, Some(key_column), new) => insert(
+            rows,
+            *table,
+            *key_column,
+            new.rows(),
+            transcript,
+        ),
         Bound::Select(table, Some(key), condition, _, Output::Columns(columns)) => {
-            select(alloc, rows, *table, key, condition, columns.numbers(), transcript)
+            select(
+                alloc,
+                rows,
+                *table,
+                key,
+                condition,
+                columns.numbers(),
+                transcript,
+            )
         }
         _ => unreachable!(),
     }
@@ -68,7 +82,12 @@ fn insert_event(left: &Option<Rows>, count: usize) -> Event
 }
 
 /// The rows with new ones at their keys, or none where a key is there already or comes twice.
-fn inserted(rows: &Rows, table: u16, key_column: u8, new: &[Row]) -> Result<Option<Rows>, AllocError>
+fn inserted(
+    rows: &Rows,
+    table: u16,
+    key_column: u8,
+    new: &[Row],
+) -> Result<Option<Rows>, AllocError>
     ensures { IfOk result (λ left. left ≡ inserted table key_column new.now rows.now) }
 {
     let mut own = rows.fork()?;
@@ -128,9 +147,11 @@ fn meets(row: &Row, condition: &Condition) -> bool
     ensures { holds row.now condition.now ≡ Some result }
 {
     match condition {
-        Condition::Compares(Expression::Column(column), Comparison::Same, Expression::Literal(value)) => {
-            has_value(row, *column, value)
-        }
+        Condition::Compares(
+            Expression::Column(column),
+            Comparison::Same,
+            Expression::Literal(value),
+        ) => { has_value(row, *column, value) }
         _ => unreachable!(),
     }
 }

@@ -1,12 +1,12 @@
-use std::alloc::AllocError;
-use std::error::Error;
-use std::fmt;
-
 ghost use Rattle.std.specs.Prelude.{◌≡◌};
 ghost use Rattle.session_machine.specs.Running.{number_of};
 ghost use Rattle.session_machine.specs.declared.error.SendError.TheVariants as send_error;
 ghost use Rattle.session_machine.specs.declared.error.StartError.TheVariants as start_error;
 ghost use Rattle.session_machine.specs.declared.error.RunError.TheVariants as run_error;
+
+use std::alloc::AllocError;
+use std::error::Error;
+use std::fmt;
 
 /// Why a spec does not start: the first that happens.
 #[derive(Clone, Copy, Debug, PartialEq, Eq)]
@@ -63,8 +63,14 @@ impl fmt::Display for StartError {
     fn fmt<W: fmt::Write>(&self, f: &mut fmt::Formatter<W>) -> fmt::Result {
         match self {
             StartError::SetupFailed { block } => write!(f, "setup block {block} fails"),
-            StartError::SessionSetupFailed { session } => write!(f, "the setup of session {session} fails"),
-            StartError::SessionSetupWaits { session } => write!(f, "the setup of session {session} waits"),
+            StartError::SessionSetupFailed { session } => write!(
+                f,
+                "the setup of session {session} fails"
+            ),
+            StartError::SessionSetupWaits { session } => write!(
+                f,
+                "the setup of session {session} waits"
+            ),
             StartError::NoMemory => f.write_str("no memory"),
         }
     }

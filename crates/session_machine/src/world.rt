@@ -8,7 +8,6 @@ ghost use Rattle.session_machine.specs.Transaction.{transacted, told_by, rows_af
 ghost use Rattle.session_machine.specs.Idle.{IsTold};
 ghost use Rattle.session_machine.specs.Running.{IsRefusedBy, setup_failed, session_setup_failed};
 
-
 use crate::error::{SendError, StartError};
 use crate::rows::Rows;
 use crate::transaction::{SetUpError, run_block, set_up};

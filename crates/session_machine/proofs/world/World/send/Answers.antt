@@ -47,8 +47,8 @@ invariant_of-self-2 c =
     let was : c.index_mut-transcript.result.now ≡ get_or ts i [] = c.index_mut-transcript.ensures.value ∙ get_or-default ts i c.index_mut-transcript.result.now [] inside in
     let known : c.args.step < n = subst (λ (v : Running). c.args.step < length v.file.run.steps) (sym c.self.view_is) c.requires in
     let told : All (HasStep n) c.tell_step.new.transcript =
-        subst (All (HasStep n)) (sym c.in_ok-self-inside.ensures.told)
-        (told-steps n c.index_mut-transcript.result.now c.args.step c.self.inside.rows statements known (subst (All (HasStep n)) (sym was) (All-get_or (All (HasStep n)) ts i [] inside all))) in
+    subst (All (HasStep n)) (sym c.in_ok-self-inside.ensures.told)
+    (told-steps n c.index_mut-transcript.result.now c.args.step c.self.inside.rows statements known (subst (All (HasStep n)) (sym was) (All-get_or (All (HasStep n)) ts i [] inside all))) in
     record {
       each = length-set ts i c.tell_step.new.transcript ∙ c.self.invariant.each;
       named = λ e. All-set (All (HasStep n)) ts i c.tell_step.new.transcript told all;
