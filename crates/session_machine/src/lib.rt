@@ -8,6 +8,8 @@ mod laws;
 mod rows;
 mod runs;
 mod session;
+#[cfg(test)]
+mod tests;
 mod transaction;
 mod world;
 

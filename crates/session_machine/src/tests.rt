@@ -1,0 +1,111 @@
+use super::*;
+use spec_reader::read_spec;
+use sql_subset::{Spec, bind};
+use std::alloc::Global;
+use std::process::Abort;
+use std::test::Fail;
+use transcripts::{Counted, Names, Outcome, print};
+
+const TABLE: &str =
+    "setup { CREATE TABLE t (id int PRIMARY KEY, v int); INSERT INTO t VALUES (1, 10), (2, 20); }";
+
+fn spec_of(rt: &impl Abort, alloc: Global, sessions: &str) -> Spec {
+    let text = format!(in alloc; "{TABLE} {sessions}").expect(rt, "memory");
+    let text = read_spec(alloc, text.as_bytes()).expect(rt, "a spec file");
+    bind(alloc, &text).expect(rt, "a spec that binds")
+}
+
+fn text_of(rt: &impl Abort, alloc: Global, spec: &Spec, outcome: &Outcome) -> String {
+    let names = Names {
+        sessions: spec.session_names(),
+        steps: spec.step_names(),
+    };
+    let mut out = Counted::new(Vec::new(alloc));
+    assert!(rt; names.fit(outcome), "each event has its names");
+    print(outcome, &names, &mut out).expect(rt, "a text");
+    String::from_utf8(out.into_inner()).expect(rt, "UTF-8")
+}
+
+fn run_rank(rt: &impl Abort, alloc: Global, spec: &Spec, rank: u64) -> String {
+    let line = spec.line(rank).expect(rt, "a rank of the spec");
+    let outcome = run_one(alloc, spec, &line).expect(rt, "an outcome");
+    text_of(rt, alloc, spec, &outcome)
+}
+
+const INSERT_AND_READ: &str = "session a step a1 { INSERT INTO t VALUES (3, 30); }
+    session b step b1 { SELECT v FROM t WHERE id = 3; }";
+
+#[test]
+fn a_reader_sees_what_was_inserted_before_it(rt: HostRuntime) -> Result<(), Fail> {
+    let alloc = rt.alloc();
+    let spec = spec_of(&rt, alloc, INSERT_AND_READ);
+    let first = "session a\n  step a1\n  inserted 1\n  done\nsession b\n  step b1\n  row 30\n  rows 1\n  done\n";
+    let second = "session a\n  step a1\n  inserted 1\n  done\nsession b\n  step b1\n  rows 0\n  done\n";
+    assert_eq!(rt; spec.ranks(), 2);
+    assert_eq!(rt; run_rank(&rt, alloc, &spec, 0).as_str(), first);
+    assert_eq!(rt; run_rank(&rt, alloc, &spec, 1).as_str(), second);
+    assert!(rt; spec.line(2).is_none());
+    Ok(())
+}
+
+#[test]
+fn a_step_that_fails_leaves_none_of_its_rows(rt: HostRuntime) -> Result<(), Fail> {
+    let alloc = rt.alloc();
+    let spec = spec_of(
+        &rt,
+        alloc,
+        "session a step a1 { INSERT INTO t VALUES (3, 0), (3, 1); } step a2 { SELECT v FROM t WHERE id = 3; }",
+    );
+    let text = "session a\n  step a1\n  error: duplicate key\n  done\n  step a2\n  rows 0\n  done\n";
+    assert_eq!(rt; run_rank(&rt, alloc, &spec, 0).as_str(), text);
+    Ok(())
+}
+
+#[test]
+fn a_permutation_line_sends_its_steps_in_order(rt: HostRuntime) -> Result<(), Fail> {
+    let alloc = rt.alloc();
+    let spec = spec_of(
+        &rt,
+        alloc,
+        "session a step a1 { SELECT v FROM t WHERE id = 1; } step a2 { SELECT v FROM t WHERE id = 2; }
+        session b step b1 { INSERT INTO t VALUES (4, 0); }
+        permutation a1(*) b1(a1 notices 1) a1",
+    );
+    let text = "session a\n  step a1\n  row 10\n  rows 1\n  done\n  step a1\n  row 10\n  rows 1\n  done\nsession b\n  step b1\n  inserted 1\n  done\n";
+    assert_eq!(rt; spec.ranks(), 1);
+    assert_eq!(rt; run_rank(&rt, alloc, &spec, 0).as_str(), text);
+    Ok(())
+}
+
+#[test]
+fn a_setup_that_fails_refuses_the_start(rt: HostRuntime) -> Result<(), Fail> {
+    let alloc = rt.alloc();
+    let twice = spec_of(&rt, alloc, "setup { INSERT INTO t VALUES (1, 0); } session a step s {}");
+    match World::start(alloc, &twice) {
+        Ok(_) => assert!(rt; false, "the second block fails"),
+        Err(error) => assert_eq!(rt; error, StartError::SetupFailed { block: 1 }),
+    }
+    let second = "session a setup { INSERT INTO t VALUES (3, 0); } step s {}
+        session b setup { SELECT v FROM t WHERE id = 3; INSERT INTO t VALUES (3, 1); } step u {}";
+    let spec = spec_of(&rt, alloc, second);
+    match World::start(alloc, &spec) {
+        Ok(_) => assert!(rt; false, "the setup of session b fails"),
+        Err(error) => {
+            assert_eq!(rt; error, StartError::SessionSetupFailed { session: 1 });
+            assert_eq!(rt; error.number(), 2);
+        }
+    }
+    Ok(())
+}
+
+#[test]
+fn a_world_tells_what_was_sent_so_far(rt: HostRuntime) -> Result<(), Fail> {
+    let alloc = rt.alloc();
+    let spec = spec_of(&rt, alloc, INSERT_AND_READ);
+    let mut world = World::start(alloc, &spec).expect(&rt, "a start");
+    world.send(1).expect(&rt, "sent");
+    let outcome = world.outcome().expect(&rt, "an outcome");
+    let text = "session a\nsession b\n  step b1\n  rows 0\n  done\n";
+    assert_eq!(rt; text_of(&rt, alloc, &spec, &outcome).as_str(), text);
+    Ok(())
+}
