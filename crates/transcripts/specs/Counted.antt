@@ -50,7 +50,7 @@ pub record Stopped {W : Type 0} (contents : W → Option (List ℕ)) (old new : 
 abbrev pub Prints : {W X E : Type 0} → (W → Option (List ℕ)) → Counted W → Counted W → Result X E → List ℕ → Type 0
 Prints contents old new result text = MatchResult result (λ _. Wrote contents old new text) (λ _. Stopped contents old new text)
 
--- one byte of the bytes or more is written if the answer is no fault, and else none
+-- of some bytes one or more are written if the answer is no fault, and else a front that is not all of them
 abbrev pub Takes : {W E : Type 0} → (W → Option (List ℕ)) → Counted W → Counted W → Result ℕ E → List ℕ → Type 0
 Takes contents old new result bytes = MatchResult result
     (λ n. (0 < n) × (n ≤ length bytes) × Wrote contents old new (take n bytes))
