@@ -1,6 +1,10 @@
 -- What the program writes for one permutation.
-use Rattle.std.specs.Prelude.{◌≡◌, ℕ, ◌<◌, ◌≤◌, ◌++◌, List, Some, Result, Ok, Err}
+use Rattle.std.specs.Prelude.{◌≡◌, ℕ, ◌<◌, ◌≤◌, ◌⊎◌, ◌++◌, List, Some, Result, Ok, Err}
 use Rattle.sql_subset.specs.Spec.{SpecFile, ranks, line_of}
+use Rattle.sql_subset.specs.Binding.{bound_file}
+use Rattle.sql_subset.specs.declared.error.BindErrorKind.TheVariants.{NoMemory}
+use Rattle.spec_reader.specs.Tree.{SpecTree}
+use Rattle.spec_reader.specs.Text.{IsSpec, Explains}
 use Rattle.transcripts.specs.Text.{rank_text, outcome_text}
 use Rattle.transcripts.specs.declared.event.Event.{Event}
 use Rattle.session_machine.specs.Start.{start}
@@ -31,3 +35,23 @@ faults_of (Err (Bind error)) = 0
 faults_of (Err OutOfRange) = 0
 faults_of (Err (Run error)) = 0
 faults_of (Err (Write fault)) = 1
+
+-- the bytes are a spec file, which binds to this
+pub record IsFileOf (bytes : List ℕ) (file : SpecFile) : Type 0 where
+  pub tree : SpecTree
+  pub is_spec : IsSpec bytes tree
+  pub is_bound : bound_file bytes tree ≡ Ok file
+
+-- the text is the answer of the spec file that the bytes are
+pub record IsAnswerOf (bytes : List ℕ) (rank : ℕ) (text : List ℕ) : Type 0 where
+  pub file : SpecFile
+  pub is_file : IsFileOf bytes file
+  pub answer : IsAnswer file rank text
+
+-- why the bytes have no answer: they are no spec file, or binding refuses it, or the one permutation is not written; memory aside
+abbrev pub IsRefusedOf : OneFault → List ℕ → ℕ → Type 0
+IsRefusedOf (Spec error) bytes rank = Explains bytes error
+IsRefusedOf (Bind error) bytes rank = (error.kind ≡ NoMemory) ⊎ ((tree : SpecTree) × IsSpec bytes tree × (bound_file bytes tree ≡ Err error))
+IsRefusedOf OutOfRange bytes rank = (file : SpecFile) × IsFileOf bytes file × IsRefused OutOfRange file rank
+IsRefusedOf (Run error) bytes rank = (file : SpecFile) × IsFileOf bytes file × IsRefused (Run error) file rank
+IsRefusedOf (Write fault) bytes rank = (file : SpecFile) × IsFileOf bytes file × IsRefused (Write fault) file rank

@@ -7,7 +7,7 @@ ghost use Rattle.session_machine.specs.Running.{IsNotRunBy};
 ghost use Rattle.transcripts.specs.Counted.{Wrote, Prints, failures_of};
 ghost use Rattle.transcripts.specs.Text.{rank_text, outcome_text};
 ghost use Rattle.session_machine.specs.Idle.{IsTold};
-ghost use Rattle.iso_farm.specs.One.{IsAnswer, IsRefused, faults_of};
+ghost use Rattle.iso_farm.specs.One.{IsAnswer, IsAnswerOf, IsRefused, IsRefusedOf, faults_of};
 ghost use Rattle.transcripts.specs.declared.counted.WriteFault.{WriteFault};
 
 use session_machine::{RunError, run_one};
@@ -40,6 +40,8 @@ pub fn one<W: Write>(
     out: &mut Counted<W>,
 ) -> Result<(), OneFault>
     requires { failures_of out.old < u64.MAX }
+    ensures written { OnOk result ((text : List ℕ) × IsAnswerOf bytes.now rank text × Wrote W.contents out.old out.new text) }
+    ensures refused { IfErr result (λ error. IsRefusedOf error bytes.now rank) }
     ensures failures { failures_of out.new ≡ failures_of out.old + faults_of result }
 {
     let text = match read_spec(alloc, bytes) {

@@ -102,6 +102,7 @@ fn a_setup_that_fails_refuses_the_start(rt: HostRuntime) -> Result<(), Fail> {
 fn a_world_tells_what_was_sent_so_far(rt: HostRuntime) -> Result<(), Fail> {
     let alloc = rt.alloc();
     let spec = spec_of(&rt, alloc, INSERT_AND_READ);
+    assert!(rt; spec.steps() == 2, "a1 and b1");
     let mut world = World::start(alloc, &spec).expect(&rt, "a start");
     world.send(1).expect(&rt, "sent");
     let outcome = world.outcome().expect(&rt, "an outcome");
