@@ -5,3 +5,4 @@ pub mod ReadingLemmas
 pub mod FormLemmas
 pub mod BlockLemmas
 pub mod Loops
+pub mod TableLemmas

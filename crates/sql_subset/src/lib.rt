@@ -3,6 +3,7 @@
 
 mod block;
 mod bound;
+mod checks;
 mod cutting;
 mod error;
 mod orders;
@@ -10,6 +11,7 @@ mod parts;
 mod reading;
 mod spec;
 mod statement;
+mod tables;
 mod token;
 mod walking;
 
@@ -18,7 +20,7 @@ pub use bound::{
     Aggregate, Aggregates, Assignment, Assignments, Bound, Columns, Comparison, Condition,
     Expression, NewRows, Output, SortKey, SortKeys,
 };
-pub use error::{SqlError, SqlErrorKind};
+pub use error::{BindError, BindErrorKind, SqlError, SqlErrorKind};
 pub use orders::Line;
 pub use reading::read_sql;
 pub use spec::Spec;
