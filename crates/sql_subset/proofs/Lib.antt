@@ -6,3 +6,5 @@ pub mod FormLemmas
 pub mod BlockLemmas
 pub mod Loops
 pub mod TableLemmas
+pub mod EachLemmas
+pub mod ShapeLemmas

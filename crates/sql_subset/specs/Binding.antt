@@ -175,29 +175,32 @@ step_names (s ∷ ss) = map (λ (t : StepTree). t.name) s.steps ++ step_names ss
 abbrev pub session_names : List SessionTree → List (List ℕ)
 session_names sessions = map (λ (s : SessionTree). s.head.name) sessions
 
-abbrev pub cons_some : {X : Type 0} → Option X → Option (List X) → Option (List X)
-cons_some (Some x) (Some xs) = Some (x ∷ xs)
-cons_some (Some x) None = None
-cons_some None xs = None
+abbrev pub front_some : {X : Type 0} → List X → Option (List X) → Option (List X)
+front_some xs None = None
+front_some xs (Some ys) = Some (xs ++ ys)
 
--- the numbers of the steps that a line names
-abbrev pub numbers_of : List (List ℕ) → LineTree → Option (List ℕ)
-numbers_of names [] = Some []
-numbers_of names (i ∷ items) = cons_some (position_from (λ n. bytes_eq i.name n) 0 names) (numbers_of names items)
+abbrev pub then_some : {X : Type 0} → Option X → Option (List X) → Option (List X)
+then_some None xs = None
+then_some (Some x) xs = front_some (x ∷ []) xs
 
--- of a line of 1 to 24 items
+-- what each gives, where each gives something
+abbrev pub all_some : {A X : Type 0} → (A → Option X) → List A → Option (List X)
+all_some f [] = Some []
+all_some f (a ∷ as') = then_some (f a) (all_some f as')
+
+-- the number of the step of this name
+abbrev pub step_number : List (List ℕ) → ItemTree → Option ℕ
+step_number names i = position_from (λ n. bytes_eq i.name n) 0 names
+
+-- the numbers of the steps that a line of 1 to 24 items names
 abbrev pub line_of : List (List ℕ) → LineTree → Option (List ℕ)
-line_of names items = if nat_le 1 (length items) && nat_le (length items) 24 then numbers_of names items else None
-
-abbrev pub lines_of : List (List ℕ) → List LineTree → Option (List (List ℕ))
-lines_of names [] = Some []
-lines_of names (l ∷ ls) = cons_some (line_of names l) (lines_of names ls)
+line_of names items = if nat_le 1 (length items) && nat_le (length items) 24 then all_some (step_number names) items else None
 
 -- the lines of a file without lines are none, if its steps have a shape; with lines there are at most 255 steps and 4,096 lines
 abbrev pub lines_by : List SessionTree → List LineTree → Option (List (List ℕ))
 lines_by sessions [] = if is_ok (shape_of (counts_in sessions)) then Some [] else None
 lines_by sessions (l ∷ ls) =
-    if nat_le (total (counts_in sessions)) 255 && nat_le (length (l ∷ ls)) 4096 then lines_of (step_names sessions) (l ∷ ls) else None
+    if nat_le (total (counts_in sessions)) 255 && nat_le (length (l ∷ ls)) 4096 then all_some (line_of (step_names sessions)) (l ∷ ls) else None
 
 -- none where the file is outside the limits
 abbrev pub orders_of : SpecTree → Option (List (List ℕ))

@@ -1,4 +1,5 @@
 pub mod Binding
+pub mod Bindings
 pub mod Grammar
 pub mod Lexing
 pub mod Numeral

@@ -2,6 +2,7 @@
 #![tactic(auto)]
 
 mod block;
+mod blocks;
 mod bound;
 mod checks;
 mod cutting;
@@ -9,6 +10,7 @@ mod error;
 mod orders;
 mod parts;
 mod reading;
+mod shapes;
 mod spec;
 mod statement;
 mod tables;

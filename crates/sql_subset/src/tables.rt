@@ -57,7 +57,8 @@ impl Table {
     }
 }
 
-fn position(names: &[Text], name: &str) -> Option<usize>
+/// Where a name stands first.
+pub(crate) fn position(names: &[Text], name: &str) -> Option<usize>
     ensures number { result ≡ column_number names.now name.now }
     ensures within { IfSome result (λ n. n < length names.now) }
 {
