@@ -2,14 +2,18 @@
 #![tactic(auto)]
 
 mod block;
+mod blocks;
 mod bound;
+mod checks;
 mod cutting;
 mod error;
 mod orders;
 mod parts;
 mod reading;
+mod shapes;
 mod spec;
 mod statement;
+mod tables;
 mod token;
 mod walking;
 
@@ -18,7 +22,7 @@ pub use bound::{
     Aggregate, Aggregates, Assignment, Assignments, Bound, Columns, Comparison, Condition,
     Expression, NewRows, Output, SortKey, SortKeys,
 };
-pub use error::{SqlError, SqlErrorKind};
+pub use error::{BindError, BindErrorKind, SqlError, SqlErrorKind};
 pub use orders::Line;
 pub use reading::read_sql;
 pub use spec::Spec;
