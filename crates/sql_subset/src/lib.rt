@@ -1,6 +1,7 @@
 //! The SQL subset: statements, the spec that a text binds to, and the lock plans of its statements.
 #![tactic(auto)]
 
+mod binding;
 mod block;
 mod blocks;
 mod bound;
