@@ -1,9 +1,9 @@
 //! Binds a spec file that is read.
 
-ghost use Rattle.std.specs.Prelude.{◌≡◌, ◌≢◌, ◌<◌, ◌≤◌, ◌++◌, [], map, length, string_bytes, IfOk};
+ghost use Rattle.std.specs.Prelude.{◌≡◌, ◌≢◌, ◌<◌, ◌≤◌, ◌++◌, ◌⊎◌, [], map, length, string_bytes, IfOk, IfErr, Ok, Err};
 ghost use Rattle.spec_reader.specs.Views.{session_tree, step_tree, line_tree, spec_tree};
 ghost use Rattle.sql_subset.specs.Orders.{lines_of};
-ghost use Rattle.sql_subset.specs.Bindings.{bound_session, FitsCounts, IsAnswer};
+ghost use Rattle.sql_subset.specs.Bindings.{bound_session, FitsCounts};
 ghost use Rattle.sql_subset.specs.Binding.{all_some, line_of, counts_in, step_names, session_names, numbered, all_steps, lines_by, orders_of, shaped, bound_file, Binds};
 
 use crate::block::{Block, Step};
@@ -184,4 +184,25 @@ fn bound(alloc: Global, text: &SpecText) -> Result<Spec, BindStop>
         session_setups,
         orders,
     }))
+}
+
+const NO_MEMORY: BindError = BindError {
+    kind: BindErrorKind::NoMemory,
+    offset: 0,
+};
+
+/// Binds a spec file that is read: its statements speak of tables and columns by their numbers, and its lines of steps by theirs.
+///
+/// Each name is looked for among the tables, columns or steps before it in turn, which a file of 65,536 bytes keeps short.
+pub fn bind(alloc: Global, text: &SpecText) -> Result<Spec, BindError>
+    // What is bound is what the file says.
+    ensures bound { IfOk result (λ spec. bound_file (string_bytes text.now.text) (spec_tree text.now) ≡ Ok spec) }
+    // What is refused has that first refusal, unless memory ran out.
+    ensures refused { IfErr result (λ e. (bound_file (string_bytes text.now.text) (spec_tree text.now) ≡ Err e) ⊎ (e ≡ record { kind = BindErrorKind.NoMemory; offset = 0 })) }
+{
+    match bound(alloc, text) {
+        Ok(spec) => Ok(spec),
+        Err(BindStop::Refused(error)) => Err(error),
+        Err(BindStop::Memory) => Err(NO_MEMORY),
+    }
 }

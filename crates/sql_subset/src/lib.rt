@@ -18,6 +18,7 @@ mod tables;
 mod token;
 mod walking;
 
+pub use binding::bind;
 pub use block::Block;
 pub use bound::{
     Aggregate, Aggregates, Assignment, Assignments, Bound, Columns, Comparison, Condition,
