@@ -3,6 +3,8 @@ use Rattle.std.proofs.Common.{◌≡◌, refl, sym, ap, subst, ◌∙◌, ℕ, B
 use Rattle.std.proofs.lemmas.List.{append-nil, length-map}
 use Rattle.std.specs.Prelude.{not, ◌&&◌, codes}
 use Rattle.std.specs.List.{list_all, position_from}
+use Rattle.sql_subset.specs.declared.error.SqlErrorKind.{SqlErrorKind}
+use Rattle.sql_subset.specs.declared.error.SqlErrorKind.TheVariants.{Unsupported, NoMemory}
 use Rattle.sql_subset.specs.declared.statement.Form.{Form}
 use Rattle.sql_subset.specs.declared.statement.Form.TheVariants.{Create, Insert, Select}
 use Rattle.sql_subset.specs.declared.statement.Statement.{Statement}
@@ -10,9 +12,9 @@ use Rattle.sql_subset.specs.declared.token.Placed.{Placed as WrittenAt}
 use Rattle.sql_subset.specs.Lexing.{view, view_token, views, Piece, Blank, Next, Last, piece_of, with_piece, tokens_past, token_list}
 use Rattle.sql_subset.specs.Tokens.{Token, Number, Placed, tokens}
 use Rattle.sql_subset.specs.Numeral.{Numeral}
-use Rattle.sql_subset.specs.Grammar.{ends, closing, keeps, spelling, BeginsAt, IsStatement, IsSpelled, SpellsAll, none, alone, next}
+use Rattle.sql_subset.specs.Grammar.{ends, closing, keeps, spelling, BeginsAt, IsStatement, IsSpelled, IsReason, SpellsAll, none, alone, next}
 use Rattle.sql_subset.specs.Grammar as spelled
-use Rattle.sql_subset.specs.Reading.{◌>>=◌, form, statement, none_left, joined, statements, all_with}
+use Rattle.sql_subset.specs.Reading.{◌>>=◌, form, statement, none_left, joined, statements, read_text, all_with}
 use Rattle.sql_subset.proofs.ReadingLemmas.{bind, both_true, and_true}
 use Rattle.sql_subset.proofs.FormLemmas.{form-sound, form-complete}
 
@@ -233,3 +235,21 @@ module _ (text : List ℕ) (ts : List WrittenAt) (are : views ts ≡ token_list 
 
   pub read-some : (us : List WrittenAt) → us ≡ ts → 0 < length us
   read-some us e = omega (arith, some_token text, ap length (sym are), length-map ts view, ap length e)
+
+-- ---- what a caller of the reading knows
+
+pub read_text-some : (text : List ℕ) (ss : List Statement) → IsSpelled text ss → read_text text ≡ Some ss
+read_text-some text ss h = statements-complete (token_list text) ss h
+
+none_or : (o : Option (List Statement)) → ((ss : List Statement) → o ≡ Some ss → ⊥) → o ≡ None
+none_or None h = refl
+none_or (Some ss) h = absurd (h ss refl)
+
+pub read_text-none : (text : List ℕ) → ((ss : List Statement) → IsSpelled text ss → ⊥) → read_text text ≡ None
+read_text-none text h = none_or (read_text text) (λ ss e. h ss (statements-sound (token_list text) [] ss e))
+
+-- the kind of a refusal, if memory did not run out
+pub reason : (text : List ℕ) (kind : SqlErrorKind) → IsReason text kind → (kind ≡ NoMemory → ⊥) → (kind ≡ Unsupported) × (read_text text ≡ None)
+reason text NoMemory h k = absurd (k refl)
+reason text Unsupported h k = (refl, read_text-none text h)
+reason text kind h k = absurd h

@@ -5,3 +5,8 @@ pub mod ReadingLemmas
 pub mod FormLemmas
 pub mod BlockLemmas
 pub mod Loops
+pub mod TableLemmas
+pub mod EachLemmas
+pub mod ShapeLemmas
+pub mod TodayLemmas
+pub mod FileLemmas

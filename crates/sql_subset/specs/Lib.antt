@@ -1,3 +1,5 @@
+pub mod Binding
+pub mod Bindings
 pub mod Grammar
 pub mod Lexing
 pub mod Numeral
@@ -6,6 +8,7 @@ pub mod Plan
 pub mod Reading
 pub mod Refusals
 pub mod Spec
+pub mod Tables
 pub mod Tokens
 pub mod Views
 pub mod Walking

@@ -10,7 +10,7 @@ use Rattle.sql_subset.specs.declared.statement.Form.TheVariants.{Create, Insert,
 use Rattle.sql_subset.specs.declared.statement.Statement.{Statement}
 use Rattle.sql_subset.specs.declared.token.Placed.{Placed as WrittenAt}
 use Rattle.sql_subset.specs.Tokens.{Token, Word, Number, Placed, tokens, is}
-use Rattle.sql_subset.specs.Lexing.{views}
+use Rattle.sql_subset.specs.Lexing.{views, token_list}
 use Rattle.sql_subset.specs.Numeral.{Numeral, fits}
 use Rattle.sql_subset.specs.Grammar.{word, comma, opening, closing, minus, equals, ends}
 
@@ -194,6 +194,10 @@ joined a b = a >>= λ ss. (b >>= λ more. Some (ss ++ more))
 abbrev pub statements : List Placed → List Placed → Option (List Statement)
 statements front [] = none_left front
 statements front (p ∷ ps) = if ends p.token then joined (statement front) (statements [] ps) else statements (front ++ p ∷ []) ps
+
+-- the statements of a block, or none where its text spells none
+abbrev pub read_text : List ℕ → Option (List Statement)
+read_text text = statements [] (token_list text)
 
 -- the statements so far, and those of the tokens that are left
 abbrev pub all_with : List Statement → List Placed → Option (List Statement)

@@ -40,7 +40,7 @@ impl Block {
 #[derive(Drop)]
 pub(crate) struct Step {
     session: u8,
-    statements: Vec<Bound>,
+    block: Block,
 }
 
 impl Model for Step {
@@ -52,17 +52,14 @@ impl Model for Step {
 
     ghost coded = { Prim.hlevel (codes, bound.the_row.coded) };
 
-    ghost view = { λ s. record { session = s.session; statements = s.statements.items } };
+    ghost view = { λ s. record { session = s.session; statements = s.block } };
 }
 
 impl Step {
-    pub(crate) fn new(session: u8, statements: Vec<Bound>) -> Step
-        ensures { result ≡ record { session = session; statements = statements.items } }
+    pub(crate) fn new(session: u8, block: Block) -> Step
+        ensures { result ≡ record { session = session; statements = block } }
     {
-        Step {
-            session,
-            statements,
-        }
+        Step { session, block }
     }
 
     pub(crate) fn session(&self) -> u8
@@ -74,6 +71,6 @@ impl Step {
     pub(crate) fn statements(&self) -> &[Bound]
         ensures { result.now ≡ self.now.statements }
     {
-        self.statements.as_slice()
+        self.block.statements()
     }
 }
