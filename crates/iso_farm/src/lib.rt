@@ -5,6 +5,8 @@ mod commands;
 mod fault;
 mod files;
 mod single;
+#[cfg(test)]
+mod tests;
 
 pub use commands::run;
 pub use fault::ProgramFault;

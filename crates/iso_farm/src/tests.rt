@@ -4,7 +4,8 @@ use std::io::{self, Read, Write};
 use std::test::Fail;
 use transcripts::Counted;
 
-const FIRST: &[u8] = b"setup { CREATE TABLE t (id int PRIMARY KEY, v int); INSERT INTO t VALUES (1, 10), (2, 20); }
+const FIRST: &[u8] =
+    b"setup { CREATE TABLE t (id int PRIMARY KEY, v int); INSERT INTO t VALUES (1, 10), (2, 20); }
 session a step a1 { INSERT INTO t VALUES (3, 30); }
 session b step b1 { SELECT v FROM t WHERE id = 3; }";
 
@@ -68,7 +69,7 @@ impl Write for BrokenPipe {
     }
 }
 
-fn disk<'a>(text: &'a [u8]) -> Disk<'a> {
+fn holding<'a>(text: &'a [u8]) -> Disk<'a> {
     Disk {
         path: "first.spec",
         text,
@@ -92,7 +93,7 @@ struct Told {
     err: String,
 }
 
-fn told(alloc: Global, line: &str, disk: &Disk<'_>) -> Result<Told, Fail> {
+fn tell(alloc: Global, line: &str, disk: &Disk<'_>) -> Result<Told, Fail> {
     let words = words_of(alloc, line)?;
     let mut out = Counted::new(Vec::new(alloc));
     let mut err = Counted::new(Vec::new(alloc));
@@ -114,7 +115,7 @@ fn one_prints_the_rank_and_its_outcome(rt: HostRuntime) -> Result<(), Fail> {
             "rank 1\nsession a\n  step a1\n  inserted 1\n  done\nsession b\n  step b1\n  rows 0\n  done\n",
         ),
     ] {
-        let told = told(rt.alloc(), line, &disk(FIRST))?;
+        let told = tell(rt.alloc(), line, &holding(FIRST))?;
         assert_eq!(rt; told.status, 0, "{line}");
         assert_eq!(rt; told.out.as_str(), want, "{line}");
         assert_eq!(rt; told.err.as_str(), "", "{line}");
@@ -124,11 +125,20 @@ fn one_prints_the_rank_and_its_outcome(rt: HostRuntime) -> Result<(), Fail> {
 
 #[test]
 fn each_refusal_has_its_line_and_status(rt: HostRuntime) -> Result<(), Fail> {
+    let past = tell(rt.alloc(), "isofarm one first.spec 2", &holding(FIRST))?;
+    assert_eq!(rt; past.status, 3);
+    assert_eq!(rt; past.out.as_str(), "");
+    assert_eq!(rt;
+        past.err.as_str(),
+        "isofarm: first.spec: rank out of range\n"
+    );
     for (text, want) in [
-        (FIRST, "rank out of range"),
         (b"\xff".as_slice(), "spec error 1 at 0"),
         (b"".as_slice(), "spec error 5 at 0"),
-        (b"session a step s {VACUUM t;}".as_slice(), "sql error 4 at 18"),
+        (
+            b"session a step s {VACUUM t;}".as_slice(),
+            "sql error 4 at 18",
+        ),
         (
             b"session a step s {CREATE TABLE x (i int PRIMARY KEY);}".as_slice(),
             "sql error 7 at 18",
@@ -146,7 +156,7 @@ fn each_refusal_has_its_line_and_status(rt: HostRuntime) -> Result<(), Fail> {
             "start error 2 at 1",
         ),
     ] {
-        let told = told(rt.alloc(), "isofarm one first.spec 2", &disk(text))?;
+        let told = tell(rt.alloc(), "isofarm one first.spec 0", &holding(text))?;
         let want = format!(in rt.alloc(); "isofarm: first.spec: {want}\n")?;
         assert_eq!(rt; told.status, 3, "{want}");
         assert_eq!(rt; told.out.as_str(), "", "{want}");
@@ -158,15 +168,18 @@ fn each_refusal_has_its_line_and_status(rt: HostRuntime) -> Result<(), Fail> {
 #[test]
 fn a_file_of_a_byte_too_many_is_refused_by_its_length(rt: HostRuntime) -> Result<(), Fail> {
     let long = vec![in rt.alloc(); b' '; 65_537]?;
-    let told = told(rt.alloc(), "isofarm one first.spec 0", &disk(&long))?;
+    let told = tell(rt.alloc(), "isofarm one first.spec 0", &holding(&long))?;
     assert_eq!(rt; told.status, 3);
-    assert_eq!(rt; told.err.as_str(), "isofarm: first.spec: spec error 9 at 65536\n");
+    assert_eq!(rt;
+        told.err.as_str(),
+        "isofarm: first.spec: spec error 9 at 65536\n"
+    );
     Ok(())
 }
 
 #[test]
 fn a_file_that_is_not_read_is_a_read_fault(rt: HostRuntime) -> Result<(), Fail> {
-    let missing = told(rt.alloc(), "isofarm one second.spec 0", &disk(FIRST))?;
+    let missing = tell(rt.alloc(), "isofarm one second.spec 0", &holding(FIRST))?;
     assert_eq!(rt; missing.status, 5);
     assert_eq!(rt; missing.err.as_str(), "isofarm: second.spec: read fault\n");
     let broken = Disk {
@@ -174,7 +187,7 @@ fn a_file_that_is_not_read_is_a_read_fault(rt: HostRuntime) -> Result<(), Fail> 
         text: FIRST,
         calls_left: Some(40),
     };
-    let broken = told(rt.alloc(), "isofarm one first.spec 0", &broken)?;
+    let broken = tell(rt.alloc(), "isofarm one first.spec 0", &broken)?;
     assert_eq!(rt; broken.status, 5);
     assert_eq!(rt; broken.out.as_str(), "");
     assert_eq!(rt; broken.err.as_str(), "isofarm: first.spec: read fault\n");
@@ -187,8 +200,11 @@ fn an_output_that_takes_nothing_is_a_write_fault(rt: HostRuntime) -> Result<(), 
     let words = words_of(alloc, "isofarm one first.spec 0")?;
     let mut out = Counted::new(BrokenPipe);
     let mut err = Counted::new(Vec::new(alloc));
-    assert_eq!(rt; run(alloc, &words, &disk(FIRST), &mut out, &mut err), 5);
-    assert_eq!(rt; err.into_inner().as_slice(), b"isofarm: write fault\n".as_slice());
+    assert_eq!(rt; run(alloc, &words, &holding(FIRST), &mut out, &mut err), 5);
+    assert_eq!(rt;
+        err.into_inner().as_slice(),
+        b"isofarm: write fault\n".as_slice()
+    );
     Ok(())
 }
 
@@ -203,10 +219,10 @@ fn words_that_ask_for_nothing_end_with_two(rt: HostRuntime) -> Result<(), Fail> 
         "isofarm one first.spec 0 1",
         "isofarm two first.spec 0",
     ] {
-        let told = told(rt.alloc(), line, &disk(FIRST))?;
+        let told = tell(rt.alloc(), line, &holding(FIRST))?;
         assert_eq!(rt; told.status, 2, "{line}");
         assert_eq!(rt; told.out.as_str(), "", "{line}");
-        assert!(rt; told.err.contains("Usage: isofarm"), "{line}");
+        assert!(rt; told.err.starts_with("error: "), "{line}");
     }
     Ok(())
 }
@@ -214,7 +230,7 @@ fn words_that_ask_for_nothing_end_with_two(rt: HostRuntime) -> Result<(), Fail> 
 #[test]
 fn help_goes_to_the_output(rt: HostRuntime) -> Result<(), Fail> {
     for line in ["isofarm --help", "isofarm help", "isofarm one --help"] {
-        let told = told(rt.alloc(), line, &disk(FIRST))?;
+        let told = tell(rt.alloc(), line, &holding(FIRST))?;
         assert_eq!(rt; told.status, 0, "{line}");
         assert_eq!(rt; told.err.as_str(), "", "{line}");
         assert!(rt; told.out.contains("Usage: isofarm"), "{line}");

@@ -8,3 +8,5 @@ pub mod Loops
 pub mod TableLemmas
 pub mod EachLemmas
 pub mod ShapeLemmas
+pub mod TodayLemmas
+pub mod FileLemmas

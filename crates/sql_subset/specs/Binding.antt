@@ -230,14 +230,17 @@ made_file text tree lines setups sessions = record {
   };
 }
 
-abbrev pub with_orders : List ℕ → SpecTree → Option (List (List ℕ)) → Bind SpecFile
-with_orders text tree None = refuse 0 Shape
-with_orders text tree (Some lines) =
-    declared main_setup [] tree.front.setups >>= λ main. (each (session main.0) tree.sessions >>= λ sessions. Ok (made_file text tree lines main.1 sessions))
+abbrev pub shaped : Option (List (List ℕ)) → Bind (List (List ℕ))
+shaped None = refuse 0 Shape
+shaped (Some lines) = Ok lines
 
--- a file of this text: the blocks are bound in the order of the file, the main setups, and then each session's setup and steps
+-- a file of this text: its blocks are bound in the order of the file, the main setups, and then each session's setup and steps
 abbrev pub bound_file : List ℕ → SpecTree → Bind SpecFile
-bound_file text tree = with_orders text tree (orders_of tree)
+bound_file text tree = do
+  lines ← shaped (orders_of tree)
+  main ← declared main_setup [] tree.front.setups
+  sessions ← each (session main.0) tree.sessions
+  Ok (made_file text tree lines main.1 sessions)
 
 -- ---- what the code answers
 

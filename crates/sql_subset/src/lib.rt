@@ -1,6 +1,7 @@
 //! The SQL subset: statements, the spec that a text binds to, and the lock plans of its statements.
 #![tactic(auto)]
 
+mod binding;
 mod block;
 mod blocks;
 mod bound;
@@ -17,6 +18,7 @@ mod tables;
 mod token;
 mod walking;
 
+pub use binding::bind;
 pub use block::Block;
 pub use bound::{
     Aggregate, Aggregates, Assignment, Assignments, Bound, Columns, Comparison, Condition,
