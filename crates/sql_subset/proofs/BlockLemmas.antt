@@ -141,11 +141,15 @@ cut_if p ps before i n true e f h =
     let same : i ≡ n = cc in
     (0, (omega (arith, same), end_if (ends_at p) (joined (statement before) (statements [] (views ps))) (statements (before ++ view p ∷ []) (views ps)) e ∙ ap (λ front. joined (statement front) (statements [] (views ps))) (sym (append-nil before))))
 cut_if p ps before i n false e f h =
-    let a = h (before ++ view p ∷ []) f in
-    (suc a.0, (omega (arith, a.1.0),
-      go_on (ends_at p) (joined (statement before) (statements [] (views ps))) (statements (before ++ view p ∷ []) (views ps)) e
-      ∙ a.1.1
-      ∙ ap (λ front. joined (statement front) (statements [] (views (drop 1 (drop a.0 ps))))) (append_assoc before (view p ∷ []) (views (take a.0 ps)))))
+    let a = h (before ++ view p ∷ []) f in (
+      suc a.0,
+      (
+        omega (arith, a.1.0),
+        go_on (ends_at p) (joined (statement before) (statements [] (views ps))) (statements (before ++ view p ∷ []) (views ps)) e
+            ∙ a.1.1
+            ∙ ap (λ front. joined (statement front) (statements [] (views (drop 1 (drop a.0 ps))))) (append_assoc before (view p ∷ []) (views (take a.0 ps))),
+      ),
+    )
   where
     go_on : (b : Bool) (x y : Option (List Statement)) → b ≡ false → cond b x y ≡ y
     go_on true x y e = cc

@@ -43,7 +43,7 @@ columns-sound ts x r e =
     let cs = with_key-some k.0.0 (behind_commas column k.0.1) x r k.1.1 in
     key-sound ts k.0.0 k.0.1 k.1.0
     ∙ ap (λ us. Word k.0.0 ∷ word (codes "int") ∷ word (codes "primary") ∷ word (codes "key") ∷ us)
-      (behind-sound column spelled.column (λ c. true) column-sound column-complete k.0.1 cs.0 r cs.1.0).0
+    (behind-sound column spelled.column (λ c. true) column-sound column-complete k.0.1 cs.0 r cs.1.0).0
     ∙ (λ i. Word ((cs.1.1 i).0) ∷ word (codes "int") ∷ word (codes "primary") ∷ word (codes "key") ∷ (spelled.behind_commas spelled.column ((cs.1.1 i).1) ++ r))
 
 ended-sound : {X : Type 0} (x : X) (ts : List Token) (y : X) → ended x ts ≡ Some y → (ts ≡ []) × (x ≡ y)
@@ -61,14 +61,15 @@ create-sound ts f e =
     let cs = bind (all_columns o.0) _ f o.1.1 in
     let c = bind (skip closing cs.0.1) _ f cs.1.1 in
     let end = ended-sound (made_create t.0.0 cs.0.0.0 cs.0.0.1) c.0 f c.1.1 in
-    subst (IsForm (word (codes "create")) ts) end.1
-    (ap (λ us. word (codes "create") ∷ us) (name_after-sound (word (codes "table")) ts t.0.0 t.0.1 t.1.0)
-      ∙ ap (λ us. word (codes "create") ∷ word (codes "table") ∷ Word t.0.0 ∷ us)
-        (skip-sound opening t.0.1 o.0 o.1.0
-        ∙ ap (λ us. opening ∷ us)
+    subst (IsForm (word (codes "create")) ts) end.1 (
+      ap (λ us. word (codes "create") ∷ us) (name_after-sound (word (codes "table")) ts t.0.0 t.0.1 t.1.0)
+          ∙ ap (λ us. word (codes "create") ∷ word (codes "table") ∷ Word t.0.0 ∷ us)
+          (skip-sound opening t.0.1 o.0 o.1.0
+          ∙ ap (λ us. opening ∷ us)
           (columns-sound o.0 cs.0.0 cs.0.1 cs.1.0
           ∙ ap (λ us. Word cs.0.0.0 ∷ word (codes "int") ∷ word (codes "primary") ∷ word (codes "key") ∷ (spelled.behind_commas spelled.column cs.0.0.1 ++ us)) (skip-sound closing cs.0.1 c.0 c.1.0 ∙ ap (λ us. closing ∷ us) end.0))),
-    refl)
+      refl,
+    )
 
 few_if : (rows : List (List Numeral)) (b : Bool) (xs : List (List Numeral)) → nat_le (length rows) 100 ≡ b → cond b (Some rows) None ≡ Some xs → (nat_le (length rows) 100 ≡ true) × (rows ≡ xs)
 few_if rows true xs e f = (e, cc)
@@ -83,12 +84,13 @@ insert-sound ts f e =
     let end = ended-sound (made_insert t.0.0 most.0) rows.0.1 f most.1.1 in
     let count = few_if rows.0.0 (nat_le (length rows.0.0) 100) most.0 refl most.1.0 in
     let all = with-sound row spelled.row row_keeps row-sound row-complete v.0 rows.0.0 rows.0.1 rows.1.0 in
-    subst (IsForm (word (codes "insert")) ts) (ap (made_insert t.0.0) count.1 ∙ end.1)
-    (ap (λ us. word (codes "insert") ∷ us) (name_after-sound (word (codes "into")) ts t.0.0 t.0.1 t.1.0)
-      ∙ ap (λ us. word (codes "insert") ∷ word (codes "into") ∷ Word t.0.0 ∷ us)
-        (skip-sound (word (codes "values")) t.0.1 v.0 v.1.0
-        ∙ ap (λ us. word (codes "values") ∷ us) (all.0 ∙ ap (λ us. spelled.with_commas spelled.row rows.0.0 ++ us) end.0 ∙ append-nil (spelled.with_commas spelled.row rows.0.0))),
-    and_true (has_some rows.0.0 && list_all row_keeps rows.0.0) (nat_le (length rows.0.0) 100) (and_true (has_some rows.0.0) (list_all row_keeps rows.0.0) all.1 all.2) count.0)
+    subst (IsForm (word (codes "insert")) ts) (ap (made_insert t.0.0) count.1 ∙ end.1) (
+      ap (λ us. word (codes "insert") ∷ us) (name_after-sound (word (codes "into")) ts t.0.0 t.0.1 t.1.0)
+          ∙ ap (λ us. word (codes "insert") ∷ word (codes "into") ∷ Word t.0.0 ∷ us)
+          (skip-sound (word (codes "values")) t.0.1 v.0 v.1.0
+          ∙ ap (λ us. word (codes "values") ∷ us) (all.0 ∙ ap (λ us. spelled.with_commas spelled.row rows.0.0 ++ us) end.0 ∙ append-nil (spelled.with_commas spelled.row rows.0.0))),
+      and_true (has_some rows.0.0 && list_all row_keeps rows.0.0) (nat_le (length rows.0.0) 100) (and_true (has_some rows.0.0) (list_all row_keeps rows.0.0) all.1 all.2) count.0,
+    )
 
 select-sound : (ts : List Token) (f : Form) → select ts ≡ Some f → IsForm (word (codes "select")) ts f
 select-sound ts f e =
@@ -99,15 +101,16 @@ select-sound ts f e =
     let n = bind (literal q.0) _ f q.1.1 in
     let end = ended-sound (made_select s.0.0 t.0.0 c.0.0 n.0.0) n.0.1 f n.1.1 in
     let number = literal-sound q.0 n.0.0 n.0.1 n.1.0 in
-    subst (IsForm (word (codes "select")) ts) end.1
-    (ap (λ us. word (codes "select") ∷ us) (name-sound ts s.0.0 s.0.1 s.1.0)
-      ∙ ap (λ us. word (codes "select") ∷ Word s.0.0 ∷ us)
-        (name_after-sound (word (codes "from")) s.0.1 t.0.0 t.0.1 t.1.0
-        ∙ ap (λ us. word (codes "from") ∷ Word t.0.0 ∷ us)
+    subst (IsForm (word (codes "select")) ts) end.1 (
+      ap (λ us. word (codes "select") ∷ us) (name-sound ts s.0.0 s.0.1 s.1.0)
+          ∙ ap (λ us. word (codes "select") ∷ Word s.0.0 ∷ us)
+          (name_after-sound (word (codes "from")) s.0.1 t.0.0 t.0.1 t.1.0
+          ∙ ap (λ us. word (codes "from") ∷ Word t.0.0 ∷ us)
           (name_after-sound (word (codes "where")) t.0.1 c.0.0 c.0.1 c.1.0
           ∙ ap (λ us. word (codes "where") ∷ Word c.0.0 ∷ us)
-            (skip-sound equals c.0.1 q.0 q.1.0 ∙ ap (λ us. equals ∷ us) (number.0 ∙ ap (λ us. spelled.literal n.0.0 ++ us) end.0 ∙ append-nil (spelled.literal n.0.0))))),
-    number.1)
+          (skip-sound equals c.0.1 q.0 q.1.0 ∙ ap (λ us. equals ∷ us) (number.0 ∙ ap (λ us. spelled.literal n.0.0 ++ us) end.0 ∙ append-nil (spelled.literal n.0.0))))),
+      number.1,
+    )
 
 or_else-sound : (w : Token) (ts : List Token) (o : Option (List Token)) (part : List Token → Option Form) (other : Option Form) (f : Form) → skip w ts ≡ o → or_else o part other ≡ Some f
     → ((rest : List Token) → part rest ≡ Some f → IsForm w rest f) → (other ≡ Some f → (ts ≡ spelling f) × (keeps f ≡ true)) → (ts ≡ spelling f) × (keeps f ≡ true)
@@ -118,7 +121,7 @@ pub form-sound : (ts : List Token) (f : Form) → form ts ≡ Some f → (ts ≡
 form-sound ts f e =
     or_else-sound (word (codes "create")) ts (skip (word (codes "create")) ts) create _ f refl e (λ rest h. create-sound rest f h)
     (λ e. or_else-sound (word (codes "insert")) ts (skip (word (codes "insert")) ts) insert _ f refl e (λ rest h. insert-sound rest f h)
-      (λ e. or_else-sound (word (codes "select")) ts (skip (word (codes "select")) ts) select None f refl e (λ rest h. select-sound rest f h) (λ e. absurd (cc e))))
+    (λ e. or_else-sound (word (codes "select")) ts (skip (word (codes "select")) ts) select None f refl e (λ rest h. select-sound rest f h) (λ e. absurd (cc e))))
 
 -- ---- what is spelled is read
 

@@ -128,12 +128,12 @@ module _ {X : Type 0} (item : List Token → Read X) (sp : X → List Token) (ke
   more-sound zero ts xs r e = at_comma ts (skip comma ts) (λ rest. None) xs r refl e (λ rest f. absurd (cc f))
   more-sound (suc n) ts xs r e = at_comma ts (skip comma ts) (λ rest. item rest >>= λ x. with_front (x.0 ∷ []) (more item n x.1)) xs r refl e
       (λ rest f.
-        let a = bind (item rest) (λ x. with_front (x.0 ∷ []) (more item n x.1)) (xs, r) f in
-        let x = a.0.0 in
-        let b = front_some (x ∷ []) (more item n a.0.1) xs r a.1.1 in
-        let here = sound rest x a.0.1 a.1.0 in
-        let after = more-sound n a.0.1 b.0 r b.1.0 in
-        subst (λ ys. Spelled (comma ∷ rest) ys r) b.1.1 (item_then x b.0 rest r (here.0 ∙ ap (λ us. sp x ++ us) after.0) here.1 after.1))
+      let a = bind (item rest) (λ x. with_front (x.0 ∷ []) (more item n x.1)) (xs, r) f in
+      let x = a.0.0 in
+      let b = front_some (x ∷ []) (more item n a.0.1) xs r a.1.1 in
+      let here = sound rest x a.0.1 a.1.0 in
+      let after = more-sound n a.0.1 b.0 r b.1.0 in
+      subst (λ ys. Spelled (comma ∷ rest) ys r) b.1.1 (item_then x b.0 rest r (here.0 ∙ ap (λ us. sp x ++ us) after.0) here.1 after.1))
 
   pub more-complete : (n : ℕ) (xs : List X) (r : List Token) → length xs ≤ n → list_all keeps xs ≡ true → skip comma r ≡ None → more item n (spelled.behind_commas sp xs ++ r) ≡ Some (xs, r)
   more-complete zero [] r le k e = rw e refl
@@ -168,7 +168,7 @@ module _ {X : Type 0} (item : List Token → Read X) (sp : X → List Token) (ke
   enough (suc n) (suc m) ts (Some rest) e h k =
       more-next n ts rest e
       ∙ next_same rest (item rest) (more item n) (more item m) refl
-        (λ x r f. enough n m r (skip comma r) refl (omega (arith, skip_shorter ts rest e, shorter rest x r f)) (omega (arith, skip_shorter ts rest e, shorter rest x r f)))
+      (λ x r f. enough n m r (skip comma r) refl (omega (arith, skip_shorter ts rest e, shorter rest x r f)) (omega (arith, skip_shorter ts rest e, shorter rest x r f)))
       ∙ sym (more-next m ts rest e)
 
   -- after a comma the items are those of the rest
@@ -177,7 +177,7 @@ module _ {X : Type 0} (item : List Token → Read X) (sp : X → List Token) (ke
   behind-next (t ∷ ts) rest e =
       more-next (length ts) (t ∷ ts) rest e
       ∙ next_same rest (item rest) (more item (length ts)) (behind_commas item) refl
-        (λ x r f. enough (length ts) (length r) r (skip comma r) refl (omega (arith, skip_shorter (t ∷ ts) rest e, shorter rest x r f)) (omega arith))
+      (λ x r f. enough (length ts) (length r) r (skip comma r) refl (omega (arith, skip_shorter (t ∷ ts) rest e, shorter rest x r f)) (omega arith))
 
   front_twice : (xs ys : List X) (o : Read (List X)) → with_front xs (with_front ys o) ≡ with_front (xs ++ ys) o
   front_twice xs ys None = refl
@@ -267,10 +267,11 @@ row-sound ts ns r e =
     let both = some_pair (b.0.0, c.0) (ns, r) c.1.1 in
     let inside = numbers-sound a.0 b.0.0 b.0.1 b.1.0 in
     let P : List Numeral → Type 0 = λ ms. (ts ≡ spelled.row ms ++ r) × (row_keeps ms ≡ true) in
-    subst P both.0
-    (skip-sound opening ts a.0 a.1.0
-      ∙ ap (λ us. opening ∷ us) (inside.0 ∙ ap (λ us. spelled.with_commas spelled.literal b.0.0 ++ us) (skip-sound closing b.0.1 c.0 c.1.0 ∙ ap (λ us. closing ∷ us) both.1) ∙ sym (append_assoc (spelled.with_commas spelled.literal b.0.0) (closing ∷ []) r)),
-    and_true (has_some b.0.0) (list_all fits b.0.0) inside.1 inside.2)
+    subst P both.0 (
+      skip-sound opening ts a.0 a.1.0
+          ∙ ap (λ us. opening ∷ us) (inside.0 ∙ ap (λ us. spelled.with_commas spelled.literal b.0.0 ++ us) (skip-sound closing b.0.1 c.0 c.1.0 ∙ ap (λ us. closing ∷ us) both.1) ∙ sym (append_assoc (spelled.with_commas spelled.literal b.0.0) (closing ∷ []) r)),
+      and_true (has_some b.0.0) (list_all fits b.0.0) inside.1 inside.2,
+    )
 
 pub row-complete : (ns : List Numeral) (r : List Token) → row_keeps ns ≡ true → row (spelled.row ns ++ r) ≡ Some (ns, r)
 row-complete ns r k =

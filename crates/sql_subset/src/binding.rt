@@ -77,11 +77,7 @@ fn words(sessions: &[SessionText]) -> Result<Orders, BindStop>
 }
 
 /// The lines of a file, which has some.
-fn some_lines(
-    alloc: Global,
-    texts: &[LineText],
-    names: &[Text],
-) -> Result<Vec<Line>, BindStop>
+fn some_lines(alloc: Global, texts: &[LineText], names: &[Text]) -> Result<Vec<Line>, BindStop>
     requires some { 0 < length texts.now }
     requires few { length names.now ≤ 255 }
     ensures bound { Binds (λ lines. map (λ line. line.items) lines.items) result (shaped (all_some (line_of names.now) (map line_tree texts.now))) }

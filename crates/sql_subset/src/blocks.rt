@@ -117,11 +117,7 @@ fn step(alloc: Global, tables: &Tables, text: &StepText) -> Result<Block, BindSt
     Ok(Block::from_statements(bound))
 }
 
-fn steps(
-    alloc: Global,
-    tables: &Tables,
-    texts: &[StepText],
-) -> Result<Vec<Block>, BindStop>
+fn steps(alloc: Global, tables: &Tables, texts: &[StepText]) -> Result<Vec<Block>, BindStop>
     ensures { Binds (λ all. all.items) result (each (step tables.now) (map step_tree texts.now)) }
 {
     let mut all = Vec::new(alloc);
@@ -138,11 +134,7 @@ pub(crate) struct BoundSession {
     pub(crate) steps: Vec<Block>,
 }
 
-fn session(
-    alloc: Global,
-    tables: &Tables,
-    text: &SessionText,
-) -> Result<BoundSession, BindStop>
+fn session(alloc: Global, tables: &Tables, text: &SessionText) -> Result<BoundSession, BindStop>
     ensures { Binds bound_session result (session tables.now (session_tree text.now)) }
 {
     let setup = session_setup(alloc, tables, &text.head.setup)?;

@@ -120,12 +120,7 @@ pub(crate) fn insert(
 }
 
 /// A column of the row with this key.
-fn row_with_key(
-    alloc: Global,
-    table: u16,
-    key: &Literal,
-    shown: u8,
-) -> Result<Bound, AllocError>
+fn row_with_key(alloc: Global, table: u16, key: &Literal, shown: u8) -> Result<Bound, AllocError>
     ensures { IfOk result (λ bound. bound ≡ row_with_key table key.now shown) }
 {
     let mut columns = Vec::new(alloc);

@@ -144,7 +144,10 @@ fn is_pair(first: u8, second: u8) -> bool
 fn is_sign(byte: u8) -> bool
     ensures { result ≡ is_sign byte }
 {
-    matches!(byte, b'(' | b')' | b',' | b';' | b'*' | b'+' | b'-' | b'=' | b'<' | b'>')
+    matches!(
+        byte,
+        b'(' | b')' | b',' | b';' | b'*' | b'+' | b'-' | b'=' | b'<' | b'>'
+    )
 }
 
 /// The front of the text up to a byte that is a whole character.

@@ -33,10 +33,7 @@ pub fn past_sign<'a, 't>(tokens: &'t [Placed<'a>], sign: &str) -> Option<&'t [Pl
     }
 }
 
-pub fn skip_word<'a, 't>(
-    tokens: &'t [Placed<'a>],
-    word: &str,
-) -> Result<&'t [Placed<'a>], Stop>
+pub fn skip_word<'a, 't>(tokens: &'t [Placed<'a>], word: &str) -> Result<&'t [Placed<'a>], Stop>
     ensures { Gives (λ rest. plain rest.now) result (skip (word_of word.now) (plain tokens.now)) }
 {
     match past_word(tokens, word) {
@@ -45,10 +42,7 @@ pub fn skip_word<'a, 't>(
     }
 }
 
-pub fn skip_sign<'a, 't>(
-    tokens: &'t [Placed<'a>],
-    sign: &str,
-) -> Result<&'t [Placed<'a>], Stop>
+pub fn skip_sign<'a, 't>(tokens: &'t [Placed<'a>], sign: &str) -> Result<&'t [Placed<'a>], Stop>
     ensures { Gives (λ rest. plain rest.now) result (skip (Sign sign.now) (plain tokens.now)) }
 {
     match past_sign(tokens, sign) {
@@ -62,7 +56,8 @@ fn is_reserved(word: &str) -> bool
 {
     matches!(
         word,
-        "and" | "asc"
+        "and"
+            | "asc"
             | "by"
             | "desc"
             | "from"
@@ -146,10 +141,7 @@ pub fn literal<'a, 't>(tokens: &'t [Placed<'a>]) -> Result<(Literal, &'t [Placed
     }
 }
 
-fn column<'a, 't>(
-    alloc: Global,
-    tokens: &'t [Placed<'a>],
-) -> Result<(Text, &'t [Placed<'a>]), Stop>
+fn column<'a, 't>(alloc: Global, tokens: &'t [Placed<'a>]) -> Result<(Text, &'t [Placed<'a>]), Stop>
     ensures { Gives (λ x. (x.0, plain x.1.now)) result (column (plain tokens.now)) }
 {
     let (name, rest) = name(alloc, tokens)?;

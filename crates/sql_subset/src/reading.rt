@@ -96,21 +96,14 @@ fn form(alloc: Global, tokens: &[Placed]) -> Result<Form, Stop>
 }
 
 /// Adds the statement that these tokens are, if there are any.
-fn push_statement(
-    alloc: Global,
-    tokens: &[Placed],
-    all: &mut Vec<Statement>,
-) -> Result<(), Stop>
+fn push_statement(alloc: Global, tokens: &[Placed], all: &mut Vec<Statement>) -> Result<(), Stop>
     ensures { Gives (λ _. all.new.items) result (joined (Some all.old.items) (statement (views tokens.now))) }
 {
     let [first, ..] = tokens else {
         return Ok(());
     };
     let form = form(alloc, tokens)?;
-    all.push(Statement {
-        at: first.at,
-        form,
-    })?;
+    all.push(Statement { at: first.at, form })?;
     Ok(())
 }
 
@@ -125,9 +118,7 @@ fn first_end(tokens: &[Placed]) -> Option<usize>
 }
 
 /// The tokens up to the end of the first statement, and those behind that end.
-fn cut<'a, 't>(
-    tokens: &'t [Placed<'a>],
-) -> Result<(&'t [Placed<'a>], &'t [Placed<'a>]), Stop>
+fn cut<'a, 't>(tokens: &'t [Placed<'a>]) -> Result<(&'t [Placed<'a>], &'t [Placed<'a>]), Stop>
     requires { 0 < length tokens.now }
     ensures cut { MatchResult result
         (λ x. statements [] (views tokens.now) ≡ joined (statement (views x.0.now)) (statements [] (views x.1.now)))

@@ -13,14 +13,14 @@ loop-session-preserved c =
     let number : c.loop-session.number ≡ length so_far = omega (arith, c.loop-session.invariant.number, length-map c.loop-session.yielded bound_session) in
     record {
       steps =
-        c.in_ok-push_steps.ensures
-        ∙ (λ i. c.loop-session.invariant.steps i ++ numbered (number i) s.steps)
-        ∙ sym (all_steps-push 0 so_far s ∙ (let zero : length so_far ≡ 0 + length so_far = omega arith in ap (λ k. all_steps 0 so_far ++ numbered k s.steps) (sym zero)))
-        ∙ ap (all_steps 0) (sym pushed);
+          c.in_ok-push_steps.ensures
+          ∙ (λ i. c.loop-session.invariant.steps i ++ numbered (number i) s.steps)
+          ∙ sym (all_steps-push 0 so_far s ∙ (let zero : length so_far ≡ 0 + length so_far = omega arith in ap (λ k. all_steps 0 so_far ++ numbered k s.steps) (sym zero)))
+          ∙ ap (all_steps 0) (sym pushed);
       setups =
-        c.in_ok-push.ensures.items
-        ∙ ap (λ us. us ++ s.setup ∷ []) c.loop-session.invariant.setups
-        ∙ sym (map_push (λ (t : BoundSession). t.setup) so_far s)
-        ∙ ap (map (λ (t : BoundSession). t.setup)) (sym pushed);
+          c.in_ok-push.ensures.items
+          ∙ ap (λ us. us ++ s.setup ∷ []) c.loop-session.invariant.setups
+          ∙ sym (map_push (λ (t : BoundSession). t.setup) so_far s)
+          ∙ ap (map (λ (t : BoundSession). t.setup)) (sym pushed);
       number = omega (arith, length-append c.loop-session.yielded (c.in-Some.session ∷ []), c.loop-session.invariant.number);
     }

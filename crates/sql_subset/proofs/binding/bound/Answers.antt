@@ -26,15 +26,15 @@ from_parts-requires c =
     let count : c.len.result ≡ length (map session_tree text.sessions.items) = omega (arith, c.len.ensures, text.sessions.ok.0, length-map text.sessions.items session_tree) in
     kept _ (string_bytes text.text) (spec_tree text) (lines_of c.in_ok-orders.orders) (c.setups.new.tables, c.in_ok-setups.setups.items) (map bound_session c.in_ok-bound.bound.items)
     (λ i. record {
-        text = bytes i;
-        session_names = names i;
-        step_names = steps i;
-        run = record {
-          sessions = count i;
-          steps = c.in_ok-steps.ensures.steps i;
-          setups = c.in_ok-setups.setups.items;
-          session_setups = c.in_ok-steps.ensures.setups i;
-          lines = lines_of c.in_ok-orders.orders;
-        };
-      })
+      text = bytes i;
+      session_names = names i;
+      step_names = steps i;
+      run = record {
+        sessions = count i;
+        steps = c.in_ok-steps.ensures.steps i;
+        setups = c.in_ok-setups.setups.items;
+        session_setups = c.in_ok-steps.ensures.setups i;
+        lines = lines_of c.in_ok-orders.orders;
+      };
+    })
     c.in_ok-orders.ensures.bound ((λ i. declared main_setup (sym c.new-tables.ensures i) (map block_tree (sym c.deref-3.ensures.value i))) ∙ c.in_ok-setups.ensures) (sessions_are (goal.at.from_parts-requires c).In_ok-bound) c.in_ok-orders.ensures.fits
