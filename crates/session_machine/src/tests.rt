@@ -39,8 +39,10 @@ const INSERT_AND_READ: &str = "session a step a1 { INSERT INTO t VALUES (3, 30);
 fn a_reader_sees_what_was_inserted_before_it(rt: HostRuntime) -> Result<(), Fail> {
     let alloc = rt.alloc();
     let spec = spec_of(&rt, alloc, INSERT_AND_READ);
-    let first = "session a\n  step a1\n  inserted 1\n  done\nsession b\n  step b1\n  row 30\n  rows 1\n  done\n";
-    let second = "session a\n  step a1\n  inserted 1\n  done\nsession b\n  step b1\n  rows 0\n  done\n";
+    let first =
+        "session a\n  step a1\n  inserted 1\n  done\nsession b\n  step b1\n  row 30\n  rows 1\n  done\n";
+    let second =
+        "session a\n  step a1\n  inserted 1\n  done\nsession b\n  step b1\n  rows 0\n  done\n";
     assert_eq!(rt; spec.ranks(), 2);
     assert_eq!(rt; run_rank(&rt, alloc, &spec, 0).as_str(), first);
     assert_eq!(rt; run_rank(&rt, alloc, &spec, 1).as_str(), second);
@@ -56,7 +58,8 @@ fn a_step_that_fails_leaves_none_of_its_rows(rt: HostRuntime) -> Result<(), Fail
         alloc,
         "session a step a1 { INSERT INTO t VALUES (3, 0), (3, 1); } step a2 { SELECT v FROM t WHERE id = 3; }",
     );
-    let text = "session a\n  step a1\n  error: duplicate key\n  done\n  step a2\n  rows 0\n  done\n";
+    let text =
+        "session a\n  step a1\n  error: duplicate key\n  done\n  step a2\n  rows 0\n  done\n";
     assert_eq!(rt; run_rank(&rt, alloc, &spec, 0).as_str(), text);
     Ok(())
 }
@@ -71,7 +74,8 @@ fn a_permutation_line_sends_its_steps_in_order(rt: HostRuntime) -> Result<(), Fa
         session b step b1 { INSERT INTO t VALUES (4, 0); }
         permutation a1(*) b1(a1 notices 1) a1",
     );
-    let text = "session a\n  step a1\n  row 10\n  rows 1\n  done\n  step a1\n  row 10\n  rows 1\n  done\nsession b\n  step b1\n  inserted 1\n  done\n";
+    let text =
+        "session a\n  step a1\n  row 10\n  rows 1\n  done\n  step a1\n  row 10\n  rows 1\n  done\nsession b\n  step b1\n  inserted 1\n  done\n";
     assert_eq!(rt; spec.ranks(), 1);
     assert_eq!(rt; run_rank(&rt, alloc, &spec, 0).as_str(), text);
     Ok(())
@@ -80,7 +84,11 @@ fn a_permutation_line_sends_its_steps_in_order(rt: HostRuntime) -> Result<(), Fa
 #[test]
 fn a_setup_that_fails_refuses_the_start(rt: HostRuntime) -> Result<(), Fail> {
     let alloc = rt.alloc();
-    let twice = spec_of(&rt, alloc, "setup { INSERT INTO t VALUES (1, 0); } session a step s {}");
+    let twice = spec_of(
+        &rt,
+        alloc,
+        "setup { INSERT INTO t VALUES (1, 0); } session a step s {}",
+    );
     match World::start(alloc, &twice) {
         Ok(_) => assert!(rt; false, "the second block fails"),
         Err(error) => assert_eq!(rt; error, StartError::SetupFailed { block: 1 }),
