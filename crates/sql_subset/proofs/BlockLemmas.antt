@@ -1,7 +1,7 @@
 -- What is read as a block is spelled so, and what is spelled so is read: a text spells one list of statements at most.
-use Rattle.std.proofs.Common.{◌≡◌, refl, sym, ap, subst, ◌∙◌, ℕ, Bool, true, false, cond, List, [], ◌∷◌, ◌++◌, map, Option, Some, None, append_assoc, zero, suc, ◌+◌, ◌-◌, ◌<◌, length, take, drop, arith}
+use Rattle.std.proofs.Common.{◌≡◌, refl, sym, ap, subst, ◌∙◌, ℕ, Bool, true, false, cond, List, [], ◌∷◌, ◌++◌, Option, Some, None, append_assoc, zero, suc, ◌+◌, ◌-◌, ◌<◌, length, take, drop, arith}
 use Rattle.std.proofs.lemmas.List.{append-nil, length-map}
-use Rattle.std.specs.Prelude.{not, ◌&&◌, codes}
+use Rattle.std.specs.Prelude.{not}
 use Rattle.std.specs.List.{list_all, position_from}
 use Rattle.sql_subset.specs.declared.error.SqlErrorKind.{SqlErrorKind}
 use Rattle.sql_subset.specs.declared.error.SqlErrorKind.TheVariants.{Unsupported, NoMemory}
@@ -10,7 +10,7 @@ use Rattle.sql_subset.specs.declared.statement.Form.TheVariants.{Create, Insert,
 use Rattle.sql_subset.specs.declared.statement.Statement.{Statement}
 use Rattle.sql_subset.specs.declared.token.Placed.{Placed as WrittenAt}
 use Rattle.sql_subset.specs.Lexing.{view, view_token, views, Piece, Blank, Next, Last, piece_of, with_piece, tokens_past, token_list}
-use Rattle.sql_subset.specs.Tokens.{Token, Number, Placed, tokens}
+use Rattle.sql_subset.specs.Tokens.{Token, Placed, tokens}
 use Rattle.sql_subset.specs.Numeral.{Numeral}
 use Rattle.sql_subset.specs.Grammar.{ends, closing, keeps, spelling, BeginsAt, IsStatement, IsSpelled, IsReason, SpellsAll, none, alone, next}
 use Rattle.sql_subset.specs.Grammar as spelled

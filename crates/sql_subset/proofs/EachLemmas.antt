@@ -1,6 +1,6 @@
 -- One part after another is bound.
 use Rattle.std.proofs.Common.{◌≡◌, refl, sym, ap, ◌∙◌, ℕ, suc, ◌+◌, ◌<◌, ◌≤◌, List, [], ◌∷◌, ◌++◌, length, map, get_or, drop, Ok, Err, drop-cons, add-one, append_assoc}
-use Rattle.std.proofs.lemmas.List.{append-nil, drop_all, map_push}
+use Rattle.std.proofs.lemmas.List.{append-nil, drop_all}
 use Rattle.sql_subset.specs.declared.error.BindError.{BindError}
 use Rattle.sql_subset.specs.Tables.{Table}
 use Rattle.sql_subset.specs.Binding.{Bind, ◌>>=◌, with_front, each, then_more, declared}

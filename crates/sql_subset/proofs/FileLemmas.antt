@@ -1,5 +1,5 @@
 -- A file that is bound is ready to run.
-use Rattle.std.proofs.Common.{◌≡◌, refl, sym, ap, subst, ◌∙◌, ℕ, zero, suc, ◌+◌, ◌<◌, ◌≤◌, ◌≢◌, Bool, true, false, cond, List, [], ◌∷◌, ◌++◌, length, map, All, get_or, Option, Some, None, Ok, Err, arith, length-append, append_assoc, drop, drop-cons, add-one}
+use Rattle.std.proofs.Common.{◌≡◌, refl, sym, ap, subst, ◌∙◌, ℕ, suc, ◌+◌, ◌<◌, ◌≤◌, ◌≢◌, Bool, true, false, cond, List, [], ◌∷◌, ◌++◌, length, map, All, get_or, Option, Some, None, Ok, Err, arith, length-append, append_assoc, drop, drop-cons, add-one}
 use Rattle.std.specs.Prelude.{◌==◌, ◌&&◌, ◌||◌, nat_le, nat_lt, is_ok, bytes_eq}
 use Rattle.std.specs.List.{position_from}
 use Rattle.std.proofs.lemmas.List.{length-map, append-nil}
@@ -11,18 +11,18 @@ use Rattle.perm_ranks.specs.Shape.{shape_of, has_idle}
 use Rattle.perm_ranks.specs.Words.{total}
 use Rattle.spec_reader.specs.declared.tree.Session.{Session}
 use Rattle.spec_reader.specs.Views.{session_tree, step_tree}
-use Rattle.spec_reader.specs.Tree.{BlockTree, StepTree, SessionTree, LineTree, SpecTree}
+use Rattle.spec_reader.specs.Tree.{StepTree, SessionTree, LineTree, SpecTree}
 use Rattle.sql_subset.specs.declared.bound.Bound.{Bound}
 use Rattle.sql_subset.specs.Tables.{Table}
-use Rattle.sql_subset.specs.Spec.{Step, Spec, SpecFile, Queues, counts_of, steps_of, queues_from, queues_of, RunsToday, AllRunToday, step_limit, IsLine, IsStep, IsReady}
-use Rattle.sql_subset.specs.Binding.{Bind, ◌>>=◌, each, BoundSession, session, declared, main_setup, counts_in, step_names, session_names, then_some, all_some, step_number, line_of, lines_by, orders_of, numbered, all_steps, made_file, shaped}
+use Rattle.sql_subset.specs.Spec.{Step, Spec, SpecFile, counts_of, steps_of, queues_from, queues_of, RunsToday, AllRunToday, step_limit, IsLine, IsStep, IsReady}
+use Rattle.sql_subset.specs.Binding.{each, BoundSession, session, declared, main_setup, counts_in, step_names, then_some, all_some, step_number, line_of, lines_by, orders_of, numbered, all_steps, made_file, shaped}
 use Rattle.sql_subset.specs.declared.orders.Orders.{Orders}
 use Rattle.sql_subset.specs.declared.orders.Orders.TheVariants.{Words, Lines}
 use Rattle.sql_subset.specs.declared.spec.Parts.{Parts}
 use Rattle.sql_subset.specs.Orders.{IsOrderOf}
 use Rattle.sql_subset.specs.Views.{file_of, IsKept}
 use Rattle.sql_subset.specs.Bindings.{FitsCounts}
-use Rattle.sql_subset.proofs.TodayLemmas.{IsSessionOf, each-length, each-All, each-told, session-today, setups-today}
+use Rattle.sql_subset.proofs.TodayLemmas.{each-length, each-All, each-told, session-today, setups-today}
 
 -- ---- how many steps there are
 

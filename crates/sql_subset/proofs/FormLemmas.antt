@@ -1,5 +1,5 @@
 -- What is read as a statement is spelled so, and what is spelled so is read.
-use Rattle.std.proofs.Common.{◌≡◌, refl, sym, ap, subst, ◌∙◌, ℕ, ◌≤◌, Bool, true, false, cond, List, [], ◌∷◌, ◌++◌, length, Option, Some, None, arith, append_assoc}
+use Rattle.std.proofs.Common.{◌≡◌, refl, sym, ap, subst, ◌∙◌, ℕ, Bool, true, false, cond, List, [], ◌∷◌, ◌++◌, length, Option, Some, None}
 use Rattle.std.proofs.lemmas.List.{append-nil}
 use Rattle.std.specs.Prelude.{codes, ◌&&◌, nat_le}
 use Rattle.std.specs.List.{list_all}
@@ -9,7 +9,7 @@ use Rattle.sql_subset.specs.declared.statement.SelectRow.{SelectRow}
 use Rattle.sql_subset.specs.declared.statement.Form.{Form}
 use Rattle.sql_subset.specs.declared.statement.Form.TheVariants.{Create, Insert, Select}
 use Rattle.sql_subset.specs.Tokens.{Token, Word}
-use Rattle.sql_subset.specs.Numeral.{Numeral, fits}
+use Rattle.sql_subset.specs.Numeral.{Numeral}
 use Rattle.sql_subset.specs.Grammar.{comma, opening, closing, equals, word, has_some, row_keeps, keeps, spelling}
 use Rattle.sql_subset.specs.Grammar as spelled
 use Rattle.sql_subset.specs.Reading.{◌>>=◌, skip, name, literal, column, behind_commas, with_commas, row, ended, key_column, with_key, Read, all_columns, name_after, few, made_create, made_insert, made_select, create, insert, select, or_else, form}

@@ -1,6 +1,5 @@
 -- The loops over items with commas before them: columns, numbers, rows.
-use Rattle.std.proofs.Common.{◌≡◌, refl, ℕ, ◌≤◌, true, List, [], ◌∷◌, length, Option, Some, None, option_map, ap, ◌∙◌}
-use Rattle.std.specs.Prelude.{map}
+use Rattle.std.proofs.Common.{◌≡◌, ℕ, ◌≤◌, true, List, [], length, Some, None, ◌∙◌}
 use Rattle.std.proofs.lemmas.List.{length-map}
 use Rattle.sql_subset.specs.declared.token.Placed.{Placed as WrittenAt}
 use Rattle.sql_subset.specs.Tokens.{Token, Placed}

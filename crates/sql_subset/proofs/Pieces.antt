@@ -1,16 +1,16 @@
 -- One piece of a text after another.
-use Rattle.std.proofs.Common.{◌≡◌, ℕ, zero, suc, ◌+◌, ◌-◌, ◌<◌, ◌≤◌, Bool, true, false, cond, inl, inr, lit<, get_or, IsUtf8, List, [], ◌∷◌, ◌++◌, length, drop, refl, sym, ap, subst, ◌∙◌, append_assoc, arith, add-one, Option, Some, None, option_map, drop-cons, ◌*◌, ◌^◌, min}
-use Rattle.std.specs.Prelude.{not, ◌==◌, ◌||◌, ◌&&◌, ⊤}
+use Rattle.std.proofs.Common.{◌≡◌, ℕ, zero, suc, ◌+◌, ◌-◌, ◌<◌, ◌≤◌, Bool, true, false, cond, lit<, get_or, IsUtf8, List, [], ◌∷◌, ◌++◌, length, drop, refl, sym, ap, subst, ◌∙◌, append_assoc, arith, add-one, Option, Some, None, option_map, drop-cons, ◌*◌, ◌^◌, min}
+use Rattle.std.specs.Prelude.{not, ◌==◌, ◌&&◌, ⊤}
 use Rattle.std.specs.List.{prefix_len}
-use Rattle.std.specs.Char.{is_ascii_digit, is_ascii_alphabetic}
+use Rattle.std.specs.Char.{is_ascii_digit}
 use Rattle.std.proofs.lemmas.List.Sums.{prefix_len-le-length, prefix_len_passes, prefix_len_stops}
 use Rattle.std.proofs.lemmas.Bool.{eqb-true}
 use Rattle.std.proofs.lemmas.Str.{IsCharBoundary-start, IsCharBoundary-after_ascii}
 use Rattle.std.specs.Str.{IsCharBoundary}
 use Rattle.sql_subset.specs.declared.cutting.Class.{Class}
 use Rattle.sql_subset.specs.declared.cutting.Class.TheVariants as class
-use Rattle.sql_subset.specs.Tokens.{Placed, Sign, Text, NoToken}
-use Rattle.sql_subset.specs.Lexing.{is_white, begins_word, in_class, begins_comment, is_sign, is_pair, sign_of, value_of, with_byte, with_quote, quoted, text_of, text_piece, Piece, Blank, Next, Last, piece_of, with_piece, tokens_past, CutsAt, FitsIn}
+use Rattle.sql_subset.specs.Tokens.{Placed}
+use Rattle.sql_subset.specs.Lexing.{is_white, begins_word, in_class, begins_comment, is_sign, is_pair, sign_of, value_of, with_byte, with_quote, quoted, text_piece, Piece, Blank, Next, Last, piece_of, with_piece, tokens_past, CutsAt, FitsIn}
 
 -- ---- where a text may be cut
 

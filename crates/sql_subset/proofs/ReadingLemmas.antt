@@ -1,14 +1,14 @@
 -- What is read is spelled so, and what is spelled so is read.
-use Rattle.std.proofs.Common.{◌≡◌, refl, sym, ap, subst, ◌∙◌, ℕ, zero, suc, ◌+◌, ◌<◌, ◌≤◌, Bool, true, false, cond, List, [], ◌∷◌, ◌++◌, length, Option, Some, None, arith, append_assoc, length-append}
+use Rattle.std.proofs.Common.{◌≡◌, refl, sym, ap, subst, ◌∙◌, ℕ, zero, suc, ◌<◌, ◌≤◌, Bool, true, false, cond, List, [], ◌∷◌, ◌++◌, length, Option, Some, None, arith, append_assoc, length-append}
 use Rattle.std.proofs.lemmas.List.{append-nil}
-use Rattle.std.specs.Prelude.{bytes_eq, codes, ◌&&◌, nat_le}
+use Rattle.std.specs.Prelude.{bytes_eq, codes, ◌&&◌}
 use Rattle.std.specs.List.{list_all}
 use Rattle.std.proofs.lemmas.Slice.Eq.{bytes_eq-Decides}
-use Rattle.sql_subset.specs.Tokens.{Token, Key, Word, Sign, Number, Text, End, NoToken, NotClosed, is}
+use Rattle.sql_subset.specs.Tokens.{Token, Key, Word, Sign, Number, End, is}
 use Rattle.sql_subset.specs.Numeral.{Numeral, fits, fits_by}
 use Rattle.sql_subset.specs.Grammar.{comma, opening, closing, minus, equals, word, has_some, row_keeps}
 use Rattle.sql_subset.specs.Grammar as spelled
-use Rattle.sql_subset.specs.Reading.{Read, ◌>>=◌, skip, as_name, as_number, name, made_numeral, in_range, numeral, signed, literal, column, pushed, with_front, after_comma, more, behind_commas, with_commas, row, ended, key_column, name_after, few}
+use Rattle.sql_subset.specs.Reading.{Read, ◌>>=◌, skip, name, made_numeral, numeral, signed, literal, column, pushed, with_front, after_comma, more, behind_commas, with_commas, row}
 
 -- ---- one token
 

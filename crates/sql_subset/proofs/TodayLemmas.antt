@@ -1,5 +1,5 @@
 -- What is bound runs today.
-use Rattle.std.proofs.Common.{◌≡◌, refl, sym, ap, subst, ◌∙◌, ℕ, zero, suc, ◌+◌, ◌<◌, ◌≤◌, Bool, true, false, cond, List, [], ◌∷◌, ◌++◌, length, map, All, Option, Some, None, Ok, Err, arith}
+use Rattle.std.proofs.Common.{◌≡◌, refl, sym, ap, subst, ◌∙◌, ℕ, zero, suc, Bool, true, false, cond, List, [], ◌∷◌, ◌++◌, length, map, All, Option, Some, None, Ok, Err}
 use Rattle.std.specs.Prelude.{◌==◌}
 use Rattle.std.specs.List.{list_all}
 use Rattle.std.proofs.lemmas.List.Elements.{All-nil, All-cons, All-append}
@@ -7,7 +7,6 @@ use Rattle.spec_reader.specs.Tree.{BlockTree, StepTree, SessionTree}
 use Rattle.sql_subset.specs.declared.bound.Bound.{Bound}
 use Rattle.sql_subset.specs.declared.bound.Bound.TheVariants as bound
 use Rattle.sql_subset.specs.declared.error.BindError.{BindError}
-use Rattle.sql_subset.specs.declared.statement.CreateTable.{CreateTable}
 use Rattle.sql_subset.specs.declared.statement.Form.{Form}
 use Rattle.sql_subset.specs.declared.statement.Form.TheVariants.{Create, Insert, Select}
 use Rattle.sql_subset.specs.declared.statement.Statement.{Statement}

@@ -1,6 +1,6 @@
 -- The statements of today as they are spelled: CREATE TABLE with number columns of which the first is the key, INSERT of whole
 -- numbers, and SELECT of one column where a column is a number.
-use Rattle.std.specs.Prelude.{◌≡◌, ℕ, Bool, true, false, ◌&&◌, ◌||◌, List, [], ◌∷◌, ◌++◌, length, nat_le, codes, if◌then◌else◌}
+use Rattle.std.specs.Prelude.{◌≡◌, ℕ, Bool, true, false, ◌&&◌, ◌||◌, List, [], ◌∷◌, ◌++◌, length, nat_le, codes}
 use Rattle.std.specs.List.{list_all}
 use Rattle.sql_subset.specs.declared.error.SqlError.{SqlError}
 use Rattle.sql_subset.specs.declared.error.SqlErrorKind.{SqlErrorKind}

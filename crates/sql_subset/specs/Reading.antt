@@ -1,10 +1,7 @@
 -- Reading from left to right: a function for each part of the grammar, named after it.
-use Rattle.std.specs.Prelude.{◌≡◌, ℕ, zero, suc, Bool, true, false, ⊤, List, [], ◌∷◌, ◌++◌, length, map, Option, Some, None, option_map, Result, Ok, Err, nat_le, codes, if◌then◌else◌}
+use Rattle.std.specs.Prelude.{◌≡◌, ℕ, zero, suc, Bool, true, false, ⊤, List, [], ◌∷◌, ◌++◌, length, Option, Some, None, Result, Ok, Err, nat_le, codes, if◌then◌else◌}
 use Rattle.sql_subset.specs.declared.error.Stop.{Stop}
 use Rattle.sql_subset.specs.declared.error.Stop.TheVariants.{Memory, Refused}
-use Rattle.sql_subset.specs.declared.statement.CreateTable.{CreateTable}
-use Rattle.sql_subset.specs.declared.statement.InsertRows.{InsertRows}
-use Rattle.sql_subset.specs.declared.statement.SelectRow.{SelectRow}
 use Rattle.sql_subset.specs.declared.statement.Form.{Form}
 use Rattle.sql_subset.specs.declared.statement.Form.TheVariants.{Create, Insert, Select}
 use Rattle.sql_subset.specs.declared.statement.Statement.{Statement}

@@ -1,5 +1,5 @@
 -- A spec as the machine runs it: steps, setups and lines, and the line of each rank.
-use Rattle.std.specs.Prelude.{ℕ, zero, suc, ◌==◌, List, [], ◌∷◌, length, map, set, get_or, ◌<◌, ◌≤◌, cond, Option, Some, None, All, ◌≡◌}
+use Rattle.std.specs.Prelude.{ℕ, zero, suc, ◌==◌, List, [], ◌∷◌, length, map, set, get_or, ◌<◌, ◌≤◌, cond, Some, All, ◌≡◌}
 use Rattle.sql_subset.specs.declared.bound.Expression.TheVariants.{Literal, Column}
 use Rattle.sql_subset.specs.declared.bound.Comparison.TheVariants.{Same}
 use Rattle.sql_subset.specs.declared.bound.Condition.TheVariants.{Compares}

@@ -15,6 +15,8 @@ mod shapes;
 mod spec;
 mod statement;
 mod tables;
+#[cfg(test)]
+mod tests;
 mod token;
 mod walking;
 

@@ -1,4 +1,4 @@
-use Rattle.std.proofs.Common.{◌≡◌, refl, ap, sym, ◌∙◌, map, length, arith, Ok}
+use Rattle.std.proofs.Common.{◌≡◌, ap, sym, ◌∙◌, map, length, arith, Ok}
 use Rattle.std.specs.Prelude.{string_bytes}
 use Rattle.std.proofs.lemmas.List.{length-map}
 use Rattle.spec_reader.specs.Views.{spec_tree, session_tree, block_tree}

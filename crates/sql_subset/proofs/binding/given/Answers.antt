@@ -1,4 +1,4 @@
-use Rattle.std.proofs.Common.{ap, sym, ◌∙◌, length, map, arith}
+use Rattle.std.proofs.Common.{ap, length, map, arith}
 use Rattle.spec_reader.specs.Views.{session_tree}
 use Rattle.sql_subset.proofs.FileLemmas.{length-step_names}
 use Rattle.sql_subset.proofs.binding.given.Goals as goal

@@ -1,4 +1,4 @@
-use Rattle.std.proofs.Common.{ap, sym, ◌∙◌, arith, length, map}
+use Rattle.std.proofs.Common.{arith, map}
 use Rattle.std.proofs.lemmas.List.{length-map}
 use Rattle.spec_reader.specs.Views.{line_tree}
 use Rattle.sql_subset.proofs.FileLemmas.{lines-some}

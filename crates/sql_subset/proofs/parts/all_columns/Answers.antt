@@ -1,4 +1,4 @@
-use Rattle.std.proofs.Common.{sym, ap, ◌∙◌, arith, Some}
+use Rattle.std.proofs.Common.{sym, ap, ◌∙◌, arith}
 use Rattle.std.specs.Prelude.{string_bytes}
 use Rattle.sql_subset.specs.Reading.{with_key, plain}
 use Rattle.sql_subset.proofs.Loops.{length-plain, columns-go_on, columns-shorter}

@@ -1,4 +1,4 @@
-use Rattle.std.proofs.Common.{◌≡◌, ap, sym, ◌∙◌, arith, rules, ◌<◌, ◌++◌, ◌∷◌, [], length, All, length-append}
+use Rattle.std.proofs.Common.{ap, sym, ◌∙◌, arith, ◌<◌, ◌++◌, ◌∷◌, [], length, length-append}
 use Rattle.std.proofs.lemmas.List.{drop_all, append-nil}
 use Rattle.std.proofs.lemmas.List.Elements.{All-nil, All-push}
 use Rattle.sql_subset.specs.Spec.{line}

@@ -1,6 +1,4 @@
-use Rattle.std.proofs.Common.{◌≡◌, ap, sym, ◌∙◌, subst, length, All, map, arith}
-use Rattle.sql_subset.specs.Spec.{IsLine}
-use Rattle.sql_subset.specs.Orders.{lines_of}
+use Rattle.std.proofs.Common.{ap, ◌∙◌, length, arith}
 use Rattle.sql_subset.proofs.OrderLemmas.{known-line}
 use Rattle.sql_subset.proofs.spec.Spec.line.Goals as goal
 
