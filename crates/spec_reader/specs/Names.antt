@@ -14,6 +14,10 @@ pub record InLimits (f : SpecTree) : Type 0 where
 abbrev pub is_among : List ℕ → List (List ℕ) → Bool
 is_among name names = list_any (bytes_eq name) names
 
+-- the two lists have the same names
+abbrev pub HaveSame : List (List ℕ) → List (List ℕ) → Type 0
+HaveSame names others = (n : List ℕ) → is_among n names ≡ is_among n others
+
 -- none of the names stands before, or a second time
 abbrev pub AreNew : List (List ℕ) → List (List ℕ) → Type 0
 AreNew before [] = ⊤

@@ -81,7 +81,7 @@ pub fn spec_of(alloc: Global, text: String, tokens: &[Placed]) -> Result<SpecTex
     Ok(SpecText {
         text,
         front,
-        sessions,
+        sessions: sessions.into_vec(),
         lines,
     })
 }

@@ -6,13 +6,14 @@ ghost use Rattle.spec_reader.specs.Tokens.{is_permutation, is_end, is_session};
 ghost use Rattle.spec_reader.specs.Lexing.{view_token, view, views};
 ghost use Rattle.spec_reader.specs.Tree.{SessionTree, MarkerTree, ItemTree, LineTree, FrontTree};
 ghost use Rattle.spec_reader.specs.Reading.{reads, reads_listed, reads_item, reads_lined, LineBegun, ItemNamed, MarkerBegun, MarkerNamed, ItemDone, Sessioned, made_spec, made_item};
-ghost use Rattle.spec_reader.specs.Views.{line_tree, marker_tree, item_tree, session_tree, Reads};
+ghost use Rattle.spec_reader.specs.Views.{line_tree, marker_tree, item_tree, Reads};
 
 use crate::cursor::{fault, first, nothing_after, refused, standing};
 use crate::error::{Kind, Stop};
+use crate::known::KnownSessions;
 use crate::names::{item_name, known_name};
 use crate::token::{Placed, Token};
-use crate::tree::{Item, Line, Marker, Session};
+use crate::tree::{Item, Line, Marker};
 use std::alloc::Global;
 
 /// The most permutation lines of a file.
@@ -45,13 +46,13 @@ fn named_marker<'a, 't>(
 fn marker_of<'a, 't>(
     alloc: Global,
     tokens: &'t [Placed<'a>],
-    sessions: &[Session],
+    sessions: &KnownSessions,
 ) -> Result<(Marker, Placed<'a>, &'t [Placed<'a>]), Stop>
     ensures reads { (f : FrontTree) (ls : List LineTree)
         (is : List ItemTree) (n : List ℕ) (ms : List MarkerTree) →
-        Reads (λ x. reads_listed f (map session_tree sessions.now) ls is n (ms ++ marker_tree x.0 ∷ [])
+        Reads (λ x. reads_listed f sessions.now ls is n (ms ++ marker_tree x.0 ∷ [])
         (view x.1) (views x.2.now))
-        result (reads (MarkerBegun f (map session_tree sessions.now) ls is n ms) (views tokens.now)) }
+        result (reads (MarkerBegun f sessions.now ls is n ms) (views tokens.now)) }
     ensures shorter { IfOk result (λ x. length x.2.now < length tokens.now) }
 {
     let (token, rest) = first(tokens)?;
@@ -67,13 +68,13 @@ fn marker_of<'a, 't>(
 fn push_marker<'a, 't>(
     alloc: Global,
     tokens: &'t [Placed<'a>],
-    sessions: &[Session],
+    sessions: &KnownSessions,
     markers: &mut Vec<Marker>,
 ) -> Result<(Placed<'a>, &'t [Placed<'a>]), Stop>
     ensures reads { (f : FrontTree) (ls : List LineTree) (is : List ItemTree) (n : List ℕ) →
-        Reads (λ x. reads_listed f (map session_tree sessions.now) ls is n (map marker_tree markers.new.items)
+        Reads (λ x. reads_listed f sessions.now ls is n (map marker_tree markers.new.items)
         (view x.0) (views x.1.now))
-        result (reads (MarkerBegun f (map session_tree sessions.now) ls is n (map marker_tree markers.old.items)) (views tokens.now)) }
+        result (reads (MarkerBegun f sessions.now ls is n (map marker_tree markers.old.items)) (views tokens.now)) }
     ensures shorter { IfOk result (λ x. length x.1.now < length tokens.now) }
 {
     let (marker, next, rest) = marker_of(alloc, tokens, sessions)?;
@@ -85,11 +86,11 @@ fn push_marker<'a, 't>(
 fn markers_of<'a, 't>(
     alloc: Global,
     tokens: &'t [Placed<'a>],
-    sessions: &[Session],
+    sessions: &KnownSessions,
 ) -> Result<(Vec<Marker>, &'t [Placed<'a>]), Stop>
     ensures reads { (f : FrontTree) (ls : List LineTree) (is : List ItemTree) (n : List ℕ) →
-        Reads (λ x. reads (ItemDone f (map session_tree sessions.now) ls (is ++ made_item n (map marker_tree x.0.items) ∷ [])) (views x.1.now))
-        result (reads (MarkerBegun f (map session_tree sessions.now) ls is n []) (views tokens.now)) }
+        Reads (λ x. reads (ItemDone f sessions.now ls (is ++ made_item n (map marker_tree x.0.items) ∷ [])) (views x.1.now))
+        result (reads (MarkerBegun f sessions.now ls is n []) (views tokens.now)) }
     ensures shorter { IfOk result (λ x. length x.1.now < length tokens.now) }
 {
     let mut markers = Vec::new(alloc);
@@ -108,12 +109,12 @@ fn item_of<'a, 't>(
     alloc: Global,
     name: String,
     tokens: &'t [Placed<'a>],
-    sessions: &[Session],
+    sessions: &KnownSessions,
 ) -> Result<(Item, Placed<'a>, &'t [Placed<'a>]), Stop>
     ensures reads { (f : FrontTree) (ls : List LineTree) (is : List ItemTree) →
-        Reads (λ x. reads (ItemDone f (map session_tree sessions.now) ls (is ++ item_tree x.0 ∷ []))
+        Reads (λ x. reads (ItemDone f sessions.now ls (is ++ item_tree x.0 ∷ []))
         (view x.1 ∷ views x.2.now))
-        result (reads (ItemNamed f (map session_tree sessions.now) ls is (string_bytes name)) (views tokens.now)) }
+        result (reads (ItemNamed f sessions.now ls is (string_bytes name)) (views tokens.now)) }
     ensures shorter { IfOk result (λ x. length x.2.now < length tokens.now) }
 {
     let (next, rest) = first(tokens)?;
@@ -131,14 +132,14 @@ fn named_item<'a, 't>(
     alloc: Global,
     token: &Placed<'a>,
     tokens: &'t [Placed<'a>],
-    sessions: &[Session],
+    sessions: &KnownSessions,
     items: &[Item],
 ) -> Result<(Item, Placed<'a>, &'t [Placed<'a>]), Stop>
     ensures reads { (f : FrontTree) (ls : List LineTree) →
-        Reads (λ x. reads (ItemDone f (map session_tree sessions.now) ls
+        Reads (λ x. reads (ItemDone f sessions.now ls
         (map item_tree items.now ++ item_tree x.0 ∷ []))
         (view x.1 ∷ views x.2.now))
-        result (reads_item f (map session_tree sessions.now) ls
+        result (reads_item f sessions.now ls
         (map item_tree items.now) (view token.now) (views tokens.now)) }
     ensures shorter { IfOk result (λ x. length x.2.now < length tokens.now) }
 {
@@ -151,13 +152,13 @@ fn push_item<'a, 't>(
     alloc: Global,
     token: &Placed<'a>,
     tokens: &'t [Placed<'a>],
-    sessions: &[Session],
+    sessions: &KnownSessions,
     items: &mut Vec<Item>,
 ) -> Result<(Placed<'a>, &'t [Placed<'a>]), Stop>
     ensures reads { (f : FrontTree) (ls : List LineTree) →
-        Reads (λ x. reads (ItemDone f (map session_tree sessions.now) ls (map item_tree items.new.items))
+        Reads (λ x. reads (ItemDone f sessions.now ls (map item_tree items.new.items))
         (view x.0 ∷ views x.1.now))
-        result (reads_item f (map session_tree sessions.now) ls
+        result (reads_item f sessions.now ls
         (map item_tree items.old.items) (view token.now) (views tokens.now)) }
     ensures shorter { IfOk result (λ x. length x.1.now < length tokens.now) }
 {
@@ -177,12 +178,12 @@ fn is_line_end(token: &Token) -> bool
 fn line_of<'a, 't>(
     alloc: Global,
     tokens: &'t [Placed<'a>],
-    sessions: &[Session],
+    sessions: &KnownSessions,
 ) -> Result<(Line, Placed<'a>, &'t [Placed<'a>]), Stop>
     ensures reads { (f : FrontTree) (ls : List LineTree) →
-        Reads (λ x. reads_lined f (map session_tree sessions.now) (ls ++ line_tree x.0 ∷ [])
+        Reads (λ x. reads_lined f sessions.now (ls ++ line_tree x.0 ∷ [])
         (view x.1) (views x.2.now))
-        result (reads (LineBegun f (map session_tree sessions.now) ls) (views tokens.now)) }
+        result (reads (LineBegun f sessions.now ls) (views tokens.now)) }
     ensures shorter { IfOk result (λ x. length x.2.now < length tokens.now) }
 {
     let mut items = Vec::new(alloc);
@@ -207,14 +208,14 @@ fn push_line<'a, 't>(
     alloc: Global,
     word: &Placed<'a>,
     tokens: &'t [Placed<'a>],
-    sessions: &[Session],
+    sessions: &KnownSessions,
     lines: &mut Vec<Line>,
 ) -> Result<(Placed<'a>, &'t [Placed<'a>]), Stop>
     requires { is_permutation (view_token word.now.token) ≡ true }
     ensures reads { (f : FrontTree) →
-        Reads (λ x. reads_lined f (map session_tree sessions.now) (map line_tree lines.new.items)
+        Reads (λ x. reads_lined f sessions.now (map line_tree lines.new.items)
         (view x.0) (views x.1.now))
-        result (reads_lined f (map session_tree sessions.now) (map line_tree lines.old.items) (view word.now) (views tokens.now)) }
+        result (reads_lined f sessions.now (map line_tree lines.old.items) (view word.now) (views tokens.now)) }
     ensures shorter { IfOk result (λ x. length x.1.now < length tokens.now) }
 {
     if is_full(lines) {
@@ -231,12 +232,12 @@ pub fn lines_of<'a, 't>(
     alloc: Global,
     token: Placed<'a>,
     tokens: &'t [Placed<'a>],
-    sessions: &[Session],
+    sessions: &KnownSessions,
 ) -> Result<Vec<Line>, Stop>
     requires { is_session (view_token token.token) ≡ false }
     ensures { (f : FrontTree) →
-        Reads (λ x. Ok (made_spec f (map session_tree sessions.now) (map line_tree x.items))) result
-        (reads (Sessioned f (map session_tree sessions.now)) (view token.entry ∷ views tokens.now)) }
+        Reads (λ x. Ok (made_spec f sessions.now (map line_tree x.items))) result
+        (reads (Sessioned f sessions.now) (view token.entry ∷ views tokens.now)) }
 {
     let mut lines = Vec::new(alloc);
     let (mut next, mut rest) = standing(token, tokens);

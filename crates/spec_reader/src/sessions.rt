@@ -10,6 +10,7 @@ ghost use Rattle.spec_reader.specs.Views.{step_tree, head_tree, session_tree, op
 
 use crate::cursor::{block_of, block_then, fault, first, no_step, refused};
 use crate::error::Stop;
+use crate::known::{KnownSessions, KnownSteps};
 use crate::names::{session_name, step_name};
 use crate::token::Placed;
 use crate::tree::{Block, Head, Session, Step};
@@ -35,55 +36,59 @@ fn named_step<'a, 't>(
 fn step_of<'a, 't>(
     alloc: Global,
     tokens: &'t [Placed<'a>],
-    sessions: &[Session],
-    steps: &[Step],
+    sessions: &KnownSessions,
+    steps: &KnownSteps,
 ) -> Result<(Step, &'t [Placed<'a>]), Stop>
     ensures reads { (f : FrontTree) (h : HeadTree) →
-        Reads (λ x. reads (Stepped f (map session_tree sessions.now) h (map step_tree steps.now ++ step_tree x.0 ∷ [])) (views x.1.now))
-        result (reads (StepBegun f (map session_tree sessions.now) h (map step_tree steps.now)) (views tokens.now)) }
+        Reads (λ x. reads (Stepped f sessions.now h (steps.now ++ step_tree x.0 ∷ [])) (views x.1.now))
+        result (reads (StepBegun f sessions.now h steps.now) (views tokens.now)) }
     ensures shorter { IfOk result (λ x. length x.1.now < length tokens.now) }
 {
     let (name, rest) = step_name(alloc, tokens, sessions, steps)?;
     named_step(alloc, rest, name)
 }
 
-/// Adds a step, after its first word, and gives the token after it.
-fn push_step<'a, 't>(
+/// The steps with one more, after its first word, and the token after it.
+fn with_step<'a, 't>(
     alloc: Global,
     tokens: &'t [Placed<'a>],
-    sessions: &[Session],
-    steps: &mut Vec<Step>,
-) -> Result<(Placed<'a>, &'t [Placed<'a>]), Stop>
+    sessions: &KnownSessions,
+    steps: KnownSteps,
+) -> Result<(KnownSteps, Placed<'a>, &'t [Placed<'a>]), Stop>
     ensures reads { (f : FrontTree) (h : HeadTree) →
-        Reads (λ x. reads (Stepped f (map session_tree sessions.now) h (map step_tree steps.new.items))
-        (view x.0 ∷ views x.1.now))
-        result (reads (StepBegun f (map session_tree sessions.now) h (map step_tree steps.old.items)) (views tokens.now)) }
-    ensures shorter { IfOk result (λ x. length x.1.now < length tokens.now) }
+        Reads (λ x. reads (Stepped f sessions.now h x.0) (view x.1 ∷ views x.2.now))
+        result (reads (StepBegun f sessions.now h steps) (views tokens.now)) }
+    ensures shorter { IfOk result (λ x. length x.2.now < length tokens.now) }
 {
-    let (step, rest) = step_of(alloc, tokens, sessions, steps)?;
-    steps.push(step)?;
-    first(rest)
+    let (step, rest) = step_of(alloc, tokens, sessions, &steps)?;
+    let steps = steps.with(alloc, step)?;
+    let (next, rest) = first(rest)?;
+    Ok((steps, next, rest))
 }
 
 /// The steps of a session, after the word of the first one, and the token after them, which begins no step.
 fn steps_of<'a, 't>(
     alloc: Global,
     tokens: &'t [Placed<'a>],
-    sessions: &[Session],
+    sessions: &KnownSessions,
 ) -> Result<(Vec<Step>, Placed<'a>, &'t [Placed<'a>]), Stop>
     ensures reads { (f : FrontTree) (h : HeadTree) →
-        Reads (λ x. reads (Stepped f (map session_tree sessions.now) h (map step_tree x.0.items))
+        Reads (λ x. reads (Stepped f sessions.now h (map step_tree x.0.items))
         (view x.1 ∷ views x.2.now))
-        result (reads (StepBegun f (map session_tree sessions.now) h []) (views tokens.now)) }
+        result (reads (StepBegun f sessions.now h []) (views tokens.now)) }
     ensures after { IfOk result (λ x. is_step (view_token x.1.token) ≡ false) }
     ensures shorter { IfOk result (λ x. length x.2.now < length tokens.now) }
 {
-    let mut steps = Vec::new(alloc);
-    let (mut next, mut rest) = push_step(alloc, tokens, sessions, &mut steps)?;
+    let (mut steps, mut next, mut rest) = with_step(
+        alloc,
+        tokens,
+        sessions,
+        KnownSteps::new(alloc),
+    )?;
     'steps: while next.token.is_step() {
-        (next, rest) = push_step(alloc, rest, sessions, &mut steps)?;
+        (steps, next, rest) = with_step(alloc, rest, sessions, steps)?;
     }
-    Ok((steps, next, rest))
+    Ok((steps.into_vec(), next, rest))
 }
 
 /// The setup of a session, if this token is its word, and the token after it.
@@ -126,11 +131,11 @@ fn early_teardown<'a, 't>(
 fn head_of<'a, 't>(
     alloc: Global,
     tokens: &'t [Placed<'a>],
-    sessions: &[Session],
+    sessions: &KnownSessions,
 ) -> Result<(Head, &'t [Placed<'a>]), Stop>
     ensures reads { (f : FrontTree) →
-        Reads (λ x. reads (StepBegun f (map session_tree sessions.now) (head_tree x.0) []) (views x.1.now))
-        result (reads (SessionBegun f (map session_tree sessions.now)) (views tokens.now)) }
+        Reads (λ x. reads (StepBegun f sessions.now (head_tree x.0) []) (views x.1.now))
+        result (reads (SessionBegun f sessions.now) (views tokens.now)) }
     ensures shorter { IfOk result (λ x. length x.1.now < length tokens.now) }
 {
     let (name, rest) = session_name(alloc, tokens, sessions)?;
@@ -180,12 +185,12 @@ fn late_teardown<'a, 't>(
 fn session_of<'a, 't>(
     alloc: Global,
     tokens: &'t [Placed<'a>],
-    sessions: &[Session],
+    sessions: &KnownSessions,
 ) -> Result<(Session, Placed<'a>, &'t [Placed<'a>]), Stop>
     ensures reads { (f : FrontTree) →
-        Reads (λ x. reads (Sessioned f (map session_tree sessions.now ++ session_tree x.0 ∷ []))
+        Reads (λ x. reads (Sessioned f (sessions.now ++ session_tree x.0 ∷ []))
         (view x.1 ∷ views x.2.now))
-        result (reads (SessionBegun f (map session_tree sessions.now)) (views tokens.now)) }
+        result (reads (SessionBegun f sessions.now) (views tokens.now)) }
     ensures shorter { IfOk result (λ x. length x.2.now < length tokens.now) }
 {
     let (head, rest) = head_of(alloc, tokens, sessions)?;
@@ -202,37 +207,39 @@ fn session_of<'a, 't>(
     ))
 }
 
-/// Adds a session, after its first word, and gives the token after it.
-fn push_session<'a, 't>(
+/// The sessions with one more, after its first word, and the token after it.
+fn with_session<'a, 't>(
     alloc: Global,
     tokens: &'t [Placed<'a>],
-    sessions: &mut Vec<Session>,
-) -> Result<(Placed<'a>, &'t [Placed<'a>]), Stop>
+    sessions: KnownSessions,
+) -> Result<(KnownSessions, Placed<'a>, &'t [Placed<'a>]), Stop>
     ensures reads { (f : FrontTree) →
-        Reads (λ x. reads (Sessioned f (map session_tree sessions.new.items))
-        (view x.0 ∷ views x.1.now))
-        result (reads (SessionBegun f (map session_tree sessions.old.items)) (views tokens.now)) }
-    ensures shorter { IfOk result (λ x. length x.1.now < length tokens.now) }
+        Reads (λ x. reads (Sessioned f x.0) (view x.1 ∷ views x.2.now))
+        result (reads (SessionBegun f sessions) (views tokens.now)) }
+    ensures shorter { IfOk result (λ x. length x.2.now < length tokens.now) }
 {
-    let (session, next, rest) = session_of(alloc, tokens, sessions)?;
-    sessions.push(session)?;
-    Ok((next, rest))
+    let (session, next, rest) = session_of(alloc, tokens, &sessions)?;
+    let sessions = sessions.with(alloc, session)?;
+    Ok((sessions, next, rest))
 }
 
 /// The sessions, after the first word of the first one, and the token after them.
 pub fn sessions_of<'a, 't>(
     alloc: Global,
     tokens: &'t [Placed<'a>],
-) -> Result<(Vec<Session>, Placed<'a>, &'t [Placed<'a>]), Stop>
+) -> Result<(KnownSessions, Placed<'a>, &'t [Placed<'a>]), Stop>
     ensures reads { (f : FrontTree) →
-        Reads (λ x. reads (Sessioned f (map session_tree x.0.items)) (view x.1 ∷ views x.2.now)) result
+        Reads (λ x. reads (Sessioned f x.0) (view x.1 ∷ views x.2.now)) result
         (reads (SessionBegun f []) (views tokens.now)) }
     ensures after { IfOk result (λ x. is_session (view_token x.1.token) ≡ false) }
 {
-    let mut sessions = Vec::new(alloc);
-    let (mut next, mut rest) = push_session(alloc, tokens, &mut sessions)?;
+    let (mut sessions, mut next, mut rest) = with_session(
+        alloc,
+        tokens,
+        KnownSessions::new(alloc),
+    )?;
     'sessions: while next.token.is_session() {
-        (next, rest) = push_session(alloc, rest, &mut sessions)?;
+        (sessions, next, rest) = with_session(alloc, rest, sessions)?;
     }
     Ok((sessions, next, rest))
 }

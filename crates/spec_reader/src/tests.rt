@@ -118,13 +118,38 @@ fn a_spec_file_is_read_with_the_offsets_of_its_blocks(rt: HostRuntime) -> Result
 }
 
 #[test]
-fn the_first_fault_is_named(rt: HostRuntime) {
+fn a_missing_step_is_named(rt: HostRuntime) {
     for (text, kind, offset) in [
         ("", SpecErrorKind::NoStep, 0),
         ("setup {} permutation s", SpecErrorKind::NoStep, 9),
         ("session a # step s {}", SpecErrorKind::NoStep, 21),
         ("session a permutation s", SpecErrorKind::NoStep, 10),
         ("session a session b", SpecErrorKind::NoStep, 10),
+        ("# only a comment", SpecErrorKind::NoStep, 16),
+        ("setup {}", SpecErrorKind::NoStep, 8),
+        ("setup {} teardown {}", SpecErrorKind::NoStep, 20),
+        ("session a", SpecErrorKind::NoStep, 9),
+        (
+            "session a setup {} session b step s {}",
+            SpecErrorKind::NoStep,
+            19,
+        ),
+        ("session a teardown {}", SpecErrorKind::NoStep, 21),
+        ("session é permutation s", SpecErrorKind::NoStep, 11),
+        ("permutation s", SpecErrorKind::NoStep, 0),
+        ("\x0c\n\t permutation", SpecErrorKind::NoStep, 4),
+    ] {
+        assert_eq!(rt;
+            fault_of(rt.alloc(), text.as_bytes()),
+            fault(kind, offset),
+            "{text}"
+        );
+    }
+}
+
+#[test]
+fn a_token_that_cannot_stand_is_named(rt: HostRuntime) {
+    for (text, kind, offset) in [
         ("step s {}", SpecErrorKind::Misplaced, 0),
         ("\u{feff}session a step s {}", SpecErrorKind::Misplaced, 0),
         ("session", SpecErrorKind::Misplaced, 7),
@@ -144,6 +169,129 @@ fn the_first_fault_is_named(rt: HostRuntime) {
             SpecErrorKind::Misplaced,
             45,
         ),
+        (
+            "teardown {} setup {} session a step s {}",
+            SpecErrorKind::Misplaced,
+            12,
+        ),
+        ("teardown {} teardown {}", SpecErrorKind::Misplaced, 12),
+        ("setup session a", SpecErrorKind::Misplaced, 6),
+        ("setup", SpecErrorKind::Misplaced, 5),
+        ("setup # {}", SpecErrorKind::Misplaced, 10),
+        ("session setup step s {}", SpecErrorKind::Misplaced, 8),
+        ("session {} step s {}", SpecErrorKind::Misplaced, 8),
+        ("session 1 step s {}", SpecErrorKind::Misplaced, 8),
+        ("session a step {}", SpecErrorKind::Misplaced, 15),
+        ("session a step s", SpecErrorKind::Misplaced, 16),
+        ("session a step s t {}", SpecErrorKind::Misplaced, 17),
+        ("session a {}", SpecErrorKind::Misplaced, 10),
+        ("session a name step s {}", SpecErrorKind::Misplaced, 10),
+        (
+            "session a teardown {} setup {} step s {}",
+            SpecErrorKind::Misplaced,
+            22,
+        ),
+        (
+            "session a setup {} setup {} step s {}",
+            SpecErrorKind::Misplaced,
+            19,
+        ),
+        (
+            "session a teardown {} step s {} teardown {}",
+            SpecErrorKind::Misplaced,
+            32,
+        ),
+        ("session a step s {} setup {}", SpecErrorKind::Misplaced, 20),
+        (
+            "session a step s {} teardown {} step t {}",
+            SpecErrorKind::Misplaced,
+            32,
+        ),
+        (
+            "session a step s {} permutation s session b",
+            SpecErrorKind::Misplaced,
+            34,
+        ),
+        (
+            "session a step s {} permutation permutation",
+            SpecErrorKind::Misplaced,
+            32,
+        ),
+        (
+            "session a step s {} permutation s()",
+            SpecErrorKind::Misplaced,
+            34,
+        ),
+        (
+            "session a step s {} permutation s(*",
+            SpecErrorKind::Misplaced,
+            35,
+        ),
+        (
+            "session a step s {} permutation s(* *)",
+            SpecErrorKind::Misplaced,
+            36,
+        ),
+        (
+            "session a step s {} permutation s(*,)",
+            SpecErrorKind::Misplaced,
+            36,
+        ),
+        (
+            "session a step s {} permutation s(s notices)",
+            SpecErrorKind::Misplaced,
+            43,
+        ),
+        (
+            "session a step s {} permutation s(s notices s)",
+            SpecErrorKind::Misplaced,
+            44,
+        ),
+        (
+            "session a step s {} permutation s(* notices 1)",
+            SpecErrorKind::Misplaced,
+            36,
+        ),
+        (
+            "session a step s {} permutation s(*)(*)",
+            SpecErrorKind::Misplaced,
+            36,
+        ),
+        (
+            "session a step s {} permutation (*)",
+            SpecErrorKind::Misplaced,
+            32,
+        ),
+        (
+            "session a step s {} permutation 1",
+            SpecErrorKind::Misplaced,
+            32,
+        ),
+        (
+            "session a step s {} permutation s,s",
+            SpecErrorKind::Misplaced,
+            33,
+        ),
+        (
+            "session a step s {} Permutation s",
+            SpecErrorKind::Misplaced,
+            20,
+        ),
+        ("SESSION a step s {}", SpecErrorKind::Misplaced, 0),
+        ("session \"a\" \"step\" s {}", SpecErrorKind::Misplaced, 12),
+        ("notices", SpecErrorKind::Misplaced, 0),
+    ] {
+        assert_eq!(rt;
+            fault_of(rt.alloc(), text.as_bytes()),
+            fault(kind, offset),
+            "{text}"
+        );
+    }
+}
+
+#[test]
+fn what_is_no_token_is_named(rt: HostRuntime) {
+    for (text, kind, offset) in [
         ("session a step s {} ;", SpecErrorKind::BadToken, 20),
         ("session \"\"x\" step s {}", SpecErrorKind::BadToken, 8),
         ("session \"\"", SpecErrorKind::BadToken, 8),
@@ -152,6 +300,51 @@ fn the_first_fault_is_named(rt: HostRuntime) {
         ("session a \"b", SpecErrorKind::Unclosed, 10),
         ("session \"\"\"", SpecErrorKind::Unclosed, 8),
         ("session \"a\n\" step s {}", SpecErrorKind::Unclosed, 8),
+        ("session é; step s {}", SpecErrorKind::BadToken, 10),
+        ("}", SpecErrorKind::BadToken, 0),
+        ("session a step s {}}", SpecErrorKind::BadToken, 19),
+        ("# x\n\x01", SpecErrorKind::BadToken, 4),
+        ("session \"\" step s {}", SpecErrorKind::BadToken, 8),
+        ("session a$ step $s {}", SpecErrorKind::BadToken, 16),
+        (
+            "session a step s {} permutation s(-1)",
+            SpecErrorKind::BadToken,
+            34,
+        ),
+        (
+            "session a step s {} permutation s.s",
+            SpecErrorKind::BadToken,
+            33,
+        ),
+        ("session 'a' step s {}", SpecErrorKind::BadToken, 8),
+        ("session a\x0bstep s {}", SpecErrorKind::BadToken, 9),
+        ("session a step s {} # end\n@", SpecErrorKind::BadToken, 26),
+        ("setup {", SpecErrorKind::Unclosed, 6),
+        ("session a step s {} step t {{", SpecErrorKind::Unclosed, 27),
+        ("session é \"", SpecErrorKind::Unclosed, 11),
+        ("session a step \"s\"\" {}", SpecErrorKind::Unclosed, 15),
+        (
+            "session a step s {} permutation \"s\n\"",
+            SpecErrorKind::Unclosed,
+            32,
+        ),
+        (
+            "# {\nsetup {# }\nteardown { # ",
+            SpecErrorKind::Unclosed,
+            24,
+        ),
+    ] {
+        assert_eq!(rt;
+            fault_of(rt.alloc(), text.as_bytes()),
+            fault(kind, offset),
+            "{text}"
+        );
+    }
+}
+
+#[test]
+fn a_name_that_is_taken_or_unknown_is_named(rt: HostRuntime) {
+    for (text, kind, offset) in [
         (
             "session a step s {} step s {",
             SpecErrorKind::DuplicateStep,
@@ -177,6 +370,66 @@ fn the_first_fault_is_named(rt: HostRuntime) {
             SpecErrorKind::UnknownStep,
             34,
         ),
+        (
+            "session a step s {} session b step t {} step s {}",
+            SpecErrorKind::DuplicateStep,
+            45,
+        ),
+        (
+            "session a step s {} step \"s\" {}",
+            SpecErrorKind::DuplicateStep,
+            25,
+        ),
+        (
+            "session a step é {} step é {}",
+            SpecErrorKind::DuplicateStep,
+            26,
+        ),
+        (
+            "session a step s {} step s",
+            SpecErrorKind::DuplicateStep,
+            25,
+        ),
+        (
+            "session a step s {} session a",
+            SpecErrorKind::DuplicateSession,
+            28,
+        ),
+        (
+            "session \"a\" step s {} session a step t {}",
+            SpecErrorKind::DuplicateSession,
+            30,
+        ),
+        (
+            "session \"a\"\"\" step s {} session \"a\"\"\" step t {}",
+            SpecErrorKind::DuplicateSession,
+            32,
+        ),
+        (
+            "session a step s {} permutation s a",
+            SpecErrorKind::UnknownStep,
+            34,
+        ),
+        (
+            "session a step s {} permutation s(s, t)",
+            SpecErrorKind::UnknownStep,
+            37,
+        ),
+        (
+            "session a step s {} permutation s(t notices 1)",
+            SpecErrorKind::UnknownStep,
+            34,
+        ),
+        (
+            "session a step s {} permutation s permutation \"S\"",
+            SpecErrorKind::UnknownStep,
+            46,
+        ),
+        (
+            "session a step é {} permutation é ê",
+            SpecErrorKind::UnknownStep,
+            36,
+        ),
     ] {
         assert_eq!(rt;
             fault_of(rt.alloc(), text.as_bytes()),
@@ -184,10 +437,24 @@ fn the_first_fault_is_named(rt: HostRuntime) {
             "{text}"
         );
     }
-    assert_eq!(rt;
-        fault_of(rt.alloc(), &[0xff]),
-        fault(SpecErrorKind::NotUtf8, 0)
-    );
+}
+
+#[test]
+fn bytes_that_are_no_text_are_told_before_tokens(rt: HostRuntime) {
+    for (bytes, offset) in [
+        (&[0xff][..], 0),
+        (&[b';', 0xff], 1),
+        (&[b's', 0xc3, b'('], 1),
+        (b"session \xe2\x82 step", 8),
+        (&[0xf0, 0x9f, 0x98], 0),
+        (&[b'a', b'b', 0xc0, 0x80], 2),
+        (&[0xed, 0xa0, 0x80], 0),
+    ] {
+        assert_eq!(rt;
+            fault_of(rt.alloc(), bytes),
+            fault(SpecErrorKind::NotUtf8, offset)
+        );
+    }
 }
 
 #[test]

@@ -59,6 +59,7 @@ impl Spec {
         self.parts.text.as_str()
     }
 
+    /// How many sessions the file has, from 1 to 6. They are numbered from 0 in its order.
     pub fn sessions(&self) -> u8
         ensures count { result ≡ self.now.run.sessions }
         ensures few { result ≤ 6 }
@@ -67,13 +68,14 @@ impl Spec {
         self.parts.sessions
     }
 
+    /// How many steps the file has, up to 255. They are numbered from 0 in its order, over all sessions.
     pub fn steps(&self) -> u8
         ensures count { result ≡ length self.now.run.steps }
     {
         self.parts.steps.len() as u8
     }
 
-    /// The session of a step.
+    /// The number of the session that sends a step.
     pub fn session_of(&self, step: u8) -> u8
         requires { step < length self.now.run.steps }
         ensures is { result ≡ (get_or self.now.run.steps step no_step).session }
@@ -82,6 +84,7 @@ impl Spec {
         self.parts.steps[step as usize].session()
     }
 
+    /// The name of a session as the file writes it, with each doubled quote once.
     pub fn session_name(&self, session: u8) -> &str
         requires { session < self.now.run.sessions }
         ensures { result.now ≡ get_or self.now.session_names session [] }
@@ -89,6 +92,7 @@ impl Spec {
         self.parts.session_names[session as usize].as_str()
     }
 
+    /// The name of a step as the file writes it, with each doubled quote once.
     pub fn step_name(&self, step: u8) -> &str
         requires { step < length self.now.run.steps }
         ensures { result.now ≡ get_or self.now.step_names step [] }
@@ -112,7 +116,7 @@ impl Spec {
         self.parts.step_names.as_slice()
     }
 
-    /// The statements of a step.
+    /// The statements that a step sends, in order.
     pub fn statements(&self, step: u8) -> &[Bound]
         requires { step < length self.now.run.steps }
         ensures are { result.now ≡ (get_or self.now.run.steps step no_step).statements }
@@ -121,7 +125,7 @@ impl Spec {
         self.parts.steps[step as usize].statements()
     }
 
-    /// The main setup blocks.
+    /// The main setup blocks, in the order of the file, which run once at the start.
     pub fn setups(&self) -> &[Block]
         ensures are { result.now ≡ self.now.run.setups }
         ensures today { AllRunToday result.now }
@@ -129,7 +133,7 @@ impl Spec {
         self.parts.setups.as_slice()
     }
 
-    /// For each session its setup, empty where it has none.
+    /// For each session its setup, which runs at the start behind the main setups. It has no statements where the file gives none.
     pub fn session_setups(&self) -> &[Block]
         ensures are { result.now ≡ self.now.run.session_setups }
         ensures each { length result.now ≡ self.now.run.sessions }
@@ -138,14 +142,14 @@ impl Spec {
         self.parts.session_setups.as_slice()
     }
 
-    /// Whether the file has permutation lines.
+    /// Whether the file has permutation lines. If not, its orders are all words of its shape.
     pub fn has_lines(&self) -> bool
         ensures { IsTrue result ↔ (self.now.run.lines ≢ []) }
     {
         matches!(self.parts.orders, Orders::Lines(_))
     }
 
-    /// How many permutations there are; their ranks are the numbers below.
+    /// How many permutations there are: the permutation lines, or else the words. Their ranks are the numbers below.
     pub fn ranks(&self) -> u64
         ensures { result ≡ ranks self.now.run }
     {
@@ -155,7 +159,7 @@ impl Spec {
         }
     }
 
-    /// The line of a rank.
+    /// The steps of the permutation with this rank, in the order in which they are sent. None from `ranks` on.
     pub fn line(&self, rank: u64) -> Option<Line>
         ensures some { IsSome result ↔ (rank < ranks self.now.run) }
         ensures line { IfSome result (λ line. line.items ≡ line_of self.now.run rank) }
