@@ -1,0 +1,145 @@
+//! Prints how long operations on maps take, beside the standard library's: `benchmarks maps`. Without words it prints what it measures.
+#![tactic(auto)]
+
+use std::alloc::{AllocError, Global};
+use std::collections::BTreeMap;
+use std::time::{Duration, Instant};
+use std::{env, io};
+use version_tree::{Fork, VMap};
+
+/// How many operations are measured at each size.
+const OPERATIONS: u32 = 1_000_000;
+
+/// Keys in a scattered order, no two of them equal.
+fn key_at(place: u32) -> u32 {
+    place.wrapping_mul(2_654_435_761)
+}
+
+fn filled(alloc: Global, count: u32) -> Result<VMap<u32, u32>, AllocError> {
+    let mut map = VMap::new(alloc);
+    for place in 0..count {
+        map = map.put(key_at(place), place)?;
+    }
+    Ok(map)
+}
+
+fn filled_beside(alloc: Global, count: u32) -> Result<BTreeMap<u32, u32>, AllocError> {
+    let mut map = BTreeMap::new(alloc);
+    for place in 0..count {
+        map.insert(key_at(place), place)?;
+    }
+    Ok(map)
+}
+
+fn puts(rt: &HostRuntime, count: u32, rounds: u32) -> io::Result<Duration> {
+    let start = Instant::now(rt)?;
+    for _ in 0..rounds {
+        let _map = filled(rt.alloc(), count)?;
+    }
+    start.elapsed(rt)
+}
+
+fn inserts(rt: &HostRuntime, count: u32, rounds: u32) -> io::Result<Duration> {
+    let start = Instant::now(rt)?;
+    for _ in 0..rounds {
+        let _map = filled_beside(rt.alloc(), count)?;
+    }
+    start.elapsed(rt)
+}
+
+fn gets(rt: &HostRuntime, map: &VMap<u32, u32>, count: u32, rounds: u32) -> io::Result<Duration> {
+    let mut found = 0u32;
+    let start = Instant::now(rt)?;
+    for _ in 0..rounds {
+        for place in 0..count {
+            if map.get(&key_at(place)).is_some() {
+                found = found.wrapping_add(1);
+            }
+        }
+    }
+    let time = start.elapsed(rt)?;
+    if found == rounds.wrapping_mul(count) {
+        Ok(time)
+    } else {
+        Err(io::Error::from(io::ErrorKind::Other))
+    }
+}
+
+fn gets_beside(
+    rt: &HostRuntime,
+    map: &BTreeMap<u32, u32>,
+    count: u32,
+    rounds: u32,
+) -> io::Result<Duration> {
+    let mut found = 0u32;
+    let start = Instant::now(rt)?;
+    for _ in 0..rounds {
+        for place in 0..count {
+            if map.get(&key_at(place)).is_some() {
+                found = found.wrapping_add(1);
+            }
+        }
+    }
+    let time = start.elapsed(rt)?;
+    if found == rounds.wrapping_mul(count) {
+        Ok(time)
+    } else {
+        Err(io::Error::from(io::ErrorKind::Other))
+    }
+}
+
+fn removals(
+    rt: &HostRuntime,
+    full: &VMap<u32, u32>,
+    count: u32,
+    rounds: u32,
+) -> io::Result<Duration> {
+    let start = Instant::now(rt)?;
+    for _ in 0..rounds {
+        let mut map = full.fork()?;
+        for place in 0..count {
+            map = map.without(&key_at(place))?;
+        }
+    }
+    start.elapsed(rt)
+}
+
+fn forks(rt: &HostRuntime, map: &VMap<u32, u32>) -> io::Result<Duration> {
+    let start = Instant::now(rt)?;
+    for _ in 0..OPERATIONS {
+        let _fork = map.fork()?;
+    }
+    start.elapsed(rt)
+}
+
+/// Nanoseconds of one operation.
+fn each(time: Duration) -> u128 {
+    time.as_nanos() / u128::from(OPERATIONS)
+}
+
+fn maps(rt: &HostRuntime) -> io::Result<()> {
+    println!(rt; "nanoseconds of one operation, and of the standard library's map")?;
+    for (count, rounds) in [(10, 100_000), (1_000, 1_000), (100_000, 10)] {
+        let map = filled(rt.alloc(), count)?;
+        let beside = filled_beside(rt.alloc(), count)?;
+        println!(rt;
+            "{count} keys: put {} ({}), get {} ({}), without {}, fork {}",
+            each(puts(rt, count, rounds)?),
+            each(inserts(rt, count, rounds)?),
+            each(gets(rt, &map, count, rounds)?),
+            each(gets_beside(rt, &beside, count, rounds)?),
+            each(removals(rt, &map, count, rounds)?),
+            each(forks(rt, &map)?)
+        )?;
+    }
+    Ok(())
+}
+
+fn main(rt: HostRuntime) -> io::Result<()> {
+    let words: Vec<String> = env::args(&rt)?.collect(rt.alloc())?;
+    if words.iter().any(|word| word.as_str() == "maps") {
+        maps(&rt)
+    } else {
+        println!(rt; "maps: put, get, without and fork of 10, 1,000 and 100,000 keys")
+    }
+}
