@@ -9,3 +9,5 @@ pub mod Searching
 pub mod Rings
 pub mod Slices
 pub mod Keeping
+pub mod Waiters
+pub mod Bounded

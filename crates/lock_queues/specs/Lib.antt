@@ -2,6 +2,7 @@ pub mod Locks
 pub mod LockTable
 pub mod Sound
 pub mod Rules
+pub mod Laws
 pub mod Queue
 pub mod Search
 pub mod Tabulate
