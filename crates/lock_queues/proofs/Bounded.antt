@@ -1,21 +1,18 @@
 -- The tests up to a number of sessions are the rules over all, where all sessions are below it.
-use Rattle.std.proofs.Common.{◌≡◌, ◌≢◌, refl, sym, ap, ◌∙◌, subst, ℕ, zero, suc, ◌+◌, ◌<◌, ◌≤◌, Bool, true, false, cond, not, ◌&&◌, ◌||◌, ◌==◌, List, [], ◌∷◌, ◌++◌, length, Option, Some, None, is_some, ◌⊎◌, inl, inr, ⊎_elim, arith, append_assoc, append-nil, eqb-true, eq-eqb, length-append}
+use Rattle.std.proofs.Common.{◌≡◌, ◌≢◌, refl, sym, ap, ◌∙◌, subst, ℕ, zero, suc, ◌+◌, ◌<◌, ◌≤◌, Bool, true, false, cond, ◌||◌, ◌==◌, List, [], ◌∷◌, ◌++◌, length, Option, Some, None, is_some, ◌⊎◌, ⊎_elim, arith, append_assoc, append-nil, eqb-true, eq-eqb, length-append}
 use Rattle.std.specs.FinMap.Entries.{find}
-use Rattle.lock_modes.specs.Mode.{compatible, cover, same_mode}
-use Rattle.lock_modes.specs.Resource.{resource_order, same_resource}
-use Rattle.lock_modes.proofs.ModeLaws.{compatible-comm}
+use Rattle.lock_modes.specs.Mode.{cover}
 use Rattle.lock_modes.specs.declared.mode.Mode.{Mode}
 use Rattle.lock_modes.specs.declared.resource.Resource.{Resource}
-use Rattle.version_tree.specs.Map.{Map, get, insert, get-insert, same_map, same_key, same_key-true}
-use Rattle.lock_queues.specs.Locks.{Wait, Spot, Look, all_below, fits, fits_with, wanted, wanted_by, may_have, nobody_waits, closes_ring, answered, is_empty, ahead, is_ripe, first_ripe, next_grant, spots_from, waits_for, waits_now}
-use Rattle.lock_queues.specs.LockTable.{Locks, Holding, holding_cmp, holding_order, Asked, ask, look_at, look_in, queued, taken, to_grant, Fits}
+use Rattle.version_tree.specs.Map.{get, insert, get-insert, same_map, same_key, same_key-true}
+use Rattle.lock_queues.specs.Locks.{Wait, Spot, Look, all_below, fits, fits_with, wanted, wanted_by, may_have, closes_ring, answered, is_ripe, first_ripe, spots_from, waits_for, waits_now}
+use Rattle.lock_queues.specs.LockTable.{Locks, Holding, holding_cmp, holding_order, Asked, ask, look_in, queued, taken, Fits}
 use Rattle.lock_queues.specs.Sound.{Way, EachWait, edges, IsSound}
-use Rattle.lock_queues.specs.Rules.{MayHave, IsInRing, IsAnswer, after, IsSpot, IsRipe, IsNext, NothingRipe}
+use Rattle.lock_queues.specs.Rules.{MayHave, IsInRing, IsAnswer, after, IsSpot, IsRipe, NothingRipe}
 use Rattle.lock_queues.specs.Laws.{IsBelow, TestsDecide}
 use Rattle.lock_queues.specs.declared.answer.Answer.{Answer}
 use Rattle.lock_queues.specs.declared.answer.Answer.TheVariants.{Granted, Waits, Ring}
-use Rattle.lock_queues.proofs.Basics.{both_true, and_true, either_true, or_true_left, or_true_right, not_both, known}
-use Rattle.lock_queues.proofs.Searching.{cases-eq}
+use Rattle.lock_queues.proofs.Basics.{refuted, cases-eq, both_true, and_true, either_true, or_true_left, or_true_right}
 use Rattle.lock_queues.proofs.Rings.{way-found, way-is-found}
 use Rattle.lock_queues.proofs.Spots.{edge-waits}
 use Rattle.lock_queues.proofs.Waiters.{waiter-reaches}
@@ -30,10 +27,6 @@ below-at (suc n) test c lt e =
 below-true : (n : ℕ) (test : ℕ → Bool) → ((c : ℕ) → test c ≡ true) → all_below n test ≡ true
 below-true zero test h = refl
 below-true (suc n) test h = and_true _ _ (h n) (below-true n test h)
-
-refuted : (b : Bool) → (b ≡ true → ⊥) → b ≡ false
-refuted true f = absurd (f refl)
-refuted false f = refl
 
 module _ (count : ℕ) (look : Look) (none : (c : ℕ) (r : Resource) → count ≤ c → look c r ≡ None) where
   fits-all : (i : ℕ) (r : Resource) (m : Mode) → fits count look i r m ≡ true → Fits look i r m

@@ -25,7 +25,7 @@ use Rattle.lock_queues.proofs.Rings.{no-ring-past, no-way-from, no-edge-from, ed
 abbrev pub Not : ℕ → Wait → Type 0
 Not i = λ (v : Wait). v.session ≢ i
 
-wait-append : (P : Wait → Type 0) (us vs : List Wait) → EachWait P us → EachWait P vs → EachWait P (us ++ vs)
+pub wait-append : (P : Wait → Type 0) (us vs : List Wait) → EachWait P us → EachWait P vs → EachWait P (us ++ vs)
 wait-append P [] vs p q = q
 wait-append P (u ∷ us) vs p q = (p.0, wait-append P us vs p.1 q)
 

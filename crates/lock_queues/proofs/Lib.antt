@@ -11,3 +11,4 @@ pub mod Slices
 pub mod Keeping
 pub mod Waiters
 pub mod Bounded
+pub mod Worked

@@ -5,8 +5,8 @@ use Rattle.lock_queues.specs.Locks.{Wait, Spot, Look, fits_with, wanted, wanted_
 use Rattle.lock_modes.specs.Resource.{same_resource}
 use Rattle.lock_queues.specs.Sound.{Way, one, more, NoRing, EachWait}
 use Rattle.lock_modes.specs.declared.resource.Resource.{Resource}
-use Rattle.lock_queues.proofs.Basics.{both_true, and_true, either_true, or_true_left, or_true_right, not_both, known}
-use Rattle.lock_queues.proofs.Searching.{cases-eq}
+use Rattle.lock_queues.proofs.Ahead.{any-append}
+use Rattle.lock_queues.proofs.Basics.{cases-eq, both_true, and_true, either_true, or_true_left, or_true_right, not_both, known}
 
 pub way-join : (edge : ℕ → ℕ → Bool) (a c b : ℕ) → Way edge a c → Way edge c b → Way edge a b
 way-join edge a c b (one e) v = more e v
@@ -74,14 +74,6 @@ no-way-from edge a b none (one e) = not_both _ e (none b)
 no-way-from edge a b none (more {c = c} e v) = not_both _ e (none c)
 
 -- ---- the edges of waits
-
-any-append : {A : Type 0} (f : A → Bool) (xs ys : List A) → list_any f (xs ++ ys) ≡ (list_any f xs || list_any f ys)
-any-append f [] ys = refl
-any-append f (x ∷ xs) ys = ap (λ b. f x || b) (any-append f xs ys) ∙ or-assoc (f x) (list_any f xs) (list_any f ys)
-  where
-    or-assoc : (a b c : Bool) → (a || (b || c)) ≡ ((a || b) || c)
-    or-assoc true b c = refl
-    or-assoc false b c = refl
 
 -- one that fails the test may be put in
 any-filter-put : (g p : Wait → Bool) (v : Wait) (xs ys : List Wait) → g v ≡ false → list_any g (filter p (xs ++ v ∷ ys)) ≡ list_any g (filter p (xs ++ ys))

@@ -1,10 +1,10 @@
 -- The search for a ring: where nothing is left to pass, each session that waits and can be reached is reached.
-use Rattle.std.proofs.Common.{◌≡◌, ◌≢◌, refl, sym, ap, ◌∙◌, subst, ℕ, zero, suc, ◌<◌, Bool, true, false, ◌==◌, List, [], ◌∷◌, length, set, replicate, ◌⊎◌, inl, inr, ⊎_elim, arith, eqb-true, eq-eqb}
+use Rattle.std.proofs.Common.{◌≡◌, ◌≢◌, refl, sym, ap, ◌∙◌, subst, ℕ, zero, suc, ◌<◌, Bool, true, false, List, [], ◌∷◌, length, set, replicate, ⊎_elim, arith}
 use Rattle.std.proofs.lemmas.List.{length-replicate}
 use Rattle.lock_queues.specs.Locks.{Wait, Look, waits_for, waits_now}
 use Rattle.lock_queues.specs.Search.{Marks, marks, AllPassed, IsOpen}
 use Rattle.lock_queues.specs.Sound.{Way, one, more}
-use Rattle.lock_queues.proofs.Basics.{not_both, known}
+use Rattle.lock_queues.proofs.Basics.{cases-eq, not_both}
 use Rattle.lock_queues.proofs.Spots.{edge-waits}
 
 -- ---- flags
@@ -38,9 +38,6 @@ fewer-left (true ∷ fs) zero lt e = cc
 fewer-left (false ∷ fs) zero lt e = omega arith
 fewer-left (true ∷ fs) (suc n) lt e = fewer-left fs n (omega arith) e
 fewer-left (false ∷ fs) (suc n) lt e = let r = fewer-left fs n (omega arith) e in omega arith
-
-pub cases-eq : (a b : ℕ) → (a ≡ b) ⊎ (a ≢ b)
-cases-eq a b = ⊎_elim (λ h. inl (eqb-true a b h)) (λ h. inr (λ e. not_both _ (eq-eqb a b e) h)) (known (a == b))
 
 -- ---- the search
 

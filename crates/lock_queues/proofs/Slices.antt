@@ -6,11 +6,7 @@ use Rattle.lock_modes.specs.Resource.{resource_order}
 use Rattle.lock_queues.specs.LockTable.{Holding, holding_cmp, holding_order, slice, slice_of}
 use Rattle.lock_modes.specs.declared.mode.Mode.{Mode}
 use Rattle.lock_modes.specs.declared.resource.Resource.{Resource}
-use Rattle.lock_queues.proofs.Basics.{not_both}
-
-refuted : (b : Bool) → (b ≡ true → ⊥) → b ≡ false
-refuted true f = absurd (f refl)
-refuted false f = refl
+use Rattle.lock_queues.proofs.Basics.{not_both, refuted}
 
 -- the key of a session and a resource, by its parts
 same-holding : (i c : ℕ) (r q : Resource) → same_key holding_order (i, r) (c, q) ≡ ((c == i) && same_key resource_order r q)

@@ -1,12 +1,12 @@
 -- Where nothing is ripe and there is no ring, each session that waits reaches one that does not.
-use Rattle.std.proofs.Common.{◌≡◌, ◌≢◌, refl, sym, ap, ◌∙◌, subst, ℕ, zero, suc, ◌+◌, ◌<◌, ◌≤◌, Bool, true, false, cond, not, ◌&&◌, ◌||◌, ◌==◌, List, [], ◌∷◌, ◌++◌, length, filter, Some, None, ◌⊎◌, inl, inr, ⊎_elim, arith, append_assoc, eqb-true, eq-eqb}
+use Rattle.std.proofs.Common.{◌≡◌, ◌≢◌, refl, sym, ap, ◌∙◌, subst, ℕ, zero, suc, ◌+◌, ◌<◌, ◌≤◌, Bool, true, false, cond, not, ◌&&◌, ◌||◌, ◌==◌, List, [], ◌∷◌, ◌++◌, filter, Some, None, ◌⊎◌, inl, inr, ⊎_elim, arith, append_assoc, eqb-true, eq-eqb}
 use Rattle.std.specs.List.{list_any}
 use Rattle.lock_queues.specs.Locks.{Wait, Spot, Look, fits, fits_with, all_below, wanted_by, converts, ahead, is_empty, is_ripe, first_ripe, next_grant, spots_from, holds_up, waits_for, waits_now, way_below}
 use Rattle.lock_modes.specs.Resource.{same_resource}
 use Rattle.lock_queues.specs.Sound.{Way, one, more, NoRing, EachWait, Distinct}
 use Rattle.lock_queues.proofs.Basics.{and_true, either_true, or_true_left, or_true_right, not_both, known}
 use Rattle.lock_queues.proofs.Rings.{way-found, way-meets, edge-found}
-use Rattle.lock_queues.proofs.Keeping.{Not}
+use Rattle.lock_queues.proofs.Keeping.{Not, wait-append}
 
 wait-left : (P : Wait → Type 0) (us vs : List Wait) → EachWait P (us ++ vs) → EachWait P us
 wait-left P [] vs p = tt
@@ -15,10 +15,6 @@ wait-left P (u ∷ us) vs p = (p.0, wait-left P us vs p.1)
 wait-right : (P : Wait → Type 0) (us vs : List Wait) → EachWait P (us ++ vs) → EachWait P vs
 wait-right P [] vs p = p
 wait-right P (u ∷ us) vs p = wait-right P us vs p.1
-
-wait-append : (P : Wait → Type 0) (us vs : List Wait) → EachWait P us → EachWait P vs → EachWait P (us ++ vs)
-wait-append P [] vs p q = q
-wait-append P (u ∷ us) vs p q = (p.0, wait-append P us vs p.1 q)
 
 -- the wait is taken out
 distinct-without : (us : List Wait) (v : Wait) (vs : List Wait) → Distinct (us ++ v ∷ vs) → Distinct (us ++ vs) × EachWait (Not v.session) (us ++ vs)

@@ -1,4 +1,4 @@
--- A lock table alone: what it holds and who waits, for up to so many sessions.
+-- What a lock table holds and who waits, with what each call does to it: tests up to a number of sessions.
 use Rattle.std.specs.Prelude.{◌≡◌, ◌≢◌, ℕ, true, cond, not, ◌==◌, List, [], ◌∷◌, ◌++◌, Option, filter}
 use Rattle.std.proofs.Common.{Ordering, Equal, nat_cmp}
 use Rattle.std.specs.Ordering.{on, then_cmp}
@@ -84,6 +84,6 @@ abbrev pub slice_of : ℕ → List (Holding × Mode) → Map resource_order Mode
 slice_of i [] = empty
 slice_of i (e ∷ es) = cond (e.0.0 == i) (insert (slice_of i es) e.0.1 e.1) (slice_of i es)
 
--- the session's own map, as the world has it
+-- the session's own map
 unfoldable pub slice : ℕ → Map holding_order Mode → Map resource_order Mode
 slice i m = slice_of i (entries m)
