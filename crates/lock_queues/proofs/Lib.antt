@@ -1,0 +1,14 @@
+pub mod Basics
+pub mod Known
+pub mod ModesLemmas
+pub mod HeldLemmas
+pub mod Ahead
+pub mod Spots
+pub mod Marking
+pub mod Searching
+pub mod Rings
+pub mod Slices
+pub mod Keeping
+pub mod Waiters
+pub mod Bounded
+pub mod Worked

@@ -1,0 +1,72 @@
+-- What is kept by session, table and key stands for one map.
+use Rattle.std.specs.Prelude.{ℕ, Bool, ◌||◌, ◌==◌, List, [], ◌∷◌, ◌++◌, map, Option, Some, None}
+use Rattle.std.specs.List.{list_all}
+use Rattle.std.specs.Ordering.{nat_cmp}
+use Rattle.std.specs.FinMap.Entries.{find}
+use Rattle.version_tree.specs.Map.{Map, get, entries, empty}
+use Rattle.lock_modes.specs.Value.{value_cmp}
+use Rattle.lock_modes.specs.Resource.{resource_order}
+use Rattle.lock_modes.specs.declared.mode.Mode.{Mode}
+use Rattle.lock_modes.specs.declared.value.Value.{Value}
+use Rattle.lock_modes.specs.declared.resource.Resource.{Resource}
+use Rattle.lock_modes.specs.declared.resource.Resource.TheVariants.{Table, Row}
+use Rattle.lock_queues.specs.Locks.{fits_with}
+use Rattle.lock_queues.specs.LockTable.{Holding, holding_order}
+use Rattle.lock_queues.specs.Tabulate.{tabulate}
+
+-- ---- the modes of one session: on tables, and on keys by table
+
+abbrev pub Tables : Type 0
+Tables = List (ℕ × Mode)
+
+abbrev pub Keys : Type 0
+Keys = List (ℕ × List (Value × Mode))
+
+abbrev pub mode_at_key : Option (List (Value × Mode)) → Value → Option Mode
+mode_at_key None key = None
+mode_at_key (Some modes) key = find value_cmp key modes
+
+abbrev pub mode_at : Tables → Keys → Resource → Option Mode
+mode_at tables keys (Table table) = find nat_cmp table tables
+mode_at tables keys (Row table key) = mode_at_key (find nat_cmp table keys) key
+
+abbrev pub known_keys : Option (List (Value × Mode)) → List (Value × Mode)
+known_keys None = []
+known_keys (Some modes) = modes
+
+abbrev pub rows_of : Keys → List Resource
+rows_of [] = []
+rows_of (e ∷ es) = map (λ (k : Value × Mode). Row e.0 k.0) e.1 ++ rows_of es
+
+abbrev pub resources_of : Tables → Keys → List Resource
+resources_of tables keys = map (λ (e : ℕ × Mode). Table e.0) tables ++ rows_of keys
+
+abbrev pub modes_map : Tables → Keys → Map resource_order Mode
+modes_map tables keys = tabulate resource_order (mode_at tables keys) (resources_of tables keys)
+
+-- ---- the modes of all sessions
+
+abbrev pub Sessions : Type 0
+Sessions = List (ℕ × Map resource_order Mode)
+
+abbrev pub mode_of : Option (Map resource_order Mode) → Resource → Option Mode
+mode_of None r = None
+mode_of (Some modes) r = get modes r
+
+abbrev pub known_modes : Option (Map resource_order Mode) → Map resource_order Mode
+known_modes None = empty
+known_modes (Some modes) = modes
+
+abbrev pub held_by : Sessions → Holding → Option Mode
+held_by sessions h = mode_of (find nat_cmp h.0 sessions) h.1
+
+abbrev pub holdings_of : Sessions → List Holding
+holdings_of [] = []
+holdings_of (e ∷ es) = map (λ (m : Resource × Mode). (e.0, m.0)) (entries e.1) ++ holdings_of es
+
+abbrev pub held_map : Sessions → Map holding_order Mode
+held_map sessions = tabulate holding_order (held_by sessions) (holdings_of sessions)
+
+-- the mode is compatible with what every other session holds there
+abbrev pub all_fit : Sessions → ℕ → Resource → Mode → Bool
+all_fit sessions i r m = list_all (λ (e : ℕ × Map resource_order Mode). (e.0 == i) || fits_with m (get e.1 r)) sessions

@@ -1,0 +1,10 @@
+/// What a request for a lock gets.
+#[derive(Clone, Copy, Debug, PartialEq, Eq)]
+pub enum Answer {
+    /// The mode is had.
+    Granted,
+    /// The session waits.
+    Waits,
+    /// The wait would close a ring, so the request is refused.
+    Ring,
+}

@@ -1,0 +1,17 @@
+//! Who holds which lock mode, who waits for one, and whose wait would close a ring.
+#![tactic(auto)]
+
+mod answer;
+mod held;
+mod laws;
+mod modes;
+mod queue;
+mod ring;
+mod table;
+#[cfg(test)]
+mod tests;
+mod wait;
+
+pub use answer::Answer;
+pub use laws::{covered_modes_are_had, tables_stay_sound, tests_decide, waiters_reach};
+pub use table::LockTable;

@@ -1,0 +1,188 @@
+ghost use Rattle.std.specs.Prelude.{◌≡◌, ◌==◌, ◌↔◌, ℕ, not, true, false, IfOk, OnOk, OnErr, IsTrue, MatchOption};
+ghost use Rattle.std.specs.List.{filter, find, position};
+ghost use Rattle.std.specs.Option.{option_copied, option_map};
+ghost use Rattle.lock_modes.specs.Resource.{resource_at};
+ghost use Rattle.lock_queues.specs.Locks as locks;
+ghost use Rattle.lock_queues.specs.LockTable as spec;
+ghost use Rattle.lock_queues.specs.Rules as rules_of;
+ghost use Rattle.lock_queues.specs.Sound.{Distinct, IsSound};
+
+use crate::answer::Answer;
+use crate::held::Held;
+use crate::queue::{next_ripe, wanted, wanted_mode};
+use crate::ring::is_in_ring;
+use crate::wait::Wait;
+use lock_modes::{Mode, Place};
+use std::alloc::{AllocError, Global};
+use std::marker::Model;
+use version_tree::Fork;
+
+/// Who holds which mode, and who waits, in the order of arrival.
+///
+/// Contracts see one finite map from a session and a resource to the mode held there, and the list of waits.
+/// No session waits twice, modes that different sessions hold on a resource are compatible, and no session
+/// waits for itself by way of others. A call that takes memory fails for want of it alone.
+#[derive(Drop)]
+pub struct LockTable {
+    held: Held,
+    waits: Vec<Wait>,
+}
+
+impl Model for LockTable {
+    ghost use Rattle.std.specs.Coded.{codes};
+    ghost use Rattle.version_tree.specs.Codes.{map_code};
+    ghost use Rattle.lock_modes.specs.contracts.resource.Resource as resource;
+    ghost use Rattle.lock_queues.specs.contracts.wait.Wait as waiting;
+    ghost use Rattle.lock_queues.specs.LockTable as spec;
+    ghost use Rattle.lock_queues.specs.Sound.{IsSound};
+
+    ghost Value = { spec.Locks };
+
+    ghost coded = { Prim.hlevel (codes, map_code, resource.the_row.coded, waiting.the_row.coded) };
+
+    ghost view = { λ t. record { held = t.held; waits = t.waits.items } };
+
+    ghost invariant = { λ t. IsSound (record { held = t.held; waits = t.waits.items }) };
+}
+
+impl LockTable {
+    /// A table in which nobody holds anything or waits.
+    pub fn new(alloc: Global) -> LockTable
+        ensures { result ≡ spec.no_locks }
+    {
+        LockTable {
+            held: Held::new(alloc),
+            waits: Vec::new(alloc),
+        }
+    }
+
+    /// Asks for a mode. The session gets the cover of it and the mode that it holds, or waits for that, or
+    /// is refused because its wait would close a ring. Without memory the table stays as it was.
+    pub fn ask(&mut self, session: u8, place: Place<'_>, mode: Mode) -> Result<Answer, AllocError>
+        requires { locks.waits_now self.old.waits session ≡ false }
+        ensures answer { IfOk result (rules_of.IsAnswer self.old session (resource_at place.entry) mode) }
+        ensures change { IfOk result (λ answer. self.new ≡ rules_of.after self.old session (resource_at place.entry) mode answer) }
+        ensures kept { OnErr result (self.new ≡ self.old) }
+    {
+        if may_have(&self.held, &self.waits, session, place, mode) {
+            let wanted = wanted_mode(self.held.mode_of(session, place), mode);
+            self.held = self.held.with(session, place, wanted)?;
+            return Ok(Answer::Granted);
+        }
+        let resource = place.to_resource()?;
+        self.waits.push(Wait {
+            session,
+            resource,
+            mode,
+        })?;
+        if is_in_ring(&self.held, &self.waits, session) {
+            self.waits.pop();
+            return Ok(Answer::Ring);
+        }
+        Ok(Answer::Waits)
+    }
+
+    /// Takes all modes from a session, and its wait if it has one. Without memory the table stays as it was.
+    pub fn let_go(&mut self, session: u8) -> Result<(), AllocError>
+        ensures gone { OnOk result (self.new ≡ spec.let_go self.old session) }
+        ensures kept { OnErr result (self.new ≡ self.old) }
+    {
+        self.held = self.held.without(session)?;
+        remove_wait(&mut self.waits, session);
+        Ok(())
+    }
+
+    /// The session whose wait is ripe and came first, over all resources.
+    pub fn next_grant(&self) -> Option<u8>
+        ensures { MatchOption result (rules_of.NothingRipe self.now) (rules_of.IsNextOf self.now) }
+    {
+        next_ripe(&self.held, &self.waits)
+    }
+
+    /// Gives the session of `next_grant` its wanted mode. Without memory the table stays as it was.
+    pub fn grant(&mut self, session: u8) -> Result<(), AllocError>
+        requires { rules_of.IsNextOf self.old session }
+        ensures granted { OnOk result ((s : locks.Spot) → rules_of.IsNext self.old s → self.new ≡ spec.grant self.old s) }
+        ensures kept { OnErr result (self.new ≡ self.old) }
+    {
+        let Some(wait) = find_wait(&self.waits, session) else {
+            unreachable!()
+        };
+        let mode = wanted(&self.held, wait);
+        self.held = self.held.with(session, wait.resource.place(), mode)?;
+        remove_wait(&mut self.waits, session);
+        Ok(())
+    }
+
+    /// Whether the session waits.
+    pub fn waits(&self, session: u8) -> bool
+        ensures { result ≡ locks.waits_now self.now.waits session }
+    {
+        self.waits.iter().any(|wait| wait.session == session)
+    }
+
+    /// The mode that the session holds at a place.
+    pub fn holds(&self, session: u8, place: Place<'_>) -> Option<Mode>
+        ensures { result ≡ spec.look_in self.now session (resource_at place.entry) }
+    {
+        self.held.mode_of(session, place)
+    }
+
+    /// What the session waits for: the resource, and the mode that it is to get there.
+    pub fn wait_of(&self, session: u8) -> Option<(Place<'_>, Mode)>
+        ensures { option_map (λ p. (resource_at p.0, p.1)) result ≡ rules_of.wait_of self.now session }
+    {
+        match find_wait(&self.waits, session) {
+            None => None,
+            Some(wait) => Some((wait.resource.place(), wanted(&self.held, wait))),
+        }
+    }
+}
+
+impl Fork for LockTable {
+    fn fork(&self) -> Result<LockTable, AllocError> {
+        let held = self.held.fork()?;
+        let mut waits = Vec::new(*self.waits.allocator());
+        for wait in &self.waits {
+            waits.push(wait.fork()?)?;
+        }
+        Ok(LockTable { held, waits })
+    }
+}
+
+/// Whether a session may have a mode at once.
+fn may_have(held: &Held, waits: &[Wait], session: u8, place: Place<'_>, mode: Mode) -> bool
+    ensures { IsTrue result ↔ rules_of.MayHave (record { held = held.now; waits = waits.now }) session (resource_at place.entry) mode }
+{
+    let own = held.mode_of(session, place);
+    (own.is_some() || nobody_waits(waits, place))
+        && held.fits(session, place, wanted_mode(own, mode))
+}
+
+fn nobody_waits(waits: &[Wait], place: Place<'_>) -> bool
+    ensures { result ≡ locks.nobody_waits waits.now (resource_at place.entry) }
+{
+    waits.iter().all(|wait| !wait.is_at(place))
+}
+
+fn find_wait(waits: &[Wait], session: u8) -> Option<&Wait>
+    ensures { option_copied result ≡ find (λ (w : locks.Wait). w.session == session) waits.now }
+{
+    waits.iter().find(|wait| wait.session == session)
+}
+
+fn place_of(waits: &[Wait], session: u8) -> Option<usize>
+    ensures { result ≡ position (λ (w : locks.Wait). w.session == session) waits.now }
+{
+    waits.iter().position(|wait| wait.session == session)
+}
+
+/// Takes out the wait of a session, if it has one.
+fn remove_wait(waits: &mut Vec<Wait>, session: u8)
+    requires { Distinct waits.old.items }
+    ensures { waits.new.items ≡ filter (λ (w : locks.Wait). not (w.session == session)) waits.old.items }
+{
+    if let Some(at) = place_of(waits, session) {
+        waits.remove(at);
+    }
+}

@@ -1,0 +1,314 @@
+use super::*;
+use lock_modes::{Mode, Place, Text, Value};
+use std::alloc::{AllocError, Global};
+use std::process::Abort;
+use std::test::Fail;
+use version_tree::Fork;
+
+/// A call on the tables of these numbers, with what it is to answer.
+#[derive(Clone, Copy)]
+enum Step {
+    Ask(u8, u16, Mode, Answer),
+    LetGo(u8),
+    /// Grants the next wait, if one is ripe.
+    Grant(Option<u8>),
+    Holds(u8, u16, Option<Mode>),
+    /// The mode that the session waits for, if it waits.
+    Waits(u8, Option<Mode>),
+}
+
+fn play_one(rt: &impl Abort, table: &mut LockTable, step: Step) -> Result<(), AllocError> {
+    match step {
+        Step::Ask(session, number, mode, answer) => {
+            assert!(rt; !table.waits(session), "{session} waits");
+            assert!(rt;
+                table.ask(session, Place::Table(number), mode)? == answer,
+                "{session} asks"
+            );
+        }
+        Step::LetGo(session) => table.let_go(session)?,
+        Step::Grant(session) => {
+            assert!(rt; table.next_grant() == session, "{session:?} is next");
+            if let Some(next) = table.next_grant() {
+                table.grant(next)?;
+            }
+        }
+        Step::Holds(session, number, mode) => {
+            assert!(rt;
+                table.holds(session, Place::Table(number)) == mode,
+                "{session} holds"
+            );
+        }
+        Step::Waits(session, mode) => {
+            assert!(rt; table.waits(session) == mode.is_some(), "{session} waits");
+            assert!(rt;
+                table.wait_of(session).map(|(_, mode)| mode) == mode,
+                "{session} waits for"
+            );
+        }
+    }
+    Ok(())
+}
+
+fn play(rt: &impl Abort, table: &mut LockTable, steps: &[Step]) -> Result<(), AllocError> {
+    for step in steps {
+        play_one(rt, table, *step)?;
+    }
+    Ok(())
+}
+
+/// Plays the steps on a table of their own.
+fn play_anew(rt: &impl Abort, alloc: Global, steps: &[Step]) -> Result<(), AllocError> {
+    play(rt, &mut LockTable::new(alloc), steps)
+}
+
+static COVER: [Step; 6] = [
+    Step::Ask(0, 0, Mode::Share, Answer::Granted),
+    Step::Ask(0, 0, Mode::IntentExclusive, Answer::Granted),
+    Step::Holds(0, 0, Some(Mode::ShareIntent)),
+    Step::Ask(1, 0, Mode::IntentShare, Answer::Granted),
+    Step::Ask(2, 0, Mode::Share, Answer::Waits),
+    Step::Grant(None),
+];
+
+static COVER_GONE: [Step; 5] = [
+    Step::LetGo(0),
+    Step::Holds(0, 0, None),
+    Step::Grant(Some(2)),
+    Step::Waits(2, None),
+    Step::Holds(2, 0, Some(Mode::Share)),
+];
+
+static COVER_KEPT: [Step; 4] = [
+    Step::Holds(0, 0, Some(Mode::ShareIntent)),
+    Step::Waits(2, Some(Mode::Share)),
+    Step::Holds(2, 0, None),
+    Step::Grant(None),
+];
+
+#[test]
+fn a_session_gets_the_cover_and_a_fork_stays(rt: HostRuntime) -> Result<(), Fail> {
+    let mut table = LockTable::new(rt.alloc());
+    play(&rt, &mut table, &COVER)?;
+    let mut fork = table.fork()?;
+    play(&rt, &mut table, &COVER_GONE)?;
+    play(&rt, &mut fork, &COVER_KEPT)?;
+    Ok(())
+}
+
+// A fork before a request and one before a grant.
+static FREE: [Step; 3] = [
+    Step::Waits(1, None),
+    Step::Holds(1, 0, None),
+    Step::Holds(0, 0, Some(Mode::Share)),
+];
+
+static RIPE: [Step; 2] = [
+    Step::Waits(1, Some(Mode::Exclusive)),
+    Step::Holds(1, 0, None),
+];
+
+#[test]
+fn forks_before_a_request_and_a_grant_stay(rt: HostRuntime) -> Result<(), Fail> {
+    let mut table = LockTable::new(rt.alloc());
+    play_one(
+        &rt,
+        &mut table,
+        Step::Ask(0, 0, Mode::Share, Answer::Granted),
+    )?;
+    let mut free = table.fork()?;
+    play_one(
+        &rt,
+        &mut table,
+        Step::Ask(1, 0, Mode::Exclusive, Answer::Waits),
+    )?;
+    play_one(&rt, &mut table, Step::LetGo(0))?;
+    let mut ripe = table.fork()?;
+    play_one(&rt, &mut table, Step::Grant(Some(1)))?;
+    play(&rt, &mut free, &FREE)?;
+    play(&rt, &mut ripe, &RIPE)?;
+    Ok(())
+}
+
+// The wait of 2 stands behind that of 1, and is granted in its turn.
+static NOT_PASSED: [Step; 10] = [
+    Step::Ask(0, 0, Mode::Share, Answer::Granted),
+    Step::Ask(1, 0, Mode::Exclusive, Answer::Waits),
+    Step::Ask(2, 0, Mode::IntentShare, Answer::Waits),
+    Step::Grant(None),
+    Step::LetGo(0),
+    Step::Grant(Some(1)),
+    Step::Grant(None),
+    Step::LetGo(1),
+    Step::Grant(Some(2)),
+    Step::Grant(None),
+];
+
+#[test]
+fn a_waiter_is_not_passed(rt: HostRuntime) -> Result<(), Fail> {
+    play_anew(&rt, rt.alloc(), &NOT_PASSED)?;
+    Ok(())
+}
+
+// 0 holds the table already, so it gets what fits at once, and waits before 2.
+static CONVERSION: [Step; 12] = [
+    Step::Ask(0, 0, Mode::IntentShare, Answer::Granted),
+    Step::Ask(1, 0, Mode::IntentShare, Answer::Granted),
+    Step::Ask(2, 0, Mode::Exclusive, Answer::Waits),
+    Step::Ask(0, 0, Mode::IntentExclusive, Answer::Granted),
+    Step::Ask(0, 0, Mode::Share, Answer::Granted),
+    Step::Ask(0, 0, Mode::Exclusive, Answer::Waits),
+    Step::LetGo(1),
+    Step::Grant(Some(0)),
+    Step::Holds(0, 0, Some(Mode::Exclusive)),
+    Step::Grant(None),
+    Step::LetGo(0),
+    Step::Grant(Some(2)),
+];
+
+#[test]
+fn a_conversion_passes_other_waits(rt: HostRuntime) -> Result<(), Fail> {
+    play_anew(&rt, rt.alloc(), &CONVERSION)?;
+    Ok(())
+}
+
+// Two sessions that wait for each other's tables: the one that asks last is refused.
+static CROSSED: [Step; 10] = [
+    Step::Ask(0, 0, Mode::Exclusive, Answer::Granted),
+    Step::Ask(1, 1, Mode::Exclusive, Answer::Granted),
+    Step::Ask(0, 1, Mode::Exclusive, Answer::Waits),
+    Step::Ask(1, 0, Mode::Exclusive, Answer::Ring),
+    Step::Waits(0, Some(Mode::Exclusive)),
+    Step::Waits(1, None),
+    Step::Holds(1, 0, None),
+    Step::Holds(1, 1, Some(Mode::Exclusive)),
+    Step::LetGo(1),
+    Step::Grant(Some(0)),
+];
+
+// Two conversions of one table, of which the first is to get the cover of what it holds and asks.
+static CONVERSIONS: [Step; 6] = [
+    Step::Ask(0, 0, Mode::Share, Answer::Granted),
+    Step::Ask(1, 0, Mode::Share, Answer::Granted),
+    Step::Ask(0, 0, Mode::IntentExclusive, Answer::Waits),
+    Step::Waits(0, Some(Mode::ShareIntent)),
+    Step::Ask(1, 0, Mode::Exclusive, Answer::Ring),
+    Step::Holds(1, 0, Some(Mode::Share)),
+];
+
+// 1 waits for the mode of 0, 2 stands behind the wait of 1, and 0 would wait for the mode of 2.
+static THROUGH_A_QUEUE: [Step; 6] = [
+    Step::Ask(0, 0, Mode::Share, Answer::Granted),
+    Step::Ask(2, 1, Mode::Exclusive, Answer::Granted),
+    Step::Ask(1, 0, Mode::Exclusive, Answer::Waits),
+    Step::Ask(2, 0, Mode::IntentShare, Answer::Waits),
+    Step::Ask(3, 1, Mode::Share, Answer::Waits),
+    Step::Ask(0, 1, Mode::Share, Answer::Ring),
+];
+
+#[test]
+fn a_wait_that_closes_a_ring_is_refused(rt: HostRuntime) -> Result<(), Fail> {
+    play_anew(&rt, rt.alloc(), &CROSSED)?;
+    play_anew(&rt, rt.alloc(), &CONVERSIONS)?;
+    play_anew(&rt, rt.alloc(), &THROUGH_A_QUEUE)?;
+    Ok(())
+}
+
+// The wait on table 1 came first. A session that lets go gives up its wait too.
+static ARRIVAL: [Step; 13] = [
+    Step::Ask(0, 0, Mode::Exclusive, Answer::Granted),
+    Step::Ask(0, 1, Mode::Exclusive, Answer::Granted),
+    Step::Ask(3, 1, Mode::Share, Answer::Waits),
+    Step::Ask(2, 0, Mode::Share, Answer::Waits),
+    Step::Ask(1, 0, Mode::Share, Answer::Waits),
+    Step::LetGo(0),
+    Step::Grant(Some(3)),
+    Step::Grant(Some(2)),
+    Step::Grant(Some(1)),
+    Step::Grant(None),
+    Step::Ask(0, 0, Mode::Exclusive, Answer::Waits),
+    Step::LetGo(0),
+    Step::Waits(0, None),
+];
+
+#[test]
+fn waits_are_granted_as_they_came(rt: HostRuntime) -> Result<(), Fail> {
+    play_anew(&rt, rt.alloc(), &ARRIVAL)?;
+    Ok(())
+}
+
+#[test]
+fn keys_are_locked_by_table_and_value(rt: HostRuntime) -> Result<(), Fail> {
+    let key = Value::Text(Text::from_str(rt.alloc(), "key")?);
+    let here = Place::Row(1, &key);
+    let mut table = LockTable::new(rt.alloc());
+    assert!(rt; !table.waits(0) && !table.waits(1));
+    assert!(rt; table.ask(0, here, Mode::Exclusive)? == Answer::Granted);
+    assert!(rt; table.holds(0, here) == Some(Mode::Exclusive));
+    assert!(rt; table.holds(0, Place::Row(0, &key)).is_none());
+    assert!(rt; table.holds(0, Place::Row(1, &Value::Int(1))).is_none());
+    assert!(rt; table.holds(0, Place::Table(1)).is_none());
+    assert!(rt; !table.waits(1));
+    assert!(rt; table.ask(1, here, Mode::Share)? == Answer::Waits);
+    let (place, mode) = table.wait_of(1).ok_or("no wait")?;
+    assert!(rt; mode == Mode::Share);
+    assert!(rt; place.to_resource()? == here.to_resource()?);
+    Ok(())
+}
+
+/// Asks for a table, and sees that a refusal leaves the session as it was.
+fn ask_and_look(rt: &impl Abort, table: &mut LockTable, session: u8, place: Place<'_>) {
+    if table.waits(session) {
+        return;
+    }
+    let had = table.holds(session, place);
+    match table.ask(session, place, Mode::Exclusive) {
+        Ok(Answer::Granted) => {
+            assert!(rt; table.holds(session, place) == Some(Mode::Exclusive));
+        }
+        Ok(Answer::Waits) => assert!(rt; table.waits(session)),
+        Ok(Answer::Ring) | Err(_) => {
+            assert!(rt; table.holds(session, place) == had);
+            assert!(rt; !table.waits(session));
+        }
+    }
+}
+
+fn let_go_and_look(rt: &impl Abort, table: &mut LockTable, session: u8) {
+    let had = table.holds(session, Place::Table(0));
+    let waited = table.waits(session);
+    if table.let_go(session).is_err() {
+        assert!(rt; table.holds(session, Place::Table(0)) == had);
+        assert!(rt; table.waits(session) == waited);
+    }
+}
+
+fn grant_and_look(rt: &impl Abort, table: &mut LockTable) {
+    if let Some(next) = table.next_grant() {
+        if table.grant(next).is_ok() {
+            assert!(rt; !table.waits(next));
+        } else {
+            assert!(rt; table.next_grant() == Some(next));
+        }
+    }
+}
+
+/// What a refused growth leaves is read under `rt try --test --fail-alloc`.
+#[test]
+fn a_refused_call_leaves_the_table(rt: HostRuntime) {
+    let mut table = LockTable::new(rt.alloc());
+    let key = Value::Int(1);
+    for session in 0..4u8 {
+        ask_and_look(
+            &rt,
+            &mut table,
+            session,
+            Place::Table(u16::from(session % 2)),
+        );
+        ask_and_look(&rt, &mut table, session, Place::Row(0, &key));
+    }
+    for session in 0..4u8 {
+        let_go_and_look(&rt, &mut table, session);
+        grant_and_look(&rt, &mut table);
+    }
+}
