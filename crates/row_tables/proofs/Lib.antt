@@ -1,0 +1,6 @@
+pub mod ListLemmas
+pub mod OverlayLemmas
+pub mod RestoreLemmas
+pub mod StoreLemmas
+pub mod TableLemmas
+pub mod UndoLemmas

@@ -1,0 +1,4 @@
+pub mod Overlay
+pub mod Layers
+pub mod Tables
+pub mod Undo
