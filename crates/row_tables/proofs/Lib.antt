@@ -1,3 +1,4 @@
+pub mod LayersLemmas
 pub mod ListLemmas
 pub mod OverlayLemmas
 pub mod RestoreLemmas

@@ -26,8 +26,8 @@ get-lists es c = lookup-find es c ∙ sym (get-of_entries session_order es c)
 updated : (es fs : List (ℕ × Overlay)) (session : ℕ) (w : Option Overlay) → ((c : ℕ) → lookup (is_at (nat_cmp c)) fs ≡ cond (is_at (nat_cmp session) c) w (lookup (is_at (nat_cmp c)) es)) → (c : ℕ) → get (of_entries session_order fs) c ≡ cond (same_key session_order c session) w (get (of_entries session_order es) c)
 updated es fs session w h c =
     sym (get-lists fs c) ∙ h c
-        ∙ ap (λ b. cond b w (lookup (is_at (nat_cmp c)) es)) ((eq_by_cmp_equiv nat_cmp_total).symm session c)
-        ∙ ap (cond (same_key session_order c session) w) (get-lists es c)
+    ∙ ap (λ b. cond b w (lookup (is_at (nat_cmp c)) es)) ((eq_by_cmp_equiv nat_cmp_total).symm session c)
+    ∙ ap (cond (same_key session_order c session) w) (get-lists es c)
 
 pub put-lists : (es fs : List (ℕ × Overlay)) (session : ℕ) (list : Overlay) → ((c : ℕ) → lookup (is_at (nat_cmp c)) fs ≡ cond (is_at (nat_cmp session) c) (Some list) (lookup (is_at (nat_cmp c)) es)) → of_entries session_order fs ≡ insert (of_entries session_order es) session list
 put-lists es fs session list h = same_map _ _ (λ c. updated es fs session (Some list) h c ∙ sym (get-insert (of_entries session_order es) session list c))
@@ -53,5 +53,5 @@ insert-last (e ∷ es) k v rest h =
 pub copied-more : (all es new : List (ℕ × Overlay)) (k : ℕ) (v : Overlay) (rest : List (ℕ × Overlay)) → IsStrictlySortedBy nat_cmp (keys_of all) → es ++ (k, v) ∷ rest ≡ all → new ≡ insert_entry nat_cmp es k v → new ++ rest ≡ all
 copied-more all es new k v rest sorted so_far inserted =
     ap (λ t. t ++ rest) (inserted ∙ insert-last es k v rest (subst (λ (t : List (ℕ × Overlay)). IsStrictlySortedBy nat_cmp (keys_of t)) (sym so_far) sorted))
-        ∙ append_assoc es ((k, v) ∷ []) rest
-        ∙ so_far
+    ∙ append_assoc es ((k, v) ∷ []) rest
+    ∙ so_far

@@ -18,7 +18,7 @@ same_layers l m rows overlays =
     let each : l.overlays ≡ m.overlays = same_map _ _ overlays in
     λ i. record { committed = committed i; overlays = each i }
 
-apart_from : (c d : ℕ) → same_session c d ≡ false → c ≢ d
+pub apart_from : (c d : ℕ) → same_session c d ≡ false → c ≢ d
 apart_from c d is = λ same. true≢false (sym (same_key-refl session_order d) ∙ ap (λ (e : ℕ). same_session e d) (sym same) ∙ is)
 
 stands-None : (o : Option (Option Tuple)) (row : Option Tuple) → stands o row ≡ None → o ≡ None
@@ -71,26 +71,26 @@ pub removed-apart : (lists : Lists) (session : ℕ) → AreApart lists → AreAp
 removed-apart lists session apart = record {
   each = λ c d q left ne h.
       let did : before lists c q ≡ Some left = some_or_none (same_session c session) _ left (sym (before-removed lists session c q) ∙ h) in
-      before-removed lists session d q ∙ none_or_none (same_session d session) _ (apart.each c d q left ne did)
+      before-removed lists session d q ∙ none_or_none (same_session d session) _ (apart.each c d q left ne did);
 }
 
 -- where the session wrote, no other did
 removed-alone : (lists : Lists) (session : ℕ) (q : Place) (left : Option Tuple) → AreApart lists → before lists session q ≡ Some left → (c : ℕ) → before (Map.remove lists session) c q ≡ None
 removed-alone lists session q left apart did c =
     before-removed lists session c q
-        ∙ elim (same_session c session) as (λ b. same_session c session ≡ b → cond b None (before lists c q) ≡ None) [
-          | true ↦ λ is. refl
-          | false ↦ λ is. apart.each session c q left (apart_from c session is) did
-        ] refl
+    ∙ elim (same_session c session) as (λ b. same_session c session ≡ b → cond b None (before lists c q) ≡ None) [
+      | true ↦ λ is. refl
+      | false ↦ λ is. apart.each session c q left (apart_from c session is) did
+    ] refl
 
 -- where the session did not write, each list has what it had
 removed-same : (lists : Lists) (session : ℕ) (q : Place) → before lists session q ≡ None → (c : ℕ) → before (Map.remove lists session) c q ≡ before lists c q
 removed-same lists session q none c =
     before-removed lists session c q
-        ∙ elim (same_session c session) as (λ b. same_session c session ≡ b → cond b None (before lists c q) ≡ before lists c q) [
-          | true ↦ λ is. sym (ap (λ (d : ℕ). before lists d q) (same_key-true session_order c session is) ∙ none)
-          | false ↦ λ is. refl
-        ] refl
+    ∙ elim (same_session c session) as (λ b. same_session c session ≡ b → cond b None (before lists c q) ≡ before lists c q) [
+      | true ↦ λ is. sym (ap (λ (d : ℕ). before lists d q) (same_key-true session_order c session is) ∙ none)
+      | false ↦ λ is. refl
+    ] refl
 
 -- the row in place was written by the session, and then it is committed; else what was committed is
 pub kept-layers : (rows : Rows') (lists : Lists) (session : ℕ) → AreApart lists → layers rows (Map.remove lists session) ≡ kept session (layers rows lists)
@@ -99,10 +99,10 @@ kept-layers rows lists session apart = same_layers _ _ (λ q. committed q (befor
     committed : (q : Place) (o : Option (Option Tuple)) → before lists session q ≡ o → get (layers rows (Map.remove lists session)).committed q ≡ over (stands (before lists session q) (get rows q)) (get (layers rows lists).committed q)
     committed q (Some left) is =
         committed-none rows (Map.remove lists session) q (removed-alone lists session q left apart is)
-            ∙ sym (ap (λ o. over (stands o (get rows q)) (get (layers rows lists).committed q)) is)
+        ∙ sym (ap (λ o. over (stands o (get rows q)) (get (layers rows lists).committed q)) is)
     committed q None is =
         committed-same rows rows (Map.remove lists session) lists q (removed-apart lists session apart) apart (removed-same lists session q is) refl
-            ∙ sym (ap (λ o. over (stands o (get rows q)) (get (layers rows lists).committed q)) is)
+        ∙ sym (ap (λ o. over (stands o (get rows q)) (get (layers rows lists).committed q)) is)
 
     dropped : (b : Bool) (o : Option Overlay) → option_map (in_place rows) (cond b None o) ≡ cond b None (option_map (in_place rows) o)
     dropped true o = refl
@@ -111,10 +111,10 @@ kept-layers rows lists session apart = same_layers _ _ (λ q. committed q (befor
     overlays : (c : ℕ) → get (layers rows (Map.remove lists session)).overlays c ≡ get (Map.remove (layers rows lists).overlays session) c
     overlays c =
         get-overlays rows (Map.remove lists session) c
-            ∙ ap (option_map (in_place rows)) (get-remove lists session c)
-            ∙ dropped (same_session c session) (get lists c)
-            ∙ ap (cond (same_session c session) None) (sym (get-overlays rows lists c))
-            ∙ sym (get-remove (layers rows lists).overlays session c)
+        ∙ ap (option_map (in_place rows)) (get-remove lists session c)
+        ∙ dropped (same_session c session) (get lists c)
+        ∙ ap (cond (same_session c session) None) (sym (get-overlays rows lists c))
+        ∙ sym (get-remove (layers rows lists).overlays session c)
 
 -- a session without a list has nothing to undo
 pub nothing-undone : (rows : Rows') (lists : Lists) (session : ℕ) → get lists session ≡ None → layers rows lists ≡ undone session (layers rows lists)
@@ -134,9 +134,9 @@ undone-layers rows lists session list apart is = same_layers _ _ (λ q. committe
     committed : (q : Place) (o : Option (Option Tuple)) → before lists session q ≡ o → get (layers (lay list rows) (Map.remove lists session)).committed q ≡ get (layers rows lists).committed q
     committed q (Some left) did =
         committed-none (lay list rows) (Map.remove lists session) q (removed-alone lists session q left apart did)
-            ∙ get-lay list rows q
-            ∙ ap (λ o. over o (get rows q)) (has q ∙ did)
-            ∙ sym (committed-some rows lists q session left apart did)
+        ∙ get-lay list rows q
+        ∙ ap (λ o. over o (get rows q)) (has q ∙ did)
+        ∙ sym (committed-some rows lists q session left apart did)
     committed q None none =
         committed-same (lay list rows) rows (Map.remove lists session) lists q (removed-apart lists session apart) apart (removed-same lists session q none) (get-lay list rows q ∙ ap (λ o. over o (get rows q)) (has q ∙ none))
 
@@ -144,8 +144,8 @@ undone-layers rows lists session list apart is = same_layers _ _ (λ q. committe
     same c ne None h = refl
     same c ne (Some other) h =
         ap Some (in_place-same (lay list rows) rows other (λ q left did.
-            get-lay list rows q
-            ∙ ap (λ o. over o (get rows q)) (has q ∙ apart.each c session q left (λ e. apart_from c session ne (sym e)) (ap (λ o. before_in o q) h ∙ did))))
+        get-lay list rows q
+        ∙ ap (λ o. over o (get rows q)) (has q ∙ apart.each c session q left (λ e. apart_from c session ne (sym e)) (ap (λ o. before_in o q) h ∙ did))))
 
     at : (c : ℕ) (b : Bool) → same_session c session ≡ b → option_map (in_place (lay list rows)) (cond b None (get lists c)) ≡ cond b None (get (layers rows lists).overlays c)
     at c true h = refl
@@ -154,9 +154,9 @@ undone-layers rows lists session list apart is = same_layers _ _ (λ q. committe
     overlays : (c : ℕ) → get (layers (lay list rows) (Map.remove lists session)).overlays c ≡ get (Map.remove (layers rows lists).overlays session) c
     overlays c =
         get-overlays (lay list rows) (Map.remove lists session) c
-            ∙ ap (option_map (in_place (lay list rows))) (get-remove lists session c)
-            ∙ at c (same_session c session) refl
-            ∙ sym (get-remove (layers rows lists).overlays session c)
+        ∙ ap (option_map (in_place (lay list rows))) (get-remove lists session c)
+        ∙ at c (same_session c session) refl
+        ∙ sym (get-remove (layers rows lists).overlays session c)
 
 -- ---- a session writes
 
@@ -192,8 +192,8 @@ module _ (rows : Rows') (lists : Lists) (session : ℕ) (place : Place) (left : 
   get-new_list : (q : Place) → get new_list q ≡ cond (same_place q place) (Some (unwrap_or (before lists session place) (get rows place))) (before lists session q)
   get-new_list q =
       get-noted place rows (unwrap_or (get lists session) empty) q
-          ∙ ap (λ o. cond (same_place q place) (Some (unwrap_or o (get rows place))) (get (unwrap_or (get lists session) empty) q)) (before-empty (get lists session) place)
-          ∙ ap (cond (same_place q place) (Some (unwrap_or (before lists session place) (get rows place)))) (before-empty (get lists session) q)
+      ∙ ap (λ o. cond (same_place q place) (Some (unwrap_or o (get rows place))) (get (unwrap_or (get lists session) empty) q)) (before-empty (get lists session) place)
+      ∙ ap (cond (same_place q place) (Some (unwrap_or (before lists session place) (get rows place)))) (before-empty (get lists session) q)
 
   before-new : (c : ℕ) (q : Place) → before new_lists c q ≡ cond (same_session c session) (get new_list q) (before lists c q)
   before-new c q = ap (λ o. before_in o q) (get-insert lists session new_list c) ∙ put-before (same_session c session) new_list (get lists c) q
@@ -202,27 +202,27 @@ module _ (rows : Rows') (lists : Lists) (session : ℕ) (place : Place) (left : 
   before-here : before new_lists session place ≡ Some (unwrap_or (before lists session place) (get rows place))
   before-here =
       before-new session place
-          ∙ ap (λ b. cond b (get new_list place) (before lists session place)) (same_key-refl session_order session)
-          ∙ get-new_list place
-          ∙ ap (λ b. cond b (Some (unwrap_or (before lists session place) (get rows place))) (before lists session place)) (same_key-refl place_order place)
+      ∙ ap (λ b. cond b (get new_list place) (before lists session place)) (same_key-refl session_order session)
+      ∙ get-new_list place
+      ∙ ap (λ b. cond b (Some (unwrap_or (before lists session place) (get rows place))) (before lists session place)) (same_key-refl place_order place)
 
   others-here : (c : ℕ) → c ≢ session → before new_lists c place ≡ None
   others-here c ne =
       before-new c place
-          ∙ elim (same_session c session) as (λ b. same_session c session ≡ b → cond b (get new_list place) (before lists c place) ≡ None) [
-            | true ↦ λ is. absurd (ne (same_key-true session_order c session is))
-            | false ↦ λ is. alone c ne
-          ] refl
+      ∙ elim (same_session c session) as (λ b. same_session c session ≡ b → cond b (get new_list place) (before lists c place) ≡ None) [
+        | true ↦ λ is. absurd (ne (same_key-true session_order c session is))
+        | false ↦ λ is. alone c ne
+      ] refl
 
   -- elsewhere
   before-there : (c : ℕ) (q : Place) → same_place q place ≡ false → before new_lists c q ≡ before lists c q
   before-there c q not_here =
       let list : get new_list q ≡ before lists session q = get-new_list q ∙ ap (λ b. cond b (Some (unwrap_or (before lists session place) (get rows place))) (before lists session q)) not_here in
       before-new c q
-          ∙ elim (same_session c session) as (λ b. same_session c session ≡ b → cond b (get new_list q) (before lists c q) ≡ before lists c q) [
-            | true ↦ λ is. list ∙ ap (λ (d : ℕ). before lists d q) (sym (same_key-true session_order c session is))
-            | false ↦ λ is. refl
-          ] refl
+      ∙ elim (same_session c session) as (λ b. same_session c session ≡ b → cond b (get new_list q) (before lists c q) ≡ before lists c q) [
+        | true ↦ λ is. list ∙ ap (λ (d : ℕ). before lists d q) (sym (same_key-true session_order c session is))
+        | false ↦ λ is. refl
+      ] refl
 
   row-there : (q : Place) → same_place q place ≡ false → get new_rows q ≡ get rows q
   row-there q not_here = get-laid place left rows q ∙ ap (λ b. cond b left (get rows q)) not_here
@@ -242,16 +242,16 @@ module _ (rows : Rows') (lists : Lists) (session : ℕ) (place : Place) (left : 
               let here : q ≡ place = same_key-true place_order q place is in
               ap (before new_lists d) here ∙ not_both c x (ap (before new_lists c) (sym here) ∙ h) d ne
           | false ↦ λ is. before-there d q is ∙ apart.each c d q x ne (sym (before-there c q is) ∙ h)
-        ] refl
+        ] refl;
   }
 
   committed-here : (o : Option (Option Tuple)) → before lists session place ≡ o → get (layers new_rows new_lists).committed place ≡ get (layers rows lists).committed place
   committed-here (Some x) is =
       committed-some new_rows new_lists place session x new-apart (before-here ∙ ap (λ o. Some (unwrap_or o (get rows place))) is)
-          ∙ sym (committed-some rows lists place session x apart is)
+      ∙ sym (committed-some rows lists place session x apart is)
   committed-here None is =
       committed-some new_rows new_lists place session (get rows place) new-apart (before-here ∙ ap (λ o. Some (unwrap_or o (get rows place))) is)
-          ∙ sym (committed-none rows lists place (none-before lists session place alone is))
+      ∙ sym (committed-none rows lists place (none-before lists session place alone is))
 
   committed-stays : (q : Place) → get (layers new_rows new_lists).committed q ≡ get (layers rows lists).committed q
   committed-stays q =
@@ -268,13 +268,13 @@ module _ (rows : Rows') (lists : Lists) (session : ℕ) (place : Place) (left : 
       at : (q : Place) (b : Bool) → same_place q place ≡ b → stands (get new_list q) (get new_rows q) ≡ cond (same_place q place) (Some left) (get (overlay_of session (layers rows lists)) q)
       at q true is =
           ap (λ o. stands o (get new_rows q)) (get-new_list q ∙ ap (λ b. cond b (Some (unwrap_or (before lists session place) (get rows place))) (before lists session q)) is)
-              ∙ ap Some (get-laid place left rows q ∙ ap (λ b. cond b left (get rows q)) is)
-              ∙ sym (ap (λ b. cond b (Some left) (get (overlay_of session (layers rows lists)) q)) is)
+          ∙ ap Some (get-laid place left rows q ∙ ap (λ b. cond b left (get rows q)) is)
+          ∙ sym (ap (λ b. cond b (Some left) (get (overlay_of session (layers rows lists)) q)) is)
       at q false is =
           ap (λ o. stands o (get new_rows q)) (get-new_list q ∙ ap (λ b. cond b (Some (unwrap_or (before lists session place) (get rows place))) (before lists session q)) is)
-              ∙ ap (stands (before lists session q)) (row-there q is)
-              ∙ sym (get-overlay_of rows lists session q)
-              ∙ sym (ap (λ b. cond b (Some left) (get (overlay_of session (layers rows lists)) q)) is)
+          ∙ ap (stands (before lists session q)) (row-there q is)
+          ∙ sym (get-overlay_of rows lists session q)
+          ∙ sym (ap (λ b. cond b (Some left) (get (overlay_of session (layers rows lists)) q)) is)
 
   other-overlay : (c : ℕ) → c ≢ session → (o : Option Overlay) → get lists c ≡ o → option_map (in_place new_rows) o ≡ option_map (in_place rows) o
   other-overlay c ne None h = refl
@@ -290,12 +290,12 @@ module _ (rows : Rows') (lists : Lists) (session : ℕ) (place : Place) (left : 
   overlay-new : (c : ℕ) → get (layers new_rows new_lists).overlays c ≡ get (insert (layers rows lists).overlays session (insert (overlay_of session (layers rows lists)) place left)) c
   overlay-new c =
       get-overlays new_rows new_lists c
-          ∙ ap (option_map (in_place new_rows)) (get-insert lists session new_list c)
-          ∙ elim (same_session c session) as (λ b. same_session c session ≡ b → option_map (in_place new_rows) (cond b (Some new_list) (get lists c)) ≡ cond b (Some (insert (overlay_of session (layers rows lists)) place left)) (get (layers rows lists).overlays c)) [
-            | true ↦ λ is. ap Some own-overlay
-            | false ↦ λ is. other-overlay c (apart_from c session is) (get lists c) refl ∙ sym (get-overlays rows lists c)
-          ] refl
-          ∙ sym (get-insert (layers rows lists).overlays session (insert (overlay_of session (layers rows lists)) place left) c)
+      ∙ ap (option_map (in_place new_rows)) (get-insert lists session new_list c)
+      ∙ elim (same_session c session) as (λ b. same_session c session ≡ b → option_map (in_place new_rows) (cond b (Some new_list) (get lists c)) ≡ cond b (Some (insert (overlay_of session (layers rows lists)) place left)) (get (layers rows lists).overlays c)) [
+        | true ↦ λ is. ap Some own-overlay
+        | false ↦ λ is. other-overlay c (apart_from c session is) (get lists c) refl ∙ sym (get-overlays rows lists c)
+      ] refl
+      ∙ sym (get-insert (layers rows lists).overlays session (insert (overlay_of session (layers rows lists)) place left) c)
 
   -- the place is noted and the row replaced
   pub wrote-layers : layers new_rows new_lists ≡ wrote session place left (layers rows lists)

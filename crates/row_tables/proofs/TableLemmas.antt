@@ -57,9 +57,9 @@ get-with_rows : (t : ℕ) (es : Table) (rows : Rows') (q : Place) → get (with_
 get-with_rows t [] rows q = cond-same (same_table q.0 t) (get rows q)
 get-with_rows t (e ∷ es) rows q =
     get-insert (with_rows t es rows) (t, e.0) e.1 q
-        ∙ ap (cond (same_key place_order q (t, e.0)) (Some e.1)) (get-with_rows t es rows q)
-        ∙ ap (λ b. cond b (Some e.1) (cond (same_table q.0 t) (option_or (find value_cmp q.1 es) (get rows q)) (get rows q))) (is_eq-then (nat_cmp q.0 t) (value_cmp q.1 e.0))
-        ∙ chosen (same_table q.0 t) (same_value q.1 e.0) e.1 (find value_cmp q.1 es) (get rows q)
+    ∙ ap (cond (same_key place_order q (t, e.0)) (Some e.1)) (get-with_rows t es rows q)
+    ∙ ap (λ b. cond b (Some e.1) (cond (same_table q.0 t) (option_or (find value_cmp q.1 es) (get rows q)) (get rows q))) (is_eq-then (nat_cmp q.0 t) (value_cmp q.1 e.0))
+    ∙ chosen (same_table q.0 t) (same_value q.1 e.0) e.1 (find value_cmp q.1 es) (get rows q)
 
 option_or-None : (x : Option Tuple) → option_or x None ≡ x
 option_or-None None = refl
@@ -72,8 +72,8 @@ in_its_place false f g = refl
 pub get-put_rows : (t : ℕ) (es : Table) (rows : Rows') (q : Place) → get (put_rows t es rows) q ≡ cond (same_table q.0 t) (find value_cmp q.1 es) (get rows q)
 get-put_rows t es rows q =
     get-with_rows t es (keep (λ place. not (same_table place.0 t)) rows) q
-        ∙ ap (λ g. cond (same_table q.0 t) (option_or (find value_cmp q.1 es) g) g) (get-keep (λ place. not (same_table place.0 t)) rows q)
-        ∙ in_its_place (same_table q.0 t) (find value_cmp q.1 es) (get rows q)
+    ∙ ap (λ g. cond (same_table q.0 t) (option_or (find value_cmp q.1 es) g) g) (get-keep (λ place. not (same_table place.0 t)) rows q)
+    ∙ in_its_place (same_table q.0 t) (find value_cmp q.1 es) (get rows q)
 
 found : (b : Bool) (k : Value) (t : Table) (o : Option Table) → cond b (find value_cmp k t) (find value_cmp k (unwrap_or o [])) ≡ find value_cmp k (unwrap_or (cond b (Some t) o) [])
 found true k t o = refl
@@ -84,18 +84,18 @@ pub get-rows_of_tables : (ts : List (ℕ × Table)) (q : Place) → get (rows_of
 get-rows_of_tables [] q = get-empty place_order Tuple q
 get-rows_of_tables (t ∷ ts) q =
     get-put_rows t.0 t.1 (rows_of_tables ts) q
-        ∙ ap (cond (same_table q.0 t.0) (find value_cmp q.1 t.1)) (get-rows_of_tables ts q)
-        ∙ found (same_table q.0 t.0) q.1 t.1 (find nat_cmp q.0 ts)
+    ∙ ap (cond (same_table q.0 t.0) (find value_cmp q.1 t.1)) (get-rows_of_tables ts q)
+    ∙ found (same_table q.0 t.0) q.1 t.1 (find nat_cmp q.0 ts)
 
 -- rows that are put for a table are in place of those that it had
 pub put-tables : (ts : List (ℕ × Table)) (t : ℕ) (es : Table) → rows_of_tables (put nat_cmp t es ts) ≡ put_rows t es (rows_of_tables ts)
 put-tables ts t es =
     same_map _ _ (λ q.
-        get-rows_of_tables (put nat_cmp t es ts) q
-        ∙ ap (λ o. find value_cmp q.1 (unwrap_or o [])) (find-put nat_cmp nat_cmp_total q.0 t es ts)
-        ∙ sym (found (same_table q.0 t) q.1 es (find nat_cmp q.0 ts))
-        ∙ ap (cond (same_table q.0 t) (find value_cmp q.1 es)) (sym (get-rows_of_tables ts q))
-        ∙ sym (get-put_rows t es (rows_of_tables ts) q))
+    get-rows_of_tables (put nat_cmp t es ts) q
+    ∙ ap (λ o. find value_cmp q.1 (unwrap_or o [])) (find-put nat_cmp nat_cmp_total q.0 t es ts)
+    ∙ sym (found (same_table q.0 t) q.1 es (find nat_cmp q.0 ts))
+    ∙ ap (cond (same_table q.0 t) (find value_cmp q.1 es)) (sym (get-rows_of_tables ts q))
+    ∙ sym (get-put_rows t es (rows_of_tables ts) q))
 
 -- ---- the rows of one table
 
@@ -107,8 +107,8 @@ find-rows_in : (t : ℕ) (k : Value) (es : List (Place × Tuple)) → find value
 find-rows_in t k [] = refl
 find-rows_in t k (e ∷ es) =
     find-cond (same_table t e.0.0) k (e.0.1, e.1) (rows_in t es)
-        ∙ ap (λ b. cond b (Some e.1) (find value_cmp k (rows_in t es))) (sym (is_eq-then (nat_cmp t e.0.0) (value_cmp k e.0.1)))
-        ∙ ap (cond (same_key place_order (t, k) e.0) (Some e.1)) (find-rows_in t k es)
+    ∙ ap (λ b. cond b (Some e.1) (find value_cmp k (rows_in t es))) (sym (is_eq-then (nat_cmp t e.0.0) (value_cmp k e.0.1)))
+    ∙ ap (cond (same_key place_order (t, k) e.0) (Some e.1)) (find-rows_in t k es)
 
 -- the row at a key of a table's rows is the one at the table and the key
 pub find-rows_of : (t : ℕ) (k : Value) (rows : Rows') → find value_cmp k (rows_of t rows) ≡ get rows (t, k)
@@ -152,10 +152,10 @@ table-rows ts t es s is = is_rows_of t (rows_of_tables ts) es s (λ k. ap (find 
 replaced : (t : ℕ) (k : Value) (left : Option Tuple) (es : Table) (rows : Rows') → ((j : Value) → find value_cmp j es ≡ cond (same_value j k) left (get rows (t, j))) → put_rows t es rows ≡ laid (t, k) left rows
 replaced t k left es rows h =
     same_map _ _ (λ q.
-        get-put_rows t es rows q
-        ∙ at q (same_table q.0 t) refl
-        ∙ ap (λ b. cond b left (get rows q)) (sym (is_eq-then (nat_cmp q.0 t) (value_cmp q.1 k)))
-        ∙ sym (get-laid (t, k) left rows q))
+    get-put_rows t es rows q
+    ∙ at q (same_table q.0 t) refl
+    ∙ ap (λ b. cond b left (get rows q)) (sym (is_eq-then (nat_cmp q.0 t) (value_cmp q.1 k)))
+    ∙ sym (get-laid (t, k) left rows q))
   where
     at : (q : Place) (b : Bool) → same_table q.0 t ≡ b → cond b (find value_cmp q.1 es) (get rows q) ≡ cond (b && same_value q.1 k) left (get rows q)
     at q true is = h q.1 ∙ ap (λ (u : ℕ). cond (same_value q.1 k) left (get rows (u, q.1))) (sym (same_table-true q.0 t is))
@@ -164,7 +164,7 @@ replaced t k left es rows h =
 pub put_rows-put : (t : ℕ) (k : Value) (row : Tuple) (rows : Rows') → put_rows t (put value_cmp k row (rows_of t rows)) rows ≡ insert rows (t, k) row
 put_rows-put t k row rows =
     replaced t k (Some row) _ rows (λ j.
-        find-put value_cmp value_total j k row (rows_of t rows) ∙ ap (cond (same_value j k) (Some row)) (find-rows_of t j rows))
+    find-put value_cmp value_total j k row (rows_of t rows) ∙ ap (cond (same_value j k) (Some row)) (find-rows_of t j rows))
 
 cond-not : (b : Bool) (x : Option Tuple) → cond (not b) x None ≡ cond b None x
 cond-not true x = refl
@@ -173,7 +173,7 @@ cond-not false x = refl
 pub put_rows-without : (t : ℕ) (k : Value) (rows : Rows') → put_rows t (without value_cmp k (rows_of t rows)) rows ≡ Map.remove rows (t, k)
 put_rows-without t k rows =
     replaced t k None _ rows (λ j.
-        find-where_key value_cmp (λ x. not (same_value k x)) j (λ x e. ap (λ y. not (same_value k y)) (sym (value_same j x e))) (rows_of t rows)
-        ∙ cond-not (same_value k j) _
-        ∙ ap (λ b. cond b None (find value_cmp j (rows_of t rows))) ((eq_by_cmp_equiv value_total).symm k j)
-        ∙ ap (cond (same_value j k) None) (find-rows_of t j rows))
+    find-where_key value_cmp (λ x. not (same_value k x)) j (λ x e. ap (λ y. not (same_value k y)) (sym (value_same j x e))) (rows_of t rows)
+    ∙ cond-not (same_value k j) _
+    ∙ ap (λ b. cond b None (find value_cmp j (rows_of t rows))) ((eq_by_cmp_equiv value_total).symm k j)
+    ∙ ap (cond (same_value j k) None) (find-rows_of t j rows))

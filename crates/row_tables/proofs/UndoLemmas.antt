@@ -144,8 +144,8 @@ none-undone : (rows : Rows') (es : List (ℕ × Overlay)) (q : Place) → T (is_
 none-undone rows [] q s h = refl
 none-undone rows (e ∷ es) q s h =
     get-lay e.1 (all_undone es rows) q
-        ∙ ap (λ o. over o (get (all_undone es rows) q)) (sym (at_in-head e es q) ∙ h e.0)
-        ∙ none-undone rows es q (back _ _ s) (λ c. at_in-tail e es c q s ∙ none_or_none (same_session c e.0) _ (h c))
+    ∙ ap (λ o. over o (get (all_undone es rows) q)) (sym (at_in-head e es q) ∙ h e.0)
+    ∙ none-undone rows es q (back _ _ s) (λ c. at_in-tail e es c q s ∙ none_or_none (same_session c e.0) _ (h c))
 
 some-undone : (rows : Rows') (es : List (ℕ × Overlay)) (q : Place) (c : ℕ) (left : Option Tuple) → T (is_sorted nat_cmp es) → IsApart es q → at_in es c q ≡ Some left → get (all_undone es rows) q ≡ left
 some-undone rows [] q c left s apart h = cc
@@ -157,7 +157,7 @@ some-undone rows (e ∷ es) q c left s apart h =
     at false is rest =
         let ne : e.0 ≢ c = λ same. true≢false (sym (same_key-refl session_order c) ∙ ap (same_session c) (sym same) ∙ is) in
         ap (λ o. over o (get (all_undone es rows) q)) (sym (at_in-head e es q) ∙ apart c e.0 left ne h)
-            ∙ rest (at_in-tail e es c q s ∙ ap (λ b. cond b None (at_in (e ∷ es) c q)) is ∙ h)
+        ∙ rest (at_in-tail e es c q s ∙ ap (λ b. cond b None (at_in (e ∷ es) c q)) is ∙ h)
 
 -- where no session wrote, the row in place is committed
 pub committed-none : (rows : Rows') (lists : Lists) (q : Place) → ((c : ℕ) → before lists c q ≡ None) → get (layers rows lists).committed q ≡ get rows q

@@ -1,17 +1,19 @@
-ghost use Rattle.std.specs.Prelude.{◌≡◌, OnOk, OnErr};
-ghost use Rattle.std.specs.Option.{option_copied};
+ghost use Rattle.std.specs.Prelude.{◌≡◌, IfOk, OnOk, OnErr};
+ghost use Rattle.std.specs.Option.{option_copied, unwrap_or};
 ghost use Rattle.std.specs.FinMap.Entries.{find};
-ghost use Rattle.version_tree.specs.Map.{get};
+ghost use Rattle.version_tree.specs.Map.{get, empty};
 ghost use Rattle.version_tree.specs.Iter.{left};
 ghost use Rattle.version_tree.specs.Entries.{IsInOrder};
 ghost use Rattle.lock_modes.specs.Value.{value_cmp};
 ghost use Rattle.lock_modes.specs.declared.value.Value.{Value as Key};
+ghost use Rattle.row_tables.specs.Overlay.{laid};
+ghost use Rattle.row_tables.specs.Undo.{noted};
 ghost use Rattle.row_tables.specs.Layers.{sight, rows_of, no_rows, IsOnlyWriterAt, IsOnlyWriterIn, wrote, undone, kept};
 
 use crate::left::Left;
 use crate::place::RowPlace;
 use crate::rows::Rows;
-use crate::undo::UndoLists;
+use crate::undo::{UndoList, UndoLists};
 use lock_modes::{Row, Value};
 use std::alloc::{AllocError, Global};
 use std::marker::Model;
@@ -88,8 +90,7 @@ impl Store {
         ensures err { OnErr result (self.new ≡ self.old) }
     {
         let place = RowPlace::new(table, key);
-        let list = self.undo.noted(session, &place, &self.rows)?;
-        let rows = self.rows.replaced(place, Left::new(row))?;
+        let (rows, list) = with_write(&self.rows, &self.undo, session, place, Left::new(row))?;
         self.undo.put(session, list)?;
         self.rows = rows;
         Ok(())
@@ -115,6 +116,22 @@ impl Store {
     {
         self.undo.remove(session);
     }
+}
+
+/// The rows with what a session leaves at a place, and the session's undo list with the place.
+fn with_write(
+    rows: &Rows,
+    undo: &UndoLists,
+    session: u8,
+    place: RowPlace,
+    left: Left,
+) -> Result<(Rows, UndoList), AllocError>
+    ensures rows { IfOk result (λ made. made.0 ≡ laid place left rows.now) }
+    ensures list { IfOk result (λ made. made.1 ≡ noted place rows.now (unwrap_or (get undo.now session) empty)) }
+{
+    let list = undo.noted(session, &place, rows)?;
+    let rows = rows.replaced(place, left)?;
+    Ok((rows, list))
 }
 
 impl Fork for Store {

@@ -2,6 +2,8 @@
 
 ghost use Rattle.std.specs.Prelude.{◌≡◌, IfOk, OnOk, OnErr};
 ghost use Rattle.std.specs.Option.{option_copied, unwrap_or};
+ghost use Rattle.std.specs.Ordering.{nat_cmp};
+ghost use Rattle.std.specs.BTreeMap.{insert_entry};
 ghost use Rattle.version_tree.specs.Map as map;
 ghost use Rattle.version_tree.specs.Iter.{left};
 ghost use Rattle.lock_modes.specs.Place.{place_cmp};
@@ -128,12 +130,7 @@ impl UndoLists {
     }
 
     /// A session's list with what stands at a place, unless it has what stood there before.
-    pub fn noted(
-        &self,
-        session: u8,
-        place: &RowPlace,
-        rows: &Rows,
-    ) -> Result<UndoList, AllocError>
+    pub fn noted(&self, session: u8, place: &RowPlace, rows: &Rows) -> Result<UndoList, AllocError>
         ensures { IfOk result (λ list. list ≡ noted place.now rows.now (unwrap_or (map.get self.now session) map.empty)) }
     {
         match self.get(session) {
@@ -161,9 +158,21 @@ impl Fork for UndoLists {
     fn fork(&self) -> Result<UndoLists, AllocError> {
         let mut lists = BTreeMap::new(self.alloc);
         for (session, list) in self.lists.iter() {
-            lists.insert(*session, list.fork()?)?;
+            copy_into(&mut lists, *session, list)?;
         }
         let alloc = self.alloc;
         Ok(UndoLists { lists, alloc })
     }
+}
+
+/// Inserts an equal list.
+fn copy_into(
+    lists: &mut BTreeMap<u8, UndoList>,
+    session: u8,
+    list: &UndoList,
+) -> Result<(), AllocError>
+    ensures { OnOk result (lists.new.entries ≡ insert_entry nat_cmp lists.old.entries session list.now) }
+{
+    lists.insert(session, list.fork()?)?;
+    Ok(())
 }

@@ -13,4 +13,4 @@ returns-clause-rows c = c.iter.ensures ∙ c.table.ensures.rows ∙ rows_of-seen
 pub returns-clause-each : goal.returns-clause-each
 returns-clause-each c = λ key.
     ap (find value_cmp key) (c.iter.ensures ∙ c.table.ensures.rows ∙ rows_of-seen c.self.inside.rows c.self.inside.undo c.args.self.now c.args.session c.args.table c.self.view_is c.requires)
-        ∙ find-rows_of c.args.table key (sight c.args.session c.args.self.now)
+    ∙ find-rows_of c.args.table key (sight c.args.session c.args.self.now)

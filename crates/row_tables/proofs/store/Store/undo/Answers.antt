@@ -21,5 +21,5 @@ pub returns-clause-ok : goal.returns-clause-ok
 returns-clause-ok c =
     let some : get c.self.inside.undo c.args.session ≡ Some c.in-Some.list.now = sym c.get.ensures ∙ ap option_copied c.in-Some.is in
     (λ i. layers (c.in_ok-rows.ensures i) (c.remove.ensures i))
-        ∙ undone-layers c.self.inside.rows c.self.inside.undo c.args.session c.in-Some.list.now c.self.invariant some
-        ∙ ap (undone c.args.session) c.self.view_is
+    ∙ undone-layers c.self.inside.rows c.self.inside.undo c.args.session c.in-Some.list.now c.self.invariant some
+    ∙ ap (undone c.args.session) c.self.view_is

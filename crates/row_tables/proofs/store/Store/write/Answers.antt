@@ -8,9 +8,6 @@ use Rattle.row_tables.specs.Undo.{AreApart, before, noted, layers}
 use Rattle.row_tables.proofs.StoreLemmas.{only-before, new-apart, wrote-layers}
 use Rattle.row_tables.proofs.store.Store.write.Goals as goal
 
-pub same-self-in_err-rows : goal.same-self-in_err-rows
-same-self-in_err-rows c = refl
-
 pub invariant_of-self : goal.invariant_of-self
 invariant_of-self c = subst AreApart (sym c.in_err-put.ensures.err) c.self.invariant
 
@@ -21,7 +18,7 @@ invariant_of-self-2 c =
     let place : Place = (c.args.table, c.args.key) in
     let alone : (other : ℕ) → other ≢ c.args.session → before undo other place ≡ None = only-before rows undo c.args.session place (subst (IsOnlyWriterAt c.args.session place) (sym c.self.view_is) c.requires) in
     let lists : c.put.new.self ≡ insert undo c.args.session (noted place rows (unwrap_or (get undo c.args.session) empty)) =
-        c.in_ok-put.ensures.ok ∙ ap (insert undo c.args.session) (c.in_ok-list.ensures ∙ ap (λ (p : Place). noted p rows (unwrap_or (get undo c.args.session) empty)) c.new-place.ensures) in
+    c.in_ok-put.ensures.ok ∙ ap (insert undo c.args.session) (c.in_ok-rows.ensures.list ∙ ap (λ (p : Place). noted p rows (unwrap_or (get undo c.args.session) empty)) c.new-place.ensures) in
     subst AreApart (sym lists) (new-apart rows undo c.args.session place c.args.row c.self.invariant alone)
 
 -- the place is noted and what is left there stands in place
@@ -32,8 +29,8 @@ returns-clause-ok c =
     let place : Place = (c.args.table, c.args.key) in
     let alone : (other : ℕ) → other ≢ c.args.session → before undo other place ≡ None = only-before rows undo c.args.session place (subst (IsOnlyWriterAt c.args.session place) (sym c.self.view_is) c.requires) in
     let lists : c.put.new.self ≡ insert undo c.args.session (noted place rows (unwrap_or (get undo c.args.session) empty)) =
-        c.in_ok-put.ensures.ok ∙ ap (insert undo c.args.session) (c.in_ok-list.ensures ∙ ap (λ (p : Place). noted p rows (unwrap_or (get undo c.args.session) empty)) c.new-place.ensures) in
-    let in_place : c.in_ok-rows.rows ≡ laid place c.args.row rows = c.in_ok-rows.ensures ∙ λ i. laid (c.new-place.ensures i) (c.new.ensures i) rows in
+    c.in_ok-put.ensures.ok ∙ ap (insert undo c.args.session) (c.in_ok-rows.ensures.list ∙ ap (λ (p : Place). noted p rows (unwrap_or (get undo c.args.session) empty)) c.new-place.ensures) in
+    let in_place : c.in_ok-rows.rows ≡ laid place c.args.row rows = c.in_ok-rows.ensures.rows ∙ λ i. laid (c.new-place.ensures i) (c.new.ensures i) rows in
     (λ i. layers (in_place i) (lists i))
-        ∙ wrote-layers rows undo c.args.session place c.args.row c.self.invariant alone
-        ∙ ap (wrote c.args.session place c.args.row) c.self.view_is
+    ∙ wrote-layers rows undo c.args.session place c.args.row c.self.invariant alone
+    ∙ ap (wrote c.args.session place c.args.row) c.self.view_is
