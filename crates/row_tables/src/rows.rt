@@ -4,6 +4,7 @@ ghost use Rattle.std.specs.Prelude.{◌≡◌, IfOk};
 ghost use Rattle.std.specs.Option.{option_copied};
 ghost use Rattle.version_tree.specs.Map as map;
 ghost use Rattle.version_tree.specs.Entries.{IsInOrder};
+ghost use Rattle.version_tree.specs.Iter.{left};
 ghost use Rattle.lock_modes.specs.Value.{value_cmp};
 ghost use Rattle.row_tables.specs.Overlay.{laid};
 ghost use Rattle.row_tables.specs.Layers.{rows_of};
@@ -14,7 +15,7 @@ use crate::place::RowPlace;
 use lock_modes::{Row, Value};
 use std::alloc::{AllocError, Global};
 use std::marker::Model;
-use version_tree::{Fork, VMap};
+use version_tree::{Fork, Iter, VMap};
 
 /// Rows by table and key, in persistent versions. Contracts see their finite map.
 #[derive(Drop)]
@@ -53,7 +54,7 @@ impl Rows {
     }
 
     /// The rows of a table by their keys.
-    pub fn table(&self, table: u16) -> &VMap<Value, Row>
+    fn table(&self, table: u16) -> &VMap<Value, Row>
         ensures rows { result.now ≡ rows_of table self.now }
         ensures in_order { IsInOrder value_cmp result.now }
     {
@@ -69,6 +70,14 @@ impl Rows {
         ensures { option_copied result ≡ map.get self.now (table, key.now) }
     {
         self.table(table).get(key)
+    }
+
+    /// The rows of a table in the order of their keys.
+    pub fn scan(&self, table: u16) -> Iter<'_, Value, Row>
+        ensures rows { left value_cmp result ≡ rows_of table self.now }
+        ensures in_order { IsInOrder value_cmp (left value_cmp result) }
+    {
+        self.table(table).iter()
     }
 
     /// What stands at a place.

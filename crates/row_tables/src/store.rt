@@ -73,7 +73,7 @@ impl Store {
         ensures in_order { IsInOrder value_cmp (left value_cmp result) }
         ensures each { (key : Key) → find value_cmp key (left value_cmp result) ≡ get (sight session self.now) (table, key) }
     {
-        self.rows.table(table).iter()
+        self.rows.scan(table)
     }
 
     /// Leaves a row, or none, at a key of a table, seen by the session alone until it keeps its writes. No other session
