@@ -1,0 +1,60 @@
+-- Committed rows with an overlay for each session, and the steps of a store over them.
+use Rattle.std.specs.Prelude.{◌≡◌, ◌≢◌, ℕ, cond, List, [], ◌∷◌, Option, Some, None}
+use Rattle.std.specs.Option.{unwrap_or}
+use Rattle.std.specs.Ordering.{nat_cmp, eq_by_cmp}
+use Rattle.std.specs.Cmp.{nat_cmp_total}
+use Rattle.std.specs.FinMap.{nat_cmp-IsAntisymmetric}
+use Rattle.version_tree.specs.Map
+use Rattle.version_tree.specs.Map.{Order, Map, get, insert, empty, entries}
+use Rattle.lock_modes.specs.Place.{Place, place_order}
+use Rattle.lock_modes.specs.declared.value.Value.{Value}
+use Rattle.row_tables.specs.Overlay.{Tuple, Rows', Overlay, lay}
+
+-- sessions by their number
+abbrev pub session_order : Order ℕ
+session_order = record { cmp = nat_cmp; total = nat_cmp_total; same = nat_cmp-IsAntisymmetric }
+
+-- the committed rows, and an overlay for each session that has writes of its own
+pub record Layers : Type 0 where
+  pub committed : Rows'
+  pub overlays : Map session_order Overlay
+
+-- a session's overlay, empty where it has none
+abbrev pub overlay_of : ℕ → Layers → Overlay
+overlay_of session l = unwrap_or (get l.overlays session) empty
+
+-- what a session sees: its overlay laid over the committed rows
+abbrev pub sight : ℕ → Layers → Rows'
+sight session l = lay (overlay_of session l) l.committed
+
+-- no other session has written at the place
+abbrev pub IsOnlyWriterAt : ℕ → Place → Layers → Type 0
+IsOnlyWriterAt session place l = (other : ℕ) → other ≢ session → get (overlay_of other l) place ≡ None
+
+-- no other session has written in the table
+abbrev pub IsOnlyWriterIn : ℕ → ℕ → Layers → Type 0
+IsOnlyWriterIn session table l = (key : Value) → IsOnlyWriterAt session (table, key) l
+
+-- nothing committed and nothing written
+abbrev pub no_rows : Layers
+no_rows = record { committed = empty; overlays = empty }
+
+-- the session has left a row, or none, at the place
+abbrev pub wrote : ℕ → Place → Option Tuple → Layers → Layers
+wrote session place left l = record l { overlays = insert l.overlays session (insert (overlay_of session l) place left) }
+
+-- the session's overlay is dropped
+abbrev pub undone : ℕ → Layers → Layers
+undone session l = record l { overlays = Map.remove l.overlays session }
+
+-- the session's overlay is laid over the committed rows for good
+abbrev pub kept : ℕ → Layers → Layers
+kept session l = record { committed = sight session l; overlays = Map.remove l.overlays session }
+
+abbrev pub rows_in : ℕ → List (Place × Tuple) → List (Value × Tuple)
+rows_in table [] = []
+rows_in table (e ∷ es) = cond (eq_by_cmp nat_cmp table e.0.0) ((e.0.1, e.1) ∷ rows_in table es) (rows_in table es)
+
+-- the rows of a table in the order of their keys
+abbrev pub rows_of : ℕ → Rows' → List (Value × Tuple)
+rows_of table rows = rows_in table (entries rows)

@@ -1,0 +1,47 @@
+ghost use Rattle.std.specs.Prelude.{◌≡◌};
+
+use lock_modes::Row;
+use std::alloc::AllocError;
+use std::marker::Model;
+use version_tree::Fork;
+
+/// What is left at a place, a row or none. Contracts see the option.
+#[derive(Drop)]
+pub(crate) struct Left {
+    row: Option<Row>,
+}
+
+impl Model for Left {
+    ghost use Rattle.std.specs.Prelude.{Option};
+    ghost use Rattle.row_tables.specs.Overlay.{Tuple};
+
+    ghost Value = { Option Tuple };
+
+    ghost view = { λ l. l.row };
+}
+
+impl Left {
+    pub fn new(row: Option<Row>) -> Left
+        ensures { result ≡ row }
+    {
+        Left { row }
+    }
+
+    pub fn into_row(self) -> Option<Row>
+        ensures { result ≡ self }
+    {
+        self.row
+    }
+}
+
+impl Fork for Left {
+    fn fork(&self) -> Result<Left, AllocError> {
+        match &self.row {
+            None => Ok(Left { row: None }),
+            Some(row) => {
+                let row = row.fork()?;
+                Ok(Left { row: Some(row) })
+            }
+        }
+    }
+}

@@ -1,0 +1,12 @@
+//! Rows with undo: committed rows, and over them what each session has written.
+#![tactic(auto)]
+
+mod left;
+mod place;
+mod rows;
+mod store;
+#[cfg(test)]
+mod tests;
+mod undo;
+
+pub use store::Store;
