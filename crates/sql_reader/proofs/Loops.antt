@@ -1,10 +1,10 @@
 -- A loop over items with separators between them: the items so far and those to come.
-use Rattle.std.proofs.Common.{◌≡◌, refl, sym, ap, subst, ◌∙◌, ℕ, zero, suc, ◌+◌, ◌-◌, ◌<◌, ◌≤◌, List, [], ◌∷◌, ◌++◌, length, Option, Some, None, Ok, Err, arith, map, length-append}
-use Rattle.std.proofs.lemmas.List.{length-map}
+use Rattle.std.proofs.Common.{◌≡◌, refl, sym, ap, subst, ◌∙◌, ℕ, zero, suc, ◌+◌, ◌-◌, ◌<◌, ◌≤◌, List, [], ◌∷◌, ◌++◌, length, Option, Some, None, Ok, Err, arith, length-append, append_assoc, Bool, true, false, cond, Result}
+use Rattle.std.proofs.lemmas.List.{length-map, append-nil}
 use Rattle.sql_reader.specs.declared.token.Placed.{Placed as WrittenAt}
 use Rattle.sql_reader.specs.Tokens.{Token, Placed}
 use Rattle.sql_reader.specs.Lexing.{view, views}
-use Rattle.sql_reader.specs.Reading.{Stop, Read, ◌>>=◌, first, rest, chain}
+use Rattle.sql_reader.specs.Reading.{Stop, Read, ◌>>=◌, first, rest, chain, many}
 use Rattle.sql_reader.specs.Views.{joined, Refuses, Passed}
 use Rattle.sql_reader.specs.declared.error.Stop.{Stop as Stopped}
 use Rattle.sql_reader.specs.declared.error.Stop.TheVariants as stop
@@ -140,3 +140,79 @@ module _ {A S L X : Type 0} (last : A → L) (more : A → S → L → L) (sep :
 -- what is left and what is read are no more than the tokens
 pub fits : {X : Type 0} (xs xs' : List X) (x : X) (now after left tokens : List WrittenAt) → xs' ≡ xs ++ x ∷ [] → length after < length now → length left ≤ length after → length now + length xs ≤ length tokens → length left + length xs' ≤ length tokens
 fits xs xs' x now after left tokens pushed lt le all = omega (arith, ap length pushed, length-append xs (x ∷ []))
+
+-- ---- items while a test holds
+
+module _ {A : Type 0} (goes : Token → Bool) (item : List Placed → Read A) where
+  abbrev pub step_by : Bool → Read A → Result (Option (A × List Placed)) Stop
+  step_by b r = cond b (◌>>=◌ {B = Option (A × List Placed)} r (λ x. Ok (Some x))) (Ok None)
+
+  abbrev pub step : List Placed → Result (Option (A × List Placed)) Stop
+  step ts = step_by (goes (first ts).token) (item ts)
+
+  -- the items so far, and those to come
+  abbrev pub ManySoFar : ℕ → List A → List Placed → Read (List A) → Type 0
+  ManySoFar n xs ts whole = ◌>>=◌ {B = List A × List Placed} (many goes item (suc n - length xs) ts) (λ l. Ok (xs ++ l.0, l.1)) ≡ whole
+
+  same_read : (r : Read (List A)) → ◌>>=◌ {B = List A × List Placed} r (λ l. Ok ([] ++ l.0, l.1)) ≡ r
+  same_read (Ok x) = refl
+  same_read (Err e) = refl
+
+  pub many-starts : (ts : List Placed) (xs : List A) → xs ≡ [] → ManySoFar (length ts) xs ts (many goes item (suc (length ts)) ts)
+  many-starts ts xs none =
+      let all : suc (length ts) - length {A = A} [] ≡ suc (length ts) = omega arith in
+      subst (λ (ys : List A). ManySoFar (length ts) ys ts (many goes item (suc (length ts)) ts)) (sym none)
+        (ap (λ (m : ℕ). ◌>>=◌ {B = List A × List Placed} (many goes item m ts) (λ l. Ok ([] ++ l.0, l.1))) all ∙ same_read (many goes item (suc (length ts)) ts))
+
+  abbrev many_by : ℕ → List Placed → Bool → Read A → Read (List A)
+  many_by n ts b r = cond b (r >>= λ a. ◌>>=◌ {B = List A × List Placed} (many goes item n a.1) (λ l. Ok (a.0 ∷ l.0, l.1))) (Ok ([], ts))
+
+  by_stop : (n : ℕ) (ts : List Placed) (b : Bool) (r : Read A) → step_by b r ≡ Ok None → many_by n ts b r ≡ Ok ([], ts)
+  by_stop n ts true (Ok x) e = absurd cc
+  by_stop n ts true (Err s) e = absurd cc
+  by_stop n ts false r e = refl
+
+  by_fault : (n : ℕ) (ts : List Placed) (b : Bool) (r : Read A) (s : Stop) → step_by b r ≡ Err s → many_by n ts b r ≡ Err s
+  by_fault n ts true (Ok x) s e = absurd cc
+  by_fault n ts true (Err t) s e = let same : t ≡ s = cc in ap (λ (u : Stop). Err u) same
+  by_fault n ts false r s e = absurd cc
+
+  by_next : (n : ℕ) (ts : List Placed) (b : Bool) (r : Read A) (x : A) (left : List Placed) → step_by b r ≡ Ok (Some (x, left)) → many_by n ts b r ≡ ◌>>=◌ {B = List A × List Placed} (many goes item n left) (λ l. Ok (x ∷ l.0, l.1))
+  by_next n ts true (Ok y) x left e = let same : y ≡ (x, left) = cc in ap (λ (z : A × List Placed). ◌>>=◌ {B = List A × List Placed} (many goes item n z.1) (λ l. Ok (z.0 ∷ l.0, l.1))) same
+  by_next n ts true (Err s) x left e = absurd cc
+  by_next n ts false r x left e = absurd cc
+
+  more_fuel : (n : ℕ) (xs : List A) → length xs ≤ n → suc n - length xs ≡ suc (n - length xs)
+  more_fuel n xs le = omega arith
+
+  enters : (n : ℕ) (xs : List A) (ts : List Placed) (whole : Read (List A)) → length xs ≤ n → ManySoFar n xs ts whole
+      → ◌>>=◌ {B = List A × List Placed} (many_by (n - length xs) ts (goes (first ts).token) (item ts)) (λ l. Ok (xs ++ l.0, l.1)) ≡ whole
+  enters n xs ts whole le so_far = ap (λ (m : ℕ). ◌>>=◌ {B = List A × List Placed} (many goes item m ts) (λ l. Ok (xs ++ l.0, l.1))) (sym (more_fuel n xs le)) ∙ so_far
+
+  pub many-stops : (xs : List A) (ts tokens : List WrittenAt) (whole : Read (List A)) → length ts + length xs ≤ length tokens → ManySoFar (length (views tokens)) xs (views ts) whole → step (views ts) ≡ Ok None → whole ≡ Ok (xs, views ts)
+  many-stops xs ts tokens whole le so_far e =
+      sym (enters (length (views tokens)) xs (views ts) whole (omega (arith, length-views tokens)) so_far)
+      ∙ ap (λ r. ◌>>=◌ {B = List A × List Placed} r (λ l. Ok (xs ++ l.0, l.1))) (by_stop (length (views tokens) - length xs) (views ts) (goes (first (views ts)).token) (item (views ts)) e)
+      ∙ ap (λ (ys : List A). Ok (ys, views ts)) (append-nil xs)
+
+  pub many-err : (xs : List A) (ts tokens : List WrittenAt) (whole : Read (List A)) (e : Stopped) → length ts + length xs ≤ length tokens → ManySoFar (length (views tokens)) xs (views ts) whole → Refuses e (step (views ts)) → Refuses e whole
+  many-err xs ts tokens whole stop.Memory le so_far g = tt
+  many-err xs ts tokens whole (stop.At why here) le so_far g =
+      sym (enters (length (views tokens)) xs (views ts) whole (omega (arith, length-views tokens)) so_far)
+      ∙ ap (λ r. ◌>>=◌ {B = List A × List Placed} r (λ l. Ok (xs ++ l.0, l.1))) (by_fault (length (views tokens) - length xs) (views ts) (goes (first (views ts)).token) (item (views ts)) _ g)
+
+  shift : (xs : List A) (x : A) (r : Read (List A)) → ◌>>=◌ {B = List A × List Placed} (◌>>=◌ {B = List A × List Placed} r (λ l. Ok (x ∷ l.0, l.1))) (λ l. Ok (xs ++ l.0, l.1)) ≡ ◌>>=◌ {B = List A × List Placed} r (λ l. Ok ((xs ++ x ∷ []) ++ l.0, l.1))
+  shift xs x (Ok l) = ap (λ (ys : List A). Ok (ys, l.1)) (sym (append_assoc xs (x ∷ []) l.0))
+  shift xs x (Err e) = refl
+
+  less_fuel : (n : ℕ) (xs : List A) (x : A) → suc n - length (xs ++ x ∷ []) ≡ n - length xs
+  less_fuel n xs x = omega (arith, length-append xs (x ∷ []))
+
+  pub many-next : (xs xs' : List A) (x : A) (ts tokens : List WrittenAt) (left : List Placed) (whole : Read (List A)) → xs' ≡ xs ++ x ∷ [] → length ts + length xs ≤ length tokens → ManySoFar (length (views tokens)) xs (views ts) whole
+      → step (views ts) ≡ Ok (Some (x, left)) → ManySoFar (length (views tokens)) xs' left whole
+  many-next xs xs' x ts tokens left whole pushed le so_far e =
+      rw pushed
+      (ap (λ (m : ℕ). ◌>>=◌ {B = List A × List Placed} (many goes item m left) (λ l. Ok ((xs ++ x ∷ []) ++ l.0, l.1))) (less_fuel (length (views tokens)) xs x)
+      ∙ sym (shift xs x (many goes item (length (views tokens) - length xs) left))
+      ∙ sym (ap (λ r. ◌>>=◌ {B = List A × List Placed} r (λ l. Ok (xs ++ l.0, l.1))) (by_next (length (views tokens) - length xs) (views ts) (goes (first (views ts)).token) (item (views ts)) x left e))
+      ∙ enters (length (views tokens)) xs (views ts) whole (omega (arith, length-views tokens)) so_far)

@@ -216,6 +216,10 @@ property ts =
     if at (Key (codes "primary")) ts then (primary_key ts >>= λ x. Ok (PrimaryKey, x.1))
     else (not_null ts >>= λ x. Ok (NotNull, x.1))
 
+-- a property, if one goes on
+abbrev pub next_property : List Placed → Result (Option (Property × List Placed)) Stop
+next_property ts = if begins_property (first ts).token then (property ts >>= λ x. Ok (Some x)) else Ok None
+
 abbrev pub column_part : List Placed → Read TablePart
 column_part ts = do
   n ← name ts

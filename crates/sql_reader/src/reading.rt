@@ -129,7 +129,7 @@ fn kind_of(why: Why, token: &Token) -> SqlErrorKind
 
 /// What a stop comes to.
 fn failure_of(stop: Stop) -> Failure
-    ensures { result ≡ failure_of stop }
+    ensures { result ≡ failure_of stop.entry }
 {
     match stop {
         Stop::Memory => Failure::Memory,
@@ -211,15 +211,17 @@ fn statements_of(alloc: Global, tokens: &[Placed]) -> Result<Vec<Statement>, Fai
     ensures { Tells (λ all. seen all.items) result (statements_from (suc (length (views tokens.now))) (views tokens.now)) }
 {
     let mut all = Vec::new(alloc);
-    let mut rest = tokens;
+    let Some(mut rest) = push_next(alloc, tokens, &mut all)? else {
+        return Ok(all);
+    };
     // Each statement but the last takes a semicolon.
-    let mut turns = tokens.len() + 1;
+    let mut turns = tokens.len();
     'block: while turns > 0 {
         turns -= 1;
-        match push_next(alloc, rest, &mut all)? {
-            Some(more) => rest = more,
-            None => return Ok(all),
-        }
+        let Some(more) = push_next(alloc, rest, &mut all)? else {
+            return Ok(all);
+        };
+        rest = more;
     }
     Err(Failure::Refused(SqlError {
         kind: SqlErrorKind::Syntax,

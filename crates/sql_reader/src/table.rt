@@ -1,8 +1,8 @@
 //! CREATE TABLE.
 
-ghost use Rattle.std.specs.Prelude.{◌≡◌, ◌≤◌, suc, length, IfOk};
+ghost use Rattle.std.specs.Prelude.{◌≡◌, ◌≤◌, ◌<◌, suc, length, option_map, IfOk, IfSome};
 ghost use Rattle.sql_reader.specs.Lexing.{view_token, views};
-ghost use Rattle.sql_reader.specs.Reading.{first, begins_property, primary_key, not_null, property, many, type_word, column_part, key_part, table_part, create, with_commas};
+ghost use Rattle.sql_reader.specs.Reading.{begins_property, next_property, property, many, type_word, column_part, key_part, table_part, create, with_commas};
 ghost use Rattle.sql_reader.specs.Views.{Gives, chain_of, view_create};
 
 use crate::error::Stop;
@@ -13,39 +13,22 @@ use crate::token::{Placed, Token};
 use sqlite_items::Items;
 use std::alloc::Global;
 
-fn primary_key<'a, 't>(tokens: &'t [Placed<'a>]) -> Result<&'t [Placed<'a>], Stop<'a>>
-    ensures reads { Gives (λ rest. (tt, views rest.now)) result (primary_key (views tokens.now)) }
-    ensures shorter { IfOk result (λ rest. length rest.now ≤ length tokens.now) }
+/// What stands behind the type of a column, if it goes on.
+fn next_property<'a, 't>(tokens: &'t [Placed<'a>]) -> Result<Option<(Property, &'t [Placed<'a>])>, Stop<'a>>
+    ensures reads { Gives (λ o. option_map (λ x. (x.0, views x.1.now)) o) result (next_property (views tokens.now)) }
+    ensures shorter { IfOk result (λ o. IfSome o (λ x. length x.1.now < length tokens.now)) }
 {
-    let rest = skip_key(tokens, "primary")?;
-    skip_word(rest, "key")
-}
-
-fn not_null<'a, 't>(tokens: &'t [Placed<'a>]) -> Result<&'t [Placed<'a>], Stop<'a>>
-    ensures reads { Gives (λ rest. (tt, views rest.now)) result (not_null (views tokens.now)) }
-    ensures shorter { IfOk result (λ rest. length rest.now ≤ length tokens.now) }
-{
-    let rest = skip_key(tokens, "not")?;
-    skip_word(rest, "null")
-}
-
-fn property<'a, 't>(tokens: &'t [Placed<'a>]) -> Result<(Property, &'t [Placed<'a>]), Stop<'a>>
-    ensures reads { Gives (λ x. (x.0, views x.1.now)) result (property (views tokens.now)) }
-    ensures shorter { IfOk result (λ x. length x.1.now ≤ length tokens.now) }
-{
-    if at_key(tokens, "primary") {
-        let rest = primary_key(tokens)?;
-        Ok((Property::PrimaryKey, rest))
-    } else {
-        let rest = not_null(tokens)?;
-        Ok((Property::NotNull, rest))
+    match tokens {
+        [token, rest @ ..] if token.token.is_key("primary") => {
+            let rest = skip_word(rest, "key")?;
+            Ok(Some((Property::PrimaryKey, rest)))
+        }
+        [token, rest @ ..] if token.token.is_key("not") => {
+            let rest = skip_word(rest, "null")?;
+            Ok(Some((Property::NotNull, rest)))
+        }
+        _ => Ok(None),
     }
-}
-
-fn begins_property(tokens: &[Placed]) -> bool
-    ensures { result ≡ begins_property (first (views tokens.now)).token }
-{
-    at_key(tokens, "primary") || at_key(tokens, "not")
 }
 
 /// What stands behind the type of a column.
@@ -54,9 +37,11 @@ fn properties<'a, 't>(alloc: Global, tokens: &'t [Placed<'a>]) -> Result<(Items<
     ensures shorter { IfOk result (λ x. length x.1.now ≤ length tokens.now) }
 {
     let mut properties = Vec::new(alloc);
-    let mut rest = tokens;
-    'all: while begins_property(rest) {
-        let (next, behind) = property(rest)?;
+    let Some((first, mut rest)) = next_property(tokens)? else {
+        return Ok((Items::from_vec(properties), tokens));
+    };
+    properties.push(first)?;
+    'all: while let Some((next, behind)) = next_property(rest)? {
         properties.push(next)?;
         rest = behind;
     }

@@ -23,8 +23,3 @@ commas-preserved c = record {
   shorter = fits c.commas.more.items _ _ c.commas.rest.now c.in-Some.after.now _ c.args.tokens.now c.in_ok-push.ensures.items c.in-Some.ensures.shorter c.in_ok-next.ensures.shorter c.commas.invariant.shorter;
 }
 
-pub commas-init : goal.commas-init
-commas-init c = record {
-  so_far = starts_with Last (λ a u l. More a l) (the (Sign (codes ","))) (λ k. name) (λ x. tt {0}) (λ x. x) (views c.args.tokens.now) _ _ (views c.in_ok-first.rest.now) c.new-more.ensures.items c.in_ok-first.ensures.reads;
-  shorter = omega (arith, ap length c.new-more.ensures.items, c.in_ok-first.ensures.shorter);
-}
