@@ -112,12 +112,23 @@ spelled-one text a b h k = read-only text a b (read-complete text a h) k
 
 -- ---- the loop over statements
 
-next_ok : (xs : List StatementAt) (n : ℕ) (r : Result (List StatementAt × Option (List Placed)) Fault) (ys : List StatementAt) (more : List Placed) → pushed xs r ≡ Ok (ys, Some more)
+abbrev Next : Type 0
+Next = List StatementAt × Option (List Placed)
+
+same_next : (p q : Next) → ◌≡◌ {A = Result Next Fault} (Ok p) (Ok q) → p ≡ q
+same_next p q e = cc
+
+next_ok : (xs : List StatementAt) (n : ℕ) (r : Result Next Fault) (ys : List StatementAt) (more : List Placed) → pushed xs r ≡ Ok (ys, Some more)
     → with_front xs (then_more r (statements_from n)) ≡ with_front ys (statements_from n more)
 next_ok xs n (Err f) ys more e = absurd cc
-next_ok xs n (Ok (zs, None)) ys more e = absurd cc
+next_ok xs n (Ok (zs, None)) ys more e =
+    let both = same_next (xs ++ zs, None) (ys, Some more) e in
+    let behind : ◌≡◌ {A = Option (List Placed)} None (Some more) = ap (λ (p : Next). p.1) both in
+    absurd cc
 next_ok xs n (Ok (zs, Some us)) ys more e =
-    let front : xs ++ zs ≡ ys = cc in
+    let both = same_next (xs ++ zs, Some us) (ys, Some more) e in
+    let front : xs ++ zs ≡ ys = ap (λ (p : Next). p.0) both in
+    let after : ◌≡◌ {A = Option (List Placed)} (Some us) (Some more) = ap (λ (p : Next). p.1) both in
     let behind : us ≡ more = cc in
     twice (statements_from n us) ∙ (λ i. with_front (front i) (statements_from n (behind i)))
   where
@@ -125,10 +136,13 @@ next_ok xs n (Ok (zs, Some us)) ys more e =
     twice (Ok ws) = ap (λ (l : List StatementAt). Ok l) (sym (append_assoc xs zs ws))
     twice (Err f) = refl
 
-next_end : (xs : List StatementAt) (n : ℕ) (r : Result (List StatementAt × Option (List Placed)) Fault) (ys : List StatementAt) → pushed xs r ≡ Ok (ys, None) → with_front xs (then_more r (statements_from n)) ≡ Ok ys
+next_end : (xs : List StatementAt) (n : ℕ) (r : Result Next Fault) (ys : List StatementAt) → pushed xs r ≡ Ok (ys, None) → with_front xs (then_more r (statements_from n)) ≡ Ok ys
 next_end xs n (Err f) ys e = absurd cc
-next_end xs n (Ok (zs, None)) ys e = let front : xs ++ zs ≡ ys = cc in ap (λ (l : List StatementAt). Ok l) front
-next_end xs n (Ok (zs, Some us)) ys e = absurd cc
+next_end xs n (Ok (zs, None)) ys e = let both = same_next (xs ++ zs, None) (ys, None) e in ap (λ (p : Next). Ok p.0) both
+next_end xs n (Ok (zs, Some us)) ys e =
+    let both = same_next (xs ++ zs, Some us) (ys, None) e in
+    let behind : ◌≡◌ {A = Option (List Placed)} (Some us) None = ap (λ (p : Next). p.1) both in
+    absurd cc
 
 next_fault : (xs : List StatementAt) (n : ℕ) (r : Result (List StatementAt × Option (List Placed)) Fault) (f : Fault) → pushed xs r ≡ Err f → with_front xs (then_more r (statements_from n)) ≡ Err f
 next_fault xs n (Err g) f e = let same : g ≡ f = cc in ap (λ (h : Fault). Err h) same
