@@ -87,7 +87,10 @@ not_inside_word t w e = elim (at_end t e) [ inl s ↦ subst IsWord s w | inr s �
 
 in_form : (ts : List Placed) (s : Stop) → Known ts → Halts {I = Option Statement} (λ o. o) sp inside ts s → FirstFault ts (fault_of s)
 in_form ts s known h = record {
-  front = h.front; here = s.here; after = h.after; parts = h.parts;
+  front = h.front;
+  here = s.here;
+  after = h.after;
+  parts = h.parts;
   good = record { tree = Last h.index; rest = h.tail ++ (plain End ∷ []); whole = ap (λ (ms : List Marked). ms ++ (plain End ∷ [])) h.opens ∙ append_assoc (good h.front) h.tail (plain End ∷ []) };
   bad = λ m. never None m;
   kind = kind_is s.why refl;
@@ -107,10 +110,11 @@ in_form ts s known h = record {
         let start : ts ≡ s.here ∷ h.after = h.parts ∙ ap (λ (us : List Placed). us ++ (s.here ∷ h.after)) (e ∙ none) in
         let same : (first ts).token ≡ s.here.token = ap (λ (us : List Placed). (first us).token) start in
         elim known [
-          inl k ↦
-            let b = starts s.here.token (sym (ap begins_form same) ∙ k) in
-            h.never (Some b.0) (plain End ∷ []) None (b.1 ++ (plain End ∷ [])) refl (ap (λ (ms : List Marked). ms ++ (plain End ∷ [])) b.2 ∙ ap (λ (us : List Placed). good us ++ (plain s.here.token ∷ (b.1 ++ (plain End ∷ [])))) (sym (e ∙ none)))
-        | inr k ↦ not_inside_word s.here.token w (sym (ap inside same) ∙ k) ]
+          | inl k ↦
+              let b = starts s.here.token (sym (ap begins_form same) ∙ k) in
+              h.never (Some b.0) (plain End ∷ []) None (b.1 ++ (plain End ∷ [])) refl (ap (λ (ms : List Marked). ms ++ (plain End ∷ [])) b.2 ∙ ap (λ (us : List Placed). good us ++ (plain s.here.token ∷ (b.1 ++ (plain End ∷ [])))) (sym (e ∙ none)))
+          | inr k ↦ not_inside_word s.here.token w (sym (ap inside same) ∙ k)
+        ]
 
     not_here : IsWord s.here.token → AtStatement h.front → ⊥
     not_here w (inl e) = first_word h.front refl e w
@@ -181,7 +185,8 @@ module _ (ts : List Placed) (x : Option Statement) (t : Placed) (after : List Pl
 
     extend : (front : List Placed) (u : Token) (o : Option Limit) → MayCome front u o → MayCome (h.front ++ (t ∷ front)) u o
     extend front u o m = record {
-      tree = More h.index m.tree; rest = m.rest;
+      tree = More h.index m.tree;
+      rest = m.rest;
       whole = whole_is m.tree (good front ++ (mark u o ∷ m.rest)) m.whole ∙ sym (ap (λ (ms : List Marked). ms ++ (mark u o ∷ m.rest)) (good-append h.front (t ∷ front)) ∙ append_assoc (good h.front) (plain t.token ∷ good front) (mark u o ∷ m.rest));
     }
 
@@ -217,10 +222,13 @@ module _ (ts : List Placed) (x : Option Statement) (t : Placed) (after : List Pl
       only = λ c e. let r = rest_is c (good after) (e ∙ good_ts) in let same : r.0 ≡ b = q.only r.0 r.2 in r.1 ∙ ap (λ (d : Block). More h.index d) same ∙ ap (λ (o : Option Statement). More o b) (sym h.is);
     }
     after_semicolon (Err f) q = record {
-      front = h.front ++ (t ∷ q.front); here = q.here; after = q.after;
+      front = h.front ++ (t ∷ q.front);
+      here = q.here;
+      after = q.after;
       parts = h.parts ∙ ap (λ (us : List Placed). h.front ++ (t ∷ us)) q.parts ∙ sym (append_assoc h.front (t ∷ q.front) (q.here ∷ q.after));
       good = record {
-        tree = More h.index q.good.tree; rest = q.good.rest;
+        tree = More h.index q.good.tree;
+        rest = q.good.rest;
         whole = whole_is q.good.tree (good q.front ++ q.good.rest) q.good.whole ∙ sym (ap (λ (ms : List Marked). ms ++ q.good.rest) (good-append h.front (t ∷ q.front)) ∙ append_assoc (good h.front) (plain t.token ∷ good q.front) q.good.rest);
       };
       bad = λ m. q.bad (strip q.front q.here.token None m);
@@ -246,9 +254,14 @@ module _ (ts : List Placed) (x : Option Statement) (t : Placed) (after : List Pl
   -- another token cannot stand after a statement
   behind : Known ts → is semicolon t.token ≡ false → is End t.token ≡ false → FirstFault ts (record { kind = refused t.token; at = t.at })
   behind known s e = record {
-    front = h.front; here = t; after = after; parts = h.parts;
+    front = h.front;
+    here = t;
+    after = after;
+    parts = h.parts;
     good = record { tree = Last h.index; rest = plain End ∷ []; whole = ap (λ (ms : List Marked). ms ++ (plain End ∷ [])) h.spelled };
-    bad = λ m. cannot None m; kind = is_token_kind h.front t.token not_here cannot; at = refl;
+    bad = λ m. cannot None m;
+    kind = is_token_kind h.front t.token not_here cannot;
+    at = refl;
   }
     where
       is_inside : inside t.token ≡ false → ⊥
@@ -263,12 +276,13 @@ module _ (ts : List Placed) (x : Option Statement) (t : Placed) (after : List Pl
           let start : ts ≡ t ∷ after = h.parts ∙ ap (λ (us : List Placed). us ++ (t ∷ after)) none in
           let same : (first ts).token ≡ t.token = ap (λ (us : List Placed). (first us).token) start in
           elim known [
-            inl k ↦
-              let b = starts t.token (sym (ap begins_form same) ∙ k) in
-              let i : Some b.0 ≡ h.index = h.only t after refl (Some b.0) (plain End ∷ []) None (b.1 ++ (plain End ∷ [])) refl
-                  (ap (λ (ms : List Marked). ms ++ (plain End ∷ [])) b.2 ∙ ap (λ (us : List Placed). good us ++ (plain t.token ∷ (b.1 ++ (plain End ∷ [])))) (sym none)) in
-              let wrong : plain t.token ∷ b.1 ≡ [] = sym b.2 ∙ ap sp i ∙ h.spelled ∙ ap good none in cc
-          | inr k ↦ is_inside (sym (ap inside same) ∙ k) ]
+            | inl k ↦
+                let b = starts t.token (sym (ap begins_form same) ∙ k) in
+                let i : Some b.0 ≡ h.index = h.only t after refl (Some b.0) (plain End ∷ []) None (b.1 ++ (plain End ∷ [])) refl
+                (ap (λ (ms : List Marked). ms ++ (plain End ∷ [])) b.2 ∙ ap (λ (us : List Placed). good us ++ (plain t.token ∷ (b.1 ++ (plain End ∷ [])))) (sym none)) in
+                let wrong : plain t.token ∷ b.1 ≡ [] = sym b.2 ∙ ap sp i ∙ h.spelled ∙ ap good none in cc
+            | inr k ↦ is_inside (sym (ap inside same) ∙ k)
+          ]
 
 -- ---- the first statement, by cases
 
@@ -296,9 +310,14 @@ same_maybe ts (inl k) = go (inside (first ts).token)
 unknown : (ts : List Placed) → HasEnd ts → inside (first ts).token ≡ true → begins_form (first ts).token ≡ false → FirstFault ts (record { kind = no_form (first ts).token; at = (first ts).at })
 unknown [] ends i b = absurd ends
 unknown (t ∷ ts) ends i b = record {
-  front = []; here = t; after = ts; parts = refl;
+  front = [];
+  here = t;
+  after = ts;
+  parts = refl;
   good = record { tree = Last None; rest = plain End ∷ []; whole = refl };
-  bad = λ m. cannot None m; kind = no_form_kind [] t.token (inl refl) cannot; at = refl;
+  bad = λ m. cannot None m;
+  kind = no_form_kind [] t.token (inl refl) cannot;
+  at = refl;
 }
   where
     none : (o : Option Statement) (more : List Marked) (m : Option Limit) (w : List Marked) → Stops inside more → sp o ++ more ≡ mark t.token m ∷ w → ⊥

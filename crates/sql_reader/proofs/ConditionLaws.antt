@@ -54,10 +54,10 @@ sp_compares p = grammar.sum p.0 ++ (plain (comparison_token p.1.0) ∷ grammar.s
 compares_law : (ts : List Placed) → HasEnd ts → Agrees tree_compares sp_compares on_sum ts (compares ts)
 compares_law ts ends =
     then (λ a (q : Comparison × Sum). Compares a q.0 q.1) grammar.sum (λ q. plain (comparison_token q.0) ∷ grammar.sum q.1) on_sum on_sum ts _ _ (Equal, some_sum) (λ j more stop. comparison_ends j.0)
-      (sum_law ts ends)
-      (λ x h. then (λ c b. Compares x.0 c b) (λ c. plain (comparison_token c) ∷ []) grammar.sum closed on_sum x.1 _ _ some_sum (λ j more stop. stops_closed on_sum (grammar.sum j) more stop)
-        (comparison_law closed x.1 h.ended)
-        (λ y g. mapped (λ b. Compares x.0 y.0 b) (λ b. b) grammar.sum on_sum y.1 _ (sum_law y.1 g.ended)))
+    (sum_law ts ends)
+    (λ x h. then (λ c b. Compares x.0 c b) (λ c. plain (comparison_token c) ∷ []) grammar.sum closed on_sum x.1 _ _ some_sum (λ j more stop. stops_closed on_sum (grammar.sum j) more stop)
+    (comparison_law closed x.1 h.ended)
+    (λ y g. mapped (λ b. Compares x.0 y.0 b) (λ b. b) grammar.sum on_sum y.1 _ (sum_law y.1 g.ended)))
 
 -- ---- parts and conditions, over atoms that are read
 
@@ -104,16 +104,30 @@ module _ (n : ℕ) where
 
   part_chain : IsChain Single (λ a u p. And a p) (the (Key (codes "and"))) (λ u. Key (codes "and")) (λ k. sp_atom) (λ k. sp_part) on_sum on_part
   part_chain = record {
-    cases = part_cases; of_last = λ k a. refl; of_more = λ k a s l. refl; back = the-back (Key (codes "and")); forth = λ s. refl; inside = λ s. refl;
-    not_empty = λ k a e. subst (Heads (λ t. true) true) e (heads_atom a n); ends_item = λ s. refl;
-    weaker = λ t e. (or-false (on_sum t) _ e).0; no_sep = λ t e. the-none (Key (codes "and")) t (or-false (on_sum t) _ e).1;
+    cases = part_cases;
+    of_last = λ k a. refl;
+    of_more = λ k a s l. refl;
+    back = the-back (Key (codes "and"));
+    forth = λ s. refl;
+    inside = λ s. refl;
+    not_empty = λ k a e. subst (Heads (λ t. true) true) e (heads_atom a n);
+    ends_item = λ s. refl;
+    weaker = λ t e. (or-false (on_sum t) _ e).0;
+    no_sep = λ t e. the-none (Key (codes "and")) t (or-false (on_sum t) _ e).1;
   }
 
   condition_chain : IsChain Alone (λ p u c. Or p c) (the (Key (codes "or"))) (λ u. Key (codes "or")) (λ k. sp_part) (λ k. sp_condition) on_part on_condition
   condition_chain = record {
-    cases = condition_cases; of_last = λ k a. refl; of_more = λ k a s l. refl; back = the-back (Key (codes "or")); forth = λ s. refl; inside = λ s. refl;
-    not_empty = λ k p e. subst (Heads (λ t. true) true) e (heads_part p n); ends_item = λ s. refl;
-    weaker = λ t e. (or-false (on_part t) _ e).0; no_sep = λ t e. the-none (Key (codes "or")) t (or-false (on_part t) _ e).1;
+    cases = condition_cases;
+    of_last = λ k a. refl;
+    of_more = λ k a s l. refl;
+    back = the-back (Key (codes "or"));
+    forth = λ s. refl;
+    inside = λ s. refl;
+    not_empty = λ k p e. subst (Heads (λ t. true) true) e (heads_part p n);
+    ends_item = λ s. refl;
+    weaker = λ t e. (or-false (on_part t) _ e).0;
+    no_sep = λ t e. the-none (Key (codes "or")) t (or-false (on_part t) _ e).1;
   }
 
   module _ (read : List Placed → Read Atom) (law : (ts : List Placed) → HasEnd ts → Agrees {I = Atom} (λ a. a) sp_atom on_sum ts (read ts)) where
@@ -174,8 +188,8 @@ module _ (n : ℕ) where
       → Agrees {I = Atom} (λ a. a) (λ a. grammar.atom a n) on_sum ts (one_of_three (is (Key (codes "not")) (first ts).token) (is (Sign (codes "(")) (first ts).token) x y (compares ts))
   atom_of_three ts ends x y f g =
       also tree_atom sp_atoms (λ a. a) (λ a. grammar.atom a n) on_sum ts _ tree_atom of_atom atom_to atom_back
-        (choice (λ (a : Atom). Not a) (both (λ (c : Condition). Group c) tree_compares) sp_not (both sp_group sp_compares) on_sum (is (Key (codes "not"))) ts x _ (λ a more stop. refl) (λ p more stop. not_not p more) f
-          (λ e. choice (λ (c : Condition). Group c) tree_compares sp_group sp_compares on_sum (is (Sign (codes "("))) ts y _ (λ c more stop. refl) (λ p more stop. not_open p more) g (λ e'. compares_law ts ends)))
+      (choice (λ (a : Atom). Not a) (both (λ (c : Condition). Group c) tree_compares) sp_not (both sp_group sp_compares) on_sum (is (Key (codes "not"))) ts x _ (λ a more stop. refl) (λ p more stop. not_not p more) f
+      (λ e. choice (λ (c : Condition). Group c) tree_compares sp_group sp_compares on_sum (is (Sign (codes "("))) ts y _ (λ c more stop. refl) (λ p more stop. not_open p more) g (λ e'. compares_law ts ends)))
 
 nat_le_false : (n b : ℕ) → n + suc b ≡ 32 → nat_le 32 n ≡ false
 nat_le_false n b e = grind (arith, nat_tests)
@@ -185,26 +199,26 @@ atom_law zero n e ts ends =
     let same : n ≡ 32 = omega arith in
     let deep : too_deep n ≡ Some TooLarge = ap too_deep same in
     atom_of_three n ts ends _ _
-      (λ at. over_limit (λ a. Not a) (sp_not n) on_sum TooLarge some_atom ts (λ a. (grammar.atom a (suc n), rw (is_same (Key (codes "not")) (first ts).token at, deep) refl)) ends)
-      (λ at. over_limit (λ c. Group c) (sp_group n) on_sum TooLarge some_condition ts (λ c. (grammar.condition c (suc n) ++ (plain (Sign (codes ")")) ∷ []), rw (is_same (Sign (codes "(")) (first ts).token at, deep) refl)) ends)
+    (λ at. over_limit (λ a. Not a) (sp_not n) on_sum TooLarge some_atom ts (λ a. (grammar.atom a (suc n), rw (is_same (Key (codes "not")) (first ts).token at, deep) refl)) ends)
+    (λ at. over_limit (λ c. Group c) (sp_group n) on_sum TooLarge some_condition ts (λ c. (grammar.condition c (suc n) ++ (plain (Sign (codes ")")) ∷ []), rw (is_same (Sign (codes "(")) (first ts).token at, deep) refl)) ends)
 atom_law (suc b) n e ts ends =
     let shallow : too_deep n ≡ None = rw (nat_le_false n b e) refl in
     let e' : suc n + b ≡ 32 = omega arith in
     atom_of_three n ts ends _ _
-      (λ at. spelled_as (λ a. Not a) (λ a. plain (Key (codes "not")) ∷ grammar.atom a (suc n)) (sp_not n) on_sum ts _ (λ a. rw shallow refl)
-        (also (λ (p : Unit {0} × Atom). Not p.1) (λ p. plain (Key (codes "not")) ∷ grammar.atom p.1 (suc n)) (λ a. Not a) (λ a. plain (Key (codes "not")) ∷ grammar.atom a (suc n)) on_sum ts _ (λ p. p.1) (λ a. (tt, a)) (λ p. (refl, refl)) (λ a. (refl, refl))
-          (then (λ u a. Not a) (λ u. plain (Key (codes "not")) ∷ []) (λ a. grammar.atom a (suc n)) closed on_sum ts _ _ some_atom (λ j more stop. stops_closed on_sum (grammar.atom j (suc n)) more stop)
-            (skips (Key (codes "not")) refl refl closed ts ends)
-            (λ x h. mapped (λ a. Not a) (λ a. a) (λ a. grammar.atom a (suc n)) on_sum x.1 _ (atom_law b (suc n) e' x.1 h.ended)))))
-      (λ at. spelled_as (λ c. Group c) (λ c. plain (Sign (codes "(")) ∷ (grammar.condition c (suc n) ++ (plain (Sign (codes ")")) ∷ []))) (sp_group n) on_sum ts _ (λ c. rw shallow refl)
-        (also (λ (p : Unit {0} × (Condition × Unit {0})). Group p.1.0) (λ p. plain (Sign (codes "(")) ∷ (grammar.condition p.1.0 (suc n) ++ (plain (Sign (codes ")")) ∷ []))) (λ c. Group c) (λ c. plain (Sign (codes "(")) ∷ (grammar.condition c (suc n) ++ (plain (Sign (codes ")")) ∷ []))) on_sum ts _
-          (λ p. p.1.0) (λ c. (tt, (c, tt))) (λ p. (refl, refl)) (λ c. (refl, refl))
-          (then (λ u (q : Condition × Unit {0}). Group q.0) (λ u. plain (Sign (codes "(")) ∷ []) (λ q. grammar.condition q.0 (suc n) ++ (plain (Sign (codes ")")) ∷ [])) closed on_sum ts _ _ (some_condition, tt)
-            (λ j more stop. stops_closed on_sum (grammar.condition j.0 (suc n) ++ (plain (Sign (codes ")")) ∷ [])) more stop)
-            (skips (Sign (codes "(")) refl refl closed ts ends)
-            (λ x h. then (λ c u. Group c) (λ c. grammar.condition c (suc n)) (λ u. plain (Sign (codes ")")) ∷ []) on_condition on_sum x.1 _ _ tt (λ j more stop. refl)
-              (condition_of_law (suc n) (atom b) (λ us e''. atom_law b (suc n) e' us e'') x.1 h.ended)
-              (λ y g. mapped (λ u. Group y.0) (λ u. u) (λ u. plain (Sign (codes ")")) ∷ []) on_sum y.1 _ (skips (Sign (codes ")")) refl refl on_sum y.1 g.ended))))))
+    (λ at. spelled_as (λ a. Not a) (λ a. plain (Key (codes "not")) ∷ grammar.atom a (suc n)) (sp_not n) on_sum ts _ (λ a. rw shallow refl)
+    (also (λ (p : Unit {0} × Atom). Not p.1) (λ p. plain (Key (codes "not")) ∷ grammar.atom p.1 (suc n)) (λ a. Not a) (λ a. plain (Key (codes "not")) ∷ grammar.atom a (suc n)) on_sum ts _ (λ p. p.1) (λ a. (tt, a)) (λ p. (refl, refl)) (λ a. (refl, refl))
+    (then (λ u a. Not a) (λ u. plain (Key (codes "not")) ∷ []) (λ a. grammar.atom a (suc n)) closed on_sum ts _ _ some_atom (λ j more stop. stops_closed on_sum (grammar.atom j (suc n)) more stop)
+    (skips (Key (codes "not")) refl refl closed ts ends)
+    (λ x h. mapped (λ a. Not a) (λ a. a) (λ a. grammar.atom a (suc n)) on_sum x.1 _ (atom_law b (suc n) e' x.1 h.ended)))))
+    (λ at. spelled_as (λ c. Group c) (λ c. plain (Sign (codes "(")) ∷ (grammar.condition c (suc n) ++ (plain (Sign (codes ")")) ∷ []))) (sp_group n) on_sum ts _ (λ c. rw shallow refl)
+    (also (λ (p : Unit {0} × (Condition × Unit {0})). Group p.1.0) (λ p. plain (Sign (codes "(")) ∷ (grammar.condition p.1.0 (suc n) ++ (plain (Sign (codes ")")) ∷ []))) (λ c. Group c) (λ c. plain (Sign (codes "(")) ∷ (grammar.condition c (suc n) ++ (plain (Sign (codes ")")) ∷ []))) on_sum ts _
+    (λ p. p.1.0) (λ c. (tt, (c, tt))) (λ p. (refl, refl)) (λ c. (refl, refl))
+    (then (λ u (q : Condition × Unit {0}). Group q.0) (λ u. plain (Sign (codes "(")) ∷ []) (λ q. grammar.condition q.0 (suc n) ++ (plain (Sign (codes ")")) ∷ [])) closed on_sum ts _ _ (some_condition, tt)
+    (λ j more stop. stops_closed on_sum (grammar.condition j.0 (suc n) ++ (plain (Sign (codes ")")) ∷ [])) more stop)
+    (skips (Sign (codes "(")) refl refl closed ts ends)
+    (λ x h. then (λ c u. Group c) (λ c. grammar.condition c (suc n)) (λ u. plain (Sign (codes ")")) ∷ []) on_condition on_sum x.1 _ _ tt (λ j more stop. refl)
+    (condition_of_law (suc n) (atom b) (λ us e''. atom_law b (suc n) e' us e'') x.1 h.ended)
+    (λ y g. mapped (λ u. Group y.0) (λ u. u) (λ u. plain (Sign (codes ")")) ∷ []) on_sum y.1 _ (skips (Sign (codes ")")) refl refl on_sum y.1 g.ended))))))
 
 pub condition_law : (ts : List Placed) → HasEnd ts → Agrees {I = Condition} (λ c. c) (λ c. grammar.condition c 0) on_condition ts (condition ts)
 unfolding condition
@@ -213,6 +227,6 @@ condition_law ts ends = condition_of_law 0 (atom 32) (λ us e. atom_law 32 0 ref
 pub where_law : (ts : List Placed) → HasEnd ts → Agrees {I = Condition} (λ c. c) grammar.where_part on_condition ts (where_part ts)
 where_law ts ends =
     also (λ (p : Unit {0} × Condition). p.1) (λ p. plain (Key (codes "where")) ∷ grammar.condition p.1 0) (λ c. c) grammar.where_part on_condition ts _ (λ p. p.1) (λ c. (tt, c)) (λ p. (refl, refl)) (λ c. (refl, refl))
-      (then (λ u c. c) (λ u. plain (Key (codes "where")) ∷ []) (λ c. grammar.condition c 0) closed on_condition ts _ _ some_condition (λ j more stop. stops_closed on_condition (grammar.condition j 0) more stop)
-        (skips (Key (codes "where")) refl refl closed ts ends)
-        (λ x h. condition_law x.1 h.ended))
+    (then (λ u c. c) (λ u. plain (Key (codes "where")) ∷ []) (λ c. grammar.condition c 0) closed on_condition ts _ _ some_condition (λ j more stop. stops_closed on_condition (grammar.condition j 0) more stop)
+    (skips (Key (codes "where")) refl refl closed ts ends)
+    (λ x h. condition_law x.1 h.ended))

@@ -76,10 +76,10 @@ literal_back (Quoted b) = (refl, refl)
 pub literal_law : (on : Token → Bool) (ts : List Placed) → HasEnd ts → Agrees {I = Literal} (λ l. l) grammar.literal on ts (literal ts)
 literal_law on ts ends =
     also tree_literal sp_literal (λ l. l) grammar.literal on ts _ tree_literal of_literal literal_to literal_back
-      (choice (λ (b : List ℕ). Quoted b) tree_number (λ (b : List ℕ). plain (Text b) ∷ []) sp_numbers on is_text ts _ _ (λ b more stop. refl) (λ n more stop. heads_number n more)
-        (λ e. quoted_law on ts ends)
-        (λ e. choice (λ (p : Unit {0} × ℕ). Whole true p.1) (λ (n : ℕ). Whole false n) sp_negative (sp_number false) on (is (Sign (codes "-"))) ts _ _ (λ p more stop. refl) (λ n more stop. refl)
-          (λ e'. negative_law on ts ends) (λ e'. whole_law false on ts ends)))
+    (choice (λ (b : List ℕ). Quoted b) tree_number (λ (b : List ℕ). plain (Text b) ∷ []) sp_numbers on is_text ts _ _ (λ b more stop. refl) (λ n more stop. heads_number n more)
+    (λ e. quoted_law on ts ends)
+    (λ e. choice (λ (p : Unit {0} × ℕ). Whole true p.1) (λ (n : ℕ). Whole false n) sp_negative (sp_number false) on (is (Sign (codes "-"))) ts _ _ (λ p more stop. refl) (λ n more stop. refl)
+    (λ e'. negative_law on ts ends) (λ e'. whole_law false on ts ends)))
 
 -- ---- what a literal, a factor, a term and a sum begin with
 
@@ -129,9 +129,9 @@ factor_back (Value l) = (refl, refl)
 pub factor_law : (on : Token → Bool) (ts : List Placed) → HasEnd ts → Agrees {I = Factor} (λ f. f) grammar.factor on ts (factor ts)
 factor_law on ts ends =
     also tree_factor sp_factor (λ f. f) grammar.factor on ts _ tree_factor of_factor factor_to factor_back
-      (choice (λ (n : Name). Column n) (λ (l : Literal). Value l) (λ (n : Name). plain (Word n) ∷ []) grammar.literal on is_name ts _ _ (λ n more stop. refl) (λ l more stop. literal_no_name l more)
-        (λ e. mapped (λ (n : Name). Column n) (λ n. n) (λ n. plain (Word n) ∷ []) on ts _ (names on ts ends))
-        (λ e. mapped (λ (l : Literal). Value l) (λ l. l) grammar.literal on ts _ (literal_law on ts ends)))
+    (choice (λ (n : Name). Column n) (λ (l : Literal). Value l) (λ (n : Name). plain (Word n) ∷ []) grammar.literal on is_name ts _ _ (λ n more stop. refl) (λ l more stop. literal_no_name l more)
+    (λ e. mapped (λ (n : Name). Column n) (λ n. n) (λ n. plain (Word n) ∷ []) on ts _ (names on ts ends))
+    (λ e. mapped (λ (l : Literal). Value l) (λ l. l) grammar.literal on ts _ (literal_law on ts ends)))
 
 -- ---- terms
 
@@ -153,8 +153,16 @@ term_cases (More f t) = inl (f, tt, t, refl)
 
 term_chain : IsChain Last (λ f u t. More f t) (the (Sign (codes "*"))) (λ u. Sign (codes "*")) (λ k. grammar.factor) (λ k. grammar.term) closed on_term
 term_chain = record {
-  cases = term_cases; of_last = λ k a. refl; of_more = λ k a s l. refl; back = the-back (Sign (codes "*")); forth = λ s. refl; inside = λ s. refl;
-  not_empty = λ k a. not_none a; ends_item = λ s. refl; weaker = λ t e. refl; no_sep = λ t e. the-none (Sign (codes "*")) t e;
+  cases = term_cases;
+  of_last = λ k a. refl;
+  of_more = λ k a s l. refl;
+  back = the-back (Sign (codes "*"));
+  forth = λ s. refl;
+  inside = λ s. refl;
+  not_empty = λ k a. not_none a;
+  ends_item = λ s. refl;
+  weaker = λ t e. refl;
+  no_sep = λ t e. the-none (Sign (codes "*")) t e;
 }
 
 pub term_law : (ts : List Placed) → HasEnd ts → Agrees {I = Term} (λ t. t) grammar.term on_term ts (term ts)
@@ -199,8 +207,16 @@ no_sign t e =
 
 sum_chain : IsChain Only Then add_sign sign_token (λ k. grammar.term) (λ k. grammar.sum) on_term on_sum
 sum_chain = record {
-  cases = sum_cases; of_last = λ k a. refl; of_more = λ k a s l. refl; back = sign-back; forth = sign-forth; inside = sign_inside;
-  not_empty = λ k a. term_not_none a; ends_item = sign_ends; weaker = λ t e. (or-false (on_term t) _ e).0; no_sep = no_sign;
+  cases = sum_cases;
+  of_last = λ k a. refl;
+  of_more = λ k a s l. refl;
+  back = sign-back;
+  forth = sign-forth;
+  inside = sign_inside;
+  not_empty = λ k a. term_not_none a;
+  ends_item = sign_ends;
+  weaker = λ t e. (or-false (on_term t) _ e).0;
+  no_sep = no_sign;
 }
 
 pub some_sum : Sum

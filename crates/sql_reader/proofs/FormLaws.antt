@@ -233,12 +233,12 @@ pub form_law : (ts : List Placed) → HasEnd ts → Agrees {I = Statement} (λ s
 unfolding reading.form reading.other_form
 form_law ts ends =
     also tree0 sp0 (λ s. s) grammar.statement inside ts _ tree0 of_statement form_to form_back
-      (choice (λ (p : CreateIndex). CreateTable p.0 p.1) tree1 (λ (p : CreateIndex). grammar.statement (CreateTable p.0 p.1)) sp1 inside (is (Word (codes "create"))) ts _ _ begins0 other0 (λ e. create_law ts ends)
-        (λ e. choice (λ (p : InsertIndex). Insert p.0 p.1.0 p.1.1) tree2 (λ (p : InsertIndex). grammar.statement (Insert p.0 p.1.0 p.1.1)) sp2 inside (is (Word (codes "insert"))) ts _ _ begins1 other1 (λ e. insert_law ts ends)
-          (λ e. choice (λ (p : SelectIndex). tree_select p.0 p.1) tree3 (λ (p : SelectIndex). grammar.statement (tree_select p.0 p.1)) sp3 inside (is (Key (codes "select"))) ts _ _ begins2 other2 (λ e. select_law ts ends)
-            (λ e. choice (λ (p : UpdateIndex). Update p.0 p.1.0 p.1.1) tree4 (λ (p : UpdateIndex). grammar.statement (Update p.0 p.1.0 p.1.1)) sp4 inside (is (Word (codes "update"))) ts _ _ begins3 other3 (λ e. update_law ts ends)
-              (λ e. choice (λ (p : DeleteIndex). Delete p.0 p.1) tree5 (λ (p : DeleteIndex). grammar.statement (Delete p.0 p.1)) sp5 inside (is (Word (codes "delete"))) ts _ _ begins4 other4 (λ e. delete_law ts ends)
-                (λ e. choice (λ (p : BeginIndex). Begin p.0 p.1) tree6 (λ (p : BeginIndex). grammar.statement (Begin p.0 p.1)) sp6 inside reading.begins_begin ts _ _ begins5 other5 (λ e. begin_law ts ends)
-                  (λ e. choice (λ (p : EndIndex). Ends p.0 p.1) tree7 (λ (p : EndIndex). grammar.statement (Ends p.0 p.1)) sp7 inside reading.begins_end ts _ _ begins6 other6 (λ e. ends_law ts ends)
-                    (λ e. choice (λ (p : LockIndex). Lock p.0 p.1.0 p.1.1) tree8 (λ (p : LockIndex). grammar.statement (Lock p.0 p.1.0 p.1.1)) sp8 inside (is (Word (codes "lock"))) ts _ _ begins7 other7 (λ e. lock_law ts ends)
-                      (λ e. set_law ts ends)))))))))
+    (choice (λ (p : CreateIndex). CreateTable p.0 p.1) tree1 (λ (p : CreateIndex). grammar.statement (CreateTable p.0 p.1)) sp1 inside (is (Word (codes "create"))) ts _ _ begins0 other0 (λ e. create_law ts ends)
+    (λ e. choice (λ (p : InsertIndex). Insert p.0 p.1.0 p.1.1) tree2 (λ (p : InsertIndex). grammar.statement (Insert p.0 p.1.0 p.1.1)) sp2 inside (is (Word (codes "insert"))) ts _ _ begins1 other1 (λ e. insert_law ts ends)
+    (λ e. choice (λ (p : SelectIndex). tree_select p.0 p.1) tree3 (λ (p : SelectIndex). grammar.statement (tree_select p.0 p.1)) sp3 inside (is (Key (codes "select"))) ts _ _ begins2 other2 (λ e. select_law ts ends)
+    (λ e. choice (λ (p : UpdateIndex). Update p.0 p.1.0 p.1.1) tree4 (λ (p : UpdateIndex). grammar.statement (Update p.0 p.1.0 p.1.1)) sp4 inside (is (Word (codes "update"))) ts _ _ begins3 other3 (λ e. update_law ts ends)
+    (λ e. choice (λ (p : DeleteIndex). Delete p.0 p.1) tree5 (λ (p : DeleteIndex). grammar.statement (Delete p.0 p.1)) sp5 inside (is (Word (codes "delete"))) ts _ _ begins4 other4 (λ e. delete_law ts ends)
+    (λ e. choice (λ (p : BeginIndex). Begin p.0 p.1) tree6 (λ (p : BeginIndex). grammar.statement (Begin p.0 p.1)) sp6 inside reading.begins_begin ts _ _ begins5 other5 (λ e. begin_law ts ends)
+    (λ e. choice (λ (p : EndIndex). Ends p.0 p.1) tree7 (λ (p : EndIndex). grammar.statement (Ends p.0 p.1)) sp7 inside reading.begins_end ts _ _ begins6 other6 (λ e. ends_law ts ends)
+    (λ e. choice (λ (p : LockIndex). Lock p.0 p.1.0 p.1.1) tree8 (λ (p : LockIndex). grammar.statement (Lock p.0 p.1.0 p.1.1)) sp8 inside (is (Word (codes "lock"))) ts _ _ begins7 other7 (λ e. lock_law ts ends)
+    (λ e. set_law ts ends)))))))))

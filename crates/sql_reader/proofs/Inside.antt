@@ -216,8 +216,9 @@ begun_is t v s w e h = begun t v s w e (is_same v t h)
 
 begun_begin : (t : Token) → begins_begin t ≡ true → Begun t
 begun_begin t e = elim (split (is (Word (codes "begin")) t) _ e) [
-    inl h ↦ begun_is t (Word (codes "begin")) (Begin (BeginWord None) None) _ refl h
-  | inr h ↦ begun_is t (Word (codes "start")) (Begin StartWords None) _ refl h ]
+  | inl h ↦ begun_is t (Word (codes "begin")) (Begin (BeginWord None) None) _ refl h
+  | inr h ↦ begun_is t (Word (codes "start")) (Begin StartWords None) _ refl h
+]
 
 begun_end : (t : Token) → begins_end t ≡ true → Begun t
 begun_end t e = go (end_word t) refl e
@@ -232,19 +233,27 @@ some_name = []
 
 pub starts : (t : Token) → begins_form t ≡ true → Begun t
 starts t e = elim (split (is (Word (codes "create")) t) _ e) [
-    inl h ↦ begun_is t (Word (codes "create")) (CreateTable [] (Last (KeyPart []))) _ refl h
+  | inl h ↦ begun_is t (Word (codes "create")) (CreateTable [] (Last (KeyPart []))) _ refl h
   | inr e ↦ elim (split (is (Word (codes "insert")) t) _ e) [
-    inl h ↦ begun_is t (Word (codes "insert")) (Insert [] None (Last (Last (Quoted [])))) _ refl h
-  | inr e ↦ elim (split (is (Key (codes "select")) t) _ e) [
-    inl h ↦ begun_is t (Key (codes "select")) (Selects (record { items = AllColumns; table = []; where' = None; order = None })) _ refl h
-  | inr e ↦ elim (split (is (Word (codes "update")) t) _ e) [
-    inl h ↦ begun_is t (Word (codes "update")) (Update [] (Last (record { column = []; value = Only (Last (Column [])) })) None) _ refl h
-  | inr e ↦ elim (split (is (Word (codes "delete")) t) _ e) [
-    inl h ↦ begun_is t (Word (codes "delete")) (Delete [] None) _ refl h
-  | inr e ↦ elim (split (begins_begin t) _ e) [
-    inl h ↦ begun_begin t h
-  | inr e ↦ elim (split (begins_end t) _ e) [
-    inl h ↦ begun_end t h
-  | inr e ↦ elim (split (is (Word (codes "lock")) t) _ e) [
-    inl h ↦ begun_is t (Word (codes "lock")) (Lock false [] None) _ refl h
-  | inr h ↦ begun_is t (Key (codes "set")) (Set (record { scope = None; name = []; sign = EqualSign; value = Column [] })) _ refl h ] ] ] ] ] ] ] ]
+    | inl h ↦ begun_is t (Word (codes "insert")) (Insert [] None (Last (Last (Quoted [])))) _ refl h
+    | inr e ↦ elim (split (is (Key (codes "select")) t) _ e) [
+      | inl h ↦ begun_is t (Key (codes "select")) (Selects (record { items = AllColumns; table = []; where' = None; order = None })) _ refl h
+      | inr e ↦ elim (split (is (Word (codes "update")) t) _ e) [
+        | inl h ↦ begun_is t (Word (codes "update")) (Update [] (Last (record { column = []; value = Only (Last (Column [])) })) None) _ refl h
+        | inr e ↦ elim (split (is (Word (codes "delete")) t) _ e) [
+          | inl h ↦ begun_is t (Word (codes "delete")) (Delete [] None) _ refl h
+          | inr e ↦ elim (split (begins_begin t) _ e) [
+            | inl h ↦ begun_begin t h
+            | inr e ↦ elim (split (begins_end t) _ e) [
+              | inl h ↦ begun_end t h
+              | inr e ↦ elim (split (is (Word (codes "lock")) t) _ e) [
+                | inl h ↦ begun_is t (Word (codes "lock")) (Lock false [] None) _ refl h
+                | inr h ↦ begun_is t (Key (codes "set")) (Set (record { scope = None; name = []; sign = EqualSign; value = Column [] })) _ refl h
+              ]
+            ]
+          ]
+        ]
+      ]
+    ]
+  ]
+]

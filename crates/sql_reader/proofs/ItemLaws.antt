@@ -15,9 +15,9 @@ use Rattle.sql_reader.proofs.ListLaws.{past, past_name, at_last, commas, or_comm
 -- ---- one of two, told by the first two tokens
 
 module _ {A B T : Type 0} (treeA : A → T) (treeB : B → T) (spA : A → List Marked) (spB : B → List Marked) (on : Token → Bool) (ts : List Placed)
-         (stops_end : on End ≡ false) (not_empty : (a : A) → spA a ≡ [] → ⊥)
-         (by_one : (t : Placed) (after : List Placed) → ts ≡ t ∷ after → (j : B) (more : List Marked) (m : Option Limit) (w : List Marked) → Stops on more → spB j ++ more ≡ mark t.token m ∷ w → (i : A) × (w' : List Marked) × (spA i ≡ plain t.token ∷ w'))
-         (by_two : (p q : Placed) (after : List Placed) → ts ≡ p ∷ (q ∷ after) → (j : B) (more : List Marked) (m : Option Limit) (w : List Marked) → Stops on more → spB j ++ more ≡ plain p.token ∷ (mark q.token m ∷ w) → ⊥) where
+    (stops_end : on End ≡ false) (not_empty : (a : A) → spA a ≡ [] → ⊥)
+    (by_one : (t : Placed) (after : List Placed) → ts ≡ t ∷ after → (j : B) (more : List Marked) (m : Option Limit) (w : List Marked) → Stops on more → spB j ++ more ≡ mark t.token m ∷ w → (i : A) × (w' : List Marked) × (spA i ≡ plain t.token ∷ w'))
+    (by_two : (p q : Placed) (after : List Placed) → ts ≡ p ∷ (q ∷ after) → (j : B) (more : List Marked) (m : Option Limit) (w : List Marked) → Stops on more → spB j ++ more ≡ plain p.token ∷ (mark q.token m ∷ w) → ⊥) where
   -- past the first token no other tree goes on so
   excluded : (p : Placed) (front : List Placed) (t : Placed) (after : List Placed) → ts ≡ p ∷ (front ++ (t ∷ after)) → (j : B) (more : List Marked) (m : Option Limit) (w : List Marked) → Stops on more
       → spB j ++ more ≡ plain p.token ∷ (good front ++ (mark t.token m ∷ w)) → ⊥
@@ -27,20 +27,32 @@ module _ {A B T : Type 0} (treeA : A → T) (treeB : B → T) (spA : A → List 
 
   pub the_first : (r : Read T) → Agrees treeA spA on ts r → Agrees {I = A ⊎ B} (both treeA treeB) (both spA spB) on ts r
   the_first (Ok x) h = record {
-    index = inl h.index; is = h.is; front = h.front; parts = h.parts; spelled = h.spelled; ended = h.ended;
+    index = inl h.index;
+    is = h.is;
+    front = h.front;
+    parts = h.parts;
+    spelled = h.spelled;
+    ended = h.ended;
     only = λ t after l j more m w stop eq. elim j as (λ j. both spA spB j ++ more ≡ good h.front ++ (mark t.token m ∷ w) → both treeA treeB j ≡ treeA h.index) [
-        inl a ↦ λ eq. h.only t after l a more m w stop eq
-      | inr b ↦ λ eq. absurd (go h.front t after (h.parts ∙ ap (λ (us : List Placed). h.front ++ us) l) h.spelled b more m w stop eq) ] eq;
+      | inl a ↦ λ eq. h.only t after l a more m w stop eq
+      | inr b ↦ λ eq. absurd (go h.front t after (h.parts ∙ ap (λ (us : List Placed). h.front ++ us) l) h.spelled b more m w stop eq)
+    ] eq;
   }
     where
       go : (front : List Placed) (t : Placed) (after : List Placed) → ts ≡ front ++ (t ∷ after) → spA h.index ≡ good front → (b : B) (more : List Marked) (m : Option Limit) (w : List Marked) → Stops on more → spB b ++ more ≡ good front ++ (mark t.token m ∷ w) → ⊥
       go [] t after e s b more m w stop eq = not_empty h.index s
       go (p ∷ front) t after e s b more m w stop eq = excluded p front t after e b more m w stop eq
   the_first (Err s) h = record {
-    front = h.front; after = h.after; parts = h.parts; index = inl h.index; tail = h.tail; opens = h.opens;
+    front = h.front;
+    after = h.after;
+    parts = h.parts;
+    index = inl h.index;
+    tail = h.tail;
+    opens = h.opens;
     never = λ j more m w stop eq. elim j as (λ j. both spA spB j ++ more ≡ good h.front ++ (mark s.here.token m ∷ w) → IsOver m s.why) [
-        inl a ↦ λ eq. h.never a more m w stop eq
-      | inr b ↦ λ eq. absurd (go h.front refl b more m w stop eq) ] eq;
+      | inl a ↦ λ eq. h.never a more m w stop eq
+      | inr b ↦ λ eq. absurd (go h.front refl b more m w stop eq)
+    ] eq;
     may = λ l why. let x = h.may l why in (inl x.0, x.1, x.2);
   }
     where
@@ -58,9 +70,9 @@ module _ {A B T : Type 0} (treeA : A → T) (treeB : B → T) (spA : A → List 
 count_law : (ts : List Placed) → HasEnd ts → Agrees {I = Unit {0}} (λ u. Count) (λ u. grammar.aggregate Count) closed ts (reading.count_all ts)
 count_law ts ends =
     past (Word (codes "count")) refl refl (λ (u : Unit {0}). Count) (λ u. plain (Sign (codes "(")) ∷ plain (Sign (codes "*")) ∷ plain (Sign (codes ")")) ∷ []) closed ts _ tt ends
-      (λ a ha. past (Sign (codes "(")) refl refl (λ (u : Unit {0}). Count) (λ u. plain (Sign (codes "*")) ∷ plain (Sign (codes ")")) ∷ []) closed a.1 _ tt ha
-        (λ b hb. past (Sign (codes "*")) refl refl (λ (u : Unit {0}). Count) (λ u. plain (Sign (codes ")")) ∷ []) closed b.1 _ tt hb
-          (λ c hc. at_last (Sign (codes ")")) refl refl Count closed c.1 hc)))
+    (λ a ha. past (Sign (codes "(")) refl refl (λ (u : Unit {0}). Count) (λ u. plain (Sign (codes "*")) ∷ plain (Sign (codes ")")) ∷ []) closed a.1 _ tt ha
+    (λ b hb. past (Sign (codes "*")) refl refl (λ (u : Unit {0}). Count) (λ u. plain (Sign (codes ")")) ∷ []) closed b.1 _ tt hb
+    (λ c hc. at_last (Sign (codes ")")) refl refl Count closed c.1 hc)))
 
 abbrev TotalIndex : Type 0
 TotalIndex = Name × Unit {0}
@@ -68,9 +80,9 @@ TotalIndex = Name × Unit {0}
 total_law : (ts : List Placed) → HasEnd ts → Agrees {I = TotalIndex} (λ p. Total p.0) (λ p. grammar.aggregate (Total p.0)) closed ts (reading.sum_of ts)
 total_law ts ends =
     past (Word (codes "sum")) refl refl (λ (p : TotalIndex). Total p.0) (λ p. plain (Sign (codes "(")) ∷ plain (Word p.0) ∷ plain (Sign (codes ")")) ∷ []) closed ts _ ([], tt) ends
-      (λ a ha. past (Sign (codes "(")) refl refl (λ (p : TotalIndex). Total p.0) (λ p. plain (Word p.0) ∷ plain (Sign (codes ")")) ∷ []) closed a.1 _ ([], tt) ha
-        (λ b hb. past_name (λ n u. Total n) (λ u. plain (Sign (codes ")")) ∷ []) closed b.1 _ tt hb
-          (λ n hn. at_last (Sign (codes ")")) refl refl (Total n.0) closed n.1 hn)))
+    (λ a ha. past (Sign (codes "(")) refl refl (λ (p : TotalIndex). Total p.0) (λ p. plain (Word p.0) ∷ plain (Sign (codes ")")) ∷ []) closed a.1 _ ([], tt) ha
+    (λ b hb. past_name (λ n u. Total n) (λ u. plain (Sign (codes ")")) ∷ []) closed b.1 _ tt hb
+    (λ n hn. at_last (Sign (codes ")")) refl refl (Total n.0) closed n.1 hn)))
 
 abbrev of_aggregate : Aggregate → Unit {0} ⊎ TotalIndex
 of_aggregate Count = inl tt
@@ -93,8 +105,8 @@ aggregate_back (Total n) = (refl, refl)
 aggregate_law : (ts : List Placed) → HasEnd ts → Agrees {I = Aggregate} (λ a. a) grammar.aggregate closed ts (reading.aggregate ts)
 aggregate_law ts ends =
     also tree_aggregate sp_aggregate (λ a. a) grammar.aggregate closed ts _ tree_aggregate of_aggregate aggregate_to aggregate_back
-      (choice (λ (u : Unit {0}). Count) (λ (p : TotalIndex). Total p.0) (λ u. grammar.aggregate Count) (λ (p : TotalIndex). grammar.aggregate (Total p.0)) closed (is (Word (codes "count"))) ts _ _ (λ u more stop. refl) (λ p more stop. refl)
-        (λ e. count_law ts ends) (λ e. total_law ts ends))
+    (choice (λ (u : Unit {0}). Count) (λ (p : TotalIndex). Total p.0) (λ u. grammar.aggregate Count) (λ (p : TotalIndex). grammar.aggregate (Total p.0)) closed (is (Word (codes "count"))) ts _ _ (λ u more stop. refl) (λ p more stop. refl)
+    (λ e. count_law ts ends) (λ e. total_law ts ends))
 
 heads_aggregate : (a : Aggregate) → Heads (λ t. true) true (grammar.aggregate a)
 heads_aggregate Count = refl
@@ -206,8 +218,8 @@ lists_law ts ends true e = the_first (λ l. Aggregates l) (λ l. Columns l) (gra
     (λ t after k j more m w stop eq. begun t.token (so_one ts e t after k)) (so_two ts e) _ (aggregates_law ts ends)
 lists_law ts ends false e =
     also (both (λ l. Columns l) (λ l. Aggregates l)) (both (grammar.chain grammar.name) (grammar.chain grammar.aggregate)) tree_lists sp_lists on_items ts _ swapped swapped to back
-      (the_first (λ l. Columns l) (λ l. Aggregates l) (grammar.chain grammar.name) (grammar.chain grammar.aggregate) on_items ts refl names_not_empty
-        (λ t after k j more m w stop eq. no_one ts e t j more m w eq) (no_two ts e) _ (columns_law ts ends))
+    (the_first (λ l. Columns l) (λ l. Aggregates l) (grammar.chain grammar.name) (grammar.chain grammar.aggregate) on_items ts refl names_not_empty
+    (λ t after k j more m w stop eq. no_one ts e t j more m w eq) (no_two ts e) _ (columns_law ts ends))
   where
     to : (i : Chain Name ⊎ Chain Aggregate) → (tree_lists (swapped i) ≡ both (λ l. Columns l) (λ l. Aggregates l) i) × (sp_lists (swapped i) ≡ both (grammar.chain grammar.name) (grammar.chain grammar.aggregate) i)
     to (inl l) = (refl, refl)
@@ -249,6 +261,6 @@ items_back (Columns l) = (refl, refl)
 pub items_law : (ts : List Placed) → HasEnd ts → Agrees {I = Items} (λ i. i) grammar.items on_items ts (reading.items ts)
 items_law ts ends =
     also tree_items sp_items (λ i. i) grammar.items on_items ts _ tree_items of_items items_to items_back
-      (choice (λ (u : Unit {0}). AllColumns) tree_lists (λ u. grammar.items AllColumns) sp_lists on_items (is (Sign (codes "*"))) ts _ _ (λ u more stop. refl) not_star
-        (λ e. at_last (Sign (codes "*")) refl refl AllColumns on_items ts ends)
-        (λ e. lists_law ts ends (at_aggregate ts) refl))
+    (choice (λ (u : Unit {0}). AllColumns) tree_lists (λ u. grammar.items AllColumns) sp_lists on_items (is (Sign (codes "*"))) ts _ _ (λ u more stop. refl) not_star
+    (λ e. at_last (Sign (codes "*")) refl refl AllColumns on_items ts ends)
+    (λ e. lists_law ts ends (at_aggregate ts) refl))

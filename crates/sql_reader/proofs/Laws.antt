@@ -97,7 +97,12 @@ same_rest m n v w e = cc
 
 pub nothing : {T : Type 0} (t : T) (on : Token → Bool) (ts : List Placed) → HasEnd ts → Agrees {I = Unit {0}} (λ _. t) (λ _. []) on ts (Ok (t, ts))
 nothing t on ts e = record {
-  index = tt; is = refl; front = []; parts = refl; spelled = refl; ended = e;
+  index = tt;
+  is = refl;
+  front = [];
+  parts = refl;
+  spelled = refl;
+  ended = e;
   only = λ u after same j more m w stop eq. refl;
 }
 
@@ -114,17 +119,26 @@ one {A} what token_of on some back forth inside (t ∷ ts) ends = go (what t.tok
         let same : t.token ≡ token_of x = back t.token x e in
         let still : is_last t.token ≡ false = ap is_last same ∙ inside x in
         record {
-          index = x; is = refl; front = t ∷ []; parts = refl; spelled = ap (λ (u : Token). plain u ∷ []) (sym same);
+          index = x;
+          is = refl;
+          front = t ∷ [];
+          parts = refl;
+          spelled = ap (λ (u : Token). plain u ∷ []) (sym same);
           ended = subst (λ (b : Bool). cond b (ts ≡ []) (HasEnd ts)) still ends;
           only = λ u after left j more m w stop eq.
-            let agree : token_of j ≡ t.token = same_token _ _ _ _ _ _ eq in
-            let again : Some j ≡ Some x = sym (forth j) ∙ ap what agree ∙ e in cc;
+              let agree : token_of j ≡ t.token = same_token _ _ _ _ _ _ eq in
+              let again : Some j ≡ Some x = sym (forth j) ∙ ap what agree ∙ e in cc;
         }
     go None e = record {
-      front = []; after = ts; parts = refl; index = some; tail = plain (token_of some) ∷ []; opens = refl;
+      front = [];
+      after = ts;
+      parts = refl;
+      index = some;
+      tail = plain (token_of some) ∷ [];
+      opens = refl;
       never = λ j more m w stop eq.
-        let agree : token_of j ≡ t.token = same_token _ _ _ _ _ _ eq in
-        let again : Some j ≡ None = sym (forth j) ∙ ap what agree ∙ e in absurd cc;
+          let agree : token_of j ≡ t.token = same_token _ _ _ _ _ _ eq in
+          let again : Some j ≡ None = sym (forth j) ∙ ap what agree ∙ e in absurd cc;
       may = λ l why. absurd cc;
     }
 
@@ -136,16 +150,21 @@ pub then : {A J T : Type 0} (tree : A → J → T) (spA : A → List Marked) (sp
     → ((x : A × List Placed) → Takes {I = A} (λ a. a) spA onA ts x.0 x.1 → Agrees (tree x.0) spJ on x.1 (k x))
     → Agrees {I = A × J} (λ p. tree p.0 p.1) (λ p. spA p.0 ++ spJ p.1) on ts (r >>= k)
 then {A} {J} {T} tree spA spJ onA on ts (Err s) k some follow h g = record {
-  front = h.front; after = h.after; parts = h.parts; index = (h.index, some); tail = h.tail ++ spJ some;
+  front = h.front;
+  after = h.after;
+  parts = h.parts;
+  index = (h.index, some);
+  tail = h.tail ++ spJ some;
   opens = ap (λ (ms : List Marked). ms ++ spJ some) h.opens ∙ append_assoc (good h.front) h.tail (spJ some);
   never = λ j more m w stop eq. h.never j.0 (spJ j.1 ++ more) m w (follow j.1 more stop) (sym (append_assoc (spA j.0) (spJ j.1) more) ∙ eq);
   may = λ l why. let x = h.may l why in
-    ((x.0, some), x.1 ++ spJ some, ap (λ (ms : List Marked). ms ++ spJ some) x.2 ∙ append_assoc (good h.front) (mark s.here.token (Some l) ∷ x.1) (spJ some));
+      ((x.0, some), x.1 ++ spJ some, ap (λ (ms : List Marked). ms ++ spJ some) x.2 ∙ append_assoc (good h.front) (mark s.here.token (Some l) ∷ x.1) (spJ some));
 }
 then {A} {J} {T} tree spA spJ onA on ts (Ok (a, left)) k some follow h g = go (k (a, left)) (g (a, left) h)
   where
     here : spA a ≡ good h.front
     here = ap spA h.is ∙ h.spelled
+
     -- the first part is a, and the second one goes on
     goes : (front : List Placed) (t : Placed) (after : List Placed) → left ≡ front ++ (t ∷ after) → (j : A × J) (more : List Marked) (m : Option Limit) (w : List Marked) → Stops on more
         → (spA j.0 ++ spJ j.1) ++ more ≡ good (h.front ++ front) ++ (mark t.token m ∷ w) → (j.0 ≡ a) × (spJ j.1 ++ more ≡ good front ++ (mark t.token m ∷ w))
@@ -159,22 +178,26 @@ then {A} {J} {T} tree spA spJ onA on ts (Ok (a, left)) k some follow h g = go (k
 
     go : (o : Read T) → Agrees (tree a) spJ on left o → Agrees {I = A × J} (λ p. tree p.0 p.1) (λ p. spA p.0 ++ spJ p.1) on ts o
     go (Ok r) q = record {
-      index = (a, q.index); is = q.is; front = h.front ++ q.front;
+      index = (a, q.index);
+      is = q.is;
+      front = h.front ++ q.front;
       parts = h.parts ∙ ap (λ (us : List Placed). h.front ++ us) q.parts ∙ sym (append_assoc h.front q.front r.1);
       spelled = ap (λ (ms : List Marked). ms ++ spJ q.index) here ∙ ap (λ (ms : List Marked). good h.front ++ ms) q.spelled ∙ sym (good-append h.front q.front);
       ended = q.ended;
       only = λ t after e j more m w stop eq.
-        let s = goes q.front t after (q.parts ∙ ap (λ (us : List Placed). q.front ++ us) e) j more m w stop eq in
-        ap (λ (x : A). tree x j.1) s.0 ∙ q.only t after e j.1 more m w stop s.1;
+          let s = goes q.front t after (q.parts ∙ ap (λ (us : List Placed). q.front ++ us) e) j more m w stop eq in
+          ap (λ (x : A). tree x j.1) s.0 ∙ q.only t after e j.1 more m w stop s.1;
     }
     go (Err s) q = record {
-      front = h.front ++ q.front; after = q.after;
+      front = h.front ++ q.front;
+      after = q.after;
       parts = h.parts ∙ ap (λ (us : List Placed). h.front ++ us) q.parts ∙ sym (append_assoc h.front q.front (s.here ∷ q.after));
-      index = (a, q.index); tail = q.tail;
+      index = (a, q.index);
+      tail = q.tail;
       opens = ap (λ (ms : List Marked). ms ++ spJ q.index) here ∙ ap (λ (ms : List Marked). good h.front ++ ms) q.opens ∙ sym (regroup h.front q.front q.tail);
       never = λ j more m w stop eq. let x = goes q.front s.here q.after q.parts j more m w stop eq in q.never j.1 more m w stop x.1;
       may = λ l why. let x = q.may l why in
-        ((a, x.0), x.1, ap (λ (ms : List Marked). ms ++ spJ x.0) here ∙ ap (λ (ms : List Marked). good h.front ++ ms) x.2 ∙ sym (regroup h.front q.front (mark s.here.token (Some l) ∷ x.1)));
+          ((a, x.0), x.1, ap (λ (ms : List Marked). ms ++ spJ x.0) here ∙ ap (λ (ms : List Marked). good h.front ++ ms) x.2 ∙ sym (regroup h.front q.front (mark s.here.token (Some l) ∷ x.1)));
     }
 
 -- ---- the trees by a function
@@ -182,7 +205,12 @@ then {A} {J} {T} tree spA spJ onA on ts (Ok (a, left)) k some follow h g = go (k
 pub mapped : {I T U : Type 0} (f : T → U) (tree : I → T) (sp : I → List Marked) (on : Token → Bool) (ts : List Placed) (r : Read T)
     → Agrees tree sp on ts r → Agrees (λ i. f (tree i)) sp on ts (r >>= λ x. Ok (f x.0, x.1))
 mapped f tree sp on ts (Ok x) h = record {
-  index = h.index; is = ap f h.is; front = h.front; parts = h.parts; spelled = h.spelled; ended = h.ended;
+  index = h.index;
+  is = ap f h.is;
+  front = h.front;
+  parts = h.parts;
+  spelled = h.spelled;
+  ended = h.ended;
   only = λ t after l j more m w stop eq. ap f (h.only t after l j more m w stop eq);
 }
 mapped f tree sp on ts (Err s) h = record { front = h.front; after = h.after; parts = h.parts; index = h.index; tail = h.tail; opens = h.opens; never = h.never; may = h.may }
@@ -205,31 +233,55 @@ choice {A} {B} {T} treeA treeB spA spB on test ts r q begins other f g = go (tes
 
     is_yes : (p : Read T) → test (first ts).token ≡ true → Agrees treeA spA on ts p → Agrees {I = A ⊎ B} (both treeA treeB) (both spA spB) on ts p
     is_yes (Ok x) e h = record {
-      index = inl h.index; is = h.is; front = h.front; parts = h.parts; spelled = h.spelled; ended = h.ended;
+      index = inl h.index;
+      is = h.is;
+      front = h.front;
+      parts = h.parts;
+      spelled = h.spelled;
+      ended = h.ended;
       only = λ t after l j more m w stop eq. elim j as (λ j. both spA spB j ++ more ≡ good h.front ++ (mark t.token m ∷ w) → both treeA treeB j ≡ treeA h.index) [
-          inl a ↦ λ eq. h.only t after l a more m w stop eq
-        | inr b ↦ λ eq. let wrong = told false _ h.front t after m w (h.parts ∙ ap (λ (us : List Placed). h.front ++ us) l) eq (other b more stop) in absurd cc ] eq;
+        | inl a ↦ λ eq. h.only t after l a more m w stop eq
+        | inr b ↦ λ eq. let wrong = told false _ h.front t after m w (h.parts ∙ ap (λ (us : List Placed). h.front ++ us) l) eq (other b more stop) in absurd cc
+      ] eq;
     }
     is_yes (Err s) e h = record {
-      front = h.front; after = h.after; parts = h.parts; index = inl h.index; tail = h.tail; opens = h.opens;
+      front = h.front;
+      after = h.after;
+      parts = h.parts;
+      index = inl h.index;
+      tail = h.tail;
+      opens = h.opens;
       never = λ j more m w stop eq. elim j as (λ j. both spA spB j ++ more ≡ good h.front ++ (mark s.here.token m ∷ w) → IsOver m s.why) [
-          inl a ↦ λ eq. h.never a more m w stop eq
-        | inr b ↦ λ eq. let wrong = told false _ h.front s.here h.after m w h.parts eq (other b more stop) in absurd cc ] eq;
+        | inl a ↦ λ eq. h.never a more m w stop eq
+        | inr b ↦ λ eq. let wrong = told false _ h.front s.here h.after m w h.parts eq (other b more stop) in absurd cc
+      ] eq;
       may = λ l why. let x = h.may l why in (inl x.0, x.1, x.2);
     }
 
     is_no : (p : Read T) → test (first ts).token ≡ false → Agrees treeB spB on ts p → Agrees {I = A ⊎ B} (both treeA treeB) (both spA spB) on ts p
     is_no (Ok x) e h = record {
-      index = inr h.index; is = h.is; front = h.front; parts = h.parts; spelled = h.spelled; ended = h.ended;
+      index = inr h.index;
+      is = h.is;
+      front = h.front;
+      parts = h.parts;
+      spelled = h.spelled;
+      ended = h.ended;
       only = λ t after l j more m w stop eq. elim j as (λ j. both spA spB j ++ more ≡ good h.front ++ (mark t.token m ∷ w) → both treeA treeB j ≡ treeB h.index) [
-          inr b ↦ λ eq. h.only t after l b more m w stop eq
-        | inl a ↦ λ eq. let wrong = told true _ h.front t after m w (h.parts ∙ ap (λ (us : List Placed). h.front ++ us) l) eq (begins a more stop) in absurd cc ] eq;
+        | inr b ↦ λ eq. h.only t after l b more m w stop eq
+        | inl a ↦ λ eq. let wrong = told true _ h.front t after m w (h.parts ∙ ap (λ (us : List Placed). h.front ++ us) l) eq (begins a more stop) in absurd cc
+      ] eq;
     }
     is_no (Err s) e h = record {
-      front = h.front; after = h.after; parts = h.parts; index = inr h.index; tail = h.tail; opens = h.opens;
+      front = h.front;
+      after = h.after;
+      parts = h.parts;
+      index = inr h.index;
+      tail = h.tail;
+      opens = h.opens;
       never = λ j more m w stop eq. elim j as (λ j. both spA spB j ++ more ≡ good h.front ++ (mark s.here.token m ∷ w) → IsOver m s.why) [
-          inr b ↦ λ eq. h.never b more m w stop eq
-        | inl a ↦ λ eq. let wrong = told true _ h.front s.here h.after m w h.parts eq (begins a more stop) in absurd cc ] eq;
+        | inr b ↦ λ eq. h.never b more m w stop eq
+        | inl a ↦ λ eq. let wrong = told true _ h.front s.here h.after m w h.parts eq (begins a more stop) in absurd cc
+      ] eq;
       may = λ l why. let x = h.may l why in (inr x.0, x.1, x.2);
     }
 
@@ -243,12 +295,22 @@ pub also : {I J T : Type 0} (tree : I → T) (sp : I → List Marked) (tree' : J
     → ((i : I) → (tree' (to i) ≡ tree i) × (sp' (to i) ≡ sp i)) → ((j : J) → (tree (back j) ≡ tree' j) × (sp (back j) ≡ sp' j))
     → Agrees tree sp on ts r → Agrees tree' sp' on ts r
 also tree sp tree' sp' on ts (Ok x) to back f g h = record {
-  index = to h.index; is = h.is ∙ sym (f h.index).0; front = h.front; parts = h.parts; spelled = (f h.index).1 ∙ h.spelled; ended = h.ended;
+  index = to h.index;
+  is = h.is ∙ sym (f h.index).0;
+  front = h.front;
+  parts = h.parts;
+  spelled = (f h.index).1 ∙ h.spelled;
+  ended = h.ended;
   only = λ t after l j more m w stop eq.
-    sym (g j).0 ∙ h.only t after l (back j) more m w stop (ap (λ (ms : List Marked). ms ++ more) (g j).1 ∙ eq) ∙ sym (f h.index).0;
+      sym (g j).0 ∙ h.only t after l (back j) more m w stop (ap (λ (ms : List Marked). ms ++ more) (g j).1 ∙ eq) ∙ sym (f h.index).0;
 }
 also tree sp tree' sp' on ts (Err s) to back f g h = record {
-  front = h.front; after = h.after; parts = h.parts; index = to h.index; tail = h.tail; opens = (f h.index).1 ∙ h.opens;
+  front = h.front;
+  after = h.after;
+  parts = h.parts;
+  index = to h.index;
+  tail = h.tail;
+  opens = (f h.index).1 ∙ h.opens;
   never = λ j more m w stop eq. h.never (back j) more m w stop (ap (λ (ms : List Marked). ms ++ more) (g j).1 ∙ eq);
   may = λ l why. let x = h.may l why in (to x.0, x.1, (f x.0).1 ∙ x.2);
 }
@@ -283,7 +345,7 @@ pub record IsChain {A S L : Type 0} (last : A → L) (more : A → S → L → L
   pub no_sep : (t : Token) → on t ≡ false → sep t ≡ None
 
 module _ {A S L : Type 0} (last : A → L) (more : A → S → L → L) (sep : Token → Option S) (spS : S → Token) (spA : ℕ → A → List Marked) (spL : ℕ → L → List Marked) (onA on : Token → Bool) (is : IsChain last more sep spS spA spL onA on)
-         (item : ℕ → List Placed → Read A) (some : A) (some_sep : S) where
+    (item : ℕ → List Placed → Read A) (some : A) (some_sep : S) where
   abbrev tail_of : A → (S × L) ⊎ Unit {0} → L
   tail_of a = both (λ (p : S × L). more a p.0 p.1) (λ (x : Unit {0}). last a)
 
@@ -333,23 +395,22 @@ module _ {A S L : Type 0} (last : A → L) (more : A → S → L → L) (sep : T
   by_sep n k a left None = refl
   by_sep n k a left (Some s) = refl
 
-
   pub in_chain : ((k : ℕ) (ts : List Placed) → HasEnd ts → Agrees {I = A} (λ a. a) (spA k) onA ts (item k ts))
       → (n k : ℕ) (ts : List Placed) → HasEnd ts → length ts < n → Agrees {I = L} (λ l. l) (spL k) on ts (chain last more sep item n k ts)
   in_chain law zero k ts ends lt = absurd (omega arith)
   in_chain law (suc n) k ts ends lt =
       also (λ (p : A × ((S × L) ⊎ Unit {0})). tail_of p.0 p.1) (λ p. spA k p.0 ++ tail_sp k p.1) (λ l. l) (spL k) on ts _
-        (λ p. tail_of p.0 p.1) (λ l. back_of l (is.cases l)) (to_is k) (λ l. back_is k l (is.cases l))
-        (then tail_of (spA k) (tail_sp k) onA on ts (item k ts) _ (inr tt) (follows k) (law k ts ends) (go_on (λ us e l. in_chain law n (suc k) us e l)))
+      (λ p. tail_of p.0 p.1) (λ l. back_of l (is.cases l)) (to_is k) (λ l. back_is k l (is.cases l))
+      (then tail_of (spA k) (tail_sp k) onA on ts (item k ts) _ (inr tt) (follows k) (law k ts ends) (go_on (λ us e l. in_chain law n (suc k) us e l)))
     where
       go_on : ((us : List Placed) → HasEnd us → length us < n → Agrees {I = L} (λ l. l) (spL (suc k)) on us (chain last more sep item n (suc k) us)) → (x : A × List Placed) → Takes {I = A} (λ a. a) (spA k) onA ts x.0 x.1 → Agrees (tail_of x.0) (tail_sp k) on x.1 (step n k x.0 x.1 (sep (first x.1).token))
       go_on ih x h =
           subst (Agrees (tail_of x.0) (tail_sp k) on x.1) (by_sep n k x.0 x.1 (sep (first x.1).token))
-            (choice (λ (p : S × L). more x.0 p.0 p.1) (λ (u : Unit {0}). last x.0) (λ (p : S × L). plain (spS p.0) ∷ spL (suc k) p.1) (λ (u : Unit {0}). []) on (λ t. is_some (sep t)) x.1 _ _ (begins k) (other k)
-              (λ e. then (λ s l. more x.0 s l) (λ s. plain (spS s) ∷ []) (spL (suc k)) closed on x.1 (taken (sep (first x.1).token) x.1) (further n k x.0) (last some) (λ l ms st. stops_closed on (spL (suc k) l) ms st)
-                (one sep spS closed some_sep is.back is.forth is.inside x.1 h.ended)
-                (λ y g. mapped (λ l. more x.0 y.0 l) (λ l. l) (spL (suc k)) on y.1 _ (ih y.1 g.ended (let a = not_longer x.1 y.1 g.front g.parts in let b = shorter k ts x.0 x.1 h in omega arith))))
-              (λ e. nothing (last x.0) on x.1 h.ended))
+          (choice (λ (p : S × L). more x.0 p.0 p.1) (λ (u : Unit {0}). last x.0) (λ (p : S × L). plain (spS p.0) ∷ spL (suc k) p.1) (λ (u : Unit {0}). []) on (λ t. is_some (sep t)) x.1 _ _ (begins k) (other k)
+          (λ e. then (λ s l. more x.0 s l) (λ s. plain (spS s) ∷ []) (spL (suc k)) closed on x.1 (taken (sep (first x.1).token) x.1) (further n k x.0) (last some) (λ l ms st. stops_closed on (spL (suc k) l) ms st)
+          (one sep spS closed some_sep is.back is.forth is.inside x.1 h.ended)
+          (λ y g. mapped (λ l. more x.0 y.0 l) (λ l. l) (spL (suc k)) on y.1 _ (ih y.1 g.ended (let a = not_longer x.1 y.1 g.front g.parts in let b = shorter k ts x.0 x.1 h in omega arith))))
+          (λ e. nothing (last x.0) on x.1 h.ended))
 
 -- ---- one token that may pass a limit
 
@@ -367,30 +428,44 @@ one_within {A} what token_of over on some back forth inside (t ∷ ts) ends = go
         let same : t.token ≡ token_of x = back t.token x e in
         let still : is_last t.token ≡ false = ap is_last same ∙ inside x in
         record {
-          index = x; is = refl; front = t ∷ []; parts = refl; spelled = rw (none, ← same) refl;
+          index = x;
+          is = refl;
+          front = t ∷ [];
+          parts = refl;
+          spelled = rw (none, ← same) refl;
           ended = subst (λ (b : Bool). cond b (ts ≡ []) (HasEnd ts)) still ends;
           only = λ u after left j more m w stop eq. same_index x j e (same_token _ _ _ _ _ _ eq);
         }
     at_limit x (Some l) e some_l =
         let same : t.token ≡ token_of x = back t.token x e in
         record {
-          front = []; after = ts; parts = refl; index = x; tail = mark (token_of x) (over x) ∷ []; opens = refl;
+          front = [];
+          after = ts;
+          parts = refl;
+          index = x;
+          tail = mark (token_of x) (over x) ∷ [];
+          opens = refl;
           never = λ j more m w stop eq.
-            let i : j ≡ x = same_index x j e (same_token _ _ _ _ _ _ eq) in
-            let o : Some l ≡ m = sym some_l ∙ sym (ap over i) ∙ same_over _ _ _ _ _ _ eq in
-            subst (λ (n : Option Limit). IsOver n (Passes l)) o refl;
+              let i : j ≡ x = same_index x j e (same_token _ _ _ _ _ _ eq) in
+              let o : Some l ≡ m = sym some_l ∙ sym (ap over i) ∙ same_over _ _ _ _ _ _ eq in
+              subst (λ (n : Option Limit). IsOver n (Passes l)) o refl;
           may = λ l' why.
-            let both_l : l ≡ l' = cc in
-            (x, [], rw (← same, some_l, both_l) refl);
+              let both_l : l ≡ l' = cc in
+              (x, [], rw (← same, some_l, both_l) refl);
         }
 
     go : (o : Option A) → what t.token ≡ o → Agrees {I = A} (λ x. x) (λ x. mark (token_of x) (over x) ∷ []) on (t ∷ ts) (within over o (t ∷ ts))
     go (Some x) e = at_limit x (over x) e refl
     go None e = record {
-      front = []; after = ts; parts = refl; index = some; tail = mark (token_of some) (over some) ∷ []; opens = refl;
+      front = [];
+      after = ts;
+      parts = refl;
+      index = some;
+      tail = mark (token_of some) (over some) ∷ [];
+      opens = refl;
       never = λ j more m w stop eq.
-        let agree : token_of j ≡ t.token = same_token _ _ _ _ _ _ eq in
-        let again : Some j ≡ None = sym (forth j) ∙ ap what agree ∙ e in absurd cc;
+          let agree : token_of j ≡ t.token = same_token _ _ _ _ _ _ eq in
+          let again : Some j ≡ None = sym (forth j) ∙ ap what agree ∙ e in absurd cc;
       may = λ l why. absurd cc;
     }
 
@@ -400,12 +475,23 @@ one_within {A} what token_of over on some back forth inside (t ∷ ts) ends = go
 pub weaken : {I T : Type 0} (tree : I → T) (sp : I → List Marked) (on on' : Token → Bool) (ts : List Placed) (r : Read T)
     → ((more : List Marked) → Stops on more → Stops on' more) → Agrees tree sp on' ts r → Agrees tree sp on ts r
 weaken tree sp on on' ts (Ok x) f h = record {
-  index = h.index; is = h.is; front = h.front; parts = h.parts; spelled = h.spelled; ended = h.ended;
+  index = h.index;
+  is = h.is;
+  front = h.front;
+  parts = h.parts;
+  spelled = h.spelled;
+  ended = h.ended;
   only = λ t after l j more m w stop eq. h.only t after l j more m w (f more stop) eq;
 }
 weaken tree sp on on' ts (Err s) f h = record {
-  front = h.front; after = h.after; parts = h.parts; index = h.index; tail = h.tail; opens = h.opens;
-  never = λ j more m w stop eq. h.never j more m w (f more stop) eq; may = h.may;
+  front = h.front;
+  after = h.after;
+  parts = h.parts;
+  index = h.index;
+  tail = h.tail;
+  opens = h.opens;
+  never = λ j more m w stop eq. h.never j more m w (f more stop) eq;
+  may = h.may;
 }
 
 -- equal spellings
@@ -418,11 +504,16 @@ pub over_limit : {I T : Type 0} (tree : I → T) (sp : I → List Marked) (on : 
     → ((i : I) → (w : List Marked) × (sp i ≡ mark (first ts).token (Some l) ∷ w)) → HasEnd ts → Agrees tree sp on ts (halt (Passes l) ts)
 over_limit tree sp on l some [] f ends = absurd ends
 over_limit tree sp on l some (t ∷ ts) f ends = record {
-  front = []; after = ts; parts = refl; index = some; tail = sp some; opens = refl;
+  front = [];
+  after = ts;
+  parts = refl;
+  index = some;
+  tail = sp some;
+  opens = refl;
   never = λ j more m w stop eq.
-    let x = f j in
-    let o : Some l ≡ m = same_over _ _ _ _ _ _ (ap (λ (ms : List Marked). ms ++ more) (sym x.1) ∙ eq) in
-    subst (λ (n : Option Limit). IsOver n (Passes l)) o refl;
+      let x = f j in
+      let o : Some l ≡ m = same_over _ _ _ _ _ _ (ap (λ (ms : List Marked). ms ++ more) (sym x.1) ∙ eq) in
+      subst (λ (n : Option Limit). IsOver n (Passes l)) o refl;
   may = λ l' why. let x = f some in let e : l ≡ l' = cc in (some, x.0, x.1 ∙ ap (λ (k : Limit). mark t.token (Some k) ∷ x.0) e);
 }
 

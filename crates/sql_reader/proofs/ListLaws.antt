@@ -17,7 +17,7 @@ pub past : {I T : Type 0} (w : Token) → the w w ≡ Some tt → is_last w ≡ 
     → ((x : Unit {0} × List Placed) → HasEnd x.1 → Agrees tree sp on x.1 (k x)) → Agrees tree (λ i. plain w ∷ sp i) on ts (skip w ts >>= k)
 past {I} w again within tree sp on ts k some ends law =
     also (λ (p : Unit {0} × I). tree p.1) (λ p. plain w ∷ sp p.1) tree (λ i. plain w ∷ sp i) on ts _ (λ p. p.1) (λ i. (tt, i)) (λ p. (refl, refl)) (λ i. (refl, refl))
-      (then (λ u i. tree i) (λ u. plain w ∷ []) sp closed on ts (skip w ts) k some (λ j more stop. stops_closed on (sp j) more stop) (skips w again within closed ts ends) (λ x h. law x h.ended))
+    (then (λ u i. tree i) (λ u. plain w ∷ []) sp closed on ts (skip w ts) k some (λ j more stop. stops_closed on (sp j) more stop) (skips w again within closed ts ends) (λ x h. law x h.ended))
 
 -- a name first
 pub past_name : {J T : Type 0} (tree : Name → J → T) (sp : J → List Marked) (on : Token → Bool) (ts : List Placed) (k : Name × List Placed → Read T) → J → HasEnd ts
@@ -56,9 +56,9 @@ pub maybe : {A : Type 0} (test : Token → Bool) (r : Read A) (sp : A → List M
     → Agrees {I = Option A} (λ o. o) (grammar.optional sp) on ts (cond (test (first ts).token) (r >>= λ x. Ok (Some x.0, x.1)) (Ok (None, ts)))
 maybe {A} test r sp onA on ts heads stops weaker ends law =
     also to_option (both sp (λ u. [])) (λ o. o) (grammar.optional sp) on ts _ to_option of_option (option_to sp) (option_back sp)
-      (choice (λ x. Some x) (λ u. None) sp (λ (u : Unit {0}). []) on test ts _ _ (λ a more stop. heads-append test true (sp a) more (heads a)) (λ u more stop. other_begins test on stops more stop)
-        (λ e. mapped (λ x. Some x) (λ a. a) sp on ts _ (weaken (λ a. a) sp on onA ts r weaker (law e)))
-        (λ e. nothing None on ts ends))
+    (choice (λ x. Some x) (λ u. None) sp (λ (u : Unit {0}). []) on test ts _ _ (λ a more stop. heads-append test true (sp a) more (heads a)) (λ u more stop. other_begins test on stops more stop)
+    (λ e. mapped (λ x. Some x) (λ a. a) sp on ts _ (weaken (λ a. a) sp on onA ts r weaker (law e)))
+    (λ e. nothing None on ts ends))
 
 -- one of several words, or nothing
 pub maybe_one_of : {A : Type 0} (token_of : A → Token) (table : List (Token × A)) (some : A) → AllByRecursion (λ (e : Token × A). e.0 ≡ token_of e.1) table → ((x : A) → which table (token_of x) ≡ Some x) → ((x : A) → is_last (token_of x) ≡ false)
@@ -66,8 +66,8 @@ pub maybe_one_of : {A : Type 0} (token_of : A → Token) (table : List (Token ×
     → Agrees {I = Option A} (λ o. o) (grammar.optional (λ x. plain (token_of x) ∷ [])) on ts (elim (which table (first ts).token) [ None ↦ Ok (None, ts) | Some x ↦ Ok (Some x, rest ts) ])
 maybe_one_of {A} token_of table some ok again within on stops ts ends =
     subst (Agrees {I = Option A} (λ o. o) (grammar.optional (λ x. plain (token_of x) ∷ [])) on ts) (by_cases (which table (first ts).token))
-      (maybe (λ t. is_some (which table t)) (taken (which table (first ts).token) ts) (λ x. plain (token_of x) ∷ []) closed on ts (λ a. ap is_some (again a)) (λ t e. ap is_some (stops t e)) (λ more stop. stops_closed on [] more stop) ends
-        (λ e. one_of token_of table some ok again within closed ts ends))
+    (maybe (λ t. is_some (which table t)) (taken (which table (first ts).token) ts) (λ x. plain (token_of x) ∷ []) closed on ts (λ a. ap is_some (again a)) (λ t e. ap is_some (stops t e)) (λ more stop. stops_closed on [] more stop) ends
+    (λ e. one_of token_of table some ok again within closed ts ends))
   where
     by_cases : (o : Option A) → cond (is_some o) (◌>>=◌ {B = Option A × List Placed} (taken o ts) (λ x. Ok (Some x.0, x.1))) (Ok (None, ts)) ≡ elim o [ None ↦ Ok (None, ts) | Some x ↦ Ok (Some x, rest ts) ]
     by_cases None = refl
@@ -83,15 +83,22 @@ abbrev pub or_comma : (Token → Bool) → Token → Bool
 or_comma on t = is (Sign (codes ",")) t || on t
 
 module _ {A : Type 0} (sp : ℕ → A → List Marked) (spL : ℕ → Chain A → List Marked) (onA : Token → Bool) (item : ℕ → List Placed → Read A) (some : A)
-         (of_last : (k : ℕ) (a : A) → spL k (Last a) ≡ sp k a) (of_more : (k : ℕ) (a : A) (l : Chain A) → spL k (More a l) ≡ sp k a ++ (plain (Sign (codes ",")) ∷ spL (suc k) l))
-         (not_empty : (k : ℕ) (a : A) → Heads (λ t. true) true (sp k a)) (ends_item : onA (Sign (codes ",")) ≡ false)
-         (law : (k : ℕ) (ts : List Placed) → HasEnd ts → Agrees {I = A} (λ a. a) (sp k) onA ts (item k ts)) where
+    (of_last : (k : ℕ) (a : A) → spL k (Last a) ≡ sp k a) (of_more : (k : ℕ) (a : A) (l : Chain A) → spL k (More a l) ≡ sp k a ++ (plain (Sign (codes ",")) ∷ spL (suc k) l))
+    (not_empty : (k : ℕ) (a : A) → Heads (λ t. true) true (sp k a)) (ends_item : onA (Sign (codes ",")) ≡ false)
+    (law : (k : ℕ) (ts : List Placed) → HasEnd ts → Agrees {I = A} (λ a. a) (sp k) onA ts (item k ts)) where
   pub numbered : (ts : List Placed) → HasEnd ts → Agrees {I = Chain A} (λ l. l) (spL 0) (or_comma onA) ts (with_commas item ts)
   numbered ts ends = in_chain Last (λ a u l. More a l) (the (Sign (codes ","))) (λ u. Sign (codes ",")) sp spL onA (or_comma onA)
       (record {
-        cases = chain_cases; of_last = of_last; of_more = λ k a s l. of_more k a l; back = the-back (Sign (codes ",")); forth = λ s. refl; inside = λ s. refl;
-        not_empty = λ k a e. subst (Heads (λ t. true) true) e (not_empty k a); ends_item = λ s. ends_item;
-        weaker = λ t e. (or-false (is (Sign (codes ",")) t) (onA t) e).1; no_sep = λ t e. the-none (Sign (codes ",")) t (or-false (is (Sign (codes ",")) t) (onA t) e).0;
+        cases = chain_cases;
+        of_last = of_last;
+        of_more = λ k a s l. of_more k a l;
+        back = the-back (Sign (codes ","));
+        forth = λ s. refl;
+        inside = λ s. refl;
+        not_empty = λ k a e. subst (Heads (λ t. true) true) e (not_empty k a);
+        ends_item = λ s. ends_item;
+        weaker = λ t e. (or-false (is (Sign (codes ",")) t) (onA t) e).1;
+        no_sep = λ t e. the-none (Sign (codes ",")) t (or-false (is (Sign (codes ",")) t) (onA t) e).0;
       }) item some tt law (suc (length ts)) 0 ts ends (omega arith)
 
 pub commas : {A : Type 0} (sp : A → List Marked) (onA : Token → Bool) (item : List Placed → Read A) (some : A) → ((a : A) → Heads (λ t. true) true (sp a)) → onA (Sign (codes ",")) ≡ false
@@ -108,8 +115,8 @@ abbrev to_list : {A : Type 0} → (A × List A) ⊎ Unit {0} → List A
 to_list = both (λ p. p.0 ∷ p.1) (λ u. [])
 
 module _ {A : Type 0} (goes : Token → Bool) (sp : A → List Marked) (on : Token → Bool) (item : List Placed → Read A)
-         (heads : (a : A) → Heads goes true (sp a)) (stops : (t : Token) → on t ≡ false → goes t ≡ false)
-         (law : (ts : List Placed) → HasEnd ts → Agrees {I = A} (λ a. a) sp closed ts (item ts)) where
+    (heads : (a : A) → Heads goes true (sp a)) (stops : (t : Token) → on t ≡ false → goes t ≡ false)
+    (law : (ts : List Placed) → HasEnd ts → Agrees {I = A} (λ a. a) sp closed ts (item ts)) where
   abbrev sp_list : (A × List A) ⊎ Unit {0} → List Marked
   sp_list = both (λ p. sp p.0 ++ grammar.each sp p.1) (λ u. [])
 
@@ -132,11 +139,11 @@ module _ {A : Type 0} (goes : Token → Bool) (sp : A → List Marked) (on : Tok
   while_law zero ts ends lt = absurd (omega arith)
   while_law (suc n) ts ends lt =
       also to_list sp_list (λ l. l) (grammar.each sp) on ts _ to_list of_list list_to list_back
-        (choice (λ (p : A × List A). p.0 ∷ p.1) (λ (u : Unit {0}). []) (λ p. sp p.0 ++ grammar.each sp p.1) (λ u. []) on goes ts _ _
-          (λ p more stop. heads-append goes true (sp p.0 ++ grammar.each sp p.1) more (heads-append goes true (sp p.0) _ (heads p.0))) (λ u more stop. other_begins goes on stops more stop)
-          (λ e. then (λ a l. a ∷ l) sp (grammar.each sp) closed on ts _ _ [] (λ j more stop. stops_closed on (grammar.each sp j) more stop) (law ts ends)
-            (λ x h. mapped (λ l. x.0 ∷ l) (λ l. l) (grammar.each sp) on x.1 _ (while_law n x.1 h.ended (let f = fewer ts x.0 x.1 h in omega arith))))
-          (λ e. nothing [] on ts ends))
+      (choice (λ (p : A × List A). p.0 ∷ p.1) (λ (u : Unit {0}). []) (λ p. sp p.0 ++ grammar.each sp p.1) (λ u. []) on goes ts _ _
+      (λ p more stop. heads-append goes true (sp p.0 ++ grammar.each sp p.1) more (heads-append goes true (sp p.0) _ (heads p.0))) (λ u more stop. other_begins goes on stops more stop)
+      (λ e. then (λ a l. a ∷ l) sp (grammar.each sp) closed on ts _ _ [] (λ j more stop. stops_closed on (grammar.each sp j) more stop) (law ts ends)
+      (λ x h. mapped (λ l. x.0 ∷ l) (λ l. l) (grammar.each sp) on x.1 _ (while_law n x.1 h.ended (let f = fewer ts x.0 x.1 h in omega arith))))
+      (λ e. nothing [] on ts ends))
 
 -- ---- the end of a statement
 
@@ -160,7 +167,7 @@ pub before : {A T : Type 0} (w : Token) → the w w ≡ Some tt → is_last w �
     → Agrees {I = A} (λ a. a) sp onA ts r → Agrees tree (λ a. sp a ++ (plain w ∷ [])) on ts (r >>= λ a. skip w a.1 >>= λ c. Ok (tree a.0, c.1))
 before {A} w again within tree sp onA on ts r stops law =
     also (λ (p : A × Unit {0}). tree p.0) (λ p. sp p.0 ++ (plain w ∷ [])) tree (λ a. sp a ++ (plain w ∷ [])) on ts _ (λ p. p.0) (λ a. (a, tt)) (λ p. (refl, refl)) (λ a. (refl, refl))
-      (then (λ a u. tree a) sp (λ u. plain w ∷ []) onA on ts r _ tt (λ j more stop. stops) law (λ x h. at_last w again within (tree x.0) on x.1 h.ended))
+    (then (λ a u. tree a) sp (λ u. plain w ∷ []) onA on ts r _ tt (λ j more stop. stops) law (λ x h. at_last w again within (tree x.0) on x.1 h.ended))
 
 pub two_words : (v w : Token) → the v v ≡ Some tt → is_last v ≡ false → the w w ≡ Some tt → is_last w ≡ false → (on : Token → Bool) (ts : List Placed) → HasEnd ts
     → Agrees {I = Unit {0}} (λ u. u) (λ u. plain v ∷ plain w ∷ []) on ts (skip v ts >>= λ x. skip w x.1)

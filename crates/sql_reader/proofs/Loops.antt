@@ -162,7 +162,7 @@ module _ {A : Type 0} (goes : Token → Bool) (item : List Placed → Read A) wh
   many-starts ts xs none =
       let all : suc (length ts) - length {A = A} [] ≡ suc (length ts) = omega arith in
       subst (λ (ys : List A). ManySoFar (length ts) ys ts (many goes item (suc (length ts)) ts)) (sym none)
-        (ap (λ (m : ℕ). ◌>>=◌ {B = List A × List Placed} (many goes item m ts) (λ l. Ok ([] ++ l.0, l.1))) all ∙ same_read (many goes item (suc (length ts)) ts))
+      (ap (λ (m : ℕ). ◌>>=◌ {B = List A × List Placed} (many goes item m ts) (λ l. Ok ([] ++ l.0, l.1))) all ∙ same_read (many goes item (suc (length ts)) ts))
 
   abbrev many_by : ℕ → List Placed → Bool → Read A → Read (List A)
   many_by n ts b r = cond b (r >>= λ a. ◌>>=◌ {B = List A × List Placed} (many goes item n a.1) (λ l. Ok (a.0 ∷ l.0, l.1))) (Ok ([], ts))

@@ -23,7 +23,12 @@ end_law (t ∷ ts) ends = go (inside t.token) refl
     go : (b : Bool) → inside t.token ≡ b → Agrees {I = Unit {0}} (λ u. u) (λ u. []) inside (t ∷ ts) (cond b (halt CannotStand (t ∷ ts)) (Ok (tt, t ∷ ts)))
     go false e = record { index = tt; is = refl; front = []; parts = refl; spelled = refl; ended = ends; only = λ u after same j more m w stop eq. refl }
     go true e = record {
-      front = []; after = ts; parts = refl; index = tt; tail = []; opens = refl;
+      front = [];
+      after = ts;
+      parts = refl;
+      index = tt;
+      tail = [];
+      opens = refl;
       never = λ j more m w stop eq. let f : inside t.token ≡ false = subst (Stops inside) eq stop in absurd cc;
       may = λ l why. absurd cc;
     }
@@ -50,11 +55,11 @@ sign_inside ToWord = refl
 rest_law : (s : Option Scope) (ts : List Placed) → HasEnd ts → Agrees {I = Rest} (tree_rest s) sp_rest inside ts (setting_after s ts)
 rest_law s ts ends =
     past_name (λ n (q : SetSign × Factor). tree_rest s (n, q)) (λ q. plain (grammar.set_sign q.0) ∷ grammar.factor q.1) inside ts _ (EqualSign, Column []) ends
-      (λ n hn. then (λ e v. tree_rest s (n.0, (e, v))) (λ e. plain (grammar.set_sign e) ∷ []) grammar.factor closed inside n.1 _ _ (Column []) (λ j more stop. stops_closed inside (grammar.factor j) more stop)
-        (one_of grammar.set_sign ((Sign (codes "="), EqualSign) ∷ (Word (codes "to"), ToWord) ∷ []) EqualSign (refl, (refl, tt)) sign-forth sign_inside closed n.1 hn)
-        (λ e he. also (λ (p : Factor × Unit {0}). tree_rest s (n.0, (e.0, p.0))) (λ p. grammar.factor p.0 ++ []) (λ v. tree_rest s (n.0, (e.0, v))) grammar.factor inside e.1 _ (λ p. p.0) (λ v. (v, tt)) (λ p. (refl, sym (append-nil (grammar.factor p.0)))) (λ v. (refl, append-nil (grammar.factor v)))
-          (then (λ v u. tree_rest s (n.0, (e.0, v))) grammar.factor (λ u. []) closed inside e.1 _ _ tt (λ j more stop. stops_closed inside [] more stop) (factor_law closed e.1 he.ended)
-            (λ v hv. mapped (λ u. tree_rest s (n.0, (e.0, v.0))) (λ u. u) (λ u. []) inside v.1 _ (end_law v.1 hv.ended)))))
+    (λ n hn. then (λ e v. tree_rest s (n.0, (e, v))) (λ e. plain (grammar.set_sign e) ∷ []) grammar.factor closed inside n.1 _ _ (Column []) (λ j more stop. stops_closed inside (grammar.factor j) more stop)
+    (one_of grammar.set_sign ((Sign (codes "="), EqualSign) ∷ (Word (codes "to"), ToWord) ∷ []) EqualSign (refl, (refl, tt)) sign-forth sign_inside closed n.1 hn)
+    (λ e he. also (λ (p : Factor × Unit {0}). tree_rest s (n.0, (e.0, p.0))) (λ p. grammar.factor p.0 ++ []) (λ v. tree_rest s (n.0, (e.0, v))) grammar.factor inside e.1 _ (λ p. p.0) (λ v. (v, tt)) (λ p. (refl, sym (append-nil (grammar.factor p.0)))) (λ v. (refl, append-nil (grammar.factor v)))
+    (then (λ v u. tree_rest s (n.0, (e.0, v))) grammar.factor (λ u. []) closed inside e.1 _ _ tt (λ j more stop. stops_closed inside [] more stop) (factor_law closed e.1 he.ended)
+    (λ v hv. mapped (λ u. tree_rest s (n.0, (e.0, v.0))) (λ u. u) (λ u. []) inside v.1 _ (end_law v.1 hv.ended)))))
 
 scope_token : Scope → Token
 scope_token Local = Word (codes "local")
@@ -83,8 +88,8 @@ scoped_law : (ts : List Placed) → HasEnd ts → Agrees tree_scoped sp_scoped i
 unfolding scope_token sp_scoped
 scoped_law ts ends =
     then (λ s p. tree_rest (Some s) p) (λ s. plain (scope_token s) ∷ []) sp_rest closed inside ts _ _ ([], (EqualSign, Column [])) (λ j more stop. stops_closed inside (sp_rest j) more stop)
-      (one_of scope_token ((Word (codes "local"), Local) ∷ (Word (codes "session"), Session) ∷ []) Local (refl, (refl, tt)) scope-forth scope_inside closed ts ends)
-      (λ x h. rest_law (Some x.0) x.1 h.ended)
+    (one_of scope_token ((Word (codes "local"), Local) ∷ (Word (codes "session"), Session) ∷ []) Local (refl, (refl, tt)) scope-forth scope_inside closed ts ends)
+    (λ x h. rest_law (Some x.0) x.1 h.ended)
 
 -- ---- one of two, told by a longer front
 
@@ -106,13 +111,14 @@ compared (f ∷ front) (p ∷ pre) t q a b e =
     let s : f ≡ p = cc in
     let r : front ++ (t ∷ a) ≡ pre ++ (q ∷ b) = cc in
     elim (compared front pre t q a b r) [
-      inl x ↦ inl (record { more = x.more; is = ap (λ (us : List Placed). p ∷ us) x.is ∙ ap (λ (y : Placed). y ∷ (front ++ (t ∷ x.more))) (sym s) })
-    | inr x ↦ inr (record { over = x.over; tail = x.tail; same = λ m w. ap (λ (y : Placed). plain y.token ∷ (good front ++ (mark t.token m ∷ w))) s ∙ ap (λ (ms : List Marked). plain p.token ∷ ms) (x.same m w) }) ]
+      | inl x ↦ inl (record { more = x.more; is = ap (λ (us : List Placed). p ∷ us) x.is ∙ ap (λ (y : Placed). y ∷ (front ++ (t ∷ x.more))) (sym s) })
+      | inr x ↦ inr (record { over = x.over; tail = x.tail; same = λ m w. ap (λ (y : Placed). plain y.token ∷ (good front ++ (mark t.token m ∷ w))) s ∙ ap (λ (ms : List Marked). plain p.token ∷ ms) (x.same m w) })
+    ]
 
 module _ {A B T : Type 0} (treeA : A → T) (treeB : B → T) (spA : A → List Marked) (spB : B → List Marked) (ts pre : List Placed) (q : Placed) (after : List Placed) (parts : ts ≡ pre ++ (q ∷ after))
-         (sp : T → List Marked) (spelled : (a : A) → sp (treeA a) ≡ spA a)
-         (some : A) (tail : List Marked) (begins : spA some ≡ good pre ++ tail)
-         (other : (j : B) (more : List Marked) (m : Option Limit) (w : List Marked) → Stops inside more → spB j ++ more ≡ good pre ++ (mark q.token m ∷ w) → ⊥) where
+    (sp : T → List Marked) (spelled : (a : A) → sp (treeA a) ≡ spA a)
+    (some : A) (tail : List Marked) (begins : spA some ≡ good pre ++ tail)
+    (other : (j : B) (more : List Marked) (m : Option Limit) (w : List Marked) → Stops inside more → spB j ++ more ≡ good pre ++ (mark q.token m ∷ w) → ⊥) where
   goes : (front : List Placed) (t : Placed) (x : Within front pre t) → spA some ≡ good front ++ (plain t.token ∷ (good x.more ++ tail))
   goes front t x = begins ∙ ap (λ (us : List Placed). good us ++ tail) x.is ∙ ap (λ (ms : List Marked). ms ++ tail) (good-append front (t ∷ x.more)) ∙ append_assoc (good front) (plain t.token ∷ good x.more) tail
 
@@ -124,32 +130,46 @@ module _ {A B T : Type 0} (treeA : A → T) (treeB : B → T) (spA : A → List 
 
   pub the_one : (r : Read T) → Agrees treeA spA inside ts r → Agrees {I = A ⊎ B} (both treeA treeB) (both spA spB) inside ts r
   the_one (Ok x) h = record {
-    index = inl h.index; is = h.is; front = h.front; parts = h.parts; spelled = h.spelled; ended = h.ended;
+    index = inl h.index;
+    is = h.is;
+    front = h.front;
+    parts = h.parts;
+    spelled = h.spelled;
+    ended = h.ended;
     only = λ t u l j more m w stop eq. elim j as (λ j. both spA spB j ++ more ≡ good h.front ++ (mark t.token m ∷ w) → both treeA treeB j ≡ treeA h.index) [
-        inl a ↦ λ eq. h.only t u l a more m w stop eq
-      | inr b ↦ λ eq. absurd (no t u l b more m w stop eq) ] eq;
+      | inl a ↦ λ eq. h.only t u l a more m w stop eq
+      | inr b ↦ λ eq. absurd (no t u l b more m w stop eq)
+    ] eq;
   }
     where
       no : (t : Placed) (u : List Placed) → x.1 ≡ t ∷ u → (b : B) (more : List Marked) (m : Option Limit) (w : List Marked) → Stops inside more → spB b ++ more ≡ good h.front ++ (mark t.token m ∷ w) → ⊥
       no t u l b more m w stop eq = elim (compared h.front pre t q u after (sym (h.parts ∙ ap (λ (us : List Placed). h.front ++ us) l) ∙ parts)) [
-          inl c ↦
+        | inl c ↦
             let same : treeA some ≡ treeA h.index = h.only t u l some (plain End ∷ []) None _ refl (goes_on h.front t c) in
             let short : spA some ≡ good h.front = sym (spelled some) ∙ ap sp same ∙ spelled h.index ∙ h.spelled in
             let long : good h.front ++ (plain t.token ∷ (good c.more ++ tail)) ≡ good h.front ++ [] = sym (goes h.front t c) ∙ short ∙ sym (append-nil (good h.front)) in
             let wrong : plain t.token ∷ (good c.more ++ tail) ≡ [] = append_cancel_left (good h.front) _ _ long in cc
-        | inr c ↦ not_so h.front t c b more m w stop eq ]
+        | inr c ↦ not_so h.front t c b more m w stop eq
+      ]
   the_one (Err s) h = record {
-    front = h.front; after = h.after; parts = h.parts; index = inl h.index; tail = h.tail; opens = h.opens;
+    front = h.front;
+    after = h.after;
+    parts = h.parts;
+    index = inl h.index;
+    tail = h.tail;
+    opens = h.opens;
     never = λ j more m w stop eq. elim j as (λ j. both spA spB j ++ more ≡ good h.front ++ (mark s.here.token m ∷ w) → IsOver m s.why) [
-        inl a ↦ λ eq. h.never a more m w stop eq
-      | inr b ↦ λ eq. absurd (no b more m w stop eq) ] eq;
+      | inl a ↦ λ eq. h.never a more m w stop eq
+      | inr b ↦ λ eq. absurd (no b more m w stop eq)
+    ] eq;
     may = λ l why. let x = h.may l why in (inl x.0, x.1, x.2);
   }
     where
       no : (b : B) (more : List Marked) (m : Option Limit) (w : List Marked) → Stops inside more → spB b ++ more ≡ good h.front ++ (mark s.here.token m ∷ w) → ⊥
       no b more m w stop eq = elim (compared h.front pre s.here q h.after after (sym h.parts ∙ parts)) [
-          inl c ↦ h.never some (plain End ∷ []) None _ refl (goes_on h.front s.here c)
-        | inr c ↦ not_so h.front s.here c b more m w stop eq ]
+        | inl c ↦ h.never some (plain End ∷ []) None _ refl (goes_on h.front s.here c)
+        | inr c ↦ not_so h.front s.here c b more m w stop eq
+      ]
 
 -- ---- the two readings
 
@@ -346,8 +366,9 @@ module _ (ts : List Placed) (ends : HasEnd ts) where
   choose : (S to equal to' on named : Bool) → is_scope a.token ≡ S → is to_word b.token ≡ to → is (Sign (codes "=")) c.token ≡ equal → is to_word c.token ≡ to' → inside d.token ≡ on → is_name b.token ≡ named
       → Both (cond (cond S (cond to (equal || (to' && on)) named) false) (scoped_setting ts) (setting_after None ts))
   choose false to equal to' on named p q r s t u = elim to [
-      true ↦ flip _ (by_no_scope p)
-    | false ↦ flip _ (by_no_scope p) ]
+    | true ↦ flip _ (by_no_scope p)
+    | false ↦ flip _ (by_no_scope p)
+  ]
   choose true true true to' on named p q r s t u = let x = scope_is a.token p in by_equal x.0 x.1 (is_same to_word b.token q) (is_same (Sign (codes "=")) c.token r)
   choose true true false true true named p q r s t u = let x = scope_is a.token p in by_more x.0 x.1 (is_same to_word b.token q) (is_same to_word c.token s) t
   choose true true false true false named p q r s t u = let x = scope_is a.token p in flip _ (by_end x.0 x.1 (is_same to_word b.token q) (is_same to_word c.token s) t)
@@ -381,4 +402,4 @@ setting_back (Some Session) p = (refl, refl)
 pub set_law : (ts : List Placed) → HasEnd ts → Agrees {I = Setting} (λ s. Set s) (λ s. grammar.statement (Set s)) inside ts (reading.set ts)
 set_law ts ends =
     past (Key (codes "set")) refl refl (λ (s : Setting). Set s) grammar.setting inside ts _ (record { scope = None; name = []; sign = EqualSign; value = Column [] }) ends
-      (λ x hx. also (both tree_scoped (tree_rest None)) (both sp_scoped sp_rest) (λ s. Set s) grammar.setting inside x.1 _ made (λ s. parted s.scope (s.name, (s.sign, s.value))) setting_to (λ s. setting_back s.scope (s.name, (s.sign, s.value))) (both_law x.1 hx))
+    (λ x hx. also (both tree_scoped (tree_rest None)) (both sp_scoped sp_rest) (λ s. Set s) grammar.setting inside x.1 _ made (λ s. parted s.scope (s.name, (s.sign, s.value))) setting_to (λ s. setting_back s.scope (s.name, (s.sign, s.value))) (both_law x.1 hx))

@@ -1,5 +1,6 @@
 pub mod Grammar
 pub mod Lexing
+pub mod Numbers
 pub mod Reading
 pub mod Refusals
 pub mod Text

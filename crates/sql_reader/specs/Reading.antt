@@ -10,7 +10,6 @@ use Rattle.sql_reader.specs.Tree as tree
 use Rattle.sql_reader.specs.Grammar.{fits, Fault, kind_of_limit}
 use Rattle.sql_reader.specs.declared.error.SqlErrorKind.{SqlErrorKind as Kind}
 use Rattle.sql_reader.specs.declared.error.SqlErrorKind.TheVariants as kind
-
 -- why a token stops the reading of a part
 pub use Rattle.sql_reader.specs.declared.error.Why.{Why}
 pub use Rattle.sql_reader.specs.declared.error.Why.TheVariants.{CannotStand, Passes}
@@ -88,10 +87,10 @@ abbrev pub chain : {A S L : Type 0} → (A → L) → (A → S → L → L) → 
 chain last more sep item zero k ts = halt CannotStand ts
 chain last more sep item (suc n) k ts = do
   a ← item k ts
-  elim (sep (first a.1).token)
-    [ None ↦ Ok (last a.0, a.1)
+  elim (sep (first a.1).token) [
+    | None ↦ Ok (last a.0, a.1)
     | Some s ↦ chain last more sep item n (suc k) (rest a.1) >>= λ l. Ok (more a.0 s l.0, l.1)
-    ]
+  ]
 
 -- items with commas between them
 abbrev pub with_commas : {A : Type 0} → (ℕ → List Placed → Read A) → List Placed → Read (Chain A)
@@ -533,9 +532,9 @@ abbrev pub block_of : ℕ → List Placed → Result Block Fault
 block_of zero ts = Err (record { kind = kind.Syntax; at = (first ts).at })
 block_of (suc n) ts =
     and_then (maybe_statement ts) (λ s.
-      if at (Sign (codes ";")) s.1 then and_then (block_of n (rest s.1)) (λ b. Ok (More s.0 b))
-      else (if at End s.1 then Ok (Last s.0)
-      else Err (record { kind = refused (first s.1).token; at = (first s.1).at })))
+    if at (Sign (codes ";")) s.1 then and_then (block_of n (rest s.1)) (λ b. Ok (More s.0 b))
+    else (if at End s.1 then Ok (Last s.0)
+    else Err (record { kind = refused (first s.1).token; at = (first s.1).at })))
 
 -- the tree of a block, or its fault
 abbrev pub block : List Placed → Result Block Fault

@@ -15,7 +15,10 @@ use crate::values::sum;
 use sqlite_items::Items;
 use std::alloc::Global;
 
-fn assignment<'a, 't>(alloc: Global, tokens: &'t [Placed<'a>]) -> Result<(Assignment, &'t [Placed<'a>]), Stop<'a>>
+fn assignment<'a, 't>(
+    alloc: Global,
+    tokens: &'t [Placed<'a>],
+) -> Result<(Assignment, &'t [Placed<'a>]), Stop<'a>>
     ensures reads { Gives (λ x. (view_assignment x.0, views x.1.now)) result (assignment (views tokens.now)) }
     ensures shorter { IfOk result (λ x. length x.1.now ≤ length tokens.now) }
 {
@@ -25,7 +28,10 @@ fn assignment<'a, 't>(alloc: Global, tokens: &'t [Placed<'a>]) -> Result<(Assign
     Ok((Assignment { column, value }, rest))
 }
 
-fn assignments<'a, 't>(alloc: Global, tokens: &'t [Placed<'a>]) -> Result<(Chain<Assignment>, &'t [Placed<'a>]), Stop<'a>>
+fn assignments<'a, 't>(
+    alloc: Global,
+    tokens: &'t [Placed<'a>],
+) -> Result<(Chain<Assignment>, &'t [Placed<'a>]), Stop<'a>>
     ensures reads { Gives (λ x. (chain_by view_assignment x.0, views x.1.now)) result (with_commas (λ k. assignment) (views tokens.now)) }
     ensures shorter { IfOk result (λ x. length x.1.now ≤ length tokens.now) }
 {
@@ -40,7 +46,10 @@ fn assignments<'a, 't>(alloc: Global, tokens: &'t [Placed<'a>]) -> Result<(Chain
     Ok((Chain { first, more }, rest))
 }
 
-pub fn update<'a, 't>(alloc: Global, tokens: &'t [Placed<'a>]) -> Result<(Update, &'t [Placed<'a>]), Stop<'a>>
+pub fn update<'a, 't>(
+    alloc: Global,
+    tokens: &'t [Placed<'a>],
+) -> Result<(Update, &'t [Placed<'a>]), Stop<'a>>
     ensures reads { Gives (λ x. (view_update x.0, views x.1.now)) result (update (views tokens.now)) }
     ensures shorter { IfOk result (λ x. length x.1.now ≤ length tokens.now) }
 {
@@ -59,7 +68,10 @@ pub fn update<'a, 't>(alloc: Global, tokens: &'t [Placed<'a>]) -> Result<(Update
     ))
 }
 
-pub fn delete<'a, 't>(alloc: Global, tokens: &'t [Placed<'a>]) -> Result<(Delete, &'t [Placed<'a>]), Stop<'a>>
+pub fn delete<'a, 't>(
+    alloc: Global,
+    tokens: &'t [Placed<'a>],
+) -> Result<(Delete, &'t [Placed<'a>]), Stop<'a>>
     ensures reads { Gives (λ x. (view_delete x.0, views x.1.now)) result (delete (views tokens.now)) }
     ensures shorter { IfOk result (λ x. length x.1.now ≤ length tokens.now) }
 {

@@ -104,7 +104,10 @@ fn any_of(first: Part, more: Vec<Part>) -> Condition
     condition_from(first, more)
 }
 
-fn compares<'a, 't>(alloc: Global, tokens: &'t [Placed<'a>]) -> Result<(Atom, &'t [Placed<'a>]), Stop<'a>>
+fn compares<'a, 't>(
+    alloc: Global,
+    tokens: &'t [Placed<'a>],
+) -> Result<(Atom, &'t [Placed<'a>]), Stop<'a>>
     ensures reads { Gives (λ x. (view_atom x.0, views x.1.now)) result (compares (views tokens.now)) }
     ensures shorter { IfOk result (λ x. length x.1.now ≤ length tokens.now) }
 {
@@ -115,7 +118,11 @@ fn compares<'a, 't>(alloc: Global, tokens: &'t [Placed<'a>]) -> Result<(Atom, &'
 }
 
 #[cycle(condition)]
-fn negated<'a, 't>(alloc: Global, levels: usize, tokens: &'t [Placed<'a>]) -> Result<(Atom, &'t [Placed<'a>]), Stop<'a>>
+fn negated<'a, 't>(
+    alloc: Global,
+    levels: usize,
+    tokens: &'t [Placed<'a>],
+) -> Result<(Atom, &'t [Placed<'a>]), Stop<'a>>
     ensures reads { Gives (λ x. (view_atom x.0, views x.1.now)) result (negated (atom levels) (views tokens.now)) }
     ensures shorter { IfOk result (λ x. length x.1.now ≤ length tokens.now) }
 {
@@ -125,7 +132,11 @@ fn negated<'a, 't>(alloc: Global, levels: usize, tokens: &'t [Placed<'a>]) -> Re
 }
 
 #[cycle(condition)]
-fn group<'a, 't>(alloc: Global, levels: usize, tokens: &'t [Placed<'a>]) -> Result<(Atom, &'t [Placed<'a>]), Stop<'a>>
+fn group<'a, 't>(
+    alloc: Global,
+    levels: usize,
+    tokens: &'t [Placed<'a>],
+) -> Result<(Atom, &'t [Placed<'a>]), Stop<'a>>
     ensures reads { Gives (λ x. (view_atom x.0, views x.1.now)) result (group (atom levels) (views tokens.now)) }
     ensures shorter { IfOk result (λ x. length x.1.now ≤ length tokens.now) }
 {
@@ -137,7 +148,11 @@ fn group<'a, 't>(alloc: Global, levels: usize, tokens: &'t [Placed<'a>]) -> Resu
 
 /// A comparison, NOT or parentheses, of which so many levels may still be opened.
 #[cycle(condition)]
-fn atom<'a, 't>(alloc: Global, levels: usize, tokens: &'t [Placed<'a>]) -> Result<(Atom, &'t [Placed<'a>]), Stop<'a>>
+fn atom<'a, 't>(
+    alloc: Global,
+    levels: usize,
+    tokens: &'t [Placed<'a>],
+) -> Result<(Atom, &'t [Placed<'a>]), Stop<'a>>
     ensures reads { Gives (λ x. (view_atom x.0, views x.1.now)) result (atom levels (views tokens.now)) }
     ensures shorter { IfOk result (λ x. length x.1.now ≤ length tokens.now) }
 {
@@ -160,7 +175,11 @@ fn atom<'a, 't>(alloc: Global, levels: usize, tokens: &'t [Placed<'a>]) -> Resul
 
 /// One or more with AND between them.
 #[cycle(condition)]
-fn part_of<'a, 't>(alloc: Global, levels: usize, tokens: &'t [Placed<'a>]) -> Result<(Part, &'t [Placed<'a>]), Stop<'a>>
+fn part_of<'a, 't>(
+    alloc: Global,
+    levels: usize,
+    tokens: &'t [Placed<'a>],
+) -> Result<(Part, &'t [Placed<'a>]), Stop<'a>>
     ensures reads { Gives (λ x. (view_part x.0, views x.1.now)) result (part_of (atom levels) (views tokens.now)) }
     ensures shorter { IfOk result (λ x. length x.1.now ≤ length tokens.now) }
 {
@@ -176,7 +195,11 @@ fn part_of<'a, 't>(alloc: Global, levels: usize, tokens: &'t [Placed<'a>]) -> Re
 
 /// One or more with OR between them.
 #[cycle(condition)]
-fn condition_of<'a, 't>(alloc: Global, levels: usize, tokens: &'t [Placed<'a>]) -> Result<(Condition, &'t [Placed<'a>]), Stop<'a>>
+fn condition_of<'a, 't>(
+    alloc: Global,
+    levels: usize,
+    tokens: &'t [Placed<'a>],
+) -> Result<(Condition, &'t [Placed<'a>]), Stop<'a>>
     ensures reads { Gives (λ x. (view_condition x.0, views x.1.now)) result (condition_of (atom levels) (views tokens.now)) }
     ensures shorter { IfOk result (λ x. length x.1.now ≤ length tokens.now) }
 {
@@ -191,14 +214,20 @@ fn condition_of<'a, 't>(alloc: Global, levels: usize, tokens: &'t [Placed<'a>]) 
 }
 
 #[tactic(auto, unfolding(crate::specs::Reading::condition))]
-fn condition<'a, 't>(alloc: Global, tokens: &'t [Placed<'a>]) -> Result<(Condition, &'t [Placed<'a>]), Stop<'a>>
+fn condition<'a, 't>(
+    alloc: Global,
+    tokens: &'t [Placed<'a>],
+) -> Result<(Condition, &'t [Placed<'a>]), Stop<'a>>
     ensures reads { Gives (λ x. (view_condition x.0, views x.1.now)) result (condition (views tokens.now)) }
     ensures shorter { IfOk result (λ x. length x.1.now ≤ length tokens.now) }
 {
     condition_of(alloc, LEVELS, tokens)
 }
 
-fn where_part<'a, 't>(alloc: Global, tokens: &'t [Placed<'a>]) -> Result<(Condition, &'t [Placed<'a>]), Stop<'a>>
+fn where_part<'a, 't>(
+    alloc: Global,
+    tokens: &'t [Placed<'a>],
+) -> Result<(Condition, &'t [Placed<'a>]), Stop<'a>>
     ensures reads { Gives (λ x. (view_condition x.0, views x.1.now)) result (where_part (views tokens.now)) }
     ensures shorter { IfOk result (λ x. length x.1.now ≤ length tokens.now) }
 {
@@ -207,7 +236,10 @@ fn where_part<'a, 't>(alloc: Global, tokens: &'t [Placed<'a>]) -> Result<(Condit
 }
 
 /// WHERE and a condition, or nothing.
-pub fn maybe_where<'a, 't>(alloc: Global, tokens: &'t [Placed<'a>]) -> Result<(Option<Condition>, &'t [Placed<'a>]), Stop<'a>>
+pub fn maybe_where<'a, 't>(
+    alloc: Global,
+    tokens: &'t [Placed<'a>],
+) -> Result<(Option<Condition>, &'t [Placed<'a>]), Stop<'a>>
     ensures reads { Gives (λ x. (option_by view_condition x.0, views x.1.now)) result (optional (Key (codes "where")) where_part (views tokens.now)) }
     ensures shorter { IfOk result (λ x. length x.1.now ≤ length tokens.now) }
 {

@@ -1,5 +1,8 @@
 //! Expressions and conditions as they are written.
 
+ghost use Rattle.std.specs.Prelude.{◌≡◌, true};
+ghost use Rattle.sql_reader.specs.Numbers.{whole_of, number_of};
+
 use lock_modes::Text;
 use sqlite_items::{Boxed, Items};
 
@@ -18,6 +21,38 @@ pub enum Literal {
     Whole { negative: bool, digits: u64 },
     /// A text, each doubled quote once.
     Quoted(Text),
+}
+
+impl Literal {
+    /// The whole number, if this is one of i64.
+    pub fn number(&self) -> Option<i64>
+        ensures { result ≡ number_of self.now }
+    {
+        match self {
+            Literal::Whole {
+                negative: true,
+                digits,
+            } => negated(*digits),
+            Literal::Whole {
+                negative: false,
+                digits,
+            } => i64::try_from(*digits).ok(),
+            Literal::Quoted(_) => None,
+        }
+    }
+}
+
+/// The number below zero, if it is one of i64.
+fn negated(digits: u64) -> Option<i64>
+    ensures { result ≡ whole_of true digits }
+{
+    if digits < 1 << 63 {
+        Some(-(digits as i64))
+    } else if digits == 1 << 63 {
+        Some(i64::MIN)
+    } else {
+        None
+    }
 }
 
 /// A value, or a column of the row.

@@ -15,17 +15,19 @@ mod settings;
 mod statement;
 mod steps;
 mod table;
+#[cfg(test)]
+mod tests;
 mod token;
 mod transactions;
 mod values;
 
 pub use error::{SqlError, SqlErrorKind};
-pub use reading::read_sql;
 pub use expression::{
     AddSign, Atom, Chain, Comparison, Condition, Factor, Literal, Part, SignedTerm, Sum,
 };
+pub use reading::read_sql;
 pub use statement::{
-    Aggregate, Assignment, Begin, CreateTable, Delete, Direction, End, EndWord, Form, Insert, Level,
-    LockMode, LockTable, Noise, Property, ReadWord, Scope, Select, Selected, SetSign, Setting,
-    SortKey, Start, Statement, Strength, TablePart, TypeWord, Update,
+    Aggregate, Assignment, Begin, CreateTable, Delete, Direction, End, EndWord, Form, Insert,
+    Level, LockMode, LockTable, Noise, Property, ReadWord, Scope, Select, Selected, SetSign,
+    Setting, SortKey, Start, Statement, Strength, TablePart, TypeWord, Update,
 };

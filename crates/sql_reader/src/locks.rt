@@ -86,7 +86,9 @@ fn mode_part<'a, 't>(tokens: &'t [Placed<'a>]) -> Result<(LockMode, &'t [Placed<
     Ok((mode, rest))
 }
 
-fn maybe_mode<'a, 't>(tokens: &'t [Placed<'a>]) -> Result<(Option<LockMode>, &'t [Placed<'a>]), Stop<'a>>
+fn maybe_mode<'a, 't>(
+    tokens: &'t [Placed<'a>],
+) -> Result<(Option<LockMode>, &'t [Placed<'a>]), Stop<'a>>
     ensures reads { Gives (λ x. (x.0, views x.1.now)) result (optional (Key (codes "in")) mode_part (views tokens.now)) }
     ensures shorter { IfOk result (λ x. length x.1.now ≤ length tokens.now) }
 {
@@ -110,7 +112,10 @@ fn table_word<'a, 't>(tokens: &'t [Placed<'a>]) -> Result<(bool, &'t [Placed<'a>
     }
 }
 
-pub fn lock<'a, 't>(alloc: Global, tokens: &'t [Placed<'a>]) -> Result<(LockTable, &'t [Placed<'a>]), Stop<'a>>
+pub fn lock<'a, 't>(
+    alloc: Global,
+    tokens: &'t [Placed<'a>],
+) -> Result<(LockTable, &'t [Placed<'a>]), Stop<'a>>
     ensures reads { Gives (λ x. (view_lock x.0, views x.1.now)) result (lock (views tokens.now)) }
     ensures shorter { IfOk result (λ x. length x.1.now ≤ length tokens.now) }
 {

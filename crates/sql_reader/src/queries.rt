@@ -11,7 +11,9 @@ use crate::error::Stop;
 use crate::expression::Chain;
 use crate::rows::names;
 use crate::statement::{Aggregate, Direction, Select, Selected, SortKey};
-use crate::steps::{at_key, at_sign, at_word, behind, first, name, past_sign, skip_key, skip_sign, skip_word};
+use crate::steps::{
+    at_key, at_sign, at_word, behind, first, name, past_sign, skip_key, skip_sign, skip_word,
+};
 use crate::token::{Placed, Token};
 use sqlite_items::Items;
 use std::alloc::Global;
@@ -27,7 +29,10 @@ fn count_all<'a, 't>(tokens: &'t [Placed<'a>]) -> Result<(Aggregate, &'t [Placed
     Ok((Aggregate::Count, rest))
 }
 
-fn sum_of<'a, 't>(alloc: Global, tokens: &'t [Placed<'a>]) -> Result<(Aggregate, &'t [Placed<'a>]), Stop<'a>>
+fn sum_of<'a, 't>(
+    alloc: Global,
+    tokens: &'t [Placed<'a>],
+) -> Result<(Aggregate, &'t [Placed<'a>]), Stop<'a>>
     ensures reads { Gives (λ x. (x.0, views x.1.now)) result (sum_of (views tokens.now)) }
     ensures shorter { IfOk result (λ x. length x.1.now ≤ length tokens.now) }
 {
@@ -38,7 +43,10 @@ fn sum_of<'a, 't>(alloc: Global, tokens: &'t [Placed<'a>]) -> Result<(Aggregate,
     Ok((Aggregate::Total(column), rest))
 }
 
-fn aggregate<'a, 't>(alloc: Global, tokens: &'t [Placed<'a>]) -> Result<(Aggregate, &'t [Placed<'a>]), Stop<'a>>
+fn aggregate<'a, 't>(
+    alloc: Global,
+    tokens: &'t [Placed<'a>],
+) -> Result<(Aggregate, &'t [Placed<'a>]), Stop<'a>>
     ensures reads { Gives (λ x. (x.0, views x.1.now)) result (aggregate (views tokens.now)) }
     ensures shorter { IfOk result (λ x. length x.1.now ≤ length tokens.now) }
 {
@@ -49,7 +57,10 @@ fn aggregate<'a, 't>(alloc: Global, tokens: &'t [Placed<'a>]) -> Result<(Aggrega
     }
 }
 
-fn aggregates<'a, 't>(alloc: Global, tokens: &'t [Placed<'a>]) -> Result<(Chain<Aggregate>, &'t [Placed<'a>]), Stop<'a>>
+fn aggregates<'a, 't>(
+    alloc: Global,
+    tokens: &'t [Placed<'a>],
+) -> Result<(Chain<Aggregate>, &'t [Placed<'a>]), Stop<'a>>
     ensures reads { Gives (λ x. (chain_of x.0, views x.1.now)) result (with_commas (λ k. aggregate) (views tokens.now)) }
     ensures shorter { IfOk result (λ x. length x.1.now ≤ length tokens.now) }
 {
@@ -71,7 +82,10 @@ fn at_aggregate(tokens: &[Placed]) -> bool
     (at_word(tokens, "count") || at_word(tokens, "sum")) && at_sign(behind(tokens), "(")
 }
 
-fn items<'a, 't>(alloc: Global, tokens: &'t [Placed<'a>]) -> Result<(Selected, &'t [Placed<'a>]), Stop<'a>>
+fn items<'a, 't>(
+    alloc: Global,
+    tokens: &'t [Placed<'a>],
+) -> Result<(Selected, &'t [Placed<'a>]), Stop<'a>>
     ensures reads { Gives (λ x. (view_selected x.0, views x.1.now)) result (items (views tokens.now)) }
     ensures shorter { IfOk result (λ x. length x.1.now ≤ length tokens.now) }
 {
@@ -99,7 +113,9 @@ fn direction(token: &Token) -> Option<Direction>
     }
 }
 
-fn maybe_direction<'a, 't>(tokens: &'t [Placed<'a>]) -> Result<(Option<Direction>, &'t [Placed<'a>]), Stop<'a>>
+fn maybe_direction<'a, 't>(
+    tokens: &'t [Placed<'a>],
+) -> Result<(Option<Direction>, &'t [Placed<'a>]), Stop<'a>>
     ensures reads { Gives (λ x. (x.0, views x.1.now)) result (maybe_direction (views tokens.now)) }
     ensures shorter { IfOk result (λ x. length x.1.now ≤ length tokens.now) }
 {
@@ -109,7 +125,10 @@ fn maybe_direction<'a, 't>(tokens: &'t [Placed<'a>]) -> Result<(Option<Direction
     }
 }
 
-fn sort_key<'a, 't>(alloc: Global, tokens: &'t [Placed<'a>]) -> Result<(SortKey, &'t [Placed<'a>]), Stop<'a>>
+fn sort_key<'a, 't>(
+    alloc: Global,
+    tokens: &'t [Placed<'a>],
+) -> Result<(SortKey, &'t [Placed<'a>]), Stop<'a>>
     ensures reads { Gives (λ x. (x.0, views x.1.now)) result (sort_key (views tokens.now)) }
     ensures shorter { IfOk result (λ x. length x.1.now ≤ length tokens.now) }
 {
@@ -118,7 +137,10 @@ fn sort_key<'a, 't>(alloc: Global, tokens: &'t [Placed<'a>]) -> Result<(SortKey,
     Ok((SortKey { column, direction }, rest))
 }
 
-fn sort_keys<'a, 't>(alloc: Global, tokens: &'t [Placed<'a>]) -> Result<(Chain<SortKey>, &'t [Placed<'a>]), Stop<'a>>
+fn sort_keys<'a, 't>(
+    alloc: Global,
+    tokens: &'t [Placed<'a>],
+) -> Result<(Chain<SortKey>, &'t [Placed<'a>]), Stop<'a>>
     ensures reads { Gives (λ x. (chain_of x.0, views x.1.now)) result (with_commas (λ k. sort_key) (views tokens.now)) }
     ensures shorter { IfOk result (λ x. length x.1.now ≤ length tokens.now) }
 {
@@ -133,7 +155,10 @@ fn sort_keys<'a, 't>(alloc: Global, tokens: &'t [Placed<'a>]) -> Result<(Chain<S
     Ok((Chain { first, more }, rest))
 }
 
-fn order_part<'a, 't>(alloc: Global, tokens: &'t [Placed<'a>]) -> Result<(Chain<SortKey>, &'t [Placed<'a>]), Stop<'a>>
+fn order_part<'a, 't>(
+    alloc: Global,
+    tokens: &'t [Placed<'a>],
+) -> Result<(Chain<SortKey>, &'t [Placed<'a>]), Stop<'a>>
     ensures reads { Gives (λ x. (chain_of x.0, views x.1.now)) result (order_part (views tokens.now)) }
     ensures shorter { IfOk result (λ x. length x.1.now ≤ length tokens.now) }
 {
@@ -142,7 +167,10 @@ fn order_part<'a, 't>(alloc: Global, tokens: &'t [Placed<'a>]) -> Result<(Chain<
     sort_keys(alloc, rest)
 }
 
-fn maybe_order<'a, 't>(alloc: Global, tokens: &'t [Placed<'a>]) -> Result<(Option<Chain<SortKey>>, &'t [Placed<'a>]), Stop<'a>>
+fn maybe_order<'a, 't>(
+    alloc: Global,
+    tokens: &'t [Placed<'a>],
+) -> Result<(Option<Chain<SortKey>>, &'t [Placed<'a>]), Stop<'a>>
     ensures reads { Gives (λ x. (option_by chain_of x.0, views x.1.now)) result (optional (Key (codes "order")) order_part (views tokens.now)) }
     ensures shorter { IfOk result (λ x. length x.1.now ≤ length tokens.now) }
 {
@@ -154,7 +182,10 @@ fn maybe_order<'a, 't>(alloc: Global, tokens: &'t [Placed<'a>]) -> Result<(Optio
     }
 }
 
-pub fn select<'a, 't>(alloc: Global, tokens: &'t [Placed<'a>]) -> Result<(Select, &'t [Placed<'a>]), Stop<'a>>
+pub fn select<'a, 't>(
+    alloc: Global,
+    tokens: &'t [Placed<'a>],
+) -> Result<(Select, &'t [Placed<'a>]), Stop<'a>>
     ensures reads { Gives (λ x. (view_select x.0, views x.1.now)) result (select (views tokens.now)) }
     ensures shorter { IfOk result (λ x. length x.1.now ≤ length tokens.now) }
 {

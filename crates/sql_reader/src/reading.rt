@@ -29,7 +29,10 @@ fn begins_begin(tokens: &[Placed]) -> bool
 
 /// BEGIN, COMMIT, LOCK, SET or another word for them.
 #[tactic(auto, unfolding(crate::specs::Reading::other_form))]
-fn other_form<'a, 't>(alloc: Global, tokens: &'t [Placed<'a>]) -> Result<(Form, &'t [Placed<'a>]), Stop<'a>>
+fn other_form<'a, 't>(
+    alloc: Global,
+    tokens: &'t [Placed<'a>],
+) -> Result<(Form, &'t [Placed<'a>]), Stop<'a>>
     ensures { Gives (λ x. (view_form x.0, views x.1.now)) result (other_form (views tokens.now)) }
 {
     if begins_begin(tokens) {
@@ -49,7 +52,10 @@ fn other_form<'a, 't>(alloc: Global, tokens: &'t [Placed<'a>]) -> Result<(Form, 
 
 /// A statement, by its first word.
 #[tactic(auto, unfolding(crate::specs::Reading::form))]
-fn form<'a, 't>(alloc: Global, tokens: &'t [Placed<'a>]) -> Result<(Form, &'t [Placed<'a>]), Stop<'a>>
+fn form<'a, 't>(
+    alloc: Global,
+    tokens: &'t [Placed<'a>],
+) -> Result<(Form, &'t [Placed<'a>]), Stop<'a>>
     ensures { Gives (λ x. (view_form x.0, views x.1.now)) result (form (views tokens.now)) }
 {
     if at_word(tokens, "create") {
@@ -140,7 +146,10 @@ fn failure_of(stop: Stop) -> Failure
     }
 }
 
-fn statement<'a, 't>(alloc: Global, tokens: &'t [Placed<'a>]) -> Result<(Form, &'t [Placed<'a>]), Failure>
+fn statement<'a, 't>(
+    alloc: Global,
+    tokens: &'t [Placed<'a>],
+) -> Result<(Form, &'t [Placed<'a>]), Failure>
     ensures { Tells (λ x. (view_form x.0, views x.1.now)) result (statement (views tokens.now)) }
 {
     if !begins_form(tokens) {

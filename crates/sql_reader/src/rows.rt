@@ -20,7 +20,10 @@ use std::alloc::Global;
 const MAX_ROWS: usize = 100;
 
 /// Names with commas between them.
-pub fn names<'a, 't>(alloc: Global, tokens: &'t [Placed<'a>]) -> Result<(Chain<Text>, &'t [Placed<'a>]), Stop<'a>>
+pub fn names<'a, 't>(
+    alloc: Global,
+    tokens: &'t [Placed<'a>],
+) -> Result<(Chain<Text>, &'t [Placed<'a>]), Stop<'a>>
     ensures reads { Gives (λ x. (chain_of x.0, views x.1.now)) result (with_commas (λ k. name) (views tokens.now)) }
     ensures shorter { IfOk result (λ x. length x.1.now ≤ length tokens.now) }
 {
@@ -35,7 +38,10 @@ pub fn names<'a, 't>(alloc: Global, tokens: &'t [Placed<'a>]) -> Result<(Chain<T
     Ok((Chain { first, more }, rest))
 }
 
-fn names_part<'a, 't>(alloc: Global, tokens: &'t [Placed<'a>]) -> Result<(Chain<Text>, &'t [Placed<'a>]), Stop<'a>>
+fn names_part<'a, 't>(
+    alloc: Global,
+    tokens: &'t [Placed<'a>],
+) -> Result<(Chain<Text>, &'t [Placed<'a>]), Stop<'a>>
     ensures reads { Gives (λ x. (chain_of x.0, views x.1.now)) result (names_part (views tokens.now)) }
     ensures shorter { IfOk result (λ x. length x.1.now ≤ length tokens.now) }
 {
@@ -45,7 +51,10 @@ fn names_part<'a, 't>(alloc: Global, tokens: &'t [Placed<'a>]) -> Result<(Chain<
     Ok((names, rest))
 }
 
-fn maybe_names<'a, 't>(alloc: Global, tokens: &'t [Placed<'a>]) -> Result<(Option<Chain<Text>>, &'t [Placed<'a>]), Stop<'a>>
+fn maybe_names<'a, 't>(
+    alloc: Global,
+    tokens: &'t [Placed<'a>],
+) -> Result<(Option<Chain<Text>>, &'t [Placed<'a>]), Stop<'a>>
     ensures reads { Gives (λ x. (option_by chain_of x.0, views x.1.now)) result (optional (Sign (codes "(")) names_part (views tokens.now)) }
     ensures shorter { IfOk result (λ x. length x.1.now ≤ length tokens.now) }
 {
@@ -58,7 +67,10 @@ fn maybe_names<'a, 't>(alloc: Global, tokens: &'t [Placed<'a>]) -> Result<(Optio
 }
 
 /// Values with commas between them.
-fn literals<'a, 't>(alloc: Global, tokens: &'t [Placed<'a>]) -> Result<(Chain<Literal>, &'t [Placed<'a>]), Stop<'a>>
+fn literals<'a, 't>(
+    alloc: Global,
+    tokens: &'t [Placed<'a>],
+) -> Result<(Chain<Literal>, &'t [Placed<'a>]), Stop<'a>>
     ensures reads { Gives (λ x. (chain_of x.0, views x.1.now)) result (with_commas (λ i. literal) (views tokens.now)) }
     ensures shorter { IfOk result (λ x. length x.1.now ≤ length tokens.now) }
 {
@@ -74,7 +86,11 @@ fn literals<'a, 't>(alloc: Global, tokens: &'t [Placed<'a>]) -> Result<(Chain<Li
 }
 
 /// The row of this number, from 0.
-fn row<'a, 't>(alloc: Global, number: usize, tokens: &'t [Placed<'a>]) -> Result<(Chain<Literal>, &'t [Placed<'a>]), Stop<'a>>
+fn row<'a, 't>(
+    alloc: Global,
+    number: usize,
+    tokens: &'t [Placed<'a>],
+) -> Result<(Chain<Literal>, &'t [Placed<'a>]), Stop<'a>>
     ensures reads { Gives (λ x. (chain_of x.0, views x.1.now)) result (row number (views tokens.now)) }
     ensures shorter { IfOk result (λ x. length x.1.now ≤ length tokens.now) }
 {
@@ -88,7 +104,10 @@ fn row<'a, 't>(alloc: Global, number: usize, tokens: &'t [Placed<'a>]) -> Result
 }
 
 /// Rows with commas between them.
-fn rows<'a, 't>(alloc: Global, tokens: &'t [Placed<'a>]) -> Result<(Chain<Chain<Literal>>, &'t [Placed<'a>]), Stop<'a>>
+fn rows<'a, 't>(
+    alloc: Global,
+    tokens: &'t [Placed<'a>],
+) -> Result<(Chain<Chain<Literal>>, &'t [Placed<'a>]), Stop<'a>>
     ensures reads { Gives (λ x. (chain_by chain_of x.0, views x.1.now)) result (with_commas row (views tokens.now)) }
     ensures shorter { IfOk result (λ x. length x.1.now ≤ length tokens.now) }
 {
@@ -103,7 +122,10 @@ fn rows<'a, 't>(alloc: Global, tokens: &'t [Placed<'a>]) -> Result<(Chain<Chain<
     Ok((Chain { first, more }, rest))
 }
 
-pub fn insert<'a, 't>(alloc: Global, tokens: &'t [Placed<'a>]) -> Result<(Insert, &'t [Placed<'a>]), Stop<'a>>
+pub fn insert<'a, 't>(
+    alloc: Global,
+    tokens: &'t [Placed<'a>],
+) -> Result<(Insert, &'t [Placed<'a>]), Stop<'a>>
     ensures reads { Gives (λ x. (view_insert x.0, views x.1.now)) result (insert (views tokens.now)) }
     ensures shorter { IfOk result (λ x. length x.1.now ≤ length tokens.now) }
 {

@@ -63,7 +63,11 @@ fn statement_end<'a, 't>(tokens: &'t [Placed<'a>]) -> Result<&'t [Placed<'a>], S
 }
 
 /// What follows the scope, if there is one.
-fn setting_after<'a, 't>(alloc: Global, scope: Option<Scope>, tokens: &'t [Placed<'a>]) -> Result<(Setting, &'t [Placed<'a>]), Stop<'a>>
+fn setting_after<'a, 't>(
+    alloc: Global,
+    scope: Option<Scope>,
+    tokens: &'t [Placed<'a>],
+) -> Result<(Setting, &'t [Placed<'a>]), Stop<'a>>
     ensures reads { Gives (λ x. (Set x.0, views x.1.now)) result (setting_after scope (views tokens.now)) }
     ensures shorter { IfOk result (λ x. length x.1.now ≤ length tokens.now) }
 {
@@ -82,7 +86,10 @@ fn setting_after<'a, 't>(alloc: Global, scope: Option<Scope>, tokens: &'t [Place
     ))
 }
 
-fn scoped_setting<'a, 't>(alloc: Global, tokens: &'t [Placed<'a>]) -> Result<(Setting, &'t [Placed<'a>]), Stop<'a>>
+fn scoped_setting<'a, 't>(
+    alloc: Global,
+    tokens: &'t [Placed<'a>],
+) -> Result<(Setting, &'t [Placed<'a>]), Stop<'a>>
     ensures reads { Gives (λ x. (Set x.0, views x.1.now)) result (scoped_setting (views tokens.now)) }
     ensures shorter { IfOk result (λ x. length x.1.now ≤ length tokens.now) }
 {
@@ -106,7 +113,10 @@ fn has_scope(tokens: &[Placed]) -> bool
     }
 }
 
-pub fn set<'a, 't>(alloc: Global, tokens: &'t [Placed<'a>]) -> Result<(Setting, &'t [Placed<'a>]), Stop<'a>>
+pub fn set<'a, 't>(
+    alloc: Global,
+    tokens: &'t [Placed<'a>],
+) -> Result<(Setting, &'t [Placed<'a>]), Stop<'a>>
     ensures reads { Gives (λ x. (Set x.0, views x.1.now)) result (set (views tokens.now)) }
     ensures shorter { IfOk result (λ x. length x.1.now ≤ length tokens.now) }
 {

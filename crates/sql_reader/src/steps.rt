@@ -56,11 +56,7 @@ pub fn at_sign(tokens: &[Placed], sign: &str) -> bool
     first(tokens).token.is_sign(sign)
 }
 
-
-pub fn skip_key<'a, 't>(
-    tokens: &'t [Placed<'a>],
-    word: &str,
-) -> Result<&'t [Placed<'a>], Stop<'a>>
+pub fn skip_key<'a, 't>(tokens: &'t [Placed<'a>], word: &str) -> Result<&'t [Placed<'a>], Stop<'a>>
     ensures reads { Gives (λ rest. (tt, views rest.now)) result (skip (key_of word.now) (views tokens.now)) }
     ensures shorter { IfOk result (λ rest. length rest.now ≤ length tokens.now) }
 {
@@ -71,10 +67,7 @@ pub fn skip_key<'a, 't>(
     }
 }
 
-pub fn skip_word<'a, 't>(
-    tokens: &'t [Placed<'a>],
-    word: &str,
-) -> Result<&'t [Placed<'a>], Stop<'a>>
+pub fn skip_word<'a, 't>(tokens: &'t [Placed<'a>], word: &str) -> Result<&'t [Placed<'a>], Stop<'a>>
     ensures reads { Gives (λ rest. (tt, views rest.now)) result (skip (other_of word.now) (views tokens.now)) }
     ensures shorter { IfOk result (λ rest. length rest.now ≤ length tokens.now) }
 {
@@ -85,10 +78,7 @@ pub fn skip_word<'a, 't>(
     }
 }
 
-pub fn skip_sign<'a, 't>(
-    tokens: &'t [Placed<'a>],
-    sign: &str,
-) -> Result<&'t [Placed<'a>], Stop<'a>>
+pub fn skip_sign<'a, 't>(tokens: &'t [Placed<'a>], sign: &str) -> Result<&'t [Placed<'a>], Stop<'a>>
     ensures reads { Gives (λ rest. (tt, views rest.now)) result (skip (Sign sign.now) (views tokens.now)) }
     ensures shorter { IfOk result (λ rest. length rest.now ≤ length tokens.now) }
 {

@@ -14,7 +14,9 @@ use sqlite_items::Items;
 use std::alloc::Global;
 
 /// What stands behind the type of a column, if it goes on.
-fn next_property<'a, 't>(tokens: &'t [Placed<'a>]) -> Result<Option<(Property, &'t [Placed<'a>])>, Stop<'a>>
+fn next_property<'a, 't>(
+    tokens: &'t [Placed<'a>],
+) -> Result<Option<(Property, &'t [Placed<'a>])>, Stop<'a>>
     ensures reads { Gives (λ o. option_map (λ x. (x.0, views x.1.now)) o) result (next_property (views tokens.now)) }
     ensures shorter { IfOk result (λ o. IfSome o (λ x. length x.1.now < length tokens.now)) }
 {
@@ -32,7 +34,10 @@ fn next_property<'a, 't>(tokens: &'t [Placed<'a>]) -> Result<Option<(Property, &
 }
 
 /// What stands behind the type of a column.
-fn properties<'a, 't>(alloc: Global, tokens: &'t [Placed<'a>]) -> Result<(Items<Property>, &'t [Placed<'a>]), Stop<'a>>
+fn properties<'a, 't>(
+    alloc: Global,
+    tokens: &'t [Placed<'a>],
+) -> Result<(Items<Property>, &'t [Placed<'a>]), Stop<'a>>
     ensures reads { Gives (λ x. (x.0, views x.1.now)) result (many begins_property property (suc (length (views tokens.now))) (views tokens.now)) }
     ensures shorter { IfOk result (λ x. length x.1.now ≤ length tokens.now) }
 {
@@ -68,7 +73,10 @@ fn type_word(token: &Token) -> Option<TypeWord>
     }
 }
 
-fn column_part<'a, 't>(alloc: Global, tokens: &'t [Placed<'a>]) -> Result<(TablePart, &'t [Placed<'a>]), Stop<'a>>
+fn column_part<'a, 't>(
+    alloc: Global,
+    tokens: &'t [Placed<'a>],
+) -> Result<(TablePart, &'t [Placed<'a>]), Stop<'a>>
     ensures reads { Gives (λ x. (x.0, views x.1.now)) result (column_part (views tokens.now)) }
     ensures shorter { IfOk result (λ x. length x.1.now ≤ length tokens.now) }
 {
@@ -78,7 +86,10 @@ fn column_part<'a, 't>(alloc: Global, tokens: &'t [Placed<'a>]) -> Result<(Table
     Ok((TablePart::Column(column, word, properties), rest))
 }
 
-fn key_part<'a, 't>(alloc: Global, tokens: &'t [Placed<'a>]) -> Result<(TablePart, &'t [Placed<'a>]), Stop<'a>>
+fn key_part<'a, 't>(
+    alloc: Global,
+    tokens: &'t [Placed<'a>],
+) -> Result<(TablePart, &'t [Placed<'a>]), Stop<'a>>
     ensures reads { Gives (λ x. (x.0, views x.1.now)) result (key_part (views tokens.now)) }
     ensures shorter { IfOk result (λ x. length x.1.now ≤ length tokens.now) }
 {
@@ -90,7 +101,10 @@ fn key_part<'a, 't>(alloc: Global, tokens: &'t [Placed<'a>]) -> Result<(TablePar
     Ok((TablePart::Key(column), rest))
 }
 
-fn table_part<'a, 't>(alloc: Global, tokens: &'t [Placed<'a>]) -> Result<(TablePart, &'t [Placed<'a>]), Stop<'a>>
+fn table_part<'a, 't>(
+    alloc: Global,
+    tokens: &'t [Placed<'a>],
+) -> Result<(TablePart, &'t [Placed<'a>]), Stop<'a>>
     ensures reads { Gives (λ x. (x.0, views x.1.now)) result (table_part (views tokens.now)) }
     ensures shorter { IfOk result (λ x. length x.1.now ≤ length tokens.now) }
 {
@@ -101,7 +115,10 @@ fn table_part<'a, 't>(alloc: Global, tokens: &'t [Placed<'a>]) -> Result<(TableP
     }
 }
 
-fn table_parts<'a, 't>(alloc: Global, tokens: &'t [Placed<'a>]) -> Result<(Chain<TablePart>, &'t [Placed<'a>]), Stop<'a>>
+fn table_parts<'a, 't>(
+    alloc: Global,
+    tokens: &'t [Placed<'a>],
+) -> Result<(Chain<TablePart>, &'t [Placed<'a>]), Stop<'a>>
     ensures reads { Gives (λ x. (chain_of x.0, views x.1.now)) result (with_commas (λ k. table_part) (views tokens.now)) }
     ensures shorter { IfOk result (λ x. length x.1.now ≤ length tokens.now) }
 {
@@ -116,7 +133,10 @@ fn table_parts<'a, 't>(alloc: Global, tokens: &'t [Placed<'a>]) -> Result<(Chain
     Ok((Chain { first, more }, rest))
 }
 
-pub fn create<'a, 't>(alloc: Global, tokens: &'t [Placed<'a>]) -> Result<(CreateTable, &'t [Placed<'a>]), Stop<'a>>
+pub fn create<'a, 't>(
+    alloc: Global,
+    tokens: &'t [Placed<'a>],
+) -> Result<(CreateTable, &'t [Placed<'a>]), Stop<'a>>
     ensures reads { Gives (λ x. (view_create x.0, views x.1.now)) result (create (views tokens.now)) }
     ensures shorter { IfOk result (λ x. length x.1.now ≤ length tokens.now) }
 {

@@ -23,7 +23,9 @@ fn noise(token: &Token) -> Option<Noise>
     }
 }
 
-fn maybe_noise<'a, 't>(tokens: &'t [Placed<'a>]) -> Result<(Option<Noise>, &'t [Placed<'a>]), Stop<'a>>
+fn maybe_noise<'a, 't>(
+    tokens: &'t [Placed<'a>],
+) -> Result<(Option<Noise>, &'t [Placed<'a>]), Stop<'a>>
     ensures reads { Gives (λ x. (x.0, views x.1.now)) result (maybe_noise (views tokens.now)) }
     ensures shorter { IfOk result (λ x. length x.1.now ≤ length tokens.now) }
 {
@@ -72,7 +74,9 @@ fn level_part<'a, 't>(tokens: &'t [Placed<'a>]) -> Result<(Level, &'t [Placed<'a
     level(rest)
 }
 
-fn maybe_level<'a, 't>(tokens: &'t [Placed<'a>]) -> Result<(Option<Level>, &'t [Placed<'a>]), Stop<'a>>
+fn maybe_level<'a, 't>(
+    tokens: &'t [Placed<'a>],
+) -> Result<(Option<Level>, &'t [Placed<'a>]), Stop<'a>>
     ensures reads { Gives (λ x. (x.0, views x.1.now)) result (optional (Word (codes "isolation")) level_part (views tokens.now)) }
     ensures shorter { IfOk result (λ x. length x.1.now ≤ length tokens.now) }
 {

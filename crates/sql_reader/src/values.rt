@@ -26,7 +26,10 @@ fn fits(negative: bool, digits: u64) -> bool
 }
 
 /// A whole number, behind its sign.
-fn whole<'a, 't>(negative: bool, tokens: &'t [Placed<'a>]) -> Result<(Literal, &'t [Placed<'a>]), Stop<'a>>
+fn whole<'a, 't>(
+    negative: bool,
+    tokens: &'t [Placed<'a>],
+) -> Result<(Literal, &'t [Placed<'a>]), Stop<'a>>
     ensures reads { Gives (λ x. (x.0, views x.1.now)) result (whole negative (views tokens.now)) }
     ensures shorter { IfOk result (λ x. length x.1.now ≤ length tokens.now) }
 {
@@ -40,9 +43,11 @@ fn whole<'a, 't>(negative: bool, tokens: &'t [Placed<'a>]) -> Result<(Literal, &
     Ok((Literal::Whole { negative, digits }, behind(tokens)))
 }
 
-
 /// A text, as its token has it.
-fn quoted_text<'a, 't>(alloc: Global, tokens: &'t [Placed<'a>]) -> Result<(Literal, &'t [Placed<'a>]), Stop<'a>>
+fn quoted_text<'a, 't>(
+    alloc: Global,
+    tokens: &'t [Placed<'a>],
+) -> Result<(Literal, &'t [Placed<'a>]), Stop<'a>>
     ensures reads { Gives (λ x. (x.0, views x.1.now)) result (quoted_text (views tokens.now)) }
     ensures shorter { IfOk result (λ x. length x.1.now ≤ length tokens.now) }
 {
@@ -56,7 +61,10 @@ fn quoted_text<'a, 't>(alloc: Global, tokens: &'t [Placed<'a>]) -> Result<(Liter
     }
 }
 
-pub fn literal<'a, 't>(alloc: Global, tokens: &'t [Placed<'a>]) -> Result<(Literal, &'t [Placed<'a>]), Stop<'a>>
+pub fn literal<'a, 't>(
+    alloc: Global,
+    tokens: &'t [Placed<'a>],
+) -> Result<(Literal, &'t [Placed<'a>]), Stop<'a>>
     ensures reads { Gives (λ x. (x.0, views x.1.now)) result (literal (views tokens.now)) }
     ensures shorter { IfOk result (λ x. length x.1.now ≤ length tokens.now) }
 {
@@ -70,7 +78,10 @@ pub fn literal<'a, 't>(alloc: Global, tokens: &'t [Placed<'a>]) -> Result<(Liter
     }
 }
 
-pub fn factor<'a, 't>(alloc: Global, tokens: &'t [Placed<'a>]) -> Result<(Factor, &'t [Placed<'a>]), Stop<'a>>
+pub fn factor<'a, 't>(
+    alloc: Global,
+    tokens: &'t [Placed<'a>],
+) -> Result<(Factor, &'t [Placed<'a>]), Stop<'a>>
     ensures reads { Gives (λ x. (x.0, views x.1.now)) result (factor (views tokens.now)) }
     ensures shorter { IfOk result (λ x. length x.1.now ≤ length tokens.now) }
 {
@@ -84,7 +95,10 @@ pub fn factor<'a, 't>(alloc: Global, tokens: &'t [Placed<'a>]) -> Result<(Factor
 }
 
 /// Factors with `*` between them.
-fn term<'a, 't>(alloc: Global, tokens: &'t [Placed<'a>]) -> Result<(Chain<Factor>, &'t [Placed<'a>]), Stop<'a>>
+fn term<'a, 't>(
+    alloc: Global,
+    tokens: &'t [Placed<'a>],
+) -> Result<(Chain<Factor>, &'t [Placed<'a>]), Stop<'a>>
     ensures reads { Gives (λ x. (chain_of x.0, views x.1.now)) result (term (views tokens.now)) }
     ensures shorter { IfOk result (λ x. length x.1.now ≤ length tokens.now) }
 {
@@ -127,7 +141,10 @@ fn past_add_sign<'a, 't>(tokens: &'t [Placed<'a>]) -> Option<(AddSign, &'t [Plac
 }
 
 /// Terms with `+` and `-` between them.
-pub fn sum<'a, 't>(alloc: Global, tokens: &'t [Placed<'a>]) -> Result<(Sum, &'t [Placed<'a>]), Stop<'a>>
+pub fn sum<'a, 't>(
+    alloc: Global,
+    tokens: &'t [Placed<'a>],
+) -> Result<(Sum, &'t [Placed<'a>]), Stop<'a>>
     ensures reads { Gives (λ x. (view_sum x.0, views x.1.now)) result (sum (views tokens.now)) }
     ensures shorter { IfOk result (λ x. length x.1.now ≤ length tokens.now) }
 {

@@ -15,7 +15,7 @@ part_of-returns-in_err-next-clause-reads t c =
     let p = err_from_is_err_and c.from_residual-in_err-next.result c.from_residual-in_err-next.ensures.1 in
     rw (p.1, p.2)
     (err Single (λ a u p. And a p) (the (Key (codes "and"))) (λ k. atom c.args.levels) (λ x. tt {0}) view_atom
-      _ c.ands.more.items c.ands.rest.now c.in-Some.after.now c.args.tokens.now _ tt _ c.in-Some.ensures c.ands.invariant.shorter c.ands.invariant.so_far c.in_err-next.ensures.reads)
+    _ c.ands.more.items c.ands.rest.now c.in-Some.after.now c.args.tokens.now _ tt _ c.in-Some.ensures c.ands.invariant.shorter c.ands.invariant.so_far c.in_err-next.ensures.reads)
 
 pub part_of-ands-preserved : goal.part_of-ands-preserved
 part_of-ands-preserved t c = record {
@@ -35,7 +35,7 @@ condition_of-returns-in_err-next-clause-reads t c =
     let p = err_from_is_err_and c.from_residual-in_err-next.result c.from_residual-in_err-next.ensures.1 in
     rw (p.1, p.2)
     (err Alone (λ p u c. Or p c) (the (Key (codes "or"))) (λ k. part_of (atom c.args.levels)) (λ x. tt {0}) view_part
-      _ c.ors.more.items c.ors.rest.now c.in-Some.after.now c.args.tokens.now _ tt _ c.in-Some.ensures c.ors.invariant.shorter c.ors.invariant.so_far c.in_err-next.ensures.reads)
+    _ c.ors.more.items c.ors.rest.now c.in-Some.after.now c.args.tokens.now _ tt _ c.in-Some.ensures c.ors.invariant.shorter c.ors.invariant.so_far c.in_err-next.ensures.reads)
 
 pub condition_of-ors-preserved : goal.condition_of-ors-preserved
 condition_of-ors-preserved t c = record {

@@ -14,7 +14,7 @@ returns-in_err-next-clause-reads c =
     let p = err_from_is_err_and c.from_residual-in_err-next.result c.from_residual-in_err-next.ensures.1 in
     rw (p.1, p.2)
     (err Last (λ a u l. More a l) (the (Sign (codes ","))) (λ k. aggregate) (λ x. tt {0}) (λ x. x)
-      _ c.commas.more.items c.commas.rest.now c.in-Some.after.now c.args.tokens.now _ tt _ c.in-Some.ensures c.commas.invariant.shorter c.commas.invariant.so_far c.in_err-next.ensures.reads)
+    _ c.commas.more.items c.commas.rest.now c.in-Some.after.now c.args.tokens.now _ tt _ c.in-Some.ensures c.commas.invariant.shorter c.commas.invariant.so_far c.in_err-next.ensures.reads)
 
 pub commas-preserved : goal.commas-preserved
 commas-preserved c = record {

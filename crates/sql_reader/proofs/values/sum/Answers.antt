@@ -14,7 +14,7 @@ returns-in_err-term-clause-reads c =
     let p = err_from_is_err_and c.from_residual-in_err-term.result c.from_residual-in_err-term.ensures.1 in
     rw (p.1, p.2)
     (err Only Then add_sign (λ k. term) (λ t. t.sign) (λ t. chain_of t.term)
-      _ c.signs.more.items c.signs.rest.now c.in-Some.after.now c.args.tokens.now _ _ _ c.in-Some.ensures c.signs.invariant.shorter c.signs.invariant.so_far c.in_err-term.ensures.reads)
+    _ c.signs.more.items c.signs.rest.now c.in-Some.after.now c.args.tokens.now _ _ _ c.in-Some.ensures c.signs.invariant.shorter c.signs.invariant.so_far c.in_err-term.ensures.reads)
 
 pub signs-preserved : goal.signs-preserved
 signs-preserved c = record {
