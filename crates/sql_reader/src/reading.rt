@@ -1,6 +1,7 @@
 //! Reads the statements of a block.
 
 ghost use Rattle.std.specs.Prelude.{◌≡◌, ◌++◌, ℕ, List, suc, length, is_some, option_map, false, IfOk, IfErr, MatchResult};
+ghost use Rattle.sql_reader.specs.declared.error.Failure.TheVariants.{Refused};
 ghost use Rattle.sql_reader.specs.declared.error.SqlErrorKind.TheVariants.{NoMemory};
 ghost use Rattle.sql_reader.specs.Lexing.{quoted, view_token, views};
 ghost use Rattle.sql_reader.specs.Reading.{first, other_form, form, begins_begin, begins_form, kind_of, refused, no_form, statement, maybe_statement};
@@ -133,16 +134,20 @@ fn kind_of(why: Why, token: &Token) -> SqlErrorKind
     }
 }
 
+/// A fault of this kind at this byte.
+fn fault(kind: SqlErrorKind, offset: usize) -> Failure
+    ensures { result ≡ Refused (record { kind = kind; offset = offset }) }
+{
+    Failure::Refused(SqlError { kind, offset })
+}
+
 /// What a stop comes to.
 fn failure_of(stop: Stop) -> Failure
     ensures { result ≡ failure_of stop.entry }
 {
     match stop {
         Stop::Memory => Failure::Memory,
-        Stop::At(why, here) => Failure::Refused(SqlError {
-            kind: kind_of(why, &here.token),
-            offset: here.at,
-        }),
+        Stop::At(why, here) => fault(kind_of(why, &here.token), here.at),
     }
 }
 
@@ -154,10 +159,7 @@ fn statement<'a, 't>(
 {
     if !begins_form(tokens) {
         let here = first(tokens);
-        return Err(Failure::Refused(SqlError {
-            kind: no_form(&here.token),
-            offset: here.at,
-        }));
+        return Err(fault(no_form(&here.token), here.at));
     }
     match form(alloc, tokens) {
         Ok(read) => Ok(read),
@@ -208,10 +210,7 @@ fn push_next<'a, 't>(
     } else if here.token.is_end() {
         Ok(None)
     } else {
-        Err(Failure::Refused(SqlError {
-            kind: refused(&here.token),
-            offset: here.at,
-        }))
+        Err(fault(refused(&here.token), here.at))
     }
 }
 
@@ -232,10 +231,7 @@ fn statements_of(alloc: Global, tokens: &[Placed]) -> Result<Vec<Statement>, Fai
         };
         rest = more;
     }
-    Err(Failure::Refused(SqlError {
-        kind: SqlErrorKind::Syntax,
-        offset: first(rest).at,
-    }))
+    Err(fault(SqlErrorKind::Syntax, first(rest).at))
 }
 
 const NO_MEMORY: SqlError = SqlError {

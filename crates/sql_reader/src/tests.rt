@@ -307,6 +307,20 @@ fn conditions_are_32_levels_deep_at_most(rt: HostRuntime) -> Result<(), Fail> {
     Ok(())
 }
 
+#[test]
+fn long_texts_are_read(rt: HostRuntime) -> Result<(), Fail> {
+    for (front, part) in [
+        ("DELETE FROM t WHERE v = 1", "+1"),
+        ("DELETE FROM t WHERE v = 1", " OR a=2 AND b=3"),
+        ("UPDATE t SET a = b", "*2"),
+        ("COMMIT", ";"),
+    ] {
+        let text = repeated(rt.alloc(), front, part, 4000, "")?;
+        assert_eq!(rt; refusal(rt.alloc(), &text), None, "{front}");
+    }
+    Ok(())
+}
+
 fn is_column(factor: &Factor, name: &str) -> bool {
     matches!(factor, Factor::Column(column) if column.as_str() == name)
 }
