@@ -1,5 +1,5 @@
 -- A loop over items with separators between them: the items so far and those to come.
-use Rattle.std.proofs.Common.{◌≡◌, refl, sym, ap, subst, ◌∙◌, ℕ, zero, suc, ◌+◌, ◌-◌, ◌<◌, ◌≤◌, List, [], ◌∷◌, ◌++◌, length, Option, Some, None, Ok, Err, arith, length-append, append_assoc, Bool, true, false, cond, Result}
+use Rattle.std.proofs.Common.{◌≡◌, refl, sym, ap, subst, ◌∙◌, ℕ, suc, ◌+◌, ◌-◌, ◌<◌, ◌≤◌, List, [], ◌∷◌, ◌++◌, length, Option, Some, None, Ok, Err, arith, length-append, append_assoc, Bool, true, false, cond, Result}
 use Rattle.std.proofs.lemmas.List.{length-map, append-nil}
 use Rattle.sql_reader.specs.declared.token.Placed.{Placed as WrittenAt}
 use Rattle.sql_reader.specs.Tokens.{Token, Placed}

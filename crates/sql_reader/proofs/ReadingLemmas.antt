@@ -1,5 +1,5 @@
 -- What a token says about the reading that follows.
-use Rattle.std.proofs.Common.{◌≡◌, refl, ap, ◌∙◌, ℕ, suc, Bool, true, false, List, Option, Some, None}
+use Rattle.std.proofs.Common.{◌≡◌, refl, ap, ◌∙◌, ℕ, suc, true, false, List, Option, Some, None}
 use Rattle.std.specs.Prelude.{codes, is_some, if◌then◌else◌}
 use Rattle.sql_reader.specs.declared.error.SqlErrorKind.TheVariants.{Syntax, Unclosed}
 use Rattle.sql_reader.specs.Tokens.{Key, Sign, Placed}

@@ -1,5 +1,5 @@
 -- What contracts see of what is read: the tree of the grammar, and the tokens behind it.
-use Rattle.std.specs.Prelude.{◌≡◌, ◌<◌, length, ℕ, List, [], ◌∷◌, Option, Some, None, Result, Ok, Err, ⊤}
+use Rattle.std.specs.Prelude.{◌≡◌, ◌<◌, length, List, [], ◌∷◌, Option, Some, None, Result, Ok, Err, ⊤}
 use Rattle.sql_reader.specs.declared.error.Stop.{Stop as Stopped}
 use Rattle.sql_reader.specs.declared.error.Stop.TheVariants as stop
 use Rattle.sql_reader.specs.declared.expression.Atom.{Atom as WrittenAtom, fold-Atom}
@@ -7,7 +7,6 @@ use Rattle.sql_reader.specs.declared.expression.Atom.TheOpen.{Atom-F, Part-F, Co
 use Rattle.sql_reader.specs.declared.expression.Chain.{Chain as WrittenChain}
 use Rattle.sql_reader.specs.declared.expression.Condition.{Condition as WrittenCondition, fold-Condition}
 use Rattle.sql_reader.specs.declared.expression.Part.{Part as WrittenPart, fold-Part}
-use Rattle.sql_reader.specs.declared.expression.SignedTerm.{SignedTerm}
 use Rattle.sql_reader.specs.declared.expression.Sum.{Sum as WrittenSum}
 use Rattle.sql_reader.specs.declared.statement.Assignment.{Assignment as WrittenAssignment}
 use Rattle.sql_reader.specs.declared.statement.Begin.{Begin as WrittenBegin}
@@ -22,7 +21,7 @@ use Rattle.sql_reader.specs.declared.statement.Select.{Select as WrittenSelect}
 use Rattle.sql_reader.specs.declared.statement.Selected.{Selected}
 use Rattle.sql_reader.specs.declared.statement.Selected.TheVariants as selected
 use Rattle.sql_reader.specs.declared.statement.Update.{Update as WrittenUpdate}
-use Rattle.sql_reader.specs.Tree.{Chain, Last, More, Factor, Sum, Only, Then, Condition, Alone, Or, Part, Single, And, Atom, Compares, Not, Group, Items, AllColumns, Columns, Aggregates, Assignment, Select, Statement, CreateTable, Insert, Selects, Update, Delete, Begin, Ends, Lock, Set}
+use Rattle.sql_reader.specs.Tree.{Chain, Last, More, Sum, Only, Then, Condition, Alone, Or, Part, Single, And, Atom, Compares, Not, Group, Items, AllColumns, Columns, Aggregates, Assignment, Statement, CreateTable, Insert, Selects, Update, Delete, Begin, Ends, Lock, Set}
 use Rattle.sql_reader.specs.Tokens.{Token}
 use Rattle.sql_reader.specs.declared.token.Placed.{Placed as WrittenAt}
 use Rattle.sql_reader.specs.Lexing.{view, views}

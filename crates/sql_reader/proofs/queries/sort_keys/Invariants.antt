@@ -1,9 +1,8 @@
-use Rattle.std.specs.Prelude.{codes, string_bytes, ◌≤◌, ◌+◌, length}
-use Rattle.sql_reader.specs.Tokens.{Sign, Key}
-use Rattle.sql_reader.specs.Tree.{Last, More, Only, Then, Single, And, Alone, Or}
+use Rattle.std.specs.Prelude.{codes, ◌≤◌, ◌+◌, length}
+use Rattle.sql_reader.specs.Tokens.{Sign}
+use Rattle.sql_reader.specs.Tree.{Last, More}
 use Rattle.sql_reader.specs.Lexing.{views}
-use Rattle.sql_reader.specs.Views.{chain_of, view_assignment, view_atom, view_part}
-use Rattle.sql_reader.specs.Reading.{the, with_commas, name, literal, factor, term, add_sign, sum, table_part, row, aggregate, sort_key, assignment, atom, part_of, condition_of}
+use Rattle.sql_reader.specs.Reading.{the, with_commas, sort_key}
 use Rattle.sql_reader.proofs.Loops.{SoFar}
 use Rattle.sql_reader.proofs.queries.sort_keys.Given as goal
 

@@ -1,5 +1,4 @@
 use Rattle.std.proofs.Common.{◌≡◌, sym, ap, ◌∙◌, length, List, suc, inr}
-use Rattle.sql_reader.specs.declared.token.Placed.{Placed as WrittenAt}
 use Rattle.sql_reader.specs.Lexing.{views, token_list}
 use Rattle.sql_reader.specs.Tokens.{Placed}
 use Rattle.sql_reader.specs.Text.{statements_from, seen, fault_of_error}
