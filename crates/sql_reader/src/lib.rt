@@ -1,0 +1,33 @@
+//! Reads the whole SQL subset: the statements of a block, as they are written, or its first fault.
+#![tactic(auto)]
+
+mod changes;
+mod conditions;
+mod cutting;
+mod error;
+mod expression;
+mod locks;
+mod queries;
+mod quotes;
+mod reading;
+mod rows;
+mod settings;
+mod statement;
+mod steps;
+mod table;
+#[cfg(test)]
+mod tests;
+mod token;
+mod transactions;
+mod values;
+
+pub use error::{SqlError, SqlErrorKind};
+pub use expression::{
+    AddSign, Atom, Chain, Comparison, Condition, Factor, Literal, Part, SignedTerm, Sum,
+};
+pub use reading::read_sql;
+pub use statement::{
+    Aggregate, Assignment, Begin, CreateTable, Delete, Direction, End, EndWord, Form, Insert,
+    Level, LockMode, LockTable, Noise, Property, ReadWord, Scope, Select, Selected, SetSign,
+    Setting, SortKey, Start, Statement, Strength, TablePart, TypeWord, Update,
+};
