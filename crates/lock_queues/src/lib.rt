@@ -15,3 +15,4 @@ mod wait;
 pub use answer::Answer;
 pub use laws::{covered_modes_are_had, tables_stay_sound, tests_decide, waiters_reach};
 pub use table::LockTable;
+pub use wait::Wait;

@@ -1,7 +1,7 @@
 -- The footprint of a session whose requests are all had.
 use Rattle.std.proofs.Common.{◌≡◌, refl, sym, ◌∙◌, ℕ, Bool, true, false, true≢false, List, [], ◌∷◌}
 use Rattle.version_tree.specs.Map.{get}
-use Rattle.session_machine.specs.Locks.{may_have, closes_ring, answered}
+use Rattle.lock_queues.specs.Locks.{may_have, closes_ring, answered}
 use Rattle.session_machine.specs.Effect.{Rows'}
 use Rattle.session_machine.specs.Session.{Task, Ask, Do, Session, Performed, Goes, Fails, perform, tasks_of}
 use Rattle.session_machine.specs.Go.{Scene, Run, taking, go, solo, stopped, failed, is_broken, held_up, look_with, waiting_with}
@@ -10,8 +10,8 @@ use Rattle.session_machine.specs.Footprint.{AllHad}
 use Rattle.session_machine.specs.Laws.{Footprint}
 use Rattle.session_machine.specs.Quiet.{claims_of, plans}
 use Rattle.session_machine.specs.Sound.{Sound}
-use Rattle.session_machine.specs.declared.answer.Answer.{Answer}
-use Rattle.session_machine.specs.declared.answer.Answer.TheVariants.{Granted, Waits, Ring}
+use Rattle.lock_queues.specs.declared.answer.Answer.{Answer}
+use Rattle.lock_queues.specs.declared.answer.Answer.TheVariants.{Granted, Waits, Ring}
 use Rattle.transcripts.specs.declared.event.Fault.TheVariants.{Deadlock, Aborted}
 use Rattle.sql_subset.specs.declared.bound.Bound.{Bound}
 use Rattle.session_machine.proofs.Footprint.{solo-same-but, solo-within}

@@ -6,7 +6,8 @@ use Rattle.version_tree.specs.Map.{same_key, same_key-true, same_key-refl, get, 
 use Rattle.lock_modes.specs.Place.{Place}
 use Rattle.lock_modes.specs.Resource.{resource_order, same_resource}
 use Rattle.lock_modes.specs.Mode.{compatible, cover, same_mode}
-use Rattle.session_machine.specs.Locks.{Wait, Spot, Look, fits, fits_with, wanted, wanted_by, all_below, waits_now, converts, ahead, is_empty, is_ripe, first_ripe, next_grant, spots_from}
+use Rattle.lock_queues.specs.declared.wait.Wait.{Wait}
+use Rattle.lock_queues.specs.Locks.{Spot, Look, fits, fits_with, wanted, wanted_by, all_below, waits_now, converts, ahead, is_empty, is_ripe, first_ripe, next_grant, spots_from}
 use Rattle.session_machine.specs.Effect.{Rows'}
 use Rattle.sql_subset.specs.Plan.{Request, plan}
 use Rattle.session_machine.specs.Session.{Task, Ask, Do, Session, Held, tasks_of, asks, note}

@@ -7,7 +7,7 @@ use Rattle.sql_subset.specs.Plan.{Tuple, plan, opened, looks_at}
 use Rattle.session_machine.specs.Effect.{Rows', visible, Write, Effect, Gives, Faults, effect, effect_on}
 use Rattle.session_machine.specs.Session.{Task, Ask, Do, Session, Performed, Goes, Fails, Kind, Begins, Commits, RollsBack, Works, kind, perform, perform_by, worked}
 use Rattle.session_machine.specs.Go.{Stop, taking, solo, failed, finished_by, is_broken}
-use Rattle.session_machine.specs.Overlay.{Overlay, laid, lay, lay_entries, written}
+use Rattle.row_tables.specs.Overlay.{Overlay, laid, lay, lay_entries, written}
 use Rattle.session_machine.specs.Footprint.{AgreeBut, ReadsBut, SameBut, EachDo}
 use Rattle.session_machine.specs.Quiet.{Claims, may_write}
 use Rattle.transcripts.specs.declared.event.Fault.{Fault}

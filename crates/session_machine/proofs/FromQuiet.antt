@@ -5,7 +5,8 @@ use Rattle.version_tree.specs.Map.{same_key-true, same_key-refl, get}
 use Rattle.lock_modes.specs.Place.{Place}
 use Rattle.lock_modes.specs.Resource.{resource_order, same_resource}
 use Rattle.lock_modes.specs.Mode.{compatible, same_mode}
-use Rattle.session_machine.specs.Locks.{Wait, Look, fits, fits_with, all_below, waits_now}
+use Rattle.lock_queues.specs.declared.wait.Wait.{Wait}
+use Rattle.lock_queues.specs.Locks.{Look, fits, fits_with, all_below, waits_now}
 use Rattle.sql_subset.specs.Plan.{Request}
 use Rattle.session_machine.specs.Session.{Held}
 use Rattle.session_machine.specs.World.{World, session_at, look_of, scene_of, send}

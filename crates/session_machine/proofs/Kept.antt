@@ -3,16 +3,16 @@ use Rattle.std.proofs.Common.{◌≡◌, refl, sym, ap, ◌∙◌, subst, ℕ, s
 use Rattle.version_tree.specs.Map.{same_key, same_key-true, get, insert, get-insert, empty, get-empty}
 use Rattle.lock_modes.specs.Place.{place_order}
 use Rattle.lock_modes.specs.Resource.{resource_order}
-use Rattle.session_machine.specs.Locks.{fits, wanted, may_have, closes_ring, answered}
+use Rattle.lock_queues.specs.Locks.{fits, wanted, may_have, closes_ring, answered}
 use Rattle.sql_subset.specs.Plan.{Tuple, Request, request, plan}
 use Rattle.session_machine.specs.Effect.{Rows', Write, Effect, Gives, Faults, effect}
 use Rattle.session_machine.specs.Session.{Task, Ask, Do, Session, Held, Performed, Goes, Fails, Kind, Begins, Commits, RollsBack, Works, kind, perform, perform_by, worked, note}
-use Rattle.session_machine.specs.Overlay.{Overlay, written}
+use Rattle.row_tables.specs.Overlay.{Overlay, written}
 use Rattle.session_machine.specs.Go.{Scene, Run, taking, go, stopped, failed, finished_by, is_broken, held_up, look_with, waiting_with}
 use Rattle.session_machine.specs.Quiet.{may_write, claims_of}
 use Rattle.session_machine.specs.Sound.{HoldsAll, Backed, UnderLocks}
-use Rattle.session_machine.specs.declared.answer.Answer.{Answer}
-use Rattle.session_machine.specs.declared.answer.Answer.TheVariants.{Granted, Waits, Ring}
+use Rattle.lock_queues.specs.declared.answer.Answer.{Answer}
+use Rattle.lock_queues.specs.declared.answer.Answer.TheVariants.{Granted, Waits, Ring}
 use Rattle.lock_modes.specs.declared.mode.Mode.{Mode}
 use Rattle.transcripts.specs.declared.event.Event.TheVariants.{Waiting}
 use Rattle.transcripts.specs.declared.event.Fault.{Fault}

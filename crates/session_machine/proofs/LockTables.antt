@@ -1,10 +1,10 @@
 -- The lock table alone: worked runs, and that the bounded test for fitting is the law over all sessions.
 use Rattle.std.proofs.Common.{◌≡◌, refl, ap, ℕ, ◌<◌, ◌≤◌, true, ◌||◌, ◌==◌, List, [], ◌∷◌, Option, Some, None, option_map, ◌⊎◌, ⊎_elim, arith, eq-eqb, eqb-true}
 use Rattle.version_tree.specs.Map.{get, insert, keep, empty}
-use Rattle.session_machine.specs.Locks.{Spot, Look, fits, fits_with}
-use Rattle.session_machine.specs.LockTable.{no_locks, look_in, ask, Asked, let_go, to_grant, Fits}
-use Rattle.session_machine.specs.declared.answer.Answer.{Answer}
-use Rattle.session_machine.specs.declared.answer.Answer.TheVariants.{Granted, Waits, Ring}
+use Rattle.lock_queues.specs.Locks.{Spot, Look, fits, fits_with}
+use Rattle.lock_queues.specs.LockTable.{no_locks, look_in, ask, Asked, let_go, to_grant, Fits}
+use Rattle.lock_queues.specs.declared.answer.Answer.{Answer}
+use Rattle.lock_queues.specs.declared.answer.Answer.TheVariants.{Granted, Waits, Ring}
 use Rattle.lock_modes.specs.declared.mode.Mode.{Mode}
 use Rattle.lock_modes.specs.declared.mode.Mode.TheVariants.{IntentShare, IntentExclusive, Share, ShareIntent, Exclusive}
 use Rattle.lock_modes.specs.declared.resource.Resource.{Resource}

@@ -3,17 +3,18 @@ use Rattle.std.proofs.Common.{◌≡◌, refl, sym, ap, ◌∙◌, subst, ℕ, B
 use Rattle.version_tree.specs.Map.{Map, get, empty, get-empty}
 use Rattle.lock_modes.specs.Place.{Place}
 use Rattle.lock_modes.specs.Mode.{compatible}
-use Rattle.session_machine.specs.Locks.{Wait, Spot, Look, may_have, closes_ring, answered, next_grant, waits_now}
+use Rattle.lock_queues.specs.declared.wait.Wait.{Wait}
+use Rattle.lock_queues.specs.Locks.{Spot, Look, may_have, closes_ring, answered, next_grant, waits_now}
 use Rattle.session_machine.specs.Effect.{Rows', Write, Effect, Gives, Faults, effect}
 use Rattle.sql_subset.specs.Plan.{Request, request, plan, opened, asks_on, reads_table}
 use Rattle.session_machine.specs.Session.{Task, Ask, Do, Session, Held, Performed, Goes, Fails, Kind, Begins, Commits, RollsBack, Works, kind, perform, perform_by, worked, note}
-use Rattle.session_machine.specs.Overlay.{Overlay, lay, written}
+use Rattle.row_tables.specs.Overlay.{Overlay, lay, written}
 use Rattle.session_machine.specs.Go.{Scene, Run, taking, go, stopped, failed, finished_by, is_broken, held_up, look_with, waiting_with}
 use Rattle.session_machine.specs.Quiet.{Claims, may_write, claims_of}
 use Rattle.session_machine.specs.Sound.{HoldsAll, Backed, UnderLocks, AtLeast}
 use Rattle.session_machine.specs.Serial.{Transaction, Did, Tally, ended_well, dropped, did, tally_by, tally_end, go_tally, Replay, SerialRun, WorkHeld, Repeats}
-use Rattle.session_machine.specs.declared.answer.Answer.{Answer}
-use Rattle.session_machine.specs.declared.answer.Answer.TheVariants.{Granted, Waits, Ring}
+use Rattle.lock_queues.specs.declared.answer.Answer.{Answer}
+use Rattle.lock_queues.specs.declared.answer.Answer.TheVariants.{Granted, Waits, Ring}
 use Rattle.transcripts.specs.declared.event.Event.TheVariants.{Waiting}
 use Rattle.transcripts.specs.declared.event.Fault.TheVariants.{Aborted, Deadlock}
 use Rattle.lock_modes.specs.declared.mode.Mode.{Mode}
@@ -72,7 +73,7 @@ work-push : (h : Held) (ds : List Did) (d : Did) → WorkHeld h ds → HoldsAll 
 work-push h [] d w x = (x, tt)
 work-push h (y ∷ ds) d w x = (w.0, work-push h ds d w.1 x)
 
-pub work-taking : (h : Held) (r : Resource) (m : Mode) (s : Session) → s.held ≡ h → (ds : List Did) → WorkHeld h ds → WorkHeld (Rattle.version_tree.specs.Map.insert h r (Rattle.session_machine.specs.Locks.wanted (get h r) m)) ds
+pub work-taking : (h : Held) (r : Resource) (m : Mode) (s : Session) → s.held ≡ h → (ds : List Did) → WorkHeld h ds → WorkHeld (Rattle.version_tree.specs.Map.insert h r (Rattle.lock_queues.specs.Locks.wanted (get h r) m)) ds
 work-taking h r m s e [] w = tt
 work-taking h r m s e (d ∷ ds) w = (holds-stronger h _ (stronger-taking h r m) (plan d.statement) w.0, work-taking h r m s e ds w.1)
 
@@ -169,7 +170,7 @@ module _ (start : Rows') (Others : Rows' → Type 0) (e : Scene) (i : ℕ)
   go-tells s rows [] t have fits under holds backed x = end-tells s.status s rows t fits under x
   go-tells s rows (Ask r m ∷ ts) t have fits under holds backed x =
       asked (is_broken s.status) (may_have e.count e.look e.waits i (get s.held r) r m) (closes_ring e.count (look_with e i s.held) (waiting_with e i r m) i) refl
-      (λ h. go-tells (taking s r m) rows ts t (request r m ∷ have) (fits-inserted e i s.held r _ (both_true (Rattle.session_machine.specs.Locks.fits e.count e.look i r (Rattle.session_machine.specs.Locks.wanted (get s.held r) m)) _ h).0 fits) (under-stronger s.overlay s.held _ (stronger-taking s.held r m) under) (covers-taking s.held r m, holds-stronger s.held _ (stronger-taking s.held r m) have holds) backed (taking-tells s r m rows t x))
+      (λ h. go-tells (taking s r m) rows ts t (request r m ∷ have) (fits-inserted e i s.held r _ (both_true (Rattle.lock_queues.specs.Locks.fits e.count e.look i r (Rattle.lock_queues.specs.Locks.wanted (get s.held r) m)) _ h).0 fits) (under-stronger s.overlay s.held _ (stronger-taking s.held r m) under) (covers-taking s.held r m, holds-stronger s.held _ (stronger-taking s.held r m) have holds) backed (taking-tells s r m rows t x))
     where
       asked : (b h c : Bool) → may_have e.count e.look e.waits i (get s.held r) r m ≡ h → (may_have e.count e.look e.waits i (get s.held r) r m ≡ true → AfterRun (go e i (taking s r m) rows ts) (go_tally e i (taking s r m) rows ts t))
           → AfterRun (elim b [ true ↦ stopped e (failed s rows Aborted) | false ↦ elim (answered h c) [ Granted ↦ go e i (taking s r m) rows ts | Waits ↦ held_up e i s rows r m ts | Ring ↦ stopped e (failed s rows Deadlock) ] ])

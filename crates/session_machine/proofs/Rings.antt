@@ -1,7 +1,8 @@
 -- Rings: the test finds each, and what does not touch a session leaves the ways past it.
 use Rattle.std.proofs.Common.{◌≡◌, ◌≢◌, refl, sym, ap, ◌∙◌, subst, ℕ, zero, suc, ◌<◌, Bool, true, false, cond, not, ◌&&◌, ◌||◌, ◌==◌, List, [], ◌∷◌, ◌++◌, filter, is_some, ◌⊎◌, inl, inr, ⊎_elim, arith, append_assoc, append-nil, eqb-true}
 use Rattle.std.specs.List.{list_any}
-use Rattle.session_machine.specs.Locks.{Wait, Spot, Look, fits_with, wanted, wanted_by, converts, ahead, spots_from, holds_up, waits_for, way_below}
+use Rattle.lock_queues.specs.declared.wait.Wait.{Wait}
+use Rattle.lock_queues.specs.Locks.{Spot, Look, fits_with, wanted, wanted_by, converts, ahead, spots_from, holds_up, waits_for, way_below}
 use Rattle.lock_modes.specs.Resource.{same_resource}
 use Rattle.session_machine.specs.Sound.{Way, one, more, NoRing, EachWait}
 use Rattle.lock_modes.specs.declared.resource.Resource.{Resource}

@@ -1,10 +1,11 @@
 -- Every line is a serial run of its commits: the worlds.
 use Rattle.std.proofs.Common.{◌≡◌, ◌≢◌, refl, sym, ◌∙◌, subst, ℕ, zero, suc, ◌<◌, Bool, true, false, List, [], ◌∷◌, ◌++◌, length, set, get_or, Option, Some, None, ⊎_elim, length-set, get_or-set_same, get_or-set_other}
 use Rattle.version_tree.specs.Map.{empty}
-use Rattle.session_machine.specs.Locks.{Wait, Spot, next_grant, waits_now}
+use Rattle.lock_queues.specs.declared.wait.Wait.{Wait}
+use Rattle.lock_queues.specs.Locks.{Spot, next_grant, waits_now}
 use Rattle.session_machine.specs.Effect.{Rows'}
 use Rattle.session_machine.specs.Session.{Task, Session, Held, note, tasks_of}
-use Rattle.session_machine.specs.Overlay.{Overlay, lay}
+use Rattle.row_tables.specs.Overlay.{Overlay, lay}
 use Rattle.session_machine.specs.Go.{Run, go, taking}
 use Rattle.session_machine.specs.World.{World, session_at, look_of, scene_of, goes, granted, settle, settle_for, left_to_do, send, send_all, noted}
 use Rattle.sql_subset.specs.Spec.{Step, no_step}

@@ -6,7 +6,8 @@ use Rattle.std.specs.List.{list_any}
 use Rattle.version_tree.specs.Map.{get, insert, get-empty}
 use Rattle.lock_modes.specs.Resource.{resource_order}
 use Rattle.lock_modes.specs.Mode.{compatible}
-use Rattle.session_machine.specs.Locks.{Wait, Spot, Look, fits, wanted, wanted_by, waits_for, closes_ring, way_below, waits_now, is_ripe, first_ripe, next_grant, spots_from}
+use Rattle.lock_queues.specs.declared.wait.Wait.{Wait}
+use Rattle.lock_queues.specs.Locks.{Spot, Look, fits, wanted, wanted_by, waits_for, closes_ring, way_below, waits_now, is_ripe, first_ripe, next_grant, spots_from}
 use Rattle.sql_subset.specs.Plan.{Request, request, plan}
 use Rattle.session_machine.specs.Session.{Task, Do, asks, tasks_of, Session, note}
 use Rattle.session_machine.specs.Go.{Run, look_with, taking, go}

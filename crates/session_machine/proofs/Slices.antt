@@ -3,7 +3,7 @@ use Rattle.std.proofs.Common.{◌≡◌, ◌≢◌, refl, sym, ap, ◌∙◌, �
 use Rattle.std.specs.FinMap.Entries.{find}
 use Rattle.version_tree.specs.Map.{Map, same_key, same_key-true, same_key-refl, get, insert, get-insert, keep, get-keep, entries, empty, get-empty, same_map}
 use Rattle.lock_modes.specs.Resource.{resource_order}
-use Rattle.session_machine.specs.LockTable.{Holding, holding_cmp, holding_order, slice, slice_of}
+use Rattle.lock_queues.specs.LockTable.{Holding, holding_cmp, holding_order, slice, slice_of}
 use Rattle.lock_modes.specs.declared.mode.Mode.{Mode}
 use Rattle.lock_modes.specs.declared.resource.Resource.{Resource}
 use Rattle.session_machine.proofs.Basics.{not_both}

@@ -3,12 +3,12 @@ use Rattle.std.proofs.Common.{◌≡◌, refl, sym, ap, ◌∙◌, subst, ℕ, z
 use Rattle.version_tree.specs.Map.{same_key, same_key-true, get, insert, get-insert, empty, get-empty}
 use Rattle.lock_modes.specs.Resource.{resource_order}
 use Rattle.lock_modes.specs.Mode.{cover}
-use Rattle.session_machine.specs.Locks.{Look, fits, fits_with, wanted, all_below, may_have, answered}
+use Rattle.lock_queues.specs.Locks.{Look, fits, fits_with, wanted, all_below, may_have, answered}
 use Rattle.session_machine.specs.Effect.{Rows', Effect, Gives, Faults}
 use Rattle.session_machine.specs.Session.{Task, Ask, Do, Session, Held, Performed, Goes, Fails, Kind, Begins, Commits, RollsBack, Works, kind, perform, perform_by, worked}
 use Rattle.session_machine.specs.Go.{Scene, Run, Stop, taking, go, solo, stopped, failed, finished_by, is_broken, held_up}
-use Rattle.session_machine.specs.declared.answer.Answer.{Answer}
-use Rattle.session_machine.specs.declared.answer.Answer.TheVariants.{Granted, Waits, Ring}
+use Rattle.lock_queues.specs.declared.answer.Answer.{Answer}
+use Rattle.lock_queues.specs.declared.answer.Answer.TheVariants.{Granted, Waits, Ring}
 use Rattle.lock_modes.specs.declared.mode.Mode.{Mode}
 use Rattle.lock_modes.specs.declared.resource.Resource.{Resource}
 use Rattle.session_machine.specs.Footprint.{EachAsk, HeldFits, IsFree}

@@ -2,7 +2,8 @@
 use Rattle.std.proofs.Common.{◌≡◌, ◌≢◌, refl, sym, ap, ◌∙◌, subst, ℕ, zero, suc, ◌+◌, ◌<◌, ◌≤◌, Bool, true, false, not, ◌||◌, ◌==◌, List, [], ◌∷◌, ◌++◌, length, get_or, replicate, None, ◌⊎◌, inl, inr, ⊎_elim, arith, length-set, get_or-set_other, eq-eqb}
 use Rattle.version_tree.specs.Map.{get, empty, get-empty}
 use Rattle.lock_modes.specs.Resource.{resource_order}
-use Rattle.session_machine.specs.Locks.{Wait, Look, fits, fits_with, all_below, nobody_waits, waits_now, next_grant}
+use Rattle.lock_queues.specs.declared.wait.Wait.{Wait}
+use Rattle.lock_queues.specs.Locks.{Look, fits, fits_with, all_below, nobody_waits, waits_now, next_grant}
 use Rattle.session_machine.specs.Session.{Task, Ask, Do, Session, tasks_of}
 use Rattle.session_machine.specs.Go.{Scene, Run, solo, stopped, go}
 use Rattle.session_machine.specs.World.{World, fresh, session_at, look_of, scene_of}
@@ -35,7 +36,7 @@ first_world n = record { rows = empty; sessions = replicate (suc n) fresh; waits
 no_lock : (n c : ℕ) (r : Resource) → look_of (first_world n) c r ≡ None
 no_lock n c r = ap (λ (s : Session). get s.held r) (get_or-replicate (suc n) c fresh) ∙ get-empty resource_order Mode r
 
-no_way : (look : Look) (a b : ℕ) → Way (Rattle.session_machine.specs.Locks.waits_for look []) a b → ⊥
+no_way : (look : Look) (a b : ℕ) → Way (Rattle.lock_queues.specs.Locks.waits_for look []) a b → ⊥
 no_way look a b (one e) = cc
 no_way look a b (more e v) = cc
 

@@ -2,7 +2,7 @@
 use Rattle.std.proofs.Common.{◌≡◌, refl, sym, ap, ◌∙◌, subst, ℕ, suc, ◌+◌, ◌<◌, ◌≤◌, Bool, true, false, not, ◌||◌, List, [], ◌∷◌, ◌++◌, length, get_or, ⊎_elim, arith, append-nil, length-set, get_or-set_same, get_or-set_other}
 use Rattle.version_tree.specs.Map.{get, empty, get-empty}
 use Rattle.lock_modes.specs.Resource.{resource_order}
-use Rattle.session_machine.specs.Locks.{waits_now}
+use Rattle.lock_queues.specs.Locks.{waits_now}
 use Rattle.session_machine.specs.Effect.{Rows'}
 use Rattle.session_machine.specs.Session.{Task, Ask, Do, Session, Performed, Goes, Fails, perform, tasks_of}
 use Rattle.session_machine.specs.Go.{Run, Stop, taking, is_broken, solo, failed, finished_by, stopped, go}

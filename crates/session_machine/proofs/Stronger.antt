@@ -4,10 +4,10 @@ use Rattle.version_tree.specs.Map.{same_key, same_key-true, same_key-refl, get, 
 use Rattle.lock_modes.specs.Place.{Place}
 use Rattle.lock_modes.specs.Resource.{resource_order, same_resource}
 use Rattle.lock_modes.specs.Mode.{cover}
-use Rattle.session_machine.specs.Locks.{wanted}
+use Rattle.lock_queues.specs.Locks.{wanted}
 use Rattle.sql_subset.specs.Plan.{Request, asks_on, writes_in, is_exclusive}
 use Rattle.session_machine.specs.Session.{Held}
-use Rattle.session_machine.specs.Overlay.{Overlay}
+use Rattle.row_tables.specs.Overlay.{Overlay}
 use Rattle.session_machine.specs.Quiet.{may_write, claims_of}
 use Rattle.session_machine.specs.Sound.{AtLeast, Covers, HoldsAll, IsIn, here, there, AllIn, UnderLocks}
 use Rattle.lock_modes.specs.declared.mode.Mode.{Mode}

@@ -1,7 +1,7 @@
 -- A swap of quiet steps changes no outcome.
 use Rattle.std.proofs.Common.{◌≡◌, ◌≢◌, refl, sym, ap, ◌∙◌, subst, ℕ, zero, suc, ◌+◌, ◌<◌, Bool, true, false, cond, not, ◌==◌, nat_lt, List, [], ◌∷◌, length, set, get_or, Option, Some, None, option_map, ⊎_elim, arith, length-set, get_or-set_other, eq-eqb, ltb-true}
 use Rattle.std.proofs.lemmas.List.{set_comm}
-use Rattle.session_machine.specs.Locks.{Spot, next_grant, waits_now}
+use Rattle.lock_queues.specs.Locks.{Spot, next_grant, waits_now}
 use Rattle.session_machine.specs.World.{World, session_at, look_of, noted, goes, granted, settle, settle_for, left_to_do, send, send_all}
 use Rattle.sql_subset.specs.Spec.{Step, no_step, Queues, line}
 use Rattle.session_machine.specs.Session.{note, tasks_of}

@@ -1,7 +1,8 @@
 -- In a sound world each session that waits reaches one that does not.
 use Rattle.std.proofs.Common.{◌≡◌, ◌≢◌, refl, sym, ap, ◌∙◌, subst, ℕ, zero, suc, ◌+◌, ◌<◌, ◌≤◌, Bool, true, false, cond, not, ◌&&◌, ◌||◌, ◌==◌, List, [], ◌∷◌, ◌++◌, length, filter, Some, None, ◌⊎◌, inl, inr, ⊎_elim, arith, append_assoc, eqb-true, eq-eqb}
 use Rattle.std.specs.List.{list_any}
-use Rattle.session_machine.specs.Locks.{Wait, Spot, Look, fits, fits_with, all_below, wanted_by, converts, ahead, is_empty, is_ripe, first_ripe, spots_from, holds_up, waits_for, waits_now, way_below}
+use Rattle.lock_queues.specs.declared.wait.Wait.{Wait}
+use Rattle.lock_queues.specs.Locks.{Spot, Look, fits, fits_with, all_below, wanted_by, converts, ahead, is_empty, is_ripe, first_ripe, spots_from, holds_up, waits_for, waits_now, way_below}
 use Rattle.lock_modes.specs.Resource.{same_resource}
 use Rattle.session_machine.specs.World.{World, look_of}
 use Rattle.session_machine.specs.Sound.{Way, one, more, Ready, EachWait, Distinct, Sound}

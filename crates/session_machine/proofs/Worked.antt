@@ -2,7 +2,7 @@
 use Rattle.std.proofs.Common.{zero, suc, Bool, Option, length, Box, Global, ◌≡◌, refl, ℕ, List, [], ◌∷◌, Some, None, pos, map, true, false}
 use Rattle.version_tree.specs.Map.{get, insert, keep, remove, entries, empty}
 use Rattle.session_machine.specs.Effect.{effect}
-use Rattle.session_machine.specs.Overlay.{lay}
+use Rattle.row_tables.specs.Overlay.{lay}
 use Rattle.sql_subset.specs.Spec.{Step, Spec, Queues, queues_of, ranks, line_of, counts_of}
 use Rattle.session_machine.specs.Start.{Started, start}
 use Rattle.session_machine.specs.World.{send_all, outcome_of}

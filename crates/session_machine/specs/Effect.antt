@@ -21,21 +21,13 @@ use Rattle.sql_subset.specs.declared.bound.Output.TheVariants.{Columns, Aggregat
 use Rattle.sql_subset.specs.declared.bound.Bound.{Bound}
 use Rattle.sql_subset.specs.declared.bound.Bound.TheVariants.{Select, Insert, Update, Delete, Begin, Commit, Rollback, LockTable, SetVariable}
 use Rattle.sql_subset.specs.Plan.{Tuple, key_at, looks_at}
+pub use Rattle.row_tables.specs.Overlay.{Rows', Write}
 use Rattle.session_machine.specs.Evaluate.{checked, holds}
 use Rattle.session_machine.specs.Evaluate.{value_of}
-
--- committed rows, and the rows that a session sees
-abbrev pub Rows' : Type 0
-Rows' = Map place_order Tuple
 
 -- what a statement sees of the rows that its session sees: those that it looks at
 abbrev pub visible : Bound → Rows' → Rows'
 visible s rows = keep (looks_at s) rows
-
--- what a write leaves at a place: a row, or none
-pub record Write : Type 0 where
-  pub place : Place
-  pub left : Option Tuple
 
 pub data Effect : Type 0 where
   Gives : (events : List Event) (writes : List Write) → Effect

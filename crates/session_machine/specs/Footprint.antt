@@ -2,7 +2,7 @@
 use Rattle.std.specs.Prelude.{◌≡◌, ℕ, Bool, true, false, List, [], ◌∷◌, Some}
 use Rattle.version_tree.specs.Map.{get}
 use Rattle.lock_modes.specs.Place.{Place}
-use Rattle.session_machine.specs.Locks.{fits, nobody_waits, may_have}
+use Rattle.lock_queues.specs.Locks.{fits, nobody_waits, may_have}
 use Rattle.session_machine.specs.Effect.{Rows'}
 use Rattle.sql_subset.specs.Plan.{plan, opened}
 use Rattle.session_machine.specs.Session.{Task, Ask, Do, Session, Held, Goes, Fails, perform}

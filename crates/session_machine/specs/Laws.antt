@@ -1,7 +1,7 @@
 -- The laws of the model, each in one line.
 use Rattle.std.specs.Prelude.{◌≡◌, ◌≢◌, ℕ, ◌<◌, ◌≤◌, Bool, true, false, ◌&&◌, ◌↔◌, List, [], length, get_or, Some}
 use Rattle.lock_modes.specs.Mode.{compatible, cover}
-use Rattle.session_machine.specs.Locks.{way_below, waits_for, waits_now}
+use Rattle.lock_queues.specs.Locks.{way_below, waits_for, waits_now}
 use Rattle.sql_subset.specs.Spec.{Spec, Step, no_step, Queues, line, IsBound}
 use Rattle.session_machine.specs.Start.{Started, start}
 use Rattle.session_machine.specs.World.{World, send, send_all, look_of, session_at, scene_of}

@@ -1,8 +1,5 @@
-pub mod Locks
-pub mod LockTable
 pub mod Evaluate
 pub mod Effect
-pub mod Overlay
 pub mod Session
 pub mod Go
 pub mod World

@@ -4,7 +4,7 @@ use Rattle.std.specs.List.{list_any, list_all}
 use Rattle.lock_modes.specs.Place.{Place}
 use Rattle.version_tree.specs.Map.{get}
 use Rattle.lock_modes.specs.Mode.{compatible, same_mode}
-use Rattle.session_machine.specs.Locks.{fits, waits_now}
+use Rattle.lock_queues.specs.Locks.{fits, waits_now}
 use Rattle.lock_modes.specs.Resource.{same_resource}
 use Rattle.sql_subset.specs.Plan.{Request, plan}
 use Rattle.session_machine.specs.World.{World, session_at, look_of}

@@ -2,17 +2,17 @@
 -- What is told here is computed beside the machine, from the same choices: the machine itself keeps no history.
 use Rattle.std.specs.Prelude.{◌≡◌, ℕ, zero, suc, Bool, true, false, cond, ◌==◌, List, [], ◌∷◌, ◌++◌, length, replicate, set, get_or, Some, None}
 use Rattle.version_tree.specs.Map.{empty}
-use Rattle.session_machine.specs.Locks.{Spot, next_grant, waits_now}
+use Rattle.lock_queues.specs.Locks.{Spot, next_grant, waits_now}
 use Rattle.session_machine.specs.Sound.{HoldsAll}
 use Rattle.sql_subset.specs.Plan.{plan}
 use Rattle.session_machine.specs.Effect.{Rows', Write, Effect, Gives, Faults, effect}
 use Rattle.session_machine.specs.Session.{Task, Ask, Do, Session, Held, Goes, Fails, Kind, Begins, Commits, RollsBack, Works, kind, perform, tasks_of, note, ended}
 use Rattle.session_machine.specs.Go.{Scene, taking, is_broken, answer_in}
-use Rattle.session_machine.specs.Overlay.{Overlay, lay, written}
+use Rattle.row_tables.specs.Overlay.{Overlay, lay, written}
 use Rattle.session_machine.specs.World.{World, session_at, look_of, scene_of, granted, goes, left_to_do, send}
 use Rattle.sql_subset.specs.Spec.{Step, no_step, Spec}
 use Rattle.session_machine.specs.Start.{Started, set_up, after_setup, forgotten, session_setups, start}
-use Rattle.session_machine.specs.declared.answer.Answer.TheVariants.{Granted, Waits, Ring}
+use Rattle.lock_queues.specs.declared.answer.Answer.TheVariants.{Granted, Waits, Ring}
 use Rattle.transcripts.specs.declared.event.Event.{Event}
 use Rattle.transcripts.specs.declared.event.Event.TheVariants.{Sent, Resumed, Row as RowEvent, Rows, Inserted, Updated, Deleted, Locked, Set}
 use Rattle.session_machine.specs.declared.session.Status.{Status}

@@ -16,7 +16,7 @@ use Rattle.session_machine.specs.declared.session.Status.{Status}
 use Rattle.session_machine.specs.declared.session.Status.TheVariants.{Outside, InBlock, Broken}
 use Rattle.sql_subset.specs.declared.bound.Bound.{Bound}
 use Rattle.sql_subset.specs.declared.bound.Bound.TheVariants.{Select, Insert, Update, Delete, Begin, Commit, Rollback, LockTable, SetVariable}
-use Rattle.session_machine.specs.Overlay.{Overlay, lay, written}
+use Rattle.row_tables.specs.Overlay.{Overlay, lay, written}
 
 -- a step is its requests and its statements, each statement behind its requests
 pub data Task : Type 0 where

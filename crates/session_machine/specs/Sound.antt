@@ -3,10 +3,11 @@ use Rattle.std.specs.Prelude.{◌≡◌, ◌≢◌, ℕ, ◌<◌, Bool, true, Li
 use Rattle.version_tree.specs.Map.{get}
 use Rattle.lock_modes.specs.Place.{Place}
 use Rattle.lock_modes.specs.Mode.{compatible, cover}
-use Rattle.session_machine.specs.Locks.{Wait, Look, next_grant, waits_for}
+use Rattle.lock_queues.specs.declared.wait.Wait.{Wait}
+use Rattle.lock_queues.specs.Locks.{Look, next_grant, waits_for}
 use Rattle.sql_subset.specs.Plan.{Tuple, Request, request, plan}
 use Rattle.session_machine.specs.World.{World, look_of, session_at}
-use Rattle.session_machine.specs.Overlay.{Overlay}
+use Rattle.row_tables.specs.Overlay.{Overlay}
 use Rattle.session_machine.specs.Session.{Held, Task, Ask, Do}
 use Rattle.session_machine.specs.Quiet.{may_write, claims_of}
 use Rattle.lock_modes.specs.declared.mode.Mode.{Mode}

@@ -3,7 +3,7 @@ use Rattle.std.specs.Prelude.{ℕ, suc, Bool, true, false, not, ◌||◌, List, 
 use Rattle.std.specs.List.{list_any}
 use Rattle.version_tree.specs.Map
 use Rattle.version_tree.specs.Map.{empty}
-use Rattle.session_machine.specs.Locks.{waits_now}
+use Rattle.lock_queues.specs.Locks.{waits_now}
 use Rattle.transcripts.specs.declared.event.Event.{Event}
 use Rattle.transcripts.specs.declared.event.Event.TheVariants.{Failed}
 use Rattle.session_machine.specs.declared.session.Status.{Status}

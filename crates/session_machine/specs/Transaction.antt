@@ -1,7 +1,7 @@
 -- A block of statements as one transaction whose requests are all had: each statement has its effect on the rows that the ones before it left, or the first fault undoes them all.
 use Rattle.std.specs.Prelude.{ℕ, suc, List, [], ◌∷◌, ◌++◌, Option, Some, None, Result, Ok, Err}
 use Rattle.session_machine.specs.Effect.{Rows', Write, Effect, Gives, Faults, effect}
-use Rattle.session_machine.specs.Overlay.{laid}
+use Rattle.row_tables.specs.Overlay.{laid}
 use Rattle.transcripts.specs.declared.event.Event.{Event}
 use Rattle.transcripts.specs.declared.event.Event.TheVariants.{Sent, Failed, Done}
 use Rattle.sql_subset.specs.declared.bound.Bound.{Bound}

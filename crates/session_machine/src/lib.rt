@@ -1,7 +1,6 @@
 //! The sequential machine: sessions send steps over committed rows, wait for locks and go on when they are had.
 #![tactic(auto)]
 
-mod answer;
 mod effect;
 mod error;
 mod laws;
@@ -13,7 +12,6 @@ mod tests;
 mod transaction;
 mod world;
 
-pub use answer::Answer;
 pub use error::{RunError, SendError, StartError};
 pub use laws::{
     chains_end, facts_are_true, headline, histories_show, lines_are_serial, lines_run, plans_open,

@@ -33,6 +33,7 @@ impl<'a> Model for World<'a> {
     ghost use Rattle.version_tree.specs.Codes.{map_code};
     ghost use Rattle.lock_modes.specs.contracts.value.Value as value;
     ghost use Rattle.lock_modes.specs.contracts.resource.Resource as resource;
+    ghost use Rattle.lock_queues.specs.contracts.wait.Wait as waiting;
     ghost use Rattle.sql_subset.specs.contracts.bound.Bound as bound;
     ghost use Rattle.transcripts.specs.contracts.event.Event as event;
     ghost use Rattle.session_machine.specs.Idle.{idle_world, IsToldUnless};
@@ -40,7 +41,7 @@ impl<'a> Model for World<'a> {
 
     ghost Value = { Running };
 
-    ghost coded = { Prim.hlevel (codes, map_code, value.the_row.coded, bound.the_row.coded, resource.the_row.coded, event.the_row.coded) };
+    ghost coded = { Prim.hlevel (codes, map_code, value.the_row.coded, bound.the_row.coded, resource.the_row.coded, waiting.the_row.coded, event.the_row.coded) };
 
     // The last transcript is that of the control session, which is told nothing once the setups are run.
     ghost view = { λ w. record { file = w.spec.now; world = idle_world w.rows (w.transcripts.items ++ [] ∷ []); spent = w.is_spent } };
