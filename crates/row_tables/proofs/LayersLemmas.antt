@@ -3,16 +3,14 @@ use Rattle.std.proofs.Common.{◌≡◌, ◌≢◌, refl, sym, ap, ◌∙◌, su
 use Rattle.std.specs.Option.{unwrap_or}
 use Rattle.std.specs.Result.{OnOk, OnErr}
 use Rattle.std.specs.Prelude.{Result, Ok, Err}
-use Rattle.version_tree.specs.Map
-use Rattle.version_tree.specs.Map.{same_key, same_key-true, same_key-refl, get, insert, empty, get-empty, get-insert, get-remove, same_map}
+use Rattle.version_tree.specs.Map.{same_key-true, same_key-refl, get, insert, empty, get-empty, get-insert, get-remove, same_map}
 use Rattle.lock_modes.specs.Place.{Place, place_order}
 use Rattle.lock_modes.specs.declared.value.Value.{Value}
-use Rattle.row_tables.specs.Overlay.{Tuple, Rows', Overlay, laid, lay}
-use Rattle.row_tables.specs.Layers.{Layers, session_order, overlay_of, sight, no_rows, IsOnlyWriterAt, IsOnlyWriterIn, wrote, undone, kept}
+use Rattle.row_tables.specs.Overlay.{Tuple, Overlay, laid}
+use Rattle.row_tables.specs.Layers.{Layers, session_order, overlay_of, sight, no_rows, IsOnlyWriterIn, wrote, undone, kept}
 use Rattle.row_tables.specs.Owned.{owner, HasOwners}
 use Rattle.row_tables.proofs.OverlayLemmas.{over, get-laid, get-lay}
 use Rattle.row_tables.proofs.UndoLemmas.{same_session, same_place}
-use Rattle.row_tables.proofs.StoreLemmas.{apart_from}
 
 chosen : (b : Bool) (o : Overlay) (p : Option Overlay) → unwrap_or (cond b (Some o) p) empty ≡ cond b o (unwrap_or p empty)
 chosen true o p = refl

@@ -1,9 +1,9 @@
 -- Undo lists by session, kept in a tree map of the library, are a finite map.
-use Rattle.std.proofs.Common.{◌≡◌, refl, sym, ap, ◌∙◌, subst, ℕ, Bool, true, false, cond, List, [], ◌∷◌, ◌++◌, append_assoc, Option, Some, None}
+use Rattle.std.proofs.Common.{◌≡◌, refl, sym, ap, ◌∙◌, subst, ℕ, cond, List, [], ◌∷◌, ◌++◌, append_assoc, Option, Some, None}
 use Rattle.std.specs.List.{AllByRecursion}
 use Rattle.std.specs.List.Sorted.{IsStrictlySortedBy}
-use Rattle.std.specs.declared.cmp.Ordering.TheVariants.{Less, Equal, Greater}
-use Rattle.std.specs.Ordering.{nat_cmp, is_eq, match_ordering, ordering_reverse}
+use Rattle.std.specs.declared.cmp.Ordering.TheVariants.{Less, Greater}
+use Rattle.std.specs.Ordering.{nat_cmp, match_ordering, ordering_reverse}
 use Rattle.std.specs.Cmp.{nat_cmp_total, eq_by_cmp_equiv}
 use Rattle.std.specs.FinMap.Entries.{find}
 use Rattle.std.specs.Map.{lookup, keys_of}
@@ -12,7 +12,6 @@ use Rattle.version_tree.specs.Map
 use Rattle.version_tree.specs.Map.{get, insert, get-insert, get-remove, same_key, same_map, of_entries, get-of_entries}
 use Rattle.row_tables.specs.Overlay.{Overlay}
 use Rattle.row_tables.specs.Layers.{session_order}
-use Rattle.row_tables.specs.Undo.{Lists}
 
 lookup-find : (es : List (ℕ × Overlay)) (c : ℕ) → lookup (is_at (nat_cmp c)) es ≡ find nat_cmp c es
 lookup-find [] c = refl

@@ -1,12 +1,12 @@
 -- Undo lists: what stood before is noted once, and put back entry by entry.
-use Rattle.std.proofs.Common.{◌≡◌, refl, sym, ap, ◌∙◌, Bool, true, false, cond, List, [], ◌∷◌, Option, Some, None}
+use Rattle.std.proofs.Common.{◌≡◌, refl, sym, ap, ◌∙◌, true, false, cond, List, [], ◌∷◌, Option, Some, None}
 use Rattle.std.specs.Prelude.{T}
 use Rattle.std.specs.FinMap.Entries.{find, is_sorted}
 use Rattle.version_tree.specs.Map.{get, insert, entries, empty, get-empty, same_key, same_key-true, same_map, of_entries}
 use Rattle.lock_modes.specs.Place.{Place, place_order, place_cmp}
 use Rattle.row_tables.specs.Overlay.{Tuple, Rows', Overlay, laid, lay}
 use Rattle.row_tables.specs.Layers.{no_rows}
-use Rattle.row_tables.specs.Undo.{Lists, before_in, before, noted, AreApart, layers}
+use Rattle.row_tables.specs.Undo.{before_in, noted, AreApart, layers}
 use Rattle.row_tables.proofs.OverlayLemmas.{over, get-laid, get-lay}
 use Rattle.row_tables.proofs.UndoLemmas.{front, back, find_below}
 

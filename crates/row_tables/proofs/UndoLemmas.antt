@@ -1,32 +1,24 @@
 -- Rows in place and undo lists, seen as committed rows and overlays.
-use Rattle.std.proofs.Common.{◌≡◌, ◌≢◌, refl, sym, ap, ◌∙◌, subst, ℕ, Bool, true, false, cond, not, ◌&&◌, ◌⊎◌, inl, inr, true≢false, List, [], ◌∷◌, map, Option, Some, None}
+use Rattle.std.proofs.Common.{◌≡◌, ◌≢◌, refl, sym, ap, ◌∙◌, ℕ, Bool, true, false, cond, ◌&&◌, ◌⊎◌, inl, inr, true≢false, List, [], ◌∷◌, map, Option, Some, None}
 use Rattle.std.specs.Prelude.{T}
 use Rattle.std.specs.Option.{unwrap_or, option_map}
 use Rattle.std.specs.declared.cmp.Ordering.{Ordering}
 use Rattle.std.specs.declared.cmp.Ordering.TheVariants.{Less, Equal, Greater}
-use Rattle.std.specs.Ordering.{is_eq, is_lt, nat_cmp, eq_by_cmp}
-use Rattle.std.specs.Cmp.{IsTotalOrder, nat_cmp_total, tied_itself}
+use Rattle.std.specs.Ordering.{is_eq, is_lt, nat_cmp}
+use Rattle.std.specs.Cmp.{nat_cmp_total, tied_itself}
 use Rattle.std.specs.FinMap.Entries.{find, is_sorted, below_all}
-use Rattle.version_tree.specs.Map
-use Rattle.version_tree.specs.Map.{same_key, same_key-true, same_key-refl, get, insert, entries, empty, get-empty, get-insert, get-remove, same_map, of_entries, get-of_entries}
+use Rattle.version_tree.specs.Map.{same_key, same_key-true, same_key-refl, get, entries, empty, get-empty, same_map, get-of_entries}
 use Rattle.lock_modes.specs.Place.{Place, place_order, place_cmp}
-use Rattle.row_tables.specs.Overlay.{Tuple, Rows', Overlay, laid, lay}
-use Rattle.row_tables.specs.Layers.{Layers, session_order, overlay_of, sight, IsOnlyWriterAt}
-use Rattle.row_tables.specs.Undo.{Lists, before_in, before, noted, AreApart, in_place, all_undone, layers}
-use Rattle.row_tables.proofs.OverlayLemmas.{over, get-lay, get-laid, is_eq-Equal}
+use Rattle.row_tables.specs.Overlay.{Tuple, Rows', Overlay}
+use Rattle.row_tables.specs.Layers.{session_order, overlay_of}
+use Rattle.row_tables.specs.Undo.{Lists, before_in, before, AreApart, in_place, all_undone, layers}
+use Rattle.row_tables.proofs.OverlayLemmas.{over, get-lay}
 
 abbrev pub same_session : ℕ → ℕ → Bool
 same_session c d = same_key session_order c d
 
 abbrev pub same_place : Place → Place → Bool
 same_place p q = same_key place_order p q
-
-pub same_session-false : (c d : ℕ) → c ≢ d → same_session c d ≡ false
-same_session-false c d h =
-    elim (same_session c d) as (λ b. same_session c d ≡ b → b ≡ false) [
-      | true ↦ λ is. absurd (h (same_key-true session_order c d is))
-      | false ↦ λ is. refl
-    ] refl
 
 pub front : (a b : Bool) → T (a && b) → T a
 front true b p = tt

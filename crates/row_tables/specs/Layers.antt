@@ -1,12 +1,12 @@
 -- Committed rows with an overlay for each session, and the steps of a store over them.
-use Rattle.std.specs.Prelude.{◌≡◌, ◌≢◌, ℕ, cond, List, [], ◌∷◌, Option, Some, None}
+use Rattle.std.specs.Prelude.{◌≡◌, ◌≢◌, ℕ, cond, List, [], ◌∷◌, Option, None}
 use Rattle.std.specs.Option.{unwrap_or}
 use Rattle.std.specs.Ordering.{nat_cmp, eq_by_cmp}
 use Rattle.std.specs.Cmp.{nat_cmp_total}
 use Rattle.std.specs.FinMap.{nat_cmp-IsAntisymmetric}
 use Rattle.version_tree.specs.Map
 use Rattle.version_tree.specs.Map.{Order, Map, get, insert, empty, entries}
-use Rattle.lock_modes.specs.Place.{Place, place_order}
+use Rattle.lock_modes.specs.Place.{Place}
 use Rattle.lock_modes.specs.declared.value.Value.{Value}
 use Rattle.row_tables.specs.Overlay.{Tuple, Rows', Overlay, lay}
 

@@ -96,7 +96,7 @@ impl Store {
         Ok(())
     }
 
-    /// Drops what a session wrote. After a refusal the store is of no more use.
+    /// Drops what a session wrote. After a refusal nothing is changed.
     pub fn undo(&mut self, session: u8) -> Result<(), AllocError>
         ensures ok { OnOk result (self.new ≡ undone session self.old) }
         ensures err { OnErr result (self.new ≡ self.old) }

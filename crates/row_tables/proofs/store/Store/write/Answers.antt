@@ -1,9 +1,9 @@
-use Rattle.std.proofs.Common.{◌≡◌, ◌≢◌, ℕ, refl, sym, ap, ◌∙◌, subst, Some, None}
+use Rattle.std.proofs.Common.{◌≡◌, ◌≢◌, ℕ, sym, ap, ◌∙◌, subst, None}
 use Rattle.std.specs.Option.{unwrap_or}
 use Rattle.version_tree.specs.Map.{get, insert, empty}
 use Rattle.lock_modes.specs.Place.{Place}
 use Rattle.row_tables.specs.Overlay.{laid}
-use Rattle.row_tables.specs.Layers.{Layers, IsOnlyWriterAt, wrote}
+use Rattle.row_tables.specs.Layers.{IsOnlyWriterAt, wrote}
 use Rattle.row_tables.specs.Undo.{AreApart, before, noted, layers}
 use Rattle.row_tables.proofs.StoreLemmas.{only-before, new-apart, wrote-layers}
 use Rattle.row_tables.proofs.store.Store.write.Goals as goal
