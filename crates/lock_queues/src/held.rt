@@ -60,6 +60,7 @@ impl Held {
     pub fn fits(&self, session: u8, place: Place<'_>, mode: Mode) -> bool
         ensures { IsTrue result ↔ Fits (look_at self.now) session (resource_at place.entry) mode }
     {
+        // The length also tells that the entries are in order, so that each is the one a look-up finds.
         self.sessions.len() == 0 || all_fit(&self.sessions, session, place, mode)
     }
 

@@ -4,7 +4,7 @@ ghost use Rattle.std.specs.Option.{option_copied, option_map};
 ghost use Rattle.lock_modes.specs.Resource.{resource_at};
 ghost use Rattle.lock_queues.specs.Locks as locks;
 ghost use Rattle.lock_queues.specs.LockTable as spec;
-ghost use Rattle.lock_queues.specs.Rules as rules_of;
+ghost use Rattle.lock_queues.specs.Rules as rule;
 ghost use Rattle.lock_queues.specs.Sound.{Distinct, IsSound};
 
 use crate::answer::Answer;
@@ -60,8 +60,8 @@ impl LockTable {
     /// is refused because its wait would close a ring. Without memory the table stays as it was.
     pub fn ask(&mut self, session: u8, place: Place<'_>, mode: Mode) -> Result<Answer, AllocError>
         requires { locks.waits_now self.old.waits session ≡ false }
-        ensures answer { IfOk result (rules_of.IsAnswer self.old session (resource_at place.entry) mode) }
-        ensures change { IfOk result (λ answer. self.new ≡ rules_of.after self.old session (resource_at place.entry) mode answer) }
+        ensures answer { IfOk result (rule.IsAnswer self.old session (resource_at place.entry) mode) }
+        ensures change { IfOk result (λ answer. self.new ≡ rule.after self.old session (resource_at place.entry) mode answer) }
         ensures kept { OnErr result (self.new ≡ self.old) }
     {
         if may_have(&self.held, &self.waits, session, place, mode) {
@@ -94,15 +94,15 @@ impl LockTable {
 
     /// The session whose wait is ripe and came first, over all resources.
     pub fn next_grant(&self) -> Option<u8>
-        ensures { MatchOption result (rules_of.NothingRipe self.now) (rules_of.IsNextOf self.now) }
+        ensures { MatchOption result (rule.NothingRipe self.now) (rule.IsNextOf self.now) }
     {
         next_ripe(&self.held, &self.waits)
     }
 
     /// Gives the session of `next_grant` its wanted mode. Without memory the table stays as it was.
     pub fn grant(&mut self, session: u8) -> Result<(), AllocError>
-        requires { rules_of.IsNextOf self.old session }
-        ensures granted { OnOk result ((s : locks.Spot) → rules_of.IsNext self.old s → self.new ≡ spec.grant self.old s) }
+        requires { rule.IsNextOf self.old session }
+        ensures granted { OnOk result ((s : locks.Spot) → rule.IsNext self.old s → self.new ≡ spec.grant self.old s) }
         ensures kept { OnErr result (self.new ≡ self.old) }
     {
         let Some(wait) = find_wait(&self.waits, session) else {
@@ -128,9 +128,17 @@ impl LockTable {
         self.held.mode_of(session, place)
     }
 
+    /// What every table keeps: modes of different sessions are compatible, no session waits twice, and there
+    /// is no ring.
+    pub fn known(&self)
+        ensures { IsSound self.now }
+    {
+        let _held = &self.held;
+    }
+
     /// What the session waits for: the resource, and the mode that it is to get there.
     pub fn wait_of(&self, session: u8) -> Option<(Place<'_>, Mode)>
-        ensures { option_map (λ p. (resource_at p.0, p.1)) result ≡ rules_of.wait_of self.now session }
+        ensures { option_map (λ p. (resource_at p.0, p.1)) result ≡ rule.wait_of self.now session }
     {
         match find_wait(&self.waits, session) {
             None => None,
@@ -152,7 +160,7 @@ impl Fork for LockTable {
 
 /// Whether a session may have a mode at once.
 fn may_have(held: &Held, waits: &[Wait], session: u8, place: Place<'_>, mode: Mode) -> bool
-    ensures { IsTrue result ↔ rules_of.MayHave (record { held = held.now; waits = waits.now }) session (resource_at place.entry) mode }
+    ensures { IsTrue result ↔ rule.MayHave (record { held = held.now; waits = waits.now }) session (resource_at place.entry) mode }
 {
     let own = held.mode_of(session, place);
     (own.is_some() || nobody_waits(waits, place))
