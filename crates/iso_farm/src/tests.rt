@@ -105,17 +105,24 @@ fn tell(alloc: Global, line: &str, disk: &Disk<'_>) -> Result<Told, Fail> {
 
 #[test]
 fn one_prints_the_rank_and_its_outcome(rt: HostRuntime) -> Result<(), Fail> {
-    for (line, want) in [
+    for (text, line, want) in [
         (
+            FIRST,
             "isofarm one first.spec 0",
             "rank 0\nsession a\n  step a1\n  inserted 1\n  done\nsession b\n  step b1\n  row 30\n  rows 1\n  done\n",
         ),
         (
+            FIRST,
             "isofarm one first.spec 1",
             "rank 1\nsession a\n  step a1\n  inserted 1\n  done\nsession b\n  step b1\n  rows 0\n  done\n",
         ),
+        (
+            b"session \"a\"\"b\" step \"step\" {}",
+            "isofarm one first.spec 0",
+            "rank 0\nsession a\"b\n  step step\n  done\n",
+        ),
     ] {
-        let told = tell(rt.alloc(), line, &holding(FIRST))?;
+        let told = tell(rt.alloc(), line, &holding(text))?;
         assert_eq!(rt; told.status, 0, "{line}");
         assert_eq!(rt; told.out.as_str(), want, "{line}");
         assert_eq!(rt; told.err.as_str(), "", "{line}");
