@@ -1,0 +1,42 @@
+//! Expressions over the columns of a row.
+
+use lock_modes::Value;
+use sqlite_items::Items;
+
+/// A value, or a column of the row.
+#[derive(Debug, Drop)]
+pub enum Operand {
+    Literal(Value),
+    /// The column's number, from 0.
+    Column(u8),
+}
+
+/// One or more operands, which are multiplied from the left.
+#[derive(Debug, Drop)]
+pub struct Product {
+    pub first: Operand,
+    /// Those behind the first, in their order.
+    pub more: Items<Operand>,
+}
+
+/// What stands between two products.
+#[derive(Clone, Copy, Debug, PartialEq, Eq)]
+pub enum AddSign {
+    Plus,
+    Minus,
+}
+
+/// A product behind its sign.
+#[derive(Debug, Drop)]
+pub struct SignedProduct {
+    pub sign: AddSign,
+    pub product: Product,
+}
+
+/// One or more products, which are added and subtracted from the left.
+#[derive(Debug, Drop)]
+pub struct Expression {
+    pub first: Product,
+    /// Those behind the first, in their order.
+    pub more: Items<SignedProduct>,
+}

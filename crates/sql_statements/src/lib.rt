@@ -1,0 +1,12 @@
+//! Statements over the numbers of tables and columns, and their lock plans.
+#![tactic(auto)]
+
+mod condition;
+mod expression;
+mod plan;
+mod statement;
+
+pub use condition::{Comparison, Condition};
+pub use expression::{AddSign, Expression, Operand, Product, SignedProduct};
+pub use plan::lock_plan;
+pub use statement::{Aggregate, Assignment, Bound, Order, Output, SortKey};

@@ -1,0 +1,60 @@
+//! Statements as the machine runs them.
+
+use crate::condition::Condition;
+use crate::expression::Expression;
+use lock_modes::{Mode, Row, Value};
+use sqlite_items::Items;
+
+/// A number over the rows that match.
+#[derive(Clone, Copy, Debug, PartialEq, Eq)]
+pub enum Aggregate {
+    Count,
+    /// The exact total of a column.
+    Sum(u8),
+}
+
+/// What a select shows.
+#[derive(Debug, Drop)]
+pub enum Output {
+    /// These columns of each row, in this order.
+    Columns(Items<u8>),
+    /// One row of these numbers.
+    Aggregates(Items<Aggregate>),
+}
+
+/// How the rows stand that a column sorts.
+#[derive(Clone, Copy, Debug, PartialEq, Eq)]
+pub enum Order {
+    Rises,
+    Falls,
+}
+
+/// A column that a select sorts by.
+#[derive(Clone, Copy, Debug, PartialEq, Eq)]
+pub struct SortKey {
+    pub column: u8,
+    pub order: Order,
+}
+
+/// A column that an update sets.
+#[derive(Debug, Drop)]
+pub struct Assignment {
+    pub column: u8,
+    pub value: Expression,
+}
+
+/// A statement whose tables and columns are numbers, which stand for their places among the declared tables and among the
+/// columns of a table. `Option<Value>` is the key of the row that the statement names: the literal of its first key part.
+#[derive(Debug, Drop)]
+pub enum Bound {
+    Select(u16, Option<Value>, Condition, Items<SortKey>, Output),
+    /// New rows, with all columns in their order, and which of them is the table's key, if it has one.
+    Insert(u16, Option<u8>, Items<Row>),
+    Update(u16, Option<Value>, Items<Assignment>, Condition),
+    Delete(u16, Option<Value>, Condition),
+    Begin,
+    Commit,
+    Rollback,
+    LockTable(u16, Mode),
+    SetVariable,
+}
