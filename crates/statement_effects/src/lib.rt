@@ -1,0 +1,2 @@
+//! What a statement does to the rows that its session sees, and what it tells.
+#![tactic(auto)]
