@@ -4,7 +4,6 @@ ghost use Rattle.std.specs.Prelude.{◌≡◌, IfOk};
 ghost use Rattle.std.specs.Option.{option_copied};
 ghost use Rattle.version_tree.specs.Map as map;
 ghost use Rattle.version_tree.specs.Entries.{IsInOrder};
-ghost use Rattle.version_tree.specs.Iter.{left};
 ghost use Rattle.lock_modes.specs.Value.{value_cmp};
 ghost use Rattle.row_tables.specs.Overlay.{laid};
 ghost use Rattle.row_tables.specs.Layers.{rows_of};
@@ -74,8 +73,8 @@ impl Rows {
 
     /// The rows of a table in the order of their keys.
     pub fn scan(&self, table: u16) -> Iter<'_, Value, Row>
-        ensures rows { left value_cmp result ≡ rows_of table self.now }
-        ensures in_order { IsInOrder value_cmp (left value_cmp result) }
+        ensures rows { result ≡ rows_of table self.now }
+        ensures in_order { IsInOrder value_cmp result }
     {
         self.table(table).iter()
     }

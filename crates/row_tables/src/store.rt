@@ -2,7 +2,6 @@ ghost use Rattle.std.specs.Prelude.{◌≡◌, IfOk, OnOk, OnErr};
 ghost use Rattle.std.specs.Option.{option_copied, unwrap_or};
 ghost use Rattle.std.specs.FinMap.Entries.{find};
 ghost use Rattle.version_tree.specs.Map.{get, empty};
-ghost use Rattle.version_tree.specs.Iter.{left};
 ghost use Rattle.version_tree.specs.Entries.{IsInOrder};
 ghost use Rattle.lock_modes.specs.Value.{value_cmp};
 ghost use Rattle.lock_modes.specs.declared.value.Value.{Value as Key};
@@ -67,11 +66,11 @@ impl Store {
     /// table that is neither kept nor undone. It takes no memory.
     pub fn scan(&self, session: u8, table: u16) -> Iter<'_, Value, Row>
         requires { IsOnlyWriterIn session table self.now }
-        ensures rows { left value_cmp result ≡ rows_of table (sight session self.now) }
+        ensures rows { result ≡ rows_of table (sight session self.now) }
 
         // Each row of the table comes once, in the order of the keys, and no row of another table comes.
-        ensures in_order { IsInOrder value_cmp (left value_cmp result) }
-        ensures each { (key : Key) → find value_cmp key (left value_cmp result) ≡ get (sight session self.now) (table, key) }
+        ensures in_order { IsInOrder value_cmp result }
+        ensures each { (key : Key) → find value_cmp key result ≡ get (sight session self.now) (table, key) }
     {
         self.rows.scan(table)
     }

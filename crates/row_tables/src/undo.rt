@@ -5,7 +5,6 @@ ghost use Rattle.std.specs.Option.{option_copied, unwrap_or};
 ghost use Rattle.std.specs.Ordering.{nat_cmp};
 ghost use Rattle.std.specs.BTreeMap.{insert_entry};
 ghost use Rattle.version_tree.specs.Map as map;
-ghost use Rattle.version_tree.specs.Iter.{left};
 ghost use Rattle.lock_modes.specs.Place.{place_cmp};
 ghost use Rattle.row_tables.specs.Overlay.{lay};
 ghost use Rattle.row_tables.specs.Undo.{noted};
@@ -51,7 +50,7 @@ impl UndoList {
 
     /// The places in order, each with what stood there.
     pub fn iter(&self) -> Iter<'_, RowPlace, Left>
-        ensures { left place_cmp result ≡ map.entries self.now }
+        ensures { result ≡ map.entries self.now }
     {
         let _in_order = self.places.len();
         self.places.iter()
