@@ -1,3 +1,5 @@
 pub mod Counted
 pub mod Outcome
 pub mod Text
+pub mod Json
+pub mod JsonReading

@@ -2,15 +2,21 @@
 #![tactic(auto)]
 
 mod counted;
+mod error;
 mod event;
 mod names;
+mod of_value;
 mod outcome;
 mod printing;
 #[cfg(test)]
 mod tests;
+mod to_value;
 
 pub use counted::{Counted, ReadError, ReadFault, WriteFault};
+pub use error::ValueError;
 pub use event::{Event, Fault, Warning};
 pub use names::Names;
+pub use of_value::outcome_of_value;
 pub use outcome::{Outcome, Transcript};
 pub use printing::{print, print_rank};
+pub use to_value::outcome_value;

@@ -1,8 +1,9 @@
-ghost use Rattle.std.specs.Prelude.{◌≡◌, [], ◌∷◌, ◌++◌, OnOk, OnErr};
+ghost use Rattle.std.specs.Prelude.{◌≡◌, [], ◌∷◌, ◌++◌, IfOk, OnOk, OnErr};
 
 use crate::event::Event;
 use std::alloc::{AllocError, Global};
 use std::marker::Model;
+use std::sync::Arc;
 use version_tree::Fork;
 
 /// What one session is told, seen by contracts as the list of its events in order.
@@ -57,10 +58,11 @@ impl Fork for Transcript {
     }
 }
 
-/// What a run tells: a transcript for each session in order, seen by contracts as their list.
-#[derive(Debug, Drop)]
+/// What a run tells: a transcript for each session in order, seen by contracts as their list. A fork shares them and
+/// copies none.
+#[derive(Drop)]
 pub struct Outcome {
-    sessions: Vec<Transcript>,
+    sessions: Arc<Vec<Transcript>>,
 }
 
 impl Model for Outcome {
@@ -69,26 +71,17 @@ impl Model for Outcome {
 
     ghost Value = { List (List Told) };
 
-    ghost view = { λ o. o.sessions.items };
+    ghost view = { λ o. o.sessions.value.items };
 }
 
 impl Outcome {
-    /// An outcome without sessions.
-    pub fn new(alloc: Global) -> Outcome
-        ensures { result ≡ [] }
+    /// The outcome of these transcripts, one for each session in order. It fails for want of memory alone.
+    pub fn new(alloc: Global, transcripts: Vec<Transcript>) -> Result<Outcome, AllocError>
+        ensures { IfOk result (λ outcome. outcome ≡ transcripts.items) }
     {
-        Outcome {
-            sessions: Vec::new(alloc),
-        }
-    }
-
-    /// Adds the transcript of the next session. It fails for want of memory alone.
-    pub fn push(&mut self, transcript: Transcript) -> Result<(), AllocError>
-        ensures ok { OnOk result (self.new ≡ self.old ++ transcript ∷ []) }
-        ensures err { OnErr result (self.new ≡ self.old) }
-    {
-        self.sessions.push(transcript)?;
-        Ok(())
+        Ok(Outcome {
+            sessions: Arc::new(alloc, transcripts)?,
+        })
     }
 
     /// The transcripts in the order of the sessions.
@@ -96,5 +89,13 @@ impl Outcome {
         ensures { result.now ≡ self.now }
     {
         self.sessions.as_slice()
+    }
+}
+
+impl Fork for Outcome {
+    fn fork(&self) -> Result<Outcome, AllocError> {
+        Ok(Outcome {
+            sessions: self.sessions.clone()?,
+        })
     }
 }

@@ -3,6 +3,7 @@ ghost use Rattle.transcripts.specs.Counted.{failures_of};
 
 use super::*;
 use lock_modes::{Row, Text, Value};
+use serde_json::Value as Json;
 use std::alloc::{AllocError, Global};
 use std::io;
 use std::io::{Read, Write};
@@ -48,10 +49,7 @@ fn every_event(alloc: Global) -> Result<Outcome, AllocError> {
     first.push(Event::Resumed)?;
     first.push(Event::Done)?;
     first.push(Event::NotSent(1))?;
-    let mut outcome = Outcome::new(alloc);
-    outcome.push(first)?;
-    outcome.push(Transcript::new(alloc))?;
-    Ok(outcome)
+    Outcome::new(alloc, vec![in alloc; first, Transcript::new(alloc)]?)
 }
 
 const EVERY_LINE: &str = "session s1
@@ -304,5 +302,93 @@ fn a_read_says_how_much_it_gave(rt: HostRuntime) -> Result<(), Fail> {
     assert_eq!(rt; input.read(&mut buf), Ok(1));
     assert_eq!(rt; input.read(&mut buf), Ok(0));
     assert_eq!(rt; input.failures(), 0);
+    Ok(())
+}
+
+/// The value of the outcome with each event.
+const EVERY_VALUE: &str =
+    r#"[[["sent",0],["row",[7,"it's"]],["row",[-9223372036854775808,"a|b\nc"]],["rows",18446744073709551615],["inserted",0],["updated",10],["deleted",2],"began","committed","rolledback","locked","set",["warned",1],["warned",2],["failed",1],["failed",2],["failed",3],["failed",4],"waiting","resumed","done",["notsent",1]],[]]"#;
+
+/// JSON texts, one a line, of outcomes and of none.
+const OUTCOMES: &str = r#"[]
+[[]]
+[[],["done"],[]]
+[[["row",[]]]]
+[[["row",[9223372036854775807,-9223372036854775808,"\u0000'"]]]]
+[[["rows",18446744073709551615]]]
+[[["sent",255],["notsent",255]]]
+[[ ["rows" , 0] ]]"#;
+
+const NO_OUTCOMES: &str = r#"null
+true
+1
+"done"
+{}
+[{}]
+["done"]
+[[],"done"]
+[[true]]
+[[7]]
+[[{}]]
+[["Done"]]
+[["done "]]
+[["sent"]]
+[[["done"]]]
+[[["done",1]]]
+[[["sent"]]]
+[[["sent",1,2]]]
+[[[1,"sent"]]]
+[[["SENT",1]]]
+[[["sent",256]]]
+[[["sent",-1]]]
+[[["sent",1.0]]]
+[[["sent","1"]]]
+[[["notsent",256]]]
+[[["rows",18446744073709551616]]]
+[[["rows",-1]]]
+[[["inserted",1e0]]]
+[[["updated",null]]]
+[[["deleted",[1]]]]
+[[["began",1]]]
+[[["warned",0]]]
+[[["warned",3]]]
+[[["failed",0]]]
+[[["failed",5]]]
+[[["row",1]]]
+[[["row"]]]
+[[["row",[null]]]]
+[[["row",[[1]]]]]
+[[["row",[1.5]]]]
+[[["row",[9223372036854775808]]]]
+[[["row",[true]]]]"#;
+
+fn value_text(alloc: Global, outcome: &Outcome) -> Result<String, AllocError> {
+    outcome_value(alloc, outcome)?.to_string(alloc)
+}
+
+#[test]
+fn an_outcome_is_its_value_and_back(rt: HostRuntime) -> Result<(), Fail> {
+    let alloc = rt.alloc();
+    let outcome = every_event(alloc)?;
+    assert_eq!(rt; value_text(alloc, &outcome)?.as_str(), EVERY_VALUE);
+    let read = outcome_of_value(alloc, &Json::from_str(alloc, EVERY_VALUE)?)?;
+    assert_eq!(rt; value_text(alloc, &read)?.as_str(), EVERY_VALUE);
+    let other = outcome.fork()?;
+    assert_eq!(rt; value_text(alloc, &other)?.as_str(), EVERY_VALUE);
+    Ok(())
+}
+
+#[test]
+fn only_values_of_outcomes_are_taken(rt: HostRuntime) -> Result<(), Fail> {
+    let alloc = rt.alloc();
+    for text in OUTCOMES.lines() {
+        let value = Json::from_str(alloc, text)?;
+        assert!(rt; outcome_of_value(alloc, &value).is_ok(), "{text}");
+    }
+    for text in NO_OUTCOMES.lines() {
+        let value = Json::from_str(alloc, text)?;
+        let refused = outcome_of_value(alloc, &value).err();
+        assert_eq!(rt; refused, Some(ValueError::BadField), "{text}");
+    }
     Ok(())
 }
