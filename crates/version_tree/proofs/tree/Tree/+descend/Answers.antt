@@ -11,7 +11,7 @@ descend-requires g t c κs within =
     let fits : length c.push.new.self.items + c.deref-2.result.now.left.height ≤ 130 = rw (c.push.ensures.items, c.deref-2.ensures) (fits_below c.args.path.now.items _ node c.requires.room) in
     let falls = c.decreases in
     let entries = ap (λ es. length es) node.entries in
-    let both = length-append c.in-Some.node.value.left.entries ((c.in-Some.node.value.key, c.in-Some.node.value.value) ∷ c.in-Some.node.value.right.entries) in
+    let both = length-append c.in-Some.node.value.left.entries (c.in-Some.node.value.entry ∷ c.in-Some.node.value.right.entries) in
     let same = ap (λ n. length n.left.entries) c.deref-2.ensures in
     (omega (arith, falls, entries, both, same), (within.0, (within.1, (omega arith, (room, fits)))))
 
