@@ -1,3 +1,4 @@
 pub mod Walking
 pub mod Writing
 pub mod JsonLaws
+pub mod Places

@@ -3,3 +3,4 @@ pub mod Outcome
 pub mod Text
 pub mod Json
 pub mod JsonReading
+pub mod Log

@@ -4,6 +4,7 @@
 mod counted;
 mod error;
 mod event;
+mod log;
 mod names;
 mod of_value;
 mod outcome;
@@ -15,6 +16,7 @@ mod to_value;
 pub use counted::{Counted, ReadError, ReadFault, WriteFault};
 pub use error::ValueError;
 pub use event::{Event, Fault, Warning};
+pub use log::Log;
 pub use names::Names;
 pub use of_value::outcome_of_value;
 pub use outcome::{Outcome, Transcript};

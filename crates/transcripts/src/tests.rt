@@ -392,3 +392,21 @@ fn only_values_of_outcomes_are_taken(rt: HostRuntime) -> Result<(), Fail> {
     }
     Ok(())
 }
+
+#[test]
+fn logs_go_on_alone(rt: HostRuntime) -> Result<(), Fail> {
+    let alloc = rt.alloc();
+    let mut log = Log::new(alloc);
+    log.push(Event::Sent(0))?;
+    log.push(row(alloc, 7, "it's")?)?;
+    let mut other = log.fork()?;
+    log.push(Event::Waiting)?;
+    other.push(Event::Rows(1))?;
+    other.push(Event::Done)?;
+    let transcripts = vec![in alloc; log.to_transcript()?, other.to_transcript()?]?;
+    let outcome = Outcome::new(alloc, transcripts)?;
+    let want =
+        r#"[[["sent",0],["row",[7,"it's"]],"waiting"],[["sent",0],["row",[7,"it's"]],["rows",1],"done"]]"#;
+    assert_eq!(rt; value_text(alloc, &outcome)?.as_str(), want);
+    Ok(())
+}
