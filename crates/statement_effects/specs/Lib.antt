@@ -1,2 +1,3 @@
 pub mod Evaluate
 pub mod Effect
+pub mod Run
