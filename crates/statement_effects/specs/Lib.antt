@@ -1,3 +1,4 @@
 pub mod Evaluate
 pub mod Effect
 pub mod Run
+pub mod Borrowed
