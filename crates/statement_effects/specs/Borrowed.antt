@@ -2,6 +2,9 @@
 use Rattle.std.specs.Prelude.{Option, Some, None, ℤ}
 use Rattle.lock_modes.specs.declared.value.Value.{Value}
 use Rattle.lock_modes.specs.declared.value.Value.TheVariants.{Int, Text}
+use Rattle.statement_effects.specs.Effect.{Effect, Gives, Faults}
+use Rattle.statement_effects.specs.declared.effect.Given.{Given}
+use Rattle.statement_effects.specs.declared.effect.Given.TheVariants.{Told, Failed}
 use Rattle.statement_effects.specs.declared.value_ref.ValueRef.{ValueRef}
 use Rattle.statement_effects.specs.declared.value_ref.ValueRef.TheVariants.{Int as IntRef, Text as TextRef}
 
@@ -18,3 +21,8 @@ value_if (Some v) = Some (value_at v)
 abbrev pub int_if : Option ℤ → Option Value
 int_if None = None
 int_if (Some z) = Some (Int z)
+
+-- the effect that is meant
+abbrev pub effect_at : Given → Effect
+effect_at (Told events writes) = Gives events writes
+effect_at (Failed f) = Faults f

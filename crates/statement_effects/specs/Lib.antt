@@ -2,3 +2,4 @@ pub mod Evaluate
 pub mod Effect
 pub mod Run
 pub mod Borrowed
+pub mod Seen

@@ -1,13 +1,12 @@
 //! Rows with their places, borrowed from a store.
 
 ghost use Rattle.std.specs.Prelude.{◌≡◌, [], ◌∷◌, ◌++◌, OnOk, cond};
-ghost use Rattle.statement_effects.specs.Effect.{sorted_by, sort_cmp, in_order};
+ghost use Rattle.statement_effects.specs.Effect.{sorted_by};
 
-use crate::value_ref::ValueRef;
+use crate::sorting::compare;
 use lock_modes::{Row, Value};
-use sql_statements::{Order, SortKey};
+use sql_statements::SortKey;
 use std::alloc::{AllocError, Global};
-use std::cmp::Ordering;
 use std::marker::Model;
 
 /// A row and where it lies, seen by contracts as its place and its values.
@@ -92,5 +91,12 @@ impl<'a> Entries<'a> {
         ensures { result.now ≡ self.now }
     {
         self.items.as_slice()
+    }
+
+    /// Sorts by one column after another. Entries that tie stay in their order.
+    pub fn sort(&mut self, keys: &[SortKey]) -> Result<(), AllocError>
+        ensures { OnOk result (self.new ≡ sorted_by keys.now self.old) }
+    {
+        self.items.sort_by(|x, y| compare(keys, x.row(), y.row()))
     }
 }

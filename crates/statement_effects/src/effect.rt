@@ -1,0 +1,58 @@
+//! The effect of a statement, before any of it is done.
+
+ghost use Rattle.std.specs.Prelude.{◌≡◌, ◌∷◌, [], IfOk};
+ghost use Rattle.transcripts.specs.declared.event.Event.TheVariants.{Inserted, Updated, Deleted};
+ghost use Rattle.statement_effects.specs.Effect as spec;
+ghost use Rattle.statement_effects.specs.Borrowed.{effect_at};
+
+use crate::write::Writes;
+use sqlite_items::Items;
+use std::alloc::{AllocError, Global};
+use transcripts::{Event, Fault};
+
+/// What a statement tells and writes, or why it fails.
+#[derive(Drop)]
+pub(crate) enum Given {
+    Told(Items<Event>, Writes),
+    Failed(Fault),
+}
+
+/// Rows that an insert has made.
+pub(crate) fn inserted(alloc: Global, writes: Writes) -> Result<Given, AllocError>
+    ensures { IfOk result (λ given. effect_at given ≡ spec.counted Inserted writes) }
+{
+    let event = Event::Inserted(writes.len() as u64);
+    telling(alloc, event, writes)
+}
+
+/// Rows that an update has matched.
+pub(crate) fn updated(alloc: Global, writes: Writes) -> Result<Given, AllocError>
+    ensures { IfOk result (λ given. effect_at given ≡ spec.counted Updated writes) }
+{
+    let event = Event::Updated(writes.len() as u64);
+    telling(alloc, event, writes)
+}
+
+/// Rows that a delete has removed.
+pub(crate) fn deleted(alloc: Global, writes: Writes) -> Result<Given, AllocError>
+    ensures { IfOk result (λ given. effect_at given ≡ spec.counted Deleted writes) }
+{
+    let event = Event::Deleted(writes.len() as u64);
+    telling(alloc, event, writes)
+}
+
+/// One event, and writes.
+pub(crate) fn telling(alloc: Global, event: Event, writes: Writes) -> Result<Given, AllocError>
+    ensures { IfOk result (λ given. effect_at given ≡ spec.Gives (event ∷ []) writes) }
+{
+    let mut events = Items::new(alloc);
+    events.push(event)?;
+    Ok(Given::Told(events, writes))
+}
+
+/// Neither an event nor a write.
+pub(crate) fn nothing(alloc: Global) -> Given
+    ensures { effect_at result ≡ spec.Gives [] [] }
+{
+    Given::Told(Items::new(alloc), Writes::new(alloc))
+}

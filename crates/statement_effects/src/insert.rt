@@ -1,0 +1,95 @@
+//! New rows, at their keys or behind a hidden row number.
+
+ghost use Rattle.std.specs.Prelude.{◌≡◌, IfOk, Some, None};
+ghost use Rattle.row_tables.specs.Layers.{sight, IsOnlyWriterAt, IsOnlyWriterIn};
+ghost use Rattle.statement_effects.specs.Effect as spec;
+ghost use Rattle.statement_effects.specs.Seen.{named, number_after, KeysAlone};
+
+use crate::value_ref::ValueRef;
+use crate::write::{Write, Writes};
+use lock_modes::{Row, Value};
+use row_tables::Store;
+use std::alloc::{AllocError, Global};
+use version_tree::{Fork, VMap};
+
+/// The writes of new rows at their keys, or none where a key is there already or comes twice.
+pub(crate) fn placed(
+    alloc: Global,
+    store: &Store,
+    session: u8,
+    table: u16,
+    key_column: u8,
+    new: &[Row],
+) -> Result<Option<Writes>, AllocError>
+    requires { KeysAlone session table key_column new.now store.now }
+    ensures { IfOk result (λ writes. writes ≡ spec.placed table key_column new.now (sight session store.now)) }
+{
+    let mut writes = Writes::new(alloc);
+    // The keys of the rows so far. What they lead to does not matter.
+    let mut keys = VMap::new(alloc);
+    for row in new {
+        let key = ValueRef::in_column(row, key_column).to_value()?;
+        if store.read(session, table, &key).is_some() || keys.get(&key).is_some() {
+            return Ok(None);
+        }
+        writes.push(Write::new(table, key.fork()?, Some(row.fork()?)))?;
+        keys = keys.put(key, 0u8)?;
+    }
+    Ok(Some(writes))
+}
+
+/// The writes of new rows whose keys are numbers one after another, the first one more than the greatest that is there, or 1.
+pub(crate) fn numbered(
+    alloc: Global,
+    store: &Store,
+    session: u8,
+    table: u16,
+    new: &[Row],
+) -> Result<Writes, AllocError>
+    requires { IsOnlyWriterIn session table store.now }
+    ensures { IfOk result (λ writes. writes ≡ spec.numbered table (spec.next_number 1 (named table None (sight session store.now))) new.now) }
+{
+    numbered_from(alloc, table, next_number(store, session, table), new)
+}
+
+fn next_number(store: &Store, session: u8, table: u16) -> u64
+    requires { IsOnlyWriterIn session table store.now }
+    ensures { result ≡ spec.next_number 1 (named table None (sight session store.now)) }
+{
+    let mut next = 1;
+    for (key, _) in store.scan(session, table) {
+        next = number_after(key, next);
+    }
+    next
+}
+
+/// One more than the number that a key is, or else `next`.
+fn number_after(key: &Value, next: u64) -> u64
+    ensures { result ≡ number_after key.now next }
+{
+    match key {
+        Value::Int(number) if *number >= 0 => *number as u64 + 1,
+        _ => next,
+    }
+}
+
+fn numbered_from(
+    alloc: Global,
+    table: u16,
+    first: u64,
+    new: &[Row],
+) -> Result<Writes, AllocError>
+    ensures { IfOk result (λ writes. writes ≡ spec.numbered table first new.now) }
+{
+    let mut writes = Writes::new(alloc);
+    let mut number = first;
+    for row in new {
+        // No memory has room for so many rows.
+        if number > i64::MAX as u64 {
+            return Err(AllocError);
+        }
+        writes.push(Write::new(table, Value::Int(number as i64), Some(row.fork()?)))?;
+        number += 1;
+    }
+    Ok(writes)
+}
