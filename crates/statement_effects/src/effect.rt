@@ -6,14 +6,13 @@ ghost use Rattle.statement_effects.specs.Effect as spec;
 ghost use Rattle.statement_effects.specs.Borrowed.{effect_at};
 
 use crate::write::Writes;
-use sqlite_items::Items;
 use std::alloc::{AllocError, Global};
 use transcripts::{Event, Fault};
 
 /// What a statement tells and writes, or why it fails.
 #[derive(Drop)]
 pub(crate) enum Given {
-    Told(Items<Event>, Writes),
+    Told(Vec<Event>, Writes),
     Failed(Fault),
 }
 
@@ -45,7 +44,7 @@ pub(crate) fn deleted(alloc: Global, writes: Writes) -> Result<Given, AllocError
 pub(crate) fn telling(alloc: Global, event: Event, writes: Writes) -> Result<Given, AllocError>
     ensures { IfOk result (λ given. effect_at given ≡ spec.Gives (event ∷ []) writes) }
 {
-    let mut events = Items::new(alloc);
+    let mut events = Vec::new(alloc);
     events.push(event)?;
     Ok(Given::Told(events, writes))
 }
@@ -54,5 +53,5 @@ pub(crate) fn telling(alloc: Global, event: Event, writes: Writes) -> Result<Giv
 pub(crate) fn nothing(alloc: Global) -> Given
     ensures { effect_at result ≡ spec.Gives [] [] }
 {
-    Given::Told(Items::new(alloc), Writes::new(alloc))
+    Given::Told(Vec::new(alloc), Writes::new(alloc))
 }

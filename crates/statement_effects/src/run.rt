@@ -14,7 +14,6 @@ use crate::update::{assign_each, remove_each};
 use crate::write::Writes;
 use row_tables::Store;
 use sql_statements::Bound;
-use sqlite_items::Items;
 use std::alloc::{AllocError, Global};
 use transcripts::{Event, Fault, Transcript};
 use version_tree::Fork;
@@ -107,11 +106,11 @@ fn write_each(store: &mut Store, session: u8, writes: Writes) -> Result<(), Allo
     Ok(())
 }
 
-fn tell_each(transcript: &mut Transcript, events: Items<Event>) -> Result<(), AllocError>
-    ensures { OnOk result (transcript.new ≡ transcript.old ++ events) }
+fn tell_each(transcript: &mut Transcript, events: Vec<Event>) -> Result<(), AllocError>
+    ensures { OnOk result (transcript.new ≡ transcript.old ++ events.items) }
 {
-    for event in events.as_slice() {
-        transcript.push(event.fork()?)?;
+    for event in events {
+        transcript.push(event)?;
     }
     Ok(())
 }

@@ -12,7 +12,6 @@ use crate::value_ref::ValueRef;
 use crate::write::Writes;
 use lock_modes::{Row, Value};
 use sql_statements::{Aggregate, Output};
-use sqlite_items::Items;
 use std::alloc::{AllocError, Global};
 use transcripts::{Event, Fault};
 
@@ -27,7 +26,7 @@ pub(crate) fn show(alloc: Global, output: &Output, found: &[Entry<'_>]) -> Resul
         Output::Aggregates(each) => match aggregates(alloc, each.as_slice(), found)? {
             None => Ok(Given::Failed(Fault::OutOfRange)),
             Some(row) => {
-                let mut events = Items::new(alloc);
+                let mut events = Vec::new(alloc);
                 events.push(Event::Row(row))?;
                 events.push(Event::Rows(1))?;
                 Ok(Given::Told(events, Writes::new(alloc)))
@@ -37,10 +36,10 @@ pub(crate) fn show(alloc: Global, output: &Output, found: &[Entry<'_>]) -> Resul
 }
 
 /// These columns of each row, and how many rows there are.
-fn rows(alloc: Global, columns: &[u8], found: &[Entry<'_>]) -> Result<Items<Event>, AllocError>
-    ensures { IfOk result (λ events. events ≡ map (λ e. RowEvent (spec.projected columns.now e.1)) found.now ++ Rows (length found.now) ∷ []) }
+fn rows(alloc: Global, columns: &[u8], found: &[Entry<'_>]) -> Result<Vec<Event>, AllocError>
+    ensures { IfOk result (λ events. events.items ≡ map (λ e. RowEvent (spec.projected columns.now e.1)) found.now ++ Rows (length found.now) ∷ []) }
 {
-    let mut events = Items::new(alloc);
+    let mut events = Vec::new(alloc);
     for entry in found {
         events.push(Event::Row(projection(alloc, columns, entry.row())?))?;
     }
