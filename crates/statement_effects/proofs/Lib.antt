@@ -1,2 +1,4 @@
 pub mod ListLemmas
 pub mod SeenLemmas
+pub mod AloneLemmas
+pub mod SortLemmas
