@@ -2,3 +2,4 @@ pub mod ListLemmas
 pub mod SeenLemmas
 pub mod AloneLemmas
 pub mod SortLemmas
+pub mod PlaceLemmas

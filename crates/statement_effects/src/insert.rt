@@ -1,6 +1,9 @@
 //! New rows, at their keys or behind a hidden row number.
 
-ghost use Rattle.std.specs.Prelude.{◌≡◌, IfOk, Some, None};
+ghost use Rattle.std.specs.Prelude.{◌≡◌, ◌||◌, IfOk, Some, None, is_some};
+ghost use Rattle.std.specs.FinMap.Entries.{find};
+ghost use Rattle.version_tree.specs.Map.{get};
+ghost use Rattle.lock_modes.specs.Value.{value_cmp};
 ghost use Rattle.row_tables.specs.Layers.{sight, IsOnlyWriterAt, IsOnlyWriterIn};
 ghost use Rattle.statement_effects.specs.Effect as spec;
 ghost use Rattle.statement_effects.specs.Seen.{named, number_after, KeysAlone};
@@ -29,13 +32,27 @@ pub(crate) fn placed(
     let mut keys = VMap::new(alloc);
     for row in new {
         let key = ValueRef::in_column(row, key_column).to_value()?;
-        if store.read(session, table, &key).is_some() || keys.get(&key).is_some() {
+        if is_taken(store, session, table, &key, &keys) {
             return Ok(None);
         }
         writes.push(Write::new(table, key.fork()?, Some(row.fork()?)))?;
         keys = keys.put(key, 0u8)?;
     }
     Ok(Some(writes))
+}
+
+/// Whether a key is there or came before.
+fn is_taken(
+    store: &Store,
+    session: u8,
+    table: u16,
+    key: &Value,
+    keys: &VMap<Value, u8>,
+) -> bool
+    requires { IsOnlyWriterAt session (table, key.now) store.now }
+    ensures { result ≡ (is_some (get (sight session store.now) (table, key.now)) || is_some (find value_cmp key.now keys.now)) }
+{
+    store.read(session, table, key).is_some() || keys.get(key).is_some()
 }
 
 /// The writes of new rows whose keys are numbers one after another, the first one more than the greatest that is there, or 1.
