@@ -1,5 +1,5 @@
 -- No other session has written where a statement writes.
-use Rattle.std.proofs.Common.{◌≡◌, ◌≢◌, refl, sym, ap, ◌∙◌, ℕ, Bool, true, false, cond, List, [], ◌∷◌, Option, Some, None}
+use Rattle.std.proofs.Common.{◌≡◌, ◌≢◌, refl, ap, ◌∙◌, ℕ, Bool, true, false, cond, List, [], ◌∷◌, Option, Some}
 use Rattle.std.specs.Option.{unwrap_or}
 use Rattle.version_tree.specs.Map.{same_key, same_key-true, get, insert, empty, get-insert}
 use Rattle.lock_modes.specs.Place.{Place}

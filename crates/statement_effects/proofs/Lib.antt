@@ -3,3 +3,5 @@ pub mod SeenLemmas
 pub mod AloneLemmas
 pub mod SortLemmas
 pub mod PlaceLemmas
+pub mod WriteLemmas
+pub mod GivenLemmas

@@ -1,5 +1,5 @@
 -- Lists of what has been computed so far, with what is left.
-use Rattle.std.proofs.Common.{◌≡◌, refl, sym, ap, ◌∙◌, ℕ, zero, suc, ◌<◌, length, get_or, arith, Bool, true, false, cond, List, [], ◌∷◌, ◌++◌, Option, Some, None, append_assoc}
+use Rattle.std.proofs.Common.{◌≡◌, refl, sym, ap, ℕ, zero, suc, ◌<◌, length, get_or, arith, Bool, true, false, cond, List, [], ◌∷◌, ◌++◌, Option, Some, None, append_assoc}
 use Rattle.lock_modes.specs.Place.{Place}
 use Rattle.lock_modes.specs.declared.value.Value.{Value}
 use Rattle.row_tables.specs.Overlay.{Tuple, Write}

@@ -2,17 +2,16 @@
 use Rattle.std.specs.Ordering.{nat_cmp, eq_by_cmp}
 use Rattle.std.specs.Cmp.{both_ways}
 use Rattle.std.specs.FinMap.Entries.{where_key}
-use Rattle.std.proofs.Common.{◌≡◌, refl, sym, ap, ◌∙◌, subst, ℕ, Bool, true, false, cond, ◌&&◌, ◌==◌, List, [], ◌∷◌, ◌++◌, map, Option, Some, None, eqb-true, eq-eqb}
+use Rattle.std.proofs.Common.{◌≡◌, refl, sym, ap, ◌∙◌, subst, ℕ, Bool, true, false, cond, ◌&&◌, ◌==◌, List, [], ◌∷◌, ◌++◌, Some, None, eqb-true, eq-eqb}
 use Rattle.version_tree.specs.Map.{same_key, same_key-true, same_key-refl, get, insert, keep, entries, empty, get-insert, get-keep, get-empty, same_map}
 use Rattle.lock_modes.specs.Place.{Place, place_order, place_cmp}
 use Rattle.lock_modes.specs.Value.{value_order}
 use Rattle.lock_modes.specs.declared.value.Value.{Value}
-use Rattle.sql_statements.specs.Plan.{at_key}
 use Rattle.row_tables.specs.Overlay.{Tuple, Rows'}
 use Rattle.row_tables.specs.Layers.{session_order, rows_in, rows_of}
 use Rattle.sql_statements.specs.declared.condition.Condition.{Condition}
 use Rattle.statement_effects.specs.Evaluate.{holds}
-use Rattle.statement_effects.specs.Effect.{matching, passed, next_number}
+use Rattle.statement_effects.specs.Effect.{matching, passed}
 use Rattle.statement_effects.specs.Seen.{is_named, named, in_table}
 use Rattle.statement_effects.proofs.ListLemmas.{onto, onto-passed}
 

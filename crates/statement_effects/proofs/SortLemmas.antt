@@ -1,8 +1,8 @@
 -- A list that is sorted and keeps ties is the one that is sorted by putting in one entry after another.
-use Rattle.std.proofs.Common.{◌≡◌, refl, sym, ap, ◌∙◌, subst, ℕ, zero, suc, ◌+◌, ◌<◌, ◌≤◌, Bool, true, false, cond, not, ◌&&◌, List, [], ◌∷◌, length, get_or, pos, arith}
+use Rattle.std.proofs.Common.{◌≡◌, refl, sym, ap, ◌∙◌, subst, ℕ, suc, ◌<◌, ◌≤◌, Bool, true, false, cond, not, ◌&&◌, List, [], ◌∷◌, length, get_or, pos, arith}
 use Rattle.std.proofs.Common.{Ordering, Less, Equal, Greater, is_gt}
 use Rattle.std.specs.Prelude.{⊤}
-use Rattle.std.specs.Ordering.{is_lt, ordering_then, ordering_reverse, on, then_cmp}
+use Rattle.std.specs.Ordering.{is_lt, ordering_reverse}
 use Rattle.std.specs.Cmp.{IsTotalOrder, IsStrictWeakOrder, on_total, then_total}
 use Rattle.std.specs.List.{filter}
 use Rattle.std.specs.List.Sorted.{IsSortedBy, IsStableBy, ties}

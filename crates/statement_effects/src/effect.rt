@@ -16,30 +16,6 @@ pub(crate) enum Given {
     Failed(Fault),
 }
 
-/// Rows that an insert has made.
-pub(crate) fn inserted(alloc: Global, writes: Writes) -> Result<Given, AllocError>
-    ensures { IfOk result (λ given. effect_at given ≡ spec.counted Inserted writes) }
-{
-    let event = Event::Inserted(writes.len() as u64);
-    telling(alloc, event, writes)
-}
-
-/// Rows that an update has matched.
-pub(crate) fn updated(alloc: Global, writes: Writes) -> Result<Given, AllocError>
-    ensures { IfOk result (λ given. effect_at given ≡ spec.counted Updated writes) }
-{
-    let event = Event::Updated(writes.len() as u64);
-    telling(alloc, event, writes)
-}
-
-/// Rows that a delete has removed.
-pub(crate) fn deleted(alloc: Global, writes: Writes) -> Result<Given, AllocError>
-    ensures { IfOk result (λ given. effect_at given ≡ spec.counted Deleted writes) }
-{
-    let event = Event::Deleted(writes.len() as u64);
-    telling(alloc, event, writes)
-}
-
 /// One event, and writes.
 pub(crate) fn telling(alloc: Global, event: Event, writes: Writes) -> Result<Given, AllocError>
     ensures { IfOk result (λ given. effect_at given ≡ spec.Gives (event ∷ []) writes) }

@@ -4,19 +4,55 @@ ghost use Rattle.std.specs.Prelude.{◌≡◌, ◌||◌, IfOk, Some, None, is_so
 ghost use Rattle.std.specs.FinMap.Entries.{find};
 ghost use Rattle.version_tree.specs.Map.{get};
 ghost use Rattle.lock_modes.specs.Value.{value_cmp};
+ghost use Rattle.transcripts.specs.declared.event.Fault.TheVariants.{Duplicate};
+ghost use Rattle.transcripts.specs.declared.event.Event.TheVariants.{Inserted};
+ghost use Rattle.sql_statements.specs.declared.statement.Bound.TheVariants.{Insert};
 ghost use Rattle.row_tables.specs.Layers.{sight, IsOnlyWriterAt, IsOnlyWriterIn};
 ghost use Rattle.statement_effects.specs.Effect as spec;
+ghost use Rattle.statement_effects.specs.Borrowed.{effect_at};
+ghost use Rattle.statement_effects.specs.Run.{SeesAlone};
 ghost use Rattle.statement_effects.specs.Seen.{named, number_after, KeysAlone};
 
+use crate::effect::{Given, telling};
 use crate::value_ref::ValueRef;
 use crate::write::{Write, Writes};
 use lock_modes::{Row, Value};
 use row_tables::Store;
 use std::alloc::{AllocError, Global};
+use transcripts::{Event, Fault};
 use version_tree::{Fork, VMap};
 
+/// How many rows are made, or a fault where a key is there already or comes twice.
+pub(crate) fn inserted(alloc: Global, writes: Option<Writes>) -> Result<Given, AllocError>
+    ensures { IfOk result (λ given. effect_at given ≡ spec.or_fault Duplicate writes Inserted) }
+{
+    let Some(writes) = writes else {
+        return Ok(Given::Failed(Fault::Duplicate));
+    };
+    let event = Event::Inserted(writes.len() as u64);
+    telling(alloc, event, writes)
+}
+
+/// The writes of new rows, or none where a key is there already or comes twice.
+pub(crate) fn made(
+    alloc: Global,
+    store: &Store,
+    session: u8,
+    table: u16,
+    key_column: Option<u8>,
+    new: &[Row],
+) -> Result<Option<Writes>, AllocError>
+    requires { SeesAlone session (Insert table key_column new.now) store.now }
+    ensures { IfOk result (λ writes. spec.or_fault Duplicate writes Inserted ≡ spec.effect (Insert table key_column new.now) (sight session store.now)) }
+{
+    match key_column {
+        Some(key_column) => placed(alloc, store, session, table, key_column, new),
+        None => Ok(Some(numbered(alloc, store, session, table, new)?)),
+    }
+}
+
 /// The writes of new rows at their keys, or none where a key is there already or comes twice.
-pub(crate) fn placed(
+fn placed(
     alloc: Global,
     store: &Store,
     session: u8,
@@ -56,7 +92,7 @@ fn is_taken(
 }
 
 /// The writes of new rows whose keys are numbers one after another, the first one more than the greatest that is there, or 1.
-pub(crate) fn numbered(
+fn numbered(
     alloc: Global,
     store: &Store,
     session: u8,

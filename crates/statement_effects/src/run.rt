@@ -6,11 +6,11 @@ ghost use Rattle.statement_effects.specs.Effect.{effect};
 ghost use Rattle.statement_effects.specs.Borrowed.{effect_at};
 ghost use Rattle.statement_effects.specs.Run.{SeesAlone, fault_of, left_by, events_of, wrote_each, WritesAlone};
 
-use crate::effect::{Given, deleted, inserted, nothing, telling, updated};
-use crate::insert::{numbered, placed};
+use crate::effect::{Given, nothing, telling};
+use crate::insert::{inserted, made};
 use crate::matching::matching;
-use crate::select::show;
-use crate::update::{assign_each, remove_each};
+use crate::select::selected;
+use crate::update::{deleted, updated};
 use crate::write::Writes;
 use row_tables::Store;
 use sql_statements::Bound;
@@ -54,37 +54,20 @@ fn given(
 {
     match statement {
         Bound::Select(table, key, condition, order, output) => {
-            match matching(alloc, store, session, *table, key.as_ref(), condition)? {
-                None => Ok(Given::Failed(Fault::OutOfRange)),
-                Some(mut found) => {
-                    found.sort(order.as_slice())?;
-                    show(alloc, output, found.as_slice())
-                }
-            }
+            let found = matching(alloc, store, session, *table, key.as_ref(), condition)?;
+            selected(alloc, order.as_slice(), output, found)
         }
-        Bound::Insert(table, Some(column), new) => {
-            match placed(alloc, store, session, *table, *column, new.as_slice())? {
-                None => Ok(Given::Failed(Fault::Duplicate)),
-                Some(writes) => inserted(alloc, writes),
-            }
-        }
-        Bound::Insert(table, None, new) => {
-            inserted(alloc, numbered(alloc, store, session, *table, new.as_slice())?)
+        Bound::Insert(table, key_column, new) => {
+            let writes = made(alloc, store, session, *table, *key_column, new.as_slice())?;
+            inserted(alloc, writes)
         }
         Bound::Update(table, key, sets, condition) => {
-            match matching(alloc, store, session, *table, key.as_ref(), condition)? {
-                None => Ok(Given::Failed(Fault::OutOfRange)),
-                Some(found) => match assign_each(alloc, sets.as_slice(), found.as_slice())? {
-                    None => Ok(Given::Failed(Fault::OutOfRange)),
-                    Some(writes) => updated(alloc, writes),
-                },
-            }
+            let found = matching(alloc, store, session, *table, key.as_ref(), condition)?;
+            updated(alloc, sets.as_slice(), found)
         }
         Bound::Delete(table, key, condition) => {
-            match matching(alloc, store, session, *table, key.as_ref(), condition)? {
-                None => Ok(Given::Failed(Fault::OutOfRange)),
-                Some(found) => deleted(alloc, remove_each(alloc, found.as_slice())?),
-            }
+            let found = matching(alloc, store, session, *table, key.as_ref(), condition)?;
+            deleted(alloc, found)
         }
         Bound::LockTable(_, _) => telling(alloc, Event::Locked, Writes::new(alloc)),
         Bound::SetVariable => telling(alloc, Event::Set, Writes::new(alloc)),

@@ -5,17 +5,34 @@ ghost use Rattle.transcripts.specs.declared.event.Event.TheVariants.{Row as RowE
 ghost use Rattle.statement_effects.specs.Effect as spec;
 ghost use Rattle.statement_effects.specs.Borrowed.{effect_at};
 ghost use Rattle.statement_effects.specs.Evaluate.{checked};
+ghost use Rattle.statement_effects.specs.Seen.{selected};
 
 use crate::effect::Given;
-use crate::entry::Entry;
+use crate::entry::{Entries, Entry};
 use crate::value_ref::ValueRef;
 use crate::write::Writes;
 use lock_modes::{Row, Value};
-use sql_statements::{Aggregate, Output};
+use sql_statements::{Aggregate, Output, SortKey};
 use std::alloc::{AllocError, Global};
 use transcripts::{Event, Fault};
 
-pub(crate) fn show(alloc: Global, output: &Output, found: &[Entry<'_>]) -> Result<Given, AllocError>
+/// Shows the rows that match, sorted, if the condition has not faulted.
+pub(crate) fn selected(
+    alloc: Global,
+    order: &[SortKey],
+    output: &Output,
+    found: Option<Entries<'_>>,
+) -> Result<Given, AllocError>
+    ensures { IfOk result (λ given. effect_at given ≡ selected order.now output.now found.entry) }
+{
+    let Some(mut found) = found else {
+        return Ok(Given::Failed(Fault::OutOfRange));
+    };
+    found.sort(order)?;
+    show(alloc, output, found.as_slice())
+}
+
+fn show(alloc: Global, output: &Output, found: &[Entry<'_>]) -> Result<Given, AllocError>
     ensures { IfOk result (λ given. effect_at given ≡ spec.shown output.now found.now) }
 {
     match output {

@@ -4,17 +4,51 @@ ghost use Rattle.std.specs.Prelude.{◌≡◌, IfOk, None, length, map, set};
 ghost use Rattle.row_tables.specs.Overlay.{Tuple};
 ghost use Rattle.lock_modes.specs.Place.{Place};
 ghost use Rattle.statement_effects.specs.Effect as spec;
+ghost use Rattle.statement_effects.specs.Borrowed.{effect_at};
+ghost use Rattle.statement_effects.specs.Seen.{updated, deleted};
 
-use crate::entry::Entry;
+use crate::effect::{Given, telling};
+use crate::entry::{Entries, Entry};
 use crate::evaluate::value_of;
 use crate::write::{Write, Writes};
 use lock_modes::{Row, Value};
 use sql_statements::Assignment;
 use std::alloc::{AllocError, Global};
+use transcripts::{Event, Fault};
 use version_tree::Fork;
 
+/// Sets columns of the rows that match, if the condition has not faulted.
+pub(crate) fn updated(
+    alloc: Global,
+    sets: &[Assignment],
+    found: Option<Entries<'_>>,
+) -> Result<Given, AllocError>
+    ensures { IfOk result (λ given. effect_at given ≡ updated sets.now found.entry) }
+{
+    let Some(found) = found else {
+        return Ok(Given::Failed(Fault::OutOfRange));
+    };
+    let Some(writes) = assign_each(alloc, sets, found.as_slice())? else {
+        return Ok(Given::Failed(Fault::OutOfRange));
+    };
+    let event = Event::Updated(writes.len() as u64);
+    telling(alloc, event, writes)
+}
+
+/// Removes the rows that match, if the condition has not faulted.
+pub(crate) fn deleted(alloc: Global, found: Option<Entries<'_>>) -> Result<Given, AllocError>
+    ensures { IfOk result (λ given. effect_at given ≡ deleted found.entry) }
+{
+    let Some(found) = found else {
+        return Ok(Given::Failed(Fault::OutOfRange));
+    };
+    let writes = remove_each(alloc, found.as_slice())?;
+    let event = Event::Deleted(writes.len() as u64);
+    telling(alloc, event, writes)
+}
+
 /// The writes of these rows with their columns set, or none where a number leaves the range of 64 bits.
-pub(crate) fn assign_each(
+fn assign_each(
     alloc: Global,
     sets: &[Assignment],
     found: &[Entry<'_>],
@@ -65,7 +99,7 @@ fn put(values: &mut Vec<Value>, column: u8, value: Value)
 }
 
 /// The writes that leave no row where these are.
-pub(crate) fn remove_each(alloc: Global, found: &[Entry<'_>]) -> Result<Writes, AllocError>
+fn remove_each(alloc: Global, found: &[Entry<'_>]) -> Result<Writes, AllocError>
     ensures { IfOk result (λ writes. writes ≡ map (λ (e : Place × Tuple). record { place = e.0; left = None }) found.now) }
 {
     let mut writes = Writes::new(alloc);

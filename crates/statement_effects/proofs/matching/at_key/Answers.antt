@@ -1,4 +1,4 @@
-use Rattle.std.proofs.Common.{◌≡◌, sym, ap, ◌∙◌, cond, Some, [], ◌∷◌, ◌++◌}
+use Rattle.std.proofs.Common.{sym, ap, ◌∙◌, cond, Some, [], ◌∷◌, ◌++◌}
 use Rattle.row_tables.specs.Layers.{sight}
 use Rattle.statement_effects.proofs.SeenLemmas.{matching-absent, matching-fault, matching-tested}
 use Rattle.statement_effects.proofs.matching.at_key.Goals as goal

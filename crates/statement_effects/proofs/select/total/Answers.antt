@@ -1,10 +1,10 @@
-use Rattle.std.proofs.Common.{◌≡◌, ℕ, List, ◌∷◌, get_or, ◌+◌, ◌<◌, ◌*◌, ◌^◌, drop, drop-cons, add-one, length, sym, ap, subst, ◌∙◌, pos, ◌+ℤ◌, ◌≤ℤ◌, arith}
+use Rattle.std.proofs.Common.{◌≡◌, ℕ, List, ◌∷◌, get_or, ◌+◌, ◌<◌, ◌*◌, drop, drop-cons, add-one, length, sym, ap, subst, ◌∙◌, pos, ◌+ℤ◌, ◌≤ℤ◌, arith}
 use lib.IntN.{neg_ℤ, ℤ}
 use mir.Val.{SFits, to_z, of_z}
 use mir.Syntax.{w64, w128}
 use Rattle.lock_modes.specs.Place.{Place}
 use Rattle.row_tables.specs.Overlay.{Tuple}
-use Rattle.std.proofs.lemmas.Int.{ints, to_z-of_z}
+use Rattle.std.proofs.lemmas.Int.{ints}
 use Rattle.statement_effects.specs.Effect.{total_of, number_in}
 use Rattle.statement_effects.proofs.select.total.Goals as goal
 
