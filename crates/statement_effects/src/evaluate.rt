@@ -1,6 +1,6 @@
 //! Expressions and conditions over a row. Nothing is copied.
 
-ghost use Rattle.std.specs.Prelude.{◌≡◌, Some, ◌*ℤ◌, ◌+ℤ◌, ◌-ℤ◌};
+ghost use Rattle.std.specs.Prelude.{◌≡◌, Some, ◌*ℤ◌};
 ghost use Rattle.statement_effects.specs.Borrowed.{value_at, value_if, int_if};
 ghost use Rattle.statement_effects.specs.Evaluate as spec;
 ghost use Rattle.statement_effects.specs.Evaluate.{on_numbers, plus_or_minus, operand_value, product_value, value_of};
