@@ -15,7 +15,7 @@ use crate::write::Writes;
 use row_tables::Store;
 use sql_statements::Bound;
 use std::alloc::{AllocError, Global};
-use transcripts::{Event, Fault, Transcript};
+use transcripts::{Event, Fault, Log};
 use version_tree::Fork;
 
 /// Runs a statement whose locks are had: its whole effect on the rows that its session sees, or none where it fails. Tells of
@@ -25,18 +25,18 @@ pub fn run_statement(
     statement: &Bound,
     session: u8,
     store: &mut Store,
-    transcript: &mut Transcript,
+    log: &mut Log,
 ) -> Result<Option<Fault>, AllocError>
     requires { SeesAlone session statement.now store.old }
     ensures fault { IfOk result (λ fault. fault ≡ fault_of (effect statement.now (sight session store.old))) }
     ensures left { OnOk result (store.new ≡ left_by session (effect statement.now (sight session store.old)) store.old) }
-    ensures told { OnOk result (transcript.new ≡ transcript.old ++ events_of (effect statement.now (sight session store.old))) }
+    ensures told { OnOk result (log.new ≡ log.old ++ events_of (effect statement.now (sight session store.old))) }
 {
     match given(alloc, statement, session, store)? {
         Given::Failed(fault) => Ok(Some(fault)),
         Given::Told(events, writes) => {
             write_each(store, session, writes)?;
-            tell_each(transcript, events)?;
+            tell_each(log, events)?;
             Ok(None)
         }
     }
@@ -84,11 +84,11 @@ fn write_each(store: &mut Store, session: u8, writes: Writes) -> Result<(), Allo
     Ok(())
 }
 
-fn tell_each(transcript: &mut Transcript, events: Vec<Event>) -> Result<(), AllocError>
-    ensures { OnOk result (transcript.new ≡ transcript.old ++ events.items) }
+fn tell_each(log: &mut Log, events: Vec<Event>) -> Result<(), AllocError>
+    ensures { OnOk result (log.new ≡ log.old ++ events.items) }
 {
     for event in events {
-        transcript.push(event)?;
+        log.push(event)?;
     }
     Ok(())
 }

@@ -12,7 +12,7 @@ use sqlite_items::Items;
 use std::alloc::{AllocError, Global};
 use std::process::Abort;
 use std::test::Fail;
-use transcripts::{Counted, Event, Names, Outcome, Transcript, print};
+use transcripts::{Counted, Event, Log, Names, Outcome, print};
 
 /// A value of a row.
 #[derive(Clone, Copy)]
@@ -136,29 +136,24 @@ fn empty_store(alloc: Global) -> Store
 }
 
 /// Runs a statement of session 0. A fault is told here.
-fn run(
-    alloc: Global,
-    statement: &Bound,
-    store: Store,
-    transcript: &mut Transcript,
-) -> Result<Store, AllocError>
+fn run(alloc: Global, statement: &Bound, store: Store, log: &mut Log) -> Result<Store, AllocError>
     requires { IsAlone store }
     ensures { IfOk result (λ store. IsAlone store) }
 {
     let mut store = store;
-    if let Some(fault) = run_statement(alloc, statement, 0, &mut store, transcript)? {
-        transcript.push(Event::Failed(fault))?;
+    if let Some(fault) = run_statement(alloc, statement, 0, &mut store, log)? {
+        log.push(Event::Failed(fault))?;
     }
     Ok(store)
 }
 
-fn run_all(alloc: Global, statements: &[Bound]) -> Result<Transcript, AllocError> {
-    let mut transcript = Transcript::new(alloc);
+fn run_all(alloc: Global, statements: &[Bound]) -> Result<Log, AllocError> {
+    let mut log = Log::new(alloc);
     let mut store = empty_store(alloc);
     for statement in statements {
-        store = run(alloc, statement, store, &mut transcript)?;
+        store = run(alloc, statement, store, &mut log)?;
     }
-    Ok(transcript)
+    Ok(log)
 }
 
 fn assert_tells(
@@ -167,8 +162,8 @@ fn assert_tells(
     statements: &[Bound],
     want: &str,
 ) -> Result<(), AllocError> {
-    let mut outcome = Outcome::new(alloc);
-    outcome.push(run_all(alloc, statements)?)?;
+    let told = run_all(alloc, statements)?.to_transcript()?;
+    let outcome = Outcome::new(alloc, vec![in alloc; told]?)?;
     let sessions = vec![in alloc; Text::from_str(alloc, "s")?]?;
     let names = Names {
         sessions: sessions.as_slice(),
