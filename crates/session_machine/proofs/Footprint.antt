@@ -3,18 +3,18 @@ use Rattle.std.proofs.Common.{◌≡◌, refl, sym, ap, ◌∙◌, subst, Bool, 
 use Rattle.std.specs.FinMap.Entries.{find}
 use Rattle.version_tree.specs.Map.{same_key, same_key-true, get, insert, get-insert, get-remove, get-keep, empty, get-empty, entries, same_map}
 use Rattle.lock_modes.specs.Place.{Place, place_order, place_cmp}
-use Rattle.sql_subset.specs.Plan.{Tuple, plan, opened, looks_at}
-use Rattle.session_machine.specs.Effect.{Rows', visible, Write, Effect, Gives, Faults, effect, effect_on}
+use Rattle.sql_statements.specs.Plan.{Tuple, plan, opened, looks_at}
+use Rattle.row_tables.specs.Overlay.{Rows', Write, Overlay, laid, lay, lay_entries, written}
+use Rattle.statement_effects.specs.Effect.{visible, Effect, Gives, Faults, effect, effect_on}
 use Rattle.session_machine.specs.Session.{Task, Ask, Do, Session, Performed, Goes, Fails, Kind, Begins, Commits, RollsBack, Works, kind, perform, perform_by, worked}
 use Rattle.session_machine.specs.Go.{Stop, taking, solo, failed, finished_by, is_broken}
-use Rattle.row_tables.specs.Overlay.{Overlay, laid, lay, lay_entries, written}
 use Rattle.session_machine.specs.Footprint.{AgreeBut, ReadsBut, SameBut, EachDo}
 use Rattle.session_machine.specs.Quiet.{Claims, may_write}
 use Rattle.transcripts.specs.declared.event.Fault.{Fault}
 use Rattle.transcripts.specs.declared.event.Fault.TheVariants.{Aborted}
 use Rattle.session_machine.specs.declared.session.Status.{Status}
 use Rattle.session_machine.specs.declared.session.Status.TheVariants.{Outside, InBlock, Broken}
-use Rattle.sql_subset.specs.declared.bound.Bound.{Bound}
+use Rattle.sql_statements.specs.declared.statement.Bound.{Bound}
 use Rattle.session_machine.proofs.Basics.{Each, not_both}
 use Rattle.session_machine.proofs.Looks.{looked-opened}
 use Rattle.session_machine.proofs.Solo.{OnGoes}

@@ -1,7 +1,7 @@
 pub mod Worked
 pub mod Plain
+pub mod Overlays
 pub mod PlainStart
-pub mod PlainEffects
 pub mod NamedLemmas
 pub mod Basics
 pub mod Looks

@@ -4,13 +4,13 @@ use Rattle.version_tree.specs.Map.{same_key, get, insert, get-insert, empty, get
 use Rattle.lock_modes.specs.Place.{Place, place_order}
 use Rattle.lock_modes.specs.Resource.{resource_order}
 use Rattle.lock_modes.specs.declared.mode.Mode.{Mode}
-use Rattle.sql_subset.specs.Plan.{Tuple, Request, plan}
-use Rattle.sql_subset.specs.declared.bound.Bound.{Bound}
+use Rattle.sql_statements.specs.Plan.{Tuple, Request, plan}
+use Rattle.sql_statements.specs.declared.statement.Bound.{Bound}
 use Rattle.transcripts.specs.declared.event.Event.{Event}
 use Rattle.transcripts.specs.declared.event.Event.TheVariants.{Done, Failed}
 use Rattle.lock_queues.specs.Locks.{wanted}
-use Rattle.session_machine.specs.Effect.{Rows', Write, Effect, Gives, Faults, effect}
-use Rattle.row_tables.specs.Overlay.{Overlay, laid, lay, written}
+use Rattle.row_tables.specs.Overlay.{Rows', Write, Overlay, laid, lay, written}
+use Rattle.statement_effects.specs.Effect.{Effect, Gives, Faults, effect}
 use Rattle.session_machine.specs.Session.{Task, Ask, Do, asks, tasks_of, Held, Session, Kind, Works, kind, Performed, Goes, Fails, perform_by}
 use Rattle.session_machine.specs.Go.{Stop, Run, Scene, solo, failed, go, stopped}
 use Rattle.session_machine.specs.World.{World, fresh, session_at, look_of, scene_of, placed_back, goes}

@@ -8,7 +8,7 @@ use Rattle.lock_modes.specs.Resource.{resource_order}
 use Rattle.lock_modes.specs.Mode.{compatible}
 use Rattle.lock_queues.specs.declared.wait.Wait.{Wait}
 use Rattle.lock_queues.specs.Locks.{Spot, Look, fits, wanted, wanted_by, waits_for, closes_ring, way_below, waits_now, is_ripe, first_ripe, next_grant, spots_from}
-use Rattle.sql_subset.specs.Plan.{Request, request, plan}
+use Rattle.sql_statements.specs.Plan.{Request, request, plan}
 use Rattle.session_machine.specs.Session.{Task, Do, asks, tasks_of, Session, note}
 use Rattle.session_machine.specs.Go.{Run, look_with, taking, go}
 use Rattle.session_machine.specs.World.{World, fresh, session_at, look_of, scene_of, placed_back, goes, granted, settle, settle_for, left_of, left_to_do, noted, send}
@@ -17,7 +17,7 @@ use Rattle.session_machine.specs.Sound.{HeldTogether, NoRing, HoldsAll, IsIn, he
 use Rattle.lock_modes.specs.declared.mode.Mode.{Mode}
 use Rattle.transcripts.specs.declared.event.Event.TheVariants.{Sent, NotSent, Resumed}
 use Rattle.lock_modes.specs.declared.resource.Resource.{Resource}
-use Rattle.sql_subset.specs.declared.bound.Bound.{Bound}
+use Rattle.sql_statements.specs.declared.statement.Bound.{Bound}
 use Rattle.session_machine.proofs.Basics.{both_true, known, not_both, compatible-symm}
 use Rattle.session_machine.specs.Footprint.{HeldFits}
 use Rattle.session_machine.proofs.Commute.{cases-eq}

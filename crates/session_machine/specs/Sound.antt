@@ -5,14 +5,14 @@ use Rattle.lock_modes.specs.Place.{Place}
 use Rattle.lock_modes.specs.Mode.{compatible, cover}
 use Rattle.lock_queues.specs.declared.wait.Wait.{Wait}
 use Rattle.lock_queues.specs.Locks.{Look, next_grant, waits_for}
-use Rattle.sql_subset.specs.Plan.{Tuple, Request, request, plan}
+use Rattle.sql_statements.specs.Plan.{Tuple, Request, request, plan}
 use Rattle.session_machine.specs.World.{World, look_of, session_at}
 use Rattle.row_tables.specs.Overlay.{Overlay}
 use Rattle.session_machine.specs.Session.{Held, Task, Ask, Do}
 use Rattle.session_machine.specs.Quiet.{may_write, claims_of}
 use Rattle.lock_modes.specs.declared.mode.Mode.{Mode}
 use Rattle.lock_modes.specs.declared.resource.Resource.{Resource}
-use Rattle.session_machine.specs.Evaluate.{holds}
+use Rattle.statement_effects.specs.Evaluate.{holds}
 
 pub data Way (edge : ℕ → ℕ → Bool) : ℕ → ℕ → Type 0 where
   one : {a b : ℕ} → edge a b ≡ true → Way edge a b

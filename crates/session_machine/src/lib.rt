@@ -1,10 +1,8 @@
 //! The sequential machine: sessions send steps over committed rows, wait for locks and go on when they are had.
 #![tactic(auto)]
 
-mod effect;
 mod error;
 mod laws;
-mod rows;
 mod runs;
 mod session;
 #[cfg(test)]
