@@ -10,7 +10,6 @@ use Rattle.session_machine.specs.Footprint.{AllHad}
 use Rattle.session_machine.specs.Laws.{Footprint}
 use Rattle.session_machine.specs.Quiet.{claims_of, plans}
 use Rattle.session_machine.specs.Sound.{Sound}
-use Rattle.lock_queues.specs.declared.answer.Answer.{Answer}
 use Rattle.lock_queues.specs.declared.answer.Answer.TheVariants.{Granted, Waits, Ring}
 use Rattle.transcripts.specs.declared.event.Fault.TheVariants.{Deadlock, Aborted}
 use Rattle.sql_statements.specs.declared.statement.Bound.{Bound}

@@ -1,5 +1,5 @@
 -- A session that goes alone notes no wait.
-use Rattle.std.proofs.Common.{◌≡◌, ◌≢◌, refl, sym, ap, subst, ◌∙◌, ℕ, ◌<◌, Bool, true, false, List, [], ◌∷◌, ◌++◌, length, map, get_or, Option, Some, None, append_assoc, length-set}
+use Rattle.std.proofs.Common.{◌≡◌, ◌≢◌, refl, sym, ap, subst, ◌∙◌, ℕ, ◌<◌, true, false, List, [], ◌∷◌, ◌++◌, length, map, get_or, Option, Some, None, append_assoc, length-set}
 use Rattle.version_tree.specs.Map.{entries}
 use Rattle.lock_modes.specs.Place.{Place}
 use Rattle.sql_statements.specs.Plan.{Tuple}

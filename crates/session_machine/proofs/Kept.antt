@@ -7,14 +7,12 @@ use Rattle.lock_queues.specs.Locks.{fits, wanted, may_have, closes_ring, answere
 use Rattle.sql_statements.specs.Plan.{Tuple, Request, request, plan}
 use Rattle.row_tables.specs.Overlay.{Rows', Write, Overlay, written}
 use Rattle.statement_effects.specs.Effect.{Effect, Gives, Faults, effect}
-use Rattle.session_machine.specs.Session.{Task, Ask, Do, Session, Held, Performed, Goes, Fails, Kind, Begins, Commits, RollsBack, Works, kind, perform, perform_by, worked, note}
+use Rattle.session_machine.specs.Session.{Task, Ask, Do, Session, Held, Performed, Goes, Fails, Kind, Begins, Commits, RollsBack, Works, kind, perform, perform_by, worked}
 use Rattle.session_machine.specs.Go.{Scene, Run, taking, go, stopped, failed, finished_by, is_broken, held_up, look_with, waiting_with}
 use Rattle.session_machine.specs.Quiet.{may_write, claims_of}
 use Rattle.session_machine.specs.Sound.{HoldsAll, Backed, UnderLocks}
-use Rattle.lock_queues.specs.declared.answer.Answer.{Answer}
 use Rattle.lock_queues.specs.declared.answer.Answer.TheVariants.{Granted, Waits, Ring}
 use Rattle.lock_modes.specs.declared.mode.Mode.{Mode}
-use Rattle.transcripts.specs.declared.event.Event.TheVariants.{Waiting}
 use Rattle.transcripts.specs.declared.event.Fault.{Fault}
 use Rattle.transcripts.specs.declared.event.Fault.TheVariants.{Aborted, Deadlock}
 use Rattle.lock_modes.specs.declared.resource.Resource.{Resource}

@@ -1,5 +1,5 @@
 -- The plan of a statement opens what the statement looks at; what a plan lets be written.
-use Rattle.std.proofs.Common.{◌≡◌, refl, sym, subst, ℕ, Bool, true, false, ◌&&◌, ◌||◌, ◌==◌, List, [], ◌∷◌, map, Option, Some, None, ◌⊎◌, inl, inr, eqb-true}
+use Rattle.std.proofs.Common.{◌≡◌, refl, sym, subst, ℕ, Bool, true, ◌&&◌, ◌||◌, ◌==◌, List, [], ◌∷◌, map, Some, None, inl, inr, eqb-true}
 use Rattle.std.specs.List.{list_any}
 use Rattle.version_tree.specs.Map.{same_key-true, same_key-refl}
 use Rattle.lock_modes.specs.Place.{Place}

@@ -1,7 +1,7 @@
 -- The steps that a transcript names.
 use Rattle.std.specs.List.{All}
 use Rattle.std.proofs.lemmas.List.Elements.{All-nil, All-cons, All-append, All-push}
-use Rattle.std.proofs.Common.{◌≡◌, refl, ap, ◌∙◌, ℕ, zero, suc, ◌<◌, true, List, [], ◌∷◌, ◌++◌, length, get_or, arith}
+use Rattle.std.proofs.Common.{◌≡◌, refl, ℕ, zero, suc, ◌<◌, true, List, [], ◌∷◌, ◌++◌, length, get_or, arith}
 use Rattle.sql_statements.specs.declared.statement.Bound.{Bound}
 use Rattle.transcripts.specs.Outcome.{HasStep}
 use Rattle.transcripts.specs.declared.event.Event.{Event}

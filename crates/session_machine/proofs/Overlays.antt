@@ -7,7 +7,7 @@ use Rattle.sql_statements.specs.declared.statement.Bound.{Bound}
 use Rattle.transcripts.specs.declared.event.Event.{Event}
 use Rattle.transcripts.specs.declared.event.Event.TheVariants.{Failed}
 use Rattle.transcripts.specs.declared.event.Fault.{Fault}
-use Rattle.row_tables.specs.Overlay.{Tuple, Overlay, Rows', Write, lay}
+use Rattle.row_tables.specs.Overlay.{Tuple, Overlay, Write, lay}
 use Rattle.row_tables.specs.Layers.{Layers, session_order, overlay_of, sight, no_rows, wrote, undone, kept}
 use Rattle.row_tables.proofs.LayersLemmas.{overlay_of-wrote, overlay_of-undone, overlay_of-kept, sight-wrote}
 use Rattle.statement_effects.specs.Effect.{Effect, Gives, Faults, effect}

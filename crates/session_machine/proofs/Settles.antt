@@ -21,7 +21,7 @@ use Rattle.sql_statements.specs.declared.statement.Bound.{Bound}
 use Rattle.session_machine.proofs.Basics.{both_true, known, not_both, compatible-symm}
 use Rattle.session_machine.specs.Footprint.{HeldFits}
 use Rattle.session_machine.proofs.Commute.{cases-eq}
-use Rattle.session_machine.proofs.Rings.{no-ring-past, no-way-from, way-is-found, edge-from, no-edge-from, edge-put, edge-off}
+use Rattle.lock_queues.proofs.Rings.{no-ring-past, no-way-from, way-is-found, edge-from, no-edge-from, edge-put, edge-off}
 use Rattle.session_machine.proofs.FromQuiet.{fits-at, together-fits}
 use Rattle.session_machine.proofs.Stronger.{stronger-taking, under-stronger, holds-stronger, covers-taking}
 use Rattle.session_machine.proofs.Kept.{fits-inserted, Pending, GoodRun, go-good}

@@ -8,7 +8,6 @@ use Rattle.row_tables.specs.Overlay.{Rows'}
 use Rattle.statement_effects.specs.Effect.{Effect, Gives, Faults}
 use Rattle.session_machine.specs.Session.{Task, Ask, Do, Session, Held, Performed, Goes, Fails, Kind, Begins, Commits, RollsBack, Works, kind, perform, perform_by, worked}
 use Rattle.session_machine.specs.Go.{Scene, Run, Stop, taking, go, solo, stopped, failed, finished_by, is_broken, held_up}
-use Rattle.lock_queues.specs.declared.answer.Answer.{Answer}
 use Rattle.lock_queues.specs.declared.answer.Answer.TheVariants.{Granted, Waits, Ring}
 use Rattle.lock_modes.specs.declared.mode.Mode.{Mode}
 use Rattle.lock_modes.specs.declared.resource.Resource.{Resource}

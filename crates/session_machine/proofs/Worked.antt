@@ -8,7 +8,7 @@ use Rattle.session_machine.specs.Start.{Started, start}
 use Rattle.session_machine.specs.World.{send_all, outcome_of}
 use Rattle.perm_ranks.specs.Words.{all_words, word_at}
 use Rattle.session_machine.specs.Swap.{truth_of, least_swap, quiet_at, fact_of}
-use Rattle.session_machine.specs.Books.{Fact, Ran, Swap}
+use Rattle.session_machine.specs.Books.{Swap}
 use Rattle.lock_modes.specs.declared.mode.Mode.TheVariants.{Share, Exclusive}
 use Rattle.lock_modes.specs.declared.value.Value.{Value}
 use Rattle.lock_modes.specs.declared.value.Value.TheVariants.{Int}

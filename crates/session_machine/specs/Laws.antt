@@ -1,6 +1,5 @@
 -- The laws of the model, each in one line.
-use Rattle.std.specs.Prelude.{◌≡◌, ◌≢◌, ℕ, ◌<◌, ◌≤◌, Bool, true, false, ◌&&◌, ◌↔◌, List, [], length, get_or, Some}
-use Rattle.lock_modes.specs.Mode.{compatible, cover}
+use Rattle.std.specs.Prelude.{◌≡◌, ◌≢◌, ℕ, ◌<◌, ◌≤◌, Bool, true, false, ◌↔◌, List, [], length, get_or, Some}
 use Rattle.lock_queues.specs.Locks.{way_below, waits_for, waits_now}
 use Rattle.sql_subset.specs.Spec.{Spec, Step, no_step, Queues, line, IsBound}
 use Rattle.session_machine.specs.Start.{Started, start}
@@ -20,7 +19,6 @@ use Rattle.session_machine.specs.Books.{Entry, Truth, IsTrueAt, Ran, Swap, SwapL
 use Rattle.row_tables.specs.Overlay.{Rows'}
 use Rattle.sql_statements.specs.Plan.{plan, opened, looks_at}
 use Rattle.session_machine.specs.Serial.{History, Told, Shown, said_in, send_all_told, first_rows, start_told}
-use Rattle.lock_modes.specs.declared.mode.Mode.{Mode}
 use Rattle.transcripts.specs.declared.event.Event.{Event}
 
 -- the step's session is one of the world

@@ -1,5 +1,5 @@
 -- A world of a spec as the program holds it, and what its calls answer.
-use Rattle.std.specs.Prelude.{◌≡◌, ℕ, Bool, List, Option, Some, None, Result, Ok, Err}
+use Rattle.std.specs.Prelude.{◌≡◌, ℕ, Bool, List, Option, Some, None, Result, Err}
 use Rattle.sql_subset.specs.Spec.{Spec, SpecFile}
 use Rattle.transcripts.specs.declared.event.Event.{Event}
 use Rattle.row_tables.specs.Overlay.{Rows'}

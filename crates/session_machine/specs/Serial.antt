@@ -11,7 +11,7 @@ use Rattle.session_machine.specs.Session.{Task, Ask, Do, Session, Held, Goes, Fa
 use Rattle.session_machine.specs.Go.{Scene, taking, is_broken, answer_in}
 use Rattle.session_machine.specs.World.{World, session_at, look_of, scene_of, granted, goes, left_to_do, send}
 use Rattle.sql_subset.specs.Spec.{Step, no_step, Spec}
-use Rattle.session_machine.specs.Start.{Started, set_up, after_setup, forgotten, session_setups, start}
+use Rattle.session_machine.specs.Start.{Started, set_up, after_setup, forgotten}
 use Rattle.lock_queues.specs.declared.answer.Answer.TheVariants.{Granted, Waits, Ring}
 use Rattle.transcripts.specs.declared.event.Event.{Event}
 use Rattle.transcripts.specs.declared.event.Event.TheVariants.{Sent, Resumed, Row as RowEvent, Rows, Inserted, Updated, Deleted, Locked, Set}

@@ -55,7 +55,29 @@ pub(crate) fn run_block(
     Ok(true)
 }
 
-/// Runs main setup blocks in order, each a transaction of the control session. What they tell is in no transcript.
+/// Runs a setup block as one transaction of a session, and returns whether all of it went through. What it tells is in no
+/// transcript.
+fn run_setup(
+    alloc: Global,
+    store: &mut Store,
+    session: u8,
+    block: &Block,
+) -> Result<bool, AllocError>
+    requires { IsCommitted store.old }
+    ensures whole { IfOk result (λ whole. whole ≡ is_some (transacted store.old.committed block.now).left) }
+    ensures rows { OnOk result (store.new.committed ≡ rows_after store.old.committed (transacted store.old.committed block.now).left) }
+    ensures committed { OnOk result (IsCommitted store.new) }
+{
+    run_block(
+        alloc,
+        store,
+        session,
+        block.statements(),
+        &mut Transcript::new(alloc),
+    )
+}
+
+/// Runs the main setup blocks in order, each a transaction of the control session.
 pub(crate) fn main_setups(
     alloc: Global,
     store: Store,
@@ -69,14 +91,14 @@ pub(crate) fn main_setups(
 {
     let mut own = store;
     for (number, block) in blocks.iter().enumerate() {
-        if !run_block(alloc, &mut own, control, block.statements(), &mut Transcript::new(alloc))? {
+        if !run_setup(alloc, &mut own, control, block)? {
             return Err(SetUpError::Failed(number as u64));
         }
     }
     Ok(own)
 }
 
-/// Runs the setup of each session in order, a transaction of that session. What they tell is in no transcript.
+/// Runs the setup of each session in order, a transaction of that session.
 pub(crate) fn session_setups(
     alloc: Global,
     store: Store,
@@ -91,7 +113,7 @@ pub(crate) fn session_setups(
     let mut own = store;
     for (number, block) in blocks.iter().enumerate() {
         let session = number as u8;
-        if !run_block(alloc, &mut own, session, block.statements(), &mut Transcript::new(alloc))? {
+        if !run_setup(alloc, &mut own, session, block)? {
             return Err(SetUpError::Failed(number as u64));
         }
     }

@@ -4,7 +4,7 @@ use Rattle.std.proofs.Common.{◌≡◌, ◌+◌, ◌<◌, refl, sym, ap, ◌∙
 use Rattle.transcripts.specs.declared.event.Event.TheVariants.{Failed}
 use Rattle.row_tables.specs.Layers.{sight}
 use Rattle.statement_effects.specs.Effect.{effect}
-use Rattle.statement_effects.specs.Run.{events_of, fault_of, left_by}
+use Rattle.statement_effects.specs.Run.{events_of, left_by}
 use Rattle.session_machine.specs.Transaction.{transacted, rows_after}
 use Rattle.session_machine.specs.Idle.{IsCommitted}
 use Rattle.session_machine.proofs.Overlays.{WritesAlone, begins-alone, sight-committed, alone-sees, alone-left_by, committed-left_by, statement-goes, statement-ends, kept-committed, undone-committed}

@@ -1,7 +1,5 @@
-use Rattle.std.specs.List.{All}
-use Rattle.std.proofs.Common.{◌≡◌, sym, ap, ◌∙◌, subst, [], ◌∷◌, ◌++◌}
+use Rattle.std.proofs.Common.{◌≡◌, sym, ap, ◌∙◌, [], ◌∷◌, ◌++◌}
 use Rattle.std.proofs.lemmas.List.{take_all}
-use Rattle.transcripts.specs.Outcome.{HasStep}
 use Rattle.session_machine.specs.World.{outcome_of}
 use Rattle.session_machine.specs.Idle.{idle_world}
 use Rattle.session_machine.specs.Running.{Running}

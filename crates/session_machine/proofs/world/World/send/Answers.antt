@@ -1,8 +1,7 @@
 use Rattle.std.specs.List.{All}
 use Rattle.std.proofs.lemmas.List.Elements.{All-set, All-get_or}
-use Rattle.std.proofs.Common.{◌≡◌, ◌<◌, sym, ap, ◌∙◌, subst, List, [], ◌∷◌, ◌++◌, length, set, get_or, length-set, arith}
+use Rattle.std.proofs.Common.{◌≡◌, ◌<◌, sym, ap, ◌∙◌, subst, [], ◌∷◌, ◌++◌, length, set, get_or, length-set, arith}
 use Rattle.transcripts.specs.Outcome.{HasStep}
-use Rattle.transcripts.specs.declared.event.Event.{Event}
 use Rattle.sql_subset.specs.Spec.{no_step}
 use Rattle.session_machine.specs.World.{send}
 use Rattle.session_machine.specs.Idle.{idle_world}

@@ -1,5 +1,4 @@
-use Rattle.std.proofs.Common.{◌≡◌, sym, ap, ◌∙◌, subst, length, ◌++◌, ◌∷◌, [], replicate}
-use Rattle.row_tables.specs.Layers.{Layers}
+use Rattle.std.proofs.Common.{sym, ap, ◌∙◌, subst, length, ◌++◌, ◌∷◌, [], replicate}
 use Rattle.sql_subset.specs.Spec.{AllRunToday}
 use Rattle.session_machine.specs.Transaction.{set_up_from}
 use Rattle.session_machine.specs.Start.{Started, start}
