@@ -25,4 +25,5 @@ pub mod StartsTold
 pub mod Facts
 pub mod Alone
 pub mod Shown
+pub mod States
 pub mod Specs

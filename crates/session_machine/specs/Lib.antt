@@ -11,4 +11,5 @@ pub mod Serial
 pub mod Laws
 pub mod Transaction
 pub mod Running
+pub mod State
 pub mod Idle
