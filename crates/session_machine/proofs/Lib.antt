@@ -26,4 +26,6 @@ pub mod Facts
 pub mod Alone
 pub mod Shown
 pub mod States
+pub mod Going
+pub mod SettleSteps
 pub mod Specs

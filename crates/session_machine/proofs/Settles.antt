@@ -333,7 +333,7 @@ sound-from w st e = record { steady = st; unripe = e }
 pub steady-of : (w : World) → Sound w → Steady w
 steady-of w s = s.steady
 
-none-left : (w : World) → left_to_do w ≤ 0 → next_grant (length w.sessions) (look_of w) w.waits ≡ None
+pub none-left : (w : World) → left_to_do w ≤ 0 → next_grant (length w.sessions) (look_of w) w.waits ≡ None
 none-left w le = ap (next_grant (length w.sessions) (look_of w)) (empty' w.waits le)
   where
     empty' : (vs : List Wait) → left_of w.sessions vs ≤ 0 → vs ≡ []
