@@ -1,3 +1,5 @@
 pub mod Evaluate
 pub mod Effect
 pub mod Run
+pub mod Borrowed
+pub mod Seen

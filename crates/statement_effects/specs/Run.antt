@@ -1,5 +1,5 @@
 -- What running a statement tells, and what it leaves in the store.
-use Rattle.std.specs.Prelude.{◌≡◌, ℕ, true, List, [], ◌∷◌, Option, Some, None}
+use Rattle.std.specs.Prelude.{◌≡◌, ⊤, ℕ, true, List, [], ◌∷◌, Option, Some, None}
 use Rattle.lock_modes.specs.Place.{Place}
 use Rattle.transcripts.specs.declared.event.Fault.{Fault}
 use Rattle.transcripts.specs.declared.event.Event.{Event}
@@ -32,3 +32,8 @@ left_by session (Faults f) l = l
 -- no other session has written where the statement looks
 abbrev pub SeesAlone : ℕ → Bound → Layers → Type 0
 SeesAlone session s l = (p : Place) → looks_at s p ≡ true → IsOnlyWriterAt session p l
+
+-- no other session has written where these are written
+abbrev pub WritesAlone : ℕ → List Write → Layers → Type 0
+WritesAlone session [] l = ⊤
+WritesAlone session (w ∷ ws) l = IsOnlyWriterAt session w.place l × WritesAlone session ws l

@@ -1,0 +1,141 @@
+-- A statement writes where it looks.
+use Rattle.std.proofs.Common.{◌≡◌, refl, sym, subst, ℕ, suc, Bool, true, false, cond, List, [], ◌∷◌, map, Option, Some, None, is_some, pos, eq-eqb}
+use Rattle.std.specs.List.{filter}
+use Rattle.version_tree.specs.Map.{get, insert, keep, entries}
+use Rattle.lock_modes.specs.Place.{Place}
+use Rattle.lock_modes.specs.declared.value.Value.{Value}
+use Rattle.lock_modes.specs.declared.value.Value.TheVariants.{Int}
+use Rattle.transcripts.specs.declared.event.Fault.{Fault}
+use Rattle.transcripts.specs.declared.event.Fault.TheVariants.{Duplicate, OutOfRange}
+use Rattle.transcripts.specs.declared.event.Event.{Event}
+use Rattle.transcripts.specs.declared.event.Event.TheVariants.{Row as RowEvent, Rows, Inserted, Updated, Deleted}
+use Rattle.sql_statements.specs.Plan.{key_at, looks_at}
+use Rattle.sql_statements.specs.declared.condition.Condition.{Condition}
+use Rattle.sql_statements.specs.declared.statement.Assignment.{Assignment}
+use Rattle.sql_statements.specs.declared.statement.SortKey.{SortKey}
+use Rattle.sql_statements.specs.declared.statement.Output.{Output}
+use Rattle.sql_statements.specs.declared.statement.Output.TheVariants.{Columns, Aggregates}
+use Rattle.sql_statements.specs.declared.statement.Bound.{Bound}
+use Rattle.sql_statements.specs.declared.statement.Bound.TheVariants.{Select, Insert, Update, Delete, Begin, Commit, Rollback, LockTable, SetVariable}
+use Rattle.row_tables.specs.Overlay.{Tuple, Rows', Write}
+use Rattle.row_tables.specs.Layers.{Layers, IsOnlyWriterAt}
+use Rattle.statement_effects.specs.Evaluate.{holds}
+use Rattle.statement_effects.specs.Effect.{Effect, Gives, Faults, effect, visible, matching, passed, consed, consed_write, sorted_by, shown, all_aggregated, assigned, all_assigned, placed, numbered, or_fault, counted}
+use Rattle.statement_effects.specs.Run.{SeesAlone, WritesAlone}
+use Rattle.statement_effects.proofs.ListLemmas.{Each, Each-map}
+use Rattle.statement_effects.proofs.PlaceLemmas.{looks-each}
+
+abbrev OnSome : {A : Type 0} → Option A → (A → Type 0) → Type 0
+OnSome None P = Unit {0}
+OnSome (Some x) P = P x
+
+abbrev OnGives : Effect → (List Write → Type 0) → Type 0
+OnGives (Gives events writes) P = P writes
+OnGives (Faults f) P = Unit {0}
+
+each-kept : (test : Place → Bool) (rows : Rows') → Each (λ (e : Place × Tuple). test e.0 ≡ true) (entries (keep test rows))
+unfolding entries keep
+each-kept test rows = filtered rows.list
+  where
+    filtered : (es : List (Place × Tuple)) → Each (λ (e : Place × Tuple). test e.0 ≡ true) (filter (λ e. test e.0) es)
+    filtered [] = tt
+    filtered (e ∷ es) = elim (test e.0) as (λ b. test e.0 ≡ b → Each (λ (x : Place × Tuple). test x.0 ≡ true) (cond b (e ∷ filter (λ e. test e.0) es) (filter (λ e. test e.0) es))) [ true ↦ λ is. (is, filtered es) | false ↦ λ is. filtered es ] refl
+
+module _ (P : Place → Type 0) where
+  each-consed : (e : Place × Tuple) (o : Option (List (Place × Tuple))) → P e.0 → OnSome o (Each (λ (e : Place × Tuple). P e.0)) → OnSome (consed e o) (Each (λ (e : Place × Tuple). P e.0))
+  each-consed e None p h = tt
+  each-consed e (Some es) p h = (p, h)
+
+  each-passed : (e : Place × Tuple) (b : Option Bool) (o : Option (List (Place × Tuple))) → P e.0 → OnSome o (Each (λ (e : Place × Tuple). P e.0)) → OnSome (passed e b o) (Each (λ (e : Place × Tuple). P e.0))
+  each-passed e None o p h = tt
+  each-passed e (Some true) o p h = each-consed e o p h
+  each-passed e (Some false) o p h = h
+
+  each-matching : (c : Condition) (es : List (Place × Tuple)) → Each (λ (e : Place × Tuple). P e.0) es → OnSome (matching c es) (Each (λ (e : Place × Tuple). P e.0))
+  each-matching c [] h = tt
+  each-matching c (e ∷ es) h = each-passed e (holds e.1 c) (matching c es) h.0 (each-matching c es h.1)
+
+  each-consed_write : (p : Place) (r : Option Tuple) (o : Option (List Write)) → P p → OnSome o (Each (λ (w : Write). P w.place)) → OnSome (consed_write p r o) (Each (λ (w : Write). P w.place))
+  each-consed_write p None o here h = tt
+  each-consed_write p (Some row) None here h = tt
+  each-consed_write p (Some row) (Some ws) here h = (here, h)
+
+  each-all_assigned : (sets : List Assignment) (es : List (Place × Tuple)) → Each (λ (e : Place × Tuple). P e.0) es → OnSome (all_assigned sets es) (Each (λ (w : Write). P w.place))
+  each-all_assigned sets [] h = tt
+  each-all_assigned sets (e ∷ es) h = each-consed_write e.0 (assigned e.1 sets e.1) (all_assigned sets es) h.0 (each-all_assigned sets es h.1)
+
+  each-placed : (t k : ℕ) (new : List Tuple) (rows : Rows') → Each (λ row. P (t, key_at k row)) new → OnSome (placed t k new rows) (Each (λ (w : Write). P w.place))
+  each-placed t k [] rows h = tt
+  each-placed t k (row ∷ more) rows h =
+      let at : Place = (t, key_at k row) in
+      elim (is_some (get rows at)) as (λ b. OnSome (cond b None (consed_write at (Some row) (placed t k more (insert rows at row)))) (Each (λ (w : Write). P w.place))) [
+        | true ↦ tt
+        | false ↦ each-consed_write at (Some row) (placed t k more (insert rows at row)) h.0 (each-placed t k more (insert rows at row) h.1)
+      ]
+
+  each-numbered : (t n : ℕ) (new : List Tuple) → ((v : Value) → P (t, v)) → Each (λ (w : Write). P w.place) (numbered t n new)
+  each-numbered t n [] h = tt
+  each-numbered t n (row ∷ more) h = (h (Int (pos n)), each-numbered t (suc n) more h)
+
+  each-deleted : (es : List (Place × Tuple)) → Each (λ (e : Place × Tuple). P e.0) es → Each (λ (w : Write). P w.place) (map (λ (e : Place × Tuple). record { place = e.0; left = None }) es)
+  each-deleted [] h = tt
+  each-deleted (e ∷ es) h = (h.0, each-deleted es h.1)
+
+  on-or_fault : (f : Fault) (o : Option (List Write)) (event : ℕ → Event) → OnSome o (Each (λ (w : Write). P w.place)) → OnGives (or_fault f o event) (Each (λ (w : Write). P w.place))
+  on-or_fault f None event h = tt
+  on-or_fault f (Some ws) event h = h
+
+  on-matched : (o : Option (List (Place × Tuple))) (then' : List (Place × Tuple) → Effect) → ((es : List (Place × Tuple)) → Each (λ (e : Place × Tuple). P e.0) es → OnGives (then' es) (Each (λ (w : Write). P w.place))) → OnSome o (Each (λ (e : Place × Tuple). P e.0))
+      → OnGives (elim o [ None ↦ Faults OutOfRange | Some es ↦ then' es ]) (Each (λ (w : Write). P w.place))
+  on-matched None then' f h = tt
+  on-matched (Some es) then' f h = f es h
+
+  on-shown : (out : Output) (es : List (Place × Tuple)) → OnGives (shown out es) (Each (λ (w : Write). P w.place))
+  on-shown (Columns columns) es = tt
+  on-shown (Aggregates each) es = on (all_aggregated each es)
+    where
+      on : (o : Option (List Value)) → OnGives (elim o [ None ↦ Faults OutOfRange | Some vs ↦ Gives (RowEvent vs ∷ Rows 1 ∷ []) [] ]) (Each (λ (w : Write). P w.place))
+      on None = tt
+      on (Some vs) = tt
+
+  on-selected : (by : List SortKey) (out : Output) (o : Option (List (Place × Tuple))) → OnGives (elim o [ None ↦ Faults OutOfRange | Some es ↦ shown out (sorted_by by es) ]) (Each (λ (w : Write). P w.place))
+  on-selected by out None = tt
+  on-selected by out (Some es) = on-shown out (sorted_by by es)
+
+-- what holds where a statement looks holds where it writes
+module _ (P : Place → Type 0) where
+  seen-each : (st : Bound) (rows : Rows') → ((p : Place) → looks_at st p ≡ true → P p) → Each (λ (e : Place × Tuple). P e.0) (entries (visible st rows))
+  seen-each st rows sees = Each-map (λ (e : Place × Tuple). looks_at st e.0 ≡ true) (λ (e : Place × Tuple). P e.0) (λ e h. sees e.0 h) (entries (visible st rows)) (each-kept (looks_at st) rows)
+
+  effect-each : (st : Bound) (rows : Rows') → ((p : Place) → looks_at st p ≡ true → P p) → OnGives (effect st rows) (Each (λ (w : Write). P w.place))
+  unfolding effect
+  effect-each (Select t key c by out) rows sees = on-selected P by out (matching c (entries (visible (Select t key c by out) rows)))
+  effect-each (Insert t (Some k) new) rows sees =
+      on-or_fault P Duplicate (placed t k new (visible (Insert t (Some k) new) rows)) Inserted
+      (each-placed P t k new _ (Each-map (λ row. looks_at (Insert t (Some k) new) (t, key_at k row) ≡ true) (λ row. P (t, key_at k row)) (λ row h. sees (t, key_at k row) h) new (looks-each t k new)))
+  effect-each (Insert t None new) rows sees = each-numbered P t _ new (λ v. sees (t, v) (eq-eqb t t refl))
+  effect-each (Update t key sets c) rows sees =
+      let st : Bound = Update t key sets c in
+      on-matched P (matching c (entries (visible st rows))) (λ es. or_fault OutOfRange (all_assigned sets es) Updated)
+      (λ es h. on-or_fault P OutOfRange (all_assigned sets es) Updated (each-all_assigned P sets es h)) (each-matching P c _ (seen-each st rows sees))
+  effect-each (Delete t key c) rows sees =
+      let st : Bound = Delete t key c in
+      on-matched P (matching c (entries (visible st rows))) (λ es. counted Deleted (map (λ (e : Place × Tuple). record { place = e.0; left = None }) es))
+      (λ es h. each-deleted P es h) (each-matching P c _ (seen-each st rows sees))
+  effect-each (LockTable t m) rows sees = tt
+  effect-each SetVariable rows sees = tt
+  effect-each Begin rows sees = tt
+  effect-each Commit rows sees = tt
+  effect-each Rollback rows sees = tt
+
+each-alone : (session : ℕ) (l : Layers) (ws : List Write) → Each (λ (w : Write). IsOnlyWriterAt session w.place l) ws → WritesAlone session ws l
+each-alone session l [] h = tt
+each-alone session l (w ∷ ws) h = (h.0, each-alone session l ws h.1)
+
+on_gives : (e : Effect) (P : List Write → Type 0) (events : List Event) (ws : List Write) → Gives events ws ≡ e → OnGives e P → P ws
+on_gives e P events ws is h = subst (λ (f : Effect). OnGives f P) (sym is) h
+
+-- no other session has written where a statement writes
+pub writes-alone : (session : ℕ) (st : Bound) (l : Layers) (rows : Rows') (events : List Event) (ws : List Write) → SeesAlone session st l → Gives events ws ≡ effect st rows → WritesAlone session ws l
+writes-alone session st l rows events ws sees is =
+    each-alone session l ws (on_gives (effect st rows) (Each (λ (w : Write). IsOnlyWriterAt session w.place l)) events ws is (effect-each (λ p. IsOnlyWriterAt session p l) st rows sees))

@@ -1,0 +1,12 @@
+use Rattle.std.proofs.Common.{◌≡◌}
+use Rattle.version_tree.specs.Iter.{left}
+use Rattle.lock_modes.specs.Value.{value_cmp}
+use Rattle.row_tables.specs.Layers.{sight, rows_of}
+use Rattle.statement_effects.specs.Effect.{matching}
+use Rattle.statement_effects.specs.Seen.{in_table}
+use Rattle.statement_effects.proofs.ListLemmas.{onto}
+use Rattle.statement_effects.proofs.matching.in_table.Given as goal
+
+-- with those that are left they are all that match
+abbrev pub invariant-loop-key : goal.invariant-loop-key
+invariant-loop-key l = onto l.found (matching l.condition (in_table l.table (left value_cmp l.key-iterator))) ≡ matching l.condition (in_table l.table (rows_of l.table (sight l.session l.store)))

@@ -1,0 +1,102 @@
+//! Rows with their places, borrowed from a store.
+
+ghost use Rattle.std.specs.Prelude.{◌≡◌, [], ◌∷◌, ◌++◌, OnOk, cond};
+ghost use Rattle.statement_effects.specs.Effect.{sorted_by};
+
+use crate::sorting::compare;
+use lock_modes::{Row, Value};
+use sql_statements::SortKey;
+use std::alloc::{AllocError, Global};
+use std::marker::Model;
+
+/// A row and where it lies, seen by contracts as its place and its values.
+#[derive(Drop)]
+pub(crate) struct Entry<'a> {
+    table: u16,
+    key: &'a Value,
+    row: &'a Row,
+}
+
+impl<'a> Model for Entry<'a> {
+    ghost use Rattle.lock_modes.specs.Place.{Place};
+    ghost use Rattle.row_tables.specs.Overlay.{Tuple};
+
+    ghost Value = { Place × Tuple };
+
+    ghost view = { λ e. ((e.table, e.key.now), e.row.now) };
+}
+
+impl<'a> Entry<'a> {
+    pub fn new(table: u16, key: &'a Value, row: &'a Row) -> Entry<'a>
+        ensures { result ≡ ((table, key.now), row.now) }
+    {
+        Entry { table, key, row }
+    }
+
+    pub fn table(&self) -> u16
+        ensures { result ≡ self.now.0.0 }
+    {
+        self.table
+    }
+
+    pub fn key(&self) -> &'a Value
+        ensures { result.now ≡ self.now.0.1 }
+    {
+        self.key
+    }
+
+    pub fn row(&self) -> &'a Row
+        ensures { result.now ≡ self.now.1 }
+    {
+        self.row
+    }
+}
+
+/// Entries in an order, seen by contracts as their list.
+#[derive(Drop)]
+pub(crate) struct Entries<'a> {
+    items: Vec<Entry<'a>>,
+}
+
+impl<'a> Model for Entries<'a> {
+    ghost use Rattle.std.specs.Prelude.{List};
+    ghost use Rattle.lock_modes.specs.Place.{Place};
+    ghost use Rattle.row_tables.specs.Overlay.{Tuple};
+
+    ghost Value = { List (Place × Tuple) };
+
+    ghost view = { λ e. e.items.items };
+}
+
+impl<'a> Entries<'a> {
+    pub fn new(alloc: Global) -> Entries<'a>
+        ensures { result ≡ [] }
+    {
+        Entries {
+            items: Vec::new(alloc),
+        }
+    }
+
+    /// Adds an entry at the end if it passes.
+    pub fn push_if(&mut self, passes: bool, entry: Entry<'a>) -> Result<(), AllocError>
+        ensures { OnOk result (self.new ≡ self.old ++ cond passes (entry.entry ∷ []) []) }
+    {
+        if passes {
+            self.items.push(entry)?;
+        }
+        Ok(())
+    }
+
+    pub fn as_slice(&self) -> &[Entry<'a>]
+        ensures { result.now ≡ self.now }
+    {
+        self.items.as_slice()
+    }
+
+    /// Sorts by one column after another. Entries that tie stay in their order.
+    pub fn sort(&mut self, keys: &[SortKey]) -> Result<(), AllocError>
+        ensures { OnOk result (self.new ≡ sorted_by keys.now self.old) }
+    {
+        self.items.sort_by(|x, y| compare(keys, x.row(), y.row()))
+    }
+}

@@ -1,0 +1,99 @@
+//! Running a statement whose locks are had.
+
+ghost use Rattle.std.specs.Prelude.{◌≡◌, ◌++◌, IfOk, OnOk};
+ghost use Rattle.row_tables.specs.Layers.{sight};
+ghost use Rattle.statement_effects.specs.Effect.{effect};
+ghost use Rattle.statement_effects.specs.Borrowed.{effect_at};
+ghost use Rattle.statement_effects.specs.Run.{SeesAlone, fault_of, left_by, events_of, wrote_each, WritesAlone};
+
+use crate::effect::{Given, nothing, telling};
+use crate::insert::{inserted, made};
+use crate::matching::matching;
+use crate::select::selected;
+use crate::update::{deleted, updated};
+use crate::write::Writes;
+use row_tables::Store;
+use sql_statements::Bound;
+use std::alloc::{AllocError, Global};
+use transcripts::{Event, Fault, Transcript};
+use version_tree::Fork;
+
+/// Runs a statement whose locks are had: its whole effect on the rows that its session sees, or none where it fails. Tells of
+/// it; where it fails, the fault is the answer and nothing is told.
+pub fn run_statement(
+    alloc: Global,
+    statement: &Bound,
+    session: u8,
+    store: &mut Store,
+    transcript: &mut Transcript,
+) -> Result<Option<Fault>, AllocError>
+    requires { SeesAlone session statement.now store.old }
+    ensures fault { IfOk result (λ fault. fault ≡ fault_of (effect statement.now (sight session store.old))) }
+    ensures left { OnOk result (store.new ≡ left_by session (effect statement.now (sight session store.old)) store.old) }
+    ensures told { OnOk result (transcript.new ≡ transcript.old ++ events_of (effect statement.now (sight session store.old))) }
+{
+    match given(alloc, statement, session, store)? {
+        Given::Failed(fault) => Ok(Some(fault)),
+        Given::Told(events, writes) => {
+            write_each(store, session, writes)?;
+            tell_each(transcript, events)?;
+            Ok(None)
+        }
+    }
+}
+
+/// The effect of a statement on the rows that a session sees.
+fn given(
+    alloc: Global,
+    statement: &Bound,
+    session: u8,
+    store: &Store,
+) -> Result<Given, AllocError>
+    requires { SeesAlone session statement.now store.now }
+    ensures { IfOk result (λ given. effect_at given ≡ effect statement.now (sight session store.now)) }
+{
+    match statement {
+        Bound::Select(table, key, condition, order, output) => {
+            let found = matching(alloc, store, session, *table, key.as_ref(), condition)?;
+            selected(alloc, order.as_slice(), output, found)
+        }
+        Bound::Insert(table, key_column, new) => {
+            let writes = made(alloc, store, session, *table, *key_column, new.as_slice())?;
+            inserted(alloc, writes)
+        }
+        Bound::Update(table, key, sets, condition) => {
+            let found = matching(alloc, store, session, *table, key.as_ref(), condition)?;
+            updated(alloc, sets.as_slice(), found)
+        }
+        Bound::Delete(table, key, condition) => {
+            let found = matching(alloc, store, session, *table, key.as_ref(), condition)?;
+            deleted(alloc, found)
+        }
+        Bound::LockTable(_, _) => telling(alloc, Event::Locked, Writes::new(alloc)),
+        Bound::SetVariable => telling(alloc, Event::Set, Writes::new(alloc)),
+        Bound::Begin | Bound::Commit | Bound::Rollback => Ok(nothing(alloc)),
+    }
+}
+
+/// Leaves these in the store. Another store is written and takes its place at the end.
+fn write_each(store: &mut Store, session: u8, writes: Writes) -> Result<(), AllocError>
+    requires { WritesAlone session writes store.old }
+    ensures { OnOk result (store.new ≡ wrote_each session writes store.old) }
+{
+    let mut own = store.fork()?;
+    for write in writes.into_vec() {
+        let (table, key, left) = write.into_parts();
+        own.write(session, table, key, left)?;
+    }
+    *store = own;
+    Ok(())
+}
+
+fn tell_each(transcript: &mut Transcript, events: Vec<Event>) -> Result<(), AllocError>
+    ensures { OnOk result (transcript.new ≡ transcript.old ++ events.items) }
+{
+    for event in events {
+        transcript.push(event)?;
+    }
+    Ok(())
+}

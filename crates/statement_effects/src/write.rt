@@ -1,0 +1,83 @@
+//! What a statement writes.
+
+ghost use Rattle.std.specs.Prelude.{◌≡◌, [], ◌∷◌, ◌++◌, OnOk, length};
+ghost use Rattle.row_tables.specs.Overlay as overlay;
+
+use lock_modes::{Row, Value};
+use std::alloc::{AllocError, Global};
+use std::marker::Model;
+
+/// A row, or none, that a statement leaves at a place.
+#[derive(Drop)]
+pub(crate) struct Write {
+    table: u16,
+    key: Value,
+    left: Option<Row>,
+}
+
+impl Model for Write {
+    ghost use Rattle.row_tables.specs.Overlay as overlay;
+
+    ghost Value = { overlay.Write };
+
+    ghost view = { λ w. record { place = (w.table, w.key); left = w.left } };
+}
+
+impl Write {
+    pub fn new(table: u16, key: Value, left: Option<Row>) -> Write
+        ensures { result ≡ record { place = (table, key); left = left } }
+    {
+        Write { table, key, left }
+    }
+
+    pub fn into_parts(self) -> (u16, Value, Option<Row>)
+        ensures place { (result.0, result.1) ≡ self.place }
+        ensures left { result.2 ≡ self.left }
+    {
+        (self.table, self.key, self.left)
+    }
+}
+
+/// Writes in their order, seen by contracts as their list.
+#[derive(Drop)]
+pub(crate) struct Writes {
+    items: Vec<Write>,
+}
+
+impl Model for Writes {
+    ghost use Rattle.std.specs.Prelude.{List};
+    ghost use Rattle.row_tables.specs.Overlay as overlay;
+
+    ghost Value = { List overlay.Write };
+
+    ghost view = { λ w. w.items.items };
+}
+
+impl Writes {
+    pub fn new(alloc: Global) -> Writes
+        ensures { result ≡ [] }
+    {
+        Writes {
+            items: Vec::new(alloc),
+        }
+    }
+
+    pub fn push(&mut self, write: Write) -> Result<(), AllocError>
+        ensures { OnOk result (self.new ≡ self.old ++ write ∷ []) }
+    {
+        self.items.push(write)?;
+        Ok(())
+    }
+
+    pub fn len(&self) -> usize
+        ensures { result ≡ length self.now }
+    {
+        self.items.len()
+    }
+
+    pub fn into_vec(self) -> Vec<Write>
+        ensures { result.items ≡ self }
+    {
+        self.items
+    }
+}
