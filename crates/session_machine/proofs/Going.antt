@@ -9,7 +9,6 @@ use Rattle.lock_modes.proofs.ModeLaws.{compatible-cover}
 use Rattle.lock_queues.specs.Locks.{Look, Spot, fits, fits_with, wanted, all_below, nobody_waits, may_have, closes_ring, answered, next_grant}
 use Rattle.lock_queues.specs.LockTable.{Locks, Asked, look_in, queued, ask, slice}
 use Rattle.lock_queues.specs.Rules.{IsAnswer, after}
-use Rattle.lock_queues.specs.Laws.{IsBelow}
 use Rattle.lock_queues.specs.declared.answer.Answer.{Answer}
 use Rattle.lock_queues.specs.declared.answer.Answer.TheVariants.{Granted, Waits, Ring}
 use Rattle.lock_queues.proofs.Bounded.{tests-decide}
@@ -20,6 +19,7 @@ use Rattle.row_tables.specs.Layers.{Layers, overlay_of}
 use Rattle.statement_effects.specs.Run.{SeesAlone}
 use Rattle.session_machine.specs.Session.{Held, Session}
 use Rattle.session_machine.specs.Go.{Scene, answer_in, look_with, waiting_with}
+use Rattle.session_machine.specs.Going.{IsScene}
 use Rattle.session_machine.specs.Quiet.{may_write, claims_of}
 use Rattle.session_machine.specs.Sound.{HeldTogether, UnderLocks, HoldsAll, AtLeast}
 use Rattle.session_machine.proofs.Basics.{Each, both_true, or_true_left, or_true_right, not_both, known, compatible-symm}
@@ -30,11 +30,6 @@ use Rattle.session_machine.proofs.Looks.{looked-opened}
 use Rattle.session_machine.proofs.Stronger.{held-claim}
 
 -- ---- a request
-
--- the scene in which a session began to go, and the table now: the others hold what they held, and the same sessions wait
-pub record IsScene (e : Scene) (i : ℕ) (t : Locks) : Type 0 where
-  pub others : (c : ℕ) (r : Resource) → c ≢ i → look_in t c r ≡ e.look c r
-  pub waits : t.waits ≡ e.waits
 
 all_below-same : (n : ℕ) (f g : ℕ → Bool) → ((c : ℕ) → f c ≡ g c) → all_below n f ≡ all_below n g
 all_below-same zero f g h = refl
@@ -70,11 +65,11 @@ module _ (e : Scene) (i : ℕ) (t : Locks) (s : Session) (held : s.held ≡ slic
   asked-is r m Ring is = ap (λ (a : Answer). let y : Asked = elim a [ Granted ↦ record { answer = Granted; locks = Rattle.lock_queues.specs.LockTable.taken t i r m } | Waits ↦ record { answer = Waits; locks = queued t i r m } | Ring ↦ record { answer = Ring; locks = t } ] in y.answer) is
 
   -- what the table answers is what the machine answers
-  pub answer-is : IsBelow e.count t → i < e.count → (r : Resource) (m : Mode) (a : Answer) → IsAnswer t i r m a → answer_in e i s r m ≡ a
-  answer-is below lt r m a is =
+  pub answer-is : (r : Resource) (m : Mode) (a : Answer) → IsAnswer t i r m a → answer_in e i s r m ≡ a
+  answer-is r m a is =
       (λ k. answered (may-is r m k) (ring-is r m k))
       ∙ sym (asked-is r m (answered (may_have e.count (look_in t) t.waits i (look_in t i r) r m) (closes_ring e.count (look_in t) (queued t i r m).waits i)) refl)
-      ∙ ap (λ (x : Asked). x.answer) ((tests-decide e.count t below).asked i r m a lt is)
+      ∙ ap (λ (x : Asked). x.answer) ((tests-decide e.count t scene.below).asked i r m a scene.known is)
 
 -- ---- a statement
 

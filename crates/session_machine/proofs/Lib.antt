@@ -27,5 +27,6 @@ pub mod Alone
 pub mod Shown
 pub mod States
 pub mod Going
+pub mod Moves
 pub mod SettleSteps
 pub mod Specs

@@ -12,4 +12,5 @@ pub mod Laws
 pub mod Transaction
 pub mod Running
 pub mod State
+pub mod Going
 pub mod Idle
