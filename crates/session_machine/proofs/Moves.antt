@@ -1,5 +1,5 @@
 -- What each move of a session comes to: a request, a statement, the end of a step.
-use Rattle.std.proofs.Common.{◌≡◌, ◌≢◌, refl, sym, ap, ◌∙◌, subst, ℕ, ◌<◌, ◌≤◌, true, false, List, [], ◌∷◌, ◌++◌, length, Some, None, arith}
+use Rattle.std.proofs.Common.{◌≡◌, ◌≢◌, refl, sym, ap, ◌∙◌, subst, ℕ, ◌<◌, ◌≤◌, Bool, true, false, List, [], ◌∷◌, ◌++◌, length, Some, None, arith}
 use Rattle.version_tree.specs.Map.{get, insert}
 use Rattle.lock_modes.specs.declared.mode.Mode.{Mode}
 use Rattle.lock_modes.specs.declared.resource.Resource.{Resource}
@@ -15,14 +15,18 @@ use Rattle.transcripts.specs.declared.event.Fault.{Fault}
 use Rattle.transcripts.specs.declared.event.Fault.TheVariants.{Deadlock, Aborted}
 use Rattle.transcripts.specs.declared.event.Event.{Event}
 use Rattle.transcripts.specs.declared.event.Event.TheVariants.{Waiting, Done}
+use Rattle.row_tables.specs.Overlay.{Rows'}
+use Rattle.statement_effects.specs.Effect.{Effect, Gives, Faults, effect}
+use Rattle.statement_effects.specs.Run.{events_of, fault_of, left_by}
 use Rattle.row_tables.specs.Layers.{Layers, overlay_of, sight, undone, kept}
 use Rattle.session_machine.specs.declared.session.Status.{Status}
 use Rattle.session_machine.specs.declared.session.Status.TheVariants.{Outside, InBlock, Broken}
-use Rattle.session_machine.specs.Session.{Task, Ask, Do, Session, note, released, ended}
+use Rattle.session_machine.specs.Session.{Task, Ask, Do, Session, note, released, ended, Kind, Begins, Commits, RollsBack, Works, kind, Performed, Goes, Fails, perform, perform_by, worked}
 use Rattle.session_machine.specs.Go.{Scene, Run, Stop, go, stopped, failed, finished_by, is_broken, answer_in, held_up, taking, broken_off}
 use Rattle.session_machine.specs.State.{Own, session_of, SameOthers}
-use Rattle.session_machine.specs.Going.{Standing, session_in, run_in, IsScene, GoesOnTo, StopsIn, told, committed, rolled_back, failed_in}
-use Rattle.session_machine.proofs.States.{same-refl, same-trans, session-taken, same-taken, held-let_go, same-let_go, waits-let_go, overlay-undone, overlay-kept, same-undone, same-kept}
+use Rattle.session_machine.specs.Going.{Standing, session_in, run_in, IsScene, GoesOnTo, StopsIn, waiting_in, told, committed, rolled_back, failed_in}
+use Rattle.session_machine.proofs.States.{same-refl, same-trans, session-taken, same-taken, held-let_go, same-let_go, waits-let_go, overlay-undone, overlay-kept, same-undone, same-kept, overlay-wrote_each, same-left_by}
+use Rattle.session_machine.proofs.Overlays.{committed-left_by}
 use Rattle.session_machine.proofs.Going.{answer-is}
 
 -- ---- moves in turn
@@ -83,21 +87,102 @@ fails-to e i x f idle scene = λ k. record {
 
 -- ---- a request
 
-pub had : (i : ℕ) (x : Standing) (r : Resource) (m : Mode) (ts : List Task) → is_broken x.own.status ≡ false → IsAnswer x.locks i r m Granted
-    → GoesOnTo i x (Ask r m ∷ ts) (record { layers = x.layers; locks = taken x.locks i r m; own = x.own }) ts
-had i x r m ts whole is = record {
+-- the machine at a request, by what is answered
+abbrev asked : Scene → ℕ → Session → Rows' → Resource → Mode → List Task → Bool → Answer → Run
+asked e i s rows r m ts b a =
+    elim b [
+      | true ↦ stopped e (failed s rows Aborted)
+      | false ↦ elim a [ Granted ↦ go e i (taking s r m) rows ts | Waits ↦ held_up e i s rows r m ts | Ring ↦ stopped e (failed s rows Deadlock) ]
+    ]
+
+module _ (i : ℕ) (x : Standing) (r : Resource) (m : Mode) (ts : List Task) where
+  answered-so : (e : Scene) → IsScene e i x.locks → (a : Answer) → is_broken x.own.status ≡ false → IsAnswer x.locks i r m a → go e i (session_in i x) x.layers.committed (Ask r m ∷ ts) ≡ asked e i (session_in i x) x.layers.committed r m ts false a
+  answered-so e scene a whole is = λ k. asked e i (session_in i x) x.layers.committed r m ts (whole k) (answer-is e i x.locks (session_in i x) refl scene r m a is k)
+
+  pub had : is_broken x.own.status ≡ false → IsAnswer x.locks i r m Granted → GoesOnTo i x (Ask r m ∷ ts) (record { layers = x.layers; locks = taken x.locks i r m; own = x.own }) ts
+  had whole is = record {
+    goes = λ e scene. answered-so e scene Granted whole is ∙ ap (λ s. go e i s x.layers.committed ts) (sym (session-taken x.layers x.locks i r m x.own));
+    others = same-taken x.layers x.locks i r m;
+    waits = refl;
+  }
+
+  pub waits-there : is_broken x.own.status ≡ false → IsAnswer x.locks i r m Waits → StopsIn i x (Ask r m ∷ ts) (waiting_in i x r m ts)
+  waits-there whole is = record {
+    goes = λ e scene. answered-so e scene Waits whole is ∙ (λ k. record { session = session_in i (waiting_in i x r m ts); rows = x.layers.committed; waits = sym scene.waits k ++ record { session = i; resource = r; mode = m } ∷ [] });
+    others = record { overlays = λ c ne. refl; held = λ c ne. refl };
+  }
+
+  pub closes-ring : is_broken x.own.status ≡ false → waits_now x.locks.waits i ≡ false → IsAnswer x.locks i r m Ring → StopsIn i x (Ask r m ∷ ts) (failed_in i x Deadlock)
+  closes-ring whole idle is = record { goes = λ e scene. answered-so e scene Ring whole is ∙ fails-to e i x Deadlock idle scene; others = others-undone i x }
+
+  pub asks-broken : is_broken x.own.status ≡ true → waits_now x.locks.waits i ≡ false → StopsIn i x (Ask r m ∷ ts) (failed_in i x Aborted)
+  asks-broken broken idle = record {
+    goes = λ e scene. ap (λ b. asked e i (session_in i x) x.layers.committed r m ts b (answer_in e i (session_in i x) r m)) broken ∙ fails-to e i x Aborted idle scene;
+    others = others-undone i x;
+  }
+
+-- ---- a statement
+
+-- the machine at a statement, by what it does
+abbrev done_by : Scene → ℕ → Session → Rows' → List Task → Performed → Run
+done_by e i s rows ts d = elim d [ Goes s2 rows2 ↦ go e i s2 rows2 ts | Fails f ↦ stopped e (failed s rows f) ]
+
+-- a statement that leaves the session there
+goes-there : (i : ℕ) (x y : Standing) (st : Bound) (ts : List Task) → perform (session_in i x) x.layers.committed st ≡ Goes (session_in i y) y.layers.committed → SameOthers i x.layers y.layers x.locks y.locks → y.locks.waits ≡ x.locks.waits
+    → GoesOnTo i x (Do st ∷ ts) y ts
+goes-there i x y st ts is others waits = record { goes = λ e scene. ap (done_by e i (session_in i x) x.layers.committed ts) is; others = others; waits = waits }
+
+pub fails-there : (i : ℕ) (x : Standing) (st : Bound) (ts : List Task) (f : Fault) → waits_now x.locks.waits i ≡ false → perform (session_in i x) x.layers.committed st ≡ Fails f → StopsIn i x (Do st ∷ ts) (failed_in i x f)
+fails-there i x st ts f idle is = record { goes = λ e scene. ap (done_by e i (session_in i x) x.layers.committed ts) is ∙ fails-to e i x f idle scene; others = others-undone i x }
+
+-- a statement that works, in a session that is whole
+abbrev pub works_in : ℕ → Standing → Effect → Standing
+works_in i x e = record { layers = left_by i e x.layers; locks = x.locks; own = record { status = x.own.status; rest = x.own.rest; transcript = x.own.transcript ++ events_of e } }
+
+perform-work : (i : ℕ) (x : Standing) (st : Bound) → kind st ≡ Works → is_broken x.own.status ≡ false → perform (session_in i x) x.layers.committed st ≡ worked (session_in i x) x.layers.committed (effect st (sight i x.layers))
+perform-work i x st is whole = ap (λ k. perform_by x.own.status k (session_in i x) x.layers.committed st) is ∙ at x.own.status whole
+  where
+    at : (status : Status) → is_broken status ≡ false → perform_by status Works (session_in i x) x.layers.committed st ≡ worked (session_in i x) x.layers.committed (effect st (sight i x.layers))
+    at Outside h = refl
+    at InBlock h = refl
+    at Broken h = cc
+
+worked-there : (i : ℕ) (x : Standing) (e : Effect) → fault_of e ≡ None → worked (session_in i x) x.layers.committed e ≡ Goes (session_in i (works_in i x e)) (works_in i x e).layers.committed
+worked-there i x (Gives events writes) is = λ k. Goes (record { overlay = sym (overlay-wrote_each i writes x.layers) k; held = slice i x.locks.held; status = x.own.status; rest = x.own.rest; transcript = x.own.transcript ++ events }) (sym (committed-left_by i (Gives events writes) x.layers) k)
+worked-there i x (Faults f) is = cc
+
+worked-fails : (s : Session) (rows : Rows') (e : Effect) (f : Fault) → fault_of e ≡ Some f → worked s rows e ≡ Fails f
+worked-fails s rows (Gives events writes) f is = cc
+worked-fails s rows (Faults g) f is = let same : g ≡ f = cc in ap Fails same
+
+pub works-there : (i : ℕ) (x : Standing) (st : Bound) (ts : List Task) → kind st ≡ Works → is_broken x.own.status ≡ false → fault_of (effect st (sight i x.layers)) ≡ None → GoesOnTo i x (Do st ∷ ts) (works_in i x (effect st (sight i x.layers))) ts
+works-there i x st ts is whole none =
+    let e = effect st (sight i x.layers) in
+    goes-there i x (works_in i x e) st ts (perform-work i x st is whole ∙ worked-there i x e none) (same-left_by i e x.layers x.locks) refl
+
+pub works-fails : (i : ℕ) (x : Standing) (st : Bound) (ts : List Task) (f : Fault) → kind st ≡ Works → is_broken x.own.status ≡ false → waits_now x.locks.waits i ≡ false → fault_of (effect st (sight i x.layers)) ≡ Some f
+    → StopsIn i x (Do st ∷ ts) (failed_in i x f)
+works-fails i x st ts f is whole idle fails =
+    let e = effect st (sight i x.layers) in
+    fails-there i x st ts f idle (perform-work i x st is whole ∙ worked-fails (session_in i x) x.layers.committed e f fails)
+
+-- ---- the end of a step
+
+pub ends-outside : (i : ℕ) (x : Standing) → x.own.status ≡ Outside → waits_now x.locks.waits i ≡ false → StopsIn i x [] (told (committed i x Outside) Done)
+ends-outside i x is idle = record {
   goes = λ e scene.
-      (λ k. asked e (whole k) (answer-is e i x.locks (session_in i x) refl scene r m Granted is k))
-      ∙ ap (λ s. go e i s x.layers.committed ts) (sym (session-taken x.layers x.locks i r m x.own));
-  others = same-taken x.layers x.locks i r m;
-  waits = refl;
+      ap (λ status. stopped e (finished_by status (session_in i x) x.layers.committed)) is
+      ∙ (λ k. record { session = record { overlay = sym (overlay-kept i x.layers) k; held = sym (held-let_go x.locks i) k; status = is k; rest = x.own.rest; transcript = x.own.transcript ++ Done ∷ [] }; rows = sight i x.layers; waits = (sym scene.waits ∙ sym (waits-let_go x.locks i idle)) k });
+  others = others-kept i x;
+}
+
+pub ends-inside : (i : ℕ) (x : Standing) → (x.own.status ≡ Outside → ⊥) → StopsIn i x [] (told x Done)
+ends-inside i x inside = record {
+  goes = λ e scene. at e x.own.status inside ∙ (λ k. record { session = session_in i (told x Done); rows = x.layers.committed; waits = sym scene.waits k });
+  others = same-refl i x.layers x.locks;
 }
   where
-    asked : Scene → Rattle.std.proofs.Common.Bool → Answer → Run
-    asked e b a =
-        let s = session_in i x in
-        let rows = x.layers.committed in
-        elim b [
-          | true ↦ stopped e (failed s rows Aborted)
-          | false ↦ elim a [ Granted ↦ go e i (taking s r m) rows ts | Waits ↦ held_up e i s rows r m ts | Ring ↦ stopped e (failed s rows Deadlock) ]
-        ]
+    at : (e : Scene) (status : Status) → (status ≡ Outside → ⊥) → stopped e (finished_by status (session_in i x) x.layers.committed) ≡ record { session = session_in i (told x Done); rows = x.layers.committed; waits = e.waits }
+    at e Outside h = absurd (h refl)
+    at e InBlock h = refl
+    at e Broken h = refl

@@ -1,14 +1,15 @@
 -- A session that goes, where its overlay lies in a store and its modes in a lock table.
 use Rattle.std.specs.Prelude.{◌≡◌, ◌≢◌, ℕ, ◌<◌, List, [], ◌∷◌, ◌++◌, drop}
+use Rattle.lock_modes.specs.declared.mode.Mode.{Mode}
 use Rattle.lock_modes.specs.declared.resource.Resource.{Resource}
-use Rattle.lock_queues.specs.LockTable.{Locks, look_in, let_go}
+use Rattle.lock_queues.specs.LockTable.{Locks, look_in, queued, let_go}
 use Rattle.lock_queues.specs.Laws.{IsBelow}
 use Rattle.row_tables.specs.Layers.{Layers, undone, kept}
 use Rattle.sql_statements.specs.Plan.{plan}
 use Rattle.sql_statements.specs.declared.statement.Bound.{Bound}
 use Rattle.transcripts.specs.declared.event.Fault.{Fault}
 use Rattle.transcripts.specs.declared.event.Event.{Event}
-use Rattle.transcripts.specs.declared.event.Event.TheVariants.{Failed, Done}
+use Rattle.transcripts.specs.declared.event.Event.TheVariants.{Failed, Waiting, Done}
 use Rattle.session_machine.specs.declared.session.Status.{Status}
 use Rattle.session_machine.specs.Session.{Task, Do, Session, asks, tasks_of, after_fault}
 use Rattle.session_machine.specs.Go.{Scene, Run, go}
@@ -51,6 +52,10 @@ pub record StopsIn (i : ℕ) (x : Standing) (ts : List Task) (y : Standing) : Ty
   pub others : SameOthers i x.layers y.layers x.locks y.locks
 
 -- ---- what a session does
+
+-- it waits for a request, with these tasks left
+abbrev pub waiting_in : ℕ → Standing → Resource → Mode → List Task → Standing
+waiting_in i x r m ts = record { layers = x.layers; locks = queued x.locks i r m; own = record { status = x.own.status; rest = ts; transcript = x.own.transcript ++ Waiting ∷ [] } }
 
 abbrev pub told : Standing → Event → Standing
 told x e = record { layers = x.layers; locks = x.locks; own = record { status = x.own.status; rest = x.own.rest; transcript = x.own.transcript ++ e ∷ [] } }
