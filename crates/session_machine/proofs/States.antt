@@ -53,7 +53,7 @@ set-sessions_from l m t u k (suc j) own (o ∷ owns) same =
     let apart : k ≢ k + suc j = λ e. omega arith in
     let next : suc k + j ≡ k + suc j = omega arith in
     (λ x. record { overlay = same.overlays k apart x; held = same.held k apart x; status = o.status; rest = o.rest; transcript = o.transcript }
-        ∷ (set-sessions_from l m t u (suc k) j own owns (subst (λ n. SameOthers n l m t u) (sym next) same) ∙ ap (λ n. set (sessions_from l t (suc k) owns) j (session_of m u n own)) next) x)
+    ∷ (set-sessions_from l m t u (suc k) j own owns (subst (λ n. SameOthers n l m t u) (sym next) same) ∙ ap (λ n. set (sessions_from l t (suc k) owns) j (session_of m u n own)) next) x)
 
 pub sessions-set : (l m : Layers) (t u : Locks) (i : ℕ) (own : Own) (owns : List Own) → SameOthers i l m t u → sessions_from m u 0 (set owns i own) ≡ set (sessions_from l t 0 owns) i (session_of m u i own)
 sessions-set l m t u i own owns same =

@@ -9,8 +9,11 @@ use Rattle.sql_statements.specs.Plan.{plan}
 use Rattle.sql_statements.specs.declared.statement.Bound.{Bound}
 use Rattle.transcripts.specs.declared.event.Fault.{Fault}
 use Rattle.transcripts.specs.declared.event.Event.{Event}
-use Rattle.transcripts.specs.declared.event.Event.TheVariants.{Failed, Waiting, Done}
+use Rattle.transcripts.specs.declared.event.Warning.TheVariants.{InBlock as AlreadyInBlock, NoBlock}
+use Rattle.transcripts.specs.declared.event.Event.TheVariants.{Failed, Waiting, Done, Began, Committed, RolledBack, Warned}
 use Rattle.session_machine.specs.declared.session.Status.{Status}
+use Rattle.session_machine.specs.declared.session.Status.TheVariants.{Outside, InBlock, Broken}
+use Rattle.session_machine.specs.declared.session.SessionState.{SessionState}
 use Rattle.session_machine.specs.Session.{Task, Do, Session, asks, tasks_of, after_fault}
 use Rattle.session_machine.specs.Go.{Scene, Run, go}
 use Rattle.session_machine.specs.State.{Own, session_of, SameOthers}
@@ -71,3 +74,51 @@ rolled_back i x status = record { layers = undone i x.layers; locks = let_go x.l
 -- a fault ends its step
 abbrev pub failed_in : ℕ → Standing → Fault → Standing
 failed_in i x f = record { layers = undone i x.layers; locks = let_go x.locks i; own = record { status = after_fault x.own.status; rest = []; transcript = x.own.transcript ++ Failed f ∷ Done ∷ [] } }
+
+-- the session ends its step
+abbrev pub finished_by_status : Status → ℕ → Standing → Standing
+finished_by_status Outside i x = told (committed i x Outside) Done
+finished_by_status InBlock i x = told x Done
+finished_by_status Broken i x = told x Done
+
+abbrev pub finished_in : ℕ → Standing → Standing
+finished_in i x = finished_by_status x.own.status i x
+
+-- ---- blocks, by the state of a session
+
+-- of a session that goes nothing is left to do later
+abbrev pub standing : Layers → Locks → SessionState → Standing
+standing l t s = record { layers = l; locks = t; own = record { status = s.status; rest = []; transcript = s.transcript } }
+
+abbrev pub begun_by : Status → List Event → SessionState
+begun_by InBlock t = record { status = InBlock; transcript = (t ++ Warned AlreadyInBlock ∷ []) ++ Began ∷ [] }
+begun_by Outside t = record { status = InBlock; transcript = t ++ Began ∷ [] }
+begun_by Broken t = record { status = InBlock; transcript = t ++ Began ∷ [] }
+
+-- a block begins, or goes on with a warning
+abbrev pub begun_in : SessionState → SessionState
+begun_in s = begun_by s.status s.transcript
+
+abbrev pub ended_by : Status → List Event → Event → SessionState
+ended_by Outside t e = record { status = Outside; transcript = (t ++ Warned NoBlock ∷ []) ++ e ∷ [] }
+ended_by InBlock t e = record { status = Outside; transcript = t ++ e ∷ [] }
+ended_by Broken t e = record { status = Outside; transcript = t ++ e ∷ [] }
+
+-- a block ends so; without a block there is a warning
+abbrev pub block_ended : SessionState → Event → SessionState
+block_ended s e = ended_by s.status s.transcript e
+
+abbrev pub state_of : Standing → SessionState
+state_of x = record { status = x.own.status; transcript = x.own.transcript }
+
+abbrev pub rolls_back_in : ℕ → Standing → Standing
+rolls_back_in i x = standing (undone i x.layers) (let_go x.locks i) (block_ended (state_of x) RolledBack)
+
+abbrev pub commits_by : Status → ℕ → Standing → Standing
+commits_by Outside i x = standing (kept i x.layers) (let_go x.locks i) (block_ended (state_of x) Committed)
+commits_by InBlock i x = standing (kept i x.layers) (let_go x.locks i) (block_ended (state_of x) Committed)
+commits_by Broken i x = rolls_back_in i x
+
+-- a block that has failed is rolled back
+abbrev pub commits_in : ℕ → Standing → Standing
+commits_in i x = commits_by x.own.status i x
