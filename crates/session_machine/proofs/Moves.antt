@@ -1,6 +1,6 @@
 -- What each move of a session comes to: a request, a statement, the end of a step.
-use Rattle.std.proofs.Common.{◌≡◌, ◌≢◌, refl, sym, ap, ◌∙◌, subst, ℕ, ◌<◌, ◌≤◌, Bool, true, false, List, [], ◌∷◌, ◌++◌, length, Some, None, arith}
-use Rattle.version_tree.specs.Map.{get, insert}
+use Rattle.std.proofs.Common.{◌≡◌, ◌≢◌, refl, sym, ap, ◌∙◌, subst, ℕ, ◌<◌, ◌≤◌, Bool, true, false, List, [], ◌∷◌, ◌++◌, length, Some, None, ◌⊎◌, inl, inr, arith}
+use Rattle.version_tree.specs.Map.{get, insert, empty}
 use Rattle.lock_modes.specs.declared.mode.Mode.{Mode}
 use Rattle.lock_modes.specs.declared.resource.Resource.{Resource}
 use Rattle.lock_queues.specs.declared.answer.Answer.{Answer}
@@ -14,17 +14,19 @@ use Rattle.sql_statements.specs.declared.statement.Bound.{Bound}
 use Rattle.transcripts.specs.declared.event.Fault.{Fault}
 use Rattle.transcripts.specs.declared.event.Fault.TheVariants.{Deadlock, Aborted}
 use Rattle.transcripts.specs.declared.event.Event.{Event}
-use Rattle.transcripts.specs.declared.event.Event.TheVariants.{Waiting, Done}
+use Rattle.transcripts.specs.declared.event.Event.TheVariants.{Waiting, Done, Warned, Committed, RolledBack}
+use Rattle.transcripts.specs.declared.event.Warning.TheVariants.{NoBlock}
 use Rattle.row_tables.specs.Overlay.{Rows'}
 use Rattle.statement_effects.specs.Effect.{Effect, Gives, Faults, effect}
 use Rattle.statement_effects.specs.Run.{events_of, fault_of, left_by}
 use Rattle.row_tables.specs.Layers.{Layers, overlay_of, sight, undone, kept}
+use Rattle.session_machine.specs.declared.session.SessionState.{SessionState}
 use Rattle.session_machine.specs.declared.session.Status.{Status}
 use Rattle.session_machine.specs.declared.session.Status.TheVariants.{Outside, InBlock, Broken}
 use Rattle.session_machine.specs.Session.{Task, Ask, Do, Session, note, released, ended, Kind, Begins, Commits, RollsBack, Works, kind, Performed, Goes, Fails, perform, perform_by, worked}
 use Rattle.session_machine.specs.Go.{Scene, Run, Stop, go, stopped, failed, finished_by, is_broken, answer_in, held_up, taking, broken_off}
 use Rattle.session_machine.specs.State.{Own, session_of, SameOthers}
-use Rattle.session_machine.specs.Going.{Standing, session_in, run_in, IsScene, GoesOnTo, StopsIn, waiting_in, told, committed, rolled_back, failed_in}
+use Rattle.session_machine.specs.Going.{Standing, session_in, run_in, IsScene, GoesOnTo, StopsIn, waiting_in, told, committed, failed_in, finished_by_status, finished_in, standing, state_of, begun_by, begun_in, ended_by, commits_by, commits_in, rolls_back_in}
 use Rattle.session_machine.proofs.States.{same-refl, same-trans, session-taken, same-taken, held-let_go, same-let_go, waits-let_go, overlay-undone, overlay-kept, same-undone, same-kept, overlay-wrote_each, same-left_by}
 use Rattle.session_machine.proofs.Overlays.{committed-left_by}
 use Rattle.session_machine.proofs.Going.{answer-is}
@@ -186,3 +188,77 @@ ends-inside i x inside = record {
     at e Outside h = absurd (h refl)
     at e InBlock h = refl
     at e Broken h = refl
+
+-- ---- blocks
+
+module _ (i : ℕ) (l : Layers) (t : Locks) (s : SessionState) (st : Bound) (ts : List Task) where
+  pub begins-there : kind st ≡ Begins → is_broken s.status ≡ false → GoesOnTo i (standing l t s) (Do st ∷ ts) (standing l t (begun_in s)) ts
+  begins-there is whole = goes-there i (standing l t s) (standing l t (begun_in s)) st ts (ap (λ k. perform_by s.status k (session_in i (standing l t s)) l.committed st) is ∙ at s.status s.transcript whole) (same-refl i l t) refl
+    where
+      at : (status : Status) (tr : List Event) → is_broken status ≡ false
+          → perform_by status Begins (session_of l t i (record { status = status; rest = []; transcript = tr })) l.committed st ≡ Goes (session_in i (standing l t (begun_by status tr))) l.committed
+      at Outside tr h = refl
+      at InBlock tr h = refl
+      at Broken tr h = cc
+
+  -- the session without its overlay and its locks
+  dropped-in : (own : Own) → record { overlay = empty; held = empty; status = own.status; rest = own.rest; transcript = own.transcript } ≡ session_of (undone i l) (let_go t i) i own
+  dropped-in own = λ k. record { overlay = sym (overlay-undone i l) k; held = sym (held-let_go t i) k; status = own.status; rest = own.rest; transcript = own.transcript }
+
+  kept-in : (own : Own) → record { overlay = empty; held = empty; status = own.status; rest = own.rest; transcript = own.transcript } ≡ session_of (kept i l) (let_go t i) i own
+  kept-in own = λ k. record { overlay = sym (overlay-kept i l) k; held = sym (held-let_go t i) k; status = own.status; rest = own.rest; transcript = own.transcript }
+
+  pub rolls-back-there : kind st ≡ RollsBack → waits_now t.waits i ≡ false → GoesOnTo i (standing l t s) (Do st ∷ ts) (rolls_back_in i (standing l t s)) ts
+  rolls-back-there is idle =
+      goes-there i (standing l t s) (rolls_back_in i (standing l t s)) st ts (ap (λ k. perform_by s.status k (session_in i (standing l t s)) l.committed st) is ∙ at s.status s.transcript)
+      (others-undone i (standing l t s)) (waits-let_go t i idle)
+    where
+      at : (status : Status) (tr : List Event) → perform_by status RollsBack (session_of l t i (record { status = status; rest = []; transcript = tr })) l.committed st ≡ Goes (session_in i (standing (undone i l) (let_go t i) (ended_by status tr RolledBack))) l.committed
+      at Outside tr = ap (λ x. Goes x l.committed) (dropped-in (record { status = Outside; rest = []; transcript = (tr ++ Warned NoBlock ∷ []) ++ RolledBack ∷ [] }))
+      at InBlock tr = ap (λ x. Goes x l.committed) (dropped-in (record { status = Outside; rest = []; transcript = tr ++ RolledBack ∷ [] }))
+      at Broken tr = ap (λ x. Goes x l.committed) (dropped-in (record { status = Outside; rest = []; transcript = tr ++ RolledBack ∷ [] }))
+
+  pub commits-there : kind st ≡ Commits → waits_now t.waits i ≡ false → GoesOnTo i (standing l t s) (Do st ∷ ts) (commits_in i (standing l t s)) ts
+  commits-there is idle =
+      goes-there i (standing l t s) (commits_in i (standing l t s)) st ts (ap (λ k. perform_by s.status k (session_in i (standing l t s)) l.committed st) is ∙ at s.status s.transcript)
+      (others s.status s.transcript) (waits s.status s.transcript)
+    where
+      at : (status : Status) (tr : List Event) → perform_by status Commits (session_of l t i (record { status = status; rest = []; transcript = tr })) l.committed st
+          ≡ Goes (session_in i (commits_by status i (standing l t (record { status = status; transcript = tr })))) (commits_by status i (standing l t (record { status = status; transcript = tr }))).layers.committed
+      at Outside tr = ap (λ x. Goes x (sight i l)) (kept-in (record { status = Outside; rest = []; transcript = (tr ++ Warned NoBlock ∷ []) ++ Committed ∷ [] }))
+      at InBlock tr = ap (λ x. Goes x (sight i l)) (kept-in (record { status = Outside; rest = []; transcript = tr ++ Committed ∷ [] }))
+      at Broken tr = ap (λ x. Goes x l.committed) (dropped-in (record { status = Outside; rest = []; transcript = tr ++ RolledBack ∷ [] }))
+
+      others : (status : Status) (tr : List Event) → let y = commits_by status i (standing l t (record { status = status; transcript = tr })) in SameOthers i l y.layers t y.locks
+      others Outside tr = others-kept i (standing l t s)
+      others InBlock tr = others-kept i (standing l t s)
+      others Broken tr = others-undone i (standing l t s)
+
+      waits : (status : Status) (tr : List Event) → (commits_by status i (standing l t (record { status = status; transcript = tr }))).locks.waits ≡ t.waits
+      waits Outside tr = waits-let_go t i idle
+      waits InBlock tr = waits-let_go t i idle
+      waits Broken tr = waits-let_go t i idle
+
+  -- in a block that has failed only its end has an effect
+  pub broken-fails : is_broken s.status ≡ true → waits_now t.waits i ≡ false → (kind st ≡ Begins) ⊎ (kind st ≡ Works) → StopsIn i (standing l t s) (Do st ∷ ts) (failed_in i (standing l t s) Aborted)
+  broken-fails broken idle (inl is) = fails-there i (standing l t s) st ts Aborted idle (ap (λ k. perform_by s.status k (session_in i (standing l t s)) l.committed st) is ∙ at s.status broken)
+    where
+      at : (status : Status) → is_broken status ≡ true → perform_by status Begins (session_in i (standing l t s)) l.committed st ≡ Fails Aborted
+      at Outside h = cc
+      at InBlock h = cc
+      at Broken h = refl
+  broken-fails broken idle (inr is) = fails-there i (standing l t s) st ts Aborted idle (ap (λ k. perform_by s.status k (session_in i (standing l t s)) l.committed st) is ∙ at s.status broken)
+    where
+      at : (status : Status) → is_broken status ≡ true → perform_by status Works (session_in i (standing l t s)) l.committed st ≡ Fails Aborted
+      at Outside h = cc
+      at InBlock h = cc
+      at Broken h = refl
+
+-- a step ends
+pub ends-there : (i : ℕ) (x : Standing) → waits_now x.locks.waits i ≡ false → StopsIn i x [] (finished_in i x)
+ends-there i x idle = at x.own.status refl
+  where
+    at : (status : Status) → x.own.status ≡ status → StopsIn i x [] (finished_by_status status i x)
+    at Outside is = ends-outside i x is idle
+    at InBlock is = ends-inside i x (λ e. let no : InBlock ≡ Outside = sym is ∙ e in cc)
+    at Broken is = ends-inside i x (λ e. let no : Broken ≡ Outside = sym is ∙ e in cc)
