@@ -1,5 +1,6 @@
 -- What each move of a session comes to: a request, a statement, the end of a step.
-use Rattle.std.proofs.Common.{◌≡◌, ◌≢◌, refl, sym, ap, ◌∙◌, subst, ℕ, ◌<◌, ◌≤◌, Bool, true, false, List, [], ◌∷◌, ◌++◌, length, Some, None, ◌⊎◌, inl, inr, arith}
+use Rattle.std.proofs.Common.{◌≡◌, ◌≢◌, refl, sym, ap, ◌∙◌, subst, ℕ, ◌<◌, ◌≤◌, Bool, true, false, List, [], ◌∷◌, ◌++◌, length, Option, Some, None, ◌⊎◌, inl, inr, arith}
+use Rattle.std.proofs.lemmas.List.{append-nil}
 use Rattle.version_tree.specs.Map.{get, insert, empty}
 use Rattle.lock_modes.specs.declared.mode.Mode.{Mode}
 use Rattle.lock_modes.specs.declared.resource.Resource.{Resource}
@@ -11,6 +12,7 @@ use Rattle.lock_queues.specs.Rules.{IsAnswer}
 use Rattle.lock_queues.specs.Laws.{IsBelow}
 use Rattle.lock_queues.proofs.Slices.{get-slice}
 use Rattle.sql_statements.specs.declared.statement.Bound.{Bound}
+use Rattle.sql_statements.specs.declared.statement.Bound.TheVariants.{Select, Insert, Update, Delete, Begin, Commit, Rollback, LockTable, SetVariable}
 use Rattle.transcripts.specs.declared.event.Fault.{Fault}
 use Rattle.transcripts.specs.declared.event.Fault.TheVariants.{Deadlock, Aborted}
 use Rattle.transcripts.specs.declared.event.Event.{Event}
@@ -26,7 +28,7 @@ use Rattle.session_machine.specs.declared.session.Status.TheVariants.{Outside, I
 use Rattle.session_machine.specs.Session.{Task, Ask, Do, Session, note, released, ended, Kind, Begins, Commits, RollsBack, Works, kind, Performed, Goes, Fails, perform, perform_by, worked}
 use Rattle.session_machine.specs.Go.{Scene, Run, Stop, go, stopped, failed, finished_by, is_broken, answer_in, held_up, taking, broken_off}
 use Rattle.session_machine.specs.State.{Own, session_of, SameOthers}
-use Rattle.session_machine.specs.Going.{Standing, session_in, run_in, IsScene, GoesOnTo, StopsIn, waiting_in, told, committed, failed_in, finished_by_status, finished_in, standing, state_of, begun_by, begun_in, ended_by, commits_by, commits_in, rolls_back_in}
+use Rattle.session_machine.specs.Going.{Standing, session_in, run_in, IsScene, GoesOnTo, StopsIn, waiting_in, told, committed, failed_in, finished_by_status, finished_in, standing, state_of, begun_by, begun_in, ended_by, commits_by, commits_in, rolls_back_in, Does}
 use Rattle.session_machine.proofs.States.{same-refl, same-trans, session-taken, same-taken, held-let_go, same-let_go, waits-let_go, overlay-undone, overlay-kept, same-undone, same-kept, overlay-wrote_each, same-left_by}
 use Rattle.session_machine.proofs.Overlays.{committed-left_by}
 use Rattle.session_machine.proofs.Going.{answer-is}
@@ -262,3 +264,34 @@ ends-there i x idle = at x.own.status refl
     at Outside is = ends-outside i x is idle
     at InBlock is = ends-inside i x (λ e. let no : InBlock ≡ Outside = sym is ∙ e in cc)
     at Broken is = ends-inside i x (λ e. let no : Broken ≡ Outside = sym is ∙ e in cc)
+
+-- ---- one statement
+
+pub kind-works : (st : Bound) → (st ≡ Begin → ⊥) → (st ≡ Commit → ⊥) → (st ≡ Rollback → ⊥) → kind st ≡ Works
+kind-works Begin a b c = absurd (a refl)
+kind-works Commit a b c = absurd (b refl)
+kind-works Rollback a b c = absurd (c refl)
+kind-works (Select t key w by out) a b c = refl
+kind-works (Insert t key new) a b c = refl
+kind-works (Update t key sets w) a b c = refl
+kind-works (Delete t key w) a b c = refl
+kind-works (LockTable t m) a b c = refl
+kind-works SetVariable a b c = refl
+
+-- an effect that faults leaves and tells nothing
+faults-nothing : (i : ℕ) (e : Effect) (f : Fault) (l : Layers) → fault_of e ≡ Some f → (left_by i e l ≡ l) × (events_of e ≡ [])
+faults-nothing i (Gives events writes) f l is = absurd (let no : None ≡ Some f = is in cc)
+faults-nothing i (Faults g) f l is = (refl, refl)
+
+-- a statement that works does what its effect is
+pub does-work : (i : ℕ) (l m : Layers) (t : Locks) (s : SessionState) (st : Bound) (tr : List Event) (fault : Option Fault) → kind st ≡ Works → is_broken s.status ≡ false → waits_now t.waits i ≡ false
+    → fault ≡ fault_of (effect st (sight i l)) → m ≡ left_by i (effect st (sight i l)) l → tr ≡ s.transcript ++ events_of (effect st (sight i l))
+    → Does i (standing l t s) st (standing m t (record { status = s.status; transcript = tr })) fault
+does-work i l m t s st tr None is whole idle fault left told = λ ts.
+    subst (λ y. GoesOnTo i (standing l t s) (Do st ∷ ts) y ts) (λ k. record { layers = sym left k; locks = t; own = record { status = s.status; rest = []; transcript = sym told k } })
+    (works-there i (standing l t s) st ts is whole (sym fault))
+does-work i l m t s st tr (Some f) is whole idle fault left told = λ ts.
+    let nothing = faults-nothing i (effect st (sight i l)) f l (sym fault) in
+    subst (λ y. StopsIn i (standing l t s) (Do st ∷ ts) (failed_in i y f))
+    (λ k. record { layers = (sym nothing.0 ∙ sym left) k; locks = t; own = record { status = s.status; rest = []; transcript = (sym (append-nil s.transcript) ∙ ap (λ es. s.transcript ++ es) (sym nothing.1) ∙ sym told) k } })
+    (works-fails i (standing l t s) st ts f is whole idle (sym fault))

@@ -1,5 +1,5 @@
 -- A session that goes, where its overlay lies in a store and its modes in a lock table.
-use Rattle.std.specs.Prelude.{◌≡◌, ◌≢◌, ℕ, ◌<◌, List, [], ◌∷◌, ◌++◌, drop}
+use Rattle.std.specs.Prelude.{◌≡◌, ◌≢◌, ℕ, ◌<◌, List, [], ◌∷◌, ◌++◌, drop, Option, Some, None}
 use Rattle.lock_modes.specs.declared.mode.Mode.{Mode}
 use Rattle.lock_modes.specs.declared.resource.Resource.{Resource}
 use Rattle.lock_queues.specs.LockTable.{Locks, look_in, queued, let_go}
@@ -122,3 +122,10 @@ commits_by Broken i x = rolls_back_in i x
 -- a block that has failed is rolled back
 abbrev pub commits_in : ℕ → Standing → Standing
 commits_in i x = commits_by x.own.status i x
+
+-- ---- what the calls for one statement promise
+
+-- the statement, whose requests are had, leaves the session there, or it fails and so does the step
+abbrev pub Does : ℕ → Standing → Bound → Standing → Option Fault → Type 0
+Does i x st y None = (ts : List Task) → GoesOnTo i x (Do st ∷ ts) y ts
+Does i x st y (Some f) = (ts : List Task) → StopsIn i x (Do st ∷ ts) (failed_in i y f)

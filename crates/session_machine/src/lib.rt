@@ -4,6 +4,7 @@
 mod blocks;
 mod error;
 mod laws;
+mod performing;
 mod runs;
 mod session;
 #[cfg(test)]

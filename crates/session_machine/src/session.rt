@@ -1,3 +1,6 @@
+ghost use Rattle.std.specs.Prelude.{◌≡◌};
+ghost use Rattle.session_machine.specs.Go.{is_broken};
+
 use transcripts::Transcript;
 
 /// Where a session stands with its transaction block.
@@ -7,6 +10,15 @@ pub enum Status {
     InBlock,
     /// The block has failed: only its end has an effect.
     Broken,
+}
+
+impl Status {
+    /// Whether the block has failed.
+    pub(crate) fn is_broken(self) -> bool
+        ensures { result ≡ is_broken self }
+    {
+        matches!(self, Status::Broken)
+    }
 }
 
 /// A session's block, and what it was told.
