@@ -28,5 +28,6 @@ pub mod Shown
 pub mod States
 pub mod Going
 pub mod Moves
+pub mod Requests
 pub mod SettleSteps
 pub mod Specs

@@ -1,11 +1,12 @@
 -- A session that goes, where its overlay lies in a store and its modes in a lock table.
-use Rattle.std.specs.Prelude.{◌≡◌, ◌≢◌, ℕ, ◌<◌, List, [], ◌∷◌, ◌++◌, drop, Option, Some, None}
+use Rattle.std.specs.Prelude.{◌≡◌, ◌≢◌, ℕ, ◌<◌, ◌+◌, false, List, [], ◌∷◌, ◌++◌, drop, Option, Some, None}
 use Rattle.lock_modes.specs.declared.mode.Mode.{Mode}
 use Rattle.lock_modes.specs.declared.resource.Resource.{Resource}
-use Rattle.lock_queues.specs.LockTable.{Locks, look_in, queued, let_go}
+use Rattle.lock_queues.specs.Locks.{waits_now}
+use Rattle.lock_queues.specs.LockTable.{Locks, look_in, queued, let_go, slice}
 use Rattle.lock_queues.specs.Laws.{IsBelow}
 use Rattle.row_tables.specs.Layers.{Layers, undone, kept}
-use Rattle.sql_statements.specs.Plan.{plan}
+use Rattle.sql_statements.specs.Plan.{Request, plan}
 use Rattle.sql_statements.specs.declared.statement.Bound.{Bound}
 use Rattle.transcripts.specs.declared.event.Fault.{Fault}
 use Rattle.transcripts.specs.declared.event.Event.{Event}
@@ -15,7 +16,10 @@ use Rattle.session_machine.specs.declared.session.Status.{Status}
 use Rattle.session_machine.specs.declared.session.Status.TheVariants.{Outside, InBlock, Broken}
 use Rattle.session_machine.specs.declared.session.SessionState.{SessionState}
 use Rattle.session_machine.specs.Session.{Task, Do, Session, asks, tasks_of, after_fault}
+use Rattle.session_machine.specs.declared.asking.Asked.{Asked}
+use Rattle.session_machine.specs.declared.asking.Asked.TheVariants.{Had, Waits, Refused}
 use Rattle.session_machine.specs.Go.{Scene, Run, go}
+use Rattle.session_machine.specs.Sound.{HoldsAll, Backed}
 use Rattle.session_machine.specs.State.{Own, session_of, SameOthers}
 
 -- where a session stands: the store, the lock table and what is kept of it beside them
@@ -129,3 +133,28 @@ commits_in i x = commits_by x.own.status i x
 abbrev pub Does : ℕ → Standing → Bound → Standing → Option Fault → Type 0
 Does i x st y None = (ts : List Task) → GoesOnTo i x (Do st ∷ ts) y ts
 Does i x st y (Some f) = (ts : List Task) → StopsIn i x (Do st ∷ ts) (failed_in i y f)
+
+-- ---- what the call for the requests of a statement promises
+
+-- the session holds the requests that it has had, and is to ask the others of the statement from this one on
+pub record IsToAsk (i : ℕ) (t : Locks) (st : Bound) (n : ℕ) : Type 0 where
+  pub idle : waits_now t.waits i ≡ false
+  pub have : List Request
+  pub holds : HoldsAll (slice i t.held) have
+  pub backed : Backed have (asks (drop n (plan st)) (Do st ∷ []))
+
+-- where it stands that waits for the request with this number, before tasks that come behind the statement's
+abbrev pub waits_at : Layers → Locks → SessionState → Bound → ℕ → List Task → Standing
+waits_at l t s st n ts = record { layers = l; locks = t; own = record { status = s.status; rest = asks (drop (n + 1) (plan st)) ts; transcript = s.transcript ++ Waiting ∷ [] } }
+
+-- all requests from that number on are had, or one waits, or is refused
+abbrev pub Asks : ℕ → Locks → SessionState → Bound → ℕ → Locks → Asked → Type 0
+Asks i t s st n u Had = (l : Layers) (ts : List Task) → GoesOnTo i (standing l t s) (asks (drop n (plan st)) ts) (standing l u s) ts
+Asks i t s st n u (Waits k) = (l : Layers) (ts : List Task) → StopsIn i (standing l t s) (asks (drop n (plan st)) ts) (waits_at l u s st k ts)
+Asks i t s st n u (Refused f) = (l : Layers) (ts : List Task) → StopsIn i (standing l t s) (asks (drop n (plan st)) ts) (failed_in i (standing l u s) f)
+
+-- then it holds all that the statement asks for
+abbrev pub HasAll : ℕ → Locks → Bound → Asked → Type 0
+HasAll i u st Had = HoldsAll (slice i u.held) (plan st)
+HasAll i u st (Waits k) = Unit {0}
+HasAll i u st (Refused f) = Unit {0}

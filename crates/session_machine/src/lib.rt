@@ -1,6 +1,7 @@
 //! The sequential machine: sessions send steps over committed rows, wait for locks and go on when they are had.
 #![tactic(auto)]
 
+mod asking;
 mod blocks;
 mod error;
 mod laws;
