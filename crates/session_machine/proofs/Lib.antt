@@ -29,5 +29,6 @@ pub mod States
 pub mod Going
 pub mod Moves
 pub mod Requests
+pub mod Steps
 pub mod SettleSteps
 pub mod Specs

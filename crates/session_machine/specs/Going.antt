@@ -1,11 +1,11 @@
 -- A session that goes, where its overlay lies in a store and its modes in a lock table.
-use Rattle.std.specs.Prelude.{◌≡◌, ◌≢◌, ℕ, ◌<◌, ◌+◌, false, List, [], ◌∷◌, ◌++◌, drop, Option, Some, None}
+use Rattle.std.specs.Prelude.{◌≡◌, ◌≢◌, ℕ, ◌<◌, ◌≤◌, ◌+◌, false, length, List, [], ◌∷◌, ◌++◌, drop, Option, Some, None}
 use Rattle.lock_modes.specs.declared.mode.Mode.{Mode}
 use Rattle.lock_modes.specs.declared.resource.Resource.{Resource}
 use Rattle.lock_queues.specs.Locks.{waits_now}
 use Rattle.lock_queues.specs.LockTable.{Locks, look_in, queued, let_go, slice}
 use Rattle.lock_queues.specs.Laws.{IsBelow}
-use Rattle.row_tables.specs.Layers.{Layers, undone, kept}
+use Rattle.row_tables.specs.Layers.{Layers, overlay_of, undone, kept}
 use Rattle.sql_statements.specs.Plan.{Request, plan}
 use Rattle.sql_statements.specs.declared.statement.Bound.{Bound}
 use Rattle.transcripts.specs.declared.event.Fault.{Fault}
@@ -18,8 +18,9 @@ use Rattle.session_machine.specs.declared.session.SessionState.{SessionState}
 use Rattle.session_machine.specs.Session.{Task, Do, Session, asks, tasks_of, after_fault}
 use Rattle.session_machine.specs.declared.asking.Asked.{Asked}
 use Rattle.session_machine.specs.declared.asking.Asked.TheVariants.{Had, Waits, Refused}
+use Rattle.session_machine.specs.declared.stepping.Point.{Point}
 use Rattle.session_machine.specs.Go.{Scene, Run, go}
-use Rattle.session_machine.specs.Sound.{HoldsAll, Backed}
+use Rattle.session_machine.specs.Sound.{UnderLocks, HoldsAll, Backed}
 use Rattle.session_machine.specs.State.{Own, session_of, SameOthers}
 
 -- where a session stands: the store, the lock table and what is kept of it beside them
@@ -158,3 +159,26 @@ abbrev pub HasAll : ℕ → Locks → Bound → Asked → Type 0
 HasAll i u st Had = HoldsAll (slice i u.held) (plan st)
 HasAll i u st (Waits k) = Unit {0}
 HasAll i u st (Refused f) = Unit {0}
+
+-- ---- what the call for a step promises
+
+-- a statement asks for no more than a byte can count
+abbrev pub IsShort : Bound → Type 0
+IsShort st = length (plan st) ≤ 255
+
+-- the session is to go on with statements from a request of one of them
+pub record IsToGo (i : ℕ) (l : Layers) (t : Locks) (sts : List Bound) (k n : ℕ) : Type 0 where
+  pub idle : waits_now t.waits i ≡ false
+  pub under : (c : ℕ) → c ≢ i → UnderLocks (overlay_of c l) (slice c t.held)
+  pub have : List Request
+  pub holds : HoldsAll (slice i t.held) have
+  pub backed : Backed have (tasks_from (drop k sts) n)
+
+-- where it stands that waits for a request of one of the statements
+abbrev pub paused : Layers → Locks → SessionState → List Bound → Point → Standing
+paused l t s sts p = record { layers = l; locks = t; own = record { status = s.status; rest = tasks_from (drop p.statement sts) (p.request + 1); transcript = s.transcript } }
+
+-- the step ends there, or a request of it waits
+abbrev pub GoesUntil : ℕ → Standing → List Bound → Point → Layers → Locks → SessionState → Option Point → Type 0
+GoesUntil i x sts from m u s None = StopsIn i x (tasks_from (drop from.statement sts) from.request) (standing m u s)
+GoesUntil i x sts from m u s (Some p) = StopsIn i x (tasks_from (drop from.statement sts) from.request) (paused m u s sts p)

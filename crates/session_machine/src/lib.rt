@@ -8,6 +8,7 @@ mod laws;
 mod performing;
 mod runs;
 mod session;
+mod stepping;
 #[cfg(test)]
 mod tests;
 mod transaction;
