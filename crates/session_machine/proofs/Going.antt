@@ -1,30 +1,29 @@
 -- What a session that goes is answered and may read, by the store and the lock table.
-use Rattle.std.proofs.Common.{◌≡◌, ◌≢◌, refl, sym, ap, ◌∙◌, subst, ℕ, zero, suc, ◌<◌, ◌≤◌, Bool, true, false, cond, ◌&&◌, ◌||◌, ◌==◌, List, [], ◌∷◌, ◌++◌, length, Option, Some, None, is_some, ◌⊎◌, inl, inr, ⊎_elim, arith, eqb-true, eq-eqb}
+use Rattle.std.proofs.Common.{◌≡◌, ◌≢◌, refl, sym, ap, ◌∙◌, subst, ℕ, zero, suc, Bool, true, false, cond, ◌&&◌, ◌||◌, ◌==◌, List, [], ◌∷◌, ◌++◌, Option, Some, None, is_some, ◌⊎◌, inl, inr, ⊎_elim, eqb-true, eq-eqb}
 use Rattle.version_tree.specs.Map.{get}
-use Rattle.lock_modes.specs.Place.{Place}
-use Rattle.lock_modes.specs.Mode.{compatible, cover}
+use Rattle.lock_modes.specs.Mode.{compatible}
 use Rattle.lock_modes.specs.declared.mode.Mode.{Mode}
 use Rattle.lock_modes.specs.declared.resource.Resource.{Resource}
 use Rattle.lock_modes.proofs.ModeLaws.{compatible-cover}
-use Rattle.lock_queues.specs.Locks.{Look, Spot, fits, fits_with, wanted, all_below, nobody_waits, may_have, closes_ring, answered, next_grant}
+use Rattle.lock_queues.specs.Locks.{Look, fits, fits_with, wanted, all_below, nobody_waits, may_have, closes_ring, answered}
 use Rattle.lock_queues.specs.LockTable.{Locks, Asked, look_in, queued, ask, slice}
-use Rattle.lock_queues.specs.Rules.{IsAnswer, after}
+use Rattle.lock_queues.specs.Rules.{IsAnswer}
 use Rattle.lock_queues.specs.declared.answer.Answer.{Answer}
 use Rattle.lock_queues.specs.declared.answer.Answer.TheVariants.{Granted, Waits, Ring}
 use Rattle.lock_queues.proofs.Bounded.{tests-decide}
 use Rattle.lock_queues.proofs.Slices.{get-slice}
-use Rattle.sql_statements.specs.Plan.{Tuple, Request, plan, looks_at}
+use Rattle.sql_statements.specs.Plan.{Tuple, Request, plan}
 use Rattle.sql_statements.specs.declared.statement.Bound.{Bound}
 use Rattle.row_tables.specs.Layers.{Layers, overlay_of}
 use Rattle.statement_effects.specs.Run.{SeesAlone}
 use Rattle.session_machine.specs.Session.{Held, Session}
 use Rattle.session_machine.specs.Go.{Scene, answer_in, look_with, waiting_with}
 use Rattle.session_machine.specs.Going.{IsScene}
-use Rattle.session_machine.specs.Quiet.{may_write, claims_of}
+use Rattle.session_machine.specs.Quiet.{claims_of}
 use Rattle.session_machine.specs.Sound.{HeldTogether, UnderLocks, HoldsAll, AtLeast}
-use Rattle.session_machine.proofs.Basics.{Each, both_true, or_true_left, or_true_right, not_both, known, compatible-symm}
+use Rattle.session_machine.proofs.Basics.{Each, both_true, or_true_left, not_both}
 use Rattle.session_machine.proofs.Commute.{cases-eq, claims-asked}
-use Rattle.session_machine.proofs.Effects.{Friends, Claimed, reads-off}
+use Rattle.session_machine.proofs.Effects.{Friends, reads-off}
 use Rattle.session_machine.proofs.FromQuiet.{claims-cases}
 use Rattle.session_machine.proofs.Looks.{looked-opened}
 use Rattle.session_machine.proofs.Stronger.{held-claim}

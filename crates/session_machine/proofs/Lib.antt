@@ -30,5 +30,6 @@ pub mod Going
 pub mod Moves
 pub mod Requests
 pub mod Steps
+pub mod Worlds
 pub mod SettleSteps
 pub mod Specs

@@ -1,34 +1,33 @@
 -- What each move of a session comes to: a request, a statement, the end of a step.
-use Rattle.std.proofs.Common.{◌≡◌, ◌≢◌, refl, sym, ap, ◌∙◌, subst, ℕ, ◌<◌, ◌≤◌, Bool, true, false, List, [], ◌∷◌, ◌++◌, length, Option, Some, None, ◌⊎◌, inl, inr, arith}
+use Rattle.std.proofs.Common.{◌≡◌, ◌≢◌, refl, sym, ap, ◌∙◌, subst, ℕ, ◌<◌, Bool, true, false, List, [], ◌∷◌, ◌++◌, Option, Some, None, ◌⊎◌, inl, inr, arith}
 use Rattle.std.proofs.lemmas.List.{append-nil}
-use Rattle.version_tree.specs.Map.{get, insert, empty}
+use Rattle.version_tree.specs.Map.{get, empty}
 use Rattle.lock_modes.specs.declared.mode.Mode.{Mode}
 use Rattle.lock_modes.specs.declared.resource.Resource.{Resource}
 use Rattle.lock_queues.specs.declared.answer.Answer.{Answer}
 use Rattle.lock_queues.specs.declared.answer.Answer.TheVariants.{Granted, Waits, Ring}
 use Rattle.lock_queues.specs.Locks.{waits_now}
-use Rattle.lock_queues.specs.LockTable.{Locks, look_in, taken, queued, let_go, slice}
+use Rattle.lock_queues.specs.LockTable.{Locks, look_in, taken, let_go, slice}
 use Rattle.lock_queues.specs.Rules.{IsAnswer}
-use Rattle.lock_queues.specs.Laws.{IsBelow}
 use Rattle.lock_queues.proofs.Slices.{get-slice}
 use Rattle.sql_statements.specs.declared.statement.Bound.{Bound}
 use Rattle.sql_statements.specs.declared.statement.Bound.TheVariants.{Select, Insert, Update, Delete, Begin, Commit, Rollback, LockTable, SetVariable}
 use Rattle.transcripts.specs.declared.event.Fault.{Fault}
 use Rattle.transcripts.specs.declared.event.Fault.TheVariants.{Deadlock, Aborted}
 use Rattle.transcripts.specs.declared.event.Event.{Event}
-use Rattle.transcripts.specs.declared.event.Event.TheVariants.{Waiting, Done, Warned, Committed, RolledBack}
+use Rattle.transcripts.specs.declared.event.Event.TheVariants.{Done, Warned, Committed, RolledBack}
 use Rattle.transcripts.specs.declared.event.Warning.TheVariants.{NoBlock}
 use Rattle.row_tables.specs.Overlay.{Rows'}
 use Rattle.statement_effects.specs.Effect.{Effect, Gives, Faults, effect}
 use Rattle.statement_effects.specs.Run.{events_of, fault_of, left_by}
-use Rattle.row_tables.specs.Layers.{Layers, overlay_of, sight, undone, kept}
+use Rattle.row_tables.specs.Layers.{Layers, sight, undone, kept}
 use Rattle.session_machine.specs.declared.session.SessionState.{SessionState}
 use Rattle.session_machine.specs.declared.session.Status.{Status}
 use Rattle.session_machine.specs.declared.session.Status.TheVariants.{Outside, InBlock, Broken}
-use Rattle.session_machine.specs.Session.{Task, Ask, Do, Session, note, released, ended, Kind, Begins, Commits, RollsBack, Works, kind, Performed, Goes, Fails, perform, perform_by, worked}
-use Rattle.session_machine.specs.Go.{Scene, Run, Stop, go, stopped, failed, finished_by, is_broken, answer_in, held_up, taking, broken_off}
+use Rattle.session_machine.specs.Session.{Task, Ask, Do, Session, released, Begins, Commits, RollsBack, Works, kind, Performed, Goes, Fails, perform, perform_by, worked}
+use Rattle.session_machine.specs.Go.{Scene, Run, go, stopped, failed, finished_by, is_broken, answer_in, held_up, taking}
 use Rattle.session_machine.specs.State.{Own, session_of, SameOthers}
-use Rattle.session_machine.specs.Going.{Standing, session_in, run_in, IsScene, GoesOnTo, StopsIn, waiting_in, told, committed, failed_in, finished_by_status, finished_in, standing, state_of, begun_by, begun_in, ended_by, commits_by, commits_in, rolls_back_in, Does}
+use Rattle.session_machine.specs.Going.{Standing, session_in, run_in, IsScene, GoesOnTo, StopsIn, waiting_in, told, committed, failed_in, finished_by_status, finished_in, standing, begun_by, begun_in, ended_by, commits_by, commits_in, rolls_back_in, Does}
 use Rattle.session_machine.proofs.States.{same-refl, same-trans, session-taken, same-taken, held-let_go, same-let_go, waits-let_go, overlay-undone, overlay-kept, same-undone, same-kept, overlay-wrote_each, same-left_by}
 use Rattle.session_machine.proofs.Overlays.{committed-left_by}
 use Rattle.session_machine.proofs.Going.{answer-is}

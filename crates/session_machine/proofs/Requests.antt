@@ -3,11 +3,10 @@ use Rattle.std.specs.List.{slice_get}
 use Rattle.std.proofs.lemmas.List.{drop_all}
 use Rattle.std.proofs.lemmas.Option.{slice_get_cases}
 use Rattle.std.proofs.Common.{◌≡◌, refl, sym, ap, ◌∙◌, subst, ℕ, suc, ◌+◌, ◌<◌, ◌≤◌, false, List, [], ◌∷◌, length, drop, drop-cons, add-one, Option, Some, None, ◌⊎◌, inl, inr}
-use Rattle.lock_queues.specs.Locks.{waits_now}
 use Rattle.lock_queues.specs.LockTable.{Locks, taken, slice}
 use Rattle.sql_statements.specs.Plan.{Request, plan}
 use Rattle.sql_statements.specs.declared.statement.Bound.{Bound}
-use Rattle.session_machine.specs.Session.{Task, Do, asks}
+use Rattle.session_machine.specs.Session.{Do, asks}
 use Rattle.session_machine.specs.Sound.{HoldsAll, Backed}
 use Rattle.session_machine.specs.Going.{IsToAsk}
 use Rattle.session_machine.proofs.States.{held-taken}

@@ -1,5 +1,5 @@
 -- Settling, one grant after another.
-use Rattle.std.proofs.Common.{◌≡◌, refl, sym, ap, ◌∙◌, ℕ, zero, suc, ◌≤◌, ◌<◌, length, Option, Some, None, arith}
+use Rattle.std.proofs.Common.{◌≡◌, refl, sym, ap, ◌∙◌, ℕ, zero, suc, ◌≤◌, length, Option, Some, None, arith}
 use Rattle.lock_queues.specs.Locks.{Spot, next_grant}
 use Rattle.session_machine.specs.World.{World, look_of, granted, settle_for, settle, left_to_do}
 use Rattle.session_machine.specs.Sound.{Steady}

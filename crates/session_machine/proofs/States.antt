@@ -1,22 +1,22 @@
 -- A world in a store and a lock table: its sessions, and what one session's steps change of it.
-use Rattle.std.proofs.Common.{◌≡◌, ◌≢◌, refl, sym, ap, ◌∙◌, subst, ℕ, zero, suc, ◌+◌, ◌<◌, ◌≤◌, Bool, true, false, cond, ◌==◌, List, [], ◌∷◌, ◌++◌, length, set, get_or, Option, Some, None, ◌⊎◌, ⊎_elim, arith, eqb-true}
+use Rattle.std.proofs.Common.{◌≡◌, ◌≢◌, refl, sym, ap, ◌∙◌, subst, ℕ, zero, suc, ◌+◌, ◌<◌, ◌≤◌, Bool, false, cond, List, [], ◌∷◌, length, set, get_or, ◌⊎◌, ⊎_elim, arith}
 use Rattle.std.proofs.lemmas.List.{get_or_past}
 use Rattle.version_tree.specs.Map.{same_key, same_key-true, same_key-refl, get, insert, empty, get-empty}
 use Rattle.lock_modes.specs.Resource.{resource_order}
 use Rattle.lock_modes.specs.declared.mode.Mode.{Mode}
 use Rattle.lock_modes.specs.declared.resource.Resource.{Resource}
-use Rattle.lock_queues.specs.Locks.{Look, Spot, wanted, next_grant, waits_now}
-use Rattle.lock_queues.specs.LockTable.{Locks, look_in, taken, queued, let_go, to_grant, slice}
+use Rattle.lock_queues.specs.Locks.{wanted, next_grant, waits_now}
+use Rattle.lock_queues.specs.LockTable.{Locks, look_in, taken, let_go, to_grant, slice}
 use Rattle.lock_queues.specs.Laws.{IsBelow}
 use Rattle.lock_queues.proofs.Slices.{get-slice, slice-insert, slice-insert_other, slice-let_go, slice-let_go_other}
-use Rattle.row_tables.specs.Overlay.{Overlay, Write, written}
+use Rattle.row_tables.specs.Overlay.{Write, written}
 use Rattle.row_tables.specs.Layers.{Layers, session_order, overlay_of, wrote, undone, kept}
 use Rattle.row_tables.proofs.LayersLemmas.{overlay_of-wrote, overlay_of-undone, overlay_of-kept}
 use Rattle.statement_effects.specs.Effect.{Effect, Gives, Faults}
 use Rattle.statement_effects.specs.Run.{wrote_each, left_by}
 use Rattle.session_machine.specs.Session.{Session}
 use Rattle.session_machine.specs.Go.{taking}
-use Rattle.session_machine.specs.World.{World, fresh, session_at, look_of}
+use Rattle.session_machine.specs.World.{fresh, session_at, look_of}
 use Rattle.session_machine.specs.State.{Own, no_own, session_of, sessions_from, world_of, SameOthers}
 use Rattle.session_machine.proofs.Basics.{known}
 

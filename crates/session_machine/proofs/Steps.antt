@@ -1,5 +1,5 @@
 -- The statements of a step, one after another.
-use Rattle.std.proofs.Common.{◌≡◌, ◌≢◌, refl, sym, ap, ◌∙◌, subst, ℕ, ◌+◌, false, List, [], ◌∷◌, drop}
+use Rattle.std.proofs.Common.{◌≡◌, ◌≢◌, refl, sym, ap, ◌∙◌, subst, ℕ, ◌+◌, List, [], ◌∷◌, drop}
 use Rattle.lock_queues.specs.Locks.{waits_now}
 use Rattle.lock_queues.specs.LockTable.{Locks, slice}
 use Rattle.row_tables.specs.Overlay.{Overlay}
@@ -7,9 +7,9 @@ use Rattle.row_tables.specs.Layers.{Layers, overlay_of}
 use Rattle.sql_statements.specs.Plan.{Request, plan}
 use Rattle.sql_statements.specs.declared.statement.Bound.{Bound}
 use Rattle.session_machine.specs.Session.{Held, Task, Do, asks, tasks_of}
-use Rattle.session_machine.specs.Sound.{UnderLocks, HoldsAll, Backed}
+use Rattle.session_machine.specs.Sound.{UnderLocks, Backed}
 use Rattle.session_machine.specs.State.{SameOthers}
-use Rattle.session_machine.specs.Going.{Standing, standing, tasks_from, GoesOnTo, StopsIn, IsToAsk, IsToGo}
+use Rattle.session_machine.specs.Going.{Standing, tasks_from, GoesOnTo, StopsIn, IsToAsk, IsToGo}
 use Rattle.session_machine.proofs.Settles.{backed-tasks}
 use Rattle.session_machine.proofs.Moves.{goes-on-on, goes-on-stops}
 

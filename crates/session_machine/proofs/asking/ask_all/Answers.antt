@@ -1,13 +1,11 @@
 use Rattle.std.proofs.lemmas.List.{drop_all}
-use Rattle.std.proofs.Common.{◌≡◌, ◌+◌, ◌≤◌, true, false, sym, ap, ◌∙◌, subst, List, drop, [], ◌∷◌, length, arith}
+use Rattle.std.proofs.Common.{◌+◌, ◌≤◌, sym, ap, ◌∙◌, subst, drop, length, arith}
 use Rattle.lock_modes.specs.Resource.{resource_at}
 use Rattle.lock_queues.specs.Rules.{IsAnswer, after}
 use Rattle.lock_queues.specs.declared.answer.Answer.TheVariants.{Granted, Waits, Ring}
-use Rattle.row_tables.specs.Layers.{Layers}
-use Rattle.sql_statements.specs.Plan.{Request, request, plan}
+use Rattle.sql_statements.specs.Plan.{request, plan}
 use Rattle.transcripts.specs.declared.event.Fault.TheVariants.{Aborted, Deadlock}
-use Rattle.session_machine.specs.Session.{Task, asks}
-use Rattle.session_machine.specs.Go.{is_broken}
+use Rattle.session_machine.specs.Session.{asks}
 use Rattle.session_machine.specs.Going.{standing, failed_in, waits_at, GoesOnTo, StopsIn, IsToAsk}
 use Rattle.session_machine.proofs.Moves.{goes-on-on, goes-on-stops, had, waits-there, closes-ring, asks-broken}
 use Rattle.session_machine.proofs.Requests.{plan-ends, plan-next, next-to-ask, all-asked}

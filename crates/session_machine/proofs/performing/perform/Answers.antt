@@ -1,4 +1,4 @@
-use Rattle.std.proofs.Common.{◌≡◌, sym, ap, ◌∙◌, subst, ◌∷◌}
+use Rattle.std.proofs.Common.{sym, ap, subst, ◌∷◌}
 use Rattle.session_machine.specs.Session.{Do, kind}
 use Rattle.session_machine.specs.Going.{standing, GoesOnTo}
 use Rattle.session_machine.proofs.Moves.{commits-there, rolls-back-there}

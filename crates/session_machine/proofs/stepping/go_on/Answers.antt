@@ -1,7 +1,6 @@
 use Rattle.std.proofs.lemmas.List.{drop_all}
-use Rattle.std.proofs.Common.{◌≡◌, ◌+◌, ◌<◌, sym, ap, ◌∙◌, subst, List, drop, [], ◌∷◌, ◌++◌, length, drop-cons, add-one}
+use Rattle.std.proofs.Common.{◌≡◌, ◌+◌, sym, ap, ◌∙◌, subst, List, drop, [], ◌∷◌, ◌++◌, drop-cons, add-one}
 use Rattle.lock_queues.specs.Locks.{waits_now}
-use Rattle.sql_statements.specs.Plan.{plan}
 use Rattle.transcripts.specs.declared.event.Event.TheVariants.{Waiting}
 use Rattle.session_machine.specs.declared.stepping.Point.{Point}
 use Rattle.session_machine.specs.Session.{Task}
