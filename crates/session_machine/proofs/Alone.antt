@@ -2,7 +2,7 @@
 use Rattle.std.proofs.Common.{◌≡◌, refl, sym, ◌∙◌, ℕ, Bool, true, false, true≢false, List, [], ◌∷◌}
 use Rattle.version_tree.specs.Map.{get}
 use Rattle.lock_queues.specs.Locks.{may_have, closes_ring, answered}
-use Rattle.session_machine.specs.Effect.{Rows'}
+use Rattle.row_tables.specs.Overlay.{Rows'}
 use Rattle.session_machine.specs.Session.{Task, Ask, Do, Session, Performed, Goes, Fails, perform, tasks_of}
 use Rattle.session_machine.specs.Go.{Scene, Run, taking, go, solo, stopped, failed, is_broken, held_up, look_with, waiting_with}
 use Rattle.session_machine.specs.World.{World, session_at, scene_of}
@@ -10,10 +10,9 @@ use Rattle.session_machine.specs.Footprint.{AllHad}
 use Rattle.session_machine.specs.Laws.{Footprint}
 use Rattle.session_machine.specs.Quiet.{claims_of, plans}
 use Rattle.session_machine.specs.Sound.{Sound}
-use Rattle.lock_queues.specs.declared.answer.Answer.{Answer}
 use Rattle.lock_queues.specs.declared.answer.Answer.TheVariants.{Granted, Waits, Ring}
 use Rattle.transcripts.specs.declared.event.Fault.TheVariants.{Deadlock, Aborted}
-use Rattle.sql_subset.specs.declared.bound.Bound.{Bound}
+use Rattle.sql_statements.specs.declared.statement.Bound.{Bound}
 use Rattle.session_machine.proofs.Footprint.{solo-same-but, solo-within}
 use Rattle.session_machine.proofs.Commute.{writes-claimed}
 use Rattle.session_machine.proofs.FromQuiet.{under-from}

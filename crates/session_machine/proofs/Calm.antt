@@ -1,9 +1,10 @@
 -- A session that goes alone notes no wait.
-use Rattle.std.proofs.Common.{◌≡◌, ◌≢◌, refl, sym, ap, subst, ◌∙◌, ℕ, ◌<◌, Bool, true, false, List, [], ◌∷◌, ◌++◌, length, map, get_or, Option, Some, None, append_assoc, length-set}
+use Rattle.std.proofs.Common.{◌≡◌, ◌≢◌, refl, sym, ap, subst, ◌∙◌, ℕ, ◌<◌, true, false, List, [], ◌∷◌, ◌++◌, length, map, get_or, Option, Some, None, append_assoc, length-set}
 use Rattle.version_tree.specs.Map.{entries}
 use Rattle.lock_modes.specs.Place.{Place}
-use Rattle.sql_subset.specs.Plan.{Tuple}
-use Rattle.session_machine.specs.Effect.{Rows', Write, Effect, Gives, Faults, effect, visible, matching, sorted_by, shown, projected, all_aggregated, all_assigned, placed, or_fault, counted}
+use Rattle.sql_statements.specs.Plan.{Tuple}
+use Rattle.row_tables.specs.Overlay.{Rows', Write}
+use Rattle.statement_effects.specs.Effect.{Effect, Gives, Faults, effect, visible, matching, sorted_by, shown, projected, all_aggregated, all_assigned, placed, or_fault, counted}
 use Rattle.session_machine.specs.Session.{Task, Ask, Do, Session, Performed, Goes, Fails, Kind, Begins, Commits, RollsBack, Works, kind, perform, perform_by, worked}
 use Rattle.session_machine.specs.Go.{Stop, taking, solo, failed, finished_by, is_broken}
 use Rattle.session_machine.specs.World.{World, session_at, send}
@@ -15,12 +16,12 @@ use Rattle.transcripts.specs.declared.event.Event.{Event}
 use Rattle.transcripts.specs.declared.event.Event.TheVariants.{Sent, Row as RowEvent, Rows, Inserted, Updated, Deleted, Began, Committed, RolledBack, Locked, Set, Warned, Failed, Waiting, Resumed, Done, NotSent}
 use Rattle.transcripts.specs.declared.event.Fault.{Fault}
 use Rattle.transcripts.specs.declared.event.Fault.TheVariants.{OutOfRange, Duplicate, Aborted}
-use Rattle.sql_subset.specs.declared.bound.Output.{Output}
-use Rattle.sql_subset.specs.declared.bound.Output.TheVariants.{Columns, Aggregates}
+use Rattle.sql_statements.specs.declared.statement.Output.{Output}
+use Rattle.sql_statements.specs.declared.statement.Output.TheVariants.{Columns, Aggregates}
 use Rattle.session_machine.specs.declared.session.Status.{Status}
 use Rattle.session_machine.specs.declared.session.Status.TheVariants.{Outside, InBlock, Broken}
-use Rattle.sql_subset.specs.declared.bound.Bound.{Bound}
-use Rattle.sql_subset.specs.declared.bound.Bound.TheVariants.{Select, Insert, Update, Delete, Begin, Commit, Rollback, LockTable, SetVariable}
+use Rattle.sql_statements.specs.declared.statement.Bound.{Bound}
+use Rattle.sql_statements.specs.declared.statement.Bound.TheVariants.{Select, Insert, Update, Delete, Begin, Commit, Rollback, LockTable, SetVariable}
 use Rattle.lock_modes.specs.declared.value.Value.{Value}
 use Rattle.session_machine.proofs.Solo.{OnGoes}
 use Rattle.session_machine.proofs.Commute.{after, alone, sent, send-free, send-second, Apart, look-here, look-other}

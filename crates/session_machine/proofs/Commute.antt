@@ -8,17 +8,17 @@ use Rattle.lock_modes.specs.Resource.{resource_order, same_resource}
 use Rattle.lock_modes.specs.Mode.{compatible, cover, same_mode}
 use Rattle.lock_queues.specs.declared.wait.Wait.{Wait}
 use Rattle.lock_queues.specs.Locks.{Spot, Look, fits, fits_with, wanted, wanted_by, all_below, waits_now, converts, ahead, is_empty, is_ripe, first_ripe, next_grant, spots_from}
-use Rattle.session_machine.specs.Effect.{Rows'}
-use Rattle.sql_subset.specs.Plan.{Request, plan}
-use Rattle.session_machine.specs.Session.{Task, Ask, Do, Session, Held, tasks_of, asks, note}
-use Rattle.session_machine.specs.Go.{Scene, Run, Stop, solo, stopped, go}
+use Rattle.row_tables.specs.Overlay.{Rows'}
+use Rattle.sql_statements.specs.Plan.{Request, plan}
+use Rattle.session_machine.specs.Session.{Task, Do, Session, Held, tasks_of, asks, note}
+use Rattle.session_machine.specs.Go.{Stop, solo}
 use Rattle.session_machine.specs.World.{World, fresh, session_at, look_of, scene_of, placed_back, goes, settle, settle_for, left_to_do, send}
 use Rattle.sql_subset.specs.Spec.{Step, no_step}
 use Rattle.session_machine.specs.Quiet.{Claims, may_write, claims_of, is_mode, plans}
 use Rattle.lock_modes.specs.declared.mode.Mode.{Mode}
 use Rattle.transcripts.specs.declared.event.Event.TheVariants.{Sent, NotSent}
 use Rattle.lock_modes.specs.declared.resource.Resource.{Resource}
-use Rattle.sql_subset.specs.declared.bound.Bound.{Bound}
+use Rattle.sql_statements.specs.declared.statement.Bound.{Bound}
 use Rattle.session_machine.proofs.Basics.{Each, Each-append, Each-left, Each-right, Each-map, filter_same, both_true, and_true, or_true_left, or_true_right, known, compatible-symm, same_mode-refl}
 use Rattle.lock_modes.proofs.ModeLaws.{compatible-cover}
 use Rattle.session_machine.specs.Footprint.{EachAsk, EachDo, HeldFits, IsFree}

@@ -4,12 +4,13 @@ use Rattle.version_tree.specs.Map.{same_key-true, same_key-refl, get, insert, ke
 use Rattle.lock_modes.specs.Place.{Place}
 use Rattle.lock_modes.specs.Resource.{resource_order, same_resource}
 use Rattle.lock_modes.specs.Mode.{compatible}
-use Rattle.sql_subset.specs.Plan.{Tuple, Request, request, plan, opened, asks_on, reads_table, writes_in, is_exclusive, looks_at, key_at}
-use Rattle.session_machine.specs.Effect.{Rows', visible, Write, Effect, Gives, Faults, effect, matching, passed, consed, sorted_by, shown, all_aggregated, all_assigned, assigned, consed_write, placed, numbered, or_fault, counted}
-use Rattle.session_machine.specs.Evaluate.{holds}
+use Rattle.sql_statements.specs.Plan.{Tuple, Request, request, plan, opened, asks_on, reads_table, writes_in, is_exclusive, looks_at, key_at}
+use Rattle.row_tables.specs.Overlay.{Rows', Write}
+use Rattle.statement_effects.specs.Effect.{visible, Effect, Gives, Faults, effect, matching, passed, consed, sorted_by, shown, all_aggregated, all_assigned, assigned, consed_write, placed, numbered, or_fault, counted}
+use Rattle.statement_effects.specs.Evaluate.{holds}
 use Rattle.session_machine.specs.Quiet.{Claims, may_write}
-use Rattle.sql_subset.specs.declared.bound.Assignment.{Assignment}
-use Rattle.sql_subset.specs.declared.bound.Condition.{Condition}
+use Rattle.sql_statements.specs.declared.statement.Assignment.{Assignment}
+use Rattle.sql_statements.specs.declared.condition.Condition.{Condition}
 use Rattle.transcripts.specs.declared.event.Event.{Event}
 use Rattle.transcripts.specs.declared.event.Fault.{Fault}
 use Rattle.transcripts.specs.declared.event.Fault.TheVariants.{Duplicate, OutOfRange}
@@ -18,13 +19,13 @@ use Rattle.lock_modes.specs.declared.value.Value.{Value}
 use Rattle.lock_modes.specs.declared.value.Value.TheVariants.{Int}
 use Rattle.lock_modes.specs.declared.mode.Mode.{Mode}
 use Rattle.lock_modes.specs.declared.mode.Mode.TheVariants.{IntentShare, IntentExclusive, Share, ShareIntent, Exclusive}
-use Rattle.sql_subset.specs.declared.bound.SortKey.{SortKey}
-use Rattle.sql_subset.specs.declared.bound.Output.{Output}
-use Rattle.sql_subset.specs.declared.bound.Output.TheVariants.{Columns, Aggregates}
+use Rattle.sql_statements.specs.declared.statement.SortKey.{SortKey}
+use Rattle.sql_statements.specs.declared.statement.Output.{Output}
+use Rattle.sql_statements.specs.declared.statement.Output.TheVariants.{Columns, Aggregates}
 use Rattle.lock_modes.specs.declared.resource.Resource.{Resource}
 use Rattle.lock_modes.specs.declared.resource.Resource.TheVariants.{Table, Row as RowOf}
-use Rattle.sql_subset.specs.declared.bound.Bound.{Bound}
-use Rattle.sql_subset.specs.declared.bound.Bound.TheVariants.{Select, Insert, Update, Delete, Begin, Commit, Rollback, LockTable, SetVariable}
+use Rattle.sql_statements.specs.declared.statement.Bound.{Bound}
+use Rattle.sql_statements.specs.declared.statement.Bound.TheVariants.{Select, Insert, Update, Delete, Begin, Commit, Rollback, LockTable, SetVariable}
 use Rattle.session_machine.proofs.Basics.{Each, Each-map, some_passes, both_true, and_true, either_true, or_true_left, or_true_right, not_both, known}
 use Rattle.session_machine.proofs.Looks.{looked-opened, writable}
 use Rattle.session_machine.proofs.Footprint.{ReadsOff, WritesUnder, OnGives}

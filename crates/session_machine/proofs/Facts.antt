@@ -1,11 +1,10 @@
 -- The facts when reducing.
 use Rattle.std.proofs.Common.{◌≡◌, ◌≢◌, refl, sym, ap, ◌∙◌, ℕ, zero, suc, ◌<◌, ◌≤◌, Bool, true, false, List, [], ◌∷◌, length, Option, Some, None, ◌⊎◌, ⊎_elim, arith}
 use Rattle.session_machine.specs.World.{World}
-use Rattle.sql_subset.specs.Spec.{Step, Spec, queues_of}
+use Rattle.sql_subset.specs.Spec.{Spec, queues_of}
 use Rattle.session_machine.specs.Start.{Start, Started, SetupFailed, SessionSetupFailed, SessionSetupWaits, start}
 use Rattle.session_machine.specs.Books.{Fact, Ran, Swap, Truth, IsTrueAt}
 use Rattle.session_machine.specs.Swap.{least_swap, fact_in, swap_by, truth_by, truth_of_spec, fact_of}
-use Rattle.transcripts.specs.declared.event.Event.{Event}
 
 record Least (test : ℕ → Bool) (k j : ℕ) : Type 0 where
   holds : test j ≡ true

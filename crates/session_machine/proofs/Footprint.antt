@@ -1,43 +1,23 @@
 -- What a session that goes alone reads and writes.
 use Rattle.std.proofs.Common.{◌≡◌, refl, sym, ap, ◌∙◌, subst, Bool, true, false, cond, List, [], ◌∷◌, Option, Some, None}
-use Rattle.std.specs.FinMap.Entries.{find}
-use Rattle.version_tree.specs.Map.{same_key, same_key-true, get, insert, get-insert, get-remove, get-keep, empty, get-empty, entries, same_map}
-use Rattle.lock_modes.specs.Place.{Place, place_order, place_cmp}
-use Rattle.sql_subset.specs.Plan.{Tuple, plan, opened, looks_at}
-use Rattle.session_machine.specs.Effect.{Rows', visible, Write, Effect, Gives, Faults, effect, effect_on}
+use Rattle.version_tree.specs.Map.{same_key, same_key-true, get, insert, get-insert, get-keep, empty, get-empty, same_map}
+use Rattle.lock_modes.specs.Place.{Place, place_order}
+use Rattle.sql_statements.specs.Plan.{Tuple, plan, opened, looks_at}
+use Rattle.row_tables.specs.Overlay.{Rows', Write, Overlay, lay, written}
+use Rattle.statement_effects.specs.Effect.{visible, Effect, Gives, Faults, effect, effect_on}
+use Rattle.row_tables.proofs.OverlayLemmas.{over, get-lay}
 use Rattle.session_machine.specs.Session.{Task, Ask, Do, Session, Performed, Goes, Fails, Kind, Begins, Commits, RollsBack, Works, kind, perform, perform_by, worked}
 use Rattle.session_machine.specs.Go.{Stop, taking, solo, failed, finished_by, is_broken}
-use Rattle.row_tables.specs.Overlay.{Overlay, laid, lay, lay_entries, written}
 use Rattle.session_machine.specs.Footprint.{AgreeBut, ReadsBut, SameBut, EachDo}
 use Rattle.session_machine.specs.Quiet.{Claims, may_write}
 use Rattle.transcripts.specs.declared.event.Fault.{Fault}
 use Rattle.transcripts.specs.declared.event.Fault.TheVariants.{Aborted}
 use Rattle.session_machine.specs.declared.session.Status.{Status}
 use Rattle.session_machine.specs.declared.session.Status.TheVariants.{Outside, InBlock, Broken}
-use Rattle.sql_subset.specs.declared.bound.Bound.{Bound}
+use Rattle.sql_statements.specs.declared.statement.Bound.{Bound}
 use Rattle.session_machine.proofs.Basics.{Each, not_both}
 use Rattle.session_machine.proofs.Looks.{looked-opened}
 use Rattle.session_machine.proofs.Solo.{OnGoes}
-
-abbrev pub over : Option (Option Tuple) → Option Tuple → Option Tuple
-over None x = x
-over (Some y) x = y
-
-pub get-laid : (k : Place) (x : Option Tuple) (rows : Rows') (p : Place) → get (laid k x rows) p ≡ cond (same_key place_order p k) x (get rows p)
-get-laid k None rows p = get-remove rows k p
-get-laid k (Some row) rows p = get-insert rows k row p
-
-over-cond : (b : Bool) (x : Option Tuple) (o : Option (Option Tuple)) (y : Option Tuple) → cond b x (over o y) ≡ over (cond b (Some x) o) y
-over-cond true x o y = refl
-over-cond false x o y = refl
-
-get-lay_entries : (es : List (Place × Option Tuple)) (rows : Rows') (p : Place) → get (lay_entries es rows) p ≡ over (find place_cmp p es) (get rows p)
-get-lay_entries [] rows p = refl
-get-lay_entries (e ∷ es) rows p = get-laid e.0 e.1 (lay_entries es rows) p ∙ ap (cond (same_key place_order p e.0) e.1) (get-lay_entries es rows p) ∙ over-cond (same_key place_order p e.0) e.1 (find place_cmp p es) (get rows p)
-
-pub get-lay : (o : Overlay) (rows : Rows') (p : Place) → get (lay o rows) p ≡ over (get o p) (get rows p)
-unfolding lay get entries
-get-lay o rows p = get-lay_entries o.list rows p
 
 -- ---- a statement reads what it looks at, so what its plan opens
 

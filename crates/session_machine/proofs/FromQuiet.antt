@@ -7,7 +7,7 @@ use Rattle.lock_modes.specs.Resource.{resource_order, same_resource}
 use Rattle.lock_modes.specs.Mode.{compatible, same_mode}
 use Rattle.lock_queues.specs.declared.wait.Wait.{Wait}
 use Rattle.lock_queues.specs.Locks.{Look, fits, fits_with, all_below, waits_now}
-use Rattle.sql_subset.specs.Plan.{Request}
+use Rattle.sql_statements.specs.Plan.{Request}
 use Rattle.session_machine.specs.Session.{Held}
 use Rattle.session_machine.specs.World.{World, session_at, look_of, scene_of, send}
 use Rattle.sql_subset.specs.Spec.{Step, no_step}

@@ -4,23 +4,21 @@ use Rattle.version_tree.specs.Map.{same_key, same_key-true, get, insert, get-ins
 use Rattle.lock_modes.specs.Place.{place_order}
 use Rattle.lock_modes.specs.Resource.{resource_order}
 use Rattle.lock_queues.specs.Locks.{fits, wanted, may_have, closes_ring, answered}
-use Rattle.sql_subset.specs.Plan.{Tuple, Request, request, plan}
-use Rattle.session_machine.specs.Effect.{Rows', Write, Effect, Gives, Faults, effect}
-use Rattle.session_machine.specs.Session.{Task, Ask, Do, Session, Held, Performed, Goes, Fails, Kind, Begins, Commits, RollsBack, Works, kind, perform, perform_by, worked, note}
-use Rattle.row_tables.specs.Overlay.{Overlay, written}
+use Rattle.sql_statements.specs.Plan.{Tuple, Request, request, plan}
+use Rattle.row_tables.specs.Overlay.{Rows', Write, Overlay, written}
+use Rattle.statement_effects.specs.Effect.{Effect, Gives, Faults, effect}
+use Rattle.session_machine.specs.Session.{Task, Ask, Do, Session, Held, Performed, Goes, Fails, Kind, Begins, Commits, RollsBack, Works, kind, perform, perform_by, worked}
 use Rattle.session_machine.specs.Go.{Scene, Run, taking, go, stopped, failed, finished_by, is_broken, held_up, look_with, waiting_with}
 use Rattle.session_machine.specs.Quiet.{may_write, claims_of}
 use Rattle.session_machine.specs.Sound.{HoldsAll, Backed, UnderLocks}
-use Rattle.lock_queues.specs.declared.answer.Answer.{Answer}
 use Rattle.lock_queues.specs.declared.answer.Answer.TheVariants.{Granted, Waits, Ring}
 use Rattle.lock_modes.specs.declared.mode.Mode.{Mode}
-use Rattle.transcripts.specs.declared.event.Event.TheVariants.{Waiting}
 use Rattle.transcripts.specs.declared.event.Fault.{Fault}
 use Rattle.transcripts.specs.declared.event.Fault.TheVariants.{Aborted, Deadlock}
 use Rattle.lock_modes.specs.declared.resource.Resource.{Resource}
 use Rattle.session_machine.specs.declared.session.Status.{Status}
 use Rattle.session_machine.specs.declared.session.Status.TheVariants.{Outside, InBlock, Broken}
-use Rattle.sql_subset.specs.declared.bound.Bound.{Bound}
+use Rattle.sql_statements.specs.declared.statement.Bound.{Bound}
 use Rattle.session_machine.proofs.Looks.{writable}
 use Rattle.session_machine.proofs.Basics.{Each, both_true}
 use Rattle.session_machine.specs.Footprint.{HeldFits}

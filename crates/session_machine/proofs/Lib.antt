@@ -1,7 +1,7 @@
 pub mod Worked
 pub mod Plain
+pub mod Overlays
 pub mod PlainStart
-pub mod PlainEffects
 pub mod NamedLemmas
 pub mod Basics
 pub mod Looks
@@ -12,7 +12,6 @@ pub mod Commute
 pub mod FromQuiet
 pub mod Stronger
 pub mod Kept
-pub mod Rings
 pub mod Settles
 pub mod Swaps
 pub mod Reports
@@ -20,12 +19,17 @@ pub mod Replays
 pub mod SerialLine
 pub mod Starts
 pub mod Whole
-pub mod LockTables
 pub mod Waiters
 pub mod Calm
 pub mod StartsTold
 pub mod Facts
-pub mod Slices
 pub mod Alone
 pub mod Shown
+pub mod States
+pub mod Going
+pub mod Moves
+pub mod Requests
+pub mod Steps
+pub mod Worlds
+pub mod SettleSteps
 pub mod Specs

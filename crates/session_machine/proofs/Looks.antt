@@ -1,16 +1,16 @@
 -- The plan of a statement opens what the statement looks at; what a plan lets be written.
-use Rattle.std.proofs.Common.{◌≡◌, refl, sym, subst, ℕ, Bool, true, false, ◌&&◌, ◌||◌, ◌==◌, List, [], ◌∷◌, map, Option, Some, None, ◌⊎◌, inl, inr, eqb-true}
+use Rattle.std.proofs.Common.{◌≡◌, refl, sym, subst, ℕ, Bool, true, ◌&&◌, ◌||◌, ◌==◌, List, [], ◌∷◌, map, Some, None, inl, inr, eqb-true}
 use Rattle.std.specs.List.{list_any}
 use Rattle.version_tree.specs.Map.{same_key-true, same_key-refl}
 use Rattle.lock_modes.specs.Place.{Place}
 use Rattle.lock_modes.specs.Value.{value_order}
 use Rattle.lock_modes.specs.Resource.{resource_order, same_resource}
-use Rattle.sql_subset.specs.Plan.{Tuple, request, Request, plan, opened, asks_on, reads_table, writes_in, is_exclusive, key_at, at_key, looks_at}
+use Rattle.sql_statements.specs.Plan.{Tuple, request, Request, plan, opened, asks_on, reads_table, writes_in, is_exclusive, key_at, at_key, looks_at}
 use Rattle.lock_modes.specs.declared.mode.Mode.{Mode}
 use Rattle.lock_modes.specs.declared.mode.Mode.TheVariants.{IntentShare, IntentExclusive, Share, Exclusive}
 use Rattle.lock_modes.specs.declared.resource.Resource.TheVariants.{Table, Row as RowOf}
-use Rattle.sql_subset.specs.declared.bound.Bound.{Bound}
-use Rattle.sql_subset.specs.declared.bound.Bound.TheVariants.{Select, Insert, Update, Delete, Begin, Commit, Rollback, LockTable, SetVariable}
+use Rattle.sql_statements.specs.declared.statement.Bound.{Bound}
+use Rattle.sql_statements.specs.declared.statement.Bound.TheVariants.{Select, Insert, Update, Delete, Begin, Commit, Rollback, LockTable, SetVariable}
 use Rattle.lock_modes.specs.declared.value.Value.{Value}
 use Rattle.session_machine.proofs.Basics.{both_true, and_true, either_true, or_true_left, or_true_right}
 

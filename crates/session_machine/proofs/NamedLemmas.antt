@@ -1,12 +1,13 @@
 -- The steps that a transcript names.
 use Rattle.std.specs.List.{All}
 use Rattle.std.proofs.lemmas.List.Elements.{All-nil, All-cons, All-append, All-push}
-use Rattle.std.proofs.Common.{◌≡◌, refl, ap, ◌∙◌, ℕ, zero, suc, ◌<◌, true, List, [], ◌∷◌, ◌++◌, length, get_or, arith}
-use Rattle.sql_subset.specs.declared.bound.Bound.{Bound}
+use Rattle.std.proofs.Common.{◌≡◌, refl, ℕ, zero, suc, ◌<◌, true, List, [], ◌∷◌, ◌++◌, length, get_or, arith}
+use Rattle.sql_statements.specs.declared.statement.Bound.{Bound}
 use Rattle.transcripts.specs.Outcome.{HasStep}
 use Rattle.transcripts.specs.declared.event.Event.{Event}
 use Rattle.transcripts.specs.declared.event.Event.TheVariants.{Sent, Row as RowEvent, Rows, Inserted, Updated, Deleted, Began, Committed, RolledBack, Locked, Set, Warned, Failed, Waiting, Resumed, Done, NotSent}
-use Rattle.session_machine.specs.Effect.{Rows', Effect, Gives, Faults, effect}
+use Rattle.row_tables.specs.Overlay.{Rows'}
+use Rattle.statement_effects.specs.Effect.{Effect, Gives, Faults, effect}
 use Rattle.session_machine.specs.Serial.{is_data}
 use Rattle.session_machine.specs.Transaction.{applied, Transacted, effected, followed, transacted, told_by}
 use Rattle.session_machine.proofs.Calm.{DataEffect, AllData, data-effect}

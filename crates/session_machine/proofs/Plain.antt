@@ -1,24 +1,24 @@
 -- In an idle world a step is one transaction over the committed rows, and the world is idle again.
-use Rattle.std.proofs.Common.{◌≡◌, ◌≢◌, refl, sym, ap, ◌∙◌, ℕ, zero, suc, Bool, true, false, cond, List, [], ◌∷◌, ◌++◌, length, map, set, get_or, Option, Some, None, append_assoc}
+use Rattle.std.proofs.Common.{◌≡◌, refl, sym, ap, ◌∙◌, ℕ, zero, suc, Bool, true, false, cond, List, [], ◌∷◌, ◌++◌, map, set, get_or, Option, Some, None, append_assoc}
 use Rattle.version_tree.specs.Map.{same_key, get, insert, get-insert, empty, get-empty, same_map}
 use Rattle.lock_modes.specs.Place.{Place, place_order}
 use Rattle.lock_modes.specs.Resource.{resource_order}
 use Rattle.lock_modes.specs.declared.mode.Mode.{Mode}
-use Rattle.sql_subset.specs.Plan.{Tuple, Request, plan}
-use Rattle.sql_subset.specs.declared.bound.Bound.{Bound}
+use Rattle.sql_statements.specs.Plan.{Tuple, Request, plan}
+use Rattle.sql_statements.specs.declared.statement.Bound.{Bound}
 use Rattle.transcripts.specs.declared.event.Event.{Event}
-use Rattle.transcripts.specs.declared.event.Event.TheVariants.{Done, Failed}
+use Rattle.transcripts.specs.declared.event.Event.TheVariants.{Done}
 use Rattle.lock_queues.specs.Locks.{wanted}
-use Rattle.session_machine.specs.Effect.{Rows', Write, Effect, Gives, Faults, effect}
-use Rattle.row_tables.specs.Overlay.{Overlay, laid, lay, written}
+use Rattle.row_tables.specs.Overlay.{Rows', Write, Overlay, laid, lay, written}
+use Rattle.statement_effects.specs.Effect.{Effect, Gives, Faults, effect}
 use Rattle.session_machine.specs.Session.{Task, Ask, Do, asks, tasks_of, Held, Session, Kind, Works, kind, Performed, Goes, Fails, perform_by}
-use Rattle.session_machine.specs.Go.{Stop, Run, Scene, solo, failed, go, stopped}
-use Rattle.session_machine.specs.World.{World, fresh, session_at, look_of, scene_of, placed_back, goes}
+use Rattle.session_machine.specs.Go.{Stop, Run, solo, failed, go, stopped}
+use Rattle.session_machine.specs.World.{fresh, look_of, scene_of, placed_back, goes}
 use Rattle.session_machine.specs.Transaction.{applied, Transacted, effected, followed, transacted, rows_after}
 use Rattle.session_machine.specs.Idle.{idle_session, idle_world}
 use Rattle.session_machine.specs.declared.session.Status.TheVariants.{Outside}
 use Rattle.session_machine.proofs.Basics.{Each}
-use Rattle.session_machine.proofs.Footprint.{over, get-laid, get-lay}
+use Rattle.row_tables.proofs.OverlayLemmas.{over, get-laid, get-lay}
 use Rattle.session_machine.proofs.Solo.{go-solo, held-fits-empty}
 use Rattle.session_machine.proofs.Starts.{all-free}
 

@@ -7,11 +7,12 @@ use Rattle.std.proofs.lemmas.List.{set-get_or, get_or-set_same}
 use Rattle.std.proofs.Common.{◌≡◌, refl, sym, ap, ◌∙◌, subst, ℕ, zero, suc, ◌+◌, ◌<◌, ◌≤◌, Bool, true, false, cond, not, ◌||◌, List, [], ◌∷◌, ◌++◌, length, map, set, get_or, Option, Some, None, arith, length-set, add-one}
 use Rattle.version_tree.specs.Map.{empty}
 use Rattle.sql_subset.specs.Spec.{Step, no_step, Spec, RunsToday, AllRunToday}
-use Rattle.sql_subset.specs.declared.bound.Bound.TheVariants.{Select, Insert, Update, Delete, Begin, Commit, Rollback, LockTable, SetVariable}
-use Rattle.sql_subset.specs.declared.bound.Bound.{Bound}
+use Rattle.sql_statements.specs.declared.statement.Bound.TheVariants.{Select, Insert, Update, Delete, Begin, Commit, Rollback, LockTable, SetVariable}
+use Rattle.sql_statements.specs.declared.statement.Bound.{Bound}
 use Rattle.transcripts.specs.declared.event.Event.{Event}
 use Rattle.transcripts.specs.declared.event.Event.TheVariants.{Sent, Row as RowEvent, Rows, Inserted, Updated, Deleted, Began, Committed, RolledBack, Locked, Set, Warned, Failed, Waiting, Resumed, Done, NotSent}
-use Rattle.session_machine.specs.Effect.{Rows', Effect, Gives, Faults, effect}
+use Rattle.row_tables.specs.Overlay.{Rows'}
+use Rattle.statement_effects.specs.Effect.{Effect, Gives, Faults, effect}
 use Rattle.session_machine.specs.Session.{Session, tasks_of, note}
 use Rattle.session_machine.specs.World.{World, fresh, session_at, goes, send, settle, outcome_of}
 use Rattle.session_machine.specs.Start.{Start, Started, SetupFailed, SessionSetupFailed, SessionSetupWaits, is_failure, has_failed, is_outside, forgotten, after_setup, main_setups, session_setups, started_then, set_up, start}
@@ -189,15 +190,15 @@ start-idle spec mains sessions le =
 -- ---- what the machine of today runs
 
 pub today-works : (st : Bound) → RunsToday st → IsWork st
-today-works (Select t key c by out) h = refl
-today-works (Insert t key new) h = refl
-today-works (Update t key sets c) h = absurd h
-today-works (Delete t key c) h = absurd h
 today-works Begin h = absurd h
 today-works Commit h = absurd h
 today-works Rollback h = absurd h
-today-works (LockTable t m) h = absurd h
-today-works SetVariable h = absurd h
+today-works (Select t key c by out) h = refl
+today-works (Insert t key new) h = refl
+today-works (Update t key sets c) h = refl
+today-works (Delete t key c) h = refl
+today-works (LockTable t m) h = refl
+today-works SetVariable h = refl
 
 all-works : (sts : List Bound) → All RunsToday sts → Each IsWork sts
 all-works [] all = tt

@@ -1,21 +1,18 @@
 -- Every line is a serial run of its commits.
-use Rattle.std.proofs.Common.{◌≡◌, refl, sym, ap, ◌∙◌, subst, ℕ, Bool, true, false, cond, List, [], ◌∷◌, ◌++◌, Some, ⊎_elim}
+use Rattle.std.proofs.Common.{◌≡◌, refl, sym, ap, ◌∙◌, subst, ℕ, Bool, true, false, List, [], ◌∷◌, ◌++◌, Some, ⊎_elim}
 use Rattle.version_tree.specs.Map.{Map, get, empty, get-empty}
 use Rattle.lock_modes.specs.Place.{Place}
 use Rattle.lock_modes.specs.Mode.{compatible}
-use Rattle.lock_queues.specs.declared.wait.Wait.{Wait}
 use Rattle.lock_queues.specs.Locks.{Spot, Look, may_have, closes_ring, answered, next_grant, waits_now}
-use Rattle.session_machine.specs.Effect.{Rows', Write, Effect, Gives, Faults, effect}
-use Rattle.sql_subset.specs.Plan.{Request, request, plan, opened, asks_on, reads_table}
-use Rattle.session_machine.specs.Session.{Task, Ask, Do, Session, Held, Performed, Goes, Fails, Kind, Begins, Commits, RollsBack, Works, kind, perform, perform_by, worked, note}
-use Rattle.row_tables.specs.Overlay.{Overlay, lay, written}
+use Rattle.row_tables.specs.Overlay.{Rows', Write, Overlay, lay, written}
+use Rattle.statement_effects.specs.Effect.{Effect, Gives, Faults, effect}
+use Rattle.sql_statements.specs.Plan.{Request, request, plan, opened, asks_on, reads_table}
+use Rattle.session_machine.specs.Session.{Task, Ask, Do, Session, Held, Performed, Goes, Fails, Kind, Begins, Commits, RollsBack, Works, kind, perform, perform_by, worked}
 use Rattle.session_machine.specs.Go.{Scene, Run, taking, go, stopped, failed, finished_by, is_broken, held_up, look_with, waiting_with}
 use Rattle.session_machine.specs.Quiet.{Claims, may_write, claims_of}
 use Rattle.session_machine.specs.Sound.{HoldsAll, Backed, UnderLocks, AtLeast}
 use Rattle.session_machine.specs.Serial.{Transaction, Did, Tally, ended_well, dropped, did, tally_by, tally_end, go_tally, Replay, SerialRun, WorkHeld, Repeats}
-use Rattle.lock_queues.specs.declared.answer.Answer.{Answer}
 use Rattle.lock_queues.specs.declared.answer.Answer.TheVariants.{Granted, Waits, Ring}
-use Rattle.transcripts.specs.declared.event.Event.TheVariants.{Waiting}
 use Rattle.transcripts.specs.declared.event.Fault.TheVariants.{Aborted, Deadlock}
 use Rattle.lock_modes.specs.declared.mode.Mode.{Mode}
 use Rattle.lock_modes.specs.declared.mode.Mode.TheVariants.{IntentShare, IntentExclusive, Share, ShareIntent, Exclusive}
@@ -23,7 +20,7 @@ use Rattle.lock_modes.specs.declared.resource.Resource.{Resource}
 use Rattle.lock_modes.specs.declared.resource.Resource.TheVariants.{Table, Row as RowOf}
 use Rattle.session_machine.specs.declared.session.Status.{Status}
 use Rattle.session_machine.specs.declared.session.Status.TheVariants.{Outside, InBlock, Broken}
-use Rattle.sql_subset.specs.declared.bound.Bound.{Bound}
+use Rattle.sql_statements.specs.declared.statement.Bound.{Bound}
 use Rattle.session_machine.proofs.Basics.{both_true, either_true, known}
 use Rattle.session_machine.specs.Footprint.{HeldFits}
 use Rattle.session_machine.proofs.Solo.{OnGoes, held-fits-empty, perform-held}

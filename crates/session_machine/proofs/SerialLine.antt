@@ -3,16 +3,15 @@ use Rattle.std.proofs.Common.{◌≡◌, ◌≢◌, refl, sym, ◌∙◌, subst,
 use Rattle.version_tree.specs.Map.{empty}
 use Rattle.lock_queues.specs.declared.wait.Wait.{Wait}
 use Rattle.lock_queues.specs.Locks.{Spot, next_grant, waits_now}
-use Rattle.session_machine.specs.Effect.{Rows'}
+use Rattle.row_tables.specs.Overlay.{Rows', Overlay, lay}
 use Rattle.session_machine.specs.Session.{Task, Session, Held, note, tasks_of}
-use Rattle.row_tables.specs.Overlay.{Overlay, lay}
 use Rattle.session_machine.specs.Go.{Run, go, taking}
 use Rattle.session_machine.specs.World.{World, session_at, look_of, scene_of, goes, granted, settle, settle_for, left_to_do, send, send_all, noted}
 use Rattle.sql_subset.specs.Spec.{Step, no_step}
 use Rattle.session_machine.specs.Sound.{Steady, Sound, UnderLocks}
 use Rattle.session_machine.specs.Serial.{Tally, go_tally, History, tally_of, goes_told, granted_told, settle_told, send_told, send_all_told, Repeats, Told, Replay, WorkHeld}
 use Rattle.transcripts.specs.declared.event.Event.TheVariants.{Sent, NotSent, Resumed}
-use Rattle.sql_subset.specs.declared.bound.Bound.{Bound}
+use Rattle.sql_statements.specs.declared.statement.Bound.{Bound}
 use Rattle.session_machine.proofs.Basics.{compatible-symm}
 use Rattle.session_machine.specs.Footprint.{HeldFits}
 use Rattle.session_machine.proofs.Commute.{cases-eq}

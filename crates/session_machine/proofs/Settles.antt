@@ -8,7 +8,7 @@ use Rattle.lock_modes.specs.Resource.{resource_order}
 use Rattle.lock_modes.specs.Mode.{compatible}
 use Rattle.lock_queues.specs.declared.wait.Wait.{Wait}
 use Rattle.lock_queues.specs.Locks.{Spot, Look, fits, wanted, wanted_by, waits_for, closes_ring, way_below, waits_now, is_ripe, first_ripe, next_grant, spots_from}
-use Rattle.sql_subset.specs.Plan.{Request, request, plan}
+use Rattle.sql_statements.specs.Plan.{Request, request, plan}
 use Rattle.session_machine.specs.Session.{Task, Do, asks, tasks_of, Session, note}
 use Rattle.session_machine.specs.Go.{Run, look_with, taking, go}
 use Rattle.session_machine.specs.World.{World, fresh, session_at, look_of, scene_of, placed_back, goes, granted, settle, settle_for, left_of, left_to_do, noted, send}
@@ -17,11 +17,11 @@ use Rattle.session_machine.specs.Sound.{HeldTogether, NoRing, HoldsAll, IsIn, he
 use Rattle.lock_modes.specs.declared.mode.Mode.{Mode}
 use Rattle.transcripts.specs.declared.event.Event.TheVariants.{Sent, NotSent, Resumed}
 use Rattle.lock_modes.specs.declared.resource.Resource.{Resource}
-use Rattle.sql_subset.specs.declared.bound.Bound.{Bound}
+use Rattle.sql_statements.specs.declared.statement.Bound.{Bound}
 use Rattle.session_machine.proofs.Basics.{both_true, known, not_both, compatible-symm}
 use Rattle.session_machine.specs.Footprint.{HeldFits}
 use Rattle.session_machine.proofs.Commute.{cases-eq}
-use Rattle.session_machine.proofs.Rings.{no-ring-past, no-way-from, way-is-found, edge-from, no-edge-from, edge-put, edge-off}
+use Rattle.lock_queues.proofs.Rings.{no-ring-past, no-way-from, way-is-found, edge-from, no-edge-from, edge-put, edge-off}
 use Rattle.session_machine.proofs.FromQuiet.{fits-at, together-fits}
 use Rattle.session_machine.proofs.Stronger.{stronger-taking, under-stronger, holds-stronger, covers-taking}
 use Rattle.session_machine.proofs.Kept.{fits-inserted, Pending, GoodRun, go-good}
@@ -333,7 +333,7 @@ sound-from w st e = record { steady = st; unripe = e }
 pub steady-of : (w : World) → Sound w → Steady w
 steady-of w s = s.steady
 
-none-left : (w : World) → left_to_do w ≤ 0 → next_grant (length w.sessions) (look_of w) w.waits ≡ None
+pub none-left : (w : World) → left_to_do w ≤ 0 → next_grant (length w.sessions) (look_of w) w.waits ≡ None
 none-left w le = ap (next_grant (length w.sessions) (look_of w)) (empty' w.waits le)
   where
     empty' : (vs : List Wait) → left_of w.sessions vs ≤ 0 → vs ≡ []

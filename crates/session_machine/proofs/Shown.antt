@@ -1,28 +1,25 @@
 -- A history tells what the transcripts show.
-use Rattle.std.proofs.Common.{◌≡◌, ◌≢◌, refl, sym, ap, ◌∙◌, subst, ℕ, zero, suc, ◌<◌, Bool, true, false, cond, ◌==◌, List, [], ◌∷◌, ◌++◌, length, set, get_or, Option, Some, None, ◌⊎◌, inl, inr, ⊎_elim, append_assoc, append-nil, eqb-true, eq-eqb, length-set, get_or-set_same, get_or-set_other}
-use Rattle.version_tree.specs.Map.{get, empty}
+use Rattle.std.proofs.Common.{◌≡◌, ◌≢◌, refl, sym, ap, ◌∙◌, subst, ℕ, zero, suc, ◌<◌, Bool, true, false, cond, ◌==◌, List, [], ◌∷◌, ◌++◌, length, set, get_or, Option, Some, None, ⊎_elim, append_assoc, append-nil, eqb-true, eq-eqb, length-set, get_or-set_same, get_or-set_other}
+use Rattle.version_tree.specs.Map.{get}
 use Rattle.lock_queues.specs.Locks.{Spot, may_have, closes_ring, answered, next_grant, waits_now}
-use Rattle.session_machine.specs.Effect.{Rows', Effect, Gives, Faults, effect}
+use Rattle.row_tables.specs.Overlay.{Rows', lay}
+use Rattle.statement_effects.specs.Effect.{Effect, Gives, Faults, effect}
 use Rattle.session_machine.specs.Session.{Task, Ask, Do, Session, Performed, Goes, Fails, Kind, Begins, Commits, RollsBack, Works, kind, perform, perform_by, worked, note, tasks_of}
 use Rattle.session_machine.specs.Go.{Scene, Run, taking, is_broken, failed, finished_by, stopped, go, held_up, look_with, waiting_with}
-use Rattle.row_tables.specs.Overlay.{lay}
 use Rattle.session_machine.specs.World.{World, session_at, look_of, scene_of, goes, granted, settle, settle_for, left_to_do, send, send_all, noted}
 use Rattle.sql_subset.specs.Spec.{Step, no_step}
 use Rattle.session_machine.specs.Sound.{Steady, Sound}
 use Rattle.session_machine.specs.Serial.{Did, Transaction, Ended, Tally, ended_well, dropped, did, tally_by, tally_end, go_tally, History, tally_of, goes_told, granted_told, settle_told, send_told, send_all_told, is_data, data_of, events_of, ended_events, shown_by, commits_of, committed_in, Shown}
-use Rattle.lock_queues.specs.declared.answer.Answer.{Answer}
 use Rattle.lock_queues.specs.declared.answer.Answer.TheVariants.{Granted, Waits, Ring}
 use Rattle.transcripts.specs.declared.event.Event.{Event}
 use Rattle.transcripts.specs.declared.event.Event.TheVariants.{Sent, Began, Committed, RolledBack, Warned, Failed, Waiting, Resumed, Done, NotSent}
 use Rattle.transcripts.specs.declared.event.Warning.TheVariants.{InBlock as AlreadyInBlock, NoBlock}
 use Rattle.transcripts.specs.declared.event.Fault.{Fault}
 use Rattle.transcripts.specs.declared.event.Fault.TheVariants.{Deadlock, Aborted}
-use Rattle.lock_modes.specs.declared.mode.Mode.{Mode}
-use Rattle.lock_modes.specs.declared.resource.Resource.{Resource}
 use Rattle.session_machine.specs.declared.session.Status.{Status}
 use Rattle.session_machine.specs.declared.session.Status.TheVariants.{Outside, InBlock, Broken}
-use Rattle.sql_subset.specs.declared.bound.Bound.{Bound}
-use Rattle.session_machine.proofs.Basics.{known, not_both}
+use Rattle.sql_statements.specs.declared.statement.Bound.{Bound}
+use Rattle.session_machine.proofs.Basics.{known}
 use Rattle.session_machine.proofs.Calm.{AllData, DataEffect, data-effect}
 use Rattle.session_machine.proofs.Commute.{cases-eq}
 use Rattle.session_machine.proofs.Solo.{OnGoes}

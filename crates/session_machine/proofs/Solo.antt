@@ -4,10 +4,10 @@ use Rattle.version_tree.specs.Map.{same_key, same_key-true, get, insert, get-ins
 use Rattle.lock_modes.specs.Resource.{resource_order}
 use Rattle.lock_modes.specs.Mode.{cover}
 use Rattle.lock_queues.specs.Locks.{Look, fits, fits_with, wanted, all_below, may_have, answered}
-use Rattle.session_machine.specs.Effect.{Rows', Effect, Gives, Faults}
+use Rattle.row_tables.specs.Overlay.{Rows'}
+use Rattle.statement_effects.specs.Effect.{Effect, Gives, Faults}
 use Rattle.session_machine.specs.Session.{Task, Ask, Do, Session, Held, Performed, Goes, Fails, Kind, Begins, Commits, RollsBack, Works, kind, perform, perform_by, worked}
 use Rattle.session_machine.specs.Go.{Scene, Run, Stop, taking, go, solo, stopped, failed, finished_by, is_broken, held_up}
-use Rattle.lock_queues.specs.declared.answer.Answer.{Answer}
 use Rattle.lock_queues.specs.declared.answer.Answer.TheVariants.{Granted, Waits, Ring}
 use Rattle.lock_modes.specs.declared.mode.Mode.{Mode}
 use Rattle.lock_modes.specs.declared.resource.Resource.{Resource}
@@ -15,7 +15,7 @@ use Rattle.session_machine.specs.Footprint.{EachAsk, HeldFits, IsFree}
 use Rattle.transcripts.specs.declared.event.Fault.TheVariants.{Deadlock, Aborted}
 use Rattle.session_machine.specs.declared.session.Status.{Status}
 use Rattle.session_machine.specs.declared.session.Status.TheVariants.{Outside, InBlock, Broken}
-use Rattle.sql_subset.specs.declared.bound.Bound.{Bound}
+use Rattle.sql_statements.specs.declared.statement.Bound.{Bound}
 use Rattle.session_machine.proofs.Basics.{both_true, and_true, or_true_right}
 use Rattle.lock_modes.proofs.ModeLaws.{compatible-cover}
 

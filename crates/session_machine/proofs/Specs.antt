@@ -1,5 +1,5 @@
 -- The facts of a spec, from its start to its report.
-use Rattle.std.proofs.Common.{◌≡◌, refl, sym, subst, ℕ, zero, suc, ◌<◌, ◌≤◌, true, false, List, [], ◌∷◌, get_or, Option, Some, None, arith}
+use Rattle.std.proofs.Common.{◌≡◌, refl, sym, subst, ℕ, zero, suc, ◌<◌, List, [], ◌∷◌, get_or, arith}
 use Rattle.session_machine.specs.World.{World, send_all, outcome_of}
 use Rattle.sql_subset.specs.Spec.{Step, no_step, Spec, Queues, queues_of, ranks_by, line_by, EachStep, IsBound}
 use Rattle.session_machine.specs.Start.{Start, Started, SetupFailed, SessionSetupFailed, SessionSetupWaits, start}

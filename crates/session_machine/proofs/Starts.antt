@@ -12,7 +12,7 @@ use Rattle.session_machine.specs.Start.{Start, Started, SetupFailed, SessionSetu
 use Rattle.session_machine.specs.Sound.{Way, one, more, Steady, Sound, UnderLocks}
 use Rattle.lock_modes.specs.declared.mode.Mode.{Mode}
 use Rattle.lock_modes.specs.declared.resource.Resource.{Resource}
-use Rattle.sql_subset.specs.declared.bound.Bound.{Bound}
+use Rattle.sql_statements.specs.declared.statement.Bound.{Bound}
 use Rattle.session_machine.proofs.Basics.{not_both, or_true_left, or_true_right}
 use Rattle.session_machine.specs.Footprint.{EachAsk, IsFree}
 use Rattle.session_machine.proofs.Solo.{go-solo, all_below-true}

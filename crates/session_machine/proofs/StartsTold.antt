@@ -3,7 +3,7 @@ use Rattle.std.proofs.Common.{◌≡◌, refl, sym, ap, ◌∙◌, subst, ℕ, s
 use Rattle.version_tree.specs.Map.{get, empty, get-empty}
 use Rattle.lock_modes.specs.Resource.{resource_order}
 use Rattle.lock_queues.specs.Locks.{waits_now}
-use Rattle.session_machine.specs.Effect.{Rows'}
+use Rattle.row_tables.specs.Overlay.{Rows'}
 use Rattle.session_machine.specs.Session.{Task, Ask, Do, Session, Performed, Goes, Fails, perform, tasks_of}
 use Rattle.session_machine.specs.Go.{Run, Stop, taking, is_broken, solo, failed, finished_by, stopped, go}
 use Rattle.session_machine.specs.World.{World, fresh, session_at, scene_of, send_all}
@@ -14,7 +14,7 @@ use Rattle.transcripts.specs.declared.event.Fault.TheVariants.{Aborted}
 use Rattle.lock_modes.specs.declared.mode.Mode.{Mode}
 use Rattle.session_machine.specs.declared.session.Status.{Status}
 use Rattle.session_machine.specs.declared.session.Status.TheVariants.{Outside, InBlock, Broken}
-use Rattle.sql_subset.specs.declared.bound.Bound.{Bound}
+use Rattle.sql_statements.specs.declared.statement.Bound.{Bound}
 use Rattle.session_machine.proofs.Solo.{go-solo}
 use Rattle.session_machine.proofs.Commute.{cases-eq}
 use Rattle.session_machine.proofs.FromQuiet.{together-fits}

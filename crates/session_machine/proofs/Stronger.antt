@@ -5,7 +5,7 @@ use Rattle.lock_modes.specs.Place.{Place}
 use Rattle.lock_modes.specs.Resource.{resource_order, same_resource}
 use Rattle.lock_modes.specs.Mode.{cover}
 use Rattle.lock_queues.specs.Locks.{wanted}
-use Rattle.sql_subset.specs.Plan.{Request, asks_on, writes_in, is_exclusive}
+use Rattle.sql_statements.specs.Plan.{Request, asks_on, writes_in, is_exclusive}
 use Rattle.session_machine.specs.Session.{Held}
 use Rattle.row_tables.specs.Overlay.{Overlay}
 use Rattle.session_machine.specs.Quiet.{may_write, claims_of}

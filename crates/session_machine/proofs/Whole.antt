@@ -1,5 +1,5 @@
 -- The swaps of all words: what they lead to.
-use Rattle.std.proofs.Common.{◌≡◌, refl, sym, ap, ◌∙◌, subst, ℕ, zero, suc, ◌<◌, ◌≤◌, true, nat_lt, List, [], length, Option, Some, None, is_some, ◌⊎◌, ⊎_elim, arith, ltb-true}
+use Rattle.std.proofs.Common.{◌≡◌, refl, sym, ap, ◌∙◌, subst, ℕ, zero, suc, ◌<◌, ◌≤◌, true, List, [], length, Option, Some, None, is_some, ◌⊎◌, ⊎_elim, arith}
 use Rattle.std.proofs.lemmas.List.{get_or_past}
 use Rattle.session_machine.specs.World.{World, send_all, outcome_of}
 use Rattle.sql_subset.specs.Spec.{Step, Queues, line, counts_of}

@@ -3,13 +3,13 @@ use Rattle.std.specs.Prelude.{◌≡◌, ℕ, Bool, true, false, List, [], ◌�
 use Rattle.version_tree.specs.Map.{get}
 use Rattle.lock_modes.specs.Place.{Place}
 use Rattle.lock_queues.specs.Locks.{fits, nobody_waits, may_have}
-use Rattle.session_machine.specs.Effect.{Rows'}
-use Rattle.sql_subset.specs.Plan.{plan, opened}
+use Rattle.row_tables.specs.Overlay.{Rows'}
+use Rattle.sql_statements.specs.Plan.{plan, opened}
 use Rattle.session_machine.specs.Session.{Task, Ask, Do, Session, Held, Goes, Fails, perform}
 use Rattle.session_machine.specs.Go.{Scene, Stop, taking, is_broken}
 use Rattle.lock_modes.specs.declared.mode.Mode.{Mode}
 use Rattle.lock_modes.specs.declared.resource.Resource.{Resource}
-use Rattle.sql_subset.specs.declared.bound.Bound.{Bound}
+use Rattle.sql_statements.specs.declared.statement.Bound.{Bound}
 
 abbrev pub EachAsk : (Resource → Mode → Type 0) → List Task → Type 0
 EachAsk P [] = Unit {0}

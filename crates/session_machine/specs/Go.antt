@@ -1,10 +1,9 @@
 -- A session goes on until its step ends, a request waits or an error ends the step.
-use Rattle.std.specs.Prelude.{ℕ, ◌+◌, Bool, true, false, ◌==◌, List, [], ◌∷◌, ◌++◌, if◌then◌else◌}
-use Rattle.version_tree.specs.Map
+use Rattle.std.specs.Prelude.{ℕ, Bool, true, false, ◌==◌, List, [], ◌∷◌, ◌++◌, if◌then◌else◌}
 use Rattle.version_tree.specs.Map.{get, insert}
 use Rattle.lock_queues.specs.declared.wait.Wait.{Wait}
 use Rattle.lock_queues.specs.Locks.{Look, wanted, may_have, closes_ring, answered}
-use Rattle.session_machine.specs.Effect.{Rows'}
+use Rattle.row_tables.specs.Overlay.{Rows', lay}
 use Rattle.lock_queues.specs.declared.answer.Answer.{Answer}
 use Rattle.lock_queues.specs.declared.answer.Answer.TheVariants.{Granted, Waits, Ring}
 use Rattle.lock_modes.specs.declared.mode.Mode.{Mode}
@@ -15,7 +14,6 @@ use Rattle.transcripts.specs.declared.event.Event.TheVariants.{Failed, Waiting, 
 use Rattle.session_machine.specs.declared.session.Status.{Status}
 use Rattle.session_machine.specs.declared.session.Status.TheVariants.{Outside, InBlock, Broken}
 use Rattle.session_machine.specs.Session.{Ask, Do, Fails, Goes, Held, Session, Task, after_fault, note, perform, released}
-use Rattle.row_tables.specs.Overlay.{lay}
 
 -- what the running session sees of the others
 pub record Scene : Type 0 where

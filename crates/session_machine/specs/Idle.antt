@@ -2,7 +2,8 @@
 use Rattle.std.specs.Prelude.{◌≡◌, ℕ, Bool, false, List, [], length, map, All}
 use Rattle.transcripts.specs.Outcome.{HasStep}
 use Rattle.version_tree.specs.Map.{empty}
-use Rattle.session_machine.specs.Effect.{Rows'}
+use Rattle.row_tables.specs.Overlay.{Rows'}
+use Rattle.row_tables.specs.Layers.{Layers, overlay_of}
 use Rattle.session_machine.specs.Session.{Session}
 use Rattle.session_machine.specs.World.{World}
 use Rattle.transcripts.specs.declared.event.Event.{Event}
@@ -21,7 +22,12 @@ pub record IsTold (sessions steps : ℕ) (transcripts : List (List Event)) : Typ
   pub each : length transcripts ≡ sessions
   pub named : All (All (HasStep steps)) transcripts
 
--- the same, but that a world that is spent may have broken off anywhere
-pub record IsToldUnless (spent : Bool) (sessions steps : ℕ) (transcripts : List (List Event)) : Type 0 where
+-- no session has writes that are neither kept nor undone
+pub record IsCommitted (l : Layers) : Type 0 where
+  pub each : (session : ℕ) → overlay_of session l ≡ empty
+
+-- what a world keeps between its calls, but that one that is spent may have broken off anywhere
+pub record IsAtRestUnless (spent : Bool) (sessions steps : ℕ) (transcripts : List (List Event)) (l : Layers) : Type 0 where
   pub each : length transcripts ≡ sessions
   pub named : spent ≡ false → All (All (HasStep steps)) transcripts
+  pub committed : spent ≡ false → IsCommitted l

@@ -1,6 +1,5 @@
 -- The laws of the model, each in one line.
-use Rattle.std.specs.Prelude.{◌≡◌, ◌≢◌, ℕ, ◌<◌, ◌≤◌, Bool, true, false, ◌&&◌, ◌↔◌, List, [], length, get_or, Some}
-use Rattle.lock_modes.specs.Mode.{compatible, cover}
+use Rattle.std.specs.Prelude.{◌≡◌, ◌≢◌, ℕ, ◌<◌, ◌≤◌, Bool, true, false, ◌↔◌, List, [], length, get_or, Some}
 use Rattle.lock_queues.specs.Locks.{way_below, waits_for, waits_now}
 use Rattle.sql_subset.specs.Spec.{Spec, Step, no_step, Queues, line, IsBound}
 use Rattle.session_machine.specs.Start.{Started, start}
@@ -10,17 +9,16 @@ use Rattle.session_machine.specs.Session.{tasks_of}
 use Rattle.version_tree.specs.Map.{get}
 use Rattle.lock_modes.specs.Place.{Place}
 use Rattle.session_machine.specs.Footprint.{AllHad, EachDo, ReadsBut, AgreeBut, SameBut}
-use Rattle.sql_subset.specs.declared.bound.Bound.{Bound}
+use Rattle.sql_statements.specs.declared.statement.Bound.{Bound}
 use Rattle.session_machine.specs.Quiet.{is_quiet, SentCalmly, plans, claims_of, may_write}
 use Rattle.session_machine.specs.Sound.{Sound, Way}
 use Rattle.perm_ranks.specs.Words.{Word}
 use Rattle.perm_ranks.specs.Swapped.{exchanged}
 use Rattle.session_machine.specs.Swap.{quiet_at, falls_in, truth_of, truth_of_spec, fact_of}
 use Rattle.session_machine.specs.Books.{Entry, Truth, IsTrueAt, Ran, Swap, SwapLaw, AllTrue, HasFact, AllSame, OneValue, values}
-use Rattle.session_machine.specs.Effect.{Rows'}
-use Rattle.sql_subset.specs.Plan.{plan, opened, looks_at}
+use Rattle.row_tables.specs.Overlay.{Rows'}
+use Rattle.sql_statements.specs.Plan.{plan, opened, looks_at}
 use Rattle.session_machine.specs.Serial.{History, Told, Shown, said_in, send_all_told, first_rows, start_told}
-use Rattle.lock_modes.specs.declared.mode.Mode.{Mode}
 use Rattle.transcripts.specs.declared.event.Event.{Event}
 
 -- the step's session is one of the world

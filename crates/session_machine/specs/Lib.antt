@@ -1,5 +1,3 @@
-pub mod Evaluate
-pub mod Effect
 pub mod Session
 pub mod Go
 pub mod World
@@ -12,6 +10,7 @@ pub mod Swap
 pub mod Serial
 pub mod Laws
 pub mod Transaction
-pub mod Plain
 pub mod Running
+pub mod State
+pub mod Going
 pub mod Idle

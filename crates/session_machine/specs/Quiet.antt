@@ -6,7 +6,7 @@ use Rattle.version_tree.specs.Map.{get}
 use Rattle.lock_modes.specs.Mode.{compatible, same_mode}
 use Rattle.lock_queues.specs.Locks.{fits, waits_now}
 use Rattle.lock_modes.specs.Resource.{same_resource}
-use Rattle.sql_subset.specs.Plan.{Request, plan}
+use Rattle.sql_statements.specs.Plan.{Request, plan}
 use Rattle.session_machine.specs.World.{World, session_at, look_of}
 use Rattle.sql_subset.specs.Spec.{Step}
 use Rattle.session_machine.specs.Session.{Held}
@@ -16,7 +16,7 @@ use Rattle.lock_modes.specs.declared.resource.Resource.{Resource}
 use Rattle.lock_modes.specs.declared.resource.Resource.TheVariants.{Table, Row as RowOf}
 use Rattle.transcripts.specs.declared.event.Event.{Event}
 use Rattle.transcripts.specs.declared.event.Event.TheVariants.{Sent, Waiting, Resumed, NotSent}
-use Rattle.sql_subset.specs.declared.bound.Bound.{Bound}
+use Rattle.sql_statements.specs.declared.statement.Bound.{Bound}
 
 abbrev pub Claims : Type 0
 Claims = Resource → Mode → Bool

@@ -1,8 +1,8 @@
 -- A world of a spec as the program holds it, and what its calls answer.
-use Rattle.std.specs.Prelude.{◌≡◌, ℕ, Bool, List, Option, Some, None, Result, Ok, Err}
+use Rattle.std.specs.Prelude.{◌≡◌, ℕ, Bool, List, Option, Some, None, Result, Err}
 use Rattle.sql_subset.specs.Spec.{Spec, SpecFile}
 use Rattle.transcripts.specs.declared.event.Event.{Event}
-use Rattle.session_machine.specs.Effect.{Rows'}
+use Rattle.row_tables.specs.Overlay.{Rows'}
 use Rattle.session_machine.specs.World.{World, send_all, outcome_of}
 use Rattle.session_machine.specs.Start.{Start, Started, SetupFailed, SessionSetupFailed, SessionSetupWaits, start}
 use Rattle.session_machine.specs.declared.transaction.SetUpError.{SetUpError}

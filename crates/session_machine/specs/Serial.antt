@@ -4,20 +4,20 @@ use Rattle.std.specs.Prelude.{◌≡◌, ℕ, zero, suc, Bool, true, false, cond
 use Rattle.version_tree.specs.Map.{empty}
 use Rattle.lock_queues.specs.Locks.{Spot, next_grant, waits_now}
 use Rattle.session_machine.specs.Sound.{HoldsAll}
-use Rattle.sql_subset.specs.Plan.{plan}
-use Rattle.session_machine.specs.Effect.{Rows', Write, Effect, Gives, Faults, effect}
+use Rattle.sql_statements.specs.Plan.{plan}
+use Rattle.row_tables.specs.Overlay.{Rows', Write, Overlay, lay, written}
+use Rattle.statement_effects.specs.Effect.{Effect, Gives, Faults, effect}
 use Rattle.session_machine.specs.Session.{Task, Ask, Do, Session, Held, Goes, Fails, Kind, Begins, Commits, RollsBack, Works, kind, perform, tasks_of, note, ended}
 use Rattle.session_machine.specs.Go.{Scene, taking, is_broken, answer_in}
-use Rattle.row_tables.specs.Overlay.{Overlay, lay, written}
 use Rattle.session_machine.specs.World.{World, session_at, look_of, scene_of, granted, goes, left_to_do, send}
 use Rattle.sql_subset.specs.Spec.{Step, no_step, Spec}
-use Rattle.session_machine.specs.Start.{Started, set_up, after_setup, forgotten, session_setups, start}
+use Rattle.session_machine.specs.Start.{Started, set_up, after_setup, forgotten}
 use Rattle.lock_queues.specs.declared.answer.Answer.TheVariants.{Granted, Waits, Ring}
 use Rattle.transcripts.specs.declared.event.Event.{Event}
 use Rattle.transcripts.specs.declared.event.Event.TheVariants.{Sent, Resumed, Row as RowEvent, Rows, Inserted, Updated, Deleted, Locked, Set}
 use Rattle.session_machine.specs.declared.session.Status.{Status}
 use Rattle.session_machine.specs.declared.session.Status.TheVariants.{Outside, InBlock, Broken}
-use Rattle.sql_subset.specs.declared.bound.Bound.{Bound}
+use Rattle.sql_statements.specs.declared.statement.Bound.{Bound}
 
 pub record Did : Type 0 where
   pub statement : Bound

@@ -1,10 +1,10 @@
 -- A session, what is left of its step, and what a statement does whose requests are had.
-use Rattle.std.specs.Prelude.{◌+◌, List, [], ◌∷◌, ◌++◌}
-use Rattle.version_tree.specs.Map
+use Rattle.std.specs.Prelude.{List, [], ◌∷◌, ◌++◌}
 use Rattle.version_tree.specs.Map.{Map, empty}
 use Rattle.lock_modes.specs.Resource.{resource_order}
-use Rattle.sql_subset.specs.Plan.{Request, plan}
-use Rattle.session_machine.specs.Effect.{Rows', Effect, Gives, Faults, effect}
+use Rattle.sql_statements.specs.Plan.{Request, plan}
+use Rattle.row_tables.specs.Overlay.{Rows', Overlay, lay, written}
+use Rattle.statement_effects.specs.Effect.{Effect, Gives, Faults, effect}
 use Rattle.lock_modes.specs.declared.mode.Mode.{Mode}
 use Rattle.lock_modes.specs.declared.resource.Resource.{Resource}
 use Rattle.transcripts.specs.declared.event.Fault.{Fault}
@@ -14,9 +14,8 @@ use Rattle.transcripts.specs.declared.event.Event.{Event}
 use Rattle.transcripts.specs.declared.event.Event.TheVariants.{Began, Committed, RolledBack, Warned}
 use Rattle.session_machine.specs.declared.session.Status.{Status}
 use Rattle.session_machine.specs.declared.session.Status.TheVariants.{Outside, InBlock, Broken}
-use Rattle.sql_subset.specs.declared.bound.Bound.{Bound}
-use Rattle.sql_subset.specs.declared.bound.Bound.TheVariants.{Select, Insert, Update, Delete, Begin, Commit, Rollback, LockTable, SetVariable}
-use Rattle.row_tables.specs.Overlay.{Overlay, lay, written}
+use Rattle.sql_statements.specs.declared.statement.Bound.{Bound}
+use Rattle.sql_statements.specs.declared.statement.Bound.TheVariants.{Select, Insert, Update, Delete, Begin, Commit, Rollback, LockTable, SetVariable}
 
 -- a step is its requests and its statements, each statement behind its requests
 pub data Task : Type 0 where

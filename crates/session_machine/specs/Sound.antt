@@ -1,30 +1,17 @@
 -- What holds in every world that is reached.
-use Rattle.std.specs.Prelude.{◌≡◌, ◌≢◌, ℕ, ◌<◌, Bool, true, List, [], ◌∷◌, length, Option, Some, None}
+use Rattle.std.specs.Prelude.{◌≡◌, ℕ, ◌<◌, true, List, [], ◌∷◌, length, Option, Some, None}
 use Rattle.version_tree.specs.Map.{get}
 use Rattle.lock_modes.specs.Place.{Place}
-use Rattle.lock_modes.specs.Mode.{compatible, cover}
+use Rattle.lock_modes.specs.Mode.{cover}
 use Rattle.lock_queues.specs.declared.wait.Wait.{Wait}
-use Rattle.lock_queues.specs.Locks.{Look, next_grant, waits_for}
-use Rattle.sql_subset.specs.Plan.{Tuple, Request, request, plan}
+use Rattle.lock_queues.specs.Locks.{next_grant, waits_for}
+pub use Rattle.lock_queues.specs.Sound.{Way, one, more, NoRing, HeldTogether, EachWait, Distinct}
+use Rattle.sql_statements.specs.Plan.{Tuple, Request, request, plan}
 use Rattle.session_machine.specs.World.{World, look_of, session_at}
 use Rattle.row_tables.specs.Overlay.{Overlay}
 use Rattle.session_machine.specs.Session.{Held, Task, Ask, Do}
 use Rattle.session_machine.specs.Quiet.{may_write, claims_of}
 use Rattle.lock_modes.specs.declared.mode.Mode.{Mode}
-use Rattle.lock_modes.specs.declared.resource.Resource.{Resource}
-use Rattle.session_machine.specs.Evaluate.{holds}
-
-pub data Way (edge : ℕ → ℕ → Bool) : ℕ → ℕ → Type 0 where
-  one : {a b : ℕ} → edge a b ≡ true → Way edge a b
-  more : {a c b : ℕ} → edge a c ≡ true → Way edge c b → Way edge a b
-
--- no session reaches itself
-abbrev pub NoRing : (ℕ → ℕ → Bool) → Type 0
-NoRing edge = (c : ℕ) → Way edge c c → ⊥
-
--- modes that different sessions hold are compatible there
-abbrev pub HeldTogether : Look → Type 0
-HeldTogether look = (c d : ℕ) (r : Resource) (m n : Mode) → c ≢ d → look c r ≡ Some m → look d r ≡ Some n → compatible m n ≡ true
 
 -- each entry of the overlay lies where what is held lets it be written
 abbrev pub UnderLocks : Overlay → Held → Type 0
@@ -63,15 +50,6 @@ pub record Ready (w : World) (v : Wait) : Type 0 where
   pub have : List Request
   pub holds : HoldsAll (session_at w v.session).held have
   pub backed : Backed (request v.resource v.mode ∷ have) (session_at w v.session).rest
-
-abbrev pub EachWait : (Wait → Type 0) → List Wait → Type 0
-EachWait P [] = Unit {0}
-EachWait P (v ∷ vs) = P v × EachWait P vs
-
--- no session waits twice
-abbrev pub Distinct : List Wait → Type 0
-Distinct [] = Unit {0}
-Distinct (v ∷ vs) = EachWait (λ u. u.session ≢ v.session) vs × Distinct vs
 
 -- what holds also while waits are ripe
 pub record Steady (w : World) : Type 0 where

@@ -1,14 +1,13 @@
 -- The start of a spec: its main setups, then the setup of each session.
 use Rattle.std.specs.Prelude.{ℕ, suc, Bool, true, false, not, ◌||◌, List, [], ◌∷◌, set, replicate}
 use Rattle.std.specs.List.{list_any}
-use Rattle.version_tree.specs.Map
 use Rattle.version_tree.specs.Map.{empty}
 use Rattle.lock_queues.specs.Locks.{waits_now}
 use Rattle.transcripts.specs.declared.event.Event.{Event}
 use Rattle.transcripts.specs.declared.event.Event.TheVariants.{Failed}
 use Rattle.session_machine.specs.declared.session.Status.{Status}
 use Rattle.session_machine.specs.declared.session.Status.TheVariants.{Outside, InBlock, Broken}
-use Rattle.sql_subset.specs.declared.bound.Bound.{Bound}
+use Rattle.sql_statements.specs.declared.statement.Bound.{Bound}
 use Rattle.session_machine.specs.Session.{Session, tasks_of}
 use Rattle.sql_subset.specs.Spec.{Spec}
 use Rattle.session_machine.specs.World.{World, fresh, goes, session_at}

@@ -1,10 +1,10 @@
 -- A block of statements as one transaction whose requests are all had: each statement has its effect on the rows that the ones before it left, or the first fault undoes them all.
 use Rattle.std.specs.Prelude.{ℕ, suc, List, [], ◌∷◌, ◌++◌, Option, Some, None, Result, Ok, Err}
-use Rattle.session_machine.specs.Effect.{Rows', Write, Effect, Gives, Faults, effect}
-use Rattle.row_tables.specs.Overlay.{laid}
+use Rattle.row_tables.specs.Overlay.{Rows', Write, laid}
+use Rattle.statement_effects.specs.Effect.{Effect, Gives, Faults, effect}
 use Rattle.transcripts.specs.declared.event.Event.{Event}
 use Rattle.transcripts.specs.declared.event.Event.TheVariants.{Sent, Failed, Done}
-use Rattle.sql_subset.specs.declared.bound.Bound.{Bound}
+use Rattle.sql_statements.specs.declared.statement.Bound.{Bound}
 
 -- the rows after these writes, one after another
 abbrev pub applied : List Write → Rows' → Rows'

@@ -1,10 +1,9 @@
 -- The sequential machine: a step is sent, and then the waits that are ripe are granted.
 use Rattle.std.specs.Prelude.{ℕ, zero, suc, ◌+◌, true, false, List, [], ◌∷◌, ◌++◌, length, map, take, set, get_or, Some, None}
-use Rattle.version_tree.specs.Map
 use Rattle.version_tree.specs.Map.{get, empty}
 use Rattle.lock_queues.specs.declared.wait.Wait.{Wait}
 use Rattle.lock_queues.specs.Locks.{Spot, Look, next_grant, waits_now}
-use Rattle.session_machine.specs.Effect.{Rows'}
+use Rattle.row_tables.specs.Overlay.{Rows'}
 use Rattle.transcripts.specs.declared.event.Event.{Event}
 use Rattle.transcripts.specs.declared.event.Event.TheVariants.{Sent, Resumed, NotSent}
 use Rattle.session_machine.specs.declared.session.Status.TheVariants.{Outside}

@@ -1,12 +1,14 @@
 //! The sequential machine: sessions send steps over committed rows, wait for locks and go on when they are had.
 #![tactic(auto)]
 
-mod effect;
+mod asking;
+mod blocks;
 mod error;
 mod laws;
-mod rows;
+mod performing;
 mod runs;
 mod session;
+mod stepping;
 #[cfg(test)]
 mod tests;
 mod transaction;

@@ -26,58 +26,51 @@ fn text_of(rt: &impl Abort, alloc: Global, spec: &Spec, outcome: &Outcome) -> St
     String::from_utf8(out.into_inner()).expect(rt, "UTF-8")
 }
 
-fn run_rank(rt: &impl Abort, alloc: Global, spec: &Spec, rank: u64) -> String {
+fn assert_rank_tells(rt: &impl Abort, alloc: Global, sessions: &str, rank: u64, want: &str) {
+    let spec = spec_of(rt, alloc, sessions);
     let line = spec.line(rank).expect(rt, "a rank of the spec");
-    let outcome = run_one(alloc, spec, &line).expect(rt, "an outcome");
-    text_of(rt, alloc, spec, &outcome)
+    let outcome = run_one(alloc, &spec, &line).expect(rt, "an outcome");
+    assert_eq!(rt; text_of(rt, alloc, &spec, &outcome).as_str(), want);
 }
 
 const INSERT_AND_READ: &str = "session a step a1 { INSERT INTO t VALUES (3, 30); }
     session b step b1 { SELECT v FROM t WHERE id = 3; }";
 
-#[test]
-fn a_reader_sees_what_was_inserted_before_it(rt: HostRuntime) -> Result<(), Fail> {
-    let alloc = rt.alloc();
-    let spec = spec_of(&rt, alloc, INSERT_AND_READ);
-    let first =
-        "session a\n  step a1\n  inserted 1\n  done\nsession b\n  step b1\n  row 30\n  rows 1\n  done\n";
-    let second =
-        "session a\n  step a1\n  inserted 1\n  done\nsession b\n  step b1\n  rows 0\n  done\n";
-    assert_eq!(rt; spec.ranks(), 2);
-    assert_eq!(rt; run_rank(&rt, alloc, &spec, 0).as_str(), first);
-    assert_eq!(rt; run_rank(&rt, alloc, &spec, 1).as_str(), second);
-    assert!(rt; spec.line(2).is_none());
-    Ok(())
-}
+const FAILS_THEN_COUNTS: &str =
+    "session a step a1 { INSERT INTO t VALUES (3, 0); INSERT INTO t VALUES (3, 1); SELECT * FROM t; }
+    step a2 { SELECT count(*), sum(v) FROM t; }";
+
+const STEP_SENT_TWICE: &str =
+    "session a step a1 { SELECT v FROM t WHERE id = 1; } step a2 { SELECT v FROM t WHERE id = 2; }
+    session b step b1 { INSERT INTO t VALUES (4, 0); }
+    permutation a1(*) b1(a1 notices 1) a1";
 
 #[test]
-fn a_step_that_fails_leaves_none_of_its_rows(rt: HostRuntime) -> Result<(), Fail> {
-    let alloc = rt.alloc();
-    let spec = spec_of(
-        &rt,
-        alloc,
-        "session a step a1 { INSERT INTO t VALUES (3, 0), (3, 1); } step a2 { SELECT v FROM t WHERE id = 3; }",
-    );
-    let text =
-        "session a\n  step a1\n  error: duplicate key\n  done\n  step a2\n  rows 0\n  done\n";
-    assert_eq!(rt; run_rank(&rt, alloc, &spec, 0).as_str(), text);
-    Ok(())
-}
-
-#[test]
-fn a_permutation_line_sends_its_steps_in_order(rt: HostRuntime) -> Result<(), Fail> {
-    let alloc = rt.alloc();
-    let spec = spec_of(
-        &rt,
-        alloc,
-        "session a step a1 { SELECT v FROM t WHERE id = 1; } step a2 { SELECT v FROM t WHERE id = 2; }
-        session b step b1 { INSERT INTO t VALUES (4, 0); }
-        permutation a1(*) b1(a1 notices 1) a1",
-    );
-    let text =
-        "session a\n  step a1\n  row 10\n  rows 1\n  done\n  step a1\n  row 10\n  rows 1\n  done\nsession b\n  step b1\n  inserted 1\n  done\n";
-    assert_eq!(rt; spec.ranks(), 1);
-    assert_eq!(rt; run_rank(&rt, alloc, &spec, 0).as_str(), text);
+fn a_rank_tells_what_its_steps_did(rt: HostRuntime) -> Result<(), Fail> {
+    for (sessions, rank, want) in [
+        (
+            INSERT_AND_READ,
+            0,
+            "session a\n  step a1\n  inserted 1\n  done\nsession b\n  step b1\n  row 30\n  rows 1\n  done\n",
+        ),
+        (
+            INSERT_AND_READ,
+            1,
+            "session a\n  step a1\n  inserted 1\n  done\nsession b\n  step b1\n  rows 0\n  done\n",
+        ),
+        (
+            FAILS_THEN_COUNTS,
+            0,
+            "session a\n  step a1\n  inserted 1\n  error: duplicate key\n  done\n  step a2\n  row 2|30\n  rows 1\n  done\n",
+        ),
+        (
+            STEP_SENT_TWICE,
+            0,
+            "session a\n  step a1\n  row 10\n  rows 1\n  done\n  step a1\n  row 10\n  rows 1\n  done\nsession b\n  step b1\n  inserted 1\n  done\n",
+        ),
+    ] {
+        assert_rank_tells(&rt, rt.alloc(), sessions, rank, want);
+    }
     Ok(())
 }
 
@@ -87,7 +80,7 @@ fn a_setup_that_fails_refuses_the_start(rt: HostRuntime) -> Result<(), Fail> {
     let twice = spec_of(
         &rt,
         alloc,
-        "setup { INSERT INTO t VALUES (1, 0); } session a step s {}",
+        "setup { INSERT INTO t VALUES (3, 0); INSERT INTO t VALUES (1, 0); } session a step s {}",
     );
     match World::start(alloc, &twice) {
         Ok(_) => assert!(rt; false, "the second block fails"),

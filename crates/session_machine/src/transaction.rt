@@ -1,17 +1,17 @@
 //! Blocks of statements as transactions: all of their effects, or none.
 
-ghost use Rattle.std.specs.Prelude.{◌≡◌, ◌++◌, IfOk, OnOk, All, MatchResult, Ok};
-ghost use Rattle.sql_subset.specs.Spec.{RunsToday, AllRunToday};
-ghost use Rattle.session_machine.specs.Transaction.{transacted, set_up_from};
+ghost use Rattle.std.specs.Prelude.{◌≡◌, ◌++◌, ◌≤◌, IfOk, IfErr, OnOk, Ok, length, is_some};
+ghost use Rattle.session_machine.specs.Transaction.{transacted, rows_after, set_up_from};
+ghost use Rattle.session_machine.specs.Idle.{IsCommitted};
 ghost use Rattle.session_machine.specs.Running.{StopsAt};
 ghost use Rattle.session_machine.specs.declared.transaction.SetUpError.TheVariants.{NoMemory};
 
-use crate::effect::run_statement;
-use crate::rows::Rows;
-use sql_subset::{Block, Bound};
+use row_tables::Store;
+use sql_statements::Bound;
+use sql_subset::Block;
+use statement_effects::run_statement;
 use std::alloc::{AllocError, Global};
-use transcripts::Transcript;
-use version_tree::Fork;
+use transcripts::{Event, Transcript};
 
 /// Why setup blocks were not run to their end.
 #[derive(Clone, Copy, Debug, PartialEq, Eq)]
@@ -29,37 +29,92 @@ impl From<AllocError> for SetUpError {
     }
 }
 
-/// Runs statements as one transaction and tells of it: the rows that it leaves, or none where it fails.
+/// Runs statements as one transaction of a session and tells of it. Returns whether all of them went through: the first
+/// fault undoes what the ones before it wrote.
 pub(crate) fn run_block(
     alloc: Global,
-    rows: &Rows,
+    store: &mut Store,
+    session: u8,
     statements: &[Bound],
     transcript: &mut Transcript,
-) -> Result<Option<Rows>, AllocError>
-    requires { All RunsToday statements.now }
-    ensures left { IfOk result (λ left. left ≡ (transacted rows.now statements.now).left) }
-    ensures told { OnOk result (transcript.new ≡ transcript.old ++ (transacted rows.now statements.now).events) }
+) -> Result<bool, AllocError>
+    requires { IsCommitted store.old }
+    ensures whole { IfOk result (λ whole. whole ≡ is_some (transacted store.old.committed statements.now).left) }
+    ensures rows { OnOk result (store.new.committed ≡ rows_after store.old.committed (transacted store.old.committed statements.now).left) }
+    ensures committed { OnOk result (IsCommitted store.new) }
+    ensures told { OnOk result (transcript.new ≡ transcript.old ++ (transacted store.old.committed statements.now).events) }
 {
-    let mut own = rows.fork()?;
     for statement in statements {
-        match run_statement(alloc, &own, statement, transcript)? {
-            Some(left) => own = left,
-            None => return Ok(None),
+        if let Some(fault) = run_statement(alloc, statement, session, store, transcript)? {
+            store.undo(session)?;
+            transcript.push(Event::Failed(fault))?;
+            return Ok(false);
         }
     }
-    Ok(Some(own))
+    store.keep(session);
+    Ok(true)
 }
 
-/// Runs setup blocks in order, each over the rows that the ones before it left. What they tell is in no transcript.
-pub(crate) fn set_up(alloc: Global, rows: Rows, blocks: &[Block]) -> Result<Rows, SetUpError>
-    requires { AllRunToday blocks.now }
-    ensures { MatchResult result (λ left. set_up_from 0 rows blocks.now ≡ Ok left) (λ e. StopsAt e (set_up_from 0 rows blocks.now)) }
+/// Runs a setup block as one transaction of a session, and returns whether all of it went through. What it tells is in no
+/// transcript.
+fn run_setup(
+    alloc: Global,
+    store: &mut Store,
+    session: u8,
+    block: &Block,
+) -> Result<bool, AllocError>
+    requires { IsCommitted store.old }
+    ensures whole { IfOk result (λ whole. whole ≡ is_some (transacted store.old.committed block.now).left) }
+    ensures rows { OnOk result (store.new.committed ≡ rows_after store.old.committed (transacted store.old.committed block.now).left) }
+    ensures committed { OnOk result (IsCommitted store.new) }
 {
-    let mut own = rows;
+    run_block(
+        alloc,
+        store,
+        session,
+        block.statements(),
+        &mut Transcript::new(alloc),
+    )
+}
+
+/// Runs the main setup blocks in order, each a transaction of the control session.
+pub(crate) fn main_setups(
+    alloc: Global,
+    store: Store,
+    control: u8,
+    blocks: &[Block],
+) -> Result<Store, SetUpError>
+    requires { IsCommitted store }
+    ensures ran { IfOk result (λ left. set_up_from 0 store.committed blocks.now ≡ Ok left.committed) }
+    ensures committed { IfOk result IsCommitted }
+    ensures stops { IfErr result (λ e. StopsAt e (set_up_from 0 store.committed blocks.now)) }
+{
+    let mut own = store;
     for (number, block) in blocks.iter().enumerate() {
-        match run_block(alloc, &own, block.statements(), &mut Transcript::new(alloc))? {
-            Some(left) => own = left,
-            None => return Err(SetUpError::Failed(number as u64)),
+        if !run_setup(alloc, &mut own, control, block)? {
+            return Err(SetUpError::Failed(number as u64));
+        }
+    }
+    Ok(own)
+}
+
+/// Runs the setup of each session in order, a transaction of that session.
+pub(crate) fn session_setups(
+    alloc: Global,
+    store: Store,
+    blocks: &[Block],
+) -> Result<Store, SetUpError>
+    requires committed { IsCommitted store }
+    requires few { length blocks.now ≤ 255 }
+    ensures ran { IfOk result (λ left. set_up_from 0 store.committed blocks.now ≡ Ok left.committed) }
+    ensures committed { IfOk result IsCommitted }
+    ensures stops { IfErr result (λ e. StopsAt e (set_up_from 0 store.committed blocks.now)) }
+{
+    let mut own = store;
+    for (number, block) in blocks.iter().enumerate() {
+        let session = number as u8;
+        if !run_setup(alloc, &mut own, session, block)? {
+            return Err(SetUpError::Failed(number as u64));
         }
     }
     Ok(own)

@@ -5,12 +5,12 @@ ghost use Rattle.sql_subset.specs.Spec.{no_step, RunsToday};
 ghost use Rattle.session_machine.specs.World.{World as spec_world, send, outcome_of};
 ghost use Rattle.session_machine.specs.Start.{Started, start};
 ghost use Rattle.session_machine.specs.Transaction.{transacted, told_by, rows_after};
-ghost use Rattle.session_machine.specs.Idle.{IsTold};
+ghost use Rattle.session_machine.specs.Idle.{IsTold, IsCommitted};
 ghost use Rattle.session_machine.specs.Running.{IsRefusedBy, setup_failed, session_setup_failed};
 
 use crate::error::{SendError, StartError};
-use crate::rows::Rows;
-use crate::transaction::{SetUpError, run_block, set_up};
+use crate::transaction::{SetUpError, main_setups, run_block, session_setups};
+use row_tables::Store;
 use sql_subset::Spec;
 use std::alloc::{AllocError, Global};
 use std::marker::Model;
@@ -22,7 +22,7 @@ use version_tree::Fork;
 pub struct World<'a> {
     spec: &'a Spec,
     alloc: Global,
-    rows: Rows,
+    store: Store,
     transcripts: Vec<Transcript>,
     is_spent: bool,
 }
@@ -34,9 +34,9 @@ impl<'a> Model for World<'a> {
     ghost use Rattle.lock_modes.specs.contracts.value.Value as value;
     ghost use Rattle.lock_modes.specs.contracts.resource.Resource as resource;
     ghost use Rattle.lock_queues.specs.contracts.wait.Wait as waiting;
-    ghost use Rattle.sql_subset.specs.contracts.bound.Bound as bound;
+    ghost use Rattle.sql_statements.specs.contracts.statement.Bound as bound;
     ghost use Rattle.transcripts.specs.contracts.event.Event as event;
-    ghost use Rattle.session_machine.specs.Idle.{idle_world, IsToldUnless};
+    ghost use Rattle.session_machine.specs.Idle.{idle_world, IsAtRestUnless};
     ghost use Rattle.session_machine.specs.Running.{Running};
 
     ghost Value = { Running };
@@ -44,9 +44,9 @@ impl<'a> Model for World<'a> {
     ghost coded = { Prim.hlevel (codes, map_code, value.the_row.coded, bound.the_row.coded, resource.the_row.coded, waiting.the_row.coded, event.the_row.coded) };
 
     // The last transcript is that of the control session, which is told nothing once the setups are run.
-    ghost view = { λ w. record { file = w.spec.now; world = idle_world w.rows (w.transcripts.items ++ [] ∷ []); spent = w.is_spent } };
+    ghost view = { λ w. record { file = w.spec.now; world = idle_world w.store.committed (w.transcripts.items ++ [] ∷ []); spent = w.is_spent } };
 
-    ghost invariant = { λ w. IsToldUnless w.is_spent w.spec.now.run.sessions (length w.spec.now.run.steps) w.transcripts.items };
+    ghost invariant = { λ w. IsAtRestUnless w.is_spent w.spec.now.run.sessions (length w.spec.now.run.steps) w.transcripts.items w.store };
 }
 
 impl<'a> World<'a> {
@@ -57,21 +57,22 @@ impl<'a> World<'a> {
         ensures whole { IfOk result (λ world. world.spent ≡ false) }
         ensures refused { IfErr result (λ error. IsRefusedBy error (start spec.now.run)) }
     {
-        let setups = spec.setups();
-        let session_setups = spec.session_setups();
-        let rows = match set_up(alloc, Rows::new(alloc), setups) {
-            Ok(rows) => rows,
+        let mains = spec.setups();
+        let own = spec.session_setups();
+        let control = spec.sessions();
+        let store = match main_setups(alloc, Store::new(alloc), control, mains) {
+            Ok(store) => store,
             Err(error) => return Err(setup_failed(error)),
         };
-        let rows = match set_up(alloc, rows, session_setups) {
-            Ok(rows) => rows,
+        let store = match session_setups(alloc, store, own) {
+            Ok(store) => store,
             Err(error) => return Err(session_setup_failed(error)),
         };
-        let transcripts = blank_transcripts(alloc, spec.sessions())?;
+        let transcripts = blank_transcripts(alloc, control)?;
         Ok(World {
             spec,
             alloc,
-            rows,
+            store,
             transcripts,
             is_spent: false,
         })
@@ -94,7 +95,7 @@ impl World<'_> {
         self.is_spent = true;
         let session = self.spec.session_of(step);
         let transcript = &mut self.transcripts[session as usize];
-        self.rows = tell_step(self.alloc, &self.rows, self.spec, step, transcript)?;
+        tell_step(self.alloc, &mut self.store, self.spec, step, transcript)?;
         self.is_spent = false;
         Ok(())
     }
@@ -116,27 +117,26 @@ impl World<'_> {
     }
 }
 
-/// Runs a step as one transaction and tells its session of it: the rows afterwards.
+/// Runs a step as one transaction of its session and tells the session of it.
 fn tell_step(
     alloc: Global,
-    rows: &Rows,
+    store: &mut Store,
     spec: &Spec,
     step: u8,
     transcript: &mut Transcript,
-) -> Result<Rows, AllocError>
-    requires { step < length spec.now.run.steps }
-    ensures rows { IfOk result (λ left. left ≡ rows_after rows.now (transacted rows.now (get_or spec.now.run.steps step no_step).statements).left) }
-    ensures told { OnOk result (transcript.new ≡ told_by transcript.old step (transacted rows.now (get_or spec.now.run.steps step no_step).statements)) }
+) -> Result<(), AllocError>
+    requires known { step < length spec.now.run.steps }
+    requires committed { IsCommitted store.old }
+    ensures rows { OnOk result (store.new.committed ≡ rows_after store.old.committed (transacted store.old.committed (get_or spec.now.run.steps step no_step).statements).left) }
+    ensures committed { OnOk result (IsCommitted store.new) }
+    ensures told { OnOk result (transcript.new ≡ told_by transcript.old step (transacted store.old.committed (get_or spec.now.run.steps step no_step).statements)) }
     ensures today { All RunsToday (get_or spec.now.run.steps step no_step).statements }
 {
+    let session = spec.session_of(step);
     let statements = spec.statements(step);
     transcript.push(Event::Sent(step))?;
-    let left = run_block(alloc, rows, statements, transcript)?;
-    transcript.push(Event::Done)?;
-    match left {
-        Some(rows) => Ok(rows),
-        None => rows.fork(),
-    }
+    run_block(alloc, store, session, statements, transcript)?;
+    transcript.push(Event::Done)
 }
 
 /// A main setup block fails.

@@ -1,12 +1,3 @@
 pub mod OrderLemmas
-pub mod Pieces
-pub mod WalkLemmas
-pub mod ReadingLemmas
-pub mod FormLemmas
-pub mod BlockLemmas
-pub mod Loops
-pub mod TableLemmas
-pub mod EachLemmas
 pub mod ShapeLemmas
-pub mod TodayLemmas
-pub mod FileLemmas
+pub mod WalkLemmas

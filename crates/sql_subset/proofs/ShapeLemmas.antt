@@ -4,7 +4,7 @@ use Rattle.std.proofs.lemmas.List.{append-nil, drop_all, length-map}
 use Rattle.spec_reader.specs.declared.tree.Session.{Session}
 use Rattle.spec_reader.specs.Views.{session_tree, step_tree}
 use Rattle.perm_ranks.specs.Words.{total}
-use Rattle.sql_subset.specs.Binding.{counts_in, front_some, then_some, all_some}
+use Rattle.sql_subset.specs.Lines.{counts_in, front_some, then_some, all_some}
 
 -- ---- counts of steps
 

@@ -1,14 +1,6 @@
-pub mod Binding
-pub mod Bindings
-pub mod Grammar
-pub mod Lexing
-pub mod Numeral
+pub mod Lines
+pub mod Names
 pub mod Orders
-pub mod Plan
-pub mod Reading
-pub mod Refusals
 pub mod Spec
-pub mod Tables
-pub mod Tokens
 pub mod Views
 pub mod Walking

@@ -1,12 +1,9 @@
 -- A spec as the machine runs it: steps, setups and lines, and the line of each rank.
-use Rattle.std.specs.Prelude.{ℕ, zero, suc, ◌==◌, List, [], ◌∷◌, length, map, set, get_or, ◌<◌, ◌≤◌, cond, Some, All, ◌≡◌}
-use Rattle.sql_subset.specs.declared.bound.Expression.TheVariants.{Literal, Column}
-use Rattle.sql_subset.specs.declared.bound.Comparison.TheVariants.{Same}
-use Rattle.sql_subset.specs.declared.bound.Condition.TheVariants.{Compares}
-use Rattle.sql_subset.specs.declared.bound.Output.TheVariants.{Columns}
-use Rattle.sql_subset.specs.declared.bound.Bound.{Bound}
-use Rattle.sql_subset.specs.declared.bound.Bound.TheVariants.{Select, Insert}
+use Rattle.std.specs.Prelude.{ℕ, zero, suc, ◌==◌, List, [], ◌∷◌, length, map, set, get_or, ◌<◌, ◌≤◌, cond, All, ◌≡◌, ⊤}
 use Rattle.perm_ranks.specs.Words.{Word, all_words, word_at}
+use Rattle.sql_statements.specs.declared.statement.Bound.{Bound}
+use Rattle.sql_statements.specs.declared.statement.Bound.TheVariants.{Select, Insert, Update, Delete, Begin, Commit, Rollback, LockTable, SetVariable}
+use Rattle.sql_statements.specs.Plan.{HasKeys}
 
 -- a step of the file
 pub record Step : Type 0 where
@@ -82,11 +79,21 @@ pub record SpecFile : Type 0 where
   pub step_names : List (List ℕ)
   pub run : Spec
 
--- the machine of today runs it: rows into a table with a key, or columns of the row with a key
+-- each new row of a table with a key has its key
+abbrev pub AllHaveKeys : List (List Bound) → Type 0
+AllHaveKeys blocks = All (λ (statements : List Bound). All HasKeys statements) blocks
+
+-- the machine of today runs it: each step is one transaction, so no statement begins or ends one
 abbrev pub RunsToday : Bound → Type 0
-RunsToday (Insert t (Some k) rows) = Unit {0}
-RunsToday (Select t (Some key) (Compares (Column c) Same (Literal v)) [] (Columns cs)) = Unit {0}
-RunsToday s = ⊥
+RunsToday (Select t key c by out) = ⊤
+RunsToday (Insert t key rows) = ⊤
+RunsToday (Update t key sets c) = ⊤
+RunsToday (Delete t key c) = ⊤
+RunsToday (LockTable t mode) = ⊤
+RunsToday SetVariable = ⊤
+RunsToday Begin = ⊥
+RunsToday Commit = ⊥
+RunsToday Rollback = ⊥
 
 -- each statement of each block is one that the machine of today runs
 abbrev pub AllRunToday : List (List Bound) → Type 0
@@ -103,9 +110,10 @@ pub record IsLine (steps : ℕ) (line : List ℕ) : Type 0 where
   pub few : length line ≤ 24
   pub known : All (λ k. k < steps) line
 
--- a step of one of so many sessions, with statements that the machine of today runs
+-- a step of one of so many sessions, whose new rows have their keys, with statements that the machine of today runs
 pub record IsStep (sessions : ℕ) (step : Step) : Type 0 where
   pub session : step.session < sessions
+  pub keys : All HasKeys step.statements
   pub today : All RunsToday step.statements
 
 -- what every spec keeps
@@ -117,6 +125,8 @@ pub record IsReady (file : SpecFile) : Type 0 where
   pub step_names : length file.step_names ≡ length file.run.steps
   pub session_setups : length file.run.session_setups ≡ file.run.sessions
   pub steps : All (IsStep file.run.sessions) file.run.steps
+  pub setups_keys : AllHaveKeys file.run.setups
   pub setups_today : AllRunToday file.run.setups
+  pub session_setups_keys : AllHaveKeys file.run.session_setups
   pub session_setups_today : AllRunToday file.run.session_setups
   pub lines : All (IsLine (length file.run.steps)) file.run.lines

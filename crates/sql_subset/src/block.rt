@@ -1,6 +1,6 @@
 ghost use Rattle.std.specs.Prelude.{◌≡◌};
 
-use crate::bound::Bound;
+use sql_statements::Bound;
 use std::marker::Model;
 
 /// The statements of a setup or a step in their order, seen by contracts as their list.
@@ -12,8 +12,8 @@ pub struct Block {
 impl Model for Block {
     ghost use Rattle.std.specs.Prelude.{List};
     ghost use Rattle.std.specs.Coded.{codes};
-    ghost use Rattle.sql_subset.specs.declared.bound.Bound.{Bound as One};
-    ghost use Rattle.sql_subset.specs.contracts.bound.Bound as bound;
+    ghost use Rattle.sql_statements.specs.declared.statement.Bound.{Bound as One};
+    ghost use Rattle.sql_statements.specs.contracts.statement.Bound as bound;
 
     ghost Value = { List One };
 
@@ -46,7 +46,7 @@ pub(crate) struct Step {
 impl Model for Step {
     ghost use Rattle.std.specs.Coded.{codes};
     ghost use Rattle.sql_subset.specs.Spec.{Step as OfSpec};
-    ghost use Rattle.sql_subset.specs.contracts.bound.Bound as bound;
+    ghost use Rattle.sql_statements.specs.contracts.statement.Bound as bound;
 
     ghost Value = { OfSpec };
 

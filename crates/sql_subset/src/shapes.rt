@@ -4,10 +4,10 @@ ghost use Rattle.std.specs.Prelude.{◌≡◌, ◌<◌, ◌≤◌, map, length, 
 ghost use Rattle.spec_reader.specs.Views.{session_tree, item_tree, line_tree};
 ghost use Rattle.perm_ranks.specs.Shape.{shape_of};
 ghost use Rattle.perm_ranks.specs.Words.{total};
-ghost use Rattle.sql_subset.specs.Binding.{counts_in, all_some, line_of};
+ghost use Rattle.sql_subset.specs.Lines.{counts_in, all_some, line_of};
 
+use crate::names::position;
 use crate::orders::Line;
-use crate::tables::position;
 use arrayvec::ArrayVec;
 use lock_modes::Text;
 use perm_ranks::{MAX_SESSIONS, Shape};

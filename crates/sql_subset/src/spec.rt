@@ -1,12 +1,13 @@
 ghost use Rattle.std.specs.Prelude.{◌≡◌, ◌≢◌, ◌<◌, ◌≤◌, ◌↔◌, [], length, get_or, All, IsTrue, IsSome, IfSome};
-ghost use Rattle.sql_subset.specs.Spec.{no_step, ranks, line_of, RunsToday, AllRunToday, IsBound};
+ghost use Rattle.sql_subset.specs.Spec.{no_step, ranks, line_of, AllHaveKeys, RunsToday, AllRunToday, IsBound};
+ghost use Rattle.sql_statements.specs.Plan.{HasKeys};
 ghost use Rattle.sql_subset.specs.Views.{file_of as file_of_parts, IsKept as IsKeptBy};
 
 use crate::block::{Block, Step};
-use crate::bound::Bound;
 use crate::orders::{Line, Orders, copied};
 use crate::walking::line_of_word;
 use lock_modes::Text;
+use sql_statements::Bound;
 use std::marker::Model;
 
 /// What a spec is made of.
@@ -31,7 +32,7 @@ pub struct Spec {
 impl Model for Spec {
     ghost use Rattle.std.specs.Coded.{codes};
     ghost use Rattle.sql_subset.specs.Spec.{SpecFile};
-    ghost use Rattle.sql_subset.specs.contracts.bound.Bound as bound;
+    ghost use Rattle.sql_statements.specs.contracts.statement.Bound as bound;
 
     ghost Value = { SpecFile };
 
@@ -120,6 +121,7 @@ impl Spec {
     pub fn statements(&self, step: u8) -> &[Bound]
         requires { step < length self.now.run.steps }
         ensures are { result.now ≡ (get_or self.now.run.steps step no_step).statements }
+        ensures keys { All HasKeys result.now }
         ensures today { All RunsToday result.now }
     {
         self.parts.steps[step as usize].statements()
@@ -128,6 +130,7 @@ impl Spec {
     /// The main setup blocks, in the order of the file, which run once at the start.
     pub fn setups(&self) -> &[Block]
         ensures are { result.now ≡ self.now.run.setups }
+        ensures keys { AllHaveKeys result.now }
         ensures today { AllRunToday result.now }
     {
         self.parts.setups.as_slice()
@@ -137,6 +140,7 @@ impl Spec {
     pub fn session_setups(&self) -> &[Block]
         ensures are { result.now ≡ self.now.run.session_setups }
         ensures each { length result.now ≡ self.now.run.sessions }
+        ensures keys { AllHaveKeys result.now }
         ensures today { AllRunToday result.now }
     {
         self.parts.session_setups.as_slice()

@@ -1,4 +1,4 @@
-use Rattle.session_machine.proofs.Rings.{way-found, way-is-found}
+use Rattle.lock_queues.proofs.Rings.{way-found, way-is-found}
 use Rattle.session_machine.proofs.laws.waits_are_rings.Goals as goal
 
 pub returns : goal.returns

@@ -1,7 +1,7 @@
 use Rattle.std.proofs.Common.{◌≡◌, sym, ap, ◌∙◌, ◌∷◌, [], Some, arith, length-append}
 use Rattle.spec_reader.specs.Views.{item_tree}
-use Rattle.sql_subset.specs.Tables.{column_number}
-use Rattle.sql_subset.specs.Binding.{step_number}
+use Rattle.sql_subset.specs.Names.{place_in}
+use Rattle.sql_subset.specs.Lines.{step_number}
 use Rattle.sql_subset.proofs.ShapeLemmas.{some-starts, some-goes_on}
 use Rattle.sql_subset.proofs.shapes.line.Goals as goal
 
@@ -11,7 +11,7 @@ loop-item-init c = rw c.new-line.ensures (record { so_far = some-starts item_tre
 pub loop-item-preserved : goal.loop-item-preserved
 loop-item-preserved c =
     let names = c.args.names.now in
-    let found : step_number names (item_tree c.item-item.result) ≡ Some c.in_ok-step.step = ap (column_number names) (sym c.deref.ensures) ∙ sym c.in_ok-step.ensures.number in
+    let found : step_number names (item_tree c.item-item.result) ≡ Some c.in_ok-step.step = ap (λ name. place_in name names) (sym c.deref.ensures) ∙ sym c.in_ok-step.ensures.number in
     rw c.push.ensures.items
     (record {
       so_far = sym (some-goes_on (λ i. step_number names (item_tree i)) c.loop-item.line.items c.args.items.now c.loop-item.item-index c.item-item.result c.in_ok-step.step c.loop-item-test.true (ap (λ i. step_number names (item_tree i)) (sym c.item-item.is) ∙ found)) ∙ c.loop-item.invariant.so_far;

@@ -1,6 +1,6 @@
 use Rattle.std.proofs.Common.{◌≡◌, ◌≤◌, length, drop, map}
 use Rattle.spec_reader.specs.Views.{item_tree}
-use Rattle.sql_subset.specs.Binding.{front_some, all_some, step_number}
+use Rattle.sql_subset.specs.Lines.{front_some, all_some, step_number}
 use Rattle.sql_subset.proofs.shapes.line.Given as goal
 
 abbrev pub invariant-loop-item : goal.invariant-loop-item

@@ -1,5 +1,5 @@
 use Rattle.spec_reader.specs.Views.{line_tree}
-use Rattle.sql_subset.specs.Binding.{line_of}
+use Rattle.sql_subset.specs.Lines.{line_of}
 use Rattle.sql_subset.proofs.ShapeLemmas.{some-starts}
 use Rattle.sql_subset.proofs.shapes.lines.Goals as goal
 

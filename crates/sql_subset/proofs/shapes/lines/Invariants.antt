@@ -1,6 +1,6 @@
 use Rattle.std.proofs.Common.{◌≡◌, drop, map}
 use Rattle.spec_reader.specs.Views.{line_tree}
-use Rattle.sql_subset.specs.Binding.{front_some, all_some, line_of}
+use Rattle.sql_subset.specs.Lines.{front_some, all_some, line_of}
 use Rattle.sql_subset.proofs.shapes.lines.Given as goal
 
 abbrev pub invariant-loop-text : goal.invariant-loop-text

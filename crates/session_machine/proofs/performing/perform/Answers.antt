@@ -1,0 +1,17 @@
+use Rattle.std.proofs.Common.{sym, ap, subst, ◌∷◌}
+use Rattle.session_machine.specs.Session.{Do, kind}
+use Rattle.session_machine.specs.Going.{standing, GoesOnTo}
+use Rattle.session_machine.proofs.Moves.{commits-there, rolls-back-there}
+use Rattle.session_machine.proofs.performing.perform.Goals as goal
+
+pub returns-in_ok-commit-in-Commit : goal.returns-in_ok-commit-in-Commit
+returns-in_ok-commit-in-Commit c = λ ts.
+    let x = standing c.args.store.now c.args.locks.now c.args.state.now in
+    subst (λ y. GoesOnTo c.args.session x (Do c.args.statement.now ∷ ts) y ts) (sym c.in_ok-commit-in-Commit.ensures)
+    (commits-there c.args.session c.args.store.now c.args.locks.now c.args.state.now c.args.statement.now ts (ap kind c.in-Commit.is) c.requires.idle)
+
+pub returns-in_ok-roll_back-in-Rollback : goal.returns-in_ok-roll_back-in-Rollback
+returns-in_ok-roll_back-in-Rollback c = λ ts.
+    let x = standing c.args.store.now c.args.locks.now c.args.state.now in
+    subst (λ y. GoesOnTo c.args.session x (Do c.args.statement.now ∷ ts) y ts) (sym c.in_ok-roll_back-in-Rollback.ensures)
+    (rolls-back-there c.args.session c.args.store.now c.args.locks.now c.args.state.now c.args.statement.now ts (ap kind c.in-Rollback.is) c.requires.idle)

@@ -1,9 +1,0 @@
-use Rattle.std.proofs.Common.{ap, ◌∙◌, refl}
-use Rattle.version_tree.specs.Map.{of_entries}
-use Rattle.lock_modes.specs.Place.{place_order}
-use Rattle.session_machine.proofs.rows.Rows.new.Goals as goal
-
--- no entries are the empty map
-pub returns : goal.returns
-unfolding of_entries
-returns c = ap (of_entries place_order) c.new.ensures ∙ refl

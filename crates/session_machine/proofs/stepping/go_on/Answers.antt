@@ -1,0 +1,153 @@
+use Rattle.std.proofs.lemmas.List.{drop_all}
+use Rattle.std.proofs.Common.{◌≡◌, ◌+◌, sym, ap, ◌∙◌, subst, List, drop, [], ◌∷◌, ◌++◌, drop-cons, add-one}
+use Rattle.lock_queues.specs.Locks.{waits_now}
+use Rattle.transcripts.specs.declared.event.Event.TheVariants.{Waiting}
+use Rattle.session_machine.specs.declared.stepping.Point.{Point}
+use Rattle.session_machine.specs.Session.{Task}
+use Rattle.session_machine.specs.Going.{Standing, standing, tasks_from, GoesOnTo, StopsIn, Asks, HasAll, Does, paused, finished_in}
+use Rattle.session_machine.proofs.States.{same-trans}
+use Rattle.session_machine.proofs.Going.{sees-alone}
+use Rattle.session_machine.proofs.Moves.{goes-on-stops, ends-there}
+use Rattle.session_machine.proofs.Steps.{to-ask, still-under, next-to-go, done-then, fails-then, refused-then, waits-then}
+use Rattle.session_machine.proofs.stepping.go_on.Goals as goal
+
+pub ask_all-requires-clause-ready : goal.ask_all-requires-clause-ready
+ask_all-requires-clause-ready c =
+    let i = c.args.session in
+    let sts = c.args.statements.now in
+    let k = c.loop-number.number in
+    let n = c.loop-number.request in
+    let l = c.loop-number.store in
+    let t = c.loop-number.locks in
+    let s = c.loop-number.state in
+    let st = c.index-statements-number.result in
+    let here : drop k sts ≡ st ∷ drop (k + 1) sts = drop-cons sts k st c.loop-number-test.true ∙ (λ j. sym c.index-statements-number.is j ∷ drop (sym (add-one k) j) sts) in
+    to-ask i l t sts k n st here c.loop-number.invariant.ready
+
+pub perform-requires-clause-idle : goal.perform-requires-clause-idle
+perform-requires-clause-idle c =
+    let i = c.args.session in
+    let sts = c.args.statements.now in
+    let k = c.loop-number.number in
+    let n = c.loop-number.request in
+    let l = c.loop-number.store in
+    let t = c.loop-number.locks in
+    let s = c.loop-number.state in
+    let st = c.index-statements-number.result in
+    let here : drop k sts ≡ st ∷ drop (k + 1) sts = drop-cons sts k st c.loop-number-test.true ∙ (λ j. sym c.index-statements-number.is j ∷ drop (sym (add-one k) j) sts) in
+    let u = c.ask_all.new.locks in
+    let had = subst (Asks i t s st n u) c.in-Had.is c.in_ok-ask_all.ensures.asks in
+    ap (λ ws. waits_now ws i) (had l []).waits ∙ c.loop-number.invariant.ready.idle
+
+-- the session holds what the statement asks for, and the others write under their locks
+pub perform-requires-clause-alone : goal.perform-requires-clause-alone
+perform-requires-clause-alone c =
+    let i = c.args.session in
+    let sts = c.args.statements.now in
+    let k = c.loop-number.number in
+    let n = c.loop-number.request in
+    let l = c.loop-number.store in
+    let t = c.loop-number.locks in
+    let s = c.loop-number.state in
+    let st = c.index-statements-number.result in
+    let here : drop k sts ≡ st ∷ drop (k + 1) sts = drop-cons sts k st c.loop-number-test.true ∙ (λ j. sym c.index-statements-number.is j ∷ drop (sym (add-one k) j) sts) in
+    let u = c.ask_all.new.locks in
+    let had = subst (Asks i t s st n u) c.in-Had.is c.in_ok-ask_all.ensures.asks in
+    let holds = subst (HasAll i u st) c.in-Had.is c.in_ok-ask_all.ensures.holds in
+    sees-alone i st l u c.known.ensures.together (still-under i l l t u (had l []).others c.loop-number.invariant.ready.under) holds
+
+-- the statement is done, and the next one follows
+pub loop-number-preserved : goal.loop-number-preserved
+loop-number-preserved c =
+    let i = c.args.session in
+    let sts = c.args.statements.now in
+    let k = c.loop-number.number in
+    let n = c.loop-number.request in
+    let l = c.loop-number.store in
+    let t = c.loop-number.locks in
+    let s = c.loop-number.state in
+    let st = c.index-statements-number.result in
+    let here : drop k sts ≡ st ∷ drop (k + 1) sts = drop-cons sts k st c.loop-number-test.true ∙ (λ j. sym c.index-statements-number.is j ∷ drop (sym (add-one k) j) sts) in
+    let x = standing c.args.store.now c.args.locks.now c.args.state.now in
+    let first = tasks_from (drop c.args.from.statement sts) c.args.from.request in
+    let u = c.ask_all.new.locks in
+    let had = subst (Asks i t s st n u) c.in-Had.is c.in_ok-ask_all.ensures.asks in
+    let z = standing l u s in
+    let w = standing c.perform.new.store c.perform.new.locks c.perform.new.state in
+    let does = subst (Does i z st w) c.in_default.is c.in_ok-fault.ensures in
+    record {
+      came = done-then i x (standing l t s) first sts k n st here c.loop-number.invariant.came z w (had l) does;
+      ready = next-to-go i l c.perform.new.store t c.perform.new.locks sts k n (same-trans i l l c.perform.new.store t u c.perform.new.locks (had l []).others (does []).others) ((does []).waits ∙ (had l []).waits) c.loop-number.invariant.ready;
+    }
+
+-- the statement fails
+pub returns-in-Some : goal.returns-in-Some
+returns-in-Some c =
+    let i = c.args.session in
+    let sts = c.args.statements.now in
+    let k = c.loop-number.number in
+    let n = c.loop-number.request in
+    let l = c.loop-number.store in
+    let t = c.loop-number.locks in
+    let s = c.loop-number.state in
+    let st = c.index-statements-number.result in
+    let here : drop k sts ≡ st ∷ drop (k + 1) sts = drop-cons sts k st c.loop-number-test.true ∙ (λ j. sym c.index-statements-number.is j ∷ drop (sym (add-one k) j) sts) in
+    let x = standing c.args.store.now c.args.locks.now c.args.state.now in
+    let first = tasks_from (drop c.args.from.statement sts) c.args.from.request in
+    let u = c.ask_all.new.locks in
+    let had = subst (Asks i t s st n u) c.in-Had.is c.in_ok-ask_all.ensures.asks in
+    let z = standing l u s in
+    let w = standing c.perform.new.store c.perform.new.locks c.perform.new.state in
+    let fails = subst (Does i z st w) c.in-Some.is c.in_ok-fault.ensures in
+    subst (StopsIn i x first) (sym c.in_ok-fail.ensures) (fails-then i x (standing l t s) first sts k n st here c.loop-number.invariant.came z _ (had l) fails)
+
+-- a request is refused
+pub returns-in-Refused : goal.returns-in-Refused
+returns-in-Refused c =
+    let i = c.args.session in
+    let sts = c.args.statements.now in
+    let k = c.loop-number.number in
+    let n = c.loop-number.request in
+    let l = c.loop-number.store in
+    let t = c.loop-number.locks in
+    let s = c.loop-number.state in
+    let st = c.index-statements-number.result in
+    let here : drop k sts ≡ st ∷ drop (k + 1) sts = drop-cons sts k st c.loop-number-test.true ∙ (λ j. sym c.index-statements-number.is j ∷ drop (sym (add-one k) j) sts) in
+    let x = standing c.args.store.now c.args.locks.now c.args.state.now in
+    let first = tasks_from (drop c.args.from.statement sts) c.args.from.request in
+    let u = c.ask_all.new.locks in
+    let refused = subst (Asks i t s st n u) c.in-Refused.is c.in_ok-ask_all.ensures.asks in
+    subst (StopsIn i x first) (sym c.in_ok-fail-in-Refused.ensures) (refused-then i x (standing l t s) first sts k n st here c.loop-number.invariant.came _ (refused l))
+
+-- a request waits
+pub returns-in-Waits : goal.returns-in-Waits
+returns-in-Waits c =
+    let i = c.args.session in
+    let sts = c.args.statements.now in
+    let k = c.loop-number.number in
+    let n = c.loop-number.request in
+    let l = c.loop-number.store in
+    let t = c.loop-number.locks in
+    let s = c.loop-number.state in
+    let st = c.index-statements-number.result in
+    let here : drop k sts ≡ st ∷ drop (k + 1) sts = drop-cons sts k st c.loop-number-test.true ∙ (λ j. sym c.index-statements-number.is j ∷ drop (sym (add-one k) j) sts) in
+    let x = standing c.args.store.now c.args.locks.now c.args.state.now in
+    let first = tasks_from (drop c.args.from.statement sts) c.args.from.request in
+    let u = c.ask_all.new.locks in
+    let waits = subst (Asks i t s st n u) c.in-Waits.is c.in_ok-ask_all.ensures.asks in
+    let p : Point = record { statement = k; request = c.in-Waits.request } in
+    let there : List Task → Standing = λ rest. record { layers = l; locks = u; own = record { status = s.status; rest = rest; transcript = s.transcript ++ Waiting ∷ [] } } in
+    subst (λ tr. StopsIn i x first (paused l u (record { status = s.status; transcript = tr }) sts p)) (sym c.in_ok-push-in-Waits.ensures.ok)
+    (waits-then i x (standing l t s) first sts k n st here c.loop-number.invariant.came there c.in-Waits.request (waits l))
+
+-- the step ends
+pub returns : goal.returns
+returns c =
+    let i = c.args.session in
+    let sts = c.args.statements.now in
+    let k = c.loop-number.number in
+    let y = standing c.loop-number.store c.loop-number.locks c.loop-number.state in
+    let x = standing c.args.store.now c.args.locks.now c.args.state.now in
+    let first = tasks_from (drop c.args.from.statement sts) c.args.from.request in
+    let came = subst (λ ss. GoesOnTo i x first y (tasks_from ss c.loop-number.request)) (drop_all k sts c.loop-number-test.false) c.loop-number.invariant.came in
+    subst (StopsIn i x first) (sym c.in_ok-finish.ensures) (goes-on-stops i x y (finished_in i y) first [] came (ends-there i y c.loop-number.invariant.ready.idle))

@@ -1,7 +1,0 @@
-use Rattle.std.proofs.Common.{subst, sym}
-use Rattle.sql_subset.specs.Lexing.{FitsIn}
-use Rattle.sql_subset.proofs.Pieces.{fits}
-use Rattle.sql_subset.proofs.cutting.piece_in.Goals as goal
-
-pub returns-clause-fits : goal.returns-clause-fits
-returns-clause-fits c = subst (FitsIn c.args.text.now) (sym c.piece_of.ensures) (fits c.args.text.now c.utf8.text)
