@@ -255,6 +255,10 @@ fn a_refused_change_leaves_the_store_as_it_was(rt: HostRuntime) {
     assert_puts(&rt, alloc, &mut store, 1, 11);
     assert_puts(&rt, alloc, &mut store, 3, 30);
     let written = value_at(&store, 0, &one);
+    if let Ok(mut fork) = store.fork() {
+        keep(&mut fork, 0);
+    }
+    assert_eq!(rt; value_at(&store, 0, &one), written);
     let refused = undo(&mut store, 0).is_err();
     let want = if refused { written } else { kept };
     assert_eq!(rt; value_at(&store, 0, &one), want);
