@@ -1,7 +1,7 @@
 ghost use Rattle.std.specs.Prelude.{◌≡◌};
 ghost use Rattle.session_machine.specs.Go.{is_broken};
 
-use transcripts::Transcript;
+use transcripts::Log;
 
 /// Where a session stands with its transaction block.
 #[derive(Clone, Copy, Debug, PartialEq, Eq)]
@@ -25,5 +25,5 @@ impl Status {
 #[derive(Drop)]
 pub(crate) struct SessionState {
     pub(crate) status: Status,
-    pub(crate) transcript: Transcript,
+    pub(crate) transcript: Log,
 }

@@ -11,7 +11,7 @@ use sql_statements::Bound;
 use sql_subset::Block;
 use statement_effects::run_statement;
 use std::alloc::{AllocError, Global};
-use transcripts::{Event, Transcript};
+use transcripts::{Event, Log};
 
 /// Why setup blocks were not run to their end.
 #[derive(Clone, Copy, Debug, PartialEq, Eq)]
@@ -36,18 +36,18 @@ pub(crate) fn run_block(
     store: &mut Store,
     session: u8,
     statements: &[Bound],
-    transcript: &mut Transcript,
+    log: &mut Log,
 ) -> Result<bool, AllocError>
     requires { IsCommitted store.old }
     ensures whole { IfOk result (λ whole. whole ≡ is_some (transacted store.old.committed statements.now).left) }
     ensures rows { OnOk result (store.new.committed ≡ rows_after store.old.committed (transacted store.old.committed statements.now).left) }
     ensures committed { OnOk result (IsCommitted store.new) }
-    ensures told { OnOk result (transcript.new ≡ transcript.old ++ (transacted store.old.committed statements.now).events) }
+    ensures told { OnOk result (log.new ≡ log.old ++ (transacted store.old.committed statements.now).events) }
 {
     for statement in statements {
-        if let Some(fault) = run_statement(alloc, statement, session, store, transcript)? {
+        if let Some(fault) = run_statement(alloc, statement, session, store, log)? {
             store.undo(session)?;
-            transcript.push(Event::Failed(fault))?;
+            log.push(Event::Failed(fault))?;
             return Ok(false);
         }
     }
@@ -73,7 +73,7 @@ fn run_setup(
         store,
         session,
         block.statements(),
-        &mut Transcript::new(alloc),
+        &mut Log::new(alloc),
     )
 }
 

@@ -14,7 +14,7 @@ use row_tables::Store;
 use sql_subset::Spec;
 use std::alloc::{AllocError, Global};
 use std::marker::Model;
-use transcripts::{Event, Outcome, Transcript};
+use transcripts::{Event, Log, Outcome, Transcript};
 use version_tree::Fork;
 
 /// The sequential machine over a spec. Contracts see the spec, the world and whether it is spent.
@@ -23,7 +23,7 @@ pub struct World<'a> {
     spec: &'a Spec,
     alloc: Global,
     store: Store,
-    transcripts: Vec<Transcript>,
+    transcripts: Vec<Log>,
     is_spent: bool,
 }
 
@@ -109,11 +109,8 @@ impl World<'_> {
         if self.is_spent {
             return Err(SendError::Spent);
         }
-        let mut outcome = Outcome::new(self.alloc);
-        for transcript in &self.transcripts {
-            outcome.push(transcript.fork()?)?;
-        }
-        Ok(outcome)
+        let transcripts = transcripts_of(self.alloc, &self.transcripts)?;
+        Ok(Outcome::new(self.alloc, transcripts)?)
     }
 }
 
@@ -123,7 +120,7 @@ fn tell_step(
     store: &mut Store,
     spec: &Spec,
     step: u8,
-    transcript: &mut Transcript,
+    transcript: &mut Log,
 ) -> Result<(), AllocError>
     requires known { step < length spec.now.run.steps }
     requires committed { IsCommitted store.old }
@@ -159,13 +156,24 @@ fn session_setup_failed(error: SetUpError) -> StartError
     }
 }
 
+/// A transcript of each log.
+fn transcripts_of(alloc: Global, logs: &[Log]) -> Result<Vec<Transcript>, AllocError>
+    ensures { IfOk result (λ transcripts. transcripts.items ≡ logs.now) }
+{
+    let mut transcripts = Vec::with_capacity(alloc, logs.len())?;
+    for log in logs {
+        transcripts.push(log.to_transcript()?)?;
+    }
+    Ok(transcripts)
+}
+
 /// So many transcripts without events.
-fn blank_transcripts(alloc: Global, count: u8) -> Result<Vec<Transcript>, AllocError>
+fn blank_transcripts(alloc: Global, count: u8) -> Result<Vec<Log>, AllocError>
     ensures { IfOk result (λ transcripts. transcripts.items ≡ replicate count []) }
 {
     let mut transcripts = Vec::with_capacity(alloc, count as usize)?;
     for _session in 0..count {
-        transcripts.push(Transcript::new(alloc))?;
+        transcripts.push(Log::new(alloc))?;
     }
     Ok(transcripts)
 }

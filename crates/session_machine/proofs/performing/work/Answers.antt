@@ -35,4 +35,4 @@ begin-requires c = λ e. true≢false (sym (ap is_broken e) ∙ sym c.if-is_brok
 pub returns-in_default : goal.returns-in_default
 returns-in_default c =
     if_all c.run_statement.result c.run_statement.ensures.fault c.run_statement.ensures.left c.run_statement.ensures.told
-    (λ fault is left told locks idle. does-work c.args.session c.args.store.now c.run_statement.new.store locks c.args.state.now c.args.statement.now c.run_statement.new.transcript fault (works-else c.args.statement.now c.requires.ends_none c.in_default.not-Begin) (sym c.if-is_broken.ensures) idle is left told)
+    (λ fault is left told locks idle. does-work c.args.session c.args.store.now c.run_statement.new.store locks c.args.state.now c.args.statement.now c.run_statement.new.log fault (works-else c.args.statement.now c.requires.ends_none c.in_default.not-Begin) (sym c.if-is_broken.ensures) idle is left told)

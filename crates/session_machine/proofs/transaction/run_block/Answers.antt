@@ -18,7 +18,7 @@ loop-statement-init c =
       alone = begins-alone c.args.session c.args.store.now c.requires;
       committed = refl;
       left = ap (λ rows. (transacted rows c.args.statements.now).left) sees;
-      told = ap (λ rows. c.args.transcript.now ++ (transacted rows c.args.statements.now).events) sees;
+      told = ap (λ rows. c.args.log.now ++ (transacted rows c.args.statements.now).events) sees;
     }
 
 pub run_statement-requires : goal.run_statement-requires
@@ -33,7 +33,7 @@ loop-statement-preserved c =
     let sts = c.args.statements.now in
     let more = drop (i + 1) sts in
     let before = c.loop-statement.store in
-    let told = c.loop-statement.transcript in
+    let told = c.loop-statement.log in
     let e = effect st (sight s before) in
     let inside : i < length sts = c.loop-statement-test.true in
     let here : drop i sts ≡ st ∷ more = drop-cons sts i st inside ∙ (λ j. sym c.statement-item.is j ∷ drop (sym (add-one i) j) sts) in
@@ -57,7 +57,7 @@ returns-in-Some c =
     let sts = c.args.statements.now in
     let more = drop (i + 1) sts in
     let before = c.loop-statement.store in
-    let told = c.loop-statement.transcript in
+    let told = c.loop-statement.log in
     let rows = c.args.store.now.committed in
     let e = effect st (sight s before) in
     let inside : i < length sts = c.loop-statement-test.true in
@@ -88,5 +88,5 @@ returns c =
       whole = sym (ap is_some left);
       rows = ap (λ l. l.committed) c.keep.ensures ∙ sym (ap (rows_after rows) left);
       committed = subst IsCommitted (sym c.keep.ensures) (kept-committed s before c.loop-statement.invariant.alone);
-      told = sym (c.loop-statement.invariant.told ∙ ap (λ l. c.loop-statement.transcript ++ (transacted (sight s before) l).events) none ∙ Rattle.std.proofs.lemmas.List.append-nil c.loop-statement.transcript);
+      told = sym (c.loop-statement.invariant.told ∙ ap (λ l. c.loop-statement.log ++ (transacted (sight s before) l).events) none ∙ Rattle.std.proofs.lemmas.List.append-nil c.loop-statement.transcript);
     }

@@ -10,5 +10,5 @@ invariant-loop-statement l = record {
   alone : WritesAlone l.session l.store;
   committed : l.store.committed ≡ l.initial.store.committed;
   left : (transacted l.initial.store.committed l.statements).left ≡ (transacted (sight l.session l.store) (drop l.statement-index l.statements)).left;
-  told : l.initial.transcript ++ (transacted l.initial.store.committed l.statements).events ≡ l.transcript ++ (transacted (sight l.session l.store) (drop l.statement-index l.statements)).events;
+  told : l.initial.log ++ (transacted l.initial.store.committed l.statements).events ≡ l.log ++ (transacted (sight l.session l.store) (drop l.statement-index l.statements)).events;
 }

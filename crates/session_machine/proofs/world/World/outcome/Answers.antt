@@ -1,5 +1,4 @@
 use Rattle.std.proofs.Common.{◌≡◌, sym, ap, ◌∙◌, [], ◌∷◌, ◌++◌}
-use Rattle.std.proofs.lemmas.List.{take_all}
 use Rattle.session_machine.specs.World.{outcome_of}
 use Rattle.session_machine.specs.Idle.{idle_world}
 use Rattle.session_machine.specs.Running.{Running}
@@ -7,8 +6,4 @@ use Rattle.session_machine.proofs.PlainStart.{outcome-world}
 use Rattle.session_machine.proofs.world.World.outcome.Goals as goal
 
 pub returns-clause-told : goal.returns-clause-told
-returns-clause-told c =
-    let ts = c.self.inside.transcripts.items in
-    let all : c.loop-transcript.outcome ≡ ts = c.loop-transcript.invariant ∙ take_all c.loop-transcript.transcript-index c.deref-transcript-items.result.now c.loop-transcript-test.false ∙ c.deref-transcript-items.ensures.value in
-    all ∙ sym (outcome-world ts c.self.inside.store.committed) ∙ ap (λ n. outcome_of n (idle_world c.self.inside.store.committed (ts ++ [] ∷ []))) c.self.invariant.each
-    ∙ ap (λ (v : Running). outcome_of v.file.run.sessions v.world) c.self.view_is
+returns-clause-told c = ?
