@@ -1,11 +1,14 @@
 -- No other session has written where a statement writes.
 use Rattle.std.proofs.Common.{◌≡◌, ◌≢◌, refl, ap, ◌∙◌, ℕ, Bool, true, false, cond, List, [], ◌∷◌, Option, Some}
 use Rattle.std.specs.Option.{unwrap_or}
-use Rattle.version_tree.specs.Map.{same_key, same_key-true, get, insert, empty, get-insert}
-use Rattle.lock_modes.specs.Place.{Place}
+use Rattle.version_tree.specs.Map.{same_key, same_key-true, get, insert, empty, get-insert, get-empty}
+use Rattle.lock_modes.specs.Place.{Place, place_order}
 use Rattle.row_tables.specs.Overlay.{Tuple, Overlay, Write}
-use Rattle.row_tables.specs.Layers.{Layers, session_order, overlay_of, IsOnlyWriterAt, wrote}
-use Rattle.statement_effects.specs.Run.{WritesAlone}
+use Rattle.row_tables.specs.Layers.{Layers, session_order, overlay_of, IsOnlyWriterAt, wrote, no_rows}
+use Rattle.sql_statements.specs.declared.statement.Bound.{Bound}
+use Rattle.statement_effects.specs.Effect.{Effect, Gives, Faults}
+use Rattle.statement_effects.specs.Run.{WritesAlone, SeesAlone, wrote_each, left_by}
+use Rattle.statement_effects.specs.Alone.{IsAlone}
 
 -- a write of a session is none of another's
 overlay-kept : (session : ℕ) (place : Place) (left : Option Tuple) (l : Layers) (other : ℕ) → other ≢ session → overlay_of other (wrote session place left l) ≡ overlay_of other l
@@ -22,3 +25,22 @@ IsOnlyWriterAt-wrote session place left l p alone = λ other ne. ap (λ (o : Ove
 pub WritesAlone-wrote : (session : ℕ) (place : Place) (left : Option Tuple) (ws : List Write) (l : Layers) → WritesAlone session ws l → WritesAlone session ws (wrote session place left l)
 WritesAlone-wrote session place left [] l alone = alone
 WritesAlone-wrote session place left (w ∷ ws) l alone = (IsOnlyWriterAt-wrote session place left l w.place alone.0, WritesAlone-wrote session place left ws l alone.1)
+
+-- ---- stores that session 0 alone has written
+
+pub no_rows-alone : IsAlone no_rows
+no_rows-alone = record { each = λ p other ne. ap (λ (o : Option Overlay). get (unwrap_or o empty) p) (get-empty session_order Overlay other) ∙ get-empty place_order (Option Tuple) p }
+
+pub sees-alone : (s : Bound) (l : Layers) → IsAlone l → SeesAlone 0 s l
+sees-alone s l alone = λ p h. alone.each p
+
+wrote-alone : (place : Place) (left : Option Tuple) (l : Layers) → IsAlone l → IsAlone (wrote 0 place left l)
+wrote-alone place left l alone = record { each = λ p. IsOnlyWriterAt-wrote 0 place left l p (alone.each p) }
+
+wrote_each-alone : (ws : List Write) (l : Layers) → IsAlone l → IsAlone (wrote_each 0 ws l)
+wrote_each-alone [] l alone = alone
+wrote_each-alone (w ∷ ws) l alone = wrote_each-alone ws (wrote 0 w.place w.left l) (wrote-alone w.place w.left l alone)
+
+pub left_by-alone : (e : Effect) (l : Layers) → IsAlone l → IsAlone (left_by 0 e l)
+left_by-alone (Gives events ws) l alone = wrote_each-alone ws l alone
+left_by-alone (Faults f) l alone = alone

@@ -76,7 +76,7 @@ module _ {X : Type 0} (lt : X → X → Bool) (o : IsStrictWeakOrder lt) where
       at : (t : Bool) → lt b a ≡ t → lt b a ≡ false
       at true low =
           absurd (let none : [] ≡ b ∷ filter (ties lt b) zs =
-              sym (nothing-ties a b (a ∷ ys) low (self a, h)) ∙ e ∙ ap (λ t. cond t (b ∷ filter (ties lt b) zs) (filter (ties lt b) zs)) (tied b b (self b) (self b)) in cc)
+          sym (nothing-ties a b (a ∷ ys) low (self a, h)) ∙ e ∙ ap (λ t. cond t (b ∷ filter (ties lt b) zs) (filter (ties lt b) zs)) (tied b b (self b) (self b)) in cc)
       at false is = is
 
   -- two lists that climb and have the same ties are one
@@ -90,12 +90,12 @@ module _ {X : Type 0} (lt : X → X → Bool) (o : IsStrictWeakOrder lt) where
       let ba : lt b a ≡ false = not-below a b ys zs p.0 (h b) in
       let ab : lt a b ≡ false = not-below b a zs ys q.0 (sym (h a)) in
       let firsts : a ∷ filter (ties lt a) ys ≡ b ∷ filter (ties lt a) zs =
-          sym (ap (λ t. cond t (a ∷ filter (ties lt a) ys) (filter (ties lt a) ys)) (tied a a (self a) (self a)))
-          ∙ h a ∙ ap (λ t. cond t (b ∷ filter (ties lt a) zs) (filter (ties lt a) zs)) (tied a b ab ba) in
+      sym (ap (λ t. cond t (a ∷ filter (ties lt a) ys) (filter (ties lt a) ys)) (tied a a (self a) (self a)))
+      ∙ h a ∙ ap (λ t. cond t (b ∷ filter (ties lt a) zs) (filter (ties lt a) zs)) (tied a b ab ba) in
       let same : a ≡ b = cc in
       let rest : (x : X) → filter (ties lt x) ys ≡ filter (ties lt x) zs =
-          λ x. tails (ties lt x a) a (filter (ties lt x) ys) (filter (ties lt x) zs)
-          (h x ∙ sym (ap (λ c. cond (ties lt x c) (c ∷ filter (ties lt x) zs) (filter (ties lt x) zs)) same)) in
+      λ x. tails (ties lt x a) a (filter (ties lt x) ys) (filter (ties lt x) zs)
+      (h x ∙ sym (ap (λ c. cond (ties lt x c) (c ∷ filter (ties lt x) zs) (filter (ties lt x) zs)) same)) in
       λ i. same i ∷ same-climb ys zs p.1 q.1 rest i
 
   none-at : (x : X) (ys : List X) → ((j : ℕ) → j < length ys → lt (get_or ys j x) x ≡ false) → NoneBelow x ys

@@ -1,4 +1,4 @@
--- What values, entries and writes stand for that borrow.
+-- What borrowed values stand for, and effects as the code has them.
 use Rattle.std.specs.Prelude.{Option, Some, None, ℤ}
 use Rattle.lock_modes.specs.declared.value.Value.{Value}
 use Rattle.lock_modes.specs.declared.value.Value.TheVariants.{Int, Text}

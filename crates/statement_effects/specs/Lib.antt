@@ -3,3 +3,4 @@ pub mod Effect
 pub mod Run
 pub mod Borrowed
 pub mod Seen
+pub mod Alone

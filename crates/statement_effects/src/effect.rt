@@ -1,7 +1,6 @@
 //! The effect of a statement, before any of it is done.
 
 ghost use Rattle.std.specs.Prelude.{◌≡◌, ◌∷◌, [], IfOk};
-ghost use Rattle.transcripts.specs.declared.event.Event.TheVariants.{Inserted, Updated, Deleted};
 ghost use Rattle.statement_effects.specs.Effect as spec;
 ghost use Rattle.statement_effects.specs.Borrowed.{effect_at};
 

@@ -1,6 +1,6 @@
 //! Expressions and conditions over a row. Nothing is copied.
 
-ghost use Rattle.std.specs.Prelude.{◌≡◌, Some, ◌*ℤ◌, ◌+ℤ◌, ◌-ℤ◌};
+ghost use Rattle.std.specs.Prelude.{◌≡◌, Some, ◌*ℤ◌};
 ghost use Rattle.statement_effects.specs.Borrowed.{value_at, value_if, int_if};
 ghost use Rattle.statement_effects.specs.Evaluate as spec;
 ghost use Rattle.statement_effects.specs.Evaluate.{on_numbers, plus_or_minus, operand_value, product_value, value_of};
@@ -49,16 +49,14 @@ fn multiply<'a>(a: Option<ValueRef<'a>>, b: Option<ValueRef<'a>>) -> Option<Valu
     }
 }
 
-fn add<'a>(
-    sign: AddSign,
-    a: Option<ValueRef<'a>>,
-    b: Option<ValueRef<'a>>,
-) -> Option<ValueRef<'a>>
+fn add<'a>(sign: AddSign, a: Option<ValueRef<'a>>, b: Option<ValueRef<'a>>) -> Option<ValueRef<'a>>
     ensures { value_if result ≡ plus_or_minus sign (value_if a.entry) (value_if b.entry) }
 {
     match (sign, a, b) {
         (AddSign::Plus, Some(ValueRef::Int(a)), Some(ValueRef::Int(b))) => number(a.checked_add(b)),
-        (AddSign::Minus, Some(ValueRef::Int(a)), Some(ValueRef::Int(b))) => number(a.checked_sub(b)),
+        (AddSign::Minus, Some(ValueRef::Int(a)), Some(ValueRef::Int(b))) => number(a.checked_sub(
+            b,
+        )),
         _ => None,
     }
 }
@@ -96,7 +94,11 @@ pub(crate) fn holds(row: &Row, condition: &Condition) -> Option<bool>
     }
 }
 
-fn compares(a: Option<ValueRef<'_>>, comparison: Comparison, b: Option<ValueRef<'_>>) -> Option<bool>
+fn compares(
+    a: Option<ValueRef<'_>>,
+    comparison: Comparison,
+    b: Option<ValueRef<'_>>,
+) -> Option<bool>
     ensures { result ≡ spec.compared comparison (value_if a.entry) (value_if b.entry) }
 {
     Some(passes(comparison, a?.order(b?)))

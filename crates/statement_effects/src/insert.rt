@@ -78,13 +78,7 @@ fn placed(
 }
 
 /// Whether a key is there or came before.
-fn is_taken(
-    store: &Store,
-    session: u8,
-    table: u16,
-    key: &Value,
-    keys: &VMap<Value, u8>,
-) -> bool
+fn is_taken(store: &Store, session: u8, table: u16, key: &Value, keys: &VMap<Value, u8>) -> bool
     requires { IsOnlyWriterAt session (table, key.now) store.now }
     ensures { result ≡ (is_some (get (sight session store.now) (table, key.now)) || is_some (find value_cmp key.now keys.now)) }
 {
@@ -126,12 +120,7 @@ fn number_after(key: &Value, next: u64) -> u64
     }
 }
 
-fn numbered_from(
-    alloc: Global,
-    table: u16,
-    first: u64,
-    new: &[Row],
-) -> Result<Writes, AllocError>
+fn numbered_from(alloc: Global, table: u16, first: u64, new: &[Row]) -> Result<Writes, AllocError>
     ensures { IfOk result (λ writes. writes ≡ spec.numbered table first new.now) }
 {
     let mut writes = Writes::new(alloc);

@@ -9,6 +9,8 @@ mod matching;
 mod run;
 mod select;
 mod sorting;
+#[cfg(test)]
+mod tests;
 mod update;
 mod value_ref;
 mod write;

@@ -1,11 +1,10 @@
 //! The rows that a statement looks at and that meet its condition.
 
-ghost use Rattle.std.specs.Prelude.{◌≡◌, IfOk};
+ghost use Rattle.std.specs.Prelude.{◌≡◌, IfOk, Some};
 ghost use Rattle.std.specs.Option.{option_copied};
 ghost use Rattle.row_tables.specs.Layers.{sight, rows_of, IsOnlyWriterAt, IsOnlyWriterIn};
 ghost use Rattle.statement_effects.specs.Effect as spec;
 ghost use Rattle.statement_effects.specs.Seen.{named, NamesAlone, in_table};
-ghost use Rattle.std.specs.Prelude.{Some};
 
 use crate::entry::{Entries, Entry};
 use crate::evaluate::holds;

@@ -43,12 +43,7 @@ pub fn run_statement(
 }
 
 /// The effect of a statement on the rows that a session sees.
-fn given(
-    alloc: Global,
-    statement: &Bound,
-    session: u8,
-    store: &Store,
-) -> Result<Given, AllocError>
+fn given(alloc: Global, statement: &Bound, session: u8, store: &Store) -> Result<Given, AllocError>
     requires { SeesAlone session statement.now store.now }
     ensures { IfOk result (λ given. effect_at given ≡ effect statement.now (sight session store.now)) }
 {

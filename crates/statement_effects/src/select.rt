@@ -1,6 +1,6 @@
 //! What a select tells of the rows that match.
 
-ghost use Rattle.std.specs.Prelude.{◌≡◌, [], ◌∷◌, ◌++◌, ◌<◌, IfOk, length, map};
+ghost use Rattle.std.specs.Prelude.{◌≡◌, [], ◌∷◌, ◌++◌, IfOk, length, map};
 ghost use Rattle.transcripts.specs.declared.event.Event.TheVariants.{Row as RowEvent, Rows};
 ghost use Rattle.statement_effects.specs.Effect as spec;
 ghost use Rattle.statement_effects.specs.Borrowed.{effect_at};

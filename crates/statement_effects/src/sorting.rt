@@ -1,8 +1,7 @@
 //! Rows in the order that a select asks for.
 
-ghost use Rattle.std.specs.Prelude.{◌≡◌, OnOk};
+ghost use Rattle.std.specs.Prelude.{◌≡◌};
 ghost use Rattle.statement_effects.specs.Effect as spec;
-ghost use Rattle.statement_effects.specs.Effect.{sorted_by};
 
 use crate::value_ref::ValueRef;
 use lock_modes::Row;

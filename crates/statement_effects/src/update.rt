@@ -1,6 +1,6 @@
 //! Rows that change or go.
 
-ghost use Rattle.std.specs.Prelude.{◌≡◌, IfOk, None, length, map, set};
+ghost use Rattle.std.specs.Prelude.{◌≡◌, IfOk, None, map, set};
 ghost use Rattle.row_tables.specs.Overlay.{Tuple};
 ghost use Rattle.lock_modes.specs.Place.{Place};
 ghost use Rattle.statement_effects.specs.Effect as spec;

@@ -17,5 +17,5 @@ pub returns-in-None : goal.returns-in-None
 returns-in-None c =
     let rows = sight c.args.session c.args.store.now in
     let all : in_table c.args.table (rows_of c.args.table rows) ≡ named c.args.table (option_copied c.args.key) rows =
-        sym (named-table c.args.table rows) ∙ ap (λ o. named c.args.table (option_copied o) rows) (sym c.in-None.is) in
+    sym (named-table c.args.table rows) ∙ ap (λ o. named c.args.table (option_copied o) rows) (sym c.in-None.is) in
     subst (λ (es : List (Place × Tuple)). IfOk c.in_table.result (λ found. found ≡ matching c.args.condition.now es)) all c.in_table.ensures

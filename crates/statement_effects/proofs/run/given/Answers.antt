@@ -14,8 +14,8 @@ returns-in_ok-found-in-Select c =
     let s = c.in-Select in
     let rows = sight c.args.session c.args.store.now in
     let is : selected c.as_slice.result.now s.output c.in_ok-found-in-Select.found ≡ effect c.args.statement.now rows =
-        (λ i. selected (c.as_slice.ensures i) s.output ((c.in_ok-found-in-Select.ensures ∙ ap (λ o. matching s.condition (named s.table o rows)) c.as_ref.ensures.value) i))
-        ∙ sym (effect-select rows s.table s.key s.condition s.order s.output) ∙ ap (λ (st : Bound). effect st rows) (sym s.is) in
+    (λ i. selected (c.as_slice.ensures i) s.output ((c.in_ok-found-in-Select.ensures ∙ ap (λ o. matching s.condition (named s.table o rows)) c.as_ref.ensures.value) i))
+    ∙ sym (effect-select rows s.table s.key s.condition s.order s.output) ∙ ap (λ (st : Bound). effect st rows) (sym s.is) in
     subst (λ (e : Effect). IfOk c.selected.result (λ given. effect_at given ≡ e)) is c.selected.ensures
 
 pub returns-in_ok-found-in-Update : goal.returns-in_ok-found-in-Update
@@ -23,8 +23,8 @@ returns-in_ok-found-in-Update c =
     let s = c.in-Update in
     let rows = sight c.args.session c.args.store.now in
     let is : updated c.as_slice-in-Update.result.now c.in_ok-found-in-Update.found ≡ effect c.args.statement.now rows =
-        (λ i. updated (c.as_slice-in-Update.ensures i) ((c.in_ok-found-in-Update.ensures ∙ ap (λ o. matching s.condition (named s.table o rows)) c.as_ref-in-Update.ensures.value) i))
-        ∙ sym (effect-update rows s.table s.key s.sets s.condition) ∙ ap (λ (st : Bound). effect st rows) (sym s.is) in
+    (λ i. updated (c.as_slice-in-Update.ensures i) ((c.in_ok-found-in-Update.ensures ∙ ap (λ o. matching s.condition (named s.table o rows)) c.as_ref-in-Update.ensures.value) i))
+    ∙ sym (effect-update rows s.table s.key s.sets s.condition) ∙ ap (λ (st : Bound). effect st rows) (sym s.is) in
     subst (λ (e : Effect). IfOk c.updated.result (λ given. effect_at given ≡ e)) is c.updated.ensures
 
 pub returns-in_ok-found-in-Delete : goal.returns-in_ok-found-in-Delete
@@ -32,8 +32,8 @@ returns-in_ok-found-in-Delete c =
     let s = c.in-Delete in
     let rows = sight c.args.session c.args.store.now in
     let is : deleted c.in_ok-found-in-Delete.found ≡ effect c.args.statement.now rows =
-        ap deleted (c.in_ok-found-in-Delete.ensures ∙ ap (λ o. matching s.condition (named s.table o rows)) c.as_ref-in-Delete.ensures.value)
-        ∙ sym (effect-delete rows s.table s.key s.condition) ∙ ap (λ (st : Bound). effect st rows) (sym s.is) in
+    ap deleted (c.in_ok-found-in-Delete.ensures ∙ ap (λ o. matching s.condition (named s.table o rows)) c.as_ref-in-Delete.ensures.value)
+    ∙ sym (effect-delete rows s.table s.key s.condition) ∙ ap (λ (st : Bound). effect st rows) (sym s.is) in
     subst (λ (e : Effect). IfOk c.deleted.result (λ given. effect_at given ≡ e)) is c.deleted.ensures
 
 pub returns-in-LockTable : goal.returns-in-LockTable

@@ -36,7 +36,8 @@ loop-entry-preserved c =
     let fits : SFits w64 x = record { sfits = c.number_in.type_inv } in
     let low : neg_ℤ (pos (9223372036854775808 * (i + 1))) ≤ℤ (t +ℤ x) = above t x i c.loop-entry.invariant.1 fits in
     let high : (t +ℤ x) ≤ℤ pos (9223372036854775808 * (i + 1)) = below t x i c.loop-entry.invariant.2 fits in
-    let sum : to_z w128 (of_z w128 (to_z w128 c.loop-entry.total-bits +ℤ to_z w128 (of_z w128 (to_z w64 (of_z w64 x))))) ≡ t +ℤ x = omega (arith, ints, c.loop-entry.total-is) in
-    (ap (λ z. z +ℤ rest) sum ∙ regroup t x (total_of c.args.column (drop i found)) rest (total_of c.args.column found) c.loop-entry.invariant.0 left,
+    let sum : to_z w128 (of_z w128 (to_z w128 c.loop-entry.total-bits +ℤ to_z w128 (of_z w128 (to_z w64 (of_z w64 x))))) ≡ t +ℤ x = omega (arith, ints, c.loop-entry.total-is) in (
+      ap (λ z. z +ℤ rest) sum ∙ regroup t x (total_of c.args.column (drop i found)) rest (total_of c.args.column found) c.loop-entry.invariant.0 left,
       subst (λ z. neg_ℤ (pos (9223372036854775808 * (i + 1))) ≤ℤ z) (sym sum) low,
-      subst (λ z. z ≤ℤ pos (9223372036854775808 * (i + 1))) (sym sum) high)
+      subst (λ z. z ≤ℤ pos (9223372036854775808 * (i + 1))) (sym sum) high,
+    )

@@ -12,7 +12,7 @@ pub returns : goal.returns
 returns c =
     let writes = c.in_ok-writes.writes in
     let is : Gives (Deleted c.len.result ∷ []) writes ≡ deleted c.args.found =
-        ap (λ n. Gives (Deleted n ∷ []) writes) c.len.ensures
-        ∙ ap (counted Deleted) (c.in_ok-writes.ensures ∙ ap (map (λ (e : Place × Tuple). record { place = e.0; left = None })) c.as_slice.ensures)
-        ∙ ap deleted (sym c.in-Some.is) in
+    ap (λ n. Gives (Deleted n ∷ []) writes) c.len.ensures
+    ∙ ap (counted Deleted) (c.in_ok-writes.ensures ∙ ap (map (λ (e : Place × Tuple). record { place = e.0; left = None })) c.as_slice.ensures)
+    ∙ ap deleted (sym c.in-Some.is) in
     subst (λ (e : Effect). IfOk c.telling.result (λ given. effect_at given ≡ e)) is c.telling.ensures
