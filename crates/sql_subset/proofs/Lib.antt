@@ -1,3 +1,13 @@
 pub mod OrderLemmas
 pub mod ShapeLemmas
 pub mod WalkLemmas
+pub mod EachLemmas
+pub mod ChainLemmas
+pub mod ConditionLemmas
+pub mod FaultLemmas
+pub mod ReadLemmas
+pub mod JoinLemmas
+pub mod OptionLemmas
+pub mod PlaceLemmas
+pub mod SentLemmas
+pub mod FileLemmas

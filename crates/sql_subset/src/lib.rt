@@ -1,13 +1,33 @@
 //! The spec that a text binds to: what its setups and steps send, and in which orders.
 #![tactic(auto)]
 
+mod binding;
 mod block;
+mod blocks;
+mod changes;
+mod conditions;
+mod declaring;
+mod error;
+mod expressions;
+mod inserts;
+mod joining;
+mod keys;
 mod names;
 mod orders;
+mod queries;
 mod shapes;
 mod spec;
+mod statements;
+mod tables;
+#[cfg(test)]
+mod tests;
+mod types;
 mod walking;
 
+pub use binding::bind;
 pub use block::Block;
+pub use error::{BindError, BindErrorKind};
 pub use orders::Line;
 pub use spec::Spec;
+pub use sql_reader::{SqlError, SqlErrorKind, read_sql};
+pub use sql_statements::{Bound, lock_plan};

@@ -1,0 +1,82 @@
+-- Chains are joined in pairs, and keep their parts.
+use Rattle.std.proofs.Common.{◌≡◌, refl, sym, ap, ◌∙◌, ℕ, zero, suc, ◌+◌, ◌-◌, ◌<◌, ◌≤◌, List, [], ◌∷◌, ◌++◌, length, map, Option, Some, None, arith, append_assoc}
+use Rattle.std.proofs.lemmas.List.{append-nil, length-map, map-append}
+use Rattle.sql_statements.specs.declared.condition.Condition.{Condition}
+use Rattle.sql_statements.specs.declared.condition.Condition.TheVariants.{Always, Compares, Not', And', Or'}
+use Rattle.sql_subset.specs.declared.joining.Joint.{Joint}
+use Rattle.sql_subset.specs.declared.joining.Joint.TheVariants.{All, Any}
+use Rattle.sql_subset.specs.Names.{maybe}
+use Rattle.sql_subset.specs.Translation.{placeless, join, paired, first_or_always, joined_in, joined}
+
+-- the part that waits last
+pub last-waits : (j : Joint) (pairs : List Condition) (waiting : Option Condition) (whole new : List Condition) → new ≡ pairs ++ maybe waiting
+    → map placeless pairs ++ paired j (map placeless (maybe waiting) ++ []) ≡ paired j (map placeless whole ++ []) → map placeless new ≡ paired j (map placeless whole)
+last-waits j pairs None whole new e h =
+    ap (map placeless) (e ∙ append-nil pairs) ∙ sym (append-nil (map placeless pairs)) ∙ h ∙ ap (paired j) (append-nil (map placeless whole))
+last-waits j pairs (Some c) whole new e h = ap (map placeless) e ∙ map-append placeless pairs (c ∷ []) ∙ h ∙ ap (paired j) (append-nil (map placeless whole))
+
+pub joined-none : (n : ℕ) (j : Joint) (cs : List Condition) → n ≡ 0 → placeless (first_or_always cs) ≡ joined_in n j (map placeless cs)
+joined-none zero j [] e = refl
+joined-none zero j (c ∷ cs) e = refl
+joined-none (suc n) j cs e = absurd (omega arith)
+
+pub joined-few : (n : ℕ) (j : Joint) (cs : List Condition) → length cs < 2 → placeless (first_or_always cs) ≡ joined_in n j (map placeless cs)
+joined-few zero j cs h = joined-none zero j cs refl
+joined-few (suc n) j [] h = refl
+joined-few (suc n) j (c ∷ []) h = refl
+joined-few (suc n) j (a ∷ b ∷ cs) h = absurd (omega arith)
+
+pub joined-many : (n m : ℕ) (j : Joint) (cs : List Condition) → n ≡ suc m → 2 ≤ length cs → joined_in m j (paired j cs) ≡ joined_in n j cs
+joined-many zero m j cs e h = absurd (omega arith)
+joined-many (suc n) m j [] e h = absurd (omega arith)
+joined-many (suc n) m j (c ∷ []) e h = absurd (omega arith)
+joined-many (suc n) m j (a ∷ b ∷ cs) e h = let same : m ≡ n = omega arith in ap (λ k. joined_in k j (paired j (a ∷ b ∷ cs))) same
+
+-- ---- the parts of a joined chain, in order, are the chain's parts
+
+-- what a joint joins, through and through
+abbrev pub leaves : Joint → Condition → List Condition
+leaves All (And' p a q b) = leaves All a ++ leaves All b
+leaves All Always = Always ∷ []
+leaves All (Compares a c b) = Compares a c b ∷ []
+leaves All (Not' p c) = Not' p c ∷ []
+leaves All (Or' p a q b) = Or' p a q b ∷ []
+leaves Any (Or' p a q b) = leaves Any a ++ leaves Any b
+leaves Any Always = Always ∷ []
+leaves Any (Compares a c b) = Compares a c b ∷ []
+leaves Any (Not' p c) = Not' p c ∷ []
+leaves Any (And' p a q b) = And' p a q b ∷ []
+
+abbrev pub each_leaves : Joint → List Condition → List Condition
+each_leaves j [] = []
+each_leaves j (c ∷ cs) = leaves j c ++ each_leaves j cs
+
+leaves-join : (j : Joint) (a b : Condition) → leaves j (join j a b) ≡ leaves j a ++ leaves j b
+leaves-join All a b = refl
+leaves-join Any a b = refl
+
+leaves-paired : (j : Joint) (cs : List Condition) → each_leaves j (paired j cs) ≡ each_leaves j cs
+leaves-paired j [] = refl
+leaves-paired j (a ∷ []) = refl
+leaves-paired j (a ∷ b ∷ cs) =
+    (λ i. leaves-join j a b i ++ leaves-paired j cs i)
+    ∙ append_assoc (leaves j a) (leaves j b) (each_leaves j cs)
+
+paired-fewer : (j : Joint) (cs : List Condition) → length (paired j cs) ≤ length cs
+paired-fewer j [] = omega arith
+paired-fewer j (a ∷ []) = omega arith
+paired-fewer j (a ∷ b ∷ cs) = omega (arith, paired-fewer j cs)
+
+joined_in-leaves : (n : ℕ) (j : Joint) (cs : List Condition) → 0 < length cs → length cs ≤ suc n → leaves j (joined_in n j cs) ≡ each_leaves j cs
+joined_in-leaves zero j [] h k = absurd (omega arith)
+joined_in-leaves zero j (c ∷ []) h k = sym (append-nil (leaves j c))
+joined_in-leaves zero j (a ∷ b ∷ cs) h k = absurd (omega arith)
+joined_in-leaves (suc n) j [] h k = absurd (omega arith)
+joined_in-leaves (suc n) j (c ∷ []) h k = sym (append-nil (leaves j c))
+joined_in-leaves (suc n) j (a ∷ b ∷ cs) h k =
+    joined_in-leaves n j (paired j (a ∷ b ∷ cs)) (omega arith) (omega (arith, paired-fewer j cs))
+    ∙ leaves-paired j (a ∷ b ∷ cs)
+
+-- a chain that is joined has its parts in order
+pub joined-leaves : (j : Joint) (cs : List Condition) → 0 < length cs → leaves j (joined j cs) ≡ each_leaves j cs
+joined-leaves j cs h = joined_in-leaves (length cs) j cs h (omega arith)

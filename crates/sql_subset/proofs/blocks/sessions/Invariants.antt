@@ -1,0 +1,10 @@
+use Rattle.std.proofs.Common.{◌≡◌, drop, map}
+use Rattle.spec_reader.specs.Views.{session_tree}
+use Rattle.sql_subset.specs.Refusals.{with_front, each}
+use Rattle.sql_subset.specs.Binding.{session}
+use Rattle.sql_subset.specs.Bindings.{bound_session}
+use Rattle.sql_subset.proofs.blocks.sessions.Given as goal
+
+abbrev pub invariant-loop-text : goal.invariant-loop-text
+invariant-loop-text l =
+    with_front (map bound_session l.all.items) (each (λ t. session l.tables (session_tree t)) (drop l.text-index l.texts)) ≡ each (session l.tables) (map session_tree l.texts)
