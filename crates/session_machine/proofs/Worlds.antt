@@ -1,5 +1,6 @@
 -- A session of a world goes: the world afterwards, from the store, the lock table and what is kept of each session.
-use Rattle.std.proofs.Common.{◌≡◌, ◌≢◌, refl, sym, ap, ◌∙◌, subst, ℕ, ◌<◌, ◌≤◌, false, List, [], ◌∷◌, ◌++◌, length, drop, set, get_or, ◌==◌, eqb-true, ◌⊎◌, ⊎_elim, arith}
+use Rattle.transcripts.specs.declared.event.Event.{Event}
+use Rattle.std.proofs.Common.{◌≡◌, ◌≢◌, refl, sym, ap, ◌∙◌, subst, ℕ, ◌<◌, ◌≤◌, false, List, [], ◌∷◌, ◌++◌, length, drop, set, get_or, ◌==◌, eqb-true, ◌⊎◌, ⊎_elim, arith, true, Some}
 use Rattle.version_tree.specs.Map.{get, empty}
 use Rattle.lock_modes.specs.declared.resource.Resource.{Resource}
 use Rattle.lock_queues.specs.declared.wait.Wait.{Wait}
@@ -12,19 +13,20 @@ use Rattle.lock_queues.proofs.Slices.{get-slice}
 use Rattle.lock_queues.proofs.Bounded.{tests-decide}
 use Rattle.row_tables.specs.Layers.{Layers, overlay_of}
 use Rattle.sql_statements.specs.declared.statement.Bound.{Bound}
-use Rattle.transcripts.specs.declared.event.Event.TheVariants.{Resumed}
-use Rattle.session_machine.specs.Session.{Task, Session, note}
+use Rattle.transcripts.specs.declared.event.Event.TheVariants.{Sent, Resumed, NotSent}
+use Rattle.session_machine.specs.Session.{Task, Session, note, tasks_of}
 use Rattle.session_machine.specs.Go.{Run, taking}
-use Rattle.session_machine.specs.World.{scene_of, placed_back, goes, granted, settle}
+use Rattle.session_machine.specs.World.{scene_of, placed_back, goes, granted, settle, noted, send, look_of, session_at, World}
+use Rattle.sql_subset.specs.Spec.{Step, no_step}
 use Rattle.session_machine.specs.Sound.{Steady, UnderLocks}
-use Rattle.session_machine.specs.State.{Own, no_own, session_of, world_of, SameOthers}
+use Rattle.session_machine.specs.State.{Own, no_own, session_of, sessions_from, world_of, SameOthers}
 use Rattle.session_machine.specs.Going.{Standing, tasks_from, IsScene, IsToGo, StopsIn}
 use Rattle.session_machine.proofs.Basics.{either_true, not_both}
-use Rattle.session_machine.proofs.Steps.{still-under}
+use Rattle.session_machine.proofs.Steps.{tasks_from-start, still-under}
 use Rattle.session_machine.proofs.Kept.{under-empty}
-use Rattle.session_machine.proofs.States.{length-sessions_from, session_at-is, sessions-set, look-is, next-is, session-taken, same-taken}
-use Rattle.session_machine.proofs.Settles.{Entering}
-use Rattle.session_machine.proofs.SettleSteps.{settle-none, settle-grant}
+use Rattle.session_machine.proofs.States.{length-sessions_from, session_at-is, sessions-set, look-is, next-is, session-taken, same-taken, same-refl}
+use Rattle.session_machine.proofs.Settles.{Entering, entering, entering-granted, next-grant}
+use Rattle.session_machine.proofs.SettleSteps.{settle-none, settle-grant, next_in}
 
 -- no session past these has an overlay or a lock, or waits
 pub record IsWithin (n : ℕ) (l : Layers) (t : Locks) : Type 0 where
@@ -119,3 +121,68 @@ to-go l t owns i u own sts k n within same waits en = record {
   holds = en.holds;
   backed = en.backed;
 }
+
+-- ---- a step is sent
+
+abbrev pub own_told : Own → Event → Own
+own_told own e = record { status = own.status; rest = own.rest; transcript = own.transcript ++ e ∷ [] }
+
+module _ (steps : List Step) (l : Layers) (t : Locks) (owns : List Own) (k : ℕ) where
+  abbrev pub sender : ℕ
+  sender = (get_or steps k no_step).session
+
+  abbrev pub its_own : Own
+  its_own = get_or owns sender no_own
+
+  -- a session that waits is not sent the step
+  pub not-sent : sender < length owns → waits_now t.waits sender ≡ true → send steps (world_of l t owns) k ≡ world_of l t (set owns sender (own_told its_own (NotSent k)))
+  not-sent lt now =
+      ap (λ b. let x : World = elim b [ true ↦ noted (world_of l t owns) sender (NotSent k) | false ↦ settle (goes (world_of l t owns) sender (note (session_at (world_of l t owns) sender) (Sent k)) (tasks_of (get_or steps k no_step).statements)) ] in x) now
+      ∙ ap (λ (s : Session). record { rows = l.committed; sessions = set (sessions_from l t 0 owns) sender (note s (NotSent k)); waits = t.waits }) (session_at-is l t owns sender lt)
+      ∙ (λ j. record { rows = l.committed; sessions = sym (sessions-set l l t t sender (own_told its_own (NotSent k)) owns (same-refl sender l t)) j; waits = t.waits })
+
+  -- another goes, and the world settles from there
+  pub sent-goes : (y : Standing) → IsBelow (length owns) t → sender < length owns → waits_now t.waits sender ≡ false
+      → StopsIn sender (record { layers = l; locks = t; own = own_told its_own (Sent k) }) (tasks_of (get_or steps k no_step).statements) y
+      → send steps (world_of l t owns) k ≡ settle (world_of y.layers y.locks (set owns sender y.own))
+  sent-goes y below lt idle stops =
+      let ts = tasks_of (get_or steps k no_step).statements in
+      ap (λ b. let x : World = elim b [ true ↦ noted (world_of l t owns) sender (NotSent k) | false ↦ settle (goes (world_of l t owns) sender (note (session_at (world_of l t owns) sender) (Sent k)) ts) ] in x) idle
+      ∙ ap (λ (s : Session). settle (goes (world_of l t owns) sender (note s (Sent k)) ts)) (session_at-is l t owns sender lt)
+      ∙ ap settle (goes-is l t owns sender t (own_told its_own (Sent k)) ts y below lt (same-refl sender l t) refl stops)
+
+  -- it is to go on with the statements of the step
+  pub sent-to-go : IsWithin (length owns) l t → Steady (world_of l t owns) → sender < length owns → waits_now t.waits sender ≡ false → IsToGo sender l t (get_or steps k no_step).statements 0 0
+  sent-to-go within steady lt idle =
+      let sts = (get_or steps k no_step).statements in
+      let own = own_told its_own (Sent k) in
+      let w = world_of l t owns in
+      let at : session_at w sender ≡ session_of l t sender its_own = session_at-is l t owns sender lt in
+      let known' : sender < length w.sessions = subst (λ n. sender < n) (sym (length-sessions_from l t 0 owns)) lt in
+      to-go l t owns sender t own sts 0 0 within (same-refl sender l t) refl
+      (subst (Entering w sender (session_of l t sender own)) (sym (tasks_from-start sts))
+      (entering w sender (session_of l t sender own) sts steady known' idle (sym (ap (λ (s : Session). s.held) at)) (sym (ap (λ (s : Session). s.overlay) at))))
+
+-- a session whose wait is granted is to go on with what is left of its step
+pub granted-to-go : (l : Layers) (t : Locks) (owns : List Own) (s : Spot) (sts : List Bound) (k n : ℕ) → IsWithin (length owns) l t → Steady (world_of l t owns) → IsNext t s → s.wait.session < length owns
+    → (get_or owns s.wait.session no_own).rest ≡ tasks_from (drop k sts) n → IsToGo s.wait.session l (grant t s) sts k n
+granted-to-go l t owns s sts k n within steady next lt rest =
+    let i = s.wait.session in
+    let w = world_of l t owns in
+    let own = get_or owns i no_own in
+    let is : next_in w ≡ Some s = next-is l t owns within.below ∙ (tests-decide (length owns) t within.below).next s next in
+    let g = next-grant (length w.sessions) (look_of w) w.waits s is in
+    let en = entering-granted w s steady g in
+    let t1 = without_wait t s in
+    let there : session_at w i ≡ session_of l t i own = session_at-is l t owns i lt in
+    let resumed' : note (record (taking (session_at w i) s.wait.resource s.wait.mode) { rest = [] }) Resumed ≡ session_of l (grant t s) i (resumed_own own) =
+    ap (λ (x : Session). note (record (taking x s.wait.resource s.wait.mode) { rest = [] }) Resumed) there ∙ sym (ap (λ (x : Session). note (record x { rest = [] }) Resumed) (session-taken l t1 i s.wait.resource s.wait.mode own)) in
+    let tasks : (session_at w i).rest ≡ tasks_from (drop k sts) n = ap (λ (x : Session). x.rest) there ∙ rest in
+    let waiters = subst (EachWait (λ v. v.session < length owns)) (sym next.there) within.below.waiters in
+    to-go l t1 owns i (grant t s) (resumed_own own) sts k n (record { overlays = within.overlays; below = record { holders = within.below.holders; waiters = left-out s.before s.wait s.after waiters } }) (same-taken l t1 i s.wait.resource s.wait.mode) refl
+    (subst (λ ts. Entering (world_of l t1 owns) i (session_of l (grant t s) i (resumed_own own)) ts) tasks
+    (subst (λ x. Entering (world_of l t1 owns) i x (session_at w i).rest) resumed' en))
+  where
+    left-out : (us : List Wait) (v : Wait) (vs : List Wait) → EachWait (λ w. w.session < length owns) (us ++ v ∷ vs) → EachWait (λ w. w.session < length owns) (us ++ vs)
+    left-out [] v vs p = p.1
+    left-out (u ∷ us) v vs p = (p.0, left-out us v vs p.1)
