@@ -1,6 +1,7 @@
 pub mod OrderLemmas
 pub mod ShapeLemmas
 pub mod WalkLemmas
+mod Worked
 pub mod EachLemmas
 pub mod ChainLemmas
 pub mod ConditionLemmas
