@@ -1,6 +1,5 @@
 -- Lists of one or more, as the reader gives them and as the grammar has them.
 use Rattle.std.proofs.Common.{◌≡◌, refl, sym, ap, ◌∙◌, List, [], ◌∷◌, map, Ok, Err}
-use Rattle.sql_reader.specs.declared.expression.AddSign.{AddSign}
 use Rattle.sql_reader.specs.declared.expression.Chain.{Chain as Written}
 use Rattle.sql_reader.specs.declared.expression.Factor.{Factor}
 use Rattle.sql_reader.specs.declared.expression.SignedTerm.{SignedTerm}

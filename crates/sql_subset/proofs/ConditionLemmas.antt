@@ -1,5 +1,5 @@
 -- Chains of conditions, as the reader gives them and as the grammar has them.
-use Rattle.std.proofs.Common.{◌≡◌, refl, sym, ap, ◌∙◌, ℕ, List, [], ◌∷◌, map, Ok, Err}
+use Rattle.std.proofs.Common.{◌≡◌, refl, ap, ◌∙◌, ℕ, List, [], ◌∷◌, map, Ok, Err}
 use Rattle.sql_reader.specs.declared.expression.Condition.{Condition as WrittenCondition, out-Condition, fold_out-Condition}
 use Rattle.sql_reader.specs.declared.expression.Part.{Part as WrittenPart, fold_out-Part}
 use Rattle.sql_reader.specs.Tree as tree

@@ -1,5 +1,5 @@
 -- A text has one first fault at most.
-use Rattle.std.proofs.Common.{◌≡◌, refl, sym, ap, subst, ◌∙◌, ℕ, zero, suc, Bool, true, false, cond, List, [], ◌∷◌, ◌++◌, map, Option, Some, None, inl, inr, ◌⊎◌, append_assoc}
+use Rattle.std.proofs.Common.{◌≡◌, refl, sym, ap, subst, ◌∙◌, ℕ, suc, Bool, true, false, cond, List, [], ◌∷◌, ◌++◌, Option, Some, None, append_assoc}
 use Rattle.std.specs.Prelude.{⊤, not, nat_le, codes}
 use Rattle.sql_reader.specs.declared.error.Limit.{Limit}
 use Rattle.sql_reader.specs.declared.error.Limit.TheVariants.{NumberTooLarge, TooLarge}
@@ -22,8 +22,6 @@ use Rattle.sql_reader.specs.declared.statement.Property.{Property}
 use Rattle.sql_reader.specs.declared.statement.Property.TheVariants as properties
 use Rattle.sql_reader.specs.declared.statement.Scope.{Scope}
 use Rattle.sql_reader.specs.declared.statement.Scope.TheVariants as scopes
-use Rattle.sql_reader.specs.declared.statement.SetSign.{SetSign}
-use Rattle.sql_reader.specs.declared.statement.SetSign.TheVariants as signs
 use Rattle.sql_reader.specs.declared.statement.SortKey.{SortKey}
 use Rattle.sql_reader.specs.declared.statement.Start.{Start}
 use Rattle.sql_reader.specs.declared.statement.Start.TheVariants as starts

@@ -1,7 +1,6 @@
 -- A file that is bound is ready to run.
 use Rattle.std.proofs.Common.{◌≡◌, refl, sym, ap, subst, ◌∙◌, ℕ, zero, suc, ◌+◌, ◌<◌, ◌≤◌, ◌≢◌, Bool, true, false, cond, List, [], ◌∷◌, ◌++◌, length, map, All, get_or, Option, Some, None, Ok, Err, arith, length-append, append_assoc, drop, drop-cons, add-one}
 use Rattle.std.specs.Prelude.{◌==◌, ◌&&◌, ◌||◌, nat_le, nat_lt, is_ok, bytes_eq}
-use Rattle.std.specs.List.{position_from}
 use Rattle.std.proofs.lemmas.List.{length-map, append-nil, get_or-map}
 use Rattle.std.proofs.lemmas.List.Elements.{All-nil, All-cons, All-append, All-map, All-head, All-tail}
 use Rattle.std.proofs.lemmas.Bool.{leb-true, ltb-false, eq-eqb, ne_eqb}

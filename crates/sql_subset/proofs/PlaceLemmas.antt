@@ -1,5 +1,5 @@
 -- Where the parts of a condition lie says nothing of it.
-use Rattle.std.proofs.Common.{◌≡◌, refl, sym, ap, ◌∙◌, ℕ, Option, Some, None, arith}
+use Rattle.std.proofs.Common.{◌≡◌, refl, ℕ, Option, Some, None}
 use Rattle.std.specs.Prelude.{◌||◌}
 use Rattle.sql_statements.specs.declared.condition.Condition.{Condition}
 use Rattle.sql_statements.specs.declared.condition.Condition.TheVariants.{Always, Compares, Not', And', Or'}

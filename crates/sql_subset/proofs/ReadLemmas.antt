@@ -1,6 +1,6 @@
 -- What is read of a block, and why it is refused.
-use Rattle.std.proofs.Common.{◌≡◌, ◌≢◌, refl, sym, ap, ◌∙◌, ℕ, suc, List, length, Result, Ok, Err, inl, inr, ◌⊎◌}
-use Rattle.sql_reader.specs.Grammar.{Fault, FirstFault}
+use Rattle.std.proofs.Common.{◌≡◌, ◌≢◌, refl, ap, ℕ, List, Result, Ok, Err, inl, inr}
+use Rattle.sql_reader.specs.Grammar.{Fault}
 use Rattle.sql_reader.specs.Lexing.{token_list}
 use Rattle.sql_reader.specs.Text.{StatementAt, IsSpelled, Explains, fault_of_error}
 use Rattle.sql_reader.specs.declared.error.SqlError.{SqlError}

@@ -1,28 +1,26 @@
 -- What is bound has its keys and runs today.
-use Rattle.std.proofs.Common.{◌≡◌, refl, sym, ap, subst, ◌∙◌, ℕ, zero, suc, ◌+◌, ◌<◌, ◌≤◌, min, Bool, true, false, cond, List, [], ◌∷◌, ◌++◌, length, map, All, get_or, Option, Some, None, Ok, Err, arith}
-use Rattle.std.specs.Prelude.{nat_lt, ⊤, ◌||◌}
+use Rattle.std.proofs.Common.{◌≡◌, refl, sym, ap, subst, ◌∙◌, ℕ, zero, suc, ◌+◌, ◌<◌, Bool, true, false, cond, List, [], ◌∷◌, ◌++◌, length, map, All, get_or, Option, Some, None, Ok, Err, arith}
+use Rattle.std.specs.Prelude.{nat_lt, ◌||◌}
 use Rattle.std.specs.List.{position_from, list_any}
 use Rattle.std.proofs.lemmas.Bool.{ltb-true}
 use Rattle.std.proofs.lemmas.List.{length-map}
 use Rattle.std.proofs.lemmas.List.Elements.{All-nil, All-cons, All-append, All-map}
 use Rattle.lock_modes.specs.declared.value.Value.{Value}
-use Rattle.spec_reader.specs.Tree.{BlockTree, StepTree, SessionTree}
+use Rattle.spec_reader.specs.Tree.{BlockTree, SessionTree}
 use Rattle.sql_reader.specs.Tree as tree
 use Rattle.sql_reader.specs.Tree.{Chain}
 use Rattle.sql_reader.specs.declared.expression.Literal.{Literal}
-use Rattle.sql_reader.specs.Text.{StatementAt}
 use Rattle.sql_reader.specs.declared.statement.EndWord.{EndWord}
 use Rattle.sql_reader.specs.declared.statement.EndWord.TheVariants as word
 use Rattle.sql_statements.specs.Plan.{HasKeys}
 use Rattle.sql_statements.specs.declared.statement.Bound.{Bound}
 use Rattle.sql_statements.specs.declared.statement.Bound.TheVariants.{Insert, Select, Update, Delete}
-use Rattle.sql_subset.specs.declared.error.BindError.{BindError}
 use Rattle.sql_subset.specs.declared.error.BindErrorKind.{BindErrorKind}
 use Rattle.sql_subset.specs.declared.error.BindErrorKind.TheVariants.{TypeMismatch, KeyChanged, WrongCount}
 use Rattle.sql_subset.specs.Types.{row_mixes, assignment_mixes, condition_mixes, output_mixes}
 use Rattle.sql_subset.specs.declared.tables.Table.{Table}
 use Rattle.sql_subset.specs.Binding.{read_block, statement_at, bind_block, session_setup, step, BoundSession, session, then_more, declared, sent, main_statement, main_at, main_setup, offset_in}
-use Rattle.sql_subset.specs.Refusals.{Bind, ◌>>=◌, refuse, unless, with_front, each}
+use Rattle.sql_subset.specs.Refusals.{Bind, ◌>>=◌, unless, with_front, each}
 use Rattle.sql_subset.specs.Spec.{RunsToday}
 use Rattle.sql_subset.specs.Statements.{numbers_from, places, at_places, rows_miscount, set_columns, sets_key, row_columns, row_values, insert, output, sort_keys, select, assignment, update, delete, end_of, today, statement}
 use Rattle.sql_subset.specs.Translation.{where_of}

@@ -1,5 +1,5 @@
 -- Worked statements: what they bind to, what they ask, and why they are refused.
-use Rattle.std.proofs.Common.{◌≡◌, refl, ℕ, false, List, [], ◌∷◌, map, Option, Some, None, Ok, Err, pos}
+use Rattle.std.proofs.Common.{◌≡◌, refl, ℕ, false, List, [], ◌∷◌, Option, Some, None, Ok, pos}
 use Rattle.std.specs.Prelude.{codes}
 use Rattle.lock_modes.specs.declared.mode.Mode.TheVariants.{IntentShare, IntentExclusive, Share, Exclusive}
 use Rattle.lock_modes.specs.declared.resource.Resource.TheVariants.{Table as OfTable, Row}

@@ -1,5 +1,5 @@
 -- What a spec file binds to: its spec, or the first refusal.
-use Rattle.std.specs.Prelude.{◌≡◌, ℕ, suc, ◌+◌, ◌-◌, ◌^◌, min, List, [], ◌∷◌, ◌++◌, length, map, Option, Some, None, Result, Ok, Err}
+use Rattle.std.specs.Prelude.{ℕ, suc, ◌+◌, ◌-◌, ◌^◌, min, List, [], ◌∷◌, ◌++◌, length, map, Option, Some, None, Result, Ok, Err}
 use Rattle.spec_reader.specs.Tree.{BlockTree, StepTree, SessionTree, SpecTree}
 use Rattle.sql_reader.specs.Tree as tree
 use Rattle.sql_reader.specs.Grammar.{Fault}
@@ -9,7 +9,7 @@ use Rattle.sql_statements.specs.declared.statement.Bound.{Bound}
 use Rattle.sql_subset.specs.declared.error.BindErrorKind.TheVariants.{Sql, Shape}
 use Rattle.sql_subset.specs.declared.tables.Table.{Table}
 use Rattle.sql_subset.specs.Lines.{step_names, session_names, orders_of}
-use Rattle.sql_subset.specs.Refusals.{Bind, ◌>>=◌, refuse, with_front, each}
+use Rattle.sql_subset.specs.Refusals.{Bind, ◌>>=◌, refuse, each}
 use Rattle.sql_subset.specs.Spec.{Step, SpecFile}
 use Rattle.sql_subset.specs.Statements.{statement}
 use Rattle.sql_subset.specs.Tables.{create}

@@ -8,7 +8,6 @@ use Rattle.sql_statements.specs.declared.condition.Condition.TheVariants.{Always
 use Rattle.sql_statements.specs.declared.expression.Expression.{Expression}
 use Rattle.sql_statements.specs.declared.expression.Operand.{Operand}
 use Rattle.sql_statements.specs.declared.expression.Operand.TheVariants.{Literal, Column}
-use Rattle.sql_statements.specs.declared.expression.Product.{Product}
 use Rattle.sql_statements.specs.declared.expression.SignedProduct.{SignedProduct}
 
 -- an operand that stands alone

@@ -1,6 +1,5 @@
 -- Refusals, their numbers in the order of their list, and what is bound or refused.
 use Rattle.std.specs.Prelude.{◌≡◌, ℕ, Bool, List, [], ◌∷◌, ◌++◌, Result, Ok, Err, if◌then◌else◌, ⊤}
-use Rattle.sql_reader.specs.Refusals.{number_of}
 use Rattle.sql_subset.specs.declared.error.BindErrorKind.{BindErrorKind}
 use Rattle.sql_subset.specs.declared.error.BindErrorKind.TheVariants.{Sql, UnknownTable, UnknownColumn, TypeMismatch, KeyChanged, DuplicateTable, WrongCount, Shape, NoMemory}
 use Rattle.sql_subset.specs.declared.error.BindError.{BindError}

@@ -1,5 +1,5 @@
 -- What a statement binds to, or its first refusal, which is the one with the least number.
-use Rattle.std.specs.Prelude.{ℕ, zero, suc, Bool, true, false, not, ◌||◌, ◌==◌, nat_eq, List, [], ◌∷◌, ◌++◌, length, get_or, map, Option, Some, None, Ok, pos}
+use Rattle.std.specs.Prelude.{ℕ, zero, suc, Bool, true, false, not, ◌||◌, ◌==◌, nat_eq, List, [], ◌∷◌, length, get_or, map, Option, Some, None, Ok, pos}
 use Rattle.std.specs.List.{list_any, position_from}
 use Rattle.lock_modes.specs.declared.mode.Mode.{Mode}
 use Rattle.lock_modes.specs.declared.mode.Mode.TheVariants as modes

@@ -1,5 +1,5 @@
 -- Declared tables.
-use Rattle.std.specs.Prelude.{ℕ, ◌||◌, not, nat_lt, nat_le, min, Bool, false, List, [], ◌∷◌, ◌++◌, length, get_or, map, Option, Some, None, bytes_eq, Ok, is_some, if◌then◌else◌}
+use Rattle.std.specs.Prelude.{ℕ, ◌||◌, not, nat_lt, nat_le, min, Bool, false, List, [], ◌∷◌, ◌++◌, length, get_or, Option, Some, None, bytes_eq, Ok, is_some, if◌then◌else◌}
 use Rattle.std.specs.List.{list_any, position_from}
 use Rattle.sql_reader.specs.Tree.{Chain}
 use Rattle.sql_reader.specs.declared.statement.TypeWord.{TypeWord}

@@ -1,6 +1,6 @@
 use Rattle.std.proofs.Common.{◌≡◌, ap, sym, ◌∙◌, ◌+◌, ◌++◌, ◌∷◌, [], map, arith, length, length-append}
 use Rattle.std.proofs.lemmas.List.{map_push, length-map}
-use Rattle.sql_subset.specs.Bindings.{bound_session, placeless_block, placeless_step}
+use Rattle.sql_subset.specs.Bindings.{bound_session, placeless_block}
 use Rattle.sql_subset.specs.Binding.{BoundSession, all_steps, numbered}
 use Rattle.sql_subset.proofs.FileLemmas.{all_steps-push}
 use Rattle.sql_subset.proofs.binding.all_steps.Goals as goal

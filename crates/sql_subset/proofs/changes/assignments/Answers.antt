@@ -1,4 +1,4 @@
-use Rattle.std.proofs.Common.{◌≡◌, ap, sym, ◌∙◌, get_or, length, arith}
+use Rattle.std.proofs.Common.{ap, sym, ◌∙◌, get_or, length, arith}
 use Rattle.sql_reader.specs.Views.{view_assignment}
 use Rattle.sql_statements.specs.declared.statement.Assignment.{Assignment}
 use Rattle.sql_reader.specs.declared.statement.Assignment.{Assignment as Written}

@@ -1,4 +1,4 @@
-use Rattle.std.proofs.Common.{sym, ap, ◌∙◌, rules}
+use Rattle.std.proofs.Common.{◌∙◌, rules}
 use Rattle.sql_reader.specs.Views.{view_assignment}
 use Rattle.sql_subset.specs.Statements.{assignment, update_rows}
 use Rattle.sql_subset.specs.Translation.{placeless}

@@ -1,4 +1,4 @@
-use Rattle.std.proofs.Common.{sym, ap, ◌∙◌, rules}
+use Rattle.std.proofs.Common.{◌∙◌, rules}
 use Rattle.sql_reader.specs.Views.{chain_of}
 use Rattle.sql_subset.specs.Statements.{row_values, insert_rows}
 use Rattle.sql_subset.proofs.ChainLemmas.{each-listed, then-both}

@@ -1,6 +1,6 @@
-use Rattle.std.proofs.Common.{◌≡◌, ap, ◌∙◌, ◌-◌, ◌≤◌, suc, map, length, arith}
+use Rattle.std.proofs.Common.{ap, ◌∙◌, ◌-◌, map, arith}
 use Rattle.std.proofs.lemmas.List.{length-map}
-use Rattle.sql_subset.specs.Translation.{placeless, joined_in, paired}
+use Rattle.sql_subset.specs.Translation.{placeless, joined_in}
 use Rattle.sql_subset.proofs.JoinLemmas.{joined-many}
 use Rattle.sql_subset.proofs.joining.+joined_in.Goals as goal
 

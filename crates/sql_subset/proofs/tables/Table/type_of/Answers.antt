@@ -1,4 +1,4 @@
-use Rattle.std.proofs.Common.{◌≡◌, ap, sym, ◌∙◌, slice_get, None, rules}
+use Rattle.std.proofs.Common.{◌≡◌, ap, sym, slice_get, None, rules}
 use Rattle.sql_subset.specs.Tables.{no_column}
 use Rattle.sql_subset.proofs.OptionLemmas.{get_or-none}
 use Rattle.sql_subset.proofs.tables.Table.type_of.Goals as goal
