@@ -88,5 +88,5 @@ returns c =
       whole = sym (ap is_some left);
       rows = ap (λ l. l.committed) c.keep.ensures ∙ sym (ap (rows_after rows) left);
       committed = subst IsCommitted (sym c.keep.ensures) (kept-committed s before c.loop-statement.invariant.alone);
-      told = sym (c.loop-statement.invariant.told ∙ ap (λ l. c.loop-statement.log ++ (transacted (sight s before) l).events) none ∙ Rattle.std.proofs.lemmas.List.append-nil c.loop-statement.transcript);
+      told = sym (c.loop-statement.invariant.told ∙ ap (λ l. c.loop-statement.log ++ (transacted (sight s before) l).events) none ∙ Rattle.std.proofs.lemmas.List.append-nil c.loop-statement.log);
     }
