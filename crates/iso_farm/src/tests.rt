@@ -1,6 +1,13 @@
+ghost use Rattle.std.specs.Prelude.{All};
+ghost use Rattle.sql_statements.specs.Plan.{HasKeys};
+
 use super::*;
+use lock_modes::{Mode, Place, Value};
+use spec_reader::read_spec;
+use sql_subset::{Bound, bind, lock_plan};
 use std::alloc::{AllocError, Global};
 use std::io::{self, Read, Write};
+use std::process::Abort;
 use std::test::Fail;
 use transcripts::Counted;
 
@@ -241,6 +248,263 @@ fn help_goes_to_the_output(rt: HostRuntime) -> Result<(), Fail> {
         assert_eq!(rt; told.status, 0, "{line}");
         assert_eq!(rt; told.err.as_str(), "", "{line}");
         assert!(rt; told.out.contains("Usage: isofarm"), "{line}");
+    }
+    Ok(())
+}
+
+/// The tables that `T` stands for in the runs.
+const TABLES: &str =
+    "setup { CREATE TABLE t (id int PRIMARY KEY, v int); INSERT INTO t VALUES (1, 10), (2, 20); }";
+
+/// Runs of three lines: a rank, a spec, and what the sessions are told, with a slash between two lines.
+const RUNS: &str = "0
+T session a step a1 { INSERT INTO t VALUES (3, 0); INSERT INTO t VALUES (3, 1); SELECT * FROM t; } step a2 { SELECT count(*), sum(v) FROM t; }
+session a/step a1/inserted 1/error: duplicate key/done/step a2/row 2|30/rows 1/done
+0
+setup { CREATE TABLE n (w text, c int); INSERT INTO n VALUES ('it''s', 3), ('b', -1); } session a step a1 { SELECT w FROM n WHERE NOT c = 3 OR w = 'it''s' ORDER BY c; } step a2 { DELETE FROM n WHERE c = 3; } step a3 { SELECT count(*), sum(c) FROM n; } step a4 { SELECT sum(c) FROM n WHERE c > 9; } step a5 { UPDATE n SET c = 2 * c - 9223372036854775807; }
+session a/step a1/row 'b'/row 'it''s'/rows 2/done/step a2/deleted 1/done/step a3/row 1|-1/rows 1/done/step a4/row 0/rows 1/done/step a5/error: integer out of range/done
+0
+T session a step a1 { SELECT v FROM t WHERE id = 1; } step a2 { LOCK t; SET x = 1; } session b step b1 { UPDATE t SET v = v + 1 WHERE id = 1; } permutation a1(*) b1(a1 notices 1) a1 a2
+session a/step a1/row 10/rows 1/done/step a1/row 11/rows 1/done/step a2/locked/set/done/session b/step b1/updated 1/done
+0
+setup { CREATE TABLE h (a int, b int); INSERT INTO h VALUES (1, 2), (3, 4); } session a step a1 { UPDATE h SET a = b, b = a; DELETE FROM h WHERE a = 4; INSERT INTO h (b, a) VALUES (5, 6), (7, 8); SELECT * FROM h ORDER BY b DESC; }
+session a/step a1/updated 2/deleted 1/inserted 2/row 8|7/row 6|5/row 2|1/rows 3/done";
+
+/// The lines of an outcome, of which those of events stand behind two spaces.
+fn lines_of(alloc: Global, rank: &str, told: &str) -> Result<String, AllocError> {
+    let mut text = format!(in alloc; "rank {rank}\n")?;
+    for line in told.split('/') {
+        if !line.starts_with("session ") {
+            text.push_str("  ")?;
+        }
+        text.push_str(line)?;
+        text.push_str("\n")?;
+    }
+    Ok(text)
+}
+
+/// The spec, with its tables written out.
+fn spec_of(alloc: Global, text: &str) -> Result<String, AllocError> {
+    match text.strip_prefix("T ") {
+        Some(rest) => format!(in alloc; "{TABLES} {rest}"),
+        None => String::from_str(alloc, text),
+    }
+}
+
+#[test]
+fn sessions_are_told_what_their_order_shows(rt: HostRuntime) -> Result<(), Fail> {
+    let alloc = rt.alloc();
+    let mut rank = "";
+    let mut spec = "";
+    for (number, line) in RUNS.lines().enumerate() {
+        match number % 3 {
+            0 => rank = line,
+            1 => spec = line,
+            _ => {
+                let text = spec_of(alloc, spec)?;
+                let words = format!(in alloc; "isofarm one first.spec {rank}")?;
+                let told = tell(alloc, &words, &holding(text.as_bytes()))?;
+                let want = lines_of(alloc, rank, line)?;
+                assert_eq!(rt; told.err.as_str(), "", "{spec}");
+                assert_eq!(rt; told.out.as_str(), want.as_str(), "{spec}");
+            }
+        }
+    }
+    Ok(())
+}
+
+/// A table with a key and one without.
+const TWO_TABLES: &str =
+    "setup { CREATE TABLE t (id int PRIMARY KEY, v int, b text); CREATE TABLE u (a int, b text) }";
+
+/// Refusals, each with its place in the SQL behind it, of a step.
+const REFUSED_STEPS: &str = "sql error 7 at 0: CREATE TABLE x (i int);
+sql error 4 at 0: BEGIN
+sql error 4 at 0: COMMIT
+sql error 4 at 0: END WORK
+sql error 4 at 0: ROLLBACK
+sql error 4 at 0: ABORT
+sql error 4 at 0: START TRANSACTION
+sql error 4 at 0: VACUUM
+sql error 3 at 9: SELECT v FRM t
+sql error 2 at 7: SELECT 'x
+sql error 1 at 7: SELECT ?
+sql error 5 at 22: INSERT INTO t VALUES (9223372036854775808, 1, 'a')
+sql error 4 at 17: SELECT w FROM x; VACUUM
+bind error 2 at 0: SELECT w FROM x
+bind error 2 at 0: SELECT v FROM x WHERE 1 = 'a'
+bind error 2 at 0: INSERT INTO x VALUES (1)
+bind error 2 at 0: UPDATE x SET a = 1
+bind error 2 at 0: DELETE FROM x
+bind error 2 at 0: LOCK x
+bind error 3 at 0: SELECT w FROM t
+bind error 3 at 0: SELECT v FROM t WHERE w = 'a'
+bind error 3 at 0: SELECT v FROM t ORDER BY w
+bind error 3 at 0: SELECT sum(w) FROM t
+bind error 3 at 0: INSERT INTO t (id, w) VALUES ('a', 1)
+bind error 3 at 0: UPDATE t SET w = 1, id = 2
+bind error 3 at 0: UPDATE t SET v = w
+bind error 3 at 0: DELETE FROM t WHERE w = 1
+bind error 4 at 0: SELECT v FROM t WHERE v = 'a'
+bind error 4 at 0: SELECT v FROM t WHERE b + 1 = 2
+bind error 4 at 0: SELECT v FROM t WHERE 1 = 2 OR NOT (v = 1 AND b = v)
+bind error 4 at 0: SELECT sum(b) FROM t
+bind error 4 at 0: INSERT INTO t VALUES ('a')
+bind error 4 at 0: INSERT INTO t (b, id) VALUES (1, 2)
+bind error 4 at 0: UPDATE t SET id = 'a'
+bind error 4 at 0: UPDATE t SET v = b
+bind error 5 at 0: UPDATE t SET id = 1
+bind error 5 at 0: UPDATE t SET id = 1, id = 2
+bind error 7 at 0: UPDATE t SET v = 1, v = 2
+bind error 7 at 0: INSERT INTO t VALUES (1)
+bind error 7 at 0: INSERT INTO t VALUES (1, 2, 'a', 3)
+bind error 7 at 0: INSERT INTO t (id, v) VALUES (1, 2)
+bind error 7 at 0: INSERT INTO t (id, v, v) VALUES (1, 2, 3)
+bind error 7 at 0: INSERT INTO t VALUES (1, 2, 'a'), (1, 2)";
+
+/// The same of a second main setup.
+const REFUSED_SETUPS: &str = "bind error 6 at 0: CREATE TABLE t (i int)
+bind error 6 at 0: CREATE TABLE t (i int, i int)
+bind error 3 at 0: CREATE TABLE x (i int, PRIMARY KEY (j))
+bind error 3 at 0: CREATE TABLE t (i int, PRIMARY KEY (j))
+bind error 7 at 0: CREATE TABLE x (i int, i int)
+bind error 7 at 0: CREATE TABLE x (i int PRIMARY KEY PRIMARY KEY)
+bind error 7 at 0: CREATE TABLE x (i int PRIMARY KEY, PRIMARY KEY (i))";
+
+/// Each SQL between the front and the end of a file is refused with its kind, at its place in the file.
+fn assert_refused(
+    rt: &impl Abort,
+    alloc: Global,
+    rows: &str,
+    front: &str,
+    end: &str,
+) -> Result<(), Fail> {
+    for row in rows.lines() {
+        let (refusal, sql) = row.split_once(": ").ok_or("a refusal and its SQL")?;
+        let (kind, place) = refusal.split_once(" at ").ok_or("a kind and its place")?;
+        let place: usize = place.parse().map_err(|_| "a place")?;
+        let text = format!(in alloc; "{front}{sql}{end}")?;
+        let told = tell(alloc, "isofarm one first.spec 0", &holding(text.as_bytes()))?;
+        let at = front.len() + place;
+        let want = format!(in alloc; "isofarm: first.spec: {kind} at {at}\n")?;
+        assert_eq!(rt; told.status, 3, "{sql}");
+        assert_eq!(rt; told.err.as_str(), want.as_str(), "{sql}");
+    }
+    Ok(())
+}
+
+#[test]
+fn statements_that_do_not_fit_are_refused_at_their_place(rt: HostRuntime) -> Result<(), Fail> {
+    let alloc = rt.alloc();
+    let step = format!(in alloc; "{TWO_TABLES} session a step s {{")?;
+    assert_refused(&rt, alloc, REFUSED_STEPS, &step, "}")?;
+    let setup = format!(in alloc; "{TWO_TABLES} setup {{")?;
+    assert_refused(&rt, alloc, REFUSED_SETUPS, &setup, "} session a step s {}")?;
+    Ok(())
+}
+
+/// Statements over the two tables, each with its lock plan: modes on tables (T) and on the keys of rows (R).
+const PLANS: &str = "SELECT * FROM t | S T0
+SELECT * FROM t WHERE id = 2 | IS T0, S R0:2
+SELECT * FROM t WHERE (v > 0) AND id = 2 | IS T0, S R0:2
+SELECT * FROM t WHERE (v > 0 AND id = 2) AND v < 9 | IS T0, S R0:2
+SELECT * FROM t WHERE id = 2 AND id = 3 | IS T0, S R0:2
+SELECT * FROM t WHERE id = 3 AND id = 2 AND v = 1 | IS T0, S R0:3
+SELECT * FROM t WHERE 2 = id | S T0
+SELECT * FROM t WHERE id = 2 OR v = 1 | S T0
+SELECT * FROM t WHERE (id = 2) | IS T0, S R0:2
+SELECT * FROM t WHERE NOT id = 2 | S T0
+SELECT * FROM t WHERE NOT NOT id = 2 | S T0
+SELECT * FROM t WHERE id >= 2 | S T0
+SELECT * FROM t WHERE id = -2 | IS T0, S R0:-2
+SELECT * FROM t WHERE id = 1 + 1 | S T0
+SELECT * FROM t WHERE id = v | S T0
+SELECT * FROM t WHERE id + 0 = 2 | S T0
+SELECT v, id FROM t WHERE id = 2 ORDER BY v DESC, id | IS T0, S R0:2
+SELECT count(*), sum(v) FROM t WHERE id = 2 | IS T0, S R0:2
+SELECT a FROM u WHERE a = 2 | S T1
+INSERT INTO t VALUES (5, 0, 'x'), (4, 0, 'y') | IX T0, X R0:5, X R0:4
+INSERT INTO t (v, b, id) VALUES (5, 'x', 0), (4, 'y', 1) | IX T0, X R0:0, X R0:1
+INSERT INTO u VALUES (1, 'a') | X T1
+INSERT INTO u (b, a) VALUES ('a', 1) | X T1
+UPDATE t SET v = v + 1 WHERE id = 2 | IX T0, X R0:2
+UPDATE t SET v = v + 1 | X T0
+UPDATE t SET v = 1, b = 'x' WHERE v = 0 AND id = 7 | IX T0, X R0:7
+UPDATE u SET a = 1 WHERE a = 2 | X T1
+DELETE FROM t WHERE id = 2 | IX T0, X R0:2
+DELETE FROM t | X T0
+DELETE FROM u WHERE a = 2 | X T1
+LOCK t | X T0
+LOCK TABLE t IN ACCESS SHARE MODE | IS T0
+LOCK TABLE t IN ROW SHARE MODE | IS T0
+LOCK TABLE t IN ROW EXCLUSIVE MODE | IX T0
+LOCK TABLE t IN SHARE MODE | S T0
+LOCK TABLE t IN SHARE ROW EXCLUSIVE MODE | SIX T0
+LOCK TABLE t IN EXCLUSIVE MODE | X T0
+LOCK TABLE t IN ACCESS EXCLUSIVE MODE | X T0
+SET a = 1 | 
+SET LOCAL a TO b | ";
+
+fn mode_word(mode: Mode) -> &'static str {
+    match mode {
+        Mode::IntentShare => "IS",
+        Mode::IntentExclusive => "IX",
+        Mode::Share => "S",
+        Mode::ShareIntent => "SIX",
+        Mode::Exclusive => "X",
+    }
+}
+
+fn place_text(alloc: Global, place: Place<'_>) -> Result<String, AllocError> {
+    match place {
+        Place::Table(table) => format!(in alloc; "T{table}"),
+        Place::Row(table, Value::Int(key)) => format!(in alloc; "R{table}:{key}"),
+        Place::Row(table, Value::Text(key)) => format!(in alloc; "R{table}:{}", key.as_str()),
+    }
+}
+
+fn plan_text(alloc: Global, statement: &Bound) -> Result<String, AllocError>
+    requires { HasKeys statement.now }
+{
+    let mut text = String::new(alloc);
+    for number in 0..u8::MAX {
+        let Some((place, mode)) = lock_plan(statement, number) else {
+            return Ok(text);
+        };
+        if number > 0 {
+            text.push_str(", ")?;
+        }
+        let word = mode_word(mode);
+        let place = place_text(alloc, place)?;
+        text.push_str(word)?;
+        text.push_str(" ")?;
+        text.push_str(&place)?;
+    }
+    Ok(text)
+}
+
+/// The plans of the statements of a step.
+fn plans_text(alloc: Global, statements: &[Bound]) -> Result<String, AllocError>
+    requires { All HasKeys statements.now }
+{
+    let mut text = String::new(alloc);
+    for statement in statements {
+        text.push_str(&plan_text(alloc, statement)?)?;
+    }
+    Ok(text)
+}
+
+#[test]
+fn each_statement_asks_for_the_locks_of_its_plan(rt: HostRuntime) -> Result<(), Fail> {
+    let alloc = rt.alloc();
+    for row in PLANS.lines() {
+        let (sql, want) = row.split_once(" | ").ok_or("a statement and its plan")?;
+        let text = format!(in alloc; "{TWO_TABLES} session a step s {{{sql}}}")?;
+        let read = read_spec(alloc, text.as_bytes()).map_err(|_| "a spec")?;
+        let spec = bind(alloc, &read).map_err(|_| "a bound spec")?;
+        assert!(rt; spec.steps() == 1);
+        let told = plans_text(alloc, spec.statements(0))?;
+        assert_eq!(rt; told.as_str(), want, "{sql}");
     }
     Ok(())
 }
