@@ -508,3 +508,52 @@ fn each_statement_asks_for_the_locks_of_its_plan(rt: HostRuntime) -> Result<(), 
     }
     Ok(())
 }
+
+/// How many sessions, how many steps each of them has, whether there is a permutation line, and whether that is a shape.
+const SHAPES: [(usize, usize, bool, bool); 8] = [
+    (6, 4, false, true),
+    (7, 1, false, false),
+    (1, 24, false, true),
+    (1, 25, false, false),
+    (5, 5, false, false),
+    (5, 51, true, true),
+    (4, 64, true, false),
+    (7, 1, true, false),
+];
+
+fn spec_of_shape(
+    alloc: Global,
+    sessions: usize,
+    steps: usize,
+    has_line: bool,
+) -> Result<String, AllocError> {
+    let mut text = String::new(alloc);
+    for session in 0..sessions {
+        let head = format!(in alloc; "session s{session} ")?;
+        text.push_str(&head)?;
+        for step in 0..steps {
+            let step = format!(in alloc; "step t{session}_{step} {{}} ")?;
+            text.push_str(&step)?;
+        }
+    }
+    if has_line {
+        text.push_str("permutation t0_0")?;
+    }
+    Ok(text)
+}
+
+#[test]
+fn shapes_past_the_limits_are_refused(rt: HostRuntime) -> Result<(), Fail> {
+    let alloc = rt.alloc();
+    for (sessions, steps, has_line, is_shape) in SHAPES {
+        let text = spec_of_shape(alloc, sessions, steps, has_line)?;
+        let told = tell(alloc, "isofarm one first.spec 0", &holding(text.as_bytes()))?;
+        let want = if is_shape {
+            ""
+        } else {
+            "isofarm: first.spec: bind error 8 at 0\n"
+        };
+        assert_eq!(rt; told.err.as_str(), want, "{sessions} {steps}");
+    }
+    Ok(())
+}

@@ -19,8 +19,6 @@ mod shapes;
 mod spec;
 mod statements;
 mod tables;
-#[cfg(test)]
-mod tests;
 mod types;
 mod walking;
 
