@@ -256,19 +256,12 @@ fn help_goes_to_the_output(rt: HostRuntime) -> Result<(), Fail> {
 const TABLES: &str =
     "setup { CREATE TABLE t (id int PRIMARY KEY, v int); INSERT INTO t VALUES (1, 10), (2, 20); }";
 
-/// Runs of three lines: a rank, a spec, and what the sessions are told, with a slash between two lines.
-const RUNS: &str = "0
-T session a step a1 { INSERT INTO t VALUES (3, 0); INSERT INTO t VALUES (3, 1); SELECT * FROM t; } step a2 { SELECT count(*), sum(v) FROM t; }
-session a/step a1/inserted 1/error: duplicate key/done/step a2/row 2|30/rows 1/done
-0
-setup { CREATE TABLE n (w text, c int); INSERT INTO n VALUES ('it''s', 3), ('b', -1); } session a step a1 { SELECT w FROM n WHERE NOT c = 3 OR w = 'it''s' ORDER BY c; } step a2 { DELETE FROM n WHERE c = 3; } step a3 { SELECT count(*), sum(c) FROM n; } step a4 { SELECT sum(c) FROM n WHERE c > 9; } step a5 { UPDATE n SET c = 2 * c - 9223372036854775807; }
-session a/step a1/row 'b'/row 'it''s'/rows 2/done/step a2/deleted 1/done/step a3/row 1|-1/rows 1/done/step a4/row 0/rows 1/done/step a5/error: integer out of range/done
-0
-T session a step a1 { SELECT v FROM t WHERE id = 1; } step a2 { LOCK t; SET x = 1; } session b step b1 { UPDATE t SET v = v + 1 WHERE id = 1; } permutation a1(*) b1(a1 notices 1) a1 a2
-session a/step a1/row 10/rows 1/done/step a1/row 11/rows 1/done/step a2/locked/set/done/session b/step b1/updated 1/done
-0
-setup { CREATE TABLE h (a int, b int); INSERT INTO h VALUES (1, 2), (3, 4); } session a step a1 { UPDATE h SET a = b, b = a; DELETE FROM h WHERE a = 4; INSERT INTO h (b, a) VALUES (5, 6), (7, 8); SELECT * FROM h ORDER BY b DESC; }
-session a/step a1/updated 2/deleted 1/inserted 2/row 8|7/row 6|5/row 2|1/rows 3/done";
+/// Runs: a rank, a spec, and what the sessions are told, with a slash between two lines.
+const RUNS: &str =
+    "0 | T session a step a1 { INSERT INTO t VALUES (3, 0); INSERT INTO t VALUES (3, 1); SELECT * FROM t; } step a2 { SELECT count(*), sum(v) FROM t; } | session a/step a1/inserted 1/error: duplicate key/done/step a2/row 2|30/rows 1/done
+0 | setup { CREATE TABLE n (w text, c int); INSERT INTO n VALUES ('it''s', 3), ('b', -1); } session a step a1 { SELECT w FROM n WHERE NOT c = 3 OR w = 'it''s' ORDER BY c; } step a2 { DELETE FROM n WHERE c = 3; } step a3 { SELECT count(*), sum(c) FROM n; } step a4 { SELECT sum(c) FROM n WHERE c > 9; } step a5 { UPDATE n SET c = 2 * c - 9223372036854775807; } | session a/step a1/row 'b'/row 'it''s'/rows 2/done/step a2/deleted 1/done/step a3/row 1|-1/rows 1/done/step a4/row 0/rows 1/done/step a5/error: integer out of range/done
+0 | T session a step a1 { SELECT v FROM t WHERE id = 1; } step a2 { LOCK t; SET x = 1; } session b step b1 { UPDATE t SET v = v + 1 WHERE id = 1; } permutation a1(*) b1(a1 notices 1) a1 a2 | session a/step a1/row 10/rows 1/done/step a1/row 11/rows 1/done/step a2/locked/set/done/session b/step b1/updated 1/done
+0 | setup { CREATE TABLE h (a int, b int); INSERT INTO h VALUES (1, 2), (3, 4); } session a step a1 { UPDATE h SET a = b, b = a; DELETE FROM h WHERE a = 4; INSERT INTO h (b, a) VALUES (5, 6), (7, 8); SELECT * FROM h ORDER BY b DESC; } | session a/step a1/updated 2/deleted 1/inserted 2/row 8|7/row 6|5/row 2|1/rows 3/done";
 
 /// The lines of an outcome, of which those of events stand behind two spaces.
 fn lines_of(alloc: Global, rank: &str, told: &str) -> Result<String, AllocError> {
@@ -294,21 +287,15 @@ fn spec_of(alloc: Global, text: &str) -> Result<String, AllocError> {
 #[test]
 fn sessions_are_told_what_their_order_shows(rt: HostRuntime) -> Result<(), Fail> {
     let alloc = rt.alloc();
-    let mut rank = "";
-    let mut spec = "";
-    for (number, line) in RUNS.lines().enumerate() {
-        match number % 3 {
-            0 => rank = line,
-            1 => spec = line,
-            _ => {
-                let text = spec_of(alloc, spec)?;
-                let words = format!(in alloc; "isofarm one first.spec {rank}")?;
-                let told = tell(alloc, &words, &holding(text.as_bytes()))?;
-                let want = lines_of(alloc, rank, line)?;
-                assert_eq!(rt; told.err.as_str(), "", "{spec}");
-                assert_eq!(rt; told.out.as_str(), want.as_str(), "{spec}");
-            }
-        }
+    for run in RUNS.lines() {
+        let (rank, rest) = run.split_once(" | ").ok_or("a rank")?;
+        let (spec, want) = rest.split_once(" | ").ok_or("a spec")?;
+        let text = spec_of(alloc, spec)?;
+        let words = format!(in alloc; "isofarm one first.spec {rank}")?;
+        let told = tell(alloc, &words, &holding(text.as_bytes()))?;
+        let want = lines_of(alloc, rank, want)?;
+        assert_eq!(rt; told.err.as_str(), "", "{spec}");
+        assert_eq!(rt; told.out.as_str(), want.as_str(), "{spec}");
     }
     Ok(())
 }
@@ -385,7 +372,7 @@ fn assert_refused(
         let place: usize = place.parse().map_err(|_| "a place")?;
         let text = format!(in alloc; "{front}{sql}{end}")?;
         let told = tell(alloc, "isofarm one first.spec 0", &holding(text.as_bytes()))?;
-        let at = front.len() + place;
+        let at = front.len().checked_add(place).ok_or("a place")?;
         let want = format!(in alloc; "isofarm: first.spec: {kind} at {at}\n")?;
         assert_eq!(rt; told.status, 3, "{sql}");
         assert_eq!(rt; told.err.as_str(), want.as_str(), "{sql}");
