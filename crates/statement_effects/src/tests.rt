@@ -156,14 +156,20 @@ fn run_all(alloc: Global, statements: &[Bound]) -> Result<Log, AllocError> {
     Ok(log)
 }
 
+/// The outcome of one session that sends the statements.
+fn told_by(alloc: Global, statements: &[Bound]) -> Result<Outcome, AllocError> {
+    let mut transcripts = Vec::new(alloc);
+    transcripts.push(run_all(alloc, statements)?.to_transcript()?)?;
+    Outcome::new(alloc, transcripts)
+}
+
 fn assert_tells(
     rt: &impl Abort,
     alloc: Global,
     statements: &[Bound],
     want: &str,
 ) -> Result<(), AllocError> {
-    let told = run_all(alloc, statements)?.to_transcript()?;
-    let outcome = Outcome::new(alloc, vec![in alloc; told]?)?;
+    let outcome = told_by(alloc, statements)?;
     let sessions = vec![in alloc; Text::from_str(alloc, "s")?]?;
     let names = Names {
         sessions: sessions.as_slice(),
