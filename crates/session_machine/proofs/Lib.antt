@@ -1,8 +1,4 @@
 pub mod Worked
-pub mod Plain
-pub mod Overlays
-pub mod PlainStart
-pub mod NamedLemmas
 pub mod Basics
 pub mod Looks
 pub mod Solo
@@ -33,3 +29,10 @@ pub mod Steps
 pub mod Worlds
 pub mod SettleSteps
 pub mod Specs
+pub mod Named
+pub mod Waiting
+pub mod Stages
+pub mod SetUps
+pub mod Answered
+pub mod Standing
+pub mod Setting

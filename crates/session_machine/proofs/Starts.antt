@@ -9,6 +9,7 @@ use Rattle.session_machine.specs.Go.{Scene, Run, solo, stopped, go}
 use Rattle.session_machine.specs.World.{World, fresh, session_at, look_of, scene_of}
 use Rattle.sql_subset.specs.Spec.{Spec}
 use Rattle.session_machine.specs.Start.{Start, Started, SetupFailed, SessionSetupFailed, SessionSetupWaits, start, started_then, main_setups, session_setups, after_setup, forgotten, has_failed, is_outside}
+use Rattle.session_machine.specs.Starting.{IsAlone, IsIdle}
 use Rattle.session_machine.specs.Sound.{Way, one, more, Steady, Sound, UnderLocks}
 use Rattle.lock_modes.specs.declared.mode.Mode.{Mode}
 use Rattle.lock_modes.specs.declared.resource.Resource.{Resource}
@@ -52,12 +53,6 @@ first-steady n =
 
 -- ---- main setups: the control session goes while no other holds a lock
 
-pub record Alone (control n : ℕ) (w : World) : Type 0 where
-  pub steady : Steady w
-  pub idle : w.waits ≡ []
-  pub others : (c : ℕ) → c ≢ control → session_at w c ≡ fresh
-  pub count : length w.sessions ≡ n
-
 pub all-free : (e : Scene) (i : ℕ) → ((c : ℕ) (r : Resource) → c ≢ i → e.look c r ≡ None) → e.waits ≡ [] → (ts : List Task) → EachAsk (IsFree e i) ts
 all-free e i none idle [] = tt
 all-free e i none idle (Ask r m ∷ ts) =
@@ -67,7 +62,7 @@ all-free e i none idle (Do st ∷ ts) = all-free e i none idle ts
 pub idle-now : (w : World) (i : ℕ) → w.waits ≡ [] → waits_now w.waits i ≡ false
 idle-now w i e = ap (λ ws. waits_now ws i) e
 
-pub alone-goes : (control n : ℕ) (w : World) (block : List Bound) → control < n → Alone control n w → Alone control n (after_setup w control block)
+pub alone-goes : (control n : ℕ) (w : World) (block : List Bound) → control < n → IsAlone control n w → IsAlone control n (after_setup w control block)
 alone-goes control n w block lt a =
     let s = session_at w control in
     let en : Entering w control s (tasks_of block) = entering w control s block a.steady (subst (λ k. control < k) (sym a.count) lt) (idle-now w control a.idle) refl refl in
@@ -80,7 +75,7 @@ alone-goes control n w block lt a =
       count = goes-count w control s (tasks_of block) en ∙ a.count;
     }
 
-pub alone-forgets : (control n : ℕ) (w : World) → Alone control n w → Alone control n (forgotten w control)
+pub alone-forgets : (control n : ℕ) (w : World) → IsAlone control n w → IsAlone control n (forgotten w control)
 alone-forgets control n w a =
     let s : Session = record (session_at w control) { transcript = [] } in
     record {
@@ -97,25 +92,20 @@ OnStarted (SetupFailed n) P = Unit {0}
 OnStarted (SessionSetupFailed n) P = Unit {0}
 OnStarted (SessionSetupWaits n) P = Unit {0}
 
-main-alone : (control n k : ℕ) (w : World) (blocks : List (List Bound)) → control < n → Alone control n w → OnStarted (main_setups control k w blocks) (Alone control n)
+main-alone : (control n k : ℕ) (w : World) (blocks : List (List Bound)) → control < n → IsAlone control n w → OnStarted (main_setups control k w blocks) (IsAlone control n)
 main-alone control n k w [] lt a = a
 main-alone control n k w (block ∷ blocks) lt a =
     at (has_failed (session_at (after_setup w control block) control) || not (is_outside (session_at (after_setup w control block) control).status))
     (main-alone control n (suc k) (forgotten (after_setup w control block) control) blocks lt (alone-forgets control n (after_setup w control block) (alone-goes control n w block lt a)))
   where
-    at : (b : Bool) → OnStarted (main_setups control (suc k) (forgotten (after_setup w control block) control) blocks) (Alone control n)
-        → OnStarted (elim b [ true ↦ SetupFailed k | false ↦ main_setups control (suc k) (forgotten (after_setup w control block) control) blocks ]) (Alone control n)
+    at : (b : Bool) → OnStarted (main_setups control (suc k) (forgotten (after_setup w control block) control) blocks) (IsAlone control n)
+        → OnStarted (elim b [ true ↦ SetupFailed k | false ↦ main_setups control (suc k) (forgotten (after_setup w control block) control) blocks ]) (IsAlone control n)
     at true rec = tt
     at false rec = rec
 
 -- ---- session setups: none waits
 
-pub record Idle (n : ℕ) (w : World) : Type 0 where
-  pub steady : Steady w
-  pub idle : w.waits ≡ []
-  pub count : length w.sessions ≡ n
-
-pub idle-goes : (n i : ℕ) (w : World) (block : List Bound) → i < n → Idle n w → waits_now (after_setup w i block).waits i ≡ false → Idle n (forgotten (after_setup w i block) i)
+pub idle-goes : (n i : ℕ) (w : World) (block : List Bound) → i < n → IsIdle n w → waits_now (after_setup w i block).waits i ≡ false → IsIdle n (forgotten (after_setup w i block) i)
 idle-goes n i w block lt a still =
     let s = session_at w i in
     let en : Entering w i s (tasks_of block) = entering w i s block a.steady (subst (λ k. i < k) (sym a.count) lt) (idle-now w i a.idle) refl refl in
@@ -135,25 +125,25 @@ idle-goes n i w block lt a still =
         let b : ((i == i) || false) ≡ false = sym (ap (λ ws. waits_now ws i) e) ∙ still in
         absurd (not_both _ (or_true_left (i == i) false (eq-eqb i i refl)) b)
 
-sessions-idle : (n i : ℕ) (w : World) (blocks : List (List Bound)) → i + length blocks ≤ n → Idle n w → OnStarted (session_setups i w blocks) (Idle n)
+sessions-idle : (n i : ℕ) (w : World) (blocks : List (List Bound)) → i + length blocks ≤ n → IsIdle n w → OnStarted (session_setups i w blocks) (IsIdle n)
 sessions-idle n i w [] le a = a
 sessions-idle n i w (block ∷ blocks) le a =
     at (has_failed (session_at (after_setup w i block) i)) (waits_now (after_setup w i block).waits i) refl
     (λ still. sessions-idle n (suc i) (forgotten (after_setup w i block) i) blocks (omega arith) (idle-goes n i w block (omega arith) a still))
   where
-    at : (b c : Bool) → waits_now (after_setup w i block).waits i ≡ c → (waits_now (after_setup w i block).waits i ≡ false → OnStarted (session_setups (suc i) (forgotten (after_setup w i block) i) blocks) (Idle n))
-        → OnStarted (elim b [ true ↦ SessionSetupFailed i | false ↦ elim c [ true ↦ SessionSetupWaits i | false ↦ session_setups (suc i) (forgotten (after_setup w i block) i) blocks ] ]) (Idle n)
+    at : (b c : Bool) → waits_now (after_setup w i block).waits i ≡ c → (waits_now (after_setup w i block).waits i ≡ false → OnStarted (session_setups (suc i) (forgotten (after_setup w i block) i) blocks) (IsIdle n))
+        → OnStarted (elim b [ true ↦ SessionSetupFailed i | false ↦ elim c [ true ↦ SessionSetupWaits i | false ↦ session_setups (suc i) (forgotten (after_setup w i block) i) blocks ] ]) (IsIdle n)
     at true c is rec = tt
     at false true is rec = tt
     at false false is rec = rec is
 
-start-idle : (spec : Spec) → length spec.session_setups ≤ spec.sessions → OnStarted (start spec) (Idle (suc spec.sessions))
+start-idle : (spec : Spec) → length spec.session_setups ≤ spec.sessions → OnStarted (start spec) (IsIdle (suc spec.sessions))
 start-idle spec le = then' (main_setups spec.sessions 0 (first_world spec.sessions) spec.setups) (main-alone spec.sessions (suc spec.sessions) 0 (first_world spec.sessions) spec.setups (omega arith) first)
   where
-    first : Alone spec.sessions (suc spec.sessions) (first_world spec.sessions)
+    first : IsAlone spec.sessions (suc spec.sessions) (first_world spec.sessions)
     first = record { steady = first-steady spec.sessions; idle = refl; others = λ c ne. get_or-replicate (suc spec.sessions) c fresh; count = length_replicate (suc spec.sessions) fresh }
 
-    then' : (s : Start) → OnStarted s (Alone spec.sessions (suc spec.sessions)) → OnStarted (started_then s (λ w. session_setups 0 w spec.session_setups)) (Idle (suc spec.sessions))
+    then' : (s : Start) → OnStarted s (IsAlone spec.sessions (suc spec.sessions)) → OnStarted (started_then s (λ w. session_setups 0 w spec.session_setups)) (IsIdle (suc spec.sessions))
     then' (Started w) a = sessions-idle (suc spec.sessions) 0 w spec.session_setups (omega arith) (record { steady = a.steady; idle = a.idle; count = a.count })
     then' (SetupFailed n) a = tt
     then' (SessionSetupFailed n) a = tt
@@ -161,10 +151,10 @@ start-idle spec le = then' (main_setups spec.sessions 0 (first_world spec.sessio
 
 pub start-sound : (spec : Spec) (w : World) → length spec.session_setups ≤ spec.sessions → start spec ≡ Started w → Sound w
 start-sound spec w le e =
-    let a : Idle (suc spec.sessions) w = subst (λ s. OnStarted s (Idle (suc spec.sessions))) e (start-idle spec le) in
+    let a : IsIdle (suc spec.sessions) w = subst (λ s. OnStarted s (IsIdle (suc spec.sessions))) e (start-idle spec le) in
     sound-from w a.steady (ap (next_grant (length w.sessions) (look_of w)) a.idle)
 
 pub start-count : (spec : Spec) (w : World) → length spec.session_setups ≤ spec.sessions → start spec ≡ Started w → length w.sessions ≡ suc spec.sessions
 start-count spec w le e =
-    let a : Idle (suc spec.sessions) w = subst (λ s. OnStarted s (Idle (suc spec.sessions))) e (start-idle spec le) in
+    let a : IsIdle (suc spec.sessions) w = subst (λ s. OnStarted s (IsIdle (suc spec.sessions))) e (start-idle spec le) in
     a.count

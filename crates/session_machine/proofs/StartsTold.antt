@@ -19,7 +19,8 @@ use Rattle.session_machine.proofs.Solo.{go-solo}
 use Rattle.session_machine.proofs.Commute.{cases-eq}
 use Rattle.session_machine.proofs.FromQuiet.{together-fits}
 use Rattle.session_machine.proofs.Settles.{entering, session-there, session-other}
-use Rattle.session_machine.proofs.Starts.{Alone, Idle, OnStarted, first_world, first-steady, get_or-replicate, length_replicate, all-free, alone-goes, alone-forgets, idle-goes, idle-now, start-sound}
+use Rattle.session_machine.specs.Starting.{IsAlone, IsIdle}
+use Rattle.session_machine.proofs.Starts.{OnStarted, first_world, first-steady, get_or-replicate, length_replicate, all-free, alone-goes, alone-forgets, idle-goes, idle-now, start-sound}
 use Rattle.session_machine.proofs.Shown.{goes-shown, line-shown}
 use Rattle.session_machine.proofs.SerialLine.{goes-tells, told-touched, line-tells}
 
@@ -43,7 +44,7 @@ solo-clear s rows (Do st ∷ ts) = done (perform s rows st) (λ s2 rows2. solo-c
 
 -- ---- main setups
 
-alone-clear : (control n : ℕ) (w : World) (block : List Bound) → control < n → Alone control n w → ClearOutside (session_at (after_setup w control block) control)
+alone-clear : (control n : ℕ) (w : World) (block : List Bound) → control < n → IsAlone control n w → ClearOutside (session_at (after_setup w control block) control)
 alone-clear control n w block lt a =
     let s = session_at w control in
     let free = all-free (scene_of w) control (λ c r ne. ap (λ (x : Session). get x.held r) (a.others c ne) ∙ get-empty resource_order Mode r) a.idle (tasks_of block) in
@@ -58,7 +59,7 @@ no-or false true e = refl
 no-or false false e = cc
 
 record SetUp (control n : ℕ) (w : World) : Type 0 where
-  alone : Alone control n w
+  alone : IsAlone control n w
   clear : (session_at w control).overlay ≡ empty
   blank : (session_at w control).transcript ≡ []
 
@@ -99,7 +100,7 @@ told-first n control w a =
     clear : (c : ℕ) → (session_at w c).overlay ≡ empty
     clear c = ⊎_elim (λ k. ap (λ d. (session_at w d).overlay) k ∙ a.clear) (λ ne. ap (λ (s : Session). s.overlay) (a.alone.others c ne)) (cases-eq c control)
 
-sessions-told : (first : Rows') (n i : ℕ) (w : World) (blocks : List (List Bound)) (h : History) → i + length blocks ≤ n → Idle n w → Told first w h → OnStarted (session_setups i w blocks) (λ v. Told first v (session_setups_told i w blocks h))
+sessions-told : (first : Rows') (n i : ℕ) (w : World) (blocks : List (List Bound)) (h : History) → i + length blocks ≤ n → IsIdle n w → Told first w h → OnStarted (session_setups i w blocks) (λ v. Told first v (session_setups_told i w blocks h))
 sessions-told first n i w [] h le a told = told
 sessions-told first n i w (block ∷ blocks) h le a told =
     at (has_failed (session_at (after_setup w i block) i)) (waits_now (after_setup w i block).waits i) refl
@@ -167,7 +168,7 @@ forgot-goes w i block h lt x =
       count_ended = y.count_ended ∙ sym (length-set w2.sessions i s2);
     }
 
-sessions-forgot : (n i : ℕ) (w : World) (blocks : List (List Bound)) (h : History) → i + length blocks ≤ n → Idle n w → Forgot w h → OnStarted (session_setups i w blocks) (λ v. Forgot v (session_setups_told i w blocks h))
+sessions-forgot : (n i : ℕ) (w : World) (blocks : List (List Bound)) (h : History) → i + length blocks ≤ n → IsIdle n w → Forgot w h → OnStarted (session_setups i w blocks) (λ v. Forgot v (session_setups_told i w blocks h))
 sessions-forgot n i w [] h le a x = x
 sessions-forgot n i w (block ∷ blocks) h le a x =
     at (has_failed (session_at (after_setup w i block) i)) (waits_now (after_setup w i block).waits i) refl

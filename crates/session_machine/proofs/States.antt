@@ -146,3 +146,14 @@ same-undone i l t = record { overlays = λ c ne. overlay_of-undone i l c ∙ ap 
 
 pub same-kept : (i : ℕ) (l : Layers) (t : Locks) → SameOthers i l (kept i l) t t
 same-kept i l t = record { overlays = λ c ne. overlay_of-kept i l c ∙ ap (λ b. cond b empty (overlay_of c l)) (apart c i ne); held = λ c ne. refl }
+
+-- ---- the committed rows
+
+committed-wrote_each : (session : ℕ) (ws : List Write) (l : Layers) → (wrote_each session ws l).committed ≡ l.committed
+committed-wrote_each session [] l = refl
+committed-wrote_each session (w ∷ ws) l = committed-wrote_each session ws (wrote session w.place w.left l)
+
+-- a statement leaves the committed rows
+pub committed-left_by : (session : ℕ) (e : Effect) (l : Layers) → (left_by session e l).committed ≡ l.committed
+committed-left_by session (Gives events writes) l = committed-wrote_each session writes l
+committed-left_by session (Faults f) l = refl

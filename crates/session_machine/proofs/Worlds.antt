@@ -19,6 +19,7 @@ use Rattle.session_machine.specs.Go.{Run, taking}
 use Rattle.session_machine.specs.World.{scene_of, placed_back, goes, granted, settle, noted, send, look_of, session_at, World}
 use Rattle.sql_subset.specs.Spec.{Step, no_step}
 use Rattle.session_machine.specs.Sound.{Steady, UnderLocks}
+use Rattle.session_machine.specs.Stage.{IsWithin}
 use Rattle.session_machine.specs.State.{Own, no_own, session_of, sessions_from, world_of, SameOthers}
 use Rattle.session_machine.specs.Going.{Standing, tasks_from, IsScene, IsToGo, StopsIn}
 use Rattle.session_machine.proofs.Basics.{either_true, not_both}
@@ -26,12 +27,7 @@ use Rattle.session_machine.proofs.Steps.{tasks_from-start, still-under}
 use Rattle.session_machine.proofs.Kept.{under-empty}
 use Rattle.session_machine.proofs.States.{length-sessions_from, session_at-is, sessions-set, look-is, next-is, session-taken, same-taken, same-refl}
 use Rattle.session_machine.proofs.Settles.{Entering, entering, entering-granted, next-grant}
-use Rattle.session_machine.proofs.SettleSteps.{settle-none, settle-grant, next_in}
-
--- no session past these has an overlay or a lock, or waits
-pub record IsWithin (n : ℕ) (l : Layers) (t : Locks) : Type 0 where
-  pub overlays : (c : ℕ) → n ≤ c → overlay_of c l ≡ empty
-  pub below : IsBelow n t
+use Rattle.session_machine.proofs.SettleSteps.{settle-none, next_in}
 
 look-same : (i : ℕ) (l m : Layers) (t u : Locks) → SameOthers i l m t u → (c : ℕ) (r : Resource) → c ≢ i → look_in u c r ≡ look_in t c r
 look-same i l m t u same c r ne = sym (get-slice c u.held r) ∙ ap (λ h. get h r) (same.held c ne) ∙ get-slice c t.held r
@@ -90,14 +86,6 @@ granted-is l t owns s y below lt waiters stops =
     ∙ ap (λ x. goes (world_of l t1 owns) i x own.rest) session
     ∙ goes-is l t1 owns i (grant t s) (resumed_own own) own.rest y (record { holders = below.holders; waiters = waiters }) lt (same-taken l t1 i r m) refl stops
 
--- the first ripe wait is granted, and the world settles from there
-pub settles-on : (l : Layers) (t : Locks) (owns : List Own) (s : Spot) (y : Standing) → IsBelow (length owns) t → Steady (world_of l t owns) → IsNext t s → s.wait.session < length owns → EachWait (λ w. w.session < length owns) (s.before ++ s.after)
-    → StopsIn s.wait.session (record { layers = l; locks = grant t s; own = resumed_own (get_or owns s.wait.session no_own) }) (get_or owns s.wait.session no_own).rest y
-    → settle (world_of l t owns) ≡ settle (world_of y.layers y.locks (set owns s.wait.session y.own))
-settles-on l t owns s y below steady next lt waiters stops =
-    settle-grant (world_of l t owns) s steady (next-is l t owns below ∙ (tests-decide (length owns) t below).next s next)
-    ∙ ap settle (granted-is l t owns s y below lt waiters stops)
-
 -- ---- what lets a session go on
 
 -- every other session writes under its locks
@@ -151,17 +139,23 @@ module _ (steps : List Step) (l : Layers) (t : Locks) (owns : List Own) (k : ℕ
       ∙ ap (λ (s : Session). settle (goes (world_of l t owns) sender (note s (Sent k)) ts)) (session_at-is l t owns sender lt)
       ∙ ap settle (goes-is l t owns sender t (own_told its_own (Sent k)) ts y below lt (same-refl sender l t) refl stops)
 
+  -- it enters the world with the statements of the step
+  pub sent-enters : Steady (world_of l t owns) → sender < length owns → waits_now t.waits sender ≡ false
+      → Entering (world_of l t owns) sender (session_of l t sender (own_told its_own (Sent k))) (tasks_of (get_or steps k no_step).statements)
+  sent-enters steady lt idle =
+      let own = own_told its_own (Sent k) in
+      let w = world_of l t owns in
+      let at : session_at w sender ≡ session_of l t sender its_own = session_at-is l t owns sender lt in
+      let known' : sender < length w.sessions = subst (λ n. sender < n) (sym (length-sessions_from l t 0 owns)) lt in
+      entering w sender (session_of l t sender own) (get_or steps k no_step).statements steady known' idle (sym (ap (λ (s : Session). s.held) at)) (sym (ap (λ (s : Session). s.overlay) at))
+
   -- it is to go on with the statements of the step
   pub sent-to-go : IsWithin (length owns) l t → Steady (world_of l t owns) → sender < length owns → waits_now t.waits sender ≡ false → IsToGo sender l t (get_or steps k no_step).statements 0 0
   sent-to-go within steady lt idle =
       let sts = (get_or steps k no_step).statements in
       let own = own_told its_own (Sent k) in
-      let w = world_of l t owns in
-      let at : session_at w sender ≡ session_of l t sender its_own = session_at-is l t owns sender lt in
-      let known' : sender < length w.sessions = subst (λ n. sender < n) (sym (length-sessions_from l t 0 owns)) lt in
       to-go l t owns sender t own sts 0 0 within (same-refl sender l t) refl
-      (subst (Entering w sender (session_of l t sender own)) (sym (tasks_from-start sts))
-      (entering w sender (session_of l t sender own) sts steady known' idle (sym (ap (λ (s : Session). s.held) at)) (sym (ap (λ (s : Session). s.overlay) at))))
+      (subst (Entering (world_of l t owns) sender (session_of l t sender own)) (sym (tasks_from-start sts)) (sent-enters steady lt idle))
 
 -- a session whose wait is granted is to go on with what is left of its step
 pub granted-to-go : (l : Layers) (t : Locks) (owns : List Own) (s : Spot) (sts : List Bound) (k n : ℕ) → IsWithin (length owns) l t → Steady (world_of l t owns) → IsNext t s → s.wait.session < length owns

@@ -1,5 +1,5 @@
 -- A session that goes, where its overlay lies in a store and its modes in a lock table.
-use Rattle.std.specs.Prelude.{◌≡◌, ◌≢◌, ℕ, ◌<◌, ◌≤◌, ◌+◌, false, length, List, [], ◌∷◌, ◌++◌, drop, Option, Some, None}
+use Rattle.std.specs.Prelude.{◌≡◌, ◌≢◌, ℕ, ◌<◌, ◌≤◌, ◌+◌, Bool, true, false, length, List, [], ◌∷◌, ◌++◌, drop, Option, Some, None}
 use Rattle.lock_modes.specs.declared.mode.Mode.{Mode}
 use Rattle.lock_modes.specs.declared.resource.Resource.{Resource}
 use Rattle.lock_queues.specs.Locks.{waits_now}
@@ -128,6 +128,11 @@ commits_by Broken i x = rolls_back_in i x
 abbrev pub commits_in : ℕ → Standing → Standing
 commits_in i x = commits_by x.own.status i x
 
+-- whether the session waits now; nobody else begins to wait or stops
+pub record WaitsIf (i : ℕ) (t u : Locks) (waits : Bool) : Type 0 where
+  pub own : waits_now u.waits i ≡ waits
+  pub others : (c : ℕ) → c ≢ i → waits_now u.waits c ≡ waits_now t.waits c
+
 -- ---- what the calls for one statement promise
 
 -- the statement, whose requests are had, leaves the session there, or it fails and so does the step
@@ -154,6 +159,12 @@ Asks i t s st n u Had = (l : Layers) (ts : List Task) → GoesOnTo i (standing l
 Asks i t s st n u (Waits k) = (l : Layers) (ts : List Task) → StopsIn i (standing l t s) (asks (drop n (plan st)) ts) (waits_at l u s st k ts)
 Asks i t s st n u (Refused f) = (l : Layers) (ts : List Task) → StopsIn i (standing l t s) (asks (drop n (plan st)) ts) (failed_in i (standing l u s) f)
 
+-- a request that waits has a number below 255, and its session waits now; nobody else begins to wait or stops
+abbrev pub Queues : ℕ → Locks → Locks → Asked → Type 0
+Queues i t u Had = u.waits ≡ t.waits
+Queues i t u (Waits k) = (k < 255) × WaitsIf i t u true
+Queues i t u (Refused f) = u.waits ≡ t.waits
+
 -- then it holds all that the statement asks for
 abbrev pub HasAll : ℕ → Locks → Bound → Asked → Type 0
 HasAll i u st Had = HoldsAll (slice i u.held) (plan st)
@@ -161,10 +172,6 @@ HasAll i u st (Waits k) = Unit {0}
 HasAll i u st (Refused f) = Unit {0}
 
 -- ---- what the call for a step promises
-
--- a statement asks for no more than a byte can count
-abbrev pub IsShort : Bound → Type 0
-IsShort st = length (plan st) ≤ 255
 
 -- the session is to go on with statements from a request of one of them
 pub record IsToGo (i : ℕ) (l : Layers) (t : Locks) (sts : List Bound) (k n : ℕ) : Type 0 where
@@ -174,11 +181,11 @@ pub record IsToGo (i : ℕ) (l : Layers) (t : Locks) (sts : List Bound) (k n : �
   pub holds : HoldsAll (slice i t.held) have
   pub backed : Backed have (tasks_from (drop k sts) n)
 
--- where it stands that waits for a request of one of the statements
+-- where it stands that is to go on from a request of one of the statements
 abbrev pub paused : Layers → Locks → SessionState → List Bound → Point → Standing
-paused l t s sts p = record { layers = l; locks = t; own = record { status = s.status; rest = tasks_from (drop p.statement sts) (p.request + 1); transcript = s.transcript } }
+paused l t s sts p = record { layers = l; locks = t; own = record { status = s.status; rest = tasks_from (drop p.statement sts) p.request; transcript = s.transcript } }
 
--- the step ends there, or a request of it waits
+-- the step ends there, or a request of it waits, behind which it is to go on
 abbrev pub GoesUntil : ℕ → Standing → List Bound → Point → Layers → Locks → SessionState → Option Point → Type 0
 GoesUntil i x sts from m u s None = StopsIn i x (tasks_from (drop from.statement sts) from.request) (standing m u s)
 GoesUntil i x sts from m u s (Some p) = StopsIn i x (tasks_from (drop from.statement sts) from.request) (paused m u s sts p)

@@ -9,8 +9,8 @@ pub mod Books
 pub mod Swap
 pub mod Serial
 pub mod Laws
-pub mod Transaction
 pub mod Running
 pub mod State
 pub mod Going
-pub mod Idle
+pub mod Stage
+pub mod Starting

@@ -1,12 +1,16 @@
 -- A world of a spec as the program holds it, and what its calls answer.
-use Rattle.std.specs.Prelude.{◌≡◌, ℕ, Bool, List, Option, Some, None, Result, Err}
+use Rattle.std.specs.Prelude.{◌≡◌, ℕ, Bool, true, false, ◌==◌, List, length, All, Option, Some, None}
+use Rattle.std.specs.Option.{option_map}
+use Rattle.std.specs.List.{find}
 use Rattle.sql_subset.specs.Spec.{Spec, SpecFile}
 use Rattle.transcripts.specs.declared.event.Event.{Event}
-use Rattle.row_tables.specs.Overlay.{Rows'}
-use Rattle.session_machine.specs.World.{World, send_all, outcome_of}
+use Rattle.lock_modes.specs.declared.mode.Mode.{Mode}
+use Rattle.lock_modes.specs.declared.resource.Resource.{Resource}
+use Rattle.lock_queues.specs.declared.wait.Wait.{Wait}
+use Rattle.lock_queues.specs.Locks.{wanted_by}
+use Rattle.transcripts.specs.Outcome.{HasStep}
+use Rattle.session_machine.specs.World.{World, look_of, send_all, outcome_of}
 use Rattle.session_machine.specs.Start.{Start, Started, SetupFailed, SessionSetupFailed, SessionSetupWaits, start}
-use Rattle.session_machine.specs.declared.transaction.SetUpError.{SetUpError}
-use Rattle.session_machine.specs.declared.transaction.SetUpError.TheVariants as set_up_error
 use Rattle.session_machine.specs.declared.error.StartError.{StartError}
 use Rattle.session_machine.specs.declared.error.StartError.TheVariants as start_error
 use Rattle.session_machine.specs.declared.error.RunError.{RunError}
@@ -18,19 +22,18 @@ pub record Running : Type 0 where
   pub world : World
   pub spent : Bool
 
--- setups stop at that block, unless memory ran out
-abbrev pub StopsAt : SetUpError → Result Rows' ℕ → Type 0
-StopsAt (set_up_error.Failed n) r = r ≡ Err n
-StopsAt set_up_error.NoMemory r = Unit {0}
+-- there is a transcript for each session, and each step that it names is one of the spec
+pub record IsTold (sessions steps : ℕ) (transcripts : List (List Event)) : Type 0 where
+  pub each : length transcripts ≡ sessions
+  pub named : All (All (HasStep steps)) transcripts
 
--- setups that stop are a start that is refused
-abbrev pub setup_failed : SetUpError → StartError
-setup_failed (set_up_error.Failed n) = start_error.SetupFailed n
-setup_failed set_up_error.NoMemory = start_error.NoMemory
+-- what a session holds there; of a world that is spent nothing is told
+abbrev pub held_in : Running → ℕ → Resource → Option Mode
+held_in r i at = elim r.spent [ true ↦ None | false ↦ look_of r.world i at ]
 
-abbrev pub session_setup_failed : SetUpError → StartError
-session_setup_failed (set_up_error.Failed i) = start_error.SessionSetupFailed i
-session_setup_failed set_up_error.NoMemory = start_error.NoMemory
+-- what a session waits for, with the mode that it is to get there; of a world that is spent nothing is told
+abbrev pub wait_in : Running → ℕ → Option (Resource × Mode)
+wait_in r i = elim r.spent [ true ↦ None | false ↦ option_map (λ (v : Wait). (v.resource, wanted_by (look_of r.world) v)) (find (λ (v : Wait). v.session == i) r.world.waits) ]
 
 -- the spec does not start for that reason, unless memory ran out
 abbrev pub IsRefusedBy : StartError → Start → Type 0

@@ -1,8 +1,8 @@
 //! The requests of a statement.
 
-ghost use Rattle.std.specs.Prelude.{◌≤◌, length, IfOk};
-ghost use Rattle.sql_statements.specs.Plan.{plan, HasKeys};
-ghost use Rattle.session_machine.specs.Going.{IsToAsk, Asks, HasAll};
+ghost use Rattle.std.specs.Prelude.{IfOk};
+ghost use Rattle.sql_statements.specs.Plan.{HasKeys, IsShort};
+ghost use Rattle.session_machine.specs.Going.{IsToAsk, Asks, HasAll, Queues};
 
 use crate::session::SessionState;
 use lock_queues::{Answer, LockTable};
@@ -30,9 +30,10 @@ pub(crate) fn ask_all(
     first: u8,
 ) -> Result<Asked, AllocError>
     requires keys { HasKeys statement.now }
-    requires short { length (plan statement.now) ≤ 255 }
+    requires short { IsShort statement.now }
     requires ready { IsToAsk session locks.old statement.now first }
     ensures asks { IfOk result (Asks session locks.old state.now statement.now first locks.new) }
+    ensures waits { IfOk result (Queues session locks.old locks.new) }
     ensures holds { IfOk result (HasAll session locks.new statement.now) }
 {
     for number in first..u8::MAX {

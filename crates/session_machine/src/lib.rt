@@ -5,13 +5,15 @@ mod asking;
 mod blocks;
 mod error;
 mod laws;
+mod member;
 mod performing;
 mod runs;
 mod session;
+mod stage;
+mod starting;
 mod stepping;
 #[cfg(test)]
 mod tests;
-mod transaction;
 mod world;
 
 pub use error::{RunError, SendError, StartError};

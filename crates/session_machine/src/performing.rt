@@ -1,6 +1,6 @@
 //! What a statement does whose requests are had.
 
-ghost use Rattle.std.specs.Prelude.{◌≡◌, ◌⊎◌, false, IfOk};
+ghost use Rattle.std.specs.Prelude.{◌≡◌, ◌⊎◌, false, IfOk, OnOk};
 ghost use Rattle.lock_queues.specs.Locks.{waits_now};
 ghost use Rattle.lock_queues.specs.LockTable.{Locks};
 ghost use Rattle.statement_effects.specs.Run.{SeesAlone};
@@ -27,7 +27,8 @@ pub(crate) fn perform(
 ) -> Result<Option<Fault>, AllocError>
     requires idle { waits_now locks.old.waits session ≡ false }
     requires alone { SeesAlone session statement.now store.old }
-    ensures { IfOk result (Does session (standing store.old locks.old state.old) statement.now (standing store.new locks.new state.new)) }
+    ensures does { IfOk result (Does session (standing store.old locks.old state.old) statement.now (standing store.new locks.new state.new)) }
+    ensures waits { OnOk result (locks.new.waits ≡ locks.old.waits) }
 {
     match statement {
         Bound::Commit => {

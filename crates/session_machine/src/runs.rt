@@ -3,8 +3,7 @@
 ghost use Rattle.std.specs.Prelude.{◌≡◌, ◌<◌, ℕ, Some, false, All, IfOk, IfErr, OnOk, length};
 ghost use Rattle.session_machine.specs.Start.{Start, start};
 ghost use Rattle.session_machine.specs.World.{send_all};
-ghost use Rattle.session_machine.specs.Idle.{IsTold};
-ghost use Rattle.session_machine.specs.Running.{IsRefusedBy, IsNotRunBy, outcome_of_line};
+ghost use Rattle.session_machine.specs.Running.{IsTold, IsRefusedBy, IsNotRunBy, outcome_of_line};
 
 use crate::error::{RunError, SendError, StartError};
 use crate::world::World;

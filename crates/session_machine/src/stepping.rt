@@ -1,8 +1,8 @@
 //! A session goes on in its step until it ends or a request waits.
 
-ghost use Rattle.std.specs.Prelude.{All, IfOk};
-ghost use Rattle.sql_statements.specs.Plan.{HasKeys};
-ghost use Rattle.session_machine.specs.Going.{standing, IsShort, IsToGo, GoesUntil};
+ghost use Rattle.std.specs.Prelude.{◌≡◌, All, IfOk, is_some};
+ghost use Rattle.sql_statements.specs.Plan.{HasKeys, IsShort};
+ghost use Rattle.session_machine.specs.Going.{standing, IsToGo, GoesUntil, WaitsIf};
 
 use crate::asking::{Asked, ask_all};
 use crate::blocks::{fail, finish};
@@ -21,7 +21,20 @@ pub(crate) struct Point {
     pub(crate) request: u8,
 }
 
-/// Goes on with statements from a request of one of them, and returns the request that waits, if one does. A fault ends the step.
+impl Point {
+    /// The first request of the first statement.
+    pub(crate) fn start() -> Point
+        ensures { result ≡ record { statement = 0; request = 0 } }
+    {
+        Point {
+            statement: 0,
+            request: 0,
+        }
+    }
+}
+
+/// Goes on with statements from a request of one of them. Where a request waits, it returns the place behind it, from which the
+/// session goes on once it is had. A fault ends the step.
 pub(crate) fn go_on(
     alloc: Global,
     store: &mut Store,
@@ -34,7 +47,8 @@ pub(crate) fn go_on(
     requires keys { All HasKeys statements.now }
     requires short { All IsShort statements.now }
     requires ready { IsToGo session store.old locks.old statements.now from.statement from.request }
-    ensures { IfOk result (GoesUntil session (standing store.old locks.old state.old) statements.now from store.new locks.new state.new) }
+    ensures goes { IfOk result (GoesUntil session (standing store.old locks.old state.old) statements.now from store.new locks.new state.new) }
+    ensures waits { IfOk result (λ stopped. WaitsIf session locks.old locks.new (is_some stopped)) }
 {
     let mut request = from.request;
     for number in from.statement..statements.len() {
@@ -45,7 +59,7 @@ pub(crate) fn go_on(
                 state.transcript.push(Event::Waiting)?;
                 return Ok(Some(Point {
                     statement: number,
-                    request,
+                    request: request + 1,
                 }));
             }
             Asked::Refused(fault) => {

@@ -1,20 +1,22 @@
-//! A world of a spec: committed rows, and what each session was told.
+//! A world of a spec: its rows, its locks, and what each session was told.
 
-ghost use Rattle.std.specs.Prelude.{replicate, IfErr, All, ◌≡◌, ◌<◌, ◌≤◌, ◌↔◌, ◌++◌, ◌∷◌, [], ℕ, true, false, IfOk, OnOk, OnErr, IsErrOf, MatchResult, length, get_or, map, take};
-ghost use Rattle.sql_subset.specs.Spec.{no_step, RunsToday};
-ghost use Rattle.session_machine.specs.World.{World as spec_world, send, outcome_of};
+ghost use Rattle.std.specs.Prelude.{◌≡◌, ◌<◌, ◌↔◌, true, false, length, IfOk, IfErr, OnOk, OnErr, IsErrOf};
+ghost use Rattle.std.specs.Option.{option_map};
+ghost use Rattle.lock_modes.specs.Resource.{resource_at};
+ghost use Rattle.session_machine.specs.World.{send, outcome_of};
 ghost use Rattle.session_machine.specs.Start.{Started, start};
-ghost use Rattle.session_machine.specs.Transaction.{transacted, told_by, rows_after};
-ghost use Rattle.session_machine.specs.Idle.{IsTold, IsCommitted};
-ghost use Rattle.session_machine.specs.Running.{IsRefusedBy, setup_failed, session_setup_failed};
+ghost use Rattle.session_machine.specs.Stage.{transcripts_of};
+ghost use Rattle.session_machine.specs.Running.{IsTold, IsRefusedBy, held_in, wait_in};
 
 use crate::error::{SendError, StartError};
-use crate::transaction::{SetUpError, main_setups, run_block, session_setups};
-use row_tables::Store;
+use crate::member::Member;
+use crate::stage::Stage;
+use crate::starting::{main_setups, session_setups};
+use lock_modes::{Mode, Place};
 use sql_subset::Spec;
 use std::alloc::{AllocError, Global};
 use std::marker::Model;
-use transcripts::{Event, Log, Outcome, Transcript};
+use transcripts::{Outcome, Transcript};
 use version_tree::Fork;
 
 /// The sequential machine over a spec. Contracts see the spec, the world and whether it is spent.
@@ -22,13 +24,11 @@ use version_tree::Fork;
 pub struct World<'a> {
     spec: &'a Spec,
     alloc: Global,
-    store: Store,
-    transcripts: Vec<Log>,
+    stage: Stage,
     is_spent: bool,
 }
 
 impl<'a> Model for World<'a> {
-    ghost use Rattle.std.specs.Prelude.{◌≡◌, [], ◌∷◌, ◌++◌, length};
     ghost use Rattle.std.specs.Coded.{codes};
     ghost use Rattle.version_tree.specs.Codes.{map_code};
     ghost use Rattle.lock_modes.specs.contracts.value.Value as value;
@@ -36,17 +36,16 @@ impl<'a> Model for World<'a> {
     ghost use Rattle.lock_queues.specs.contracts.wait.Wait as waiting;
     ghost use Rattle.sql_statements.specs.contracts.statement.Bound as bound;
     ghost use Rattle.transcripts.specs.contracts.event.Event as event;
-    ghost use Rattle.session_machine.specs.Idle.{idle_world, IsAtRestUnless};
+    ghost use Rattle.session_machine.specs.Stage.{world_in, IsSettledUnless};
     ghost use Rattle.session_machine.specs.Running.{Running};
 
     ghost Value = { Running };
 
     ghost coded = { Prim.hlevel (codes, map_code, value.the_row.coded, bound.the_row.coded, resource.the_row.coded, waiting.the_row.coded, event.the_row.coded) };
 
-    // The last transcript is that of the control session, which is told nothing once the setups are run.
-    ghost view = { λ w. record { file = w.spec.now; world = idle_world w.store.committed (w.transcripts.items ++ [] ∷ []); spent = w.is_spent } };
+    ghost view = { λ w. record { file = w.spec.now; world = world_in w.spec.now.run.steps w.stage; spent = w.is_spent } };
 
-    ghost invariant = { λ w. IsAtRestUnless w.is_spent w.spec.now.run.sessions (length w.spec.now.run.steps) w.transcripts.items w.store };
+    ghost invariant = { λ w. IsSettledUnless w.is_spent w.spec.now.run.sessions w.spec.now.run.steps w.stage };
 }
 
 impl<'a> World<'a> {
@@ -57,30 +56,47 @@ impl<'a> World<'a> {
         ensures whole { IfOk result (λ world. world.spent ≡ false) }
         ensures refused { IfErr result (λ error. IsRefusedBy error (start spec.now.run)) }
     {
-        let mains = spec.setups();
-        let own = spec.session_setups();
         let control = spec.sessions();
-        let store = match main_setups(alloc, Store::new(alloc), control, mains) {
-            Ok(store) => store,
-            Err(error) => return Err(setup_failed(error)),
-        };
-        let store = match session_setups(alloc, store, own) {
-            Ok(store) => store,
-            Err(error) => return Err(session_setup_failed(error)),
-        };
-        let transcripts = blank_transcripts(alloc, control)?;
+        let own = spec.session_setups();
+        let stage = Stage::new(alloc, control + 1)?;
+        let stage = main_setups(alloc, stage, control, spec.setups())?;
+        let stage = session_setups(alloc, stage, own)?;
         Ok(World {
             spec,
             alloc,
-            store,
-            transcripts,
+            stage,
             is_spent: false,
         })
+    }
+
+    /// An equal world, which shares rows, locks and transcripts with this one. Each goes on alone.
+    pub fn fork(&self) -> Result<World<'a>, SendError>
+        ensures same { IfOk result (λ world. world ≡ self.now) }
+        ensures spent { IsErrOf result SendError.Spent ↔ (self.now.spent ≡ true) }
+    {
+        if self.is_spent {
+            return Err(SendError::Spent);
+        }
+        Ok(World {
+            spec: self.spec,
+            alloc: self.alloc,
+            stage: self.stage.fork()?,
+            is_spent: false,
+        })
+    }
+
+    /// The spec that the world is of.
+    pub fn spec(&self) -> &'a Spec
+        ensures { result.now ≡ self.now.file }
+    {
+        self.spec
     }
 }
 
 impl World<'_> {
-    /// Sends a step: its statements are one transaction over the committed rows. After a refusal the world is spent.
+    /// Sends a step. A session that waits is not sent it. Else its statements run in order, until the step ends, a request
+    /// waits or a fault ends it; then the waits that are ripe are granted in turn, and their sessions go on. After want of
+    /// memory the world is spent.
     pub fn send(&mut self, step: u8) -> Result<(), SendError>
         requires { step < length self.old.file.run.steps }
         ensures sent { OnOk result (self.new.world ≡ send self.old.file.run.steps self.old.world step) }
@@ -93,9 +109,7 @@ impl World<'_> {
             return Err(SendError::Spent);
         }
         self.is_spent = true;
-        let session = self.spec.session_of(step);
-        let transcript = &mut self.transcripts[session as usize];
-        tell_step(self.alloc, &mut self.store, self.spec, step, transcript)?;
+        self.stage.send(self.alloc, self.spec, step)?;
         self.is_spent = false;
         Ok(())
     }
@@ -109,71 +123,46 @@ impl World<'_> {
         if self.is_spent {
             return Err(SendError::Spent);
         }
-        let transcripts = transcripts_of(self.alloc, &self.transcripts)?;
+        let sessions = self.spec.sessions() as usize;
+        let transcripts = transcripts_of(self.alloc, &self.stage.members[..sessions])?;
         Ok(Outcome::new(self.alloc, transcripts)?)
     }
-}
 
-/// Runs a step as one transaction of its session and tells the session of it.
-fn tell_step(
-    alloc: Global,
-    store: &mut Store,
-    spec: &Spec,
-    step: u8,
-    transcript: &mut Log,
-) -> Result<(), AllocError>
-    requires known { step < length spec.now.run.steps }
-    requires committed { IsCommitted store.old }
-    ensures rows { OnOk result (store.new.committed ≡ rows_after store.old.committed (transacted store.old.committed (get_or spec.now.run.steps step no_step).statements).left) }
-    ensures committed { OnOk result (IsCommitted store.new) }
-    ensures told { OnOk result (transcript.new ≡ told_by transcript.old step (transacted store.old.committed (get_or spec.now.run.steps step no_step).statements)) }
-    ensures today { All RunsToday (get_or spec.now.run.steps step no_step).statements }
-{
-    let session = spec.session_of(step);
-    let statements = spec.statements(step);
-    transcript.push(Event::Sent(step))?;
-    run_block(alloc, store, session, statements, transcript)?;
-    transcript.push(Event::Done)
-}
+    /// Whether an earlier step was refused memory.
+    pub fn spent(&self) -> bool
+        ensures { result ≡ self.now.spent }
+    {
+        self.is_spent
+    }
 
-/// A main setup block fails.
-fn setup_failed(error: SetUpError) -> StartError
-    ensures { result ≡ setup_failed error }
-{
-    match error {
-        SetUpError::Failed(block) => StartError::SetupFailed { block },
-        SetUpError::NoMemory => StartError::NoMemory,
+    /// The mode that a session holds at a place. A spent world tells of none.
+    pub fn holds(&self, session: u8, place: Place<'_>) -> Option<Mode>
+        ensures { result ≡ held_in self.now session (resource_at place.entry) }
+    {
+        if self.is_spent {
+            return None;
+        }
+        self.stage.locks.holds(session, place)
+    }
+
+    /// What a session waits for, with the mode that it is to get there. A spent world tells of no wait.
+    pub fn wait_of(&self, session: u8) -> Option<(Place<'_>, Mode)>
+        ensures { option_map (λ p. (resource_at p.0, p.1)) result ≡ wait_in self.now session }
+    {
+        if self.is_spent {
+            return None;
+        }
+        self.stage.locks.wait_of(session)
     }
 }
 
-/// The setup of a session fails.
-fn session_setup_failed(error: SetUpError) -> StartError
-    ensures { result ≡ session_setup_failed error }
+/// A transcript of each session.
+fn transcripts_of(alloc: Global, members: &[Member]) -> Result<Vec<Transcript>, AllocError>
+    ensures { IfOk result (λ transcripts. transcripts.items ≡ transcripts_of members.now) }
 {
-    match error {
-        SetUpError::Failed(session) => StartError::SessionSetupFailed { session },
-        SetUpError::NoMemory => StartError::NoMemory,
-    }
-}
-
-/// A transcript of each log.
-fn transcripts_of(alloc: Global, logs: &[Log]) -> Result<Vec<Transcript>, AllocError>
-    ensures { IfOk result (λ transcripts. transcripts.items ≡ logs.now) }
-{
-    let mut transcripts = Vec::with_capacity(alloc, logs.len())?;
-    for log in logs {
-        transcripts.push(log.to_transcript()?)?;
-    }
-    Ok(transcripts)
-}
-
-/// So many transcripts without events.
-fn blank_transcripts(alloc: Global, count: u8) -> Result<Vec<Log>, AllocError>
-    ensures { IfOk result (λ transcripts. transcripts.items ≡ replicate count []) }
-{
-    let mut transcripts = Vec::with_capacity(alloc, count as usize)?;
-    for _session in 0..count {
-        transcripts.push(Log::new(alloc))?;
+    let mut transcripts = Vec::with_capacity(alloc, members.len())?;
+    for member in members {
+        transcripts.push(member.state.transcript.to_transcript()?)?;
     }
     Ok(transcripts)
 }

@@ -1,13 +1,16 @@
 use Rattle.std.proofs.lemmas.List.{drop_all}
-use Rattle.std.proofs.Common.{◌+◌, ◌≤◌, sym, ap, ◌∙◌, subst, drop, length, arith}
+use Rattle.std.proofs.Common.{◌+◌, ◌≤◌, sym, ap, ◌∙◌, subst, drop, [], true, length, arith}
 use Rattle.lock_modes.specs.Resource.{resource_at}
 use Rattle.lock_queues.specs.Rules.{IsAnswer, after}
 use Rattle.lock_queues.specs.declared.answer.Answer.TheVariants.{Granted, Waits, Ring}
 use Rattle.sql_statements.specs.Plan.{request, plan}
 use Rattle.transcripts.specs.declared.event.Fault.TheVariants.{Aborted, Deadlock}
+use Rattle.lock_queues.specs.LockTable.{Locks, queued}
+use Rattle.row_tables.specs.Layers.{no_rows}
 use Rattle.session_machine.specs.Session.{asks}
-use Rattle.session_machine.specs.Going.{standing, failed_in, waits_at, GoesOnTo, StopsIn, IsToAsk}
+use Rattle.session_machine.specs.Going.{standing, failed_in, waits_at, GoesOnTo, StopsIn, IsToAsk, WaitsIf}
 use Rattle.session_machine.proofs.Moves.{goes-on-on, goes-on-stops, had, waits-there, closes-ring, asks-broken}
+use Rattle.session_machine.proofs.Waiting.{queued-waits, waits-from}
 use Rattle.session_machine.proofs.Requests.{plan-ends, plan-next, next-to-ask, all-asked}
 use Rattle.session_machine.proofs.asking.ask_all.Goals as goal
 
@@ -70,6 +73,32 @@ returns-then-is_broken-clause-asks c = λ l ts.
     let x = standing l t s in
     let stop = subst (λ qs. StopsIn i x (asks qs ts) (failed_in i x Aborted)) (sym here) (asks-broken i x r m rest (sym c.if-is_broken.ensures) c.loop-number.invariant.ready.idle) in
     goes-on-stops i (standing l c.args.locks.now s) x (failed_in i x Aborted) (asks (drop c.args.first (plan st)) ts) (asks (drop n (plan st)) ts) (c.loop-number.invariant.had l ts) stop
+
+-- who waits is as it was
+pub returns-in_default-clause-waits : goal.returns-in_default-clause-waits
+returns-in_default-clause-waits c = (c.loop-number.invariant.had no_rows []).waits
+
+pub returns-clause-waits : goal.returns-clause-waits
+returns-clause-waits c = (c.loop-number.invariant.had no_rows []).waits
+
+pub returns-then-is_broken-clause-waits : goal.returns-then-is_broken-clause-waits
+returns-then-is_broken-clause-waits c = (c.loop-number.invariant.had no_rows []).waits
+
+pub returns-in-Ring-clause-waits : goal.returns-in-Ring-clause-waits
+returns-in-Ring-clause-waits c =
+    let r = resource_at c.in-Some.place in
+    let m = c.in-Some.mode in
+    ap (λ (u : Locks). u.waits) (c.in_ok-ask.ensures.change ∙ ap (after c.loop-number.locks c.args.session r m) c.in-Ring.is) ∙ (c.loop-number.invariant.had no_rows []).waits
+
+-- or this session waits too
+pub returns-in-Waits-clause-waits : goal.returns-in-Waits-clause-waits
+returns-in-Waits-clause-waits c =
+    let i = c.args.session in
+    let t = c.loop-number.locks in
+    let r = resource_at c.in-Some.place in
+    let m = c.in-Some.mode in
+    let change = c.in_ok-ask.ensures.change ∙ ap (after t i r m) c.in-Waits.is in
+    (c.loop-number-test.true, subst (λ u. WaitsIf i c.args.locks.now u true) (sym change) (waits-from i c.args.locks.now t (queued t i r m) true (c.loop-number.invariant.had no_rows []).waits (queued-waits t i r m)))
 
 -- the request waits
 pub returns-in-Waits-clause-asks : goal.returns-in-Waits-clause-asks

@@ -1,6 +1,7 @@
 use Rattle.std.proofs.Common.{◌≡◌, take}
+use Rattle.session_machine.specs.Stage.{transcripts_of}
 use Rattle.session_machine.proofs.world.transcripts_of.Given as goal
 
--- the transcripts so far
-abbrev pub invariant-loop-log : goal.invariant-loop-log
-invariant-loop-log l = l.transcripts.items ≡ take l.log-index l.logs
+-- the transcripts of the sessions so far
+abbrev pub invariant-loop-member : goal.invariant-loop-member
+invariant-loop-member l = l.transcripts.items ≡ transcripts_of (take l.member-index l.members)

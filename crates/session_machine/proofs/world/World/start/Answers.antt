@@ -1,41 +1,52 @@
-use Rattle.std.proofs.Common.{sym, ap, ◌∙◌, subst, length, ◌++◌, ◌∷◌, [], replicate}
-use Rattle.sql_subset.specs.Spec.{AllRunToday}
-use Rattle.session_machine.specs.Transaction.{set_up_from}
-use Rattle.session_machine.specs.Start.{Started, start}
-use Rattle.session_machine.specs.Idle.{IsCommitted, idle_world}
-use Rattle.session_machine.specs.Running.{StopsAt, IsRefusedBy}
-use Rattle.session_machine.proofs.Overlays.{no_rows-committed}
-use Rattle.session_machine.proofs.PlainStart.{TodaySpec, start-setup-fails, start-session-fails, start-starts}
+use Rattle.std.proofs.lemmas.Result.{err_from_is_err_and}
+use Rattle.std.proofs.Common.{◌≡◌, sym, ap, ◌∙◌, subst, suc, [], length, add-one}
+use Rattle.session_machine.specs.Start.{Started, main_setups, session_setups, start}
+use Rattle.session_machine.specs.Running.{IsRefusedBy}
+use Rattle.session_machine.specs.Stage.{world_in, IsBlank}
+use Rattle.session_machine.specs.Starting.{IsReadyForSessions}
+use Rattle.session_machine.proofs.SetUps.{any-steps, ready-for-mains}
+use Rattle.session_machine.proofs.Setting.{refused-mains, start-sessions, refused-sessions, settled-first}
 use Rattle.session_machine.proofs.world.World.start.Goals as goal
 
--- nothing is written in a new store
-pub main_setups-requires : goal.main_setups-requires
-main_setups-requires c = subst IsCommitted (sym c.new.ensures) no_rows-committed
+pub main_setups-requires-clause-ready : goal.main_setups-requires-clause-ready
+main_setups-requires-clause-ready c = ready-for-mains c.sessions-control.result c.in_ok-stage.stage (subst (λ n. IsBlank n c.in_ok-stage.stage) (add-one c.sessions-control.result) c.in_ok-stage.ensures)
 
--- a main setup block fails
-pub returns-in-Err-clause-refused : goal.returns-in-Err-clause-refused
-returns-in-Err-clause-refused c =
+pub returns-in_err-stage-2-clause-refused : goal.returns-in_err-stage-2-clause-refused
+returns-in_err-stage-2-clause-refused c =
     let run = c.args.spec.now.run in
-    let today : TodaySpec run = record { setups = subst AllRunToday c.setups-mains.ensures.are c.setups-mains.ensures.today; sessions = subst AllRunToday c.session_setups-own.ensures.are c.session_setups-own.ensures.today; each = ap length (sym c.session_setups-own.ensures.are) ∙ c.session_setups-own.ensures.each } in
-    subst (λ e. IsRefusedBy e (start run)) (sym c.setup_failed.ensures)
-    (start-setup-fails run today c.in-Err.error (subst (StopsAt c.in-Err.error) (λ i. set_up_from 0 (c.new.ensures i).committed (c.setups-mains.ensures.are i)) c.in-Err.ensures.stops))
+    let x = c.in_ok-stage.stage in
+    let count = c.sessions-control.ensures.count in
+    let p = err_from_is_err_and c.from_residual-in_err-stage-2.result c.from_residual-in_err-stage-2.ensures.1 in
+    let blank : IsBlank (suc run.sessions) x = subst (λ n. IsBlank n x) (add-one c.sessions-control.result ∙ ap suc count) c.in_ok-stage.ensures in
+    rw (p.1, p.2)
+    (refused-mains run x c.in_err-stage-2.field-0.0 blank
+    (subst (λ bs. IsRefusedBy c.in_err-stage-2.field-0.0 (main_setups run.sessions 0 (world_in [] x) bs)) c.setups.ensures.are (subst (λ n. IsRefusedBy c.in_err-stage-2.field-0.0 (main_setups n 0 (world_in [] x) c.setups.result.now)) count c.in_err-stage-2.ensures.refused)))
 
--- the setup of a session fails
-pub returns-in-Err-session_setups-clause-refused : goal.returns-in-Err-session_setups-clause-refused
-returns-in-Err-session_setups-clause-refused c =
+pub returns-in_err-stage-3-clause-refused : goal.returns-in_err-stage-3-clause-refused
+returns-in_err-stage-3-clause-refused c =
     let run = c.args.spec.now.run in
-    let today : TodaySpec run = record { setups = subst AllRunToday c.setups-mains.ensures.are c.setups-mains.ensures.today; sessions = subst AllRunToday c.session_setups-own.ensures.are c.session_setups-own.ensures.today; each = ap length (sym c.session_setups-own.ensures.are) ∙ c.session_setups-own.ensures.each } in
-    let main = sym (λ i. set_up_from 0 (c.new.ensures i).committed (c.setups-mains.ensures.are i)) ∙ c.in-Ok.ensures.ran in
-    subst (λ e. IsRefusedBy e (start run)) (sym c.session_setup_failed.ensures)
-    (start-session-fails run today c.in-Ok.store.committed main c.in-Err-session_setups.error (subst (StopsAt c.in-Err-session_setups.error) (λ i. set_up_from 0 c.in-Ok.store.committed (c.session_setups-own.ensures.are i)) c.in-Err-session_setups.ensures.stops))
+    let x = c.in_ok-stage.stage in
+    let y = c.in_ok-stage-2.stage in
+    let count = c.sessions-control.ensures.count in
+    let p = err_from_is_err_and c.from_residual-in_err-stage-3.result c.from_residual-in_err-stage-3.ensures.1 in
+    let blank : IsBlank (suc run.sessions) x = subst (λ n. IsBlank n x) (add-one c.sessions-control.result ∙ ap suc count) c.in_ok-stage.ensures in
+    let mains : main_setups run.sessions 0 (world_in [] x) run.setups ≡ Started (world_in [] y) = (λ k. main_setups (sym count k) 0 (world_in [] x) (sym c.setups.ensures.are k)) ∙ c.in_ok-stage-2.ensures.ran in
+    let begins : start run ≡ session_setups 0 (world_in [] y) c.session_setups-own.result.now = start-sessions run x y blank mains ∙ ap (session_setups 0 (world_in [] y)) (sym c.session_setups-own.ensures.are) in
+    rw (p.1, p.2) (refused-sessions run (session_setups 0 (world_in [] y) c.session_setups-own.result.now) _ begins c.in_err-stage-3.ensures.refused)
 
--- all setups are run
+pub invariant_of-result : goal.invariant_of-result
+invariant_of-result c = λ whole.
+    let run = c.args.spec.now.run in
+    settled-first run.sessions run.steps c.in_ok-stage-3.stage (subst (λ n. IsReadyForSessions (suc n) c.in_ok-stage-3.stage) c.session_setups-own.ensures.each c.in_ok-stage-3.ensures.ready)
+
 pub returns-clause-started : goal.returns-clause-started
 returns-clause-started c =
     let run = c.args.spec.now.run in
-    let today : TodaySpec run = record { setups = subst AllRunToday c.setups-mains.ensures.are c.setups-mains.ensures.today; sessions = subst AllRunToday c.session_setups-own.ensures.are c.session_setups-own.ensures.today; each = ap length (sym c.session_setups-own.ensures.are) ∙ c.session_setups-own.ensures.each } in
-    let main = sym (λ i. set_up_from 0 (c.new.ensures i).committed (c.setups-mains.ensures.are i)) ∙ c.in-Ok.ensures.ran in
-    let left = c.in-Ok-session_setups.store.committed in
-    let own = sym (λ i. set_up_from 0 c.in-Ok.store.committed (c.session_setups-own.ensures.are i)) ∙ c.in-Ok-session_setups.ensures.ran in
-    start-starts run today c.in-Ok.store.committed left main own
-    ∙ ap (λ ts. Started (idle_world left (ts ++ [] ∷ []))) (sym (c.in_ok-transcripts.ensures ∙ ap (λ n. replicate n []) c.sessions-control.ensures.count))
+    let x = c.in_ok-stage.stage in
+    let y = c.in_ok-stage-2.stage in
+    let z = c.in_ok-stage-3.stage in
+    let count = c.sessions-control.ensures.count in
+    let blank : IsBlank (suc run.sessions) x = subst (λ n. IsBlank n x) (add-one c.sessions-control.result ∙ ap suc count) c.in_ok-stage.ensures in
+    let mains : main_setups run.sessions 0 (world_in [] x) run.setups ≡ Started (world_in [] y) = (λ k. main_setups (sym count k) 0 (world_in [] x) (sym c.setups.ensures.are k)) ∙ c.in_ok-stage-2.ensures.ran in
+    start-sessions run x y blank mains ∙ ap (session_setups 0 (world_in [] y)) (sym c.session_setups-own.ensures.are) ∙ c.in_ok-stage-3.ensures.ran
+    ∙ ap Started (sym (any-steps run.steps z c.in_ok-stage-3.ensures.ready.stage))

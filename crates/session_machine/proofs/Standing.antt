@@ -1,0 +1,99 @@
+-- A stage between the steps: what is told of its world, and what holds after a step.
+use Rattle.std.specs.List.{All}
+use Rattle.std.proofs.lemmas.List.{length-map}
+use Rattle.std.proofs.Common.{◌≡◌, refl, sym, ap, ◌∙◌, subst, ℕ, zero, suc, ◌<◌, ◌≤◌, Bool, List, [], ◌∷◌, length, map, take, get_or, Some, None, is_some, arith}
+use Rattle.transcripts.specs.Outcome.{HasStep}
+use Rattle.transcripts.specs.declared.event.Event.{Event}
+use Rattle.lock_queues.specs.Locks.{next_grant, waits_now}
+use Rattle.lock_queues.specs.Rules.{NothingRipe}
+use Rattle.lock_queues.specs.LockTable.{Locks, look_in}
+use Rattle.row_tables.specs.Layers.{Layers}
+use Rattle.sql_subset.specs.Spec.{Step, no_step}
+use Rattle.session_machine.specs.declared.member.Member.{Member}
+use Rattle.session_machine.specs.declared.stage.Stage.{Stage}
+use Rattle.session_machine.specs.Session.{Session}
+use Rattle.session_machine.specs.State.{Own, sessions_from, world_of}
+use Rattle.session_machine.specs.World.{World, look_of, settle, send, outcome_of}
+use Rattle.session_machine.specs.Sound.{Steady, Sound}
+use Rattle.session_machine.specs.Stage.{no_member, own_of, world_in, IsWithin, RestIsOf, IsStage, IsNamed, IsSettled, HasSameParts, transcripts_of}
+use Rattle.session_machine.proofs.States.{look-is, length-sessions_from}
+use Rattle.session_machine.proofs.Settles.{sound-from, send-sound}
+use Rattle.session_machine.proofs.Named.{send-named}
+use Rattle.session_machine.proofs.Worlds.{settled-is}
+
+-- what the table tells is what the world tells
+pub look-now : (steps : List Step) (s : Stage) → IsStage steps s → look_of (world_in steps s) ≡ look_in s.locks
+look-now steps s stage = look-is s.store s.locks (map (own_of steps) s.members.items) (subst (λ n. IsWithin n s.store s.locks) (sym (length-map s.members.items (own_of steps))) stage.within).below
+
+pub length-world : (steps : List Step) (s : Stage) → length (world_in steps s).sessions ≡ length s.members.items
+length-world steps s = length-sessions_from s.store s.locks 0 (map (own_of steps) s.members.items) ∙ length-map s.members.items (own_of steps)
+
+-- the world is sound
+pub sound-now : (sessions : ℕ) (steps : List Step) (s : Stage) → IsSettled sessions steps s → Sound (world_in steps s)
+sound-now sessions steps s settled = sound-from (world_in steps s) settled.stage.steady settled.unripe
+
+-- where nothing is ripe the world is settled
+pub settled-now : (steps : List Step) (s : Stage) → IsStage steps s → NothingRipe s.locks → settle (world_in steps s) ≡ world_in steps s
+settled-now steps s stage never = settled-is s.store s.locks (map (own_of steps) s.members.items) (subst (λ n. IsWithin n s.store s.locks) (sym (length-map s.members.items (own_of steps))) stage.within).below never
+
+-- a step that is sent leaves the world sound
+pub sound-after : (sessions : ℕ) (steps : List Step) (s : Stage) (k : ℕ) → IsSettled sessions steps s → (get_or steps k no_step).session < suc sessions → Sound (send steps (world_in steps s) k)
+sound-after sessions steps s k settled known = send-sound steps (world_in steps s) k (sound-now sessions steps s settled) (subst (λ n. (get_or steps k no_step).session < n) (sym (length-world steps s ∙ settled.count)) known)
+
+-- the step that was sent leaves the stage settled
+pub settled-after : (sessions : ℕ) (steps : List Step) (x y : Stage) (k : ℕ) → IsSettled sessions steps x → k < length steps → (get_or steps k no_step).session < suc sessions → world_in steps y ≡ send steps (world_in steps x) k → IsStage steps y → length y.members.items ≡ length x.members.items
+    → IsSettled sessions steps y
+settled-after sessions steps x y k settled lt known sent stage count =
+    let sound : Sound (world_in steps y) = subst Sound (sym sent) (sound-after sessions steps x k settled known) in
+    record {
+      count = count ∙ settled.count;
+      stage = stage;
+      unripe = sound.unripe;
+      named = subst (IsNamed (length steps)) (sym sent) (send-named (length steps) steps (world_in steps x) k lt settled.named);
+    }
+
+-- a fork stands for the same world
+pub same-world : (steps : List Step) (x y : Stage) → HasSameParts x y → world_in steps y ≡ world_in steps x
+same-world steps x y same = λ k. world_of (same.store k) (same.locks k) (map (own_of steps) (same.members k))
+
+same-stage : (steps : List Step) (x y : Stage) → HasSameParts x y → IsStage steps x → IsStage steps y
+same-stage steps x y same stage = record {
+  within = subst (λ (ms : List Member). IsWithin (length ms) y.store y.locks) (sym same.members) (subst (λ t. IsWithin (length x.members.items) y.store t) (sym same.locks) (subst (λ l. IsWithin (length x.members.items) l x.locks) (sym same.store) stage.within));
+  steady = subst Steady (sym (same-world steps x y same)) stage.steady;
+  resting = λ c lt. ap (λ (ms : List Member). is_some (get_or ms c no_member).rest) same.members ∙ stage.resting c (subst (λ (ms : List Member). c < length ms) same.members lt) ∙ ap (λ (t : Locks). waits_now t.waits c) (sym same.locks);
+  known = subst (All (RestIsOf (length steps))) (sym same.members) stage.known;
+}
+
+pub same-settled : (sessions : ℕ) (steps : List Step) (x y : Stage) → HasSameParts x y → IsSettled sessions steps x → IsSettled sessions steps y
+same-settled sessions steps x y same settled = record {
+  count = ap length same.members ∙ settled.count;
+  stage = same-stage steps x y same settled.stage;
+  unripe = ap (λ (w : World). next_grant (length w.sessions) (look_of w) w.waits) (same-world steps x y same) ∙ settled.unripe;
+  named = subst (IsNamed (length steps)) (sym (same-world steps x y same)) settled.named;
+}
+
+-- ---- what the sessions were told
+
+outcome-from : (l : Layers) (t : Locks) (steps : List Step) (i n : ℕ) (ms : List Member) → map (λ (s : Session). s.transcript) (take n (sessions_from l t i (map (own_of steps) ms))) ≡ transcripts_of (take n ms)
+outcome-from l t steps i zero ms = refl
+outcome-from l t steps i (suc n) [] = refl
+outcome-from l t steps i (suc n) (m ∷ ms) = ap (λ ts. m.state.transcript ∷ ts) (outcome-from l t steps (suc i) n ms)
+
+pub outcome-now : (steps : List Step) (n : ℕ) (s : Stage) → outcome_of n (world_in steps s) ≡ transcripts_of (take n s.members.items)
+outcome-now steps n s = outcome-from s.store s.locks steps 0 n s.members.items
+
+named-first : (count n : ℕ) (ss : List Session) → All (λ (s : Session). All (HasStep count) s.transcript) ss → All (All (HasStep count)) (map (λ (s : Session). s.transcript) (take n ss))
+named-first count zero ss all = Rattle.std.proofs.lemmas.List.Elements.All-nil (All (HasStep count))
+named-first count (suc n) [] all = Rattle.std.proofs.lemmas.List.Elements.All-nil (All (HasStep count))
+named-first count (suc n) (s ∷ ss) all = Rattle.std.proofs.lemmas.List.Elements.All-cons (All (HasStep count)) s.transcript (map (λ (s : Session). s.transcript) (take n ss)) (all 0 s (omega arith)) (named-first count n ss (λ k d lt. all (suc k) d (omega arith)))
+
+pub outcome-named : (count n : ℕ) (w : World) → IsNamed count w → All (All (HasStep count)) (outcome_of n w)
+outcome-named count n w named = named-first count n w.sessions named
+
+take-length : {A : Type 0} (n : ℕ) (xs : List A) → n ≤ length xs → length (take n xs) ≡ n
+take-length zero xs le = refl
+take-length (suc n) [] le = absurd (omega arith)
+take-length (suc n) (x ∷ xs) le = ap suc (take-length n xs (omega arith))
+
+pub outcome-each : (steps : List Step) (n : ℕ) (s : Stage) → n ≤ length s.members.items → length (outcome_of n (world_in steps s)) ≡ n
+outcome-each steps n s le = length-map (take n (world_in steps s).sessions) (λ (q : Session). q.transcript) ∙ take-length n (world_in steps s).sessions (subst (λ k. n ≤ k) (sym (length-world steps s)) le)

@@ -1,0 +1,15 @@
+use Rattle.std.proofs.Common.{◌≡◌, length}
+use Rattle.session_machine.specs.World.{settle, left_to_do}
+use Rattle.session_machine.specs.Stage.{world_in, IsStage}
+use Rattle.session_machine.proofs.stage.Stage.settle.Given as goal
+
+-- the world settles from here to the same
+abbrev pub invariant-ripe : goal.invariant-ripe
+invariant-ripe l = record {
+  settles : settle (world_in l.spec.run.steps l.initial.self) ≡ settle (world_in l.spec.run.steps l.self);
+  stage : IsStage l.spec.run.steps l.self;
+  count : length l.self.members.items ≡ length l.initial.self.members.items;
+}
+
+abbrev pub decreases-ripe : goal.decreases-ripe
+decreases-ripe l = left_to_do (world_in l.spec.run.steps l.self)

@@ -1,0 +1,12 @@
+use Rattle.std.proofs.Common.{◌≡◌, [], drop}
+use Rattle.session_machine.specs.Start.{main_setups}
+use Rattle.session_machine.specs.Stage.{world_in}
+use Rattle.session_machine.specs.Starting.{IsReadyForMains}
+use Rattle.session_machine.proofs.starting.main_setups.Given as goal
+
+-- the setups that are left come to the same from here
+abbrev pub invariant-loop-number : goal.invariant-loop-number
+invariant-loop-number l = record {
+  ready : IsReadyForMains l.control l.own;
+  ran : main_setups l.control 0 (world_in [] l.fn.stage) l.blocks ≡ main_setups l.control l.number (world_in [] l.own) (drop l.number l.blocks);
+}

@@ -1,0 +1,152 @@
+-- The world that a store, a lock table and the sessions kept beside them stand for, and what holds of them.
+use Rattle.std.specs.Prelude.{◌≡◌, ◌≢◌, ℕ, suc, ◌<◌, ◌≤◌, Bool, true, false, List, [], ◌∷◌, ◌++◌, length, map, set, get_or, drop, All, replicate, Option, Some, None, is_some}
+use Rattle.version_tree.specs.Map.{empty}
+use Rattle.lock_queues.specs.Locks.{next_grant, waits_now}
+use Rattle.lock_queues.specs.LockTable.{Locks, no_locks}
+use Rattle.lock_queues.specs.Laws.{IsBelow}
+use Rattle.row_tables.specs.Layers.{Layers, overlay_of, no_rows}
+use Rattle.transcripts.specs.Outcome.{HasStep}
+use Rattle.transcripts.specs.declared.event.Event.{Event}
+use Rattle.sql_statements.specs.declared.statement.Bound.{Bound}
+use Rattle.sql_subset.specs.Spec.{Step, no_step}
+use Rattle.session_machine.specs.declared.session.Status.TheVariants.{Outside}
+use Rattle.session_machine.specs.declared.stepping.Point.{Point}
+use Rattle.session_machine.specs.declared.member.Rest.{Rest}
+use Rattle.session_machine.specs.declared.member.Member.{Member}
+use Rattle.session_machine.specs.declared.stage.Stage.{Stage}
+use Rattle.session_machine.specs.declared.stage.SetUp.{SetUp}
+use Rattle.session_machine.specs.declared.stage.SetUp.TheVariants as end
+use Rattle.session_machine.specs.Session.{Task, Session}
+use Rattle.session_machine.specs.State.{Own, world_of}
+use Rattle.session_machine.specs.Going.{Standing, standing, tasks_from, StopsIn, WaitsIf}
+use Rattle.session_machine.specs.World.{World, look_of, session_at, settle, left_to_do}
+use Rattle.session_machine.specs.Start.{has_failed, is_outside, after_setup, forgotten}
+use Rattle.session_machine.specs.Sound.{Steady}
+
+abbrev pub no_member : Member
+no_member = record { state = record { status = Outside; transcript = [] }; rest = None }
+
+abbrev pub statements_of : List Step → ℕ → List Bound
+statements_of steps k = (get_or steps k no_step).statements
+
+-- the tasks that are left of a step
+abbrev pub rest_of : List Step → Option Rest → List Task
+rest_of steps None = []
+rest_of steps (Some r) = tasks_from (drop r.point.statement (statements_of steps r.step)) r.point.request
+
+abbrev pub own_of : List Step → Member → Own
+own_of steps m = record { status = m.state.status; rest = rest_of steps m.rest; transcript = m.state.transcript }
+
+-- the world of a stage on which these steps are sent
+abbrev pub world_in : List Step → Stage → World
+world_in steps s = world_of s.store s.locks (map (own_of steps) s.members.items)
+
+abbrev pub member_at : Stage → ℕ → Member
+member_at s i = get_or s.members.items i no_member
+
+-- the session's part of the stage
+abbrev pub part_of : List Step → Stage → ℕ → Standing
+part_of steps s i = record { layers = s.store; locks = s.locks; own = own_of steps (member_at s i) }
+
+-- no session past these has an overlay or a lock, or waits
+pub record IsWithin (n : ℕ) (l : Layers) (t : Locks) : Type 0 where
+  pub overlays : (c : ℕ) → n ≤ c → overlay_of c l ≡ empty
+  pub below : IsBelow n t
+
+-- what is left is of a step of the spec
+abbrev pub RestIsOf : ℕ → Member → Type 0
+RestIsOf count m = (r : Rest) → m.rest ≡ Some r → r.step < count
+
+-- what holds of a stage, also while waits are ripe
+pub record IsStage (steps : List Step) (s : Stage) : Type 0 where
+  pub within : IsWithin (length s.members.items) s.store s.locks
+  pub steady : Steady (world_in steps s)
+  pub resting : (c : ℕ) → c < length s.members.items → is_some (member_at s c).rest ≡ waits_now s.locks.waits c
+  pub known : All (RestIsOf (length steps)) s.members.items
+
+-- each step that a session was told of is one of so many
+abbrev pub IsNamed : ℕ → World → Type 0
+IsNamed count w = All (λ (s : Session). All (HasStep count) s.transcript) w.sessions
+
+-- what holds of a stage between the steps
+pub record IsSettled (sessions : ℕ) (steps : List Step) (s : Stage) : Type 0 where
+  pub count : length s.members.items ≡ suc sessions
+  pub stage : IsStage steps s
+  pub unripe : next_grant (length (world_in steps s).sessions) (look_of (world_in steps s)) (world_in steps s).waits ≡ None
+  pub named : IsNamed (length steps) (world_in steps s)
+
+-- a stage whose step was refused memory may have broken off anywhere
+abbrev pub IsSettledUnless : Bool → ℕ → List Step → Stage → Type 0
+IsSettledUnless spent sessions steps s = spent ≡ false → IsSettled sessions steps s
+
+abbrev pub transcripts_of : List Member → List (List Event)
+transcripts_of members = map (λ (m : Member). m.state.transcript) members
+
+-- the session was told of nothing
+abbrev pub IsSilent : Member → Type 0
+IsSilent m = m.state.transcript ≡ []
+
+-- ---- what the calls on a stage promise
+
+pub record HasSameParts (x y : Stage) : Type 0 where
+  pub store : y.store ≡ x.store
+  pub locks : y.locks ≡ x.locks
+  pub members : y.members.items ≡ x.members.items
+
+abbrev pub note_member : Member → Event → Member
+note_member m e = record { state = record { status = m.state.status; transcript = m.state.transcript ++ e ∷ [] }; rest = m.rest }
+
+-- a session is told of an event
+pub record HasTold (i : ℕ) (e : Event) (x y : Stage) : Type 0 where
+  pub store : y.store ≡ x.store
+  pub locks : y.locks ≡ x.locks
+  pub members : y.members.items ≡ set x.members.items i (note_member (member_at x i) e)
+
+-- what is left of a step that stopped there
+abbrev pub rest_at : ℕ → Option Point → Option Rest
+rest_at k None = None
+rest_at k (Some p) = Some (record { step = k; point = p })
+
+-- how a setup ends by whether a fault was told, a request waits and no block is open
+abbrev pub end_of : Bool → Bool → Bool → SetUp
+end_of true waits outside = end.Failed
+end_of false true outside = end.Waits
+end_of false false true = end.Closed
+end_of false false false = end.Open
+
+-- nothing is stored and nothing locked, and the sessions have done nothing
+pub record IsBlank (count : ℕ) (s : Stage) : Type 0 where
+  pub store : s.store ≡ no_rows
+  pub locks : s.locks ≡ no_locks
+  pub members : s.members.items ≡ replicate count no_member
+
+-- the session has gone on with tasks until they end or a request waits, and the others are as they were
+pub record HasGone (steps : List Step) (i : ℕ) (ts : List Task) (x y : Stage) : Type 0 where
+  pub members : y.members.items ≡ set x.members.items i (member_at y i)
+  pub stops : StopsIn i (standing x.store x.locks (member_at x i).state) ts (part_of steps y i)
+  pub waits : WaitsIf i x.locks y.locks (is_some (member_at y i).rest)
+  pub known : RestIsOf (length steps) (member_at y i)
+
+-- the first ripe wait is granted and its session has gone on: the world settles to the same, and less is left to do
+pub record HasResumed (steps : List Step) (x y : Stage) : Type 0 where
+  pub settles : settle (world_in steps x) ≡ settle (world_in steps y)
+  pub less : left_to_do (world_in steps y) < left_to_do (world_in steps x)
+  pub stage : IsStage steps y
+  pub count : length y.members.items ≡ length x.members.items
+
+-- a setup is done without a fault or a wait, and what it told is forgotten
+pub record IsSetUp (i : ℕ) (block : List Bound) (x y : Stage) : Type 0 where
+  pub whole : has_failed (session_at (after_setup (world_in [] x) i block) i) ≡ false
+  pub idle : waits_now (after_setup (world_in [] x) i block).waits i ≡ false
+  pub world : world_in [] y ≡ forgotten (after_setup (world_in [] x) i block) i
+  pub stage : IsStage [] y
+  pub silent : All IsSilent x.members.items → All IsSilent y.members.items
+  pub count : length y.members.items ≡ length x.members.items
+
+-- how a setup has ended
+abbrev pub HasEnded : SetUp → ℕ → List Bound → Stage → Stage → Type 0
+HasEnded end.Failed i block x y = has_failed (session_at (after_setup (world_in [] x) i block) i) ≡ true
+HasEnded end.Waits i block x y =
+    (has_failed (session_at (after_setup (world_in [] x) i block) i) ≡ false) × (waits_now (after_setup (world_in [] x) i block).waits i ≡ true)
+HasEnded end.Open i block x y = IsSetUp i block x y × (is_outside (session_at (after_setup (world_in [] x) i block) i).status ≡ false)
+HasEnded end.Closed i block x y = IsSetUp i block x y × (is_outside (session_at (after_setup (world_in [] x) i block) i).status ≡ true)

@@ -1,0 +1,219 @@
+//! What the steps of a world change: the rows, the locks and the sessions.
+
+ghost use Rattle.std.specs.Prelude.{◌≡◌, ◌<◌, [], length, drop, All, is_some, IfOk, OnOk};
+ghost use Rattle.std.specs.List.{list_any};
+ghost use Rattle.lock_queues.specs.Locks.{waits_now};
+ghost use Rattle.lock_queues.specs.Rules.{IsNextOf};
+ghost use Rattle.sql_statements.specs.Plan.{HasKeys, IsShort};
+ghost use Rattle.session_machine.specs.World.{send, settle};
+ghost use Rattle.session_machine.specs.Start.{is_failure, has_failed, is_outside};
+ghost use Rattle.session_machine.specs.Going.{tasks_from, IsToGo};
+ghost use Rattle.session_machine.specs.Stage as spec;
+ghost use Rattle.session_machine.specs.Stage.{statements_of, world_in, IsStage, IsSettled, IsBlank, HasSameParts, HasTold, HasGone, HasResumed, HasEnded};
+
+use crate::member::{Member, Rest};
+use crate::session::SessionState;
+use crate::stepping::{Point, go_on};
+use lock_queues::LockTable;
+use row_tables::Store;
+use sql_subset::{Block, Spec};
+use std::alloc::{AllocError, Global};
+use transcripts::{Event, Log};
+use version_tree::Fork;
+
+/// How a setup ended.
+#[derive(Clone, Copy, Debug, PartialEq, Eq)]
+pub(crate) enum SetUp {
+    /// A statement of it failed.
+    Failed,
+    /// A request of it waits.
+    Waits,
+    /// All of it went through, and a transaction block is open.
+    Open,
+    /// All of it went through, and no transaction block is open.
+    Closed,
+}
+
+/// The rows, the locks and the sessions of a world.
+#[derive(Drop)]
+pub(crate) struct Stage {
+    pub(crate) store: Store,
+    pub(crate) locks: LockTable,
+    pub(crate) members: Vec<Member>,
+}
+
+impl Stage {
+    /// So many sessions that have done nothing, over no rows.
+    pub(crate) fn new(alloc: Global, count: u8) -> Result<Stage, AllocError>
+        ensures { IfOk result (IsBlank count) }
+    {
+        let mut members = Vec::with_capacity(alloc, count as usize)?;
+        for _session in 0..count {
+            members.push(Member::new(alloc))?;
+        }
+        Ok(Stage {
+            store: Store::new(alloc),
+            locks: LockTable::new(alloc),
+            members,
+        })
+    }
+
+    /// A stage with equal parts, which it shares with this one.
+    pub(crate) fn fork(&self) -> Result<Stage, AllocError>
+        ensures { IfOk result (HasSameParts self.now) }
+    {
+        let mut members = Vec::with_capacity(*self.members.allocator(), self.members.len())?;
+        for member in &self.members {
+            members.push(member.fork()?)?;
+        }
+        Ok(Stage {
+            store: self.store.fork()?,
+            locks: self.locks.fork()?,
+            members,
+        })
+    }
+
+    /// Sends a step: its session goes, unless it waits, and then each wait that is ripe is granted, the first one first.
+    pub(crate) fn send(&mut self, alloc: Global, spec: &Spec, step: u8) -> Result<(), AllocError>
+        requires known { step < length spec.now.run.steps }
+        requires settled { IsSettled spec.now.run.sessions spec.now.run.steps self.old }
+        ensures sent { OnOk result (world_in spec.now.run.steps self.new ≡ send spec.now.run.steps (world_in spec.now.run.steps self.old) step) }
+        ensures settled { OnOk result (IsSettled spec.now.run.sessions spec.now.run.steps self.new) }
+    {
+        let session = spec.session_of(step);
+        if self.locks.waits(session) {
+            return self.tell(session, Event::NotSent(step));
+        }
+        self.tell(session, Event::Sent(step))?;
+        self.go(alloc, spec, session, step, Point::start())?;
+        self.settle(alloc, spec)
+    }
+
+    /// Tells a session of an event.
+    fn tell(&mut self, session: u8, event: Event) -> Result<(), AllocError>
+        requires { session < length self.old.members.items }
+        ensures { OnOk result (HasTold session event self.old self.new) }
+    {
+        self.members[session as usize].state.transcript.push(event)
+    }
+
+    /// Lets a session go on in a step from a place in it. What is left where a request waits is kept.
+    fn go(
+        &mut self,
+        alloc: Global,
+        spec: &Spec,
+        session: u8,
+        step: u8,
+        from: Point,
+    ) -> Result<(), AllocError>
+        requires known { step < length spec.now.run.steps }
+        requires inside { session < length self.old.members.items }
+        requires ready { IsToGo session self.old.store self.old.locks (statements_of spec.now.run.steps step) from.statement from.request }
+        ensures { OnOk result (HasGone spec.now.run.steps session (tasks_from (drop from.statement (statements_of spec.now.run.steps step)) from.request) self.old self.new) }
+    {
+        let statements = spec.statements(step);
+        let member = &mut self.members[session as usize];
+        let stopped = go_on(
+            alloc,
+            &mut self.store,
+            &mut self.locks,
+            session,
+            &mut member.state,
+            statements,
+            from,
+        )?;
+        member.rest = rest_at(step, stopped);
+        Ok(())
+    }
+
+    /// While a wait is ripe, the first one is granted and its session goes on.
+    fn settle(&mut self, alloc: Global, spec: &Spec) -> Result<(), AllocError>
+        requires { IsStage spec.now.run.steps self.old }
+        ensures settled { OnOk result (world_in spec.now.run.steps self.new ≡ settle (world_in spec.now.run.steps self.old)) }
+        ensures stage { OnOk result (IsStage spec.now.run.steps self.new) }
+        ensures count { OnOk result (length self.new.members.items ≡ length self.old.members.items) }
+    {
+        'ripe: while let Some(session) = self.locks.next_grant() {
+            self.resume(alloc, spec, session)?;
+        }
+        Ok(())
+    }
+
+    /// Grants the wait of a session, which goes on in its step.
+    fn resume(&mut self, alloc: Global, spec: &Spec, session: u8) -> Result<(), AllocError>
+        requires stage { IsStage spec.now.run.steps self.old }
+        requires next { IsNextOf self.old.locks session }
+        requires inside { session < length self.old.members.items }
+        ensures { OnOk result (HasResumed spec.now.run.steps self.old self.new) }
+    {
+        self.locks.grant(session)?;
+        let Some(rest) = self.members[session as usize].rest else {
+            unreachable!()
+        };
+        self.tell(session, Event::Resumed)?;
+        self.go(alloc, spec, session, rest.step, rest.point)
+    }
+
+    /// Runs a setup of a session and forgets what it tells.
+    pub(crate) fn set_up(&mut self, alloc: Global, session: u8, block: &Block) -> Result<SetUp, AllocError>
+        requires stage { IsStage [] self.old }
+        requires inside { session < length self.old.members.items }
+        requires keys { All HasKeys block.now }
+        requires short { All IsShort block.now }
+        ensures { IfOk result (λ end. HasEnded end session block.now self.old self.new) }
+    {
+        let member = &mut self.members[session as usize];
+        let stopped = go_on(
+            alloc,
+            &mut self.store,
+            &mut self.locks,
+            session,
+            &mut member.state,
+            block.statements(),
+            Point::start(),
+        )?;
+        let end = end_of(&member.state, stopped)?;
+        member.state.transcript = Log::new(alloc);
+        Ok(end)
+    }
+}
+
+/// What is left of a step that stopped there.
+fn rest_at(step: u8, stopped: Option<Point>) -> Option<Rest>
+    ensures { result ≡ spec.rest_at step stopped }
+{
+    match stopped {
+        None => None,
+        Some(point) => Some(Rest { step, point }),
+    }
+}
+
+/// How a setup ended, after which its session stands so.
+fn end_of(state: &SessionState, stopped: Option<Point>) -> Result<SetUp, AllocError>
+    ensures { IfOk result (λ end. end ≡ spec.end_of (list_any is_failure state.now.transcript) (is_some stopped) (is_outside state.now.status)) }
+{
+    if has_failed(&state.transcript)? {
+        return Ok(SetUp::Failed);
+    }
+    if stopped.is_some() {
+        return Ok(SetUp::Waits);
+    }
+    if state.status.is_outside() {
+        return Ok(SetUp::Closed);
+    }
+    Ok(SetUp::Open)
+}
+
+/// Whether a fault was told.
+fn has_failed(log: &Log) -> Result<bool, AllocError>
+    ensures { IfOk result (λ failed. failed ≡ list_any is_failure log.now) }
+{
+    let transcript = log.to_transcript()?;
+    Ok(any_failure(transcript.events()))
+}
+
+fn any_failure(events: &[Event]) -> bool
+    ensures { result ≡ list_any is_failure events.now }
+{
+    events.iter().any(|event| matches!(event, Event::Failed(_)))
+}
