@@ -16,3 +16,4 @@ pub mod Joined
 pub mod QuoteLemmas
 pub mod ReadingLemmas
 pub mod TextLemmas
+pub mod RowLemmas

@@ -1,5 +1,5 @@
 -- The statements that a block's text spells, each with its offset, and why a text spells none.
-use Rattle.std.specs.Prelude.{◌≡◌, ◌⊎◌, ℕ, zero, suc, List, [], ◌∷◌, ◌++◌, map, drop, length, Option, Some, None, Result, Ok, Err, ⊤, if◌then◌else◌, codes}
+use Rattle.std.specs.Prelude.{◌≡◌, ◌⊎◌, ℕ, zero, suc, List, [], ◌∷◌, ◌++◌, map, drop, length, All, Option, Some, None, Result, Ok, Err, ⊤, if◌then◌else◌, codes}
 use Rattle.sql_reader.specs.declared.error.Failure.{Failure}
 use Rattle.sql_reader.specs.declared.error.Failure.TheVariants as failure
 use Rattle.sql_reader.specs.declared.error.SqlError.{SqlError}
@@ -9,7 +9,7 @@ use Rattle.sql_reader.specs.declared.error.Stop.TheVariants as stop
 use Rattle.sql_reader.specs.declared.statement.Statement.{Statement as Written}
 use Rattle.sql_reader.specs.Tokens.{End, Sign, Placed}
 use Rattle.sql_reader.specs.Lexing.{view_token, token_list}
-use Rattle.sql_reader.specs.Tree.{Last, More, Statement, Block}
+use Rattle.sql_reader.specs.Tree.{Last, More, Statement, Block, HasFewRows}
 use Rattle.sql_reader.specs.Grammar.{optional, statement, spelling, good, Fault, FirstFault}
 use Rattle.sql_reader.specs.Reading.{first, rest, at, refused, kind_of, and_then, maybe_statement, block}
 use Rattle.sql_reader.specs.Views.{view_form}
@@ -17,6 +17,10 @@ use Rattle.sql_reader.specs.Views.{view_form}
 -- a statement and the offset of its first byte
 abbrev pub StatementAt : Type 0
 StatementAt = ℕ × Statement
+
+-- no INSERT among them has more rows than may stand there
+abbrev pub AllHaveFewRows : List StatementAt → Type 0
+AllHaveFewRows ss = All (λ (s : StatementAt). HasFewRows s.1) ss
 
 abbrev pub at_offset : ℕ → Option Statement → List StatementAt
 at_offset n None = []

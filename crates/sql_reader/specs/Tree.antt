@@ -1,5 +1,5 @@
 -- Statements as they are written, word for word; case, blank space and comments leave no trace.
-use Rattle.std.specs.Prelude.{ℕ, Bool, List, Option}
+use Rattle.std.specs.Prelude.{ℕ, suc, ◌≤◌, Bool, List, Option, ⊤}
 pub use Rattle.sql_reader.specs.declared.expression.Literal.{Literal}
 pub use Rattle.sql_reader.specs.declared.expression.Literal.TheVariants.{Whole, Quoted}
 pub use Rattle.sql_reader.specs.declared.expression.Factor.{Factor}
@@ -47,6 +47,11 @@ Name = List ℕ
 pub data Chain (A : Type 0) : Type 0 where
   Last : (item : A) → Chain A
   More : (item : A) → (rest : Chain A) → Chain A
+
+-- how many there are
+abbrev pub count : {A : Type 0} → Chain A → ℕ
+count (Last x) = 1
+count (More x c) = suc (count c)
 
 -- ---- expressions and conditions
 
@@ -101,6 +106,11 @@ pub data Statement : Type 0 where
   Ends : EndWord → Option Noise → Statement
   Lock : (table_word : Bool) → Name → Option LockMode → Statement
   Set : Setting → Statement
+
+-- an INSERT has at most 100 rows
+abbrev pub HasFewRows : Statement → Type 0
+HasFewRows (Insert n names rows) = count rows ≤ 100
+HasFewRows s = ⊤
 
 -- a block: statements separated by semicolons, some of them empty
 abbrev pub Block : Type 0

@@ -5,7 +5,7 @@ ghost use Rattle.sql_reader.specs.declared.error.Failure.TheVariants.{Refused};
 ghost use Rattle.sql_reader.specs.declared.error.SqlErrorKind.TheVariants.{NoMemory};
 ghost use Rattle.sql_reader.specs.Lexing.{quoted, view_token, views};
 ghost use Rattle.sql_reader.specs.Reading.{first, other_form, form, begins_begin, begins_form, kind_of, refused, no_form, statement, maybe_statement};
-ghost use Rattle.sql_reader.specs.Text.{StatementAt, IsSpelled, Explains, at_offset, fault_at, next_statement, statements_from, pushed, seen, failure_of, Tells};
+ghost use Rattle.sql_reader.specs.Text.{StatementAt, IsSpelled, Explains, AllHaveFewRows, at_offset, fault_at, next_statement, statements_from, pushed, seen, failure_of, Tells};
 ghost use Rattle.sql_reader.specs.Views.{Gives, option_by, view_form};
 
 use crate::changes::{delete, update};
@@ -243,6 +243,8 @@ const NO_MEMORY: SqlError = SqlError {
 pub fn read_sql(alloc: Global, text: &str) -> Result<Vec<Statement>, SqlError>
     // What is read is what the text spells.
     ensures sound { IfOk result (λ all. IsSpelled text.now (seen all.items)) }
+    // So an INSERT has at most 100 rows.
+    ensures few_rows { IfOk result (λ all. AllHaveFewRows (seen all.items)) }
     // What a text spells is read, unless memory runs out.
     ensures complete { (all : List StatementAt) → IsSpelled text.now all →
         MatchResult result (λ read. seen read.items ≡ all) (λ e. e.kind ≡ NoMemory) }

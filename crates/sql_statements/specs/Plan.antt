@@ -1,5 +1,5 @@
 -- The requests of a statement, from its text alone, and the rows that it looks at.
-use Rattle.std.specs.Prelude.{ℕ, ◌<◌, ⊤, Bool, true, false, ◌&&◌, ◌||◌, List, [], ◌∷◌, ◌==◌, length, map, get_or, Option, Some, None, pos, All}
+use Rattle.std.specs.Prelude.{ℕ, ◌<◌, ◌≤◌, ⊤, Bool, true, false, ◌&&◌, ◌||◌, List, [], ◌∷◌, ◌==◌, length, map, get_or, Option, Some, None, pos, All}
 use Rattle.std.specs.List.{list_any}
 use Rattle.version_tree.specs.Map.{same_key}
 use Rattle.lock_modes.specs.Place.{Place}
@@ -56,6 +56,10 @@ plan Begin = []
 plan Commit = []
 plan Rollback = []
 plan SetVariable = []
+
+-- a statement asks for no more than a byte can count
+abbrev pub IsShort : Bound → Type 0
+IsShort st = length (plan st) ≤ 255
 
 -- a new row has its key
 abbrev pub HasKey : ℕ → Tuple → Type 0

@@ -11,10 +11,10 @@ use Rattle.perm_ranks.specs.Words.{total}
 use Rattle.spec_reader.specs.declared.tree.Session.{Session}
 use Rattle.spec_reader.specs.Views.{session_tree, step_tree}
 use Rattle.spec_reader.specs.Tree.{StepTree, SessionTree, LineTree, SpecTree}
-use Rattle.sql_statements.specs.Plan.{HasKeys}
+use Rattle.sql_statements.specs.Plan.{HasKeys, IsShort}
 use Rattle.sql_statements.specs.declared.statement.Bound.{Bound}
 use Rattle.sql_subset.specs.declared.tables.Table.{Table}
-use Rattle.sql_subset.specs.Spec.{Step, Spec, SpecFile, counts_of, steps_of, queues_from, queues_of, step_limit, IsLine, IsStep, IsReady, RunsToday, AllRunToday, AllHaveKeys}
+use Rattle.sql_subset.specs.Spec.{Step, Spec, SpecFile, counts_of, steps_of, queues_from, queues_of, step_limit, IsLine, IsStep, IsReady, AllHaveKeys, AllAreShort}
 use Rattle.sql_subset.specs.Binding.{BoundSession, session, declared, main_setup, numbered, all_steps, made_file, shaped}
 use Rattle.sql_subset.specs.Lines.{counts_in, step_names, then_some, all_some, step_number, line_of, lines_by, orders_of}
 use Rattle.sql_subset.specs.Refusals.{each}
@@ -31,14 +31,14 @@ use Rattle.sql_subset.proofs.SentLemmas.{IsSent, AllSent, position-below, each-l
 all-keys : (bs : List Bound) → All IsSent bs → All HasKeys bs
 all-keys bs h = λ i d lt. (h i d lt).0
 
-all-today : (bs : List Bound) → All IsSent bs → All RunsToday bs
-all-today bs h = λ i d lt. (h i d lt).1
+all-short : (bs : List Bound) → All IsSent bs → All IsShort bs
+all-short bs h = λ i d lt. (h i d lt).1
 
 each-keys : (blocks : List (List Bound)) → AllSent blocks → AllHaveKeys blocks
 each-keys blocks h = λ i d lt. all-keys (get_or blocks i d) (h i d lt)
 
-each-today : (blocks : List (List Bound)) → AllSent blocks → AllRunToday blocks
-each-today blocks h = λ i d lt. all-today (get_or blocks i d) (h i d lt)
+each-short : (blocks : List (List Bound)) → AllSent blocks → AllAreShort blocks
+each-short blocks h = λ i d lt. all-short (get_or blocks i d) (h i d lt)
 
 -- ---- how many steps there are
 
@@ -60,18 +60,18 @@ length-step_names (s ∷ ss) =
 -- ---- each step is one of its session
 
 steps-own : (n i : ℕ) (blocks : List (List Bound)) → i < n → AllSent blocks → All (IsStep n) (numbered i blocks)
-steps-own n i [] h today = All-nil (IsStep n)
-steps-own n i (b ∷ bs) h today =
+steps-own n i [] h sent = All-nil (IsStep n)
+steps-own n i (b ∷ bs) h sent =
     All-cons (IsStep n) (record { session = i; statements = b }) (numbered i bs)
-    (record { session = h; keys = all-keys b (All-head (All IsSent) b bs today); today = all-today b (All-head (All IsSent) b bs today) })
-    (steps-own n i bs h (All-tail (All IsSent) b bs today))
+    (record { session = h; keys = all-keys b (All-head (All IsSent) b bs sent); short = all-short b (All-head (All IsSent) b bs sent) })
+    (steps-own n i bs h (All-tail (All IsSent) b bs sent))
 
 steps-all : (n i : ℕ) (ss : List BoundSession) → i + length ss ≡ n → All (λ (s : BoundSession). AllSent s.steps) ss → All (IsStep n) (all_steps i ss)
-steps-all n i [] e today = All-nil (IsStep n)
-steps-all n i (s ∷ ss) e today =
+steps-all n i [] e sent = All-nil (IsStep n)
+steps-all n i (s ∷ ss) e sent =
     All-append (IsStep n) (numbered i s.steps) (all_steps (suc i) ss)
-    (steps-own n i s.steps (omega arith) (All-head (λ (s : BoundSession). AllSent s.steps) s ss today))
-    (steps-all n (suc i) ss (omega arith) (All-tail (λ (s : BoundSession). AllSent s.steps) s ss today))
+    (steps-own n i s.steps (omega arith) (All-head (λ (s : BoundSession). AllSent s.steps) s ss sent))
+    (steps-all n (suc i) ss (omega arith) (All-tail (λ (s : BoundSession). AllSent s.steps) s ss sent))
 
 -- ---- the queues have as many steps as the sessions
 
@@ -256,8 +256,8 @@ file-ready text tree lines main ss o m e =
     let many = each-length (session main.0) tree.sessions ss e in
     let steps : length (all_steps 0 ss) ≡ total (counts_in tree.sessions) = length-all_steps 0 ss ∙ ap total count in
     let named : length (step_names tree.sessions) ≡ length (all_steps 0 ss) = length-step_names tree.sessions ∙ sym steps in
-    let setup_today : All (λ (s : BoundSession). All IsSent s.setup) ss = each-All (λ (s : BoundSession). All IsSent s.setup) (session main.0) (λ t s h. (session-sent main.0 t s h).setup) tree.sessions ss e in
-    let steps_today : All (λ (s : BoundSession). AllSent s.steps) ss = each-All (λ (s : BoundSession). AllSent s.steps) (session main.0) (λ t s h. (session-sent main.0 t s h).steps) tree.sessions ss e in
+    let setup_sent : All (λ (s : BoundSession). All IsSent s.setup) ss = each-All (λ (s : BoundSession). All IsSent s.setup) (session main.0) (λ t s h. (session-sent main.0 t s h).setup) tree.sessions ss e in
+    let steps_sent : All (λ (s : BoundSession). AllSent s.steps) ss = each-All (λ (s : BoundSession). AllSent s.steps) (session main.0) (λ t s h. (session-sent main.0 t s h).steps) tree.sessions ss e in
     record {
       few_sessions = order.0;
       few_steps = omega (arith, steps, order.1.few_steps);
@@ -265,11 +265,11 @@ file-ready text tree lines main ss o m e =
       session_names = length-map tree.sessions _;
       step_names = named;
       session_setups = length-map ss _ ∙ many;
-      steps = steps-all (length tree.sessions) 0 ss (omega (arith, many)) steps_today;
+      steps = steps-all (length tree.sessions) 0 ss (omega (arith, many)) steps_sent;
       setups_keys = each-keys main.1 (setups-sent [] tree.front.setups main m);
-      setups_today = each-today main.1 (setups-sent [] tree.front.setups main m);
-      session_setups_keys = each-keys (map (λ (s : BoundSession). s.setup) ss) (All-map (All IsSent) (λ (s : BoundSession). s.setup) ss setup_today);
-      session_setups_today = each-today (map (λ (s : BoundSession). s.setup) ss) (All-map (All IsSent) (λ (s : BoundSession). s.setup) ss setup_today);
+      setups_short = each-short main.1 (setups-sent [] tree.front.setups main m);
+      session_setups_keys = each-keys (map (λ (s : BoundSession). s.setup) ss) (All-map (All IsSent) (λ (s : BoundSession). s.setup) ss setup_sent);
+      session_setups_short = each-short (map (λ (s : BoundSession). s.setup) ss) (All-map (All IsSent) (λ (s : BoundSession). s.setup) ss setup_sent);
       lines = subst (λ n. All (IsLine n) lines) named order.1.known;
     }
 
@@ -302,31 +302,31 @@ keys-place bound.Commit h = tt
 keys-place bound.Rollback h = tt
 keys-place bound.SetVariable h = tt
 
-today-place : (b : Bound) → RunsToday (placeless_bound b) → RunsToday b
-today-place (bound.Select t key c by out) h = tt
-today-place (bound.Insert t key rows) h = tt
-today-place (bound.Update t key sets c) h = tt
-today-place (bound.Delete t key c) h = tt
-today-place (bound.LockTable t mode) h = tt
-today-place bound.Begin h = h
-today-place bound.Commit h = h
-today-place bound.Rollback h = h
-today-place bound.SetVariable h = tt
+short-place : (b : Bound) → IsShort (placeless_bound b) → IsShort b
+short-place (bound.Select t key c by out) h = h
+short-place (bound.Insert t key rows) h = h
+short-place (bound.Update t key sets c) h = h
+short-place (bound.Delete t key c) h = h
+short-place (bound.LockTable t mode) h = h
+short-place bound.Begin h = h
+short-place bound.Commit h = h
+short-place bound.Rollback h = h
+short-place bound.SetVariable h = h
 
 block_keys : (bs : List Bound) → All HasKeys (placeless_block bs) → All HasKeys bs
 block_keys bs h = λ i d lt. keys-place (get_or bs i d) (all_unmap HasKeys placeless_bound bs h i d lt)
 
-block_today : (bs : List Bound) → All RunsToday (placeless_block bs) → All RunsToday bs
-block_today bs h = λ i d lt. today-place (get_or bs i d) (all_unmap RunsToday placeless_bound bs h i d lt)
+block_short : (bs : List Bound) → All IsShort (placeless_block bs) → All IsShort bs
+block_short bs h = λ i d lt. short-place (get_or bs i d) (all_unmap IsShort placeless_bound bs h i d lt)
 
 blocks_keys : (blocks : List (List Bound)) → AllHaveKeys (map placeless_block blocks) → AllHaveKeys blocks
 blocks_keys blocks h = λ i d lt. block_keys (get_or blocks i d) (all_unmap (All HasKeys) placeless_block blocks h i d lt)
 
-blocks_today : (blocks : List (List Bound)) → AllRunToday (map placeless_block blocks) → AllRunToday blocks
-blocks_today blocks h = λ i d lt. block_today (get_or blocks i d) (all_unmap (All RunsToday) placeless_block blocks h i d lt)
+blocks_short : (blocks : List (List Bound)) → AllAreShort (map placeless_block blocks) → AllAreShort blocks
+blocks_short blocks h = λ i d lt. block_short (get_or blocks i d) (all_unmap (All IsShort) placeless_block blocks h i d lt)
 
 step-place : (n : ℕ) (s : Step) → IsStep n (placeless_step s) → IsStep n s
-step-place n s h = record { session = h.session; keys = block_keys s.statements h.keys; today = block_today s.statements h.today }
+step-place n s h = record { session = h.session; keys = block_keys s.statements h.keys; short = block_short s.statements h.short }
 
 ready-place : (file : SpecFile) → IsReady (placeless_file file) → IsReady file
 ready-place file h =
@@ -340,9 +340,9 @@ ready-place file h =
       session_setups = sym (length-map file.run.session_setups placeless_block) ∙ h.session_setups;
       steps = λ i d lt. step-place file.run.sessions (get_or file.run.steps i d) (all_unmap (IsStep file.run.sessions) placeless_step file.run.steps h.steps i d lt);
       setups_keys = blocks_keys file.run.setups h.setups_keys;
-      setups_today = blocks_today file.run.setups h.setups_today;
+      setups_short = blocks_short file.run.setups h.setups_short;
       session_setups_keys = blocks_keys file.run.session_setups h.session_setups_keys;
-      session_setups_today = blocks_today file.run.session_setups h.session_setups_today;
+      session_setups_short = blocks_short file.run.session_setups h.session_setups_short;
       lines = subst (λ n. All (IsLine n) file.run.lines) steps h.lines;
     }
 

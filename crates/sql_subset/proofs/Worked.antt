@@ -10,8 +10,11 @@ use Rattle.sql_reader.specs.declared.error.SqlErrorKind.TheVariants.{NotHere}
 use Rattle.sql_reader.specs.declared.expression.Comparison.TheVariants.{Equal, Greater}
 use Rattle.sql_reader.specs.declared.expression.Factor.TheVariants.{Value, Column}
 use Rattle.sql_reader.specs.declared.expression.Literal.TheVariants.{Whole}
+use Rattle.sql_reader.specs.declared.statement.EndWord.TheVariants.{Abort}
+use Rattle.sql_reader.specs.declared.statement.Start.TheVariants.{StartWords}
 use Rattle.sql_reader.specs.declared.statement.TablePart.TheVariants.{Key}
 use Rattle.sql_statements.specs.Plan.{Request, request, plan}
+use Rattle.sql_statements.specs.declared.statement.Bound.TheVariants.{Begin, Rollback}
 use Rattle.sql_subset.specs.declared.error.BindErrorKind.TheVariants.{Sql, UnknownTable, UnknownColumn, KeyChanged, WrongCount}
 use Rattle.sql_subset.specs.declared.tables.ColumnType.TheVariants.{Number}
 use Rattle.sql_subset.specs.declared.tables.Table.{Table}
@@ -93,3 +96,11 @@ keys_in_order : plan_of (tree.Insert (codes "t") None (More (More (Whole false 5
     ≡ Ok (request (OfTable 0) IntentExclusive ∷ request (Row 0 (Int (pos 5))) Exclusive ∷ request (Row 0 (Int (pos 4))) Exclusive ∷ [])
 unfolding tables plan_of
 keys_in_order = refl
+
+-- START TRANSACTION
+begins : statement tables 7 (tree.Begin StartWords None) ≡ Ok Begin
+begins = refl
+
+-- ABORT
+aborts : statement tables 7 (tree.Ends Abort None) ≡ Ok Rollback
+aborts = refl

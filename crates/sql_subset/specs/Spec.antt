@@ -1,9 +1,8 @@
 -- A spec as the machine runs it: steps, setups and lines, and the line of each rank.
-use Rattle.std.specs.Prelude.{ℕ, zero, suc, ◌==◌, List, [], ◌∷◌, length, map, set, get_or, ◌<◌, ◌≤◌, cond, All, ◌≡◌, ⊤}
+use Rattle.std.specs.Prelude.{ℕ, zero, suc, ◌==◌, List, [], ◌∷◌, length, map, set, get_or, ◌<◌, ◌≤◌, cond, All, ◌≡◌}
 use Rattle.perm_ranks.specs.Words.{Word, all_words, word_at}
 use Rattle.sql_statements.specs.declared.statement.Bound.{Bound}
-use Rattle.sql_statements.specs.declared.statement.Bound.TheVariants.{Select, Insert, Update, Delete, Begin, Commit, Rollback, LockTable, SetVariable}
-use Rattle.sql_statements.specs.Plan.{HasKeys}
+use Rattle.sql_statements.specs.Plan.{HasKeys, IsShort}
 
 -- a step of the file
 pub record Step : Type 0 where
@@ -83,21 +82,9 @@ pub record SpecFile : Type 0 where
 abbrev pub AllHaveKeys : List (List Bound) → Type 0
 AllHaveKeys blocks = All (λ (statements : List Bound). All HasKeys statements) blocks
 
--- the machine of today runs it: each step is one transaction, so no statement begins or ends one
-abbrev pub RunsToday : Bound → Type 0
-RunsToday (Select t key c by out) = ⊤
-RunsToday (Insert t key rows) = ⊤
-RunsToday (Update t key sets c) = ⊤
-RunsToday (Delete t key c) = ⊤
-RunsToday (LockTable t mode) = ⊤
-RunsToday SetVariable = ⊤
-RunsToday Begin = ⊥
-RunsToday Commit = ⊥
-RunsToday Rollback = ⊥
-
--- each statement of each block is one that the machine of today runs
-abbrev pub AllRunToday : List (List Bound) → Type 0
-AllRunToday blocks = All (λ (statements : List Bound). All RunsToday statements) blocks
+-- no statement asks for more than a byte can count
+abbrev pub AllAreShort : List (List Bound) → Type 0
+AllAreShort blocks = All (λ (statements : List Bound). All IsShort statements) blocks
 
 -- how many steps a spec may have, by its lines
 abbrev pub step_limit : List (List ℕ) → ℕ
@@ -110,11 +97,11 @@ pub record IsLine (steps : ℕ) (line : List ℕ) : Type 0 where
   pub few : length line ≤ 24
   pub known : All (λ k. k < steps) line
 
--- a step of one of so many sessions, whose new rows have their keys, with statements that the machine of today runs
+-- a step of one of so many sessions, whose new rows have their keys, with statements that ask for no more than a byte can count
 pub record IsStep (sessions : ℕ) (step : Step) : Type 0 where
   pub session : step.session < sessions
   pub keys : All HasKeys step.statements
-  pub today : All RunsToday step.statements
+  pub short : All IsShort step.statements
 
 -- what every spec keeps
 pub record IsReady (file : SpecFile) : Type 0 where
@@ -126,7 +113,7 @@ pub record IsReady (file : SpecFile) : Type 0 where
   pub session_setups : length file.run.session_setups ≡ file.run.sessions
   pub steps : All (IsStep file.run.sessions) file.run.steps
   pub setups_keys : AllHaveKeys file.run.setups
-  pub setups_today : AllRunToday file.run.setups
+  pub setups_short : AllAreShort file.run.setups
   pub session_setups_keys : AllHaveKeys file.run.session_setups
-  pub session_setups_today : AllRunToday file.run.session_setups
+  pub session_setups_short : AllAreShort file.run.session_setups
   pub lines : All (IsLine (length file.run.steps)) file.run.lines

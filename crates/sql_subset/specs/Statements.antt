@@ -18,7 +18,7 @@ use Rattle.sql_reader.specs.declared.statement.LockMode.{LockMode}
 use Rattle.sql_reader.specs.declared.statement.LockMode.TheVariants.{Access, RowLevel, Shared, Exclusively}
 use Rattle.sql_reader.specs.declared.statement.SortKey.{SortKey as Sorted}
 use Rattle.sql_reader.specs.declared.statement.Strength.TheVariants.{Share, Exclusive}
-use Rattle.sql_reader.specs.declared.error.SqlErrorKind.TheVariants.{Unsupported, NotHere}
+use Rattle.sql_reader.specs.declared.error.SqlErrorKind.TheVariants.{NotHere}
 use Rattle.sql_statements.specs.declared.statement.Aggregate.{Aggregate}
 use Rattle.sql_statements.specs.declared.statement.Aggregate.TheVariants as aggregates
 use Rattle.sql_statements.specs.declared.statement.Assignment.{Assignment}
@@ -182,21 +182,6 @@ end_of word.End = Commit
 end_of word.Rollback = Rollback
 end_of word.Abort = Rollback
 
--- the machine of today runs each step as one transaction, so no statement begins or ends one
-abbrev pub runs_today : Bound → Bool
-runs_today Begin = false
-runs_today Commit = false
-runs_today Rollback = false
-runs_today (Select t key c by out) = true
-runs_today (Insert t key rows) = true
-runs_today (Update t key sets c) = true
-runs_today (Delete t key c) = true
-runs_today (LockTable t mode) = true
-runs_today SetVariable = true
-
-abbrev pub today : ℕ → Bound → Bind Bound
-today at b = unless (not (runs_today b)) at (Sql Unsupported) (Ok b)
-
 -- a statement that is no declaration
 abbrev pub statement : List Table → ℕ → tree.Statement → Bind Bound
 statement tables at (tree.CreateTable n ps) = refuse at (Sql NotHere)
@@ -204,7 +189,7 @@ statement tables at (tree.Insert n names rows) = table tables at n >>= λ x. ins
 statement tables at (tree.Selects s) = table tables at s.table >>= λ x. select x.1 at x.0 s
 statement tables at (tree.Update n as' c) = table tables at n >>= λ x. update x.1 at x.0 as' c
 statement tables at (tree.Delete n c) = table tables at n >>= λ x. delete x.1 at x.0 c
-statement tables at (tree.Begin start level) = today at Begin
-statement tables at (tree.Ends end noise) = today at (end_of end)
+statement tables at (tree.Begin start level) = Ok Begin
+statement tables at (tree.Ends end noise) = Ok (end_of end)
 statement tables at (tree.Lock noise n mode) = table tables at n >>= λ x. Ok (LockTable x.0 (mode_of mode))
 statement tables at (tree.Set setting) = Ok SetVariable

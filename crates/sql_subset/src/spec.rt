@@ -1,6 +1,6 @@
 ghost use Rattle.std.specs.Prelude.{◌≡◌, ◌≢◌, ◌<◌, ◌≤◌, ◌↔◌, [], length, get_or, All, IsTrue, IsSome, IfSome};
-ghost use Rattle.sql_subset.specs.Spec.{no_step, ranks, line_of, AllHaveKeys, RunsToday, AllRunToday, IsBound};
-ghost use Rattle.sql_statements.specs.Plan.{HasKeys};
+ghost use Rattle.sql_subset.specs.Spec.{no_step, ranks, line_of, AllHaveKeys, AllAreShort, IsBound};
+ghost use Rattle.sql_statements.specs.Plan.{HasKeys, IsShort};
 ghost use Rattle.sql_subset.specs.Views.{file_of as file_of_parts, IsKept as IsKeptBy};
 
 use crate::block::{Block, Step};
@@ -122,7 +122,7 @@ impl Spec {
         requires { step < length self.now.run.steps }
         ensures are { result.now ≡ (get_or self.now.run.steps step no_step).statements }
         ensures keys { All HasKeys result.now }
-        ensures today { All RunsToday result.now }
+        ensures short { All IsShort result.now }
     {
         self.parts.steps[step as usize].statements()
     }
@@ -131,7 +131,7 @@ impl Spec {
     pub fn setups(&self) -> &[Block]
         ensures are { result.now ≡ self.now.run.setups }
         ensures keys { AllHaveKeys result.now }
-        ensures today { AllRunToday result.now }
+        ensures short { AllAreShort result.now }
     {
         self.parts.setups.as_slice()
     }
@@ -141,7 +141,7 @@ impl Spec {
         ensures are { result.now ≡ self.now.run.session_setups }
         ensures each { length result.now ≡ self.now.run.sessions }
         ensures keys { AllHaveKeys result.now }
-        ensures today { AllRunToday result.now }
+        ensures short { AllAreShort result.now }
     {
         self.parts.session_setups.as_slice()
     }

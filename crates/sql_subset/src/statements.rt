@@ -48,23 +48,6 @@ fn end_of(word: EndWord) -> Bound
     }
 }
 
-fn runs_today(bound: &Bound) -> bool
-    ensures { result ≡ spec.runs_today bound.now }
-{
-    !matches!(bound, Bound::Begin | Bound::Commit | Bound::Rollback)
-}
-
-/// Refuses what the machine of today does not run.
-fn today(at: usize, bound: Bound) -> Result<Bound, BindStop>
-    ensures { Binds spec.placeless_bound result (spec.today at (spec.placeless_bound bound)) }
-{
-    if runs_today(&bound) {
-        Ok(bound)
-    } else {
-        Err(refused(at, BindErrorKind::Sql(SqlErrorKind::Unsupported)))
-    }
-}
-
 /// Binds a statement that begins at this offset.
 pub(crate) fn statement(
     alloc: Global,
@@ -92,8 +75,8 @@ pub(crate) fn statement(
             let (number, table) = table_named(tables, at, text.table.as_str())?;
             delete(alloc, table, at, number, text)
         }
-        Form::Begin(_) => today(at, Bound::Begin),
-        Form::End(end) => today(at, end_of(end.word)),
+        Form::Begin(_) => Ok(Bound::Begin),
+        Form::End(end) => Ok(end_of(end.word)),
         Form::LockTable(text) => {
             let (number, _) = table_named(tables, at, text.table.as_str())?;
             Ok(Bound::LockTable(number, mode_of(text.mode)))

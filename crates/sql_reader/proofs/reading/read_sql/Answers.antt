@@ -2,6 +2,7 @@ use Rattle.std.proofs.Common.{◌≡◌, sym, ap, ◌∙◌, length, List, suc, 
 use Rattle.sql_reader.specs.Lexing.{views, token_list}
 use Rattle.sql_reader.specs.Tokens.{Placed}
 use Rattle.sql_reader.specs.Text.{statements_from, seen, fault_of_error}
+use Rattle.sql_reader.proofs.RowLemmas.{spelled-few}
 use Rattle.sql_reader.proofs.TextLemmas.{read-sound, read-only, read-fault, read-nothing, spelled-one}
 use Rattle.sql_reader.proofs.reading.read_sql.Goals as goal
 
@@ -12,6 +13,12 @@ pub returns-in-Ok-statements_of-clause-sound : goal.returns-in-Ok-statements_of-
 returns-in-Ok-statements_of-clause-sound c =
     let same : views c.deref.result.now ≡ token_list c.args.text.now = ap views c.deref.ensures.value ∙ c.in-Ok.ensures in
     read-sound c.args.text.now (seen c.in-Ok-statements_of.all.items) (ap (λ (ts : List Placed). statements_from (suc (length ts)) ts) (sym same) ∙ c.in-Ok-statements_of.ensures)
+
+pub returns-in-Ok-statements_of-clause-few_rows : goal.returns-in-Ok-statements_of-clause-few_rows
+returns-in-Ok-statements_of-clause-few_rows c =
+    let same : views c.deref.result.now ≡ token_list c.args.text.now = ap views c.deref.ensures.value ∙ c.in-Ok.ensures in
+    spelled-few c.args.text.now (seen c.in-Ok-statements_of.all.items)
+    (read-sound c.args.text.now (seen c.in-Ok-statements_of.all.items) (ap (λ (ts : List Placed). statements_from (suc (length ts)) ts) (sym same) ∙ c.in-Ok-statements_of.ensures))
 
 pub returns-in-Ok-statements_of-clause-complete : goal.returns-in-Ok-statements_of-clause-complete
 returns-in-Ok-statements_of-clause-complete c =
