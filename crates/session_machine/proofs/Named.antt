@@ -2,9 +2,7 @@
 use Rattle.std.specs.List.{All}
 use Rattle.std.proofs.lemmas.List.Elements.{All-nil, All-cons, All-append, All-push, All-set, All-get_or}
 use Rattle.std.proofs.lemmas.List.{get_or_past}
-use Rattle.std.proofs.Common.{◌≡◌, refl, sym, subst, ℕ, zero, suc, ◌<◌, ◌≤◌, Bool, true, false, List, [], ◌∷◌, ◌++◌, length, get_or, Option, Some, None, ◌⊎◌, ⊎_elim, arith}
-use Rattle.lock_modes.specs.declared.mode.Mode.{Mode}
-use Rattle.lock_modes.specs.declared.resource.Resource.{Resource}
+use Rattle.std.proofs.Common.{◌≡◌, sym, subst, ℕ, zero, suc, ◌<◌, ◌≤◌, Bool, true, false, List, [], ◌∷◌, ◌++◌, length, get_or, Option, Some, None, ◌⊎◌, ⊎_elim, arith}
 use Rattle.lock_queues.specs.declared.answer.Answer.{Answer}
 use Rattle.lock_queues.specs.declared.answer.Answer.TheVariants.{Granted, Waits, Ring}
 use Rattle.lock_queues.specs.Locks.{Spot, next_grant, waits_now}

@@ -2,7 +2,7 @@
 use Rattle.std.specs.List.{All, list_any}
 use Rattle.std.proofs.lemmas.List.Elements.{All-get_or, All-set}
 use Rattle.std.proofs.lemmas.List.{length-map, length-replicate}
-use Rattle.std.proofs.Common.{◌≡◌, ◌≢◌, refl, sym, ap, ◌∙◌, subst, ℕ, zero, suc, ◌<◌, ◌≤◌, Bool, true, false, List, [], ◌∷◌, ◌++◌, length, drop, map, set, get_or, replicate, Option, Some, None, is_some, arith, length-set, get_or-set_same}
+use Rattle.std.proofs.Common.{◌≡◌, refl, sym, ap, ◌∙◌, subst, ℕ, zero, suc, ◌<◌, Bool, true, false, List, [], ◌∷◌, length, drop, map, set, get_or, replicate, Option, Some, None, is_some, arith, length-set, get_or-set_same}
 use Rattle.version_tree.specs.Map.{get, empty, get-empty}
 use Rattle.lock_modes.specs.Resource.{resource_order}
 use Rattle.lock_modes.specs.declared.mode.Mode.{Mode}
@@ -11,14 +11,13 @@ use Rattle.lock_queues.specs.LockTable.{Locks, holding_order, no_locks, slice}
 use Rattle.row_tables.specs.Overlay.{Overlay}
 use Rattle.row_tables.specs.Layers.{Layers, session_order, overlay_of, no_rows}
 use Rattle.sql_statements.specs.declared.statement.Bound.{Bound}
-use Rattle.transcripts.specs.declared.event.Event.{Event}
 use Rattle.session_machine.specs.declared.session.Status.TheVariants.{Outside}
 use Rattle.session_machine.specs.declared.session.SessionState.{SessionState}
 use Rattle.session_machine.specs.declared.stepping.Point.{Point}
 use Rattle.session_machine.specs.declared.member.Rest.{Rest}
 use Rattle.session_machine.specs.declared.member.Member.{Member}
 use Rattle.session_machine.specs.declared.stage.Stage.{Stage}
-use Rattle.session_machine.specs.Session.{Session, Task, tasks_of}
+use Rattle.session_machine.specs.Session.{Session, tasks_of}
 use Rattle.session_machine.specs.State.{Own, no_own, session_of, sessions_from, world_of, SameOthers}
 use Rattle.session_machine.specs.Going.{Standing, standing, tasks_from, IsToGo, StopsIn, WaitsIf, GoesUntil, paused}
 use Rattle.session_machine.specs.World.{World, fresh, session_at, goes}
@@ -26,7 +25,7 @@ use Rattle.session_machine.specs.Start.{has_failed, is_failure, is_outside, afte
 use Rattle.session_machine.specs.Sound.{Steady}
 use Rattle.sql_subset.specs.Spec.{Step}
 use Rattle.session_machine.specs.Stage.{no_member, rest_of, own_of, world_in, member_at, IsWithin, RestIsOf, IsStage, IsBlank, IsSilent, IsSetUp, HasEnded, end_of}
-use Rattle.session_machine.specs.Starting.{IsAlone, IsIdle, IsReadyForMains, IsReadyForSessions}
+use Rattle.session_machine.specs.Starting.{IsAlone, IsReadyForMains, IsReadyForSessions}
 use Rattle.session_machine.proofs.Steps.{tasks_from-start}
 use Rattle.session_machine.proofs.States.{length-sessions_from, session_at-is, sessions-set, same-refl}
 use Rattle.session_machine.proofs.Settles.{Entering, entering, goes-steady, touched-steady}

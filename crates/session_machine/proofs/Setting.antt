@@ -7,7 +7,7 @@ use Rattle.transcripts.specs.Outcome.{HasStep}
 use Rattle.session_machine.specs.declared.member.Member.{Member}
 use Rattle.session_machine.specs.Session.{Session}
 use Rattle.session_machine.specs.State.{session_of, sessions_from}
-use Rattle.std.proofs.Common.{◌≡◌, refl, sym, ap, ◌∙◌, subst, ℕ, suc, ◌+◌, ◌<◌, Bool, true, false, not, ◌||◌, List, [], ◌∷◌, length, map, arith}
+use Rattle.std.proofs.Common.{◌≡◌, sym, ap, ◌∙◌, subst, ℕ, suc, ◌<◌, Bool, true, false, not, ◌||◌, List, [], ◌∷◌, length, map, arith}
 use Rattle.lock_queues.specs.Locks.{waits_now, next_grant}
 use Rattle.sql_statements.specs.declared.statement.Bound.{Bound}
 use Rattle.session_machine.specs.declared.stage.Stage.{Stage}

@@ -2,36 +2,31 @@
 use Rattle.std.specs.List.{All}
 use Rattle.std.proofs.lemmas.List.Elements.{All-set}
 use Rattle.std.proofs.lemmas.List.{length-map, map-set}
-use Rattle.std.proofs.Common.{◌≡◌, ◌≢◌, refl, sym, ap, ◌∙◌, subst, ℕ, zero, suc, ◌<◌, ◌≤◌, Bool, true, false, ◌||◌, ◌==◌, List, [], ◌∷◌, ◌++◌, length, drop, map, set, get_or, Option, Some, None, is_some, ◌⊎◌, ⊎_elim, arith, length-set, get_or-set_other, get_or-set_same, eqb-true, eq-eqb}
+use Rattle.std.proofs.Common.{◌≡◌, ◌≢◌, refl, sym, ap, ◌∙◌, subst, ℕ, zero, suc, ◌<◌, Bool, true, false, ◌||◌, ◌==◌, List, [], ◌∷◌, ◌++◌, length, drop, map, set, get_or, Option, Some, None, is_some, ⊎_elim, arith, length-set, get_or-set_other, get_or-set_same, eqb-true, eq-eqb}
 use Rattle.lock_queues.specs.declared.wait.Wait.{Wait}
 use Rattle.lock_queues.specs.Locks.{Spot, waits_now}
 use Rattle.lock_queues.specs.LockTable.{Locks, grant}
 use Rattle.lock_queues.specs.Rules.{IsNext}
-use Rattle.lock_queues.specs.Laws.{IsBelow}
 use Rattle.lock_queues.specs.Sound.{EachWait}
 use Rattle.lock_queues.proofs.Bounded.{tests-decide}
-use Rattle.row_tables.specs.Layers.{Layers}
 use Rattle.transcripts.specs.declared.event.Event.{Event}
 use Rattle.transcripts.specs.declared.event.Event.TheVariants.{Sent, Resumed, NotSent}
-use Rattle.sql_statements.specs.declared.statement.Bound.{Bound}
 use Rattle.sql_subset.specs.Spec.{Step, no_step}
-use Rattle.session_machine.specs.declared.session.SessionState.{SessionState}
 use Rattle.session_machine.specs.declared.member.Rest.{Rest}
 use Rattle.session_machine.specs.declared.member.Member.{Member}
 use Rattle.session_machine.specs.declared.stage.Stage.{Stage}
-use Rattle.session_machine.specs.Session.{Task, Session, tasks_of}
+use Rattle.session_machine.specs.Session.{Task, tasks_of}
 use Rattle.session_machine.specs.State.{Own, no_own, session_of, world_of, SameOthers}
-use Rattle.session_machine.specs.Going.{Standing, standing, tasks_from, IsToGo, StopsIn, WaitsIf}
-use Rattle.session_machine.specs.World.{World, look_of, session_at, goes, granted, settle, left_to_do, send}
-use Rattle.session_machine.specs.Start.{after_setup, forgotten}
+use Rattle.session_machine.specs.Going.{standing, tasks_from, IsToGo, StopsIn, WaitsIf}
+use Rattle.session_machine.specs.World.{look_of, goes, granted, settle, left_to_do, send}
 use Rattle.session_machine.specs.Sound.{Steady, Ready}
 use Rattle.session_machine.specs.Stage.{no_member, statements_of, rest_of, own_of, world_in, member_at, part_of, IsWithin, RestIsOf, IsStage, note_member, HasTold, HasGone, HasResumed}
 use Rattle.session_machine.proofs.Commute.{cases-eq}
 use Rattle.session_machine.proofs.Steps.{tasks_from-start}
-use Rattle.session_machine.proofs.States.{length-sessions_from, session_at-is, sessions-set, next-is, same-refl, same-trans, same-taken}
-use Rattle.session_machine.proofs.Settles.{Entering, entering, Grant, next-grant, goes-steady, granted-steady, granted-left, touched-steady, wait-map, wait-right}
+use Rattle.session_machine.proofs.States.{length-sessions_from, next-is, same-refl, same-trans, same-taken}
+use Rattle.session_machine.proofs.Settles.{Grant, next-grant, goes-steady, granted-steady, granted-left, wait-map, wait-right}
 use Rattle.session_machine.proofs.SettleSteps.{next_in, settle-grant}
-use Rattle.session_machine.proofs.Worlds.{within-still, goes-is, granted-is, resumed_own, own_told, to-go, granted-to-go, not-sent, sent-enters, sent-goes, sent-to-go}
+use Rattle.session_machine.proofs.Worlds.{within-still, goes-is, granted-is, resumed_own, own_told, granted-to-go, not-sent, sent-enters, sent-goes, sent-to-go}
 
 -- ---- the sessions of a stage
 

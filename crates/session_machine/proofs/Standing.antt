@@ -1,9 +1,8 @@
 -- A stage between the steps: what is told of its world, and what holds after a step.
 use Rattle.std.specs.List.{All}
 use Rattle.std.proofs.lemmas.List.{length-map}
-use Rattle.std.proofs.Common.{◌≡◌, refl, sym, ap, ◌∙◌, subst, ℕ, zero, suc, ◌<◌, ◌≤◌, Bool, List, [], ◌∷◌, length, map, take, get_or, Some, None, is_some, arith}
+use Rattle.std.proofs.Common.{◌≡◌, refl, sym, ap, ◌∙◌, subst, ℕ, zero, suc, ◌<◌, ◌≤◌, List, [], ◌∷◌, length, map, take, get_or, is_some, arith}
 use Rattle.transcripts.specs.Outcome.{HasStep}
-use Rattle.transcripts.specs.declared.event.Event.{Event}
 use Rattle.lock_queues.specs.Locks.{next_grant, waits_now}
 use Rattle.lock_queues.specs.Rules.{NothingRipe}
 use Rattle.lock_queues.specs.LockTable.{Locks, look_in}
@@ -12,7 +11,7 @@ use Rattle.sql_subset.specs.Spec.{Step, no_step}
 use Rattle.session_machine.specs.declared.member.Member.{Member}
 use Rattle.session_machine.specs.declared.stage.Stage.{Stage}
 use Rattle.session_machine.specs.Session.{Session}
-use Rattle.session_machine.specs.State.{Own, sessions_from, world_of}
+use Rattle.session_machine.specs.State.{sessions_from, world_of}
 use Rattle.session_machine.specs.World.{World, look_of, settle, send, outcome_of}
 use Rattle.session_machine.specs.Sound.{Steady, Sound}
 use Rattle.session_machine.specs.Stage.{no_member, own_of, world_in, IsWithin, RestIsOf, IsStage, IsNamed, IsSettled, HasSameParts, transcripts_of}

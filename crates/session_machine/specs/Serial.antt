@@ -9,9 +9,9 @@ use Rattle.row_tables.specs.Overlay.{Rows', Write, Overlay, lay, written}
 use Rattle.statement_effects.specs.Effect.{Effect, Gives, Faults, effect}
 use Rattle.session_machine.specs.Session.{Task, Ask, Do, Session, Held, Goes, Fails, Kind, Begins, Commits, RollsBack, Works, kind, perform, tasks_of, note, ended}
 use Rattle.session_machine.specs.Go.{Scene, taking, is_broken, answer_in}
-use Rattle.session_machine.specs.World.{World, session_at, look_of, scene_of, granted, goes, left_to_do, send}
+use Rattle.session_machine.specs.World.{World, session_at, look_of, scene_of, granted, goes, left_to_do, send, send_all, outcome_of}
 use Rattle.sql_subset.specs.Spec.{Step, no_step, Spec}
-use Rattle.session_machine.specs.Start.{Started, set_up, after_setup, forgotten}
+use Rattle.session_machine.specs.Start.{Started, set_up, start, after_setup, forgotten}
 use Rattle.lock_queues.specs.declared.answer.Answer.TheVariants.{Granted, Waits, Ring}
 use Rattle.transcripts.specs.declared.event.Event.{Event}
 use Rattle.transcripts.specs.declared.event.Event.TheVariants.{Sent, Resumed, Row as RowEvent, Rows, Inserted, Updated, Deleted, Locked, Set}
@@ -216,3 +216,11 @@ first_rows spec = elim (set_up spec) [ Started w ↦ w.rows | _ ↦ empty ]
 -- what the session setups did
 abbrev pub start_told : Spec → History
 start_told spec = elim (set_up spec) [ Started w ↦ session_setups_told 0 w spec.session_setups (no_history (suc spec.sessions)) | _ ↦ no_history 0 ]
+
+-- what a line comes to from the start of the spec: the transactions in the order of their commits, those of session setups included, run one after another without locks over the rows after the main setups, give their events and leave the committed rows; each session is told the data events of its transactions in their order
+pub record IsSerial (spec : Spec) (line : List ℕ) (outcome : List (List Event)) : Type 0 where
+  pub world : World
+  pub starts : start spec ≡ Started world
+  pub told : Told (first_rows spec) (send_all spec.steps world line) (send_all_told spec.steps world line (start_told spec))
+  pub shown : Shown (said_in (start_told spec)) (send_all spec.steps world line) (send_all_told spec.steps world line (start_told spec))
+  pub outcome_is : outcome ≡ outcome_of spec.sessions (send_all spec.steps world line)

@@ -1,5 +1,5 @@
 -- Worlds between the setups of a spec, before any step is sent.
-use Rattle.std.specs.Prelude.{◌≡◌, ◌≢◌, ℕ, suc, List, [], length, All}
+use Rattle.std.specs.Prelude.{◌≡◌, ◌≢◌, ℕ, suc, [], length, All}
 use Rattle.session_machine.specs.declared.stage.Stage.{Stage}
 use Rattle.session_machine.specs.World.{World, fresh, session_at}
 use Rattle.session_machine.specs.Sound.{Steady}

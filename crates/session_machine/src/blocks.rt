@@ -1,6 +1,8 @@
 //! Transaction blocks of a session, and the ends of its steps, over a store and a lock table.
 
 ghost use Rattle.std.specs.Prelude.{◌≡◌, ◌≢◌, OnOk};
+ghost use Rattle.lock_queues.specs.LockTable.{let_go};
+ghost use Rattle.row_tables.specs.Layers.{undone, kept};
 ghost use Rattle.session_machine.specs.Session.{after_fault};
 ghost use Rattle.session_machine.specs.Going.{standing, block_ended, failed_in, finished_in, begun_in, commits_in, rolls_back_in};
 ghost use Rattle.session_machine.specs.declared.session.Status.TheVariants as of;
@@ -10,6 +12,24 @@ use lock_queues::LockTable;
 use row_tables::Store;
 use std::alloc::AllocError;
 use transcripts::{Event, Fault, Warning};
+
+/// Drops what a session wrote in its transaction, and its locks.
+fn drop_transaction(store: &mut Store, locks: &mut LockTable, session: u8) -> Result<(), AllocError>
+    ensures rows { OnOk result (store.new ≡ undone session store.old) }
+    ensures locks { OnOk result (locks.new ≡ let_go locks.old session) }
+{
+    store.undo(session)?;
+    locks.let_go(session)
+}
+
+/// Keeps what a session wrote in its transaction, and drops its locks.
+fn keep_transaction(store: &mut Store, locks: &mut LockTable, session: u8) -> Result<(), AllocError>
+    ensures rows { OnOk result (store.new ≡ kept session store.old) }
+    ensures locks { OnOk result (locks.new ≡ let_go locks.old session) }
+{
+    store.keep(session);
+    locks.let_go(session)
+}
 
 /// Ends a step by a fault: the transaction is undone, its locks go, and its block has failed.
 pub(crate) fn fail(
@@ -21,8 +41,7 @@ pub(crate) fn fail(
 ) -> Result<(), AllocError>
     ensures { OnOk result (standing store.new locks.new state.new ≡ failed_in session (standing store.old locks.old state.old) fault) }
 {
-    store.undo(session)?;
-    locks.let_go(session)?;
+    drop_transaction(store, locks, session)?;
     state.status = status_after_fault(state.status);
     state.transcript.push(Event::Failed(fault))?;
     state.transcript.push(Event::Done)
@@ -48,8 +67,7 @@ pub(crate) fn finish(
     ensures { OnOk result (standing store.new locks.new state.new ≡ finished_in session (standing store.old locks.old state.old)) }
 {
     if state.status == Status::Outside {
-        store.keep(session);
-        locks.let_go(session)?;
+        keep_transaction(store, locks, session)?;
     }
     state.transcript.push(Event::Done)
 }
@@ -78,8 +96,7 @@ pub(crate) fn commit(
     if state.status == Status::Broken {
         return roll_back(store, locks, session, state);
     }
-    store.keep(session);
-    locks.let_go(session)?;
+    keep_transaction(store, locks, session)?;
     end_block(state, Event::Committed)
 }
 
@@ -92,8 +109,7 @@ pub(crate) fn roll_back(
 ) -> Result<(), AllocError>
     ensures { OnOk result (standing store.new locks.new state.new ≡ rolls_back_in session (standing store.old locks.old state.old)) }
 {
-    store.undo(session)?;
-    locks.let_go(session)?;
+    drop_transaction(store, locks, session)?;
     end_block(state, Event::RolledBack)
 }
 

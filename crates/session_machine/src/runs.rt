@@ -3,6 +3,7 @@
 ghost use Rattle.std.specs.Prelude.{◌≡◌, ◌<◌, ℕ, Some, false, All, IfOk, IfErr, OnOk, length};
 ghost use Rattle.session_machine.specs.Start.{Start, start};
 ghost use Rattle.session_machine.specs.World.{send_all};
+ghost use Rattle.session_machine.specs.Serial.{IsSerial};
 ghost use Rattle.session_machine.specs.Running.{IsTold, IsRefusedBy, IsNotRunBy, outcome_of_line};
 
 use crate::error::{RunError, SendError, StartError};
@@ -16,6 +17,7 @@ use transcripts::Outcome;
 pub fn run_one(alloc: Global, spec: &Spec, line: &Line) -> Result<Outcome, RunError>
     requires { All (λ k. k < length spec.now.run.steps) line.now.items }
     ensures ran { IfOk result (λ outcome. outcome_of_line spec.now.run line.now.items ≡ Some outcome) }
+    ensures serial { IfOk result (IsSerial spec.now.run line.now.items) }
     ensures named { IfOk result (IsTold spec.now.run.sessions (length spec.now.run.steps)) }
     ensures refused { IfErr result (λ error. IsNotRunBy error (start spec.now.run)) }
 {

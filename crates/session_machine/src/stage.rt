@@ -155,7 +155,12 @@ impl Stage {
     }
 
     /// Runs a setup of a session and forgets what it tells.
-    pub(crate) fn set_up(&mut self, alloc: Global, session: u8, block: &Block) -> Result<SetUp, AllocError>
+    pub(crate) fn set_up(
+        &mut self,
+        alloc: Global,
+        session: u8,
+        block: &Block,
+    ) -> Result<SetUp, AllocError>
         requires stage { IsStage [] self.old }
         requires inside { session < length self.old.members.items }
         requires keys { All HasKeys block.now }

@@ -1,4 +1,5 @@
 use super::*;
+use lock_modes::{Mode, Place, Value};
 use spec_reader::read_spec;
 use sql_subset::{Spec, bind};
 use std::alloc::Global;
@@ -109,5 +110,116 @@ fn a_world_tells_what_was_sent_so_far(rt: HostRuntime) -> Result<(), Fail> {
     let outcome = world.outcome().expect(&rt, "an outcome");
     let text = "session a\nsession b\n  step b1\n  rows 0\n  done\n";
     assert_eq!(rt; text_of(&rt, alloc, &spec, &outcome).as_str(), text);
+    Ok(())
+}
+
+const LOST_UPDATE: &str =
+    "session a setup { BEGIN; } step a1 { UPDATE t SET v = v + 1 WHERE id = 1; } step a2 { COMMIT; }
+    session b setup { BEGIN; } step b1 { UPDATE t SET v = v + 10 WHERE id = 1; } step b2 { COMMIT; }
+    permutation a1 b1 a2 b2";
+
+const LOST_UPDATE_TELLS: &str =
+    "session a\n  step a1\n  updated 1\n  done\n  step a2\n  committed\n  done\nsession b\n  step b1\n  waiting\n  resumed\n  updated 1\n  done\n  step b2\n  committed\n  done\n";
+
+/// Whether the two sessions wait.
+fn who_waits(world: &World<'_>) -> (bool, bool) {
+    (world.wait_of(0).is_some(), world.wait_of(1).is_some())
+}
+
+#[test]
+fn a_world_tells_who_holds_and_who_waits(rt: HostRuntime) -> Result<(), Fail> {
+    let alloc = rt.alloc();
+    let spec = spec_of(&rt, alloc, LOST_UPDATE);
+    let row = Value::Int(1);
+    let mut world = World::start(alloc, &spec).expect(&rt, "a start");
+    world.send(0).expect(&rt, "a1 is sent");
+    let mut fork = world.fork().expect(&rt, "a fork");
+    fork.send(2).expect(&rt, "b1 is sent");
+    assert!(rt;
+        world.holds(0, Place::Table(0)) == Some(Mode::IntentExclusive),
+        "a writes in t"
+    );
+    assert!(rt;
+        world.holds(0, Place::Row(0, &row)) == Some(Mode::Exclusive),
+        "and its row"
+    );
+    assert!(rt;
+        world.holds(1, Place::Row(0, &row)).is_none(),
+        "which b does not hold"
+    );
+    assert_eq!(rt; who_waits(&world), (false, false));
+    assert_eq!(rt; who_waits(&fork), (false, true));
+    match fork.wait_of(1) {
+        Some((Place::Row(0, key), Mode::Exclusive)) => assert!(rt; *key == row, "the row of a"),
+        _ => assert!(rt; false, "b waits for a row"),
+    }
+    fork.send(1).expect(&rt, "a2 is sent");
+    assert_eq!(rt; who_waits(&fork), (false, false));
+    assert!(rt;
+        !fork.spent() && fork.spec().steps() == 4,
+        "a whole world of the spec"
+    );
+    Ok(())
+}
+
+/// The world after a step, or a fork taken before it where the step is refused memory, after the same step. None where the
+/// fork was refused too.
+fn after_step<'a>(rt: &impl Abort, mut world: World<'a>, step: u8) -> Option<World<'a>> {
+    let fork = world.fork();
+    match world.send(step) {
+        Ok(()) => Some(world),
+        Err(error) => {
+            assert_eq!(rt; error, SendError::NoMemory);
+            assert!(rt;
+                world.spent() && world.wait_of(1).is_none(),
+                "a spent world tells nothing"
+            );
+            match world.send(step) {
+                Err(error) => assert_eq!(rt; error, SendError::Spent),
+                Ok(()) => assert!(rt; false, "a spent world takes no step"),
+            }
+            let mut fork = fork.ok()?;
+            fork.send(step).expect(rt, "the fork goes on");
+            Some(fork)
+        }
+    }
+}
+
+#[test]
+fn a_world_without_memory_is_spent_and_its_forks_go_on(rt: HostRuntime) -> Result<(), Fail> {
+    let alloc = rt.alloc();
+    let spec = spec_of(&rt, alloc, LOST_UPDATE);
+    let mut world = match World::start(alloc, &spec) {
+        Ok(world) => world,
+        Err(error) => {
+            assert_eq!(rt; error, StartError::NoMemory);
+            return Ok(());
+        }
+    };
+    for step in [0, 2, 1, 3] {
+        let Some(next) = after_step(&rt, world, step) else {
+            return Ok(());
+        };
+        world = next;
+    }
+    match world.outcome() {
+        Ok(outcome) => {
+            assert_eq!(rt;
+                text_of(&rt, alloc, &spec, &outcome).as_str(),
+                LOST_UPDATE_TELLS
+            );
+        }
+        Err(error) => assert_eq!(rt; error, SendError::NoMemory),
+    }
+    let line = spec.line(0).expect(&rt, "a rank of the spec");
+    match run_one(alloc, &spec, &line) {
+        Ok(outcome) => {
+            assert_eq!(rt;
+                text_of(&rt, alloc, &spec, &outcome).as_str(),
+                LOST_UPDATE_TELLS
+            );
+        }
+        Err(error) => assert_eq!(rt; error, RunError::NoMemory),
+    }
     Ok(())
 }

@@ -3,6 +3,7 @@
 ghost use Rattle.std.specs.Prelude.{◌≡◌, ◌<◌, ◌↔◌, true, false, length, IfOk, IfErr, OnOk, OnErr, IsErrOf};
 ghost use Rattle.std.specs.Option.{option_map};
 ghost use Rattle.lock_modes.specs.Resource.{resource_at};
+ghost use Rattle.sql_subset.specs.Spec.{IsBound};
 ghost use Rattle.session_machine.specs.World.{send, outcome_of};
 ghost use Rattle.session_machine.specs.Start.{Started, start};
 ghost use Rattle.session_machine.specs.Stage.{transcripts_of};
@@ -53,6 +54,7 @@ impl<'a> World<'a> {
     pub fn start(alloc: Global, spec: &'a Spec) -> Result<World<'a>, StartError>
         ensures started { IfOk result (λ world. start spec.now.run ≡ Started world.world) }
         ensures of_spec { IfOk result (λ world. world.file ≡ spec.now) }
+        ensures bound { IfOk result (λ world. IsBound world.file.run) }
         ensures whole { IfOk result (λ world. world.spent ≡ false) }
         ensures refused { IfErr result (λ error. IsRefusedBy error (start spec.now.run)) }
     {

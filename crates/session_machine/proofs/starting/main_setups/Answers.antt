@@ -1,5 +1,4 @@
 use Rattle.std.proofs.Common.{◌≡◌, ◌+◌, sym, ap, ◌∙◌, subst, false, true, [], ◌∷◌, drop, drop-cons, add-one}
-use Rattle.session_machine.specs.declared.stage.SetUp.TheVariants.{Closed, Waits}
 use Rattle.session_machine.specs.Start.{main_setups}
 use Rattle.session_machine.specs.Stage.{world_in, HasEnded}
 use Rattle.session_machine.proofs.Setting.{main-idle, main-goes, main-ready}

@@ -1,6 +1,5 @@
-use Rattle.std.specs.Result.{OnOk}
 use Rattle.std.proofs.lemmas.List.Elements.{All-get_or}
-use Rattle.std.proofs.Common.{◌≡◌, sym, ap, ◌∙◌, subst, ◌<◌, length, drop, set, is_some, Some, None, true, false, length-set}
+use Rattle.std.proofs.Common.{◌≡◌, sym, ap, ◌∙◌, subst, ◌<◌, length, drop, is_some, Some, true, false, length-set}
 use Rattle.lock_queues.specs.LockTable.{grant}
 use Rattle.transcripts.specs.declared.event.Event.TheVariants.{Resumed}
 use Rattle.session_machine.specs.declared.member.Member.{Member}

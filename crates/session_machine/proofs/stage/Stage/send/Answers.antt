@@ -1,5 +1,4 @@
-use Rattle.std.specs.Result.{OnOk}
-use Rattle.std.proofs.Common.{◌≡◌, sym, ap, ◌∙◌, subst, ℕ, suc, ◌<◌, true, false, List, length, drop, get_or, arith, length-set}
+use Rattle.std.proofs.Common.{◌≡◌, sym, ap, ◌∙◌, subst, suc, ◌<◌, false, length, drop, get_or, arith, length-set}
 use Rattle.lock_queues.specs.Locks.{waits_now}
 use Rattle.transcripts.specs.declared.event.Event.TheVariants.{Sent, NotSent}
 use Rattle.sql_subset.specs.Spec.{no_step}

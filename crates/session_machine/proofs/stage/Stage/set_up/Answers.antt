@@ -1,10 +1,8 @@
 use Rattle.std.specs.List.{list_any}
-use Rattle.std.proofs.Common.{◌≡◌, refl, sym, ap, ◌∙◌, subst, ◌<◌, length, set, [], is_some}
+use Rattle.std.proofs.Common.{◌≡◌, refl, sym, ◌∙◌, subst, set}
 use Rattle.session_machine.specs.declared.member.Member.{Member}
-use Rattle.session_machine.specs.declared.session.SessionState.{SessionState}
 use Rattle.session_machine.specs.declared.stepping.Point.{Point}
 use Rattle.session_machine.specs.declared.stage.Stage.{Stage}
-use Rattle.session_machine.specs.Start.{is_failure, is_outside}
 use Rattle.session_machine.specs.Going.{standing, IsToGo, GoesUntil}
 use Rattle.session_machine.specs.Stage.{no_member, member_at, HasEnded}
 use Rattle.session_machine.proofs.Stages.{get_or-any}

@@ -1,5 +1,4 @@
-use Rattle.std.proofs.Common.{sym, ap, ◌∙◌, subst, ◌<◌, length, map}
-use Rattle.lock_queues.specs.Rules.{NothingRipe}
+use Rattle.std.proofs.Common.{sym, ◌∙◌, subst, ◌<◌, length}
 use Rattle.session_machine.proofs.Stages.{session-known}
 use Rattle.session_machine.proofs.Standing.{settled-now}
 use Rattle.session_machine.proofs.stage.Stage.settle.Goals as goal

@@ -1,7 +1,7 @@
 use Rattle.std.proofs.Common.{sym, ap, ◌∙◌}
 use Rattle.lock_modes.specs.Resource.{resource_at}
-use Rattle.session_machine.specs.Running.{Running, held_in}
-use Rattle.session_machine.specs.Stage.{own_of, world_in}
+use Rattle.session_machine.specs.Running.{held_in}
+use Rattle.session_machine.specs.Stage.{world_in}
 use Rattle.session_machine.proofs.Standing.{look-now}
 use Rattle.session_machine.proofs.world.World.holds.Goals as goal
 

@@ -1,4 +1,4 @@
-use Rattle.std.proofs.Common.{◌≡◌, sym, ap, ◌∙◌, subst, suc, ◌≤◌, length, take, arith}
+use Rattle.std.proofs.Common.{◌≡◌, sym, ap, ◌∙◌, subst, ◌≤◌, length, take, arith}
 use Rattle.session_machine.specs.World.{outcome_of}
 use Rattle.session_machine.specs.Running.{Running, IsTold}
 use Rattle.session_machine.specs.Stage.{world_in, transcripts_of}

@@ -1,5 +1,5 @@
 use Rattle.std.proofs.lemmas.Result.{err_from_is_err_and}
-use Rattle.std.proofs.Common.{◌≡◌, sym, ap, ◌∙◌, subst, suc, [], length, add-one}
+use Rattle.std.proofs.Common.{◌≡◌, sym, ap, ◌∙◌, subst, suc, [], add-one}
 use Rattle.session_machine.specs.Start.{Started, main_setups, session_setups, start}
 use Rattle.session_machine.specs.Running.{IsRefusedBy}
 use Rattle.session_machine.specs.Stage.{world_in, IsBlank}

@@ -3,7 +3,7 @@ use Rattle.std.specs.List.{find}
 use Rattle.std.specs.Option.{option_map}
 use Rattle.lock_queues.specs.declared.wait.Wait.{Wait}
 use Rattle.lock_queues.specs.Locks.{wanted_by}
-use Rattle.session_machine.specs.Running.{Running, wait_in}
+use Rattle.session_machine.specs.Running.{wait_in}
 use Rattle.session_machine.specs.Stage.{world_in}
 use Rattle.session_machine.proofs.Standing.{look-now}
 use Rattle.session_machine.proofs.world.World.wait_of.Goals as goal
