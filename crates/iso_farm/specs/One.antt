@@ -2,7 +2,6 @@
 use Rattle.std.specs.Prelude.{◌≡◌, ℕ, ◌<◌, ◌≤◌, ◌⊎◌, ◌++◌, List, Some, Result, Ok, Err}
 use Rattle.sql_subset.specs.Spec.{SpecFile, ranks, line_of}
 use Rattle.sql_subset.specs.Binding.{bound_file}
-use Rattle.sql_subset.specs.Bindings.{placeless_file}
 use Rattle.sql_subset.specs.declared.error.BindErrorKind.TheVariants.{NoMemory}
 use Rattle.spec_reader.specs.Tree.{SpecTree}
 use Rattle.spec_reader.specs.Text.{IsSpec, Explains}
@@ -37,11 +36,11 @@ faults_of (Err OutOfRange) = 0
 faults_of (Err (Run error)) = 0
 faults_of (Err (Write fault)) = 1
 
--- the bytes are a spec file, which binds to this, wherever its parts lie in memory
+-- the bytes are a spec file, which binds to this
 pub record IsFileOf (bytes : List ℕ) (file : SpecFile) : Type 0 where
   pub tree : SpecTree
   pub is_spec : IsSpec bytes tree
-  pub is_bound : bound_file bytes tree ≡ Ok (placeless_file file)
+  pub is_bound : bound_file bytes tree ≡ Ok file
 
 -- the text is the answer of the spec file that the bytes are
 pub record IsAnswerOf (bytes : List ℕ) (rank : ℕ) (text : List ℕ) : Type 0 where

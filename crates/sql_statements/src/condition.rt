@@ -1,6 +1,7 @@
 //! Conditions over the columns of a row.
 
 use crate::expression::Expression;
+use sqlite_items::Boxed;
 
 /// How two values are compared.
 #[derive(Clone, Copy, Debug, PartialEq, Eq)]
@@ -19,7 +20,7 @@ pub enum Condition {
     /// Every row meets it: the condition of a statement without WHERE.
     Always,
     Compares(Expression, Comparison, Expression),
-    Not(Box<Condition>),
-    And(Box<Condition>, Box<Condition>),
-    Or(Box<Condition>, Box<Condition>),
+    Not(Boxed<Condition>),
+    And(Boxed<Condition>, Boxed<Condition>),
+    Or(Boxed<Condition>, Boxed<Condition>),
 }

@@ -1,6 +1,6 @@
 -- One part after another is bound.
 use Rattle.std.proofs.Common.{◌≡◌, refl, sym, ap, ◌∙◌, ℕ, suc, ◌+◌, ◌<◌, ◌≤◌, List, [], ◌∷◌, ◌++◌, length, map, get_or, drop, Ok, Err, drop-cons, add-one, append_assoc}
-use Rattle.std.proofs.lemmas.List.{append-nil, drop_all, map_push}
+use Rattle.std.proofs.lemmas.List.{append-nil, drop_all}
 use Rattle.sql_subset.specs.declared.error.BindError.{BindError}
 use Rattle.sql_subset.specs.declared.tables.Table.{Table}
 use Rattle.sql_subset.specs.Refusals.{Bind, ◌>>=◌, with_front, each}
@@ -45,11 +45,6 @@ module _ {A X : Type 0} (f : A → Bind X) where
 
   pub each-ends : (xs : List X) (as' : List A) (k : ℕ) → length as' ≤ k → with_front xs (each f (drop k as')) ≡ Ok xs
   each-ends xs as' k h = ap (λ bs. with_front xs (each f bs)) (drop_all k as' h) ∙ ap Ok (append-nil xs)
-
--- what contracts see of the parts so far
-pub each-sees : {A X Y : Type 0} (f : A → Bind Y) (see : X → Y) (xs : List X) (as' : List A) (k : ℕ) (d : A) (x : X) → k < length as' → f (get_or as' k d) ≡ Ok (see x)
-    → with_front (map see xs) (each f (drop k as')) ≡ with_front (map see (xs ++ x ∷ [])) (each f (drop (k + 1) as'))
-each-sees f see xs as' k d x h e = each-goes_on f (map see xs) as' k d (see x) h e ∙ ap (λ ys. with_front ys (each f (drop (k + 1) as'))) (sym (map_push see xs x))
 
 -- ---- with the tables that are declared so far
 

@@ -1,7 +1,7 @@
 -- A file that is bound is ready to run.
-use Rattle.std.proofs.Common.{◌≡◌, refl, sym, ap, subst, ◌∙◌, ℕ, zero, suc, ◌+◌, ◌<◌, ◌≤◌, ◌≢◌, Bool, true, false, cond, List, [], ◌∷◌, ◌++◌, length, map, All, get_or, Option, Some, None, Ok, Err, arith, length-append, append_assoc, drop, drop-cons, add-one}
+use Rattle.std.proofs.Common.{◌≡◌, refl, sym, ap, subst, ◌∙◌, ℕ, suc, ◌+◌, ◌<◌, ◌≤◌, ◌≢◌, Bool, true, false, cond, List, [], ◌∷◌, ◌++◌, length, map, All, get_or, Option, Some, None, Ok, Err, arith, length-append, append_assoc, drop, drop-cons, add-one}
 use Rattle.std.specs.Prelude.{◌==◌, ◌&&◌, ◌||◌, nat_le, nat_lt, is_ok, bytes_eq}
-use Rattle.std.proofs.lemmas.List.{length-map, append-nil, get_or-map}
+use Rattle.std.proofs.lemmas.List.{length-map, append-nil}
 use Rattle.std.proofs.lemmas.List.Elements.{All-nil, All-cons, All-append, All-map, All-head, All-tail}
 use Rattle.std.proofs.lemmas.Bool.{leb-true, ltb-false, eq-eqb, ne_eqb}
 use Rattle.perm_ranks.specs.declared.error.ShapeError.{ShapeError}
@@ -23,9 +23,7 @@ use Rattle.sql_subset.specs.declared.orders.Orders.TheVariants.{Words, Lines}
 use Rattle.sql_subset.specs.declared.spec.Parts.{Parts}
 use Rattle.sql_subset.specs.Orders.{IsOrderOf}
 use Rattle.sql_subset.specs.Views.{file_of, IsKept}
-use Rattle.sql_subset.specs.Bindings.{FitsCounts, placeless_block, placeless_step, placeless_file}
-use Rattle.sql_subset.specs.Statements.{placeless_bound}
-use Rattle.sql_statements.specs.declared.statement.Bound.TheVariants as bound
+use Rattle.sql_subset.specs.Bindings.{FitsCounts}
 use Rattle.sql_subset.proofs.SentLemmas.{IsSent, AllSent, position-below, each-length, each-All, each-told, session-sent, setups-sent}
 
 all-keys : (bs : List Bound) → All IsSent bs → All HasKeys bs
@@ -286,81 +284,12 @@ order_of (Lines lines) run counts h e = h
 pub few-sessions : (tree : SpecTree) (lines : List (List ℕ)) (tables : List Table) (ss : List BoundSession) → shaped (orders_of tree) ≡ Ok lines → each (session tables) tree.sessions ≡ Ok ss → length ss ≤ 6
 few-sessions tree lines tables ss o e = omega (arith, (ordered tree lines (some_of (orders_of tree) lines o)).0, each-length (session tables) tree.sessions ss e)
 
--- ---- where the parts of conditions lie says nothing of a spec
-
-all_unmap : {A B : Type 0} (P : B → Type 0) (f : A → B) (as' : List A) → All P (map f as') → All (λ a. P (f a)) as'
-all_unmap P f as' h = λ i d lt. subst P (get_or-map f as' i d (f d) lt) (h i (f d) (omega (arith, length-map as' f, lt)))
-
-keys-place : (b : Bound) → HasKeys (placeless_bound b) → HasKeys b
-keys-place (bound.Select t key c by out) h = tt
-keys-place (bound.Insert t key rows) h = h
-keys-place (bound.Update t key sets c) h = tt
-keys-place (bound.Delete t key c) h = tt
-keys-place (bound.LockTable t mode) h = tt
-keys-place bound.Begin h = tt
-keys-place bound.Commit h = tt
-keys-place bound.Rollback h = tt
-keys-place bound.SetVariable h = tt
-
-short-place : (b : Bound) → IsShort (placeless_bound b) → IsShort b
-short-place (bound.Select t key c by out) h = h
-short-place (bound.Insert t key rows) h = h
-short-place (bound.Update t key sets c) h = h
-short-place (bound.Delete t key c) h = h
-short-place (bound.LockTable t mode) h = h
-short-place bound.Begin h = h
-short-place bound.Commit h = h
-short-place bound.Rollback h = h
-short-place bound.SetVariable h = h
-
-block_keys : (bs : List Bound) → All HasKeys (placeless_block bs) → All HasKeys bs
-block_keys bs h = λ i d lt. keys-place (get_or bs i d) (all_unmap HasKeys placeless_bound bs h i d lt)
-
-block_short : (bs : List Bound) → All IsShort (placeless_block bs) → All IsShort bs
-block_short bs h = λ i d lt. short-place (get_or bs i d) (all_unmap IsShort placeless_bound bs h i d lt)
-
-blocks_keys : (blocks : List (List Bound)) → AllHaveKeys (map placeless_block blocks) → AllHaveKeys blocks
-blocks_keys blocks h = λ i d lt. block_keys (get_or blocks i d) (all_unmap (All HasKeys) placeless_block blocks h i d lt)
-
-blocks_short : (blocks : List (List Bound)) → AllAreShort (map placeless_block blocks) → AllAreShort blocks
-blocks_short blocks h = λ i d lt. block_short (get_or blocks i d) (all_unmap (All IsShort) placeless_block blocks h i d lt)
-
-step-place : (n : ℕ) (s : Step) → IsStep n (placeless_step s) → IsStep n s
-step-place n s h = record { session = h.session; keys = block_keys s.statements h.keys; short = block_short s.statements h.short }
-
-ready-place : (file : SpecFile) → IsReady (placeless_file file) → IsReady file
-ready-place file h =
-    let steps : length (map placeless_step file.run.steps) ≡ length file.run.steps = length-map file.run.steps placeless_step in
-    record {
-      few_sessions = h.few_sessions;
-      few_steps = omega (arith, steps, h.few_steps);
-      few_lines = h.few_lines;
-      session_names = h.session_names;
-      step_names = h.step_names ∙ steps;
-      session_setups = sym (length-map file.run.session_setups placeless_block) ∙ h.session_setups;
-      steps = λ i d lt. step-place file.run.sessions (get_or file.run.steps i d) (all_unmap (IsStep file.run.sessions) placeless_step file.run.steps h.steps i d lt);
-      setups_keys = blocks_keys file.run.setups h.setups_keys;
-      setups_short = blocks_short file.run.setups h.setups_short;
-      session_setups_keys = blocks_keys file.run.session_setups h.session_setups_keys;
-      session_setups_short = blocks_short file.run.session_setups h.session_setups_short;
-      lines = subst (λ n. All (IsLine n) file.run.lines) steps h.lines;
-    }
-
-steps_of-place : (i k : ℕ) (ss : List Step) → steps_of i k (map placeless_step ss) ≡ steps_of i k ss
-steps_of-place i k [] = refl
-steps_of-place i k (s ∷ ss) = λ j. cond (s.session == i) (k ∷ steps_of-place i (suc k) ss j) (steps_of-place i (suc k) ss j)
-
-queues-place : (i n : ℕ) (ss : List Step) → queues_from i n (map placeless_step ss) ≡ queues_from i n ss
-queues-place i zero ss = refl
-queues-place i (suc n) ss = λ j. steps_of-place i 0 ss j ∷ queues-place (suc i) n ss j
-
-pub kept : (parts : Parts) (text : List ℕ) (tree : SpecTree) (lines : List (List ℕ)) (main : List Table × List (List Bound)) (ss : List BoundSession) → placeless_file (file_of parts) ≡ made_file text tree lines main.1 ss
+pub kept : (parts : Parts) (text : List ℕ) (tree : SpecTree) (lines : List (List ℕ)) (main : List Table × List (List Bound)) (ss : List BoundSession) → file_of parts ≡ made_file text tree lines main.1 ss
     → shaped (orders_of tree) ≡ Ok lines → declared main_setup [] tree.front.setups ≡ Ok main → each (session main.0) tree.sessions ≡ Ok ss → FitsCounts (counts_in tree.sessions) parts.orders → IsKept parts
 kept parts text tree lines main ss made o m e fits =
     let counts = counts-made text tree lines main.1 ss (sessions-told main.0 tree.sessions ss e) (each-length (session main.0) tree.sessions ss e) in
     let file = file_of parts in
     record {
-      ready = ready-place file (subst IsReady (sym made) (file-ready text tree lines main ss (some_of (orders_of tree) lines o) m e));
-      orders = order_of parts.orders file.run (counts_in tree.sessions) fits
-          (counts ∙ ap (λ (f : SpecFile). counts_of (queues_of f.run)) (sym made) ∙ ap counts_of (queues-place 0 file.run.sessions file.run.steps));
+      ready = subst IsReady (sym made) (file-ready text tree lines main ss (some_of (orders_of tree) lines o) m e);
+      orders = order_of parts.orders file.run (counts_in tree.sessions) fits (counts ∙ ap (λ (f : SpecFile). counts_of (queues_of f.run)) (sym made));
     }

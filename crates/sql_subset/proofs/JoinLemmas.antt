@@ -1,26 +1,25 @@
 -- Chains are joined in pairs, and keep their parts.
-use Rattle.std.proofs.Common.{◌≡◌, refl, sym, ap, ◌∙◌, ℕ, zero, suc, ◌<◌, ◌≤◌, List, [], ◌∷◌, ◌++◌, length, map, Option, Some, None, arith, append_assoc}
-use Rattle.std.proofs.lemmas.List.{append-nil, map-append}
-use Rattle.sql_statements.specs.declared.condition.Condition.{Condition}
+use Rattle.std.proofs.Common.{◌≡◌, refl, sym, ap, ◌∙◌, ℕ, zero, suc, ◌<◌, ◌≤◌, List, [], ◌∷◌, ◌++◌, length, Option, Some, None, arith, append_assoc}
+use Rattle.std.proofs.lemmas.List.{append-nil}
+use Rattle.sql_statements.specs.declared.condition.Condition.{Condition, more_of-Condition, end_of-Condition}
 use Rattle.sql_statements.specs.declared.condition.Condition.TheVariants.{Always, Compares, Not', And', Or'}
 use Rattle.sql_subset.specs.declared.joining.Joint.{Joint}
 use Rattle.sql_subset.specs.declared.joining.Joint.TheVariants.{All, Any}
 use Rattle.sql_subset.specs.Names.{maybe}
-use Rattle.sql_subset.specs.Translation.{placeless, join, paired, first_or_always, joined_in, joined}
+use Rattle.sql_subset.specs.Translation.{join, paired, first_or_always, joined_in, joined}
 
 -- the part that waits last
 pub last-waits : (j : Joint) (pairs : List Condition) (waiting : Option Condition) (whole new : List Condition) → new ≡ pairs ++ maybe waiting
-    → map placeless pairs ++ paired j (map placeless (maybe waiting) ++ []) ≡ paired j (map placeless whole ++ []) → map placeless new ≡ paired j (map placeless whole)
-last-waits j pairs None whole new e h =
-    ap (map placeless) (e ∙ append-nil pairs) ∙ sym (append-nil (map placeless pairs)) ∙ h ∙ ap (paired j) (append-nil (map placeless whole))
-last-waits j pairs (Some c) whole new e h = ap (map placeless) e ∙ map-append placeless pairs (c ∷ []) ∙ h ∙ ap (paired j) (append-nil (map placeless whole))
+    → pairs ++ paired j (maybe waiting ++ []) ≡ paired j (whole ++ []) → new ≡ paired j whole
+last-waits j pairs None whole new e h = e ∙ h ∙ ap (paired j) (append-nil whole)
+last-waits j pairs (Some c) whole new e h = e ∙ h ∙ ap (paired j) (append-nil whole)
 
-pub joined-none : (n : ℕ) (j : Joint) (cs : List Condition) → n ≡ 0 → placeless (first_or_always cs) ≡ joined_in n j (map placeless cs)
+pub joined-none : (n : ℕ) (j : Joint) (cs : List Condition) → n ≡ 0 → first_or_always cs ≡ joined_in n j cs
 joined-none zero j [] e = refl
 joined-none zero j (c ∷ cs) e = refl
 joined-none (suc n) j cs e = absurd (omega arith)
 
-pub joined-few : (n : ℕ) (j : Joint) (cs : List Condition) → length cs < 2 → placeless (first_or_always cs) ≡ joined_in n j (map placeless cs)
+pub joined-few : (n : ℕ) (j : Joint) (cs : List Condition) → length cs < 2 → first_or_always cs ≡ joined_in n j cs
 joined-few zero j cs h = joined-none zero j cs refl
 joined-few (suc n) j [] h = refl
 joined-few (suc n) j (c ∷ []) h = refl
@@ -36,12 +35,12 @@ joined-many (suc n) m j (a ∷ b ∷ cs) e h = let same : m ≡ n = omega arith 
 
 -- what a joint joins, through and through
 abbrev pub leaves : Joint → Condition → List Condition
-leaves All (And' p a q b) = leaves All a ++ leaves All b
+leaves All (And' _ (more_of-Condition a end_of-Condition) _ (more_of-Condition b end_of-Condition)) = leaves All a ++ leaves All b
 leaves All Always = Always ∷ []
 leaves All (Compares a c b) = Compares a c b ∷ []
 leaves All (Not' p c) = Not' p c ∷ []
 leaves All (Or' p a q b) = Or' p a q b ∷ []
-leaves Any (Or' p a q b) = leaves Any a ++ leaves Any b
+leaves Any (Or' _ (more_of-Condition a end_of-Condition) _ (more_of-Condition b end_of-Condition)) = leaves Any a ++ leaves Any b
 leaves Any Always = Always ∷ []
 leaves Any (Compares a c b) = Compares a c b ∷ []
 leaves Any (Not' p c) = Not' p c ∷ []

@@ -9,6 +9,5 @@ pub mod FaultLemmas
 pub mod ReadLemmas
 pub mod JoinLemmas
 pub mod OptionLemmas
-pub mod PlaceLemmas
 pub mod SentLemmas
 pub mod FileLemmas

@@ -3,8 +3,8 @@ use Rattle.std.specs.Prelude.{ℕ, ◌==◌, List, [], ◌∷◌, Option, Some, 
 use Rattle.lock_modes.specs.declared.value.Value.{Value}
 use Rattle.sql_statements.specs.declared.condition.Comparison.{Comparison}
 use Rattle.sql_statements.specs.declared.condition.Comparison.TheVariants.{Same, Differs, Below, AtMost, Above, AtLeast}
-use Rattle.sql_statements.specs.declared.condition.Condition.{Condition}
-use Rattle.sql_statements.specs.declared.condition.Condition.TheVariants.{Always, Compares, Not', And', Or'}
+use Rattle.sql_statements.specs.Conditions.{told}
+use Rattle.sql_statements.specs.declared.condition.Condition.{Condition, Condition-F as Level}
 use Rattle.sql_statements.specs.declared.expression.Expression.{Expression}
 use Rattle.sql_statements.specs.declared.expression.Operand.{Operand}
 use Rattle.sql_statements.specs.declared.expression.Operand.TheVariants.{Literal, Column}
@@ -40,13 +40,17 @@ abbrev pub or_next : {A : Type 0} → Option A → Option A → Option A
 or_next None o = o
 or_next (Some x) o = Some x
 
+-- the key that a level names, by the keys that the conditions in it name
+abbrev pub level_key : ℕ → Level (Option Value) → Option Value
+level_key key Level.Always = None
+level_key key (Level.Compares a comparison b) = key_compared key comparison (single a) (single b)
+level_key key (Level.Not c) = None
+level_key key (Level.And a b) = or_next a b
+level_key key (Level.Or a b) = None
+
 -- the key that the first of the parts names that are joined by AND
 abbrev pub key_in : ℕ → Condition → Option Value
-key_in key Always = None
-key_in key (Compares a comparison b) = key_compared key comparison (single a) (single b)
-key_in key (Not' p c) = None
-key_in key (And' p a q b) = or_next (key_in key a) (key_in key b)
-key_in key (Or' p a q b) = None
+key_in key c = told (level_key key) c
 
 abbrev pub key_of : Option ℕ → Condition → Option Value
 key_of None c = None

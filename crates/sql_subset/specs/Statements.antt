@@ -36,7 +36,7 @@ use Rattle.sql_subset.specs.KeyParts.{key_of}
 use Rattle.sql_subset.specs.Names.{Name, list_of, repeats}
 use Rattle.sql_subset.specs.Refusals.{Bind, ◌>>=◌, refuse, unless, each}
 use Rattle.sql_subset.specs.Tables.{key_column, width, column, table}
-use Rattle.sql_subset.specs.Translation.{value, expression, where_of, placeless}
+use Rattle.sql_subset.specs.Translation.{value, expression, where_of}
 use Rattle.sql_subset.specs.Types.{condition_mixes, assignment_mixes, output_mixes, row_mixes}
 
 -- ---- INSERT
@@ -151,18 +151,6 @@ delete_rows t at n c = unless (condition_mixes t c) at TypeMismatch (Ok (Delete 
 
 abbrev pub delete : Table → ℕ → ℕ → Option tree.Condition → Bind Bound
 delete t at n c = where_of t at c >>= λ c. delete_rows t at n c
-
--- the statement with null in place of each address
-abbrev pub placeless_bound : Bound → Bound
-placeless_bound (Select t key c by out) = Select t key (placeless c) by out
-placeless_bound (Insert t key rows) = Insert t key rows
-placeless_bound (Update t key sets c) = Update t key sets (placeless c)
-placeless_bound (Delete t key c) = Delete t key (placeless c)
-placeless_bound (LockTable t mode) = LockTable t mode
-placeless_bound Begin = Begin
-placeless_bound Commit = Commit
-placeless_bound Rollback = Rollback
-placeless_bound SetVariable = SetVariable
 
 -- ---- the other forms
 

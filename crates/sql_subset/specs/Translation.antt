@@ -1,7 +1,5 @@
 -- Expressions and conditions over names become expressions and conditions over numbers.
 use Rattle.std.specs.Prelude.{ℕ, zero, suc, List, [], ◌∷◌, length, Option, Some, None, Ok}
-use denote.RawPtr.{null_ptr}
-use Rattle.std.specs.Global.{Box}
 use Rattle.lock_modes.specs.declared.value.Value.{Value}
 use Rattle.lock_modes.specs.declared.value.Value.TheVariants.{Int, Text}
 use Rattle.sql_reader.specs.Numbers.{whole_of}
@@ -16,10 +14,11 @@ use Rattle.sql_reader.specs.declared.expression.Factor.TheVariants as factor
 use Rattle.sql_reader.specs.declared.expression.Literal.{Literal}
 use Rattle.sql_reader.specs.declared.expression.Literal.TheVariants.{Whole, Quoted}
 use Rattle.sql_reader.specs.declared.error.SqlErrorKind.TheVariants.{NumberTooLarge}
+use Rattle.sql_statements.specs.Conditions.{negation, conjunction, disjunction}
 use Rattle.sql_statements.specs.declared.condition.Comparison.{Comparison}
 use Rattle.sql_statements.specs.declared.condition.Comparison.TheVariants.{Same, Differs, Below, AtMost, Above, AtLeast}
 use Rattle.sql_statements.specs.declared.condition.Condition.{Condition}
-use Rattle.sql_statements.specs.declared.condition.Condition.TheVariants.{Always, Compares, Not', And', Or'}
+use Rattle.sql_statements.specs.declared.condition.Condition.TheVariants.{Always, Compares}
 use Rattle.sql_statements.specs.declared.expression.AddSign.{AddSign}
 use Rattle.sql_statements.specs.declared.expression.AddSign.TheVariants as sign
 use Rattle.sql_statements.specs.declared.expression.Expression.{Expression}
@@ -68,25 +67,11 @@ abbrev pub expression : Table → ℕ → Sum → Bind Expression
 expression t at sum =
     product t at (sum_head sum) >>= λ p. (each (signed t at) (sum_tail sum) >>= λ ps. Ok (record { first = p; more = ps }))
 
--- ---- conditions, wherever their parts lie in memory
-
--- a part without an address
-abbrev pub nowhere : Box (Unit {0})
-nowhere = record { ptr = null_ptr; alloc = record { memory = record { seal = tt } }; value = tt }
-
--- the condition with no address in it
-abbrev pub placeless : Condition → Condition
-placeless Always = Always
-placeless (Compares a comparison b) = Compares a comparison b
-placeless (Not' p c) = Not' nowhere (placeless c)
-placeless (And' p a q b) = And' nowhere (placeless a) nowhere (placeless b)
-placeless (Or' p a q b) = Or' nowhere (placeless a) nowhere (placeless b)
-
 -- ---- chains of conditions, of which neighbours are joined again and again until one is left
 
 abbrev pub join : Joint → Condition → Condition → Condition
-join All a b = And' nowhere a nowhere b
-join Any a b = Or' nowhere a nowhere b
+join All a b = conjunction a b
+join Any a b = disjunction a b
 
 abbrev pub paired : Joint → List Condition → List Condition
 paired j [] = []
@@ -131,7 +116,7 @@ abbrev mutual
 
   pub atom : tree.Atom → Table → ℕ → Bind Condition
   atom (tree.Compares a s b) t at = expression t at a >>= λ x. (expression t at b >>= λ y. Ok (Compares x (comparison s) y))
-  atom (tree.Not a) t at = atom a t at >>= λ c. Ok (Not' nowhere c)
+  atom (tree.Not a) t at = atom a t at >>= λ c. Ok (negation c)
   atom (tree.Group more) t at = alternatives more t at >>= λ cs. Ok (joined Any cs)
 
 abbrev pub part : tree.Part → Table → ℕ → Bind Condition

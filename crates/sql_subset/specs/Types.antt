@@ -3,8 +3,8 @@ use Rattle.std.specs.Prelude.{ℕ, Bool, true, false, ◌||◌, List, [], ◌∷
 use Rattle.std.specs.List.{list_any}
 use Rattle.lock_modes.specs.declared.value.Value.{Value}
 use Rattle.lock_modes.specs.declared.value.Value.TheVariants as value
-use Rattle.sql_statements.specs.declared.condition.Condition.{Condition}
-use Rattle.sql_statements.specs.declared.condition.Condition.TheVariants.{Always, Compares, Not', And', Or'}
+use Rattle.sql_statements.specs.Conditions.{told}
+use Rattle.sql_statements.specs.declared.condition.Condition.{Condition, Condition-F as Level}
 use Rattle.sql_statements.specs.declared.expression.Expression.{Expression}
 use Rattle.sql_statements.specs.declared.expression.Operand.{Operand}
 use Rattle.sql_statements.specs.declared.expression.Operand.TheVariants.{Literal, Column}
@@ -71,12 +71,16 @@ expression_mixes t e = mixes_by (single e) (has_text t e)
 abbrev pub comparison_mixes : Table → Expression → Expression → Bool
 comparison_mixes t a b = expression_mixes t a || expression_mixes t b || differ (expression_type t a) (expression_type t b)
 
+-- whether a level mixes them, by whether the conditions in it do
+abbrev pub level_mixes : Table → Level Bool → Bool
+level_mixes t Level.Always = false
+level_mixes t (Level.Compares a comparison b) = comparison_mixes t a b
+level_mixes t (Level.Not c) = c
+level_mixes t (Level.And a b) = a || b
+level_mixes t (Level.Or a b) = a || b
+
 abbrev pub condition_mixes : Table → Condition → Bool
-condition_mixes t Always = false
-condition_mixes t (Compares a c b) = comparison_mixes t a b
-condition_mixes t (Not' p c) = condition_mixes t c
-condition_mixes t (And' p a q b) = condition_mixes t a || condition_mixes t b
-condition_mixes t (Or' p a q b) = condition_mixes t a || condition_mixes t b
+condition_mixes t c = told (level_mixes t) c
 
 abbrev pub assignment_mixes : Table → Assignment → Bool
 assignment_mixes t a = expression_mixes t a.value || differ (type_of t a.column) (expression_type t a.value)

@@ -3,7 +3,7 @@
 ghost use Rattle.std.specs.Prelude.{◌≡◌, ◌≢◌, ◌<◌, ◌≤◌, ◌++◌, ◌⊎◌, [], map, length, string_bytes, IfOk, IfErr, Ok, Err};
 ghost use Rattle.spec_reader.specs.Views.{session_tree, step_tree, line_tree, spec_tree};
 ghost use Rattle.sql_subset.specs.Orders.{lines_of};
-ghost use Rattle.sql_subset.specs.Bindings.{placeless_block, placeless_step, placeless_file, bound_session, FitsCounts};
+ghost use Rattle.sql_subset.specs.Bindings.{bound_session, FitsCounts};
 ghost use Rattle.sql_subset.specs.Lines.{all_some, line_of, counts_in, step_names, session_names, lines_by, orders_of};
 ghost use Rattle.sql_subset.specs.Binding.{numbered, all_steps, shaped, bound_file};
 ghost use Rattle.sql_subset.specs.Refusals.{Binds};
@@ -127,7 +127,7 @@ fn orders(alloc: Global, text: &SpecText, names: &[Text]) -> Result<Orders, Bind
 }
 
 fn push_steps(session: u8, blocks: Vec<Block>, steps: &mut Vec<Step>) -> Result<(), AllocError>
-    ensures { IfOk result (λ _. map placeless_step steps.new.items ≡ map placeless_step steps.old.items ++ numbered session (map placeless_block blocks.items)) }
+    ensures { IfOk result (λ _. steps.new.items ≡ steps.old.items ++ numbered session blocks.items) }
 {
     for block in blocks {
         steps.push(Step::new(session, block))?;
@@ -141,8 +141,8 @@ fn all_steps(
     sessions: Vec<BoundSession>,
 ) -> Result<(Vec<Step>, Vec<Block>), AllocError>
     requires { length sessions.items ≤ 6 }
-    ensures steps { IfOk result (λ x. map placeless_step x.0.items ≡ all_steps 0 (map bound_session sessions.items)) }
-    ensures setups { IfOk result (λ x. map placeless_block x.1.items ≡ map (λ s. s.setup) (map bound_session sessions.items)) }
+    ensures steps { IfOk result (λ x. x.0.items ≡ all_steps 0 (map bound_session sessions.items)) }
+    ensures setups { IfOk result (λ x. x.1.items ≡ map (λ s. s.setup) (map bound_session sessions.items)) }
 {
     let mut steps = Vec::new(alloc);
     let mut setups = Vec::new(alloc);
@@ -161,7 +161,7 @@ fn all_steps(
 
 /// Binds what a spec file says: its main setups in order, and then each session's setup and steps.
 fn bound(alloc: Global, text: &SpecText) -> Result<Spec, BindStop>
-    ensures { Binds placeless_file result (bound_file (string_bytes text.now.text) (spec_tree text.now)) }
+    ensures { Binds (λ spec. spec) result (bound_file (string_bytes text.now.text) (spec_tree text.now)) }
 {
     let step_names = step_names(alloc, &text.sessions)?;
     let orders = orders(alloc, text, &step_names)?;
@@ -192,7 +192,7 @@ const NO_MEMORY: BindError = BindError {
 /// Each name is looked for among the tables, columns or steps before it in turn, which a file of 65,536 bytes keeps short.
 pub fn bind(alloc: Global, text: &SpecText) -> Result<Spec, BindError>
     // What is bound is what the file says.
-    ensures bound { IfOk result (λ spec. bound_file (string_bytes text.now.text) (spec_tree text.now) ≡ Ok (placeless_file spec)) }
+    ensures bound { IfOk result (λ spec. bound_file (string_bytes text.now.text) (spec_tree text.now) ≡ Ok spec) }
     // What is refused has that first refusal, unless memory ran out.
     ensures refused { IfErr result (λ e. (bound_file (string_bytes text.now.text) (spec_tree text.now) ≡ Err e) ⊎ (e ≡ record { kind = BindErrorKind.NoMemory; offset = 0 })) }
 {

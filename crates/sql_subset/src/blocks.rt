@@ -5,8 +5,7 @@ ghost use Rattle.spec_reader.specs.Views.{block_tree, step_tree, option_tree, se
 ghost use Rattle.sql_reader.specs.Text.{seen};
 ghost use Rattle.sql_reader.specs.Views.{view_form};
 ghost use Rattle.sql_subset.specs.Binding.{offset_in, read_block, statement_at, bind_block, session_setup, step, session, main_statement, main_at, main_setup, then_more, declared};
-ghost use Rattle.sql_subset.specs.Bindings.{bound_session, placeless_block};
-ghost use Rattle.sql_subset.specs.Statements.{placeless_bound};
+ghost use Rattle.sql_subset.specs.Bindings.{bound_session};
 ghost use Rattle.sql_subset.specs.Refusals.{Binds, each};
 
 use crate::block::Block;
@@ -46,7 +45,7 @@ fn statement_at(
     block: usize,
     text: &Statement,
 ) -> Result<Bound, BindStop>
-    ensures { Binds placeless_bound result (statement_at tables.now block (text.now.at, view_form text.now.form)) }
+    ensures { Binds (λ bound. bound) result (statement_at tables.now block (text.now.at, view_form text.now.form)) }
 {
     statement(alloc, tables, offset_in(block, text.at), &text.form)
 }
@@ -57,7 +56,7 @@ fn statements(
     block: usize,
     texts: &[Statement],
 ) -> Result<Vec<Bound>, BindStop>
-    ensures { Binds (λ all. placeless_block all.items) result (each (statement_at tables.now block) (seen texts.now)) }
+    ensures { Binds (λ all. all.items) result (each (statement_at tables.now block) (seen texts.now)) }
 {
     let mut all = Vec::new(alloc);
     for text in texts {
@@ -68,7 +67,7 @@ fn statements(
 
 /// Binds a block outside the main setups.
 fn bind_block(alloc: Global, tables: &[Table], block: &BlockText) -> Result<Block, BindStop>
-    ensures { Binds placeless_block result (bind_block tables.now (block_tree block.now)) }
+    ensures { Binds (λ block. block) result (bind_block tables.now (block_tree block.now)) }
 {
     let texts = read_block(alloc, block)?;
     let bound = statements(alloc, tables, block.at, &texts)?;
@@ -80,7 +79,7 @@ fn session_setup(
     tables: &[Table],
     setup: &Option<BlockText>,
 ) -> Result<Block, BindStop>
-    ensures { Binds placeless_block result (session_setup tables.now (option_tree setup.now)) }
+    ensures { Binds (λ block. block) result (session_setup tables.now (option_tree setup.now)) }
 {
     match setup {
         None => Ok(Block::from_statements(Vec::new(alloc))),
@@ -89,13 +88,13 @@ fn session_setup(
 }
 
 fn step(alloc: Global, tables: &[Table], text: &StepText) -> Result<Block, BindStop>
-    ensures { Binds placeless_block result (step tables.now (step_tree text.now)) }
+    ensures { Binds (λ block. block) result (step tables.now (step_tree text.now)) }
 {
     bind_block(alloc, tables, &text.block)
 }
 
 fn steps(alloc: Global, tables: &[Table], texts: &[StepText]) -> Result<Vec<Block>, BindStop>
-    ensures { Binds (λ all. map placeless_block all.items) result (each (step tables.now) (map step_tree texts.now)) }
+    ensures { Binds (λ all. all.items) result (each (step tables.now) (map step_tree texts.now)) }
 {
     let mut all = Vec::new(alloc);
     for text in texts {
@@ -142,7 +141,7 @@ fn push_main(
     text: &Statement,
     all: &mut Vec<Bound>,
 ) -> Result<(), BindStop>
-    ensures { Binds (λ _. (tables.new.items, placeless_block all.new.items)) result (then_more (placeless_block all.old.items) (main_at block tables.old.items (text.now.at, view_form text.now.form))) }
+    ensures { Binds (λ _. (tables.new.items, all.new.items)) result (then_more all.old.items (main_at block tables.old.items (text.now.at, view_form text.now.form))) }
 {
     let at = offset_in(block, text.at);
     match &text.form {
@@ -158,7 +157,7 @@ fn main_statements(
     block: usize,
     texts: &[Statement],
 ) -> Result<Vec<Bound>, BindStop>
-    ensures { Binds (λ all. (tables.new.items, placeless_block all.items)) result (declared (main_at block) tables.old.items (seen texts.now)) }
+    ensures { Binds (λ all. (tables.new.items, all.items)) result (declared (main_at block) tables.old.items (seen texts.now)) }
 {
     let mut all = Vec::new(alloc);
     for text in texts {
@@ -173,7 +172,7 @@ fn push_setup(
     block: &BlockText,
     all: &mut Vec<Block>,
 ) -> Result<(), BindStop>
-    ensures { Binds (λ _. (tables.new.items, map placeless_block all.new.items)) result (then_more (map placeless_block all.old.items) (main_setup tables.old.items (block_tree block.now))) }
+    ensures { Binds (λ _. (tables.new.items, all.new.items)) result (then_more all.old.items (main_setup tables.old.items (block_tree block.now))) }
 {
     let texts = read_block(alloc, block)?;
     let bound = main_statements(alloc, tables, block.at, &texts)?;
@@ -186,7 +185,7 @@ fn each_setup(
     tables: &mut Vec<Table>,
     blocks: &[BlockText],
 ) -> Result<Vec<Block>, BindStop>
-    ensures { Binds (λ all. (tables.new.items, map placeless_block all.items)) result (declared (λ tables b. main_setup tables (block_tree b)) tables.old.items blocks.now) }
+    ensures { Binds (λ all. (tables.new.items, all.items)) result (declared (λ tables b. main_setup tables (block_tree b)) tables.old.items blocks.now) }
 {
     let mut all = Vec::new(alloc);
     for block in blocks {
@@ -201,7 +200,7 @@ pub(crate) fn setups(
     tables: &mut Vec<Table>,
     blocks: &[BlockText],
 ) -> Result<Vec<Block>, BindStop>
-    ensures { Binds (λ all. (tables.new.items, map placeless_block all.items)) result (declared main_setup tables.old.items (map block_tree blocks.now)) }
+    ensures { Binds (λ all. (tables.new.items, all.items)) result (declared main_setup tables.old.items (map block_tree blocks.now)) }
 {
     each_setup(alloc, tables, blocks)
 }

@@ -5,7 +5,6 @@ ghost use Rattle.std.specs.List.{list_any};
 ghost use Rattle.sql_reader.specs.Views.{chain_by, option_by, view_assignment, view_condition};
 ghost use Rattle.sql_subset.specs.Refusals.{Binds, each};
 ghost use Rattle.sql_subset.specs.Statements as spec;
-ghost use Rattle.sql_subset.specs.Translation.{placeless};
 ghost use Rattle.sql_subset.specs.Types as types;
 
 use crate::conditions::where_of;
@@ -81,7 +80,6 @@ fn sets_mix(table: &Table, sets: &[Assignment]) -> bool
     sets.iter().any(|set| assignment_mixes(table, set))
 }
 
-#[tactic(auto, using(crate::proofs::PlaceLemmas::placing))]
 fn update_rows(
     alloc: Global,
     table: &Table,
@@ -90,7 +88,7 @@ fn update_rows(
     sets: Vec<Assignment>,
     condition: Condition,
 ) -> Result<Bound, BindStop>
-    ensures { Binds spec.placeless_bound result (spec.update_rows table.now at number sets.items (placeless condition)) }
+    ensures { Binds (λ bound. bound) result (spec.update_rows table.now at number sets.items condition) }
 {
     if sets_mix(table, &sets) || condition_mixes(table, &condition) {
         return Err(refused(at, BindErrorKind::TypeMismatch));
@@ -114,7 +112,7 @@ pub(crate) fn update(
     number: u16,
     statement: &Update,
 ) -> Result<Bound, BindStop>
-    ensures { Binds spec.placeless_bound result
+    ensures { Binds (λ bound. bound) result
         (spec.update table.now at number (chain_by view_assignment statement.now.assignments) (option_by view_condition statement.now.condition)) }
 {
     let sets = assignments(alloc, table, at, &statement.assignments)?;
@@ -122,14 +120,13 @@ pub(crate) fn update(
     update_rows(alloc, table, at, number, sets, condition)
 }
 
-#[tactic(auto, using(crate::proofs::PlaceLemmas::placing))]
 fn delete_rows(
     table: &Table,
     at: usize,
     number: u16,
     condition: Condition,
 ) -> Result<Bound, BindStop>
-    ensures { Binds spec.placeless_bound result (spec.delete_rows table.now at number (placeless condition)) }
+    ensures { Binds (λ bound. bound) result (spec.delete_rows table.now at number condition) }
 {
     if condition_mixes(table, &condition) {
         return Err(refused(at, BindErrorKind::TypeMismatch));
@@ -146,7 +143,7 @@ pub(crate) fn delete(
     number: u16,
     statement: &Delete,
 ) -> Result<Bound, BindStop>
-    ensures { Binds spec.placeless_bound result (spec.delete table.now at number (option_by view_condition statement.now.condition)) }
+    ensures { Binds (λ bound. bound) result (spec.delete table.now at number (option_by view_condition statement.now.condition)) }
 {
     let condition = where_of(alloc, table, at, &statement.condition)?;
     delete_rows(table, at, number, condition)

@@ -1,10 +1,10 @@
 //! Binds conditions. Parentheses leave no trace, and a missing WHERE is a condition that every row meets.
 
-ghost use Rattle.std.specs.Prelude.{◌≡◌};
+ghost use Rattle.std.specs.Prelude.{◌≡◌, IfOk};
 ghost use Rattle.sql_reader.specs.Views.{option_by, view_atom, view_part, view_condition};
+ghost use Rattle.sql_statements.specs.Conditions as conditions;
 ghost use Rattle.sql_subset.specs.Refusals.{Binds};
 ghost use Rattle.sql_subset.specs.Translation as spec;
-ghost use Rattle.sql_subset.specs.Translation.{placeless};
 
 use crate::error::BindStop;
 use crate::expressions::expression;
@@ -14,7 +14,8 @@ use sql_reader::{
     Atom, Comparison as ComparisonWord, Condition as ConditionText, Part as PartText,
 };
 use sql_statements::{Comparison, Condition};
-use std::alloc::Global;
+use sqlite_items::Boxed;
+use std::alloc::{AllocError, Global};
 
 fn comparison(sign: ComparisonWord) -> Comparison
     ensures { result ≡ spec.comparison sign }
@@ -29,10 +30,17 @@ fn comparison(sign: ComparisonWord) -> Comparison
     }
 }
 
+#[tactic(auto, using(sql_statements::proofs::ConditionLemmas::making))]
+fn negation(alloc: Global, part: Condition) -> Result<Condition, AllocError>
+    ensures { IfOk result (λ condition. condition ≡ conditions.negation part) }
+{
+    Ok(Condition::Not(Boxed::new(alloc, part)?))
+}
+
 #[cycle(condition)]
 #[tactic(auto, unfolding(sql_reader::specs::Views::view_atom, sql_reader::specs::Views::view_condition))]
 fn atom(alloc: Global, table: &Table, at: usize, atom_text: &Atom) -> Result<Condition, BindStop>
-    ensures { Binds placeless result (spec.atom (view_atom atom_text.now) table.now at) }
+    ensures { Binds (λ condition. condition) result (spec.atom (view_atom atom_text.now) table.now at) }
 {
     match atom_text {
         Atom::Compares(a, sign, b) => {
@@ -42,7 +50,7 @@ fn atom(alloc: Global, table: &Table, at: usize, atom_text: &Atom) -> Result<Con
         }
         Atom::Not(part) => {
             let part = atom(alloc, table, at, part.get())?;
-            Ok(Condition::Not(Box::new(alloc, part)?))
+            Ok(negation(alloc, part)?)
         }
         Atom::Group(group) => condition(alloc, table, at, group.get()),
     }
@@ -52,7 +60,7 @@ fn atom(alloc: Global, table: &Table, at: usize, atom_text: &Atom) -> Result<Con
 #[cycle(condition)]
 #[tactic(auto, unfolding(sql_reader::specs::Views::view_atom, sql_reader::specs::Views::view_part))]
 fn part(alloc: Global, table: &Table, at: usize, text: &PartText) -> Result<Condition, BindStop>
-    ensures { Binds placeless result (spec.part (view_part text.now) table.now at) }
+    ensures { Binds (λ condition. condition) result (spec.part (view_part text.now) table.now at) }
 {
     let mut all = Vec::new(alloc);
     all.push(atom(alloc, table, at, &text.first)?)?;
@@ -71,7 +79,7 @@ fn condition(
     at: usize,
     text: &ConditionText,
 ) -> Result<Condition, BindStop>
-    ensures { Binds placeless result (spec.condition (view_condition text.now) table.now at) }
+    ensures { Binds (λ condition. condition) result (spec.condition (view_condition text.now) table.now at) }
 {
     let mut all = Vec::new(alloc);
     all.push(part(alloc, table, at, &text.first)?)?;
@@ -88,7 +96,7 @@ pub(crate) fn where_of(
     at: usize,
     text: &Option<ConditionText>,
 ) -> Result<Condition, BindStop>
-    ensures { Binds placeless result (spec.where_of table.now at (option_by view_condition text.now)) }
+    ensures { Binds (λ condition. condition) result (spec.where_of table.now at (option_by view_condition text.now)) }
 {
     match text {
         Some(text) => condition(alloc, table, at, text),

@@ -191,7 +191,7 @@ fn insert_rows(
     columns: &[u8],
     rows: &[Row],
 ) -> Result<Bound, BindStop>
-    ensures { Binds spec.placeless_bound result (spec.insert_rows table.now at number columns.now rows.now) }
+    ensures { Binds (λ bound. bound) result (spec.insert_rows table.now at number columns.now rows.now) }
 {
     if rows_mix(table, columns, rows) {
         return Err(refused(at, BindErrorKind::TypeMismatch));
@@ -213,7 +213,7 @@ pub(crate) fn insert(
     number: u16,
     statement: &Insert,
 ) -> Result<Bound, BindStop>
-    ensures { Binds spec.placeless_bound result
+    ensures { Binds (λ bound. bound) result
         (spec.insert table.now at number (option_by chain_of statement.now.columns) (chain_by chain_of statement.now.rows)) }
 {
     let columns = row_columns(alloc, table, at, &statement.columns)?;

@@ -1,11 +1,12 @@
 //! Chains of AND and of OR, whose parts are joined in pairs, so that no condition is nested as deep as a chain is long.
 
-ghost use Rattle.std.specs.Prelude.{◌≡◌, ◌++◌, ◌∷◌, [], List, map, IfOk, OnOk};
+ghost use Rattle.std.specs.Prelude.{◌≡◌, ◌++◌, ◌∷◌, [], List, IfOk, OnOk};
 ghost use Rattle.sql_statements.specs.declared.condition.Condition.{Condition as One};
 ghost use Rattle.sql_subset.specs.Names.{maybe};
-ghost use Rattle.sql_subset.specs.Translation.{placeless, join, paired, first_or_always, joined_in, joined};
+ghost use Rattle.sql_subset.specs.Translation.{join, paired, first_or_always, joined_in, joined};
 
 use sql_statements::Condition;
+use sqlite_items::Boxed;
 use std::alloc::{AllocError, Global};
 
 /// What joins the parts of a chain: AND, of which all have to hold, or OR.
@@ -15,11 +16,12 @@ pub(crate) enum Joint {
     Any,
 }
 
+#[tactic(auto, using(sql_statements::proofs::ConditionLemmas::making))]
 fn join(alloc: Global, joint: Joint, a: Condition, b: Condition) -> Result<Condition, AllocError>
-    ensures { IfOk result (λ c. placeless c ≡ join joint (placeless a) (placeless b)) }
+    ensures { IfOk result (λ c. c ≡ join joint a b) }
 {
-    let a = Box::new(alloc, a)?;
-    let b = Box::new(alloc, b)?;
+    let a = Boxed::new(alloc, a)?;
+    let b = Boxed::new(alloc, b)?;
     match joint {
         Joint::All => Ok(Condition::And(a, b)),
         Joint::Any => Ok(Condition::Or(a, b)),
@@ -35,7 +37,7 @@ fn push_pair(
     pairs: &mut Vec<Condition>,
 ) -> Result<Option<Condition>, AllocError>
     ensures { IfOk result (λ waits. (rest : List One) →
-        map placeless pairs.old.items ++ paired joint (map placeless (maybe waiting) ++ (placeless part ∷ rest)) ≡ map placeless pairs.new.items ++ paired joint (map placeless (maybe waits) ++ rest)) }
+        pairs.old.items ++ paired joint (maybe waiting ++ (part ∷ rest)) ≡ pairs.new.items ++ paired joint (maybe waits ++ rest)) }
 {
     match waiting {
         Some(first) => {
@@ -58,7 +60,7 @@ fn push_last(waiting: Option<Condition>, pairs: &mut Vec<Condition>) -> Result<(
 
 /// Joins neighbours.
 fn paired(alloc: Global, joint: Joint, parts: Vec<Condition>) -> Result<Vec<Condition>, AllocError>
-    ensures { IfOk result (λ pairs. map placeless pairs.items ≡ paired joint (map placeless parts.items)) }
+    ensures { IfOk result (λ pairs. pairs.items ≡ paired joint parts.items) }
 {
     let mut pairs = Vec::new(alloc);
     let mut waiting = None;
@@ -85,7 +87,7 @@ fn joined_in(
     joint: Joint,
     parts: Vec<Condition>,
 ) -> Result<Condition, AllocError>
-    ensures { IfOk result (λ c. placeless c ≡ joined_in turns joint (map placeless parts.items)) }
+    ensures { IfOk result (λ c. c ≡ joined_in turns joint parts.items) }
 {
     if turns == 0 {
         return Ok(first_or_always(parts));
@@ -103,7 +105,7 @@ pub(crate) fn joined(
     joint: Joint,
     parts: Vec<Condition>,
 ) -> Result<Condition, AllocError>
-    ensures { IfOk result (λ c. placeless c ≡ joined joint (map placeless parts.items)) }
+    ensures { IfOk result (λ c. c ≡ joined joint parts.items) }
 {
     joined_in(alloc, parts.len(), joint, parts)
 }

@@ -32,17 +32,39 @@ fn literal_at<'a>(key: u8, left: Option<&Operand>, right: Option<&'a Operand>) -
     }
 }
 
+/// The key that a comparison names, with the column on the left.
+fn key_compared<'a>(
+    key: u8,
+    comparison: Comparison,
+    left: Option<&Operand>,
+    right: Option<&'a Operand>,
+) -> Option<&'a Value>
+    ensures { option_copied result ≡ spec.key_compared key comparison (option_copied left.entry) (option_copied right.entry) }
+{
+    match comparison {
+        Comparison::Same => literal_at(key, left, right),
+        Comparison::Differs
+        | Comparison::Below
+        | Comparison::AtMost
+        | Comparison::Above
+        | Comparison::AtLeast => None,
+    }
+}
+
 /// The key that the first of the parts names that are joined by AND.
+#[tactic(auto, using(sql_statements::proofs::ConditionLemmas::telling))]
 fn key_in(key: u8, condition: &Condition) -> Option<&Value>
     ensures { option_copied result ≡ spec.key_in key condition.now }
 {
     match condition {
-        Condition::Compares(a, Comparison::Same, b) => literal_at(key, single(a), single(b)),
-        Condition::And(a, b) => match key_in(key, a) {
+        Condition::Always | Condition::Not(_) | Condition::Or(..) => None,
+        Condition::Compares(a, comparison, b) => {
+            key_compared(key, *comparison, single(a), single(b))
+        }
+        Condition::And(a, b) => match key_in(key, a.get()) {
             Some(value) => Some(value),
-            None => key_in(key, b),
+            None => key_in(key, b.get()),
         },
-        _ => None,
     }
 }
 

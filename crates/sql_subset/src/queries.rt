@@ -5,7 +5,6 @@ ghost use Rattle.sql_reader.specs.Views.{chain_of, option_by, view_selected, vie
 ghost use Rattle.sql_subset.specs.Names.{list_of};
 ghost use Rattle.sql_subset.specs.Refusals.{Binds, each};
 ghost use Rattle.sql_subset.specs.Statements as spec;
-ghost use Rattle.sql_subset.specs.Translation.{placeless};
 
 use crate::conditions::where_of;
 use crate::error::{BindErrorKind, BindStop, refused};
@@ -110,7 +109,6 @@ fn sort_keys(
     }
 }
 
-#[tactic(auto, using(crate::proofs::PlaceLemmas::placing))]
 fn select_rows(
     table: &Table,
     at: usize,
@@ -119,7 +117,7 @@ fn select_rows(
     order: Items<SortKey>,
     condition: Condition,
 ) -> Result<Bound, BindStop>
-    ensures { Binds spec.placeless_bound result (spec.select_rows table.now at number output order (placeless condition)) }
+    ensures { Binds (λ bound. bound) result (spec.select_rows table.now at number output order condition) }
 {
     if output_mixes(table, &output) || condition_mixes(table, &condition) {
         return Err(refused(at, BindErrorKind::TypeMismatch));
@@ -136,7 +134,7 @@ pub(crate) fn select(
     number: u16,
     statement: &Select,
 ) -> Result<Bound, BindStop>
-    ensures { Binds spec.placeless_bound result (spec.select table.now at number
+    ensures { Binds (λ bound. bound) result (spec.select table.now at number
         (record {
           items = view_selected statement.now.items;
           table = statement.now.table;

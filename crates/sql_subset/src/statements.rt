@@ -55,7 +55,7 @@ pub(crate) fn statement(
     at: usize,
     form: &Form,
 ) -> Result<Bound, BindStop>
-    ensures { Binds spec.placeless_bound result (spec.statement tables.now at (view_form form.now)) }
+    ensures { Binds (λ bound. bound) result (spec.statement tables.now at (view_form form.now)) }
 {
     match form {
         Form::CreateTable(_) => Err(refused(at, BindErrorKind::Sql(SqlErrorKind::NotHere))),

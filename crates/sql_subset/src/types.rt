@@ -105,15 +105,16 @@ fn comparison_mixes(table: &Table, a: &Expression, b: &Expression) -> bool
         || differ(expression_type(table, a), expression_type(table, b))
 }
 
+#[tactic(auto, using(sql_statements::proofs::ConditionLemmas::telling))]
 pub(crate) fn condition_mixes(table: &Table, condition: &Condition) -> bool
     ensures { result ≡ spec.condition_mixes table.now condition.now }
 {
     match condition {
         Condition::Always => false,
         Condition::Compares(a, _, b) => comparison_mixes(table, a, b),
-        Condition::Not(part) => condition_mixes(table, part),
+        Condition::Not(part) => condition_mixes(table, part.get()),
         Condition::And(a, b) | Condition::Or(a, b) => {
-            condition_mixes(table, a) || condition_mixes(table, b)
+            condition_mixes(table, a.get()) || condition_mixes(table, b.get())
         }
     }
 }

@@ -11,10 +11,10 @@ use Rattle.sql_statements.specs.declared.expression.AddSign.{AddSign}
 use Rattle.sql_statements.specs.declared.expression.AddSign.TheVariants.{Plus, Minus}
 use Rattle.sql_statements.specs.declared.expression.SignedProduct.{SignedProduct}
 use Rattle.sql_statements.specs.declared.expression.Expression.{Expression}
+use Rattle.sql_statements.specs.Conditions.{told}
 use Rattle.sql_statements.specs.declared.condition.Comparison.{Comparison}
 use Rattle.sql_statements.specs.declared.condition.Comparison.TheVariants.{Same, Differs, Below, AtMost, Above, AtLeast}
-use Rattle.sql_statements.specs.declared.condition.Condition.{Condition}
-use Rattle.sql_statements.specs.declared.condition.Condition.TheVariants.{Always, Compares, Not', And', Or'}
+use Rattle.sql_statements.specs.declared.condition.Condition.{Condition, Condition-F as Level}
 
 abbrev pub in_range : ℤ → Bool
 in_range z = int_le (negsuc 9223372036854775807) z && int_le z (pos 9223372036854775807)
@@ -83,10 +83,14 @@ or_else None o = None
 or_else (Some true) o = Some true
 or_else (Some false) o = o
 
+-- whether a row meets a level, by whether it meets the conditions in it
+abbrev pub level_holds : List Value → Level (Option Bool) → Option Bool
+level_holds row Level.Always = Some true
+level_holds row (Level.Compares a op b) = compared op (value_of row a) (value_of row b)
+level_holds row (Level.Not c) = negated c
+level_holds row (Level.And c d) = and_then c d
+level_holds row (Level.Or c d) = or_else c d
+
 -- whether a row meets a condition, or none where a value leaves the range
 abbrev pub holds : List Value → Condition → Option Bool
-holds row Always = Some true
-holds row (Compares a op b) = compared op (value_of row a) (value_of row b)
-holds row (Not' p c) = negated (holds row c)
-holds row (And' p c q d) = and_then (holds row c) (holds row d)
-holds row (Or' p c q d) = or_else (holds row c) (holds row d)
+holds row c = told (level_holds row) c

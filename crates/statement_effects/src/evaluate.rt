@@ -68,6 +68,7 @@ fn number<'a>(number: Option<i64>) -> Option<ValueRef<'a>>
 }
 
 /// Whether a row meets a condition, or none where a number leaves the range of 64 bits before that is known.
+#[tactic(auto, using(sql_statements::proofs::ConditionLemmas::telling))]
 pub(crate) fn holds(row: &Row, condition: &Condition) -> Option<bool>
     ensures { result ≡ spec.holds row.now condition.now }
 {
@@ -76,19 +77,19 @@ pub(crate) fn holds(row: &Row, condition: &Condition) -> Option<bool>
         Condition::Compares(a, comparison, b) => {
             compares(value_of(row, a), *comparison, value_of(row, b))
         }
-        Condition::Not(part) => Some(!holds(row, part)?),
+        Condition::Not(part) => Some(!holds(row, part.get())?),
         Condition::And(a, b) => {
-            if holds(row, a)? {
-                holds(row, b)
+            if holds(row, a.get())? {
+                holds(row, b.get())
             } else {
                 Some(false)
             }
         }
         Condition::Or(a, b) => {
-            if holds(row, a)? {
+            if holds(row, a.get())? {
                 Some(true)
             } else {
-                holds(row, b)
+                holds(row, b.get())
             }
         }
     }

@@ -8,7 +8,7 @@ use sql_statements::{
     AddSign, Aggregate, Assignment, Bound, Comparison, Condition, Expression, Operand, Order,
     Output, Product, SignedProduct, SortKey,
 };
-use sqlite_items::Items;
+use sqlite_items::{Boxed, Items};
 use std::alloc::{AllocError, Global};
 use std::process::Abort;
 use std::test::Fail;
@@ -95,11 +95,11 @@ fn overflow(alloc: Global) -> Result<Condition, AllocError> {
 }
 
 fn or(alloc: Global, a: Condition, b: Condition) -> Result<Condition, AllocError> {
-    Ok(Condition::Or(Box::new(alloc, a)?, Box::new(alloc, b)?))
+    Ok(Condition::Or(Boxed::new(alloc, a)?, Boxed::new(alloc, b)?))
 }
 
 fn and(alloc: Global, a: Condition, b: Condition) -> Result<Condition, AllocError> {
-    Ok(Condition::And(Box::new(alloc, a)?, Box::new(alloc, b)?))
+    Ok(Condition::And(Boxed::new(alloc, a)?, Boxed::new(alloc, b)?))
 }
 
 /// These columns of the rows that match, sorted by one of them.
@@ -192,7 +192,7 @@ const BY_FIRST: [SortKey; 1] = [SortKey {
 fn a_table_of_names_is_read_thinned_and_summed(rt: HostRuntime) -> Result<(), Fail> {
     let alloc = rt.alloc();
     let three = test(alloc, 1, Comparison::Same, N(3))?;
-    let not_three = Condition::Not(Box::new(alloc, three)?);
+    let not_three = Condition::Not(Boxed::new(alloc, three)?);
     let named = test(alloc, 0, Comparison::Same, T("it's"))?;
     let rises = [SortKey {
         column: 1,

@@ -1,6 +1,6 @@
 use Rattle.std.proofs.Common.{◌≡◌, ap, sym, ◌∙◌, ◌+◌, ◌++◌, ◌∷◌, [], map, arith, length, length-append}
 use Rattle.std.proofs.lemmas.List.{map_push, length-map}
-use Rattle.sql_subset.specs.Bindings.{bound_session, placeless_block}
+use Rattle.sql_subset.specs.Bindings.{bound_session}
 use Rattle.sql_subset.specs.Binding.{BoundSession, all_steps, numbered}
 use Rattle.sql_subset.proofs.FileLemmas.{all_steps-push}
 use Rattle.sql_subset.proofs.binding.all_steps.Goals as goal
@@ -18,8 +18,7 @@ loop-session-preserved c =
           ∙ sym (all_steps-push 0 so_far s ∙ (let zero : length so_far ≡ 0 + length so_far = omega arith in ap (λ k. all_steps 0 so_far ++ numbered k s.steps) (sym zero)))
           ∙ ap (all_steps 0) (sym pushed);
       setups =
-          ap (map placeless_block) c.in_ok-push.ensures.items
-          ∙ map_push placeless_block c.loop-session.setups.items c.in-Some.session.setup
+          c.in_ok-push.ensures.items
           ∙ ap (λ us. us ++ s.setup ∷ []) c.loop-session.invariant.setups
           ∙ sym (map_push (λ (t : BoundSession). t.setup) so_far s)
           ∙ ap (map (λ (t : BoundSession). t.setup)) (sym pushed);

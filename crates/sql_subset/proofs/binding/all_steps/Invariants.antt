@@ -1,11 +1,11 @@
 use Rattle.std.proofs.Common.{◌≡◌, length, map}
 use Rattle.sql_subset.specs.Binding.{all_steps}
-use Rattle.sql_subset.specs.Bindings.{bound_session, placeless_block, placeless_step}
+use Rattle.sql_subset.specs.Bindings.{bound_session}
 use Rattle.sql_subset.proofs.binding.all_steps.Given as goal
 
 abbrev pub invariant-loop-session : goal.invariant-loop-session
 invariant-loop-session l = record {
-  steps : map placeless_step l.steps.items ≡ all_steps 0 (map bound_session l.yielded);
-  setups : map placeless_block l.setups.items ≡ map (λ s. s.setup) (map bound_session l.yielded);
+  steps : l.steps.items ≡ all_steps 0 (map bound_session l.yielded);
+  setups : l.setups.items ≡ map (λ s. s.setup) (map bound_session l.yielded);
   number : l.number ≡ length l.yielded;
 }

@@ -2,7 +2,7 @@ use Rattle.std.proofs.Common.{◌≡◌, ap, sym, ◌∙◌, map, length, arith,
 use Rattle.std.specs.Prelude.{string_bytes}
 use Rattle.std.proofs.lemmas.List.{length-map}
 use Rattle.spec_reader.specs.Views.{spec_tree, session_tree, block_tree}
-use Rattle.sql_subset.specs.Bindings.{bound_session, placeless_block}
+use Rattle.sql_subset.specs.Bindings.{bound_session}
 use Rattle.sql_subset.specs.Orders.{lines_of}
 use Rattle.sql_subset.specs.Binding.{session, declared, main_setup}
 use Rattle.sql_subset.specs.Lines.{session_names, step_names}
@@ -26,7 +26,7 @@ from_parts-requires c =
     let steps = c.in_ok-step_names.ensures ∙ ap (λ ss. step_names (map session_tree ss)) c.deref.ensures.value in
     let bytes = c.in_ok-from_str.ensures.ok ∙ c.deref-7.ensures in
     let count : c.len.result ≡ length (map session_tree text.sessions.items) = omega (arith, c.len.ensures, text.sessions.ok.0, length-map text.sessions.items session_tree) in
-    kept _ (string_bytes text.text) (spec_tree text) (lines_of c.in_ok-orders.orders) (c.setups.new.tables.items, map placeless_block c.in_ok-setups.setups.items) (map bound_session c.in_ok-bound.bound.items)
+    kept _ (string_bytes text.text) (spec_tree text) (lines_of c.in_ok-orders.orders) (c.setups.new.tables.items, c.in_ok-setups.setups.items) (map bound_session c.in_ok-bound.bound.items)
     (λ i. record {
       text = bytes i;
       session_names = names i;
@@ -34,7 +34,7 @@ from_parts-requires c =
       run = record {
         sessions = count i;
         steps = c.in_ok-steps.ensures.steps i;
-        setups = map placeless_block c.in_ok-setups.setups.items;
+        setups = c.in_ok-setups.setups.items;
         session_setups = c.in_ok-steps.ensures.setups i;
         lines = lines_of c.in_ok-orders.orders;
       };

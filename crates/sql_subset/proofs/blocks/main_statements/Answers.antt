@@ -3,7 +3,6 @@ use Rattle.sql_reader.specs.Text.{StatementAt}
 use Rattle.sql_reader.specs.Views.{view_form}
 use Rattle.sql_reader.specs.declared.statement.Statement.{Statement}
 use Rattle.sql_subset.specs.Binding.{then_more, main_at}
-use Rattle.sql_subset.specs.Bindings.{placeless_block}
 use Rattle.sql_subset.proofs.EachLemmas.{declared-goes_on, declared-starts, declared-map}
 use Rattle.sql_subset.proofs.blocks.main_statements.Goals as goal
 
@@ -17,6 +16,6 @@ loop-text-init c =
 
 pub loop-text-preserved : goal.loop-text-preserved
 loop-text-preserved c =
-    sym (declared-goes_on (λ t s. main_at c.args.block t (place s)) c.loop-text.tables.items (placeless_block c.loop-text.all.items) c.args.texts.now c.loop-text.text-index c.text-item.result c.push_main.new.tables.items (placeless_block c.push_main.new.all.items) c.loop-text-test.true
-    (ap (λ s. then_more (placeless_block c.loop-text.all.items) (main_at c.args.block c.loop-text.tables.items (place s))) (sym c.text-item.is) ∙ c.in_ok-push_main.ensures))
+    sym (declared-goes_on (λ t s. main_at c.args.block t (place s)) c.loop-text.tables.items c.loop-text.all.items c.args.texts.now c.loop-text.text-index c.text-item.result c.push_main.new.tables.items c.push_main.new.all.items c.loop-text-test.true
+    (ap (λ s. then_more c.loop-text.all.items (main_at c.args.block c.loop-text.tables.items (place s))) (sym c.text-item.is) ∙ c.in_ok-push_main.ensures))
     ∙ c.loop-text.invariant

@@ -3,8 +3,7 @@ use Rattle.sql_reader.specs.Text.{StatementAt}
 use Rattle.sql_reader.specs.Views.{view_form}
 use Rattle.sql_reader.specs.declared.statement.Statement.{Statement}
 use Rattle.sql_subset.specs.Binding.{statement_at}
-use Rattle.sql_subset.specs.Statements.{placeless_bound}
-use Rattle.sql_subset.proofs.EachLemmas.{each-starts, each-sees}
+use Rattle.sql_subset.proofs.EachLemmas.{each-starts, each-goes_on}
 use Rattle.sql_subset.proofs.blocks.statements.Goals as goal
 
 abbrev place : Statement → StatementAt
@@ -17,4 +16,4 @@ pub loop-text-preserved : goal.loop-text-preserved
 loop-text-preserved c =
     let found = ap (λ s. statement_at c.args.tables.now c.args.block (place s)) (sym c.text-item.is) ∙ c.in_ok-statement_at.ensures in
     rw c.in_ok-push.ensures.items
-    (sym (each-sees (λ s. statement_at c.args.tables.now c.args.block (place s)) placeless_bound c.loop-text.all.items c.args.texts.now c.loop-text.text-index c.text-item.result c.in_ok-statement_at.field-0 c.loop-text-test.true found) ∙ c.loop-text.invariant)
+    (sym (each-goes_on (λ s. statement_at c.args.tables.now c.args.block (place s)) c.loop-text.all.items c.args.texts.now c.loop-text.text-index c.text-item.result c.in_ok-statement_at.field-0 c.loop-text-test.true found) ∙ c.loop-text.invariant)

@@ -3,9 +3,8 @@ use Rattle.sql_reader.specs.Text.{seen}
 use Rattle.sql_reader.specs.Views.{view_form}
 use Rattle.sql_subset.specs.Refusals.{with_front, each}
 use Rattle.sql_subset.specs.Binding.{statement_at}
-use Rattle.sql_subset.specs.Bindings.{placeless_block}
 use Rattle.sql_subset.proofs.blocks.statements.Given as goal
 
 abbrev pub invariant-loop-text : goal.invariant-loop-text
 invariant-loop-text l =
-    with_front (placeless_block l.all.items) (each (λ s. statement_at l.tables l.block (s.at, view_form s.form)) (drop l.text-index l.texts)) ≡ each (statement_at l.tables l.block) (seen l.texts)
+    with_front l.all.items (each (λ s. statement_at l.tables l.block (s.at, view_form s.form)) (drop l.text-index l.texts)) ≡ each (statement_at l.tables l.block) (seen l.texts)

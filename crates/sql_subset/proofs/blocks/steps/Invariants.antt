@@ -2,9 +2,8 @@ use Rattle.std.proofs.Common.{◌≡◌, drop, map}
 use Rattle.spec_reader.specs.Views.{step_tree}
 use Rattle.sql_subset.specs.Refusals.{with_front, each}
 use Rattle.sql_subset.specs.Binding.{step}
-use Rattle.sql_subset.specs.Bindings.{placeless_block}
 use Rattle.sql_subset.proofs.blocks.steps.Given as goal
 
 abbrev pub invariant-loop-text : goal.invariant-loop-text
 invariant-loop-text l =
-    with_front (map placeless_block l.all.items) (each (λ t. step l.tables (step_tree t)) (drop l.text-index l.texts)) ≡ each (step l.tables) (map step_tree l.texts)
+    with_front l.all.items (each (λ t. step l.tables (step_tree t)) (drop l.text-index l.texts)) ≡ each (step l.tables) (map step_tree l.texts)

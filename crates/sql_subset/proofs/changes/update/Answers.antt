@@ -1,7 +1,6 @@
 use Rattle.std.proofs.Common.{◌∙◌, rules}
 use Rattle.sql_reader.specs.Views.{view_assignment}
 use Rattle.sql_subset.specs.Statements.{assignment, update_rows}
-use Rattle.sql_subset.specs.Translation.{placeless}
 use Rattle.sql_subset.proofs.ChainLemmas.{each-listed, then-both}
 use Rattle.sql_subset.proofs.changes.update.Goals as goal
 
@@ -18,5 +17,5 @@ returns-in_err-condition c =
 pub returns : goal.returns
 returns c =
     let listed = each-listed view_assignment (assignment c.args.table.now c.args.at) c.args.statement.now.assignments in
-    let same = then-both _ _ (update_rows c.args.table.now c.args.at c.args.number) c.in_ok-sets.sets.items (placeless c.in_ok-condition.condition) (listed ∙ c.in_ok-sets.ensures) c.in_ok-condition.ensures in
+    let same = then-both _ _ (update_rows c.args.table.now c.args.at c.args.number) c.in_ok-sets.sets.items c.in_ok-condition.condition (listed ∙ c.in_ok-sets.ensures) c.in_ok-condition.ensures in
     rw same (search rules)

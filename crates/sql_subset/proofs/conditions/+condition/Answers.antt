@@ -4,9 +4,9 @@ use Rattle.sql_reader.specs.declared.expression.Condition.{out-Condition}
 use Rattle.sql_statements.specs.declared.condition.Condition.{Condition}
 use Rattle.sql_subset.specs.Refusals.{Bind}
 use Rattle.sql_reader.specs.Views.{view_atom, view_part}
-use Rattle.sql_subset.specs.Translation.{placeless, atom, part}
+use Rattle.sql_subset.specs.Translation.{atom, part}
 use Rattle.sql_subset.proofs.ConditionLemmas.{parts-viewed, alternatives-viewed}
-use Rattle.sql_subset.proofs.EachLemmas.{each-sees}
+use Rattle.sql_subset.proofs.EachLemmas.{each-goes_on}
 use Rattle.sql_subset.proofs.conditions.+condition.Goals as goal
 
 pub part-returns-in_err-atom : goal.part-returns-in_err-atom
@@ -21,7 +21,7 @@ part-ands-preserved t c =
     let f : tree.Atom → Bind Condition = λ a. atom a c.args.table.now c.args.at in
     let found = ap (λ xs. f (view_atom (get_or xs c.ands.next-index c.next-item.result))) (sym items) ∙ ap (λ a. f (view_atom a)) (sym c.next-item.is) ∙ c.in_ok-atom-2.ensures in
     rw c.in_ok-push-2.ensures.items
-    (sym (each-sees (λ a. f (view_atom a)) placeless c.ands.all.items c.args.text.now.more c.ands.next-index c.next-item.result c.in_ok-atom-2.field-0 (omega (arith, c.ands-test.true, ap length items)) found) ∙ c.ands.invariant)
+    (sym (each-goes_on (λ a. f (view_atom a)) c.ands.all.items c.args.text.now.more c.ands.next-index c.next-item.result c.in_ok-atom-2.field-0 (omega (arith, c.ands-test.true, ap length items)) found) ∙ c.ands.invariant)
 
 pub condition-returns-in_err-part : goal.condition-returns-in_err-part
 condition-returns-in_err-part t c = let viewed = alternatives-viewed c.args.table.now c.args.at c.args.text.now in rw viewed (search rules)
@@ -35,4 +35,4 @@ condition-ors-preserved t c =
     let f : tree.Part → Bind Condition = λ p. part p c.args.table.now c.args.at in
     let found = ap (λ xs. f (view_part (get_or xs c.ors.next-index c.next-item.result))) (sym items) ∙ ap (λ p. f (view_part p)) (sym c.next-item.is) ∙ c.in_ok-part-2.ensures in
     rw c.in_ok-push-2.ensures.items
-    (sym (each-sees (λ p. f (view_part p)) placeless c.ors.all.items (out-Condition c.args.text.now).more c.ors.next-index c.next-item.result c.in_ok-part-2.field-0 (omega (arith, c.ors-test.true, ap length items)) found) ∙ c.ors.invariant)
+    (sym (each-goes_on (λ p. f (view_part p)) c.ors.all.items (out-Condition c.args.text.now).more c.ors.next-index c.next-item.result c.in_ok-part-2.field-0 (omega (arith, c.ors-test.true, ap length items)) found) ∙ c.ors.invariant)
