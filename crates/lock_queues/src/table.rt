@@ -92,7 +92,8 @@ impl LockTable {
         Ok(())
     }
 
-    /// The session whose wait is ripe and came first, over all resources.
+    /// The session whose wait is ripe and came first, over all resources, if any is. A wait is ripe where its wanted
+    /// mode fits what other sessions hold there, and no wait is ahead of it.
     pub fn next_grant(&self) -> Option<u8>
         ensures { MatchOption result (rule.NothingRipe self.now) (rule.IsNextOf self.now) }
     {
@@ -121,7 +122,7 @@ impl LockTable {
         self.waits.iter().any(|wait| wait.session == session)
     }
 
-    /// The mode that the session holds at a place.
+    /// The mode that the session holds at a place, if it holds one there.
     pub fn holds(&self, session: u8, place: Place<'_>) -> Option<Mode>
         ensures { result ≡ spec.look_in self.now session (resource_at place.entry) }
     {
@@ -136,7 +137,7 @@ impl LockTable {
         let _held = &self.held;
     }
 
-    /// What the session waits for: the resource, and the mode that it is to get there.
+    /// What the session waits for, if it waits: the resource, and the mode that it is to get there.
     pub fn wait_of(&self, session: u8) -> Option<(Place<'_>, Mode)>
         ensures { option_map (λ p. (resource_at p.0, p.1)) result ≡ rule.wait_of self.now session }
     {

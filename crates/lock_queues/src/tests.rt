@@ -256,59 +256,93 @@ fn keys_are_locked_by_table_and_value(rt: HostRuntime) -> Result<(), Fail> {
     Ok(())
 }
 
-/// Asks for a table, and sees that a refusal leaves the session as it was.
-fn ask_and_look(rt: &impl Abort, table: &mut LockTable, session: u8, place: Place<'_>) {
-    if table.waits(session) {
-        return;
-    }
-    let had = table.holds(session, place);
-    match table.ask(session, place, Mode::Exclusive) {
-        Ok(Answer::Granted) => {
-            assert!(rt; table.holds(session, place) == Some(Mode::Exclusive));
-        }
-        Ok(Answer::Waits) => assert!(rt; table.waits(session)),
-        Ok(Answer::Ring) | Err(_) => {
-            assert!(rt; table.holds(session, place) == had);
-            assert!(rt; !table.waits(session));
-        }
-    }
+/// What each session holds on tables 0 and 1, and whether it waits.
+type Standing = [(Option<Mode>, Option<Mode>, bool); 4];
+
+fn standing_of(table: &LockTable, session: u8) -> (Option<Mode>, Option<Mode>, bool) {
+    (
+        table.holds(session, Place::Table(0)),
+        table.holds(session, Place::Table(1)),
+        table.waits(session),
+    )
 }
 
-fn let_go_and_look(rt: &impl Abort, table: &mut LockTable, session: u8) {
-    let had = table.holds(session, Place::Table(0));
-    let waited = table.waits(session);
-    if table.let_go(session).is_err() {
-        assert!(rt; table.holds(session, Place::Table(0)) == had);
-        assert!(rt; table.waits(session) == waited);
-    }
+fn standing(table: &LockTable) -> Standing {
+    [
+        standing_of(table, 0),
+        standing_of(table, 1),
+        standing_of(table, 2),
+        standing_of(table, 3),
+    ]
 }
 
-fn grant_and_look(rt: &impl Abort, table: &mut LockTable) {
-    if let Some(next) = table.next_grant() {
-        if table.grant(next).is_ok() {
-            assert!(rt; !table.waits(next));
-        } else {
-            assert!(rt; table.next_grant() == Some(next));
-        }
+/// A step that is refused leaves the table, and can be played again. A fork stays as it was.
+fn play_in_the_end(rt: &impl Abort, table: &mut LockTable, step: Step) -> Result<(), AllocError> {
+    let before = standing(table);
+    let fork = table.fork();
+    if play_one(rt, table, step).is_err() {
+        assert!(rt; standing(table) == before);
+        play_one(rt, table, step)?;
     }
+    if let Ok(fork) = fork {
+        assert!(rt; standing(&fork) == before);
+    }
+    Ok(())
+}
+
+/// Plays the steps in the end on a table of their own.
+fn play_all_in_the_end(rt: &impl Abort, alloc: Global, steps: &[Step]) -> Result<(), AllocError> {
+    let mut table = LockTable::new(alloc);
+    for step in steps {
+        play_in_the_end(rt, &mut table, *step)?;
+    }
+    Ok(())
 }
 
 /// What a refused growth leaves is read under `rt try --test --fail-alloc`.
 #[test]
-fn a_refused_call_leaves_the_table(rt: HostRuntime) {
+fn a_refused_step_leaves_the_table_and_its_forks(rt: HostRuntime) {
+    for steps in [
+        NOT_PASSED.as_slice(),
+        CONVERSION.as_slice(),
+        CROSSED.as_slice(),
+        CONVERSIONS.as_slice(),
+        THROUGH_A_QUEUE.as_slice(),
+        ARRIVAL.as_slice(),
+    ] {
+        if play_all_in_the_end(&rt, rt.alloc(), steps).is_err() {
+            return;
+        }
+    }
+}
+
+/// Whether the session asked. It does not while it waits, and a refused request leaves it as it was.
+fn asks_for_key(rt: &impl Abort, table: &mut LockTable, session: u8, key: &Value) -> bool {
+    let place = Place::Row(1, key);
+    if table.waits(session) {
+        return false;
+    }
+    if table.ask(session, place, Mode::Exclusive).is_ok() {
+        return true;
+    }
+    assert!(rt; table.holds(session, place).is_none(), "{session}");
+    assert!(rt; !table.waits(session), "{session}");
+    false
+}
+
+#[test]
+fn a_refused_request_for_a_key_leaves_it(rt: HostRuntime) {
+    let Ok(key) = Text::from_str(rt.alloc(), "key") else {
+        return;
+    };
+    let key = Value::Text(key);
     let mut table = LockTable::new(rt.alloc());
-    let key = Value::Int(1);
-    for session in 0..4u8 {
-        ask_and_look(
-            &rt,
-            &mut table,
-            session,
-            Place::Table(u16::from(session % 2)),
-        );
-        ask_and_look(&rt, &mut table, session, Place::Row(0, &key));
+    for session in 0..3u8 {
+        let asked = asks_for_key(&rt, &mut table, session, &key);
+        if !asked && !asks_for_key(&rt, &mut table, session, &key) {
+            return;
+        }
     }
-    for session in 0..4u8 {
-        let_go_and_look(&rt, &mut table, session);
-        grant_and_look(&rt, &mut table);
-    }
+    assert!(rt; table.holds(0, Place::Row(1, &key)) == Some(Mode::Exclusive));
+    assert!(rt; table.waits(1) && table.waits(2));
 }

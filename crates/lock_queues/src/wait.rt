@@ -14,6 +14,7 @@ pub struct Wait {
 }
 
 impl Wait {
+    /// Whether it is for this place.
     pub fn is_at(&self, place: Place<'_>) -> bool
         ensures { result ≡ same_resource self.now.resource (resource_at place.entry) }
     {

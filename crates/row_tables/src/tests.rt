@@ -230,36 +230,103 @@ fn a_scan_has_the_rows_of_its_table_in_order(rt: HostRuntime) -> Result<(), Fail
     Ok(())
 }
 
-/// Writes a row at a key. It is there if the write was not refused, and else what was there before.
-fn assert_puts(rt: &impl Abort, alloc: Global, store: &mut Store, key: i64, value: i64)
+/// What two sessions see at a name and at a number: the owner of table 0, and that of table 1.
+type Seen = [Option<i64>; 4];
+
+fn seen(store: &Store, keys: (&Value, &Value)) -> Seen
+    requires { HasOwners store.now }
+{
+    let (name, number) = keys;
+    [
+        value_at(store, 0, name),
+        value_at(store, 0, number),
+        value_at(store, 1, name),
+        value_at(store, 1, number),
+    ]
+}
+
+/// Each step, and what is seen after it.
+static STEPS: [(Step, Seen); 14] = [
+    (Step::Put(0, NAME, 10), [Some(10), None, None, None]),
+    (Step::Put(1, NAME, 20), [Some(10), None, Some(20), None]),
+    (Step::Keep(0), [Some(10), None, Some(20), None]),
+    (Step::Put(0, NAME, 11), [Some(11), None, Some(20), None]),
+    (
+        Step::Put(0, NUMBER, 12),
+        [Some(11), Some(12), Some(20), None],
+    ),
+    (
+        Step::Put(1, NUMBER, 21),
+        [Some(11), Some(12), Some(20), Some(21)],
+    ),
+    (Step::Remove(0, NAME), [None, Some(12), Some(20), Some(21)]),
+    (Step::Undo(0), [Some(10), None, Some(20), Some(21)]),
+    (
+        Step::Put(0, NUMBER, 13),
+        [Some(10), Some(13), Some(20), Some(21)],
+    ),
+    (Step::Keep(1), [Some(10), Some(13), Some(20), Some(21)]),
+    (
+        Step::Put(0, NAME, 14),
+        [Some(14), Some(13), Some(20), Some(21)],
+    ),
+    (Step::Remove(1, NAME), [Some(14), Some(13), None, Some(21)]),
+    (Step::Undo(1), [Some(14), Some(13), Some(20), Some(21)]),
+    (Step::Undo(0), [Some(10), None, Some(20), Some(21)]),
+];
+
+const NAME: Key = Key::Name("name");
+
+const NUMBER: Key = Key::Number(1);
+
+/// A step that is refused leaves the store, and can be taken again.
+fn take_in_the_end(
+    rt: &impl Abort,
+    alloc: Global,
+    store: &mut Store,
+    step: Step,
+    keys: (&Value, &Value),
+    before: Seen,
+) -> Result<(), AllocError>
     requires { HasOwners store.old }
     ensures { HasOwners store.new }
 {
-    let place = Value::Int(key);
-    let before = value_at(store, 0, &place);
-    let refused = put(alloc, store, 0, Key::Number(key), value).is_err();
-    let want = if refused { before } else { Some(value) };
-    assert_eq!(rt; value_at(store, 0, &place), want);
+    if take(rt, alloc, store, step).is_ok() {
+        return Ok(());
+    }
+    assert_eq!(rt; seen(store, keys), before);
+    take(rt, alloc, store, step)
+}
+
+/// A fork has what is given, and goes on alone.
+fn assert_forked(rt: &impl Abort, mut fork: Store, keys: (&Value, &Value), before: Seen)
+    requires { HasOwners fork }
+{
+    assert_eq!(rt; seen(&fork, keys), before);
+    if undo(&mut fork, 0).is_err() {
+        assert_eq!(rt; seen(&fork, keys), before);
+    }
 }
 
 /// What a refused growth leaves is read under `rt try --test --fail-alloc`.
 #[test]
-fn a_refused_change_leaves_the_store_as_it_was(rt: HostRuntime) {
+fn a_refused_step_leaves_the_store_and_its_forks(rt: HostRuntime) {
     let alloc = rt.alloc();
+    let (Ok(name), Ok(number)) = (to_value(alloc, NAME), to_value(alloc, NUMBER)) else {
+        return;
+    };
+    let keys = (&name, &number);
     let mut store = empty_store(alloc);
-    assert_puts(&rt, alloc, &mut store, 1, 10);
-    assert_puts(&rt, alloc, &mut store, 2, 20);
-    keep(&mut store, 0);
-    let one = Value::Int(1);
-    let kept = value_at(&store, 0, &one);
-    assert_puts(&rt, alloc, &mut store, 1, 11);
-    assert_puts(&rt, alloc, &mut store, 3, 30);
-    let written = value_at(&store, 0, &one);
-    if let Ok(mut fork) = store.fork() {
-        keep(&mut fork, 0);
+    let mut before = [None; 4];
+    for (step, after) in &STEPS {
+        let fork = store.fork();
+        if take_in_the_end(&rt, alloc, &mut store, *step, keys, before).is_err() {
+            return;
+        }
+        if let Ok(fork) = fork {
+            assert_forked(&rt, fork, keys, before);
+        }
+        assert_eq!(rt; seen(&store, keys), *after);
+        before = *after;
     }
-    assert_eq!(rt; value_at(&store, 0, &one), written);
-    let refused = undo(&mut store, 0).is_err();
-    let want = if refused { written } else { kept };
-    assert_eq!(rt; value_at(&store, 0, &one), want);
 }

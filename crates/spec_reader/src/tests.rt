@@ -489,6 +489,79 @@ fn each_limit_is_passed_by_one(rt: HostRuntime) -> Result<(), Fail> {
     Ok(())
 }
 
+/// What a refused growth leaves is read under `rt try --test --fail-alloc`.
+#[test]
+fn a_text_is_read_whole_unless_memory_runs_out(rt: HostRuntime) {
+    for (text, want, refusal) in [
+        (
+            "setup { x }\nsetup {y;}\nteardown { z }\n\
+             session a setup { s } step a1 { q } step a2 {} teardown { t }\n\
+             session b teardown {} step b1 {r}\n\
+             permutation a1(*) b1(a1, a1 notices 12) a2\r\n\
+             permutation b1\t\x0c",
+            " setup@7[ x ] setup@19[y;] teardown@33[ z ] \
+             / session a setup@55[ s ] a1@69[ q ] a2@83[] last@95[ t ] \
+             / session b first@120[] b1@131[r] \
+             / line a1 * b1 <a1 !a1 a2 / line b1",
+            None,
+        ),
+        (
+            "session \"a\"\"b\" step \"step\" {}",
+            " / session a\"b step@28[]",
+            None,
+        ),
+        (
+            "setup {} permutation s",
+            "",
+            fault(SpecErrorKind::NoStep, 9),
+        ),
+        (
+            "session a step s {} permutation s(* notices 1)",
+            "",
+            fault(SpecErrorKind::Misplaced, 36),
+        ),
+        (
+            "session a step s {} ;",
+            "",
+            fault(SpecErrorKind::BadToken, 20),
+        ),
+        (
+            "session a step s {} step t {{",
+            "",
+            fault(SpecErrorKind::Unclosed, 27),
+        ),
+        (
+            "session a step s {} session b step t {} step s {}",
+            "",
+            fault(SpecErrorKind::DuplicateStep, 45),
+        ),
+        (
+            "session a step s {} session a step t {}",
+            "",
+            fault(SpecErrorKind::DuplicateSession, 28),
+        ),
+        (
+            "session a step s {} permutation s(s, t)",
+            "",
+            fault(SpecErrorKind::UnknownStep, 37),
+        ),
+    ] {
+        match read_spec(rt.alloc(), text.as_bytes()) {
+            Ok(spec) => {
+                assert_eq!(rt; refusal, None, "{text}");
+                if let Ok(told) = told(rt.alloc(), &spec) {
+                    assert_eq!(rt; told.as_str(), want);
+                }
+            }
+            Err(error) => {
+                let is_wanted = Some(error) == refusal;
+                let no_memory = fault(SpecErrorKind::NoMemory, 0);
+                assert!(rt; is_wanted || Some(error) == no_memory, "{text}");
+            }
+        }
+    }
+}
+
 #[test]
 fn a_refusal_has_a_number_and_words(rt: HostRuntime) -> Result<(), Fail> {
     let refusal = SpecError {

@@ -5,10 +5,12 @@ use crate::event::Event;
 use crate::outcome::{Outcome, Transcript};
 use lock_modes::Text;
 
-/// The names that an outcome is printed with, by the numbers of the sessions and of the steps.
+/// The names that an outcome is printed with.
 #[derive(Clone, Copy, Debug)]
 pub struct Names<'a> {
+    /// The name of each session at its number, from 0.
     pub sessions: &'a [Text],
+    /// The name of each step at its number, from 0, over all sessions.
     pub steps: &'a [Text],
 }
 

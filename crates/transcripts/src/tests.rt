@@ -7,6 +7,7 @@ use serde_json::Value as Json;
 use std::alloc::{AllocError, Global};
 use std::io;
 use std::io::{Read, Write};
+use std::process::Abort;
 use std::test::Fail;
 use version_tree::Fork;
 
@@ -409,4 +410,100 @@ fn logs_go_on_alone(rt: HostRuntime) -> Result<(), Fail> {
         r#"[[["sent",0],["row",[7,"it's"]],"waiting"],[["sent",0],["row",[7,"it's"]],["rows",1],"done"]]"#;
     assert_eq!(rt; value_text(alloc, &outcome)?.as_str(), want);
     Ok(())
+}
+
+/// What a refused growth leaves is read under `rt try --test --fail-alloc`.
+#[test]
+fn a_value_is_made_and_read_whole_unless_memory_runs_out(rt: HostRuntime) {
+    let alloc = rt.alloc();
+    let (Ok(outcome), Ok(value)) = (every_event(alloc), Json::from_str(alloc, EVERY_VALUE)) else {
+        return;
+    };
+    if let Ok(made) = value_text(alloc, &outcome) {
+        assert_eq!(rt; made.as_str(), EVERY_VALUE);
+    }
+    match outcome_of_value(alloc, &value) {
+        Ok(read) => {
+            if let Ok(made) = value_text(alloc, &read) {
+                assert_eq!(rt; made.as_str(), EVERY_VALUE);
+            }
+        }
+        Err(error) => assert_eq!(rt; error, ValueError::NoMemory),
+    }
+    if let Ok(fork) = outcome.fork() {
+        assert!(rt; fork.sessions().len() == 2);
+    }
+    if let (Ok(made), Ok(text)) = (value_text(alloc, &outcome), value.to_string(alloc)) {
+        assert_eq!(rt; made.as_str(), EVERY_VALUE);
+        assert_eq!(rt; text.as_str(), EVERY_VALUE);
+    }
+}
+
+#[test]
+fn a_value_of_no_outcome_is_refused_unless_memory_runs_out(rt: HostRuntime) {
+    let alloc = rt.alloc();
+    for text in NO_OUTCOMES.lines() {
+        let Ok(value) = Json::from_str(alloc, text) else {
+            continue;
+        };
+        let refused = outcome_of_value(alloc, &value).err();
+        let is_bad = refused == Some(ValueError::BadField);
+        assert!(rt; is_bad || refused == Some(ValueError::NoMemory), "{text}");
+    }
+}
+
+/// Asserts that so many steps were sent, in the order of their numbers.
+fn assert_sent(rt: &impl Abort, transcript: &Transcript, count: u8) {
+    assert_eq!(rt; transcript.events().len(), usize::from(count));
+    for (step, event) in (0..count).zip(transcript.events()) {
+        assert!(rt;
+            matches!(event, Event::Sent(sent) if *sent == step),
+            "{step}"
+        );
+    }
+}
+
+fn assert_log(rt: &impl Abort, log: &Log, count: u8) {
+    if let Ok(transcript) = log.to_transcript() {
+        assert_sent(rt, &transcript, count);
+    }
+}
+
+#[test]
+fn a_refused_event_leaves_the_log_and_its_forks(rt: HostRuntime) {
+    let mut log = Log::new(rt.alloc());
+    let mut transcript = Transcript::new(rt.alloc());
+    for step in 0..9u8 {
+        let fork = log.fork();
+        let copy = transcript.fork();
+        if log.push(Event::Sent(step)).is_err() {
+            assert_log(&rt, &log, step);
+            if log.push(Event::Sent(step)).is_err() {
+                return;
+            }
+        }
+        if transcript.push(Event::Sent(step)).is_err() {
+            assert_sent(&rt, &transcript, step);
+            if transcript.push(Event::Sent(step)).is_err() {
+                return;
+            }
+        }
+        if let (Ok(fork), Ok(copy)) = (fork, copy) {
+            assert_log(&rt, &fork, step);
+            assert_sent(&rt, &copy, step);
+        }
+        assert_log(&rt, &log, step.wrapping_add(1));
+        assert_sent(&rt, &transcript, step.wrapping_add(1));
+    }
+}
+
+#[test]
+fn an_input_is_read_whole_unless_memory_runs_out(rt: HostRuntime) {
+    let long = [b'x'; 10_000];
+    let mut input = Counted::new(long.as_slice());
+    match input.read_up_to(rt.alloc(), 9_999) {
+        Ok(bytes) => assert_eq!(rt; bytes.len(), 9_999),
+        Err(error) => assert!(rt; error == ReadError::NoMemory),
+    }
+    assert_eq!(rt; input.failures(), 0);
 }
