@@ -411,19 +411,36 @@ fn refusals_have_numbers_and_words(rt: HostRuntime) -> Result<(), Fail> {
     Ok(())
 }
 
-/// Each growth may be refused: then the answer is `NoMemory` at 0, else it is the full one.
+/// Each growth may be refused: then the answer is `NoMemory` at 0, else it is the full one. What a refused growth leaves
+/// is read under `rt try --test --fail-alloc`.
 #[test]
 fn want_of_memory_is_named(rt: HostRuntime) {
-    let text =
-        "SELECT v FROM t WHERE (NOT a = 'b' OR c = 1) AND d = 2 ORDER BY v, w; INSERT INTO t (v, w) VALUES (1, 2), (3, 4)";
-    match read_sql(rt.alloc(), text) {
-        Ok(all) => assert_eq!(rt; all.len(), 2),
-        Err(e) => assert_eq!(rt;
-            e,
-            SqlError {
-                kind: NoMemory,
-                offset: 0
-            }
+    let no_memory = SqlError {
+        kind: NoMemory,
+        offset: 0,
+    };
+    for line in BLOCKS.lines() {
+        let (count, text) = line.split_once(' ').expect(&rt, "a number");
+        let count: usize = count.parse().expect(&rt, "a number");
+        match read_sql(rt.alloc(), text) {
+            Ok(all) => assert_eq!(rt; all.len(), count, "{text}"),
+            Err(error) => assert_eq!(rt; error, no_memory, "{text}"),
+        }
+    }
+    for (text, kind, offset) in [
+        ("SELECT * FROM t WHERE (v = 1 OR NOT w = 'x'", Syntax, 43),
+        ("INSERT INTO t (a, b) VALUES (1, 'x'), (2", Syntax, 40),
+        ("CREATE TABLE t (id int PRIMARY KEY, v text,)", Syntax, 43),
+        ("UPDATE t SET a = 1, b = c + 2 * 5 x", Syntax, 34),
+        ("COMMIT; ANALYZE", Unsupported, 8),
+        (
+            "DELETE FROM t WHERE v = 1; DELETE FROM t WHERE v = 9223372036854775808",
+            NumberTooLarge,
+            51,
         ),
+    ] {
+        let error = refusal(rt.alloc(), text);
+        let is_wanted = error == Some(SqlError { kind, offset });
+        assert!(rt; is_wanted || error == Some(no_memory), "{text}");
     }
 }
