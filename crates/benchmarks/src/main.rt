@@ -1,5 +1,8 @@
-//! Prints how long operations on maps take, beside the standard library's: `benchmarks maps`. Without words it prints what it measures.
+//! Prints how long operations on maps take, beside the standard library's (`benchmarks maps`), and how fast the machine is (`benchmarks machine`). Without words
+//! it prints what it measures of maps.
 #![tactic(auto)]
+
+mod machine;
 
 use std::alloc::{AllocError, Global};
 use std::collections::BTreeMap;
@@ -139,6 +142,8 @@ fn main(rt: HostRuntime) -> io::Result<()> {
     let words: Vec<String> = env::args(&rt)?.collect(rt.alloc())?;
     if words.iter().any(|word| word.as_str() == "maps") {
         maps(&rt)
+    } else if words.iter().any(|word| word.as_str() == "machine") {
+        machine::print_speeds(&rt)
     } else {
         println!(rt; "maps: put, get, without and fork of 10, 1,000 and 100,000 keys")
     }
