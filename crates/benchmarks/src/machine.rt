@@ -99,26 +99,51 @@ fn send_all(world: &mut World<'_>, steps: &[u8]) -> io::Result<()>
     Ok(())
 }
 
+/// Keeps a fork of the world before each step, while that step is sent.
+fn send_all_forked(world: &mut World<'_>, steps: &[u8]) -> io::Result<()>
+    requires { All (λ k. k < length world.old.file.run.steps) steps.now }
+{
+    for step in steps {
+        let Ok(_before) = world.fork() else {
+            return Err(refused());
+        };
+        if world.send(*step).is_err() {
+            return Err(refused());
+        }
+    }
+    Ok(())
+}
+
 /// How long it takes to send the steps of a line, from the start on.
-fn time_of_line(rt: &HostRuntime, spec: &Spec, line: &Line) -> io::Result<Duration>
+fn time_of_line(
+    rt: &HostRuntime,
+    spec: &Spec,
+    line: &Line,
+    with_forks: bool,
+) -> io::Result<Duration>
     requires { All (λ k. k < length spec.now.run.steps) line.now.items }
 {
     let Ok(mut world) = World::start(rt.alloc(), spec) else {
         return Err(refused());
     };
     let start = Instant::now(rt)?;
-    send_all(&mut world, line.as_slice())?;
+    if with_forks {
+        send_all_forked(&mut world, line.as_slice())?;
+    } else {
+        send_all(&mut world, line.as_slice())?;
+    }
     start.elapsed(rt)
 }
 
 /// Sends the steps of each permutation once more.
-fn sends(rt: &HostRuntime, spec: &Spec, so_far: Measure) -> io::Result<Measure> {
+fn sends(rt: &HostRuntime, spec: &Spec, so_far: Measure, with_forks: bool) -> io::Result<Measure> {
     let mut measure = so_far;
     for rank in 0..spec.ranks() {
         let Some(line) = spec.line(rank) else {
             return Err(refused());
         };
-        measure = measure.with(line.len() as u64, time_of_line(rt, spec, &line)?);
+        let time = time_of_line(rt, spec, &line, with_forks)?;
+        measure = measure.with(line.len() as u64, time);
     }
     Ok(measure)
 }
@@ -128,11 +153,17 @@ pub fn print_speeds(rt: &HostRuntime) -> io::Result<()> {
     let spec = spec(rt.alloc())?;
     let mut run = Measure::NONE;
     let mut sent = Measure::NONE;
+    let mut forked = Measure::NONE;
     for _ in 0..ROUNDS {
         run = permutations(rt, &spec, run)?;
-        sent = sends(rt, &spec, sent)?;
+        sent = sends(rt, &spec, sent, false)?;
+        forked = sends(rt, &spec, forked, true)?;
     }
     println!(rt; "of {} permutations, in a second", spec.ranks())?;
     println!(rt; "permutations run: {}", run.each_second())?;
-    println!(rt; "steps sent: {}", sent.each_second())
+    println!(rt; "steps sent: {}", sent.each_second())?;
+    println!(rt;
+        "steps sent, with a fork before each: {}",
+        forked.each_second()
+    )
 }
