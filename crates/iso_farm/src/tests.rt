@@ -764,7 +764,8 @@ fn assert_told_or_no_memory(rt: &impl Abort, alloc: Global, rank: &str, spec: &s
 #[test]
 fn a_run_tells_all_unless_memory_runs_out(rt: HostRuntime) -> Result<(), Fail> {
     for run in RUNS.lines() {
-        let (rank, rest) = run.split_once(" | ").ok_or("a rank")?;
+        let (_name, rest) = run.split_once(" | ").ok_or("a name")?;
+        let (rank, rest) = rest.split_once(" | ").ok_or("a rank")?;
         let (spec, want) = rest.split_once(" | ").ok_or("a spec")?;
         assert_told_or_no_memory(&rt, rt.alloc(), rank, spec, want);
     }
