@@ -128,6 +128,24 @@ fn a_world_tells_what_was_sent_so_far(rt: HostRuntime) -> Result<(), Fail> {
     Ok(())
 }
 
+#[test]
+fn a_fork_goes_on_as_its_world_would(rt: HostRuntime) -> Result<(), Fail> {
+    let alloc = rt.alloc();
+    let spec = spec_of(&rt, alloc, INSERT_AND_READ);
+    let mut world = World::start(alloc, &spec).expect(&rt, "a start");
+    send(&rt, &mut world, 0).expect(&rt, "a1 is sent");
+    let mut fork = world.fork().expect(&rt, "a fork");
+    send(&rt, &mut fork, 1).expect(&rt, "b1 is sent");
+    let outcome = fork.outcome().expect(&rt, "an outcome");
+    let text =
+        "session a\n  step a1\n  inserted 1\n  done\nsession b\n  step b1\n  row 30\n  rows 1\n  done\n";
+    assert_eq!(rt; text_of(&rt, alloc, &spec, &outcome).as_str(), text);
+    let outcome = world.outcome().expect(&rt, "an outcome");
+    let text = "session a\n  step a1\n  inserted 1\n  done\nsession b\n";
+    assert_eq!(rt; text_of(&rt, alloc, &spec, &outcome).as_str(), text);
+    Ok(())
+}
+
 const LOST_UPDATE: &str =
     "session a setup { BEGIN; } step a1 { UPDATE t SET v = v + 1 WHERE id = 1; } step a2 { COMMIT; }
     session b setup { BEGIN; } step b1 { UPDATE t SET v = v + 10 WHERE id = 1; } step b2 { COMMIT; }
@@ -135,6 +153,12 @@ const LOST_UPDATE: &str =
 
 const LOST_UPDATE_TELLS: &str =
     "session a\n  step a1\n  updated 1\n  done\n  step a2\n  committed\n  done\nsession b\n  step b1\n  waiting\n  resumed\n  updated 1\n  done\n  step b2\n  committed\n  done\n";
+
+/// Sends a step of the world's spec.
+fn send(rt: &impl Abort, world: &mut World<'_>, step: u8) -> Result<(), SendError> {
+    assert!(rt; step < world.spec().steps(), "a step of the spec");
+    world.send(step)
+}
 
 /// Whether the two sessions wait.
 fn who_waits(world: &World<'_>) -> (bool, bool) {
@@ -147,9 +171,9 @@ fn a_world_tells_who_holds_and_who_waits(rt: HostRuntime) -> Result<(), Fail> {
     let spec = spec_of(&rt, alloc, LOST_UPDATE);
     let row = Value::Int(1);
     let mut world = World::start(alloc, &spec).expect(&rt, "a start");
-    world.send(0).expect(&rt, "a1 is sent");
+    send(&rt, &mut world, 0).expect(&rt, "a1 is sent");
     let mut fork = world.fork().expect(&rt, "a fork");
-    fork.send(2).expect(&rt, "b1 is sent");
+    send(&rt, &mut fork, 2).expect(&rt, "b1 is sent");
     assert!(rt;
         world.holds(0, Place::Table(0)) == Some(Mode::IntentExclusive),
         "a writes in t"
@@ -168,7 +192,7 @@ fn a_world_tells_who_holds_and_who_waits(rt: HostRuntime) -> Result<(), Fail> {
         Some((Place::Row(0, key), Mode::Exclusive)) => assert!(rt; *key == row, "the row of a"),
         _ => assert!(rt; false, "b waits for a row"),
     }
-    fork.send(1).expect(&rt, "a2 is sent");
+    send(&rt, &mut fork, 1).expect(&rt, "a2 is sent");
     assert_eq!(rt; who_waits(&fork), (false, false));
     assert!(rt;
         !fork.spent() && fork.spec().steps() == 4,
@@ -181,22 +205,24 @@ fn a_world_tells_who_holds_and_who_waits(rt: HostRuntime) -> Result<(), Fail> {
 /// fork was refused too.
 fn after_step<'a>(rt: &impl Abort, mut world: World<'a>, step: u8) -> Option<World<'a>> {
     let fork = world.fork();
-    match world.send(step) {
-        Ok(()) => Some(world),
-        Err(error) => {
-            assert_eq!(rt; error, SendError::NoMemory);
-            assert!(rt;
-                world.spent() && world.wait_of(1).is_none(),
-                "a spent world tells nothing"
-            );
-            match world.send(step) {
-                Err(error) => assert_eq!(rt; error, SendError::Spent),
-                Ok(()) => assert!(rt; false, "a spent world takes no step"),
-            }
-            let mut fork = fork.ok()?;
-            fork.send(step).expect(rt, "the fork goes on");
+    let Err(error) = send(rt, &mut world, step) else {
+        return Some(world);
+    };
+    assert_eq!(rt; error, SendError::NoMemory);
+    assert!(rt;
+        world.spent() && world.wait_of(1).is_none(),
+        "a spent world tells nothing"
+    );
+    match send(rt, &mut world, step) {
+        Err(error) => assert_eq!(rt; error, SendError::Spent),
+        Ok(()) => assert!(rt; false, "a spent world takes no step"),
+    }
+    match fork {
+        Ok(mut fork) => {
+            send(rt, &mut fork, step).expect(rt, "the fork goes on");
             Some(fork)
         }
+        Err(_) => None,
     }
 }
 
