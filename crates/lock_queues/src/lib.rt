@@ -8,8 +8,6 @@ mod modes;
 mod queue;
 mod ring;
 mod table;
-#[cfg(test)]
-mod tests;
 mod wait;
 
 pub use answer::Answer;

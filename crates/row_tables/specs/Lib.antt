@@ -1,5 +1,4 @@
 pub mod Overlay
-pub mod Owned
 pub mod Layers
 pub mod Tables
 pub mod Undo

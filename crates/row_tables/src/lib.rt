@@ -5,8 +5,6 @@ mod left;
 mod place;
 mod rows;
 mod store;
-#[cfg(test)]
-mod tests;
 mod undo;
 
 pub use store::Store;

@@ -12,8 +12,6 @@ mod session;
 mod stage;
 mod starting;
 mod stepping;
-#[cfg(test)]
-mod tests;
 mod world;
 
 pub use error::{RunError, SendError, StartError};

@@ -15,8 +15,6 @@ mod settings;
 mod statement;
 mod steps;
 mod table;
-#[cfg(test)]
-mod tests;
 mod token;
 mod transactions;
 mod values;

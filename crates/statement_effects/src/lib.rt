@@ -9,8 +9,6 @@ mod matching;
 mod run;
 mod select;
 mod sorting;
-#[cfg(test)]
-mod tests;
 mod update;
 mod value_ref;
 mod write;

@@ -9,8 +9,6 @@ mod names;
 mod of_value;
 mod outcome;
 mod printing;
-#[cfg(test)]
-mod tests;
 mod to_value;
 
 pub use counted::{Counted, ReadError, ReadFault, WriteFault};

@@ -1,0 +1,262 @@
+//! What statements are refused for, and the locks they ask for.
+ghost use Rattle.std.specs.Prelude.{All};
+ghost use Rattle.sql_statements.specs.Plan.{HasKeys};
+
+use super::{holding, tell};
+use lock_modes::{Mode, Place, Value};
+use spec_reader::read_spec;
+use sql_subset::{Bound, bind, lock_plan};
+use std::alloc::{AllocError, Global};
+use std::process::Abort;
+use std::test::Fail;
+
+/// A table with a key and one without.
+pub(super) const TWO_TABLES: &str =
+    "setup { CREATE TABLE t (id int PRIMARY KEY, v int, b text); CREATE TABLE u (a int, b text) }";
+
+/// Refusals, each with its place in the SQL behind it, of a step.
+pub(super) const REFUSED_STEPS: &str = "sql error 7 at 0: CREATE TABLE x (i int);
+sql error 4 at 0: VACUUM
+sql error 4 at 0: SAVEPOINT s
+sql error 4 at 7: BEGIN; VACUUM
+sql error 3 at 6: BEGIN READ ONLY
+sql error 3 at 26: BEGIN ISOLATION LEVEL READ
+sql error 3 at 5: START
+sql error 3 at 6: START WORK
+sql error 3 at 12: COMMIT WORK TRANSACTION
+sql error 3 at 9: ROLLBACK TO s
+sql error 3 at 9: SELECT v FRM t
+sql error 2 at 7: SELECT 'x
+sql error 1 at 7: SELECT ?
+sql error 5 at 22: INSERT INTO t VALUES (9223372036854775808, 1, 'a')
+sql error 4 at 17: SELECT w FROM x; VACUUM
+bind error 2 at 0: SELECT w FROM x
+bind error 2 at 0: SELECT v FROM x WHERE 1 = 'a'
+bind error 2 at 0: INSERT INTO x VALUES (1)
+bind error 2 at 0: UPDATE x SET a = 1
+bind error 2 at 0: DELETE FROM x
+bind error 2 at 0: LOCK x
+bind error 3 at 0: SELECT w FROM t
+bind error 3 at 0: SELECT v FROM t WHERE w = 'a'
+bind error 3 at 0: SELECT v FROM t ORDER BY w
+bind error 3 at 0: SELECT sum(w) FROM t
+bind error 3 at 0: INSERT INTO t (id, w) VALUES ('a', 1)
+bind error 3 at 0: UPDATE t SET w = 1, id = 2
+bind error 3 at 0: UPDATE t SET v = w
+bind error 3 at 0: DELETE FROM t WHERE w = 1
+bind error 4 at 0: SELECT v FROM t WHERE v = 'a'
+bind error 4 at 0: SELECT v FROM t WHERE b + 1 = 2
+bind error 4 at 0: SELECT v FROM t WHERE 1 = 2 OR NOT (v = 1 AND b = v)
+bind error 4 at 0: SELECT sum(b) FROM t
+bind error 4 at 0: INSERT INTO t VALUES ('a')
+bind error 4 at 0: INSERT INTO t (b, id) VALUES (1, 2)
+bind error 4 at 0: UPDATE t SET id = 'a'
+bind error 4 at 0: UPDATE t SET v = b
+bind error 5 at 0: UPDATE t SET id = 1
+bind error 5 at 0: UPDATE t SET id = 1, id = 2
+bind error 7 at 0: UPDATE t SET v = 1, v = 2
+bind error 7 at 0: INSERT INTO t VALUES (1)
+bind error 7 at 0: INSERT INTO t VALUES (1, 2, 'a', 3)
+bind error 7 at 0: INSERT INTO t (id, v) VALUES (1, 2)
+bind error 7 at 0: INSERT INTO t (id, v, v) VALUES (1, 2, 3)
+bind error 7 at 0: INSERT INTO t VALUES (1, 2, 'a'), (1, 2)";
+
+/// The same of a second main setup.
+const REFUSED_SETUPS: &str = "bind error 6 at 0: CREATE TABLE t (i int)
+bind error 6 at 0: CREATE TABLE t (i int, i int)
+bind error 3 at 0: CREATE TABLE x (i int, PRIMARY KEY (j))
+bind error 3 at 0: CREATE TABLE t (i int, PRIMARY KEY (j))
+bind error 7 at 0: CREATE TABLE x (i int, i int)
+bind error 7 at 0: CREATE TABLE x (i int PRIMARY KEY PRIMARY KEY)
+bind error 7 at 0: CREATE TABLE x (i int PRIMARY KEY, PRIMARY KEY (i))";
+
+/// Each SQL between the front and the end of a file is refused with its kind, at its place in the file.
+fn assert_refused(
+    rt: &impl Abort,
+    alloc: Global,
+    rows: &str,
+    front: &str,
+    end: &str,
+) -> Result<(), Fail> {
+    for row in rows.lines() {
+        let (refusal, sql) = row.split_once(": ").ok_or("a refusal and its SQL")?;
+        let (kind, place) = refusal.split_once(" at ").ok_or("a kind and its place")?;
+        let place: usize = place.parse().map_err(|_| "a place")?;
+        let text = format!(in alloc; "{front}{sql}{end}")?;
+        let told = tell(alloc, "isofarm one first.spec 0", &holding(text.as_bytes()))?;
+        let at = front.len().checked_add(place).ok_or("a place")?;
+        let want = format!(in alloc; "isofarm: first.spec: {kind} at {at}\n")?;
+        assert_eq!(rt; told.status, 3, "{sql}");
+        assert_eq!(rt; told.err.as_str(), want.as_str(), "{sql}");
+    }
+    Ok(())
+}
+
+#[test]
+fn statements_that_do_not_fit_are_refused_at_their_place(rt: HostRuntime) -> Result<(), Fail> {
+    let alloc = rt.alloc();
+    let step = format!(in alloc; "{TWO_TABLES} session a step s {{")?;
+    assert_refused(&rt, alloc, REFUSED_STEPS, &step, "}")?;
+    let setup = format!(in alloc; "{TWO_TABLES} setup {{")?;
+    assert_refused(&rt, alloc, REFUSED_SETUPS, &setup, "} session a step s {}")?;
+    Ok(())
+}
+
+/// Statements over the two tables, each with its lock plan: modes on tables (T) and on the keys of rows (R).
+pub(super) const PLANS: &str = "SELECT * FROM t | S T0
+SELECT * FROM t WHERE id = 2 | IS T0, S R0:2
+SELECT * FROM t WHERE (v > 0) AND id = 2 | IS T0, S R0:2
+SELECT * FROM t WHERE (v > 0 AND id = 2) AND v < 9 | IS T0, S R0:2
+SELECT * FROM t WHERE id = 2 AND id = 3 | IS T0, S R0:2
+SELECT * FROM t WHERE id = 3 AND id = 2 AND v = 1 | IS T0, S R0:3
+SELECT * FROM t WHERE 2 = id | S T0
+SELECT * FROM t WHERE id = 2 OR v = 1 | S T0
+SELECT * FROM t WHERE (id = 2) | IS T0, S R0:2
+SELECT * FROM t WHERE NOT id = 2 | S T0
+SELECT * FROM t WHERE NOT NOT id = 2 | S T0
+SELECT * FROM t WHERE id >= 2 | S T0
+SELECT * FROM t WHERE id = -2 | IS T0, S R0:-2
+SELECT * FROM t WHERE id = 1 + 1 | S T0
+SELECT * FROM t WHERE id = v | S T0
+SELECT * FROM t WHERE id + 0 = 2 | S T0
+SELECT v, id FROM t WHERE id = 2 ORDER BY v DESC, id | IS T0, S R0:2
+SELECT count(*), sum(v) FROM t WHERE id = 2 | IS T0, S R0:2
+SELECT a FROM u WHERE a = 2 | S T1
+INSERT INTO t VALUES (5, 0, 'x'), (4, 0, 'y') | IX T0, X R0:5, X R0:4
+INSERT INTO t (v, b, id) VALUES (5, 'x', 0), (4, 'y', 1) | IX T0, X R0:0, X R0:1
+INSERT INTO u VALUES (1, 'a') | X T1
+INSERT INTO u (b, a) VALUES ('a', 1) | X T1
+UPDATE t SET v = v + 1 WHERE id = 2 | IX T0, X R0:2
+UPDATE t SET v = v + 1 | X T0
+UPDATE t SET v = 1, b = 'x' WHERE v = 0 AND id = 7 | IX T0, X R0:7
+UPDATE u SET a = 1 WHERE a = 2 | X T1
+DELETE FROM t WHERE id = 2 | IX T0, X R0:2
+DELETE FROM t | X T0
+DELETE FROM u WHERE a = 2 | X T1
+LOCK t | X T0
+LOCK TABLE t IN ACCESS SHARE MODE | IS T0
+LOCK TABLE t IN ROW SHARE MODE | IS T0
+LOCK TABLE t IN ROW EXCLUSIVE MODE | IX T0
+LOCK TABLE t IN SHARE MODE | S T0
+LOCK TABLE t IN SHARE ROW EXCLUSIVE MODE | SIX T0
+LOCK TABLE t IN EXCLUSIVE MODE | X T0
+LOCK TABLE t IN ACCESS EXCLUSIVE MODE | X T0
+SET a = 1 | 
+SET LOCAL a TO b | 
+BEGIN | 
+START TRANSACTION ISOLATION LEVEL SERIALIZABLE | 
+END | 
+ROLLBACK WORK | ";
+
+fn mode_word(mode: Mode) -> &'static str {
+    match mode {
+        Mode::IntentShare => "IS",
+        Mode::IntentExclusive => "IX",
+        Mode::Share => "S",
+        Mode::ShareIntent => "SIX",
+        Mode::Exclusive => "X",
+    }
+}
+
+fn place_text(alloc: Global, place: Place<'_>) -> Result<String, AllocError> {
+    match place {
+        Place::Table(table) => format!(in alloc; "T{table}"),
+        Place::Row(table, Value::Int(key)) => format!(in alloc; "R{table}:{key}"),
+        Place::Row(table, Value::Text(key)) => format!(in alloc; "R{table}:{}", key.as_str()),
+    }
+}
+
+fn plan_text(alloc: Global, statement: &Bound) -> Result<String, AllocError>
+    requires { HasKeys statement.now }
+{
+    let mut text = String::new(alloc);
+    for number in 0..u8::MAX {
+        let Some((place, mode)) = lock_plan(statement, number) else {
+            return Ok(text);
+        };
+        if number > 0 {
+            text.push_str(", ")?;
+        }
+        let word = mode_word(mode);
+        let place = place_text(alloc, place)?;
+        text.push_str(word)?;
+        text.push_str(" ")?;
+        text.push_str(&place)?;
+    }
+    Ok(text)
+}
+
+/// The plans of the statements of a step.
+pub(super) fn plans_text(alloc: Global, statements: &[Bound]) -> Result<String, AllocError>
+    requires { All HasKeys statements.now }
+{
+    let mut text = String::new(alloc);
+    for statement in statements {
+        text.push_str(&plan_text(alloc, statement)?)?;
+    }
+    Ok(text)
+}
+
+#[test]
+fn each_statement_asks_for_the_locks_of_its_plan(rt: HostRuntime) -> Result<(), Fail> {
+    let alloc = rt.alloc();
+    for row in PLANS.lines() {
+        let (sql, want) = row.split_once(" | ").ok_or("a statement and its plan")?;
+        let text = format!(in alloc; "{TWO_TABLES} session a step s {{{sql}}}")?;
+        let read = read_spec(alloc, text.as_bytes()).map_err(|_| "a spec")?;
+        let spec = bind(alloc, &read).map_err(|_| "a bound spec")?;
+        assert!(rt; spec.steps() == 1);
+        let told = plans_text(alloc, spec.statements(0))?;
+        assert_eq!(rt; told.as_str(), want, "{sql}");
+    }
+    Ok(())
+}
+
+/// How many sessions, how many steps each of them has, whether there is a permutation line, and whether that is a shape.
+const SHAPES: [(usize, usize, bool, bool); 8] = [
+    (6, 4, false, true),
+    (7, 1, false, false),
+    (1, 24, false, true),
+    (1, 25, false, false),
+    (5, 5, false, false),
+    (5, 51, true, true),
+    (4, 64, true, false),
+    (7, 1, true, false),
+];
+
+fn spec_of_shape(
+    alloc: Global,
+    sessions: usize,
+    steps: usize,
+    has_line: bool,
+) -> Result<String, AllocError> {
+    let mut text = String::new(alloc);
+    for session in 0..sessions {
+        let head = format!(in alloc; "session s{session} ")?;
+        text.push_str(&head)?;
+        for step in 0..steps {
+            let step = format!(in alloc; "step t{session}_{step} {{}} ")?;
+            text.push_str(&step)?;
+        }
+    }
+    if has_line {
+        text.push_str("permutation t0_0")?;
+    }
+    Ok(text)
+}
+
+#[test]
+fn shapes_past_the_limits_are_refused(rt: HostRuntime) -> Result<(), Fail> {
+    let alloc = rt.alloc();
+    for (sessions, steps, has_line, is_shape) in SHAPES {
+        let text = spec_of_shape(alloc, sessions, steps, has_line)?;
+        let told = tell(alloc, "isofarm one first.spec 0", &holding(text.as_bytes()))?;
+        let want = if is_shape {
+            ""
+        } else {
+            "isofarm: first.spec: bind error 8 at 0\n"
+        };
+        assert_eq!(rt; told.err.as_str(), want, "{sessions} {steps}");
+    }
+    Ok(())
+}

@@ -1,0 +1,267 @@
+//! The machine by its calls: a world takes steps, is forked, and tells its outcome and its locks. The last test is to be read
+//! under `rt try --test --fail-alloc` too.
+use lock_modes::{Mode, Place, Value};
+use session_machine::{RunError, SendError, StartError, World, run_one};
+use spec_reader::read_spec;
+use sql_subset::{Spec, bind};
+use std::alloc::Global;
+use std::process::Abort;
+use std::test::Fail;
+use transcripts::{Counted, Names, Outcome, print};
+
+const TABLE: &str =
+    "setup { CREATE TABLE t (id int PRIMARY KEY, v int); INSERT INTO t VALUES (1, 10), (2, 20); }";
+
+/// The spec of two rows and these sessions. None where memory ran out.
+fn spec_where_memory(alloc: Global, sessions: &str) -> Option<Spec> {
+    let text = format!(in alloc; "{TABLE} {sessions}").ok()?;
+    let text = read_spec(alloc, text.as_bytes()).ok()?;
+    bind(alloc, &text).ok()
+}
+
+fn spec_of(rt: &impl Abort, alloc: Global, sessions: &str) -> Spec {
+    spec_where_memory(alloc, sessions).expect(rt, "a spec that binds")
+}
+
+/// The text of an outcome. None where memory ran out.
+fn text_where_memory(
+    rt: &impl Abort,
+    alloc: Global,
+    spec: &Spec,
+    outcome: &Outcome,
+) -> Option<String> {
+    let names = Names {
+        sessions: spec.session_names(),
+        steps: spec.step_names(),
+    };
+    let mut out = Counted::new(Vec::new(alloc));
+    assert!(rt; names.fit(outcome), "each event has its names");
+    print(outcome, &names, &mut out).ok()?;
+    String::from_utf8(out.into_inner()).ok()
+}
+
+fn text_of(rt: &impl Abort, alloc: Global, spec: &Spec, outcome: &Outcome) -> String {
+    text_where_memory(rt, alloc, spec, outcome).expect(rt, "a text")
+}
+
+fn assert_rank_tells(rt: &impl Abort, alloc: Global, sessions: &str, rank: u64, want: &str) {
+    let spec = spec_of(rt, alloc, sessions);
+    let line = spec.line(rank).expect(rt, "a rank of the spec");
+    let outcome = run_one(alloc, &spec, &line).expect(rt, "an outcome");
+    assert_eq!(rt; text_of(rt, alloc, &spec, &outcome).as_str(), want);
+}
+
+const INSERT_AND_READ: &str = "session a step a1 { INSERT INTO t VALUES (3, 30); }
+    session b step b1 { SELECT v FROM t WHERE id = 3; }";
+
+const FAILS_THEN_COUNTS: &str =
+    "session a step a1 { INSERT INTO t VALUES (3, 0); INSERT INTO t VALUES (3, 1); SELECT * FROM t; }
+    step a2 { SELECT count(*), sum(v) FROM t; }";
+
+const STEP_SENT_TWICE: &str =
+    "session a step a1 { SELECT v FROM t WHERE id = 1; } step a2 { SELECT v FROM t WHERE id = 2; }
+    session b step b1 { INSERT INTO t VALUES (4, 0); }
+    permutation a1(*) b1(a1 notices 1) a1";
+
+#[test]
+fn a_rank_tells_what_its_steps_did(rt: HostRuntime) -> Result<(), Fail> {
+    for (sessions, rank, want) in [
+        (
+            INSERT_AND_READ,
+            0,
+            "session a\n  step a1\n  inserted 1\n  done\nsession b\n  step b1\n  row 30\n  rows 1\n  done\n",
+        ),
+        (
+            INSERT_AND_READ,
+            1,
+            "session a\n  step a1\n  inserted 1\n  done\nsession b\n  step b1\n  rows 0\n  done\n",
+        ),
+        (
+            FAILS_THEN_COUNTS,
+            0,
+            "session a\n  step a1\n  inserted 1\n  error: duplicate key\n  done\n  step a2\n  row 2|30\n  rows 1\n  done\n",
+        ),
+        (
+            STEP_SENT_TWICE,
+            0,
+            "session a\n  step a1\n  row 10\n  rows 1\n  done\n  step a1\n  row 10\n  rows 1\n  done\nsession b\n  step b1\n  inserted 1\n  done\n",
+        ),
+    ] {
+        assert_rank_tells(&rt, rt.alloc(), sessions, rank, want);
+    }
+    Ok(())
+}
+
+#[test]
+fn a_setup_that_fails_refuses_the_start(rt: HostRuntime) -> Result<(), Fail> {
+    let alloc = rt.alloc();
+    let twice = spec_of(
+        &rt,
+        alloc,
+        "setup { INSERT INTO t VALUES (3, 0); INSERT INTO t VALUES (1, 0); } session a step s {}",
+    );
+    match World::start(alloc, &twice) {
+        Ok(_) => assert!(rt; false, "the second block fails"),
+        Err(error) => assert_eq!(rt; error, StartError::SetupFailed { block: 1 }),
+    }
+    let second = "session a setup { INSERT INTO t VALUES (3, 0); } step s {}
+        session b setup { SELECT v FROM t WHERE id = 3; INSERT INTO t VALUES (3, 1); } step u {}";
+    let spec = spec_of(&rt, alloc, second);
+    match World::start(alloc, &spec) {
+        Ok(_) => assert!(rt; false, "the setup of session b fails"),
+        Err(error) => {
+            assert_eq!(rt; error, StartError::SessionSetupFailed { session: 1 });
+            assert_eq!(rt; error.number(), 2);
+        }
+    }
+    Ok(())
+}
+
+#[test]
+fn a_world_tells_what_was_sent_so_far(rt: HostRuntime) -> Result<(), Fail> {
+    let alloc = rt.alloc();
+    let spec = spec_of(&rt, alloc, INSERT_AND_READ);
+    assert!(rt; spec.steps() == 2, "a1 and b1");
+    let mut world = World::start(alloc, &spec).expect(&rt, "a start");
+    world.send(1).expect(&rt, "sent");
+    let outcome = world.outcome().expect(&rt, "an outcome");
+    let text = "session a\nsession b\n  step b1\n  rows 0\n  done\n";
+    assert_eq!(rt; text_of(&rt, alloc, &spec, &outcome).as_str(), text);
+    Ok(())
+}
+
+#[test]
+fn a_fork_goes_on_as_its_world_would(rt: HostRuntime) -> Result<(), Fail> {
+    let alloc = rt.alloc();
+    let spec = spec_of(&rt, alloc, INSERT_AND_READ);
+    let mut world = World::start(alloc, &spec).expect(&rt, "a start");
+    send(&rt, &mut world, 0).expect(&rt, "a1 is sent");
+    let mut fork = world.fork().expect(&rt, "a fork");
+    send(&rt, &mut fork, 1).expect(&rt, "b1 is sent");
+    let outcome = fork.outcome().expect(&rt, "an outcome");
+    let text =
+        "session a\n  step a1\n  inserted 1\n  done\nsession b\n  step b1\n  row 30\n  rows 1\n  done\n";
+    assert_eq!(rt; text_of(&rt, alloc, &spec, &outcome).as_str(), text);
+    let outcome = world.outcome().expect(&rt, "an outcome");
+    let text = "session a\n  step a1\n  inserted 1\n  done\nsession b\n";
+    assert_eq!(rt; text_of(&rt, alloc, &spec, &outcome).as_str(), text);
+    Ok(())
+}
+
+const LOST_UPDATE: &str =
+    "session a setup { BEGIN; } step a1 { UPDATE t SET v = v + 1 WHERE id = 1; } step a2 { COMMIT; }
+    session b setup { BEGIN; } step b1 { UPDATE t SET v = v + 10 WHERE id = 1; } step b2 { COMMIT; }
+    permutation a1 b1 a2 b2";
+
+const LOST_UPDATE_TELLS: &str =
+    "session a\n  step a1\n  updated 1\n  done\n  step a2\n  committed\n  done\nsession b\n  step b1\n  waiting\n  resumed\n  updated 1\n  done\n  step b2\n  committed\n  done\n";
+
+/// Sends a step of the world's spec.
+fn send(rt: &impl Abort, world: &mut World<'_>, step: u8) -> Result<(), SendError> {
+    assert!(rt; step < world.spec().steps(), "a step of the spec");
+    world.send(step)
+}
+
+/// Whether the two sessions wait.
+fn who_waits(world: &World<'_>) -> (bool, bool) {
+    (world.wait_of(0).is_some(), world.wait_of(1).is_some())
+}
+
+#[test]
+fn a_world_tells_who_holds_and_who_waits(rt: HostRuntime) -> Result<(), Fail> {
+    let alloc = rt.alloc();
+    let spec = spec_of(&rt, alloc, LOST_UPDATE);
+    let row = Value::Int(1);
+    let mut world = World::start(alloc, &spec).expect(&rt, "a start");
+    send(&rt, &mut world, 0).expect(&rt, "a1 is sent");
+    let mut fork = world.fork().expect(&rt, "a fork");
+    send(&rt, &mut fork, 2).expect(&rt, "b1 is sent");
+    assert!(rt;
+        world.holds(0, Place::Table(0)) == Some(Mode::IntentExclusive),
+        "a writes in t"
+    );
+    assert!(rt;
+        world.holds(0, Place::Row(0, &row)) == Some(Mode::Exclusive),
+        "and its row"
+    );
+    assert!(rt;
+        world.holds(1, Place::Row(0, &row)).is_none(),
+        "which b does not hold"
+    );
+    assert_eq!(rt; who_waits(&world), (false, false));
+    assert_eq!(rt; who_waits(&fork), (false, true));
+    match fork.wait_of(1) {
+        Some((Place::Row(0, key), Mode::Exclusive)) => assert!(rt; *key == row, "the row of a"),
+        _ => assert!(rt; false, "b waits for a row"),
+    }
+    send(&rt, &mut fork, 1).expect(&rt, "a2 is sent");
+    assert_eq!(rt; who_waits(&fork), (false, false));
+    assert!(rt;
+        !fork.spent() && fork.spec().steps() == 4,
+        "a whole world of the spec"
+    );
+    Ok(())
+}
+
+/// The world after a step, or a fork taken before it where the step is refused memory, after the same step. None where the
+/// fork was refused too.
+fn after_step<'a>(rt: &impl Abort, mut world: World<'a>, step: u8) -> Option<World<'a>> {
+    let fork = world.fork();
+    let Err(error) = send(rt, &mut world, step) else {
+        return Some(world);
+    };
+    assert_eq!(rt; error, SendError::NoMemory);
+    assert!(rt;
+        world.spent() && world.wait_of(1).is_none(),
+        "a spent world tells nothing"
+    );
+    match send(rt, &mut world, step) {
+        Err(error) => assert_eq!(rt; error, SendError::Spent),
+        Ok(()) => assert!(rt; false, "a spent world takes no step"),
+    }
+    match fork {
+        Ok(mut fork) => {
+            send(rt, &mut fork, step).expect(rt, "the fork goes on");
+            Some(fork)
+        }
+        Err(_) => None,
+    }
+}
+
+/// What the lost update tells, or that memory ran out.
+fn assert_lost_update(rt: &impl Abort, alloc: Global, spec: &Spec, outcome: &Outcome) {
+    if let Some(text) = text_where_memory(rt, alloc, spec, outcome) {
+        assert_eq!(rt; text.as_str(), LOST_UPDATE_TELLS);
+    }
+}
+
+#[test]
+fn a_world_without_memory_is_spent_and_its_forks_go_on(rt: HostRuntime) -> Result<(), Fail> {
+    let alloc = rt.alloc();
+    let Some(spec) = spec_where_memory(alloc, LOST_UPDATE) else {
+        return Ok(());
+    };
+    let mut world = match World::start(alloc, &spec) {
+        Ok(world) => world,
+        Err(error) => {
+            assert_eq!(rt; error, StartError::NoMemory);
+            return Ok(());
+        }
+    };
+    for step in [0, 2, 1, 3] {
+        let Some(next) = after_step(&rt, world, step) else {
+            return Ok(());
+        };
+        world = next;
+    }
+    match world.outcome() {
+        Ok(outcome) => assert_lost_update(&rt, alloc, &spec, &outcome),
+        Err(error) => assert_eq!(rt; error, SendError::NoMemory),
+    }
+    let line = spec.line(0).expect(&rt, "a rank of the spec");
+    match run_one(alloc, &spec, &line) {
+        Ok(outcome) => assert_lost_update(&rt, alloc, &spec, &outcome),
+        Err(error) => assert_eq!(rt; error, RunError::NoMemory),
+    }
+    Ok(())
+}

@@ -1,0 +1,380 @@
+use lock_modes::{Mode, Place, Text, Value};
+use lock_queues::{Answer, LockTable};
+use std::alloc::{AllocError, Global};
+use std::process::Abort;
+use std::test::Fail;
+use version_tree::Fork;
+
+/// A call on the tables of these numbers, with what it is to answer.
+#[derive(Clone, Copy)]
+enum Step {
+    Ask(u8, u16, Mode, Answer),
+    LetGo(u8),
+    /// Grants the next wait, if one is ripe.
+    Grant(Option<u8>),
+    Holds(u8, u16, Option<Mode>),
+    /// The mode that the session waits for, if it waits.
+    Waits(u8, Option<Mode>),
+}
+
+fn play_one(rt: &impl Abort, table: &mut LockTable, step: Step) -> Result<(), AllocError> {
+    match step {
+        Step::Ask(session, number, mode, answer) => {
+            assert!(rt; !table.waits(session), "{session} waits");
+            assert!(rt;
+                table.ask(session, Place::Table(number), mode)? == answer,
+                "{session} asks"
+            );
+        }
+        Step::LetGo(session) => table.let_go(session)?,
+        Step::Grant(session) => {
+            assert!(rt; table.next_grant() == session, "{session:?} is next");
+            if let Some(next) = table.next_grant() {
+                table.grant(next)?;
+            }
+        }
+        Step::Holds(session, number, mode) => {
+            assert!(rt;
+                table.holds(session, Place::Table(number)) == mode,
+                "{session} holds"
+            );
+        }
+        Step::Waits(session, mode) => {
+            assert!(rt; table.waits(session) == mode.is_some(), "{session} waits");
+            assert!(rt;
+                table.wait_of(session).map(|(_, mode)| mode) == mode,
+                "{session} waits for"
+            );
+        }
+    }
+    Ok(())
+}
+
+fn play(rt: &impl Abort, table: &mut LockTable, steps: &[Step]) -> Result<(), AllocError> {
+    for step in steps {
+        play_one(rt, table, *step)?;
+    }
+    Ok(())
+}
+
+/// Plays the steps on a table of their own.
+fn play_anew(rt: &impl Abort, alloc: Global, steps: &[Step]) -> Result<(), AllocError> {
+    play(rt, &mut LockTable::new(alloc), steps)
+}
+
+static COVER: [Step; 6] = [
+    Step::Ask(0, 0, Mode::Share, Answer::Granted),
+    Step::Ask(0, 0, Mode::IntentExclusive, Answer::Granted),
+    Step::Holds(0, 0, Some(Mode::ShareIntent)),
+    Step::Ask(1, 0, Mode::IntentShare, Answer::Granted),
+    Step::Ask(2, 0, Mode::Share, Answer::Waits),
+    Step::Grant(None),
+];
+
+static COVER_GONE: [Step; 5] = [
+    Step::LetGo(0),
+    Step::Holds(0, 0, None),
+    Step::Grant(Some(2)),
+    Step::Waits(2, None),
+    Step::Holds(2, 0, Some(Mode::Share)),
+];
+
+static COVER_KEPT: [Step; 4] = [
+    Step::Holds(0, 0, Some(Mode::ShareIntent)),
+    Step::Waits(2, Some(Mode::Share)),
+    Step::Holds(2, 0, None),
+    Step::Grant(None),
+];
+
+#[test]
+fn a_session_gets_the_cover_and_a_fork_stays(rt: HostRuntime) -> Result<(), Fail> {
+    let mut table = LockTable::new(rt.alloc());
+    play(&rt, &mut table, &COVER)?;
+    let mut fork = table.fork()?;
+    play(&rt, &mut table, &COVER_GONE)?;
+    play(&rt, &mut fork, &COVER_KEPT)?;
+    Ok(())
+}
+
+// A fork before a request and one before a grant.
+static HELD: [Step; 1] = [Step::Ask(0, 0, Mode::Share, Answer::Granted)];
+
+static WAITED: [Step; 2] = [
+    Step::Ask(1, 0, Mode::Exclusive, Answer::Waits),
+    Step::LetGo(0),
+];
+
+static GRANTED: [Step; 1] = [Step::Grant(Some(1))];
+
+static FREE: [Step; 3] = [
+    Step::Waits(1, None),
+    Step::Holds(1, 0, None),
+    Step::Holds(0, 0, Some(Mode::Share)),
+];
+
+static RIPE: [Step; 2] = [
+    Step::Waits(1, Some(Mode::Exclusive)),
+    Step::Holds(1, 0, None),
+];
+
+/// A fork of the table after these steps.
+fn forked_after(
+    rt: &impl Abort,
+    table: &mut LockTable,
+    steps: &[Step],
+) -> Result<LockTable, AllocError> {
+    play(rt, table, steps)?;
+    table.fork()
+}
+
+#[test]
+fn forks_before_a_request_and_a_grant_stay(rt: HostRuntime) -> Result<(), Fail> {
+    let mut table = LockTable::new(rt.alloc());
+    let mut free = forked_after(&rt, &mut table, &HELD)?;
+    let mut ripe = forked_after(&rt, &mut table, &WAITED)?;
+    play(&rt, &mut table, &GRANTED)?;
+    play(&rt, &mut free, &FREE)?;
+    play(&rt, &mut ripe, &RIPE)?;
+    Ok(())
+}
+
+// The wait of 2 stands behind that of 1, and is granted in its turn.
+static NOT_PASSED: [Step; 10] = [
+    Step::Ask(0, 0, Mode::Share, Answer::Granted),
+    Step::Ask(1, 0, Mode::Exclusive, Answer::Waits),
+    Step::Ask(2, 0, Mode::IntentShare, Answer::Waits),
+    Step::Grant(None),
+    Step::LetGo(0),
+    Step::Grant(Some(1)),
+    Step::Grant(None),
+    Step::LetGo(1),
+    Step::Grant(Some(2)),
+    Step::Grant(None),
+];
+
+#[test]
+fn a_waiter_is_not_passed(rt: HostRuntime) -> Result<(), Fail> {
+    play_anew(&rt, rt.alloc(), &NOT_PASSED)?;
+    Ok(())
+}
+
+// 0 holds the table already, so it gets what fits at once, and waits before 2.
+static CONVERSION: [Step; 12] = [
+    Step::Ask(0, 0, Mode::IntentShare, Answer::Granted),
+    Step::Ask(1, 0, Mode::IntentShare, Answer::Granted),
+    Step::Ask(2, 0, Mode::Exclusive, Answer::Waits),
+    Step::Ask(0, 0, Mode::IntentExclusive, Answer::Granted),
+    Step::Ask(0, 0, Mode::Share, Answer::Granted),
+    Step::Ask(0, 0, Mode::Exclusive, Answer::Waits),
+    Step::LetGo(1),
+    Step::Grant(Some(0)),
+    Step::Holds(0, 0, Some(Mode::Exclusive)),
+    Step::Grant(None),
+    Step::LetGo(0),
+    Step::Grant(Some(2)),
+];
+
+#[test]
+fn a_conversion_passes_other_waits(rt: HostRuntime) -> Result<(), Fail> {
+    play_anew(&rt, rt.alloc(), &CONVERSION)?;
+    Ok(())
+}
+
+// Two sessions that wait for each other's tables: the one that asks last is refused.
+static CROSSED: [Step; 10] = [
+    Step::Ask(0, 0, Mode::Exclusive, Answer::Granted),
+    Step::Ask(1, 1, Mode::Exclusive, Answer::Granted),
+    Step::Ask(0, 1, Mode::Exclusive, Answer::Waits),
+    Step::Ask(1, 0, Mode::Exclusive, Answer::Ring),
+    Step::Waits(0, Some(Mode::Exclusive)),
+    Step::Waits(1, None),
+    Step::Holds(1, 0, None),
+    Step::Holds(1, 1, Some(Mode::Exclusive)),
+    Step::LetGo(1),
+    Step::Grant(Some(0)),
+];
+
+// Two conversions of one table, of which the first is to get the cover of what it holds and asks.
+static CONVERSIONS: [Step; 6] = [
+    Step::Ask(0, 0, Mode::Share, Answer::Granted),
+    Step::Ask(1, 0, Mode::Share, Answer::Granted),
+    Step::Ask(0, 0, Mode::IntentExclusive, Answer::Waits),
+    Step::Waits(0, Some(Mode::ShareIntent)),
+    Step::Ask(1, 0, Mode::Exclusive, Answer::Ring),
+    Step::Holds(1, 0, Some(Mode::Share)),
+];
+
+// 1 waits for the mode of 0, 2 stands behind the wait of 1, and 0 would wait for the mode of 2.
+static THROUGH_A_QUEUE: [Step; 6] = [
+    Step::Ask(0, 0, Mode::Share, Answer::Granted),
+    Step::Ask(2, 1, Mode::Exclusive, Answer::Granted),
+    Step::Ask(1, 0, Mode::Exclusive, Answer::Waits),
+    Step::Ask(2, 0, Mode::IntentShare, Answer::Waits),
+    Step::Ask(3, 1, Mode::Share, Answer::Waits),
+    Step::Ask(0, 1, Mode::Share, Answer::Ring),
+];
+
+#[test]
+fn a_wait_that_closes_a_ring_is_refused(rt: HostRuntime) -> Result<(), Fail> {
+    play_anew(&rt, rt.alloc(), &CROSSED)?;
+    play_anew(&rt, rt.alloc(), &CONVERSIONS)?;
+    play_anew(&rt, rt.alloc(), &THROUGH_A_QUEUE)?;
+    Ok(())
+}
+
+// The wait on table 1 came first. A session that lets go gives up its wait too.
+static ARRIVAL: [Step; 13] = [
+    Step::Ask(0, 0, Mode::Exclusive, Answer::Granted),
+    Step::Ask(0, 1, Mode::Exclusive, Answer::Granted),
+    Step::Ask(3, 1, Mode::Share, Answer::Waits),
+    Step::Ask(2, 0, Mode::Share, Answer::Waits),
+    Step::Ask(1, 0, Mode::Share, Answer::Waits),
+    Step::LetGo(0),
+    Step::Grant(Some(3)),
+    Step::Grant(Some(2)),
+    Step::Grant(Some(1)),
+    Step::Grant(None),
+    Step::Ask(0, 0, Mode::Exclusive, Answer::Waits),
+    Step::LetGo(0),
+    Step::Waits(0, None),
+];
+
+#[test]
+fn waits_are_granted_as_they_came(rt: HostRuntime) -> Result<(), Fail> {
+    play_anew(&rt, rt.alloc(), &ARRIVAL)?;
+    Ok(())
+}
+
+/// What a session holds on the key in table 1, on that key in table 0, on another key, and on table 1.
+fn holdings(table: &LockTable, session: u8, key: &Value) -> [Option<Mode>; 4] {
+    let other = Value::Int(1);
+    [
+        table.holds(session, Place::Row(1, key)),
+        table.holds(session, Place::Row(0, key)),
+        table.holds(session, Place::Row(1, &other)),
+        table.holds(session, Place::Table(1)),
+    ]
+}
+
+fn ask_for_key(
+    rt: &impl Abort,
+    table: &mut LockTable,
+    session: u8,
+    key: &Value,
+    mode: Mode,
+) -> Result<Answer, AllocError> {
+    assert!(rt; !table.waits(session), "{session} waits");
+    table.ask(session, Place::Row(1, key), mode)
+}
+
+/// Whether a session waits for a share of the key in table 1.
+fn waits_for_share(table: &LockTable, session: u8, key: &Value) -> bool {
+    match table.wait_of(session) {
+        Some((Place::Row(number, other), mode)) => {
+            number == 1 && *other == *key && mode == Mode::Share
+        }
+        _ => false,
+    }
+}
+
+#[test]
+fn keys_are_locked_by_table_and_value(rt: HostRuntime) -> Result<(), Fail> {
+    let key = Value::Text(Text::from_str(rt.alloc(), "key")?);
+    let mut table = LockTable::new(rt.alloc());
+    let granted = ask_for_key(&rt, &mut table, 0, &key, Mode::Exclusive)?;
+    let waits = ask_for_key(&rt, &mut table, 1, &key, Mode::Share)?;
+    assert!(rt; (granted, waits) == (Answer::Granted, Answer::Waits));
+    assert!(rt; holdings(&table, 0, &key) == [Some(Mode::Exclusive), None, None, None]);
+    assert!(rt; waits_for_share(&table, 1, &key));
+    Ok(())
+}
+
+/// What each session holds on tables 0 and 1, and whether it waits.
+type Standing = [(Option<Mode>, Option<Mode>, bool); 4];
+
+fn standing_of(table: &LockTable, session: u8) -> (Option<Mode>, Option<Mode>, bool) {
+    (
+        table.holds(session, Place::Table(0)),
+        table.holds(session, Place::Table(1)),
+        table.waits(session),
+    )
+}
+
+fn standing(table: &LockTable) -> Standing {
+    [
+        standing_of(table, 0),
+        standing_of(table, 1),
+        standing_of(table, 2),
+        standing_of(table, 3),
+    ]
+}
+
+/// A step that is refused leaves the table, and can be played again. A fork stays as it was.
+fn play_in_the_end(rt: &impl Abort, table: &mut LockTable, step: Step) -> Result<(), AllocError> {
+    let before = standing(table);
+    let fork = table.fork();
+    if play_one(rt, table, step).is_err() {
+        assert!(rt; standing(table) == before);
+        play_one(rt, table, step)?;
+    }
+    if let Ok(fork) = fork {
+        assert!(rt; standing(&fork) == before);
+    }
+    Ok(())
+}
+
+/// Plays the steps in the end on a table of their own.
+fn play_all_in_the_end(rt: &impl Abort, alloc: Global, steps: &[Step]) -> Result<(), AllocError> {
+    let mut table = LockTable::new(alloc);
+    for step in steps {
+        play_in_the_end(rt, &mut table, *step)?;
+    }
+    Ok(())
+}
+
+#[test]
+fn a_refused_step_leaves_the_table_and_its_forks(rt: HostRuntime) {
+    for steps in [
+        NOT_PASSED.as_slice(),
+        CONVERSION.as_slice(),
+        CROSSED.as_slice(),
+        CONVERSIONS.as_slice(),
+        THROUGH_A_QUEUE.as_slice(),
+        ARRIVAL.as_slice(),
+    ] {
+        if play_all_in_the_end(&rt, rt.alloc(), steps).is_err() {
+            return;
+        }
+    }
+}
+
+/// Whether the session asked. It does not while it waits, and a refused request leaves it as it was.
+fn asks_for_key(rt: &impl Abort, table: &mut LockTable, session: u8, key: &Value) -> bool {
+    let place = Place::Row(1, key);
+    if table.waits(session) {
+        return false;
+    }
+    if table.ask(session, place, Mode::Exclusive).is_ok() {
+        return true;
+    }
+    assert!(rt; table.holds(session, place).is_none(), "{session}");
+    assert!(rt; !table.waits(session), "{session}");
+    false
+}
+
+#[test]
+fn a_refused_request_for_a_key_leaves_it(rt: HostRuntime) {
+    let Ok(key) = Text::from_str(rt.alloc(), "key") else {
+        return;
+    };
+    let key = Value::Text(key);
+    let mut table = LockTable::new(rt.alloc());
+    for session in 0..3u8 {
+        let asked = asks_for_key(&rt, &mut table, session, &key);
+        if !asked && !asks_for_key(&rt, &mut table, session, &key) {
+            return;
+        }
+    }
+    assert!(rt; table.holds(0, Place::Row(1, &key)) == Some(Mode::Exclusive));
+    assert!(rt; table.waits(1) && table.waits(2));
+}

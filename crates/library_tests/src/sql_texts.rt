@@ -1,0 +1,431 @@
+use crate::repeated;
+use sql_reader::{AddSign, Atom, Factor, Form, Literal, SqlError, SqlErrorKind, Statement, read_sql};
+use sql_reader::SqlErrorKind::{
+    BadToken, NoMemory, NotHere, NumberTooLarge, Syntax, TooLarge, Unclosed, Unsupported,
+};
+use std::alloc::{AllocError, Global};
+use std::test::Fail;
+
+fn refusal(alloc: Global, text: &str) -> Option<SqlError> {
+    read_sql(alloc, text).err()
+}
+
+/// Tokens that cannot stand where the mark is.
+const SYNTAX_FAULTS: &str = "\
+SELECT v ^FRM t
+SELECT^
+SELECT v^
+SELECT v FROM^
+SELECT v FROM ^1
+SELECT v, ^FROM t
+SELECT v FROM t ^u
+SELECT ^FROM 'x
+SELECT ^9223372036854775808
+SELECT ^1.5
+SELECT v, count^(*)
+SELECT count(*), count ^FROM t
+SELECT count(^x) FROM t
+SELECT sum(^*) FROM t
+SELECT * FROM t WHERE^
+SELECT * FROM t WHERE (v + 1^) > 0
+SELECT * FROM t WHERE - ^- 5 = v
+SELECT * FROM t WHERE -^v = 1
+SELECT * FROM t WHERE v ^AND w = 1
+SELECT * FROM t WHERE v = 1 AND^
+SELECT * FROM t WHERE v = 1 OR ^OR w = 1
+SELECT * FROM t WHERE (v = 1^
+SELECT * FROM t WHERE v = 1^)
+SELECT * FROM t WHERE NOT^
+SELECT * FROM t WHERE v = w ^= 1
+SELECT * FROM t WHERE v * ^* w = 1
+SELECT * FROM t ORDER ^v
+SELECT * FROM t ORDER BY^
+SELECT * FROM t ORDER BY v ASC ^DESC
+SELECT * FROM t ORDER BY v,^
+SELECT * FROM t ORDER BY v ^WHERE v = 1
+^12ab
+^'a'
+^(
+INSERT ^t VALUES (1)
+INSERT INTO t (^) VALUES (1)
+INSERT INTO t (a ^b) VALUES (1)
+INSERT INTO t VALUES ^1
+INSERT INTO t VALUES (^)
+INSERT INTO t VALUES (^a)
+INSERT INTO t VALUES (1^
+INSERT INTO t VALUES (1),^
+INSERT INTO t VALUES (1) ^(2)
+INSERT INTO t VALUES (- ^'x')
+INSERT INTO ^values VALUES (1)
+CREATE ^t (a int)
+CREATE TABLE ^select
+CREATE TABLE t (^)
+CREATE TABLE t (primary KEY^)
+CREATE TABLE t (id int NOT ^KEY)
+CREATE TABLE t (id ^flaot)
+CREATE TABLE t (id int PRIMARY^)
+CREATE TABLE t (id int,^)
+CREATE TABLE t (id int^
+UPDATE ^SET a = 1
+UPDATE t ^a = 1
+UPDATE t SET a ^b
+UPDATE t SET a = ^
+UPDATE t SET a = 1,^
+UPDATE t SET a = ^(1)
+UPDATE t SET a = b * 2 ^5
+DELETE ^t
+DELETE FROM^
+DELETE FROM t ^x
+DELETE FROM t WHERE^
+START^
+START ^x
+BEGIN ^x
+BEGIN ISOLATION LEVEL READ^
+BEGIN ISOLATION LEVEL ^COMMITTED
+BEGIN WORK ^TRANSACTION
+COMMIT WORK; ROLLBACK TRANSACTION; END; ABORT ^x
+LOCK^
+LOCK table ^IN
+LOCK t IN ^MODE
+LOCK t IN ROW^
+LOCK t IN SHARE ^EXCLUSIVE MODE
+LOCK t IN SHARE ROW ^SHARE MODE
+LOCK t ^ROW SHARE MODE
+LOCK t IN EXCLUSIVE^
+SET^
+SET x ^y
+SET x =^
+SET x = ^select
+SET LOCAL^
+SET LOCAL TO^
+SET LOCAL TO TO 5 ^5
+SET LOCAL TO TO^,
+SET LOCAL LOCAL ^LOCAL
+SET LOCAL TO to TO ^-";
+
+/// Numbers outside i64.
+const LARGE_NUMBERS: &str = "\
+DELETE FROM t WHERE v = ^9223372036854775808
+DELETE FROM t WHERE v = -^9223372036854775809
+INSERT INTO t VALUES (1, ^99999999999999999999999999)
+SET LOCAL TO TO ^99999999999999999999
+SET LOCAL = ^99999999999999999999
+UPDATE t SET a = b + ^9223372036854775808 x";
+
+/// Words that begin no statement.
+const UNSUPPORTED_WORDS: &str = "\
+^VACUUM t;
+^where
+ ^DROP TABLE t; 'not read
+COMMIT; ^ANALYZE
+;; ^explain SELECT v FROM t
+^né";
+
+/// Where no token begins.
+const BAD_TOKENS: &str = "\
+^é
+SELECT n^É FROM t
+SELECT * FROM t WHERE a ^! b
+ ^\" ;
+SELECT v FROM t WHERE v = 1^.5
+SELECT v FROM t WHERE v = 4 ^/ 2
+SELECT ^? FROM t";
+
+/// Texts that are not closed.
+const UNCLOSED_TEXTS: &str = "\
+SELECT ^'x
+SELECT v FROM t WHERE w = ^'it''s
+INSERT INTO t VALUES (^'
+SELECT v FROM t WHERE w = ^'a''
+SELECT v FROM t WHERE w = 'a' ^'b";
+
+#[test]
+fn the_first_fault_has_its_kind_and_place(rt: HostRuntime) -> Result<(), Fail> {
+    for (kind, texts) in [
+        (Syntax, SYNTAX_FAULTS),
+        (NumberTooLarge, LARGE_NUMBERS),
+        (Unsupported, UNSUPPORTED_WORDS),
+        (BadToken, BAD_TOKENS),
+        (Unclosed, UNCLOSED_TEXTS),
+    ] {
+        for marked in texts.lines() {
+            let (front, behind) = marked.split_once('^').expect(&rt, "a mark");
+            let text = repeated(rt.alloc(), front, behind, 1, "")?;
+            let want = SqlError {
+                kind,
+                offset: front.len(),
+            };
+            assert_eq!(rt; refusal(rt.alloc(), &text), Some(want), "{marked}");
+        }
+    }
+    Ok(())
+}
+
+#[test]
+fn a_fault_may_stand_behind_a_comment_or_in_it(rt: HostRuntime) {
+    for (text, kind, offset) in [
+        ("SELECT v -- a comment's end\n FRM t", Syntax, 29),
+        ("SELECT\u{b}v", BadToken, 6),
+        ("-- it's\n'x", Unclosed, 8),
+    ] {
+        assert_eq!(rt;
+            refusal(rt.alloc(), text),
+            Some(SqlError { kind, offset }),
+            "{text}"
+        );
+    }
+}
+
+/// Blocks, each behind the number of its statements.
+const BLOCKS: &str = "\
+0 
+0 ; ; ;
+0 -- nothing
+1 SELECT v FROM t
+1 SELECT * FROM t WHERE id=1AND v=2
+1 SELECT count FROM t
+1 SELECT count, sum FROM t ORDER BY count DESC, sum ASC, x
+1 SELECT sum (v), count ( * ) FROM t WHERE NOT v = 1 OR (w = 2 AND NOT (x <> 3))
+1 SELECT * FROM t WHERE v - -1 = - 5
+1 SELECT v FROM t WHERE a < 1 OR a <= 1 OR a > 1 OR a >= 1 OR a != 1
+1 DELETE FROM t WHERE v = -9223372036854775808;; 
+2 CREATE TABLE t (id int PRIMARY KEY, v int); INSERT INTO t VALUES (1, 10), (2, 20)
+1 CREATE TABLE t (id int PRIMARY KEY PRIMARY KEY NOT NULL, PRIMARY KEY (id), v text)
+1 CREATE TABLE t (a integer, b int4, c bigint, d int8)
+1 INSERT INTO t (a, b) VALUES ('it''s', -5), (007, 'x')
+1 UPDATE t SET a = b * 2 + 1 - c, d = 'x' WHERE a != 3
+1 DELETE FROM t WHERE v <= 1 AND v >= 2 OR v < 3 AND v > 4 -- c
+1 SELECT * FROM t WHERE a = ''''
+4 COMMIT WORK; ROLLBACK TRANSACTION; END; ABORT;
+2 BEGIN ISOLATION LEVEL READ COMMITTED; begin isolation level read uncommitted
+2 BEGIN WORK ISOLATION LEVEL REPEATABLE READ; START TRANSACTION ISOLATION LEVEL SERIALIZABLE
+3 LOCK t; LOCK TABLE t IN SHARE ROW EXCLUSIVE MODE; LOCK nowait IN SHARE MODE
+3 LOCK t IN ACCESS EXCLUSIVE MODE;LOCK t IN ROW SHARE MODE; LOCK mode IN EXCLUSIVE MODE
+4 SET LOCAL = 1; SET LOCAL TO TO; SET LOCAL TO = 1; SET LOCAL TO TO x
+4 SET session SESSION TO to; SET LOCAL x = 5; SET LOCAL TO 'a'; SET SESSION TO -1";
+
+#[test]
+fn blocks_are_lists_of_statements(rt: HostRuntime) -> Result<(), Fail> {
+    for line in BLOCKS.lines() {
+        let (count, text) = line.split_once(' ').expect(&rt, "a number");
+        let count: usize = count.parse().expect(&rt, "a number");
+        let read = read_sql(rt.alloc(), text)?;
+        assert_eq!(rt; read.len(), count, "{text}");
+    }
+    Ok(())
+}
+
+#[test]
+fn an_insert_has_a_hundred_rows_at_most(rt: HostRuntime) -> Result<(), Fail> {
+    for (times, want) in [
+        (98, None),
+        (99, None),
+        // The 101st row begins behind 21 bytes and a hundred rows of four bytes each.
+        (
+            100,
+            Some(SqlError {
+                kind: TooLarge,
+                offset: 421,
+            }),
+        ),
+    ] {
+        let text = repeated(rt.alloc(), "INSERT INTO t VALUES ", "(1),", times, "(2)")?;
+        assert_eq!(rt; refusal(rt.alloc(), &text), want, "{times}");
+    }
+    // The comma before the 101st row may stand.
+    let text = repeated(rt.alloc(), "INSERT INTO t VALUES ", "(1),", 100, "")?;
+    assert_eq!(rt;
+        refusal(rt.alloc(), &text),
+        Some(SqlError {
+            kind: Syntax,
+            offset: 421
+        })
+    );
+    Ok(())
+}
+
+#[test]
+fn conditions_are_32_levels_deep_at_most(rt: HostRuntime) -> Result<(), Fail> {
+    for (part, times, want) in [
+        ("NOT ", 32, None),
+        (
+            "NOT ",
+            33,
+            Some(SqlError {
+                kind: TooLarge,
+                offset: 150,
+            }),
+        ),
+        (
+            "(",
+            33,
+            Some(SqlError {
+                kind: TooLarge,
+                offset: 54,
+            }),
+        ),
+        (
+            "NOT (",
+            17,
+            Some(SqlError {
+                kind: TooLarge,
+                offset: 102,
+            }),
+        ),
+    ] {
+        let text = repeated(rt.alloc(), "SELECT v FROM t WHERE ", part, times, "a = 1")?;
+        assert_eq!(rt; refusal(rt.alloc(), &text), want, "{part} {times}");
+    }
+    Ok(())
+}
+
+#[test]
+fn long_texts_are_read(rt: HostRuntime) -> Result<(), Fail> {
+    for (front, part) in [
+        ("DELETE FROM t WHERE v = 1", "+1"),
+        ("DELETE FROM t WHERE v = 1", " OR a=2 AND b=3"),
+        ("UPDATE t SET a = b", "*2"),
+        ("COMMIT", ";"),
+    ] {
+        let text = repeated(rt.alloc(), front, part, 4000, "")?;
+        assert_eq!(rt; refusal(rt.alloc(), &text), None, "{front}");
+    }
+    Ok(())
+}
+
+fn is_column(factor: &Factor, name: &str) -> bool {
+    matches!(factor, Factor::Column(column) if column.as_str() == name)
+}
+
+fn is_text(factor: &Factor, text: &str) -> bool {
+    matches!(factor, Factor::Value(Literal::Quoted(inner)) if inner.as_str() == text)
+}
+
+fn is_whole(factor: &Factor, number: i64) -> bool {
+    matches!(factor, Factor::Value(value) if value.number() == Some(number))
+}
+
+/// Whether the statement is `SELECT v FROM t WHERE NOT a = 'it''s' AND b = 2 OR c = 3`, with NOT before AND before OR.
+fn binds_not_before_and(statement: &Statement) -> bool {
+    let Form::Select(select) = &statement.form else {
+        return false;
+    };
+    let Some(condition) = &select.condition else {
+        return false;
+    };
+    let Atom::Not(inner) = &condition.first.first else {
+        return false;
+    };
+    let Atom::Compares(_, _, right) = inner.get() else {
+        return false;
+    };
+    is_text(&right.first.first, "it's")
+        && condition.first.more.len() == 1
+        && condition.more.len() == 1
+}
+
+#[test]
+fn not_binds_before_and_before_or(rt: HostRuntime) -> Result<(), Fail> {
+    let text = "SELECT v FROM t WHERE NOT a = 'it''s' AND b = 2 OR c = 3";
+    let read = read_sql(rt.alloc(), text)?;
+    assert!(rt; matches!(read.as_slice(), [only] if binds_not_before_and(only)));
+    Ok(())
+}
+
+/// Whether the statement is an UPDATE of one column to `a - b - 2 * c`, from the left.
+fn subtracts_from_the_left(statement: &Statement) -> bool {
+    let Form::Update(update) = &statement.form else {
+        return false;
+    };
+    let value = &update.assignments.first.value;
+    let [second, third] = value.more.as_slice() else {
+        return false;
+    };
+    is_column(&value.first.first, "a")
+        && matches!(second.sign, AddSign::Minus)
+        && is_column(&second.term.first, "b")
+        && matches!(third.sign, AddSign::Minus)
+        && is_whole(&third.term.first, 2)
+        && third.term.more.len() == 1
+}
+
+#[test]
+fn a_statement_has_its_offset_and_names_in_lower_case(rt: HostRuntime) -> Result<(), Fail> {
+    let read = read_sql(rt.alloc(), " ; update T set X = A - B - 2 * C; COMMIT")?;
+    let [update, commit] = read.as_slice() else {
+        return Err(Fail::new("two statements"));
+    };
+    assert!(rt; subtracts_from_the_left(update));
+    assert_eq!(rt; (update.at, commit.at), (3, 35));
+    Ok(())
+}
+
+#[test]
+fn a_literal_is_one_of_i64(rt: HostRuntime) {
+    for (negative, digits, number) in [
+        (false, 0, Some(0)),
+        (true, 7, Some(-7)),
+        (false, 9223372036854775807, Some(i64::MAX)),
+        (true, 9223372036854775808, Some(i64::MIN)),
+        (false, 9223372036854775808, None),
+        (true, 9223372036854775809, None),
+    ] {
+        assert_eq!(rt;
+            Literal::Whole { negative, digits }.number(),
+            number,
+            "{negative} {digits}"
+        );
+    }
+}
+
+#[test]
+fn refusals_have_numbers_and_words(rt: HostRuntime) -> Result<(), Fail> {
+    for (kind, number, words) in [
+        (BadToken, 1, "no token at byte 9"),
+        (Unclosed, 2, "a text without its closing quote at byte 9"),
+        (Syntax, 3, "a token that cannot stand here at byte 9"),
+        (Unsupported, 4, "no statement of the subset at byte 9"),
+        (NumberTooLarge, 5, "a whole number outside i64 at byte 9"),
+        (TooLarge, 6, "too large at byte 9"),
+        (NotHere, 7, "CREATE TABLE outside a main setup at byte 9"),
+        (NoMemory, 8, "out of memory at byte 9"),
+    ] {
+        assert_eq!(rt; kind.number(), number);
+        let error = SqlError { kind, offset: 9 };
+        assert_eq!(rt; format!(in rt.alloc(); "{error}")?.as_str(), words);
+    }
+    Ok(())
+}
+
+/// Each growth may be refused: then the answer is `NoMemory` at 0, else it is the full one.
+#[test]
+fn want_of_memory_is_named(rt: HostRuntime) {
+    let no_memory = SqlError {
+        kind: NoMemory,
+        offset: 0,
+    };
+    for line in BLOCKS.lines() {
+        let (count, text) = line.split_once(' ').expect(&rt, "a number");
+        let count: usize = count.parse().expect(&rt, "a number");
+        match read_sql(rt.alloc(), text) {
+            Ok(all) => assert_eq!(rt; all.len(), count, "{text}"),
+            Err(error) => assert_eq!(rt; error, no_memory, "{text}"),
+        }
+    }
+    for (text, kind, offset) in [
+        ("SELECT * FROM t WHERE (v = 1 OR NOT w = 'x'", Syntax, 43),
+        ("INSERT INTO t (a, b) VALUES (1, 'x'), (2", Syntax, 40),
+        ("CREATE TABLE t (id int PRIMARY KEY, v text,)", Syntax, 43),
+        ("UPDATE t SET a = 1, b = c + 2 * 5 x", Syntax, 34),
+        ("COMMIT; ANALYZE", Unsupported, 8),
+        (
+            "DELETE FROM t WHERE v = 1; DELETE FROM t WHERE v = 9223372036854775808",
+            NumberTooLarge,
+            51,
+        ),
+    ] {
+        let error = refusal(rt.alloc(), text);
+        let is_wanted = error == Some(SqlError { kind, offset });
+        assert!(rt; is_wanted || error == Some(no_memory), "{text}");
+    }
+}

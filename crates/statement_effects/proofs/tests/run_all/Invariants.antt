@@ -1,5 +1,0 @@
-use Rattle.statement_effects.specs.Alone.{IsAlone}
-use Rattle.statement_effects.proofs.tests.run_all.Given as goal
-
-abbrev pub invariant-loop-statement : goal.invariant-loop-statement
-invariant-loop-statement l = IsAlone l.store
