@@ -8,7 +8,10 @@ use std::io;
 use std::io::{Read, Write};
 use std::process::Abort;
 use std::test::Fail;
-use transcripts::{Counted, Event, Fault, Log, Names, Outcome, ReadError, ReadFault, Transcript, ValueError, Warning, WriteFault, outcome_of_value, outcome_value, print, print_rank};
+use transcripts::{
+    Counted, Event, Fault, Log, Names, Outcome, ReadError, ReadFault, Transcript, ValueError,
+    Warning, WriteFault, outcome_of_value, outcome_value, print, print_rank,
+};
 use version_tree::Fork;
 
 fn texts(alloc: Global, names: &[&str]) -> Result<Vec<Text>, AllocError> {
@@ -164,7 +167,10 @@ fn assert_equal(
     event: &Event,
     other: &Event,
 ) -> Result<(), AllocError> {
-    let (told, other) = (format!(in alloc; "{event:?}")?, format!(in alloc; "{other:?}")?);
+    let (told, other) = (
+        format!(in alloc; "{event:?}")?,
+        format!(in alloc; "{other:?}")?,
+    );
     assert_eq!(rt; told.as_str(), other.as_str());
     Ok(())
 }
@@ -413,11 +419,7 @@ fn value_text(alloc: Global, outcome: &Outcome) -> Result<String, AllocError> {
     outcome_value(alloc, outcome)?.to_string(alloc)
 }
 
-fn assert_every_value(
-    rt: &impl Abort,
-    alloc: Global,
-    outcome: &Outcome,
-) -> Result<(), AllocError> {
+fn assert_every_value(rt: &impl Abort, alloc: Global, outcome: &Outcome) -> Result<(), AllocError> {
     assert_eq!(rt; value_text(alloc, outcome)?.as_str(), EVERY_VALUE);
     Ok(())
 }

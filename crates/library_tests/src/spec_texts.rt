@@ -1,5 +1,7 @@
 use crate::repeated;
-use spec_reader::{Block, Item, Line, Marker, Session, SpecError, SpecErrorKind, SpecText, read_spec};
+use spec_reader::{
+    Block, Item, Line, Marker, Session, SpecError, SpecErrorKind, SpecText, read_spec,
+};
 use std::alloc::{AllocError, Global};
 use std::test::Fail;
 

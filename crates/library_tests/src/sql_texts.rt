@@ -1,7 +1,9 @@
 use crate::repeated;
-use sql_reader::{AddSign, Atom, Factor, Form, Literal, SqlError, SqlErrorKind, Statement, read_sql};
 use sql_reader::SqlErrorKind::{
     BadToken, NoMemory, NotHere, NumberTooLarge, Syntax, TooLarge, Unclosed, Unsupported,
+};
+use sql_reader::{
+    AddSign, Atom, Factor, Form, Literal, SqlError, SqlErrorKind, Statement, read_sql,
 };
 use std::alloc::{AllocError, Global};
 use std::test::Fail;
