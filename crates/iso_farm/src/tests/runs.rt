@@ -4,8 +4,8 @@ use std::alloc::{AllocError, Global};
 use std::process::Abort;
 use std::test::Fail;
 
-/// The tables that `T` stands for in the runs.
-const TABLES: &str =
+/// The table that `T` stands for in the runs.
+pub(super) const TABLE: &str =
     "setup { CREATE TABLE t (id int PRIMARY KEY, v int); INSERT INTO t VALUES (1, 10), (2, 20); }";
 
 /// Runs: a name, a rank, a spec, and what the sessions are told, with a slash between two lines.
@@ -102,10 +102,10 @@ pub(super) fn lines_of(alloc: Global, rank: &str, told: &str) -> Result<String, 
     Ok(text)
 }
 
-/// The spec, with its tables written out.
+/// The spec, with its table written out.
 pub(super) fn spec_of(alloc: Global, text: &str) -> Result<String, AllocError> {
     match text.strip_prefix("T ") {
-        Some(rest) => format!(in alloc; "{TABLES} {rest}"),
+        Some(rest) => format!(in alloc; "{TABLE} {rest}"),
         None => String::from_str(alloc, text),
     }
 }

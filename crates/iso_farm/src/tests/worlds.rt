@@ -1,5 +1,6 @@
 //! The machine by its calls: a world takes steps, is forked, and tells its outcome and its locks. The last test is to be read
 //! under `rt try --test --fail-alloc` too.
+use super::runs::TABLE;
 use lock_modes::{Mode, Place, Value};
 use session_machine::{RunError, SendError, StartError, World, run_one};
 use spec_reader::read_spec;
@@ -8,9 +9,6 @@ use std::alloc::Global;
 use std::process::Abort;
 use std::test::Fail;
 use transcripts::{Counted, Names, Outcome, print};
-
-const TABLE: &str =
-    "setup { CREATE TABLE t (id int PRIMARY KEY, v int); INSERT INTO t VALUES (1, 10), (2, 20); }";
 
 /// The spec of two rows and these sessions. None where memory ran out.
 fn spec_where_memory(alloc: Global, sessions: &str) -> Option<Spec> {
