@@ -1,5 +1,5 @@
-//! The machine by its calls: a world takes steps, is forked, and tells its outcome and its locks. The last test is to be read
-//! under `rt try --test --fail-alloc` too.
+//! The machine by its calls: a world takes steps, is forked, and tells its outcome and its locks. The tests without memory are
+//! to be read under `rt try --test --fail-alloc` too.
 use super::runs::TABLE;
 use lock_modes::{Mode, Place, Value};
 use session_machine::{RunError, SendError, StartError, World, run_one};
@@ -7,7 +7,6 @@ use spec_reader::read_spec;
 use sql_subset::{Spec, bind};
 use std::alloc::Global;
 use std::process::Abort;
-use std::test::Fail;
 use transcripts::{Counted, Names, Outcome, print};
 
 /// The spec of two rows and these sessions. None where memory ran out.
@@ -62,7 +61,7 @@ const STEP_SENT_TWICE: &str =
     permutation a1(*) b1(a1 notices 1) a1";
 
 #[test]
-fn a_rank_tells_what_its_steps_did(rt: HostRuntime) -> Result<(), Fail> {
+fn a_rank_tells_what_its_steps_did(rt: HostRuntime) {
     for (sessions, rank, want) in [
         (
             INSERT_AND_READ,
@@ -87,63 +86,76 @@ fn a_rank_tells_what_its_steps_did(rt: HostRuntime) -> Result<(), Fail> {
     ] {
         assert_rank_tells(&rt, rt.alloc(), sessions, rank, want);
     }
-    Ok(())
+}
+
+/// Why a world of the spec is not started, if it is not.
+fn refusal(alloc: Global, spec: &Spec) -> Option<StartError> {
+    World::start(alloc, spec).err()
 }
 
 #[test]
-fn a_setup_that_fails_refuses_the_start(rt: HostRuntime) -> Result<(), Fail> {
+fn a_setup_that_fails_refuses_the_start(rt: HostRuntime) {
     let alloc = rt.alloc();
-    let twice = spec_of(
-        &rt,
-        alloc,
-        "setup { INSERT INTO t VALUES (3, 0); INSERT INTO t VALUES (1, 0); } session a step s {}",
+    let twice =
+        "setup { INSERT INTO t VALUES (3, 0); INSERT INTO t VALUES (1, 0); } session a step s {}";
+    let twice = spec_of(&rt, alloc, twice);
+    assert_eq!(rt;
+        refusal(alloc, &twice),
+        Some(StartError::SetupFailed { block: 1 })
     );
-    match World::start(alloc, &twice) {
-        Ok(_) => assert!(rt; false, "the second block fails"),
-        Err(error) => assert_eq!(rt; error, StartError::SetupFailed { block: 1 }),
-    }
     let second = "session a setup { INSERT INTO t VALUES (3, 0); } step s {}
         session b setup { SELECT v FROM t WHERE id = 3; INSERT INTO t VALUES (3, 1); } step u {}";
-    let spec = spec_of(&rt, alloc, second);
-    match World::start(alloc, &spec) {
-        Ok(_) => assert!(rt; false, "the setup of session b fails"),
-        Err(error) => {
-            assert_eq!(rt; error, StartError::SessionSetupFailed { session: 1 });
-            assert_eq!(rt; error.number(), 2);
-        }
-    }
-    Ok(())
+    let second = spec_of(&rt, alloc, second);
+    assert_eq!(rt;
+        refusal(alloc, &second),
+        Some(StartError::SessionSetupFailed { session: 1 })
+    );
+    assert_eq!(rt; StartError::SessionSetupFailed { session: 1 }.number(), 2);
+}
+
+/// Sends a step of the world's spec.
+fn send(rt: &impl Abort, world: &mut World<'_>, step: u8) -> Result<(), SendError> {
+    assert!(rt; step < world.spec().steps(), "a step of the spec");
+    world.send(step)
+}
+
+/// A world to which the step was sent first.
+fn world_after<'a>(rt: &impl Abort, alloc: Global, spec: &'a Spec, step: u8) -> World<'a> {
+    let mut world = World::start(alloc, spec).expect(rt, "a start");
+    send(rt, &mut world, step).expect(rt, "a step is sent");
+    world
+}
+
+fn assert_tells(rt: &impl Abort, alloc: Global, world: &World<'_>, want: &str) {
+    let outcome = world.outcome().expect(rt, "an outcome");
+    assert_eq!(rt; text_of(rt, alloc, world.spec(), &outcome).as_str(), want);
 }
 
 #[test]
-fn a_world_tells_what_was_sent_so_far(rt: HostRuntime) -> Result<(), Fail> {
-    let alloc = rt.alloc();
-    let spec = spec_of(&rt, alloc, INSERT_AND_READ);
-    assert!(rt; spec.steps() == 2, "a1 and b1");
-    let mut world = World::start(alloc, &spec).expect(&rt, "a start");
-    world.send(1).expect(&rt, "sent");
-    let outcome = world.outcome().expect(&rt, "an outcome");
+fn a_world_tells_what_was_sent_so_far(rt: HostRuntime) {
+    let spec = spec_of(&rt, rt.alloc(), INSERT_AND_READ);
+    let world = world_after(&rt, rt.alloc(), &spec, 1);
     let text = "session a\nsession b\n  step b1\n  rows 0\n  done\n";
-    assert_eq!(rt; text_of(&rt, alloc, &spec, &outcome).as_str(), text);
-    Ok(())
+    assert_tells(&rt, rt.alloc(), &world, text);
+}
+
+const BOTH_TOLD: &str =
+    "session a\n  step a1\n  inserted 1\n  done\nsession b\n  step b1\n  row 30\n  rows 1\n  done\n";
+
+const FIRST_TOLD: &str = "session a\n  step a1\n  inserted 1\n  done\nsession b\n";
+
+fn assert_fork_goes_on(rt: &impl Abort, alloc: Global, world: &World<'_>) {
+    let mut fork = world.fork().expect(rt, "a fork");
+    send(rt, &mut fork, 1).expect(rt, "b1 is sent");
+    assert_tells(rt, alloc, &fork, BOTH_TOLD);
 }
 
 #[test]
-fn a_fork_goes_on_as_its_world_would(rt: HostRuntime) -> Result<(), Fail> {
-    let alloc = rt.alloc();
-    let spec = spec_of(&rt, alloc, INSERT_AND_READ);
-    let mut world = World::start(alloc, &spec).expect(&rt, "a start");
-    send(&rt, &mut world, 0).expect(&rt, "a1 is sent");
-    let mut fork = world.fork().expect(&rt, "a fork");
-    send(&rt, &mut fork, 1).expect(&rt, "b1 is sent");
-    let outcome = fork.outcome().expect(&rt, "an outcome");
-    let text =
-        "session a\n  step a1\n  inserted 1\n  done\nsession b\n  step b1\n  row 30\n  rows 1\n  done\n";
-    assert_eq!(rt; text_of(&rt, alloc, &spec, &outcome).as_str(), text);
-    let outcome = world.outcome().expect(&rt, "an outcome");
-    let text = "session a\n  step a1\n  inserted 1\n  done\nsession b\n";
-    assert_eq!(rt; text_of(&rt, alloc, &spec, &outcome).as_str(), text);
-    Ok(())
+fn a_fork_goes_on_as_its_world_would(rt: HostRuntime) {
+    let spec = spec_of(&rt, rt.alloc(), INSERT_AND_READ);
+    let world = world_after(&rt, rt.alloc(), &spec, 0);
+    assert_fork_goes_on(&rt, rt.alloc(), &world);
+    assert_tells(&rt, rt.alloc(), &world, FIRST_TOLD);
 }
 
 const LOST_UPDATE: &str =
@@ -154,51 +166,55 @@ const LOST_UPDATE: &str =
 const LOST_UPDATE_TELLS: &str =
     "session a\n  step a1\n  updated 1\n  done\n  step a2\n  committed\n  done\nsession b\n  step b1\n  waiting\n  resumed\n  updated 1\n  done\n  step b2\n  committed\n  done\n";
 
-/// Sends a step of the world's spec.
-fn send(rt: &impl Abort, world: &mut World<'_>, step: u8) -> Result<(), SendError> {
-    assert!(rt; step < world.spec().steps(), "a step of the spec");
-    world.send(step)
+/// What a session holds on the table, and on its row of key 1.
+fn holdings(world: &World<'_>, session: u8) -> [Option<Mode>; 2] {
+    let key = Value::Int(1);
+    [
+        world.holds(session, Place::Table(0)),
+        world.holds(session, Place::Row(0, &key)),
+    ]
 }
 
-/// Whether the two sessions wait.
+/// Whether a session waits to have the row of key 1 for itself.
+fn waits_for_row(world: &World<'_>, session: u8) -> bool {
+    match world.wait_of(session) {
+        Some((Place::Row(table, key), mode)) => {
+            table == 0 && *key == Value::Int(1) && mode == Mode::Exclusive
+        }
+        _ => false,
+    }
+}
+
+/// Whether each of the two sessions waits for the row.
 fn who_waits(world: &World<'_>) -> (bool, bool) {
-    (world.wait_of(0).is_some(), world.wait_of(1).is_some())
+    (waits_for_row(world, 0), waits_for_row(world, 1))
+}
+
+fn assert_first_holds(rt: &impl Abort, world: &World<'_>) {
+    let modes = [Some(Mode::IntentExclusive), Some(Mode::Exclusive)];
+    assert!(rt; holdings(world, 0) == modes, "a writes in the row");
+    assert!(rt; holdings(world, 1) == [None, None], "b has not begun");
+    assert!(rt; world.wait_of(0).is_none() && world.wait_of(1).is_none());
+}
+
+fn assert_second_waits(rt: &impl Abort, world: &mut World<'_>) {
+    send(rt, world, 2).expect(rt, "b1 is sent");
+    assert!(rt; who_waits(world) == (false, true), "b waits for a");
+}
+
+fn assert_second_goes_on(rt: &impl Abort, world: &mut World<'_>) {
+    send(rt, world, 1).expect(rt, "a2 is sent");
+    assert!(rt; world.wait_of(1).is_none(), "b goes on");
+    assert!(rt; !world.spent() && world.spec().steps() == 4);
 }
 
 #[test]
-fn a_world_tells_who_holds_and_who_waits(rt: HostRuntime) -> Result<(), Fail> {
-    let alloc = rt.alloc();
-    let spec = spec_of(&rt, alloc, LOST_UPDATE);
-    let row = Value::Int(1);
-    let mut world = World::start(alloc, &spec).expect(&rt, "a start");
-    send(&rt, &mut world, 0).expect(&rt, "a1 is sent");
-    let mut fork = world.fork().expect(&rt, "a fork");
-    send(&rt, &mut fork, 2).expect(&rt, "b1 is sent");
-    assert!(rt;
-        world.holds(0, Place::Table(0)) == Some(Mode::IntentExclusive),
-        "a writes in t"
-    );
-    assert!(rt;
-        world.holds(0, Place::Row(0, &row)) == Some(Mode::Exclusive),
-        "and its row"
-    );
-    assert!(rt;
-        world.holds(1, Place::Row(0, &row)).is_none(),
-        "which b does not hold"
-    );
-    assert_eq!(rt; who_waits(&world), (false, false));
-    assert_eq!(rt; who_waits(&fork), (false, true));
-    match fork.wait_of(1) {
-        Some((Place::Row(0, key), Mode::Exclusive)) => assert!(rt; *key == row, "the row of a"),
-        _ => assert!(rt; false, "b waits for a row"),
-    }
-    send(&rt, &mut fork, 1).expect(&rt, "a2 is sent");
-    assert_eq!(rt; who_waits(&fork), (false, false));
-    assert!(rt;
-        !fork.spent() && fork.spec().steps() == 4,
-        "a whole world of the spec"
-    );
-    Ok(())
+fn a_world_tells_who_holds_and_who_waits(rt: HostRuntime) {
+    let spec = spec_of(&rt, rt.alloc(), LOST_UPDATE);
+    let mut world = world_after(&rt, rt.alloc(), &spec, 0);
+    assert_first_holds(&rt, &world);
+    assert_second_waits(&rt, &mut world);
+    assert_second_goes_on(&rt, &mut world);
 }
 
 /// The world after a step, or a fork taken before it where the step is refused memory, after the same step. None where the
@@ -233,33 +249,45 @@ fn assert_lost_update(rt: &impl Abort, alloc: Global, spec: &Spec, outcome: &Out
     }
 }
 
-#[test]
-fn a_world_without_memory_is_spent_and_its_forks_go_on(rt: HostRuntime) -> Result<(), Fail> {
-    let alloc = rt.alloc();
-    let Some(spec) = spec_where_memory(alloc, LOST_UPDATE) else {
-        return Ok(());
-    };
-    let mut world = match World::start(alloc, &spec) {
-        Ok(world) => world,
+/// A world of the spec, or None where memory ran out.
+fn start_where_memory<'a>(rt: &impl Abort, alloc: Global, spec: &'a Spec) -> Option<World<'a>> {
+    match World::start(alloc, spec) {
+        Ok(world) => Some(world),
         Err(error) => {
             assert_eq!(rt; error, StartError::NoMemory);
-            return Ok(());
+            None
         }
+    }
+}
+
+#[test]
+fn a_world_without_memory_is_spent_and_its_forks_go_on(rt: HostRuntime) {
+    let Some(spec) = spec_where_memory(rt.alloc(), LOST_UPDATE) else {
+        return;
+    };
+    let Some(mut world) = start_where_memory(&rt, rt.alloc(), &spec) else {
+        return;
     };
     for step in [0, 2, 1, 3] {
         let Some(next) = after_step(&rt, world, step) else {
-            return Ok(());
+            return;
         };
         world = next;
     }
     match world.outcome() {
-        Ok(outcome) => assert_lost_update(&rt, alloc, &spec, &outcome),
+        Ok(outcome) => assert_lost_update(&rt, rt.alloc(), &spec, &outcome),
         Err(error) => assert_eq!(rt; error, SendError::NoMemory),
     }
+}
+
+#[test]
+fn a_run_without_memory_is_refused(rt: HostRuntime) {
+    let Some(spec) = spec_where_memory(rt.alloc(), LOST_UPDATE) else {
+        return;
+    };
     let line = spec.line(0).expect(&rt, "a rank of the spec");
-    match run_one(alloc, &spec, &line) {
-        Ok(outcome) => assert_lost_update(&rt, alloc, &spec, &outcome),
+    match run_one(rt.alloc(), &spec, &line) {
+        Ok(outcome) => assert_lost_update(&rt, rt.alloc(), &spec, &outcome),
         Err(error) => assert_eq!(rt; error, RunError::NoMemory),
     }
-    Ok(())
 }
