@@ -193,7 +193,7 @@ fn who_waits(world: &World<'_>) -> (bool, bool) {
 fn assert_first_holds(rt: &impl Abort, world: &World<'_>) {
     let modes = [Some(Mode::IntentExclusive), Some(Mode::Exclusive)];
     assert!(rt; holdings(world, 0) == modes, "a writes in the row");
-    assert!(rt; holdings(world, 1) == [None, None], "b has not begun");
+    assert!(rt; holdings(world, 1) == [None, None], "b holds nothing");
     assert!(rt; world.wait_of(0).is_none() && world.wait_of(1).is_none());
 }
 
