@@ -1,0 +1,81 @@
+"""Compares what `isofarm one` tells with what this second implementation tells, on specs made from seeds.
+
+usage: python3 crosscheck/compare.py any|hindering|wrong|limits FIRST_SEED SEEDS
+"""
+
+import subprocess
+import sys
+from collections import Counter
+from pathlib import Path
+from random import Random
+from tempfile import TemporaryDirectory
+
+from binding import bind
+from generate import KINDS, Maker
+from machine import outcome
+from refusal import Refusal
+from spec_file import read_spec
+
+PROGRAM = Path(__file__).resolve().parent.parent / "crates/isofarm/out/isofarm"
+RANKS_A_SPEC = 4
+WORDS = ["waiting", "resumed", "not sent", "error: deadlock", "error: duplicate key", "error: integer out of range"]
+WORDS += ["error: transaction is aborted", "warning: no transaction block", "warning: already in a transaction block"]
+
+
+def expected(text, rank, path):
+    """The exit status, and what stands on the two outputs."""
+    try:
+        spec = bind(read_spec(text))
+        if rank >= spec.ranks():
+            return 3, b"", f"isofarm: {path}: rank out of range\n".encode()
+        return 0, f"rank {rank}\n".encode() + outcome(spec, rank), b""
+    except Refusal as refusal:
+        return 3, b"", refusal.line(path)
+
+
+def ranks_of(text, seed):
+    """Some ranks of a spec and sometimes one too many; rank 0 of what is no spec."""
+    try:
+        number = bind(read_spec(text)).ranks()
+    except Refusal:
+        return [0]
+    random = Random(seed)
+    ranks = {random.randrange(number) for _ in range(RANKS_A_SPEC)}
+    return sorted(ranks | ({number} if random.random() < 0.05 else set()))
+
+
+def told(folder, path, rank):
+    ran = subprocess.run([PROGRAM, "one", path, str(rank)], cwd=folder, capture_output=True, check=False)
+    return ran.returncode, ran.stdout, ran.stderr
+
+
+def kind_of(status, out, error):
+    """What an answer shows, in words to be counted."""
+    if status:
+        return [error.decode().rsplit(": ", 1)[1].split(" at ")[0].strip()]
+    return ["an outcome"] + [word for word in WORDS if word.encode() in out]
+
+
+def main(kind, first, seeds):
+    counts, runs, differences = Counter(), 0, 0
+    with TemporaryDirectory() as folder:
+        for seed in range(first, first + seeds):
+            text = KINDS[kind](Maker(seed))
+            Path(folder, "made.spec").write_bytes(text)
+            for rank in ranks_of(text, seed):
+                want, got = expected(text, rank, "made.spec"), told(folder, "made.spec", rank)
+                runs += 1
+                counts.update(kind_of(*want))
+                if want != got:
+                    differences += 1
+                    print(f"seed {seed} rank {rank}: expected {want}\n  but was told {got}")
+    print(f"{runs} runs, {differences} differences; in what was expected:")
+    for word, count in counts.most_common():
+        print(f"  {count:6} {word}")
+    return 1 if differences else 0
+
+
+if __name__ == "__main__":
+    if len(sys.argv) != 4 or sys.argv[1] not in KINDS:
+        sys.exit(__doc__)
+    sys.exit(main(sys.argv[1], int(sys.argv[2]), int(sys.argv[3])))

@@ -1,0 +1,310 @@
+"""Makes spec files from a seed: any statements, sessions that hinder one another, and texts with something wrong in them."""
+
+import re
+from random import Random
+
+BIG = ["9223372036854775807", "-9223372036854775808", "4611686018427387904", "3037000500"]
+TEXTS = ["''", "'a'", "'b'", "'aa'", "'A'", "'it''s'", "''''", "'é'", "'a|b'", "'\n'"]
+TYPES = ["int", "INTEGER", "int4", "bigint", "int8"]
+LOCK_MODES = [
+    "ACCESS SHARE",
+    "ROW SHARE",
+    "ROW EXCLUSIVE",
+    "SHARE",
+    "SHARE ROW EXCLUSIVE",
+    "EXCLUSIVE",
+    "ACCESS EXCLUSIVE",
+]
+BEGINS = [
+    "BEGIN",
+    "BEGIN WORK",
+    "START TRANSACTION",
+    "BEGIN ISOLATION LEVEL SERIALIZABLE",
+    "begin transaction isolation level read committed",
+]
+COMMITS = ["COMMIT", "END", "COMMIT WORK", "commit transaction"]
+ROLLBACKS = ["ROLLBACK", "ABORT", "rollback work"]
+SETTINGS = ["SET x = 1", "SET LOCAL a TO b", "SET SESSION a = 'q'", "SET local = 1", "SET LOCAL TO TO x"]
+SESSION_NAMES = ["s{}", "session_{}", '"session {}"', '"step""{}"']
+STRAY = (
+    "select from where and or not ( ) , * = < - + 1 99999999999999999999 'a' ' \" { } # -- step session setup permutation "
+    "teardown notices x t id v primary key table create insert into values begin commit lock in mode share set to local ; $ "
+    "\x0b é \u00a0 order by desc count sum s0_0 s1_0 isolation level"
+).split(" ")
+
+
+class Table:
+    def __init__(self, name, columns, key):
+        self.name, self.columns, self.key = name, columns, key
+
+    def of_type(self, is_text):
+        return [name for name, text in self.columns if text == is_text]
+
+
+class Maker:
+    def __init__(self, seed):
+        self.random = Random(seed)
+
+    def one(self, items):
+        return self.random.choice(items)
+
+    def some(self, chance):
+        return self.random.random() < chance
+
+    def many(self, most, item):
+        return [item() for _ in range(self.random.randint(1, most))]
+
+    # any statements
+
+    def table(self, name):
+        names = self.random.sample(["id", "v", "w", "k", "x1", "count", "sum"], self.random.randint(1, 4))
+        columns = [(column, self.some(0.25)) for column in names]
+        return Table(name, columns, self.one([None] + names * 2))
+
+    def create(self, table):
+        stands_apart = self.some(0.4)
+        parts = []
+        for name, is_text in table.columns:
+            part = f"{name} {'text' if is_text else self.one(TYPES)}{self.one([' NOT NULL', '', ''])}"
+            parts.append(part + (" PRIMARY KEY" if name == table.key and not stands_apart else ""))
+        if table.key and stands_apart:
+            parts.insert(self.random.randint(0, len(parts)), f"PRIMARY KEY ({table.key})")
+        return f"CREATE TABLE {table.name} ({', '.join(parts)})"
+
+    def literal(self, is_text):
+        if is_text:
+            return self.one(TEXTS)
+        return self.one([str(self.random.randint(0, 3))] * 12 + [str(-self.random.randint(0, 3)), self.one(BIG)])
+
+    def operand(self, table, is_text):
+        columns = table.of_type(is_text)
+        return self.one(columns) if columns and self.some(0.6) else self.literal(is_text)
+
+    def expression(self, table, is_text):
+        made = self.operand(table, is_text)
+        while not is_text and self.some(0.3):
+            made += f" {self.one(['+', '-', '*', '+'])} {self.operand(table, is_text)}"
+        return made
+
+    def comparison(self, table):
+        _name, is_text = self.one(table.columns)
+        sign = self.one(["=", "=", "<>", "!=", "<", "<=", ">", ">="])
+        return f"{self.expression(table, is_text)} {sign} {self.expression(table, is_text)}"
+
+    def condition(self, table, depth=0):
+        kind = self.random.random()
+        if table.key and kind < 0.5:
+            made = f"{table.key} = {self.literal(dict(table.columns)[table.key])}"
+        elif kind < 0.6 and depth < 3:
+            made = f"({self.condition(table, depth + 1)})"
+        elif kind < 0.68:
+            made = f"NOT {self.comparison(table)}"
+        else:
+            made = self.comparison(table)
+        if depth < 3 and self.some(0.28):
+            made += f" {self.one(['AND', 'AND', 'OR'])} {self.condition(table, depth + 1)}"
+        return made
+
+    def where(self, table):
+        return f" WHERE {self.condition(table)}" if self.some(0.8) else ""
+
+    def insert(self, table):
+        columns, named = list(table.columns), ""
+        if self.some(0.3):
+            self.random.shuffle(columns)
+            named = f" ({', '.join(name for name, _is_text in columns)})"
+        rows = [self.row(columns) for _ in range(self.random.randint(1, 3) if self.some(0.4) else 1)]
+        return f"INSERT INTO {table.name}{named} VALUES {', '.join(rows)}"
+
+    def row(self, columns):
+        return f"({', '.join(self.literal(is_text) for _name, is_text in columns)})"
+
+    def select(self, table):
+        names = [name for name, _is_text in table.columns]
+        totals = ["count(*)", "COUNT ( * )"] + [f"sum({name})" for name in table.of_type(False)]
+        columns = self.many(2, lambda: self.one(names))
+        items = self.one([["*"], columns, columns, self.many(2, lambda: self.one(totals))])
+        order = ""
+        if self.some(0.3):
+            keys = self.many(2, lambda: self.one(names) + self.one(["", " ASC", " DESC", " desc"]))
+            order = f" ORDER BY {', '.join(keys)}"
+        return f"SELECT {', '.join(items)} FROM {table.name}{self.where(table)}{order}"
+
+    def update(self, table):
+        others = [column for column in table.columns if column[0] != table.key]
+        if not others:
+            return self.insert(table)
+        chosen = self.random.sample(others, self.random.randint(1, min(2, len(others))))
+        sets = ", ".join(f"{name} = {self.expression(table, is_text)}" for name, is_text in chosen)
+        return f"UPDATE {table.name} SET {sets}{self.where(table)}"
+
+    def statement(self, tables):
+        table, kind = self.one(tables), self.random.random()
+        if kind < 0.26:
+            return self.select(table)
+        if kind < 0.48:
+            return self.update(table)
+        if kind < 0.62:
+            return self.insert(table)
+        if kind < 0.72:
+            return f"DELETE FROM {table.name}{self.where(table)}"
+        if kind < 0.79:
+            mode = self.one([""] * 2 + [f" IN {mode} MODE" for mode in LOCK_MODES])
+            return f"LOCK {self.one(['', 'TABLE '])}{table.name}{mode}"
+        return self.one(self.one([SETTINGS, BEGINS, BEGINS, COMMITS, COMMITS, ROLLBACKS]))
+
+    def block(self, statements):
+        between = self.one(["; ", ";\n  ", " ; ; "])
+        return f"{{ {between.join(statements)}{';' if statements and self.some(0.7) else ''} }}"
+
+    def line(self, steps):
+        items = []
+        for _ in range(self.random.randint(1, 8)):
+            marker = self.one([""] * 8 + ["(*)", f"({self.one(steps)})", f"({self.one(steps)} notices 3, *)"])
+            items.append(self.one(steps) + marker)
+        return f"permutation {' '.join(items)}\n"
+
+    def any_spec(self):
+        names = self.random.sample(["t", "u", "n", "p", "Tab_1"], self.random.randint(1, 3))
+        tables = [self.table(name) for name in names]
+        creates = [self.create(table) for table in tables]
+        fills = [self.insert(table) for table in tables for _ in range(self.random.randint(0, 2))]
+        setups = [creates, fills] if self.some(0.2) else [creates + fills]
+        made = "".join(f"setup {self.block(setup)}\n" for setup in setups)
+        made += "teardown { anything }\n" if self.some(0.1) else ""
+        sessions, steps = self.one([1, 2, 2, 2, 3, 3, 4]), []
+        for session in range(sessions):
+            made += f"session {self.one(SESSION_NAMES).format(session)}\n"
+            if self.some(0.65):
+                setup = ["BEGIN"] * self.some(0.9) + [self.statement(tables) for _ in range(self.some(0.12))]
+                made += f"setup {self.block(setup)}\n"
+            for number in range(self.one([1, 2] if sessions == 4 else [1, 2, 2, 3])):
+                steps.append(f"s{session}_{number}")
+                statements = [self.statement(tables) for _ in range(self.one([0, 1, 1, 1, 1, 2, 2, 3]))]
+                made += f"step {steps[-1]} {self.block(statements)}\n"
+        if self.some(0.25):
+            made += "".join(self.many(3, lambda: self.line(steps)))
+        return made.encode()
+
+    # sessions that hinder one another
+
+    def hindering_statement(self):
+        kind, key, letter = self.random.random(), self.random.randint(1, 3), self.one("ab")
+        table = self.one(["t", "t", "t", "u", "n"])
+        by_key = {"t": f" WHERE id = {key}", "u": f" WHERE k = '{letter}'", "n": ""}[table]
+        change = {"t": f"v = v + {key}", "u": "w = w * 2", "n": "a = b, b = a"}[table]
+        other = {"t": " WHERE v > 15", "u": "", "n": " WHERE b = 2"}[table]
+        row = {"t": f"({self.random.randint(1, 5)}, 0)", "u": f"('{self.one('abc')}', 7)", "n": "(5, 5)"}[table]
+        total = {"t": "count(*), sum(v)", "u": "*", "n": "a"}[table]
+        if kind < 0.2:
+            return f"SELECT * FROM {table}{by_key}"
+        if kind < 0.3:
+            return f"SELECT {total} FROM {table}"
+        if kind < 0.6:
+            return f"UPDATE {table} SET {change}{by_key}"
+        if kind < 0.68:
+            return f"UPDATE {table} SET {change}{other}"
+        if kind < 0.78:
+            return f"INSERT INTO {table} VALUES {row}"
+        if kind < 0.86:
+            return f"DELETE FROM {table}{by_key}"
+        return f"LOCK {table}" + self.one([""] + [f" IN {mode} MODE" for mode in LOCK_MODES[:5]])
+
+    def hindering_spec(self):
+        made = (
+            "setup { CREATE TABLE t (id int PRIMARY KEY, v int); CREATE TABLE u (k text PRIMARY KEY, w int);\n"
+            "  CREATE TABLE n (a int, b int); INSERT INTO t VALUES (1, 10), (2, 20), (3, 30);\n"
+            "  INSERT INTO u VALUES ('a', 1), ('b', 2); INSERT INTO n VALUES (1, 1), (1, 2); }\n"
+        )
+        sessions = self.one([2, 3, 3, 4])
+        for session in range(sessions):
+            made += f"session s{session}\n" + ("setup { BEGIN; }\n" if self.some(0.85) else "")
+            steps = self.one({2: [3, 4, 5], 3: [3, 3, 4], 4: [2, 3]}[sessions])
+            for number in range(steps):
+                statements = [self.hindering_statement() for _ in range(self.one([1, 1, 1, 2]))]
+                is_last = number == steps - 1
+                if self.some(0.9 if is_last else 0.08):
+                    end = self.one(["COMMIT"] * 3 + ["ROLLBACK"])
+                    statements = [end] if is_last and self.some(0.5) else statements + [end]
+                made += f"step s{session}_{number} {self.block(statements)}\n"
+        return made.encode()
+
+    # texts with something wrong in them
+
+    def wrong_spec(self):
+        made = self.any_spec().decode()
+        for _ in range(self.one([1, 1, 1, 2, 3])):
+            start, end = self.one([found.span() for found in re.finditer(r"\w+|\s+|[^\w\s]", made)])
+            kind, stray = self.random.random(), self.one(STRAY)
+            if kind < 0.3:
+                made = made[:start] + made[end:]
+            elif kind < 0.6:
+                made = f"{made[:start]} {stray} {made[start:]}"
+            elif kind < 0.8:
+                made = made[:start] + stray + made[end:]
+            elif kind < 0.86:
+                made = made[:end] + made[start:]
+            elif kind < 0.95:
+                lines = made.split("\n")
+                lines.insert(self.random.randint(0, len(lines)), self.one(lines))
+                made = "\n".join(lines)
+            else:
+                made = made[:end]
+        text = made.encode()
+        if self.some(0.03):
+            place = self.random.randint(0, len(text))
+            text = text[:place] + bytes([self.random.randint(128, 255)]) + text[place:]
+        return text
+
+    # texts near a limit
+
+    def near(self, limit):
+        return self.random.randint(limit - 1, limit + 2)
+
+    def one_step(self, sql):
+        return f"setup {{ CREATE TABLE t (id int PRIMARY KEY, v int); }} session a step s {{ {sql} }}"
+
+    def with_sessions(self):
+        return " ".join(f"session a{number} step s{number} {{}}" for number in range(self.near(6)))
+
+    def with_steps(self):
+        has_lines = self.some(0.5)
+        steps = " ".join(f"step s{number} {{}}" for number in range(self.near(255 if has_lines else 24)))
+        return f"session a {steps}" + " permutation s1 s0" * has_lines
+
+    def with_items(self):
+        return f"session a step s {{}} permutation {'s ' * self.near(24)} {self.one(['', 's', 'x', '('])}"
+
+    def with_lines(self):
+        return "session a step s {} " + "permutation s\n" * self.near(4096) + self.one(["", "permutation", "s", "x"])
+
+    def with_rows(self):
+        rows = ", ".join(f"({number}, 0)" for number in range(self.near(100)))
+        return self.one_step(f"INSERT INTO t VALUES {rows}{self.one(['', ';', ', ', ', (1', ', 1'])}")
+
+    def with_levels(self):
+        opened = [self.one(["(", "(", "NOT "]) for _ in range(self.near(32))]
+        closed = ")" * opened.count("(")
+        return self.one_step(f"SELECT * FROM t WHERE {''.join(opened)}v = 1{closed[self.random.randint(0, 1) :]}")
+
+    def with_number(self):
+        number = self.one(["", "-", "- "]) + str(2**63 + self.random.randint(-2, 1))
+        form = self.one(["UPDATE t SET v = {}", "SELECT * FROM t WHERE v < {}", "SET x = {}", "SELECT {} FROM t", "INSERT INTO t VALUES ({}, 0)"])
+        return self.one_step(form.format(number))
+
+    def with_bytes(self):
+        start = "session a step s {} #"
+        return start + "x" * (self.near(65536) - len(start))
+
+    def limit_spec(self):
+        forms = [self.with_sessions, self.with_steps, self.with_items, self.with_lines]
+        forms += [self.with_rows, self.with_levels, self.with_number, self.with_bytes]
+        return self.one(forms)().encode()
+
+
+KINDS = {
+    "any": Maker.any_spec,
+    "hindering": Maker.hindering_spec,
+    "wrong": Maker.wrong_spec,
+    "limits": Maker.limit_spec,
+}

@@ -1,0 +1,246 @@
+"""Reads spec files, a token at a time. A token is looked at only where the grammar has come to it."""
+
+from dataclasses import dataclass, field
+from enum import IntEnum
+
+from refusal import Refusal
+
+MAX_BYTES = 65536
+MAX_ITEMS = 24
+MAX_LINES = 4096
+WHITE = b" \t\r\x0c\n"
+KEYWORDS = {"notices", "permutation", "session", "setup", "step", "teardown"}
+
+
+class Kind(IntEnum):
+    NOT_UTF8 = 1
+    BAD_TOKEN = 2
+    UNCLOSED = 3
+    MISPLACED = 4
+    NO_STEP = 5
+    DUPLICATE_STEP = 6
+    DUPLICATE_SESSION = 7
+    UNKNOWN_STEP = 8
+    TOO_LARGE = 9
+
+
+@dataclass
+class Token:
+    kind: str
+    value: object
+    start: int
+    end: int
+
+    def is_keyword(self, *words):
+        return self.kind == "keyword" and self.value in words
+
+
+@dataclass
+class Block:
+    """The bytes between braces, and where the first of them stands in the file."""
+
+    text: bytes
+    start: int
+
+
+@dataclass
+class Session:
+    name: str
+    setup: Block | None = None
+    steps: list = field(default_factory=list)
+
+
+@dataclass
+class SpecText:
+    setups: list
+    sessions: list
+    lines: list
+    has_lines: bool
+
+
+def refuse(kind, place):
+    raise Refusal("spec", int(kind), place)
+
+
+def begins_name(byte):
+    return byte >= 0x80 or byte == ord("_") or chr(byte).isalpha()
+
+
+def is_digit(byte):
+    return ord("0") <= byte <= ord("9")
+
+
+def goes_on_name(byte):
+    return begins_name(byte) or is_digit(byte) or byte == ord("$")
+
+
+def run_end(text, place, belongs):
+    while place < len(text) and belongs(text[place]):
+        place += 1
+    return place
+
+
+def past_blanks(text, place):
+    while True:
+        place = run_end(text, place, lambda byte: byte in WHITE)
+        if text[place : place + 1] != b"#":
+            return place
+        place = run_end(text, place, lambda byte: byte != ord("\n"))
+
+
+def quoted_name(text, start):
+    name, place = b"", start + 1
+    while place < len(text) and text[place] != ord("\n"):
+        if text[place : place + 2] == b'""':
+            name, place = name + b'"', place + 2
+        elif text[place] != ord('"'):
+            name, place = name + text[place : place + 1], place + 1
+        elif name:
+            return Token("name", name.decode(), start, place + 1)
+        else:
+            refuse(Kind.BAD_TOKEN, start)
+    return refuse(Kind.UNCLOSED, start)
+
+
+def token_at(text, place):
+    start = past_blanks(text, place)
+    if start == len(text):
+        return Token("end", None, start, start)
+    byte = text[start]
+    if begins_name(byte):
+        end = run_end(text, start, goes_on_name)
+        word = text[start:end].decode()
+        return Token("keyword" if word in KEYWORDS else "name", word, start, end)
+    if is_digit(byte):
+        return Token("number", None, start, run_end(text, start, is_digit))
+    if byte in b"(),*":
+        return Token(chr(byte), None, start, start + 1)
+    if byte == ord("{"):
+        end = text.find(b"}", start)
+        if end < 0:
+            refuse(Kind.UNCLOSED, start)
+        return Token("block", Block(text[start + 1 : end], start + 1), start, end + 1)
+    if byte == ord('"'):
+        return quoted_name(text, start)
+    return refuse(Kind.BAD_TOKEN, start)
+
+
+class Reader:
+    def __init__(self, text):
+        self.text = text
+        self.place = 0
+        self.token = None
+        self.steps = {}
+
+    def peek(self):
+        if self.token is None:
+            self.token = token_at(self.text, self.place)
+        return self.token
+
+    def take(self):
+        token = self.peek()
+        self.place, self.token = token.end, None
+        return token
+
+    def at(self, *words):
+        return self.peek().is_keyword(*words)
+
+    def take_if(self, word):
+        return self.take() if self.at(word) else None
+
+    def need(self, kind):
+        if self.peek().kind != kind:
+            refuse(Kind.MISPLACED, self.peek().start)
+        return self.take()
+
+    def block(self):
+        return self.need("block").value
+
+    def need_first(self, word, *after):
+        """The first session of a file, or the first step of a session."""
+        if self.at(word):
+            return
+        is_missing = self.peek().kind == "end" or self.at(*after)
+        refuse(Kind.NO_STEP if is_missing else Kind.MISPLACED, self.peek().start)
+
+    def spec(self):
+        setups, sessions, lines = [], [], []
+        while self.take_if("setup"):
+            setups.append(self.block())
+        if self.take_if("teardown"):
+            self.block()
+        self.need_first("session", "permutation")
+        while self.take_if("session"):
+            sessions.append(self.session({session.name for session in sessions}))
+        has_lines = self.at("permutation")
+        while self.at("permutation"):
+            word = self.take()
+            if len(lines) == MAX_LINES:
+                refuse(Kind.TOO_LARGE, word.start)
+            lines.append(self.line())
+        self.need("end")
+        return SpecText(setups, sessions, lines, has_lines)
+
+    def session(self, names):
+        name = self.need("name")
+        if name.value in names:
+            refuse(Kind.DUPLICATE_SESSION, name.start)
+        session = Session(name.value)
+        if self.take_if("setup"):
+            session.setup = self.block()
+        is_torn_down = self.take_if("teardown")
+        if is_torn_down:
+            self.block()
+        self.need_first("step", "permutation", "session")
+        while self.take_if("step"):
+            step = self.need("name")
+            if step.value in self.steps:
+                refuse(Kind.DUPLICATE_STEP, step.start)
+            self.steps[step.value] = len(self.steps)
+            session.steps.append((step.value, self.block()))
+        if not is_torn_down and self.take_if("teardown"):
+            self.block()
+        return session
+
+    def step(self, name):
+        if name.value not in self.steps:
+            refuse(Kind.UNKNOWN_STEP, name.start)
+        return self.steps[name.value]
+
+    def line(self):
+        items = [self.item(0)]
+        while self.peek().kind == "name":
+            items.append(self.item(len(items)))
+        return items
+
+    def item(self, number):
+        name = self.need("name")
+        if number == MAX_ITEMS:
+            refuse(Kind.TOO_LARGE, name.start)
+        step = self.step(name)
+        if self.peek().kind == "(":
+            self.take()
+            self.marker()
+            while self.peek().kind == ",":
+                self.take()
+                self.marker()
+            self.need(")")
+        return step
+
+    def marker(self):
+        if self.peek().kind == "*":
+            self.take()
+            return
+        self.step(self.need("name"))
+        if self.take_if("notices"):
+            self.need("number")
+
+
+def read_spec(text):
+    if len(text) > MAX_BYTES:
+        refuse(Kind.TOO_LARGE, MAX_BYTES)
+    try:
+        text.decode()
+    except UnicodeDecodeError as error:
+        refuse(Kind.NOT_UTF8, error.start)
+    return Reader(text).spec()

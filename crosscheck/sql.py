@@ -1,0 +1,499 @@
+"""Reads blocks of SQL into statements, a token at a time."""
+
+from dataclasses import dataclass
+from enum import IntEnum
+
+from refusal import Refusal
+from spec_file import WHITE, is_digit, run_end
+
+LEAST, MOST = -(2**63), 2**63 - 1
+MAX_ROWS = 100
+MAX_LEVELS = 32
+RESERVED = set(
+    "and asc by desc from in into not or order primary select set table values where".split()
+)
+PAIRS = (b"<>", b"!=", b"<=", b">=")
+COMPARISONS = ("=", "<>", "!=", "<", "<=", ">", ">=")
+NUMBER_TYPES = ("int", "integer", "int4", "bigint", "int8")
+
+
+class Kind(IntEnum):
+    BAD_TOKEN = 1
+    UNCLOSED = 2
+    SYNTAX = 3
+    UNSUPPORTED = 4
+    NUMBER_TOO_LARGE = 5
+    TOO_LARGE = 6
+    NOT_HERE = 7
+
+
+@dataclass
+class Token:
+    kind: str
+    value: object
+    start: int
+    end: int
+
+
+# Statements. Each has `at`, the place of its first byte. A number is an int and a text is bytes. An expression is such a
+# value, a Column, or a Sum of a sign and two expressions. A condition is an All or an Any of conditions, a Not, or a Compare.
+@dataclass
+class Column:
+    name: str
+
+
+@dataclass
+class Sum:
+    sign: str
+    left: object
+    right: object
+
+
+@dataclass
+class Compare:
+    sign: str
+    left: object
+    right: object
+
+
+@dataclass
+class All:
+    parts: list
+
+
+@dataclass
+class Any:
+    parts: list
+
+
+@dataclass
+class Not:
+    part: object
+
+
+@dataclass
+class Declared:
+    """A column of CREATE TABLE, and how often it is called the primary key."""
+
+    name: str
+    is_text: bool
+    keys: int
+
+
+@dataclass
+class Create:
+    table: str
+    columns: list
+    keys: list
+
+
+@dataclass
+class Insert:
+    table: str
+    columns: list | None
+    rows: list
+
+
+@dataclass
+class Select:
+    table: str
+    columns: list | None  # None for all of them, or where there are aggregates
+    aggregates: list | None  # a column's name for its sum, None for the count
+    where: object
+    order: list
+
+
+@dataclass
+class Update:
+    table: str
+    assignments: list
+    where: object
+
+
+@dataclass
+class Delete:
+    table: str
+    where: object
+
+
+@dataclass
+class Lock:
+    table: str
+    mode: str
+
+
+@dataclass
+class Begin:
+    pass
+
+
+@dataclass
+class End:
+    keeps: bool
+
+
+@dataclass
+class Set:
+    pass
+
+
+def refuse(kind, place):
+    raise Refusal("sql", int(kind), place)
+
+
+def begins_word(byte):
+    return byte < 0x80 and (chr(byte).isalpha() or byte == ord("_"))
+
+
+def past_blanks(text, place):
+    while True:
+        place = run_end(text, place, lambda byte: byte in WHITE)
+        if text[place : place + 2] != b"--":
+            return place
+        place = run_end(text, place, lambda byte: byte != ord("\n"))
+
+
+def text_at(text, start):
+    value, place = b"", start + 1
+    while place < len(text):
+        if text[place : place + 2] == b"''":
+            value, place = value + b"'", place + 2
+        elif text[place] == ord("'"):
+            return Token("text", value, start, place + 1)
+        else:
+            value, place = value + text[place : place + 1], place + 1
+    return refuse(Kind.UNCLOSED, start)
+
+
+def token_at(text, place):
+    start = past_blanks(text, place)
+    if start == len(text):
+        return Token("end", None, start, start)
+    byte = text[start]
+    if begins_word(byte):
+        end = run_end(text, start, lambda byte: begins_word(byte) or is_digit(byte))
+        return Token("word", text[start:end].decode().lower(), start, end)
+    if is_digit(byte):
+        end = run_end(text, start, is_digit)
+        return Token("number", int(text[start:end]), start, end)
+    if byte == ord("'"):
+        return text_at(text, start)
+    if text[start : start + 2] in PAIRS:
+        return Token(text[start : start + 2].decode(), None, start, start + 2)
+    if byte in b"(),;*+-=<>":
+        return Token(chr(byte), None, start, start + 1)
+    return refuse(Kind.BAD_TOKEN, start)
+
+
+class Reader:
+    def __init__(self, text, place=0):
+        self.text = text
+        self.place = place
+        self.token = None
+
+    def peek(self):
+        if self.token is None:
+            self.token = token_at(self.text, self.place)
+        return self.token
+
+    def take(self):
+        token = self.peek()
+        self.place, self.token = token.end, None
+        return token
+
+    def is_sign(self, sign):
+        return self.peek().kind == sign
+
+    def is_word(self, *words):
+        return self.peek().kind == "word" and self.peek().value in words
+
+    def take_if(self, *words):
+        return self.take() if self.is_word(*words) else None
+
+    def stop(self):
+        refuse(Kind.SYNTAX, self.peek().start)
+
+    def sign(self, sign):
+        return self.take() if self.is_sign(sign) else self.stop()
+
+    def word(self, *words):
+        return self.take().value if self.is_word(*words) else self.stop()
+
+    def name(self):
+        token = self.peek()
+        if token.kind != "word" or token.value in RESERVED:
+            self.stop()
+        return self.take().value
+
+    def listed(self, item):
+        """One or more with commas between them. Each is told how many stand before it."""
+        items = [item(0)]
+        while self.is_sign(","):
+            self.take()
+            items.append(item(len(items)))
+        return items
+
+    def names(self):
+        return self.listed(lambda _number: self.name())
+
+    def literal(self):
+        if self.peek().kind == "text":
+            return self.take().value
+        is_negative = self.is_sign("-")
+        if is_negative:
+            self.take()
+        token = self.peek()
+        if token.kind != "number":
+            self.stop()
+        value = -token.value if is_negative else token.value
+        if not LEAST <= value <= MOST:
+            refuse(Kind.NUMBER_TOO_LARGE, token.start)
+        self.take()
+        return value
+
+    def factor(self):
+        return Column(self.name()) if self.peek().kind == "word" else self.literal()
+
+    def joined(self, operand, signs):
+        value = operand()
+        while self.peek().kind in signs:
+            value = Sum(self.take().kind, value, operand())
+        return value
+
+    def expression(self):
+        return self.joined(lambda: self.joined(self.factor, ("*",)), ("+", "-"))
+
+    def condition(self, level=0):
+        parts = [self.conjunction(level)]
+        while self.take_if("or"):
+            parts.append(self.conjunction(level))
+        return parts[0] if len(parts) == 1 else Any(parts)
+
+    def conjunction(self, level):
+        parts = [self.part(level)]
+        while self.take_if("and"):
+            parts.append(self.part(level))
+        return parts[0] if len(parts) == 1 else All(parts)
+
+    def part(self, level):
+        if self.is_word("not") or self.is_sign("("):
+            if level == MAX_LEVELS:
+                refuse(Kind.TOO_LARGE, self.peek().start)
+            if self.take().kind == "word":
+                return Not(self.part(level + 1))
+            inner = self.condition(level + 1)
+            self.sign(")")
+            return inner
+        left = self.expression()
+        if self.peek().kind not in COMPARISONS:
+            self.stop()
+        return Compare(self.take().kind, left, self.expression())
+
+    def where(self):
+        return self.condition() if self.take_if("where") else None
+
+    def block(self):
+        statements = []
+        while True:
+            while self.is_sign(";"):
+                self.take()
+            if self.is_sign("end"):
+                return statements
+            statements.append(self.statement())
+            self.ended()
+
+    def ended(self):
+        if not (self.is_sign(";") or self.is_sign("end")):
+            self.stop()
+
+    def statement(self):
+        first = self.peek()
+        if first.kind != "word":
+            self.stop()
+        form = FORMS.get(first.value) or refuse(Kind.UNSUPPORTED, first.start)
+        self.take()
+        statement = form(self)
+        statement.at = first.start
+        return statement
+
+    def create(self):
+        self.word("table")
+        table = self.name()
+        self.sign("(")
+        columns, keys = [], []
+        self.listed(lambda _number: self.create_part(columns, keys))
+        self.sign(")")
+        return Create(table, columns, keys)
+
+    def create_part(self, columns, keys):
+        if self.take_if("primary"):
+            self.word("key")
+            self.sign("(")
+            keys.append(self.name())
+            self.sign(")")
+            return
+        name = self.name()
+        column = Declared(name, self.word(*NUMBER_TYPES, "text") == "text", 0)
+        while self.is_word("primary", "not"):
+            if self.take().value == "primary":
+                self.word("key")
+                column.keys += 1
+            else:
+                self.word("null")
+        columns.append(column)
+
+    def insert(self):
+        self.word("into")
+        table = self.name()
+        columns = None
+        if self.is_sign("("):
+            self.take()
+            columns = self.names()
+            self.sign(")")
+        self.word("values")
+        return Insert(table, columns, self.listed(self.row))
+
+    def row(self, number):
+        if self.is_sign("(") and number == MAX_ROWS:
+            refuse(Kind.TOO_LARGE, self.peek().start)
+        self.sign("(")
+        values = self.listed(lambda _number: self.literal())
+        self.sign(")")
+        return values
+
+    def select(self):
+        columns = aggregates = None
+        if self.is_sign("*"):
+            self.take()
+        elif self.is_word("count", "sum") and self.is_before("("):
+            aggregates = self.listed(lambda _number: self.aggregate())
+        else:
+            columns = self.names()
+        self.word("from")
+        table = self.name()
+        where = self.where()
+        order = []
+        if self.take_if("order"):
+            self.word("by")
+            order = self.listed(lambda _number: self.sort_key())
+        return Select(table, columns, aggregates, where, order)
+
+    def is_before(self, sign):
+        return token_at(self.text, self.peek().end).kind == sign
+
+    def aggregate(self):
+        word = self.word("count", "sum")
+        self.sign("(")
+        column = None
+        if word == "count":
+            self.sign("*")
+        else:
+            column = self.name()
+        self.sign(")")
+        return column
+
+    def sort_key(self):
+        column = self.name()
+        word = self.take_if("asc", "desc")
+        return column, word is not None and word.value == "desc"
+
+    def update(self):
+        table = self.name()
+        self.word("set")
+        return Update(table, self.listed(lambda _number: self.assignment()), self.where())
+
+    def assignment(self):
+        column = self.name()
+        self.sign("=")
+        return column, self.expression()
+
+    def delete(self):
+        self.word("from")
+        return Delete(self.name(), self.where())
+
+    def begin(self):
+        self.take_if("work", "transaction")
+        return self.isolation()
+
+    def start(self):
+        self.word("transaction")
+        return self.isolation()
+
+    def isolation(self):
+        if self.take_if("isolation"):
+            self.word("level")
+            level = self.word("serializable", "repeatable", "read")
+            if level == "repeatable":
+                self.word("read")
+            elif level == "read":
+                self.word("committed", "uncommitted")
+        return Begin()
+
+    def end(self, keeps):
+        self.take_if("work", "transaction")
+        return End(keeps)
+
+    def lock(self):
+        self.take_if("table")
+        table = self.name()
+        if not self.take_if("in"):
+            return Lock(table, "X")
+        word = self.word("access", "row", "share", "exclusive")
+        if word in ("access", "row"):
+            second = self.word("share", "exclusive")
+            mode = "IS" if second == "share" else "X" if word == "access" else "IX"
+        elif word == "exclusive":
+            mode = "X"
+        elif self.take_if("row"):
+            self.word("exclusive")
+            mode = "SIX"
+        else:
+            mode = "S"
+        self.word("mode")
+        return Lock(table, mode)
+
+    def setting(self):
+        """LOCAL and SESSION may be the name that is set. The reading that gets further decides."""
+        refusals = []
+        for has_scope in (True, False):
+            other = Reader(self.text, self.place)
+            try:
+                other.setting_as(has_scope)
+                self.place, self.token = other.place, other.token
+                return Set()
+            except Refusal as refusal:
+                refusals.append(refusal)
+        raise max(refusals, key=lambda refusal: (refusal.place, refusal.kind != Kind.SYNTAX))
+
+    def setting_as(self, has_scope):
+        if has_scope:
+            self.word("local", "session")
+        self.name()
+        if not self.take_if("to"):
+            self.sign("=")
+        if self.peek().kind == "word":
+            self.name()
+        else:
+            self.literal()
+        self.ended()
+
+
+FORMS = {
+    "create": Reader.create,
+    "insert": Reader.insert,
+    "select": Reader.select,
+    "update": Reader.update,
+    "delete": Reader.delete,
+    "begin": Reader.begin,
+    "start": Reader.start,
+    "commit": lambda reader: reader.end(True),
+    "end": lambda reader: reader.end(True),
+    "rollback": lambda reader: reader.end(False),
+    "abort": lambda reader: reader.end(False),
+    "lock": Reader.lock,
+    "set": Reader.setting,
+}
+
+
+def read_sql(text):
+    return Reader(text).block()
