@@ -12,7 +12,7 @@ use session_machine::{RunError, StartError};
 use spec_reader::{SpecError, SpecErrorKind};
 use sql_subset::{BindError, BindErrorKind};
 use std::alloc::{AllocError, Global};
-use std::io::Write;
+use std::io::{self, Write};
 use transcripts::Counted;
 
 /// What the words ask for.
@@ -173,14 +173,37 @@ fn start_fault(path: &str, error: StartError) -> ProgramFault<'_> {
     }
 }
 
-/// Writes the fault's line and gives its status. Where the line can't be written nothing more can be told.
+/// Writes the fault's line and gives its status. Where there is no memory for the line, that is told in its place.
 fn tell_fault<E: Write>(alloc: Global, fault: &ProgramFault<'_>, err: &mut Counted<E>) -> u8
     requires { failures_of err.old ≡ 0 }
 {
-    if let Ok(line) = format!(in alloc; "{fault}\n") {
-        let _told = err.write_str(line.as_str());
+    match format!(in alloc; "{fault}\n") {
+        Ok(line) => {
+            let _told = err.write_str(line.as_str());
+            fault.status()
+        }
+        Err(_) => tell_no_memory(err),
     }
-    fault.status()
+}
+
+/// Writes that memory ran out, without any, and gives the status.
+fn tell_no_memory<E: Write>(err: &mut Counted<E>) -> u8
+    requires { failures_of err.old ≡ 0 }
+{
+    let _told = err.write_str("isofarm: no memory\n");
+    4
+}
+
+/// Tells why the words of the command line, or the room to hold output back, were not had, and gives the exit status: 2 where a word
+/// is no UTF-8, 4 for want of memory.
+pub fn tell_words_fault<E: Write>(error: &io::Error, err: &mut Counted<E>) -> u8
+    requires { failures_of err.old ≡ 0 }
+{
+    if matches!(error.kind(), io::ErrorKind::InvalidData) {
+        let _told = err.write_str("error: invalid UTF-8 was detected in one or more arguments\n");
+        return 2;
+    }
+    tell_no_memory(err)
 }
 
 /// Writes what the command line's fault or the help says, and gives the status.

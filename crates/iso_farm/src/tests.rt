@@ -1,6 +1,7 @@
 use super::*;
 use std::alloc::{AllocError, Global};
 use std::io::{self, Read, Write};
+use std::process::Abort;
 use std::test::Fail;
 use transcripts::Counted;
 
@@ -253,4 +254,18 @@ fn help_goes_to_the_output(rt: HostRuntime) -> Result<(), Fail> {
         assert!(rt; told.out.contains("Usage: isofarm"), "{line}");
     }
     Ok(())
+}
+
+fn assert_words_fault(rt: &impl Abort, alloc: Global, kind: io::ErrorKind, status: u8, line: &str) {
+    let mut err = Counted::new(Vec::new(alloc));
+    assert_eq!(rt; tell_words_fault(&io::Error::from(kind), &mut err), status);
+    assert!(rt; err.into_inner().as_slice() == line.as_bytes(), "{line}");
+}
+
+#[test]
+fn words_that_are_not_had_are_told(rt: HostRuntime) {
+    let no_text = "error: invalid UTF-8 was detected in one or more arguments\n";
+    assert_words_fault(&rt, rt.alloc(), io::ErrorKind::InvalidData, 2, no_text);
+    let no_memory = "isofarm: no memory\n";
+    assert_words_fault(&rt, rt.alloc(), io::ErrorKind::OutOfMemory, 4, no_memory);
 }

@@ -1,7 +1,7 @@
 //! The program `isofarm`: hands the real world to the farm's library.
 #![tactic(auto)]
 
-use iso_farm::{Opener, run};
+use iso_farm::{Opener, run, tell_words_fault};
 use std::env;
 use std::fs::File;
 use std::io::{self, BufWriter};
@@ -22,11 +22,21 @@ impl Opener for Disk<'_> {
     }
 }
 
-fn main(rt: HostRuntime) -> io::Result<ExitCode> {
-    let alloc = rt.alloc();
-    let words: Vec<String> = env::args(&rt)?.collect(alloc)?;
-    let mut out = Counted::new(BufWriter::new(alloc, rt.stdout())?);
+fn words_of(rt: &HostRuntime) -> io::Result<Vec<String>> {
+    Ok(env::args(rt)?.collect(rt.alloc())?)
+}
+
+fn main(rt: HostRuntime) -> ExitCode {
     let mut err = Counted::new(rt.stderr());
-    let status = run(alloc, &words, &Disk { rt: &rt }, &mut out, &mut err);
-    Ok(ExitCode::from(status))
+    let words = match words_of(&rt) {
+        Ok(words) => words,
+        Err(error) => return ExitCode::from(tell_words_fault(&error, &mut err)),
+    };
+    let out = match BufWriter::new(rt.alloc(), rt.stdout()) {
+        Ok(out) => out,
+        Err(error) => return ExitCode::from(tell_words_fault(&error, &mut err)),
+    };
+    let mut out = Counted::new(out);
+    let status = run(rt.alloc(), &words, &Disk { rt: &rt }, &mut out, &mut err);
+    ExitCode::from(status)
 }

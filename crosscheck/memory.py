@@ -1,0 +1,68 @@
+"""Refuses the program memory, one call of malloc or realloc after another, alone and with all after it.
+
+usage: python3 crosscheck/memory.py FIRST_SEED SEEDS
+
+Each run has to tell what it tells with memory, or that there is none. It is done for the examples, for faults of the command
+line, and for the specs of the seeds. It needs gcc.
+"""
+
+import os
+import subprocess
+import sys
+from pathlib import Path
+from tempfile import TemporaryDirectory
+
+from compare import PROGRAM
+from generate import KINDS, Maker
+
+TOP = Path(__file__).resolve().parent.parent
+NO_MEMORY = (4, b"", b"isofarm: no memory\n")
+WORDS = [[], ["--help"], ["one", "x"], ["one", "first.spec", "x"], ["one", "first.spec", "2"], ["one", "no.spec", "0"]]
+WORDS += [["one", "first.spec", "0"], ["one", "deadlock.spec", "5"], ["one", "lost_update.spec", "1"], ["one", "names.spec", "0"]]
+
+
+def told(words, folder, settings):
+    ran = subprocess.run([PROGRAM, *words], cwd=folder, capture_output=True, check=False, env={**os.environ, **settings})
+    return ran.returncode, ran.stdout, ran.stderr
+
+
+def others(words, folder, library):
+    """How many calls there are, and the runs that tell something else."""
+    with_memory = told(words, folder, {})
+    count = Path(library).with_name("count")
+    told(words, folder, {"LD_PRELOAD": library, "COUNT": str(count)})
+    calls, found = int(count.read_text()), []
+    for all_after in ({}, {"REFUSE_ALL": "1"}):
+        for call in range(1, calls + 1):
+            answer = told(words, folder, {"LD_PRELOAD": library, "REFUSE": str(call), **all_after})
+            if answer not in (with_memory, NO_MEMORY):
+                found.append((call, bool(all_after), answer))
+    return calls, found
+
+
+def main(first, seeds):
+    calls = differences = 0
+    with TemporaryDirectory() as folder:
+        library = str(Path(folder, "refuse_memory.so"))
+        source = Path(__file__).with_name("refuse_memory.c")
+        subprocess.run(["gcc", "-shared", "-fPIC", "-o", library, source, "-ldl"], check=True)
+        runs = [(words, TOP / "examples") for words in WORDS]
+        for kind, make in KINDS.items():
+            for seed in range(first, first + seeds):
+                name = f"{kind}{seed}.spec"
+                Path(folder, name).write_bytes(make(Maker(seed)))
+                runs.append((["one", name, "0"], folder))
+        for words, place in runs:
+            number, found = others(words, place, library)
+            calls += number
+            differences += len(found)
+            for call, all_after, answer in found:
+                print(f"{words}: call {call}{' and all after it' if all_after else ''} refused: {answer}")
+    print(f"{len(runs)} programs, {calls} calls refused, {differences} other answers")
+    return 1 if differences else 0
+
+
+if __name__ == "__main__":
+    if len(sys.argv) != 3:
+        sys.exit(__doc__)
+    sys.exit(main(int(sys.argv[1]), int(sys.argv[2])))
