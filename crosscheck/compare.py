@@ -1,6 +1,6 @@
 """Compares what `isofarm one` tells with what this second implementation tells, on specs made from seeds.
 
-usage: python3 crosscheck/compare.py any|hindering|wrong|limits FIRST_SEED SEEDS
+usage: python3 crosscheck/compare.py any|hindering|wrong|misfits|limits FIRST_SEED SEEDS
 """
 
 import subprocess

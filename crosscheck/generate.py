@@ -256,6 +256,31 @@ class Maker:
             text = text[:place] + bytes([self.random.randint(128, 255)]) + text[place:]
         return text
 
+    # statements that do not fit the tables
+
+    def misfit(self, tables):
+        table = self.one(tables)
+        names = [name for name, _is_text in table.columns] + ["nothing"]
+        value = lambda: self.literal(self.some(0.5))
+        column = lambda: self.one(names)
+        return self.one(
+            [
+                f"INSERT INTO {table.name} VALUES ({', '.join(self.many(4, value))})",
+                f"INSERT INTO {table.name} ({', '.join(self.many(3, column))}) VALUES ({', '.join(self.many(3, value))})",
+                f"UPDATE {table.name} SET {', '.join(f'{column()} = {self.one([column(), value()])}' for _ in range(2))}",
+                f"SELECT {column()} FROM {table.name} WHERE {column()} < {self.one([column(), value()])} + 1",
+                f"SELECT sum({column()}) FROM {table.name} ORDER BY {column()}",
+                f"DELETE FROM {self.one([table.name, 'nowhere'])} WHERE {column()} = {value()}",
+                f"CREATE TABLE {self.one([table.name, 'x'])} ({self.one(['a', 'b'])} int, {self.one(['a', 'b'])} text, PRIMARY KEY (a))",
+            ]
+        )
+
+    def misfit_spec(self):
+        table, fits = Table("t", [("id", False), ("w", True), ("v", False)], self.one(["id", "w", None])), self.statement
+        self.statement = lambda tables: self.misfit(tables) if self.some(0.3) else fits(tables)
+        setup = self.block([self.create(table)] + [self.misfit([table]) for _ in range(self.some(0.3))])
+        return f"setup {setup} session a step s {self.block(self.many(4, lambda: self.statement([table])))}".encode()
+
     # texts near a limit
 
     def near(self, limit):
@@ -306,5 +331,6 @@ KINDS = {
     "any": Maker.any_spec,
     "hindering": Maker.hindering_spec,
     "wrong": Maker.wrong_spec,
+    "misfits": Maker.misfit_spec,
     "limits": Maker.limit_spec,
 }
