@@ -258,28 +258,29 @@ class Maker:
 
     # statements that do not fit the tables
 
-    def misfit(self, tables):
-        table = self.one(tables)
-        names = [name for name, _is_text in table.columns] + ["nothing"]
-        value = lambda: self.literal(self.some(0.5))
-        column = lambda: self.one(names)
+    def any_value(self):
+        return self.literal(self.some(0.5))
+
+    def misfit(self, table):
+        column = lambda: self.one([name for name, _is_text in table.columns] + ["nothing"])
+        values, columns = self.many(4, self.any_value), self.many(3, column)
         return self.one(
             [
-                f"INSERT INTO {table.name} VALUES ({', '.join(self.many(4, value))})",
-                f"INSERT INTO {table.name} ({', '.join(self.many(3, column))}) VALUES ({', '.join(self.many(3, value))})",
-                f"UPDATE {table.name} SET {', '.join(f'{column()} = {self.one([column(), value()])}' for _ in range(2))}",
-                f"SELECT {column()} FROM {table.name} WHERE {column()} < {self.one([column(), value()])} + 1",
-                f"SELECT sum({column()}) FROM {table.name} ORDER BY {column()}",
-                f"DELETE FROM {self.one([table.name, 'nowhere'])} WHERE {column()} = {value()}",
-                f"CREATE TABLE {self.one([table.name, 'x'])} ({self.one(['a', 'b'])} int, {self.one(['a', 'b'])} text, PRIMARY KEY (a))",
+                f"INSERT INTO t VALUES ({', '.join(values)})",
+                f"INSERT INTO t ({', '.join(columns)}) VALUES ({', '.join(values[:3])})",
+                f"UPDATE t SET {', '.join(f'{column()} = {self.one([column(), self.any_value()])}' for _ in range(2))}",
+                f"SELECT {column()} FROM t WHERE {column()} < {self.one([column(), self.any_value()])} + 1",
+                f"SELECT sum({column()}) FROM t ORDER BY {column()}",
+                f"DELETE FROM {self.one(['t', 'nowhere'])} WHERE {column()} = {self.any_value()}",
+                f"CREATE TABLE {self.one('tx')} ({self.one('ab')} int, {self.one('ab')} text, PRIMARY KEY (a))",
             ]
         )
 
     def misfit_spec(self):
-        table, fits = Table("t", [("id", False), ("w", True), ("v", False)], self.one(["id", "w", None])), self.statement
-        self.statement = lambda tables: self.misfit(tables) if self.some(0.3) else fits(tables)
-        setup = self.block([self.create(table)] + [self.misfit([table]) for _ in range(self.some(0.3))])
-        return f"setup {setup} session a step s {self.block(self.many(4, lambda: self.statement([table])))}".encode()
+        table = Table("t", [("id", False), ("w", True), ("v", False)], self.one(["id", "w", None]))
+        step = self.many(4, lambda: self.misfit(table) if self.some(0.3) else self.statement([table]))
+        setup = [self.create(table)] + [self.misfit(table) for _ in range(self.some(0.3))]
+        return f"setup {self.block(setup)} session a step s {self.block(step)}".encode()
 
     # texts near a limit
 

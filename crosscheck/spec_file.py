@@ -4,11 +4,11 @@ from dataclasses import dataclass, field
 from enum import IntEnum
 
 from refusal import Refusal
+from tokens import Token, Tokens, is_digit, past_blanks, run_end
 
 MAX_BYTES = 65536
 MAX_ITEMS = 24
 MAX_LINES = 4096
-WHITE = b" \t\r\x0c\n"
 KEYWORDS = {"notices", "permutation", "session", "setup", "step", "teardown"}
 
 
@@ -22,17 +22,6 @@ class Kind(IntEnum):
     DUPLICATE_SESSION = 7
     UNKNOWN_STEP = 8
     TOO_LARGE = 9
-
-
-@dataclass
-class Token:
-    kind: str
-    value: object
-    start: int
-    end: int
-
-    def is_keyword(self, *words):
-        return self.kind == "keyword" and self.value in words
 
 
 @dataclass
@@ -66,26 +55,8 @@ def begins_name(byte):
     return byte >= 0x80 or byte == ord("_") or chr(byte).isalpha()
 
 
-def is_digit(byte):
-    return ord("0") <= byte <= ord("9")
-
-
 def goes_on_name(byte):
     return begins_name(byte) or is_digit(byte) or byte == ord("$")
-
-
-def run_end(text, place, belongs):
-    while place < len(text) and belongs(text[place]):
-        place += 1
-    return place
-
-
-def past_blanks(text, place):
-    while True:
-        place = run_end(text, place, lambda byte: byte in WHITE)
-        if text[place : place + 1] != b"#":
-            return place
-        place = run_end(text, place, lambda byte: byte != ord("\n"))
 
 
 def quoted_name(text, start):
@@ -103,7 +74,7 @@ def quoted_name(text, start):
 
 
 def token_at(text, place):
-    start = past_blanks(text, place)
+    start = past_blanks(text, place, b"#")
     if start == len(text):
         return Token("end", None, start, start)
     byte = text[start]
@@ -125,25 +96,13 @@ def token_at(text, place):
     return refuse(Kind.BAD_TOKEN, start)
 
 
-class Reader:
+class Reader(Tokens):
     def __init__(self, text):
-        self.text = text
-        self.place = 0
-        self.token = None
+        super().__init__(text, 0, token_at)
         self.steps = {}
 
-    def peek(self):
-        if self.token is None:
-            self.token = token_at(self.text, self.place)
-        return self.token
-
-    def take(self):
-        token = self.peek()
-        self.place, self.token = token.end, None
-        return token
-
     def at(self, *words):
-        return self.peek().is_keyword(*words)
+        return self.peek().kind == "keyword" and self.peek().value in words
 
     def take_if(self, word):
         return self.take() if self.at(word) else None

@@ -4,7 +4,7 @@ from dataclasses import dataclass
 from enum import IntEnum
 
 from refusal import Refusal
-from spec_file import WHITE, is_digit, run_end
+from tokens import Token, Tokens, is_digit, past_blanks, run_end
 
 LEAST, MOST = -(2**63), 2**63 - 1
 MAX_ROWS = 100
@@ -25,14 +25,6 @@ class Kind(IntEnum):
     NUMBER_TOO_LARGE = 5
     TOO_LARGE = 6
     NOT_HERE = 7
-
-
-@dataclass
-class Token:
-    kind: str
-    value: object
-    start: int
-    end: int
 
 
 # Statements. Each has `at`, the place of its first byte. A number is an int and a text is bytes. An expression is such a
@@ -145,14 +137,6 @@ def begins_word(byte):
     return byte < 0x80 and (chr(byte).isalpha() or byte == ord("_"))
 
 
-def past_blanks(text, place):
-    while True:
-        place = run_end(text, place, lambda byte: byte in WHITE)
-        if text[place : place + 2] != b"--":
-            return place
-        place = run_end(text, place, lambda byte: byte != ord("\n"))
-
-
 def text_at(text, start):
     value, place = b"", start + 1
     while place < len(text):
@@ -166,7 +150,7 @@ def text_at(text, start):
 
 
 def token_at(text, place):
-    start = past_blanks(text, place)
+    start = past_blanks(text, place, b"--")
     if start == len(text):
         return Token("end", None, start, start)
     byte = text[start]
@@ -185,21 +169,9 @@ def token_at(text, place):
     return refuse(Kind.BAD_TOKEN, start)
 
 
-class Reader:
+class Reader(Tokens):
     def __init__(self, text, place=0):
-        self.text = text
-        self.place = place
-        self.token = None
-
-    def peek(self):
-        if self.token is None:
-            self.token = token_at(self.text, self.place)
-        return self.token
-
-    def take(self):
-        token = self.peek()
-        self.place, self.token = token.end, None
-        return token
+        super().__init__(text, place, token_at)
 
     def is_sign(self, sign):
         return self.peek().kind == sign
