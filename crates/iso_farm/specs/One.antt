@@ -7,7 +7,7 @@ use Rattle.spec_reader.specs.Tree.{SpecTree}
 use Rattle.spec_reader.specs.Text.{IsSpec, Explains}
 use Rattle.transcripts.specs.Text.{rank_text, outcome_text}
 use Rattle.transcripts.specs.declared.event.Event.{Event}
-use Rattle.session_machine.specs.Start.{start}
+use Rattle.machine_model.specs.Start.{start}
 use Rattle.session_machine.specs.Running.{outcome_of_line, IsNotRunBy}
 use Rattle.iso_farm.specs.declared.single.OneFault.{OneFault}
 use Rattle.iso_farm.specs.declared.single.OneFault.TheVariants.{Spec, Bind, OutOfRange, Run, Write}

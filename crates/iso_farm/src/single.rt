@@ -2,7 +2,7 @@
 
 ghost use Rattle.std.specs.Prelude.{◌≡◌, ◌<◌, ◌≤◌, ◌+◌, ◌↔◌, ◌++◌, ℕ, List, OnOk, IfErr, IsErrOf, length};
 ghost use Rattle.sql_subset.specs.Spec.{ranks};
-ghost use Rattle.session_machine.specs.Start.{start};
+ghost use Rattle.machine_model.specs.Start.{start};
 ghost use Rattle.session_machine.specs.Running.{IsNotRunBy, IsTold};
 ghost use Rattle.transcripts.specs.Counted.{Wrote, Prints, failures_of};
 ghost use Rattle.transcripts.specs.Text.{rank_text, outcome_text};

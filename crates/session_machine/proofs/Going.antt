@@ -16,17 +16,16 @@ use Rattle.sql_statements.specs.Plan.{Tuple, Request, plan}
 use Rattle.sql_statements.specs.declared.statement.Bound.{Bound}
 use Rattle.row_tables.specs.Layers.{Layers, overlay_of}
 use Rattle.statement_effects.specs.Run.{SeesAlone}
-use Rattle.session_machine.specs.Session.{Held, Session}
-use Rattle.session_machine.specs.Go.{Scene, answer_in, look_with, waiting_with}
+use Rattle.machine_model.specs.Session.{Held, Session}
+use Rattle.machine_model.specs.Go.{Scene, answer_in, look_with, waiting_with}
 use Rattle.session_machine.specs.Going.{IsScene}
-use Rattle.session_machine.specs.Quiet.{claims_of}
-use Rattle.session_machine.specs.Sound.{HeldTogether, UnderLocks, HoldsAll, AtLeast}
-use Rattle.session_machine.proofs.Basics.{Each, both_true, or_true_left, not_both}
-use Rattle.session_machine.proofs.Commute.{cases-eq, claims-asked}
-use Rattle.session_machine.proofs.Effects.{Friends, reads-off}
-use Rattle.session_machine.proofs.FromQuiet.{claims-cases}
-use Rattle.session_machine.proofs.Looks.{looked-opened}
-use Rattle.session_machine.proofs.Stronger.{held-claim}
+use Rattle.machine_model.specs.Claims.{claims_of}
+use Rattle.machine_model.specs.Sound.{HeldTogether, UnderLocks, HoldsAll, AtLeast}
+use Rattle.machine_model.proofs.Basics.{Each, both_true, or_true_left, not_both, cases-eq}
+use Rattle.machine_model.proofs.Claiming.{claims-asked, claims-cases}
+use Rattle.machine_model.proofs.Effects.{Friends, reads-off}
+use Rattle.machine_model.proofs.Looks.{looked-opened}
+use Rattle.machine_model.proofs.Stronger.{held-claim}
 
 -- ---- a request
 
@@ -77,15 +76,15 @@ weaker-fits : (n m k : Mode) → AtLeast n m → compatible n k ≡ true → com
 weaker-fits n m k least fit = (both_true (compatible n k) _ (sym (compatible-cover n m k) ∙ ap (λ x. compatible x k) least ∙ fit)).1
 
 -- the requests, each held or more
-held-asked : (h : Held) (qs : List Request) → HoldsAll h qs → Each (λ q. Rattle.session_machine.specs.Sound.Covers (get h q.resource) q.mode) qs
+held-asked : (h : Held) (qs : List Request) → HoldsAll h qs → Each (λ q. Rattle.machine_model.specs.Sound.Covers (get h q.resource) q.mode) qs
 held-asked h [] holds = tt
 held-asked h (q ∷ qs) holds = (holds.0, held-asked h qs holds.1)
 
 -- what a session holds and asks for stands beside what another holds
 friends-held : (look : Look) (i c : ℕ) (h k : Held) (qs : List Request) → HeldTogether look → i ≢ c → ((r : Resource) → get h r ≡ look i r) → ((r : Resource) → get k r ≡ look c r) → HoldsAll h qs → Friends (claims_of h qs) (claims_of k [])
-friends-held look i c h k qs together ne ours theirs holds = record { fit = λ r m n x y. at r m n (sym (theirs r) ∙ held-claim k r n y) (claims-cases (λ q. Rattle.session_machine.specs.Sound.Covers (get h q.resource) q.mode) h qs r m (held-asked h qs holds) x) }
+friends-held look i c h k qs together ne ours theirs holds = record { fit = λ r m n x y. at r m n (sym (theirs r) ∙ held-claim k r n y) (claims-cases (λ q. Rattle.machine_model.specs.Sound.Covers (get h q.resource) q.mode) h qs r m (held-asked h qs holds) x) }
   where
-    at : (r : Resource) (m n : Mode) → look c r ≡ Some n → (get h r ≡ Some m) ⊎ ((q : Request) × Rattle.session_machine.specs.Sound.Covers (get h q.resource) q.mode × (q.resource ≡ r) × (q.mode ≡ m)) → compatible m n ≡ true
+    at : (r : Resource) (m n : Mode) → look c r ≡ Some n → (get h r ≡ Some m) ⊎ ((q : Request) × Rattle.machine_model.specs.Sound.Covers (get h q.resource) q.mode × (q.resource ≡ r) × (q.mode ≡ m)) → compatible m n ≡ true
     at r m n held (inl is) = together i c r m n ne (sym (ours r) ∙ is) held
     at r m n held (inr q) =
         let covers : get h r ≡ Some q.1.0 = ap (get h) (sym q.2) ∙ q.1.1 in

@@ -22,10 +22,10 @@ use Rattle.statement_effects.specs.Effect.{Effect, Gives, Faults, effect}
 use Rattle.statement_effects.specs.Run.{events_of, fault_of, left_by}
 use Rattle.row_tables.specs.Layers.{Layers, sight, undone, kept}
 use Rattle.session_machine.specs.declared.session.SessionState.{SessionState}
-use Rattle.session_machine.specs.declared.session.Status.{Status}
-use Rattle.session_machine.specs.declared.session.Status.TheVariants.{Outside, InBlock, Broken}
-use Rattle.session_machine.specs.Session.{Task, Ask, Do, Session, released, Begins, Commits, RollsBack, Works, kind, Performed, Goes, Fails, perform, perform_by, worked}
-use Rattle.session_machine.specs.Go.{Scene, Run, go, stopped, failed, finished_by, is_broken, answer_in, held_up, taking}
+use Rattle.machine_model.specs.declared.status.Status.{Status}
+use Rattle.machine_model.specs.declared.status.Status.TheVariants.{Outside, InBlock, Broken}
+use Rattle.machine_model.specs.Session.{Task, Ask, Do, Session, released, Begins, Commits, RollsBack, Works, kind, Performed, Goes, Fails, perform, perform_by, worked}
+use Rattle.machine_model.specs.Go.{Scene, Run, go, stopped, failed, finished_by, is_broken, answer_in, held_up, taking}
 use Rattle.session_machine.specs.State.{Own, session_of, SameOthers}
 use Rattle.session_machine.specs.Going.{Standing, session_in, run_in, IsScene, GoesOnTo, StopsIn, waiting_in, told, committed, failed_in, finished_by_status, finished_in, standing, begun_by, begun_in, ended_by, commits_by, commits_in, rolls_back_in, Does}
 use Rattle.session_machine.proofs.States.{same-refl, same-trans, session-taken, same-taken, held-let_go, same-let_go, waits-let_go, overlay-undone, overlay-kept, same-undone, same-kept, overlay-wrote_each, same-left_by, committed-left_by}

@@ -16,19 +16,19 @@ use Rattle.transcripts.specs.declared.event.Fault.TheVariants.{Deadlock, Aborted
 use Rattle.transcripts.specs.declared.event.Warning.TheVariants.{InBlock as AlreadyInBlock, NoBlock}
 use Rattle.row_tables.specs.Overlay.{Rows', lay}
 use Rattle.statement_effects.specs.Effect.{Effect, Gives, Faults, effect}
-use Rattle.session_machine.specs.declared.session.Status.{Status}
-use Rattle.session_machine.specs.declared.session.Status.TheVariants.{Outside, InBlock, Broken}
-use Rattle.session_machine.specs.Serial.{is_data}
-use Rattle.session_machine.specs.Session.{Task, Ask, Do, Session, Kind, Begins, Commits, RollsBack, Works, kind, note, tasks_of, Performed, Goes, Fails, worked, perform_by, perform}
-use Rattle.session_machine.specs.Go.{Scene, Run, go, taking, is_broken, answer_in, finished_by}
-use Rattle.session_machine.specs.World.{World, fresh, session_at, look_of, scene_of, goes, granted, settle_for, settle, left_to_do, send}
+use Rattle.machine_model.specs.declared.status.Status.{Status}
+use Rattle.machine_model.specs.declared.status.Status.TheVariants.{Outside, InBlock, Broken}
+use Rattle.machine_model.specs.Events.{is_effect}
+use Rattle.machine_model.specs.Session.{Task, Ask, Do, Session, Kind, Begins, Commits, RollsBack, Works, kind, note, tasks_of, Performed, Goes, Fails, worked, perform_by, perform}
+use Rattle.machine_model.specs.Go.{Scene, Run, go, taking, is_broken, answer_in, finished_by}
+use Rattle.machine_model.specs.World.{World, fresh, session_at, look_of, scene_of, goes, granted, settle_for, settle, left_to_do, send}
 use Rattle.session_machine.specs.Stage.{IsNamed}
-use Rattle.session_machine.proofs.Calm.{DataEffect, AllData, data-effect}
+use Rattle.machine_model.proofs.Telling.{TellsEffects, AllEffects, effect-tells}
 
 abbrev pub AllNamed : ℕ → List Event → Type 0
 AllNamed n es = All (HasStep n) es
 
-data-step : (n : ℕ) (e : Event) → is_data e ≡ true → HasStep n e
+data-step : (n : ℕ) (e : Event) → is_effect e ≡ true → HasStep n e
 data-step n (Sent k) d = cc
 data-step n (RowEvent r) d = tt
 data-step n (Rows k) d = tt
@@ -47,7 +47,7 @@ data-step n Resumed d = tt
 data-step n Done d = tt
 data-step n (NotSent k) d = cc
 
-data-steps : (n : ℕ) (es : List Event) → AllData es → AllNamed n es
+data-steps : (n : ℕ) (es : List Event) → AllEffects es → AllNamed n es
 data-steps n [] d = All-nil (HasStep n)
 data-steps n (e ∷ es) d = All-cons (HasStep n) e es (data-step n e d.0) (data-steps n es d.1)
 
@@ -60,7 +60,7 @@ abbrev NamedAfter : ℕ → Performed → Type 0
 NamedAfter n (Goes s rows) = AllNamed n s.transcript
 NamedAfter n (Fails f) = Unit {0}
 
-worked-named : (n : ℕ) (s : Session) (rows : Rows') (f : Effect) → DataEffect f → AllNamed n s.transcript → NamedAfter n (worked s rows f)
+worked-named : (n : ℕ) (s : Session) (rows : Rows') (f : Effect) → TellsEffects f → AllNamed n s.transcript → NamedAfter n (worked s rows f)
 worked-named n s rows (Gives events writes) d all = All-append (HasStep n) s.transcript events all (data-steps n events d)
 worked-named n s rows (Faults f) d all = tt
 
@@ -74,8 +74,8 @@ perform_by-named n Broken Commits s rows st all = push n s.transcript RolledBack
 perform_by-named n Outside RollsBack s rows st all = push n (s.transcript ++ Warned NoBlock ∷ []) RolledBack tt (push n s.transcript (Warned NoBlock) tt all)
 perform_by-named n InBlock RollsBack s rows st all = push n s.transcript RolledBack tt all
 perform_by-named n Broken RollsBack s rows st all = push n s.transcript RolledBack tt all
-perform_by-named n Outside Works s rows st all = worked-named n s rows (effect st (lay s.overlay rows)) (data-effect st (lay s.overlay rows)) all
-perform_by-named n InBlock Works s rows st all = worked-named n s rows (effect st (lay s.overlay rows)) (data-effect st (lay s.overlay rows)) all
+perform_by-named n Outside Works s rows st all = worked-named n s rows (effect st (lay s.overlay rows)) (effect-tells st (lay s.overlay rows)) all
+perform_by-named n InBlock Works s rows st all = worked-named n s rows (effect st (lay s.overlay rows)) (effect-tells st (lay s.overlay rows)) all
 perform_by-named n Broken Works s rows st all = tt
 
 failed-named : (n : ℕ) (t : List Event) (f : Fault) → AllNamed n t → AllNamed n (t ++ Failed f ∷ Done ∷ [])
@@ -92,11 +92,11 @@ go-named n e i s rows (Ask r m ∷ ts) all = at (is_broken s.status) (answer_in 
   where
     at : (b : Bool) (a : Answer) → AllNamed n (go e i (taking s r m) rows ts).session.transcript
         → let x : Run = elim b [
-          | true ↦ Rattle.session_machine.specs.Go.stopped e (Rattle.session_machine.specs.Go.failed s rows Aborted)
+          | true ↦ Rattle.machine_model.specs.Go.stopped e (Rattle.machine_model.specs.Go.failed s rows Aborted)
           | false ↦ elim a [
             | Granted ↦ go e i (taking s r m) rows ts
-            | Waits ↦ Rattle.session_machine.specs.Go.held_up e i s rows r m ts
-            | Ring ↦ Rattle.session_machine.specs.Go.stopped e (Rattle.session_machine.specs.Go.failed s rows Deadlock)
+            | Waits ↦ Rattle.machine_model.specs.Go.held_up e i s rows r m ts
+            | Ring ↦ Rattle.machine_model.specs.Go.stopped e (Rattle.machine_model.specs.Go.failed s rows Deadlock)
           ]
         ] in
         AllNamed n x.session.transcript
@@ -107,7 +107,7 @@ go-named n e i s rows (Ask r m ∷ ts) all = at (is_broken s.status) (answer_in 
 go-named n e i s rows (Do st ∷ ts) all = at (perform s rows st) (perform_by-named n s.status (kind st) s rows st all) (λ s2 rows2. go-named n e i s2 rows2 ts)
   where
     at : (p : Performed) → NamedAfter n p → ((s2 : Session) (rows2 : Rows') → AllNamed n s2.transcript → AllNamed n (go e i s2 rows2 ts).session.transcript)
-        → let x : Run = elim p [ Goes s2 rows2 ↦ go e i s2 rows2 ts | Fails f ↦ Rattle.session_machine.specs.Go.stopped e (Rattle.session_machine.specs.Go.failed s rows f) ] in
+        → let x : Run = elim p [ Goes s2 rows2 ↦ go e i s2 rows2 ts | Fails f ↦ Rattle.machine_model.specs.Go.stopped e (Rattle.machine_model.specs.Go.failed s rows f) ] in
         AllNamed n x.session.transcript
     at (Goes s2 rows2) named rec = rec s2 rows2 named
     at (Fails f) named rec = failed-named n s.transcript f all
@@ -149,7 +149,7 @@ send-named n steps w k lt all = at (waits_now w.waits i)
     s : Session
     s = session_at w i
 
-    at : (b : Bool) → IsNamed n (elim b [ true ↦ Rattle.session_machine.specs.World.noted w i (NotSent k) | false ↦ settle (goes w i (note s (Sent k)) (tasks_of (get_or steps k no_step).statements)) ])
+    at : (b : Bool) → IsNamed n (elim b [ true ↦ Rattle.machine_model.specs.World.noted w i (NotSent k) | false ↦ settle (goes w i (note s (Sent k)) (tasks_of (get_or steps k no_step).statements)) ])
     at true = All-set (HasNamed n) w.sessions i (note s (NotSent k)) (push n s.transcript (NotSent k) lt (named-at n w i all)) all
     at false =
         let v = goes w i (note s (Sent k)) (tasks_of (get_or steps k no_step).statements) in

@@ -2,15 +2,15 @@
 use Rattle.std.specs.List.{slice_get}
 use Rattle.std.proofs.lemmas.List.{drop_all}
 use Rattle.std.proofs.lemmas.Option.{slice_get_cases}
-use Rattle.std.proofs.Common.{◌≡◌, refl, sym, ap, ◌∙◌, subst, ℕ, suc, ◌+◌, ◌<◌, ◌≤◌, false, List, [], ◌∷◌, length, drop, drop-cons, add-one, Option, Some, None, ◌⊎◌, inl, inr}
+use Rattle.std.proofs.Common.{◌≡◌, refl, sym, ◌∙◌, subst, ℕ, suc, ◌+◌, ◌<◌, ◌≤◌, false, List, [], ◌∷◌, length, drop, drop-cons, add-one, Some, None, ◌⊎◌, inl, inr}
 use Rattle.lock_queues.specs.LockTable.{Locks, taken, slice}
 use Rattle.sql_statements.specs.Plan.{Request, plan}
 use Rattle.sql_statements.specs.declared.statement.Bound.{Bound}
-use Rattle.session_machine.specs.Session.{Do, asks}
-use Rattle.session_machine.specs.Sound.{HoldsAll, Backed}
+use Rattle.machine_model.specs.Session.{Do, asks}
+use Rattle.machine_model.specs.Sound.{HoldsAll, Backed}
 use Rattle.session_machine.specs.Going.{IsToAsk}
 use Rattle.session_machine.proofs.States.{held-taken}
-use Rattle.session_machine.proofs.Stronger.{stronger-taking, holds-stronger, covers-taking, holds-plan}
+use Rattle.machine_model.proofs.Stronger.{stronger-taking, holds-stronger, covers-taking, holds-plan}
 
 -- ---- what is left of a plan
 

@@ -15,17 +15,17 @@ use Rattle.sql_subset.specs.Spec.{Step, no_step}
 use Rattle.session_machine.specs.declared.member.Rest.{Rest}
 use Rattle.session_machine.specs.declared.member.Member.{Member}
 use Rattle.session_machine.specs.declared.stage.Stage.{Stage}
-use Rattle.session_machine.specs.Session.{Task, tasks_of}
+use Rattle.machine_model.specs.Session.{Task, tasks_of}
 use Rattle.session_machine.specs.State.{Own, no_own, session_of, world_of, SameOthers}
 use Rattle.session_machine.specs.Going.{standing, tasks_from, IsToGo, StopsIn, WaitsIf}
-use Rattle.session_machine.specs.World.{look_of, goes, granted, settle, left_to_do, send}
-use Rattle.session_machine.specs.Sound.{Steady, Ready}
+use Rattle.machine_model.specs.World.{look_of, goes, granted, settle, left_to_do, send}
+use Rattle.machine_model.specs.Sound.{Steady, Ready}
 use Rattle.session_machine.specs.Stage.{no_member, statements_of, rest_of, own_of, world_in, member_at, part_of, IsWithin, RestIsOf, IsStage, note_member, HasTold, HasGone, HasResumed}
-use Rattle.session_machine.proofs.Commute.{cases-eq}
+use Rattle.machine_model.proofs.Basics.{cases-eq}
 use Rattle.session_machine.proofs.Steps.{tasks_from-start}
 use Rattle.session_machine.proofs.States.{length-sessions_from, next-is, same-refl, same-trans, same-taken}
-use Rattle.session_machine.proofs.Settles.{Grant, next-grant, goes-steady, granted-steady, granted-left, wait-map, wait-right}
-use Rattle.session_machine.proofs.SettleSteps.{next_in, settle-grant}
+use Rattle.machine_model.proofs.Settles.{Grant, next-grant, goes-steady, granted-steady, granted-left, wait-map, wait-right}
+use Rattle.machine_model.proofs.SettleSteps.{next_in, settle-grant}
 use Rattle.session_machine.proofs.Worlds.{within-still, goes-is, granted-is, resumed_own, own_told, granted-to-go, not-sent, sent-enters, sent-goes, sent-to-go}
 
 -- ---- the sessions of a stage
@@ -106,8 +106,8 @@ gone-told steps i ts x told y t e lt store locks members gone =
 -- ---- a wait is granted
 
 waits-there : (us : List Wait) (v : Wait) (vs : List Wait) → waits_now (us ++ v ∷ vs) v.session ≡ true
-waits-there [] v vs = Rattle.session_machine.proofs.Basics.or_true_left (v.session == v.session) (waits_now vs v.session) (eq-eqb v.session v.session refl)
-waits-there (u ∷ us) v vs = Rattle.session_machine.proofs.Basics.or_true_right (u.session == v.session) (waits_now (us ++ v ∷ vs) v.session) (waits-there us v vs)
+waits-there [] v vs = Rattle.machine_model.proofs.Basics.or_true_left (v.session == v.session) (waits_now vs v.session) (eq-eqb v.session v.session refl)
+waits-there (u ∷ us) v vs = Rattle.machine_model.proofs.Basics.or_true_right (u.session == v.session) (waits_now (us ++ v ∷ vs) v.session) (waits-there us v vs)
 
 apart : (i c : ℕ) → c ≢ i → (i == c) ≡ false
 apart i c ne = at (i == c) refl

@@ -10,13 +10,13 @@ use Rattle.row_tables.specs.Layers.{Layers}
 use Rattle.sql_subset.specs.Spec.{Step, no_step}
 use Rattle.session_machine.specs.declared.member.Member.{Member}
 use Rattle.session_machine.specs.declared.stage.Stage.{Stage}
-use Rattle.session_machine.specs.Session.{Session}
+use Rattle.machine_model.specs.Session.{Session}
 use Rattle.session_machine.specs.State.{sessions_from, world_of}
-use Rattle.session_machine.specs.World.{World, look_of, settle, send, outcome_of}
-use Rattle.session_machine.specs.Sound.{Steady, Sound}
+use Rattle.machine_model.specs.World.{World, look_of, settle, send, outcome_of}
+use Rattle.machine_model.specs.Sound.{Steady, Sound}
 use Rattle.session_machine.specs.Stage.{no_member, own_of, world_in, IsWithin, RestIsOf, IsStage, IsNamed, IsSettled, HasSameParts, transcripts_of}
 use Rattle.session_machine.proofs.States.{look-is, length-sessions_from}
-use Rattle.session_machine.proofs.Settles.{sound-from, send-sound}
+use Rattle.machine_model.proofs.Settles.{sound-from, send-sound}
 use Rattle.session_machine.proofs.Named.{send-named}
 use Rattle.session_machine.proofs.Worlds.{settled-is}
 

@@ -14,11 +14,11 @@ use Rattle.row_tables.specs.Layers.{Layers, session_order, overlay_of, wrote, un
 use Rattle.row_tables.proofs.LayersLemmas.{overlay_of-wrote, overlay_of-undone, overlay_of-kept}
 use Rattle.statement_effects.specs.Effect.{Effect, Gives, Faults}
 use Rattle.statement_effects.specs.Run.{wrote_each, left_by}
-use Rattle.session_machine.specs.Session.{Session}
-use Rattle.session_machine.specs.Go.{taking}
-use Rattle.session_machine.specs.World.{fresh, session_at, look_of}
+use Rattle.machine_model.specs.Session.{Session}
+use Rattle.machine_model.specs.Go.{taking}
+use Rattle.machine_model.specs.World.{fresh, session_at, look_of}
 use Rattle.session_machine.specs.State.{Own, no_own, session_of, sessions_from, world_of, SameOthers}
-use Rattle.session_machine.proofs.Basics.{known}
+use Rattle.machine_model.proofs.Basics.{known}
 
 -- ---- the sessions
 

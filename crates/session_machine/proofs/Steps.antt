@@ -6,11 +6,11 @@ use Rattle.row_tables.specs.Overlay.{Overlay}
 use Rattle.row_tables.specs.Layers.{Layers, overlay_of}
 use Rattle.sql_statements.specs.Plan.{Request, plan}
 use Rattle.sql_statements.specs.declared.statement.Bound.{Bound}
-use Rattle.session_machine.specs.Session.{Held, Task, Do, asks, tasks_of}
-use Rattle.session_machine.specs.Sound.{UnderLocks, Backed}
+use Rattle.machine_model.specs.Session.{Held, Task, Do, asks, tasks_of}
+use Rattle.machine_model.specs.Sound.{UnderLocks, Backed}
 use Rattle.session_machine.specs.State.{SameOthers}
 use Rattle.session_machine.specs.Going.{Standing, tasks_from, GoesOnTo, StopsIn, IsToAsk, IsToGo}
-use Rattle.session_machine.proofs.Settles.{backed-tasks}
+use Rattle.machine_model.proofs.Settles.{backed-tasks}
 use Rattle.session_machine.proofs.Moves.{goes-on-on, goes-on-stops}
 
 pub tasks_from-start : (sts : List Bound) → tasks_from sts 0 ≡ tasks_of sts

@@ -5,10 +5,10 @@ use Rattle.lock_modes.specs.declared.resource.Resource.{Resource}
 use Rattle.lock_queues.specs.declared.wait.Wait.{Wait}
 use Rattle.lock_queues.specs.Locks.{waits_now}
 use Rattle.lock_queues.specs.LockTable.{Locks, queued}
-use Rattle.session_machine.specs.declared.session.Status.{Status}
-use Rattle.session_machine.specs.declared.session.Status.TheVariants.{Outside, InBlock, Broken}
+use Rattle.machine_model.specs.declared.status.Status.{Status}
+use Rattle.machine_model.specs.declared.status.Status.TheVariants.{Outside, InBlock, Broken}
 use Rattle.session_machine.specs.Going.{Standing, WaitsIf, finished_by_status, finished_in}
-use Rattle.session_machine.proofs.Basics.{or_true_right}
+use Rattle.machine_model.proofs.Basics.{or_true_right}
 use Rattle.session_machine.proofs.States.{waits-let_go}
 
 or-swap : (b : Bool) → (b || false) ≡ b

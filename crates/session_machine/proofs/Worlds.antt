@@ -14,20 +14,20 @@ use Rattle.lock_queues.proofs.Bounded.{tests-decide}
 use Rattle.row_tables.specs.Layers.{Layers, overlay_of}
 use Rattle.sql_statements.specs.declared.statement.Bound.{Bound}
 use Rattle.transcripts.specs.declared.event.Event.TheVariants.{Sent, Resumed, NotSent}
-use Rattle.session_machine.specs.Session.{Task, Session, note, tasks_of}
-use Rattle.session_machine.specs.Go.{Run, taking}
-use Rattle.session_machine.specs.World.{scene_of, placed_back, goes, granted, settle, noted, send, look_of, session_at, World}
+use Rattle.machine_model.specs.Session.{Task, Session, note, tasks_of}
+use Rattle.machine_model.specs.Go.{Run, taking}
+use Rattle.machine_model.specs.World.{scene_of, placed_back, goes, granted, settle, noted, send, look_of, session_at, World}
 use Rattle.sql_subset.specs.Spec.{Step, no_step}
-use Rattle.session_machine.specs.Sound.{Steady, UnderLocks}
+use Rattle.machine_model.specs.Sound.{Steady, UnderLocks}
 use Rattle.session_machine.specs.Stage.{IsWithin}
 use Rattle.session_machine.specs.State.{Own, no_own, session_of, sessions_from, world_of, SameOthers}
 use Rattle.session_machine.specs.Going.{Standing, tasks_from, IsScene, IsToGo, StopsIn}
-use Rattle.session_machine.proofs.Basics.{either_true, not_both}
+use Rattle.machine_model.proofs.Basics.{either_true, not_both}
 use Rattle.session_machine.proofs.Steps.{tasks_from-start, still-under}
-use Rattle.session_machine.proofs.Kept.{under-empty}
+use Rattle.machine_model.proofs.Kept.{under-empty}
 use Rattle.session_machine.proofs.States.{length-sessions_from, session_at-is, sessions-set, look-is, next-is, session-taken, same-taken, same-refl}
-use Rattle.session_machine.proofs.Settles.{Entering, entering, entering-granted, next-grant}
-use Rattle.session_machine.proofs.SettleSteps.{settle-none, next_in}
+use Rattle.machine_model.proofs.Settles.{Entering, entering, entering-granted, next-grant}
+use Rattle.machine_model.proofs.SettleSteps.{settle-none, next_in}
 
 look-same : (i : ℕ) (l m : Layers) (t u : Locks) → SameOthers i l m t u → (c : ℕ) (r : Resource) → c ≢ i → look_in u c r ≡ look_in t c r
 look-same i l m t u same c r ne = sym (get-slice c u.held r) ∙ ap (λ h. get h r) (same.held c ne) ∙ get-slice c t.held r

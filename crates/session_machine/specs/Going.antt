@@ -12,15 +12,15 @@ use Rattle.transcripts.specs.declared.event.Fault.{Fault}
 use Rattle.transcripts.specs.declared.event.Event.{Event}
 use Rattle.transcripts.specs.declared.event.Warning.TheVariants.{InBlock as AlreadyInBlock, NoBlock}
 use Rattle.transcripts.specs.declared.event.Event.TheVariants.{Failed, Waiting, Done, Began, Committed, RolledBack, Warned}
-use Rattle.session_machine.specs.declared.session.Status.{Status}
-use Rattle.session_machine.specs.declared.session.Status.TheVariants.{Outside, InBlock, Broken}
+use Rattle.machine_model.specs.declared.status.Status.{Status}
+use Rattle.machine_model.specs.declared.status.Status.TheVariants.{Outside, InBlock, Broken}
 use Rattle.session_machine.specs.declared.session.SessionState.{SessionState}
-use Rattle.session_machine.specs.Session.{Task, Do, Session, asks, tasks_of, after_fault}
+use Rattle.machine_model.specs.Session.{Task, Do, Session, asks, tasks_of, after_fault}
 use Rattle.session_machine.specs.declared.asking.Asked.{Asked}
 use Rattle.session_machine.specs.declared.asking.Asked.TheVariants.{Had, Waits, Refused}
 use Rattle.session_machine.specs.declared.stepping.Point.{Point}
-use Rattle.session_machine.specs.Go.{Scene, Run, go}
-use Rattle.session_machine.specs.Sound.{UnderLocks, HoldsAll, Backed}
+use Rattle.machine_model.specs.Go.{Scene, Run, go}
+use Rattle.machine_model.specs.Sound.{UnderLocks, HoldsAll, Backed}
 use Rattle.session_machine.specs.State.{Own, session_of, SameOthers}
 
 -- where a session stands: the store, the lock table and what is kept of it beside them

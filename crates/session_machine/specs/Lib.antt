@@ -1,16 +1,5 @@
-pub mod Session
-pub mod Go
-pub mod World
-pub mod Start
-pub mod Footprint
-pub mod Quiet
-pub mod Sound
-pub mod Books
-pub mod Swap
-pub mod Serial
-pub mod Laws
 pub mod Running
 pub mod State
 pub mod Going
 pub mod Stage
-pub mod Starting
+pub mod SetUp

@@ -9,11 +9,11 @@ use Rattle.lock_modes.specs.declared.resource.Resource.{Resource}
 use Rattle.lock_queues.specs.declared.wait.Wait.{Wait}
 use Rattle.lock_queues.specs.Locks.{wanted_by}
 use Rattle.transcripts.specs.Outcome.{HasStep}
-use Rattle.session_machine.specs.World.{World, look_of, send_all, outcome_of}
-use Rattle.session_machine.specs.Start.{Start, Started, SetupFailed, SessionSetupFailed, SessionSetupWaits, start}
+use Rattle.machine_model.specs.World.{World, look_of, send_all, outcome_of}
+use Rattle.machine_model.specs.Start.{Start, Started, SetupFailed, SessionSetupFailed, SessionSetupWaits, start}
 use Rattle.session_machine.specs.declared.error.StartError.{StartError}
-use Rattle.session_machine.specs.declared.error.StartError.TheVariants as start_error
 use Rattle.session_machine.specs.declared.error.RunError.{RunError}
+use Rattle.session_machine.specs.declared.error.StartError.TheVariants as start_error
 use Rattle.session_machine.specs.declared.error.RunError.TheVariants as run_error
 
 -- a spec, a world of it, and whether an earlier step was refused memory

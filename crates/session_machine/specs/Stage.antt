@@ -9,19 +9,19 @@ use Rattle.transcripts.specs.Outcome.{HasStep}
 use Rattle.transcripts.specs.declared.event.Event.{Event}
 use Rattle.sql_statements.specs.declared.statement.Bound.{Bound}
 use Rattle.sql_subset.specs.Spec.{Step, no_step}
-use Rattle.session_machine.specs.declared.session.Status.TheVariants.{Outside}
+use Rattle.machine_model.specs.declared.status.Status.TheVariants.{Outside}
 use Rattle.session_machine.specs.declared.stepping.Point.{Point}
 use Rattle.session_machine.specs.declared.member.Rest.{Rest}
 use Rattle.session_machine.specs.declared.member.Member.{Member}
 use Rattle.session_machine.specs.declared.stage.Stage.{Stage}
 use Rattle.session_machine.specs.declared.stage.SetUp.{SetUp}
-use Rattle.session_machine.specs.declared.stage.SetUp.TheVariants as end
-use Rattle.session_machine.specs.Session.{Task, Session}
+use Rattle.machine_model.specs.Session.{Task, Session}
 use Rattle.session_machine.specs.State.{Own, world_of}
 use Rattle.session_machine.specs.Going.{Standing, standing, tasks_from, StopsIn, WaitsIf}
-use Rattle.session_machine.specs.World.{World, look_of, session_at, settle, left_to_do}
-use Rattle.session_machine.specs.Start.{has_failed, is_outside, after_setup, forgotten}
-use Rattle.session_machine.specs.Sound.{Steady}
+use Rattle.machine_model.specs.World.{World, look_of, session_at, settle, left_to_do}
+use Rattle.machine_model.specs.Start.{has_failed, is_outside, after_setup, forgotten}
+use Rattle.machine_model.specs.Sound.{Steady}
+use Rattle.session_machine.specs.declared.stage.SetUp.TheVariants as end
 
 abbrev pub no_member : Member
 no_member = record { state = record { status = Outside; transcript = [] }; rest = None }

@@ -3,10 +3,10 @@ use Rattle.std.specs.Prelude.{◌≡◌, ◌≢◌, ℕ, suc, List, [], ◌∷�
 use Rattle.row_tables.specs.Layers.{Layers, overlay_of}
 use Rattle.lock_queues.specs.LockTable.{Locks, slice}
 use Rattle.transcripts.specs.declared.event.Event.{Event}
-use Rattle.session_machine.specs.declared.session.Status.{Status}
-use Rattle.session_machine.specs.declared.session.Status.TheVariants.{Outside}
-use Rattle.session_machine.specs.Session.{Task, Session}
-use Rattle.session_machine.specs.World.{World}
+use Rattle.machine_model.specs.declared.status.Status.{Status}
+use Rattle.machine_model.specs.declared.status.Status.TheVariants.{Outside}
+use Rattle.machine_model.specs.Session.{Task, Session}
+use Rattle.machine_model.specs.World.{World}
 
 -- what is kept of a session beside the store and the lock table
 pub record Own : Type 0 where

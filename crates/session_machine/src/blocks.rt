@@ -3,12 +3,13 @@
 ghost use Rattle.std.specs.Prelude.{◌≡◌, ◌≢◌, OnOk};
 ghost use Rattle.lock_queues.specs.LockTable.{let_go};
 ghost use Rattle.row_tables.specs.Layers.{undone, kept};
-ghost use Rattle.session_machine.specs.Session.{after_fault};
+ghost use Rattle.machine_model.specs.Session.{after_fault};
 ghost use Rattle.session_machine.specs.Going.{standing, block_ended, failed_in, finished_in, begun_in, commits_in, rolls_back_in};
-ghost use Rattle.session_machine.specs.declared.session.Status.TheVariants as of;
+ghost use Rattle.machine_model.specs.declared.status.Status.TheVariants as of;
 
-use crate::session::{SessionState, Status};
+use crate::session::SessionState;
 use lock_queues::LockTable;
+use machine_model::Status;
 use row_tables::Store;
 use std::alloc::AllocError;
 use transcripts::{Event, Fault, Warning};

@@ -4,7 +4,7 @@ ghost use Rattle.std.specs.Prelude.{◌≡◌, ◌⊎◌, false, IfOk, OnOk};
 ghost use Rattle.lock_queues.specs.Locks.{waits_now};
 ghost use Rattle.lock_queues.specs.LockTable.{Locks};
 ghost use Rattle.statement_effects.specs.Run.{SeesAlone};
-ghost use Rattle.session_machine.specs.Session.{Begins, Works, kind};
+ghost use Rattle.machine_model.specs.Session.{Begins, Works, kind};
 ghost use Rattle.session_machine.specs.Going.{standing, Does};
 
 use crate::blocks::{begin, commit, roll_back};

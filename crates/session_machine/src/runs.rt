@@ -1,9 +1,9 @@
 //! Whole runs of a spec.
 
 ghost use Rattle.std.specs.Prelude.{◌≡◌, ◌<◌, ℕ, Some, false, All, IfOk, IfErr, OnOk, length};
-ghost use Rattle.session_machine.specs.Start.{Start, start};
-ghost use Rattle.session_machine.specs.World.{send_all};
-ghost use Rattle.session_machine.specs.Serial.{IsSerial};
+ghost use Rattle.machine_model.specs.Start.{Start, start};
+ghost use Rattle.machine_model.specs.World.{send_all};
+ghost use Rattle.serial_history.specs.Serial.{IsSerial};
 ghost use Rattle.session_machine.specs.Running.{IsTold, IsRefusedBy, IsNotRunBy, outcome_of_line};
 
 use crate::error::{RunError, SendError, StartError};

@@ -2,10 +2,10 @@
 
 ghost use Rattle.std.specs.Prelude.{◌≡◌, ◌<◌, ◌≤◌, ◌+◌, [], length, suc, IfOk, IfErr};
 ghost use Rattle.sql_subset.specs.Spec.{AllHaveKeys, AllAreShort};
-ghost use Rattle.session_machine.specs.Start.{Started, main_setups, session_setups};
+ghost use Rattle.machine_model.specs.Start.{Started, main_setups, session_setups};
 ghost use Rattle.session_machine.specs.Running.{IsRefusedBy};
 ghost use Rattle.session_machine.specs.Stage.{world_in, IsStage};
-ghost use Rattle.session_machine.specs.Starting.{IsReadyForMains, IsReadyForSessions};
+ghost use Rattle.session_machine.specs.SetUp.{IsReadyForMains, IsReadyForSessions};
 
 use crate::error::StartError;
 use crate::stage::{SetUp, Stage};

@@ -4,8 +4,8 @@ ghost use Rattle.std.specs.Prelude.{◌≡◌, ◌<◌, ◌↔◌, true, false, 
 ghost use Rattle.std.specs.Option.{option_map};
 ghost use Rattle.lock_modes.specs.Resource.{resource_at};
 ghost use Rattle.sql_subset.specs.Spec.{IsBound};
-ghost use Rattle.session_machine.specs.World.{send, outcome_of};
-ghost use Rattle.session_machine.specs.Start.{Started, start};
+ghost use Rattle.machine_model.specs.World.{send, outcome_of};
+ghost use Rattle.machine_model.specs.Start.{Started, start};
 ghost use Rattle.session_machine.specs.Stage.{transcripts_of};
 ghost use Rattle.session_machine.specs.Running.{IsTold, IsRefusedBy, held_in, wait_in};
 

@@ -7,7 +7,7 @@ use Rattle.sql_statements.specs.Plan.{request, plan}
 use Rattle.transcripts.specs.declared.event.Fault.TheVariants.{Aborted, Deadlock}
 use Rattle.lock_queues.specs.LockTable.{Locks, queued}
 use Rattle.row_tables.specs.Layers.{no_rows}
-use Rattle.session_machine.specs.Session.{asks}
+use Rattle.machine_model.specs.Session.{asks}
 use Rattle.session_machine.specs.Going.{standing, failed_in, waits_at, GoesOnTo, StopsIn, IsToAsk, WaitsIf}
 use Rattle.session_machine.proofs.Moves.{goes-on-on, goes-on-stops, had, waits-there, closes-ring, asks-broken}
 use Rattle.session_machine.proofs.Waiting.{queued-waits, waits-from}

@@ -1,5 +1,5 @@
 use Rattle.std.proofs.Common.{[], sym, ap, ◌∙◌, subst, ◌∷◌}
-use Rattle.session_machine.specs.Session.{Do, kind}
+use Rattle.machine_model.specs.Session.{Do, kind}
 use Rattle.session_machine.specs.Going.{Standing, standing, GoesOnTo}
 use Rattle.session_machine.proofs.Moves.{commits-there, rolls-back-there}
 use Rattle.session_machine.proofs.performing.perform.Goals as goal

@@ -3,8 +3,8 @@ use Rattle.std.specs.Prelude.{Result, Ok, Err}
 use Rattle.std.proofs.Common.{◌≡◌, refl, sym, ap, ◌∙◌, ◌⊎◌, inl, inr, true≢false}
 use Rattle.sql_statements.specs.declared.statement.Bound.{Bound}
 use Rattle.sql_statements.specs.declared.statement.Bound.TheVariants.{Select, Insert, Update, Delete, Begin, Commit, Rollback, LockTable, SetVariable}
-use Rattle.session_machine.specs.Session.{Begins, Works, kind}
-use Rattle.session_machine.specs.Go.{is_broken}
+use Rattle.machine_model.specs.Session.{Begins, Works, kind}
+use Rattle.machine_model.specs.Go.{is_broken}
 use Rattle.session_machine.proofs.Moves.{broken-fails, does-work}
 use Rattle.session_machine.proofs.performing.work.Goals as goal
 

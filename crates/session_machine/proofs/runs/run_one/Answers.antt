@@ -1,8 +1,8 @@
 use Rattle.std.proofs.Common.{ap, ◌∙◌, subst}
 use Rattle.sql_subset.specs.Spec.{SpecFile, IsBound}
-use Rattle.session_machine.specs.World.{send_all, outcome_of}
+use Rattle.machine_model.specs.World.{send_all, outcome_of}
 use Rattle.session_machine.specs.Running.{Running}
-use Rattle.session_machine.proofs.Specs.{bound-serial, bound-shown}
+use Rattle.serial_history.proofs.StartsTold.{bound-serial, bound-shown}
 use Rattle.session_machine.proofs.runs.run_one.Goals as goal
 
 -- by the laws of the serial order

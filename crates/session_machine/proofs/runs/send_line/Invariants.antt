@@ -1,5 +1,5 @@
 use Rattle.std.proofs.Common.{◌≡◌, false, drop}
-use Rattle.session_machine.specs.World.{send_all}
+use Rattle.machine_model.specs.World.{send_all}
 use Rattle.session_machine.proofs.runs.send_line.Given as goal
 
 -- what is left of the line comes to the same from here

@@ -1,7 +1,7 @@
 use Rattle.std.proofs.Common.{◌≡◌, ◌+◌, sym, ap, ◌∙◌, subst, false, true, [], ◌∷◌, drop, drop-cons, add-one}
-use Rattle.session_machine.specs.Start.{main_setups}
+use Rattle.machine_model.specs.Start.{main_setups}
 use Rattle.session_machine.specs.Stage.{world_in, HasEnded}
-use Rattle.session_machine.proofs.Setting.{main-idle, main-goes, main-ready}
+use Rattle.session_machine.proofs.SetUps.{main-idle, main-goes, main-ready}
 use Rattle.session_machine.proofs.starting.main_setups.Goals as goal
 
 -- nobody else holds a lock, so the control session does not wait

@@ -3,7 +3,7 @@ use Rattle.std.proofs.Common.{◌≡◌, ◌+◌, sym, ap, ◌∙◌, subst, Lis
 use Rattle.lock_queues.specs.Locks.{waits_now}
 use Rattle.transcripts.specs.declared.event.Event.TheVariants.{Waiting}
 use Rattle.session_machine.specs.declared.stepping.Point.{Point}
-use Rattle.session_machine.specs.Session.{Task}
+use Rattle.machine_model.specs.Session.{Task}
 use Rattle.session_machine.specs.Going.{Standing, standing, tasks_from, GoesOnTo, StopsIn, Asks, HasAll, Queues, Does, paused, finished_in}
 use Rattle.session_machine.proofs.Going.{sees-alone}
 use Rattle.session_machine.proofs.Moves.{goes-on-stops, ends-there}

@@ -6,7 +6,7 @@ use Rattle.session_machine.specs.declared.member.Member.{Member}
 use Rattle.session_machine.specs.Going.{tasks_from, IsToGo}
 use Rattle.session_machine.specs.Stage.{no_member, statements_of, member_at, RestIsOf, note_member, HasGone, HasResumed}
 use Rattle.session_machine.proofs.Answered.{on_ok}
-use Rattle.session_machine.proofs.Stages.{get_or-any, session-known, rests, resumed-to-go, gone-told, has-resumed}
+use Rattle.session_machine.proofs.Stages.{get_or-any, rests, resumed-to-go, gone-told, has-resumed}
 use Rattle.session_machine.proofs.stage.Stage.resume.Goals as goal
 
 -- a session that waits has a rest

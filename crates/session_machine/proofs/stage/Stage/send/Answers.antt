@@ -3,8 +3,8 @@ use Rattle.lock_queues.specs.Locks.{waits_now}
 use Rattle.transcripts.specs.declared.event.Event.TheVariants.{Sent, NotSent}
 use Rattle.sql_subset.specs.Spec.{no_step}
 use Rattle.session_machine.specs.declared.stepping.Point.{Point}
-use Rattle.session_machine.specs.World.{send, settle}
-use Rattle.session_machine.specs.Sound.{Steady}
+use Rattle.machine_model.specs.World.{send, settle}
+use Rattle.machine_model.specs.Sound.{Steady}
 use Rattle.session_machine.specs.Going.{tasks_from, IsToGo}
 use Rattle.session_machine.specs.Stage.{statements_of, world_in, member_at, note_member, IsStage, IsSettled, HasTold, HasGone}
 use Rattle.session_machine.proofs.Answered.{on_ok, on_all}

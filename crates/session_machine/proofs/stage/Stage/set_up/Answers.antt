@@ -1,4 +1,3 @@
-use Rattle.std.specs.List.{list_any}
 use Rattle.std.proofs.Common.{◌≡◌, refl, sym, ◌∙◌, subst, set}
 use Rattle.session_machine.specs.declared.member.Member.{Member}
 use Rattle.session_machine.specs.declared.stepping.Point.{Point}

@@ -1,5 +1,5 @@
 use Rattle.std.proofs.Common.{◌≡◌, length}
-use Rattle.session_machine.specs.World.{settle, left_to_do}
+use Rattle.machine_model.specs.World.{settle, left_to_do}
 use Rattle.session_machine.specs.Stage.{world_in, IsStage}
 use Rattle.session_machine.proofs.stage.Stage.settle.Given as goal
 

@@ -1,11 +1,10 @@
 use Rattle.std.proofs.lemmas.Result.{err_from_is_err_and}
 use Rattle.std.proofs.Common.{◌≡◌, sym, ap, ◌∙◌, subst, suc, [], add-one}
-use Rattle.session_machine.specs.Start.{Started, main_setups, session_setups, start}
+use Rattle.machine_model.specs.Start.{Started, main_setups, session_setups, start}
 use Rattle.session_machine.specs.Running.{IsRefusedBy}
 use Rattle.session_machine.specs.Stage.{world_in, IsBlank}
-use Rattle.session_machine.specs.Starting.{IsReadyForSessions}
-use Rattle.session_machine.proofs.SetUps.{any-steps, ready-for-mains}
-use Rattle.session_machine.proofs.Setting.{refused-mains, start-sessions, refused-sessions, settled-first}
+use Rattle.session_machine.specs.SetUp.{IsReadyForSessions}
+use Rattle.session_machine.proofs.SetUps.{any-steps, ready-for-mains, refused-mains, start-sessions, refused-sessions, settled-first}
 use Rattle.session_machine.proofs.world.World.start.Goals as goal
 
 pub main_setups-requires-clause-ready : goal.main_setups-requires-clause-ready

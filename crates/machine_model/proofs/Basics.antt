@@ -1,0 +1,143 @@
+-- Lists, tests and look-ups.
+use Rattle.std.proofs.Common.{◌≡◌, refl, sym, ◌∙◌, Bool, true, false, cond, not, ◌&&◌, ◌||◌, List, [], ◌∷◌, ◌++◌, filter, ◌⊎◌, inl, inr, true≢false}
+use Rattle.std.specs.List.{list_any, list_all}
+use Rattle.lock_modes.specs.Mode.{compatible, same_mode}
+use Rattle.lock_modes.specs.declared.mode.Mode.{Mode}
+use Rattle.lock_modes.specs.declared.mode.Mode.TheVariants.{IntentShare, IntentExclusive, Share, ShareIntent, Exclusive}
+
+abbrev pub Each : {A : Type 0} → (A → Type 0) → List A → Type 0
+Each P [] = Unit {0}
+Each P (x ∷ xs) = P x × Each P xs
+
+pub Each-append : {A : Type 0} (P : A → Type 0) (xs ys : List A) → Each P xs → Each P ys → Each P (xs ++ ys)
+Each-append P [] ys p q = q
+Each-append P (x ∷ xs) ys p q = (p.0, Each-append P xs ys p.1 q)
+
+pub Each-left : {A : Type 0} (P : A → Type 0) (xs ys : List A) → Each P (xs ++ ys) → Each P xs
+Each-left P [] ys p = tt
+Each-left P (x ∷ xs) ys p = (p.0, Each-left P xs ys p.1)
+
+pub Each-right : {A : Type 0} (P : A → Type 0) (xs ys : List A) → Each P (xs ++ ys) → Each P ys
+Each-right P [] ys p = p
+Each-right P (x ∷ xs) ys p = Each-right P xs ys p.1
+
+pub Each-map : {A : Type 0} (P Q : A → Type 0) → ((x : A) → P x → Q x) → (xs : List A) → Each P xs → Each Q xs
+Each-map P Q f [] p = tt
+Each-map P Q f (x ∷ xs) p = (f x p.0, Each-map P Q f xs p.1)
+
+pub both_true : (a b : Bool) → (a && b) ≡ true → (a ≡ true) × (b ≡ true)
+both_true true b e = (refl, e)
+both_true false b e = cc
+
+pub and_true : (a b : Bool) → a ≡ true → b ≡ true → (a && b) ≡ true
+and_true true b p q = q
+and_true false b p q = p
+
+pub either_true : (a b : Bool) → (a || b) ≡ true → (a ≡ true) ⊎ (b ≡ true)
+either_true true b e = inl refl
+either_true false b e = inr e
+
+pub or_true_left : (a b : Bool) → a ≡ true → (a || b) ≡ true
+or_true_left true b e = refl
+or_true_left false b e = cc
+
+pub or_true_right : (a b : Bool) → b ≡ true → (a || b) ≡ true
+or_true_right true b e = refl
+or_true_right false b e = e
+
+pub not_true : (a : Bool) → not a ≡ true → a ≡ false
+not_true true e = cc
+not_true false e = refl
+
+pub not_both : (a : Bool) → a ≡ true → a ≡ false → ⊥
+not_both a p q = true≢false (sym p ∙ q)
+
+pub known : (a : Bool) → (a ≡ true) ⊎ (a ≡ false)
+known true = inl refl
+known false = inr refl
+
+pub Each-list_all : {A : Type 0} (test : A → Bool) (xs : List A) → list_all test xs ≡ true → Each (λ x. test x ≡ true) xs
+Each-list_all test [] e = tt
+Each-list_all test (x ∷ xs) e = let p = both_true (test x) _ e in (p.0, Each-list_all test xs p.1)
+
+pub list_all-Each : {A : Type 0} (test : A → Bool) (xs : List A) → Each (λ x. test x ≡ true) xs → list_all test xs ≡ true
+list_all-Each test [] e = refl
+list_all-Each test (x ∷ xs) e = and_true (test x) _ e.0 (list_all-Each test xs e.1)
+
+-- what holds of each holds of the one that passes
+pub some_passes : {A : Type 0} (P : A → Type 0) (test : A → Bool) (xs : List A) → Each P xs → list_any test xs ≡ true → (x : A) × P x × (test x ≡ true)
+some_passes P test [] p e = cc
+some_passes {A} P test (x ∷ xs) p e = elim (either_true (test x) _ e) [ inl h ↦ (x, p.0, h) | inr h ↦ some_passes P test xs p.1 h ]
+
+pub filter_same : {A : Type 0} (f g : A → Bool) (xs : List A) → Each (λ x. f x ≡ g x) xs → filter f xs ≡ filter g xs
+filter_same f g [] p = refl
+filter_same f g (x ∷ xs) p = λ i. cond (p.0 i) (x ∷ filter_same f g xs p.1 i) (filter_same f g xs p.1 i)
+
+pub compatible-symm : (a b : Mode) → compatible a b ≡ compatible b a
+compatible-symm IntentShare IntentShare = refl
+compatible-symm IntentShare IntentExclusive = refl
+compatible-symm IntentShare Share = refl
+compatible-symm IntentShare ShareIntent = refl
+compatible-symm IntentShare Exclusive = refl
+compatible-symm IntentExclusive IntentShare = refl
+compatible-symm IntentExclusive IntentExclusive = refl
+compatible-symm IntentExclusive Share = refl
+compatible-symm IntentExclusive ShareIntent = refl
+compatible-symm IntentExclusive Exclusive = refl
+compatible-symm Share IntentShare = refl
+compatible-symm Share IntentExclusive = refl
+compatible-symm Share Share = refl
+compatible-symm Share ShareIntent = refl
+compatible-symm Share Exclusive = refl
+compatible-symm ShareIntent IntentShare = refl
+compatible-symm ShareIntent IntentExclusive = refl
+compatible-symm ShareIntent Share = refl
+compatible-symm ShareIntent ShareIntent = refl
+compatible-symm ShareIntent Exclusive = refl
+compatible-symm Exclusive IntentShare = refl
+compatible-symm Exclusive IntentExclusive = refl
+compatible-symm Exclusive Share = refl
+compatible-symm Exclusive ShareIntent = refl
+compatible-symm Exclusive Exclusive = refl
+
+pub same_mode-true : (a b : Mode) → same_mode a b ≡ true → a ≡ b
+same_mode-true IntentShare IntentShare e = refl
+same_mode-true IntentShare IntentExclusive e = cc
+same_mode-true IntentShare Share e = cc
+same_mode-true IntentShare ShareIntent e = cc
+same_mode-true IntentShare Exclusive e = cc
+same_mode-true IntentExclusive IntentShare e = cc
+same_mode-true IntentExclusive IntentExclusive e = refl
+same_mode-true IntentExclusive Share e = cc
+same_mode-true IntentExclusive ShareIntent e = cc
+same_mode-true IntentExclusive Exclusive e = cc
+same_mode-true Share IntentShare e = cc
+same_mode-true Share IntentExclusive e = cc
+same_mode-true Share Share e = refl
+same_mode-true Share ShareIntent e = cc
+same_mode-true Share Exclusive e = cc
+same_mode-true ShareIntent IntentShare e = cc
+same_mode-true ShareIntent IntentExclusive e = cc
+same_mode-true ShareIntent Share e = cc
+same_mode-true ShareIntent ShareIntent e = refl
+same_mode-true ShareIntent Exclusive e = cc
+same_mode-true Exclusive IntentShare e = cc
+same_mode-true Exclusive IntentExclusive e = cc
+same_mode-true Exclusive Share e = cc
+same_mode-true Exclusive ShareIntent e = cc
+same_mode-true Exclusive Exclusive e = refl
+
+pub same_mode-refl : (a : Mode) → same_mode a a ≡ true
+same_mode-refl IntentShare = refl
+same_mode-refl IntentExclusive = refl
+same_mode-refl Share = refl
+same_mode-refl ShareIntent = refl
+same_mode-refl Exclusive = refl
+
+-- the two ways round
+pub Each-swap : {A B : Type 0} (R : A → B → Type 0) (xs : List A) (ys : List B) → Each (λ x. Each (R x) ys) xs → Each (λ y. Each (λ x. R x y) xs) ys
+Each-swap R xs [] h = tt
+Each-swap R xs (y ∷ ys) h = (Each-map (λ x. Each (R x) (y ∷ ys)) (λ x. R x y) (λ x p. p.0) xs h, Each-swap R xs ys (Each-map (λ x. Each (R x) (y ∷ ys)) (λ x. Each (R x) ys) (λ x p. p.1) xs h))
+
+pub cases-eq : (a b : ℕ) → (a ≡ b) ⊎ (a ≢ b)
+cases-eq a b = grind arith

@@ -1,0 +1,15 @@
+pub mod Basics
+pub mod Looks
+pub mod Claiming
+pub mod Fitting
+pub mod Solo
+pub mod Footprint
+pub mod Effects
+pub mod Stronger
+pub mod Kept
+pub mod Settles
+pub mod SettleSteps
+pub mod Starts
+pub mod Counts
+pub mod Telling
+pub mod Waiters

@@ -1,0 +1,481 @@
+-- Modes that stand for others, and what they let a session write.
+use Rattle.std.proofs.Common.{◌≡◌, refl, sym, ap, ◌∙◌, subst, Bool, true, false, cond, ◌&&◌, ◌||◌, List, [], ◌∷◌, Option, Some, None, ◌⊎◌, inl, inr, ⊎_elim}
+use Rattle.version_tree.specs.Map.{same_key, same_key-true, same_key-refl, get, insert, get-insert}
+use Rattle.lock_modes.specs.Place.{Place}
+use Rattle.lock_modes.specs.Resource.{resource_order, same_resource}
+use Rattle.lock_modes.specs.Mode.{cover}
+use Rattle.lock_queues.specs.Locks.{wanted}
+use Rattle.sql_statements.specs.Plan.{Request, asks_on, writes_in, is_exclusive}
+use Rattle.machine_model.specs.Session.{Held}
+use Rattle.row_tables.specs.Overlay.{Overlay}
+use Rattle.machine_model.specs.Claims.{may_write, claims_of}
+use Rattle.machine_model.specs.Sound.{AtLeast, Covers, HoldsAll, IsIn, here, there, AllIn, UnderLocks}
+use Rattle.lock_modes.specs.declared.mode.Mode.{Mode}
+use Rattle.lock_modes.specs.declared.mode.Mode.TheVariants.{IntentShare, IntentExclusive, Share, ShareIntent, Exclusive}
+use Rattle.lock_modes.specs.declared.resource.Resource.{Resource}
+use Rattle.lock_modes.specs.declared.resource.Resource.TheVariants.{Table, Row as RowOf}
+use Rattle.machine_model.proofs.Looks.{writable}
+use Rattle.machine_model.proofs.Basics.{both_true, and_true, either_true, or_true_left, or_true_right}
+use Rattle.machine_model.proofs.Claiming.{claims-held, claims-cases}
+
+pub cover-right : (n m : Mode) → AtLeast (cover n m) m
+cover-right IntentShare IntentShare = refl
+cover-right IntentShare IntentExclusive = refl
+cover-right IntentShare Share = refl
+cover-right IntentShare ShareIntent = refl
+cover-right IntentShare Exclusive = refl
+cover-right IntentExclusive IntentShare = refl
+cover-right IntentExclusive IntentExclusive = refl
+cover-right IntentExclusive Share = refl
+cover-right IntentExclusive ShareIntent = refl
+cover-right IntentExclusive Exclusive = refl
+cover-right Share IntentShare = refl
+cover-right Share IntentExclusive = refl
+cover-right Share Share = refl
+cover-right Share ShareIntent = refl
+cover-right Share Exclusive = refl
+cover-right ShareIntent IntentShare = refl
+cover-right ShareIntent IntentExclusive = refl
+cover-right ShareIntent Share = refl
+cover-right ShareIntent ShareIntent = refl
+cover-right ShareIntent Exclusive = refl
+cover-right Exclusive IntentShare = refl
+cover-right Exclusive IntentExclusive = refl
+cover-right Exclusive Share = refl
+cover-right Exclusive ShareIntent = refl
+cover-right Exclusive Exclusive = refl
+
+pub cover-more : (n k m : Mode) → AtLeast n k → AtLeast (cover n m) k
+cover-more IntentShare IntentShare IntentShare e = refl
+cover-more IntentShare IntentShare IntentExclusive e = refl
+cover-more IntentShare IntentShare Share e = refl
+cover-more IntentShare IntentShare ShareIntent e = refl
+cover-more IntentShare IntentShare Exclusive e = refl
+cover-more IntentShare IntentExclusive IntentShare e = cc
+cover-more IntentShare IntentExclusive IntentExclusive e = cc
+cover-more IntentShare IntentExclusive Share e = cc
+cover-more IntentShare IntentExclusive ShareIntent e = cc
+cover-more IntentShare IntentExclusive Exclusive e = cc
+cover-more IntentShare Share IntentShare e = cc
+cover-more IntentShare Share IntentExclusive e = cc
+cover-more IntentShare Share Share e = cc
+cover-more IntentShare Share ShareIntent e = cc
+cover-more IntentShare Share Exclusive e = cc
+cover-more IntentShare ShareIntent IntentShare e = cc
+cover-more IntentShare ShareIntent IntentExclusive e = cc
+cover-more IntentShare ShareIntent Share e = cc
+cover-more IntentShare ShareIntent ShareIntent e = cc
+cover-more IntentShare ShareIntent Exclusive e = cc
+cover-more IntentShare Exclusive IntentShare e = cc
+cover-more IntentShare Exclusive IntentExclusive e = cc
+cover-more IntentShare Exclusive Share e = cc
+cover-more IntentShare Exclusive ShareIntent e = cc
+cover-more IntentShare Exclusive Exclusive e = cc
+cover-more IntentExclusive IntentShare IntentShare e = refl
+cover-more IntentExclusive IntentShare IntentExclusive e = refl
+cover-more IntentExclusive IntentShare Share e = refl
+cover-more IntentExclusive IntentShare ShareIntent e = refl
+cover-more IntentExclusive IntentShare Exclusive e = refl
+cover-more IntentExclusive IntentExclusive IntentShare e = refl
+cover-more IntentExclusive IntentExclusive IntentExclusive e = refl
+cover-more IntentExclusive IntentExclusive Share e = refl
+cover-more IntentExclusive IntentExclusive ShareIntent e = refl
+cover-more IntentExclusive IntentExclusive Exclusive e = refl
+cover-more IntentExclusive Share IntentShare e = cc
+cover-more IntentExclusive Share IntentExclusive e = cc
+cover-more IntentExclusive Share Share e = cc
+cover-more IntentExclusive Share ShareIntent e = cc
+cover-more IntentExclusive Share Exclusive e = cc
+cover-more IntentExclusive ShareIntent IntentShare e = cc
+cover-more IntentExclusive ShareIntent IntentExclusive e = cc
+cover-more IntentExclusive ShareIntent Share e = cc
+cover-more IntentExclusive ShareIntent ShareIntent e = cc
+cover-more IntentExclusive ShareIntent Exclusive e = cc
+cover-more IntentExclusive Exclusive IntentShare e = cc
+cover-more IntentExclusive Exclusive IntentExclusive e = cc
+cover-more IntentExclusive Exclusive Share e = cc
+cover-more IntentExclusive Exclusive ShareIntent e = cc
+cover-more IntentExclusive Exclusive Exclusive e = cc
+cover-more Share IntentShare IntentShare e = refl
+cover-more Share IntentShare IntentExclusive e = refl
+cover-more Share IntentShare Share e = refl
+cover-more Share IntentShare ShareIntent e = refl
+cover-more Share IntentShare Exclusive e = refl
+cover-more Share IntentExclusive IntentShare e = cc
+cover-more Share IntentExclusive IntentExclusive e = cc
+cover-more Share IntentExclusive Share e = cc
+cover-more Share IntentExclusive ShareIntent e = cc
+cover-more Share IntentExclusive Exclusive e = cc
+cover-more Share Share IntentShare e = refl
+cover-more Share Share IntentExclusive e = refl
+cover-more Share Share Share e = refl
+cover-more Share Share ShareIntent e = refl
+cover-more Share Share Exclusive e = refl
+cover-more Share ShareIntent IntentShare e = cc
+cover-more Share ShareIntent IntentExclusive e = cc
+cover-more Share ShareIntent Share e = cc
+cover-more Share ShareIntent ShareIntent e = cc
+cover-more Share ShareIntent Exclusive e = cc
+cover-more Share Exclusive IntentShare e = cc
+cover-more Share Exclusive IntentExclusive e = cc
+cover-more Share Exclusive Share e = cc
+cover-more Share Exclusive ShareIntent e = cc
+cover-more Share Exclusive Exclusive e = cc
+cover-more ShareIntent IntentShare IntentShare e = refl
+cover-more ShareIntent IntentShare IntentExclusive e = refl
+cover-more ShareIntent IntentShare Share e = refl
+cover-more ShareIntent IntentShare ShareIntent e = refl
+cover-more ShareIntent IntentShare Exclusive e = refl
+cover-more ShareIntent IntentExclusive IntentShare e = refl
+cover-more ShareIntent IntentExclusive IntentExclusive e = refl
+cover-more ShareIntent IntentExclusive Share e = refl
+cover-more ShareIntent IntentExclusive ShareIntent e = refl
+cover-more ShareIntent IntentExclusive Exclusive e = refl
+cover-more ShareIntent Share IntentShare e = refl
+cover-more ShareIntent Share IntentExclusive e = refl
+cover-more ShareIntent Share Share e = refl
+cover-more ShareIntent Share ShareIntent e = refl
+cover-more ShareIntent Share Exclusive e = refl
+cover-more ShareIntent ShareIntent IntentShare e = refl
+cover-more ShareIntent ShareIntent IntentExclusive e = refl
+cover-more ShareIntent ShareIntent Share e = refl
+cover-more ShareIntent ShareIntent ShareIntent e = refl
+cover-more ShareIntent ShareIntent Exclusive e = refl
+cover-more ShareIntent Exclusive IntentShare e = cc
+cover-more ShareIntent Exclusive IntentExclusive e = cc
+cover-more ShareIntent Exclusive Share e = cc
+cover-more ShareIntent Exclusive ShareIntent e = cc
+cover-more ShareIntent Exclusive Exclusive e = cc
+cover-more Exclusive IntentShare IntentShare e = refl
+cover-more Exclusive IntentShare IntentExclusive e = refl
+cover-more Exclusive IntentShare Share e = refl
+cover-more Exclusive IntentShare ShareIntent e = refl
+cover-more Exclusive IntentShare Exclusive e = refl
+cover-more Exclusive IntentExclusive IntentShare e = refl
+cover-more Exclusive IntentExclusive IntentExclusive e = refl
+cover-more Exclusive IntentExclusive Share e = refl
+cover-more Exclusive IntentExclusive ShareIntent e = refl
+cover-more Exclusive IntentExclusive Exclusive e = refl
+cover-more Exclusive Share IntentShare e = refl
+cover-more Exclusive Share IntentExclusive e = refl
+cover-more Exclusive Share Share e = refl
+cover-more Exclusive Share ShareIntent e = refl
+cover-more Exclusive Share Exclusive e = refl
+cover-more Exclusive ShareIntent IntentShare e = refl
+cover-more Exclusive ShareIntent IntentExclusive e = refl
+cover-more Exclusive ShareIntent Share e = refl
+cover-more Exclusive ShareIntent ShareIntent e = refl
+cover-more Exclusive ShareIntent Exclusive e = refl
+cover-more Exclusive Exclusive IntentShare e = refl
+cover-more Exclusive Exclusive IntentExclusive e = refl
+cover-more Exclusive Exclusive Share e = refl
+cover-more Exclusive Exclusive ShareIntent e = refl
+cover-more Exclusive Exclusive Exclusive e = refl
+
+pub at-least-refl : (n : Mode) → AtLeast n n
+at-least-refl IntentShare = refl
+at-least-refl IntentExclusive = refl
+at-least-refl Share = refl
+at-least-refl ShareIntent = refl
+at-least-refl Exclusive = refl
+
+pub exclusive-up : (n m : Mode) → AtLeast n m → is_exclusive m ≡ true → is_exclusive n ≡ true
+exclusive-up IntentShare IntentShare e t = cc
+exclusive-up IntentShare IntentExclusive e t = cc
+exclusive-up IntentShare Share e t = cc
+exclusive-up IntentShare ShareIntent e t = cc
+exclusive-up IntentShare Exclusive e t = cc
+exclusive-up IntentExclusive IntentShare e t = cc
+exclusive-up IntentExclusive IntentExclusive e t = cc
+exclusive-up IntentExclusive Share e t = cc
+exclusive-up IntentExclusive ShareIntent e t = cc
+exclusive-up IntentExclusive Exclusive e t = cc
+exclusive-up Share IntentShare e t = cc
+exclusive-up Share IntentExclusive e t = cc
+exclusive-up Share Share e t = cc
+exclusive-up Share ShareIntent e t = cc
+exclusive-up Share Exclusive e t = cc
+exclusive-up ShareIntent IntentShare e t = cc
+exclusive-up ShareIntent IntentExclusive e t = cc
+exclusive-up ShareIntent Share e t = cc
+exclusive-up ShareIntent ShareIntent e t = cc
+exclusive-up ShareIntent Exclusive e t = cc
+exclusive-up Exclusive IntentShare e t = refl
+exclusive-up Exclusive IntentExclusive e t = refl
+exclusive-up Exclusive Share e t = refl
+exclusive-up Exclusive ShareIntent e t = refl
+exclusive-up Exclusive Exclusive e t = refl
+
+pub writes-up : (n m : Mode) → AtLeast n m → writes_in m ≡ true → writes_in n ≡ true
+writes-up IntentShare IntentShare e t = cc
+writes-up IntentShare IntentExclusive e t = cc
+writes-up IntentShare Share e t = cc
+writes-up IntentShare ShareIntent e t = cc
+writes-up IntentShare Exclusive e t = cc
+writes-up IntentExclusive IntentShare e t = refl
+writes-up IntentExclusive IntentExclusive e t = refl
+writes-up IntentExclusive Share e t = refl
+writes-up IntentExclusive ShareIntent e t = refl
+writes-up IntentExclusive Exclusive e t = refl
+writes-up Share IntentShare e t = cc
+writes-up Share IntentExclusive e t = cc
+writes-up Share Share e t = cc
+writes-up Share ShareIntent e t = cc
+writes-up Share Exclusive e t = cc
+writes-up ShareIntent IntentShare e t = refl
+writes-up ShareIntent IntentExclusive e t = refl
+writes-up ShareIntent Share e t = refl
+writes-up ShareIntent ShareIntent e t = refl
+writes-up ShareIntent Exclusive e t = refl
+writes-up Exclusive IntentShare e t = refl
+writes-up Exclusive IntentExclusive e t = refl
+writes-up Exclusive Share e t = refl
+writes-up Exclusive ShareIntent e t = refl
+writes-up Exclusive Exclusive e t = refl
+
+-- ---- what a session may write by what it holds
+
+pub record HasMode (h : Held) (r : Resource) (test : Mode → Bool) : Type 0 where
+  pub mode : Mode
+  pub is : get h r ≡ Some mode
+  pub passes : test mode ≡ true
+
+abbrev pub CanWrite : Held → Place → Type 0
+CanWrite h p = HasMode h (Table p.0) is_exclusive ⊎ (HasMode h (RowOf p.0 p.1) is_exclusive × HasMode h (Table p.0) writes_in)
+
+pub held-claim : (h : Held) (r : Resource) (m : Mode) → claims_of h [] r m ≡ true → get h r ≡ Some m
+held-claim h r m e = ⊎_elim (λ x. x) (λ x. absurd x.1) (claims-cases (λ q. ⊥) h [] r m tt e)
+
+has-claim : (h : Held) (r : Resource) (m : Mode) (test : Mode → Bool) → test m ≡ true → claims_of h [] r m ≡ true → HasMode h r test
+has-claim h r m test t e = record { mode = m; is = held-claim h r m e; passes = t }
+
+pub may-can : (h : Held) (p : Place) → may_write (claims_of h []) p ≡ true → CanWrite h p
+may-can h p e =
+    ⊎_elim (λ x. inl (has-claim h (Table p.0) Exclusive is_exclusive refl x))
+    (λ x.
+    let b = both_true (claims_of h [] (RowOf p.0 p.1) Exclusive) _ x in
+    inr (
+      has-claim h (RowOf p.0 p.1) Exclusive is_exclusive refl b.0,
+      ⊎_elim (λ y. has-claim h (Table p.0) IntentExclusive writes_in refl y) (λ y. has-claim h (Table p.0) ShareIntent writes_in refl y) (either_true (claims_of h [] (Table p.0) IntentExclusive) _ b.1),
+    ))
+    (either_true (claims_of h [] (Table p.0) Exclusive) _ e)
+
+exclusive-one : (m : Mode) → is_exclusive m ≡ true → m ≡ Exclusive
+exclusive-one IntentShare e = cc
+exclusive-one IntentExclusive e = cc
+exclusive-one Share e = cc
+exclusive-one ShareIntent e = cc
+exclusive-one Exclusive e = refl
+
+exclusive-claim : (h : Held) (r : Resource) → HasMode h r is_exclusive → claims_of h [] r Exclusive ≡ true
+exclusive-claim h r x = claims-held h [] r Exclusive (x.is ∙ ap Some (exclusive-one x.mode x.passes))
+
+intent-cases : (h : Held) (r : Resource) (m : Mode) → get h r ≡ Some m → writes_in m ≡ true → (claims_of h [] r Exclusive ≡ true) ⊎ ((claims_of h [] r IntentExclusive || claims_of h [] r ShareIntent) ≡ true)
+intent-cases h r IntentShare is e = cc
+intent-cases h r IntentExclusive is e = inr (or_true_left _ _ (claims-held h [] r IntentExclusive is))
+intent-cases h r Share is e = cc
+intent-cases h r ShareIntent is e = inr (or_true_right (claims_of h [] r IntentExclusive) _ (claims-held h [] r ShareIntent is))
+intent-cases h r Exclusive is e = inl (claims-held h [] r Exclusive is)
+
+pub can-may : (h : Held) (p : Place) → CanWrite h p → may_write (claims_of h []) p ≡ true
+can-may h p (inl x) = or_true_left _ _ (exclusive-claim h (Table p.0) x)
+can-may h p (inr x) =
+    ⊎_elim (λ y. or_true_left _ _ y) (λ y. or_true_right (claims_of h [] (Table p.0) Exclusive) _ (and_true _ _ (exclusive-claim h (RowOf p.0 p.1) x.0) y))
+    (intent-cases h (Table p.0) x.1.mode x.1.is x.1.passes)
+
+-- ---- holding more
+
+-- each mode that is held is held, or a stronger one
+pub record Stronger (h k : Held) : Type 0 where
+  pub each : (r : Resource) (n : Mode) → get h r ≡ Some n → Covers (get k r) n
+
+covers-wanted : (o : Option Mode) (n m : Mode) → o ≡ Some n → Covers (Some (wanted o m)) n
+covers-wanted None n m e = cc
+covers-wanted (Some x) n m e = (cover x m, refl, cover-more x n m (subst (λ y. AtLeast x y) (let z : x ≡ n = cc in z) (at-least-refl x)))
+
+pub stronger-taking : (h : Held) (r : Resource) (m : Mode) → Stronger h (insert h r (wanted (get h r) m))
+stronger-taking h r m = record { each = λ q n e. subst (λ o. Covers o n) (sym (get-insert h r _ q)) (at q n e (same_key resource_order q r) refl) }
+  where
+    at : (q : Resource) (n : Mode) → get h q ≡ Some n → (b : Bool) → same_key resource_order q r ≡ b → Covers (cond (same_key resource_order q r) (Some (wanted (get h r) m)) (get h q)) n
+    at q n e true same =
+        let k : q ≡ r = same_key-true resource_order q r same in
+        subst (λ b. Covers (cond b (Some (wanted (get h r) m)) (get h q)) n) (sym same) (covers-wanted (get h r) n m (sym (ap (get h) k) ∙ e))
+    at q n e false same = subst (λ b. Covers (cond b (Some (wanted (get h r) m)) (get h q)) n) (sym same) (n, e, at-least-refl n)
+
+pub has-stronger : (h k : Held) → Stronger h k → (r : Resource) (test : Mode → Bool) → ((n m : Mode) → AtLeast n m → test m ≡ true → test n ≡ true) → HasMode h r test → HasMode k r test
+has-stronger h k s r test up x = let c = s.each r x.mode x.is in record { mode = c.0; is = c.1; passes = up c.0 x.mode c.2 x.passes }
+
+pub can-stronger : (h k : Held) → Stronger h k → (p : Place) → CanWrite h p → CanWrite k p
+can-stronger h k s p (inl x) = inl (has-stronger h k s (Table p.0) is_exclusive exclusive-up x)
+can-stronger h k s p (inr x) = inr (has-stronger h k s (RowOf p.0 p.1) is_exclusive exclusive-up x.0, has-stronger h k s (Table p.0) writes_in writes-up x.1)
+
+pub under-stronger : (o : Overlay) (h k : Held) → Stronger h k → UnderLocks o h → UnderLocks o k
+under-stronger o h k s under p x e = can-may k p (can-stronger h k s p (may-can h p (under p x e)))
+
+at-least-trans : (a b c : Mode) → AtLeast a b → AtLeast b c → AtLeast a c
+at-least-trans IntentShare IntentShare IntentShare e f = refl
+at-least-trans IntentShare IntentShare IntentExclusive e f = cc
+at-least-trans IntentShare IntentShare Share e f = cc
+at-least-trans IntentShare IntentShare ShareIntent e f = cc
+at-least-trans IntentShare IntentShare Exclusive e f = cc
+at-least-trans IntentShare IntentExclusive IntentShare e f = refl
+at-least-trans IntentShare IntentExclusive IntentExclusive e f = cc
+at-least-trans IntentShare IntentExclusive Share e f = cc
+at-least-trans IntentShare IntentExclusive ShareIntent e f = cc
+at-least-trans IntentShare IntentExclusive Exclusive e f = cc
+at-least-trans IntentShare Share IntentShare e f = refl
+at-least-trans IntentShare Share IntentExclusive e f = cc
+at-least-trans IntentShare Share Share e f = cc
+at-least-trans IntentShare Share ShareIntent e f = cc
+at-least-trans IntentShare Share Exclusive e f = cc
+at-least-trans IntentShare ShareIntent IntentShare e f = refl
+at-least-trans IntentShare ShareIntent IntentExclusive e f = cc
+at-least-trans IntentShare ShareIntent Share e f = cc
+at-least-trans IntentShare ShareIntent ShareIntent e f = cc
+at-least-trans IntentShare ShareIntent Exclusive e f = cc
+at-least-trans IntentShare Exclusive IntentShare e f = refl
+at-least-trans IntentShare Exclusive IntentExclusive e f = cc
+at-least-trans IntentShare Exclusive Share e f = cc
+at-least-trans IntentShare Exclusive ShareIntent e f = cc
+at-least-trans IntentShare Exclusive Exclusive e f = cc
+at-least-trans IntentExclusive IntentShare IntentShare e f = refl
+at-least-trans IntentExclusive IntentShare IntentExclusive e f = refl
+at-least-trans IntentExclusive IntentShare Share e f = cc
+at-least-trans IntentExclusive IntentShare ShareIntent e f = cc
+at-least-trans IntentExclusive IntentShare Exclusive e f = cc
+at-least-trans IntentExclusive IntentExclusive IntentShare e f = refl
+at-least-trans IntentExclusive IntentExclusive IntentExclusive e f = refl
+at-least-trans IntentExclusive IntentExclusive Share e f = cc
+at-least-trans IntentExclusive IntentExclusive ShareIntent e f = cc
+at-least-trans IntentExclusive IntentExclusive Exclusive e f = cc
+at-least-trans IntentExclusive Share IntentShare e f = refl
+at-least-trans IntentExclusive Share IntentExclusive e f = refl
+at-least-trans IntentExclusive Share Share e f = cc
+at-least-trans IntentExclusive Share ShareIntent e f = cc
+at-least-trans IntentExclusive Share Exclusive e f = cc
+at-least-trans IntentExclusive ShareIntent IntentShare e f = refl
+at-least-trans IntentExclusive ShareIntent IntentExclusive e f = refl
+at-least-trans IntentExclusive ShareIntent Share e f = cc
+at-least-trans IntentExclusive ShareIntent ShareIntent e f = cc
+at-least-trans IntentExclusive ShareIntent Exclusive e f = cc
+at-least-trans IntentExclusive Exclusive IntentShare e f = refl
+at-least-trans IntentExclusive Exclusive IntentExclusive e f = refl
+at-least-trans IntentExclusive Exclusive Share e f = cc
+at-least-trans IntentExclusive Exclusive ShareIntent e f = cc
+at-least-trans IntentExclusive Exclusive Exclusive e f = cc
+at-least-trans Share IntentShare IntentShare e f = refl
+at-least-trans Share IntentShare IntentExclusive e f = cc
+at-least-trans Share IntentShare Share e f = refl
+at-least-trans Share IntentShare ShareIntent e f = cc
+at-least-trans Share IntentShare Exclusive e f = cc
+at-least-trans Share IntentExclusive IntentShare e f = refl
+at-least-trans Share IntentExclusive IntentExclusive e f = cc
+at-least-trans Share IntentExclusive Share e f = refl
+at-least-trans Share IntentExclusive ShareIntent e f = cc
+at-least-trans Share IntentExclusive Exclusive e f = cc
+at-least-trans Share Share IntentShare e f = refl
+at-least-trans Share Share IntentExclusive e f = cc
+at-least-trans Share Share Share e f = refl
+at-least-trans Share Share ShareIntent e f = cc
+at-least-trans Share Share Exclusive e f = cc
+at-least-trans Share ShareIntent IntentShare e f = refl
+at-least-trans Share ShareIntent IntentExclusive e f = cc
+at-least-trans Share ShareIntent Share e f = refl
+at-least-trans Share ShareIntent ShareIntent e f = cc
+at-least-trans Share ShareIntent Exclusive e f = cc
+at-least-trans Share Exclusive IntentShare e f = refl
+at-least-trans Share Exclusive IntentExclusive e f = cc
+at-least-trans Share Exclusive Share e f = refl
+at-least-trans Share Exclusive ShareIntent e f = cc
+at-least-trans Share Exclusive Exclusive e f = cc
+at-least-trans ShareIntent IntentShare IntentShare e f = refl
+at-least-trans ShareIntent IntentShare IntentExclusive e f = refl
+at-least-trans ShareIntent IntentShare Share e f = refl
+at-least-trans ShareIntent IntentShare ShareIntent e f = refl
+at-least-trans ShareIntent IntentShare Exclusive e f = cc
+at-least-trans ShareIntent IntentExclusive IntentShare e f = refl
+at-least-trans ShareIntent IntentExclusive IntentExclusive e f = refl
+at-least-trans ShareIntent IntentExclusive Share e f = refl
+at-least-trans ShareIntent IntentExclusive ShareIntent e f = refl
+at-least-trans ShareIntent IntentExclusive Exclusive e f = cc
+at-least-trans ShareIntent Share IntentShare e f = refl
+at-least-trans ShareIntent Share IntentExclusive e f = refl
+at-least-trans ShareIntent Share Share e f = refl
+at-least-trans ShareIntent Share ShareIntent e f = refl
+at-least-trans ShareIntent Share Exclusive e f = cc
+at-least-trans ShareIntent ShareIntent IntentShare e f = refl
+at-least-trans ShareIntent ShareIntent IntentExclusive e f = refl
+at-least-trans ShareIntent ShareIntent Share e f = refl
+at-least-trans ShareIntent ShareIntent ShareIntent e f = refl
+at-least-trans ShareIntent ShareIntent Exclusive e f = cc
+at-least-trans ShareIntent Exclusive IntentShare e f = refl
+at-least-trans ShareIntent Exclusive IntentExclusive e f = refl
+at-least-trans ShareIntent Exclusive Share e f = refl
+at-least-trans ShareIntent Exclusive ShareIntent e f = refl
+at-least-trans ShareIntent Exclusive Exclusive e f = cc
+at-least-trans Exclusive IntentShare IntentShare e f = refl
+at-least-trans Exclusive IntentShare IntentExclusive e f = refl
+at-least-trans Exclusive IntentShare Share e f = refl
+at-least-trans Exclusive IntentShare ShareIntent e f = refl
+at-least-trans Exclusive IntentShare Exclusive e f = refl
+at-least-trans Exclusive IntentExclusive IntentShare e f = refl
+at-least-trans Exclusive IntentExclusive IntentExclusive e f = refl
+at-least-trans Exclusive IntentExclusive Share e f = refl
+at-least-trans Exclusive IntentExclusive ShareIntent e f = refl
+at-least-trans Exclusive IntentExclusive Exclusive e f = refl
+at-least-trans Exclusive Share IntentShare e f = refl
+at-least-trans Exclusive Share IntentExclusive e f = refl
+at-least-trans Exclusive Share Share e f = refl
+at-least-trans Exclusive Share ShareIntent e f = refl
+at-least-trans Exclusive Share Exclusive e f = refl
+at-least-trans Exclusive ShareIntent IntentShare e f = refl
+at-least-trans Exclusive ShareIntent IntentExclusive e f = refl
+at-least-trans Exclusive ShareIntent Share e f = refl
+at-least-trans Exclusive ShareIntent ShareIntent e f = refl
+at-least-trans Exclusive ShareIntent Exclusive e f = refl
+at-least-trans Exclusive Exclusive IntentShare e f = refl
+at-least-trans Exclusive Exclusive IntentExclusive e f = refl
+at-least-trans Exclusive Exclusive Share e f = refl
+at-least-trans Exclusive Exclusive ShareIntent e f = refl
+at-least-trans Exclusive Exclusive Exclusive e f = refl
+
+covers-stronger : (h k : Held) → Stronger h k → (r : Resource) (m : Mode) → Covers (get h r) m → Covers (get k r) m
+covers-stronger h k s r m x = let c = s.each r x.0 x.1 in (c.0, c.1, at-least-trans c.0 x.0 m c.2 x.2)
+
+pub holds-stronger : (h k : Held) → Stronger h k → (qs : List Request) → HoldsAll h qs → HoldsAll k qs
+holds-stronger h k s [] x = tt
+holds-stronger h k s (q ∷ qs) x = (covers-stronger h k s q.resource q.mode x.0, holds-stronger h k s qs x.1)
+
+-- the request that is had now is held
+covers-new : (o : Option Mode) (m : Mode) → Covers (Some (wanted o m)) m
+covers-new None m = (m, refl, at-least-refl m)
+covers-new (Some n) m = (cover n m, refl, cover-right n m)
+
+pub covers-taking : (h : Held) (r : Resource) (m : Mode) → Covers (get (insert h r (wanted (get h r) m)) r) m
+covers-taking h r m =
+    let e : get (insert h r (wanted (get h r) m)) r ≡ Some (wanted (get h r) m) = get-insert h r _ r ∙ ap (λ b. cond b (Some (wanted (get h r) m)) (get h r)) (same_key-refl resource_order r) in
+    subst (λ o. Covers o m) (sym e) (covers-new (get h r) m)
+
+-- ---- what the requests that are had let be written
+
+holds-in : (h : Held) (have : List Request) (q : Request) → HoldsAll h have → IsIn q have → Covers (get h q.resource) q.mode
+holds-in h _ q x here = x.0
+holds-in h _ q x (there i) = holds-in h _ q x.1 i
+
+pub holds-plan : (h : Held) (have qs : List Request) → HoldsAll h have → AllIn qs have → HoldsAll h qs
+holds-plan h have [] x a = tt
+holds-plan h have (q ∷ qs) x a = (holds-in h have q x a.0, holds-plan h have qs x a.1)
+
+pub asks-has : (h : Held) (qs : List Request) (r : Resource) (test : Mode → Bool) → ((n m : Mode) → AtLeast n m → test m ≡ true → test n ≡ true) → HoldsAll h qs → asks_on qs r test ≡ true → HasMode h r test
+asks-has h [] r test up x e = cc
+asks-has h (q ∷ qs) r test up x e =
+    ⊎_elim (λ y.
+    let b = both_true (same_resource q.resource r) _ y in
+    record { mode = x.0.0; is = sym (ap (get h) (same_key-true resource_order q.resource r b.0)) ∙ x.0.1; passes = up x.0.0 q.mode x.0.2 b.1 })
+    (λ y. asks-has h qs r test up x.1 y) (either_true (same_resource q.resource r && test q.mode) _ e)
+
+pub writable-can : (h : Held) (qs : List Request) (p : Place) → HoldsAll h qs → writable qs p ≡ true → CanWrite h p
+writable-can h qs p x e =
+    ⊎_elim (λ y. inl (asks-has h qs (Table p.0) is_exclusive exclusive-up x y))
+    (λ y. let b = both_true (asks_on qs (RowOf p.0 p.1) is_exclusive) _ y in inr (asks-has h qs (RowOf p.0 p.1) is_exclusive exclusive-up x b.0, asks-has h qs (Table p.0) writes_in writes-up x b.1))
+    (either_true (asks_on qs (Table p.0) is_exclusive) _ e)

@@ -1,0 +1,25 @@
+-- The laws of the machine.
+use Rattle.std.specs.Prelude.{◌≡◌, ℕ, ◌<◌, ◌≤◌, Bool, true, false, ◌↔◌, List, [], length, get_or}
+use Rattle.lock_queues.specs.Locks.{way_below, waits_for, waits_now}
+use Rattle.sql_subset.specs.Spec.{Spec, Step, no_step}
+use Rattle.machine_model.specs.Start.{Started, start}
+use Rattle.machine_model.specs.World.{World, send, look_of}
+use Rattle.machine_model.specs.Sound.{Sound, Way}
+
+-- the step's session is one of the world
+abbrev pub IsOf : List Step → World → ℕ → Type 0
+IsOf steps w k = (get_or steps k no_step).session < length w.sessions
+
+abbrev pub SendKeepsSound : Type 0
+SendKeepsSound = (steps : List Step) (w : World) (k : ℕ) → Sound w → IsOf steps w k → Sound (send steps w k)
+
+abbrev pub WaitsAreRings : Type 0
+WaitsAreRings = (edge : ℕ → ℕ → Bool) (n : ℕ) → ((a b : ℕ) → edge a b ≡ true → a < n) → (a b : ℕ) → (way_below edge n a b ≡ true) ↔ Way edge a b
+
+-- a spec that starts, starts in a sound world
+abbrev pub StartsSound : Type 0
+StartsSound = (spec : Spec) (w : World) → length spec.session_setups ≤ spec.sessions → start spec ≡ Started w → Sound w
+
+-- each session that waits reaches one that does not
+abbrev pub WaitersReach : Type 0
+WaitersReach = (w : World) → Sound w → (a : ℕ) → waits_now w.waits a ≡ true → (b : ℕ) × Way (waits_for (look_of w) w.waits) a b × (waits_now w.waits b ≡ false)

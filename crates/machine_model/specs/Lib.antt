@@ -1,0 +1,9 @@
+pub mod Session
+pub mod Events
+pub mod Go
+pub mod World
+pub mod Start
+pub mod Claims
+pub mod Footprint
+pub mod Sound
+pub mod Laws

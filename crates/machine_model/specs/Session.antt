@@ -1,0 +1,103 @@
+-- A session, what is left of its step, and what a statement does whose requests are had.
+use Rattle.std.specs.Prelude.{List, [], ◌∷◌, ◌++◌}
+use Rattle.version_tree.specs.Map.{Map, empty}
+use Rattle.lock_modes.specs.Resource.{resource_order}
+use Rattle.sql_statements.specs.Plan.{Request, plan}
+use Rattle.row_tables.specs.Overlay.{Rows', Overlay, lay, written}
+use Rattle.statement_effects.specs.Effect.{Effect, Gives, Faults, effect}
+use Rattle.lock_modes.specs.declared.mode.Mode.{Mode}
+use Rattle.lock_modes.specs.declared.resource.Resource.{Resource}
+use Rattle.transcripts.specs.declared.event.Fault.{Fault}
+use Rattle.transcripts.specs.declared.event.Fault.TheVariants.{Aborted}
+use Rattle.transcripts.specs.declared.event.Warning.TheVariants.{InBlock as AlreadyInBlock, NoBlock}
+use Rattle.transcripts.specs.declared.event.Event.{Event}
+use Rattle.transcripts.specs.declared.event.Event.TheVariants.{Began, Committed, RolledBack, Warned}
+use Rattle.machine_model.specs.declared.status.Status.{Status}
+use Rattle.machine_model.specs.declared.status.Status.TheVariants.{Outside, InBlock, Broken}
+use Rattle.sql_statements.specs.declared.statement.Bound.{Bound}
+use Rattle.sql_statements.specs.declared.statement.Bound.TheVariants.{Select, Insert, Update, Delete, Begin, Commit, Rollback, LockTable, SetVariable}
+
+-- a step is its requests and its statements, each statement behind its requests
+pub data Task : Type 0 where
+  Ask : (resource : Resource) (mode : Mode) → Task
+  Do : (statement : Bound) → Task
+
+abbrev pub asks : List Request → List Task → List Task
+asks [] ts = ts
+asks (q ∷ qs) ts = Ask q.resource q.mode ∷ asks qs ts
+
+abbrev pub tasks_of : List Bound → List Task
+tasks_of [] = []
+tasks_of (s ∷ ss) = asks (plan s) (Do s ∷ tasks_of ss)
+
+abbrev pub Held : Type 0
+Held = Map resource_order Mode
+
+-- what a session has of its own
+pub record Session : Type 0 where
+  pub overlay : Overlay
+  pub held : Held
+  pub status : Status
+  pub rest : List Task
+  pub transcript : List Event
+
+abbrev pub note : Session → Event → Session
+note s e = record s { transcript = s.transcript ++ e ∷ [] }
+
+-- the session without its overlay and its locks
+abbrev pub released : Session → Session
+released s = record s { overlay = empty; held = empty }
+
+-- a transaction that ends leaves its session outside a block
+abbrev pub ended : Session → Session
+ended s = record (released s) { status = Outside }
+
+-- ---- one statement
+
+pub data Kind : Type 0 where
+  Begins : Kind
+  Commits : Kind
+  RollsBack : Kind
+  Works : Kind
+
+abbrev pub kind : Bound → Kind
+kind Begin = Begins
+kind Commit = Commits
+kind Rollback = RollsBack
+kind (Select t k c by o) = Works
+kind (Insert t k r) = Works
+kind (Update t k a c) = Works
+kind (Delete t k c) = Works
+kind (LockTable t m) = Works
+kind SetVariable = Works
+
+-- what a statement does whose requests are had
+pub data Performed : Type 0 where
+  Goes : (session : Session) (rows : Rows') → Performed
+  Fails : (fault : Fault) → Performed
+
+abbrev pub worked : Session → Rows' → Effect → Performed
+worked s rows (Gives events writes) = Goes (record s { overlay = written writes s.overlay; transcript = s.transcript ++ events }) rows
+worked s rows (Faults f) = Fails f
+
+abbrev pub perform_by : Status → Kind → Session → Rows' → Bound → Performed
+perform_by Outside Begins s rows st = Goes (note (record s { status = InBlock }) Began) rows
+perform_by InBlock Begins s rows st = Goes (note (note s (Warned AlreadyInBlock)) Began) rows
+perform_by Broken Begins s rows st = Fails Aborted
+perform_by Outside Commits s rows st = Goes (note (note (ended s) (Warned NoBlock)) Committed) (lay s.overlay rows)
+perform_by InBlock Commits s rows st = Goes (note (ended s) Committed) (lay s.overlay rows)
+perform_by Broken Commits s rows st = Goes (note (ended s) RolledBack) rows
+perform_by Outside RollsBack s rows st = Goes (note (note (ended s) (Warned NoBlock)) RolledBack) rows
+perform_by InBlock RollsBack s rows st = Goes (note (ended s) RolledBack) rows
+perform_by Broken RollsBack s rows st = Goes (note (ended s) RolledBack) rows
+perform_by Outside Works s rows st = worked s rows (effect st (lay s.overlay rows))
+perform_by InBlock Works s rows st = worked s rows (effect st (lay s.overlay rows))
+perform_by Broken Works s rows st = Fails Aborted
+
+abbrev pub perform : Session → Rows' → Bound → Performed
+perform s rows st = perform_by s.status (kind st) s rows st
+
+abbrev pub after_fault : Status → Status
+after_fault Outside = Outside
+after_fault InBlock = Broken
+after_fault Broken = Broken

@@ -1,0 +1,8 @@
+//! The sequential machine as definitions: sessions, how a session goes, settling, sending, the start, and what every world keeps.
+#![tactic(auto)]
+
+mod laws;
+mod status;
+
+pub use laws::{send_keeps_sound, starts_sound, waiters_reach, waits_are_rings};
+pub use status::Status;

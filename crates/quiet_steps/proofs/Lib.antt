@@ -1,0 +1,10 @@
+pub mod Commute
+pub mod FromQuiet
+pub mod Calm
+pub mod Alone
+pub mod Swaps
+pub mod Whole
+pub mod Reports
+pub mod Facts
+pub mod Specs
+pub mod Worked

@@ -1,0 +1,5 @@
+use Rattle.quiet_steps.proofs.Facts.{lines-run}
+use Rattle.quiet_steps.proofs.laws.lines_run.Goals as goal
+
+pub returns : goal.returns
+returns c = lines-run

@@ -1,0 +1,5 @@
+use Rattle.quiet_steps.proofs.Alone.{footprint}
+use Rattle.quiet_steps.proofs.laws.steps_have_footprints.Goals as goal
+
+pub returns : goal.returns
+returns c = footprint

@@ -1,0 +1,88 @@
+-- The laws of quiet steps, of swaps and of what is true of ranks.
+use Rattle.std.specs.Prelude.{◌≡◌, ◌≢◌, ℕ, ◌<◌, Bool, true, false, List, [], get_or, Some}
+use Rattle.sql_subset.specs.Spec.{Spec, Step, no_step, Queues, line, IsBound}
+use Rattle.machine_model.specs.World.{World, send, send_all, session_at, scene_of}
+use Rattle.machine_model.specs.Go.{go, solo, stopped}
+use Rattle.machine_model.specs.Session.{tasks_of}
+use Rattle.version_tree.specs.Map.{get}
+use Rattle.lock_modes.specs.Place.{Place}
+use Rattle.machine_model.specs.Footprint.{AllHad, EachDo, ReadsBut, AgreeBut, SameBut}
+use Rattle.sql_statements.specs.declared.statement.Bound.{Bound}
+use Rattle.quiet_steps.specs.Quiet.{is_quiet, SentCalmly}
+use Rattle.machine_model.specs.Claims.{plans, claims_of, may_write}
+use Rattle.machine_model.specs.Sound.{Sound}
+use Rattle.perm_ranks.specs.Words.{Word}
+use Rattle.perm_ranks.specs.Swapped.{exchanged}
+use Rattle.quiet_steps.specs.Swap.{quiet_at, falls_in, truth_of, truth_of_spec, fact_of}
+use Rattle.quiet_steps.specs.Books.{Entry, Truth, IsTrueAt, Ran, Swap, SwapLaw, AllTrue, HasFact, AllSame, OneValue, values}
+use Rattle.row_tables.specs.Overlay.{Rows'}
+use Rattle.sql_statements.specs.Plan.{plan, opened, looks_at}
+use Rattle.transcripts.specs.declared.event.Event.{Event}
+use Rattle.machine_model.specs.Laws.{IsOf}
+
+abbrev pub QuietStepsCommute : Type 0
+QuietStepsCommute =
+    (steps : List Step) (w : World) (k l : ℕ) → Sound w → IsOf steps w k → IsOf steps w l → is_quiet w (get_or steps k no_step) (get_or steps l no_step) ≡ true
+    → send steps (send steps w k) l ≡ send steps (send steps w l) k
+
+abbrev pub SwapKeepsWorlds : Type 0
+SwapKeepsWorlds =
+    (steps : List Step) (w : World) (q : Queues) (k : ℕ) (word other : Word) → Sound w → ((n : ℕ) → IsOf steps w n) → exchanged k word ≡ Some other → quiet_at steps w q k word ≡ true
+    → send_all steps w (line q word) ≡ send_all steps w (line q other)
+
+abbrev pub ChainsEnd : Type 0
+ChainsEnd = (k : ℕ) (word other : Word) → exchanged k word ≡ Some other → falls_in other < falls_in word
+
+-- a book of true facts has at every rank no value but the true one, and with a fact at every rank it has that one
+abbrev pub ReportIsRight : Type 0
+ReportIsRight =
+    (t : Truth (List (List Event))) → SwapLaw t → (book : List (Entry (List (List Event)))) → AllTrue t book
+    → ((r : ℕ) → AllSame (t.outcome r) (values t book r)) × (((r : ℕ) → r < t.count → HasFact book r) → (r : ℕ) → r < t.count → OneValue (t.outcome r) (values t book r))
+
+-- where a true swap leads there is a smaller rank with the same outcome
+abbrev pub SwapsHold : Type 0
+SwapsHold = (sessions : ℕ) (steps : List Step) (w : World) (q : Queues) → Sound w → ((n : ℕ) → IsOf steps w n) → SwapLaw (truth_of sessions steps w q)
+
+-- a book of true facts has at every rank no value but the sequential machine's, and with a fact at every rank it has that one
+abbrev pub Headline : Type 0
+Headline =
+    (spec : Spec) → IsBound spec
+    → let t = truth_of_spec spec in
+    (book : List (Entry (List (List Event)))) → AllTrue t book
+    → ((r : ℕ) → AllSame (t.outcome r) (values t book r)) × (((r : ℕ) → r < t.count → HasFact book r) → (r : ℕ) → r < t.count → OneValue (t.outcome r) (values t book r))
+
+-- what quiet steps note, the first alone and both, tells of no wait; the waits and all other sessions stay as they are
+abbrev pub QuietStepsAreCalm : Type 0
+QuietStepsAreCalm =
+    (steps : List Step) (w : World) (k l : ℕ) → Sound w → IsOf steps w k → IsOf steps w l → is_quiet w (get_or steps k no_step) (get_or steps l no_step) ≡ true
+    → let i = (get_or steps k no_step).session in
+    let j = (get_or steps l no_step).session in
+    let one = send steps w k in
+    let both = send steps (send steps w k) l in
+    (SentCalmly w one i k × (one.waits ≡ w.waits) × ((c : ℕ) → c ≢ i → session_at one c ≡ session_at w c))
+    × (SentCalmly w both i k × SentCalmly w both j l × (both.waits ≡ w.waits) × ((c : ℕ) → c ≢ i → c ≢ j → session_at both c ≡ session_at w c))
+
+-- the fact of a rank is true, when reducing or not; a swap comes only when reducing, and it is the least one
+abbrev pub FactsAreTrue : Type 0
+FactsAreTrue = (reduce : Bool) (spec : Spec) (r : ℕ) → r < (truth_of_spec spec).count → IsTrueAt (truth_of_spec spec) r (fact_of reduce spec r)
+
+abbrev pub SwapsAreLeast : Type 0
+SwapsAreLeast =
+    (reduce : Bool) (spec : Spec) (r k : ℕ) → fact_of reduce spec r ≡ Swap k → (reduce ≡ true) × ((m : ℕ) → m < k → (truth_of_spec spec).is_swap r m ≡ false)
+
+-- of a spec with lines each fact is an outcome
+abbrev pub LinesRun : Type 0
+LinesRun = (reduce : Bool) (spec : Spec) (r : ℕ) → spec.lines ≢ [] → fact_of reduce spec r ≡ Ran ((truth_of_spec spec).outcome r)
+
+-- a session whose requests are all had goes as if alone: it ends the same over rows that agree where its plans let it read, and it changes rows only where it claims to write
+pub record Footprint (w : World) (i : ℕ) (ss : List Bound) : Type 0 where
+  pub alone : go (scene_of w) i (session_at w i) w.rows (tasks_of ss) ≡ stopped (scene_of w) (solo (session_at w i) w.rows (tasks_of ss))
+  pub reads : (hidden : Place → Bool) (b : Rows') → EachDo (ReadsBut hidden) (tasks_of ss) → AgreeBut hidden w.rows b → SameBut hidden (solo (session_at w i) w.rows (tasks_of ss)) (solo (session_at w i) b (tasks_of ss))
+  pub writes : (p : Place) → may_write (claims_of (session_at w i).held (plans ss)) p ≡ false → get (solo (session_at w i) w.rows (tasks_of ss)).rows p ≡ get w.rows p
+
+abbrev pub StepsHaveFootprints : Type 0
+StepsHaveFootprints = (w : World) (i : ℕ) (ss : List Bound) → Sound w → AllHad (scene_of w) i (session_at w i) w.rows (tasks_of ss) → Footprint w i ss
+
+-- the plan of a statement opens every row that the statement looks at
+abbrev pub PlansOpen : Type 0
+PlansOpen = (st : Bound) (p : Place) → looks_at st p ≡ true → opened (plan st) p ≡ true

@@ -1,0 +1,4 @@
+pub mod Quiet
+pub mod Books
+pub mod Swap
+pub mod Laws

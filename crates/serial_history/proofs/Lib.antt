@@ -1,0 +1,4 @@
+pub mod Replays
+pub mod SerialLine
+pub mod Shown
+pub mod StartsTold

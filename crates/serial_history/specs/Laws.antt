@@ -1,0 +1,34 @@
+-- The laws of histories.
+use Rattle.std.specs.Prelude.{◌≡◌, ℕ, Bool, true, false, List, []}
+use Rattle.sql_subset.specs.Spec.{Spec, Step, line, IsBound}
+use Rattle.machine_model.specs.Start.{Started, start}
+use Rattle.machine_model.specs.World.{World, send_all}
+use Rattle.machine_model.specs.Sound.{Sound}
+use Rattle.row_tables.specs.Overlay.{Rows'}
+use Rattle.serial_history.specs.Serial.{History, Told, Shown, said_in, send_all_told, first_rows, start_told}
+use Rattle.transcripts.specs.declared.event.Event.{Event}
+use Rattle.machine_model.specs.Laws.{IsOf}
+
+-- the commits of a line, run one after another without locks, give their events and leave the line's rows, and the open transactions run again give their events and overlays
+abbrev pub LinesAreSerial : Type 0
+LinesAreSerial =
+    (start : Rows') (steps : List Step) (w : World) (ks : List ℕ) (h : History) → Sound w → ((k : ℕ) → IsOf steps w k) → Told start w h
+    → Told start (send_all steps w ks) (send_all_told steps w ks h)
+
+-- from the start of a spec: the commits of a line, those of session setups included, are a serial run from the rows after the main setups, and the open transactions run again
+abbrev pub SpecsAreSerial : Type 0
+SpecsAreSerial =
+    (spec : Spec) (w : World) (ks : List ℕ) → IsBound spec → start spec ≡ Started w
+    → Told (first_rows spec) (send_all spec.steps w ks) (send_all_told spec.steps w ks (start_told spec))
+
+-- the history of a line is that of its transcripts: the data events of each session are those of its committed, dropped and open work in order, and its commits are those that it ended by a commit
+abbrev pub HistoriesShow : Type 0
+HistoriesShow =
+    (said : ℕ → List Event) (steps : List Step) (w : World) (ks : List ℕ) (h : History) → Sound w → ((k : ℕ) → IsOf steps w k) → Shown said w h
+    → Shown said (send_all steps w ks) (send_all_told steps w ks h)
+
+-- from the start of a spec: what a line's history tells beyond the session setups is what its transcripts show
+abbrev pub SpecsShow : Type 0
+SpecsShow =
+    (spec : Spec) (w : World) (ks : List ℕ) → IsBound spec → start spec ≡ Started w
+    → Shown (said_in (start_told spec)) (send_all spec.steps w ks) (send_all_told spec.steps w ks (start_told spec))

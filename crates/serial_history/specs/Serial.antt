@@ -1,0 +1,223 @@
+-- The transactions of a line in the order of their commits, and their serial run.
+-- What is told here is computed beside the machine, from the same choices: the machine itself keeps no history.
+use Rattle.std.specs.Prelude.{◌≡◌, ℕ, zero, suc, Bool, true, false, cond, ◌==◌, List, [], ◌∷◌, ◌++◌, length, replicate, set, get_or, Some, None}
+use Rattle.version_tree.specs.Map.{empty}
+use Rattle.lock_queues.specs.Locks.{Spot, next_grant, waits_now}
+use Rattle.machine_model.specs.Sound.{HoldsAll}
+use Rattle.sql_statements.specs.Plan.{plan}
+use Rattle.row_tables.specs.Overlay.{Rows', Write, Overlay, lay, written}
+use Rattle.statement_effects.specs.Effect.{Effect, Gives, Faults, effect}
+use Rattle.machine_model.specs.Session.{Task, Ask, Do, Session, Held, Goes, Fails, Kind, Begins, Commits, RollsBack, Works, kind, perform, tasks_of, note, ended}
+use Rattle.machine_model.specs.Go.{Scene, taking, is_broken, answer_in}
+use Rattle.machine_model.specs.World.{World, session_at, look_of, scene_of, granted, goes, left_to_do, send, send_all, outcome_of}
+use Rattle.sql_subset.specs.Spec.{Step, no_step, Spec}
+use Rattle.machine_model.specs.Start.{Started, set_up, start, after_setup, forgotten}
+use Rattle.lock_queues.specs.declared.answer.Answer.TheVariants.{Granted, Waits, Ring}
+use Rattle.transcripts.specs.declared.event.Event.{Event}
+use Rattle.transcripts.specs.declared.event.Event.TheVariants.{Sent, Resumed}
+use Rattle.machine_model.specs.declared.status.Status.{Status}
+use Rattle.machine_model.specs.declared.status.Status.TheVariants.{Outside, InBlock, Broken}
+use Rattle.sql_statements.specs.declared.statement.Bound.{Bound}
+use Rattle.machine_model.specs.Events.{is_effect}
+
+pub record Did : Type 0 where
+  pub statement : Bound
+  pub events : List Event
+
+-- a committed transaction
+pub record Transaction : Type 0 where
+  pub session : ℕ
+  pub work : List Did
+
+-- a transaction of a session that ended, by a commit or dropped
+pub record Ended : Type 0 where
+  pub is_committed : Bool
+  pub work : List Did
+
+-- what a session did in its open transaction and in those that ended, and the transactions of all sessions committed so far
+pub record Tally : Type 0 where
+  pub session : ℕ
+  pub work : List Did
+  pub ended : List Ended
+  pub commits : List Transaction
+
+abbrev pub ended_well : Tally → Tally
+ended_well t =
+    record {
+      session = t.session;
+      work = [];
+      ended = t.ended ++ record { is_committed = true; work = t.work } ∷ [];
+      commits = t.commits ++ record { session = t.session; work = t.work } ∷ [];
+    }
+
+abbrev pub dropped : Tally → Tally
+dropped t = record { session = t.session; work = []; ended = t.ended ++ record { is_committed = false; work = t.work } ∷ []; commits = t.commits }
+
+abbrev pub did : Bound → Effect → Tally → Tally
+did st (Gives events writes) t = record { session = t.session; work = t.work ++ record { statement = st; events = events } ∷ []; ended = t.ended; commits = t.commits }
+did st (Faults f) t = t
+
+-- the tally after a statement that goes
+abbrev pub tally_by : Status → Kind → Session → Rows' → Bound → Tally → Tally
+tally_by Outside Begins s rows st t = t
+tally_by InBlock Begins s rows st t = t
+tally_by Broken Begins s rows st t = t
+tally_by Outside Commits s rows st t = ended_well t
+tally_by InBlock Commits s rows st t = ended_well t
+tally_by Broken Commits s rows st t = dropped t
+tally_by Outside RollsBack s rows st t = dropped t
+tally_by InBlock RollsBack s rows st t = dropped t
+tally_by Broken RollsBack s rows st t = dropped t
+tally_by Outside Works s rows st t = did st (effect st (lay s.overlay rows)) t
+tally_by InBlock Works s rows st t = did st (effect st (lay s.overlay rows)) t
+tally_by Broken Works s rows st t = t
+
+abbrev pub tally_end : Status → Tally → Tally
+tally_end Outside t = ended_well t
+tally_end InBlock t = t
+tally_end Broken t = t
+
+-- the tally after the session has gone
+abbrev pub go_tally : Scene → ℕ → Session → Rows' → List Task → Tally → Tally
+go_tally e i s rows [] t = tally_end s.status t
+go_tally e i s rows (Ask r m ∷ ts) t =
+    elim (is_broken s.status) [
+      | true ↦ dropped t
+      | false ↦ elim (answer_in e i s r m) [
+        | Granted ↦ go_tally e i (taking s r m) rows ts t
+        | Waits ↦ t
+        | Ring ↦ dropped t
+      ]
+    ]
+go_tally e i s rows (Do st ∷ ts) t = elim (perform s rows st) [ Goes s2 rows2 ↦ go_tally e i s2 rows2 ts (tally_by s.status (kind st) s rows st t) | Fails f ↦ dropped t ]
+
+-- what each session did in its open transaction and in those that ended, and all commits
+pub record History : Type 0 where
+  pub works : List (List Did)
+  pub ended : List (List Ended)
+  pub commits : List Transaction
+
+abbrev pub tally_of : History → ℕ → Tally
+tally_of h i = record { session = i; work = get_or h.works i []; ended = get_or h.ended i []; commits = h.commits }
+
+abbrev pub told : History → ℕ → Tally → History
+told h i t = record { works = set h.works i t.work; ended = set h.ended i t.ended; commits = t.commits }
+
+abbrev pub goes_told : World → ℕ → Session → List Task → History → History
+goes_told w i s ts h = told h i (go_tally (scene_of w) i s w.rows ts (tally_of h i))
+
+abbrev pub granted_told : World → Spot → History → History
+granted_told w spot h =
+    let i = spot.wait.session in
+    let s = session_at w i in
+    goes_told (record w { waits = spot.before ++ spot.after }) i (note (record (taking s spot.wait.resource spot.wait.mode) { rest = [] }) Resumed) s.rest h
+
+abbrev pub settle_told : ℕ → World → History → History
+settle_told zero w h = h
+settle_told (suc n) w h = elim (next_grant (length w.sessions) (look_of w) w.waits) [ None ↦ h | Some spot ↦ settle_told n (granted w spot) (granted_told w spot h) ]
+
+-- the history after the step numbered k is sent
+abbrev pub send_told : List Step → World → ℕ → History → History
+send_told steps w k h =
+    let st = get_or steps k no_step in
+    let s = note (session_at w st.session) (Sent k) in
+    let v = goes w st.session s (tasks_of st.statements) in
+    elim (waits_now w.waits st.session) [ true ↦ h | false ↦ settle_told (left_to_do v) v (goes_told w st.session s (tasks_of st.statements) h) ]
+
+abbrev pub send_all_told : List Step → World → List ℕ → History → History
+send_all_told steps w [] h = h
+send_all_told steps w (k ∷ ks) h = send_all_told steps (send steps w k) ks (send_told steps w k h)
+
+-- ---- the serial run
+
+-- run one after another without locks over these rows, the statements give their events and lead from one overlay to the other
+abbrev pub Replay : Rows' → Overlay → List Did → Overlay → Type 0
+Replay rows o [] o2 = o ≡ o2
+Replay rows o (d ∷ ds) o2 = (ws : List Write) × (effect d.statement (lay o rows) ≡ Gives d.events ws) × Replay rows (written ws o) ds o2
+
+-- the transactions, one after another, lead from these rows to those
+abbrev pub SerialRun : Rows' → List Transaction → Rows' → Type 0
+SerialRun rows [] last = rows ≡ last
+SerialRun rows (t ∷ ts) last = (o : Overlay) × Replay rows empty t.work o × SerialRun (lay o rows) ts last
+
+-- ---- what a history says of a world
+
+-- the requests of each statement of the work are had
+abbrev pub WorkHeld : Held → List Did → Type 0
+WorkHeld h [] = Unit {0}
+WorkHeld h (d ∷ ds) = HoldsAll h (plan d.statement) × WorkHeld h ds
+
+-- what it did in its open transaction gives the same again over the rows as they are
+pub record Repeats (rows : Rows') (s : Session) (work : List Did) : Type 0 where
+  pub replay : Replay rows empty work s.overlay
+  pub held : WorkHeld s.held work
+
+-- the history tells the world
+pub record Told (start : Rows') (w : World) (h : History) : Type 0 where
+  pub serial : SerialRun start h.commits w.rows
+  pub each : (c : ℕ) → Repeats w.rows (session_at w c) (get_or h.works c [])
+  pub count : length h.works ≡ length w.sessions
+
+-- ---- what a history says of the transcripts
+
+abbrev pub data_of : List Event → List Event
+data_of [] = []
+data_of (e ∷ es) = cond (is_effect e) (e ∷ data_of es) (data_of es)
+
+abbrev pub events_of : List Did → List Event
+events_of [] = []
+events_of (d ∷ ds) = d.events ++ events_of ds
+
+abbrev pub ended_events : List Ended → List Event
+ended_events [] = []
+ended_events (x ∷ xs) = events_of x.work ++ ended_events xs
+
+-- the events of what ended, and then of what is open
+abbrev pub shown_by : List Ended → List Did → List Event
+shown_by ended work = ended_events ended ++ events_of work
+
+-- what each session has shown by the history
+abbrev pub said_in : History → ℕ → List Event
+said_in h c = shown_by (get_or h.ended c []) (get_or h.works c [])
+
+-- the transactions that the session committed: of all commits its own, and of what it ended the committed
+abbrev pub commits_of : ℕ → List Transaction → List (List Did)
+commits_of c [] = []
+commits_of c (t ∷ ts) = cond (t.session == c) (t.work ∷ commits_of c ts) (commits_of c ts)
+
+abbrev pub committed_in : List Ended → List (List Did)
+committed_in [] = []
+committed_in (x ∷ xs) = cond x.is_committed (x.work ∷ committed_in xs) (committed_in xs)
+
+-- each session has shown the events of its transactions in their order, what it had said before its transcript included, and its commits are those that it ended by a commit
+pub record Shown (said : ℕ → List Event) (w : World) (h : History) : Type 0 where
+  pub shows : (c : ℕ) → said_in h c ≡ said c ++ data_of (session_at w c).transcript
+  pub owns : (c : ℕ) → commits_of c h.commits ≡ committed_in (get_or h.ended c [])
+  pub count_works : length h.works ≡ length w.sessions
+  pub count_ended : length h.ended ≡ length w.sessions
+
+-- ---- from the start of a spec
+
+-- nothing is done and nothing committed
+abbrev pub no_history : ℕ → History
+no_history n = record { works = replicate n []; ended = replicate n []; commits = [] }
+
+abbrev pub session_setups_told : ℕ → World → List (List Bound) → History → History
+session_setups_told i w [] h = h
+session_setups_told i w (block ∷ blocks) h = session_setups_told (suc i) (forgotten (after_setup w i block) i) blocks (goes_told w i (session_at w i) (tasks_of block) h)
+
+-- the rows after the main setups, with which the serial run begins
+abbrev pub first_rows : Spec → Rows'
+first_rows spec = elim (set_up spec) [ Started w ↦ w.rows | _ ↦ empty ]
+
+-- what the session setups did
+abbrev pub start_told : Spec → History
+start_told spec = elim (set_up spec) [ Started w ↦ session_setups_told 0 w spec.session_setups (no_history (suc spec.sessions)) | _ ↦ no_history 0 ]
+
+-- what a line comes to from the start of the spec: the transactions in the order of their commits, those of session setups included, run one after another without locks over the rows after the main setups, give their events and leave the committed rows; each session is told the data events of its transactions in their order
+pub record IsSerial (spec : Spec) (line : List ℕ) (outcome : List (List Event)) : Type 0 where
+  pub world : World
+  pub starts : start spec ≡ Started world
+  pub told : Told (first_rows spec) (send_all spec.steps world line) (send_all_told spec.steps world line (start_told spec))
+  pub shown : Shown (said_in (start_told spec)) (send_all spec.steps world line) (send_all_told spec.steps world line (start_told spec))
+  pub outcome_is : outcome ≡ outcome_of spec.sessions (send_all spec.steps world line)

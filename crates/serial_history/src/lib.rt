@@ -1,0 +1,6 @@
+//! The transactions of a line in the order of their commits, and their serial run.
+#![tactic(auto)]
+
+mod laws;
+
+pub use laws::{histories_show, lines_are_serial, specs_are_serial, specs_show};
