@@ -1,11 +1,13 @@
 -- The sessions of a world stay so many, and each step is of one of them.
 use Rattle.std.proofs.Common.{◌≡◌, refl, sym, ◌∙◌, subst, ℕ, zero, suc, ◌<◌, Bool, true, false, List, [], ◌∷◌, length, get_or, Option, Some, None, arith, length-set}
 use Rattle.lock_queues.specs.Locks.{Spot, next_grant, waits_now}
-use Rattle.machine_model.specs.World.{World, session_at, look_of, noted, goes, granted, settle, settle_for, left_to_do, send}
+use Rattle.machine_model.specs.World.{World, session_at, look_of, noted, goes, granted, settle, settle_for, left_to_do, send, send_all}
 use Rattle.sql_subset.specs.Spec.{Step, no_step, Spec, EachStep, IsBound}
 use Rattle.machine_model.specs.Session.{note, tasks_of}
 use Rattle.transcripts.specs.declared.event.Event.TheVariants.{Sent, NotSent}
 use Rattle.machine_model.specs.Start.{Started, start}
+use Rattle.machine_model.specs.Sound.{Sound}
+use Rattle.machine_model.proofs.Settles.{send-sound}
 use Rattle.machine_model.proofs.Starts.{start-count}
 
 settle_for-count : (n : ℕ) (w : World) → length (settle_for n w).sessions ≡ length w.sessions
@@ -40,3 +42,12 @@ each-fits n (s ∷ ss) each (suc k) = each-fits n ss each.1 k
 
 pub bound-fits : (spec : Spec) (w : World) → IsBound spec → start spec ≡ Started w → Fitting spec.steps w
 bound-fits spec w bound e k = subst (λ n. (get_or spec.steps k no_step).session < n) (sym (start-count spec w bound.session_setups e)) (each-fits spec.sessions spec.steps bound.steps k)
+
+pub line-count : (steps : List Step) (w : World) (ks : List ℕ) → length (send_all steps w ks).sessions ≡ length w.sessions
+line-count steps w [] = refl
+line-count steps w (k ∷ ks) = line-count steps (send steps w k) ks ∙ send-count steps w k
+
+-- a line leaves a sound world sound
+pub line-sound : (steps : List Step) (w : World) (ks : List ℕ) → Sound w → Fitting steps w → Sound (send_all steps w ks)
+line-sound steps w [] sound fit = sound
+line-sound steps w (k ∷ ks) sound fit = line-sound steps (send steps w k) ks (send-sound steps w k sound (fit k)) (send-fitting steps w k fit)

@@ -12,4 +12,5 @@ pub mod SettleSteps
 pub mod Starts
 pub mod Counts
 pub mod Telling
+pub mod Owned
 pub mod Waiters

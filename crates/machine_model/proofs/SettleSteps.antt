@@ -1,5 +1,5 @@
 -- Settling, one grant after another.
-use Rattle.std.proofs.Common.{◌≡◌, refl, sym, ap, ◌∙◌, ℕ, zero, suc, ◌≤◌, length, Option, Some, None, arith, subst, Bool, true, false, List, [], ◌∷◌}
+use Rattle.std.proofs.Common.{◌≡◌, refl, sym, ap, ◌∙◌, ℕ, zero, suc, ◌≤◌, length, Option, Some, None, arith, subst}
 use Rattle.lock_queues.specs.Locks.{Spot, next_grant}
 use Rattle.machine_model.specs.World.{World, look_of, granted, settle_for, settle, left_to_do}
 use Rattle.machine_model.specs.Sound.{Steady}

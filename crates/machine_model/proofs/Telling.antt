@@ -1,5 +1,5 @@
 -- What the effect of a statement tells.
-use Rattle.std.proofs.Common.{◌≡◌, refl, ℕ, true, false, List, [], ◌∷◌, ◌++◌, length, map, Option, Some, None}
+use Rattle.std.proofs.Common.{◌≡◌, refl, ℕ, true, List, [], ◌∷◌, ◌++◌, length, map, Option, Some, None}
 use Rattle.version_tree.specs.Map.{entries}
 use Rattle.lock_modes.specs.Place.{Place}
 use Rattle.sql_statements.specs.Plan.{Tuple}

@@ -1,5 +1,5 @@
 -- What a session claims in a step, and what its claims let it write.
-use Rattle.std.specs.Prelude.{ℕ, Bool, true, false, ◌&&◌, ◌||◌, List, [], ◌∷◌, ◌++◌, Option, Some, None}
+use Rattle.std.specs.Prelude.{Bool, false, ◌&&◌, ◌||◌, List, [], ◌∷◌, ◌++◌, Option, Some, None}
 use Rattle.std.specs.List.{list_any}
 use Rattle.lock_modes.specs.Place.{Place}
 use Rattle.version_tree.specs.Map.{get}

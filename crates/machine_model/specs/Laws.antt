@@ -1,9 +1,10 @@
 -- The laws of the machine.
-use Rattle.std.specs.Prelude.{◌≡◌, ℕ, ◌<◌, ◌≤◌, Bool, true, false, ◌↔◌, List, [], length, get_or}
+use Rattle.std.specs.Prelude.{◌≡◌, ℕ, ◌<◌, ◌≤◌, Bool, true, false, ◌↔◌, List, length, get_or, suc, All}
 use Rattle.lock_queues.specs.Locks.{way_below, waits_for, waits_now}
-use Rattle.sql_subset.specs.Spec.{Spec, Step, no_step}
+use Rattle.sql_subset.specs.Spec.{Spec, Step, no_step, IsBound}
 use Rattle.machine_model.specs.Start.{Started, start}
-use Rattle.machine_model.specs.World.{World, send, look_of}
+use Rattle.machine_model.specs.World.{World, send, send_all, outcome_of, look_of}
+use Rattle.machine_model.specs.Outcome.{IsOutcomeOf}
 use Rattle.machine_model.specs.Sound.{Sound, Way}
 
 -- the step's session is one of the world
@@ -23,3 +24,15 @@ StartsSound = (spec : Spec) (w : World) → length spec.session_setups ≤ spec.
 -- each session that waits reaches one that does not
 abbrev pub WaitersReach : Type 0
 WaitersReach = (w : World) → Sound w → (a : ℕ) → waits_now w.waits a ≡ true → (b : ℕ) × Way (waits_for (look_of w) w.waits) a b × (waits_now w.waits b ≡ false)
+
+-- every world of a line of a spec is sound, with a part for each session and one for the control session behind them
+abbrev pub WorldsReachedAreSound : Type 0
+WorldsReachedAreSound =
+    (spec : Spec) (w : World) (ks : List ℕ) → IsBound spec → start spec ≡ Started w
+    → Sound (send_all spec.steps w ks) × (length (send_all spec.steps w ks).sessions ≡ suc spec.sessions)
+
+-- in every world of a line of a spec, each session was told of its own steps alone
+abbrev pub OutcomesAreOwn : Type 0
+OutcomesAreOwn =
+    (spec : Spec) (w : World) (ks : List ℕ) → IsBound spec → start spec ≡ Started w → All (λ k. k < length spec.steps) ks
+    → IsOutcomeOf spec (outcome_of spec.sessions (send_all spec.steps w ks))

@@ -3,6 +3,7 @@ pub mod Events
 pub mod Go
 pub mod World
 pub mod Start
+pub mod Outcome
 pub mod Claims
 pub mod Footprint
 pub mod Sound

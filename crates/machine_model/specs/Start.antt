@@ -1,5 +1,5 @@
 -- The start of a spec: its main setups, then the setup of each session.
-use Rattle.std.specs.Prelude.{ℕ, suc, Bool, true, false, not, ◌||◌, List, [], ◌∷◌, set, replicate}
+use Rattle.std.specs.Prelude.{◌≡◌, ◌≢◌, ℕ, suc, length, Bool, true, false, not, ◌||◌, List, [], ◌∷◌, set, replicate}
 use Rattle.std.specs.List.{list_any}
 use Rattle.version_tree.specs.Map.{empty}
 use Rattle.lock_queues.specs.Locks.{waits_now}
@@ -11,6 +11,7 @@ use Rattle.sql_statements.specs.declared.statement.Bound.{Bound}
 use Rattle.machine_model.specs.Session.{Session, tasks_of}
 use Rattle.sql_subset.specs.Spec.{Spec}
 use Rattle.machine_model.specs.World.{World, fresh, goes, session_at}
+use Rattle.machine_model.specs.Sound.{Steady}
 
 pub data Start : Type 0 where
   Started : (world : World) → Start

@@ -1,6 +1,6 @@
 //! The laws of the machine, each the contract of a function that does nothing.
 
-ghost use Rattle.machine_model.specs.Laws.{SendKeepsSound, WaitsAreRings, StartsSound, WaitersReach};
+ghost use Rattle.machine_model.specs.Laws.{SendKeepsSound, WaitsAreRings, StartsSound, WaitersReach, OutcomesAreOwn, WorldsReachedAreSound};
 
 /// A step sent leaves a sound world sound: held modes compatible, overlays under locks, no ripe wait, no ring.
 pub fn send_keeps_sound()
@@ -20,4 +20,14 @@ pub fn starts_sound()
 /// In a sound world each session that waits reaches one that does not.
 pub fn waiters_reach()
     ensures { WaitersReach }
+{}
+
+/// In every world of a line of a spec, each session was told of its own steps alone.
+pub fn outcomes_are_own()
+    ensures { OutcomesAreOwn }
+{}
+
+/// Every world of a line of a spec is sound, with a part for each session and for the control session.
+pub fn worlds_reached_are_sound()
+    ensures { WorldsReachedAreSound }
 {}

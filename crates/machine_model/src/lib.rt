@@ -4,5 +4,8 @@
 mod laws;
 mod status;
 
-pub use laws::{send_keeps_sound, starts_sound, waiters_reach, waits_are_rings};
+pub use laws::{
+    outcomes_are_own, send_keeps_sound, starts_sound, waiters_reach, waits_are_rings,
+    worlds_reached_are_sound,
+};
 pub use status::Status;

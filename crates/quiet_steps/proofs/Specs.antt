@@ -1,5 +1,5 @@
 -- The facts of a spec, from its start to its report.
-use Rattle.std.proofs.Common.{◌≡◌, refl, ℕ, zero, suc, ◌<◌, List, [], ◌∷◌, arith}
+use Rattle.std.proofs.Common.{◌≡◌, refl, ℕ, ◌<◌, List, [], ◌∷◌}
 use Rattle.machine_model.specs.World.{World, send_all, outcome_of}
 use Rattle.sql_subset.specs.Spec.{Step, Spec, Queues, queues_of, ranks_by, line_by, IsBound}
 use Rattle.machine_model.specs.Start.{Start, Started, SetupFailed, SessionSetupFailed, SessionSetupWaits, start}

@@ -1,5 +1,5 @@
 use Rattle.std.proofs.Common.{◌≡◌, sym, ap, ◌∙◌, subst, ◌≤◌, length, take, arith}
-use Rattle.session_machine.specs.World.{outcome_of}
+use Rattle.machine_model.specs.World.{outcome_of}
 use Rattle.session_machine.specs.Running.{Running, IsTold}
 use Rattle.session_machine.specs.Stage.{world_in, transcripts_of}
 use Rattle.session_machine.proofs.Standing.{outcome-now, outcome-named, outcome-each}
