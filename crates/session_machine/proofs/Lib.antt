@@ -4,7 +4,6 @@ pub mod Moves
 pub mod Requests
 pub mod Steps
 pub mod Worlds
-pub mod Named
 pub mod Waiting
 pub mod Stages
 pub mod SetUps

@@ -32,7 +32,8 @@ use Rattle.machine_model.proofs.Settles.{Entering, entering, goes-steady, touche
 use Rattle.machine_model.proofs.Starts.{first_world, first-steady, get_or-replicate, alone-goes, alone-forgets, idle-goes}
 use Rattle.session_machine.proofs.Stages.{get_or-owns, set-set, world-set, stage-gone}
 use Rattle.session_machine.proofs.Worlds.{goes-is, to-go}
-use Rattle.transcripts.specs.Outcome.{HasStep}
+use Rattle.transcripts.specs.declared.event.Event.{Event}
+use Rattle.machine_model.specs.Outcome.{IsToldOf, TellsOwn}
 use Rattle.session_machine.specs.declared.error.StartError.{StartError}
 use Rattle.session_machine.specs.declared.error.StartError.TheVariants.{SetupFailed as SetupFailedAt, SessionSetupFailed as SessionSetupFailedAt, SessionSetupWaits as SessionSetupWaitsAt, NoMemory}
 use Rattle.session_machine.specs.Running.{IsRefusedBy}
@@ -214,13 +215,13 @@ any-stage steps x stage = record {
 
 module _ (x : Stage) (i : ℕ) (block : List Bound) (stage : IsStage [] x) (lt : i < length x.members.items) (l : Layers) (t : Locks) (s : SessionState) (y : Stage) (store : y.store ≡ l) (locks : y.locks ≡ t)
     (members : y.members.items ≡ set x.members.items i (record { state = record { status = s.status; transcript = [] }; rest = (member_at x i).rest })) where
-  abbrev start : Point
-  start = record { statement = 0; request = 0 }
+  abbrev origin : Point
+  origin = record { statement = 0; request = 0 }
 
   abbrev here : Standing
   here = standing x.store x.locks (member_at x i).state
 
-  ended-whole : GoesUntil i here block start l t s None → WaitsIf i x.locks t false → (failed outside : Bool) → list_any is_failure s.transcript ≡ failed → is_outside s.status ≡ outside → HasEnded (end_of failed false outside) i block x y
+  ended-whole : GoesUntil i here block origin l t s None → WaitsIf i x.locks t false → (failed outside : Bool) → list_any is_failure s.transcript ≡ failed → is_outside s.status ≡ outside → HasEnded (end_of failed false outside) i block x y
   ended-whole goes waits failed outside f o = at failed outside f o
     where
       set-up : list_any is_failure s.transcript ≡ false → IsSetUp i block x y
@@ -242,32 +243,32 @@ module _ (x : Stage) (i : ℕ) (block : List Bound) (stage : IsStage [] x) (lt :
       at false true f o = (set-up f, outside-is x i block stage lt (standing l t s) goes ∙ o)
       at false false f o = (set-up f, outside-is x i block stage lt (standing l t s) goes ∙ o)
 
-  ended-waiting : (p : Point) → GoesUntil i here block start l t s (Some p) → WaitsIf i x.locks t true → (failed : Bool) → list_any is_failure s.transcript ≡ failed → HasEnded (end_of failed true (is_outside s.status)) i block x y
+  ended-waiting : (p : Point) → GoesUntil i here block origin l t s (Some p) → WaitsIf i x.locks t true → (failed : Bool) → list_any is_failure s.transcript ≡ failed → HasEnded (end_of failed true (is_outside s.status)) i block x y
   ended-waiting p goes waits true f = failed-is x i block stage lt (paused l t s block p) goes ∙ f
   ended-waiting p goes waits false f = (failed-is x i block stage lt (paused l t s block p) goes ∙ f, waits-is x i block stage lt (paused l t s block p) goes ∙ waits.own)
 
-  pub ended : (stopped : Option Point) → GoesUntil i here block start l t s stopped → WaitsIf i x.locks t (is_some stopped) → HasEnded (end_of (list_any is_failure s.transcript) (is_some stopped) (is_outside s.status)) i block x y
+  pub ended : (stopped : Option Point) → GoesUntil i here block origin l t s stopped → WaitsIf i x.locks t (is_some stopped) → HasEnded (end_of (list_any is_failure s.transcript) (is_some stopped) (is_outside s.status)) i block x y
   ended None goes waits = ended-whole goes waits (list_any is_failure s.transcript) (is_outside s.status) refl refl
   ended (Some p) goes waits = ended-waiting p goes waits (list_any is_failure s.transcript) refl
 
 -- ---- a main setup
 
 module _ (control n : ℕ) (w : World) (block : List Bound) (blocks : List (List Bound)) where
-  abbrev after : World
-  after = after_setup w control block
+  abbrev gone : World
+  gone = after_setup w control block
 
   by : Bool → Start
-  by b = elim b [ true ↦ SetupFailed n | false ↦ main_setups control (suc n) (forgotten after control) blocks ]
+  by b = elim b [ true ↦ SetupFailed n | false ↦ main_setups control (suc n) (forgotten gone control) blocks ]
 
-  pub main-goes : has_failed (session_at after control) ≡ false → is_outside (session_at after control).status ≡ true → main_setups control n w (block ∷ blocks) ≡ main_setups control (suc n) (forgotten after control) blocks
+  pub main-goes : has_failed (session_at gone control) ≡ false → is_outside (session_at gone control).status ≡ true → main_setups control n w (block ∷ blocks) ≡ main_setups control (suc n) (forgotten gone control) blocks
   unfolding by
   main-goes whole outside = λ k. by (whole k || not (outside k))
 
-  pub main-fails : has_failed (session_at after control) ≡ true → main_setups control n w (block ∷ blocks) ≡ SetupFailed n
+  pub main-fails : has_failed (session_at gone control) ≡ true → main_setups control n w (block ∷ blocks) ≡ SetupFailed n
   unfolding by
-  main-fails failed = λ k. by (failed k || not (is_outside (session_at after control).status))
+  main-fails failed = λ k. by (failed k || not (is_outside (session_at gone control).status))
 
-  pub main-open : has_failed (session_at after control) ≡ false → is_outside (session_at after control).status ≡ false → main_setups control n w (block ∷ blocks) ≡ SetupFailed n
+  pub main-open : has_failed (session_at gone control) ≡ false → is_outside (session_at gone control).status ≡ false → main_setups control n w (block ∷ blocks) ≡ SetupFailed n
   unfolding by
   main-open whole inside = λ k. by (whole k || not (inside k))
 
@@ -339,9 +340,15 @@ start-sessions spec x y blank is = start-from spec x blank ∙ ap (λ s. started
 pub refused-sessions : (spec : Spec) (s : Start) (e : StartError) → start spec ≡ s → IsRefusedBy e s → IsRefusedBy e (start spec)
 refused-sessions spec s e is refused = subst (IsRefusedBy e) (sym is) refused
 
-named-silent : (count : ℕ) (l : Layers) (t : Locks) (steps : List Step) (i : ℕ) (ms : List Member) → All IsSilent ms → All (λ (s : Session). All (HasStep count) s.transcript) (sessions_from l t i (map (own_of steps) ms))
-named-silent count l t steps i [] all = All-nil (λ (s : Session). All (HasStep count) s.transcript)
-named-silent count l t steps i (m ∷ ms) all = All-cons (λ (s : Session). All (HasStep count) s.transcript) (session_of l t i (own_of steps m)) (sessions_from l t (suc i) (map (own_of steps) ms)) (subst (All (HasStep count)) (sym (all 0 m (omega arith))) (All-nil (HasStep count))) (named-silent count l t steps (suc i) ms (λ c d lt. all (suc c) d (omega arith)))
+-- of sessions that were told of nothing each is told of its own steps alone
+own-silent : (steps : List Step) (x : Stage) → All IsSilent x.members.items → TellsOwn steps (world_in steps x)
+own-silent steps x all i =
+    subst (λ (es : List Event). All (IsToldOf steps i) es) (sym (silent x.members.items i 0 all)) (All-nil (IsToldOf steps i))
+  where
+    silent : (ms : List Member) (c k : ℕ) → All IsSilent ms → (get_or (sessions_from x.store x.locks k (map (own_of steps) ms)) c fresh).transcript ≡ []
+    silent [] c k all = refl
+    silent (m ∷ ms) zero k all = all 0 m (omega arith)
+    silent (m ∷ ms) (suc c) k all = silent ms c (suc k) (λ d n lt. all (suc d) n (omega arith))
 
 -- the stage of the first step
 pub settled-first : (sessions : ℕ) (steps : List Step) (x : Stage) → IsReadyForSessions (suc sessions) x → IsSettled sessions steps x
@@ -351,5 +358,5 @@ settled-first sessions steps x ready =
       count = ready.each;
       stage = any-stage steps x ready.stage;
       unripe = ap (λ (w : World). next_grant (length w.sessions) (look_of w) w.waits) here ∙ ap (next_grant (length (world_in [] x).sessions) (look_of (world_in [] x))) ready.world.idle;
-      named = named-silent (length steps) x.store x.locks steps 0 x.members.items ready.silent;
+      own = own-silent steps x ready.silent;
     }

@@ -1,23 +1,23 @@
 -- A stage between the steps: what is told of its world, and what holds after a step.
 use Rattle.std.specs.List.{All}
 use Rattle.std.proofs.lemmas.List.{length-map}
-use Rattle.std.proofs.Common.{◌≡◌, refl, sym, ap, ◌∙◌, subst, ℕ, zero, suc, ◌<◌, ◌≤◌, List, [], ◌∷◌, length, map, take, get_or, is_some, arith}
-use Rattle.transcripts.specs.Outcome.{HasStep}
+use Rattle.std.proofs.Common.{◌≡◌, refl, sym, ap, ◌∙◌, subst, ℕ, zero, suc, ◌<◌, List, [], ◌∷◌, length, map, take, get_or, is_some}
 use Rattle.lock_queues.specs.Locks.{next_grant, waits_now}
 use Rattle.lock_queues.specs.Rules.{NothingRipe}
 use Rattle.lock_queues.specs.LockTable.{Locks, look_in}
 use Rattle.row_tables.specs.Layers.{Layers}
-use Rattle.sql_subset.specs.Spec.{Step, no_step}
+use Rattle.sql_subset.specs.Spec.{Spec, Step, no_step}
 use Rattle.session_machine.specs.declared.member.Member.{Member}
 use Rattle.session_machine.specs.declared.stage.Stage.{Stage}
 use Rattle.machine_model.specs.Session.{Session}
 use Rattle.session_machine.specs.State.{sessions_from, world_of}
 use Rattle.machine_model.specs.World.{World, look_of, settle, send, outcome_of}
 use Rattle.machine_model.specs.Sound.{Steady, Sound}
-use Rattle.session_machine.specs.Stage.{no_member, own_of, world_in, IsWithin, RestIsOf, IsStage, IsNamed, IsSettled, HasSameParts, transcripts_of}
+use Rattle.session_machine.specs.Stage.{no_member, own_of, world_in, IsWithin, RestIsOf, IsStage, IsSettled, HasSameParts, transcripts_of}
 use Rattle.session_machine.proofs.States.{look-is, length-sessions_from}
 use Rattle.machine_model.proofs.Settles.{sound-from, send-sound}
-use Rattle.session_machine.proofs.Named.{send-named}
+use Rattle.machine_model.specs.Outcome.{TellsOwn, IsOutcomeOf}
+use Rattle.machine_model.proofs.Owned.{send-own, outcome-own}
 use Rattle.session_machine.proofs.Worlds.{settled-is}
 
 -- what the table tells is what the world tells
@@ -48,7 +48,7 @@ settled-after sessions steps x y k settled lt known sent stage count =
       count = count ∙ settled.count;
       stage = stage;
       unripe = sound.unripe;
-      named = subst (IsNamed (length steps)) (sym sent) (send-named (length steps) steps (world_in steps x) k lt settled.named);
+      own = subst (TellsOwn steps) (sym sent) (send-own steps (world_in steps x) k lt settled.own);
     }
 
 -- a fork stands for the same world
@@ -68,7 +68,7 @@ same-settled sessions steps x y same settled = record {
   count = ap length same.members ∙ settled.count;
   stage = same-stage steps x y same settled.stage;
   unripe = ap (λ (w : World). next_grant (length w.sessions) (look_of w) w.waits) (same-world steps x y same) ∙ settled.unripe;
-  named = subst (IsNamed (length steps)) (sym (same-world steps x y same)) settled.named;
+  own = subst (TellsOwn steps) (sym (same-world steps x y same)) settled.own;
 }
 
 -- ---- what the sessions were told
@@ -81,18 +81,6 @@ outcome-from l t steps i (suc n) (m ∷ ms) = ap (λ ts. m.state.transcript ∷ 
 pub outcome-now : (steps : List Step) (n : ℕ) (s : Stage) → outcome_of n (world_in steps s) ≡ transcripts_of (take n s.members.items)
 outcome-now steps n s = outcome-from s.store s.locks steps 0 n s.members.items
 
-named-first : (count n : ℕ) (ss : List Session) → All (λ (s : Session). All (HasStep count) s.transcript) ss → All (All (HasStep count)) (map (λ (s : Session). s.transcript) (take n ss))
-named-first count zero ss all = Rattle.std.proofs.lemmas.List.Elements.All-nil (All (HasStep count))
-named-first count (suc n) [] all = Rattle.std.proofs.lemmas.List.Elements.All-nil (All (HasStep count))
-named-first count (suc n) (s ∷ ss) all = Rattle.std.proofs.lemmas.List.Elements.All-cons (All (HasStep count)) s.transcript (map (λ (s : Session). s.transcript) (take n ss)) (all 0 s (omega arith)) (named-first count n ss (λ k d lt. all (suc k) d (omega arith)))
-
-pub outcome-named : (count n : ℕ) (w : World) → IsNamed count w → All (All (HasStep count)) (outcome_of n w)
-outcome-named count n w named = named-first count n w.sessions named
-
-take-length : {A : Type 0} (n : ℕ) (xs : List A) → n ≤ length xs → length (take n xs) ≡ n
-take-length zero xs le = refl
-take-length (suc n) [] le = absurd (omega arith)
-take-length (suc n) (x ∷ xs) le = ap suc (take-length n xs (omega arith))
-
-pub outcome-each : (steps : List Step) (n : ℕ) (s : Stage) → n ≤ length s.members.items → length (outcome_of n (world_in steps s)) ≡ n
-outcome-each steps n s le = length-map (take n (world_in steps s).sessions) (λ (q : Session). q.transcript) ∙ take-length n (world_in steps s).sessions (subst (λ k. n ≤ k) (sym (length-world steps s)) le)
+-- what the sessions were told is an outcome of the spec
+pub outcome-of : (spec : Spec) (s : Stage) → IsSettled spec.sessions spec.steps s → IsOutcomeOf spec (outcome_of spec.sessions (world_in spec.steps s))
+outcome-of spec s settled = outcome-own spec (world_in spec.steps s) (length-world spec.steps s ∙ settled.count) settled.own

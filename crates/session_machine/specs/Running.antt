@@ -1,16 +1,16 @@
 -- A world of a spec as the program holds it, and what its calls answer.
-use Rattle.std.specs.Prelude.{◌≡◌, ℕ, Bool, true, false, ◌==◌, List, length, All, Option, Some, None}
+use Rattle.std.specs.Prelude.{◌≡◌, ℕ, suc, Bool, true, false, ◌==◌, length, Option, None}
 use Rattle.std.specs.Option.{option_map}
 use Rattle.std.specs.List.{find}
-use Rattle.sql_subset.specs.Spec.{Spec, SpecFile}
-use Rattle.transcripts.specs.declared.event.Event.{Event}
+use Rattle.sql_subset.specs.Spec.{SpecFile}
 use Rattle.lock_modes.specs.declared.mode.Mode.{Mode}
 use Rattle.lock_modes.specs.declared.resource.Resource.{Resource}
 use Rattle.lock_queues.specs.declared.wait.Wait.{Wait}
 use Rattle.lock_queues.specs.Locks.{wanted_by}
-use Rattle.transcripts.specs.Outcome.{HasStep}
-use Rattle.machine_model.specs.World.{World, look_of, send_all, outcome_of}
-use Rattle.machine_model.specs.Start.{Start, Started, SetupFailed, SessionSetupFailed, SessionSetupWaits, start}
+use Rattle.machine_model.specs.Sound.{Sound}
+use Rattle.machine_model.specs.Outcome.{IsOutcomeOf}
+use Rattle.machine_model.specs.World.{World, look_of, outcome_of}
+use Rattle.machine_model.specs.Start.{Start, SetupFailed, SessionSetupFailed, SessionSetupWaits}
 use Rattle.session_machine.specs.declared.error.StartError.{StartError}
 use Rattle.session_machine.specs.declared.error.RunError.{RunError}
 use Rattle.session_machine.specs.declared.error.StartError.TheVariants as start_error
@@ -22,10 +22,11 @@ pub record Running : Type 0 where
   pub world : World
   pub spent : Bool
 
--- there is a transcript for each session, and each step that it names is one of the spec
-pub record IsTold (sessions steps : ℕ) (transcripts : List (List Event)) : Type 0 where
-  pub each : length transcripts ≡ sessions
-  pub named : All (All (HasStep steps)) transcripts
+-- what holds of a world of a spec: it is sound, with a part for each session and one for the control session behind them, and tells of each session's own steps alone
+pub record IsKnown (r : Running) : Type 0 where
+  pub sound : Sound r.world
+  pub sessions : length r.world.sessions ≡ suc r.file.run.sessions
+  pub own : IsOutcomeOf r.file.run (outcome_of r.file.run.sessions r.world)
 
 -- what a session holds there; of a world that is spent nothing is told
 abbrev pub held_in : Running → ℕ → Resource → Option Mode
@@ -52,10 +53,6 @@ IsNotRunBy run_error.NoMemory s = Unit {0}
 IsNotRunBy run_error.OutOfRange s = ⊥
 IsNotRunBy run_error.TooLong s = ⊥
 IsNotRunBy run_error.TooDeep s = ⊥
-
--- the outcome of a line: the transcripts after its steps were sent in turn from the start, none where the spec does not start
-abbrev pub outcome_of_line : Spec → List ℕ → Option (List (List Event))
-outcome_of_line spec line = elim (start spec) [ Started w ↦ Some (outcome_of spec.sessions (send_all spec.steps w line)) | _ ↦ None ]
 
 -- the number of a refused start in fault lines
 abbrev pub number_of : StartError → ℕ

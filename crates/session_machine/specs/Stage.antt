@@ -5,7 +5,7 @@ use Rattle.lock_queues.specs.Locks.{next_grant, waits_now}
 use Rattle.lock_queues.specs.LockTable.{Locks, no_locks}
 use Rattle.lock_queues.specs.Laws.{IsBelow}
 use Rattle.row_tables.specs.Layers.{Layers, overlay_of, no_rows}
-use Rattle.transcripts.specs.Outcome.{HasStep}
+use Rattle.machine_model.specs.Outcome.{TellsOwn}
 use Rattle.transcripts.specs.declared.event.Event.{Event}
 use Rattle.sql_statements.specs.declared.statement.Bound.{Bound}
 use Rattle.sql_subset.specs.Spec.{Step, no_step}
@@ -15,7 +15,7 @@ use Rattle.session_machine.specs.declared.member.Rest.{Rest}
 use Rattle.session_machine.specs.declared.member.Member.{Member}
 use Rattle.session_machine.specs.declared.stage.Stage.{Stage}
 use Rattle.session_machine.specs.declared.stage.SetUp.{SetUp}
-use Rattle.machine_model.specs.Session.{Task, Session}
+use Rattle.machine_model.specs.Session.{Task}
 use Rattle.session_machine.specs.State.{Own, world_of}
 use Rattle.session_machine.specs.Going.{Standing, standing, tasks_from, StopsIn, WaitsIf}
 use Rattle.machine_model.specs.World.{World, look_of, session_at, settle, left_to_do}
@@ -64,16 +64,12 @@ pub record IsStage (steps : List Step) (s : Stage) : Type 0 where
   pub resting : (c : ℕ) → c < length s.members.items → is_some (member_at s c).rest ≡ waits_now s.locks.waits c
   pub known : All (RestIsOf (length steps)) s.members.items
 
--- each step that a session was told of is one of so many
-abbrev pub IsNamed : ℕ → World → Type 0
-IsNamed count w = All (λ (s : Session). All (HasStep count) s.transcript) w.sessions
-
 -- what holds of a stage between the steps
 pub record IsSettled (sessions : ℕ) (steps : List Step) (s : Stage) : Type 0 where
   pub count : length s.members.items ≡ suc sessions
   pub stage : IsStage steps s
   pub unripe : next_grant (length (world_in steps s).sessions) (look_of (world_in steps s)) (world_in steps s).waits ≡ None
-  pub named : IsNamed (length steps) (world_in steps s)
+  pub own : TellsOwn steps (world_in steps s)
 
 -- a stage whose step was refused memory may have broken off anywhere
 abbrev pub IsSettledUnless : Bool → ℕ → List Step → Stage → Type 0

@@ -3,8 +3,9 @@
 ghost use Rattle.std.specs.Prelude.{◌≡◌, ◌<◌, ℕ, Some, false, All, IfOk, IfErr, OnOk, length};
 ghost use Rattle.machine_model.specs.Start.{Start, start};
 ghost use Rattle.machine_model.specs.World.{send_all};
+ghost use Rattle.machine_model.specs.Outcome.{IsOutcomeOf, outcome_of_line};
 ghost use Rattle.serial_history.specs.Serial.{IsSerial};
-ghost use Rattle.session_machine.specs.Running.{IsTold, IsRefusedBy, IsNotRunBy, outcome_of_line};
+ghost use Rattle.session_machine.specs.Running.{IsRefusedBy, IsNotRunBy};
 
 use crate::error::{RunError, SendError, StartError};
 use crate::world::World;
@@ -18,7 +19,7 @@ pub fn run_one(alloc: Global, spec: &Spec, line: &Line) -> Result<Outcome, RunEr
     requires { All (λ k. k < length spec.now.run.steps) line.now.items }
     ensures ran { IfOk result (λ outcome. outcome_of_line spec.now.run line.now.items ≡ Some outcome) }
     ensures serial { IfOk result (IsSerial spec.now.run line.now.items) }
-    ensures named { IfOk result (IsTold spec.now.run.sessions (length spec.now.run.steps)) }
+    ensures own { IfOk result (IsOutcomeOf spec.now.run) }
     ensures refused { IfErr result (λ error. IsNotRunBy error (start spec.now.run)) }
 {
     let mut world = match World::start(alloc, spec) {

@@ -5,9 +5,10 @@ ghost use Rattle.std.specs.Option.{option_map};
 ghost use Rattle.lock_modes.specs.Resource.{resource_at};
 ghost use Rattle.sql_subset.specs.Spec.{IsBound};
 ghost use Rattle.machine_model.specs.World.{send, outcome_of};
+ghost use Rattle.machine_model.specs.Outcome.{IsOutcomeOf};
 ghost use Rattle.machine_model.specs.Start.{Started, start};
 ghost use Rattle.session_machine.specs.Stage.{transcripts_of};
-ghost use Rattle.session_machine.specs.Running.{IsTold, IsRefusedBy, held_in, wait_in};
+ghost use Rattle.session_machine.specs.Running.{IsKnown, IsRefusedBy, held_in, wait_in};
 
 use crate::error::{SendError, StartError};
 use crate::member::Member;
@@ -119,7 +120,7 @@ impl World<'_> {
     /// The transcripts so far, a copy for each session.
     pub fn outcome(&self) -> Result<Outcome, SendError>
         ensures told { IfOk result (λ outcome. outcome ≡ outcome_of self.now.file.run.sessions self.now.world) }
-        ensures named { IfOk result (IsTold self.now.file.run.sessions (length self.now.file.run.steps)) }
+        ensures own { IfOk result (IsOutcomeOf self.now.file.run) }
         ensures spent { IsErrOf result SendError.Spent ↔ (self.now.spent ≡ true) }
     {
         if self.is_spent {
@@ -128,6 +129,15 @@ impl World<'_> {
         let sessions = self.spec.sessions() as usize;
         let transcripts = transcripts_of(self.alloc, &self.stage.members[..sessions])?;
         Ok(Outcome::new(self.alloc, transcripts)?)
+    }
+
+    /// What holds of every world that is not spent: held modes of different sessions are compatible, what a session wrote lies
+    /// under its locks, no wait is ripe and no session waits for itself; and nobody was told of a step of another session.
+    pub fn known(&self)
+        ensures known { self.now.spent ≡ false → IsKnown self.now }
+        ensures bound { IsBound self.now.file.run }
+    {
+        let _sessions = self.spec.sessions();
     }
 
     /// Whether an earlier step was refused memory.
