@@ -1,14 +1,17 @@
 -- What the program writes for one permutation.
-use Rattle.std.specs.Prelude.{◌≡◌, ℕ, ◌<◌, ◌≤◌, ◌⊎◌, ◌++◌, List, Some, Result, Ok, Err}
+use Rattle.std.specs.Prelude.{◌≡◌, ℕ, ◌<◌, ◌≤◌, ◌⊎◌, ◌++◌, List, Option, Some, Result, Ok, Err}
 use Rattle.sql_subset.specs.Spec.{SpecFile, ranks, line_of}
 use Rattle.sql_subset.specs.Binding.{bound_file}
 use Rattle.sql_subset.specs.declared.error.BindErrorKind.TheVariants.{NoMemory}
 use Rattle.spec_reader.specs.Tree.{SpecTree}
 use Rattle.spec_reader.specs.Text.{IsSpec, Explains}
+use Rattle.transcripts.specs.Counted.{Stopped}
 use Rattle.transcripts.specs.Text.{rank_text, outcome_text}
+use Rattle.transcripts.specs.declared.counted.Counted.{Counted}
 use Rattle.transcripts.specs.declared.event.Event.{Event}
 use Rattle.machine_model.specs.Start.{start}
-use Rattle.session_machine.specs.Running.{outcome_of_line, IsNotRunBy}
+use Rattle.machine_model.specs.Outcome.{outcome_of_line}
+use Rattle.session_machine.specs.Running.{IsNotRunBy}
 use Rattle.iso_farm.specs.declared.single.OneFault.{OneFault}
 use Rattle.iso_farm.specs.declared.single.OneFault.TheVariants.{Spec, Bind, OutOfRange, Run, Write}
 
@@ -55,3 +58,11 @@ IsRefusedOf (Bind error) bytes rank = (tree : SpecTree) × IsSpec bytes tree × 
 IsRefusedOf OutOfRange bytes rank = (file : SpecFile) × IsFileOf bytes file × IsRefused OutOfRange file rank
 IsRefusedOf (Run error) bytes rank = (file : SpecFile) × IsFileOf bytes file × IsRefused (Run error) file rank
 IsRefusedOf (Write fault) bytes rank = (file : SpecFile) × IsFileOf bytes file × IsRefused (Write fault) file rank
+
+-- what a refusal leaves in the writer: it is as it was, but where a write fails it has a front of such a text
+abbrev pub Leaves : {W : Type 0} → (W → Option (List ℕ)) → (List ℕ → Type 0) → Counted W → Counted W → OneFault → Type 0
+Leaves contents IsText old new (Spec error) = new ≡ old
+Leaves contents IsText old new (Bind error) = new ≡ old
+Leaves contents IsText old new OutOfRange = new ≡ old
+Leaves contents IsText old new (Run error) = new ≡ old
+Leaves contents IsText old new (Write fault) = (text : List ℕ) × IsText text × Stopped contents old new text

@@ -104,6 +104,16 @@ fn answer<'a, O: Opener, W: Write>(
     }
 }
 
+/// Writes a text, with nothing held back.
+fn written<'a, W: Write>(text: &str, out: &mut Counted<W>) -> Result<(), ProgramFault<'a>>
+    requires { failures_of out.old ≡ 0 }
+{
+    match out.write_str(text) {
+        Ok(()) => flushed(out),
+        Err(_fault) => Err(ProgramFault::Write),
+    }
+}
+
 /// Has everything written that is held back.
 fn flushed<'a, W: Write>(out: &mut Counted<W>) -> Result<(), ProgramFault<'a>>
     requires { failures_of out.old < u64.MAX }
@@ -226,8 +236,8 @@ fn tell_usage<W: Write, E: Write>(
         let _told = err.write_str(text.as_str());
         return 2;
     }
-    match out.write_str(text.as_str()) {
+    match written(text.as_str(), out) {
         Ok(()) => 0,
-        Err(_fault) => tell_fault(alloc, &ProgramFault::Write, err),
+        Err(fault) => tell_fault(alloc, &fault, err),
     }
 }

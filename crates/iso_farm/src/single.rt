@@ -3,10 +3,11 @@
 ghost use Rattle.std.specs.Prelude.{◌≡◌, ◌<◌, ◌≤◌, ◌+◌, ◌↔◌, ◌++◌, ℕ, List, OnOk, IfErr, IsErrOf, length};
 ghost use Rattle.sql_subset.specs.Spec.{ranks};
 ghost use Rattle.machine_model.specs.Start.{start};
-ghost use Rattle.session_machine.specs.Running.{IsNotRunBy, IsTold};
+ghost use Rattle.machine_model.specs.Outcome.{IsOutcomeOf};
+ghost use Rattle.session_machine.specs.Running.{IsNotRunBy};
 ghost use Rattle.transcripts.specs.Counted.{Wrote, Prints, failures_of};
 ghost use Rattle.transcripts.specs.Text.{rank_text, outcome_text};
-ghost use Rattle.iso_farm.specs.One.{IsAnswer, IsAnswerOf, IsRefused, IsRefusedOf, faults_of};
+ghost use Rattle.iso_farm.specs.One.{IsAnswer, IsAnswerOf, IsRefused, IsRefusedOf, Leaves, faults_of};
 ghost use Rattle.transcripts.specs.declared.counted.WriteFault.{WriteFault};
 
 use session_machine::{RunError, run_one};
@@ -41,6 +42,7 @@ pub fn one<W: Write>(
     requires { failures_of out.old < u64.MAX }
     ensures written { OnOk result ((text : List ℕ) × IsAnswerOf bytes.now rank text × Wrote W.contents out.old out.new text) }
     ensures refused { IfErr result (λ error. IsRefusedOf error bytes.now rank) }
+    ensures left { IfErr result (Leaves W.contents (IsAnswerOf bytes.now rank) out.old out.new) }
     ensures failures { failures_of out.new ≡ failures_of out.old + faults_of result }
 {
     let text = match read_spec(alloc, bytes) {
@@ -63,6 +65,7 @@ pub fn one_of<W: Write>(
     requires { failures_of out.old < u64.MAX }
     ensures written { OnOk result ((text : List ℕ) × IsAnswer spec.now rank text × Wrote W.contents out.old out.new text) }
     ensures refused { IfErr result (λ error. IsRefused error spec.now rank) }
+    ensures left { IfErr result (Leaves W.contents (IsAnswer spec.now rank) out.old out.new) }
     ensures failures { failures_of out.new ≡ failures_of out.old + faults_of result }
 {
     let Some(line) = spec.line(rank) else {
@@ -82,7 +85,7 @@ fn write_one<W: Write>(
     out: &mut Counted<W>,
 ) -> Result<(), OneFault>
     requires countable { failures_of out.old < u64.MAX }
-    requires told { IsTold spec.now.run.sessions (length spec.now.run.steps) outcome.now }
+    requires own { IsOutcomeOf spec.now.run outcome.now }
     ensures text { Prints W.contents out.old out.new result (rank_text rank ++ outcome_text spec.now.session_names spec.now.step_names outcome.now) }
     ensures refused { IfErr result (λ error. (fault : WriteFault) × (error ≡ OneFault.Write fault)) }
 {

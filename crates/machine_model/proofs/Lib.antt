@@ -14,3 +14,4 @@ pub mod Counts
 pub mod Telling
 pub mod Owned
 pub mod Waiters
+pub mod Worked

@@ -1,10 +1,11 @@
 pub mod Commute
 pub mod FromQuiet
+pub mod Mutual
 pub mod Calm
 pub mod Alone
 pub mod Swaps
-pub mod Whole
-pub mod Reports
-pub mod Facts
-pub mod Specs
+pub mod Lines
+pub mod Leading
+pub mod TrueFacts
+pub mod TrueValues
 pub mod Worked

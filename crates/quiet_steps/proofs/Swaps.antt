@@ -17,11 +17,11 @@ use Rattle.machine_model.proofs.Counts.{Fitting, send-fitting}
 abbrev popped : Queues → ℕ → Word → List ℕ → List ℕ
 popped q i word x = elim x [ [] ↦ line q word | k ∷ ks ↦ k ∷ line (set q i ks) word ]
 
-line-at : (q : Queues) (i : ℕ) (word : Word) (x : List ℕ) → get_or q i [] ≡ x → line q (i ∷ word) ≡ popped q i word x
+pub line-at : (q : Queues) (i : ℕ) (word : Word) (x : List ℕ) → get_or q i [] ≡ x → line q (i ∷ word) ≡ popped q i word x
 line-at q i word x e = ap (popped q i word) e
 
 -- two letters in either order take the same two steps
-line-two : (q : Queues) (a b : ℕ) (word : Word) (k l : ℕ) (ks ls : List ℕ) → a ≢ b → get_or q a [] ≡ k ∷ ks → get_or q b [] ≡ l ∷ ls → line q (a ∷ b ∷ word) ≡ k ∷ l ∷ line (set (set q a ks) b ls) word
+pub line-two : (q : Queues) (a b : ℕ) (word : Word) (k l : ℕ) (ks ls : List ℕ) → a ≢ b → get_or q a [] ≡ k ∷ ks → get_or q b [] ≡ l ∷ ls → line q (a ∷ b ∷ word) ≡ k ∷ l ∷ line (set (set q a ks) b ls) word
 line-two q a b word k l ks ls ne ea eb =
     line-at q a (b ∷ word) (k ∷ ks) ea
     ∙ ap (λ x. k ∷ x) (line-at (set q a ks) b word (l ∷ ls) (get_or-set_other q a b ks [] (λ e. ne (sym e)) ∙ eb))

@@ -1,6 +1,6 @@
 -- The laws of quiet steps, of swaps and of what is true of ranks.
-use Rattle.std.specs.Prelude.{◌≡◌, ◌≢◌, ℕ, ◌<◌, Bool, true, false, List, [], get_or, Some}
-use Rattle.sql_subset.specs.Spec.{Spec, Step, no_step, Queues, line, IsBound}
+use Rattle.std.specs.Prelude.{◌≡◌, ◌≢◌, ◌↔◌, ℕ, ◌<◌, Bool, true, false, List, [], get_or, Some}
+use Rattle.sql_subset.specs.Spec.{Spec, Step, no_step, Queues, queues_of, line, line_of, IsBound}
 use Rattle.machine_model.specs.World.{World, send, send_all, session_at, scene_of}
 use Rattle.machine_model.specs.Go.{go, solo, stopped}
 use Rattle.machine_model.specs.Session.{tasks_of}
@@ -13,8 +13,12 @@ use Rattle.machine_model.specs.Claims.{plans, claims_of, may_write}
 use Rattle.machine_model.specs.Sound.{Sound}
 use Rattle.perm_ranks.specs.Words.{Word}
 use Rattle.perm_ranks.specs.Swapped.{exchanged}
-use Rattle.quiet_steps.specs.Swap.{quiet_at, falls_in, truth_of, truth_of_spec, fact_of}
-use Rattle.quiet_steps.specs.Books.{Entry, Truth, IsTrueAt, Ran, Swap, SwapLaw, AllTrue, HasFact, AllSame, OneValue, values}
+use Rattle.quiet_steps.specs.Swap.{quiet_at, falls_at, falls_in, leads_in, word_of, are_quiet_at}
+use Rattle.quiet_steps.specs.Facts.{IsTrueAt, IsFactOf, fact_of}
+use Rattle.quiet_steps.specs.Values.{Facts, AllTrue, TellTheMachine}
+use Rattle.quiet_steps.specs.declared.fact.Fact.{Fact}
+use Rattle.quiet_steps.specs.declared.fact.Fact.TheVariants.{Ran, Swap}
+use Rattle.machine_model.specs.Outcome.{outcome_of_line}
 use Rattle.row_tables.specs.Overlay.{Rows'}
 use Rattle.sql_statements.specs.Plan.{plan, opened, looks_at}
 use Rattle.transcripts.specs.declared.event.Event.{Event}
@@ -33,23 +37,29 @@ SwapKeepsWorlds =
 abbrev pub ChainsEnd : Type 0
 ChainsEnd = (k : ℕ) (word other : Word) → exchanged k word ≡ Some other → falls_in other < falls_in word
 
--- a book of true facts has at every rank no value but the true one, and with a fact at every rank it has that one
-abbrev pub ReportIsRight : Type 0
-ReportIsRight =
-    (t : Truth (List (List Event))) → SwapLaw t → (book : List (Entry (List (List Event)))) → AllTrue t book
-    → ((r : ℕ) → AllSame (t.outcome r) (values t book r)) × (((r : ℕ) → r < t.count → HasFact book r) → (r : ℕ) → r < t.count → OneValue (t.outcome r) (values t book r))
+-- of quiet steps either may be called the first
+abbrev pub QuietIsMutual : Type 0
+QuietIsMutual = (w : World) (s t : Step) → is_quiet w s t ≡ is_quiet w t s
 
--- where a true swap leads there is a smaller rank with the same outcome
+-- where the letters of a word fall, they are exchanged by the steps of its line: the world after k letters is the world after k steps
+abbrev pub LettersAreSteps : Type 0
+LettersAreSteps =
+    (spec : Spec) (w : World) (r k : ℕ) → spec.lines ≡ [] → falls_at k (word_of spec r) ≡ true
+    → quiet_at spec.steps w (queues_of spec) k (word_of spec r) ≡ are_quiet_at spec w r k
+
+-- wherever an exchange leads there is a smaller rank
+abbrev pub SwapsLeadDown : Type 0
+SwapsLeadDown = (spec : Spec) (r k below : ℕ) → leads_in spec r k ≡ Some below → below < r
+
+-- a true swap of a spec leads to a smaller rank with the same outcome
 abbrev pub SwapsHold : Type 0
-SwapsHold = (sessions : ℕ) (steps : List Step) (w : World) (q : Queues) → Sound w → ((n : ℕ) → IsOf steps w n) → SwapLaw (truth_of sessions steps w q)
+SwapsHold =
+    (spec : Spec) (r k : ℕ) → IsBound spec → IsTrueAt spec r (Swap k)
+    → (below : ℕ) × (leads_in spec r k ≡ Some below) × (below < r) × (outcome_of_line spec (line_of spec below) ≡ outcome_of_line spec (line_of spec r))
 
--- a book of true facts has at every rank no value but the sequential machine's, and with a fact at every rank it has that one
+-- true facts of a spec tell what the sequential machine tells
 abbrev pub Headline : Type 0
-Headline =
-    (spec : Spec) → IsBound spec
-    → let t = truth_of_spec spec in
-    (book : List (Entry (List (List Event)))) → AllTrue t book
-    → ((r : ℕ) → AllSame (t.outcome r) (values t book r)) × (((r : ℕ) → r < t.count → HasFact book r) → (r : ℕ) → r < t.count → OneValue (t.outcome r) (values t book r))
+Headline = (spec : Spec) → IsBound spec → (has : Facts) → AllTrue spec has → TellTheMachine spec has
 
 -- what quiet steps note, the first alone and both, tells of no wait; the waits and all other sessions stay as they are
 abbrev pub QuietStepsAreCalm : Type 0
@@ -62,17 +72,13 @@ QuietStepsAreCalm =
     (SentCalmly w one i k × (one.waits ≡ w.waits) × ((c : ℕ) → c ≢ i → session_at one c ≡ session_at w c))
     × (SentCalmly w both i k × SentCalmly w both j l × (both.waits ≡ w.waits) × ((c : ℕ) → c ≢ i → c ≢ j → session_at both c ≡ session_at w c))
 
--- the fact of a rank is true, when reducing or not; a swap comes only when reducing, and it is the least one
-abbrev pub FactsAreTrue : Type 0
-FactsAreTrue = (reduce : Bool) (spec : Spec) (r : ℕ) → r < (truth_of_spec spec).count → IsTrueAt (truth_of_spec spec) r (fact_of reduce spec r)
-
-abbrev pub SwapsAreLeast : Type 0
-SwapsAreLeast =
-    (reduce : Bool) (spec : Spec) (r k : ℕ) → fact_of reduce spec r ≡ Swap k → (reduce ≡ true) × ((m : ℕ) → m < k → (truth_of_spec spec).is_swap r m ≡ false)
+-- the computed fact of a rank is the one fact that it has
+abbrev pub FactsAreOne : Type 0
+FactsAreOne = (reduce : Bool) (spec : Spec) (r : ℕ) (fact : Fact) → (fact_of reduce spec r ≡ Some fact) ↔ IsFactOf reduce spec r fact
 
 -- of a spec with lines each fact is an outcome
 abbrev pub LinesRun : Type 0
-LinesRun = (reduce : Bool) (spec : Spec) (r : ℕ) → spec.lines ≢ [] → fact_of reduce spec r ≡ Ran ((truth_of_spec spec).outcome r)
+LinesRun = (reduce : Bool) (spec : Spec) (r : ℕ) (fact : Fact) → spec.lines ≢ [] → IsFactOf reduce spec r fact → (outcome : List (List Event)) × (fact ≡ Ran outcome)
 
 -- a session whose requests are all had goes as if alone: it ends the same over rows that agree where its plans let it read, and it changes rows only where it claims to write
 pub record Footprint (w : World) (i : ℕ) (ss : List Bound) : Type 0 where

@@ -1,4 +1,5 @@
 pub mod Quiet
-pub mod Books
 pub mod Swap
+pub mod Facts
+pub mod Values
 pub mod Laws

@@ -1,50 +1,20 @@
 //! The laws of quiet steps and of facts, each the contract of a function that does nothing.
 
-ghost use Rattle.quiet_steps.specs.Laws.{QuietStepsCommute, SwapKeepsWorlds, ChainsEnd, ReportIsRight, SwapsHold, Headline, QuietStepsAreCalm, FactsAreTrue, SwapsAreLeast, StepsHaveFootprints, PlansOpen, LinesRun};
+ghost use Rattle.quiet_steps.specs.Laws.{QuietStepsCommute, QuietIsMutual, QuietStepsAreCalm, StepsHaveFootprints, PlansOpen, SwapKeepsWorlds, LettersAreSteps, ChainsEnd, SwapsLeadDown, SwapsHold, FactsAreOne, LinesRun, Headline};
 
 /// Two quiet steps may be sent in either order.
 pub fn quiet_steps_commute()
     ensures { QuietStepsCommute }
 {}
 
-/// A true swap leads to a word with the same world at its end.
-pub fn swap_keeps_worlds()
-    ensures { SwapKeepsWorlds }
-{}
-
-/// Each exchange leaves fewer falls, so a chain of exchanges ends.
-pub fn chains_end()
-    ensures { ChainsEnd }
-{}
-
-/// A book of true facts never has another value than the true one, and with a fact at every rank it has that one.
-pub fn report_is_right()
-    ensures { ReportIsRight }
-{}
-
-/// Where a true swap leads there is a smaller rank with the same outcome.
-pub fn swaps_hold()
-    ensures { SwapsHold }
-{}
-
-/// A book of true facts of a spec never has another value than the sequential machine's, and one that covers every rank has that one.
-pub fn headline()
-    ensures { Headline }
+/// Of quiet steps either may be called the first.
+pub fn quiet_is_mutual()
+    ensures { QuietIsMutual }
 {}
 
 /// Quiet steps, the first alone and both, note no wait and leave all other sessions alone.
 pub fn quiet_steps_are_calm()
     ensures { QuietStepsAreCalm }
-{}
-
-/// The fact of a rank is true, when reducing or not.
-pub fn facts_are_true()
-    ensures { FactsAreTrue }
-{}
-
-/// A swap is a fact only when reducing, and no swap is true below it.
-pub fn swaps_are_least()
-    ensures { SwapsAreLeast }
 {}
 
 /// A session whose requests are all had goes as if alone, reads what its plans open and writes where it claims to.
@@ -57,7 +27,43 @@ pub fn plans_open()
     ensures { PlansOpen }
 {}
 
+/// A true swap leads to a word with the same world at its end.
+pub fn swap_keeps_worlds()
+    ensures { SwapKeepsWorlds }
+{}
+
+/// Letters of a word that fall are exchanged by the steps of its line.
+pub fn letters_are_steps()
+    ensures { LettersAreSteps }
+{}
+
+/// Each exchange leaves fewer falls, so a chain of exchanges ends.
+pub fn chains_end()
+    ensures { ChainsEnd }
+{}
+
+/// Wherever an exchange leads there is a smaller rank.
+pub fn swaps_lead_down()
+    ensures { SwapsLeadDown }
+{}
+
+/// A true swap of a spec leads to a smaller rank with the same outcome.
+pub fn swaps_hold()
+    ensures { SwapsHold }
+{}
+
+/// The computed fact of a rank is the one fact that it has.
+pub fn facts_are_one()
+    ensures { FactsAreOne }
+{}
+
 /// Of a spec with lines each fact is an outcome.
 pub fn lines_run()
     ensures { LinesRun }
+{}
+
+/// True facts of a spec tell what the sequential machine tells: no rank has another value than its outcome, and where each rank has a
+/// fact each has its outcome as a value.
+pub fn headline()
+    ensures { Headline }
 {}

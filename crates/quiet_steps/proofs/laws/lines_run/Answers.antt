@@ -1,4 +1,4 @@
-use Rattle.quiet_steps.proofs.Facts.{lines-run}
+use Rattle.quiet_steps.proofs.TrueFacts.{lines-run}
 use Rattle.quiet_steps.proofs.laws.lines_run.Goals as goal
 
 pub returns : goal.returns

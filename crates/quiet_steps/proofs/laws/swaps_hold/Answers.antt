@@ -1,5 +1,5 @@
-use Rattle.quiet_steps.proofs.Whole.{swap-law}
+use Rattle.quiet_steps.proofs.Leading.{swaps-hold}
 use Rattle.quiet_steps.proofs.laws.swaps_hold.Goals as goal
 
 pub returns : goal.returns
-returns c = swap-law
+returns c = swaps-hold

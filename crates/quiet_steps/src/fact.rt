@@ -1,0 +1,22 @@
+use std::alloc::AllocError;
+use transcripts::Outcome;
+use version_tree::Fork;
+
+/// What is known of a rank.
+#[derive(Drop)]
+pub enum Fact {
+    /// Its line was run, with this outcome.
+    Ran(Outcome),
+    /// The two steps at this place of its line and after it are quiet and stand in falling order, so that exchanging them leads
+    /// to a smaller rank with the same outcome. Places count from 0.
+    Swap(u8),
+}
+
+impl Fork for Fact {
+    fn fork(&self) -> Result<Fact, AllocError> {
+        Ok(match self {
+            Fact::Ran(outcome) => Fact::Ran(outcome.fork()?),
+            Fact::Swap(place) => Fact::Swap(*place),
+        })
+    }
+}
