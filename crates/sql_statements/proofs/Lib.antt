@@ -1,1 +1,2 @@
 pub mod ConditionLemmas
+pub mod PlanModes
