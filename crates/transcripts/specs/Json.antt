@@ -76,8 +76,17 @@ EventFits (Rows count) = count < 2 ^ 64
 EventFits (Inserted count) = count < 2 ^ 64
 EventFits (Updated count) = count < 2 ^ 64
 EventFits (Deleted count) = count < 2 ^ 64
+EventFits Began = ⊤
+EventFits Committed = ⊤
+EventFits RolledBack = ⊤
+EventFits Locked = ⊤
+EventFits Set = ⊤
+EventFits (Warned warning) = ⊤
+EventFits (Failed fault) = ⊤
+EventFits Waiting = ⊤
+EventFits Resumed = ⊤
+EventFits Done = ⊤
 EventFits (NotSent step) = step < 256
-EventFits event = ⊤
 
 abbrev pub OutcomeFits : List (List Event) → Type 0
 OutcomeFits sessions = All (All EventFits) sessions

@@ -2,7 +2,7 @@ use lock_modes::Row;
 use std::alloc::AllocError;
 use version_tree::Fork;
 
-/// Why a statement failed. The numbers are those of the outcome values in a book.
+/// Why a statement failed.
 #[derive(Clone, Copy, Debug, PartialEq, Eq)]
 pub enum Fault {
     /// A new row has a key that is there already.

@@ -49,6 +49,20 @@ fn names_one(event: &Event, count: usize) -> bool
 {
     match event {
         Event::Sent(step) | Event::NotSent(step) => (*step as usize) < count,
-        _ => true,
+        Event::Row(_)
+        | Event::Rows(_)
+        | Event::Inserted(_)
+        | Event::Updated(_)
+        | Event::Deleted(_)
+        | Event::Began
+        | Event::Committed
+        | Event::RolledBack
+        | Event::Locked
+        | Event::Set
+        | Event::Warned(_)
+        | Event::Failed(_)
+        | Event::Waiting
+        | Event::Resumed
+        | Event::Done => true,
     }
 }

@@ -1,6 +1,8 @@
-ghost use Rattle.std.specs.Prelude.{◌≡◌, [], ◌∷◌, ◌++◌, IfOk, OnOk, OnErr};
+ghost use Rattle.std.specs.Prelude.{◌≡◌, [], ◌∷◌, ◌++◌, All, IfOk, OnOk, OnErr};
+ghost use Rattle.transcripts.specs.Json.{CellFits, EventFits, OutcomeFits};
 
 use crate::event::Event;
+use lock_modes::Value;
 use std::alloc::{AllocError, Global};
 use std::marker::Model;
 use std::sync::Arc;
@@ -84,6 +86,15 @@ impl Outcome {
         })
     }
 
+    /// What holds of every outcome: its numbers have the widths of their types.
+    pub fn known(&self)
+        ensures { OutcomeFits self.now }
+    {
+        for transcript in self.sessions() {
+            known_transcript(transcript);
+        }
+    }
+
     /// The transcripts in the order of the sessions.
     pub fn sessions(&self) -> &[Transcript]
         ensures { result.now ≡ self.now }
@@ -97,5 +108,60 @@ impl Fork for Outcome {
         Ok(Outcome {
             sessions: self.sessions.clone()?,
         })
+    }
+}
+
+fn known_transcript(transcript: &Transcript)
+    ensures { All EventFits transcript.now }
+{
+    for event in transcript.events() {
+        known_event(event);
+    }
+}
+
+// Each number that is read is known to have the width of its type.
+fn known_event(event: &Event)
+    ensures { EventFits event.now }
+{
+    match event {
+        Event::Row(row) => known_row(row.values()),
+        Event::Sent(step) | Event::NotSent(step) => {
+            let _step = *step;
+        }
+        Event::Rows(count)
+        | Event::Inserted(count)
+        | Event::Updated(count)
+        | Event::Deleted(count) => {
+            let _count = *count;
+        }
+        Event::Began
+        | Event::Committed
+        | Event::RolledBack
+        | Event::Locked
+        | Event::Set
+        | Event::Warned(_)
+        | Event::Failed(_)
+        | Event::Waiting
+        | Event::Resumed
+        | Event::Done => {}
+    }
+}
+
+fn known_row(values: &[Value])
+    ensures { All CellFits values.now }
+{
+    for value in values {
+        known_value(value);
+    }
+}
+
+fn known_value(value: &Value)
+    ensures { CellFits value.now }
+{
+    match value {
+        Value::Int(number) => {
+            let _number = *number;
+        }
+        Value::Text(_) => {}
     }
 }

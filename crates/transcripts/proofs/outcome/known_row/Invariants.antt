@@ -1,0 +1,7 @@
+use Rattle.std.proofs.Common.{All, take}
+use Rattle.transcripts.specs.Json.{CellFits}
+use Rattle.transcripts.proofs.outcome.known_row.Given as goal
+
+-- the values so far fit
+abbrev pub invariant-loop-value : goal.invariant-loop-value
+invariant-loop-value l = All CellFits (take l.value-index l.values)
