@@ -1,9 +1,6 @@
 -- Lists, tests and look-ups.
 use Rattle.std.proofs.Common.{◌≡◌, ◌≢◌, refl, sym, ◌∙◌, ℕ, arith, Bool, true, false, cond, not, ◌&&◌, ◌||◌, List, [], ◌∷◌, ◌++◌, filter, ◌⊎◌, inl, inr, true≢false}
 use Rattle.std.specs.List.{list_any, list_all}
-use Rattle.lock_modes.specs.Mode.{compatible, same_mode}
-use Rattle.lock_modes.specs.declared.mode.Mode.{Mode}
-use Rattle.lock_modes.specs.declared.mode.Mode.TheVariants.{IntentShare, IntentExclusive, Share, ShareIntent, Exclusive}
 
 abbrev pub Each : {A : Type 0} → (A → Type 0) → List A → Type 0
 Each P [] = Unit {0}
@@ -72,67 +69,6 @@ some_passes {A} P test (x ∷ xs) p e = elim (either_true (test x) _ e) [ inl h 
 pub filter_same : {A : Type 0} (f g : A → Bool) (xs : List A) → Each (λ x. f x ≡ g x) xs → filter f xs ≡ filter g xs
 filter_same f g [] p = refl
 filter_same f g (x ∷ xs) p = λ i. cond (p.0 i) (x ∷ filter_same f g xs p.1 i) (filter_same f g xs p.1 i)
-
-pub compatible-symm : (a b : Mode) → compatible a b ≡ compatible b a
-compatible-symm IntentShare IntentShare = refl
-compatible-symm IntentShare IntentExclusive = refl
-compatible-symm IntentShare Share = refl
-compatible-symm IntentShare ShareIntent = refl
-compatible-symm IntentShare Exclusive = refl
-compatible-symm IntentExclusive IntentShare = refl
-compatible-symm IntentExclusive IntentExclusive = refl
-compatible-symm IntentExclusive Share = refl
-compatible-symm IntentExclusive ShareIntent = refl
-compatible-symm IntentExclusive Exclusive = refl
-compatible-symm Share IntentShare = refl
-compatible-symm Share IntentExclusive = refl
-compatible-symm Share Share = refl
-compatible-symm Share ShareIntent = refl
-compatible-symm Share Exclusive = refl
-compatible-symm ShareIntent IntentShare = refl
-compatible-symm ShareIntent IntentExclusive = refl
-compatible-symm ShareIntent Share = refl
-compatible-symm ShareIntent ShareIntent = refl
-compatible-symm ShareIntent Exclusive = refl
-compatible-symm Exclusive IntentShare = refl
-compatible-symm Exclusive IntentExclusive = refl
-compatible-symm Exclusive Share = refl
-compatible-symm Exclusive ShareIntent = refl
-compatible-symm Exclusive Exclusive = refl
-
-pub same_mode-true : (a b : Mode) → same_mode a b ≡ true → a ≡ b
-same_mode-true IntentShare IntentShare e = refl
-same_mode-true IntentShare IntentExclusive e = cc
-same_mode-true IntentShare Share e = cc
-same_mode-true IntentShare ShareIntent e = cc
-same_mode-true IntentShare Exclusive e = cc
-same_mode-true IntentExclusive IntentShare e = cc
-same_mode-true IntentExclusive IntentExclusive e = refl
-same_mode-true IntentExclusive Share e = cc
-same_mode-true IntentExclusive ShareIntent e = cc
-same_mode-true IntentExclusive Exclusive e = cc
-same_mode-true Share IntentShare e = cc
-same_mode-true Share IntentExclusive e = cc
-same_mode-true Share Share e = refl
-same_mode-true Share ShareIntent e = cc
-same_mode-true Share Exclusive e = cc
-same_mode-true ShareIntent IntentShare e = cc
-same_mode-true ShareIntent IntentExclusive e = cc
-same_mode-true ShareIntent Share e = cc
-same_mode-true ShareIntent ShareIntent e = refl
-same_mode-true ShareIntent Exclusive e = cc
-same_mode-true Exclusive IntentShare e = cc
-same_mode-true Exclusive IntentExclusive e = cc
-same_mode-true Exclusive Share e = cc
-same_mode-true Exclusive ShareIntent e = cc
-same_mode-true Exclusive Exclusive e = refl
-
-pub same_mode-refl : (a : Mode) → same_mode a a ≡ true
-same_mode-refl IntentShare = refl
-same_mode-refl IntentExclusive = refl
-same_mode-refl Share = refl
-same_mode-refl ShareIntent = refl
-same_mode-refl Exclusive = refl
 
 -- the two ways round
 pub Each-swap : {A B : Type 0} (R : A → B → Type 0) (xs : List A) (ys : List B) → Each (λ x. Each (R x) ys) xs → Each (λ y. Each (λ x. R x y) xs) ys

@@ -10,10 +10,11 @@ use Rattle.machine_model.specs.Session.{Held}
 use Rattle.machine_model.specs.Claims.{Claims, may_write, claims_of, is_mode}
 use Rattle.lock_modes.specs.declared.mode.Mode.{Mode}
 use Rattle.lock_modes.specs.declared.resource.Resource.{Resource}
-use Rattle.machine_model.proofs.Basics.{Each, Each-map, both_true, and_true, or_true_left, or_true_right, same_mode-refl, some_passes, either_true, same_mode-true}
+use Rattle.machine_model.proofs.Basics.{Each, Each-map, both_true, and_true, or_true_left, or_true_right, some_passes, either_true}
 use Rattle.machine_model.proofs.Effects.{Claimed}
 use Rattle.lock_modes.specs.declared.mode.Mode.TheVariants.{IntentExclusive, ShareIntent, Exclusive}
 use Rattle.lock_modes.specs.declared.resource.Resource.TheVariants.{Table, Row as RowOf}
+use Rattle.lock_modes.proofs.ModeLaws.{same_mode-true, same_mode-refl}
 
 is_mode-Some : (o : Option Mode) (m : Mode) → o ≡ Some m → is_mode o m ≡ true
 is_mode-Some o m e = ap (λ x. is_mode x m) e ∙ same_mode-refl m

@@ -18,12 +18,13 @@ use Rattle.lock_modes.specs.declared.mode.Mode.{Mode}
 use Rattle.transcripts.specs.declared.event.Event.TheVariants.{Sent, NotSent, Resumed}
 use Rattle.lock_modes.specs.declared.resource.Resource.{Resource}
 use Rattle.sql_statements.specs.declared.statement.Bound.{Bound}
-use Rattle.machine_model.proofs.Basics.{both_true, known, not_both, compatible-symm, cases-eq}
+use Rattle.machine_model.proofs.Basics.{both_true, known, not_both, cases-eq}
 use Rattle.machine_model.specs.Footprint.{HeldFits}
 use Rattle.lock_queues.proofs.Rings.{no-ring-past, no-way-from, way-is-found, edge-from, no-edge-from, edge-put, edge-off}
 use Rattle.machine_model.proofs.Fitting.{fits-at, together-fits}
 use Rattle.machine_model.proofs.Stronger.{stronger-taking, under-stronger, holds-stronger, covers-taking}
 use Rattle.machine_model.proofs.Kept.{fits-inserted, Pending, GoodRun, go-good}
+use Rattle.lock_modes.proofs.ModeLaws.{compatible-comm}
 
 pub wait-map : (P Q : Wait → Type 0) → ((v : Wait) → P v → Q v) → (vs : List Wait) → EachWait P vs → EachWait Q vs
 wait-map P Q f [] p = tt
@@ -117,7 +118,7 @@ module _ (w : World) (i : ℕ) (s : Session) (ts : List Task) (en : Entering w i
   goes-together : HeldTogether (look_of (goes w i s ts))
   goes-together c d r m n ne a b =
       ⊎_elim (λ k. beside r m n d (λ e. ne (k ∙ sym e)) (here-look r m c k a) (other-look r n d (λ e. ne (k ∙ sym e)) b))
-      (λ k. ⊎_elim (λ l. compatible-symm m n ∙ beside r n m c k (here-look r n d l b) (other-look r m c k a)) (λ l. en.steady.together c d r m n ne (other-look r m c k a) (other-look r n d l b)) (cases-eq d i))
+      (λ k. ⊎_elim (λ l. compatible-comm m n ∙ beside r n m c k (here-look r n d l b) (other-look r m c k a)) (λ l. en.steady.together c d r m n ne (other-look r m c k a) (other-look r n d l b)) (cases-eq d i))
       (cases-eq c i)
 
   goes-under : (c : ℕ) → UnderLocks (session_at (goes w i s ts) c).overlay (session_at (goes w i s ts) c).held

@@ -2,7 +2,7 @@
 use Rattle.std.specs.Prelude.{◌≡◌, ℕ, ◌<◌, true, List, [], ◌∷◌, length, Option, Some, None}
 use Rattle.version_tree.specs.Map.{get}
 use Rattle.lock_modes.specs.Place.{Place}
-use Rattle.lock_modes.specs.Mode.{cover}
+use Rattle.lock_modes.specs.Mode.{AtLeast}
 use Rattle.lock_queues.specs.declared.wait.Wait.{Wait}
 use Rattle.lock_queues.specs.Locks.{next_grant, waits_for}
 pub use Rattle.lock_queues.specs.Sound.{Way, one, more, NoRing, HeldTogether, EachWait, Distinct}
@@ -16,10 +16,6 @@ use Rattle.lock_modes.specs.declared.mode.Mode.{Mode}
 -- each entry of the overlay lies where what is held lets it be written
 abbrev pub UnderLocks : Overlay → Held → Type 0
 UnderLocks o held = (p : Place) (x : Option Tuple) → get o p ≡ Some x → may_write (claims_of held []) p ≡ true
-
--- a mode that stands for the other
-abbrev pub AtLeast : Mode → Mode → Type 0
-AtLeast n m = cover n m ≡ n
 
 -- a mode is held there that stands for this one
 abbrev pub Covers : Option Mode → Mode → Type 0

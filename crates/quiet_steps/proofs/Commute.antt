@@ -18,8 +18,8 @@ use Rattle.lock_modes.specs.declared.mode.Mode.{Mode}
 use Rattle.transcripts.specs.declared.event.Event.TheVariants.{Sent, NotSent}
 use Rattle.lock_modes.specs.declared.resource.Resource.{Resource}
 use Rattle.sql_statements.specs.declared.statement.Bound.{Bound}
-use Rattle.machine_model.proofs.Basics.{Each, Each-append, Each-left, Each-right, Each-map, filter_same, both_true, and_true, or_true_right, known, compatible-symm, cases-eq}
-use Rattle.lock_modes.proofs.ModeLaws.{compatible-cover}
+use Rattle.machine_model.proofs.Basics.{Each, Each-append, Each-left, Each-right, Each-map, filter_same, both_true, and_true, or_true_right, known, cases-eq}
+use Rattle.lock_modes.proofs.ModeLaws.{compatible-cover, compatible-comm}
 use Rattle.machine_model.specs.Footprint.{EachAsk, EachDo, HeldFits, IsFree}
 use Rattle.machine_model.proofs.Solo.{Keeps, go-solo, solo-held}
 use Rattle.machine_model.proofs.Footprint.{OverlayUnder, SameStop, solo-same, solo-within, ReadsOff, WritesUnder}
@@ -154,7 +154,7 @@ pub record Apart (w : World) (i j : ℕ) (s t : Session) (qs ps : List Request) 
   pub other_under : OverlayUnder (claims_of t.held ps) t.overlay
 
 friends-flip : (a b : Claims) → Friends a b → Friends b a
-friends-flip a b f = record { fit = λ r m n p q. compatible-symm m n ∙ f.fit r n m q p }
+friends-flip a b f = record { fit = λ r m n p q. compatible-comm m n ∙ f.fit r n m q p }
 
 apart-flip : (w : World) (i j : ℕ) (s t : Session) (qs ps : List Request) → Apart w i j s t qs ps → Apart w j i t s ps qs
 apart-flip w i j s t qs ps a = record { differ = λ e. a.differ (sym e); one = a.other; other = a.one; friends = friends-flip _ _ a.friends; one_under = a.other_under; other_under = a.one_under }
@@ -163,7 +163,7 @@ apart-flip w i j s t qs ps a = record { differ = λ e. a.differ (sym e); one = a
 
 fits_with-wanted : (m n : Mode) (o : Option Mode) → fits_with m o ≡ true → compatible m n ≡ true → fits_with m (Some (wanted o n)) ≡ true
 fits_with-wanted m n None f c = c
-fits_with-wanted m n (Some x) f c = compatible-symm m (cover x n) ∙ compatible-cover x n m ∙ and_true _ _ (compatible-symm x m ∙ f) (compatible-symm n m ∙ c)
+fits_with-wanted m n (Some x) f c = compatible-comm m (cover x n) ∙ compatible-cover x n m ∙ and_true _ _ (compatible-comm x m ∙ f) (compatible-comm n m ∙ c)
 
 keeps-fit : (r q : Resource) (m n : Mode) → (r ≡ q → compatible m n ≡ true) → Keeps (λ h. fits_with m (get h r) ≡ true) q n
 keeps-fit r q m n c h f = ap (fits_with m) (get-insert h q (wanted (get h q) n) r) ∙ at (same_key resource_order r q) refl
@@ -184,8 +184,8 @@ fits-after-step s rows ss theirs friends r m claim =
     solo-held (λ h. fits_with m (get h r) ≡ true) (ap (fits_with m) (get-empty resource_order Mode r)) s rows (tasks_of ss)
     (asks-of (Keeps (λ h. fits_with m (get h r) ≡ true)) ss
     (Each-map (λ q. claims_of s.held (plans ss) q.resource q.mode ≡ true) (λ q. Keeps (λ h. fits_with m (get h r) ≡ true) q.resource q.mode)
-    (λ q c. keeps-fit r q.resource m q.mode (λ e. compatible-symm m q.mode ∙ friends.fit q.resource q.mode m c (subst (λ x. theirs x m ≡ true) e claim))) (plans ss) (claims-asked s.held (plans ss))))
-    (fits_with-held m (get s.held r) (λ n e. compatible-symm m n ∙ friends.fit r n m (claims-held s.held (plans ss) r n e) claim))
+    (λ q c. keeps-fit r q.resource m q.mode (λ e. compatible-comm m q.mode ∙ friends.fit q.resource q.mode m c (subst (λ x. theirs x m ≡ true) e claim))) (plans ss) (claims-asked s.held (plans ss))))
+    (fits_with-held m (get s.held r) (λ n e. compatible-comm m n ∙ friends.fit r n m (claims-held s.held (plans ss) r n e) claim))
 
 all_below-from : (n : ℕ) (f g : ℕ → Bool) → ((c : ℕ) → f c ≡ true → g c ≡ true) → all_below n f ≡ true → all_below n g ≡ true
 all_below-from zero f g h e = refl

@@ -14,13 +14,14 @@ use Rattle.quiet_steps.specs.Quiet.{all_fit, fit_together, all_fit_together, und
 use Rattle.machine_model.specs.Sound.{Sound}
 use Rattle.lock_modes.specs.declared.mode.Mode.{Mode}
 use Rattle.lock_modes.specs.declared.resource.Resource.{Resource}
-use Rattle.machine_model.proofs.Basics.{Each, Each-map, Each-swap, Each-list_all, list_all-Each, both_true, either_true, not_true, not_both, compatible-symm}
+use Rattle.machine_model.proofs.Basics.{Each, Each-map, Each-swap, Each-list_all, list_all-Each, both_true, either_true, not_true, not_both}
 use Rattle.machine_model.specs.Footprint.{IsFree}
 use Rattle.machine_model.proofs.Footprint.{OverlayUnder}
 use Rattle.machine_model.proofs.Effects.{Friends}
 use Rattle.quiet_steps.proofs.Commute.{Free, Apart, sends-commute}
 use Rattle.machine_model.proofs.Claiming.{claims-cases, may_write-more, held-more}
 use Rattle.machine_model.proofs.Fitting.{fits-at, together-fits}
+use Rattle.lock_modes.proofs.ModeLaws.{compatible-comm}
 
 none_of : (o : Option Mode) → not (is_some o) ≡ true → o ≡ None
 none_of None e = refl
@@ -75,7 +76,7 @@ module _ (w : World) (sound : Sound w) where
       at : (r : Resource) (m n : Mode) → claims_of (session_at w i).held qs r m ≡ true → claims_of (session_at w j).held ps r n ≡ true → compatible m n ≡ true
       at r m n x y =
           ⊎_elim
-          (λ a. ⊎_elim (λ b. sound.steady.together i j r m n ne a b) (λ b. compatible-symm m n ∙ fits-at (length w.sessions) (look_of w) j i r n m lti (λ e. ne (sym e)) a (fits-asked b.0 r n j b.2 b.3 b.1)) (claims-cases (λ q. fits (length w.sessions) (look_of w) j q.resource q.mode ≡ true) (session_at w j).held ps r n theirs y))
+          (λ a. ⊎_elim (λ b. sound.steady.together i j r m n ne a b) (λ b. compatible-comm m n ∙ fits-at (length w.sessions) (look_of w) j i r n m lti (λ e. ne (sym e)) a (fits-asked b.0 r n j b.2 b.3 b.1)) (claims-cases (λ q. fits (length w.sessions) (look_of w) j q.resource q.mode ≡ true) (session_at w j).held ps r n theirs y))
           (λ a. ⊎_elim (λ b. fits-at (length w.sessions) (look_of w) i j r m n ltj ne b (fits-asked a.0 r m i a.2 a.3 a.1.0)) (λ b. met a.0 b.0 r m n a.2 a.3 b.2 b.3 b.1) (claims-cases (λ p. fit_together a.0 p ≡ true) (session_at w j).held ps r n a.1.1 y))
           (claims-cases (λ q. (fits (length w.sessions) (look_of w) i q.resource q.mode ≡ true) × Each (λ p. fit_together q p ≡ true) ps) (session_at w i).held qs r m ours x)
 

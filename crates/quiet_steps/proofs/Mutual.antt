@@ -9,8 +9,9 @@ use Rattle.sql_statements.specs.Plan.{Request}
 use Rattle.sql_subset.specs.Spec.{Step}
 use Rattle.machine_model.specs.World.{World}
 use Rattle.machine_model.specs.Claims.{plans}
-use Rattle.machine_model.proofs.Basics.{Each, Each-map, Each-swap, Each-list_all, list_all-Each, both_true, and_true, compatible-symm}
+use Rattle.machine_model.proofs.Basics.{Each, Each-map, Each-swap, Each-list_all, list_all-Each, both_true, and_true}
 use Rattle.quiet_steps.specs.Quiet.{is_quiet, all_fit, all_fit_together, fit_together, undisturbed}
+use Rattle.lock_modes.proofs.ModeLaws.{compatible-comm}
 
 -- two tests that imply each other are one
 both-ways : (a b : Bool) → (a ≡ true → b ≡ true) → (b ≡ true → a ≡ true) → a ≡ b
@@ -28,7 +29,7 @@ same_resource-turned a b e = subst (λ r. same_resource b r ≡ true) (sym (same
 fit-turned : (q p : Request) → fit_together q p ≡ fit_together p q
 fit-turned q p =
     λ i. not (both-ways (same_resource q.resource p.resource) (same_resource p.resource q.resource) (same_resource-turned q.resource p.resource) (same_resource-turned p.resource q.resource) i)
-    || compatible-symm q.mode p.mode i
+    || compatible-comm q.mode p.mode i
 
 together-turned : (qs ps : List Request) → all_fit_together qs ps ≡ true → all_fit_together ps qs ≡ true
 together-turned qs ps e =

@@ -2,7 +2,7 @@
 use Rattle.std.proofs.Common.{◌≡◌, refl, sym, ap, ◌∙◌, subst, ℕ, Bool, true, false, List, [], ◌∷◌, ◌++◌, Some, ⊎_elim}
 use Rattle.version_tree.specs.Map.{Map, get, empty}
 use Rattle.lock_modes.specs.Place.{Place}
-use Rattle.lock_modes.specs.Mode.{compatible}
+use Rattle.lock_modes.specs.Mode.{compatible, AtLeast}
 use Rattle.lock_queues.specs.Locks.{may_have, closes_ring, answered}
 use Rattle.row_tables.specs.Overlay.{Rows', Write, Overlay, lay, written}
 use Rattle.statement_effects.specs.Effect.{Effect, Gives, Faults, effect}
@@ -10,7 +10,7 @@ use Rattle.sql_statements.specs.Plan.{Request, request, plan, opened, asks_on, r
 use Rattle.machine_model.specs.Session.{Task, Ask, Do, Session, Held, Performed, Goes, Fails, Kind, Begins, Commits, RollsBack, Works, kind, perform, perform_by, worked}
 use Rattle.machine_model.specs.Go.{Scene, Run, taking, go, stopped, failed, finished_by, is_broken, held_up, look_with, waiting_with}
 use Rattle.machine_model.specs.Claims.{Claims, may_write, claims_of}
-use Rattle.machine_model.specs.Sound.{HoldsAll, Backed, UnderLocks, AtLeast}
+use Rattle.machine_model.specs.Sound.{HoldsAll, Backed, UnderLocks}
 use Rattle.serial_history.specs.Serial.{Transaction, Did, Tally, ended_well, dropped, did, tally_by, tally_end, go_tally, Replay, SerialRun, WorkHeld, Repeats}
 use Rattle.lock_queues.specs.declared.answer.Answer.TheVariants.{Granted, Waits, Ring}
 use Rattle.transcripts.specs.declared.event.Fault.TheVariants.{Aborted, Deadlock}

@@ -12,12 +12,13 @@ use Rattle.machine_model.specs.Sound.{Steady, Sound, UnderLocks}
 use Rattle.serial_history.specs.Serial.{Tally, go_tally, History, tally_of, goes_told, granted_told, settle_told, send_told, send_all_told, Repeats, Told, Replay, WorkHeld}
 use Rattle.transcripts.specs.declared.event.Event.TheVariants.{Sent, NotSent, Resumed}
 use Rattle.sql_statements.specs.declared.statement.Bound.{Bound}
-use Rattle.machine_model.proofs.Basics.{compatible-symm, cases-eq}
+use Rattle.machine_model.proofs.Basics.{cases-eq}
 use Rattle.machine_model.specs.Footprint.{HeldFits}
 use Rattle.machine_model.proofs.Fitting.{fits-at}
 use Rattle.machine_model.proofs.Settles.{Entering, Grant, next-grant, session-known, session-there, session-other, goes-steady, granted-steady, entering-granted, entering, steady-of, send-sound, touched, touched-same}
 use Rattle.machine_model.proofs.Counts.{send-fitting}
 use Rattle.serial_history.proofs.Replays.{repeats-other, Telling, go-tells, work-taking}
+use Rattle.lock_modes.proofs.ModeLaws.{compatible-comm}
 
 module _ (start : Rows') (w : World) (h : History) (i : ℕ) (s : Session) (ts : List Task) (en : Entering w i s ts) (told : Told start w h) (own : Repeats w.rows s (get_or h.works i [])) where
   abbrev Others : Rows' → Type 0
@@ -26,7 +27,7 @@ module _ (start : Rows') (w : World) (h : History) (i : ℕ) (s : Session) (ts :
   keeps : (k : Held) (o : Overlay) (rows : Rows') → HeldFits (scene_of w) i k → UnderLocks o k → Others rows → Others (lay o rows)
   keeps k o rows fits under others c ne =
       repeats-other rows (session_at w c) (get_or h.works c []) o k
-      (λ r m n a b. compatible-symm m n ∙ fits-at (length w.sessions) (look_of w) i c r n m (session-known w c r m a) (λ e. ne (sym e)) a (fits.each r n b)) under (others c ne)
+      (λ r m n a b. compatible-comm m n ∙ fits-at (length w.sessions) (look_of w) i c r n m (session-known w c r m a) (λ e. ne (sym e)) a (fits.each r n b)) under (others c ne)
 
   abbrev its : Run
   its = go (scene_of w) i s w.rows ts

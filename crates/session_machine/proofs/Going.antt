@@ -1,7 +1,7 @@
 -- What a session that goes is answered and may read, by the store and the lock table.
 use Rattle.std.proofs.Common.{◌≡◌, ◌≢◌, refl, sym, ap, ◌∙◌, subst, ℕ, zero, suc, Bool, true, false, cond, ◌&&◌, ◌||◌, ◌==◌, List, [], ◌∷◌, ◌++◌, Option, Some, None, is_some, ◌⊎◌, inl, inr, ⊎_elim, eqb-true, eq-eqb}
 use Rattle.version_tree.specs.Map.{get}
-use Rattle.lock_modes.specs.Mode.{compatible}
+use Rattle.lock_modes.specs.Mode.{compatible, AtLeast}
 use Rattle.lock_modes.specs.declared.mode.Mode.{Mode}
 use Rattle.lock_modes.specs.declared.resource.Resource.{Resource}
 use Rattle.lock_modes.proofs.ModeLaws.{compatible-cover}
@@ -20,7 +20,7 @@ use Rattle.machine_model.specs.Session.{Held, Session}
 use Rattle.machine_model.specs.Go.{Scene, answer_in, look_with, waiting_with}
 use Rattle.session_machine.specs.Going.{IsScene}
 use Rattle.machine_model.specs.Claims.{claims_of}
-use Rattle.machine_model.specs.Sound.{HeldTogether, UnderLocks, HoldsAll, AtLeast}
+use Rattle.machine_model.specs.Sound.{HeldTogether, UnderLocks, HoldsAll}
 use Rattle.machine_model.proofs.Basics.{Each, both_true, or_true_left, not_both, cases-eq}
 use Rattle.machine_model.proofs.Claiming.{claims-asked, claims-cases}
 use Rattle.machine_model.proofs.Effects.{Friends, reads-off}
