@@ -1,5 +1,5 @@
 -- What a session that goes alone reads and writes.
-use Rattle.std.proofs.Common.{◌≡◌, refl, sym, ap, ◌∙◌, subst, Bool, true, false, cond, List, [], ◌∷◌, Option, Some, None}
+use Rattle.std.proofs.Common.{◌≡◌, refl, sym, ap, ◌∙◌, subst, Bool, true, false, cond, List, [], ◌∷◌, Option, Some, None, ◌⊎◌, inl, inr, ⊎_elim}
 use Rattle.version_tree.specs.Map.{same_key, same_key-true, get, insert, get-insert, get-keep, empty, get-empty, same_map}
 use Rattle.lock_modes.specs.Place.{Place, place_order}
 use Rattle.sql_statements.specs.Plan.{Tuple, plan, opened, looks_at}
@@ -8,7 +8,7 @@ use Rattle.statement_effects.specs.Effect.{visible, Effect, Gives, Faults, effec
 use Rattle.row_tables.proofs.OverlayLemmas.{over, get-lay}
 use Rattle.machine_model.specs.Session.{Task, Ask, Do, Session, Performed, Goes, Fails, Kind, Begins, Commits, RollsBack, Works, kind, perform, perform_by, worked}
 use Rattle.machine_model.specs.Go.{Stop, taking, solo, failed, finished_by, is_broken}
-use Rattle.machine_model.specs.Footprint.{AgreeBut, ReadsBut, SameBut, EachDo}
+use Rattle.machine_model.specs.Footprint.{AgreeBut, ReadsBut, SameChanges, EndsSame, EachDo}
 use Rattle.machine_model.specs.Claims.{Claims, may_write}
 use Rattle.transcripts.specs.declared.event.Fault.{Fault}
 use Rattle.transcripts.specs.declared.event.Fault.TheVariants.{Aborted}
@@ -40,53 +40,82 @@ effect-same st a b h = effect-looks st a b (λ p e. h p (looked-opened st p e))
 pub AgreeBut-lay : (hidden : Place → Bool) (a b : Rows') (o : Overlay) → AgreeBut hidden a b → AgreeBut hidden (lay o a) (lay o b)
 AgreeBut-lay hidden a b o h = record { each = λ p off. get-lay o a p ∙ ap (over (get o p)) (h.each p off) ∙ sym (get-lay o b p) }
 
-pub data SameWay (hidden : Place → Bool) : Performed → Performed → Type 0 where
-  both_go : {s : Session} {a b : Rows'} → AgreeBut hidden a b → SameWay hidden (Goes s a) (Goes s b)
-  both_fail : {f : Fault} → SameWay hidden (Fails f) (Fails f)
+-- ---- changes
 
-worked-same : (hidden : Place → Bool) (s : Session) (a b : Rows') (e : Effect) → AgreeBut hidden a b → SameWay hidden (worked s a e) (worked s b e)
-worked-same hidden s a b (Gives events writes) h = both_go h
-worked-same hidden s a b (Faults f) h = both_fail
+pub changes-none : (a b : Rows') → SameChanges a a b b
+changes-none a b p = inl (refl, refl)
 
-works-same : (hidden : Place → Bool) (s : Session) (a b : Rows') (st : Bound) → ReadsBut hidden st → AgreeBut hidden a b → SameWay hidden (worked s a (effect st (lay s.overlay a))) (worked s b (effect st (lay s.overlay b)))
+-- an overlay changes the same in both
+pub changes-lay : (o : Overlay) (a b : Rows') → SameChanges a (lay o a) b (lay o b)
+changes-lay o a b p = at (get o p) refl
+  where
+    at : (x : Option (Option Tuple)) → get o p ≡ x → ((get (lay o a) p ≡ get a p) × (get (lay o b) p ≡ get b p)) ⊎ (get (lay o a) p ≡ get (lay o b) p)
+    at None is = inl (get-lay o a p ∙ ap (λ x. over x (get a p)) is, get-lay o b p ∙ ap (λ x. over x (get b p)) is)
+    at (Some y) is = inr (get-lay o a p ∙ ap (λ x. over x (get a p)) is ∙ sym (get-lay o b p ∙ ap (λ x. over x (get b p)) is))
+
+-- changes one after another
+pub changes-then : (a x z b y v : Rows') → SameChanges a x b y → SameChanges x z y v → SameChanges a z b v
+changes-then a x z b y v first second p =
+    ⊎_elim
+    (λ s. ⊎_elim (λ f. inl (s.0 ∙ f.0, s.1 ∙ f.1)) (λ f. inr (s.0 ∙ f ∙ sym s.1)) (first p))
+    (λ s. inr s) (second p)
+
+-- rows that agreed still do
+pub agree-changed : (hidden : Place → Bool) (a x b y : Rows') → AgreeBut hidden a b → SameChanges a x b y → AgreeBut hidden x y
+agree-changed hidden a x b y h changes = record { each = λ p off. ⊎_elim (λ f. f.0 ∙ h.each p off ∙ sym f.1) (λ f. f) (changes p) }
+
+-- a statement on the rows a and b: both go the same way
+pub data SameWay (a b : Rows') : Performed → Performed → Type 0 where
+  both_go : {s : Session} {x y : Rows'} → SameChanges a x b y → SameWay a b (Goes s x) (Goes s y)
+  both_fail : {f : Fault} → SameWay a b (Fails f) (Fails f)
+
+worked-same : (s : Session) (a b : Rows') (e : Effect) → SameWay a b (worked s a e) (worked s b e)
+worked-same s a b (Gives events writes) = both_go (changes-none a b)
+worked-same s a b (Faults f) = both_fail
+
+works-same : (hidden : Place → Bool) (s : Session) (a b : Rows') (st : Bound) → ReadsBut hidden st → AgreeBut hidden a b
+    → SameWay a b (worked s a (effect st (lay s.overlay a))) (worked s b (effect st (lay s.overlay b)))
 works-same hidden s a b st off h =
     let e : effect st (lay s.overlay a) ≡ effect st (lay s.overlay b) = effect-same st _ _ (λ p o. (AgreeBut-lay hidden a b s.overlay h).each p (off.each p o)) in
-    subst (λ x. SameWay hidden (worked s a (effect st (lay s.overlay a))) (worked s b x)) e (worked-same hidden s a b _ h)
+    subst (λ x. SameWay a b (worked s a (effect st (lay s.overlay a))) (worked s b x)) e (worked-same s a b _)
 
-perform_by-same : (hidden : Place → Bool) (status : Status) (k : Kind) (s : Session) (a b : Rows') (st : Bound) → ReadsBut hidden st → AgreeBut hidden a b → SameWay hidden (perform_by status k s a st) (perform_by status k s b st)
-perform_by-same hidden Outside Begins s a b st off h = both_go h
-perform_by-same hidden InBlock Begins s a b st off h = both_go h
+pub perform_by-same : (hidden : Place → Bool) (status : Status) (k : Kind) (s : Session) (a b : Rows') (st : Bound) → ReadsBut hidden st → AgreeBut hidden a b
+    → SameWay a b (perform_by status k s a st) (perform_by status k s b st)
+perform_by-same hidden Outside Begins s a b st off h = both_go (changes-none a b)
+perform_by-same hidden InBlock Begins s a b st off h = both_go (changes-none a b)
 perform_by-same hidden Broken Begins s a b st off h = both_fail
-perform_by-same hidden Outside Commits s a b st off h = both_go (AgreeBut-lay hidden a b s.overlay h)
-perform_by-same hidden InBlock Commits s a b st off h = both_go (AgreeBut-lay hidden a b s.overlay h)
-perform_by-same hidden Broken Commits s a b st off h = both_go h
-perform_by-same hidden Outside RollsBack s a b st off h = both_go h
-perform_by-same hidden InBlock RollsBack s a b st off h = both_go h
-perform_by-same hidden Broken RollsBack s a b st off h = both_go h
+perform_by-same hidden Outside Commits s a b st off h = both_go (changes-lay s.overlay a b)
+perform_by-same hidden InBlock Commits s a b st off h = both_go (changes-lay s.overlay a b)
+perform_by-same hidden Broken Commits s a b st off h = both_go (changes-none a b)
+perform_by-same hidden Outside RollsBack s a b st off h = both_go (changes-none a b)
+perform_by-same hidden InBlock RollsBack s a b st off h = both_go (changes-none a b)
+perform_by-same hidden Broken RollsBack s a b st off h = both_go (changes-none a b)
 perform_by-same hidden Outside Works s a b st off h = works-same hidden s a b st off h
 perform_by-same hidden InBlock Works s a b st off h = works-same hidden s a b st off h
 perform_by-same hidden Broken Works s a b st off h = both_fail
 
-finished-same : (hidden : Place → Bool) (status : Status) (s : Session) (a b : Rows') → AgreeBut hidden a b → SameBut hidden (finished_by status s a) (finished_by status s b)
-finished-same hidden Outside s a b h = record { session = refl; rows = AgreeBut-lay hidden a b s.overlay h }
-finished-same hidden InBlock s a b h = record { session = refl; rows = h }
-finished-same hidden Broken s a b h = record { session = refl; rows = h }
+finished-same : (status : Status) (s : Session) (a b : Rows') → EndsSame a b (finished_by status s a) (finished_by status s b)
+finished-same Outside s a b = record { session = refl; changes = changes-lay s.overlay a b }
+finished-same InBlock s a b = record { session = refl; changes = changes-none a b }
+finished-same Broken s a b = record { session = refl; changes = changes-none a b }
 
 -- the session ends the same over rows that agree where it reads
-pub solo-same-but : (hidden : Place → Bool) (s : Session) (a b : Rows') (ts : List Task) → EachDo (ReadsBut hidden) ts → AgreeBut hidden a b → SameBut hidden (solo s a ts) (solo s b ts)
-solo-same-but hidden s a b [] off h = finished-same hidden s.status s a b h
+pub solo-same-but : (hidden : Place → Bool) (s : Session) (a b : Rows') (ts : List Task) → EachDo (ReadsBut hidden) ts → AgreeBut hidden a b → EndsSame a b (solo s a ts) (solo s b ts)
+solo-same-but hidden s a b [] off h = finished-same s.status s a b
 solo-same-but hidden s a b (Ask r m ∷ ts) off h = asked (is_broken s.status) (solo-same-but hidden (taking s r m) a b ts off h)
   where
-    asked : (t : Bool) → SameBut hidden (solo (taking s r m) a ts) (solo (taking s r m) b ts)
-        → SameBut hidden (elim t [ true ↦ failed s a Aborted | false ↦ solo (taking s r m) a ts ]) (elim t [ true ↦ failed s b Aborted | false ↦ solo (taking s r m) b ts ])
-    asked true rec = record { session = refl; rows = h }
+    asked : (t : Bool) → EndsSame a b (solo (taking s r m) a ts) (solo (taking s r m) b ts)
+        → EndsSame a b (elim t [ true ↦ failed s a Aborted | false ↦ solo (taking s r m) a ts ]) (elim t [ true ↦ failed s b Aborted | false ↦ solo (taking s r m) b ts ])
+    asked true rec = record { session = refl; changes = changes-none a b }
     asked false rec = rec
 solo-same-but hidden s a b (Do st ∷ ts) off h = done (perform s a st) (perform s b st) (perform_by-same hidden s.status (kind st) s a b st off.0 h) (λ s2 a2 b2 h2. solo-same-but hidden s2 a2 b2 ts off.1 h2)
   where
-    done : (x y : Performed) → SameWay hidden x y → ((s2 : Session) (a2 b2 : Rows') → AgreeBut hidden a2 b2 → SameBut hidden (solo s2 a2 ts) (solo s2 b2 ts))
-        → SameBut hidden (elim x [ Goes s2 a2 ↦ solo s2 a2 ts | Fails f ↦ failed s a f ]) (elim y [ Goes s2 b2 ↦ solo s2 b2 ts | Fails f ↦ failed s b f ])
-    done _ _ (both_go {s = s2} {a = a2} {b = b2} h2) rec = rec s2 a2 b2 h2
-    done _ _ both_fail rec = record { session = refl; rows = h }
+    done : (x y : Performed) → SameWay a b x y → ((s2 : Session) (a2 b2 : Rows') → AgreeBut hidden a2 b2 → EndsSame a2 b2 (solo s2 a2 ts) (solo s2 b2 ts))
+        → EndsSame a b (elim x [ Goes s2 a2 ↦ solo s2 a2 ts | Fails f ↦ failed s a f ]) (elim y [ Goes s2 b2 ↦ solo s2 b2 ts | Fails f ↦ failed s b f ])
+    done _ _ (both_go {s = s2} {x = a2} {y = b2} first) rec =
+        let rest = rec s2 a2 b2 (agree-changed hidden a a2 b b2 h first) in
+        record { session = rest.session; changes = changes-then a a2 (solo s2 a2 ts).rows b b2 (solo s2 b2 ts).rows first rest.changes }
+    done _ _ both_fail rec = record { session = refl; changes = changes-none a b }
 
 -- ---- hidden is what another side may write
 
@@ -96,14 +125,18 @@ AgreeOff claims a b = AgreeBut (may_write claims) a b
 abbrev pub ReadsOff : Claims → Bound → Type 0
 ReadsOff claims st = ReadsBut (may_write claims) st
 
-abbrev pub SameStop : Claims → Stop → Stop → Type 0
-SameStop claims x y = SameBut (may_write claims) x y
+-- the session stands the same, and the rows agree where the side may not write
+pub record SameStop (claims : Claims) (x y : Stop) : Type 0 where
+  pub session : x.session ≡ y.session
+  pub rows : AgreeOff claims x.rows y.rows
 
 pub AgreeOff-lay : (claims : Claims) (a b : Rows') (o : Overlay) → AgreeOff claims a b → AgreeOff claims (lay o a) (lay o b)
 AgreeOff-lay claims a b o h = AgreeBut-lay (may_write claims) a b o h
 
 pub solo-same : (claims : Claims) (s : Session) (a b : Rows') (ts : List Task) → EachDo (ReadsOff claims) ts → AgreeOff claims a b → SameStop claims (solo s a ts) (solo s b ts)
-solo-same claims s a b ts off h = solo-same-but (may_write claims) s a b ts off h
+solo-same claims s a b ts off h =
+    let same = solo-same-but (may_write claims) s a b ts off h in
+    record { session = same.session; rows = agree-changed (may_write claims) a (solo s a ts).rows b (solo s b ts).rows h same.changes }
 
 -- ---- a session writes where it may
 

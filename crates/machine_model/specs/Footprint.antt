@@ -1,5 +1,5 @@
 -- What a session reads and writes while each of its requests is had.
-use Rattle.std.specs.Prelude.{◌≡◌, ℕ, Bool, true, false, List, [], ◌∷◌, Some}
+use Rattle.std.specs.Prelude.{◌≡◌, ◌⊎◌, ℕ, Bool, true, false, List, [], ◌∷◌, Some}
 use Rattle.version_tree.specs.Map.{get}
 use Rattle.lock_modes.specs.Place.{Place}
 use Rattle.lock_queues.specs.Locks.{fits, nobody_waits, may_have}
@@ -37,9 +37,14 @@ pub record AgreeBut (hidden : Place → Bool) (a b : Rows') : Type 0 where
 pub record ReadsBut (hidden : Place → Bool) (st : Bound) : Type 0 where
   pub each : (p : Place) → opened (plan st) p ≡ true → hidden p ≡ false
 
-pub record SameBut (hidden : Place → Bool) (x y : Stop) : Type 0 where
+-- from the rows a and b on, two runs that end in x and y leave each place as it was, or leave the same there
+abbrev pub SameChanges : Rows' → Rows' → Rows' → Rows' → Type 0
+SameChanges a x b y = (p : Place) → ((get x p ≡ get a p) × (get y p ≡ get b p)) ⊎ (get x p ≡ get y p)
+
+-- two stops of one session, from the rows a and b on: it stands the same, and changed the same
+pub record EndsSame (a b : Rows') (x y : Stop) : Type 0 where
   pub session : x.session ≡ y.session
-  pub rows : AgreeBut hidden x.rows y.rows
+  pub changes : SameChanges a x.rows b y.rows
 
 -- each request is had when it is asked
 abbrev pub AllHad : Scene → ℕ → Session → Rows' → List Task → Type 0

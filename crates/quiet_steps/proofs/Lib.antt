@@ -2,7 +2,7 @@ pub mod Commute
 pub mod FromQuiet
 pub mod Mutual
 pub mod Calm
-pub mod Alone
+pub mod Footprints
 pub mod Swaps
 pub mod Lines
 pub mod Leading

@@ -1,15 +1,13 @@
 -- The laws of quiet steps, of swaps and of what is true of ranks.
-use Rattle.std.specs.Prelude.{◌≡◌, ◌≢◌, ◌↔◌, ℕ, ◌<◌, Bool, true, false, List, [], get_or, Some}
+use Rattle.std.specs.Prelude.{◌≡◌, ◌≢◌, ◌↔◌, ℕ, ◌<◌, Bool, true, ◌++◌, List, [], get_or, Some}
 use Rattle.sql_subset.specs.Spec.{Spec, Step, no_step, Queues, queues_of, line, line_of, IsBound}
 use Rattle.machine_model.specs.World.{World, send, send_all, session_at, scene_of}
-use Rattle.machine_model.specs.Go.{go, solo, stopped}
-use Rattle.machine_model.specs.Session.{tasks_of}
-use Rattle.version_tree.specs.Map.{get}
+use Rattle.machine_model.specs.Session.{Session, Task, tasks_of}
 use Rattle.lock_modes.specs.Place.{Place}
-use Rattle.machine_model.specs.Footprint.{AllHad, EachDo, ReadsBut, AgreeBut, SameBut}
+use Rattle.machine_model.specs.Footprint.{AllHad}
+use Rattle.quiet_steps.specs.Footprint.{Leads, Footprint, FootprintUntil}
 use Rattle.sql_statements.specs.declared.statement.Bound.{Bound}
 use Rattle.quiet_steps.specs.Quiet.{is_quiet, SentCalmly}
-use Rattle.machine_model.specs.Claims.{plans, claims_of, may_write}
 use Rattle.machine_model.specs.Sound.{Sound}
 use Rattle.perm_ranks.specs.Words.{Word}
 use Rattle.perm_ranks.specs.Swapped.{exchanged}
@@ -80,14 +78,15 @@ FactsAreOne = (reduce : Bool) (spec : Spec) (r : ℕ) (fact : Fact) → (fact_of
 abbrev pub LinesRun : Type 0
 LinesRun = (reduce : Bool) (spec : Spec) (r : ℕ) (fact : Fact) → spec.lines ≢ [] → IsFactOf reduce spec r fact → (outcome : List (List Event)) × (fact ≡ Ran outcome)
 
--- a session whose requests are all had goes as if alone: it ends the same over rows that agree where its plans let it read, and it changes rows only where it claims to write
-pub record Footprint (w : World) (i : ℕ) (ss : List Bound) : Type 0 where
-  pub alone : go (scene_of w) i (session_at w i) w.rows (tasks_of ss) ≡ stopped (scene_of w) (solo (session_at w i) w.rows (tasks_of ss))
-  pub reads : (hidden : Place → Bool) (b : Rows') → EachDo (ReadsBut hidden) (tasks_of ss) → AgreeBut hidden w.rows b → SameBut hidden (solo (session_at w i) w.rows (tasks_of ss)) (solo (session_at w i) b (tasks_of ss))
-  pub writes : (p : Place) → may_write (claims_of (session_at w i).held (plans ss)) p ≡ false → get (solo (session_at w i) w.rows (tasks_of ss)).rows p ≡ get w.rows p
-
+-- the footprint of a step whose requests are all had
 abbrev pub StepsHaveFootprints : Type 0
 StepsHaveFootprints = (w : World) (i : ℕ) (ss : List Bound) → Sound w → AllHad (scene_of w) i (session_at w i) w.rows (tasks_of ss) → Footprint w i ss
+
+-- the footprint of a step up to a request that may not be had
+abbrev pub StepsHaveFootprintsUntil : Type 0
+StepsHaveFootprintsUntil =
+    (w : World) (i : ℕ) (ss : List Bound) (ts us : List Task) (t : Session) (rows : Rows') → Sound w → tasks_of ss ≡ ts ++ us
+    → AllHad (scene_of w) i (session_at w i) w.rows ts → Leads (session_at w i) w.rows ts t rows → FootprintUntil w i ts us t rows
 
 -- the plan of a statement opens every row that the statement looks at
 abbrev pub PlansOpen : Type 0

@@ -1,4 +1,5 @@
 pub mod Quiet
+pub mod Footprint
 pub mod Swap
 pub mod Facts
 pub mod Values

@@ -1,6 +1,6 @@
 //! The laws of quiet steps and of facts, each the contract of a function that does nothing.
 
-ghost use Rattle.quiet_steps.specs.Laws.{QuietStepsCommute, QuietIsMutual, QuietStepsAreCalm, StepsHaveFootprints, PlansOpen, SwapKeepsWorlds, LettersAreSteps, ChainsEnd, SwapsLeadDown, SwapsHold, FactsAreOne, LinesRun, Headline};
+ghost use Rattle.quiet_steps.specs.Laws.{QuietStepsCommute, QuietIsMutual, QuietStepsAreCalm, StepsHaveFootprints, StepsHaveFootprintsUntil, PlansOpen, SwapKeepsWorlds, LettersAreSteps, ChainsEnd, SwapsLeadDown, SwapsHold, FactsAreOne, LinesRun, Headline};
 
 /// Two quiet steps may be sent in either order.
 pub fn quiet_steps_commute()
@@ -17,9 +17,14 @@ pub fn quiet_steps_are_calm()
     ensures { QuietStepsAreCalm }
 {}
 
-/// A session whose requests are all had goes as if alone, reads what its plans open and writes where it claims to.
+/// A session whose requests are all had goes as if alone, reads what its plans open and writes where it holds the locks to.
 pub fn steps_have_footprints()
     ensures { StepsHaveFootprints }
+{}
+
+/// The same of a step up to a request that may not be had.
+pub fn steps_have_footprints_until()
+    ensures { StepsHaveFootprintsUntil }
 {}
 
 /// The plan of a statement opens every row that the statement looks at.

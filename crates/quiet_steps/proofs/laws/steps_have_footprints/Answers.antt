@@ -1,4 +1,4 @@
-use Rattle.quiet_steps.proofs.Alone.{footprint}
+use Rattle.quiet_steps.proofs.Footprints.{footprint}
 use Rattle.quiet_steps.proofs.laws.steps_have_footprints.Goals as goal
 
 pub returns : goal.returns
