@@ -324,9 +324,6 @@ module _ (w : World) (spot : Spot) (st : Steady w) (g : Grant (length w.sessions
       let c = left-without w.sessions spot.before spot.wait spot.after in
       omega arith
 
-  pub granted-count : length (granted w spot).sessions ≡ length w.sessions
-  granted-count = goes-count without spot.wait.session resumed its_session.rest entering-granted
-
 pub sound-from : (w : World) → Steady w → next_grant (length w.sessions) (look_of w) w.waits ≡ None → Sound w
 sound-from w st e = record { steady = st; unripe = e }
 

@@ -4,7 +4,7 @@ use Rattle.std.specs.List.{list_any}
 use Rattle.version_tree.specs.Map.{empty}
 use Rattle.lock_queues.specs.Locks.{waits_now}
 use Rattle.transcripts.specs.declared.event.Event.{Event}
-use Rattle.transcripts.specs.declared.event.Event.TheVariants.{Failed}
+use Rattle.transcripts.specs.declared.event.Event.TheVariants.{Sent, Row as RowEvent, Rows, Inserted, Updated, Deleted, Began, Committed, RolledBack, Locked, Set, Warned, Failed, Waiting, Resumed, Done, NotSent}
 use Rattle.machine_model.specs.declared.status.Status.{Status}
 use Rattle.machine_model.specs.declared.status.Status.TheVariants.{Outside, InBlock, Broken}
 use Rattle.sql_statements.specs.declared.statement.Bound.{Bound}
@@ -20,7 +20,23 @@ pub data Start : Type 0 where
   SessionSetupWaits : (session : ℕ) → Start
 
 abbrev pub is_failure : Event → Bool
-is_failure e = elim e [ Failed f ↦ true | _ ↦ false ]
+is_failure (Sent k) = false
+is_failure (RowEvent r) = false
+is_failure (Rows n) = false
+is_failure (Inserted n) = false
+is_failure (Updated n) = false
+is_failure (Deleted n) = false
+is_failure Began = false
+is_failure Committed = false
+is_failure RolledBack = false
+is_failure Locked = false
+is_failure Set = false
+is_failure (Warned w) = false
+is_failure (Failed f) = true
+is_failure Waiting = false
+is_failure Resumed = false
+is_failure Done = false
+is_failure (NotSent k) = false
 
 abbrev pub has_failed : Session → Bool
 has_failed s = list_any is_failure s.transcript

@@ -8,7 +8,7 @@ use Rattle.sql_statements.specs.Plan.{Request}
 use Rattle.machine_model.specs.World.{World, session_at, look_of}
 use Rattle.sql_subset.specs.Spec.{Step}
 use Rattle.transcripts.specs.declared.event.Event.{Event}
-use Rattle.transcripts.specs.declared.event.Event.TheVariants.{Sent, Waiting, Resumed, NotSent}
+use Rattle.transcripts.specs.declared.event.Event.TheVariants.{Sent, Row as RowEvent, Rows, Inserted, Updated, Deleted, Began, Committed, RolledBack, Locked, Set, Warned, Failed, Waiting, Resumed, Done, NotSent}
 use Rattle.machine_model.specs.Claims.{plans}
 
 -- each request fits beside what sessions other than i hold
@@ -37,7 +37,23 @@ is_quiet w s t =
 
 -- the event tells of no wait
 abbrev pub is_calm : Event → Bool
-is_calm e = elim e [ Waiting ↦ false | Resumed ↦ false | NotSent k ↦ false | _ ↦ true ]
+is_calm (Sent k) = true
+is_calm (RowEvent r) = true
+is_calm (Rows n) = true
+is_calm (Inserted n) = true
+is_calm (Updated n) = true
+is_calm (Deleted n) = true
+is_calm Began = true
+is_calm Committed = true
+is_calm RolledBack = true
+is_calm Locked = true
+is_calm Set = true
+is_calm (Warned w) = true
+is_calm (Failed f) = true
+is_calm Waiting = false
+is_calm Resumed = false
+is_calm Done = true
+is_calm (NotSent k) = false
 
 abbrev pub AllCalm : List Event → Type 0
 AllCalm [] = Unit {0}

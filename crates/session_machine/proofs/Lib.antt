@@ -6,6 +6,6 @@ pub mod Steps
 pub mod Worlds
 pub mod Waiting
 pub mod Stages
-pub mod SetUps
+pub mod SetUpLemmas
 pub mod Answered
 pub mod Standing

@@ -70,9 +70,6 @@ goes-on-stops i x y z ts us p q = record {
 released-undone : (i : ℕ) (x : Standing) (own : Own) → session_of (undone i x.layers) (let_go x.locks i) i own ≡ record (released (session_in i x)) { status = own.status; rest = own.rest; transcript = own.transcript }
 released-undone i x own = λ k. record { overlay = overlay-undone i x.layers k; held = held-let_go x.locks i k; status = own.status; rest = own.rest; transcript = own.transcript }
 
-released-kept : (i : ℕ) (x : Standing) (own : Own) → session_of (kept i x.layers) (let_go x.locks i) i own ≡ record (released (session_in i x)) { status = own.status; rest = own.rest; transcript = own.transcript }
-released-kept i x own = λ k. record { overlay = overlay-kept i x.layers k; held = held-let_go x.locks i k; status = own.status; rest = own.rest; transcript = own.transcript }
-
 others-undone : (i : ℕ) (x : Standing) → SameOthers i x.layers (undone i x.layers) x.locks (let_go x.locks i)
 others-undone i x = same-trans i x.layers (undone i x.layers) (undone i x.layers) x.locks x.locks (let_go x.locks i) (same-undone i x.layers x.locks) (same-let_go (undone i x.layers) x.locks i)
 
@@ -192,15 +189,6 @@ ends-inside i x inside = record {
 -- ---- blocks
 
 module _ (i : ℕ) (l : Layers) (t : Locks) (s : SessionState) (st : Bound) (ts : List Task) where
-  pub begins-there : kind st ≡ Begins → is_broken s.status ≡ false → GoesOnTo i (standing l t s) (Do st ∷ ts) (standing l t (begun_in s)) ts
-  begins-there is whole = goes-there i (standing l t s) (standing l t (begun_in s)) st ts (ap (λ k. perform_by s.status k (session_in i (standing l t s)) l.committed st) is ∙ at s.status s.transcript whole) (same-refl i l t) refl
-    where
-      at : (status : Status) (tr : List Event) → is_broken status ≡ false
-          → perform_by status Begins (session_of l t i (record { status = status; rest = []; transcript = tr })) l.committed st ≡ Goes (session_in i (standing l t (begun_by status tr))) l.committed
-      at Outside tr h = refl
-      at InBlock tr h = refl
-      at Broken tr h = cc
-
   -- the session without its overlay and its locks
   dropped-in : (own : Own) → record { overlay = empty; held = empty; status = own.status; rest = own.rest; transcript = own.transcript } ≡ session_of (undone i l) (let_go t i) i own
   dropped-in own = λ k. record { overlay = sym (overlay-undone i l) k; held = sym (held-let_go t i) k; status = own.status; rest = own.rest; transcript = own.transcript }
@@ -264,17 +252,6 @@ ends-there i x idle = at x.own.status refl
     at Broken is = ends-inside i x (λ e. let no : Broken ≡ Outside = sym is ∙ e in cc)
 
 -- ---- one statement
-
-pub kind-works : (st : Bound) → (st ≡ Begin → ⊥) → (st ≡ Commit → ⊥) → (st ≡ Rollback → ⊥) → kind st ≡ Works
-kind-works Begin a b c = absurd (a refl)
-kind-works Commit a b c = absurd (b refl)
-kind-works Rollback a b c = absurd (c refl)
-kind-works (Select t key w by out) a b c = refl
-kind-works (Insert t key new) a b c = refl
-kind-works (Update t key sets w) a b c = refl
-kind-works (Delete t key w) a b c = refl
-kind-works (LockTable t m) a b c = refl
-kind-works SetVariable a b c = refl
 
 -- an effect that faults leaves and tells nothing
 faults-nothing : (i : ℕ) (e : Effect) (f : Fault) (l : Layers) → fault_of e ≡ Some f → (left_by i e l ≡ l) × (events_of e ≡ [])

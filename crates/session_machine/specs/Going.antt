@@ -72,10 +72,6 @@ told x e = record { layers = x.layers; locks = x.locks; own = record { status = 
 abbrev pub committed : ℕ → Standing → Status → Standing
 committed i x status = record { layers = kept i x.layers; locks = let_go x.locks i; own = record { status = status; rest = x.own.rest; transcript = x.own.transcript } }
 
--- its writes are dropped, and its locks go
-abbrev pub rolled_back : ℕ → Standing → Status → Standing
-rolled_back i x status = record { layers = undone i x.layers; locks = let_go x.locks i; own = record { status = status; rest = x.own.rest; transcript = x.own.transcript } }
-
 -- a fault ends its step
 abbrev pub failed_in : ℕ → Standing → Fault → Standing
 failed_in i x f = record { layers = undone i x.layers; locks = let_go x.locks i; own = record { status = after_fault x.own.status; rest = []; transcript = x.own.transcript ++ Failed f ∷ Done ∷ [] } }

@@ -1,8 +1,37 @@
--- Worlds between the setups of a spec, before any step is sent.
-use Rattle.std.specs.Prelude.{◌≡◌, ℕ, suc, [], length, All}
+-- Setups on a stage, before any step is sent: how each of them ends, and the stage between them.
+use Rattle.std.specs.Prelude.{◌≡◌, ℕ, suc, Bool, true, false, List, [], length, All}
+use Rattle.lock_queues.specs.Locks.{waits_now}
+use Rattle.sql_statements.specs.declared.statement.Bound.{Bound}
 use Rattle.session_machine.specs.declared.stage.Stage.{Stage}
+use Rattle.session_machine.specs.declared.setups.SetUp.{SetUp}
+use Rattle.session_machine.specs.declared.setups.SetUp.TheVariants as end
+use Rattle.machine_model.specs.World.{session_at}
+use Rattle.machine_model.specs.Start.{IsAlone, IsIdle, has_failed, is_outside, after_setup, forgotten}
 use Rattle.session_machine.specs.Stage.{world_in, IsStage, IsSilent}
-use Rattle.machine_model.specs.Start.{IsAlone, IsIdle}
+
+-- how a setup ends by whether a fault was told, a request waits and no block is open
+abbrev pub end_of : Bool → Bool → Bool → SetUp
+end_of true waits outside = end.Failed
+end_of false true outside = end.Waits
+end_of false false true = end.Closed
+end_of false false false = end.Open
+
+-- a setup is done without a fault or a wait, and what it told is forgotten
+pub record IsSetUp (i : ℕ) (block : List Bound) (x y : Stage) : Type 0 where
+  pub whole : has_failed (session_at (after_setup (world_in [] x) i block) i) ≡ false
+  pub idle : waits_now (after_setup (world_in [] x) i block).waits i ≡ false
+  pub world : world_in [] y ≡ forgotten (after_setup (world_in [] x) i block) i
+  pub stage : IsStage [] y
+  pub silent : All IsSilent x.members.items → All IsSilent y.members.items
+  pub count : length y.members.items ≡ length x.members.items
+
+-- how a setup has ended
+abbrev pub HasEnded : SetUp → ℕ → List Bound → Stage → Stage → Type 0
+HasEnded end.Failed i block x y = has_failed (session_at (after_setup (world_in [] x) i block) i) ≡ true
+HasEnded end.Waits i block x y =
+    (has_failed (session_at (after_setup (world_in [] x) i block) i) ≡ false) × (waits_now (after_setup (world_in [] x) i block).waits i ≡ true)
+HasEnded end.Open i block x y = IsSetUp i block x y × (is_outside (session_at (after_setup (world_in [] x) i block) i).status ≡ false)
+HasEnded end.Closed i block x y = IsSetUp i block x y × (is_outside (session_at (after_setup (world_in [] x) i block) i).status ≡ true)
 
 -- a stage for the main setups, with the control session behind the others
 pub record IsReadyForMains (control : ℕ) (s : Stage) : Type 0 where

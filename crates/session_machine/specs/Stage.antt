@@ -1,5 +1,5 @@
 -- The world that a store, a lock table and the sessions kept beside them stand for, and what holds of them.
-use Rattle.std.specs.Prelude.{◌≡◌, ℕ, suc, ◌<◌, ◌≤◌, Bool, true, false, List, [], ◌∷◌, ◌++◌, length, map, set, get_or, drop, All, replicate, Option, Some, None, is_some}
+use Rattle.std.specs.Prelude.{◌≡◌, ℕ, suc, ◌<◌, ◌≤◌, Bool, false, List, [], ◌∷◌, ◌++◌, length, map, set, get_or, drop, All, replicate, Option, Some, None, is_some}
 use Rattle.version_tree.specs.Map.{empty}
 use Rattle.lock_queues.specs.Locks.{next_grant, waits_now}
 use Rattle.lock_queues.specs.LockTable.{Locks, no_locks}
@@ -14,14 +14,11 @@ use Rattle.session_machine.specs.declared.stepping.Point.{Point}
 use Rattle.session_machine.specs.declared.member.Rest.{Rest}
 use Rattle.session_machine.specs.declared.member.Member.{Member}
 use Rattle.session_machine.specs.declared.stage.Stage.{Stage}
-use Rattle.session_machine.specs.declared.stage.SetUp.{SetUp}
 use Rattle.machine_model.specs.Session.{Task}
 use Rattle.session_machine.specs.State.{Own, world_of}
 use Rattle.session_machine.specs.Going.{Standing, standing, tasks_from, StopsIn, WaitsIf}
-use Rattle.machine_model.specs.World.{World, look_of, session_at, settle, left_to_do}
-use Rattle.machine_model.specs.Start.{has_failed, is_outside, after_setup, forgotten}
+use Rattle.machine_model.specs.World.{World, look_of, settle, left_to_do}
 use Rattle.machine_model.specs.Sound.{Steady}
-use Rattle.session_machine.specs.declared.stage.SetUp.TheVariants as end
 
 abbrev pub no_member : Member
 no_member = record { state = record { status = Outside; transcript = [] }; rest = None }
@@ -103,13 +100,6 @@ abbrev pub rest_at : ℕ → Option Point → Option Rest
 rest_at k None = None
 rest_at k (Some p) = Some (record { step = k; point = p })
 
--- how a setup ends by whether a fault was told, a request waits and no block is open
-abbrev pub end_of : Bool → Bool → Bool → SetUp
-end_of true waits outside = end.Failed
-end_of false true outside = end.Waits
-end_of false false true = end.Closed
-end_of false false false = end.Open
-
 -- nothing is stored and nothing locked, and the sessions have done nothing
 pub record IsBlank (count : ℕ) (s : Stage) : Type 0 where
   pub store : s.store ≡ no_rows
@@ -129,20 +119,3 @@ pub record HasResumed (steps : List Step) (x y : Stage) : Type 0 where
   pub less : left_to_do (world_in steps y) < left_to_do (world_in steps x)
   pub stage : IsStage steps y
   pub count : length y.members.items ≡ length x.members.items
-
--- a setup is done without a fault or a wait, and what it told is forgotten
-pub record IsSetUp (i : ℕ) (block : List Bound) (x y : Stage) : Type 0 where
-  pub whole : has_failed (session_at (after_setup (world_in [] x) i block) i) ≡ false
-  pub idle : waits_now (after_setup (world_in [] x) i block).waits i ≡ false
-  pub world : world_in [] y ≡ forgotten (after_setup (world_in [] x) i block) i
-  pub stage : IsStage [] y
-  pub silent : All IsSilent x.members.items → All IsSilent y.members.items
-  pub count : length y.members.items ≡ length x.members.items
-
--- how a setup has ended
-abbrev pub HasEnded : SetUp → ℕ → List Bound → Stage → Stage → Type 0
-HasEnded end.Failed i block x y = has_failed (session_at (after_setup (world_in [] x) i block) i) ≡ true
-HasEnded end.Waits i block x y =
-    (has_failed (session_at (after_setup (world_in [] x) i block) i) ≡ false) × (waits_now (after_setup (world_in [] x) i block).waits i ≡ true)
-HasEnded end.Open i block x y = IsSetUp i block x y × (is_outside (session_at (after_setup (world_in [] x) i block) i).status ≡ false)
-HasEnded end.Closed i block x y = IsSetUp i block x y × (is_outside (session_at (after_setup (world_in [] x) i block) i).status ≡ true)

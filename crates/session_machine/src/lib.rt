@@ -8,8 +8,8 @@ mod member;
 mod performing;
 mod runs;
 mod session;
+mod setups;
 mod stage;
-mod starting;
 mod stepping;
 mod world;
 

@@ -1,38 +1,21 @@
 //! What the steps of a world change: the rows, the locks and the sessions.
 
-ghost use Rattle.std.specs.Prelude.{◌≡◌, ◌<◌, [], length, drop, All, is_some, IfOk, OnOk};
-ghost use Rattle.std.specs.List.{list_any};
+ghost use Rattle.std.specs.Prelude.{◌≡◌, ◌<◌, [], length, drop, IfOk, OnOk};
 ghost use Rattle.lock_queues.specs.Locks.{waits_now};
 ghost use Rattle.lock_queues.specs.Rules.{IsNextOf};
-ghost use Rattle.sql_statements.specs.Plan.{HasKeys, IsShort};
 ghost use Rattle.machine_model.specs.World.{send, settle};
-ghost use Rattle.machine_model.specs.Start.{is_failure, has_failed, is_outside};
 ghost use Rattle.session_machine.specs.Going.{tasks_from, IsToGo};
 ghost use Rattle.session_machine.specs.Stage as spec;
-ghost use Rattle.session_machine.specs.Stage.{statements_of, world_in, IsStage, IsSettled, IsBlank, HasSameParts, HasTold, HasGone, HasResumed, HasEnded};
+ghost use Rattle.session_machine.specs.Stage.{statements_of, world_in, IsStage, IsSettled, IsBlank, HasSameParts, HasTold, HasGone, HasResumed};
 
 use crate::member::{Member, Rest};
-use crate::session::SessionState;
 use crate::stepping::{Point, go_on};
 use lock_queues::LockTable;
 use row_tables::Store;
-use sql_subset::{Block, Spec};
+use sql_subset::Spec;
 use std::alloc::{AllocError, Global};
-use transcripts::{Event, Log};
+use transcripts::Event;
 use version_tree::Fork;
-
-/// How a setup ended.
-#[derive(Clone, Copy, Debug, PartialEq, Eq)]
-pub(crate) enum SetUp {
-    /// A statement of it failed.
-    Failed,
-    /// A request of it waits.
-    Waits,
-    /// All of it went through, and a transaction block is open.
-    Open,
-    /// All of it went through, and no transaction block is open.
-    Closed,
-}
 
 /// The rows, the locks and the sessions of a world.
 #[derive(Drop)]
@@ -153,34 +136,6 @@ impl Stage {
         self.tell(session, Event::Resumed)?;
         self.go(alloc, spec, session, rest.step, rest.point)
     }
-
-    /// Runs a setup of a session and forgets what it tells.
-    pub(crate) fn set_up(
-        &mut self,
-        alloc: Global,
-        session: u8,
-        block: &Block,
-    ) -> Result<SetUp, AllocError>
-        requires stage { IsStage [] self.old }
-        requires inside { session < length self.old.members.items }
-        requires keys { All HasKeys block.now }
-        requires short { All IsShort block.now }
-        ensures { IfOk result (λ end. HasEnded end session block.now self.old self.new) }
-    {
-        let member = &mut self.members[session as usize];
-        let stopped = go_on(
-            alloc,
-            &mut self.store,
-            &mut self.locks,
-            session,
-            &mut member.state,
-            block.statements(),
-            Point::start(),
-        )?;
-        let end = end_of(&member.state, stopped)?;
-        member.state.transcript = Log::new(alloc);
-        Ok(end)
-    }
 }
 
 /// What is left of a step that stopped there.
@@ -191,34 +146,4 @@ fn rest_at(step: u8, stopped: Option<Point>) -> Option<Rest>
         None => None,
         Some(point) => Some(Rest { step, point }),
     }
-}
-
-/// How a setup ended, after which its session stands so.
-fn end_of(state: &SessionState, stopped: Option<Point>) -> Result<SetUp, AllocError>
-    ensures { IfOk result (λ end. end ≡ spec.end_of (list_any is_failure state.now.transcript) (is_some stopped) (is_outside state.now.status)) }
-{
-    if has_failed(&state.transcript)? {
-        return Ok(SetUp::Failed);
-    }
-    if stopped.is_some() {
-        return Ok(SetUp::Waits);
-    }
-    if state.status.is_outside() {
-        return Ok(SetUp::Closed);
-    }
-    Ok(SetUp::Open)
-}
-
-/// Whether a fault was told.
-fn has_failed(log: &Log) -> Result<bool, AllocError>
-    ensures { IfOk result (λ failed. failed ≡ list_any is_failure log.now) }
-{
-    let transcript = log.to_transcript()?;
-    Ok(any_failure(transcript.events()))
-}
-
-fn any_failure(events: &[Event]) -> bool
-    ensures { result ≡ list_any is_failure events.now }
-{
-    events.iter().any(|event| matches!(event, Event::Failed(_)))
 }

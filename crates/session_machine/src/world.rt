@@ -12,8 +12,8 @@ ghost use Rattle.session_machine.specs.Running.{IsKnown, IsRefusedBy, held_in, w
 
 use crate::error::{SendError, StartError};
 use crate::member::Member;
+use crate::setups::{main_setups, session_setups};
 use crate::stage::Stage;
-use crate::starting::{main_setups, session_setups};
 use lock_modes::{Mode, Place};
 use sql_subset::Spec;
 use std::alloc::{AllocError, Global};

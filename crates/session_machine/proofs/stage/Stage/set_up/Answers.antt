@@ -3,9 +3,10 @@ use Rattle.session_machine.specs.declared.member.Member.{Member}
 use Rattle.session_machine.specs.declared.stepping.Point.{Point}
 use Rattle.session_machine.specs.declared.stage.Stage.{Stage}
 use Rattle.session_machine.specs.Going.{standing, IsToGo, GoesUntil}
-use Rattle.session_machine.specs.Stage.{no_member, member_at, HasEnded}
+use Rattle.session_machine.specs.Stage.{no_member, member_at}
+use Rattle.session_machine.specs.SetUp.{HasEnded}
 use Rattle.session_machine.proofs.Stages.{get_or-any}
-use Rattle.session_machine.proofs.SetUps.{set-up-to-go, ended}
+use Rattle.session_machine.proofs.SetUpLemmas.{set-up-to-go, ended}
 use Rattle.session_machine.proofs.stage.Stage.set_up.Goals as goal
 
 pub go_on-requires-clause-ready : goal.go_on-requires-clause-ready

@@ -4,7 +4,7 @@ use Rattle.machine_model.specs.Start.{Started, main_setups, session_setups, star
 use Rattle.session_machine.specs.Running.{IsRefusedBy}
 use Rattle.session_machine.specs.Stage.{world_in, IsBlank}
 use Rattle.session_machine.specs.SetUp.{IsReadyForSessions}
-use Rattle.session_machine.proofs.SetUps.{any-steps, ready-for-mains, refused-mains, start-sessions, refused-sessions, settled-first}
+use Rattle.session_machine.proofs.SetUpLemmas.{any-steps, ready-for-mains, refused-mains, start-sessions, refused-sessions, settled-first}
 use Rattle.session_machine.proofs.world.World.start.Goals as goal
 
 pub main_setups-requires-clause-ready : goal.main_setups-requires-clause-ready

@@ -24,7 +24,8 @@ use Rattle.machine_model.specs.World.{World, fresh, session_at, goes, look_of}
 use Rattle.machine_model.specs.Start.{has_failed, is_failure, is_outside, after_setup, forgotten, IsAlone, Start, Started, SetupFailed, SessionSetupFailed, SessionSetupWaits, main_setups, session_setups, started_then, start, IsIdle}
 use Rattle.machine_model.specs.Sound.{Steady}
 use Rattle.sql_subset.specs.Spec.{Step, Spec}
-use Rattle.session_machine.specs.Stage.{no_member, rest_of, own_of, world_in, member_at, IsWithin, RestIsOf, IsStage, IsBlank, IsSilent, IsSetUp, HasEnded, end_of, IsSettled}
+use Rattle.session_machine.specs.Stage.{no_member, rest_of, own_of, world_in, member_at, IsWithin, RestIsOf, IsStage, IsBlank, IsSilent, IsSettled}
+use Rattle.session_machine.specs.SetUp.{IsSetUp, HasEnded, end_of}
 use Rattle.session_machine.specs.SetUp.{IsReadyForMains, IsReadyForSessions}
 use Rattle.session_machine.proofs.Steps.{tasks_from-start}
 use Rattle.session_machine.proofs.States.{length-sessions_from, session_at-is, sessions-set, same-refl}
@@ -183,9 +184,6 @@ ready-for-mains n x blank = record {
       (record { steady = first-steady n; idle = refl; others = λ c ne. get_or-replicate (suc n) c fresh; count = length-replicate (suc n) fresh });
 }
 
-pub ready-for-sessions : (n : ℕ) (x : Stage) → IsReadyForMains n x → IsReadyForSessions (suc n) x
-ready-for-sessions n x ready = record { each = ready.count; stage = ready.stage; silent = ready.silent; world = record { steady = ready.world.steady; idle = ready.world.idle; count = ready.world.count } }
-
 -- ---- the world of the first step
 
 own-kept : (steps : List Step) (ms : List Member) → All (RestIsOf 0) ms → map (own_of steps) ms ≡ map (own_of []) ms
@@ -264,14 +262,6 @@ module _ (control n : ℕ) (w : World) (block : List Bound) (blocks : List (List
   unfolding by
   main-goes whole outside = λ k. by (whole k || not (outside k))
 
-  pub main-fails : has_failed (session_at gone control) ≡ true → main_setups control n w (block ∷ blocks) ≡ SetupFailed n
-  unfolding by
-  main-fails failed = λ k. by (failed k || not (is_outside (session_at gone control).status))
-
-  pub main-open : has_failed (session_at gone control) ≡ false → is_outside (session_at gone control).status ≡ false → main_setups control n w (block ∷ blocks) ≡ SetupFailed n
-  unfolding by
-  main-open whole inside = λ k. by (whole k || not (inside k))
-
 -- the control session never waits
 pub main-idle : (control : ℕ) (x : Stage) (block : List Bound) → IsReadyForMains control x → waits_now (after_setup (world_in [] x) control block).waits control ≡ false
 main-idle control x block ready =
@@ -300,14 +290,6 @@ module _ (i : ℕ) (w : World) (block : List Bound) (blocks : List (List Bound))
   pub session-goes : has_failed (session_at later i) ≡ false → waits_now later.waits i ≡ false → session_setups i w (block ∷ blocks) ≡ session_setups (suc i) (forgotten later i) blocks
   unfolding so
   session-goes whole idle = λ k. so (whole k) (idle k)
-
-  pub session-fails : has_failed (session_at later i) ≡ true → session_setups i w (block ∷ blocks) ≡ SessionSetupFailed i
-  unfolding so
-  session-fails failed = λ k. so (failed k) (waits_now later.waits i)
-
-  pub session-waits : has_failed (session_at later i) ≡ false → waits_now later.waits i ≡ true → session_setups i w (block ∷ blocks) ≡ SessionSetupWaits i
-  unfolding so
-  session-waits whole waits = λ k. so (whole k) (waits k)
 
 pub session-ready : (count i : ℕ) (x y : Stage) (block : List Bound) → i < count → IsReadyForSessions count x → IsSetUp i block x y → IsReadyForSessions count y
 session-ready count i x y block lt ready set-up = record {

@@ -2,7 +2,7 @@ use Rattle.std.proofs.Common.{◌≡◌, [], drop}
 use Rattle.machine_model.specs.Start.{main_setups}
 use Rattle.session_machine.specs.Stage.{world_in}
 use Rattle.session_machine.specs.SetUp.{IsReadyForMains}
-use Rattle.session_machine.proofs.starting.main_setups.Given as goal
+use Rattle.session_machine.proofs.setups.main_setups.Given as goal
 
 -- the setups that are left come to the same from here
 abbrev pub invariant-loop-number : goal.invariant-loop-number

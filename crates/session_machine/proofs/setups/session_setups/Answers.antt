@@ -1,9 +1,10 @@
 use Rattle.std.proofs.Common.{◌≡◌, ◌+◌, suc, sym, ap, ◌∙◌, subst, length, drop, [], ◌∷◌, drop-cons, add-one, ⊎_elim, arith}
-use Rattle.session_machine.specs.declared.stage.SetUp.TheVariants.{Open, Closed}
+use Rattle.session_machine.specs.declared.setups.SetUp.TheVariants.{Open, Closed}
 use Rattle.machine_model.specs.Start.{session_setups}
-use Rattle.session_machine.specs.Stage.{world_in, IsSetUp, HasEnded}
-use Rattle.session_machine.proofs.SetUps.{session-goes, session-ready}
-use Rattle.session_machine.proofs.starting.session_setups.Goals as goal
+use Rattle.session_machine.specs.Stage.{world_in}
+use Rattle.session_machine.specs.SetUp.{IsSetUp, HasEnded}
+use Rattle.session_machine.proofs.SetUpLemmas.{session-goes, session-ready}
+use Rattle.session_machine.proofs.setups.session_setups.Goals as goal
 
 -- the setup is done, and the next one follows
 pub loop-number-preserved : goal.loop-number-preserved

@@ -1,8 +1,9 @@
 use Rattle.std.proofs.Common.{◌≡◌, ◌+◌, sym, ap, ◌∙◌, subst, false, true, [], ◌∷◌, drop, drop-cons, add-one}
 use Rattle.machine_model.specs.Start.{main_setups}
-use Rattle.session_machine.specs.Stage.{world_in, HasEnded}
-use Rattle.session_machine.proofs.SetUps.{main-idle, main-goes, main-ready}
-use Rattle.session_machine.proofs.starting.main_setups.Goals as goal
+use Rattle.session_machine.specs.Stage.{world_in}
+use Rattle.session_machine.specs.SetUp.{HasEnded}
+use Rattle.session_machine.proofs.SetUpLemmas.{main-idle, main-goes, main-ready}
+use Rattle.session_machine.proofs.setups.main_setups.Goals as goal
 
 -- nobody else holds a lock, so the control session does not wait
 pub unreachable-requires : goal.unreachable-requires
