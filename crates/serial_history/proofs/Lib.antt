@@ -1,4 +1,7 @@
+pub mod Readings
 pub mod Replays
 pub mod SerialLine
 pub mod Shown
 pub mod StartsTold
+pub mod WorkTold
+pub mod Worked

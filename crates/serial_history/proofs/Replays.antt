@@ -1,6 +1,6 @@
 -- Every line is a serial run of its commits.
-use Rattle.std.proofs.Common.{◌≡◌, refl, sym, ap, ◌∙◌, subst, ℕ, Bool, true, false, List, [], ◌∷◌, ◌++◌, Some, ⊎_elim}
-use Rattle.version_tree.specs.Map.{Map, get, empty}
+use Rattle.std.proofs.Common.{◌≡◌, refl, sym, ap, ◌∙◌, subst, ℕ, Bool, true, false, cond, List, [], ◌∷◌, ◌++◌, Some, ⊎_elim, append-nil}
+use Rattle.version_tree.specs.Map.{Map, get, empty, entries}
 use Rattle.lock_modes.specs.Place.{Place}
 use Rattle.lock_modes.specs.Mode.{compatible, AtLeast}
 use Rattle.lock_queues.specs.Locks.{may_have, closes_ring, answered}
@@ -11,7 +11,7 @@ use Rattle.machine_model.specs.Session.{Task, Ask, Do, Session, Held, Performed,
 use Rattle.machine_model.specs.Go.{Scene, Run, taking, go, stopped, failed, finished_by, is_broken, held_up, look_with, waiting_with}
 use Rattle.machine_model.specs.Claims.{Claims, may_write, claims_of}
 use Rattle.machine_model.specs.Sound.{HoldsAll, Backed, UnderLocks}
-use Rattle.serial_history.specs.Serial.{Transaction, Did, Tally, ended_well, dropped, did, tally_by, tally_end, go_tally, Replay, SerialRun, WorkHeld, Repeats}
+use Rattle.serial_history.specs.Serial.{Transaction, Did, is_work, commit_of, Tally, ended_well, dropped, did, tally_by, tally_end, go_tally, Replay, SerialRun, WorkHeld, Repeats}
 use Rattle.lock_queues.specs.declared.answer.Answer.TheVariants.{Granted, Waits, Ring}
 use Rattle.transcripts.specs.declared.event.Fault.TheVariants.{Aborted, Deadlock}
 use Rattle.lock_modes.specs.declared.mode.Mode.{Mode}
@@ -29,6 +29,7 @@ use Rattle.machine_model.proofs.Effects.{Friends, reading-table, reading-row}
 use Rattle.machine_model.proofs.Claiming.{claims-held}
 use Rattle.machine_model.proofs.Stronger.{asks-has, held-claim, stronger-taking, under-stronger, holds-stronger, covers-taking, holds-plan}
 use Rattle.machine_model.proofs.Kept.{fits-inserted, perform_by-under}
+use Rattle.serial_history.proofs.WorkTold.{TellsWork, effect-work}
 
 Replay-push : (rows : Rows') (o : Overlay) (ds : List Did) (o2 : Overlay) (d : Did) (ws : List Write) → Replay rows o ds o2 → effect d.statement (lay o2 rows) ≡ Gives d.events ws → Replay rows o (ds ++ d ∷ []) (written ws o2)
 Replay-push rows o [] o2 d ws r e = (ws, subst (λ x. effect d.statement (lay x rows) ≡ Gives d.events ws) (sym r) e, ap (written ws) r)
@@ -37,6 +38,25 @@ Replay-push rows o (x ∷ ds) o2 d ws r e = (r.0, r.1, Replay-push rows (written
 SerialRun-push : (rows : Rows') (ts : List Transaction) (last : Rows') (t : Transaction) (o : Overlay) → SerialRun rows ts last → Replay last empty t.work o → SerialRun rows (ts ++ t ∷ []) (lay o last)
 SerialRun-push rows [] last t o s r = (o, subst (λ x. Replay x empty t.work o) (sym s) r, ap (lay o) s)
 SerialRun-push rows (u ∷ ts) last t o s r = (s.0, s.1, SerialRun-push (lay s.0 rows) ts last t o s.2 r)
+
+lay-empty : (rows : Rows') → lay empty rows ≡ rows
+unfolding lay empty entries
+lay-empty rows = refl
+
+-- the work that ends is a transaction more, or there is none and the rows stay
+SerialRun-ends : (rows : Rows') (ts : List Transaction) (last : Rows') (i : ℕ) (ds : List Did) (o : Overlay) → SerialRun rows ts last → Replay last empty ds o
+    → SerialRun rows (ts ++ commit_of i ds) (lay o last)
+SerialRun-ends rows ts last i [] o s r =
+    let same : lay o last ≡ last = ap (λ x. lay x last) (sym r) ∙ lay-empty last in
+    subst (λ us. SerialRun rows us (lay o last)) (sym (append-nil ts)) (subst (λ x. SerialRun rows ts x) (sym same) s)
+SerialRun-ends rows ts last i (d ∷ ds) o s r = SerialRun-push rows ts last (record { session = i; work = d ∷ ds }) o s r
+
+-- a statement that is no work leaves the overlay
+Replay-did : (rows : Rows') (o : Overlay) (ds : List Did) (o2 : Overlay) (d : Did) (ws : List Write) (b : Bool) → TellsWork b (Gives d.events ws)
+    → Replay rows o ds o2 → effect d.statement (lay o2 rows) ≡ Gives d.events ws → Replay rows o (ds ++ cond b (d ∷ []) []) (written ws o2)
+Replay-did rows o ds o2 d ws true h r e = Replay-push rows o ds o2 d ws r e
+Replay-did rows o ds o2 d ws false h r e =
+    subst (λ xs. Replay rows o xs (written ws o2)) (sym (append-nil ds)) (subst (λ x. Replay rows o ds (written x o2)) (sym h.1) r)
 
 -- each statement reads nothing that the side may write
 abbrev AllOff : Claims → List Did → Type 0
@@ -69,6 +89,10 @@ reads-up Exclusive m e t = refl
 work-push : (h : Held) (ds : List Did) (d : Did) → WorkHeld h ds → HoldsAll h (plan d.statement) → WorkHeld h (ds ++ d ∷ [])
 work-push h [] d w x = (x, tt)
 work-push h (y ∷ ds) d w x = (w.0, work-push h ds d w.1 x)
+
+work-did : (h : Held) (ds : List Did) (d : Did) (b : Bool) → WorkHeld h ds → HoldsAll h (plan d.statement) → WorkHeld h (ds ++ cond b (d ∷ []) [])
+work-did h ds d true w x = work-push h ds d w x
+work-did h ds d false w x = subst (WorkHeld h) (sym (append-nil ds)) w
 
 pub work-taking : (h : Held) (r : Resource) (m : Mode) (s : Session) → s.held ≡ h → (ds : List Did) → WorkHeld h ds → WorkHeld (Rattle.version_tree.specs.Map.insert h r (Rattle.lock_queues.specs.Locks.wanted (get h r) m)) ds
 work-taking h r m s e [] w = tt
@@ -121,7 +145,7 @@ module _ (start : Rows') (Others : Rows' → Type 0) (e : Scene) (i : ℕ)
 
   -- a commit, a drop
   committed : (s s2 : Session) (rows : Rows') (t : Tally) → s2.overlay ≡ empty → HeldFits e i s.held → UnderLocks s.overlay s.held → Telling s rows t → Telling s2 (lay s.overlay rows) (ended_well t)
-  committed s s2 rows t is fits under x = record { serial = SerialRun-push start t.commits rows (record { session = t.session; work = t.work }) s.overlay x.serial x.own.replay; own = repeats-none (lay s.overlay rows) s2 is; others = keeps s.held s.overlay rows fits under x.others }
+  committed s s2 rows t is fits under x = record { serial = SerialRun-ends start t.commits rows t.session t.work s.overlay x.serial x.own.replay; own = repeats-none (lay s.overlay rows) s2 is; others = keeps s.held s.overlay rows fits under x.others }
 
   let_go : (s s2 : Session) (rows : Rows') (t : Tally) → s2.overlay ≡ empty → Telling s rows t → Telling s2 rows (dropped t)
   let_go s s2 rows t is x = record { serial = x.serial; own = repeats-none rows s2 is; others = x.others }
@@ -129,14 +153,19 @@ module _ (start : Rows') (Others : Rows' → Type 0) (e : Scene) (i : ℕ)
   as_is : (s s2 : Session) (rows : Rows') (t : Tally) → s2.overlay ≡ s.overlay → s2.held ≡ s.held → Telling s rows t → Telling s2 rows t
   as_is s s2 rows t o h x = record { serial = x.serial; own = record { replay = subst (Replay rows empty t.work) (sym o) x.own.replay; held = subst (λ k. WorkHeld k t.work) (sym h) x.own.held }; others = x.others }
 
-  worked-tells : (s : Session) (rows : Rows') (st : Bound) (f : Effect) (t : Tally) → effect st (lay s.overlay rows) ≡ f → HoldsAll s.held (plan st) → Telling s rows t → OnGoes (worked s rows f) (λ s2 rows2. Telling s2 rows2 (did st f t))
-  worked-tells s rows st (Gives events writes) t is holds x =
+  worked-tells : (s : Session) (rows : Rows') (st : Bound) (f : Effect) (t : Tally) → effect st (lay s.overlay rows) ≡ f → TellsWork (is_work st) f
+      → HoldsAll s.held (plan st) → Telling s rows t → OnGoes (worked s rows f) (λ s2 rows2. Telling s2 rows2 (did st f t))
+  worked-tells s rows st (Gives events writes) t is tells holds x =
+      let new : Did = record { statement = st; events = events } in
       record {
         serial = x.serial;
-        own = record { replay = Replay-push rows empty t.work s.overlay (record { statement = st; events = events }) writes x.own.replay is; held = work-push s.held t.work (record { statement = st; events = events }) x.own.held holds };
+        own = record {
+          replay = Replay-did rows empty t.work s.overlay new writes (is_work st) tells x.own.replay is;
+          held = work-did s.held t.work new (is_work st) x.own.held holds;
+        };
         others = x.others;
       }
-  worked-tells s rows st (Faults f) t is holds x = tt
+  worked-tells s rows st (Faults f) t is tells holds x = tt
 
   perform_by-tells : (status : Status) (k : Kind) (s : Session) (rows : Rows') (st : Bound) (t : Tally) → HeldFits e i s.held → UnderLocks s.overlay s.held → HoldsAll s.held (plan st) → Telling s rows t → OnGoes (perform_by status k s rows st) (λ s2 rows2. Telling s2 rows2 (tally_by status k s rows st t))
   perform_by-tells Outside Begins s rows st t fits under holds x = as_is s _ rows t refl refl x
@@ -148,8 +177,8 @@ module _ (start : Rows') (Others : Rows' → Type 0) (e : Scene) (i : ℕ)
   perform_by-tells Outside RollsBack s rows st t fits under holds x = let_go s _ rows t refl x
   perform_by-tells InBlock RollsBack s rows st t fits under holds x = let_go s _ rows t refl x
   perform_by-tells Broken RollsBack s rows st t fits under holds x = let_go s _ rows t refl x
-  perform_by-tells Outside Works s rows st t fits under holds x = worked-tells s rows st (effect st (lay s.overlay rows)) t refl holds x
-  perform_by-tells InBlock Works s rows st t fits under holds x = worked-tells s rows st (effect st (lay s.overlay rows)) t refl holds x
+  perform_by-tells Outside Works s rows st t fits under holds x = worked-tells s rows st (effect st (lay s.overlay rows)) t refl (effect-work st (lay s.overlay rows)) holds x
+  perform_by-tells InBlock Works s rows st t fits under holds x = worked-tells s rows st (effect st (lay s.overlay rows)) t refl (effect-work st (lay s.overlay rows)) holds x
   perform_by-tells Broken Works s rows st t fits under holds x = tt
 
   end-tells : (status : Status) (s : Session) (rows : Rows') (t : Tally) → HeldFits e i s.held → UnderLocks s.overlay s.held → Telling s rows t → Telling (finished_by status s rows).session (finished_by status s rows).rows (tally_end status t)

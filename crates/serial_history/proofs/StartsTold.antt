@@ -1,5 +1,5 @@
 -- The history of a line from the start of its spec.
-use Rattle.std.proofs.Common.{◌≡◌, refl, sym, ap, ◌∙◌, subst, ℕ, suc, ◌+◌, ◌<◌, ◌≤◌, Bool, true, false, not, ◌||◌, List, [], ◌∷◌, ◌++◌, length, get_or, ⊎_elim, arith, append-nil, length-set, get_or-set_same, get_or-set_other}
+use Rattle.std.proofs.Common.{◌≡◌, refl, sym, ap, ◌∙◌, subst, ℕ, suc, ◌+◌, ◌<◌, ◌≤◌, Bool, true, false, not, ◌||◌, List, [], ◌∷◌, length, get_or, ⊎_elim, arith, length-set, get_or-set_same, get_or-set_other}
 use Rattle.version_tree.specs.Map.{get, empty, get-empty}
 use Rattle.lock_modes.specs.Resource.{resource_order}
 use Rattle.lock_queues.specs.Locks.{waits_now}
@@ -9,7 +9,8 @@ use Rattle.machine_model.specs.Go.{Run, Stop, taking, is_broken, solo, failed, f
 use Rattle.machine_model.specs.World.{World, fresh, session_at, scene_of, send_all}
 use Rattle.sql_subset.specs.Spec.{Spec, no_step, IsBound}
 use Rattle.machine_model.specs.Start.{Start, Started, SetupFailed, SessionSetupFailed, SessionSetupWaits, start, set_up, started_then, main_setups, session_setups, after_setup, forgotten, has_failed, is_outside, IsAlone, IsIdle}
-use Rattle.serial_history.specs.Serial.{Shown, said_in, data_of, commits_of, committed_in, Repeats, Told, History, no_history, goes_told, session_setups_told, first_rows, start_told, send_all_told}
+use Rattle.serial_history.specs.Serial.{Shown, reading_in, AllTell, commits_of, committed_in, Repeats, Told, History, no_history, goes_told, session_setups_told, first_rows, start_told, send_all_told}
+use Rattle.serial_history.specs.Reading.{read}
 use Rattle.transcripts.specs.declared.event.Fault.TheVariants.{Aborted}
 use Rattle.lock_modes.specs.declared.mode.Mode.{Mode}
 use Rattle.machine_model.specs.declared.status.Status.{Status}
@@ -136,17 +137,26 @@ spec-serial spec w ks le e fit =
 -- the transcripts are forgotten, and the commits are told
 record Forgot (w : World) (h : History) : Type 0 where
   blank : (c : ℕ) → (session_at w c).transcript ≡ []
+  tells : (c : ℕ) → AllTell (get_or h.works c [])
   owns : (c : ℕ) → commits_of c h.commits ≡ committed_in (get_or h.ended c [])
   count_works : length h.works ≡ length w.sessions
   count_ended : length h.ended ≡ length w.sessions
 
-shown-forgot : (w : World) (h : History) → Forgot w h → Shown (said_in h) w h
-shown-forgot w h x = record { shows = λ c. sym (append-nil (said_in h c)) ∙ ap (λ es. said_in h c ++ data_of es) (sym (x.blank c)); owns = x.owns; count_works = x.count_works; count_ended = x.count_ended }
+shown-forgot : (w : World) (h : History) → Forgot w h → Shown (reading_in w h) w h
+shown-forgot w h x =
+    record {
+      reads = λ c. ap (read (reading_in w h c)) (sym (x.blank c));
+      tells = x.tells;
+      owns = x.owns;
+      count_works = x.count_works;
+      count_ended = x.count_ended;
+    }
 
 forgot-first : (n : ℕ) (control : ℕ) (w : World) → SetUp control n w → Forgot w (no_history n)
 forgot-first n control w a =
     record {
       blank = λ c. ⊎_elim (λ k. ap (λ d. (session_at w d).transcript) k ∙ a.blank) (λ ne. ap (λ (s : Session). s.transcript) (a.alone.others c ne)) (cases-eq c control);
+      tells = λ c. subst AllTell (sym (get_or-replicate n c [])) tt;
       owns = λ c. ap committed_in (sym (get_or-replicate n c []));
       count_works = length_replicate n [] ∙ sym a.alone.count;
       count_ended = length_replicate n [] ∙ sym a.alone.count;
@@ -157,12 +167,14 @@ forgot-goes w i block h lt x =
     let w2 : World = after_setup w i block in
     let s2 : Session = record (session_at w2 i) { transcript = [] } in
     let gone : Run = go (scene_of w) i (session_at w i) w.rows (tasks_of block) in
-    let y : Shown (said_in h) w2 (goes_told w i (session_at w i) (tasks_of block) h) = goes-shown (said_in h) w h i (session_at w i) (tasks_of block) lt refl (shown-forgot w h x) in
+    let y : Shown (reading_in w h) w2 (goes_told w i (session_at w i) (tasks_of block) h) =
+    goes-shown (reading_in w h) w h i (session_at w i) (tasks_of block) lt refl refl (shown-forgot w h x) in
     record {
       blank = λ c. ⊎_elim
           (λ k. ap (λ d. (session_at (forgotten w2 i) d).transcript) k ∙ ap (λ (s : Session). s.transcript) (get_or-set_same w2.sessions i s2 fresh (subst (λ n. i < n) (sym (length-set w.sessions i gone.session)) lt)))
           (λ ne. ap (λ (s : Session). s.transcript) (get_or-set_other w2.sessions i c s2 fresh ne) ∙ ap (λ (s : Session). s.transcript) (session-other w i c gone ne) ∙ x.blank c)
           (cases-eq c i);
+      tells = y.tells;
       owns = y.owns;
       count_works = y.count_works ∙ sym (length-set w2.sessions i s2);
       count_ended = y.count_ended ∙ sym (length-set w2.sessions i s2);
@@ -193,10 +205,10 @@ start-forgot spec le = at (set_up spec) (set-up-is spec)
     at (SessionSetupWaits n) a = tt
 
 pub spec-shown : (spec : Spec) (w : World) (ks : List ℕ) → length spec.session_setups ≤ spec.sessions → start spec ≡ Started w → ((k : ℕ) → (get_or spec.steps k no_step).session < length w.sessions)
-    → Shown (said_in (start_told spec)) (send_all spec.steps w ks) (send_all_told spec.steps w ks (start_told spec))
+    → Shown (reading_in w (start_told spec)) (send_all spec.steps w ks) (send_all_told spec.steps w ks (start_told spec))
 spec-shown spec w ks le e fit =
     let x : Forgot w (start_told spec) = subst (λ s. OnStarted s (λ v. Forgot v (start_told spec))) e (start-forgot spec le) in
-    line-shown (said_in (start_told spec)) spec.steps w ks (start_told spec) (start-sound spec w le e) fit (shown-forgot w (start_told spec) x)
+    line-shown (reading_in w (start_told spec)) spec.steps w ks (start_told spec) (start-sound spec w le e) fit (shown-forgot w (start_told spec) x)
 
 -- the serial order and what the transcripts show, of a spec that is bound
 pub bound-serial : (spec : Spec) (w : World) (ks : List ℕ) → IsBound spec → start spec ≡ Started w
@@ -204,5 +216,5 @@ pub bound-serial : (spec : Spec) (w : World) (ks : List ℕ) → IsBound spec �
 bound-serial spec w ks bound e = spec-serial spec w ks bound.session_setups e (bound-fits spec w bound e)
 
 pub bound-shown : (spec : Spec) (w : World) (ks : List ℕ) → IsBound spec → start spec ≡ Started w
-    → Shown (said_in (start_told spec)) (send_all spec.steps w ks) (send_all_told spec.steps w ks (start_told spec))
+    → Shown (reading_in w (start_told spec)) (send_all spec.steps w ks) (send_all_told spec.steps w ks (start_told spec))
 bound-shown spec w ks bound e = spec-shown spec w ks bound.session_setups e (bound-fits spec w bound e)

@@ -1,11 +1,12 @@
 -- The laws of histories.
-use Rattle.std.specs.Prelude.{◌≡◌, ℕ, List}
+use Rattle.std.specs.Prelude.{◌≡◌, ℕ, List, ◌++◌}
 use Rattle.sql_subset.specs.Spec.{Spec, Step, IsBound}
 use Rattle.machine_model.specs.Start.{Started, start}
 use Rattle.machine_model.specs.World.{World, send_all}
 use Rattle.machine_model.specs.Sound.{Sound}
 use Rattle.row_tables.specs.Overlay.{Rows'}
-use Rattle.serial_history.specs.Serial.{History, Told, Shown, said_in, send_all_told, first_rows, start_told}
+use Rattle.serial_history.specs.Serial.{History, Told, Shown, reading_in, send_all_told, first_rows, start_told}
+use Rattle.serial_history.specs.Reading.{Reading, read, told_in, data_of}
 use Rattle.transcripts.specs.declared.event.Event.{Event}
 use Rattle.machine_model.specs.Laws.{IsOf}
 
@@ -21,14 +22,19 @@ SpecsAreSerial =
     (spec : Spec) (w : World) (ks : List ℕ) → IsBound spec → start spec ≡ Started w
     → Told (first_rows spec) (send_all spec.steps w ks) (send_all_told spec.steps w ks (start_told spec))
 
--- the history of a line is that of its transcripts: the data events of each session are those of its committed, dropped and open work in order, and its commits are those that it ended by a commit
+-- the history of a line is that of its transcripts: each, read from where its session stood, tells its status, the data events of its open
+-- transaction, and those of each that ended, with whether it was committed; and the session's commits are those that it ended by a commit
 abbrev pub HistoriesShow : Type 0
 HistoriesShow =
-    (said : ℕ → List Event) (steps : List Step) (w : World) (ks : List ℕ) (h : History) → Sound w → ((k : ℕ) → IsOf steps w k) → Shown said w h
-    → Shown said (send_all steps w ks) (send_all_told steps w ks h)
+    (from : ℕ → Reading) (steps : List Step) (w : World) (ks : List ℕ) (h : History) → Sound w → ((k : ℕ) → IsOf steps w k) → Shown from w h
+    → Shown from (send_all steps w ks) (send_all_told steps w ks h)
 
--- from the start of a spec: what a line's history tells beyond the session setups is what its transcripts show
+-- from the start of a spec: the same, from where the session setups left each session
 abbrev pub SpecsShow : Type 0
 SpecsShow =
     (spec : Spec) (w : World) (ks : List ℕ) → IsBound spec → start spec ≡ Started w
-    → Shown (said_in (start_told spec)) (send_all spec.steps w ks) (send_all_told spec.steps w ks (start_told spec))
+    → Shown (reading_in w (start_told spec)) (send_all spec.steps w ks) (send_all_told spec.steps w ks (start_told spec))
+
+-- reading loses and adds nothing: what it tells then is what it told, and the data events that were read, in their order
+abbrev pub ReadingsKeepData : Type 0
+ReadingsKeepData = (x : Reading) (es : List Event) → told_in (read x es) ≡ told_in x ++ data_of es

@@ -1,6 +1,6 @@
 -- The transactions of a line in the order of their commits, and their serial run.
 -- What is told here is computed beside the machine, from the same choices: the machine itself keeps no history.
-use Rattle.std.specs.Prelude.{◌≡◌, ℕ, zero, suc, Bool, true, false, cond, ◌==◌, List, [], ◌∷◌, ◌++◌, length, replicate, set, get_or, Some, None}
+use Rattle.std.specs.Prelude.{◌≡◌, ◌≢◌, ℕ, zero, suc, Bool, true, false, cond, ◌==◌, List, [], ◌∷◌, ◌++◌, length, replicate, set, get_or, Some, None}
 use Rattle.version_tree.specs.Map.{empty}
 use Rattle.lock_queues.specs.Locks.{Spot, next_grant, waits_now}
 use Rattle.machine_model.specs.Sound.{HoldsAll}
@@ -18,7 +18,8 @@ use Rattle.transcripts.specs.declared.event.Event.TheVariants.{Sent, Resumed}
 use Rattle.machine_model.specs.declared.status.Status.{Status}
 use Rattle.machine_model.specs.declared.status.Status.TheVariants.{Outside, InBlock, Broken}
 use Rattle.sql_statements.specs.declared.statement.Bound.{Bound}
-use Rattle.machine_model.specs.Events.{is_effect}
+use Rattle.sql_statements.specs.declared.statement.Bound.TheVariants.{Select, Insert, Update, Delete, Begin, Commit, Rollback, LockTable, SetVariable}
+use Rattle.serial_history.specs.Reading.{Closed, Reading, read}
 
 pub record Did : Type 0 where
   pub statement : Bound
@@ -41,20 +42,48 @@ pub record Tally : Type 0 where
   pub ended : List Ended
   pub commits : List Transaction
 
+-- a SELECT, an INSERT, an UPDATE or a DELETE
+abbrev pub is_work : Bound → Bool
+is_work (Select t k c by o) = true
+is_work (Insert t k r) = true
+is_work (Update t k a c) = true
+is_work (Delete t k c) = true
+is_work (LockTable t m) = false
+is_work SetVariable = false
+is_work Begin = false
+is_work Commit = false
+is_work Rollback = false
+
+-- the transaction that did this work, if there is any
+abbrev pub ended_with : Bool → List Did → List Ended
+ended_with committed [] = []
+ended_with committed (d ∷ ds) = record { is_committed = committed; work = d ∷ ds } ∷ []
+
+abbrev pub commit_of : ℕ → List Did → List Transaction
+commit_of i [] = []
+commit_of i (d ∷ ds) = record { session = i; work = d ∷ ds } ∷ []
+
 abbrev pub ended_well : Tally → Tally
 ended_well t =
     record {
       session = t.session;
       work = [];
-      ended = t.ended ++ record { is_committed = true; work = t.work } ∷ [];
-      commits = t.commits ++ record { session = t.session; work = t.work } ∷ [];
+      ended = t.ended ++ ended_with true t.work;
+      commits = t.commits ++ commit_of t.session t.work;
     }
 
 abbrev pub dropped : Tally → Tally
-dropped t = record { session = t.session; work = []; ended = t.ended ++ record { is_committed = false; work = t.work } ∷ []; commits = t.commits }
+dropped t = record { session = t.session; work = []; ended = t.ended ++ ended_with false t.work; commits = t.commits }
 
+-- with one more statement done, where it is one that works on rows
 abbrev pub did : Bound → Effect → Tally → Tally
-did st (Gives events writes) t = record { session = t.session; work = t.work ++ record { statement = st; events = events } ∷ []; ended = t.ended; commits = t.commits }
+did st (Gives events writes) t =
+    record {
+      session = t.session;
+      work = t.work ++ cond (is_work st) (record { statement = st; events = events } ∷ []) [];
+      ended = t.ended;
+      commits = t.commits;
+    }
 did st (Faults f) t = t
 
 -- the tally after a statement that goes
@@ -160,25 +189,26 @@ pub record Told (start : Rows') (w : World) (h : History) : Type 0 where
 
 -- ---- what a history says of the transcripts
 
-abbrev pub data_of : List Event → List Event
-data_of [] = []
-data_of (e ∷ es) = cond (is_effect e) (e ∷ data_of es) (data_of es)
-
 abbrev pub events_of : List Did → List Event
 events_of [] = []
 events_of (d ∷ ds) = d.events ++ events_of ds
 
-abbrev pub ended_events : List Ended → List Event
-ended_events [] = []
-ended_events (x ∷ xs) = events_of x.work ++ ended_events xs
+abbrev pub closed_of : List Ended → List Closed
+closed_of [] = []
+closed_of (x ∷ xs) = record { is_committed = x.is_committed; events = events_of x.work } ∷ closed_of xs
 
--- the events of what ended, and then of what is open
-abbrev pub shown_by : List Ended → List Did → List Event
-shown_by ended work = ended_events ended ++ events_of work
+-- where a session of this status stands by what it did in its open transaction and in those that ended
+abbrev pub reading_of : Status → List Did → List Ended → Reading
+reading_of status work ended = record { status = status; pending = events_of work; ended = closed_of ended }
 
--- what each session has shown by the history
-abbrev pub said_in : History → ℕ → List Event
-said_in h c = shown_by (get_or h.ended c []) (get_or h.works c [])
+-- where each session stands by the world and its history
+abbrev pub reading_in : World → History → ℕ → Reading
+reading_in w h c = reading_of (session_at w c).status (get_or h.works c []) (get_or h.ended c [])
+
+-- each statement told something
+abbrev pub AllTell : List Did → Type 0
+AllTell [] = Unit {0}
+AllTell (d ∷ ds) = (d.events ≢ []) × AllTell ds
 
 -- the transactions that the session committed: of all commits its own, and of what it ended the committed
 abbrev pub commits_of : ℕ → List Transaction → List (List Did)
@@ -189,9 +219,10 @@ abbrev pub committed_in : List Ended → List (List Did)
 committed_in [] = []
 committed_in (x ∷ xs) = cond x.is_committed (x.work ∷ committed_in xs) (committed_in xs)
 
--- each session has shown the events of its transactions in their order, what it had said before its transcript included, and its commits are those that it ended by a commit
-pub record Shown (said : ℕ → List Event) (w : World) (h : History) : Type 0 where
-  pub shows : (c : ℕ) → said_in h c ≡ said c ++ data_of (session_at w c).transcript
+-- each session stands where its transcript leads from there, and its commits are those that it ended by a commit
+pub record Shown (from : ℕ → Reading) (w : World) (h : History) : Type 0 where
+  pub reads : (c : ℕ) → reading_in w h c ≡ read (from c) (session_at w c).transcript
+  pub tells : (c : ℕ) → AllTell (get_or h.works c [])
   pub owns : (c : ℕ) → commits_of c h.commits ≡ committed_in (get_or h.ended c [])
   pub count_works : length h.works ≡ length w.sessions
   pub count_ended : length h.ended ≡ length w.sessions
@@ -214,10 +245,13 @@ first_rows spec = elim (set_up spec) [ Started w ↦ w.rows | _ ↦ empty ]
 abbrev pub start_told : Spec → History
 start_told spec = elim (set_up spec) [ Started w ↦ session_setups_told 0 w spec.session_setups (no_history (suc spec.sessions)) | _ ↦ no_history 0 ]
 
--- what a line comes to from the start of the spec: the transactions in the order of their commits, those of session setups included, run one after another without locks over the rows after the main setups, give their events and leave the committed rows; each session is told the data events of its transactions in their order
+-- what a line comes to from the start of the spec: the transactions in the order of their commits, those of session setups included,
+-- run one after another without locks over the rows after the main setups, give their events and leave the committed rows; each
+-- session's transcript, read from where the setups left it, tells its status, the data events of its open transaction, and those of each
+-- that ended, with whether it was committed
 pub record IsSerial (spec : Spec) (line : List ℕ) (outcome : List (List Event)) : Type 0 where
   pub world : World
   pub starts : start spec ≡ Started world
   pub told : Told (first_rows spec) (send_all spec.steps world line) (send_all_told spec.steps world line (start_told spec))
-  pub shown : Shown (said_in (start_told spec)) (send_all spec.steps world line) (send_all_told spec.steps world line (start_told spec))
+  pub shown : Shown (reading_in world (start_told spec)) (send_all spec.steps world line) (send_all_told spec.steps world line (start_told spec))
   pub outcome_is : outcome ≡ outcome_of spec.sessions (send_all spec.steps world line)

@@ -1,6 +1,6 @@
 //! The laws of histories, each the contract of a function that does nothing.
 
-ghost use Rattle.serial_history.specs.Laws.{LinesAreSerial, SpecsAreSerial, HistoriesShow, SpecsShow};
+ghost use Rattle.serial_history.specs.Laws.{LinesAreSerial, SpecsAreSerial, HistoriesShow, SpecsShow, ReadingsKeepData};
 
 /// Every line is a serial run of its commits, and its open transactions run again.
 pub fn lines_are_serial()
@@ -12,12 +12,18 @@ pub fn specs_are_serial()
     ensures { SpecsAreSerial }
 {}
 
-/// The data events of each transcript are those of the session's transactions in order.
+/// Reading each transcript to its end tells the session's status, the data events of its open transaction, and those of each that ended, in
+/// order and with whether it was committed, as the history has them; and the history's commits are those that the sessions committed.
 pub fn histories_show()
     ensures { HistoriesShow }
 {}
 
-/// From the start of a spec, what the history of a line tells is what its transcripts show.
+/// The same from the start of a spec, read from where the session setups left each session.
 pub fn specs_show()
     ensures { SpecsShow }
+{}
+
+/// What a transcript is read to tell are its data events, all of them and in their order.
+pub fn readings_keep_data()
+    ensures { ReadingsKeepData }
 {}

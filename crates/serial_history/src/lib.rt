@@ -3,4 +3,6 @@
 
 mod laws;
 
-pub use laws::{histories_show, lines_are_serial, specs_are_serial, specs_show};
+pub use laws::{
+    histories_show, lines_are_serial, readings_keep_data, specs_are_serial, specs_show,
+};

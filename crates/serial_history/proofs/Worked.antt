@@ -1,0 +1,110 @@
+-- Worked histories of the machine, computed.
+use Rattle.std.proofs.Common.{◌≡◌, refl, ℕ, true, false, List, [], ◌∷◌, Some, map}
+use Rattle.version_tree.specs.Map.{get, insert, keep, remove, entries, empty}
+use Rattle.statement_effects.specs.Effect.{effect}
+use Rattle.row_tables.specs.Overlay.{lay}
+use Rattle.sql_subset.specs.Spec.{Spec}
+use Rattle.machine_model.specs.Start.{Started, start}
+use Rattle.machine_model.specs.World.{send_all, session_at}
+use Rattle.transcripts.specs.declared.event.Event.TheVariants.{Row as RowEvent, Rows, Updated}
+use Rattle.sql_statements.specs.declared.statement.Output.TheVariants.{Columns}
+use Rattle.sql_statements.specs.declared.statement.Bound.{Bound}
+use Rattle.sql_statements.specs.declared.statement.Bound.TheVariants.{Select, Begin, Commit}
+use Rattle.machine_model.specs.declared.status.Status.TheVariants.{Outside, InBlock, Broken}
+use Rattle.machine_model.proofs.Worked.{number, id_is, step, two_rows, adds, sets, in_blocks, all_rows}
+use Rattle.serial_history.specs.Reading.{Reading, read}
+use Rattle.serial_history.specs.Serial.{Did, Transaction, History, send_all_told, start_told, reading_in}
+
+-- the history of a line of the spec, and the world behind it
+abbrev history : Spec → List ℕ → History
+history spec ks = elim (start spec) [ Started w ↦ send_all_told spec.steps w ks (start_told spec) | _ ↦ start_told spec ]
+
+abbrev commits : Spec → List ℕ → List Transaction
+commits spec ks = (history spec ks).commits
+
+-- what the sessions' transcripts tell, each read to its end from where the session setups left it
+abbrev readings : Spec → List ℕ → List ℕ → List Reading
+readings spec ks sessions = elim (start spec) [ Started w ↦ map (λ c. read (reading_in w (start_told spec) c) (session_at (send_all spec.steps w ks) c).transcript) sessions | _ ↦ [] ]
+
+-- SELECT v WHERE id = k
+abbrev reads : ℕ → Bound
+reads k = Select 0 (Some (number k)) (id_is k) [] (Columns (1 ∷ []))
+
+abbrev one_read : ℕ → ℕ → Did
+one_read k v = record { statement = reads k; events = RowEvent (number v ∷ []) ∷ Rows 1 ∷ [] }
+
+abbrev one_added : ℕ → ℕ → Did
+one_added k n = record { statement = adds k n; events = Updated 1 ∷ [] }
+
+-- ---- the lost update: two sessions add to one row
+
+abbrev both_add : Spec
+both_add = in_blocks 2 (step 0 (adds 1 1) ∷ step 0 Commit ∷ step 1 (adds 1 10) ∷ record { session = 1; statements = reads 1 ∷ Commit ∷ [] } ∷ [])
+
+-- the second waits for the first one's commit, and neither sum is lost
+both_add_commits : commits both_add (0 ∷ 2 ∷ 1 ∷ 3 ∷ [])
+    ≡ record { session = 0; work = one_added 1 1 ∷ [] } ∷ record { session = 1; work = one_added 1 10 ∷ one_read 1 21 ∷ [] } ∷ []
+unfolding get insert keep remove entries empty effect lay
+both_add_commits = refl
+
+abbrev both_write : Spec
+both_write = in_blocks 2 (step 0 (reads 1) ∷ step 0 (adds 1 1) ∷ step 0 Commit ∷ step 1 (reads 1) ∷ step 1 (adds 1 10) ∷ step 1 Commit ∷ [])
+
+-- where both read first, the second is refused its write, and what it read is dropped
+both_write_commits : commits both_write (0 ∷ 3 ∷ 1 ∷ 4 ∷ 2 ∷ 5 ∷ []) ≡ record { session = 0; work = one_read 1 10 ∷ one_added 1 1 ∷ [] } ∷ []
+unfolding get insert keep remove entries empty effect lay
+both_write_commits = refl
+
+both_write_read : readings both_write (0 ∷ 3 ∷ 1 ∷ 4 ∷ 2 ∷ 5 ∷ []) (0 ∷ 1 ∷ [])
+    ≡ record {
+      status = Outside;
+      pending = [];
+      ended = record { is_committed = true; events = RowEvent (number 10 ∷ []) ∷ Rows 1 ∷ Updated 1 ∷ [] } ∷ [];
+    }
+    ∷ record { status = Outside; pending = []; ended = record { is_committed = false; events = RowEvent (number 10 ∷ []) ∷ Rows 1 ∷ [] } ∷ [] } ∷ []
+unfolding get insert keep remove entries empty effect lay
+both_write_read = refl
+
+-- ---- the deadlock: two sessions write two rows in two orders
+
+abbrev two_orders : Spec
+two_orders =
+    in_blocks 2 (step 0 (adds 1 1) ∷ step 0 (adds 2 1) ∷ step 0 Commit
+    ∷ step 1 (adds 2 5) ∷ step 1 (adds 1 5) ∷ record { session = 1; statements = Commit ∷ all_rows ∷ [] } ∷ [])
+
+abbrev last_read : Did
+last_read = record { statement = all_rows; events = RowEvent (number 1 ∷ number 11 ∷ []) ∷ RowEvent (number 2 ∷ number 21 ∷ []) ∷ Rows 2 ∷ [] }
+
+-- who would close the ring is no commit, nor is the end of its block; what it reads behind that is
+two_orders_commits : commits two_orders (0 ∷ 3 ∷ 1 ∷ 4 ∷ 2 ∷ 5 ∷ [])
+    ≡ record { session = 0; work = one_added 1 1 ∷ one_added 2 1 ∷ [] } ∷ record { session = 1; work = last_read ∷ [] } ∷ []
+unfolding get insert keep remove entries empty effect lay
+two_orders_commits = refl
+
+-- before the first commits: one has its work open, the other's is dropped and its block is broken
+two_orders_read : readings two_orders (0 ∷ 3 ∷ 1 ∷ 4 ∷ []) (0 ∷ 1 ∷ [])
+    ≡ record { status = InBlock; pending = Updated 1 ∷ Updated 1 ∷ []; ended = [] }
+    ∷ record { status = Broken; pending = []; ended = record { is_committed = false; events = Updated 1 ∷ [] } ∷ [] } ∷ []
+unfolding get insert keep remove entries empty effect lay
+two_orders_read = refl
+
+-- ---- one reads, one reads and commits, one updates
+
+abbrev three_row : Spec
+three_row =
+    record {
+      sessions = 3;
+      steps = step 0 (reads 1) ∷ step 0 all_rows ∷ step 1 all_rows ∷ step 1 Commit ∷ step 2 (sets 2 5) ∷ [];
+      setups = two_rows ∷ [];
+      lines = [];
+      session_setups = (Begin ∷ []) ∷ (Begin ∷ []) ∷ [] ∷ [];
+    }
+
+abbrev first_read : Did
+first_read = record { statement = all_rows; events = RowEvent (number 1 ∷ number 10 ∷ []) ∷ RowEvent (number 2 ∷ number 20 ∷ []) ∷ Rows 2 ∷ [] }
+
+-- the commits are the reader's and then the writer's, and nothing else
+three_row_commits : commits three_row (0 ∷ 2 ∷ 4 ∷ 3 ∷ 1 ∷ [])
+    ≡ record { session = 1; work = first_read ∷ [] } ∷ record { session = 2; work = record { statement = sets 2 5; events = Updated 1 ∷ [] } ∷ [] } ∷ []
+unfolding get insert keep remove entries empty effect lay
+three_row_commits = refl
