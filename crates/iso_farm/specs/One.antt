@@ -1,7 +1,7 @@
 -- What the program writes for one permutation.
 use Rattle.std.specs.Prelude.{◌≡◌, ℕ, ◌<◌, ◌≤◌, ◌⊎◌, ◌++◌, List, Option, Some, Result, Ok, Err}
 use Rattle.sql_subset.specs.Spec.{SpecFile, ranks, line_of}
-use Rattle.sql_subset.specs.Binding.{bound_file}
+use Rattle.sql_subset.specs.Binding.{bound_file, IsFileOf}
 use Rattle.sql_subset.specs.declared.error.BindErrorKind.TheVariants.{NoMemory}
 use Rattle.spec_reader.specs.Tree.{SpecTree}
 use Rattle.spec_reader.specs.Text.{IsSpec, Explains}
@@ -38,12 +38,6 @@ faults_of (Err (Bind error)) = 0
 faults_of (Err OutOfRange) = 0
 faults_of (Err (Run error)) = 0
 faults_of (Err (Write fault)) = 1
-
--- the bytes are a spec file, which binds to this
-pub record IsFileOf (bytes : List ℕ) (file : SpecFile) : Type 0 where
-  pub tree : SpecTree
-  pub is_spec : IsSpec bytes tree
-  pub is_bound : bound_file bytes tree ≡ Ok file
 
 -- the text is the answer of the spec file that the bytes are
 pub record IsAnswerOf (bytes : List ℕ) (rank : ℕ) (text : List ℕ) : Type 0 where

@@ -1,19 +1,18 @@
 //! Reads a spec file from its tokens: setups, a teardown, sessions and permutation lines.
 
 ghost use Rattle.std.specs.Prelude.{◌≡◌, Ok, ◌∷◌, [], List, None, map, length, IfOk, false, ◌<◌};
-ghost use Rattle.std.specs.String.{string_bytes};
 ghost use Rattle.spec_reader.specs.Tokens.{is_setup};
 ghost use Rattle.spec_reader.specs.Lexing.{view_token, view, views};
 ghost use Rattle.spec_reader.specs.Tree.{BlockTree};
 ghost use Rattle.spec_reader.specs.Reading.{reads, reads_session_word, Start, Head as HeadPlace, HeadSetup, SessionBegun, made_front};
-ghost use Rattle.spec_reader.specs.Views.{block_tree, front_tree, spec_tree, option_tree, Reads};
+ghost use Rattle.spec_reader.specs.Views.{block_tree, front_tree, file_tree, option_tree, Reads};
 
 use crate::cursor::{block_then, fault, first, no_session};
 use crate::error::Stop;
 use crate::lines::lines_of;
 use crate::sessions::sessions_of;
 use crate::token::Placed;
-use crate::tree::{Block, Front, SpecText};
+use crate::tree::{Block, Front, Line, Session};
 use std::alloc::Global;
 
 /// Adds a setup, after its word, and gives the token after it.
@@ -70,18 +69,12 @@ fn front_of<'a, 't>(
     Ok((Front { setups, teardown }, rest))
 }
 
-/// The spec file that these tokens spell, with the text that they were cut from.
-pub fn spec_of(alloc: Global, text: String, tokens: &[Placed]) -> Result<SpecText, Stop>
-    ensures reads { Reads (λ f. Ok (spec_tree f)) result (reads Start (views tokens.now)) }
-    ensures text { IfOk result (λ f. string_bytes f.text ≡ string_bytes text) }
+/// The parts of the spec file that these tokens spell.
+pub fn parts_of(alloc: Global, tokens: &[Placed]) -> Result<(Front, Vec<Session>, Vec<Line>), Stop>
+    ensures { Reads (λ x. Ok (file_tree x.0 x.1.items x.2.items)) result (reads Start (views tokens.now)) }
 {
     let (front, rest) = front_of(alloc, tokens)?;
     let (sessions, token, rest) = sessions_of(alloc, rest)?;
     let lines = lines_of(alloc, token, rest, &sessions)?;
-    Ok(SpecText {
-        text,
-        front,
-        sessions: sessions.into_vec(),
-        lines,
-    })
+    Ok((front, sessions.into_vec(), lines))
 }

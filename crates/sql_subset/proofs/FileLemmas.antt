@@ -10,14 +10,16 @@ use Rattle.perm_ranks.specs.Shape.{shape_of, has_idle}
 use Rattle.perm_ranks.specs.Words.{total}
 use Rattle.spec_reader.specs.declared.tree.Session.{Session}
 use Rattle.spec_reader.specs.Views.{session_tree, step_tree}
+use Rattle.spec_reader.specs.Text.{IsSpec}
+use Rattle.spec_reader.proofs.Verdict.{one_tree}
 use Rattle.spec_reader.specs.Tree.{StepTree, SessionTree, LineTree, SpecTree}
 use Rattle.sql_statements.specs.Plan.{HasKeys, IsShort}
 use Rattle.sql_statements.specs.declared.statement.Bound.{Bound}
 use Rattle.sql_subset.specs.declared.tables.Table.{Table}
 use Rattle.sql_subset.specs.Spec.{Step, Spec, SpecFile, counts_of, steps_of, queues_from, queues_of, step_limit, IsLine, IsStep, IsReady, AllHaveKeys, AllAreShort}
-use Rattle.sql_subset.specs.Binding.{BoundSession, session, declared, main_setup, numbered, all_steps, made_file, shaped}
+use Rattle.sql_subset.specs.Binding.{BoundSession, session, declared, main_setup, numbered, all_steps, made_file, shaped, bound_file, IsFileOf}
 use Rattle.sql_subset.specs.Lines.{counts_in, step_names, then_some, all_some, step_number, line_of, lines_by, orders_of}
-use Rattle.sql_subset.specs.Refusals.{each}
+use Rattle.sql_subset.specs.Refusals.{Bind, ◌>>=◌, each}
 use Rattle.sql_subset.specs.declared.orders.Orders.{Orders}
 use Rattle.sql_subset.specs.declared.orders.Orders.TheVariants.{Words, Lines}
 use Rattle.sql_subset.specs.declared.spec.Parts.{Parts}
@@ -284,12 +286,33 @@ order_of (Lines lines) run counts h e = h
 pub few-sessions : (tree : SpecTree) (lines : List (List ℕ)) (tables : List Table) (ss : List BoundSession) → shaped (orders_of tree) ≡ Ok lines → each (session tables) tree.sessions ≡ Ok ss → length ss ≤ 6
 few-sessions tree lines tables ss o e = omega (arith, (ordered tree lines (some_of (orders_of tree) lines o)).0, each-length (session tables) tree.sessions ss e)
 
-pub kept : (parts : Parts) (text : List ℕ) (tree : SpecTree) (lines : List (List ℕ)) (main : List Table × List (List Bound)) (ss : List BoundSession) → file_of parts ≡ made_file text tree lines main.1 ss
-    → shaped (orders_of tree) ≡ Ok lines → declared main_setup [] tree.front.setups ≡ Ok main → each (session main.0) tree.sessions ≡ Ok ss → FitsCounts (counts_in tree.sessions) parts.orders → IsKept parts
-kept parts text tree lines main ss made o m e fits =
+-- a file is bound where its orders, its main setups and its sessions are
+bound-made : (text : List ℕ) (tree : SpecTree) (lines : List (List ℕ)) (main : List Table × List (List Bound)) (ss : List BoundSession)
+    → shaped (orders_of tree) ≡ Ok lines → declared main_setup [] tree.front.setups ≡ Ok main → each (session main.0) tree.sessions ≡ Ok ss
+    → bound_file text tree ≡ Ok (made_file text tree lines main.1 ss)
+bound-made text tree lines main ss o m e =
+    ap (λ (r : Bind (List (List ℕ))). r >>= λ ls. (declared main_setup [] tree.front.setups >>= λ x. (each (session x.0) tree.sessions >>= λ us. Ok (made_file text tree ls x.1 us)))) o
+    ∙ ap (λ (r : Bind (List Table × List (List Bound))). r >>= λ x. (each (session x.0) tree.sessions >>= λ us. Ok (made_file text tree lines x.1 us))) m
+    ∙ ap (λ (r : Bind (List BoundSession)). r >>= λ us. Ok (made_file text tree lines main.1 us)) e
+
+pub kept : (parts : Parts) (text : List ℕ) (tree : SpecTree) → IsSpec text tree → (lines : List (List ℕ)) (main : List Table × List (List Bound)) (ss : List BoundSession)
+    → file_of parts ≡ made_file text tree lines main.1 ss
+    → shaped (orders_of tree) ≡ Ok lines → declared main_setup [] tree.front.setups ≡ Ok main → each (session main.0) tree.sessions ≡ Ok ss
+    → FitsCounts (counts_in tree.sessions) parts.orders → IsKept parts
+kept parts text tree is_spec lines main ss made o m e fits =
     let counts = counts-made text tree lines main.1 ss (sessions-told main.0 tree.sessions ss e) (each-length (session main.0) tree.sessions ss e) in
     let file = file_of parts in
+    let bound : IsFileOf text (made_file text tree lines main.1 ss) = record { tree = tree; is_spec = is_spec; is_bound = bound-made text tree lines main ss o m e } in
     record {
+      is_file = subst (λ (f : SpecFile). IsFileOf f.text f) (sym made) bound;
       ready = subst IsReady (sym made) (file-ready text tree lines main ss (some_of (orders_of tree) lines o) m e);
       orders = order_of parts.orders file.run (counts_in tree.sessions) fits (counts ∙ ap (λ (f : SpecFile). counts_of (queues_of f.run)) (sym made));
     }
+
+-- a text has one file at most, since it has one tree
+pub one-file : (text : List ℕ) (f g : SpecFile) → IsFileOf text f → IsFileOf text g → f ≡ g
+one-file text f g hf hg =
+    let same : hf.tree ≡ hg.tree = one_tree text hf.tree hg.tree hf.is_spec hg.is_spec in
+    let bound : bound_file text hg.tree ≡ Ok f = subst (λ t. bound_file text t ≡ Ok f) same hf.is_bound in
+    let told = hg.is_bound in
+    cc

@@ -1,6 +1,7 @@
 -- What a spec file binds to: its spec, or the first refusal.
-use Rattle.std.specs.Prelude.{ℕ, suc, ◌+◌, ◌-◌, ◌^◌, min, List, [], ◌∷◌, ◌++◌, length, map, Option, Some, None, Result, Ok, Err}
+use Rattle.std.specs.Prelude.{◌≡◌, ℕ, suc, ◌+◌, ◌-◌, ◌^◌, min, List, [], ◌∷◌, ◌++◌, length, map, Option, Some, None, Result, Ok, Err}
 use Rattle.spec_reader.specs.Tree.{BlockTree, StepTree, SessionTree, SpecTree}
+use Rattle.spec_reader.specs.Text.{IsSpec}
 use Rattle.sql_reader.specs.Tree as tree
 use Rattle.sql_reader.specs.Grammar.{Fault}
 use Rattle.sql_reader.specs.Lexing.{token_list}
@@ -121,3 +122,9 @@ bound_file text tree = do
   main ← declared main_setup [] tree.front.setups
   sessions ← each (session main.0) tree.sessions
   Ok (made_file text tree lines main.1 sessions)
+
+-- the text is that of a spec file, which binds to this
+pub record IsFileOf (text : List ℕ) (file : SpecFile) : Type 0 where
+  pub tree : SpecTree
+  pub is_spec : IsSpec text tree
+  pub is_bound : bound_file text tree ≡ Ok file

@@ -1,6 +1,7 @@
 -- What contracts see of a spec, and what it keeps.
 use Rattle.std.specs.Prelude.{string_bytes}
 use Rattle.sql_subset.specs.declared.spec.Parts.{Parts}
+use Rattle.sql_subset.specs.Binding.{IsFileOf}
 use Rattle.sql_subset.specs.Orders.{lines_of, IsOrderOf}
 use Rattle.sql_subset.specs.Spec.{SpecFile, IsReady}
 
@@ -18,7 +19,8 @@ file_of s = record {
   };
 }
 
--- what every spec keeps
+-- what every spec keeps: it is what its text binds to, it is ready to run, and its orders are its own
 pub record IsKept (s : Parts) : Type 0 where
+  pub is_file : IsFileOf (file_of s).text (file_of s)
   pub ready : IsReady (file_of s)
   pub orders : IsOrderOf s.orders (file_of s).run

@@ -1,7 +1,8 @@
 //! Binds a spec file that is read.
 
 ghost use Rattle.std.specs.Prelude.{◌≡◌, ◌≢◌, ◌<◌, ◌≤◌, ◌++◌, ◌⊎◌, [], map, length, string_bytes, IfOk, IfErr, Ok, Err};
-ghost use Rattle.spec_reader.specs.Views.{session_tree, step_tree, line_tree, spec_tree};
+ghost use Rattle.spec_reader.specs.Views.{session_tree, step_tree, line_tree};
+ghost use Rattle.spec_reader.specs.Whole.{spec_tree};
 ghost use Rattle.sql_subset.specs.Orders.{lines_of};
 ghost use Rattle.sql_subset.specs.Bindings.{bound_session, FitsCounts};
 ghost use Rattle.sql_subset.specs.Lines.{all_some, line_of, counts_in, step_names, session_names, lines_by, orders_of};
@@ -163,6 +164,7 @@ fn all_steps(
 fn bound(alloc: Global, text: &SpecText) -> Result<Spec, BindStop>
     ensures { Binds (λ spec. spec) result (bound_file (string_bytes text.now.text) (spec_tree text.now)) }
 {
+    text.known();
     let step_names = step_names(alloc, &text.sessions)?;
     let orders = orders(alloc, text, &step_names)?;
     let mut tables = Vec::new(alloc);
@@ -170,8 +172,9 @@ fn bound(alloc: Global, text: &SpecText) -> Result<Spec, BindStop>
     let bound = sessions(alloc, &tables, &text.sessions)?;
     let (steps, session_setups) = all_steps(alloc, bound)?;
     let session_names = session_names(alloc, &text.sessions)?;
+    let copy = String::from_str(alloc, &text.text)?;
     Ok(Spec::from_parts(Parts {
-        text: String::from_str(alloc, &text.text)?,
+        text: copy,
         session_names,
         step_names,
         sessions: text.sessions.len() as u8,

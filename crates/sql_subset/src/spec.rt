@@ -1,12 +1,14 @@
 ghost use Rattle.std.specs.Prelude.{◌≡◌, ◌≢◌, ◌<◌, ◌≤◌, ◌↔◌, [], length, get_or, All, IsTrue, IsSome, IfSome};
-ghost use Rattle.sql_subset.specs.Spec.{no_step, ranks, line_of, AllHaveKeys, AllAreShort, IsBound};
+ghost use Rattle.sql_subset.specs.Spec.{no_step, counts_of, queues_of, ranks, line_of, AllHaveKeys, AllAreShort, IsBound};
 ghost use Rattle.sql_statements.specs.Plan.{HasKeys, IsShort};
+ghost use Rattle.sql_subset.specs.Binding.{IsFileOf};
 ghost use Rattle.sql_subset.specs.Views.{file_of as file_of_parts, IsKept as IsKeptBy};
 
 use crate::block::{Block, Step};
 use crate::orders::{Line, Orders, copied};
 use crate::walking::line_of_word;
 use lock_modes::Text;
+use perm_ranks::Shape;
 use sql_statements::Bound;
 use std::marker::Model;
 
@@ -51,6 +53,13 @@ impl Spec {
         ensures { result ≡ file_of_parts parts }
     {
         Spec { parts }
+    }
+
+    /// What every spec keeps: it is what its text binds to.
+    pub fn known(&self)
+        ensures { IsFileOf self.now.text self.now }
+    {
+        let _text = &self.parts.text;
     }
 
     /// The text of the file.
@@ -151,6 +160,17 @@ impl Spec {
         ensures { IsTrue result ↔ (self.now.run.lines ≢ []) }
     {
         matches!(self.parts.orders, Orders::Lines(_))
+    }
+
+    /// How many steps each session has, where the orders are all words of them. None where the file has permutation lines.
+    pub fn shape(&self) -> Option<&Shape>
+        ensures words { IsSome result ↔ (self.now.run.lines ≡ []) }
+        ensures counts { IfSome result (λ shape. shape.now ≡ counts_of (queues_of self.now.run)) }
+    {
+        match &self.parts.orders {
+            Orders::Words(shape) => Some(shape),
+            Orders::Lines(_) => None,
+        }
     }
 
     /// How many permutations there are: the permutation lines, or else the words. Their ranks are the numbers below.

@@ -1,7 +1,8 @@
 use Rattle.std.proofs.Common.{◌≡◌, ap, sym, ◌∙◌, map, length, arith, Ok}
 use Rattle.std.specs.Prelude.{string_bytes}
 use Rattle.std.proofs.lemmas.List.{length-map}
-use Rattle.spec_reader.specs.Views.{spec_tree, session_tree, block_tree}
+use Rattle.spec_reader.specs.Views.{session_tree, block_tree}
+use Rattle.spec_reader.specs.Whole.{spec_tree}
 use Rattle.sql_subset.specs.Bindings.{bound_session}
 use Rattle.sql_subset.specs.Orders.{lines_of}
 use Rattle.sql_subset.specs.Binding.{session, declared, main_setup}
@@ -24,9 +25,9 @@ from_parts-requires c =
     let text = c.args.text.now in
     let names = c.in_ok-session_names.ensures ∙ ap (λ ss. session_names (map session_tree ss)) c.deref-6.ensures.value in
     let steps = c.in_ok-step_names.ensures ∙ ap (λ ss. step_names (map session_tree ss)) c.deref.ensures.value in
-    let bytes = c.in_ok-from_str.ensures.ok ∙ c.deref-7.ensures in
+    let bytes = c.in_ok-copy.ensures.ok ∙ c.deref-7.ensures in
     let count : c.len.result ≡ length (map session_tree text.sessions.items) = omega (arith, c.len.ensures, text.sessions.ok.0, length-map text.sessions.items session_tree) in
-    kept _ (string_bytes text.text) (spec_tree text) (lines_of c.in_ok-orders.orders) (c.setups.new.tables.items, c.in_ok-setups.setups.items) (map bound_session c.in_ok-bound.bound.items)
+    kept _ (string_bytes text.text) (spec_tree text) c.known.ensures (lines_of c.in_ok-orders.orders) (c.setups.new.tables.items, c.in_ok-setups.setups.items) (map bound_session c.in_ok-bound.bound.items)
     (λ i. record {
       text = bytes i;
       session_names = names i;

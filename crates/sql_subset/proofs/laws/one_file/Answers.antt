@@ -1,0 +1,5 @@
+use Rattle.sql_subset.proofs.FileLemmas.{one-file}
+use Rattle.sql_subset.proofs.laws.one_file.Goals as goal
+
+pub returns : goal.returns
+returns c = one-file
