@@ -75,6 +75,20 @@ impl Write for BrokenPipe {
     }
 }
 
+// Takes everything, and has no room for it when it is flushed.
+#[derive(Drop)]
+struct FullDevice;
+
+impl Write for FullDevice {
+    fn write(&mut self, buf: &[u8]) -> io::Result<usize> {
+        Ok(buf.len())
+    }
+
+    fn flush(&mut self) -> io::Result<()> {
+        Err(io::Error::from(io::ErrorKind::StorageFull))
+    }
+}
+
 fn holding<'a>(text: &'a [u8]) -> Disk<'a> {
     Disk {
         path: "first.spec",
@@ -212,17 +226,38 @@ fn a_file_that_is_not_read_is_a_read_fault(rt: HostRuntime) -> Result<(), Fail> 
     Ok(())
 }
 
-#[test]
-fn an_output_that_takes_nothing_is_a_write_fault(rt: HostRuntime) -> Result<(), Fail> {
-    let alloc = rt.alloc();
-    let words = words_of(alloc, "isofarm one first.spec 0")?;
-    let mut out = Counted::new(BrokenPipe);
+fn assert_write_fault<W: Write + Drop>(
+    rt: &impl Abort,
+    alloc: Global,
+    line: &str,
+    out: W,
+) -> Result<(), Fail> {
+    let words = words_of(alloc, line)?;
+    let mut out = Counted::new(out);
     let mut err = Counted::new(Vec::new(alloc));
-    assert_eq!(rt; run(alloc, &words, &holding(FIRST), &mut out, &mut err), 5);
     assert_eq!(rt;
-        err.into_inner().as_slice(),
-        b"isofarm: write fault\n".as_slice()
+        run(alloc, &words, &holding(FIRST), &mut out, &mut err),
+        5,
+        "{line}"
     );
+    assert!(rt;
+        err.into_inner().as_slice() == b"isofarm: write fault\n".as_slice(),
+        "{line}"
+    );
+    Ok(())
+}
+
+#[test]
+fn an_output_that_fails_is_a_write_fault(rt: HostRuntime) -> Result<(), Fail> {
+    for line in [
+        "isofarm one first.spec 0",
+        "isofarm --help",
+        "isofarm help",
+        "isofarm one --help",
+    ] {
+        assert_write_fault(&rt, rt.alloc(), line, BrokenPipe)?;
+        assert_write_fault(&rt, rt.alloc(), line, FullDevice)?;
+    }
     Ok(())
 }
 
