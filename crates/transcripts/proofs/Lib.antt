@@ -2,3 +2,13 @@ pub mod Walking
 pub mod Writing
 pub mod JsonLaws
 pub mod Places
+pub mod Codes
+pub mod Digits
+pub mod Tables
+pub mod Escapes
+pub mod EventCodes
+pub mod EventOrder
+pub mod SideBySide
+pub mod CompactText
+pub mod OutcomeOrder
+pub mod Worked

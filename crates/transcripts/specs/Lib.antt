@@ -4,3 +4,5 @@ pub mod Text
 pub mod Json
 pub mod JsonReading
 pub mod Log
+pub mod Compact
+pub mod EventParts

@@ -7,6 +7,7 @@ mod event;
 mod log;
 mod names;
 mod of_value;
+mod order;
 mod outcome;
 mod printing;
 mod to_value;

@@ -1,9 +1,16 @@
-ghost use Rattle.std.specs.Prelude.{◌≡◌, [], ◌∷◌, ◌++◌, All, IfOk, OnOk, OnErr};
+ghost use Rattle.std.specs.Prelude.{◌≡◌, ◌↔◌, [], ◌∷◌, ◌++◌, All, Some, IfOk, IsTrue, OnOk, OnErr};
+ghost use Rattle.std.proofs.Common.{rules};
+ghost use Rattle.std.specs.Ordering.{eq_by_cmp};
+ghost use Rattle.std.specs.Cmp.{po, eq_by_cmp_equiv, partial_equiv_from_equiv};
+ghost use Rattle.std.specs.declared.cmp.Ordering.TheVariants.{Equal};
+ghost use Rattle.transcripts.specs.Compact.{bytes_cmp, outcome_json};
 ghost use Rattle.transcripts.specs.Json.{CellFits, EventFits, OutcomeFits};
 
 use crate::event::Event;
+use crate::order::outcome_order;
 use lock_modes::Value;
 use std::alloc::{AllocError, Global};
+use std::cmp::Ordering;
 use std::marker::Model;
 use std::sync::Arc;
 use version_tree::Fork;
@@ -95,11 +102,73 @@ impl Outcome {
         }
     }
 
+    /// Whether the outcomes are one: each session is told the same.
+    pub fn is_same(&self, other: &Outcome) -> bool
+        ensures { IsTrue result ↔ (self.now ≡ other.now) }
+    {
+        self.order(other).is_eq()
+    }
+
+    /// The order of the bytes of the outcomes' compact JSON texts, which are not made.
+    pub fn order(&self, other: &Outcome) -> Ordering
+        ensures texts { result ≡ bytes_cmp (outcome_json self.now) (outcome_json other.now) }
+        ensures tells { result ≡ Equal → self.now ≡ other.now }
+    {
+        outcome_order(self.sessions(), other.sessions())
+    }
+
     /// The transcripts in the order of the sessions.
     pub fn sessions(&self) -> &[Transcript]
         ensures { result.now ≡ self.now }
     {
         self.sessions.as_slice()
+    }
+}
+
+impl PartialEq for Outcome {
+    ghost use Rattle.transcripts.specs.Compact.{outcome_cmp, outcome_total};
+
+    ghost eq = { eq_by_cmp outcome_cmp };
+
+    ghost laws = { partial_equiv_from_equiv (eq_by_cmp_equiv outcome_total) };
+
+    fn eq(&self, other: &Outcome) -> bool {
+        self.cmp(other).is_eq()
+    }
+}
+
+impl Eq for Outcome {
+    ghost use Rattle.transcripts.specs.Compact.{outcome_total};
+
+    ghost laws = { eq_by_cmp_equiv outcome_total };
+}
+
+impl PartialOrd for Outcome {
+    ghost use Rattle.transcripts.specs.Compact.{outcome_cmp, outcome_total};
+
+    ghost partial_cmp = { λ a b. Some (outcome_cmp a b) };
+
+    ghost laws = { po outcome_total (λ a b. Prim.search rules) };
+
+    fn partial_cmp(&self, other: &Outcome) -> Option<Ordering> {
+        Some(self.cmp(other))
+    }
+}
+
+/// Outcomes are in the order of the bytes of their compact JSON texts, each of which tells its outcome.
+impl Ord for Outcome {
+    ghost use Rattle.transcripts.specs.Compact.{outcome_cmp, outcome_total};
+
+    ghost cmp = { outcome_cmp };
+
+    ghost total = { outcome_total };
+
+    ghost matches_partial_cmp = { Prim.search rules };
+
+    ghost matches_eq = { Prim.search rules };
+
+    fn cmp(&self, other: &Outcome) -> Ordering {
+        self.order(other)
     }
 }
 

@@ -3,21 +3,32 @@
 ghost use Rattle.std.specs.Prelude.{◌≡◌, map, IfOk};
 ghost use Rattle.serde_json.specs.Data.{string};
 ghost use Rattle.serde_json.specs.View.{view};
+ghost use Rattle.serde_json.specs.Written.{compact_text};
+ghost use Rattle.transcripts.specs.Compact.{outcome_json};
 ghost use Rattle.transcripts.specs.Json.{cell_data, event_data, fault_number, list, outcome_data, session_data, tagged, warning_number, whole};
 
 use crate::event::{Event, Fault, Warning};
-use crate::outcome::Outcome;
+use crate::outcome::{Outcome, Transcript};
 use lock_modes::Value;
 use serde_json::Value as Json;
 use std::alloc::{AllocError, Global};
 
-/// The JSON value of an outcome: an array of sessions, and each an array with a value for each event. It fails for want
-/// of memory alone.
+/// The JSON value of an outcome: an array of sessions, and each an array with a value for each event. Printed without
+/// spaces it is the outcome's compact text. It fails for want of memory alone.
 pub fn outcome_value(alloc: Global, outcome: &Outcome) -> Result<Json, AllocError>
-    ensures { IfOk result (λ value. view value ≡ outcome_data outcome.now) }
+    ensures value { IfOk result (λ value. view value ≡ outcome_data outcome.now) }
+    ensures text { IfOk result (λ value. compact_text (view value) ≡ outcome_json outcome.now) }
+{
+    outcome.known();
+    let value = sessions_value(alloc, outcome.sessions())?;
+    Ok(value)
+}
+
+fn sessions_value(alloc: Global, transcripts: &[Transcript]) -> Result<Json, AllocError>
+    ensures { IfOk result (λ value. view value ≡ outcome_data transcripts.now) }
 {
     let mut sessions = Vec::new(alloc);
-    for transcript in outcome.sessions() {
+    for transcript in transcripts {
         sessions.push(session_value(alloc, transcript.events())?)?;
     }
     Ok(Json::Array(sessions))
@@ -57,7 +68,7 @@ fn event_value(alloc: Global, event: &Event) -> Result<Json, AllocError>
     }
 }
 
-fn warning_number(warning: Warning) -> u8
+pub fn warning_number(warning: Warning) -> u8
     ensures { result ≡ warning_number warning }
 {
     match warning {
@@ -66,7 +77,7 @@ fn warning_number(warning: Warning) -> u8
     }
 }
 
-fn fault_number(fault: Fault) -> u8
+pub fn fault_number(fault: Fault) -> u8
     ensures { result ≡ fault_number fault }
 {
     match fault {

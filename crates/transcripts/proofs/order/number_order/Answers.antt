@@ -1,0 +1,10 @@
+use Rattle.std.proofs.Common.{sym, ◌∙◌, ◌∷◌, [], ◌++◌}
+use Rattle.transcripts.specs.Compact.{bytes_cmp}
+use Rattle.transcripts.proofs.Digits.{whole-decimal}
+use Rattle.transcripts.proofs.order.number_order.Goals as goal
+
+pub returns : goal.returns
+returns c =
+    let a = c.as_bytes-a.ensures.value ∙ c.format.ensures.text ∙ sym (whole-decimal c.args.a c.ranges.a.fits) in
+    let b = c.as_bytes-b.ensures.value ∙ c.format-2.ensures.text ∙ sym (whole-decimal c.args.b c.ranges.b.fits) in
+    c.ended_order.ensures ∙ (λ i. bytes_cmp (a i ++ 93 ∷ []) (b i ++ 93 ∷ []))
