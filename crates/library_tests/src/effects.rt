@@ -38,7 +38,7 @@ fn row(alloc: Global, cells: &[Cell]) -> Result<Row, AllocError> {
     Ok(Row::from_values(values))
 }
 
-fn insert(alloc: Global, key: Option<u8>, rows: &[&[Cell]]) -> Result<Bound, AllocError> {
+fn insert(alloc: Global, key: Option<u16>, rows: &[&[Cell]]) -> Result<Bound, AllocError> {
     let mut new = Items::new(alloc);
     for cells in rows {
         new.push(row(alloc, cells)?)?;
@@ -53,7 +53,7 @@ fn product(alloc: Global, first: Operand) -> Product {
     }
 }
 
-fn column(alloc: Global, column: u8) -> Expression {
+fn column(alloc: Global, column: u16) -> Expression {
     Expression {
         first: product(alloc, Operand::Column(column)),
         more: Items::new(alloc),
@@ -68,7 +68,7 @@ fn literal(alloc: Global, cell: Cell) -> Result<Expression, AllocError> {
 }
 
 /// `factor * column - minus`
-fn scaled(alloc: Global, factor: i64, column: u8, minus: i64) -> Result<Expression, AllocError> {
+fn scaled(alloc: Global, factor: i64, column: u16, minus: i64) -> Result<Expression, AllocError> {
     let mut first = product(alloc, Operand::Literal(Value::Int(factor)));
     first.more.push(Operand::Column(column))?;
     let mut more = Items::new(alloc);
@@ -81,7 +81,7 @@ fn scaled(alloc: Global, factor: i64, column: u8, minus: i64) -> Result<Expressi
 
 fn test(
     alloc: Global,
-    number: u8,
+    number: u16,
     comparison: Comparison,
     cell: Cell,
 ) -> Result<Condition, AllocError> {
@@ -106,7 +106,7 @@ fn and(alloc: Global, a: Condition, b: Condition) -> Result<Condition, AllocErro
 fn select(
     alloc: Global,
     condition: Condition,
-    columns: &[u8],
+    columns: &[u16],
     order: &[SortKey],
 ) -> Result<Bound, AllocError> {
     let columns = Items::from_slice(alloc, columns)?;
@@ -123,7 +123,7 @@ fn numbers(
     Ok(Bound::Select(0, None, condition, Items::new(alloc), output))
 }
 
-fn set(alloc: Global, column: u8, value: Expression) -> Result<Items<Assignment>, AllocError> {
+fn set(alloc: Global, column: u16, value: Expression) -> Result<Items<Assignment>, AllocError> {
     let mut sets = Items::new(alloc);
     sets.push(Assignment { column, value })?;
     Ok(sets)

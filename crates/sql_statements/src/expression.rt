@@ -8,7 +8,7 @@ use sqlite_items::Items;
 pub enum Operand {
     Literal(Value),
     /// The column's number, from 0.
-    Column(u8),
+    Column(u16),
 }
 
 /// One or more operands, which are multiplied from the left.

@@ -76,7 +76,7 @@ fn row_request(
 }
 
 /// The requests of an insert into a table with a key.
-fn insert_request(table: u16, column: u8, rows: &[Row], number: u8) -> Option<(Place<'_>, Mode)>
+fn insert_request(table: u16, column: u16, rows: &[Row], number: u8) -> Option<(Place<'_>, Mode)>
     requires { All (HasKey column) rows.now }
     ensures { option_map (λ r. request (resource_at r.0) r.1) result ≡ slice_get (insert_plan table column rows.now) number }
 {
@@ -87,7 +87,7 @@ fn insert_request(table: u16, column: u8, rows: &[Row], number: u8) -> Option<(P
 }
 
 /// The request for the key of the row at this place.
-fn key_request(table: u16, column: u8, rows: &[Row], at: usize) -> Option<(Place<'_>, Mode)>
+fn key_request(table: u16, column: u16, rows: &[Row], at: usize) -> Option<(Place<'_>, Mode)>
     requires { All (HasKey column) rows.now }
     ensures { option_map (λ r. request (resource_at r.0) r.1) result ≡ slice_get (map (key_lock table column) rows.now) at }
 {

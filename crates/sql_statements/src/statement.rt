@@ -10,14 +10,14 @@ use sqlite_items::Items;
 pub enum Aggregate {
     Count,
     /// The exact total of a column.
-    Sum(u8),
+    Sum(u16),
 }
 
 /// What a select shows.
 #[derive(Debug, Drop)]
 pub enum Output {
     /// These columns of each row, in this order.
-    Columns(Items<u8>),
+    Columns(Items<u16>),
     /// One row of these numbers.
     Aggregates(Items<Aggregate>),
 }
@@ -32,14 +32,14 @@ pub enum Order {
 /// A column that a select sorts by.
 #[derive(Clone, Copy, Debug, PartialEq, Eq)]
 pub struct SortKey {
-    pub column: u8,
+    pub column: u16,
     pub order: Order,
 }
 
 /// A column that an update sets.
 #[derive(Debug, Drop)]
 pub struct Assignment {
-    pub column: u8,
+    pub column: u16,
     pub value: Expression,
 }
 
@@ -49,7 +49,7 @@ pub struct Assignment {
 pub enum Bound {
     Select(u16, Option<Value>, Condition, Items<SortKey>, Output),
     /// New rows, with all columns in their order, and which of them is the table's key, if it has one.
-    Insert(u16, Option<u8>, Items<Row>),
+    Insert(u16, Option<u16>, Items<Row>),
     Update(u16, Option<Value>, Items<Assignment>, Condition),
     Delete(u16, Option<Value>, Condition),
     Begin,

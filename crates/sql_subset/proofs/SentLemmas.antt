@@ -99,7 +99,7 @@ below-is limit (Some m) n e =
 
 column-below : (t : Table) (name : List ℕ) (n : ℕ) → column_number t name ≡ Some n → n < width t
 column-below t name n e =
-    let a = below-is 256 (column_place t.columns name) n e in
+    let a = below-is 65536 (column_place t.columns name) n e in
     let b : n < 0 + length t.columns = position-below _ 0 t.columns n a.0 in
     omega (arith, a.1, b)
 

@@ -35,7 +35,7 @@ abbrev pub column_place : List Column → Name → Option ℕ
 column_place columns name = position_from (λ (c : Column). bytes_eq name c.name) 0 columns
 
 abbrev pub column_number : Table → Name → Option ℕ
-column_number t name = below 256 (column_place t.columns name)
+column_number t name = below 65536 (column_place t.columns name)
 
 -- which column is the primary key
 abbrev pub key_column : Table → Option ℕ
@@ -43,7 +43,7 @@ key_column t = elim t.key [ None ↦ None | Some name ↦ column_number t name ]
 
 -- how many columns have a number
 abbrev pub width : Table → ℕ
-width t = min (length t.columns) 256
+width t = min (length t.columns) 65536
 
 abbrev pub no_table : Table
 no_table = record { name = []; columns = []; key = None }
@@ -99,10 +99,10 @@ repeated before (c ∷ cs) = list_any (λ (b : Column). bytes_eq c.name b.name) 
 abbrev pub has_unknown : List Column → List Name → Bool
 has_unknown columns keys = list_any (λ key. not (is_some (column_place columns key))) keys
 
--- a table has at most 256 columns, and a file at most 65,536 tables
+-- a table has at most 65,536 columns, and a file as many tables: a spec file has no room for either
 abbrev pub refusal : List Table → Name → List Column → List Name → Option BindErrorKind
 refusal tables name columns keys =
-    if nat_lt 256 (length columns) || nat_le 65536 (length tables) then Some (Sql TooLarge)
+    if nat_lt 65536 (length columns) || nat_le 65536 (length tables) then Some (Sql TooLarge)
     else (if has_unknown columns keys then Some UnknownColumn
     else (if is_some (table_place tables name) then Some DuplicateTable
     else (if repeated [] columns || nat_lt 1 (length keys) then Some WrongCount

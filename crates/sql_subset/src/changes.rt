@@ -49,7 +49,7 @@ fn assignments(
 }
 
 /// The columns that are set.
-fn set_columns(alloc: Global, sets: &[Assignment]) -> Result<Vec<u8>, AllocError>
+fn set_columns(alloc: Global, sets: &[Assignment]) -> Result<Vec<u16>, AllocError>
     ensures { IfOk result (λ all. all.items ≡ spec.set_columns sets.now) }
 {
     let mut all = Vec::new(alloc);
@@ -59,13 +59,13 @@ fn set_columns(alloc: Global, sets: &[Assignment]) -> Result<Vec<u8>, AllocError
     Ok(all)
 }
 
-fn sets_column(column: u8, sets: &[Assignment]) -> bool
+fn sets_column(column: u16, sets: &[Assignment]) -> bool
     ensures { result ≡ spec.sets_column column sets.now }
 {
     sets.iter().any(|set| set.column == column)
 }
 
-fn sets_key(key: Option<u8>, sets: &[Assignment]) -> bool
+fn sets_key(key: Option<u16>, sets: &[Assignment]) -> bool
     ensures { result ≡ spec.sets_key key sets.now }
 {
     match key {

@@ -14,10 +14,10 @@ use sql_reader::{CreateTable, Property, SqlErrorKind, TablePart};
 use sqlite_items::Items;
 use std::alloc::{AllocError, Global};
 
-/// The columns of a table, at most, by which their numbers are bytes.
-const MAX_COLUMNS: usize = 256;
+/// The columns of a table, at most, by which their numbers are u16. A spec file has no room for so many.
+const MAX_COLUMNS: usize = 65_536;
 
-/// The tables of a file, at most, by which their numbers are u16.
+/// The tables of a file, at most, by which their numbers are u16. A spec file has no room for so many.
 const MAX_TABLES: usize = 65_536;
 
 fn copied(alloc: Global, text: &Text) -> Result<Text, AllocError>
@@ -99,7 +99,7 @@ fn is_named(columns: &[Column], name: &str) -> bool
     columns.iter().any(|column| name == column.name.as_str())
 }
 
-/// Whether a name stands twice. Each is looked for among those before it, so this is quadratic, in at most 256 columns.
+/// Whether a name stands twice. Each is looked for among those before it, so this is quadratic, in what a spec file has room for.
 fn has_repeated(columns: &[Column]) -> bool
     ensures { result ≡ repeated [] columns.now }
 {

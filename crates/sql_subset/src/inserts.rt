@@ -22,12 +22,12 @@ use std::alloc::{AllocError, Global};
 use version_tree::Fork;
 
 /// The numbers of all columns.
-pub(crate) fn all_columns(alloc: Global, table: &Table) -> Result<Vec<u8>, AllocError>
+pub(crate) fn all_columns(alloc: Global, table: &Table) -> Result<Vec<u16>, AllocError>
     ensures { IfOk result (λ all. all.items ≡ numbers_from 0 (tables.width table.now)) }
 {
     let mut all = Vec::new(alloc);
     for number in 0..table.width() {
-        all.push(number as u8)?;
+        all.push(number as u16)?;
     }
     Ok(all)
 }
@@ -39,7 +39,7 @@ pub(crate) fn columns(
     table: &Table,
     at: usize,
     names: &Chain<Text>,
-) -> Result<Vec<u8>, BindStop>
+) -> Result<Vec<u16>, BindStop>
     ensures { Binds (λ all. all.items) result (each (tables.column table.now at) (list_of (chain_of names.now))) }
 {
     let mut all = Vec::new(alloc);
@@ -56,7 +56,7 @@ fn row_columns(
     table: &Table,
     at: usize,
     names: &Option<Chain<Text>>,
-) -> Result<Vec<u8>, BindStop>
+) -> Result<Vec<u16>, BindStop>
     ensures { Binds (λ all. all.items) result (spec.row_columns table.now at (option_by chain_of names.now)) }
 {
     match names {
@@ -88,14 +88,14 @@ fn rows_values(alloc: Global, at: usize, rows: &Chain<Chain<Literal>>) -> Result
     Ok(all)
 }
 
-fn contains(numbers: &[u8], number: u8) -> bool
+fn contains(numbers: &[u16], number: u16) -> bool
     ensures { result ≡ list_any (λ other. other == number) numbers.now }
 {
     numbers.iter().any(|other| *other == number)
 }
 
-/// Whether a number stands twice. Each is looked for among those before it, of which at most 256 differ.
-pub(crate) fn repeats(numbers: &[u8]) -> bool
+/// Whether a number stands twice. Each is looked for among those before it, so this is quadratic, in what a spec file has room for.
+pub(crate) fn repeats(numbers: &[u16]) -> bool
     ensures { result ≡ repeats [] numbers.now }
 {
     for (n, number) in numbers.iter().enumerate() {
@@ -106,14 +106,14 @@ pub(crate) fn repeats(numbers: &[u8]) -> bool
     false
 }
 
-fn stands_at(columns: &[u8], column: u8) -> Option<usize>
+fn stands_at(columns: &[u16], column: u16) -> Option<usize>
     ensures { result ≡ spec.stands_at columns.now column }
 {
     columns.iter().position(|other| *other == column)
 }
 
 /// Where a column stands among the columns of the rows.
-fn place_of(columns: &[u8], column: u8) -> usize
+fn place_of(columns: &[u16], column: u16) -> usize
     ensures { result ≡ spec.place_of columns.now column }
 {
     match stands_at(columns, column) {
@@ -123,7 +123,7 @@ fn place_of(columns: &[u8], column: u8) -> usize
 }
 
 /// For each column of the table the place of its value.
-fn places(alloc: Global, table: &Table, columns: &[u8]) -> Result<Vec<usize>, AllocError>
+fn places(alloc: Global, table: &Table, columns: &[u16]) -> Result<Vec<usize>, AllocError>
     ensures { IfOk result (λ all. all.items ≡ spec.places table.now columns.now) }
 {
     let mut all = Vec::new(alloc);
@@ -169,14 +169,14 @@ fn has_other_width(width: usize, rows: &[Row]) -> bool
 }
 
 /// Whether the columns are not all of the table, each once, or a row has not a value for each.
-fn rows_miscount(table: &Table, columns: &[u8], rows: &[Row]) -> bool
+fn rows_miscount(table: &Table, columns: &[u16], rows: &[Row]) -> bool
     ensures { result ≡ spec.rows_miscount table.now columns.now rows.now }
 {
     let width = table.width();
     columns.len() != width || repeats(columns) || has_other_width(width, rows)
 }
 
-fn rows_mix(table: &Table, columns: &[u8], rows: &[Row]) -> bool
+fn rows_mix(table: &Table, columns: &[u16], rows: &[Row]) -> bool
     ensures { result ≡ list_any (types.row_mixes table.now columns.now) rows.now }
 {
     rows.iter()
@@ -188,7 +188,7 @@ fn insert_rows(
     table: &Table,
     at: usize,
     number: u16,
-    columns: &[u8],
+    columns: &[u16],
     rows: &[Row],
 ) -> Result<Bound, BindStop>
     ensures { Binds (λ bound. bound) result (spec.insert_rows table.now at number columns.now rows.now) }

@@ -21,7 +21,7 @@ pub(crate) fn single(expression: &Expression) -> Option<&Operand>
 }
 
 /// The literal, where the column is the key.
-fn literal_at<'a>(key: u8, left: Option<&Operand>, right: Option<&'a Operand>) -> Option<&'a Value>
+fn literal_at<'a>(key: u16, left: Option<&Operand>, right: Option<&'a Operand>) -> Option<&'a Value>
     ensures { option_copied result ≡ spec.literal_at key (option_copied left.entry) (option_copied right.entry) }
 {
     match (left, right) {
@@ -34,7 +34,7 @@ fn literal_at<'a>(key: u8, left: Option<&Operand>, right: Option<&'a Operand>) -
 
 /// The key that a comparison names, with the column on the left.
 fn key_compared<'a>(
-    key: u8,
+    key: u16,
     comparison: Comparison,
     left: Option<&Operand>,
     right: Option<&'a Operand>,
@@ -53,7 +53,7 @@ fn key_compared<'a>(
 
 /// The key that the first of the parts names that are joined by AND.
 #[tactic(auto, using(sql_statements::proofs::ConditionLemmas::telling))]
-fn key_in(key: u8, condition: &Condition) -> Option<&Value>
+fn key_in(key: u16, condition: &Condition) -> Option<&Value>
     ensures { option_copied result ≡ spec.key_in key condition.now }
 {
     match condition {
@@ -69,7 +69,7 @@ fn key_in(key: u8, condition: &Condition) -> Option<&Value>
 }
 
 /// The key of the row that a condition names, if its table has this key.
-pub(crate) fn key_of(key: Option<u8>, condition: &Condition) -> Result<Option<Value>, AllocError>
+pub(crate) fn key_of(key: Option<u16>, condition: &Condition) -> Result<Option<Value>, AllocError>
     ensures { IfOk result (λ value. value ≡ spec.key_of key condition.now) }
 {
     let Some(key) = key else {

@@ -35,7 +35,7 @@ pub(crate) struct Column {
     pub(crate) kind: ColumnType,
 }
 
-/// A table: its columns have numbers from 0, at most 256 of them.
+/// A table: its columns have numbers from 0.
 #[derive(Drop)]
 pub(crate) struct Table {
     pub(crate) name: Text,
@@ -44,8 +44,8 @@ pub(crate) struct Table {
     pub(crate) key: Option<Text>,
 }
 
-/// How many columns have numbers.
-const NUMBERS: usize = 256;
+/// How many columns have numbers. A spec file has no room for so many.
+const NUMBERS: usize = 65_536;
 
 impl Table {
     /// How many columns have a number.
@@ -56,15 +56,15 @@ impl Table {
     }
 
     /// The number of a column. Linear in the columns, of which there are few.
-    fn number(&self, name: &str) -> Option<u8>
+    fn number(&self, name: &str) -> Option<u16>
         ensures { result ≡ column_number self.now name.now }
     {
         let place = column_place(self.columns.as_slice(), name)?;
-        u8::try_from(place).ok()
+        u16::try_from(place).ok()
     }
 
     /// The number of a column, which a statement names that begins at this offset.
-    pub(crate) fn column(&self, at: usize, name: &str) -> Result<u8, BindStop>
+    pub(crate) fn column(&self, at: usize, name: &str) -> Result<u16, BindStop>
         ensures { Binds (λ column. column) result (spec.column self.now at name.now) }
     {
         match self.number(name) {
@@ -74,7 +74,7 @@ impl Table {
     }
 
     /// The number of the primary key.
-    pub(crate) fn key(&self) -> Option<u8>
+    pub(crate) fn key(&self) -> Option<u16>
         ensures { result ≡ key_column self.now }
     {
         match &self.key {
@@ -84,7 +84,7 @@ impl Table {
     }
 
     /// The type of a column.
-    pub(crate) fn type_of(&self, column: u8) -> ColumnType
+    pub(crate) fn type_of(&self, column: u16) -> ColumnType
         ensures { result ≡ type_of self.now column }
     {
         match self.columns.get(column as usize) {

@@ -156,7 +156,7 @@ pub(crate) fn output_mixes(table: &Table, output: &Output) -> bool
 }
 
 /// Whether a value has another type than its column, as far as both lists go.
-pub(crate) fn row_mixes(table: &Table, columns: &[u8], row: &[Value]) -> bool
+pub(crate) fn row_mixes(table: &Table, columns: &[u16], row: &[Value]) -> bool
     ensures { result ≡ spec.row_mixes table.now columns.now row.now }
 {
     for (n, column) in columns.iter().enumerate() {

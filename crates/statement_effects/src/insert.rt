@@ -39,7 +39,7 @@ pub(crate) fn made(
     store: &Store,
     session: u8,
     table: u16,
-    key_column: Option<u8>,
+    key_column: Option<u16>,
     new: &[Row],
 ) -> Result<Option<Writes>, AllocError>
     requires { SeesAlone session (Insert table key_column new.now) store.now }
@@ -57,7 +57,7 @@ fn placed(
     store: &Store,
     session: u8,
     table: u16,
-    key_column: u8,
+    key_column: u16,
     new: &[Row],
 ) -> Result<Option<Writes>, AllocError>
     requires { KeysAlone session table key_column new.now store.now }

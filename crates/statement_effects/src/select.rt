@@ -53,7 +53,7 @@ fn show(alloc: Global, output: &Output, found: &[Entry<'_>]) -> Result<Given, Al
 }
 
 /// These columns of each row, and how many rows there are.
-fn rows(alloc: Global, columns: &[u8], found: &[Entry<'_>]) -> Result<Vec<Event>, AllocError>
+fn rows(alloc: Global, columns: &[u16], found: &[Entry<'_>]) -> Result<Vec<Event>, AllocError>
     ensures { IfOk result (λ events. events.items ≡ map (λ e. RowEvent (spec.projected columns.now e.1)) found.now ++ Rows (length found.now) ∷ []) }
 {
     let mut events = Vec::new(alloc);
@@ -65,7 +65,7 @@ fn rows(alloc: Global, columns: &[u8], found: &[Entry<'_>]) -> Result<Vec<Event>
 }
 
 /// The values in these columns.
-fn projection(alloc: Global, columns: &[u8], row: &Row) -> Result<Row, AllocError>
+fn projection(alloc: Global, columns: &[u16], row: &Row) -> Result<Row, AllocError>
     ensures { IfOk result (λ shown. shown ≡ spec.projected columns.now row.now) }
 {
     let mut values = Vec::with_capacity(alloc, columns.len())?;
@@ -113,7 +113,7 @@ fn within(number: i128) -> Option<Value>
 }
 
 /// The exact total of a column: 128 bits are enough for as many numbers of 64 as memory has room for.
-fn total(column: u8, found: &[Entry<'_>]) -> i128
+fn total(column: u16, found: &[Entry<'_>]) -> i128
     ensures { result ≡ spec.total_of column found.now }
 {
     let mut total = 0;
@@ -124,7 +124,7 @@ fn total(column: u8, found: &[Entry<'_>]) -> i128
 }
 
 /// The number in a column, 0 where it has none.
-fn number_in(column: u8, row: &Row) -> i64
+fn number_in(column: u16, row: &Row) -> i64
     ensures { result ≡ spec.number_in column row.now }
 {
     match ValueRef::in_column(row, column) {

@@ -90,7 +90,7 @@ fn copied(alloc: Global, row: &Row) -> Result<Vec<Value>, AllocError>
 }
 
 /// Puts a value into a column, if the row has that column.
-fn put(values: &mut Vec<Value>, column: u8, value: Value)
+fn put(values: &mut Vec<Value>, column: u16, value: Value)
     ensures { values.new.items ≡ set values.old.items column value }
 {
     if let Some(place) = values.get_mut(column as usize) {

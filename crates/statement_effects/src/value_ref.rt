@@ -28,7 +28,7 @@ impl<'a> ValueRef<'a> {
     }
 
     /// The value in a column, 0 where the row has no such column.
-    pub fn in_column(row: &'a Row, column: u8) -> ValueRef<'a>
+    pub fn in_column(row: &'a Row, column: u16) -> ValueRef<'a>
         ensures { value_at result ≡ get_or row.now column (Int (pos 0)) }
     {
         match row.get(column as usize) {
