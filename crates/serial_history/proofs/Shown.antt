@@ -30,7 +30,8 @@ use Rattle.serial_history.proofs.Readings.{read-more, failed-reads, ended-reads,
 committed_in-append : (xs ys : List Ended) → committed_in (xs ++ ys) ≡ committed_in xs ++ committed_in ys
 committed_in-append [] ys = refl
 committed_in-append (x ∷ xs) ys =
-    elim x.is_committed as (λ b. cond b (x.work ∷ committed_in (xs ++ ys)) (committed_in (xs ++ ys)) ≡ cond b (x.work ∷ committed_in xs) (committed_in xs) ++ committed_in ys) [
+    elim x.is_committed as (λ b. cond b (x.work ∷ committed_in (xs ++ ys)) (committed_in (xs ++ ys))
+    ≡ cond b (x.work ∷ committed_in xs) (committed_in xs) ++ committed_in ys) [
       | true ↦ ap (λ d. x.work ∷ d) (committed_in-append xs ys)
       | false ↦ committed_in-append xs ys
     ]
@@ -38,7 +39,8 @@ committed_in-append (x ∷ xs) ys =
 commits_of-append : (c : ℕ) (ts us : List Transaction) → commits_of c (ts ++ us) ≡ commits_of c ts ++ commits_of c us
 commits_of-append c [] us = refl
 commits_of-append c (t ∷ ts) us =
-    elim (t.session == c) as (λ b. cond b (t.work ∷ commits_of c (ts ++ us)) (commits_of c (ts ++ us)) ≡ cond b (t.work ∷ commits_of c ts) (commits_of c ts) ++ commits_of c us) [
+    elim (t.session == c) as (λ b. cond b (t.work ∷ commits_of c (ts ++ us)) (commits_of c (ts ++ us))
+    ≡ cond b (t.work ∷ commits_of c ts) (commits_of c ts) ++ commits_of c us) [
       | true ↦ ap (λ d. t.work ∷ d) (commits_of-append c ts us)
       | false ↦ commits_of-append c ts us
     ]
@@ -69,7 +71,8 @@ module _ (from : Reading) (i : ℕ) (before : List Transaction) where
     pub others : (c : ℕ) → c ≢ i → commits_of c t.commits ≡ commits_of c before
 
   -- the session is told these events, which change nothing but its status; the work that is open is dropped; it is committed
-  goes_on : (s s2 : Session) (t : Tally) (es : List Event) → s2.transcript ≡ s.transcript ++ es → reading s2 t ≡ read (reading s t) es → Faithful s t → Faithful s2 t
+  goes_on : (s s2 : Session) (t : Tally) (es : List Event) → s2.transcript ≡ s.transcript ++ es → reading s2 t ≡ read (reading s t) es → Faithful s t
+      → Faithful s2 t
   goes_on s s2 t es told e x =
       record {
         session = x.session;
@@ -84,10 +87,12 @@ module _ (from : Reading) (i : ℕ) (before : List Transaction) where
   let_go s s2 t es told e x =
       record {
         session = x.session;
-        reads = ended-reads false s.status s2.status t.work t.ended x.tells ∙ e ∙ read-more from (reading s t) s.transcript es x.reads ∙ ap (read from) (sym told);
+        reads = ended-reads false s.status s2.status t.work t.ended x.tells ∙ e ∙ read-more from (reading s t) s.transcript es x.reads
+            ∙ ap (read from) (sym told);
         tells = tt;
         owns = x.owns
-            ∙ sym (committed_in-append t.ended (ended_with false t.work) ∙ ap (λ d. committed_in t.ended ++ d) (dropped-work t.work) ∙ append-nil (committed_in t.ended));
+            ∙ sym (committed_in-append t.ended (ended_with false t.work) ∙ ap (λ d. committed_in t.ended ++ d) (dropped-work t.work)
+            ∙ append-nil (committed_in t.ended));
         others = x.others;
       }
 
@@ -96,7 +101,8 @@ module _ (from : Reading) (i : ℕ) (before : List Transaction) where
   committed s s2 t es told e x =
       record {
         session = x.session;
-        reads = ended-reads true s.status s2.status t.work t.ended x.tells ∙ e ∙ read-more from (reading s t) s.transcript es x.reads ∙ ap (read from) (sym told);
+        reads = ended-reads true s.status s2.status t.work t.ended x.tells ∙ e ∙ read-more from (reading s t) s.transcript es x.reads
+            ∙ ap (read from) (sym told);
         tells = tt;
         owns = commits_of-append i t.commits (commit_of t.session t.work)
             ∙ ap (λ d. commits_of i t.commits ++ d) (own-commit i t.session x.session t.work)
@@ -133,17 +139,20 @@ module _ (from : Reading) (i : ℕ) (before : List Transaction) where
   perform_by-faithful InBlock Begins s rows st t is x =
       goes_on s _ t (Warned AlreadyInBlock ∷ Began ∷ []) (by-two s.transcript (Warned AlreadyInBlock) Began) (status-is InBlock s t is) x
   perform_by-faithful Broken Begins s rows st t is x = tt
-  perform_by-faithful Outside Commits s rows st t is x = committed s _ t (Warned NoBlock ∷ Committed ∷ []) (by-two s.transcript (Warned NoBlock) Committed) refl x
+  perform_by-faithful Outside Commits s rows st t is x = committed s _ t (Warned NoBlock ∷ Committed ∷ [])
+      (by-two s.transcript (Warned NoBlock) Committed) refl x
   perform_by-faithful InBlock Commits s rows st t is x = committed s _ t (Committed ∷ []) refl refl x
   perform_by-faithful Broken Commits s rows st t is x = let_go s _ t (RolledBack ∷ []) refl refl x
-  perform_by-faithful Outside RollsBack s rows st t is x = let_go s _ t (Warned NoBlock ∷ RolledBack ∷ []) (by-two s.transcript (Warned NoBlock) RolledBack) refl x
+  perform_by-faithful Outside RollsBack s rows st t is x = let_go s _ t (Warned NoBlock ∷ RolledBack ∷ [])
+      (by-two s.transcript (Warned NoBlock) RolledBack) refl x
   perform_by-faithful InBlock RollsBack s rows st t is x = let_go s _ t (RolledBack ∷ []) refl refl x
   perform_by-faithful Broken RollsBack s rows st t is x = let_go s _ t (RolledBack ∷ []) refl refl x
   perform_by-faithful Outside Works s rows st t is x = worked-faithful s rows st (effect st (lay s.overlay rows)) t (effect-work st (lay s.overlay rows)) x
   perform_by-faithful InBlock Works s rows st t is x = worked-faithful s rows st (effect st (lay s.overlay rows)) t (effect-work st (lay s.overlay rows)) x
   perform_by-faithful Broken Works s rows st t is x = tt
 
-  end-faithful : (status : Status) (s : Session) (rows : Rows') (t : Tally) → s.status ≡ status → Faithful s t → Faithful (finished_by status s rows).session (tally_end status t)
+  end-faithful : (status : Status) (s : Session) (rows : Rows') (t : Tally) → s.status ≡ status → Faithful s t
+      → Faithful (finished_by status s rows).session (tally_end status t)
   end-faithful Outside s rows t is x =
       committed s _ t (Done ∷ []) refl (ap (λ k. ends true k (reading s t)) is ∙ sym (ap (λ k. step_ends k (reading s t)) is)) x
   end-faithful InBlock s rows t is x = goes_on s _ t (Done ∷ []) refl (sym (ap (λ k. step_ends k (reading s t)) is)) x
@@ -155,35 +164,49 @@ module _ (from : Reading) (i : ℕ) (before : List Transaction) where
   failed-faithful : (e : Scene) (s : Session) (rows : Rows') (f : Fault) (t : Tally) → Faithful s t → AfterRun (stopped e (failed s rows f)) (dropped t)
   failed-faithful e s rows f t x = let_go s _ t (Failed f ∷ Done ∷ []) refl (sym (failed-reads s.status (reading s t))) x
 
-  pub go-faithful : (e : Scene) (s : Session) (rows : Rows') (ts : List Task) (t : Tally) → Faithful s t → AfterRun (go e i s rows ts) (go_tally e i s rows ts t)
+  pub go-faithful : (e : Scene) (s : Session) (rows : Rows') (ts : List Task) (t : Tally) → Faithful s t
+      → AfterRun (go e i s rows ts) (go_tally e i s rows ts t)
   go-faithful e s rows [] t x = end-faithful s.status s rows t refl x
-  go-faithful e s rows (Ask r m ∷ ts) t x = asked (is_broken s.status) (may_have e.count e.look e.waits i (get s.held r) r m) (closes_ring e.count (look_with e i s.held) (waiting_with e i r m) i) (go-faithful e (taking s r m) rows ts t (goes_on s (taking s r m) t [] (sym (append-nil s.transcript)) refl x))
+  go-faithful e s rows (Ask r m ∷ ts) t x = asked (is_broken s.status) (may_have e.count e.look e.waits i (get s.held r) r m)
+      (closes_ring e.count (look_with e i s.held) (waiting_with e i r m) i)
+      (go-faithful e (taking s r m) rows ts t (goes_on s (taking s r m) t [] (sym (append-nil s.transcript)) refl x))
     where
       asked : (b h c : Bool) → AfterRun (go e i (taking s r m) rows ts) (go_tally e i (taking s r m) rows ts t)
-          → AfterRun (elim b [ true ↦ stopped e (failed s rows Aborted) | false ↦ elim (answered h c) [ Granted ↦ go e i (taking s r m) rows ts | Waits ↦ held_up e i s rows r m ts | Ring ↦ stopped e (failed s rows Deadlock) ] ])
+          → AfterRun (elim b [
+            | true ↦ stopped e (failed s rows Aborted)
+            | false ↦ elim
+                (answered h c) [ Granted ↦ go e i (taking s r m) rows ts | Waits ↦ held_up e i s rows r m ts | Ring ↦ stopped e (failed s rows Deadlock) ]
+          ])
           (elim b [ true ↦ dropped t | false ↦ elim (answered h c) [ Granted ↦ go_tally e i (taking s r m) rows ts t | Waits ↦ t | Ring ↦ dropped t ] ])
       asked true h c rec = failed-faithful e s rows Aborted t x
       asked false true c rec = rec
       asked false false true rec = failed-faithful e s rows Deadlock t x
       asked false false false rec = goes_on s _ t (Waiting ∷ []) refl refl x
-  go-faithful e s rows (Do st ∷ ts) t x = done (perform s rows st) (perform_by-faithful s.status (kind st) s rows st t refl x) (λ s2 rows2 y. go-faithful e s2 rows2 ts (tally_by s.status (kind st) s rows st t) y)
+  go-faithful e s rows (Do st ∷ ts) t x = done (perform s rows st) (perform_by-faithful s.status (kind st) s rows st t refl x)
+      (λ s2 rows2 y. go-faithful e s2 rows2 ts (tally_by s.status (kind st) s rows st t) y)
     where
       done : (d : Performed) → OnGoes d (λ s2 rows2. Faithful s2 (tally_by s.status (kind st) s rows st t))
-          → ((s2 : Session) (rows2 : Rows') → Faithful s2 (tally_by s.status (kind st) s rows st t) → AfterRun (go e i s2 rows2 ts) (go_tally e i s2 rows2 ts (tally_by s.status (kind st) s rows st t)))
-          → AfterRun (elim d [ Goes s2 rows2 ↦ go e i s2 rows2 ts | Fails f ↦ stopped e (failed s rows f) ]) (elim d [ Goes s2 rows2 ↦ go_tally e i s2 rows2 ts (tally_by s.status (kind st) s rows st t) | Fails f ↦ dropped t ])
+          → ((s2 : Session) (rows2 : Rows') → Faithful s2 (tally_by s.status (kind st) s rows st t)
+          → AfterRun (go e i s2 rows2 ts) (go_tally e i s2 rows2 ts (tally_by s.status (kind st) s rows st t)))
+          → AfterRun (elim d [ Goes s2 rows2 ↦ go e i s2 rows2 ts | Fails f ↦ stopped e (failed s rows f) ])
+          (elim d [ Goes s2 rows2 ↦ go_tally e i s2 rows2 ts (tally_by s.status (kind st) s rows st t) | Fails f ↦ dropped t ])
       done (Goes s2 rows2) y rec = rec s2 rows2 y
       done (Fails f) y rec = failed-faithful e s rows f t x
 
 -- ---- worlds
 
-pub goes-shown : (from : ℕ → Reading) (w : World) (h : History) (i : ℕ) (s : Session) (ts : List Task) → i < length w.sessions → s.status ≡ (session_at w i).status
+pub goes-shown : (from : ℕ → Reading) (w : World) (h : History) (i : ℕ) (s : Session) (ts : List Task) → i < length w.sessions
+    → s.status ≡ (session_at w i).status
     → read (from i) s.transcript ≡ read (from i) (session_at w i).transcript → Shown from w h → Shown from (goes w i s ts) (goes_told w i s ts h)
 goes-shown from w h i s ts lt is e x =
     record {
       reads = λ c. ⊎_elim
-          (λ k. subst (λ d. reading_of (session_at (goes w i s ts) d).status (get_or (set h.works i its.work) d []) (get_or (set h.ended i its.ended) d []) ≡ read (from d) (session_at (goes w i s ts) d).transcript) (sym k)
-          ((λ j. reading_of (session-there w i gone lt j).status (work-here j) (ended-here j)) ∙ f.reads ∙ ap (λ (y : Session). read (from i) y.transcript) (sym (session-there w i gone lt))))
-          (λ ne. (λ j. reading_of (session-other w i c gone ne j).status (get_or-set_other h.works i c its.work [] ne j) (get_or-set_other h.ended i c its.ended [] ne j)) ∙ x.reads c
+          (λ k. subst (λ d. reading_of (session_at (goes w i s ts) d).status (get_or (set h.works i its.work) d []) (get_or (set h.ended i its.ended) d [])
+          ≡ read (from d) (session_at (goes w i s ts) d).transcript) (sym k)
+          ((λ j. reading_of (session-there w i gone lt j).status (work-here j) (ended-here j)) ∙ f.reads
+          ∙ ap (λ (y : Session). read (from i) y.transcript) (sym (session-there w i gone lt))))
+          (λ ne. (λ j. reading_of (session-other w i c gone ne j).status (get_or-set_other h.works i c its.work [] ne j)
+          (get_or-set_other h.ended i c its.ended [] ne j)) ∙ x.reads c
           ∙ ap (λ (y : Session). read (from c) y.transcript) (sym (session-other w i c gone ne)))
           (cases-eq c i);
       tells = λ c. ⊎_elim
@@ -191,7 +214,8 @@ goes-shown from w h i s ts lt is e x =
           (λ ne. subst AllTell (sym (get_or-set_other h.works i c its.work [] ne)) (x.tells c))
           (cases-eq c i);
       owns = λ c. ⊎_elim
-          (λ k. subst (λ d. commits_of d its.commits ≡ committed_in (get_or (set h.ended i its.ended) d [])) (sym k) (f.owns ∙ ap committed_in (sym ended-here)))
+          (λ k. subst (λ d. commits_of d its.commits ≡ committed_in (get_or (set h.ended i its.ended) d [])) (sym k)
+          (f.owns ∙ ap committed_in (sym ended-here)))
           (λ ne. f.others c ne ∙ x.owns c ∙ ap committed_in (sym (get_or-set_other h.ended i c its.ended [] ne)))
           (cases-eq c i);
       count_works = length-set h.works i its.work ∙ x.count_works ∙ sym (length-set w.sessions i gone.session);
@@ -220,23 +244,31 @@ goes-shown from w h i s ts lt is e x =
     work-here : get_or (set h.works i its.work) i [] ≡ its.work
     work-here = get_or-set_same h.works i its.work [] (subst (λ n. i < n) (sym x.count_works) lt)
 
-pub granted-shown : (from : ℕ → Reading) (w : World) (h : History) (spot : Spot) → Steady w → Grant (length w.sessions) (look_of w) w.waits spot → Shown from w h → Shown from (granted w spot) (granted_told w spot h)
+pub granted-shown : (from : ℕ → Reading) (w : World) (h : History) (spot : Spot) → Steady w → Grant (length w.sessions) (look_of w) w.waits spot
+    → Shown from w h → Shown from (granted w spot) (granted_told w spot h)
 granted-shown from w h spot st g x =
     let i = spot.wait.session in
     let s = session_at w i in
-    goes-shown from (record w { waits = spot.before ++ spot.after }) h i (note (record (taking s spot.wait.resource spot.wait.mode) { rest = [] }) Resumed) s.rest (entering-granted w spot st g).known refl (sym (read-more (from i) _ s.transcript (Resumed ∷ []) refl))
+    goes-shown from (record w { waits = spot.before ++ spot.after }) h i
+    (note (record (taking s spot.wait.resource spot.wait.mode) { rest = [] }) Resumed) s.rest (entering-granted w spot st g).known refl
+    (sym (read-more (from i) _ s.transcript (Resumed ∷ []) refl))
     (record { reads = x.reads; tells = x.tells; owns = x.owns; count_works = x.count_works; count_ended = x.count_ended })
 
 pub settle-shown : (n : ℕ) (from : ℕ → Reading) (w : World) (h : History) → Steady w → Shown from w h → Shown from (settle_for n w) (settle_told n w h)
 settle-shown zero from w h st x = x
-settle-shown (suc n) from w h st x = at (next_grant (length w.sessions) (look_of w) w.waits) refl (λ spot g. settle-shown n from (granted w spot) (granted_told w spot h) (granted-steady w spot st g) (granted-shown from w h spot st g x))
+settle-shown (suc n) from w h st x = at (next_grant (length w.sessions) (look_of w) w.waits) refl
+    (λ spot g. settle-shown n from (granted w spot) (granted_told w spot h) (granted-steady w spot st g) (granted-shown from w h spot st g x))
   where
-    at : (o : Option Spot) → next_grant (length w.sessions) (look_of w) w.waits ≡ o → ((spot : Spot) → Grant (length w.sessions) (look_of w) w.waits spot → Shown from (settle_for n (granted w spot)) (settle_told n (granted w spot) (granted_told w spot h)))
-        → Shown from (elim o [ None ↦ w | Some spot ↦ settle_for n (granted w spot) ]) (elim o [ None ↦ h | Some spot ↦ settle_told n (granted w spot) (granted_told w spot h) ])
+    at : (o : Option Spot) → next_grant (length w.sessions) (look_of w) w.waits ≡ o
+        → ((spot : Spot) → Grant (length w.sessions) (look_of w) w.waits spot
+        → Shown from (settle_for n (granted w spot)) (settle_told n (granted w spot) (granted_told w spot h)))
+        → Shown from (elim o [ None ↦ w | Some spot ↦ settle_for n (granted w spot) ])
+        (elim o [ None ↦ h | Some spot ↦ settle_told n (granted w spot) (granted_told w spot h) ])
     at None is rec = x
     at (Some spot) is rec = rec spot (next-grant (length w.sessions) (look_of w) w.waits spot is)
 
-pub send-shown : (from : ℕ → Reading) (steps : List Step) (w : World) (k : ℕ) (h : History) → Sound w → (get_or steps k no_step).session < length w.sessions → Shown from w h → Shown from (send steps w k) (send_told steps w k h)
+pub send-shown : (from : ℕ → Reading) (steps : List Step) (w : World) (k : ℕ) (h : History) → Sound w → (get_or steps k no_step).session < length w.sessions
+    → Shown from w h → Shown from (send steps w k) (send_told steps w k h)
 send-shown from steps w k h sound lt x = at (waits_now w.waits i) refl
   where
     i : ℕ
@@ -249,7 +281,8 @@ send-shown from steps w k h sound lt x = at (waits_now w.waits i) refl
     s = note (session_at w i) (Sent k)
 
     at : (b : Bool) → waits_now w.waits i ≡ b
-        → Shown from (elim b [ true ↦ noted w i (NotSent k) | false ↦ settle (goes w i s (tasks_of ss)) ]) (elim b [ true ↦ h | false ↦ settle_told (left_to_do (goes w i s (tasks_of ss))) (goes w i s (tasks_of ss)) (goes_told w i s (tasks_of ss) h) ])
+        → Shown from (elim b [ true ↦ noted w i (NotSent k) | false ↦ settle (goes w i s (tasks_of ss)) ])
+        (elim b [ true ↦ h | false ↦ settle_told (left_to_do (goes w i s (tasks_of ss))) (goes w i s (tasks_of ss)) (goes_told w i s (tasks_of ss) h) ])
     at true is =
         let n : Session = note (session_at w i) (NotSent k) in
         record {
@@ -261,10 +294,13 @@ send-shown from steps w k h sound lt x = at (waits_now w.waits i) refl
           count_ended = x.count_ended ∙ sym (length-set w.sessions i n);
         }
     at false is =
-        settle-shown (left_to_do (goes w i s (tasks_of ss))) from (goes w i s (tasks_of ss)) (goes_told w i s (tasks_of ss) h) (goes-steady w i s (tasks_of ss) (entering w i s ss (steady-of w sound) lt is refl refl))
+        settle-shown (left_to_do (goes w i s (tasks_of ss))) from (goes w i s (tasks_of ss)) (goes_told w i s (tasks_of ss) h)
+        (goes-steady w i s (tasks_of ss) (entering w i s ss (steady-of w sound) lt is refl refl))
         (goes-shown from w h i s (tasks_of ss) lt refl (sym (read-more (from i) _ (session_at w i).transcript (Sent k ∷ []) refl)) x)
 
 -- so does a whole line
-pub line-shown : (from : ℕ → Reading) (steps : List Step) (w : World) (ks : List ℕ) (h : History) → Sound w → ((k : ℕ) → (get_or steps k no_step).session < length w.sessions) → Shown from w h → Shown from (send_all steps w ks) (send_all_told steps w ks h)
+pub line-shown : (from : ℕ → Reading) (steps : List Step) (w : World) (ks : List ℕ) (h : History) → Sound w
+    → ((k : ℕ) → (get_or steps k no_step).session < length w.sessions) → Shown from w h → Shown from (send_all steps w ks) (send_all_told steps w ks h)
 line-shown from steps w [] h sound fit x = x
-line-shown from steps w (k ∷ ks) h sound fit x = line-shown from steps (send steps w k) ks (send_told steps w k h) (send-sound steps w k sound (fit k)) (send-fitting steps w k fit) (send-shown from steps w k h sound (fit k) x)
+line-shown from steps w (k ∷ ks) h sound fit x = line-shown from steps (send steps w k) ks (send_told steps w k h) (send-sound steps w k sound (fit k))
+    (send-fitting steps w k fit) (send-shown from steps w k h sound (fit k) x)

@@ -24,7 +24,11 @@ commits spec ks = (history spec ks).commits
 
 -- what the sessions' transcripts tell, each read to its end from where the session setups left it
 abbrev readings : Spec → List ℕ → List ℕ → List Reading
-readings spec ks sessions = elim (start spec) [ Started w ↦ map (λ c. read (reading_in w (start_told spec) c) (session_at (send_all spec.steps w ks) c).transcript) sessions | _ ↦ [] ]
+readings spec ks sessions =
+    elim (start spec) [
+      | Started w ↦ map (λ c. read (reading_in w (start_told spec) c) (session_at (send_all spec.steps w ks) c).transcript) sessions
+      | _ ↦ []
+    ]
 
 -- SELECT v WHERE id = k
 abbrev reads : ℕ → Bound

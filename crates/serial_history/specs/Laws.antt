@@ -10,13 +10,15 @@ use Rattle.serial_history.specs.Reading.{Reading, read, told_in, data_of}
 use Rattle.transcripts.specs.declared.event.Event.{Event}
 use Rattle.machine_model.specs.Laws.{IsOf}
 
--- the commits of a line, run one after another without locks, give their events and leave the line's rows, and the open transactions run again give their events and overlays
+-- the commits of a line, run one after another without locks, give their events and leave the line's rows, and the open transactions run
+-- again give their events and overlays
 abbrev pub LinesAreSerial : Type 0
 LinesAreSerial =
     (start : Rows') (steps : List Step) (w : World) (ks : List ℕ) (h : History) → Sound w → ((k : ℕ) → IsOf steps w k) → Told start w h
     → Told start (send_all steps w ks) (send_all_told steps w ks h)
 
--- from the start of a spec: the commits of a line, those of session setups included, are a serial run from the rows after the main setups, and the open transactions run again
+-- from the start of a spec: the commits of a line, those of session setups included, are a serial run from the rows after the main setups,
+-- and the open transactions run again
 abbrev pub SpecsAreSerial : Type 0
 SpecsAreSerial =
     (spec : Spec) (w : World) (ks : List ℕ) → IsBound spec → start spec ≡ Started w

@@ -118,7 +118,11 @@ go_tally e i s rows (Ask r m ∷ ts) t =
         | Ring ↦ dropped t
       ]
     ]
-go_tally e i s rows (Do st ∷ ts) t = elim (perform s rows st) [ Goes s2 rows2 ↦ go_tally e i s2 rows2 ts (tally_by s.status (kind st) s rows st t) | Fails f ↦ dropped t ]
+go_tally e i s rows (Do st ∷ ts) t =
+    elim (perform s rows st) [
+      | Goes s2 rows2 ↦ go_tally e i s2 rows2 ts (tally_by s.status (kind st) s rows st t)
+      | Fails f ↦ dropped t
+    ]
 
 -- what each session did in its open transaction and in those that ended, and all commits
 pub record History : Type 0 where
@@ -143,7 +147,11 @@ granted_told w spot h =
 
 abbrev pub settle_told : ℕ → World → History → History
 settle_told zero w h = h
-settle_told (suc n) w h = elim (next_grant (length w.sessions) (look_of w) w.waits) [ None ↦ h | Some spot ↦ settle_told n (granted w spot) (granted_told w spot h) ]
+settle_told (suc n) w h =
+    elim (next_grant (length w.sessions) (look_of w) w.waits) [
+      | None ↦ h
+      | Some spot ↦ settle_told n (granted w spot) (granted_told w spot h)
+    ]
 
 -- the history after the step numbered k is sent
 abbrev pub send_told : List Step → World → ℕ → History → History
@@ -235,7 +243,8 @@ no_history n = record { works = replicate n []; ended = replicate n []; commits 
 
 abbrev pub session_setups_told : ℕ → World → List (List Bound) → History → History
 session_setups_told i w [] h = h
-session_setups_told i w (block ∷ blocks) h = session_setups_told (suc i) (forgotten (after_setup w i block) i) blocks (goes_told w i (session_at w i) (tasks_of block) h)
+session_setups_told i w (block ∷ blocks) h =
+    session_setups_told (suc i) (forgotten (after_setup w i block) i) blocks (goes_told w i (session_at w i) (tasks_of block) h)
 
 -- the rows after the main setups, with which the serial run begins
 abbrev pub first_rows : Spec → Rows'
