@@ -112,3 +112,15 @@ three_row_commits : commits three_row (0 ∷ 2 ∷ 4 ∷ 3 ∷ 1 ∷ [])
     ≡ record { session = 1; work = first_read ∷ [] } ∷ record { session = 2; work = record { statement = sets 2 5; events = Updated 1 ∷ [] } ∷ [] } ∷ []
 unfolding get insert keep remove entries empty effect lay
 three_row_commits = refl
+
+-- and so its transcripts tell it
+three_row_read : readings three_row (0 ∷ 2 ∷ 4 ∷ 3 ∷ 1 ∷ []) (0 ∷ 1 ∷ 2 ∷ [])
+    ≡ record {
+      status = InBlock;
+      pending = RowEvent (number 10 ∷ []) ∷ Rows 1 ∷ RowEvent (number 1 ∷ number 10 ∷ []) ∷ RowEvent (number 2 ∷ number 5 ∷ []) ∷ Rows 2 ∷ [];
+      ended = [];
+    }
+    ∷ record { status = Outside; pending = []; ended = record { is_committed = true; events = first_read.events } ∷ [] }
+    ∷ record { status = Outside; pending = []; ended = record { is_committed = true; events = Updated 1 ∷ [] } ∷ [] } ∷ []
+unfolding get insert keep remove entries empty effect lay
+three_row_read = refl
