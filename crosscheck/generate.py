@@ -327,6 +327,39 @@ class Maker:
         forms += [self.with_rows, self.with_levels, self.with_number, self.with_bytes]
         return self.one(forms)().encode()
 
+    # tables of many columns
+
+    def wide_column(self, names):
+        return self.one([names[-1], names[1], self.one(names), self.one(["nothing", names[len(names) // 2]])])
+
+    def wide_row(self, first, count):
+        return f"({', '.join(str(first + place) for place in range(count + self.one([0] * 12 + [1, -1])))})"
+
+    def wide_statement(self, names):
+        column, other = self.wide_column(names), self.wide_column(names)
+        return self.one(
+            [
+                f"SELECT {column}, id FROM t WHERE {other} > {self.random.randint(0, len(names))} ORDER BY {other} DESC",
+                f"SELECT sum({column}), count(*) FROM t",
+                f"UPDATE t SET {column} = {other} + 1 WHERE id = {self.random.randint(1, 2)}",
+                f"DELETE FROM t WHERE {column} = {self.random.randint(1, len(names))}",
+            ]
+        )
+
+    def wide_spec(self):
+        count = self.one([255, 256, 257, 258, 300, 700])
+        names = ["id"] + [f"c{number}" for number in range(1, count)]
+        if self.some(0.15):
+            names[self.random.randint(1, count - 1)] = self.one(names)
+        columns = ", ".join(f"{name} int" for name in names[1:])
+        setup = [f"CREATE TABLE t (id int PRIMARY KEY, {columns})"]
+        setup.append(f"INSERT INTO t VALUES {self.wide_row(1, count)}, {self.wide_row(2, count)}")
+        steps = ""
+        for session in "ab":
+            statements = self.many(3, lambda: self.wide_statement(names))
+            steps += f"session {session} step {session}1 {self.block(statements)}\n"
+        return f"setup {self.block(setup)}\n{steps}".encode()
+
 
 KINDS = {
     "any": Maker.any_spec,
@@ -334,4 +367,5 @@ KINDS = {
     "wrong": Maker.wrong_spec,
     "misfits": Maker.misfit_spec,
     "limits": Maker.limit_spec,
+    "wide": Maker.wide_spec,
 }
