@@ -76,7 +76,8 @@ apart-order [] (y ∷ ys) s t e = cc
 apart-order (x ∷ xs) [] s t e = cc
 apart-order (x ∷ xs) (y ∷ ys) s t e = by (x == y) refl (apart-order xs ys s t)
   where
-    by : (b : Bool) → (x == y) ≡ b → (is_apart xs ys ≡ true → bytes_cmp (xs ++ s) (ys ++ t) ≡ ordering_then (bytes_cmp xs ys) (bytes_cmp s t)) → bytes_cmp ((x ∷ xs) ++ s) ((y ∷ ys) ++ t) ≡ ordering_then (bytes_cmp (x ∷ xs) (y ∷ ys)) (bytes_cmp s t)
+    by : (b : Bool) → (x == y) ≡ b → (is_apart xs ys ≡ true → bytes_cmp (xs ++ s) (ys ++ t) ≡ ordering_then (bytes_cmp xs ys) (bytes_cmp s t))
+        → bytes_cmp ((x ∷ xs) ++ s) ((y ∷ ys) ++ t) ≡ ordering_then (bytes_cmp (x ∷ xs) (y ∷ ys)) (bytes_cmp s t)
     by true is deeper =
         let rest : is_apart xs ys ≡ true = ap (λ b. cond b (is_apart xs ys) true) (sym is) ∙ e in
         ap (ordering_then (nat_cmp x y)) (deeper rest) ∙ sym (then-assoc (nat_cmp x y) (bytes_cmp xs ys) (bytes_cmp s t))
@@ -84,7 +85,8 @@ apart-order (x ∷ xs) (y ∷ ys) s t e = by (x == y) refl (apart-order xs ys s 
         let ne : x ≡ y → ⊥ = λ h. grind (arith, nat_tests, h, is) in
         let left : bytes_cmp ((x ∷ xs) ++ s) ((y ∷ ys) ++ t) ≡ nat_cmp x y = first_decides x y (xs ++ s) (ys ++ t) ne in
         let right : bytes_cmp (x ∷ xs) (y ∷ ys) ≡ nat_cmp x y = first_decides x y xs ys ne in
-        left ∙ sym (then-decided (nat_cmp x y) (bytes_cmp s t) (λ h. ne (nat_cmp-IsAntisymmetric x y h))) ∙ ap (λ o. ordering_then o (bytes_cmp s t)) (sym right)
+        left ∙ sym (then-decided (nat_cmp x y) (bytes_cmp s t) (λ h. ne (nat_cmp-IsAntisymmetric x y h)))
+        ∙ ap (λ o. ordering_then o (bytes_cmp s t)) (sym right)
 
 -- ---- codes
 
@@ -100,18 +102,21 @@ pub record IsClosed {X : Type 0} (f : X → List ℕ) : Type 0 where
 
 -- the codes end where an item of an array ends
 pub record IsCode {X : Type 0} (f : X → List ℕ) : Type 0 where
-  pub order : (x y : X) (a b : ℕ) (s t : List ℕ) → IsEnd a → IsEnd b → bytes_cmp (f x ++ a ∷ s) (f y ++ b ∷ t) ≡ ordering_then (bytes_cmp (f x ++ a ∷ []) (f y ++ b ∷ [])) (bytes_cmp s t)
+  pub order : (x y : X) (a b : ℕ) (s t : List ℕ) → IsEnd a → IsEnd b → bytes_cmp (f x ++ a ∷ s) (f y ++ b ∷ t)
+      ≡ ordering_then (bytes_cmp (f x ++ a ∷ []) (f y ++ b ∷ [])) (bytes_cmp s t)
   pub same : (x y : X) (a b : ℕ) → IsEnd a → IsEnd b → bytes_cmp (f x ++ a ∷ []) (f y ++ b ∷ []) ≡ Equal → (x ≡ y) × (a ≡ b)
   pub low : (x : X) (s t : List ℕ) → bytes_cmp (93 ∷ s) (f x ++ t) ≡ Greater
 
 -- a code that ends by itself, and the byte behind it
-pub closed-ended : {X : Type 0} (f : X → List ℕ) → IsClosed f → (x y : X) (a b : ℕ) → bytes_cmp (f x ++ a ∷ []) (f y ++ b ∷ []) ≡ ordering_then (bytes_cmp (f x) (f y)) (nat_cmp a b)
+pub closed-ended : {X : Type 0} (f : X → List ℕ) → IsClosed f → (x y : X) (a b : ℕ) → bytes_cmp (f x ++ a ∷ []) (f y ++ b ∷ [])
+    ≡ ordering_then (bytes_cmp (f x) (f y)) (nat_cmp a b)
 closed-ended f closed x y a b = closed.order x y (a ∷ []) (b ∷ []) ∙ ap (ordering_then (bytes_cmp (f x) (f y))) (then-equal (nat_cmp a b))
 
 pub closed_code : {X : Type 0} (f : X → List ℕ) → IsClosed f → IsCode f
 closed_code f closed = record { order = order; same = same; low = closed.low }
   where
-    order : (x y : _) (a b : ℕ) (s t : List ℕ) → IsEnd a → IsEnd b → bytes_cmp (f x ++ a ∷ s) (f y ++ b ∷ t) ≡ ordering_then (bytes_cmp (f x ++ a ∷ []) (f y ++ b ∷ [])) (bytes_cmp s t)
+    order : (x y : _) (a b : ℕ) (s t : List ℕ) → IsEnd a → IsEnd b → bytes_cmp (f x ++ a ∷ s) (f y ++ b ∷ t)
+        ≡ ordering_then (bytes_cmp (f x ++ a ∷ []) (f y ++ b ∷ [])) (bytes_cmp s t)
     order x y a b s t p q =
         closed.order x y (a ∷ s) (b ∷ t)
         ∙ sym (then-assoc (bytes_cmp (f x) (f y)) (nat_cmp a b) (bytes_cmp s t))
@@ -182,7 +187,8 @@ bracket-comma : (a b : ℕ) → a ≡ 93 → b ≡ 44 → a ≡ b → ⊥
 bracket-comma a b p q e = omega arith
 
 -- where one item is the last and the other is not, they do not tie
-ends-differ : {X : Type 0} (f : X → List ℕ) → IsCode f → (x y : X) (a b : ℕ) → IsEnd a → IsEnd b → (a ≡ b → ⊥) → bytes_cmp (f x ++ a ∷ []) (f y ++ b ∷ []) ≡ Equal → ⊥
+ends-differ : {X : Type 0} (f : X → List ℕ) → IsCode f → (x y : X) (a b : ℕ) → IsEnd a → IsEnd b → (a ≡ b → ⊥)
+    → bytes_cmp (f x ++ a ∷ []) (f y ++ b ∷ []) ≡ Equal → ⊥
 ends-differ f code x y a b p q ne e = ne (code.same x y a b p q e).1
 
 -- two codes with an end, and what stands behind that
@@ -253,7 +259,8 @@ array-cmp f code xs ys =
 pub array_closed : {X : Type 0} (f : X → List ℕ) → IsCode f → IsClosed (array_json f)
 array_closed {X} f code = record { order = order; same = same; low = low }
   where
-    order : (xs ys : List X) (s t : List ℕ) → bytes_cmp (array_json f xs ++ s) (array_json f ys ++ t) ≡ ordering_then (bytes_cmp (array_json f xs) (array_json f ys)) (bytes_cmp s t)
+    order : (xs ys : List X) (s t : List ℕ) → bytes_cmp (array_json f xs ++ s) (array_json f ys ++ t)
+        ≡ ordering_then (bytes_cmp (array_json f xs) (array_json f ys)) (bytes_cmp s t)
     order xs ys s t = array-order f code xs ys s t ∙ ap (λ o. ordering_then o (bytes_cmp s t)) (sym (array-cmp f code xs ys))
 
     same : (xs ys : List X) → bytes_cmp (array_json f xs) (array_json f ys) ≡ Equal → xs ≡ ys

@@ -24,21 +24,25 @@ inner-append (x ∷ xs) ys p q = (p.0, inner-append xs ys p.1 q)
 not_end : (a x : ℕ) → IsEnd a → (44 < x) × (x < 93) → a ≡ x → ⊥
 not_end a x p h e = elim p [ inl c ↦ omega (arith, c, h, e) | inr b ↦ omega (arith, b, h, e) ]
 
-pub inner-order : (xs ys : List ℕ) (a b : ℕ) (s t : List ℕ) → AreInner xs → AreInner ys → IsEnd a → IsEnd b → bytes_cmp (xs ++ a ∷ s) (ys ++ b ∷ t) ≡ ordering_then (bytes_cmp (xs ++ a ∷ []) (ys ++ b ∷ [])) (bytes_cmp s t)
+pub inner-order : (xs ys : List ℕ) (a b : ℕ) (s t : List ℕ) → AreInner xs → AreInner ys → IsEnd a → IsEnd b → bytes_cmp (xs ++ a ∷ s) (ys ++ b ∷ t)
+    ≡ ordering_then (bytes_cmp (xs ++ a ∷ []) (ys ++ b ∷ [])) (bytes_cmp s t)
 inner-order [] [] a b s t p q c d = one_step a b s t
 inner-order [] (y ∷ ys) a b s t p q c d =
     let ne : a ≡ y → ⊥ = not_end a y c q.0 in
     first_decides a y s (ys ++ b ∷ t) ne
-    ∙ sym (ap (λ o. ordering_then o (bytes_cmp s t)) (first_decides a y [] (ys ++ b ∷ []) ne) ∙ then-decided (nat_cmp a y) (bytes_cmp s t) (λ h. ne (nat_cmp-IsAntisymmetric a y h)))
+    ∙ sym (ap (λ o. ordering_then o (bytes_cmp s t)) (first_decides a y [] (ys ++ b ∷ []) ne)
+    ∙ then-decided (nat_cmp a y) (bytes_cmp s t) (λ h. ne (nat_cmp-IsAntisymmetric a y h)))
 inner-order (x ∷ xs) [] a b s t p q c d =
     let ne : x ≡ b → ⊥ = λ h. not_end b x d p.0 (sym h) in
     first_decides x b (xs ++ a ∷ s) t ne
-    ∙ sym (ap (λ o. ordering_then o (bytes_cmp s t)) (first_decides x b (xs ++ a ∷ []) [] ne) ∙ then-decided (nat_cmp x b) (bytes_cmp s t) (λ h. ne (nat_cmp-IsAntisymmetric x b h)))
+    ∙ sym (ap (λ o. ordering_then o (bytes_cmp s t)) (first_decides x b (xs ++ a ∷ []) [] ne)
+    ∙ then-decided (nat_cmp x b) (bytes_cmp s t) (λ h. ne (nat_cmp-IsAntisymmetric x b h)))
 inner-order (x ∷ xs) (y ∷ ys) a b s t p q c d =
     ap (ordering_then (nat_cmp x y)) (inner-order xs ys a b s t p.1 q.1 c d)
     ∙ sym (then-assoc (nat_cmp x y) (bytes_cmp (xs ++ a ∷ []) (ys ++ b ∷ [])) (bytes_cmp s t))
 
-pub inner-same : (xs ys : List ℕ) (a b : ℕ) → AreInner xs → AreInner ys → IsEnd a → IsEnd b → bytes_cmp (xs ++ a ∷ []) (ys ++ b ∷ []) ≡ Equal → (xs ≡ ys) × (a ≡ b)
+pub inner-same : (xs ys : List ℕ) (a b : ℕ) → AreInner xs → AreInner ys → IsEnd a → IsEnd b → bytes_cmp (xs ++ a ∷ []) (ys ++ b ∷ []) ≡ Equal
+    → (xs ≡ ys) × (a ≡ b)
 inner-same [] [] a b p q c d e = (refl, nat_cmp-IsAntisymmetric a b (sym (then-equal (nat_cmp a b)) ∙ e))
 inner-same [] (y ∷ ys) a b p q c d e = absurd (not_end a y c q.0 (nat_cmp-IsAntisymmetric a y (both_equal (nat_cmp a y) _ e).0))
 inner-same (x ∷ xs) [] a b p q c d e = absurd (not_end b x d p.0 (sym (nat_cmp-IsAntisymmetric x b (both_equal (nat_cmp x b) _ e).0)))
@@ -70,7 +74,8 @@ digits-append (x ∷ xs) ys p q = record {
   low = λ y s t h. ap (λ l. bytes_cmp l (y ∷ t)) (append_assoc (x ∷ xs) ys s) ∙ p.low y (ys ++ s) t h;
 }
 
-digits_next : (room n : ℕ) (b : Bool) → nat_lt n 10 ≡ b → digits_in (suc room) n ≡ elim b [ true ↦ (48 + n) ∷ [] | false ↦ digits_in room (n / 10) ++ (48 + n % 10) ∷ [] ]
+digits_next : (room n : ℕ) (b : Bool) → nat_lt n 10 ≡ b → digits_in (suc room) n
+    ≡ elim b [ true ↦ (48 + n) ∷ [] | false ↦ digits_in room (n / 10) ++ (48 + n % 10) ∷ [] ]
 unfolding digits_in
 digits_next room n b e = ap (λ (c : Bool). elim c [ true ↦ (48 + n) ∷ [] | false ↦ digits_in room (n / 10) ++ (48 + n % 10) ∷ [] ]) e
 
@@ -129,7 +134,8 @@ digits-decimal zero n h fits = absurd (omega arith)
 digits-decimal (suc room) n h fits =
     split n (digits_in (suc room) n ≡ decimal n)
     (λ small. digits_one room n small ∙ sym (decimal_digit n small))
-    (λ large. digits_more room n large ∙ ap (λ ds. ds ++ (48 + n % 10) ∷ []) (digits-decimal room (n / 10) (omega arith) (omega arith)) ∙ sym (decimal_step n large fits))
+    (λ large. digits_more room n large ∙ ap (λ ds. ds ++ (48 + n % 10) ∷ []) (digits-decimal room (n / 10) (omega arith) (omega arith))
+    ∙ sym (decimal_step n large fits))
 
 -- a number of 64 bits has the digits that are printed
 pub whole-decimal : (n : ℕ) → n < 2 ^ 64 → whole_json n ≡ decimal n

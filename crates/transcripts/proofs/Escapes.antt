@@ -167,7 +167,8 @@ plains_order x y p q =
     (λ i. bytes_cmp (plain x p i) (plain y q i)) ∙ plain_order (nat_cmp x y)
     ∙ sym (λ i. ordering_then (ordering_then (nat_cmp (first_plain x p i) (first_plain y q i)) (nat_cmp (second_plain x p i) (second_plain y q i))) (nat_cmp x y))
 
-pub escaped_order : (x y : ℕ) → bytes_cmp (escape_byte x) (escape_byte y) ≡ ordering_then (ordering_then (nat_cmp (first_written x) (first_written y)) (nat_cmp (second_written x) (second_written y))) (nat_cmp x y)
+pub escaped_order : (x y : ℕ) → bytes_cmp (escape_byte x) (escape_byte y)
+    ≡ ordering_then (ordering_then (nat_cmp (first_written x) (first_written y)) (nat_cmp (second_written x) (second_written y))) (nat_cmp x y)
 unfolding order_by
 escaped_order x y =
     split x (bytes_cmp (escape_byte x) (escape_byte y) ≡ order_by x y)

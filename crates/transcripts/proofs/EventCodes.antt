@@ -80,7 +80,8 @@ cell-order (Text u) (Int z) a b s t p q = past_int z (b ∷ t) _ ∙ sym (ap (λ
 cell-order (Text u) (Text v) a b s t p q = text_code.order u v a b s t p q
 
 cell-same : (v w : Value) (a b : ℕ) → IsEnd a → IsEnd b → bytes_cmp (cell_json v ++ a ∷ []) (cell_json w ++ b ∷ []) ≡ Equal → (v ≡ w) × (a ≡ b)
-cell-same (Int y) (Int z) a b p q e = let same = inner-same (cell_json (Int y)) (cell_json (Int z)) a b (int_inner y) (int_inner z) p q e in (int_same y z same.0, same.1)
+cell-same (Int y) (Int z) a b p q e = let same = inner-same (cell_json (Int y)) (cell_json (Int z)) a b (int_inner y) (int_inner z) p q e in
+    (int_same y z same.0, same.1)
 cell-same (Int y) (Text u) a b p q e = let past = int_past y (a ∷ []) _ in absurd (differ (sym past ∙ e))
   where
     differ : Greater ≡ Equal → ⊥

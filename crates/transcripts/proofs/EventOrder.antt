@@ -22,13 +22,15 @@ pub tails_cmp : ℕ → ℕ → ℕ → List Value → List Value → Ordering
 tails_cmp k m n us vs = cond (k == 1) (items_cmp cell_json us vs) (cond (is_word k) Equal (bytes_cmp (whole_json m ++ 93 ∷ []) (whole_json n ++ 93 ∷ [])))
 
 rows-order : (us vs : List Value) (s t : List ℕ)
-    → bytes_cmp ((array_json cell_json us ++ 93 ∷ []) ++ s) ((array_json cell_json vs ++ 93 ∷ []) ++ t) ≡ ordering_then (items_cmp cell_json us vs) (bytes_cmp s t)
+    → bytes_cmp ((array_json cell_json us ++ 93 ∷ []) ++ s) ((array_json cell_json vs ++ 93 ∷ []) ++ t)
+    ≡ ordering_then (items_cmp cell_json us vs) (bytes_cmp s t)
 rows-order us vs s t =
     (λ i. bytes_cmp (append_assoc (array_json cell_json us) (93 ∷ []) s i) (append_assoc (array_json cell_json vs) (93 ∷ []) t i))
     ∙ array-order cell_json cell_code us vs (93 ∷ s) (93 ∷ t)
 
 numbers-order : (m n : ℕ) (s t : List ℕ)
-    → bytes_cmp ((whole_json m ++ 93 ∷ []) ++ s) ((whole_json n ++ 93 ∷ []) ++ t) ≡ ordering_then (bytes_cmp (whole_json m ++ 93 ∷ []) (whole_json n ++ 93 ∷ [])) (bytes_cmp s t)
+    → bytes_cmp ((whole_json m ++ 93 ∷ []) ++ s) ((whole_json n ++ 93 ∷ []) ++ t)
+    ≡ ordering_then (bytes_cmp (whole_json m ++ 93 ∷ []) (whole_json n ++ 93 ∷ [])) (bytes_cmp s t)
 numbers-order m n s t =
     (λ i. bytes_cmp (append_assoc (whole_json m) (93 ∷ []) s i) (append_assoc (whole_json n) (93 ∷ []) t i))
     ∙ inner-order (whole_json m) (whole_json n) 93 93 s t (whole_digits m).inner (whole_digits n).inner (inr refl) (inr refl)
@@ -59,7 +61,8 @@ kinds_same x y e = front_one (kind_of x) (kind_of y) (kind_small x) (kind_small 
 tails-by-parts : (k m n : ℕ) (us vs : List Value)
     → ((k == 1) ≡ false → us ≡ []) → ((k == 1) ≡ false → vs ≡ [])
     → (((k == 1) || is_word k) ≡ true → m ≡ 0) → (((k == 1) || is_word k) ≡ true → n ≡ 0)
-    → tails_cmp k m n us vs ≡ ordering_then (bytes_cmp (whole_json m ++ 93 ∷ []) (whole_json n ++ 93 ∷ [])) (bytes_cmp (array_json cell_json us) (array_json cell_json vs))
+    → tails_cmp k m n us vs
+    ≡ ordering_then (bytes_cmp (whole_json m ++ 93 ∷ []) (whole_json n ++ 93 ∷ [])) (bytes_cmp (array_json cell_json us) (array_json cell_json vs))
 unfolding tails_cmp
 tails-by-parts k m n us vs = by (k == 1) (is_word k)
   where
@@ -72,9 +75,12 @@ tails-by-parts k m n us vs = by (k == 1) (is_word k)
     by : (a b : Bool) → (a ≡ false → us ≡ []) → (a ≡ false → vs ≡ []) → ((a || b) ≡ true → m ≡ 0) → ((a || b) ≡ true → n ≡ 0)
         → cond a (items_cmp cell_json us vs) (cond b Equal (bytes_cmp (whole_json m ++ 93 ∷ []) (whole_json n ++ 93 ∷ [])))
         ≡ ordering_then (bytes_cmp (whole_json m ++ 93 ∷ []) (whole_json n ++ 93 ∷ [])) (bytes_cmp (array_json cell_json us) (array_json cell_json vs))
-    by true b u v p q = sym (array-cmp cell_json cell_code us vs) ∙ ap (λ o. ordering_then o (bytes_cmp (array_json cell_json us) (array_json cell_json vs))) (sym (numbers (p refl) (q refl)))
-    by false true u v p q = sym (rows (u refl) (v refl)) ∙ ap (λ o. ordering_then o (bytes_cmp (array_json cell_json us) (array_json cell_json vs))) (sym (numbers (p refl) (q refl)))
-    by false false u v p q = sym (then-equal _) ∙ ap (ordering_then (bytes_cmp (whole_json m ++ 93 ∷ []) (whole_json n ++ 93 ∷ []))) (sym (rows (u refl) (v refl)))
+    by true b u v p q = sym (array-cmp cell_json cell_code us vs)
+        ∙ ap (λ o. ordering_then o (bytes_cmp (array_json cell_json us) (array_json cell_json vs))) (sym (numbers (p refl) (q refl)))
+    by false true u v p q = sym (rows (u refl) (v refl))
+        ∙ ap (λ o. ordering_then o (bytes_cmp (array_json cell_json us) (array_json cell_json vs))) (sym (numbers (p refl) (q refl)))
+    by false false u v p q = sym (then-equal _)
+        ∙ ap (ordering_then (bytes_cmp (whole_json m ++ 93 ∷ []) (whole_json n ++ 93 ∷ []))) (sym (rows (u refl) (v refl)))
 
 -- an ordering ties or does not
 tie_or_not : (o : Ordering) → (o ≡ Equal) ⊎ (o ≡ Equal → ⊥)
@@ -121,7 +127,9 @@ event-by-parts x y = elim (tie_or_not o) [
       (no_values x) (λ h. no_values y (ap (λ k. k == 1) (sym (kinds_same x y tie)) ∙ h))
       (no_number x) (λ h. no_number y (ap (λ k. (k == 1) || is_word k) (sym (kinds_same x y tie)) ∙ h)))
       ∙ sym (then-assoc o _ _)
-  | inr ne ↦ event-cmp x y ∙ then-decided o _ ne ∙ sym (ap (λ p. ordering_then p (bytes_cmp (array_json cell_json (values_of x)) (array_json cell_json (values_of y)))) (then-decided o _ ne) ∙ then-decided o _ ne)
+  | inr ne ↦ event-cmp x y ∙ then-decided o _ ne
+      ∙ sym (ap (λ p. ordering_then p (bytes_cmp (array_json cell_json (values_of x)) (array_json cell_json (values_of y)))) (then-decided o _ ne)
+      ∙ then-decided o _ ne)
 ]
   where
     o : Ordering

@@ -48,7 +48,8 @@ end-at-is xs i h = by (suc i == length xs) refl
     by false e =
         let more : suc i ≡ length xs → ⊥ = λ p. grind (arith, nat_tests, e, p) in
         left-end (drop (i + 1) xs) (length (drop (i + 1) xs)) refl
-        ∙ ap (λ b. cond b 93 44) (let some : (length (drop (i + 1) xs) == 0) ≡ false = grind (arith, nat_tests, length-drop (i + 1) xs, more, h) in some ∙ sym e)
+        ∙ ap (λ b. cond b 93 44) (let some : (length (drop (i + 1) xs) == 0) ≡ false = grind (arith, nat_tests, length-drop (i + 1) xs, more, h) in
+        some ∙ sym e)
 
 -- ---- items of arrays
 
@@ -60,7 +61,8 @@ pub items-next : {X : Type 0} (f : X → List ℕ) (xs ys : List X) (i p q : ℕ
 items-next f xs ys i p q x y o h k a b c d e =
     (λ t. items_cmp f (drop-next xs i x h a t) (drop-next ys i y k b t))
     ∙ items-cons f x y (drop (i + 1) xs) (drop (i + 1) ys)
-    ∙ (λ t. ordering_then (bytes_cmp (f x ++ (end-at-is xs i h ∙ sym c) t ∷ []) (f y ++ (end-at-is ys i k ∙ sym d) t ∷ [])) (items_cmp f (drop (i + 1) xs) (drop (i + 1) ys)))
+    ∙ (λ t. ordering_then (bytes_cmp (f x ++ (end-at-is xs i h ∙ sym c) t ∷ []) (f y ++ (end-at-is ys i k
+    ∙ sym d) t ∷ [])) (items_cmp f (drop (i + 1) xs) (drop (i + 1) ys)))
     ∙ ap (λ r. ordering_then r (items_cmp f (drop (i + 1) xs) (drop (i + 1) ys))) (sym e)
 
 -- the first items that differ decide
@@ -78,8 +80,10 @@ pub items-ends : {X : Type 0} (f : X → List ℕ) → IsCode f → (xs ys : Lis
     → items_cmp f xs ys ≡ items_cmp f (drop i xs) (drop i ys) → nat_cmp (length ys) (length xs) ≡ bytes_cmp (array_json f xs) (array_json f ys)
 items-ends {X} f code xs ys i h k stop kept = sym (array-cmp f code xs ys ∙ kept ∙ ends (drop i xs) (drop i ys) (length-drop i xs) (length-drop i ys) stop)
   where
-    ends : (us vs : List X) → length us ≡ length xs - i → length vs ≡ length ys - i → (length xs ≤ i) ⊎ (length ys ≤ i) → items_cmp f us vs ≡ nat_cmp (length ys) (length xs)
-    ends [] [] p q s = let same : length ys ≡ length xs = omega (arith, p, q, h, k) in items-none f ∙ sym (tied (length xs)) ∙ ap (λ n. nat_cmp n (length xs)) (sym same)
+    ends : (us vs : List X) → length us ≡ length xs - i → length vs ≡ length ys - i → (length xs ≤ i) ⊎ (length ys ≤ i) → items_cmp f us vs
+        ≡ nat_cmp (length ys) (length xs)
+    ends [] [] p q s = let same : length ys ≡ length xs = omega (arith, p, q, h, k) in items-none f ∙ sym (tied (length xs))
+        ∙ ap (λ n. nat_cmp n (length xs)) (sym same)
     ends [] (v ∷ vs) p q s = items-ended f v vs ∙ sym (below (length xs) (length ys) (omega (arith, p, q, h, k)))
     ends (u ∷ us) [] p q s = items-longer f u us ∙ sym (above (length ys) (length xs) (omega (arith, p, q, h, k)))
     ends (u ∷ us) (v ∷ vs) p q s = absurd (elim s [ inl a ↦ omega (arith, p, a) | inr b ↦ omega (arith, q, b) ])
@@ -102,7 +106,8 @@ ended-longer xs ys i p q h k =
 -- ---- texts
 
 pub texts-next : (xs ys : List ℕ) (i : ℕ) → i < length xs → i < length ys
-    → texts_cmp (drop i xs) (drop i ys) ≡ ordering_then (bytes_cmp (escape_byte (get_or xs i 0)) (escape_byte (get_or ys i 0))) (texts_cmp (drop (i + 1) xs) (drop (i + 1) ys))
+    → texts_cmp (drop i xs) (drop i ys)
+    ≡ ordering_then (bytes_cmp (escape_byte (get_or xs i 0)) (escape_byte (get_or ys i 0))) (texts_cmp (drop (i + 1) xs) (drop (i + 1) ys))
 unfolding texts_cmp
 texts-next xs ys i h k = λ t. texts_cmp (bytes-next xs i h t) (bytes-next ys i k t)
 

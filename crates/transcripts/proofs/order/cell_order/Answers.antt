@@ -15,7 +15,8 @@ returns-in-Int-Text c = let s = c.in-Int-Text in rw (s.is-0, s.is-1) (sym (int_p
 pub returns-in-Text-Text : goal.returns-in-Text-Text
 returns-in-Text-Text c =
     let s = c.in-Text-Text in
-    let told : c.text_order.result ≡ bytes_cmp (quoted s.a) (quoted s.b) = c.text_order.ensures ∙ (λ i. bytes_cmp (quoted (c.as_str.ensures i)) (quoted (c.as_str-in-Text-Text.ensures i))) in
+    let told : c.text_order.result ≡ bytes_cmp (quoted s.a) (quoted s.b) = c.text_order.ensures
+    ∙ (λ i. bytes_cmp (quoted (c.as_str.ensures i)) (quoted (c.as_str-in-Text-Text.ensures i))) in
     rw (s.is-0, s.is-1)
     (c.then.ensures ∙ (λ i. ordering_then (told i) (c.cmp.ensures i)) ∙ sym (closed-ended quoted quoted_closed s.a s.b c.args.after_a c.args.after_b))
 

@@ -9,6 +9,8 @@ use Rattle.transcripts.proofs.order.integer_order.Goals as goal
 -- the digits that are printed are those of the text
 pub returns : goal.returns
 returns c =
-    let a = c.as_bytes-a.ensures.value ∙ c.format.ensures.text ∙ ap signed_decimal (to_z-of_z w64 c.args.a c.ranges.a) ∙ sym (int-decimal c.args.a c.ranges.a) in
-    let b = c.as_bytes-b.ensures.value ∙ c.format-2.ensures.text ∙ ap signed_decimal (to_z-of_z w64 c.args.b c.ranges.b) ∙ sym (int-decimal c.args.b c.ranges.b) in
+    let a = c.as_bytes-a.ensures.value ∙ c.format.ensures.text ∙ ap signed_decimal (to_z-of_z w64 c.args.a c.ranges.a)
+    ∙ sym (int-decimal c.args.a c.ranges.a) in
+    let b = c.as_bytes-b.ensures.value ∙ c.format-2.ensures.text ∙ ap signed_decimal (to_z-of_z w64 c.args.b c.ranges.b)
+    ∙ sym (int-decimal c.args.b c.ranges.b) in
     c.ended_order.ensures ∙ (λ i. bytes_cmp (a i ++ c.args.after_a ∷ []) (b i ++ c.args.after_b ∷ []))

@@ -5,7 +5,8 @@ use Rattle.transcripts.proofs.order.row_order.Given as goal
 
 -- what the items from here on come to
 abbrev pub invariant-loop-place : goal.invariant-loop-place
-invariant-loop-place l = (l.place ≤ length l.a) × (l.place ≤ length l.b) × (items_cmp cell_json l.a l.b ≡ items_cmp cell_json (drop l.place l.a) (drop l.place l.b))
+invariant-loop-place l = (l.place ≤ length l.a) × (l.place ≤ length l.b) × (items_cmp cell_json l.a l.b
+    ≡ items_cmp cell_json (drop l.place l.a) (drop l.place l.b))
 
 abbrev pub decreases-loop-place : goal.decreases-loop-place
 decreases-loop-place l = length l.a - l.place

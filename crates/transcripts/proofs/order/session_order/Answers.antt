@@ -11,7 +11,8 @@ use Rattle.transcripts.proofs.order.session_order.Goals.{then-loop-place-test+el
 pub returns-then-is_ne : goal.returns-then-is_ne
 returns-then-is_ne c =
     let told : c.event_order-order.result ≡ bytes_cmp (event_json c.index-a-place.result) (event_json c.index-b-place.result) = c.event_order-order.ensures in
-    let both = c.then-order.ensures ∙ (λ i. ordering_then (told i) (c.cmp.ensures i)) ∙ sym (closed-ended event_json event_closed c.index-a-place.result c.index-b-place.result c.end_at.result c.end_at-in-loop-place.result) in
+    let both = c.then-order.ensures ∙ (λ i. ordering_then (told i) (c.cmp.ensures i))
+    ∙ sym (closed-ended event_json event_closed c.index-a-place.result c.index-b-place.result c.end_at.result c.end_at-in-loop-place.result) in
     let next = items-next event_json _ _ c.loop-place.place _ _ c.index-a-place.result c.index-b-place.result _ c.loop-place-test.true c.if-place-b.true
     c.index-a-place.is c.index-b-place.is c.end_at.ensures c.end_at-in-loop-place.ensures both in
     items-found event_json event_code _ _ c.loop-place.place _ _ c.loop-place.invariant.2 next (sym c.is_ne.ensures ∙ c.if-is_ne.true)
@@ -20,7 +21,8 @@ returns-then-is_ne c =
 pub loop-place-preserved : goal.loop-place-preserved
 loop-place-preserved c =
     let told : c.event_order-order.result ≡ bytes_cmp (event_json c.index-a-place.result) (event_json c.index-b-place.result) = c.event_order-order.ensures in
-    let both = c.then-order.ensures ∙ (λ i. ordering_then (told i) (c.cmp.ensures i)) ∙ sym (closed-ended event_json event_closed c.index-a-place.result c.index-b-place.result c.end_at.result c.end_at-in-loop-place.result) in
+    let both = c.then-order.ensures ∙ (λ i. ordering_then (told i) (c.cmp.ensures i))
+    ∙ sym (closed-ended event_json event_closed c.index-a-place.result c.index-b-place.result c.end_at.result c.end_at-in-loop-place.result) in
     let next = items-next event_json _ _ c.loop-place.place _ _ c.index-a-place.result c.index-b-place.result _ c.loop-place-test.true c.if-place-b.true
     c.index-a-place.is c.index-b-place.is c.end_at.ensures c.end_at-in-loop-place.ensures both in
     (omega arith, omega arith, items-passed _ _ _ _ c.loop-place.invariant.2 next (sym c.is_ne.ensures ∙ c.if-is_ne.false))

@@ -7,7 +7,8 @@ use Rattle.transcripts.proofs.order.text_order.Goals.{then-loop-place-test+else-
 -- what differs decides
 pub returns-then-is_ne : goal.returns-then-is_ne
 returns-then-is_ne c =
-    let next = c.loop-place.invariant.2 ∙ texts-next _ _ c.loop-place.place c.loop-place-test.true c.if-place-b.true ∙ found _ _ (ap is_ne (sym c.byte_order-order.ensures) ∙ sym c.is_ne.ensures ∙ c.if-is_ne.true) in
+    let next = c.loop-place.invariant.2 ∙ texts-next _ _ c.loop-place.place c.loop-place-test.true c.if-place-b.true
+    ∙ found _ _ (ap is_ne (sym c.byte_order-order.ensures) ∙ sym c.is_ne.ensures ∙ c.if-is_ne.true) in
     texts-told _ _ _ _ _ _ c.as_bytes-a.ensures.value c.as_bytes-b.ensures.value c.byte_order-order.ensures next
 
 -- what ties is passed
@@ -30,7 +31,8 @@ returns-then-place-b-2 c =
 -- the second has
 pub returns-then-place-a : goal.returns-then-place-a
 returns-then-place-a c =
-    texts-told _ _ _ _ _ _ c.as_bytes-a.ensures.value c.as_bytes-b.ensures.value (c.cmp-then-place-a.ensures ∙ ap (λ n. nat_cmp n 34) c.first_written-then-place-a.ensures)
+    texts-told _ _ _ _ _ _ c.as_bytes-a.ensures.value c.as_bytes-b.ensures.value (c.cmp-then-place-a.ensures
+    ∙ ap (λ n. nat_cmp n 34) c.first_written-then-place-a.ensures)
     (c.loop-place.invariant.2 ∙ texts-longer _ _ c.loop-place.place c.if-place-a.true c.if-place-b-2.false)
 
 -- both have

@@ -8,5 +8,7 @@ use Rattle.transcripts.proofs.outcome.Outcome.is_same.Goals as goal
 pub returns : goal.returns
 returns c = (
   λ told. c.order.ensures.tells (ties c.order.result (sym c.is_eq.ensures ∙ told)),
-  λ same. c.is_eq.ensures ∙ ap is_eq (c.order.ensures.texts ∙ ap (λ o. bytes_cmp (outcome_json c.args.self.now) (outcome_json o)) (sym same) ∙ bytes_tied (outcome_json c.args.self.now)),
+  λ same. c.is_eq.ensures
+      ∙ ap is_eq (c.order.ensures.texts ∙ ap (λ o. bytes_cmp (outcome_json c.args.self.now) (outcome_json o)) (sym same)
+      ∙ bytes_tied (outcome_json c.args.self.now)),
 )
