@@ -1,10 +1,10 @@
 -- What stands ahead of a wait, one other wait at a time.
 use Rattle.std.proofs.Common.{◌≡◌, refl, sym, ap, ◌∙◌, subst, ℕ, Bool, true, false, cond, not, ◌&&◌, ◌||◌, ◌==◌, List, [], ◌∷◌, ◌++◌, filter, ◌⊎◌, inl, inr, ⊎_elim, eqb-true}
 use Rattle.std.specs.List.{list_any}
+use Rattle.std.proofs.lemmas.Bool.{and_from, and_parts, both_ways, not-true, or_cases, or_left, or_right}
 use Rattle.lock_modes.specs.Resource.{same_resource}
 use Rattle.lock_queues.specs.Locks.{Wait, Spot, Look, fits_with, wanted_by, converts, ahead, is_empty, holds_up, waits_now}
 use Rattle.lock_queues.specs.Queue.{is_ahead, is_held_up_by, some_holds_up, spot_marks}
-use Rattle.lock_queues.proofs.Basics.{both_true, and_true, either_true, or_true_left, or_true_right, not_both, not_true}
 
 empty-filter : (p : Wait → Bool) (ws : List Wait) → is_empty (filter p ws) ≡ not (list_any p ws)
 empty-filter p [] = refl
@@ -75,7 +75,7 @@ or-false false = refl
 
 any-more : (f g : Wait → Bool) → ((w : Wait) → f w ≡ true → g w ≡ true) → (ws : List Wait) → list_any f ws ≡ true → list_any g ws ≡ true
 any-more f g h [] e = e
-any-more f g h (w ∷ ws) e = ⊎_elim (λ k. or_true_left _ _ (h w k)) (λ k. or_true_right (g w) _ (any-more f g h ws k)) (either_true (f w) _ e)
+any-more f g h (w ∷ ws) e = ⊎_elim (λ k. or_left _ _ (h w k)) (λ k. or_right (g w) _ (any-more f g h ws k)) (or_cases (f w) _ e)
 
 module _ (look : Look) (b : ℕ) where
   abbrev one-ahead : Wait → Bool → Wait → Bool
@@ -107,49 +107,49 @@ module _ (look : Look) (b : ℕ) where
   side-sound : (w : Wait) (earlier : Bool) (others : List Wait) → some_holds_up look w earlier others b ≡ true
       → (not (w.session == b) ≡ true) × ((conflicts w ≡ true) ⊎ (list_any (one-ahead w earlier) others ≡ true))
   side-sound w earlier [] e = cc
-  side-sound w earlier (v ∷ vs) e = ⊎_elim here (λ k. let r = side-sound w earlier vs k in (r.0, ⊎_elim inl (λ h. inr (or_true_right (one-ahead w earlier v) _ h)) r.1)) (either_true ((v.session == b) && is_held_up_by look w earlier v) _ e)
+  side-sound w earlier (v ∷ vs) e = ⊎_elim here (λ k. let r = side-sound w earlier vs k in (r.0, ⊎_elim inl (λ h. inr (or_right (one-ahead w earlier v) _ h)) r.1)) (or_cases ((v.session == b) && is_held_up_by look w earlier v) _ e)
     where
       here : ((v.session == b) && is_held_up_by look w earlier v) ≡ true → (not (w.session == b) ≡ true) × ((conflicts w ≡ true) ⊎ (list_any (one-ahead w earlier) (v ∷ vs) ≡ true))
       here h =
-          let p = both_true (v.session == b) _ h in
+          let p = and_parts (v.session == b) _ h in
           let same : v.session ≡ b = eqb-true v.session b p.0 in
-          let q = both_true (not (w.session == v.session)) _ p.1 in (
+          let q = and_parts (not (w.session == v.session)) _ p.1 in (
             subst (λ x. not (w.session == x) ≡ true) same q.0,
-            ⊎_elim (λ k. inl (subst (λ x. not (fits_with (wanted_by look w) (look x w.resource)) ≡ true) same k)) (λ k. inr (or_true_left _ _ (and_true _ _ p.0 k)))
-                (either_true (not (fits_with (wanted_by look w) (look v.session w.resource))) _ q.1),
+            ⊎_elim (λ k. inl (subst (λ x. not (fits_with (wanted_by look w) (look x w.resource)) ≡ true) same k)) (λ k. inr (or_left _ _ (and_from _ _ p.0 k)))
+                (or_cases (not (fits_with (wanted_by look w) (look v.session w.resource))) _ q.1),
           )
 
   side-held : (w : Wait) (earlier : Bool) (others : List Wait) → not (w.session == b) ≡ true → conflicts w ≡ true → waits_now others b ≡ true → some_holds_up look w earlier others b ≡ true
   side-held w earlier others n c = any-more (λ (v : Wait). v.session == b) (λ (v : Wait). (v.session == b) && is_held_up_by look w earlier v)
-      (λ v h. let same : b ≡ v.session = sym (eqb-true v.session b h) in and_true _ _ h (and_true _ _ (subst (λ x. not (w.session == x) ≡ true) same n) (or_true_left _ _ (subst (λ x. not (fits_with (wanted_by look w) (look x w.resource)) ≡ true) same c)))) others
+      (λ v h. let same : b ≡ v.session = sym (eqb-true v.session b h) in and_from _ _ h (and_from _ _ (subst (λ x. not (w.session == x) ≡ true) same n) (or_left _ _ (subst (λ x. not (fits_with (wanted_by look w) (look x w.resource)) ≡ true) same c)))) others
 
   side-ahead : (w : Wait) (earlier : Bool) (others : List Wait) → not (w.session == b) ≡ true → list_any (one-ahead w earlier) others ≡ true → some_holds_up look w earlier others b ≡ true
   side-ahead w earlier others n = any-more (one-ahead w earlier) (λ (v : Wait). (v.session == b) && is_held_up_by look w earlier v)
-      (λ v h. let p = both_true (v.session == b) _ h in let same : b ≡ v.session = sym (eqb-true v.session b p.0) in
-      and_true _ _ p.0 (and_true _ _ (subst (λ x. not (w.session == x) ≡ true) same n) (or_true_right (not (fits_with (wanted_by look w) (look v.session w.resource))) _ p.1))) others
+      (λ v h. let p = and_parts (v.session == b) _ h in let same : b ≡ v.session = sym (eqb-true v.session b p.0) in
+      and_from _ _ p.0 (and_from _ _ (subst (λ x. not (w.session == x) ≡ true) same n) (or_right (not (fits_with (wanted_by look w) (look v.session w.resource))) _ p.1))) others
 
   -- who is marked holds the wait up
   pub marks-sound : (s : Spot) (a : ℕ) → spot_marks look s a b ≡ true → ((s.wait.session == a) && holds_up look s b) ≡ true
   marks-sound s a e =
-      let p = both_true (s.wait.session == a) _ e in
-      and_true _ _ p.0 (⊎_elim (λ k. let r = side-sound s.wait true s.before k in and_true _ _ r.0 (⊎_elim (λ h. or_true_left _ _ h) (λ h. or_true_right (conflicts s.wait) _ (ahead-any s ∙ or_true_left _ _ h)) r.1))
-      (λ k. let r = side-sound s.wait false s.after k in and_true _ _ r.0 (⊎_elim (λ h. or_true_left _ _ h) (λ h. or_true_right (conflicts s.wait) _ (ahead-any s ∙ or_true_right (list_any (one-ahead s.wait true) s.before) _ h)) r.1))
-      (either_true (some_holds_up look s.wait true s.before b) _ p.1))
+      let p = and_parts (s.wait.session == a) _ e in
+      and_from _ _ p.0 (⊎_elim (λ k. let r = side-sound s.wait true s.before k in and_from _ _ r.0 (⊎_elim (λ h. or_left _ _ h) (λ h. or_right (conflicts s.wait) _ (ahead-any s ∙ or_left _ _ h)) r.1))
+      (λ k. let r = side-sound s.wait false s.after k in and_from _ _ r.0 (⊎_elim (λ h. or_left _ _ h) (λ h. or_right (conflicts s.wait) _ (ahead-any s ∙ or_right (list_any (one-ahead s.wait true) s.before) _ h)) r.1))
+      (or_cases (some_holds_up look s.wait true s.before b) _ p.1))
 
   -- and each session that waits and holds it up is marked
   pub marks-all : (s : Spot) (a : ℕ) → waits_now (s.before ++ s.wait ∷ s.after) b ≡ true → ((s.wait.session == a) && holds_up look s b) ≡ true → spot_marks look s a b ≡ true
   marks-all s a now e =
-      let p = both_true (s.wait.session == a) _ e in
-      let q = both_true (not (s.wait.session == b)) _ p.1 in
-      and_true _ _ p.0 (⊎_elim (held q.0) (λ h. aheads q.0 (either_true (list_any (one-ahead s.wait true) s.before) _ (sym (ahead-any s) ∙ h))) (either_true (conflicts s.wait) _ q.1))
+      let p = and_parts (s.wait.session == a) _ e in
+      let q = and_parts (not (s.wait.session == b)) _ p.1 in
+      and_from _ _ p.0 (⊎_elim (held q.0) (λ h. aheads q.0 (or_cases (list_any (one-ahead s.wait true) s.before) _ (sym (ahead-any s) ∙ h))) (or_cases (conflicts s.wait) _ q.1))
     where
       aheads : not (s.wait.session == b) ≡ true → (list_any (one-ahead s.wait true) s.before ≡ true) ⊎ (list_any (one-ahead s.wait false) s.after ≡ true)
           → (some_holds_up look s.wait true s.before b || some_holds_up look s.wait false s.after b) ≡ true
-      aheads n (inl h) = or_true_left _ _ (side-ahead s.wait true s.before n h)
-      aheads n (inr h) = or_true_right (some_holds_up look s.wait true s.before b) _ (side-ahead s.wait false s.after n h)
+      aheads n (inl h) = or_left _ _ (side-ahead s.wait true s.before n h)
+      aheads n (inr h) = or_right (some_holds_up look s.wait true s.before b) _ (side-ahead s.wait false s.after n h)
 
       held : not (s.wait.session == b) ≡ true → conflicts s.wait ≡ true → (some_holds_up look s.wait true s.before b || some_holds_up look s.wait false s.after b) ≡ true
       held n c =
-          ⊎_elim (λ h. or_true_left _ _ (side-held s.wait true s.before n c h))
-          (λ h. ⊎_elim (λ k. absurd (not_both (s.wait.session == b) k (not_true _ n))) (λ k. or_true_right (some_holds_up look s.wait true s.before b) _ (side-held s.wait false s.after n c k)) (either_true (s.wait.session == b) _ h))
-          (either_true (waits_now s.before b) _ (sym (any-append (λ (w : Wait). w.session == b) s.before (s.wait ∷ s.after)) ∙ now))
+          ⊎_elim (λ h. or_left _ _ (side-held s.wait true s.before n c h))
+          (λ h. ⊎_elim (λ k. absurd (both_ways (s.wait.session == b) (not-true _ n) k)) (λ k. or_right (some_holds_up look s.wait true s.before b) _ (side-held s.wait false s.after n c k)) (or_cases (s.wait.session == b) _ h))
+          (or_cases (waits_now s.before b) _ (sym (any-append (λ (w : Wait). w.session == b) s.before (s.wait ∷ s.after)) ∙ now))

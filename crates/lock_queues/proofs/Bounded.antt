@@ -1,6 +1,7 @@
 -- The tests up to a number of sessions are the rules over all, where all sessions are below it.
 use Rattle.std.proofs.Common.{◌≡◌, ◌≢◌, refl, sym, ap, ◌∙◌, subst, ℕ, zero, suc, ◌+◌, ◌<◌, ◌≤◌, Bool, true, false, cond, ◌||◌, ◌==◌, List, [], ◌∷◌, ◌++◌, length, Option, Some, None, is_some, ◌⊎◌, ⊎_elim, arith, append_assoc, append-nil, eqb-true, eq-eqb, length-append}
 use Rattle.std.specs.FinMap.Entries.{find}
+use Rattle.std.proofs.lemmas.Bool.{and_from, and_parts, cases_eq, false_from_ne_true, or_cases, or_left, or_right}
 use Rattle.lock_modes.specs.Mode.{cover}
 use Rattle.lock_modes.specs.declared.mode.Mode.{Mode}
 use Rattle.lock_modes.specs.declared.resource.Resource.{Resource}
@@ -12,7 +13,6 @@ use Rattle.lock_queues.specs.Rules.{MayHave, IsInRing, IsAnswer, after, IsSpot, 
 use Rattle.lock_queues.specs.Laws.{IsBelow, TestsDecide}
 use Rattle.lock_queues.specs.declared.answer.Answer.{Answer}
 use Rattle.lock_queues.specs.declared.answer.Answer.TheVariants.{Granted, Waits, Ring}
-use Rattle.lock_queues.proofs.Basics.{refuted, cases-eq, both_true, and_true, either_true, or_true_left, or_true_right}
 use Rattle.lock_queues.proofs.Rings.{way-found, way-is-found}
 use Rattle.lock_queues.proofs.Spots.{edge-waits}
 use Rattle.lock_queues.proofs.Waiters.{waiter-reaches}
@@ -20,29 +20,29 @@ use Rattle.lock_queues.proofs.Waiters.{waiter-reaches}
 below-at : (n : ℕ) (test : ℕ → Bool) (c : ℕ) → c < n → all_below n test ≡ true → test c ≡ true
 below-at zero test c lt e = absurd (omega arith)
 below-at (suc n) test c lt e =
-    let p = both_true (test n) _ e in
+    let p = and_parts (test n) _ e in
     let at : (c ≡ n) ⊎ (c < n) = grind arith in
     ⊎_elim (λ k. ap test k ∙ p.0) (λ l. below-at n test c l p.1) at
 
 below-true : (n : ℕ) (test : ℕ → Bool) → ((c : ℕ) → test c ≡ true) → all_below n test ≡ true
 below-true zero test h = refl
-below-true (suc n) test h = and_true _ _ (h n) (below-true n test h)
+below-true (suc n) test h = and_from _ _ (h n) (below-true n test h)
 
 module _ (count : ℕ) (look : Look) (none : (c : ℕ) (r : Resource) → count ≤ c → look c r ≡ None) where
   fits-all : (i : ℕ) (r : Resource) (m : Mode) → fits count look i r m ≡ true → Fits look i r m
   fits-all i r m e c ne =
       let at : (c < count) ⊎ (count ≤ c) = grind arith in
-      ⊎_elim (λ lt. ⊎_elim (λ h. absurd (ne (eqb-true c i h))) (λ h. h) (either_true (c == i) _ (below-at count (λ c. (c == i) || fits_with m (look c r)) c lt e)))
+      ⊎_elim (λ lt. ⊎_elim (λ h. absurd (ne (eqb-true c i h))) (λ h. h) (or_cases (c == i) _ (below-at count (λ c. (c == i) || fits_with m (look c r)) c lt e)))
       (λ le. ap (fits_with m) (none c r le)) at
 
   all-fits : (i : ℕ) (r : Resource) (m : Mode) → Fits look i r m → fits count look i r m ≡ true
-  all-fits i r m f = below-true count _ (λ c. ⊎_elim (λ k. or_true_left (c == i) _ (eq-eqb c i k)) (λ k. or_true_right (c == i) _ (f c k)) (cases-eq c i))
+  all-fits i r m f = below-true count _ (λ c. ⊎_elim (λ k. or_left (c == i) _ (eq-eqb c i k)) (λ k. or_right (c == i) _ (f c k)) (cases_eq c i))
 
   ripe-is : (s : Spot) → IsRipe look s → is_ripe count look s ≡ true
-  ripe-is s r = and_true _ _ (all-fits s.wait.session s.wait.resource (wanted_by look s.wait) r.0) r.1
+  ripe-is s r = and_from _ _ (all-fits s.wait.session s.wait.resource (wanted_by look s.wait) r.0) r.1
 
   is-ripe : (s : Spot) → is_ripe count look s ≡ true → IsRipe look s
-  is-ripe s e = let p = both_true (fits count look s.wait.session s.wait.resource (wanted_by look s.wait)) _ e in (fits-all s.wait.session s.wait.resource (wanted_by look s.wait) p.0, p.1)
+  is-ripe s e = let p = and_parts (fits count look s.wait.session s.wait.resource (wanted_by look s.wait)) _ e in (fits-all s.wait.session s.wait.resource (wanted_by look s.wait) p.0, p.1)
 
   -- the first ripe wait, where none before it is ripe
   first-is : (waits before mid : List Wait) (w : Wait) (rest : List Wait) → before ++ (mid ++ w ∷ rest) ≡ waits → IsRipe look (record { before = before ++ mid; wait = w; after = rest })
@@ -55,7 +55,7 @@ module _ (count : ℕ) (look : Look) (none : (c : ℕ) (r : Resource) → count 
   first-is waits before (v ∷ mid) w rest there ripe earliest =
       let here : Spot = record { before = before; wait = v; after = mid ++ w ∷ rest } in
       let grouped : (before ++ v ∷ []) ++ mid ≡ before ++ v ∷ mid = append_assoc before (v ∷ []) mid in
-      let unripe : is_ripe count look here ≡ false = refuted _ (λ e. later (earliest here there (is-ripe here e))) in
+      let unripe : is_ripe count look here ≡ false = false_from_ne_true _ (λ e. later (earliest here there (is-ripe here e))) in
       ap (λ b. cond b (Some here) (first_ripe count look (spots_from (before ++ v ∷ []) (mid ++ w ∷ rest)))) unripe
       ∙ first-is waits (before ++ v ∷ []) mid w rest (append_assoc before (v ∷ []) (mid ++ w ∷ rest) ∙ there)
       (subst (λ b. IsRipe look (record { before = b; wait = w; after = rest })) (sym grouped) ripe) (λ t p r. subst (λ b. length b ≤ length t.before) (sym grouped) (earliest t p r))
@@ -68,12 +68,12 @@ module _ (count : ℕ) (look : Look) (none : (c : ℕ) (r : Resource) → count 
   none-first waits before [] there never = refl
   none-first waits before (w ∷ rest) there never =
       let here : Spot = record { before = before; wait = w; after = rest } in
-      ap (λ b. cond b (Some here) (first_ripe count look (spots_from (before ++ w ∷ []) rest))) (refuted (is_ripe count look here) (λ e. never here there (is-ripe here e)))
+      ap (λ b. cond b (Some here) (first_ripe count look (spots_from (before ++ w ∷ []) rest))) (false_from_ne_true (is_ripe count look here) (λ e. never here there (is-ripe here e)))
       ∙ none-first waits (before ++ w ∷ []) rest (append_assoc before (w ∷ []) rest ∙ there) never
 
 below-waits : (count : ℕ) (ws : List Wait) → EachWait (λ w. w.session < count) ws → (a : ℕ) → waits_now ws a ≡ true → a < count
 below-waits count [] p a e = cc
-below-waits count (v ∷ vs) p a e = ⊎_elim (λ k. subst (λ x. x < count) (eqb-true v.session a k) p.0) (λ k. below-waits count vs p.1 a k) (either_true (v.session == a) _ e)
+below-waits count (v ∷ vs) p a e = ⊎_elim (λ k. subst (λ x. x < count) (eqb-true v.session a k) p.0) (λ k. below-waits count vs p.1 a k) (or_cases (v.session == a) _ e)
 
 below-push : (count : ℕ) (ws : List Wait) (w : Wait) → EachWait (λ w. w.session < count) ws → w.session < count → EachWait (λ w. w.session < count) (ws ++ w ∷ [])
 below-push count [] w p lt = (lt, tt)
@@ -81,10 +81,10 @@ below-push count (v ∷ vs) w p lt = (p.0, below-push count vs w p.1 lt)
 
 module _ (count : ℕ) (l : Locks) (below : IsBelow count l) where
   had : (i : ℕ) (r : Resource) (m : Mode) → MayHave l i r m → may_have count (look_in l) l.waits i (look_in l i r) r m ≡ true
-  had i r m h = and_true _ _ (all-fits count (look_in l) below.holders i r (wanted (look_in l i r) m) h.0) h.1
+  had i r m h = and_from _ _ (all-fits count (look_in l) below.holders i r (wanted (look_in l i r) m) h.0) h.1
 
   had-not : (i : ℕ) (r : Resource) (m : Mode) → ¬ (MayHave l i r m) → may_have count (look_in l) l.waits i (look_in l i r) r m ≡ false
-  had-not i r m never = refuted _ (λ e. let p = both_true (fits count (look_in l) i r (wanted (look_in l i r) m)) _ e in never (fits-all count (look_in l) below.holders i r (wanted (look_in l i r) m) p.0, p.1))
+  had-not i r m never = false_from_ne_true _ (λ e. let p = and_parts (fits count (look_in l) i r (wanted (look_in l i r) m)) _ e in never (fits-all count (look_in l) below.holders i r (wanted (look_in l i r) m) p.0, p.1))
 
   ring-is : (i : ℕ) (r : Resource) (m : Mode) → i < count → IsInRing (queued l i r m) i → closes_ring count (look_in l) (queued l i r m).waits i ≡ true
   ring-is i r m lt v =
@@ -92,7 +92,7 @@ module _ (count : ℕ) (l : Locks) (below : IsBelow count l) where
       (λ a b e. below-waits count (queued l i r m).waits (below-push count l.waits (record { session = i; resource = r; mode = m }) below.waiters lt) a (edge-waits (look_in l) (queued l i r m).waits a b e)) i i v
 
   ring-not : (i : ℕ) (r : Resource) (m : Mode) → ¬ (IsInRing (queued l i r m) i) → closes_ring count (look_in l) (queued l i r m).waits i ≡ false
-  ring-not i r m never = refuted _ (λ e. never (way-found (waits_for (look_in l) (queued l i r m).waits) count i i e))
+  ring-not i r m never = false_from_ne_true _ (λ e. never (way-found (waits_for (look_in l) (queued l i r m).waits) count i i e))
 
   abbrev step : ℕ → Resource → Mode → Bool → Bool → Asked
   step i r m may closes = elim (answered may closes) [
@@ -164,7 +164,7 @@ waiters-reach l s never a h =
 
 -- a mode that is covered is had
 pub covered-had : (l : Locks) (i : ℕ) (r : Resource) (m held : Mode) → IsSound l → look_in l i r ≡ Some held → cover held m ≡ held → MayHave l i r m × (taken l i r m ≡ l)
-covered-had l i r m held s e k = (((λ c ne. fit c ne (look_in l c r) refl), or_true_left _ _ (ap is_some e)), same)
+covered-had l i r m held s e k = (((λ c ne. fit c ne (look_in l c r) refl), or_left _ _ (ap is_some e)), same)
   where
     mode : wanted (look_in l i r) m ≡ held
     mode = ap (λ o. wanted o m) e ∙ k

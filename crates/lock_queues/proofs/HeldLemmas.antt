@@ -6,6 +6,7 @@ use Rattle.std.specs.declared.cmp.Ordering.TheVariants.{Less}
 use Rattle.std.specs.Ordering.{nat_cmp, eq_by_cmp}
 use Rattle.std.specs.Cmp.{nat_cmp_total}
 use Rattle.std.specs.FinMap.Entries.{find, put, find-put, find-where_key, below_all, is_sorted}
+use Rattle.std.proofs.lemmas.Bool.{and_from, and_parts, both_ways, cases_Bool, or_cases, or_left, or_right}
 use Rattle.version_tree.specs.Entries.{without}
 use Rattle.version_tree.specs.Map.{Map, get, entries, insert, get-insert, keep, get-keep, empty, get-empty, same_map, same_key, same_key-true, same_key-refl}
 use Rattle.version_tree.proofs.EntriesLemmas.{front, back, less}
@@ -16,7 +17,6 @@ use Rattle.lock_queues.specs.Tabulate.{get-tabulate}
 use Rattle.lock_queues.specs.Locks.{fits_with}
 use Rattle.lock_queues.specs.LockTable.{Holding, holding_order, Fits, look_at}
 use Rattle.lock_queues.specs.Records.{Sessions, mode_of, known_modes, held_by, holdings_of, held_map, all_fit}
-use Rattle.lock_queues.proofs.Basics.{both_true, and_true, either_true, or_true_left, or_true_right, not_both, known}
 use Rattle.lock_queues.proofs.Known.{nat_order, any-left, any-right, known-through}
 use Rattle.lock_queues.proofs.ModesLemmas.{then-both}
 
@@ -99,10 +99,10 @@ module _ (i : ℕ) (r : Resource) (m : Mode) where
 
   each-fits : (sessions : Sessions) → all_fit sessions i r m ≡ true → AllFit sessions
   each-fits [] e c ne = refl
-  each-fits (x ∷ xs) e c ne = let p = both_true ((x.0 == i) || fits_with m (get x.1 r)) _ e in at p.0 (each-fits xs p.1 c ne) (same_key nat_order c x.0) refl
+  each-fits (x ∷ xs) e c ne = let p = and_parts ((x.0 == i) || fits_with m (get x.1 r)) _ e in at p.0 (each-fits xs p.1 c ne) (same_key nat_order c x.0) refl
     where
       at : ((x.0 == i) || fits_with m (get x.1 r)) ≡ true → fits_with m (mode_of (find nat_cmp c xs) r) ≡ true → (b : Bool) → same_key nat_order c x.0 ≡ b → fits_with m (mode_of (cond b (Some x.1) (find nat_cmp c xs)) r) ≡ true
-      at here rest true s = ⊎_elim (λ h. absurd (ne (same_key-true nat_order c x.0 s ∙ eqb-true x.0 i h))) (λ h. h) (either_true (x.0 == i) _ here)
+      at here rest true s = ⊎_elim (λ h. absurd (ne (same_key-true nat_order c x.0 s ∙ eqb-true x.0 i h))) (λ h. h) (or_cases (x.0 == i) _ here)
       at here rest false s = rest
 
   none-below : (k : ℕ) (es : Sessions) → T (below_all nat_cmp k es) → find nat_cmp k es ≡ None
@@ -111,13 +111,13 @@ module _ (i : ℕ) (r : Resource) (m : Mode) where
 
   fit-each : (sessions : Sessions) → T (is_sorted nat_cmp sessions) → AllFit sessions → all_fit sessions i r m ≡ true
   fit-each [] s f = refl
-  fit-each (x ∷ xs) s f = and_true _ _ (here (known (x.0 == i))) (fit-each xs (back _ _ s) (λ c ne. rest c ne (same_key nat_order c x.0) refl (f c ne)))
+  fit-each (x ∷ xs) s f = and_from _ _ (here (cases_Bool (x.0 == i))) (fit-each xs (back _ _ s) (λ c ne. rest c ne (same_key nat_order c x.0) refl (f c ne)))
     where
       itself : find nat_cmp x.0 (x ∷ xs) ≡ Some x.1
       itself = ap (λ b. cond b (Some x.1) (find nat_cmp x.0 xs)) (same_key-refl nat_order x.0)
 
       here : ((x.0 == i) ≡ true) ⊎ ((x.0 == i) ≡ false) → ((x.0 == i) || fits_with m (get x.1 r)) ≡ true
-      here u = ⊎_elim (λ h. or_true_left _ _ h) (λ h. or_true_right (x.0 == i) _ (subst (λ o. fits_with m (mode_of o r) ≡ true) itself (f x.0 (λ k. not_both _ (eq-eqb x.0 i k) h)))) u
+      here u = ⊎_elim (λ h. or_left _ _ h) (λ h. or_right (x.0 == i) _ (subst (λ o. fits_with m (mode_of o r) ≡ true) itself (f x.0 (λ k. both_ways _ h (eq-eqb x.0 i k))))) u
 
       rest : (c : ℕ) → c ≢ i → (b : Bool) → same_key nat_order c x.0 ≡ b → fits_with m (mode_of (cond b (Some x.1) (find nat_cmp c xs)) r) ≡ true → fits_with m (mode_of (find nat_cmp c xs) r) ≡ true
       rest c ne true e h = let absent : find nat_cmp c xs ≡ None = ap (λ k. find nat_cmp k xs) (same_key-true nat_order c x.0 e) ∙ none-below x.0 xs (front _ _ s) in ap (λ o. fits_with m (mode_of o r)) absent

@@ -4,7 +4,7 @@ use Rattle.std.specs.List.{list_any, find, remove, position, position_or_len}
 use Rattle.std.proofs.lemmas.List.Quantifiers.{position-Some}
 use Rattle.std.proofs.lemmas.List.Folds.{list_any_none}
 use Rattle.std.proofs.lemmas.List.Sums.{fails_before_first}
-use Rattle.std.proofs.lemmas.Bool.{ltb-false}
+use Rattle.std.proofs.lemmas.Bool.{ltb-false, both_ways, cases_Bool}
 use Rattle.lock_modes.specs.Mode.{compatible}
 use Rattle.lock_modes.proofs.ModeLaws.{compatible-comm}
 use Rattle.lock_modes.specs.declared.mode.Mode.{Mode}
@@ -16,7 +16,6 @@ use Rattle.lock_queues.specs.Sound.{NoRing, HeldTogether, EachWait, Distinct, ed
 use Rattle.lock_queues.specs.Rules.{MayHave, IsInRing, IsAnswer, after, IsSpot, IsRipe, IsNext}
 use Rattle.lock_queues.specs.declared.answer.Answer.{Answer}
 use Rattle.lock_queues.specs.declared.answer.Answer.TheVariants.{Granted, Waits, Ring}
-use Rattle.lock_queues.proofs.Basics.{not_both, known}
 use Rattle.lock_queues.proofs.Spots.{same-spot}
 use Rattle.lock_queues.proofs.Rings.{no-ring-past, no-way-from, no-edge-from, edge-put, edge-off}
 
@@ -36,7 +35,7 @@ distinct-push (w ∷ ws) v d n = (wait-append (Not w.session) ws (v ∷ []) d.0 
 -- who does not wait has no wait
 pub none-waits : (i : ℕ) (ws : List Wait) → waits_now ws i ≡ false → EachWait (Not i) ws
 none-waits i [] e = tt
-none-waits i (w ∷ ws) e = let p = neither (w.session == i) _ e in ((λ k. not_both _ (eq-eqb w.session i k) p.0), none-waits i ws p.1)
+none-waits i (w ∷ ws) e = let p = neither (w.session == i) _ e in ((λ k. both_ways _ p.0 (eq-eqb w.session i k)), none-waits i ws p.1)
   where
     neither : (a b : Bool) → (a || b) ≡ false → (a ≡ false) × (b ≡ false)
     neither true b e = cc
@@ -60,7 +59,7 @@ not-others i (w ∷ ws) = at (w.session == i) refl (not-others i ws)
   where
     at : (b : Bool) → (w.session == i) ≡ b → EachWait (Not i) (others i ws) → EachWait (Not i) (cond (not b) (w ∷ others i ws) (others i ws))
     at true e rest = rest
-    at false e rest = ((λ k. not_both _ (eq-eqb w.session i k) e), rest)
+    at false e rest = ((λ k. both_ways _ e (eq-eqb w.session i k)), rest)
 
 all-others : (i : ℕ) (ws : List Wait) → EachWait (Not i) ws → others i ws ≡ ws
 all-others i [] n = refl
@@ -143,7 +142,7 @@ edge-others look i a b na nb us [] = refl
 edge-others look i a b na nb us (v ∷ vs) = at (v.session == i) refl (edge-others look i a b na nb us vs) (edge-others look i a b na nb (us ++ v ∷ []) vs)
   where
     apart : (c : ℕ) → c ≢ i → v.session ≡ i → (v.session == c) ≡ false
-    apart c ne e = ⊎_elim (λ h. absurd (ne (sym (eqb-true v.session c h) ∙ e))) (λ h. h) (known (v.session == c))
+    apart c ne e = ⊎_elim (λ h. absurd (ne (sym (eqb-true v.session c h) ∙ e))) (λ h. h) (cases_Bool (v.session == c))
 
     at : (t : Bool) → (v.session == i) ≡ t → waits_for look (us ++ others i vs) a b ≡ waits_for look (us ++ vs) a b → waits_for look ((us ++ v ∷ []) ++ others i vs) a b ≡ waits_for look ((us ++ v ∷ []) ++ vs) a b
         → waits_for look (us ++ cond (not t) (v ∷ others i vs) (others i vs)) a b ≡ waits_for look (us ++ v ∷ vs) a b
@@ -192,7 +191,7 @@ module _ (held : Map holding_order Mode) (i : ℕ) (r : Resource) (m : Mode) whe
       at false ka false kb g h = t c d q x y ne g h
 
 look-kept : (held : Map holding_order Mode) (i c : ℕ) (q : Resource) → c ≢ i → look_at (keep (λ (h : Holding). not (h.0 == i)) held) c q ≡ look_at held c q
-look-kept held i c q ne = get-keep (λ (h : Holding). not (h.0 == i)) held (c, q) ∙ ap (λ b. cond (not b) (get held (c, q)) None) (⊎_elim (λ h. absurd (ne (eqb-true c i h))) (λ h. h) (known (c == i)))
+look-kept held i c q ne = get-keep (λ (h : Holding). not (h.0 == i)) held (c, q) ∙ ap (λ b. cond (not b) (get held (c, q)) None) (⊎_elim (λ h. absurd (ne (eqb-true c i h))) (λ h. h) (cases_Bool (c == i)))
 
 together-keep : (held : Map holding_order Mode) (i : ℕ) → HeldTogether (look_at held) → HeldTogether (look_at (keep (λ (h : Holding). not (h.0 == i)) held))
 together-keep held i t c d q x y ne p e = t c d q x y ne (was c x p) (was d y e)
@@ -231,7 +230,7 @@ queued-sound l i r m s free none = record {
     v = record { session = i; resource = r; mode = m }
 
     apart : (c : ℕ) → c ≢ i → (v.session == c) ≡ false
-    apart c ne = ⊎_elim (λ h. absurd (ne (sym (eqb-true v.session c h)))) (λ h. h) (known (v.session == c))
+    apart c ne = ⊎_elim (λ h. absurd (ne (sym (eqb-true v.session c h)))) (λ h. h) (cases_Bool (v.session == c))
 
     same : (a b : ℕ) → a ≢ i → b ≢ i → waits_for (look_in l) (l.waits ++ v ∷ []) a b ≡ waits_for (look_in l) l.waits a b
     same a b na nb = edge-put (look_in l) a b v (apart a na) (apart b nb) l.waits [] ∙ ap (λ ws. waits_for (look_in l) ws a b) (append-nil l.waits)

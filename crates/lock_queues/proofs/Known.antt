@@ -6,8 +6,8 @@ use Rattle.std.specs.Ordering.{nat_cmp}
 use Rattle.std.specs.Cmp.{nat_cmp_total}
 use Rattle.std.specs.FinMap.{nat_cmp-IsAntisymmetric}
 use Rattle.std.specs.FinMap.Entries.{find}
+use Rattle.std.proofs.lemmas.Bool.{or_left, or_right}
 use Rattle.version_tree.specs.Map.{Order, same_key, same_key-true, same_key-refl}
-use Rattle.lock_queues.proofs.Basics.{or_true_left, or_true_right}
 
 abbrev pub nat_order : Order ℕ
 nat_order = record { cmp = nat_cmp; total = nat_cmp_total; same = nat_cmp-IsAntisymmetric }
@@ -25,7 +25,7 @@ any-left f (x ∷ xs) ys e = at (any-left f xs ys) (f x) e
 
 pub any-right : {A : Type 0} (f : A → Bool) (xs ys : List A) → list_any f ys ≡ true → list_any f (xs ++ ys) ≡ true
 any-right f [] ys e = e
-any-right f (x ∷ xs) ys e = or_true_right (f x) _ (any-right f xs ys e)
+any-right f (x ∷ xs) ys e = or_right (f x) _ (any-right f xs ys e)
 
 -- a key that is found, under a name that it has in another order
 pub known-through : {K L X : Type 0} (o : Order K) (p : Order L) (f : K → L) (q : K) (es : List (K × X)) → is_some (find o.cmp q es) ≡ true → list_any (same_key p (f q)) (map (λ e. f e.0) es) ≡ true
@@ -33,5 +33,5 @@ known-through o p f q [] e = cc
 known-through {X = X} o p f q (x ∷ es) e = at (known-through o p f q es) (same_key o q x.0) refl e
   where
     at : (is_some (find o.cmp q es) ≡ true → list_any (same_key p (f q)) (map (λ e. f e.0) es) ≡ true) → (b : Bool) → same_key o q x.0 ≡ b → is_some (cond b (Some x.1) (find o.cmp q es)) ≡ true → list_any (same_key p (f q)) (map (λ e. f e.0) (x ∷ es)) ≡ true
-    at rest true s h = or_true_left _ _ (subst (λ k. same_key p (f q) (f k) ≡ true) (same_key-true o q x.0 s) (same_key-refl p (f q)))
-    at rest false s h = or_true_right (same_key p (f q) (f x.0)) _ (rest h)
+    at rest true s h = or_left _ _ (subst (λ k. same_key p (f q) (f k) ≡ true) (same_key-true o q x.0 s) (same_key-refl p (f q)))
+    at rest false s h = or_right (same_key p (f q) (f x.0)) _ (rest h)

@@ -1,4 +1,3 @@
-pub mod Basics
 pub mod Known
 pub mod ModesLemmas
 pub mod HeldLemmas

@@ -1,10 +1,10 @@
 -- Marking the sessions that the waits of one session wait for, spot by spot.
 use Rattle.std.proofs.Common.{◌≡◌, sym, ◌∙◌, subst, ℕ, ◌+◌, ◌<◌, Bool, true, ◌&&◌, ◌||◌, ◌==◌, List, [], length, ◌⊎◌, inl, inr, ⊎_elim, arith}
+use Rattle.std.proofs.lemmas.Bool.{or_cases, or_left, or_right}
 use Rattle.lock_queues.specs.Locks.{Wait, Spot, Look, holds_up, waits_for, waits_now}
 use Rattle.lock_queues.specs.Queue.{spot_marks}
 use Rattle.lock_queues.specs.Rules.{IsSpot}
 use Rattle.lock_queues.specs.Search.{Marks}
-use Rattle.lock_queues.proofs.Basics.{either_true, or_true_left, or_true_right}
 use Rattle.lock_queues.proofs.Ahead.{marks-sound, marks-all}
 use Rattle.lock_queues.proofs.Spots.{any-spot, passes-at, same-spot, spot-within}
 
@@ -20,13 +20,13 @@ marked-none look waits a old = record { kept = λ b e. e; sound = λ b e. inl e;
 pub marked-more : (look : Look) (waits : List Wait) (a k : ℕ) (old mid new : ℕ → Bool) (t : Spot) → MarkedTo look waits a k old mid → IsSpot waits t → length t.before ≡ k → ((b : ℕ) → new b ≡ (mid b || spot_marks look t a b))
     → MarkedTo look waits a (k + 1) old new
 marked-more look waits a k old mid new t m there place is = record {
-  kept = λ b e. is b ∙ or_true_left _ _ (m.kept b e);
-  sound = λ b e. ⊎_elim (m.sound b) (λ h. inr (passes-at (λ (s : Spot). (s.wait.session == a) && holds_up look s b) waits t there (marks-sound look b t a h))) (either_true (mid b) _ (sym (is b) ∙ e));
+  kept = λ b e. is b ∙ or_left _ _ (m.kept b e);
+  sound = λ b e. ⊎_elim (m.sound b) (λ h. inr (passes-at (λ (s : Spot). (s.wait.session == a) && holds_up look s b) waits t there (marks-sound look b t a h))) (or_cases (mid b) _ (sym (is b) ∙ e));
   so_far = λ s p lt b now e.
       let at : (length s.before < k) ⊎ (length s.before ≡ k) = grind arith in
-      ⊎_elim (λ l. is b ∙ or_true_left _ _ (m.so_far s p l b now e))
+      ⊎_elim (λ l. is b ∙ or_left _ _ (m.so_far s p l b now e))
       (λ q. let same : s ≡ t = same-spot waits s t p there (q ∙ sym place) in
-      is b ∙ or_true_right (mid b) _ (marks-all look b t a (subst (λ ws. waits_now ws b ≡ true) (sym there) now) (subst (λ u. ((u.wait.session == a) && holds_up look u b) ≡ true) same e))) at;
+      is b ∙ or_right (mid b) _ (marks-all look b t a (subst (λ ws. waits_now ws b ≡ true) (sym there) now) (subst (λ u. ((u.wait.session == a) && holds_up look u b) ≡ true) same e))) at;
 }
 
 pub marked-all : (look : Look) (waits : List Wait) (a : ℕ) (old new : ℕ → Bool) → MarkedTo look waits a (length waits) old new → Marks look waits a old new

@@ -1,12 +1,12 @@
 -- Rings: the test finds each, and what does not touch a session leaves the ways past it.
 use Rattle.std.proofs.Common.{◌≡◌, ◌≢◌, refl, sym, ap, ◌∙◌, subst, ℕ, zero, suc, ◌<◌, Bool, true, false, cond, not, ◌&&◌, ◌||◌, ◌==◌, List, [], ◌∷◌, ◌++◌, filter, is_some, ◌⊎◌, inl, inr, ⊎_elim, arith, append_assoc, append-nil, eqb-true}
 use Rattle.std.specs.List.{list_any}
+use Rattle.std.proofs.lemmas.Bool.{and_from, and_parts, both_ways, cases_Bool, cases_eq, or_cases, or_left, or_right}
 use Rattle.lock_queues.specs.Locks.{Wait, Spot, Look, fits_with, wanted, wanted_by, converts, ahead, spots_from, holds_up, waits_for, way_below}
 use Rattle.lock_modes.specs.Resource.{same_resource}
 use Rattle.lock_queues.specs.Sound.{Way, one, more, NoRing, EachWait}
 use Rattle.lock_modes.specs.declared.resource.Resource.{Resource}
 use Rattle.lock_queues.proofs.Ahead.{any-append}
-use Rattle.lock_queues.proofs.Basics.{cases-eq, both_true, and_true, either_true, or_true_left, or_true_right, not_both, known}
 
 pub way-join : (edge : ℕ → ℕ → Bool) (a c b : ℕ) → Way edge a c → Way edge c b → Way edge a b
 way-join edge a c b (one e) v = more e v
@@ -16,31 +16,31 @@ way-join edge a c b (more e u) v = more e (way-join edge _ c b u v)
 pub way-found : (edge : ℕ → ℕ → Bool) (n a b : ℕ) → way_below edge n a b ≡ true → Way edge a b
 way-found edge zero a b e = one e
 way-found edge (suc n) a b e =
-    ⊎_elim (λ h. way-found edge n a b h) (λ h. let p = both_true (way_below edge n a n) _ h in way-join edge a n b (way-found edge n a n p.0) (way-found edge n n b p.1)) (either_true (way_below edge n a b) _ e)
+    ⊎_elim (λ h. way-found edge n a b h) (λ h. let p = and_parts (way_below edge n a n) _ h in way-join edge a n b (way-found edge n a n p.0) (way-found edge n n b p.1)) (or_cases (way_below edge n a b) _ e)
 
 -- ways that meet below n join
 pub way-meets : (edge : ℕ → ℕ → Bool) (n a c b : ℕ) → c < n → way_below edge n a c ≡ true → way_below edge n c b ≡ true → way_below edge n a b ≡ true
 way-meets edge zero a c b lt p q = absurd (omega arith)
 way-meets edge (suc n) a c b lt p q =
-    let up = either_true (way_below edge n a c) _ p in
-    let uq = either_true (way_below edge n c b) _ q in
+    let up = or_cases (way_below edge n a c) _ p in
+    let uq = or_cases (way_below edge n c b) _ q in
     let cases : (c ≡ n) ⊎ (c < n) = grind arith in
     ⊎_elim
     (λ k.
-    let to : way_below edge n a n ≡ true = ⊎_elim (λ h. sym (ap (way_below edge n a) k) ∙ h) (λ h. (both_true (way_below edge n a n) _ h).0) up in
-    let from : way_below edge n n b ≡ true = ⊎_elim (λ h. sym (ap (λ x. way_below edge n x b) k) ∙ h) (λ h. (both_true (way_below edge n c n) _ h).1) uq in
-    or_true_right (way_below edge n a b) _ (and_true _ _ to from))
+    let to : way_below edge n a n ≡ true = ⊎_elim (λ h. sym (ap (way_below edge n a) k) ∙ h) (λ h. (and_parts (way_below edge n a n) _ h).0) up in
+    let from : way_below edge n n b ≡ true = ⊎_elim (λ h. sym (ap (λ x. way_below edge n x b) k) ∙ h) (λ h. (and_parts (way_below edge n c n) _ h).1) uq in
+    or_right (way_below edge n a b) _ (and_from _ _ to from))
     (λ l. ⊎_elim
-    (λ h. ⊎_elim (λ g. or_true_left _ _ (way-meets edge n a c b l h g))
-    (λ g. let r = both_true (way_below edge n c n) _ g in or_true_right (way_below edge n a b) _ (and_true _ _ (way-meets edge n a c n l h r.0) r.1)) uq)
-    (λ h. let r = both_true (way_below edge n a n) _ h in
-    ⊎_elim (λ g. or_true_right (way_below edge n a b) _ (and_true _ _ r.0 (way-meets edge n n c b l r.1 g)))
-    (λ g. or_true_right (way_below edge n a b) _ (and_true _ _ r.0 (both_true (way_below edge n c n) _ g).1)) uq) up)
+    (λ h. ⊎_elim (λ g. or_left _ _ (way-meets edge n a c b l h g))
+    (λ g. let r = and_parts (way_below edge n c n) _ g in or_right (way_below edge n a b) _ (and_from _ _ (way-meets edge n a c n l h r.0) r.1)) uq)
+    (λ h. let r = and_parts (way_below edge n a n) _ h in
+    ⊎_elim (λ g. or_right (way_below edge n a b) _ (and_from _ _ r.0 (way-meets edge n n c b l r.1 g)))
+    (λ g. or_right (way_below edge n a b) _ (and_from _ _ r.0 (and_parts (way_below edge n c n) _ g).1)) uq) up)
     cases
 
 pub edge-found : (edge : ℕ → ℕ → Bool) (n a b : ℕ) → edge a b ≡ true → way_below edge n a b ≡ true
 edge-found edge zero a b e = e
-edge-found edge (suc n) a b e = or_true_left _ _ (edge-found edge n a b e)
+edge-found edge (suc n) a b e = or_left _ _ (edge-found edge n a b e)
 
 -- each way is found, where whoever has an edge lies below n
 pub way-is-found : (edge : ℕ → ℕ → Bool) (n : ℕ) → ((a b : ℕ) → edge a b ≡ true → a < n) → (a b : ℕ) → Way edge a b → way_below edge n a b ≡ true
@@ -56,7 +56,7 @@ way-is-found edge n low a b (more {c = c} e v) = way-meets edge n a c b (starts 
 -- a way either keeps to the old edges or passes i
 way-past : (edge new : ℕ → ℕ → Bool) (i : ℕ) → ((a b : ℕ) → a ≢ i → b ≢ i → new a b ≡ true → edge a b ≡ true) → (a b : ℕ) → a ≢ i → b ≢ i → Way new a b → Way edge a b ⊎ (Way new a i × Way new i b)
 way-past edge new i same a b na nb (one e) = inl (one (same a b na nb e))
-way-past edge new i same a b na nb (more {c = c} e v) = at (cases-eq c i) (λ nc. way-past edge new i same c b nc nb v)
+way-past edge new i same a b na nb (more {c = c} e v) = at (cases_eq c i) (λ nc. way-past edge new i same c b nc nb v)
   where
     at : (c ≡ i) ⊎ (c ≢ i) → (c ≢ i → Way edge c b ⊎ (Way new c i × Way new i b)) → Way edge a b ⊎ (Way new a i × Way new i b)
     at (inl k) rec = inr (one (subst (λ x. new a x ≡ true) k e), subst (λ x. Way new x b) k v)
@@ -66,12 +66,12 @@ way-past edge new i same a b na nb (more {c = c} e v) = at (cases-eq c i) (λ nc
 pub no-ring-past : (edge new : ℕ → ℕ → Bool) (i : ℕ) → ((a b : ℕ) → a ≢ i → b ≢ i → new a b ≡ true → edge a b ≡ true) → (Way new i i → ⊥) → NoRing edge → NoRing new
 no-ring-past edge new i same not_i none c v =
     ⊎_elim (λ k. not_i (subst (λ x. Way new x x) k v))
-    (λ nc. ⊎_elim (λ u. none c u) (λ p. not_i (way-join new i c i p.1 p.0)) (way-past edge new i same c c nc nc v)) (cases-eq c i)
+    (λ nc. ⊎_elim (λ u. none c u) (λ p. not_i (way-join new i c i p.1 p.0)) (way-past edge new i same c c nc nc v)) (cases_eq c i)
 
 -- nobody reaches from where no edge starts
 pub no-way-from : (edge : ℕ → ℕ → Bool) (a b : ℕ) → ((b : ℕ) → edge a b ≡ false) → Way edge a b → ⊥
-no-way-from edge a b none (one e) = not_both _ e (none b)
-no-way-from edge a b none (more {c = c} e v) = not_both _ e (none c)
+no-way-from edge a b none (one e) = both_ways _ (none b) e
+no-way-from edge a b none (more {c = c} e v) = both_ways _ (none c) e
 
 -- ---- the edges of waits
 
@@ -142,14 +142,14 @@ module _ (look : Look) (a b : ℕ) (v : Wait) (not_a : (v.session == a) ≡ fals
 pub edge-from : (look : Look) (P : Wait → Type 0) (a b : ℕ) (before after : List Wait) → EachWait P after → list_any (λ (s : Spot). (s.wait.session == a) && holds_up look s b) (spots_from before after) ≡ true → (v : Wait) × P v × (v.session ≡ a)
 edge-from look P a b before [] p e = cc
 edge-from look P a b before (w ∷ after) p e =
-    elim (either_true ((w.session == a) && holds_up look (record { before = before; wait = w; after = after }) b) _ e) [
-      | inl h ↦ (w, p.0, eqb-true w.session a (both_true (w.session == a) _ h).0)
+    elim (or_cases ((w.session == a) && holds_up look (record { before = before; wait = w; after = after }) b) _ e) [
+      | inl h ↦ (w, p.0, eqb-true w.session a (and_parts (w.session == a) _ h).0)
       | inr h ↦ edge-from look P a b (before ++ w ∷ []) after p.1 h
     ]
 
 pub no-edge-from : (look : Look) (i b : ℕ) (ws : List Wait) → EachWait (λ v. v.session ≢ i) ws → waits_for look ws i b ≡ false
 no-edge-from look i b ws not_i =
-    ⊎_elim (λ h. let x = edge-from look (λ v. v.session ≢ i) i b [] ws not_i h in absurd (x.1 x.2)) (λ h. h) (known (waits_for look ws i b))
+    ⊎_elim (λ h. let x = edge-from look (λ v. v.session ≢ i) i b [] ws not_i h in absurd (x.1 x.2)) (λ h. h) (cases_Bool (waits_for look ws i b))
 
 -- look-ups that differ at i alone give the same edges between others
 module _ (old new : Look) (i a b : ℕ) (off : (c : ℕ) (r : Resource) → c ≢ i → new c r ≡ old c r) (nb : b ≢ i) where

@@ -1,10 +1,10 @@
 -- The search for a ring: where nothing is left to pass, each session that waits and can be reached is reached.
 use Rattle.std.proofs.Common.{◌≡◌, ◌≢◌, refl, sym, ap, ◌∙◌, subst, ℕ, zero, suc, ◌<◌, Bool, true, false, List, [], ◌∷◌, length, set, replicate, ⊎_elim, arith}
 use Rattle.std.proofs.lemmas.List.{length-replicate}
+use Rattle.std.proofs.lemmas.Bool.{both_ways, cases_eq}
 use Rattle.lock_queues.specs.Locks.{Wait, Look, waits_for, waits_now}
 use Rattle.lock_queues.specs.Search.{Marks, marks, AllPassed, IsOpen}
 use Rattle.lock_queues.specs.Sound.{Way, one, more}
-use Rattle.lock_queues.proofs.Basics.{cases-eq, not_both}
 use Rattle.lock_queues.proofs.Spots.{edge-waits}
 
 -- ---- flags
@@ -57,17 +57,17 @@ module _ (look : Look) (waits : List Wait) (i : ℕ) where
 
   pub searched-first : (n : ℕ) (reached : ℕ → Bool) → i < n → Marks look waits i (marks (replicate n false)) reached → Searched edge waits i reached (marks (set (replicate n false) i true))
   searched-first n reached lt m = record {
-    sound = λ b e. ⊎_elim (λ h. absurd (not_both _ h (marks-blank n b))) one (m.sound b e);
+    sound = λ b e. ⊎_elim (λ h. absurd (both_ways _ (marks-blank n b) h)) one (m.sound b e);
     started = marks-set (replicate n false) i (subst (λ k. i < k) (sym (length-replicate n false)) lt);
-    closed = λ a e b now f. ⊎_elim (λ same. m.marked b now (subst (λ x. edge x b ≡ true) same f)) (λ ne. absurd (not_both _ e (marks-other (replicate n false) i a ne ∙ marks-blank n a))) (cases-eq a i);
+    closed = λ a e b now f. ⊎_elim (λ same. m.marked b now (subst (λ x. edge x b ≡ true) same f)) (λ ne. absurd (both_ways _ (marks-other (replicate n false) i a ne ∙ marks-blank n a) e)) (cases_eq a i);
   }
 
   pub searched-more : (flags : List Bool) (c : ℕ) (reached new : ℕ → Bool) → c < length flags → Searched edge waits i reached (marks flags) → IsOpen reached (marks flags) c → Marks look waits c reached new
       → Searched edge waits i new (marks (set flags c true))
   searched-more flags c reached new lt s next m = record {
     sound = λ b e. ⊎_elim (s.sound b) (way-on edge i c b (s.sound c next.is_reached)) (m.sound b e);
-    started = ⊎_elim (λ e. subst (λ x. marks (set flags c true) x ≡ true) (sym e) (marks-set flags c lt)) (λ ne. marks-other flags c i ne ∙ s.started) (cases-eq i c);
-    closed = λ a e b now f. ⊎_elim (λ same. m.marked b now (subst (λ x. edge x b ≡ true) same f)) (λ ne. m.kept b (s.closed a (sym (marks-other flags c a ne) ∙ e) b now f)) (cases-eq a c);
+    started = ⊎_elim (λ e. subst (λ x. marks (set flags c true) x ≡ true) (sym e) (marks-set flags c lt)) (λ ne. marks-other flags c i ne ∙ s.started) (cases_eq i c);
+    closed = λ a e b now f. ⊎_elim (λ same. m.marked b now (subst (λ x. edge x b ≡ true) same f)) (λ ne. m.kept b (s.closed a (sym (marks-other flags c a ne) ∙ e) b now f)) (cases_eq a c);
   }
 
   reaches : (reached passed : ℕ → Bool) → Searched edge waits i reached passed → AllPassed waits reached passed → (a b : ℕ) → passed a ≡ true → waits_now waits b ≡ true → Way edge a b → reached b ≡ true

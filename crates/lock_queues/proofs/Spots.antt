@@ -1,9 +1,9 @@
 -- The waits of a list, each with those before it and after it.
 use Rattle.std.proofs.Common.{◌≡◌, refl, sym, ◌∙◌, subst, ℕ, ◌<◌, Bool, true, ◌&&◌, ◌==◌, List, [], ◌∷◌, ◌++◌, length, ⊎_elim, arith, append_assoc, append-nil, length-append}
 use Rattle.std.specs.List.{list_any}
+use Rattle.std.proofs.lemmas.Bool.{and_parts, or_cases, or_left, or_right}
 use Rattle.lock_queues.specs.Locks.{Wait, Spot, Look, spots_from, spots, holds_up, waits_for, waits_now}
 use Rattle.lock_queues.specs.Rules.{IsSpot}
-use Rattle.lock_queues.proofs.Basics.{both_true, either_true, or_true_left, or_true_right}
 use Rattle.lock_queues.proofs.Ahead.{any-append}
 
 -- what passes at some spot
@@ -12,13 +12,13 @@ any-spot f before [] e = cc
 any-spot f before (w ∷ after) e =
     ⊎_elim (λ h. (record { before = before; wait = w; after = after }, (refl, h)))
     (λ h. let r = any-spot f (before ++ w ∷ []) after h in (r.0, (r.1.0 ∙ append_assoc before (w ∷ []) after, r.1.1)))
-    (either_true (f (record { before = before; wait = w; after = after })) _ e)
+    (or_cases (f (record { before = before; wait = w; after = after })) _ e)
 
 -- and what passes at one passes at some
 pub spot-any : (f : Spot → Bool) (before mid : List Wait) (w : Wait) (after : List Wait) → f (record { before = before ++ mid; wait = w; after = after }) ≡ true → list_any f (spots_from before (mid ++ w ∷ after)) ≡ true
-spot-any f before [] w after e = or_true_left _ _ (subst (λ b. f (record { before = b; wait = w; after = after }) ≡ true) (append-nil before) e)
+spot-any f before [] w after e = or_left _ _ (subst (λ b. f (record { before = b; wait = w; after = after }) ≡ true) (append-nil before) e)
 spot-any f before (v ∷ mid) w after e =
-    or_true_right (f (record { before = before; wait = v; after = mid ++ w ∷ after })) _
+    or_right (f (record { before = before; wait = v; after = mid ++ w ∷ after })) _
     (spot-any f (before ++ v ∷ []) mid w after (subst (λ b. f (record { before = b; wait = w; after = after }) ≡ true) (sym (append_assoc before (v ∷ []) mid)) e))
 
 pub passes-at : (f : Spot → Bool) (waits : List Wait) (s : Spot) → IsSpot waits s → f s ≡ true → list_any f (spots waits) ≡ true
@@ -48,6 +48,6 @@ pub edge-waits : (look : Look) (waits : List Wait) (a b : ℕ) → waits_for loo
 edge-waits look waits a b e =
     let r = any-spot (λ (s : Spot). (s.wait.session == a) && holds_up look s b) [] waits e in
     let s : Spot = r.0 in
-    let here = both_true (s.wait.session == a) _ r.1.1 in
+    let here = and_parts (s.wait.session == a) _ r.1.1 in
     subst (λ ws. waits_now ws a ≡ true) r.1.0
-    (any-append (λ (w : Wait). w.session == a) s.before (s.wait ∷ s.after) ∙ or_true_right (waits_now s.before a) _ (or_true_left _ _ here.0))
+    (any-append (λ (w : Wait). w.session == a) s.before (s.wait ∷ s.after) ∙ or_right (waits_now s.before a) _ (or_left _ _ here.0))

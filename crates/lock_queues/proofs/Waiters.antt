@@ -1,10 +1,10 @@
 -- Where nothing is ripe and there is no ring, each session that waits reaches one that does not.
 use Rattle.std.proofs.Common.{◌≡◌, ◌≢◌, refl, sym, ap, ◌∙◌, subst, ℕ, zero, suc, ◌+◌, ◌<◌, ◌≤◌, Bool, true, false, cond, not, ◌&&◌, ◌||◌, ◌==◌, List, [], ◌∷◌, ◌++◌, filter, Some, None, ◌⊎◌, inl, inr, ⊎_elim, arith, append_assoc, eqb-true, eq-eqb}
 use Rattle.std.specs.List.{list_any}
+use Rattle.std.proofs.lemmas.Bool.{and_from, both_ways, cases_Bool, or_cases, or_left, or_right}
 use Rattle.lock_queues.specs.Locks.{Wait, Spot, Look, fits, fits_with, all_below, wanted_by, converts, ahead, is_empty, is_ripe, first_ripe, next_grant, spots_from, holds_up, waits_for, waits_now, way_below}
 use Rattle.lock_modes.specs.Resource.{same_resource}
 use Rattle.lock_queues.specs.Sound.{Way, one, more, NoRing, EachWait, Distinct}
-use Rattle.lock_queues.proofs.Basics.{and_true, either_true, or_true_left, or_true_right, not_both, known}
 use Rattle.lock_queues.proofs.Rings.{way-found, way-meets, edge-found}
 use Rattle.lock_queues.proofs.Keeping.{Not, wait-append}
 
@@ -26,7 +26,7 @@ distinct-without (u ∷ us) v vs d =
 
 all_below-false : (n : ℕ) (f : ℕ → Bool) → all_below n f ≡ false → (c : ℕ) × (f c ≡ false)
 all_below-false zero f e = cc
-all_below-false (suc n) f e = ⊎_elim (λ h. all_below-false n f (sym (ap (λ b. b && all_below n f) h) ∙ e)) (λ h. (n, h)) (known (f n))
+all_below-false (suc n) f e = ⊎_elim (λ h. all_below-false n f (sym (ap (λ b. b && all_below n f) h) ∙ e)) (λ h. (n, h)) (cases_Bool (f n))
 
 neither : (a b : Bool) → (a || b) ≡ false → (a ≡ false) × (b ≡ false)
 neither true b e = cc
@@ -36,7 +36,7 @@ not_of : (a : Bool) → a ≡ false → not a ≡ true
 not_of a e = ap not e
 
 apart-eq : (a b : ℕ) → a ≢ b → (a == b) ≡ false
-apart-eq a b ne = ⊎_elim (λ h. absurd (ne (eqb-true a b h))) (λ h. h) (known (a == b))
+apart-eq a b ne = ⊎_elim (λ h. absurd (ne (eqb-true a b h))) (λ h. h) (cases_Bool (a == b))
 
 filter-each : (P : Wait → Type 0) (p : Wait → Bool) (ws : List Wait) → EachWait P ws → EachWait P (filter p ws)
 filter-each P p [] e = tt
@@ -56,23 +56,23 @@ ahead-each look P s p q =
 
 first-of : (P : Wait → Type 0) (ws : List Wait) → EachWait P ws → is_empty ws ≡ false → (b : ℕ) × (v : Wait) × P v × (v.session ≡ b) × (list_any (λ w. w.session == b) ws ≡ true)
 first-of P [] p e = cc
-first-of P (w ∷ ws) p e = (w.session, w, p.0, refl, or_true_left _ _ (eq-eqb w.session w.session refl))
+first-of P (w ∷ ws) p e = (w.session, w, p.0, refl, or_left _ _ (eq-eqb w.session w.session refl))
 
 -- a wait that is not ripe is held up
 held-up : (n : ℕ) (look : Look) (s : Spot) → EachWait (Not s.wait.session) s.before → EachWait (Not s.wait.session) s.after → is_ripe n look s ≡ false → (b : ℕ) × (holds_up look s b ≡ true)
-held-up n look s p q e = ⊎_elim by-ahead by-mode (known (fits n look s.wait.session s.wait.resource (wanted_by look s.wait)))
+held-up n look s p q e = ⊎_elim by-ahead by-mode (cases_Bool (fits n look s.wait.session s.wait.resource (wanted_by look s.wait)))
   where
     by-mode : fits n look s.wait.session s.wait.resource (wanted_by look s.wait) ≡ false → (b : ℕ) × (holds_up look s b ≡ true)
     by-mode h =
         let x = all_below-false n (λ c. (c == s.wait.session) || fits_with (wanted_by look s.wait) (look c s.wait.resource)) h in
         let y = neither (x.0 == s.wait.session) _ x.1 in
-        (x.0, and_true _ _ (not_of _ (apart-eq s.wait.session x.0 (λ k. not_both _ (eq-eqb x.0 s.wait.session (sym k)) y.0))) (or_true_left _ _ (not_of _ y.1)))
+        (x.0, and_from _ _ (not_of _ (apart-eq s.wait.session x.0 (λ k. both_ways _ y.0 (eq-eqb x.0 s.wait.session (sym k))))) (or_left _ _ (not_of _ y.1)))
 
     by-ahead : fits n look s.wait.session s.wait.resource (wanted_by look s.wait) ≡ true → (b : ℕ) × (holds_up look s b ≡ true)
     by-ahead h =
         let k : is_empty (ahead look s) ≡ false = sym (ap (λ b. b && is_empty (ahead look s)) h) ∙ e in
         let x = first-of (Not s.wait.session) (ahead look s) (ahead-each look (Not s.wait.session) s p q) k in
-        (x.0, and_true _ _ (not_of _ (apart-eq s.wait.session x.0 (λ j. x.2 (x.3 ∙ sym j)))) (or_true_right (not (fits_with (wanted_by look s.wait) (look x.0 s.wait.resource))) _ x.4))
+        (x.0, and_from _ _ (not_of _ (apart-eq s.wait.session x.0 (λ j. x.2 (x.3 ∙ sym j)))) (or_right (not (fits_with (wanted_by look s.wait) (look x.0 s.wait.resource))) _ x.4))
 
 waits-for : (n : ℕ) (look : Look) (a : ℕ) (before after : List Wait) → Distinct (before ++ after) → first_ripe n look (spots_from before after) ≡ None → waits_now after a ≡ true
     → (b : ℕ) × (list_any (λ (s : Spot). (s.wait.session == a) && holds_up look s b) (spots_from before after) ≡ true)
@@ -80,7 +80,7 @@ waits-for n look a before [] d e h = cc
 waits-for n look a before (w ∷ after) d e h =
     let s : Spot = record { before = before; wait = w; after = after } in
     let out = distinct-without before w after d in
-    at (is_ripe n look s) refl (either_true (w.session == a) _ h) (λ k g. waits-for n look a (before ++ w ∷ []) after (subst Distinct (sym (append_assoc before (w ∷ []) after)) d) k g)
+    at (is_ripe n look s) refl (or_cases (w.session == a) _ h) (λ k g. waits-for n look a (before ++ w ∷ []) after (subst Distinct (sym (append_assoc before (w ∷ []) after)) d) k g)
   where
     s : Spot
     s = record { before = before; wait = w; after = after }
@@ -94,10 +94,10 @@ waits-for n look a before (w ∷ after) d e h =
     at true is c rec = absurd (let f : Some s ≡ None = sym (ap (λ b. cond b (Some s) (first_ripe n look (spots_from (before ++ w ∷ []) after))) is) ∙ e in cc)
     at false is (inl c) rec =
         let x = held-up n look s (wait-left (Not w.session) before after out.1) (wait-right (Not w.session) before after out.1) is in
-        (x.0, or_true_left _ _ (and_true _ _ c x.1))
+        (x.0, or_left _ _ (and_from _ _ c x.1))
     at false is (inr c) rec =
         let x = rec (sym (ap (λ b. cond b (Some s) (first_ripe n look (spots_from (before ++ w ∷ []) after))) is) ∙ e) c in
-        (x.0, or_true_right ((w.session == a) && holds_up look s x.0) _ x.1)
+        (x.0, or_right ((w.session == a) && holds_up look s x.0) _ x.1)
 
 -- ---- how many are reached
 
@@ -111,7 +111,7 @@ counted-le (suc n) f g h = let rest = counted-le n f g h in at (f n) (g n) (h n)
   where
     at : (x y : Bool) → (x ≡ true → y ≡ true) → counted n f ≤ counted n g → cond {A = ℕ} x 1 0 + counted n f ≤ cond {A = ℕ} y 1 0 + counted n g
     at true true k r = omega arith
-    at true false k r = absurd (not_both false (k refl) refl)
+    at true false k r = absurd (both_ways false refl (k refl))
     at false true k r = omega arith
     at false false k r = omega arith
 
@@ -127,7 +127,7 @@ counted-lt (suc n) f g c lt h fails passes =
   where
     at : (x y : Bool) → (x ≡ true → y ≡ true) → counted n f < counted n g → cond {A = ℕ} x 1 0 + counted n f < cond {A = ℕ} y 1 0 + counted n g
     at true true k r = omega arith
-    at true false k r = absurd (not_both false (k refl) refl)
+    at true false k r = absurd (both_ways false refl (k refl))
     at false true k r = omega arith
     at false false k r = omega arith
 
@@ -142,20 +142,20 @@ module _ (look : Look) (waits : List Wait) (n : ℕ) (distinct : Distinct waits)
     where
       at : (ws : List Wait) → EachWait (λ w. w.session < n) ws → waits_now ws a ≡ true → a < n
       at [] r e = cc
-      at (v ∷ vs) r e = ⊎_elim (λ k. subst (λ x. x < n) (eqb-true v.session a k) r.0) (λ k. at vs r.1 k) (either_true (v.session == a) _ e)
+      at (v ∷ vs) r e = ⊎_elim (λ k. subst (λ x. x < n) (eqb-true v.session a k) r.0) (λ k. at vs r.1 k) (or_cases (v.session == a) _ e)
 
   out-edge : (a : ℕ) → waits_now waits a ≡ true → (b : ℕ) × (edge a b ≡ true)
   out-edge a h = waits-for n look a [] waits distinct unripe h
 
   reaches : (fuel a : ℕ) → counted n (way_below edge n a) < fuel → waits_now waits a ≡ true → (b : ℕ) × Way edge a b × (waits_now waits b ≡ false)
   reaches zero a lt h = absurd (omega arith)
-  reaches (suc fuel) a lt h = let x = out-edge a h in at x.0 x.1 (known (waits_now waits x.0)) (λ l g. reaches fuel x.0 l g)
+  reaches (suc fuel) a lt h = let x = out-edge a h in at x.0 x.1 (cases_Bool (waits_now waits x.0)) (λ l g. reaches fuel x.0 l g)
     where
       at : (c : ℕ) → edge a c ≡ true → (waits_now waits c ≡ true) ⊎ (waits_now waits c ≡ false) → (counted n (way_below edge n c) < fuel → waits_now waits c ≡ true → (b : ℕ) × Way edge c b × (waits_now waits b ≡ false)) → (b : ℕ) × Way edge a b × (waits_now waits b ≡ false)
       at c e (inr free) rec = (c, one e, free)
       at c e (inl now) rec =
           let known' = waiter-known c now in
-          let self : way_below edge n c c ≡ false = ⊎_elim (λ k. absurd (no_ring c (way-found edge n c c k))) (λ k. k) (known (way_below edge n c c)) in
+          let self : way_below edge n c c ≡ false = ⊎_elim (λ k. absurd (no_ring c (way-found edge n c c k))) (λ k. k) (cases_Bool (way_below edge n c c)) in
           let fewer = counted-lt n (way_below edge n c) (way_below edge n a) c known' (λ b k. way-meets edge n a c b known' (edge-found edge n a c e) k) self (edge-found edge n a c e) in
           let y = rec (omega arith) now in
           (y.0, more e y.1, y.2)

@@ -4,6 +4,7 @@ use Rattle.std.specs.Cmp.{tied_then}
 use Rattle.std.specs.FinMap.Entries.{find, put, find-put}
 use Rattle.std.proofs.Common.{◌≡◌, refl, sym, ap, ◌∙◌, ℕ, Bool, true, false, cond, ◌&&◌, ◌||◌, ◌==◌, List, [], ◌∷◌, ◌++◌, Some, None, is_some, eq-eqb}
 use Rattle.std.specs.List.{list_any}
+use Rattle.std.proofs.lemmas.Bool.{and_from, or_left, or_right}
 use Rattle.version_tree.specs.Map.{same_key, same_key-true, same_key-refl, get, insert, keep, get-insert, get-keep, same_map}
 use Rattle.lock_modes.specs.Place.{Place, place_order}
 use Rattle.lock_modes.specs.Value.{value_order, value_cmp, value_total}
@@ -15,7 +16,6 @@ use Rattle.row_tables.specs.Overlay.{Tuple, Rows', Write}
 use Rattle.row_tables.specs.Layers.{session_order}
 use Rattle.statement_effects.specs.Effect.{placed, consed_write, visible}
 use Rattle.statement_effects.proofs.ListLemmas.{onto, onto-[], onto-write, Each, Each-map}
-use Rattle.statement_effects.proofs.SeenLemmas.{and_true}
 
 -- the rows so far are among some rows, and with those that are left they are all
 pub record Placing (t k : ℕ) (rows : Rows') (new left : List Tuple) (writes : List Write) (keys : List (Value × ℕ)) : Type 0 where
@@ -65,25 +65,17 @@ module _ (t k : ℕ) (rows : Rows') (new : List Tuple) (row : Tuple) (more : Lis
 
 -- ---- an insert looks at the keys of its rows
 
-or_true_left : (a b : Bool) → a ≡ true → (a || b) ≡ true
-or_true_left true b e = refl
-or_true_left false b e = cc
-
-or_true_right : (a b : Bool) → b ≡ true → (a || b) ≡ true
-or_true_right true b e = refl
-or_true_right false b e = e
-
 each-among : {A : Type 0} (R : A → A → Bool) → ((x : A) → R x x ≡ true) → (xs : List A) → Each (λ y. list_any (λ x. R x y) xs ≡ true) xs
 each-among R same [] = tt
 each-among R same (x ∷ xs) =
-    (or_true_left (R x x) _ (same x), Each-map (λ y. list_any (λ x. R x y) xs ≡ true) (λ y. list_any (λ z. R z y) (x ∷ xs) ≡ true) (λ y h. or_true_right (R x y) _ h) xs (each-among R same xs))
+    (or_left (R x x) _ (same x), Each-map (λ y. list_any (λ x. R x y) xs ≡ true) (λ y. list_any (λ z. R z y) (x ∷ xs) ≡ true) (λ y h. or_right (R x y) _ h) xs (each-among R same xs))
 
 abbrev pub insert_at : ℕ → ℕ → List Tuple → Bound
 insert_at t k new = Insert t (Some k) new
 
 pub looks-each : (t k : ℕ) (new : List Tuple) → Each (λ row. looks_at (insert_at t k new) (t, key_at k row) ≡ true) new
 looks-each t k new =
-    Each-map (λ row. list_any (λ x. at_key (Some (key_at k x)) (key_at k row)) new ≡ true) (λ row. looks_at (insert_at t k new) (t, key_at k row) ≡ true) (λ row h. and_true (t == t) _ (eq-eqb t t refl) h) new
+    Each-map (λ row. list_any (λ x. at_key (Some (key_at k x)) (key_at k row)) new ≡ true) (λ row. looks_at (insert_at t k new) (t, key_at k row) ≡ true) (λ row h. and_from (t == t) _ (eq-eqb t t refl) h) new
     (each-among (λ x row. at_key (Some (key_at k x)) (key_at k row)) (λ x. same_key-refl value_order (key_at k x)) new)
 
 -- ---- rows are placed alike in what is kept

@@ -3,6 +3,7 @@ use Rattle.std.specs.Ordering.{nat_cmp, eq_by_cmp}
 use Rattle.std.specs.Cmp.{both_ways}
 use Rattle.std.specs.FinMap.Entries.{where_key}
 use Rattle.std.proofs.Common.{◌≡◌, refl, sym, ap, ◌∙◌, subst, ℕ, Bool, true, false, cond, ◌&&◌, ◌==◌, List, [], ◌∷◌, ◌++◌, Some, None, eqb-true, eq-eqb}
+use Rattle.std.proofs.lemmas.Bool.{and_from, and_parts}
 use Rattle.version_tree.specs.Map.{same_key, same_key-true, same_key-refl, get, insert, keep, entries, empty, get-insert, get-keep, get-empty, same_map}
 use Rattle.lock_modes.specs.Place.{Place, place_order, place_cmp}
 use Rattle.lock_modes.specs.Value.{value_order}
@@ -15,24 +16,17 @@ use Rattle.statement_effects.specs.Effect.{matching, passed}
 use Rattle.statement_effects.specs.Seen.{is_named, named, in_table}
 use Rattle.statement_effects.proofs.ListLemmas.{onto, onto-passed}
 
-pub both_true : (a b : Bool) → (a && b) ≡ true → (a ≡ true) × (b ≡ true)
-both_true true b e = (refl, e)
-both_true false b e = cc
-
-pub and_true : (a b : Bool) → a ≡ true → b ≡ true → (a && b) ≡ true
-and_true a b p q = (λ i. p i && q i)
-
 -- ---- by a key
 
 pub here : (t : ℕ) (key : Value) (p : Place) → is_named t (Some key) p ≡ true → p ≡ (t, key)
 here t key p e =
-    let both = both_true (p.0 == t) _ e in
+    let both = and_parts (p.0 == t) _ e in
     let table : p.0 ≡ t = eqb-true p.0 t both.0 in
     let value : key ≡ p.1 = same_key-true value_order key p.1 both.1 in
     λ i. (table i, sym value i)
 
 pub there : (t : ℕ) (key : Value) → is_named t (Some key) (t, key) ≡ true
-there t key = and_true (t == t) _ (eq-eqb t t refl) (same_key-refl value_order key)
+there t key = and_from (t == t) _ (eq-eqb t t refl) (same_key-refl value_order key)
 
 module _ (t : ℕ) (key : Value) (rows : Rows') where
   none-kept : get rows (t, key) ≡ None → keep (is_named t (Some key)) rows ≡ empty

@@ -7,6 +7,7 @@ use Rattle.std.specs.Cmp.{IsTotalOrder, IsStrictWeakOrder, on_total, then_total}
 use Rattle.std.specs.List.{filter}
 use Rattle.std.specs.List.Sorted.{IsSortedBy, IsStableBy, ties}
 use Rattle.std.proofs.lemmas.List.Sorted.{ranks_by, sorted_far}
+use Rattle.std.proofs.lemmas.Bool.{and_parts, not-true}
 use Rattle.lock_modes.specs.Place.{Place}
 use Rattle.lock_modes.specs.Value.{value_cmp, value_total}
 use Rattle.lock_modes.specs.declared.value.Value.{Value}
@@ -16,14 +17,6 @@ use Rattle.sql_statements.specs.declared.statement.Order.TheVariants.{Rises as U
 use Rattle.sql_statements.specs.declared.statement.SortKey.{SortKey}
 use Rattle.row_tables.specs.Overlay.{Tuple}
 use Rattle.statement_effects.specs.Effect.{in_order, sort_cmp, put_in, sorted_by}
-
-both_true : (a b : Bool) → (a && b) ≡ true → (a ≡ true) × (b ≡ true)
-both_true true b e = (refl, e)
-both_true false b e = cc
-
-not_true : (a : Bool) → not a ≡ true → a ≡ false
-not_true true e = cc
-not_true false e = refl
 
 -- an entry that passes goes before others, in either order where not both pass
 swapped : {X : Type 0} (s t : Bool) (x e : X) (f : List X) → (s ≡ true → t ≡ true → ⊥) → cond s (x ∷ cond t (e ∷ f) f) (cond t (e ∷ f) f) ≡ cond t (e ∷ cond s (x ∷ f) f) (cond s (x ∷ f) f)
@@ -58,7 +51,7 @@ module _ {X : Type 0} (lt : X → X → Bool) (o : IsStrictWeakOrder lt) where
   tied x y p q = λ i. not (p i) && not (q i)
 
   untied : (x y : X) → ties lt x y ≡ true → (lt x y ≡ false) × (lt y x ≡ false)
-  untied x y e = let b = both_true (not (lt x y)) _ e in (not_true _ b.0, not_true _ b.1)
+  untied x y e = let b = and_parts (not (lt x y)) _ e in (not-true _ b.0, not-true _ b.1)
 
   -- what is less than the first ties with none
   nothing-ties : (a b : X) (ys : List X) → lt b a ≡ true → NoneBelow a ys → filter (ties lt b) ys ≡ []

@@ -5,13 +5,14 @@ use Rattle.std.specs.declared.cmp.Ordering.{Ordering}
 use Rattle.std.specs.declared.cmp.Ordering.TheVariants.{Less, Equal, Greater}
 use Rattle.std.specs.Ordering.{nat_cmp, ordering_then, ordering_index}
 use Rattle.std.specs.FinMap.{nat_cmp-IsAntisymmetric}
+use Rattle.std.proofs.lemmas.Bool.{and_parts}
 use Rattle.std.proofs.lemmas.Bool.Decides.{nat_tests}
 use Rattle.std.proofs.lemmas.Slice.Eq.{bytes_eq-Decides}
 use Rattle.std.specs.Char.{digit_char}
 use Rattle.json.specs.Print.{escape_letter, escape_byte, escape, quoted}
 use Rattle.lock_modes.specs.Resource.{both_equal}
 use Rattle.transcripts.specs.Compact.{bytes_cmp, first_written, second_written}
-use Rattle.transcripts.proofs.Tables.{all_below, both, passes, passes_both}
+use Rattle.transcripts.proofs.Tables.{all_below, passes, passes_both}
 use Rattle.transcripts.proofs.Codes.{is_apart, apart-order, then-assoc, then-equal, then-decided, first_decides, bytes_same, IsClosed}
 
 -- ---- the bytes up to the backslash, each computed
@@ -81,8 +82,8 @@ pub record Begins (x : ℕ) : Type 0 where
 begins_of : (x : ℕ) (text : List ℕ) → escape_byte x ≡ text → begins_low (first_written x) text ≡ true → Begins x
 begins_of x [] is e = cc
 begins_of x (d ∷ ds) is e =
-    let p = both (d == first_written x) _ e in
-    let q = both (nat_lt (first_written x) 93) _ p.1 in
+    let p = and_parts (d == first_written x) _ e in
+    let q = and_parts (nat_lt (first_written x) 93) _ p.1 in
     let first : d ≡ first_written x = grind (arith, nat_tests, p.0) in
     let under : first_written x < 93 = grind (arith, nat_tests, q.0) in
     record { rest = ds; is = is ∙ ap (λ b. b ∷ ds) first; no_quote = λ h. grind (arith, nat_tests, q.1, h); low = λ h. under }

@@ -1,7 +1,7 @@
 use Rattle.std.proofs.Common.{◌≡◌, ◌<◌, ◌⊎◌, ⊎_elim, length, sym, ◌∙◌, subst, arith}
+use Rattle.std.proofs.lemmas.Bool.{both_ways}
 use Rattle.lock_queues.specs.LockTable.{look_at}
 use Rattle.lock_queues.specs.Rules.{IsRipe}
-use Rattle.lock_queues.proofs.Basics.{not_both}
 use Rattle.lock_queues.proofs.Spots.{same-spot}
 use Rattle.lock_queues.proofs.queue.next_ripe.Goals as goal
 
@@ -10,4 +10,4 @@ loop-index-preserved c = λ s there below ripe.
     let at : (length s.before < c.loop-index.index) ⊎ (length s.before ≡ c.loop-index.index) = grind arith in
     ⊎_elim (λ lt. c.loop-index.invariant s there lt ripe)
     (λ e. let same : s ≡ c.at-spot.result = same-spot c.args.waits.now s c.at-spot.result there c.at-spot.ensures.there (e ∙ sym c.at-spot.ensures.place) in
-    not_both _ (c.is_ripe.ensures.1 (subst (IsRipe (look_at c.args.held.now)) same ripe)) c.if-is_ripe.false) at
+    both_ways _ c.if-is_ripe.false (c.is_ripe.ensures.1 (subst (IsRipe (look_at c.args.held.now)) same ripe))) at
