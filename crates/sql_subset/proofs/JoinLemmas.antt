@@ -1,10 +1,10 @@
 -- Chains are joined in pairs, and keep their parts.
 use Rattle.std.proofs.Common.{◌≡◌, refl, sym, ap, ◌∙◌, ℕ, zero, suc, ◌<◌, ◌≤◌, List, [], ◌∷◌, ◌++◌, length, Option, Some, None, arith, append_assoc}
 use Rattle.std.proofs.lemmas.List.{append-nil}
-use Rattle.sql_statements.specs.declared.condition.Condition.{Condition, more_of-Condition, end_of-Condition}
-use Rattle.sql_statements.specs.declared.condition.Condition.TheVariants.{Always, Compares, Not', And', Or'}
+use Rattle.sql_statements.specs.declared.condition.Condition.{Condition}
 use Rattle.sql_subset.specs.declared.joining.Joint.{Joint}
 use Rattle.sql_subset.specs.declared.joining.Joint.TheVariants.{All, Any}
+use Rattle.sql_subset.specs.Chains.{leaves, each_leaves}
 use Rattle.sql_subset.specs.Names.{maybe}
 use Rattle.sql_subset.specs.Translation.{join, paired, first_or_always, joined_in, joined}
 
@@ -33,23 +33,6 @@ joined-many (suc n) m j (a ∷ b ∷ cs) e h = let same : m ≡ n = omega arith 
 
 -- ---- the parts of a joined chain, in order, are the chain's parts
 
--- what a joint joins, through and through
-abbrev pub leaves : Joint → Condition → List Condition
-leaves All (And' _ (more_of-Condition a end_of-Condition) _ (more_of-Condition b end_of-Condition)) = leaves All a ++ leaves All b
-leaves All Always = Always ∷ []
-leaves All (Compares a c b) = Compares a c b ∷ []
-leaves All (Not' p c) = Not' p c ∷ []
-leaves All (Or' p a q b) = Or' p a q b ∷ []
-leaves Any (Or' _ (more_of-Condition a end_of-Condition) _ (more_of-Condition b end_of-Condition)) = leaves Any a ++ leaves Any b
-leaves Any Always = Always ∷ []
-leaves Any (Compares a c b) = Compares a c b ∷ []
-leaves Any (Not' p c) = Not' p c ∷ []
-leaves Any (And' p a q b) = And' p a q b ∷ []
-
-abbrev pub each_leaves : Joint → List Condition → List Condition
-each_leaves j [] = []
-each_leaves j (c ∷ cs) = leaves j c ++ each_leaves j cs
-
 leaves-join : (j : Joint) (a b : Condition) → leaves j (join j a b) ≡ leaves j a ++ leaves j b
 leaves-join All a b = refl
 leaves-join Any a b = refl
@@ -61,7 +44,7 @@ leaves-paired j (a ∷ b ∷ cs) =
     (λ i. leaves-join j a b i ++ leaves-paired j cs i)
     ∙ append_assoc (leaves j a) (leaves j b) (each_leaves j cs)
 
-paired-fewer : (j : Joint) (cs : List Condition) → length (paired j cs) ≤ length cs
+pub paired-fewer : (j : Joint) (cs : List Condition) → length (paired j cs) ≤ length cs
 paired-fewer j [] = omega arith
 paired-fewer j (a ∷ []) = omega arith
 paired-fewer j (a ∷ b ∷ cs) = omega (arith, paired-fewer j cs)
@@ -76,6 +59,6 @@ joined_in-leaves (suc n) j (a ∷ b ∷ cs) h k =
     joined_in-leaves n j (paired j (a ∷ b ∷ cs)) (omega arith) (omega (arith, paired-fewer j cs))
     ∙ leaves-paired j (a ∷ b ∷ cs)
 
--- a chain that is joined has its parts in order
+-- so a chain that is joined has its parts in order
 pub joined-leaves : (j : Joint) (cs : List Condition) → 0 < length cs → leaves j (joined j cs) ≡ each_leaves j cs
 joined-leaves j cs h = joined_in-leaves (length cs) j cs h (omega arith)

@@ -4,6 +4,7 @@ pub mod WalkLemmas
 mod Worked
 pub mod EachLemmas
 pub mod ChainLemmas
+pub mod ChainedLemmas
 pub mod ConditionLemmas
 pub mod FaultLemmas
 pub mod ReadLemmas

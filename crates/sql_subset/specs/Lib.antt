@@ -1,5 +1,6 @@
 pub mod Binding
 pub mod Bindings
+pub mod Chains
 pub mod KeyParts
 pub mod Lines
 pub mod Names

@@ -1,10 +1,30 @@
 //! Laws of binding. The functions do nothing: what they promise is the law.
 
-ghost use Rattle.std.specs.Prelude.{◌≡◌, ℕ, List};
+ghost use Rattle.std.specs.Prelude.{◌≡◌, ◌≢◌, ◌↔◌, ℕ, List, Ok, Err};
+ghost use Rattle.sql_reader.specs.Grammar.{Fault, FirstFault};
+ghost use Rattle.sql_reader.specs.Lexing.{token_list};
+ghost use Rattle.sql_reader.specs.Text.{StatementAt, IsSpelled};
+ghost use Rattle.sql_reader.specs.declared.error.SqlErrorKind.TheVariants.{NoMemory};
 ghost use Rattle.sql_subset.specs.Spec.{SpecFile};
-ghost use Rattle.sql_subset.specs.Binding.{IsFileOf};
+ghost use Rattle.sql_subset.specs.Binding.{IsFileOf, read_text};
+ghost use Rattle.sql_subset.specs.Chains.{ChainsKeepParts, ChainsAreLists, ChainsNameFirstKeys, AlternativesNameNoKey};
 
 /// A text is that of one file at most.
 pub fn one_file()
     ensures { (text : List ℕ) (a b : SpecFile) → IsFileOf text a → IsFileOf text b → a ≡ b }
+{}
+
+/// What is told of a chain of AND or of OR, as whether a row meets it, follows from the list of its parts, and so does the key that it names.
+pub fn chains_are_lists()
+    ensures kept { ChainsKeepParts }
+    ensures parts { ChainsAreLists }
+    ensures first_key { ChainsNameFirstKeys }
+    ensures no_key { AlternativesNameNoKey }
+{}
+
+/// What a block's text says is what it spells by the grammar; where it spells nothing, it has a first fault, which is never want of memory.
+pub fn blocks_are_spelled()
+    ensures spelled { (text : List ℕ) (ss : List StatementAt) → (read_text text ≡ Ok ss) ↔ IsSpelled text ss }
+    ensures refused { (text : List ℕ) (f : Fault) → (read_text text ≡ Err f) ↔ FirstFault (token_list text) f }
+    ensures memory { (text : List ℕ) (f : Fault) → FirstFault (token_list text) f → f.kind ≢ NoMemory }
 {}

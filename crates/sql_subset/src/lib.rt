@@ -4,6 +4,7 @@
 mod binding;
 mod block;
 mod blocks;
+pub mod bound;
 mod changes;
 mod conditions;
 mod declaring;
@@ -22,11 +23,12 @@ mod statements;
 mod tables;
 mod types;
 mod walking;
+pub mod written;
 
 pub use binding::bind;
 pub use block::Block;
 pub use error::{BindError, BindErrorKind};
-pub use laws::one_file;
+pub use laws::{blocks_are_spelled, chains_are_lists, one_file};
 pub use orders::Line;
 pub use spec::Spec;
 pub use sql_reader::{SqlError, SqlErrorKind, read_sql};

@@ -5,6 +5,7 @@ mod effect;
 mod entry;
 mod evaluate;
 mod insert;
+mod laws;
 mod matching;
 mod run;
 mod select;
@@ -13,4 +14,5 @@ mod update;
 mod value_ref;
 mod write;
 
+pub use laws::links_are_associative;
 pub use run::run_statement;
