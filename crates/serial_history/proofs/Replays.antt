@@ -31,11 +31,13 @@ use Rattle.machine_model.proofs.Stronger.{asks-has, held-claim, stronger-taking,
 use Rattle.machine_model.proofs.Kept.{fits-inserted, perform_by-under}
 use Rattle.serial_history.proofs.WorkTold.{TellsWork, effect-work}
 
-Replay-push : (rows : Rows') (o : Overlay) (ds : List Did) (o2 : Overlay) (d : Did) (ws : List Write) → Replay rows o ds o2 → effect d.statement (lay o2 rows) ≡ Gives d.events ws → Replay rows o (ds ++ d ∷ []) (written ws o2)
+Replay-push : (rows : Rows') (o : Overlay) (ds : List Did) (o2 : Overlay) (d : Did) (ws : List Write) → Replay rows o ds o2
+    → effect d.statement (lay o2 rows) ≡ Gives d.events ws → Replay rows o (ds ++ d ∷ []) (written ws o2)
 Replay-push rows o [] o2 d ws r e = (ws, subst (λ x. effect d.statement (lay x rows) ≡ Gives d.events ws) (sym r) e, ap (written ws) r)
 Replay-push rows o (x ∷ ds) o2 d ws r e = (r.0, r.1, Replay-push rows (written r.0 o) ds o2 d ws r.2 e)
 
-SerialRun-push : (rows : Rows') (ts : List Transaction) (last : Rows') (t : Transaction) (o : Overlay) → SerialRun rows ts last → Replay last empty t.work o → SerialRun rows (ts ++ t ∷ []) (lay o last)
+SerialRun-push : (rows : Rows') (ts : List Transaction) (last : Rows') (t : Transaction) (o : Overlay) → SerialRun rows ts last → Replay last empty t.work o
+    → SerialRun rows (ts ++ t ∷ []) (lay o last)
 SerialRun-push rows [] last t o s r = (o, subst (λ x. Replay x empty t.work o) (sym s) r, ap (lay o) s)
 SerialRun-push rows (u ∷ ts) last t o s r = (s.0, s.1, SerialRun-push (lay s.0 rows) ts last t o s.2 r)
 
@@ -63,10 +65,12 @@ abbrev AllOff : Claims → List Did → Type 0
 AllOff claims [] = Unit {0}
 AllOff claims (d ∷ ds) = ReadsOff claims d.statement × AllOff claims ds
 
-Replay-same : (claims : Claims) (a b : Rows') (o : Overlay) (ds : List Did) (o2 : Overlay) → AgreeOff claims a b → AllOff claims ds → Replay a o ds o2 → Replay b o ds o2
+Replay-same : (claims : Claims) (a b : Rows') (o : Overlay) (ds : List Did) (o2 : Overlay) → AgreeOff claims a b → AllOff claims ds → Replay a o ds o2
+    → Replay b o ds o2
 Replay-same claims a b o [] o2 h off r = r
 Replay-same claims a b o (d ∷ ds) o2 h off r =
-    let e : effect d.statement (lay o a) ≡ effect d.statement (lay o b) = effect-same d.statement _ _ (λ p x. (AgreeOff-lay claims a b o h).each p (off.0.each p x)) in
+    let e : effect d.statement (lay o a) ≡ effect d.statement (lay o b) = effect-same d.statement _ _
+    (λ p x. (AgreeOff-lay claims a b o h).each p (off.0.each p x)) in
     (r.0, sym e ∙ r.1, Replay-same claims a b (written r.0 o) ds o2 h off.1 r.2)
 
 -- ---- what is held lets the work be read again
@@ -94,37 +98,45 @@ work-did : (h : Held) (ds : List Did) (d : Did) (b : Bool) → WorkHeld h ds →
 work-did h ds d true w x = work-push h ds d w x
 work-did h ds d false w x = subst (WorkHeld h) (sym (append-nil ds)) w
 
-pub work-taking : (h : Held) (r : Resource) (m : Mode) (s : Session) → s.held ≡ h → (ds : List Did) → WorkHeld h ds → WorkHeld (Rattle.version_tree.specs.Map.insert h r (Rattle.lock_queues.specs.Locks.wanted (get h r) m)) ds
+pub work-taking : (h : Held) (r : Resource) (m : Mode) (s : Session) → s.held ≡ h → (ds : List Did) → WorkHeld h ds
+    → WorkHeld (Rattle.version_tree.specs.Map.insert h r (Rattle.lock_queues.specs.Locks.wanted (get h r) m)) ds
 work-taking h r m s e [] w = tt
 work-taking h r m s e (d ∷ ds) w = (holds-stronger h _ (stronger-taking h r m) (plan d.statement) w.0, work-taking h r m s e ds w.1)
 
 -- modes held by two sessions that fit make friends of them
-pub held-friends : (ours theirs : Held) → ((r : Resource) (m n : Mode) → get ours r ≡ Some m → get theirs r ≡ Some n → compatible m n ≡ true) → Friends (claims_of ours []) (claims_of theirs [])
+pub held-friends : (ours theirs : Held) → ((r : Resource) (m n : Mode) → get ours r ≡ Some m → get theirs r ≡ Some n → compatible m n ≡ true)
+    → Friends (claims_of ours []) (claims_of theirs [])
 held-friends ours theirs f = record { fit = λ r m n p q. f r m n (held-claim ours r m p) (held-claim theirs r n q) }
 
-held-reads-off : (ours theirs : Held) (st : Bound) → Friends (claims_of ours []) (claims_of theirs []) → HoldsAll ours (plan st) → ReadsOff (claims_of theirs []) st
+held-reads-off : (ours theirs : Held) (st : Bound) → Friends (claims_of ours []) (claims_of theirs []) → HoldsAll ours (plan st)
+    → ReadsOff (claims_of theirs []) st
 held-reads-off ours theirs st friends holds = record { each = λ p o. ⊎_elim (λ w. absurd (against p o w)) (λ f. f) (known (may_write (claims_of theirs []) p)) }
   where
     against : (p : Place) → opened (plan st) p ≡ true → may_write (claims_of theirs []) p ≡ true → ⊥
     against p o w =
         ⊎_elim
-        (λ h. let x = asks-has ours (plan st) (Table p.0) reads_table reads-up holds h in reading-table (claims_of ours []) (claims_of theirs []) friends p x.mode (claims-held ours [] (Table p.0) x.mode x.is) x.passes w)
+        (λ h. let x = asks-has ours (plan st) (Table p.0) reads_table reads-up holds h in reading-table (claims_of ours [])
+        (claims_of theirs []) friends p x.mode (claims-held ours [] (Table p.0) x.mode x.is) x.passes w)
         (λ h.
         let b = both_true (asks_on (plan st) (RowOf p.0 p.1) reads_table) _ h in
         let x = asks-has ours (plan st) (RowOf p.0 p.1) reads_table reads-up holds b.0 in
         let y = asks-has ours (plan st) (Table p.0) (λ _. true) (λ n m a t. refl) holds b.1 in
-        reading-row (claims_of ours []) (claims_of theirs []) friends p x.mode y.mode (claims-held ours [] (RowOf p.0 p.1) x.mode x.is) (claims-held ours [] (Table p.0) y.mode y.is) w)
+        reading-row (claims_of ours []) (claims_of theirs []) friends p x.mode y.mode (claims-held ours [] (RowOf p.0 p.1) x.mode x.is)
+        (claims-held ours [] (Table p.0) y.mode y.is) w)
         (either_true (asks_on (plan st) (Table p.0) reads_table) _ o)
 
 -- ---- one session, between two of its steps
 
 -- what others commit under locks that fit leaves it so
-pub repeats-other : (rows : Rows') (s : Session) (work : List Did) (o : Overlay) (theirs : Held) → ((r : Resource) (m n : Mode) → get s.held r ≡ Some m → get theirs r ≡ Some n → compatible m n ≡ true) → UnderLocks o theirs → Repeats rows s work → Repeats (lay o rows) s work
+pub repeats-other : (rows : Rows') (s : Session) (work : List Did) (o : Overlay) (theirs : Held)
+    → ((r : Resource) (m n : Mode) → get s.held r ≡ Some m → get theirs r ≡ Some n → compatible m n ≡ true) → UnderLocks o theirs → Repeats rows s work
+    → Repeats (lay o rows) s work
 repeats-other rows s work o theirs fit under x =
     let friends = held-friends s.held theirs fit in
     let agree : AgreeOff (claims_of theirs []) (lay o rows) rows = AgreeOff-laid (claims_of theirs []) o rows (record { each = under }) in
     record {
-      replay = Replay-same (claims_of theirs []) rows (lay o rows) empty work s.overlay (record { each = λ p off. sym (agree.each p off) }) (all work x.held) x.replay;
+      replay = Replay-same (claims_of theirs []) rows (lay o rows) empty work s.overlay (record { each = λ p off. sym (agree.each p off) })
+          (all work x.held) x.replay;
       held = x.held;
     }
   where
@@ -144,14 +156,28 @@ module _ (start : Rows') (Others : Rows' → Type 0) (e : Scene) (i : ℕ)
   repeats-none rows s is = record { replay = sym is; held = tt }
 
   -- a commit, a drop
-  committed : (s s2 : Session) (rows : Rows') (t : Tally) → s2.overlay ≡ empty → HeldFits e i s.held → UnderLocks s.overlay s.held → Telling s rows t → Telling s2 (lay s.overlay rows) (ended_well t)
-  committed s s2 rows t is fits under x = record { serial = SerialRun-ends start t.commits rows t.session t.work s.overlay x.serial x.own.replay; own = repeats-none (lay s.overlay rows) s2 is; others = keeps s.held s.overlay rows fits under x.others }
+  committed : (s s2 : Session) (rows : Rows') (t : Tally) → s2.overlay ≡ empty → HeldFits e i s.held → UnderLocks s.overlay s.held → Telling s rows t
+      → Telling s2 (lay s.overlay rows) (ended_well t)
+  committed s s2 rows t is fits under x =
+      record {
+        serial = SerialRun-ends start t.commits rows t.session t.work s.overlay x.serial x.own.replay;
+        own = repeats-none (lay s.overlay rows) s2 is;
+        others = keeps s.held s.overlay rows fits under x.others;
+      }
 
   let_go : (s s2 : Session) (rows : Rows') (t : Tally) → s2.overlay ≡ empty → Telling s rows t → Telling s2 rows (dropped t)
   let_go s s2 rows t is x = record { serial = x.serial; own = repeats-none rows s2 is; others = x.others }
 
   as_is : (s s2 : Session) (rows : Rows') (t : Tally) → s2.overlay ≡ s.overlay → s2.held ≡ s.held → Telling s rows t → Telling s2 rows t
-  as_is s s2 rows t o h x = record { serial = x.serial; own = record { replay = subst (Replay rows empty t.work) (sym o) x.own.replay; held = subst (λ k. WorkHeld k t.work) (sym h) x.own.held }; others = x.others }
+  as_is s s2 rows t o h x =
+      record {
+        serial = x.serial;
+        own = record {
+          replay = subst (Replay rows empty t.work) (sym o) x.own.replay;
+          held = subst (λ k. WorkHeld k t.work) (sym h) x.own.held;
+        };
+        others = x.others;
+      }
 
   worked-tells : (s : Session) (rows : Rows') (st : Bound) (f : Effect) (t : Tally) → effect st (lay s.overlay rows) ≡ f → TellsWork (is_work st) f
       → HoldsAll s.held (plan st) → Telling s rows t → OnGoes (worked s rows f) (λ s2 rows2. Telling s2 rows2 (did st f t))
@@ -167,7 +193,8 @@ module _ (start : Rows') (Others : Rows' → Type 0) (e : Scene) (i : ℕ)
       }
   worked-tells s rows st (Faults f) t is tells holds x = tt
 
-  perform_by-tells : (status : Status) (k : Kind) (s : Session) (rows : Rows') (st : Bound) (t : Tally) → HeldFits e i s.held → UnderLocks s.overlay s.held → HoldsAll s.held (plan st) → Telling s rows t → OnGoes (perform_by status k s rows st) (λ s2 rows2. Telling s2 rows2 (tally_by status k s rows st t))
+  perform_by-tells : (status : Status) (k : Kind) (s : Session) (rows : Rows') (st : Bound) (t : Tally) → HeldFits e i s.held → UnderLocks s.overlay s.held
+      → HoldsAll s.held (plan st) → Telling s rows t → OnGoes (perform_by status k s rows st) (λ s2 rows2. Telling s2 rows2 (tally_by status k s rows st t))
   perform_by-tells Outside Begins s rows st t fits under holds x = as_is s _ rows t refl refl x
   perform_by-tells InBlock Begins s rows st t fits under holds x = as_is s _ rows t refl refl x
   perform_by-tells Broken Begins s rows st t fits under holds x = tt
@@ -177,41 +204,67 @@ module _ (start : Rows') (Others : Rows' → Type 0) (e : Scene) (i : ℕ)
   perform_by-tells Outside RollsBack s rows st t fits under holds x = let_go s _ rows t refl x
   perform_by-tells InBlock RollsBack s rows st t fits under holds x = let_go s _ rows t refl x
   perform_by-tells Broken RollsBack s rows st t fits under holds x = let_go s _ rows t refl x
-  perform_by-tells Outside Works s rows st t fits under holds x = worked-tells s rows st (effect st (lay s.overlay rows)) t refl (effect-work st (lay s.overlay rows)) holds x
-  perform_by-tells InBlock Works s rows st t fits under holds x = worked-tells s rows st (effect st (lay s.overlay rows)) t refl (effect-work st (lay s.overlay rows)) holds x
+  perform_by-tells Outside Works s rows st t fits under holds x = worked-tells s rows st (effect st (lay s.overlay rows)) t refl
+      (effect-work st (lay s.overlay rows)) holds x
+  perform_by-tells InBlock Works s rows st t fits under holds x = worked-tells s rows st (effect st (lay s.overlay rows)) t refl
+      (effect-work st (lay s.overlay rows)) holds x
   perform_by-tells Broken Works s rows st t fits under holds x = tt
 
-  end-tells : (status : Status) (s : Session) (rows : Rows') (t : Tally) → HeldFits e i s.held → UnderLocks s.overlay s.held → Telling s rows t → Telling (finished_by status s rows).session (finished_by status s rows).rows (tally_end status t)
+  end-tells : (status : Status) (s : Session) (rows : Rows') (t : Tally) → HeldFits e i s.held → UnderLocks s.overlay s.held → Telling s rows t
+      → Telling (finished_by status s rows).session (finished_by status s rows).rows (tally_end status t)
   end-tells Outside s rows t fits under x = committed s _ rows t refl fits under x
   end-tells InBlock s rows t fits under x = as_is s _ rows t refl refl x
   end-tells Broken s rows t fits under x = as_is s _ rows t refl refl x
 
   taking-tells : (s : Session) (r : Resource) (m : Mode) (rows : Rows') (t : Tally) → Telling s rows t → Telling (taking s r m) rows t
-  taking-tells s r m rows t x = record { serial = x.serial; own = record { replay = x.own.replay; held = work-taking s.held r m s refl t.work x.own.held }; others = x.others }
+  taking-tells s r m rows t x =
+      record {
+        serial = x.serial;
+        own = record { replay = x.own.replay; held = work-taking s.held r m s refl t.work x.own.held };
+        others = x.others;
+      }
 
   abbrev AfterRun : Run → Tally → Type 0
   AfterRun r t = Telling r.session r.rows t
 
-  pub go-tells : (s : Session) (rows : Rows') (ts : List Task) (t : Tally) (have : List Request) → HeldFits e i s.held → UnderLocks s.overlay s.held → HoldsAll s.held have → Backed have ts → Telling s rows t → AfterRun (go e i s rows ts) (go_tally e i s rows ts t)
+  pub go-tells : (s : Session) (rows : Rows') (ts : List Task) (t : Tally) (have : List Request) → HeldFits e i s.held → UnderLocks s.overlay s.held
+      → HoldsAll s.held have → Backed have ts → Telling s rows t → AfterRun (go e i s rows ts) (go_tally e i s rows ts t)
   go-tells s rows [] t have fits under holds backed x = end-tells s.status s rows t fits under x
   go-tells s rows (Ask r m ∷ ts) t have fits under holds backed x =
-      asked (is_broken s.status) (may_have e.count e.look e.waits i (get s.held r) r m) (closes_ring e.count (look_with e i s.held) (waiting_with e i r m) i) refl
-      (λ h. go-tells (taking s r m) rows ts t (request r m ∷ have) (fits-inserted e i s.held r _ (both_true (Rattle.lock_queues.specs.Locks.fits e.count e.look i r (Rattle.lock_queues.specs.Locks.wanted (get s.held r) m)) _ h).0 fits) (under-stronger s.overlay s.held _ (stronger-taking s.held r m) under) (covers-taking s.held r m, holds-stronger s.held _ (stronger-taking s.held r m) have holds) backed (taking-tells s r m rows t x))
+      asked (is_broken s.status) (may_have e.count e.look e.waits i (get s.held r) r m)
+      (closes_ring e.count (look_with e i s.held) (waiting_with e i r m) i) refl
+      (λ h. go-tells (taking s r m) rows ts t (request r m ∷ have)
+      (fits-inserted e i s.held r _ (both_true (Rattle.lock_queues.specs.Locks.fits e.count e.look i r
+      (Rattle.lock_queues.specs.Locks.wanted (get s.held r) m)) _ h).0 fits) (under-stronger s.overlay s.held _ (stronger-taking s.held r m) under)
+      (covers-taking s.held r m, holds-stronger s.held _ (stronger-taking s.held r m) have holds) backed (taking-tells s r m rows t x))
     where
-      asked : (b h c : Bool) → may_have e.count e.look e.waits i (get s.held r) r m ≡ h → (may_have e.count e.look e.waits i (get s.held r) r m ≡ true → AfterRun (go e i (taking s r m) rows ts) (go_tally e i (taking s r m) rows ts t))
-          → AfterRun (elim b [ true ↦ stopped e (failed s rows Aborted) | false ↦ elim (answered h c) [ Granted ↦ go e i (taking s r m) rows ts | Waits ↦ held_up e i s rows r m ts | Ring ↦ stopped e (failed s rows Deadlock) ] ])
+      asked : (b h c : Bool) → may_have e.count e.look e.waits i (get s.held r) r m ≡ h
+          → (may_have e.count e.look e.waits i (get s.held r) r m ≡ true → AfterRun (go e i (taking s r m) rows ts) (go_tally e i (taking s r m) rows ts t))
+          → AfterRun (elim b [
+            | true ↦ stopped e (failed s rows Aborted)
+            | false ↦ elim (answered h c) [
+              | Granted ↦ go e i (taking s r m) rows ts
+              | Waits ↦ held_up e i s rows r m ts
+              | Ring ↦ stopped e (failed s rows Deadlock)
+            ]
+          ])
           (elim b [ true ↦ dropped t | false ↦ elim (answered h c) [ Granted ↦ go_tally e i (taking s r m) rows ts t | Waits ↦ t | Ring ↦ dropped t ] ])
       asked true h c is rec = let_go s _ rows t refl x
       asked false true c is rec = rec is
       asked false false true is rec = let_go s _ rows t refl x
       asked false false false is rec = as_is s _ rows t refl refl x
   go-tells s rows (Do st ∷ ts) t have fits under holds backed x =
-      done (perform s rows st) (perform-held (HeldFits e i) (held-fits-empty e i) s rows st fits) (perform_by-under s.status (kind st) s rows st (holds-plan s.held have (plan st) holds backed.0) under)
+      done (perform s rows st) (perform-held (HeldFits e i) (held-fits-empty e i) s rows st fits)
+      (perform_by-under s.status (kind st) s rows st (holds-plan s.held have (plan st) holds backed.0) under)
       (perform_by-tells s.status (kind st) s rows st t fits under (holds-plan s.held have (plan st) holds backed.0) x)
       (λ s2 rows2 f u y. go-tells s2 rows2 ts (tally_by s.status (kind st) s rows st t) [] f u tt backed.1 y)
     where
-      done : (d : Performed) → OnGoes d (λ s2 rows2. HeldFits e i s2.held) → OnGoes d (λ s2 rows2. UnderLocks s2.overlay s2.held) → OnGoes d (λ s2 rows2. Telling s2 rows2 (tally_by s.status (kind st) s rows st t))
-          → ((s2 : Session) (rows2 : Rows') → HeldFits e i s2.held → UnderLocks s2.overlay s2.held → Telling s2 rows2 (tally_by s.status (kind st) s rows st t) → AfterRun (go e i s2 rows2 ts) (go_tally e i s2 rows2 ts (tally_by s.status (kind st) s rows st t)))
-          → AfterRun (elim d [ Goes s2 rows2 ↦ go e i s2 rows2 ts | Fails f ↦ stopped e (failed s rows f) ]) (elim d [ Goes s2 rows2 ↦ go_tally e i s2 rows2 ts (tally_by s.status (kind st) s rows st t) | Fails f ↦ dropped t ])
+      done : (d : Performed) → OnGoes d (λ s2 rows2. HeldFits e i s2.held) → OnGoes d (λ s2 rows2. UnderLocks s2.overlay s2.held)
+          → OnGoes d (λ s2 rows2. Telling s2 rows2 (tally_by s.status (kind st) s rows st t))
+          → ((s2 : Session) (rows2 : Rows') → HeldFits e i s2.held → UnderLocks s2.overlay s2.held
+          → Telling s2 rows2 (tally_by s.status (kind st) s rows st t)
+          → AfterRun (go e i s2 rows2 ts) (go_tally e i s2 rows2 ts (tally_by s.status (kind st) s rows st t)))
+          → AfterRun (elim d [ Goes s2 rows2 ↦ go e i s2 rows2 ts | Fails f ↦ stopped e (failed s rows f) ])
+          (elim d [ Goes s2 rows2 ↦ go_tally e i s2 rows2 ts (tally_by s.status (kind st) s rows st t) | Fails f ↦ dropped t ])
       done (Goes s2 rows2) f u y rec = rec s2 rows2 f u y
       done (Fails fault) f u y rec = let_go s _ rows t refl x

@@ -90,8 +90,7 @@ module _ (from : Reading) (i : ℕ) (before : List Transaction) where
         reads = ended-reads false s.status s2.status t.work t.ended x.tells ∙ e ∙ read-more from (reading s t) s.transcript es x.reads
             ∙ ap (read from) (sym told);
         tells = tt;
-        owns = x.owns
-            ∙ sym (committed_in-append t.ended (ended_with false t.work) ∙ ap (λ d. committed_in t.ended ++ d) (dropped-work t.work)
+        owns = x.owns ∙ sym (committed_in-append t.ended (ended_with false t.work) ∙ ap (λ d. committed_in t.ended ++ d) (dropped-work t.work)
             ∙ append-nil (committed_in t.ended));
         others = x.others;
       }
@@ -174,8 +173,11 @@ module _ (from : Reading) (i : ℕ) (before : List Transaction) where
       asked : (b h c : Bool) → AfterRun (go e i (taking s r m) rows ts) (go_tally e i (taking s r m) rows ts t)
           → AfterRun (elim b [
             | true ↦ stopped e (failed s rows Aborted)
-            | false ↦ elim
-                (answered h c) [ Granted ↦ go e i (taking s r m) rows ts | Waits ↦ held_up e i s rows r m ts | Ring ↦ stopped e (failed s rows Deadlock) ]
+            | false ↦ elim (answered h c) [
+              | Granted ↦ go e i (taking s r m) rows ts
+              | Waits ↦ held_up e i s rows r m ts
+              | Ring ↦ stopped e (failed s rows Deadlock)
+            ]
           ])
           (elim b [ true ↦ dropped t | false ↦ elim (answered h c) [ Granted ↦ go_tally e i (taking s r m) rows ts t | Waits ↦ t | Ring ↦ dropped t ] ])
       asked true h c rec = failed-faithful e s rows Aborted t x
@@ -209,12 +211,10 @@ goes-shown from w h i s ts lt is e x =
           (get_or-set_other h.ended i c its.ended [] ne j)) ∙ x.reads c
           ∙ ap (λ (y : Session). read (from c) y.transcript) (sym (session-other w i c gone ne)))
           (cases-eq c i);
-      tells = λ c. ⊎_elim
-          (λ k. subst (λ d. AllTell (get_or (set h.works i its.work) d [])) (sym k) (subst AllTell (sym work-here) f.tells))
+      tells = λ c. ⊎_elim (λ k. subst (λ d. AllTell (get_or (set h.works i its.work) d [])) (sym k) (subst AllTell (sym work-here) f.tells))
           (λ ne. subst AllTell (sym (get_or-set_other h.works i c its.work [] ne)) (x.tells c))
           (cases-eq c i);
-      owns = λ c. ⊎_elim
-          (λ k. subst (λ d. commits_of d its.commits ≡ committed_in (get_or (set h.ended i its.ended) d [])) (sym k)
+      owns = λ c. ⊎_elim (λ k. subst (λ d. commits_of d its.commits ≡ committed_in (get_or (set h.ended i its.ended) d [])) (sym k)
           (f.owns ∙ ap committed_in (sym ended-here)))
           (λ ne. f.others c ne ∙ x.owns c ∙ ap committed_in (sym (get_or-set_other h.ended i c its.ended [] ne)))
           (cases-eq c i);

@@ -36,22 +36,31 @@ finished-clear Broken s rows is out = absurd (let e : is_outside Broken ≡ true
 solo-clear : (s : Session) (rows : Rows') (ts : List Task) → ClearOutside (solo s rows ts).session
 solo-clear s rows [] = finished-clear s.status s rows refl
 solo-clear s rows (Ask r m ∷ ts) =
-    elim (is_broken s.status) as (λ b. ClearOutside (let x : Stop = elim b [ true ↦ failed s rows Aborted | false ↦ solo (taking s r m) rows ts ] in x.session)) [ true ↦ λ out. refl | false ↦ solo-clear (taking s r m) rows ts ]
+    elim (is_broken s.status) as (λ b. ClearOutside (let x : Stop = elim b [
+      | true ↦ failed s rows Aborted
+      | false ↦ solo (taking s r m) rows ts
+    ] in x.session)) [ true ↦ λ out. refl | false ↦ solo-clear (taking s r m) rows ts ]
 solo-clear s rows (Do st ∷ ts) = done (perform s rows st) (λ s2 rows2. solo-clear s2 rows2 ts)
   where
-    done : (d : Performed) → ((s2 : Session) (rows2 : Rows') → ClearOutside (solo s2 rows2 ts).session) → ClearOutside (let x : Stop = elim d [ Goes s2 rows2 ↦ solo s2 rows2 ts | Fails f ↦ failed s rows f ] in x.session)
+    done : (d : Performed) → ((s2 : Session) (rows2 : Rows') → ClearOutside (solo s2 rows2 ts).session)
+        → ClearOutside (let x : Stop = elim d [ Goes s2 rows2 ↦ solo s2 rows2 ts | Fails f ↦ failed s rows f ] in x.session)
     done (Goes s2 rows2) rec = rec s2 rows2
     done (Fails f) rec = λ out. refl
 
 -- ---- main setups
 
-alone-clear : (control n : ℕ) (w : World) (block : List Bound) → control < n → IsAlone control n w → ClearOutside (session_at (after_setup w control block) control)
+alone-clear : (control n : ℕ) (w : World) (block : List Bound) → control < n → IsAlone control n w
+    → ClearOutside (session_at (after_setup w control block) control)
 alone-clear control n w block lt a =
     let s = session_at w control in
-    let free = all-free (scene_of w) control (λ c r ne. ap (λ (x : Session). get x.held r) (a.others c ne) ∙ get-empty resource_order Mode r) a.idle (tasks_of block) in
-    let gone : go (scene_of w) control s w.rows (tasks_of block) ≡ stopped (scene_of w) (solo s w.rows (tasks_of block)) = go-solo (scene_of w) control s w.rows (tasks_of block) free (together-fits w a.steady.together control) in
+    let free = all-free (scene_of w) control (λ c r ne. ap (λ (x : Session). get x.held r) (a.others c ne) ∙ get-empty resource_order Mode r) a.idle
+    (tasks_of block) in
+    let gone : go (scene_of w) control s w.rows (tasks_of block)
+    ≡ stopped (scene_of w) (solo s w.rows (tasks_of block)) = go-solo (scene_of w) control s w.rows (tasks_of block) free
+    (together-fits w a.steady.together control) in
     let there : session_at (after_setup w control block) control ≡ (solo s w.rows (tasks_of block)).session =
-    session-there w control (go (scene_of w) control s w.rows (tasks_of block)) (subst (λ k. control < k) (sym a.count) lt) ∙ ap (λ (r : Run). r.session) gone in
+    session-there w control (go (scene_of w) control s w.rows (tasks_of block)) (subst (λ k. control < k) (sym a.count) lt)
+    ∙ ap (λ (r : Run). r.session) gone in
     subst ClearOutside (sym there) (solo-clear s w.rows (tasks_of block))
 
 no-or : (a b : Bool) → (a || not b) ≡ false → b ≡ true
@@ -64,11 +73,18 @@ record SetUp (control n : ℕ) (w : World) : Type 0 where
   clear : (session_at w control).overlay ≡ empty
   blank : (session_at w control).transcript ≡ []
 
-main-set-up : (control n k : ℕ) (w : World) (blocks : List (List Bound)) → control < n → SetUp control n w → OnStarted (main_setups control k w blocks) (SetUp control n)
+main-set-up : (control n k : ℕ) (w : World) (blocks : List (List Bound)) → control < n → SetUp control n w
+    → OnStarted (main_setups control k w blocks) (SetUp control n)
 main-set-up control n k w [] lt a = a
 main-set-up control n k w (block ∷ blocks) lt a =
     at (has_failed (session_at w2 control) || not (is_outside (session_at w2 control).status)) refl
-    (λ clear. main-set-up control n (suc k) (forgotten w2 control) blocks lt (record { alone = alone-forgets control n w2 (alone-goes control n w block lt a.alone); clear = clear; blank = ap (λ (x : Session). x.transcript) (get_or-set_same w2.sessions control (record (session_at w2 control) { transcript = [] }) fresh here) }))
+    (λ clear. main-set-up control n (suc k) (forgotten w2 control) blocks lt
+    (record {
+      alone = alone-forgets control n w2 (alone-goes control n w block lt a.alone);
+      clear = clear;
+      blank = ap (λ (x : Session). x.transcript)
+          (get_or-set_same w2.sessions control (record (session_at w2 control) { transcript = [] }) fresh here);
+    }))
   where
     w2 : World
     w2 = after_setup w control block
@@ -76,14 +92,23 @@ main-set-up control n k w (block ∷ blocks) lt a =
     here : control < length w2.sessions
     here = subst (λ m. control < m) (sym (alone-goes control n w block lt a.alone).count) lt
 
-    at : (b : Bool) → (has_failed (session_at w2 control) || not (is_outside (session_at w2 control).status)) ≡ b → ((session_at (forgotten w2 control) control).overlay ≡ empty → OnStarted (main_setups control (suc k) (forgotten w2 control) blocks) (SetUp control n))
+    at : (b : Bool) → (has_failed (session_at w2 control) || not (is_outside (session_at w2 control).status)) ≡ b
+        → ((session_at (forgotten w2 control) control).overlay ≡ empty
+        → OnStarted (main_setups control (suc k) (forgotten w2 control) blocks) (SetUp control n))
         → OnStarted (elim b [ true ↦ SetupFailed k | false ↦ main_setups control (suc k) (forgotten w2 control) blocks ]) (SetUp control n)
     at true is rec = tt
-    at false is rec = rec (ap (λ (x : Session). x.overlay) (get_or-set_same w2.sessions control (record (session_at w2 control) { transcript = [] }) fresh here) ∙ alone-clear control n w block lt a.alone (no-or (has_failed (session_at w2 control)) (is_outside (session_at w2 control).status) is))
+    at false is rec = rec (ap (λ (x : Session). x.overlay) (get_or-set_same w2.sessions control
+        (record (session_at w2 control) { transcript = [] }) fresh here)
+        ∙ alone-clear control n w block lt a.alone (no-or (has_failed (session_at w2 control)) (is_outside (session_at w2 control).status) is))
 
 set-up-is : (spec : Spec) → OnStarted (set_up spec) (SetUp spec.sessions (suc spec.sessions))
 set-up-is spec = main-set-up spec.sessions (suc spec.sessions) 0 (first_world spec.sessions) spec.setups (omega arith) (record {
-  alone = record { steady = first-steady spec.sessions; idle = refl; others = λ c ne. get_or-replicate (suc spec.sessions) c fresh; count = length_replicate (suc spec.sessions) fresh };
+  alone = record {
+    steady = first-steady spec.sessions;
+    idle = refl;
+    others = λ c ne. get_or-replicate (suc spec.sessions) c fresh;
+    count = length_replicate (suc spec.sessions) fresh;
+  };
   clear = ap (λ (s : Session). s.overlay) (get_or-replicate (suc spec.sessions) spec.sessions fresh);
   blank = ap (λ (s : Session). s.transcript) (get_or-replicate (suc spec.sessions) spec.sessions fresh);
 })
@@ -101,17 +126,32 @@ told-first n control w a =
     clear : (c : ℕ) → (session_at w c).overlay ≡ empty
     clear c = ⊎_elim (λ k. ap (λ d. (session_at w d).overlay) k ∙ a.clear) (λ ne. ap (λ (s : Session). s.overlay) (a.alone.others c ne)) (cases-eq c control)
 
-sessions-told : (first : Rows') (n i : ℕ) (w : World) (blocks : List (List Bound)) (h : History) → i + length blocks ≤ n → IsIdle n w → Told first w h → OnStarted (session_setups i w blocks) (λ v. Told first v (session_setups_told i w blocks h))
+sessions-told : (first : Rows') (n i : ℕ) (w : World) (blocks : List (List Bound)) (h : History) → i + length blocks ≤ n → IsIdle n w → Told first w h
+    → OnStarted (session_setups i w blocks) (λ v. Told first v (session_setups_told i w blocks h))
 sessions-told first n i w [] h le a told = told
 sessions-told first n i w (block ∷ blocks) h le a told =
     at (has_failed (session_at (after_setup w i block) i)) (waits_now (after_setup w i block).waits i) refl
-    (λ still. sessions-told first n (suc i) (forgotten (after_setup w i block) i) blocks (goes_told w i (session_at w i) (tasks_of block) h) (omega arith) (idle-goes n i w block (omega arith) a still)
-    (told-touched first (after_setup w i block) (goes_told w i (session_at w i) (tasks_of block) h) i (record (session_at (after_setup w i block) i) { transcript = [] }) refl refl
-    (goes-tells first w h i (session_at w i) (tasks_of block) (entering w i (session_at w i) block a.steady (subst (λ k. i < k) (sym a.count) (omega arith)) (idle-now w i a.idle) refl refl) told (told.each i))))
+    (λ still. sessions-told first n (suc i) (forgotten (after_setup w i block) i) blocks (goes_told w i (session_at w i) (tasks_of block) h) (omega arith)
+    (idle-goes n i w block (omega arith) a still)
+    (told-touched first (after_setup w i block) (goes_told w i (session_at w i) (tasks_of block) h) i
+    (record (session_at (after_setup w i block) i) { transcript = [] }) refl refl
+    (goes-tells first w h i (session_at w i) (tasks_of block)
+    (entering w i (session_at w i) block a.steady (subst (λ k. i < k) (sym a.count) (omega arith)) (idle-now w i a.idle) refl refl) told
+    (told.each i))))
   where
     at : (b c : Bool) → waits_now (after_setup w i block).waits i ≡ c
-        → (waits_now (after_setup w i block).waits i ≡ false → OnStarted (session_setups (suc i) (forgotten (after_setup w i block) i) blocks) (λ v. Told first v (session_setups_told (suc i) (forgotten (after_setup w i block) i) blocks (goes_told w i (session_at w i) (tasks_of block) h))))
-        → OnStarted (elim b [ true ↦ SessionSetupFailed i | false ↦ elim c [ true ↦ SessionSetupWaits i | false ↦ session_setups (suc i) (forgotten (after_setup w i block) i) blocks ] ]) (λ v. Told first v (session_setups_told (suc i) (forgotten (after_setup w i block) i) blocks (goes_told w i (session_at w i) (tasks_of block) h)))
+        → (waits_now (after_setup w i block).waits i ≡ false → OnStarted (session_setups (suc i) (forgotten (after_setup w i block) i) blocks)
+        (λ v. Told first v (session_setups_told (suc i) (forgotten (after_setup w i block) i) blocks
+        (goes_told w i (session_at w i) (tasks_of block) h))))
+        → OnStarted (elim b [
+          | true ↦ SessionSetupFailed i
+          | false ↦ elim c [
+            | true ↦ SessionSetupWaits i
+            | false ↦ session_setups (suc i) (forgotten (after_setup w i block) i) blocks
+          ]
+        ])
+        (λ v. Told first v (session_setups_told (suc i) (forgotten (after_setup w i block) i) blocks
+        (goes_told w i (session_at w i) (tasks_of block) h)))
     at true c is rec = tt
     at false true is rec = tt
     at false false is rec = rec is
@@ -120,16 +160,21 @@ start-tells : (spec : Spec) → length spec.session_setups ≤ spec.sessions →
 start-tells spec le = at (set_up spec) (set-up-is spec)
   where
     at : (s : Start) → OnStarted s (SetUp spec.sessions (suc spec.sessions))
-        → OnStarted (started_then s (λ w. session_setups 0 w spec.session_setups)) (λ w. Told (elim s [ Started w ↦ w.rows | _ ↦ empty ]) w (elim s [ Started w ↦ session_setups_told 0 w spec.session_setups (no_history (suc spec.sessions)) | _ ↦ no_history 0 ]))
-    at (Started w) a = sessions-told w.rows (suc spec.sessions) 0 w spec.session_setups (no_history (suc spec.sessions)) (omega arith) (record { steady = a.alone.steady; idle = a.alone.idle; count = a.alone.count }) (told-first (suc spec.sessions) spec.sessions w a)
+        → OnStarted (started_then s (λ w. session_setups 0 w spec.session_setups))
+        (λ w. Told (elim s [ Started w ↦ w.rows | _ ↦ empty ]) w
+        (elim s [ Started w ↦ session_setups_told 0 w spec.session_setups (no_history (suc spec.sessions)) | _ ↦ no_history 0 ]))
+    at (Started w) a = sessions-told w.rows (suc spec.sessions) 0 w spec.session_setups (no_history (suc spec.sessions)) (omega arith)
+        (record { steady = a.alone.steady; idle = a.alone.idle; count = a.alone.count }) (told-first (suc spec.sessions) spec.sessions w a)
     at (SetupFailed n) a = tt
     at (SessionSetupFailed n) a = tt
     at (SessionSetupWaits n) a = tt
 
-pub spec-serial : (spec : Spec) (w : World) (ks : List ℕ) → length spec.session_setups ≤ spec.sessions → start spec ≡ Started w → ((k : ℕ) → (get_or spec.steps k no_step).session < length w.sessions)
+pub spec-serial : (spec : Spec) (w : World) (ks : List ℕ) → length spec.session_setups ≤ spec.sessions → start spec ≡ Started w
+    → ((k : ℕ) → (get_or spec.steps k no_step).session < length w.sessions)
     → Told (first_rows spec) (send_all spec.steps w ks) (send_all_told spec.steps w ks (start_told spec))
 spec-serial spec w ks le e fit =
-    let told : Told (first_rows spec) w (start_told spec) = subst (λ s. OnStarted s (λ v. Told (first_rows spec) v (start_told spec))) e (start-tells spec le) in
+    let told : Told (first_rows spec) w (start_told spec) = subst (λ s. OnStarted s (λ v. Told (first_rows spec) v (start_told spec))) e
+    (start-tells spec le) in
     line-tells (first_rows spec) spec.steps w ks (start_told spec) (start-sound spec w le e) fit told
 
 -- ---- what the session setups show
@@ -155,14 +200,16 @@ shown-forgot w h x =
 forgot-first : (n : ℕ) (control : ℕ) (w : World) → SetUp control n w → Forgot w (no_history n)
 forgot-first n control w a =
     record {
-      blank = λ c. ⊎_elim (λ k. ap (λ d. (session_at w d).transcript) k ∙ a.blank) (λ ne. ap (λ (s : Session). s.transcript) (a.alone.others c ne)) (cases-eq c control);
+      blank = λ c. ⊎_elim (λ k. ap (λ d. (session_at w d).transcript) k ∙ a.blank) (λ ne. ap (λ (s : Session). s.transcript) (a.alone.others c ne))
+          (cases-eq c control);
       tells = λ c. subst AllTell (sym (get_or-replicate n c [])) tt;
       owns = λ c. ap committed_in (sym (get_or-replicate n c []));
       count_works = length_replicate n [] ∙ sym a.alone.count;
       count_ended = length_replicate n [] ∙ sym a.alone.count;
     }
 
-forgot-goes : (w : World) (i : ℕ) (block : List Bound) (h : History) → i < length w.sessions → Forgot w h → Forgot (forgotten (after_setup w i block) i) (goes_told w i (session_at w i) (tasks_of block) h)
+forgot-goes : (w : World) (i : ℕ) (block : List Bound) (h : History) → i < length w.sessions → Forgot w h
+    → Forgot (forgotten (after_setup w i block) i) (goes_told w i (session_at w i) (tasks_of block) h)
 forgot-goes w i block h lt x =
     let w2 : World = after_setup w i block in
     let s2 : Session = record (session_at w2 i) { transcript = [] } in
@@ -170,9 +217,11 @@ forgot-goes w i block h lt x =
     let y : Shown (reading_in w h) w2 (goes_told w i (session_at w i) (tasks_of block) h) =
     goes-shown (reading_in w h) w h i (session_at w i) (tasks_of block) lt refl refl (shown-forgot w h x) in
     record {
-      blank = λ c. ⊎_elim
-          (λ k. ap (λ d. (session_at (forgotten w2 i) d).transcript) k ∙ ap (λ (s : Session). s.transcript) (get_or-set_same w2.sessions i s2 fresh (subst (λ n. i < n) (sym (length-set w.sessions i gone.session)) lt)))
-          (λ ne. ap (λ (s : Session). s.transcript) (get_or-set_other w2.sessions i c s2 fresh ne) ∙ ap (λ (s : Session). s.transcript) (session-other w i c gone ne) ∙ x.blank c)
+      blank = λ c. ⊎_elim (λ k. ap (λ d. (session_at (forgotten w2 i) d).transcript) k
+          ∙ ap (λ (s : Session). s.transcript) (get_or-set_same w2.sessions i s2 fresh
+          (subst (λ n. i < n) (sym (length-set w.sessions i gone.session)) lt)))
+          (λ ne. ap (λ (s : Session). s.transcript) (get_or-set_other w2.sessions i c s2 fresh ne)
+          ∙ ap (λ (s : Session). s.transcript) (session-other w i c gone ne) ∙ x.blank c)
           (cases-eq c i);
       tells = y.tells;
       owns = y.owns;
@@ -180,16 +229,26 @@ forgot-goes w i block h lt x =
       count_ended = y.count_ended ∙ sym (length-set w2.sessions i s2);
     }
 
-sessions-forgot : (n i : ℕ) (w : World) (blocks : List (List Bound)) (h : History) → i + length blocks ≤ n → IsIdle n w → Forgot w h → OnStarted (session_setups i w blocks) (λ v. Forgot v (session_setups_told i w blocks h))
+sessions-forgot : (n i : ℕ) (w : World) (blocks : List (List Bound)) (h : History) → i + length blocks ≤ n → IsIdle n w → Forgot w h
+    → OnStarted (session_setups i w blocks) (λ v. Forgot v (session_setups_told i w blocks h))
 sessions-forgot n i w [] h le a x = x
 sessions-forgot n i w (block ∷ blocks) h le a x =
     at (has_failed (session_at (after_setup w i block) i)) (waits_now (after_setup w i block).waits i) refl
-    (λ still. sessions-forgot n (suc i) (forgotten (after_setup w i block) i) blocks (goes_told w i (session_at w i) (tasks_of block) h) (omega arith) (idle-goes n i w block (omega arith) a still)
+    (λ still. sessions-forgot n (suc i) (forgotten (after_setup w i block) i) blocks (goes_told w i (session_at w i) (tasks_of block) h) (omega arith)
+    (idle-goes n i w block (omega arith) a still)
     (forgot-goes w i block h (subst (λ k. i < k) (sym a.count) (omega arith)) x))
   where
     at : (b c : Bool) → waits_now (after_setup w i block).waits i ≡ c
-        → (waits_now (after_setup w i block).waits i ≡ false → OnStarted (session_setups (suc i) (forgotten (after_setup w i block) i) blocks) (λ v. Forgot v (session_setups_told (suc i) (forgotten (after_setup w i block) i) blocks (goes_told w i (session_at w i) (tasks_of block) h))))
-        → OnStarted (elim b [ true ↦ SessionSetupFailed i | false ↦ elim c [ true ↦ SessionSetupWaits i | false ↦ session_setups (suc i) (forgotten (after_setup w i block) i) blocks ] ]) (λ v. Forgot v (session_setups_told (suc i) (forgotten (after_setup w i block) i) blocks (goes_told w i (session_at w i) (tasks_of block) h)))
+        → (waits_now (after_setup w i block).waits i ≡ false → OnStarted (session_setups (suc i) (forgotten (after_setup w i block) i) blocks)
+        (λ v. Forgot v (session_setups_told (suc i) (forgotten (after_setup w i block) i) blocks (goes_told w i (session_at w i) (tasks_of block) h))))
+        → OnStarted (elim b [
+          | true ↦ SessionSetupFailed i
+          | false ↦ elim c [
+            | true ↦ SessionSetupWaits i
+            | false ↦ session_setups (suc i) (forgotten (after_setup w i block) i) blocks
+          ]
+        ])
+        (λ v. Forgot v (session_setups_told (suc i) (forgotten (after_setup w i block) i) blocks (goes_told w i (session_at w i) (tasks_of block) h)))
     at true c is rec = tt
     at false true is rec = tt
     at false false is rec = rec is
@@ -198,13 +257,16 @@ start-forgot : (spec : Spec) → length spec.session_setups ≤ spec.sessions �
 start-forgot spec le = at (set_up spec) (set-up-is spec)
   where
     at : (s : Start) → OnStarted s (SetUp spec.sessions (suc spec.sessions))
-        → OnStarted (started_then s (λ w. session_setups 0 w spec.session_setups)) (λ w. Forgot w (elim s [ Started w ↦ session_setups_told 0 w spec.session_setups (no_history (suc spec.sessions)) | _ ↦ no_history 0 ]))
-    at (Started w) a = sessions-forgot (suc spec.sessions) 0 w spec.session_setups (no_history (suc spec.sessions)) (omega arith) (record { steady = a.alone.steady; idle = a.alone.idle; count = a.alone.count }) (forgot-first (suc spec.sessions) spec.sessions w a)
+        → OnStarted (started_then s (λ w. session_setups 0 w spec.session_setups))
+        (λ w. Forgot w (elim s [ Started w ↦ session_setups_told 0 w spec.session_setups (no_history (suc spec.sessions)) | _ ↦ no_history 0 ]))
+    at (Started w) a = sessions-forgot (suc spec.sessions) 0 w spec.session_setups (no_history (suc spec.sessions)) (omega arith)
+        (record { steady = a.alone.steady; idle = a.alone.idle; count = a.alone.count }) (forgot-first (suc spec.sessions) spec.sessions w a)
     at (SetupFailed n) a = tt
     at (SessionSetupFailed n) a = tt
     at (SessionSetupWaits n) a = tt
 
-pub spec-shown : (spec : Spec) (w : World) (ks : List ℕ) → length spec.session_setups ≤ spec.sessions → start spec ≡ Started w → ((k : ℕ) → (get_or spec.steps k no_step).session < length w.sessions)
+pub spec-shown : (spec : Spec) (w : World) (ks : List ℕ) → length spec.session_setups ≤ spec.sessions → start spec ≡ Started w
+    → ((k : ℕ) → (get_or spec.steps k no_step).session < length w.sessions)
     → Shown (reading_in w (start_told spec)) (send_all spec.steps w ks) (send_all_told spec.steps w ks (start_told spec))
 spec-shown spec w ks le e fit =
     let x : Forgot w (start_told spec) = subst (λ s. OnStarted s (λ v. Forgot v (start_told spec))) e (start-forgot spec le) in
