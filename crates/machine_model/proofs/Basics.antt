@@ -1,10 +1,7 @@
 -- Lists, tests and look-ups.
 use Rattle.std.proofs.Common.{◌≡◌, ◌≢◌, refl, sym, ◌∙◌, ℕ, arith, Bool, true, false, cond, not, ◌&&◌, ◌||◌, List, [], ◌∷◌, ◌++◌, filter, ◌⊎◌, inl, inr, true≢false}
 use Rattle.std.specs.List.{list_any, list_all}
-
-abbrev pub Each : {A : Type 0} → (A → Type 0) → List A → Type 0
-Each P [] = Unit {0}
-Each P (x ∷ xs) = P x × Each P xs
+use Rattle.statement_effects.proofs.ListLemmas.{Each, Each-map}
 
 pub Each-append : {A : Type 0} (P : A → Type 0) (xs ys : List A) → Each P xs → Each P ys → Each P (xs ++ ys)
 Each-append P [] ys p q = q
@@ -17,10 +14,6 @@ Each-left P (x ∷ xs) ys p = (p.0, Each-left P xs ys p.1)
 pub Each-right : {A : Type 0} (P : A → Type 0) (xs ys : List A) → Each P (xs ++ ys) → Each P ys
 Each-right P [] ys p = p
 Each-right P (x ∷ xs) ys p = Each-right P xs ys p.1
-
-pub Each-map : {A : Type 0} (P Q : A → Type 0) → ((x : A) → P x → Q x) → (xs : List A) → Each P xs → Each Q xs
-Each-map P Q f [] p = tt
-Each-map P Q f (x ∷ xs) p = (f x p.0, Each-map P Q f xs p.1)
 
 pub both_true : (a b : Bool) → (a && b) ≡ true → (a ≡ true) × (b ≡ true)
 both_true true b e = (refl, e)

@@ -1,34 +1,29 @@
 -- What the plan of a statement says of what it reads and writes.
-use Rattle.std.proofs.Common.{◌≡◌, refl, subst, ℕ, suc, Bool, true, false, cond, ◌&&◌, ◌||◌, List, [], ◌∷◌, map, filter, Option, Some, None, is_some, ◌⊎◌, inl, inr, ⊎_elim, pos}
-use Rattle.version_tree.specs.Map.{same_key-true, same_key-refl, get, insert, keep, entries}
+use Rattle.std.proofs.Common.{◌≡◌, refl, subst, ℕ, Bool, true, false, ◌&&◌, ◌||◌, List, [], ◌∷◌, map, Some, None, ◌⊎◌, inl, inr, ⊎_elim}
+use Rattle.version_tree.specs.Map.{same_key-true, same_key-refl, entries}
 use Rattle.lock_modes.specs.Place.{Place}
 use Rattle.lock_modes.specs.Resource.{resource_order, same_resource}
 use Rattle.lock_modes.specs.Mode.{compatible}
 use Rattle.sql_statements.specs.Plan.{Tuple, Request, request, plan, opened, asks_on, reads_table, writes_in, is_exclusive, looks_at, key_at}
 use Rattle.row_tables.specs.Overlay.{Rows', Write}
-use Rattle.statement_effects.specs.Effect.{visible, Effect, Gives, Faults, effect, matching, passed, consed, sorted_by, shown, all_aggregated, all_assigned, assigned, consed_write, placed, numbered, or_fault, counted}
-use Rattle.statement_effects.specs.Evaluate.{holds}
+use Rattle.statement_effects.specs.Effect.{visible, Effect, Gives, Faults, effect, matching, all_assigned, placed, or_fault, counted}
 use Rattle.machine_model.specs.Claims.{Claims, may_write}
 use Rattle.sql_statements.specs.declared.statement.Assignment.{Assignment}
 use Rattle.sql_statements.specs.declared.condition.Condition.{Condition}
-use Rattle.transcripts.specs.declared.event.Event.{Event}
-use Rattle.transcripts.specs.declared.event.Fault.{Fault}
 use Rattle.transcripts.specs.declared.event.Fault.TheVariants.{Duplicate, OutOfRange}
 use Rattle.transcripts.specs.declared.event.Event.TheVariants.{Inserted, Updated, Deleted}
 use Rattle.lock_modes.specs.declared.value.Value.{Value}
-use Rattle.lock_modes.specs.declared.value.Value.TheVariants.{Int}
 use Rattle.lock_modes.specs.declared.mode.Mode.{Mode}
 use Rattle.lock_modes.specs.declared.mode.Mode.TheVariants.{IntentShare, IntentExclusive, Share, ShareIntent, Exclusive}
-use Rattle.sql_statements.specs.declared.statement.SortKey.{SortKey}
-use Rattle.sql_statements.specs.declared.statement.Output.{Output}
-use Rattle.sql_statements.specs.declared.statement.Output.TheVariants.{Columns, Aggregates}
 use Rattle.lock_modes.specs.declared.resource.Resource.{Resource}
 use Rattle.lock_modes.specs.declared.resource.Resource.TheVariants.{Table, Row as RowOf}
 use Rattle.sql_statements.specs.declared.statement.Bound.{Bound}
 use Rattle.sql_statements.specs.declared.statement.Bound.TheVariants.{Select, Insert, Update, Delete, Begin, Commit, Rollback, LockTable, SetVariable}
-use Rattle.machine_model.proofs.Basics.{Each, Each-map, some_passes, both_true, and_true, either_true, or_true_left, or_true_right, not_both, known}
+use Rattle.machine_model.proofs.Basics.{some_passes, both_true, and_true, either_true, or_true_left, or_true_right, not_both, known}
+use Rattle.statement_effects.proofs.ListLemmas.{Each, Each-map}
 use Rattle.machine_model.proofs.Looks.{looked-opened, writable}
-use Rattle.machine_model.proofs.Footprint.{ReadsOff, WritesUnder, OnGives}
+use Rattle.machine_model.proofs.Footprint.{ReadsOff, WritesUnder}
+use Rattle.statement_effects.proofs.WriteLemmas.{OnGives, each-kept, each-matching, each-all_assigned, each-placed, each-numbered, each-deleted, on-or_fault, on-matched, on-selected}
 
 asks_on-map : (P : Request → Type 0) (f g : Mode → Bool) → ((q : Request) → P q → f q.mode ≡ true → g q.mode ≡ true) → (qs : List Request) (r : Resource) → Each P qs → asks_on qs r f ≡ true → asks_on qs r g ≡ true
 asks_on-map P f g imp [] r each e = e
@@ -74,79 +69,6 @@ opened-writable qs p each e =
     ]
 
 -- ---- what an effect writes
-
-abbrev OnSome : {A : Type 0} → Option A → (A → Type 0) → Type 0
-OnSome None P = Unit {0}
-OnSome (Some x) P = P x
-
-each-kept : (test : Place → Bool) (rows : Rows') → Each (λ (e : Place × Tuple). test e.0 ≡ true) (entries (keep test rows))
-unfolding entries keep
-each-kept test rows = filtered rows.list
-  where
-    filtered : (es : List (Place × Tuple)) → Each (λ (e : Place × Tuple). test e.0 ≡ true) (filter (λ e. test e.0) es)
-    filtered [] = tt
-    filtered (e ∷ es) = elim (test e.0) as (λ b. test e.0 ≡ b → Each (λ (x : Place × Tuple). test x.0 ≡ true) (cond b (e ∷ filter (λ e. test e.0) es) (filter (λ e. test e.0) es))) [ true ↦ λ is. (is, filtered es) | false ↦ λ is. filtered es ] refl
-
-module _ (P : Place → Type 0) where
-  each-consed : (e : Place × Tuple) (o : Option (List (Place × Tuple))) → P e.0 → OnSome o (Each (λ (e : Place × Tuple). P e.0)) → OnSome (consed e o) (Each (λ (e : Place × Tuple). P e.0))
-  each-consed e None p h = tt
-  each-consed e (Some es) p h = (p, h)
-
-  each-passed : (e : Place × Tuple) (b : Option Bool) (o : Option (List (Place × Tuple))) → P e.0 → OnSome o (Each (λ (e : Place × Tuple). P e.0)) → OnSome (passed e b o) (Each (λ (e : Place × Tuple). P e.0))
-  each-passed e None o p h = tt
-  each-passed e (Some true) o p h = each-consed e o p h
-  each-passed e (Some false) o p h = h
-
-  each-matching : (c : Condition) (es : List (Place × Tuple)) → Each (λ (e : Place × Tuple). P e.0) es → OnSome (matching c es) (Each (λ (e : Place × Tuple). P e.0))
-  each-matching c [] h = tt
-  each-matching c (e ∷ es) h = each-passed e (holds e.1 c) (matching c es) h.0 (each-matching c es h.1)
-
-  each-consed_write : (p : Place) (r : Option Tuple) (o : Option (List Write)) → P p → OnSome o (Each (λ (w : Write). P w.place)) → OnSome (consed_write p r o) (Each (λ (w : Write). P w.place))
-  each-consed_write p None o here h = tt
-  each-consed_write p (Some row) None here h = tt
-  each-consed_write p (Some row) (Some ws) here h = (here, h)
-
-  each-all_assigned : (sets : List Assignment) (es : List (Place × Tuple)) → Each (λ (e : Place × Tuple). P e.0) es → OnSome (all_assigned sets es) (Each (λ (w : Write). P w.place))
-  each-all_assigned sets [] h = tt
-  each-all_assigned sets (e ∷ es) h = each-consed_write e.0 (assigned e.1 sets e.1) (all_assigned sets es) h.0 (each-all_assigned sets es h.1)
-
-  each-placed : (t k : ℕ) (new : List Tuple) (rows : Rows') → Each (λ row. P (t, key_at k row)) new → OnSome (placed t k new rows) (Each (λ (w : Write). P w.place))
-  each-placed t k [] rows h = tt
-  each-placed t k (row ∷ more) rows h =
-      let at : Place = (t, key_at k row) in
-      elim (is_some (get rows at)) as (λ b. OnSome (cond b None (consed_write at (Some row) (placed t k more (insert rows at row)))) (Each (λ (w : Write). P w.place))) [
-        | true ↦ tt
-        | false ↦ each-consed_write at (Some row) (placed t k more (insert rows at row)) h.0 (each-placed t k more (insert rows at row) h.1)
-      ]
-
-  each-numbered : (t n : ℕ) (new : List Tuple) → ((v : Value) → P (t, v)) → Each (λ (w : Write). P w.place) (numbered t n new)
-  each-numbered t n [] h = tt
-  each-numbered t n (row ∷ more) h = (h (Int (pos n)), each-numbered t (suc n) more h)
-
-  each-deleted : (es : List (Place × Tuple)) → Each (λ (e : Place × Tuple). P e.0) es → Each (λ (w : Write). P w.place) (map (λ (e : Place × Tuple). record { place = e.0; left = None }) es)
-  each-deleted [] h = tt
-  each-deleted (e ∷ es) h = (h.0, each-deleted es h.1)
-
-  on-or_fault : (f : Fault) (o : Option (List Write)) (event : ℕ → Event) → OnSome o (Each (λ (w : Write). P w.place)) → OnGives (or_fault f o event) (Each (λ (w : Write). P w.place))
-  on-or_fault f None event h = tt
-  on-or_fault f (Some ws) event h = h
-
-  on-matched : (o : Option (List (Place × Tuple))) (then' : List (Place × Tuple) → Effect) → ((es : List (Place × Tuple)) → Each (λ (e : Place × Tuple). P e.0) es → OnGives (then' es) (Each (λ (w : Write). P w.place))) → OnSome o (Each (λ (e : Place × Tuple). P e.0))
-      → OnGives (elim o [ None ↦ Faults OutOfRange | Some es ↦ then' es ]) (Each (λ (w : Write). P w.place))
-  on-matched None then' f h = tt
-  on-matched (Some es) then' f h = f es h
-
-  on-shown : (out : Output) (es : List (Place × Tuple)) → OnGives (shown out es) (Each (λ (w : Write). P w.place))
-  on-shown (Columns columns) es = tt
-  on-shown (Aggregates each) es = on (all_aggregated each es)
-    where
-      on : (o : Option (List Value)) → OnGives (elim o [ None ↦ Faults OutOfRange | Some vs ↦ Gives (Rattle.transcripts.specs.declared.event.Event.TheVariants.Row vs ∷ Rattle.transcripts.specs.declared.event.Event.TheVariants.Rows 1 ∷ []) [] ]) (Each (λ (w : Write). P w.place))
-      on None = tt
-      on (Some vs) = tt
-
-  on-selected : (by : List SortKey) (out : Output) (o : Option (List (Place × Tuple))) → OnGives (elim o [ None ↦ Faults OutOfRange | Some es ↦ shown out (sorted_by by es) ]) (Each (λ (w : Write). P w.place))
-  on-selected by out None = tt
-  on-selected by out (Some es) = on-shown out (sorted_by by es)
 
 asks_on-new : (t k : ℕ) (new : List Tuple) → Each (λ row. asks_on (map (λ row. request (RowOf t (key_at k row)) Exclusive) new) (RowOf t (key_at k row)) is_exclusive ≡ true) new
 asks_on-new t k [] = tt
@@ -209,7 +131,7 @@ Claimed claims qs = Each (λ q. claims q.resource q.mode ≡ true) qs
 same-resource : (r s : Resource) → same_resource r s ≡ true → r ≡ s
 same-resource r s e = same_key-true resource_order r s e
 
-exclusive-is : (m : Mode) → is_exclusive m ≡ true → m ≡ Exclusive
+pub exclusive-is : (m : Mode) → is_exclusive m ≡ true → m ≡ Exclusive
 exclusive-is IntentShare e = cc
 exclusive-is IntentExclusive e = cc
 exclusive-is Share e = cc

@@ -15,9 +15,11 @@ use Rattle.transcripts.specs.declared.event.Fault.TheVariants.{Aborted}
 use Rattle.machine_model.specs.declared.status.Status.{Status}
 use Rattle.machine_model.specs.declared.status.Status.TheVariants.{Outside, InBlock, Broken}
 use Rattle.sql_statements.specs.declared.statement.Bound.{Bound}
-use Rattle.machine_model.proofs.Basics.{Each, not_both}
+use Rattle.machine_model.proofs.Basics.{not_both}
+use Rattle.statement_effects.proofs.ListLemmas.{Each}
 use Rattle.machine_model.proofs.Looks.{looked-opened}
 use Rattle.machine_model.proofs.Solo.{OnGoes}
+use Rattle.statement_effects.proofs.WriteLemmas.{OnGives}
 
 -- ---- a statement reads what it looks at, so what its plan opens
 
@@ -142,10 +144,6 @@ solo-same claims s a b ts off h =
 
 pub record OverlayUnder (claims : Claims) (o : Overlay) : Type 0 where
   pub each : (p : Place) (x : Option Tuple) → get o p ≡ Some x → may_write claims p ≡ true
-
-abbrev pub OnGives : Effect → (List Write → Type 0) → Type 0
-OnGives (Gives events writes) P = P writes
-OnGives (Faults f) P = Unit {0}
 
 pub record WritesUnder (claims : Claims) (st : Bound) : Type 0 where
   pub each : (rows : Rows') → OnGives (effect st rows) (Each (λ w. may_write claims w.place ≡ true))

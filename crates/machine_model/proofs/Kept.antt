@@ -20,10 +20,12 @@ use Rattle.machine_model.specs.declared.status.Status.{Status}
 use Rattle.machine_model.specs.declared.status.Status.TheVariants.{Outside, InBlock, Broken}
 use Rattle.sql_statements.specs.declared.statement.Bound.{Bound}
 use Rattle.machine_model.proofs.Looks.{writable}
-use Rattle.machine_model.proofs.Basics.{Each, both_true}
+use Rattle.machine_model.proofs.Basics.{both_true}
+use Rattle.statement_effects.proofs.ListLemmas.{Each}
 use Rattle.machine_model.specs.Footprint.{HeldFits}
 use Rattle.machine_model.proofs.Solo.{OnGoes, held-fits-empty, perform-held}
-use Rattle.machine_model.proofs.Footprint.{OnGives, OverlayUnder-written}
+use Rattle.machine_model.proofs.Footprint.{OverlayUnder-written}
+use Rattle.statement_effects.proofs.WriteLemmas.{OnGives}
 use Rattle.machine_model.proofs.Effects.{effect-writable, on-gives-map}
 use Rattle.machine_model.proofs.Stronger.{stronger-taking, under-stronger, holds-stronger, covers-taking, holds-plan, writable-can, can-may}
 

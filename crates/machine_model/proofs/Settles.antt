@@ -25,6 +25,8 @@ use Rattle.machine_model.proofs.Fitting.{fits-at, together-fits}
 use Rattle.machine_model.proofs.Stronger.{stronger-taking, under-stronger, holds-stronger, covers-taking}
 use Rattle.machine_model.proofs.Kept.{fits-inserted, Pending, GoodRun, go-good}
 use Rattle.lock_modes.proofs.ModeLaws.{compatible-comm}
+use Rattle.lock_queues.proofs.Keeping.{Not, wait-append, distinct-push}
+use Rattle.lock_queues.proofs.Waiters.{distinct-without}
 
 pub wait-map : (P Q : Wait → Type 0) → ((v : Wait) → P v → Q v) → (vs : List Wait) → EachWait P vs → EachWait Q vs
 wait-map P Q f [] p = tt
@@ -33,33 +35,6 @@ wait-map P Q f (v ∷ vs) p = (f v p.0, wait-map P Q f vs p.1)
 wait-map2 : (P Q R : Wait → Type 0) → ((v : Wait) → P v → Q v → R v) → (vs : List Wait) → EachWait P vs → EachWait Q vs → EachWait R vs
 wait-map2 P Q R f [] p q = tt
 wait-map2 P Q R f (v ∷ vs) p q = (f v p.0 q.0, wait-map2 P Q R f vs p.1 q.1)
-
-wait-append : (P : Wait → Type 0) (us vs : List Wait) → EachWait P us → EachWait P vs → EachWait P (us ++ vs)
-wait-append P [] vs p q = q
-wait-append P (u ∷ us) vs p q = (p.0, wait-append P us vs p.1 q)
-
-pub wait-left : (P : Wait → Type 0) (us vs : List Wait) → EachWait P (us ++ vs) → EachWait P us
-wait-left P [] vs p = tt
-wait-left P (u ∷ us) vs p = (p.0, wait-left P us vs p.1)
-
-pub wait-right : (P : Wait → Type 0) (us vs : List Wait) → EachWait P (us ++ vs) → EachWait P vs
-wait-right P [] vs p = p
-wait-right P (u ∷ us) vs p = wait-right P us vs p.1
-
-abbrev pub Not : ℕ → Wait → Type 0
-Not i = λ (v : Wait). v.session ≢ i
-
-pub distinct-push : (ws : List Wait) (v : Wait) → Distinct ws → EachWait (Not v.session) ws → Distinct (ws ++ v ∷ [])
-distinct-push [] v d n = (tt, tt)
-distinct-push (w ∷ ws) v d n = (wait-append (Not w.session) ws (v ∷ []) d.0 ((λ e. n.0 (sym e)), tt), distinct-push ws v d.1 n.1)
-
--- the wait is taken out
-pub distinct-without : (us : List Wait) (v : Wait) (vs : List Wait) → Distinct (us ++ v ∷ vs) → Distinct (us ++ vs) × EachWait (Not v.session) (us ++ vs)
-distinct-without [] v vs d = (d.1, d.0)
-distinct-without (u ∷ us) v vs d =
-    let rest = distinct-without us v vs d.1 in
-    let right = wait-right (Not u.session) us (v ∷ vs) d.0 in
-    ((wait-append (Not u.session) us vs (wait-left (Not u.session) us (v ∷ vs) d.0) right.1, rest.0), ((λ e. right.0 (sym e)), rest.1))
 
 wait-without : (P : Wait → Type 0) (us : List Wait) (v : Wait) (vs : List Wait) → EachWait P (us ++ v ∷ vs) → EachWait P (us ++ vs) × P v
 wait-without P [] v vs p = (p.1, p.0)

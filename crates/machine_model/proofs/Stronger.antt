@@ -16,6 +16,7 @@ use Rattle.lock_modes.specs.declared.resource.Resource.{Resource}
 use Rattle.lock_modes.specs.declared.resource.Resource.TheVariants.{Table, Row as RowOf}
 use Rattle.machine_model.proofs.Looks.{writable}
 use Rattle.machine_model.proofs.Basics.{both_true, and_true, either_true, or_true_left, or_true_right}
+use Rattle.machine_model.proofs.Effects.{exclusive-is}
 use Rattle.machine_model.proofs.Claiming.{claims-held, claims-cases}
 use Rattle.lock_modes.proofs.ModeLaws.{cover-right, cover-more, at-least-refl, at-least-trans}
 use Rattle.sql_statements.proofs.PlanModes.{exclusive-up, writes-up}
@@ -47,15 +48,8 @@ may-can h p e =
     ))
     (either_true (claims_of h [] (Table p.0) Exclusive) _ e)
 
-exclusive-one : (m : Mode) → is_exclusive m ≡ true → m ≡ Exclusive
-exclusive-one IntentShare e = cc
-exclusive-one IntentExclusive e = cc
-exclusive-one Share e = cc
-exclusive-one ShareIntent e = cc
-exclusive-one Exclusive e = refl
-
 exclusive-claim : (h : Held) (r : Resource) → HasMode h r is_exclusive → claims_of h [] r Exclusive ≡ true
-exclusive-claim h r x = claims-held h [] r Exclusive (x.is ∙ ap Some (exclusive-one x.mode x.passes))
+exclusive-claim h r x = claims-held h [] r Exclusive (x.is ∙ ap Some (exclusive-is x.mode x.passes))
 
 intent-cases : (h : Held) (r : Resource) (m : Mode) → get h r ≡ Some m → writes_in m ≡ true → (claims_of h [] r Exclusive ≡ true) ⊎ ((claims_of h [] r IntentExclusive || claims_of h [] r ShareIntent) ≡ true)
 intent-cases h r IntentShare is e = cc

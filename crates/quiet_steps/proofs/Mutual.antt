@@ -9,7 +9,8 @@ use Rattle.sql_statements.specs.Plan.{Request}
 use Rattle.sql_subset.specs.Spec.{Step}
 use Rattle.machine_model.specs.World.{World}
 use Rattle.machine_model.specs.Claims.{plans}
-use Rattle.machine_model.proofs.Basics.{Each, Each-map, Each-swap, Each-list_all, list_all-Each, both_true, and_true}
+use Rattle.machine_model.proofs.Basics.{Each-swap, Each-list_all, list_all-Each, both_true, and_true}
+use Rattle.statement_effects.proofs.ListLemmas.{Each, Each-map}
 use Rattle.quiet_steps.specs.Quiet.{is_quiet, all_fit, all_fit_together, fit_together, undisturbed}
 use Rattle.lock_modes.proofs.ModeLaws.{compatible-comm}
 

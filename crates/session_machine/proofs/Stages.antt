@@ -24,9 +24,11 @@ use Rattle.session_machine.specs.Stage.{no_member, statements_of, rest_of, own_o
 use Rattle.machine_model.proofs.Basics.{cases-eq}
 use Rattle.session_machine.proofs.Steps.{tasks_from-start}
 use Rattle.session_machine.proofs.States.{length-sessions_from, next-is, same-refl, same-trans, same-taken}
-use Rattle.machine_model.proofs.Settles.{Grant, next-grant, goes-steady, granted-steady, granted-left, wait-map, wait-right}
+use Rattle.machine_model.proofs.Settles.{Grant, next-grant, goes-steady, granted-steady, granted-left, wait-map}
+use Rattle.lock_queues.proofs.Waiters.{wait-right}
 use Rattle.machine_model.proofs.SettleSteps.{next_in, settle-grant}
 use Rattle.session_machine.proofs.Worlds.{within-still, goes-is, granted-is, resumed_own, own_told, granted-to-go, not-sent, sent-enters, sent-goes, sent-to-go}
+use Rattle.session_machine.proofs.Waiting.{apart}
 
 -- ---- the sessions of a stage
 
@@ -108,13 +110,6 @@ gone-told steps i ts x told y t e lt store locks members gone =
 waits-there : (us : List Wait) (v : Wait) (vs : List Wait) → waits_now (us ++ v ∷ vs) v.session ≡ true
 waits-there [] v vs = Rattle.machine_model.proofs.Basics.or_true_left (v.session == v.session) (waits_now vs v.session) (eq-eqb v.session v.session refl)
 waits-there (u ∷ us) v vs = Rattle.machine_model.proofs.Basics.or_true_right (u.session == v.session) (waits_now (us ++ v ∷ vs) v.session) (waits-there us v vs)
-
-apart : (i c : ℕ) → c ≢ i → (i == c) ≡ false
-apart i c ne = at (i == c) refl
-  where
-    at : (b : Bool) → (i == c) ≡ b → b ≡ false
-    at true is = absurd (ne (sym (eqb-true i c is)))
-    at false is = refl
 
 -- who else waits does not hang on this wait
 waits-without : (us : List Wait) (v : Wait) (vs : List Wait) (c : ℕ) → c ≢ v.session → waits_now (us ++ vs) c ≡ waits_now (us ++ v ∷ vs) c

@@ -24,7 +24,7 @@ waits-push : (ws : List Wait) (v : Wait) (c : ℕ) → waits_now (ws ++ v ∷ []
 waits-push [] v c = or-swap (v.session == c)
 waits-push (w ∷ ws) v c = ap (λ b. (w.session == c) || b) (waits-push ws v c) ∙ or-assoc (w.session == c) (waits_now ws c) (v.session == c)
 
-apart : (i c : ℕ) → c ≢ i → (i == c) ≡ false
+pub apart : (i c : ℕ) → c ≢ i → (i == c) ≡ false
 apart i c ne = at (i == c) refl
   where
     at : (b : Bool) → (i == c) ≡ b → b ≡ false
