@@ -1,10 +1,10 @@
 -- What a request, a grant and letting go do to a sound table leaves it sound.
-use Rattle.std.proofs.Common.{◌≡◌, ◌≢◌, refl, sym, ap, ◌∙◌, subst, ℕ, zero, suc, ◌<◌, ◌≤◌, length, get_or, nat_lt, arith, Bool, true, false, cond, not, ◌||◌, ◌==◌, List, [], ◌∷◌, ◌++◌, filter, Option, Some, None, ⊎_elim, append_assoc, append-nil, eqb-true, eq-eqb}
+use Rattle.std.proofs.Common.{◌≡◌, ◌≢◌, refl, sym, ap, ◌∙◌, subst, ℕ, zero, suc, ◌<◌, ◌≤◌, length, get_or, nat_lt, arith, Bool, true, false, cond, not, ◌==◌, List, [], ◌∷◌, ◌++◌, filter, Option, Some, None, ⊎_elim, append_assoc, append-nil, eqb-true, eq-eqb}
 use Rattle.std.specs.List.{list_any, find, remove, position, position_or_len}
 use Rattle.std.proofs.lemmas.List.Quantifiers.{position-Some}
 use Rattle.std.proofs.lemmas.List.Folds.{list_any_none}
 use Rattle.std.proofs.lemmas.List.Sums.{fails_before_first}
-use Rattle.std.proofs.lemmas.Bool.{ltb-false, both_ways, cases_Bool}
+use Rattle.std.proofs.lemmas.Bool.{ltb-false, both_ways, cases_Bool, or_parts}
 use Rattle.lock_modes.specs.Mode.{compatible}
 use Rattle.lock_modes.proofs.ModeLaws.{compatible-comm}
 use Rattle.lock_modes.specs.declared.mode.Mode.{Mode}
@@ -16,30 +16,16 @@ use Rattle.lock_queues.specs.Sound.{NoRing, HeldTogether, EachWait, Distinct, ed
 use Rattle.lock_queues.specs.Rules.{MayHave, IsInRing, IsAnswer, after, IsSpot, IsRipe, IsNext}
 use Rattle.lock_queues.specs.declared.answer.Answer.{Answer}
 use Rattle.lock_queues.specs.declared.answer.Answer.TheVariants.{Granted, Waits, Ring}
+use Rattle.lock_queues.proofs.WaitLists.{Not, distinct-push}
 use Rattle.lock_queues.proofs.Spots.{same-spot}
 use Rattle.lock_queues.proofs.Rings.{no-ring-past, no-way-from, no-edge-from, edge-put, edge-off}
 
 -- ---- waits
 
-abbrev pub Not : ℕ → Wait → Type 0
-Not i = λ (v : Wait). v.session ≢ i
-
-pub wait-append : (P : Wait → Type 0) (us vs : List Wait) → EachWait P us → EachWait P vs → EachWait P (us ++ vs)
-wait-append P [] vs p q = q
-wait-append P (u ∷ us) vs p q = (p.0, wait-append P us vs p.1 q)
-
-distinct-push : (ws : List Wait) (v : Wait) → Distinct ws → EachWait (Not v.session) ws → Distinct (ws ++ v ∷ [])
-distinct-push [] v d n = (tt, tt)
-distinct-push (w ∷ ws) v d n = (wait-append (Not w.session) ws (v ∷ []) d.0 ((λ e. n.0 (sym e)), tt), distinct-push ws v d.1 n.1)
-
 -- who does not wait has no wait
 pub none-waits : (i : ℕ) (ws : List Wait) → waits_now ws i ≡ false → EachWait (Not i) ws
 none-waits i [] e = tt
-none-waits i (w ∷ ws) e = let p = neither (w.session == i) _ e in ((λ k. both_ways _ p.0 (eq-eqb w.session i k)), none-waits i ws p.1)
-  where
-    neither : (a b : Bool) → (a || b) ≡ false → (a ≡ false) × (b ≡ false)
-    neither true b e = cc
-    neither false b e = (refl, e)
+none-waits i (w ∷ ws) e = let p = or_parts (w.session == i) _ e in ((λ k. both_ways _ p.0 (eq-eqb w.session i k)), none-waits i ws p.1)
 
 -- the waits of the others
 abbrev pub others : ℕ → List Wait → List Wait

@@ -1,57 +1,23 @@
 -- Where nothing is ripe and there is no ring, each session that waits reaches one that does not.
-use Rattle.std.proofs.Common.{◌≡◌, ◌≢◌, refl, sym, ap, ◌∙◌, subst, ℕ, zero, suc, ◌+◌, ◌<◌, ◌≤◌, Bool, true, false, cond, not, ◌&&◌, ◌||◌, ◌==◌, List, [], ◌∷◌, ◌++◌, filter, Some, None, ◌⊎◌, inl, inr, ⊎_elim, arith, append_assoc, eqb-true, eq-eqb}
+use Rattle.std.proofs.Common.{◌≡◌, refl, sym, ap, ◌∙◌, subst, ℕ, zero, suc, ◌+◌, ◌<◌, ◌≤◌, Bool, true, false, cond, not, ◌&&◌, ◌||◌, ◌==◌, List, [], ◌∷◌, ◌++◌, filter, Some, None, ◌⊎◌, inl, inr, ⊎_elim, arith, append_assoc, eqb-true, eq-eqb}
 use Rattle.std.specs.List.{list_any}
-use Rattle.std.proofs.lemmas.Bool.{and_from, both_ways, cases_Bool, or_cases, or_left, or_right}
+use Rattle.std.proofs.lemmas.Bool.{and_from, both_ways, cases_Bool, or_cases, or_left, or_right, or_parts, not_from_false, ne_eqb}
 use Rattle.lock_queues.specs.Locks.{Wait, Spot, Look, fits, fits_with, all_below, wanted_by, converts, ahead, is_empty, is_ripe, first_ripe, next_grant, spots_from, holds_up, waits_for, waits_now, way_below}
 use Rattle.lock_modes.specs.Resource.{same_resource}
 use Rattle.lock_queues.specs.Sound.{Way, one, more, NoRing, EachWait, Distinct}
 use Rattle.lock_queues.proofs.Rings.{way-found, way-meets, edge-found}
-use Rattle.lock_queues.proofs.Keeping.{Not, wait-append}
-
-wait-left : (P : Wait → Type 0) (us vs : List Wait) → EachWait P (us ++ vs) → EachWait P us
-wait-left P [] vs p = tt
-wait-left P (u ∷ us) vs p = (p.0, wait-left P us vs p.1)
-
-wait-right : (P : Wait → Type 0) (us vs : List Wait) → EachWait P (us ++ vs) → EachWait P vs
-wait-right P [] vs p = p
-wait-right P (u ∷ us) vs p = wait-right P us vs p.1
-
--- the wait is taken out
-distinct-without : (us : List Wait) (v : Wait) (vs : List Wait) → Distinct (us ++ v ∷ vs) → Distinct (us ++ vs) × EachWait (Not v.session) (us ++ vs)
-distinct-without [] v vs d = (d.1, d.0)
-distinct-without (u ∷ us) v vs d =
-    let rest = distinct-without us v vs d.1 in
-    let right = wait-right (Not u.session) us (v ∷ vs) d.0 in
-    ((wait-append (Not u.session) us vs (wait-left (Not u.session) us (v ∷ vs) d.0) right.1, rest.0), ((λ e. right.0 (sym e)), rest.1))
+use Rattle.lock_queues.proofs.WaitLists.{Not, wait-append, wait-left, wait-right, wait-filter, distinct-without}
 
 all_below-false : (n : ℕ) (f : ℕ → Bool) → all_below n f ≡ false → (c : ℕ) × (f c ≡ false)
 all_below-false zero f e = cc
 all_below-false (suc n) f e = ⊎_elim (λ h. all_below-false n f (sym (ap (λ b. b && all_below n f) h) ∙ e)) (λ h. (n, h)) (cases_Bool (f n))
 
-neither : (a b : Bool) → (a || b) ≡ false → (a ≡ false) × (b ≡ false)
-neither true b e = cc
-neither false b e = (refl, e)
-
-not_of : (a : Bool) → a ≡ false → not a ≡ true
-not_of a e = ap not e
-
-apart-eq : (a b : ℕ) → a ≢ b → (a == b) ≡ false
-apart-eq a b ne = ⊎_elim (λ h. absurd (ne (eqb-true a b h))) (λ h. h) (cases_Bool (a == b))
-
-filter-each : (P : Wait → Type 0) (p : Wait → Bool) (ws : List Wait) → EachWait P ws → EachWait P (filter p ws)
-filter-each P p [] e = tt
-filter-each P p (w ∷ ws) e = elim (p w) as (λ b. EachWait P (cond b (w ∷ filter p ws) (filter p ws))) [ true ↦ (e.0, filter-each P p ws e.1) | false ↦ filter-each P p ws e.1 ]
-
-append-each : (P : Wait → Type 0) (us vs : List Wait) → EachWait P us → EachWait P vs → EachWait P (us ++ vs)
-append-each P [] vs p q = q
-append-each P (u ∷ us) vs p q = (p.0, append-each P us vs p.1 q)
-
 ahead-each : (look : Look) (P : Wait → Type 0) (s : Spot) → EachWait P s.before → EachWait P s.after → EachWait P (ahead look s)
 ahead-each look P s p q =
     let there = λ (w : Wait). same_resource w.resource s.wait.resource in
     elim (converts look s.wait) as (λ b. EachWait P (cond b (filter (λ w. there w && converts look w) s.before) (filter there s.before ++ filter (λ w. there w && converts look w) s.after))) [
-      | true ↦ filter-each P (λ w. there w && converts look w) s.before p
-      | false ↦ append-each P _ _ (filter-each P there s.before p) (filter-each P (λ w. there w && converts look w) s.after q)
+      | true ↦ wait-filter P (λ w. there w && converts look w) s.before p
+      | false ↦ wait-append P _ _ (wait-filter P there s.before p) (wait-filter P (λ w. there w && converts look w) s.after q)
     ]
 
 first-of : (P : Wait → Type 0) (ws : List Wait) → EachWait P ws → is_empty ws ≡ false → (b : ℕ) × (v : Wait) × P v × (v.session ≡ b) × (list_any (λ w. w.session == b) ws ≡ true)
@@ -65,14 +31,14 @@ held-up n look s p q e = ⊎_elim by-ahead by-mode (cases_Bool (fits n look s.wa
     by-mode : fits n look s.wait.session s.wait.resource (wanted_by look s.wait) ≡ false → (b : ℕ) × (holds_up look s b ≡ true)
     by-mode h =
         let x = all_below-false n (λ c. (c == s.wait.session) || fits_with (wanted_by look s.wait) (look c s.wait.resource)) h in
-        let y = neither (x.0 == s.wait.session) _ x.1 in
-        (x.0, and_from _ _ (not_of _ (apart-eq s.wait.session x.0 (λ k. both_ways _ y.0 (eq-eqb x.0 s.wait.session (sym k))))) (or_left _ _ (not_of _ y.1)))
+        let y = or_parts (x.0 == s.wait.session) _ x.1 in
+        (x.0, and_from _ _ (not_from_false _ (ne_eqb s.wait.session x.0 (λ k. both_ways _ y.0 (eq-eqb x.0 s.wait.session (sym k))))) (or_left _ _ (not_from_false _ y.1)))
 
     by-ahead : fits n look s.wait.session s.wait.resource (wanted_by look s.wait) ≡ true → (b : ℕ) × (holds_up look s b ≡ true)
     by-ahead h =
         let k : is_empty (ahead look s) ≡ false = sym (ap (λ b. b && is_empty (ahead look s)) h) ∙ e in
         let x = first-of (Not s.wait.session) (ahead look s) (ahead-each look (Not s.wait.session) s p q) k in
-        (x.0, and_from _ _ (not_of _ (apart-eq s.wait.session x.0 (λ j. x.2 (x.3 ∙ sym j)))) (or_right (not (fits_with (wanted_by look s.wait) (look x.0 s.wait.resource))) _ x.4))
+        (x.0, and_from _ _ (not_from_false _ (ne_eqb s.wait.session x.0 (λ j. x.2 (x.3 ∙ sym j)))) (or_right (not (fits_with (wanted_by look s.wait) (look x.0 s.wait.resource))) _ x.4))
 
 waits-for : (n : ℕ) (look : Look) (a : ℕ) (before after : List Wait) → Distinct (before ++ after) → first_ripe n look (spots_from before after) ≡ None → waits_now after a ≡ true
     → (b : ℕ) × (list_any (λ (s : Spot). (s.wait.session == a) && holds_up look s b) (spots_from before after) ≡ true)

@@ -7,15 +7,11 @@ use Rattle.lock_queues.specs.declared.answer.Answer.{Answer}
 use Rattle.lock_queues.specs.declared.answer.Answer.TheVariants.{Granted, Waits, Ring}
 use Rattle.lock_modes.specs.declared.resource.Resource.{Resource}
 pub use Rattle.lock_queues.specs.declared.wait.Wait.{Wait}
-use Rattle.version_tree.specs.Map.{same_key}
-use Rattle.lock_modes.specs.Resource.{resource_order}
+use Rattle.lock_modes.specs.Resource.{same_resource}
 use Rattle.lock_modes.specs.Mode.{compatible, cover}
 
 abbrev pub Look : Type 0
 Look = ℕ → Resource → Option Mode
-
-abbrev pub same_resource : Resource → Resource → Bool
-same_resource r s = same_key resource_order r s
 
 -- the mode held beside the one that is wanted
 abbrev pub fits_with : Mode → Option Mode → Bool
@@ -31,10 +27,6 @@ wanted (Some held) m = cover held m
 abbrev pub all_below : ℕ → (ℕ → Bool) → Bool
 all_below zero test = true
 all_below (suc n) test = test n && all_below n test
-
-abbrev pub any_below : ℕ → (ℕ → Bool) → Bool
-any_below zero test = false
-any_below (suc n) test = test n || any_below n test
 
 -- the mode is compatible with every other session's there
 abbrev pub fits : ℕ → Look → ℕ → Resource → Mode → Bool

@@ -1,7 +1,8 @@
 -- The queue of a resource, one wait at a time.
 use Rattle.std.specs.Prelude.{Bool, true, false, not, ◌&&◌, ◌||◌, ◌==◌, ℕ, List, if◌then◌else◌}
 use Rattle.std.specs.List.{list_any}
-use Rattle.lock_queues.specs.Locks.{Wait, Spot, Look, same_resource, converts, fits_with, wanted_by}
+use Rattle.lock_modes.specs.Resource.{same_resource}
+use Rattle.lock_queues.specs.Locks.{Wait, Spot, Look, converts, fits_with, wanted_by}
 
 -- the other wait, which came earlier or later, stands ahead of this one
 abbrev pub is_ahead : Look → Wait → Bool → Wait → Bool

@@ -25,15 +25,18 @@ use Rattle.statement_effects.specs.Run.{SeesAlone, WritesAlone}
 use Rattle.statement_effects.proofs.ListLemmas.{Each, Each-map}
 use Rattle.statement_effects.proofs.PlaceLemmas.{looks-each}
 
-abbrev OnSome : {A : Type 0} → Option A → (A → Type 0) → Type 0
+-- what is there has it
+abbrev pub OnSome : {A : Type 0} → Option A → (A → Type 0) → Type 0
 OnSome None P = Unit {0}
 OnSome (Some x) P = P x
 
-abbrev OnGives : Effect → (List Write → Type 0) → Type 0
+-- the writes of an effect have it
+abbrev pub OnGives : Effect → (List Write → Type 0) → Type 0
 OnGives (Gives events writes) P = P writes
 OnGives (Faults f) P = Unit {0}
 
-each-kept : (test : Place → Bool) (rows : Rows') → Each (λ (e : Place × Tuple). test e.0 ≡ true) (entries (keep test rows))
+-- the entries that are kept pass the test
+pub each-kept : (test : Place → Bool) (rows : Rows') → Each (λ (e : Place × Tuple). test e.0 ≡ true) (entries (keep test rows))
 unfolding entries keep
 each-kept test rows = filtered rows.list
   where
@@ -41,30 +44,31 @@ each-kept test rows = filtered rows.list
     filtered [] = tt
     filtered (e ∷ es) = elim (test e.0) as (λ b. test e.0 ≡ b → Each (λ (x : Place × Tuple). test x.0 ≡ true) (cond b (e ∷ filter (λ e. test e.0) es) (filter (λ e. test e.0) es))) [ true ↦ λ is. (is, filtered es) | false ↦ λ is. filtered es ] refl
 
+-- what holds of each entry that a statement looks at holds of each write of its effect
 module _ (P : Place → Type 0) where
-  each-consed : (e : Place × Tuple) (o : Option (List (Place × Tuple))) → P e.0 → OnSome o (Each (λ (e : Place × Tuple). P e.0)) → OnSome (consed e o) (Each (λ (e : Place × Tuple). P e.0))
+  pub each-consed : (e : Place × Tuple) (o : Option (List (Place × Tuple))) → P e.0 → OnSome o (Each (λ (e : Place × Tuple). P e.0)) → OnSome (consed e o) (Each (λ (e : Place × Tuple). P e.0))
   each-consed e None p h = tt
   each-consed e (Some es) p h = (p, h)
 
-  each-passed : (e : Place × Tuple) (b : Option Bool) (o : Option (List (Place × Tuple))) → P e.0 → OnSome o (Each (λ (e : Place × Tuple). P e.0)) → OnSome (passed e b o) (Each (λ (e : Place × Tuple). P e.0))
+  pub each-passed : (e : Place × Tuple) (b : Option Bool) (o : Option (List (Place × Tuple))) → P e.0 → OnSome o (Each (λ (e : Place × Tuple). P e.0)) → OnSome (passed e b o) (Each (λ (e : Place × Tuple). P e.0))
   each-passed e None o p h = tt
   each-passed e (Some true) o p h = each-consed e o p h
   each-passed e (Some false) o p h = h
 
-  each-matching : (c : Condition) (es : List (Place × Tuple)) → Each (λ (e : Place × Tuple). P e.0) es → OnSome (matching c es) (Each (λ (e : Place × Tuple). P e.0))
+  pub each-matching : (c : Condition) (es : List (Place × Tuple)) → Each (λ (e : Place × Tuple). P e.0) es → OnSome (matching c es) (Each (λ (e : Place × Tuple). P e.0))
   each-matching c [] h = tt
   each-matching c (e ∷ es) h = each-passed e (holds e.1 c) (matching c es) h.0 (each-matching c es h.1)
 
-  each-consed_write : (p : Place) (r : Option Tuple) (o : Option (List Write)) → P p → OnSome o (Each (λ (w : Write). P w.place)) → OnSome (consed_write p r o) (Each (λ (w : Write). P w.place))
+  pub each-consed_write : (p : Place) (r : Option Tuple) (o : Option (List Write)) → P p → OnSome o (Each (λ (w : Write). P w.place)) → OnSome (consed_write p r o) (Each (λ (w : Write). P w.place))
   each-consed_write p None o here h = tt
   each-consed_write p (Some row) None here h = tt
   each-consed_write p (Some row) (Some ws) here h = (here, h)
 
-  each-all_assigned : (sets : List Assignment) (es : List (Place × Tuple)) → Each (λ (e : Place × Tuple). P e.0) es → OnSome (all_assigned sets es) (Each (λ (w : Write). P w.place))
+  pub each-all_assigned : (sets : List Assignment) (es : List (Place × Tuple)) → Each (λ (e : Place × Tuple). P e.0) es → OnSome (all_assigned sets es) (Each (λ (w : Write). P w.place))
   each-all_assigned sets [] h = tt
   each-all_assigned sets (e ∷ es) h = each-consed_write e.0 (assigned e.1 sets e.1) (all_assigned sets es) h.0 (each-all_assigned sets es h.1)
 
-  each-placed : (t k : ℕ) (new : List Tuple) (rows : Rows') → Each (λ row. P (t, key_at k row)) new → OnSome (placed t k new rows) (Each (λ (w : Write). P w.place))
+  pub each-placed : (t k : ℕ) (new : List Tuple) (rows : Rows') → Each (λ row. P (t, key_at k row)) new → OnSome (placed t k new rows) (Each (λ (w : Write). P w.place))
   each-placed t k [] rows h = tt
   each-placed t k (row ∷ more) rows h =
       let at : Place = (t, key_at k row) in
@@ -73,24 +77,24 @@ module _ (P : Place → Type 0) where
         | false ↦ each-consed_write at (Some row) (placed t k more (insert rows at row)) h.0 (each-placed t k more (insert rows at row) h.1)
       ]
 
-  each-numbered : (t n : ℕ) (new : List Tuple) → ((v : Value) → P (t, v)) → Each (λ (w : Write). P w.place) (numbered t n new)
+  pub each-numbered : (t n : ℕ) (new : List Tuple) → ((v : Value) → P (t, v)) → Each (λ (w : Write). P w.place) (numbered t n new)
   each-numbered t n [] h = tt
   each-numbered t n (row ∷ more) h = (h (Int (pos n)), each-numbered t (suc n) more h)
 
-  each-deleted : (es : List (Place × Tuple)) → Each (λ (e : Place × Tuple). P e.0) es → Each (λ (w : Write). P w.place) (map (λ (e : Place × Tuple). record { place = e.0; left = None }) es)
+  pub each-deleted : (es : List (Place × Tuple)) → Each (λ (e : Place × Tuple). P e.0) es → Each (λ (w : Write). P w.place) (map (λ (e : Place × Tuple). record { place = e.0; left = None }) es)
   each-deleted [] h = tt
   each-deleted (e ∷ es) h = (h.0, each-deleted es h.1)
 
-  on-or_fault : (f : Fault) (o : Option (List Write)) (event : ℕ → Event) → OnSome o (Each (λ (w : Write). P w.place)) → OnGives (or_fault f o event) (Each (λ (w : Write). P w.place))
+  pub on-or_fault : (f : Fault) (o : Option (List Write)) (event : ℕ → Event) → OnSome o (Each (λ (w : Write). P w.place)) → OnGives (or_fault f o event) (Each (λ (w : Write). P w.place))
   on-or_fault f None event h = tt
   on-or_fault f (Some ws) event h = h
 
-  on-matched : (o : Option (List (Place × Tuple))) (then' : List (Place × Tuple) → Effect) → ((es : List (Place × Tuple)) → Each (λ (e : Place × Tuple). P e.0) es → OnGives (then' es) (Each (λ (w : Write). P w.place))) → OnSome o (Each (λ (e : Place × Tuple). P e.0))
+  pub on-matched : (o : Option (List (Place × Tuple))) (then' : List (Place × Tuple) → Effect) → ((es : List (Place × Tuple)) → Each (λ (e : Place × Tuple). P e.0) es → OnGives (then' es) (Each (λ (w : Write). P w.place))) → OnSome o (Each (λ (e : Place × Tuple). P e.0))
       → OnGives (elim o [ None ↦ Faults OutOfRange | Some es ↦ then' es ]) (Each (λ (w : Write). P w.place))
   on-matched None then' f h = tt
   on-matched (Some es) then' f h = f es h
 
-  on-shown : (out : Output) (es : List (Place × Tuple)) → OnGives (shown out es) (Each (λ (w : Write). P w.place))
+  pub on-shown : (out : Output) (es : List (Place × Tuple)) → OnGives (shown out es) (Each (λ (w : Write). P w.place))
   on-shown (Columns columns) es = tt
   on-shown (Aggregates each) es = on (all_aggregated each es)
     where
@@ -98,7 +102,7 @@ module _ (P : Place → Type 0) where
       on None = tt
       on (Some vs) = tt
 
-  on-selected : (by : List SortKey) (out : Output) (o : Option (List (Place × Tuple))) → OnGives (elim o [ None ↦ Faults OutOfRange | Some es ↦ shown out (sorted_by by es) ]) (Each (λ (w : Write). P w.place))
+  pub on-selected : (by : List SortKey) (out : Output) (o : Option (List (Place × Tuple))) → OnGives (elim o [ None ↦ Faults OutOfRange | Some es ↦ shown out (sorted_by by es) ]) (Each (λ (w : Write). P w.place))
   on-selected by out None = tt
   on-selected by out (Some es) = on-shown out (sorted_by by es)
 
