@@ -25,20 +25,7 @@ use Rattle.machine_model.proofs.Fitting.{fits-at, together-fits}
 use Rattle.machine_model.proofs.Stronger.{stronger-taking, under-stronger, holds-stronger, covers-taking}
 use Rattle.machine_model.proofs.Kept.{fits-inserted, Pending, GoodRun, go-good}
 use Rattle.lock_modes.proofs.ModeLaws.{compatible-comm}
-use Rattle.lock_queues.proofs.Keeping.{Not, wait-append, distinct-push}
-use Rattle.lock_queues.proofs.Waiters.{distinct-without}
-
-pub wait-map : (P Q : Wait → Type 0) → ((v : Wait) → P v → Q v) → (vs : List Wait) → EachWait P vs → EachWait Q vs
-wait-map P Q f [] p = tt
-wait-map P Q f (v ∷ vs) p = (f v p.0, wait-map P Q f vs p.1)
-
-wait-map2 : (P Q R : Wait → Type 0) → ((v : Wait) → P v → Q v → R v) → (vs : List Wait) → EachWait P vs → EachWait Q vs → EachWait R vs
-wait-map2 P Q R f [] p q = tt
-wait-map2 P Q R f (v ∷ vs) p q = (f v p.0 q.0, wait-map2 P Q R f vs p.1 q.1)
-
-wait-without : (P : Wait → Type 0) (us : List Wait) (v : Wait) (vs : List Wait) → EachWait P (us ++ v ∷ vs) → EachWait P (us ++ vs) × P v
-wait-without P [] v vs p = (p.1, p.0)
-wait-without P (u ∷ us) v vs p = let r = wait-without P us v vs p.1 in ((p.0, r.0), r.1)
+use Rattle.lock_queues.proofs.WaitLists.{wait-without, wait-map, wait-map2, Not, wait-append, distinct-push, distinct-without}
 
 pub idle-each : (ws : List Wait) (i : ℕ) → waits_now ws i ≡ false → EachWait (λ v. v.session ≢ i) ws
 idle-each [] i e = tt

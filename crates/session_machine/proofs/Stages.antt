@@ -24,8 +24,8 @@ use Rattle.session_machine.specs.Stage.{no_member, statements_of, rest_of, own_o
 use Rattle.machine_model.proofs.Basics.{cases-eq}
 use Rattle.session_machine.proofs.Steps.{tasks_from-start}
 use Rattle.session_machine.proofs.States.{length-sessions_from, next-is, same-refl, same-trans, same-taken}
-use Rattle.machine_model.proofs.Settles.{Grant, next-grant, goes-steady, granted-steady, granted-left, wait-map}
-use Rattle.lock_queues.proofs.Waiters.{wait-right}
+use Rattle.machine_model.proofs.Settles.{Grant, next-grant, goes-steady, granted-steady, granted-left}
+use Rattle.lock_queues.proofs.WaitLists.{wait-right, wait-map}
 use Rattle.machine_model.proofs.SettleSteps.{next_in, settle-grant}
 use Rattle.session_machine.proofs.Worlds.{within-still, goes-is, granted-is, resumed_own, own_told, granted-to-go, not-sent, sent-enters, sent-goes, sent-to-go}
 use Rattle.session_machine.proofs.Waiting.{apart}
