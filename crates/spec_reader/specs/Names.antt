@@ -1,12 +1,13 @@
 -- The limits of a spec file, and the rules on its names: they are unique, and those in permutation lines are known.
 use Rattle.std.specs.Prelude.{◌≡◌, ℕ, ◌≤◌, Bool, true, false, List, [], ◌∷◌, ◌++◌, map, length, bytes_eq, ⊤}
 use Rattle.std.specs.List.{list_any, AllByRecursion}
+use Rattle.spec_reader.specs.declared.TheConstants.{MAX_ITEMS, MAX_LINES}
 use Rattle.spec_reader.specs.Tree.{StepTree, SessionTree, MarkerTree, AnyTime, Before, Notices, ItemTree, SpecTree}
 
 -- there are at most 4,096 permutation lines, and each has at most 24 items
 pub record InLimits (f : SpecTree) : Type 0 where
-  pub lines : length f.lines ≤ 4096
-  pub items : AllByRecursion (λ l. length l ≤ 24) f.lines
+  pub lines : length f.lines ≤ MAX_LINES
+  pub items : AllByRecursion (λ l. length l ≤ MAX_ITEMS) f.lines
 
 -- ---- the rules on names
 

@@ -2,12 +2,14 @@
 
 ghost use Rattle.std.specs.Prelude.{◌≡◌, Ok, ◌+◌, ◌∷◌, [], ◌++◌, List, ℕ, map, length, IfOk, false, ◌||◌, ◌<◌, nat_le, true};
 ghost use Rattle.std.specs.String.{string_bytes};
+ghost use Rattle.spec_reader.specs.declared.TheConstants.{MAX_LINES};
 ghost use Rattle.spec_reader.specs.Tokens.{is_permutation, is_end, is_session};
 ghost use Rattle.spec_reader.specs.Lexing.{view_token, view, views};
 ghost use Rattle.spec_reader.specs.Tree.{SessionTree, MarkerTree, ItemTree, LineTree, FrontTree};
 ghost use Rattle.spec_reader.specs.Reading.{reads, reads_listed, reads_item, reads_lined, LineBegun, ItemNamed, MarkerBegun, MarkerNamed, ItemDone, Sessioned, made_spec, made_item};
 ghost use Rattle.spec_reader.specs.Views.{line_tree, marker_tree, item_tree, Reads};
 
+use crate::MAX_LINES;
 use crate::cursor::{fault, first, nothing_after, refused, standing};
 use crate::error::{Kind, Stop};
 use crate::known::KnownSessions;
@@ -15,9 +17,6 @@ use crate::names::{item_name, known_name};
 use crate::token::{Placed, Token};
 use crate::tree::{Item, Line, Marker};
 use std::alloc::Global;
-
-/// The most permutation lines of a file.
-const MAX_LINES: usize = 4096;
 
 /// What follows the name in a marker, and the token after the marker.
 fn named_marker<'a, 't>(
@@ -198,7 +197,7 @@ fn line_of<'a, 't>(
 
 /// Whether there are as many lines as a file may have.
 fn is_full(lines: &[Line]) -> bool
-    ensures { result ≡ nat_le 4096 (length (map line_tree lines.now)) }
+    ensures { result ≡ nat_le MAX_LINES (length (map line_tree lines.now)) }
 {
     lines.len() >= MAX_LINES
 }

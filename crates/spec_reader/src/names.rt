@@ -1,7 +1,8 @@
 //! Reads names: new ones of sessions and steps, and names of steps in permutation lines.
 
-ghost use Rattle.std.specs.Prelude.{◌≡◌, ◌∷◌, ◌++◌, List, ℕ, None, map, length, IfOk, false, ◌<◌};
+ghost use Rattle.std.specs.Prelude.{◌≡◌, ◌∷◌, ◌++◌, List, ℕ, None, map, length, IfOk, false, ◌<◌, nat_le};
 ghost use Rattle.std.specs.String.{string_bytes};
+ghost use Rattle.spec_reader.specs.declared.TheConstants.{MAX_ITEMS};
 ghost use Rattle.spec_reader.specs.Tokens.{Placed as PlacedToken, is_star};
 ghost use Rattle.spec_reader.specs.Lexing.{view_token, view, views};
 ghost use Rattle.spec_reader.specs.Names.{is_among, names_in, step_names};
@@ -9,15 +10,13 @@ ghost use Rattle.spec_reader.specs.Tree.{HeadTree, MarkerTree, ItemTree, LineTre
 ghost use Rattle.spec_reader.specs.Reading.{reads, reads_item, ItemNamed, MarkerBegun, MarkerNamed, SessionBegun, Headed, StepBegun, StepNamed};
 ghost use Rattle.spec_reader.specs.Views.{item_tree, Reads};
 
+use crate::MAX_ITEMS;
 use crate::cursor::{fault, first, name_of};
 use crate::error::{Kind, Stop};
 use crate::known::{KnownSessions, KnownSteps};
 use crate::token::Placed;
 use crate::tree::Item;
 use std::alloc::Global;
-
-/// The most items of a permutation line.
-const MAX_ITEMS: usize = 24;
 
 /// Whether a step of these sessions or among these steps has this name.
 #[tactic(auto, using(crate::proofs::Named::behind_one_another))]
@@ -80,6 +79,13 @@ pub fn known_name(alloc: Global, token: &Placed, sessions: &KnownSessions) -> Re
     Ok(name)
 }
 
+/// Whether a line has as many items as it may have.
+fn is_full(items: &[Item]) -> bool
+    ensures { result ≡ nat_le MAX_ITEMS (length (map item_tree items.now)) }
+{
+    items.len() >= MAX_ITEMS
+}
+
 /// The name of an item, behind these items of its line.
 pub fn item_name(
     alloc: Global,
@@ -94,7 +100,7 @@ pub fn item_name(
         (map item_tree items.now) (view token.now) ts) }
 {
     let name = name_of(alloc, token)?;
-    if items.len() >= MAX_ITEMS {
+    if is_full(items) {
         return Err(fault(token, Kind::TooLarge));
     }
     if !sessions.has_step(name.as_str()) {

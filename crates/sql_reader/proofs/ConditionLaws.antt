@@ -2,6 +2,7 @@
 use Rattle.std.proofs.Common.{◌≡◌, ℕ, zero, suc, ◌+◌, Bool, true, false, List, [], ◌∷◌, ◌++◌, length, Some, None, refl, ap, subst, inl, inr, ◌⊎◌, arith}
 use Rattle.std.specs.Prelude.{codes, ◌||◌, nat_le}
 use Rattle.std.proofs.lemmas.Bool.Decides.{nat_tests}
+use Rattle.sql_reader.specs.declared.TheConstants.{MAX_DEPTH}
 use Rattle.sql_reader.specs.declared.error.Limit.TheVariants.{TooLarge}
 use Rattle.sql_reader.specs.Tokens.{Token, Key, Sign, Placed, is, is_last}
 use Rattle.sql_reader.specs.Tree.{Sum, Comparison, Equal, Unequal, Differs, Less, AtMost, Greater, AtLeast, Condition, Alone, Or, Part, Single, And, Atom, Compares, Not, Group}
@@ -191,19 +192,19 @@ module _ (n : ℕ) where
       (choice (λ (a : Atom). Not a) (both (λ (c : Condition). Group c) tree_compares) sp_not (both sp_group sp_compares) on_sum (is (Key (codes "not"))) ts x _ (λ a more stop. refl) (λ p more stop. not_not p more) f
       (λ e. choice (λ (c : Condition). Group c) tree_compares sp_group sp_compares on_sum (is (Sign (codes "("))) ts y _ (λ c more stop. refl) (λ p more stop. not_open p more) g (λ e'. compares_law ts ends)))
 
-nat_le_false : (n b : ℕ) → n + suc b ≡ 32 → nat_le 32 n ≡ false
+nat_le_false : (n b : ℕ) → n + suc b ≡ MAX_DEPTH → nat_le MAX_DEPTH n ≡ false
 nat_le_false n b e = grind (arith, nat_tests)
 
-pub atom_law : (b n : ℕ) → n + b ≡ 32 → (ts : List Placed) → HasEnd ts → Agrees {I = Atom} (λ a. a) (λ a. grammar.atom a n) on_sum ts (atom b ts)
+pub atom_law : (b n : ℕ) → n + b ≡ MAX_DEPTH → (ts : List Placed) → HasEnd ts → Agrees {I = Atom} (λ a. a) (λ a. grammar.atom a n) on_sum ts (atom b ts)
 atom_law zero n e ts ends =
-    let same : n ≡ 32 = omega arith in
+    let same : n ≡ MAX_DEPTH = omega arith in
     let deep : too_deep n ≡ Some TooLarge = ap too_deep same in
     atom_of_three n ts ends _ _
     (λ at. over_limit (λ a. Not a) (sp_not n) on_sum TooLarge some_atom ts (λ a. (grammar.atom a (suc n), rw (is_same (Key (codes "not")) (first ts).token at, deep) refl)) ends)
     (λ at. over_limit (λ c. Group c) (sp_group n) on_sum TooLarge some_condition ts (λ c. (grammar.condition c (suc n) ++ (plain (Sign (codes ")")) ∷ []), rw (is_same (Sign (codes "(")) (first ts).token at, deep) refl)) ends)
 atom_law (suc b) n e ts ends =
     let shallow : too_deep n ≡ None = rw (nat_le_false n b e) refl in
-    let e' : suc n + b ≡ 32 = omega arith in
+    let e' : suc n + b ≡ MAX_DEPTH = omega arith in
     atom_of_three n ts ends _ _
     (λ at. spelled_as (λ a. Not a) (λ a. plain (Key (codes "not")) ∷ grammar.atom a (suc n)) (sp_not n) on_sum ts _ (λ a. rw shallow refl)
     (also (λ (p : Unit {0} × Atom). Not p.1) (λ p. plain (Key (codes "not")) ∷ grammar.atom p.1 (suc n)) (λ a. Not a) (λ a. plain (Key (codes "not")) ∷ grammar.atom a (suc n)) on_sum ts _ (λ p. p.1) (λ a. (tt, a)) (λ p. (refl, refl)) (λ a. (refl, refl))
@@ -222,7 +223,7 @@ atom_law (suc b) n e ts ends =
 
 pub condition_law : (ts : List Placed) → HasEnd ts → Agrees {I = Condition} (λ c. c) (λ c. grammar.condition c 0) on_condition ts (condition ts)
 unfolding condition
-condition_law ts ends = condition_of_law 0 (atom 32) (λ us e. atom_law 32 0 refl us e) ts ends
+condition_law ts ends = condition_of_law 0 (atom MAX_DEPTH) (λ us e. atom_law MAX_DEPTH 0 refl us e) ts ends
 
 pub where_law : (ts : List Placed) → HasEnd ts → Agrees {I = Condition} (λ c. c) grammar.where_part on_condition ts (where_part ts)
 where_law ts ends =

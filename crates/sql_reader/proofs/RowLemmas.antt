@@ -3,6 +3,7 @@ use Rattle.std.proofs.Common.{◌≡◌, refl, sym, subst, ℕ, suc, ◌+◌, �
 use Rattle.std.specs.Prelude.{⊤, nat_le, codes}
 use Rattle.std.proofs.lemmas.Bool.{leb-false}
 use Rattle.std.proofs.lemmas.List.Elements.{All-nil, All-cons, All-append}
+use Rattle.sql_reader.specs.declared.TheConstants.{MAX_ROWS}
 use Rattle.sql_reader.specs.declared.error.Limit.{Limit}
 use Rattle.sql_reader.specs.declared.error.Limit.TheVariants.{TooLarge}
 use Rattle.sql_reader.specs.Tokens.{Placed, End}
@@ -35,16 +36,16 @@ passes-not : (b : Bool) (l : Limit) → passes_if b l ≡ None → b ≡ false
 passes-not true l e = absurd (cc e)
 passes-not false l e = refl
 
-rows-few : (k : ℕ) (rows : Chain (Chain Literal)) → AllWithin (grammar.rows k rows) → k + count rows ≤ 100
-rows-few k (Last r) h = let here : k < 100 = leb-false 100 k (passes-not (nat_le 100 k) TooLarge h.0) in omega (arith, here)
+rows-few : (k : ℕ) (rows : Chain (Chain Literal)) → AllWithin (grammar.rows k rows) → k + count rows ≤ MAX_ROWS
+rows-few k (Last r) h = let here : k < MAX_ROWS = leb-false MAX_ROWS k (passes-not (nat_le MAX_ROWS k) TooLarge h.0) in omega (arith, here)
 rows-few k (More r rows) h =
-    let more : suc k + count rows ≤ 100 = rows-few (suc k) rows (back-within (grammar.row k r) (grammar.sign (codes ",") ∷ grammar.rows (suc k) rows) h).1 in
+    let more : suc k + count rows ≤ MAX_ROWS = rows-few (suc k) rows (back-within (grammar.row k r) (grammar.sign (codes ",") ∷ grammar.rows (suc k) rows) h).1 in
     omega (arith, more)
 
 statement-few : (s : Statement) → AllWithin (grammar.statement s) → HasFewRows s
 statement-few (tree.CreateTable n ps) h = tt
 statement-few (tree.Insert n names rows) h =
-    let few : 0 + count rows ≤ 100 = rows-few 0 rows (back-within (grammar.optional grammar.names_part names) (grammar.key (codes "values") ∷ grammar.rows 0 rows) h.1.1.1).1 in
+    let few : 0 + count rows ≤ MAX_ROWS = rows-few 0 rows (back-within (grammar.optional grammar.names_part names) (grammar.key (codes "values") ∷ grammar.rows 0 rows) h.1.1.1).1 in
     omega (arith, few)
 statement-few (tree.Selects s) h = tt
 statement-few (tree.Update n as' c) h = tt

@@ -1,5 +1,6 @@
 -- The grammar of a block: the tokens that spell a tree, and the first fault of tokens that spell none.
 use Rattle.std.specs.Prelude.{◌≡◌, ℕ, suc, ◌+◌, ◌^◌, Bool, not, ◌⊎◌, List, [], ◌∷◌, ◌++◌, map, Option, Some, None, nat_lt, nat_le, codes, if◌then◌else◌, ⊤}
+use Rattle.sql_reader.specs.declared.TheConstants.{MAX_DEPTH, MAX_ROWS}
 use Rattle.sql_reader.specs.declared.error.Limit.{Limit}
 use Rattle.sql_reader.specs.declared.error.Limit.TheVariants.{NumberTooLarge, TooLarge}
 use Rattle.sql_reader.specs.Tokens.{Token, Key, Word, Sign, Number, Text, End, NoToken, NotClosed, Placed}
@@ -92,7 +93,7 @@ comparison AtLeast = codes ">="
 
 -- the 33rd level
 abbrev pub too_deep : ℕ → Option Limit
-too_deep n = passes_if (nat_le 32 n) TooLarge
+too_deep n = passes_if (nat_le MAX_DEPTH n) TooLarge
 
 abbrev mutual
   pub condition : Condition → ℕ → List Marked
@@ -134,7 +135,7 @@ names_part ns = sign (codes "(") ∷ (chain name ns ++ (sign (codes ")") ∷ [])
 
 -- the rows from the one of number k on, counted from 0
 abbrev pub row : ℕ → Chain Literal → List Marked
-row k r = mark (Sign (codes "(")) (passes_if (nat_le 100 k) TooLarge) ∷ (chain literal r ++ (sign (codes ")") ∷ []))
+row k r = mark (Sign (codes "(")) (passes_if (nat_le MAX_ROWS k) TooLarge) ∷ (chain literal r ++ (sign (codes ")") ∷ []))
 
 abbrev pub rows : ℕ → Chain (Chain Literal) → List Marked
 rows k (Last r) = row k r

@@ -1,5 +1,6 @@
 -- Reading from left to right: a function for each rule of the grammar, named after it.
 use Rattle.std.specs.Prelude.{ℕ, zero, suc, Bool, true, false, not, ◌||◌, ◌&&◌, List, [], ◌∷◌, length, Option, Some, None, Result, Ok, Err, if◌then◌else◌, codes, nat_le, is_some}
+use Rattle.sql_reader.specs.declared.TheConstants.{MAX_DEPTH, MAX_ROWS}
 use Rattle.sql_reader.specs.declared.error.Limit.{Limit}
 use Rattle.sql_reader.specs.declared.error.Limit.TheVariants.{NumberTooLarge, TooLarge}
 use Rattle.sql_reader.specs.Tokens.{Token, Key, Word, Sign, Number, Text, End, NoToken, NotClosed, Placed, is}
@@ -183,7 +184,7 @@ atom zero ts = one_of_three (at (Key (codes "not")) ts) (at (Sign (codes "(")) t
 atom (suc b) ts = one_of_three (at (Key (codes "not")) ts) (at (Sign (codes "(")) ts) (negated (atom b) ts) (group (atom b) ts) (compares ts)
 
 unfoldable pub condition : List Placed → Read Condition
-condition ts = condition_of (atom 32) ts
+condition ts = condition_of (atom MAX_DEPTH) ts
 
 abbrev pub where_part : List Placed → Read Condition
 where_part ts = skip (Key (codes "where")) ts >>= λ w. condition w.1
@@ -256,7 +257,7 @@ names_part ts = do
   Ok (ns.0, c.1)
 
 abbrev pub over_rows : ℕ → Unit {0} → Option Limit
-over_rows k u = if nat_le 100 k then Some TooLarge else None
+over_rows k u = if nat_le MAX_ROWS k then Some TooLarge else None
 
 -- the row of number k
 abbrev pub row : ℕ → List Placed → Read (Chain Literal)

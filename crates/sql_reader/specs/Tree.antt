@@ -1,5 +1,6 @@
 -- Statements as they are written, word for word; case, blank space and comments leave no trace.
 use Rattle.std.specs.Prelude.{ℕ, suc, ◌≤◌, Bool, List, Option, ⊤}
+use Rattle.sql_reader.specs.declared.TheConstants.{MAX_ROWS}
 pub use Rattle.sql_reader.specs.declared.expression.Literal.{Literal}
 pub use Rattle.sql_reader.specs.declared.expression.Literal.TheVariants.{Whole, Quoted}
 pub use Rattle.sql_reader.specs.declared.expression.Factor.{Factor}
@@ -109,7 +110,7 @@ pub data Statement : Type 0 where
 
 -- an INSERT has at most 100 rows
 abbrev pub HasFewRows : Statement → Type 0
-HasFewRows (Insert n names rows) = count rows ≤ 100
+HasFewRows (Insert n names rows) = count rows ≤ MAX_ROWS
 HasFewRows s = ⊤
 
 -- a block: statements separated by semicolons, some of them empty

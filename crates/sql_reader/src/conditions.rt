@@ -8,6 +8,7 @@ ghost use Rattle.sql_reader.specs.Lexing.{key_of};
 ghost use Rattle.sql_reader.specs.Reading.{first, the, comparison, compares, part_of, condition_of, negated, group, atom, condition, where_part, optional};
 ghost use Rattle.sql_reader.specs.Views.{Gives, Passed, view_sum, view_atom, view_part, view_condition, part_by, condition_by, option_by};
 
+use crate::MAX_DEPTH;
 use crate::error::{Limit, Stop, Why};
 use crate::expression::{Atom, Comparison, Condition, Part, Sum};
 use crate::steps::{at_key, at_sign, first, skip_key, skip_sign, taken};
@@ -15,9 +16,6 @@ use crate::token::{Placed, Token};
 use crate::values::sum;
 use sqlite_items::{Boxed, Items};
 use std::alloc::{AllocError, Global};
-
-/// How deep NOT and parentheses are, at most.
-const LEVELS: usize = 32;
 
 /// The tokens behind a reserved word, if it stands here.
 fn past_key<'a, 't>(tokens: &'t [Placed<'a>], word: &str) -> Option<&'t [Placed<'a>]>
@@ -221,7 +219,7 @@ fn condition<'a, 't>(
     ensures reads { Gives (λ x. (view_condition x.0, views x.1.now)) result (condition (views tokens.now)) }
     ensures shorter { IfOk result (λ x. length x.1.now ≤ length tokens.now) }
 {
-    condition_of(alloc, LEVELS, tokens)
+    condition_of(alloc, MAX_DEPTH, tokens)
 }
 
 fn where_part<'a, 't>(

@@ -29,3 +29,9 @@ pub use statement::{
     Level, LockMode, LockTable, Noise, Property, ReadWord, Scope, Select, Selected, SetSign,
     Setting, SortKey, Start, Statement, Strength, TablePart, TypeWord, Update,
 };
+
+/// The rows of an INSERT, at most.
+pub const MAX_ROWS: usize = 100;
+
+/// How deep NOT and parentheses are in a condition, at most.
+pub const MAX_DEPTH: usize = 32;

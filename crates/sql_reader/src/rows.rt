@@ -6,6 +6,7 @@ ghost use Rattle.sql_reader.specs.Tokens.{Sign};
 ghost use Rattle.sql_reader.specs.Reading.{with_commas, name, names_part, optional, literal, row, insert};
 ghost use Rattle.sql_reader.specs.Views.{Gives, chain_of, chain_by, option_by, view_insert};
 
+use crate::MAX_ROWS;
 use crate::error::{Limit, Stop, Why};
 use crate::expression::{Chain, Literal};
 use crate::statement::Insert;
@@ -15,9 +16,6 @@ use crate::values::literal;
 use lock_modes::Text;
 use sqlite_items::Items;
 use std::alloc::Global;
-
-/// The rows of an INSERT, at most.
-const MAX_ROWS: usize = 100;
 
 /// Names with commas between them.
 pub fn names<'a, 't>(

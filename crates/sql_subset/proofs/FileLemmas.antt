@@ -4,10 +4,12 @@ use Rattle.std.specs.Prelude.{◌==◌, ◌&&◌, ◌||◌, nat_le, nat_lt, is_o
 use Rattle.std.proofs.lemmas.List.{length-map, append-nil}
 use Rattle.std.proofs.lemmas.List.Elements.{All-nil, All-cons, All-append, All-map, All-head, All-tail}
 use Rattle.std.proofs.lemmas.Bool.{leb-true, ltb-false, eq-eqb, ne_eqb}
+use Rattle.perm_ranks.specs.declared.TheConstants.{MAX_SESSIONS, MAX_STEPS}
 use Rattle.perm_ranks.specs.declared.error.ShapeError.{ShapeError}
 use Rattle.perm_ranks.specs.declared.error.ShapeError.TheVariants.{Empty, TooManySessions, TooManySteps}
 use Rattle.perm_ranks.specs.Shape.{shape_of, has_idle}
 use Rattle.perm_ranks.specs.Words.{total}
+use Rattle.spec_reader.specs.declared.TheConstants.{MAX_ITEMS, MAX_LINES}
 use Rattle.spec_reader.specs.declared.tree.Session.{Session}
 use Rattle.spec_reader.specs.Views.{session_tree, step_tree}
 use Rattle.spec_reader.specs.Text.{IsSpec}
@@ -15,6 +17,7 @@ use Rattle.spec_reader.proofs.Verdict.{one_tree}
 use Rattle.spec_reader.specs.Tree.{StepTree, SessionTree, LineTree, SpecTree}
 use Rattle.sql_statements.specs.Plan.{HasKeys, IsShort}
 use Rattle.sql_statements.specs.declared.statement.Bound.{Bound}
+use Rattle.sql_subset.specs.declared.TheConstants.{MAX_LINED_STEPS}
 use Rattle.sql_subset.specs.declared.tables.Table.{Table}
 use Rattle.sql_subset.specs.Spec.{Step, Spec, SpecFile, counts_of, steps_of, queues_from, queues_of, step_limit, IsLine, IsStep, IsReady, AllHaveKeys, AllAreShort}
 use Rattle.sql_subset.specs.Binding.{BoundSession, session, declared, main_setup, numbered, all_steps, made_file, shaped, bound_file, IsFileOf}
@@ -162,19 +165,19 @@ some-All P f h (a ∷ as') xs e =
 
 line-is : (names : List (List ℕ)) (items : LineTree) (line : List ℕ) → line_of names items ≡ Some line → IsLine (length names) line
 line-is names items line e =
-    let a = some_if (nat_le 1 (length items) && nat_le (length items) 24) (all_some (step_number names) items) line e in
-    let few = then_true (nat_le 1 (length items)) (nat_le (length items) 24) a.0 in
+    let a = some_if (nat_le 1 (length items) && nat_le (length items) MAX_ITEMS) (all_some (step_number names) items) line e in
+    let few = then_true (nat_le 1 (length items)) (nat_le (length items) MAX_ITEMS) a.0 in
     let all = some-All (λ k. k < length names) (step_number names) (λ i k h. (let below : k < 0 + length names = position-below (λ n. bytes_eq i.name n) 0 names k h in omega arith)) items line a.1 in
     record {
       some = omega (arith, leb-true 1 (length items) few.0, all.1);
-      few = omega (arith, leb-true (length items) 24 few.1, all.1);
+      few = omega (arith, leb-true (length items) MAX_ITEMS few.1, all.1);
       known = all.0;
     }
 
 -- what the orders of a file tell
 pub record IsOrdered (sessions : List SessionTree) (ls : List (List ℕ)) : Type 0 where
   pub few_steps : total (counts_in sessions) ≤ step_limit ls
-  pub few_lines : length ls ≤ 4096
+  pub few_lines : length ls ≤ MAX_LINES
   pub known : All (IsLine (length (step_names sessions))) ls
 
 shape_if : (a b c : Bool) (x y z : ShapeError) (counts : List ℕ) → is_ok (cond a (Err x) (cond b (Err y) (cond c (Err z) (Ok counts)))) ≡ true → c ≡ false
@@ -191,12 +194,12 @@ shape_ok false false false x y z counts shape e = cc
 
 -- a shape is its counts
 pub shape-is : (counts shape : List ℕ) → shape_of counts ≡ Ok shape → counts ≡ shape
-shape-is counts shape e = shape_ok (length counts == 0 || has_idle counts) (nat_lt 6 (length counts)) (nat_lt 24 (total counts)) Empty TooManySessions TooManySteps counts shape e
+shape-is counts shape e = shape_ok (length counts == 0 || has_idle counts) (nat_lt MAX_SESSIONS (length counts)) (nat_lt MAX_STEPS (total counts)) Empty TooManySessions TooManySteps counts shape e
 
-shape-few : (counts : List ℕ) → is_ok (shape_of counts) ≡ true → total counts ≤ 24
-shape-few counts e = ltb-false 24 (total counts) (shape_if (length counts == 0 || has_idle counts) (nat_lt 6 (length counts)) (nat_lt 24 (total counts)) Empty TooManySessions TooManySteps counts e)
+shape-few : (counts : List ℕ) → is_ok (shape_of counts) ≡ true → total counts ≤ MAX_STEPS
+shape-few counts e = ltb-false MAX_STEPS (total counts) (shape_if (length counts == 0 || has_idle counts) (nat_lt MAX_SESSIONS (length counts)) (nat_lt MAX_STEPS (total counts)) Empty TooManySessions TooManySteps counts e)
 
-limit_of : (ls : List (List ℕ)) (n m : ℕ) → length ls ≡ suc n → m ≤ 255 → m ≤ step_limit ls
+limit_of : (ls : List (List ℕ)) (n m : ℕ) → length ls ≡ suc n → m ≤ MAX_LINED_STEPS → m ≤ step_limit ls
 limit_of [] n m e h = absurd (omega arith)
 limit_of (l ∷ ls) n m e h = h
 
@@ -206,19 +209,19 @@ by_lines ss [] lines e =
     let none : [] ≡ lines = cc (a.1) in
     subst (IsOrdered ss) none (record { few_steps = shape-few (counts_in ss) a.0; few_lines = omega arith; known = All-nil (IsLine (length (step_names ss))) })
 by_lines ss (l ∷ ls) lines e =
-    let a = some_if (nat_le (total (counts_in ss)) 255 && nat_le (length (l ∷ ls)) 4096) (all_some (line_of (step_names ss)) (l ∷ ls)) lines e in
-    let few = then_true (nat_le (total (counts_in ss)) 255) (nat_le (length (l ∷ ls)) 4096) a.0 in
+    let a = some_if (nat_le (total (counts_in ss)) MAX_LINED_STEPS && nat_le (length (l ∷ ls)) MAX_LINES) (all_some (line_of (step_names ss)) (l ∷ ls)) lines e in
+    let few = then_true (nat_le (total (counts_in ss)) MAX_LINED_STEPS) (nat_le (length (l ∷ ls)) MAX_LINES) a.0 in
     let all = some-All (IsLine (length (step_names ss))) (line_of (step_names ss)) (λ items line h. line-is (step_names ss) items line h) (l ∷ ls) lines a.1 in
     record {
-      few_steps = limit_of lines (length ls) (total (counts_in ss)) all.1 (leb-true (total (counts_in ss)) 255 few.0);
-      few_lines = omega (arith, leb-true (length (l ∷ ls)) 4096 few.1, all.1);
+      few_steps = limit_of lines (length ls) (total (counts_in ss)) all.1 (leb-true (total (counts_in ss)) MAX_LINED_STEPS few.0);
+      few_lines = omega (arith, leb-true (length (l ∷ ls)) MAX_LINES few.1, all.1);
       known = all.0;
     }
 
-pub ordered : (tree : SpecTree) (lines : List (List ℕ)) → orders_of tree ≡ Some lines → (length tree.sessions ≤ 6) × IsOrdered tree.sessions lines
+pub ordered : (tree : SpecTree) (lines : List (List ℕ)) → orders_of tree ≡ Some lines → (length tree.sessions ≤ MAX_SESSIONS) × IsOrdered tree.sessions lines
 ordered tree lines e =
-    let a = some_if (nat_le (length tree.sessions) 6) (lines_by tree.sessions tree.lines) lines e in
-    (leb-true (length tree.sessions) 6 a.0, by_lines tree.sessions tree.lines lines a.1)
+    let a = some_if (nat_le (length tree.sessions) MAX_SESSIONS) (lines_by tree.sessions tree.lines) lines e in
+    (leb-true (length tree.sessions) MAX_SESSIONS a.0, by_lines tree.sessions tree.lines lines a.1)
 
 pub some-length : {A X : Type 0} (f : A → Option X) (as' : List A) (xs : List X) → all_some f as' ≡ Some xs → length xs ≡ length as'
 some-length f as' xs e = (some-All (λ x. Unit {0}) f (λ a x h. tt) as' xs e).1
@@ -283,7 +286,7 @@ order_of : (o : Orders) (run : Spec) (counts : List ℕ) → FitsCounts counts o
 order_of (Words shape) run counts h e = h ∙ e
 order_of (Lines lines) run counts h e = h
 
-pub few-sessions : (tree : SpecTree) (lines : List (List ℕ)) (tables : List Table) (ss : List BoundSession) → shaped (orders_of tree) ≡ Ok lines → each (session tables) tree.sessions ≡ Ok ss → length ss ≤ 6
+pub few-sessions : (tree : SpecTree) (lines : List (List ℕ)) (tables : List Table) (ss : List BoundSession) → shaped (orders_of tree) ≡ Ok lines → each (session tables) tree.sessions ≡ Ok ss → length ss ≤ MAX_SESSIONS
 few-sessions tree lines tables ss o e = omega (arith, (ordered tree lines (some_of (orders_of tree) lines o)).0, each-length (session tables) tree.sessions ss e)
 
 -- a file is bound where its orders, its main setups and its sessions are

@@ -9,12 +9,14 @@ use Rattle.lock_modes.specs.declared.mode.Mode.{Mode}
 use Rattle.lock_modes.specs.declared.mode.Mode.TheVariants.{IntentShare, IntentExclusive, Share, Exclusive}
 use Rattle.lock_modes.specs.declared.value.Value.{Value}
 use Rattle.spec_reader.specs.Tree.{BlockTree, SessionTree}
+use Rattle.sql_reader.specs.declared.TheConstants.{MAX_ROWS}
 use Rattle.sql_reader.specs.Tree as tree
 use Rattle.sql_reader.specs.Text.{StatementAt}
 use Rattle.sql_reader.specs.Tree.{Chain, Last, More, count, HasFewRows}
 use Rattle.sql_reader.specs.declared.expression.Literal.{Literal}
 use Rattle.sql_reader.specs.declared.statement.EndWord.{EndWord}
 use Rattle.sql_reader.specs.declared.statement.EndWord.TheVariants as word
+use Rattle.sql_subset.specs.declared.TheConstants.{MAX_COLUMNS}
 use Rattle.sql_statements.specs.Plan.{row_plan, key_lock, HasKeys, IsShort}
 use Rattle.sql_statements.specs.declared.statement.Bound.{Bound}
 use Rattle.sql_statements.specs.declared.statement.Bound.TheVariants.{Insert, Select, Update, Delete}
@@ -99,7 +101,7 @@ below-is limit (Some m) n e =
 
 column-below : (t : Table) (name : List ℕ) (n : ℕ) → column_number t name ≡ Some n → n < width t
 column-below t name n e =
-    let a = below-is 65536 (column_place t.columns name) n e in
+    let a = below-is MAX_COLUMNS (column_place t.columns name) n e in
     let b : n < 0 + length t.columns = position-below _ 0 t.columns n a.0 in
     omega (arith, a.1, b)
 
@@ -125,11 +127,11 @@ row-short : (t : ℕ) (key : Option Value) (intent m : Mode) → length (row_pla
 row-short t None intent m = omega arith
 row-short t (Some key) intent m = omega arith
 
-rows-short : (n : ℕ) (key : Option ℕ) (rows : List (List Value)) → length rows ≤ 100 → IsShort (Insert n key rows)
+rows-short : (n : ℕ) (key : Option ℕ) (rows : List (List Value)) → length rows ≤ MAX_ROWS → IsShort (Insert n key rows)
 rows-short n None rows few = omega arith
 rows-short n (Some k) rows few = omega (arith, few, length-map rows (key_lock n k))
 
-insert-sent : (t : Table) (n : ℕ) (columns : List ℕ) (rows : List (List Value)) → length rows ≤ 100 → IsSent (Insert n (key_column t) (map (at_places (places t columns)) rows))
+insert-sent : (t : Table) (n : ℕ) (columns : List ℕ) (rows : List (List Value)) → length rows ≤ MAX_ROWS → IsSent (Insert n (key_column t) (map (at_places (places t columns)) rows))
 insert-sent t n columns rows few =
     let new = map (at_places (places t columns)) rows in (
       rows-have n (width t) (key_column t) new (key-below t) (All-map (λ (row : List Value). length row ≡ width t) (at_places (places t columns)) rows (λ i d lt. length-places t columns (get_or rows i d))),
@@ -146,10 +148,10 @@ length-list_of : {A : Type 0} (c : Chain A) → length (list_of c) ≡ count c
 length-list_of (Last x) = refl
 length-list_of (More x c) = ap suc (length-list_of c)
 
-insert-bound : (t : Table) (at n : ℕ) (names : Option (Chain (List ℕ))) (rows : Chain (Chain Literal)) → count rows ≤ 100 → IfBound IsSent (insert t at n names rows)
+insert-bound : (t : Table) (at n : ℕ) (names : Option (Chain (List ℕ))) (rows : Chain (Chain Literal)) → count rows ≤ MAX_ROWS → IfBound IsSent (insert t at n names rows)
 insert-bound t at n names rows few =
     then-bound IsSent (row_columns t at names) _ (λ (columns : List ℕ). then-known IsSent (each (row_values at) (list_of rows)) _ (λ (values : List (List Value)) read.
-    let many : length values ≤ 100 = omega (arith, few, length-list_of rows, each-length (row_values at) (list_of rows) values read) in
+    let many : length values ≤ MAX_ROWS = omega (arith, few, length-list_of rows, each-length (row_values at) (list_of rows) values read) in
     let made : Bind Bound = Ok (Insert n (key_column t) (map (at_places (places t columns)) values)) in
     unless-bound IsSent (list_any (row_mixes t columns) values) at TypeMismatch (unless (rows_miscount t columns values) at WrongCount made)
     (unless-bound IsSent (rows_miscount t columns values) at WrongCount made (insert-sent t n columns values many))))

@@ -1,8 +1,11 @@
 -- In which orders the steps of a file are sent.
 use Rattle.std.specs.Prelude.{ℕ, ◌&&◌, nat_le, List, [], ◌∷◌, ◌++◌, length, map, Option, Some, None, is_ok, if◌then◌else◌}
+use Rattle.perm_ranks.specs.declared.TheConstants.{MAX_SESSIONS}
 use Rattle.perm_ranks.specs.Shape.{shape_of}
 use Rattle.perm_ranks.specs.Words.{total}
+use Rattle.spec_reader.specs.declared.TheConstants.{MAX_ITEMS, MAX_LINES}
 use Rattle.spec_reader.specs.Tree.{StepTree, SessionTree, ItemTree, LineTree, SpecTree}
+use Rattle.sql_subset.specs.declared.TheConstants.{MAX_LINED_STEPS}
 use Rattle.sql_subset.specs.Names.{Name, place_in}
 
 abbrev pub counts_in : List SessionTree → List ℕ
@@ -32,16 +35,16 @@ all_some f (a ∷ as') = then_some (f a) (all_some f as')
 abbrev pub step_number : List Name → ItemTree → Option ℕ
 step_number names i = place_in i.name names
 
--- the numbers of the steps that a line of 1 to 24 items names
+-- the numbers of the steps that a line names, of one item or more within the limit
 abbrev pub line_of : List Name → LineTree → Option (List ℕ)
-line_of names items = if nat_le 1 (length items) && nat_le (length items) 24 then all_some (step_number names) items else None
+line_of names items = if nat_le 1 (length items) && nat_le (length items) MAX_ITEMS then all_some (step_number names) items else None
 
--- the lines of a file without lines are none, if its steps have a shape; with lines there are at most 255 steps and 4,096 lines
+-- the lines of a file without lines are none, if its steps have a shape; with lines their steps and the lines are within the limits
 abbrev pub lines_by : List SessionTree → List LineTree → Option (List (List ℕ))
 lines_by sessions [] = if is_ok (shape_of (counts_in sessions)) then Some [] else None
 lines_by sessions (l ∷ ls) =
-    if nat_le (total (counts_in sessions)) 255 && nat_le (length (l ∷ ls)) 4096 then all_some (line_of (step_names sessions)) (l ∷ ls) else None
+    if nat_le (total (counts_in sessions)) MAX_LINED_STEPS && nat_le (length (l ∷ ls)) MAX_LINES then all_some (line_of (step_names sessions)) (l ∷ ls) else None
 
 -- none where the file is outside the limits
 abbrev pub orders_of : SpecTree → Option (List (List ℕ))
-orders_of tree = if nat_le (length tree.sessions) 6 then lines_by tree.sessions tree.lines else None
+orders_of tree = if nat_le (length tree.sessions) MAX_SESSIONS then lines_by tree.sessions tree.lines else None

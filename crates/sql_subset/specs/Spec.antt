@@ -1,8 +1,11 @@
 -- A spec as the machine runs it: steps, setups and lines, and the line of each rank.
 use Rattle.std.specs.Prelude.{ℕ, zero, suc, ◌==◌, List, [], ◌∷◌, length, map, set, get_or, ◌<◌, ◌≤◌, cond, All, ◌≡◌}
+use Rattle.perm_ranks.specs.declared.TheConstants.{MAX_SESSIONS, MAX_STEPS}
 use Rattle.perm_ranks.specs.Words.{Word, all_words, word_at}
+use Rattle.spec_reader.specs.declared.TheConstants.{MAX_ITEMS, MAX_LINES}
 use Rattle.sql_statements.specs.declared.statement.Bound.{Bound}
 use Rattle.sql_statements.specs.Plan.{HasKeys, IsShort}
+use Rattle.sql_subset.specs.declared.TheConstants.{MAX_LINED_STEPS}
 
 -- a step of the file
 pub record Step : Type 0 where
@@ -88,13 +91,13 @@ AllAreShort blocks = All (λ (statements : List Bound). All IsShort statements) 
 
 -- how many steps a spec may have, by its lines
 abbrev pub step_limit : List (List ℕ) → ℕ
-step_limit [] = 24
-step_limit (l ∷ ls) = 255
+step_limit [] = MAX_STEPS
+step_limit (l ∷ ls) = MAX_LINED_STEPS
 
--- a line of 1 to 24 steps
+-- a line of one step or more, of no more than a line has items
 pub record IsLine (steps : ℕ) (line : List ℕ) : Type 0 where
   pub some : 1 ≤ length line
-  pub few : length line ≤ 24
+  pub few : length line ≤ MAX_ITEMS
   pub known : All (λ k. k < steps) line
 
 -- a step of one of so many sessions, whose new rows have their keys, with statements that ask for no more than a byte can count
@@ -105,9 +108,9 @@ pub record IsStep (sessions : ℕ) (step : Step) : Type 0 where
 
 -- what every spec keeps
 pub record IsReady (file : SpecFile) : Type 0 where
-  pub few_sessions : file.run.sessions ≤ 6
+  pub few_sessions : file.run.sessions ≤ MAX_SESSIONS
   pub few_steps : length file.run.steps ≤ step_limit file.run.lines
-  pub few_lines : length file.run.lines ≤ 4096
+  pub few_lines : length file.run.lines ≤ MAX_LINES
   pub session_names : length file.session_names ≡ file.run.sessions
   pub step_names : length file.step_names ≡ length file.run.steps
   pub session_setups : length file.run.session_setups ≡ file.run.sessions

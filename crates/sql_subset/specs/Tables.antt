@@ -9,6 +9,7 @@ use Rattle.sql_reader.specs.declared.statement.TablePart.{TablePart}
 use Rattle.sql_reader.specs.declared.statement.TablePart.TheVariants as part
 use Rattle.sql_reader.specs.declared.statement.TypeWord.TheVariants as word
 use Rattle.sql_reader.specs.declared.error.SqlErrorKind.TheVariants.{TooLarge}
+use Rattle.sql_subset.specs.declared.TheConstants.{MAX_COLUMNS, MAX_TABLES}
 use Rattle.sql_subset.specs.declared.error.BindErrorKind.{BindErrorKind}
 use Rattle.sql_subset.specs.declared.error.BindErrorKind.TheVariants.{Sql, UnknownTable, UnknownColumn, DuplicateTable, WrongCount}
 use Rattle.sql_subset.specs.declared.tables.ColumnType.{ColumnType}
@@ -28,14 +29,14 @@ abbrev pub table_place : List Table → Name → Option ℕ
 table_place tables name = position_from (λ (t : Table). bytes_eq name t.name) 0 tables
 
 abbrev pub table_number : List Table → Name → Option ℕ
-table_number tables name = below 65536 (table_place tables name)
+table_number tables name = below MAX_TABLES (table_place tables name)
 
 -- where the column of this name stands
 abbrev pub column_place : List Column → Name → Option ℕ
 column_place columns name = position_from (λ (c : Column). bytes_eq name c.name) 0 columns
 
 abbrev pub column_number : Table → Name → Option ℕ
-column_number t name = below 65536 (column_place t.columns name)
+column_number t name = below MAX_COLUMNS (column_place t.columns name)
 
 -- which column is the primary key
 abbrev pub key_column : Table → Option ℕ
@@ -43,7 +44,7 @@ key_column t = elim t.key [ None ↦ None | Some name ↦ column_number t name ]
 
 -- how many columns have a number
 abbrev pub width : Table → ℕ
-width t = min (length t.columns) 65536
+width t = min (length t.columns) MAX_COLUMNS
 
 abbrev pub no_table : Table
 no_table = record { name = []; columns = []; key = None }
@@ -99,10 +100,10 @@ repeated before (c ∷ cs) = list_any (λ (b : Column). bytes_eq c.name b.name) 
 abbrev pub has_unknown : List Column → List Name → Bool
 has_unknown columns keys = list_any (λ key. not (is_some (column_place columns key))) keys
 
--- a table has at most 65,536 columns, and a file as many tables: a spec file has no room for either
+-- there are as many columns and tables as have numbers, at most: a spec file has no room for so many
 abbrev pub refusal : List Table → Name → List Column → List Name → Option BindErrorKind
 refusal tables name columns keys =
-    if nat_lt 65536 (length columns) || nat_le 65536 (length tables) then Some (Sql TooLarge)
+    if nat_lt MAX_COLUMNS (length columns) || nat_le MAX_TABLES (length tables) then Some (Sql TooLarge)
     else (if has_unknown columns keys then Some UnknownColumn
     else (if is_some (table_place tables name) then Some DuplicateTable
     else (if repeated [] columns || nat_lt 1 (length keys) then Some WrongCount

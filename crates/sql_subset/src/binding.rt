@@ -1,6 +1,8 @@
 //! Binds a spec file that is read.
 
 ghost use Rattle.std.specs.Prelude.{◌≡◌, ◌≢◌, ◌<◌, ◌≤◌, ◌++◌, ◌⊎◌, [], map, length, string_bytes, IfOk, IfErr, Ok, Err};
+ghost use Rattle.perm_ranks.specs.declared.TheConstants.{MAX_SESSIONS};
+ghost use Rattle.sql_subset.specs.declared.TheConstants.{MAX_LINED_STEPS};
 ghost use Rattle.spec_reader.specs.Views.{session_tree, step_tree, line_tree};
 ghost use Rattle.spec_reader.specs.Whole.{spec_tree};
 ghost use Rattle.sql_subset.specs.Orders.{lines_of};
@@ -9,6 +11,7 @@ ghost use Rattle.sql_subset.specs.Lines.{all_some, line_of, counts_in, step_name
 ghost use Rattle.sql_subset.specs.Binding.{numbered, all_steps, shaped, bound_file};
 ghost use Rattle.sql_subset.specs.Refusals.{Binds};
 
+use crate::MAX_LINED_STEPS;
 use crate::block::{Block, Step};
 use crate::blocks::{BoundSession, sessions, setups};
 use crate::error::{BindError, BindErrorKind, BindStop, refused};
@@ -17,14 +20,10 @@ use crate::shapes::{lines, shape, total_steps};
 use crate::spec::{Parts, Spec};
 use lock_modes::Text;
 use perm_ranks::{MAX_SESSIONS, MAX_STEPS};
-use spec_reader::{Line as LineText, Session as SessionText, SpecText, Step as StepText};
+use spec_reader::{
+    Line as LineText, MAX_LINES, Session as SessionText, SpecText, Step as StepText,
+};
 use std::alloc::{AllocError, Global};
-
-/// The steps of a file with permutation lines, at most.
-const MAX_LINED_STEPS: usize = 255;
-
-/// The permutation lines of a file, at most.
-const MAX_LINES: usize = 4096;
 
 fn push_names(alloc: Global, steps: &[StepText], names: &mut Vec<Text>) -> Result<(), AllocError>
     ensures { IfOk result (λ _. names.new.items ≡ names.old.items ++ map (λ t. t.name) (map step_tree steps.now)) }
@@ -64,7 +63,7 @@ fn outside() -> BindStop
 
 /// All words of the shape that the sessions have.
 fn words(sessions: &[SessionText]) -> Result<Orders, BindStop>
-    requires { length sessions.now ≤ 6 }
+    requires { length sessions.now ≤ MAX_SESSIONS }
     ensures bound { Binds lines_of result (shaped (lines_by (map session_tree sessions.now) [])) }
     ensures fits { IfOk result (FitsCounts (counts_in (map session_tree sessions.now))) }
 {
@@ -80,7 +79,7 @@ fn words(sessions: &[SessionText]) -> Result<Orders, BindStop>
 /// The lines of a file, which has some.
 fn some_lines(alloc: Global, texts: &[LineText], names: &[Text]) -> Result<Vec<Line>, BindStop>
     requires some { 0 < length texts.now }
-    requires few { length names.now ≤ 255 }
+    requires few { length names.now ≤ MAX_LINED_STEPS }
     ensures bound { Binds (λ lines. map (λ line. line.items) lines.items) result (shaped (all_some (line_of names.now) (map line_tree texts.now))) }
     ensures some { IfOk result (λ lines. lines.items ≢ []) }
 {
@@ -141,7 +140,7 @@ fn all_steps(
     alloc: Global,
     sessions: Vec<BoundSession>,
 ) -> Result<(Vec<Step>, Vec<Block>), AllocError>
-    requires { length sessions.items ≤ 6 }
+    requires { length sessions.items ≤ MAX_SESSIONS }
     ensures steps { IfOk result (λ x. x.0.items ≡ all_steps 0 (map bound_session sessions.items)) }
     ensures setups { IfOk result (λ x. x.1.items ≡ map (λ s. s.setup) (map bound_session sessions.items)) }
 {

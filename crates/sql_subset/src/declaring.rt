@@ -9,16 +9,11 @@ ghost use Rattle.sql_subset.specs.Tables as spec;
 
 use crate::error::{BindErrorKind, BindStop, refused};
 use crate::tables::{Column, Table, column_place, table_place, type_of};
+use crate::{MAX_COLUMNS, MAX_TABLES};
 use lock_modes::Text;
 use sql_reader::{CreateTable, Property, SqlErrorKind, TablePart};
 use sqlite_items::Items;
 use std::alloc::{AllocError, Global};
-
-/// The columns of a table, at most, by which their numbers are u16. A spec file has no room for so many.
-const MAX_COLUMNS: usize = 65_536;
-
-/// The tables of a file, at most, by which their numbers are u16. A spec file has no room for so many.
-const MAX_TABLES: usize = 65_536;
 
 fn copied(alloc: Global, text: &Text) -> Result<Text, AllocError>
     ensures { IfOk result (λ copy. copy ≡ text.now) }

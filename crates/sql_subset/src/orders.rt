@@ -1,10 +1,11 @@
 ghost use Rattle.std.specs.Prelude.{◌≡◌};
 
+use crate::MAX_SENT;
 use arrayvec::ArrayVec;
 use perm_ranks::Shape;
 
 /// The steps of one permutation, by their numbers, in the order in which they are sent.
-pub type Line = ArrayVec<u8, 24>;
+pub type Line = ArrayVec<u8, MAX_SENT>;
 
 /// In which orders the steps are sent: by all words of the shape, or by the lines of the file.
 #[derive(Drop)]

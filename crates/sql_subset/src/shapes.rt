@@ -2,8 +2,10 @@
 
 ghost use Rattle.std.specs.Prelude.{◌≡◌, ◌<◌, ◌≤◌, map, length, option_map, MatchOption, IfOk, is_ok, Ok, None, Some, false};
 ghost use Rattle.spec_reader.specs.Views.{session_tree, item_tree, line_tree};
+ghost use Rattle.perm_ranks.specs.declared.TheConstants.{MAX_SESSIONS};
 ghost use Rattle.perm_ranks.specs.Shape.{shape_of};
 ghost use Rattle.perm_ranks.specs.Words.{total};
+ghost use Rattle.sql_subset.specs.declared.TheConstants.{MAX_LINED_STEPS};
 ghost use Rattle.sql_subset.specs.Lines.{counts_in, all_some, line_of};
 
 use crate::names::position;
@@ -11,11 +13,8 @@ use crate::orders::Line;
 use arrayvec::ArrayVec;
 use lock_modes::Text;
 use perm_ranks::{MAX_SESSIONS, Shape};
-use spec_reader::{Item as ItemText, Line as LineText, Session as SessionText};
+use spec_reader::{Item as ItemText, Line as LineText, MAX_ITEMS, Session as SessionText};
 use std::alloc::{AllocError, Global};
-
-/// The items of a line, at most.
-const MAX_ITEMS: usize = 24;
 
 /// How many steps the sessions have, if they are at most so many.
 pub(crate) fn total_steps(sessions: &[SessionText], most: usize) -> Option<usize>
@@ -36,8 +35,8 @@ pub(crate) fn total_steps(sessions: &[SessionText], most: usize) -> Option<usize
 
 /// How many steps each session has.
 fn counts(sessions: &[SessionText]) -> ArrayVec<u8, MAX_SESSIONS>
-    requires few { length sessions.now ≤ 6 }
-    requires small { total (counts_in (map session_tree sessions.now)) ≤ 255 }
+    requires few { length sessions.now ≤ MAX_SESSIONS }
+    requires small { total (counts_in (map session_tree sessions.now)) ≤ MAX_LINED_STEPS }
     ensures { result.items ≡ counts_in (map session_tree sessions.now) }
 {
     let mut counts = ArrayVec::new();
@@ -49,8 +48,8 @@ fn counts(sessions: &[SessionText]) -> ArrayVec<u8, MAX_SESSIONS>
 
 /// The shape of the sessions, if they have one.
 pub(crate) fn shape(sessions: &[SessionText]) -> Option<Shape>
-    requires few { length sessions.now ≤ 6 }
-    requires small { total (counts_in (map session_tree sessions.now)) ≤ 255 }
+    requires few { length sessions.now ≤ MAX_SESSIONS }
+    requires small { total (counts_in (map session_tree sessions.now)) ≤ MAX_LINED_STEPS }
     ensures { MatchOption result
         (is_ok (shape_of (counts_in (map session_tree sessions.now))) ≡ false)
         (λ shape. shape_of (counts_in (map session_tree sessions.now)) ≡ Ok shape) }
@@ -63,7 +62,7 @@ pub(crate) fn shape(sessions: &[SessionText]) -> Option<Shape>
 
 /// The steps that a line names, if it is one. Each name is looked for among all of them.
 fn line(names: &[Text], items: &[ItemText]) -> Option<Line>
-    requires { length names.now ≤ 255 }
+    requires { length names.now ≤ MAX_LINED_STEPS }
     ensures { option_map (λ line. line.items) result ≡ line_of names.now (map item_tree items.now) }
 {
     if items.is_empty() || items.len() > MAX_ITEMS {
@@ -83,7 +82,7 @@ pub(crate) fn lines(
     names: &[Text],
     texts: &[LineText],
 ) -> Result<Option<Vec<Line>>, AllocError>
-    requires { length names.now ≤ 255 }
+    requires { length names.now ≤ MAX_LINED_STEPS }
     ensures { IfOk result (λ lines. option_map (λ lines. map (λ line. line.items) lines.items) lines ≡ all_some (line_of names.now) (map line_tree texts.now)) }
 {
     let mut lines = Vec::new(alloc);

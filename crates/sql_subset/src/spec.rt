@@ -1,4 +1,5 @@
 ghost use Rattle.std.specs.Prelude.{◌≡◌, ◌≢◌, ◌<◌, ◌≤◌, ◌↔◌, [], length, get_or, All, IsTrue, IsSome, IfSome};
+ghost use Rattle.perm_ranks.specs.declared.TheConstants.{MAX_SESSIONS};
 ghost use Rattle.sql_subset.specs.Spec.{no_step, counts_of, queues_of, ranks, line_of, AllHaveKeys, AllAreShort, IsBound};
 ghost use Rattle.sql_statements.specs.Plan.{HasKeys, IsShort};
 ghost use Rattle.sql_subset.specs.Binding.{IsFileOf};
@@ -72,7 +73,7 @@ impl Spec {
     /// How many sessions the file has, from 1 to 6. They are numbered from 0 in its order.
     pub fn sessions(&self) -> u8
         ensures count { result ≡ self.now.run.sessions }
-        ensures few { result ≤ 6 }
+        ensures few { result ≤ MAX_SESSIONS }
         ensures bound { IsBound self.now.run }
     {
         self.parts.sessions

@@ -5,6 +5,7 @@ ghost use Rattle.sql_subset.specs.Refusals.{Binds};
 ghost use Rattle.sql_subset.specs.Tables as spec;
 ghost use Rattle.sql_subset.specs.Tables.{table_number, column_number, key_column, type_of, type_of_word};
 
+use crate::MAX_COLUMNS;
 use crate::error::{BindErrorKind, BindStop, refused};
 use lock_modes::Text;
 use sql_reader::TypeWord;
@@ -44,15 +45,12 @@ pub(crate) struct Table {
     pub(crate) key: Option<Text>,
 }
 
-/// How many columns have numbers. A spec file has no room for so many.
-const NUMBERS: usize = 65_536;
-
 impl Table {
     /// How many columns have a number.
     pub(crate) fn width(&self) -> usize
         ensures { result ≡ spec.width self.now }
     {
-        self.columns.len().min(NUMBERS)
+        self.columns.len().min(MAX_COLUMNS)
     }
 
     /// The number of a column. Linear in the columns, of which there are few.

@@ -1,6 +1,8 @@
 //! The line of a word: each letter takes the next step of its session.
 
 ghost use Rattle.std.specs.Prelude.{◌≡◌, ℕ, ◌<◌, ◌≤◌, ◌+◌, [], ◌∷◌, List, length, All, MatchOption};
+ghost use Rattle.perm_ranks.specs.declared.TheConstants.{MAX_SESSIONS, MAX_STEPS};
+ghost use Rattle.sql_subset.specs.declared.TheConstants.{MAX_LINED_STEPS};
 ghost use Rattle.perm_ranks.specs.Words.{Word};
 ghost use Rattle.sql_subset.specs.Spec.{line, queues_from};
 ghost use Rattle.sql_subset.specs.Walking.{steps_from, queues_at};
@@ -10,9 +12,9 @@ use crate::orders::Line;
 use perm_ranks::MAX_SESSIONS;
 
 pub(crate) fn line_of_word(steps: &[Step], sessions: u8, word: &[u8]) -> Line
-    requires few { length steps.now ≤ 255 }
-    requires sessions { sessions ≤ 6 }
-    requires short { length word.now ≤ 24 }
+    requires few { length steps.now ≤ MAX_LINED_STEPS }
+    requires sessions { sessions ≤ MAX_SESSIONS }
+    requires short { length word.now ≤ MAX_STEPS }
     ensures line { result.items ≡ line (queues_from 0 sessions steps.now) word.now }
     ensures known { All (λ k. k < length steps.now) result.items }
 {
@@ -28,8 +30,8 @@ pub(crate) fn line_of_word(steps: &[Step], sessions: u8, word: &[u8]) -> Line
 
 // `next` has for each session the step number from which on its steps are still to be sent.
 fn take_step(steps: &[Step], sessions: u8, next: &mut [u8; MAX_SESSIONS], letter: u8) -> Option<u8>
-    requires few { length steps.now ≤ 255 }
-    requires sessions { sessions ≤ 6 }
+    requires few { length steps.now ≤ MAX_LINED_STEPS }
+    requires sessions { sessions ≤ MAX_SESSIONS }
     ensures line { (word : Word) →
         MatchOption result
         (line (queues_at 0 sessions next.old steps.now) (letter ∷ word) ≡ line (queues_at 0 sessions next.new steps.now) word)
@@ -46,7 +48,7 @@ fn take_step(steps: &[Step], sessions: u8, next: &mut [u8; MAX_SESSIONS], letter
 
 // The session's first step from this number on.
 fn step_from(steps: &[Step], session: u8, from: u8) -> Option<u8>
-    requires { length steps.now ≤ 255 }
+    requires { length steps.now ≤ MAX_LINED_STEPS }
     ensures next { MatchOption result (steps_from session from steps.now ≡ []) (λ k. steps_from session from steps.now ≡ k ∷ steps_from session (k + 1) steps.now) }
     ensures known { MatchOption result (Unit {0}) (λ k. k < length steps.now) }
 {
