@@ -13,7 +13,7 @@ use Rattle.serial_history.proofs.WorkTold.{AllData, TellsWork}
 
 -- ---- reading
 
-read-append : (x : Reading) (es fs : List Event) → read x (es ++ fs) ≡ read (read x es) fs
+pub read-append : (x : Reading) (es fs : List Event) → read x (es ++ fs) ≡ read (read x es) fs
 read-append x [] fs = refl
 read-append x (e ∷ es) fs = read-append (read_one x e) es fs
 

@@ -13,7 +13,7 @@ use Rattle.sql_statements.specs.declared.statement.Bound.TheVariants.{Select, Be
 use Rattle.machine_model.specs.declared.status.Status.TheVariants.{Outside, InBlock, Broken}
 use Rattle.machine_model.proofs.Worked.{number, id_is, step, two_rows, adds, sets, in_blocks, all_rows}
 use Rattle.serial_history.specs.Reading.{Reading, read}
-use Rattle.serial_history.specs.Serial.{Did, Transaction, History, send_all_told, start_told, reading_in}
+use Rattle.serial_history.specs.Serial.{Did, Transaction, History, send_all_told, start_told, after_setups}
 
 -- the history of a line of the spec, and the world behind it
 abbrev history : Spec → List ℕ → History
@@ -22,11 +22,11 @@ history spec ks = elim (start spec) [ Started w ↦ send_all_told spec.steps w k
 abbrev commits : Spec → List ℕ → List Transaction
 commits spec ks = (history spec ks).commits
 
--- what the sessions' transcripts tell, each read to its end from where the session setups left it
+-- what sessions are told, in their setups and then by their transcripts, read to the end
 abbrev readings : Spec → List ℕ → List ℕ → List Reading
 readings spec ks sessions =
     elim (start spec) [
-      | Started w ↦ map (λ c. read (reading_in w (start_told spec) c) (session_at (send_all spec.steps w ks) c).transcript) sessions
+      | Started w ↦ map (λ c. read (after_setups spec c) (session_at (send_all spec.steps w ks) c).transcript) sessions
       | _ ↦ []
     ]
 

@@ -5,7 +5,7 @@ use Rattle.machine_model.specs.Start.{Started, start}
 use Rattle.machine_model.specs.World.{World, send_all}
 use Rattle.machine_model.specs.Sound.{Sound}
 use Rattle.row_tables.specs.Overlay.{Rows'}
-use Rattle.serial_history.specs.Serial.{History, Told, Shown, reading_in, send_all_told, first_rows, start_told}
+use Rattle.serial_history.specs.Serial.{History, Told, Shown, after_setups, send_all_told, first_rows, start_told}
 use Rattle.serial_history.specs.Reading.{Reading, read, told_in, data_of}
 use Rattle.transcripts.specs.declared.event.Event.{Event}
 use Rattle.machine_model.specs.Laws.{IsOf}
@@ -31,11 +31,11 @@ HistoriesShow =
     (from : ℕ → Reading) (steps : List Step) (w : World) (ks : List ℕ) (h : History) → Sound w → ((k : ℕ) → IsOf steps w k) → Shown from w h
     → Shown from (send_all steps w ks) (send_all_told steps w ks h)
 
--- from the start of a spec: the same, from where the session setups left each session
+-- from the start of a spec: the same, read from nothing, through what its setup told each session
 abbrev pub SpecsShow : Type 0
 SpecsShow =
     (spec : Spec) (w : World) (ks : List ℕ) → IsBound spec → start spec ≡ Started w
-    → Shown (reading_in w (start_told spec)) (send_all spec.steps w ks) (send_all_told spec.steps w ks (start_told spec))
+    → Shown (after_setups spec) (send_all spec.steps w ks) (send_all_told spec.steps w ks (start_told spec))
 
 -- reading loses and adds nothing: what it tells then is what it told, and the data events that were read, in their order
 abbrev pub ReadingsKeepData : Type 0

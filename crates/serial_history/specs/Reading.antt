@@ -41,6 +41,10 @@ pub record Reading : Type 0 where
   pub pending : List Event
   pub ended : List Closed
 
+-- nothing was told yet
+abbrev pub nothing_read : Reading
+nothing_read = record { status = Outside; pending = []; ended = [] }
+
 -- the transaction of these data events, if there are any
 abbrev pub closed_with : Bool → List Event → List Closed
 closed_with committed [] = []

@@ -19,7 +19,7 @@ use Rattle.machine_model.specs.declared.status.Status.{Status}
 use Rattle.machine_model.specs.declared.status.Status.TheVariants.{Outside, InBlock, Broken}
 use Rattle.sql_statements.specs.declared.statement.Bound.{Bound}
 use Rattle.sql_statements.specs.declared.statement.Bound.TheVariants.{Select, Insert, Update, Delete, Begin, Commit, Rollback, LockTable, SetVariable}
-use Rattle.serial_history.specs.Reading.{Closed, Reading, read}
+use Rattle.serial_history.specs.Reading.{Closed, Reading, nothing_read, read}
 
 pub record Did : Type 0 where
   pub statement : Bound
@@ -254,13 +254,26 @@ first_rows spec = elim (set_up spec) [ Started w ↦ w.rows | _ ↦ empty ]
 abbrev pub start_told : Spec → History
 start_told spec = elim (set_up spec) [ Started w ↦ session_setups_told 0 w spec.session_setups (no_history (suc spec.sessions)) | _ ↦ no_history 0 ]
 
+-- what each session was told while the session setups ran, which its transcript has forgotten
+abbrev pub session_setups_said : ℕ → World → List (List Bound) → ℕ → List Event
+session_setups_said i w [] c = []
+session_setups_said i w (block ∷ blocks) c =
+    (session_at (after_setup w i block) c).transcript ++ session_setups_said (suc i) (forgotten (after_setup w i block) i) blocks c
+
+abbrev pub setups_said : Spec → ℕ → List Event
+setups_said spec c = elim (set_up spec) [ Started w ↦ session_setups_said 0 w spec.session_setups c | _ ↦ [] ]
+
+-- where each session stands by what its setup told it
+abbrev pub after_setups : Spec → ℕ → Reading
+after_setups spec c = read nothing_read (setups_said spec c)
+
 -- what a line comes to from the start of the spec: the transactions in the order of their commits, those of session setups included,
--- run one after another without locks over the rows after the main setups, give their events and leave the committed rows; each
--- session's transcript, read from where the setups left it, tells its status, the data events of its open transaction, and those of each
--- that ended, with whether it was committed
+-- run one after another without locks over the rows after the main setups, give their events and leave the committed rows; what each
+-- session's setup told it and then its transcript, read to the end, tell its status, the data events of its open transaction, and those
+-- of each that ended, with whether it was committed
 pub record IsSerial (spec : Spec) (line : List ℕ) (outcome : List (List Event)) : Type 0 where
   pub world : World
   pub starts : start spec ≡ Started world
   pub told : Told (first_rows spec) (send_all spec.steps world line) (send_all_told spec.steps world line (start_told spec))
-  pub shown : Shown (reading_in world (start_told spec)) (send_all spec.steps world line) (send_all_told spec.steps world line (start_told spec))
+  pub shown : Shown (after_setups spec) (send_all spec.steps world line) (send_all_told spec.steps world line (start_told spec))
   pub outcome_is : outcome ≡ outcome_of spec.sessions (send_all spec.steps world line)

@@ -18,7 +18,7 @@ pub fn histories_show()
     ensures { HistoriesShow }
 {}
 
-/// The same from the start of a spec, read from where the session setups left each session.
+/// The same from the start of a spec, read from nothing, through what its setup told each session.
 pub fn specs_show()
     ensures { SpecsShow }
 {}
