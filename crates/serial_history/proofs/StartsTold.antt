@@ -301,7 +301,8 @@ pub spec-shown : (spec : Spec) (w : World) (ks : List ℕ) → length spec.sessi
     → ((k : ℕ) → (get_or spec.steps k no_step).session < length w.sessions)
     → Shown (after_setups spec) (send_all spec.steps w ks) (send_all_told spec.steps w ks (start_told spec))
 spec-shown spec w ks le e fit =
-    let x : Forgot (after_setups spec) w (start_told spec) = subst (λ s. OnStarted s (λ v. Forgot (after_setups spec) v (start_told spec))) e (start-forgot spec le) in
+    let x : Forgot (after_setups spec) w (start_told spec) =
+    subst (λ s. OnStarted s (λ v. Forgot (after_setups spec) v (start_told spec))) e (start-forgot spec le) in
     line-shown (after_setups spec) spec.steps w ks (start_told spec) (start-sound spec w le e) fit (shown-forgot (after_setups spec) w (start_told spec) x)
 
 -- the serial order and what the transcripts show, of a spec that is bound

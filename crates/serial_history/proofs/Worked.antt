@@ -9,7 +9,8 @@ use Rattle.machine_model.specs.World.{send_all, session_at}
 use Rattle.transcripts.specs.declared.event.Event.TheVariants.{Row as RowEvent, Rows, Updated}
 use Rattle.sql_statements.specs.declared.statement.Output.TheVariants.{Columns}
 use Rattle.sql_statements.specs.declared.statement.Bound.{Bound}
-use Rattle.sql_statements.specs.declared.statement.Bound.TheVariants.{Select, Begin, Commit}
+use Rattle.sql_statements.specs.declared.statement.Bound.TheVariants.{Select, Begin, Commit, LockTable, SetVariable}
+use Rattle.lock_modes.specs.declared.mode.Mode.TheVariants.{Share}
 use Rattle.machine_model.specs.declared.status.Status.TheVariants.{Outside, InBlock, Broken}
 use Rattle.machine_model.proofs.Worked.{number, id_is, step, two_rows, adds, sets, in_blocks, all_rows}
 use Rattle.serial_history.specs.Reading.{Reading, read}
@@ -124,3 +125,31 @@ three_row_read : readings three_row (0 ∷ 2 ∷ 4 ∷ 3 ∷ 1 ∷ []) (0 ∷ 1 
     ∷ record { status = Outside; pending = []; ended = record { is_committed = true; events = Updated 1 ∷ [] } ∷ [] } ∷ []
 unfolding get insert keep remove entries empty effect lay
 three_row_read = refl
+
+-- ---- what a session setup reads is part of the transaction that a step commits
+
+abbrev setup_row : Spec
+setup_row =
+    record { sessions = 1; steps = step 0 Commit ∷ []; setups = two_rows ∷ []; lines = []; session_setups = (Begin ∷ reads 1 ∷ []) ∷ [] }
+
+setup_row_commits : commits setup_row (0 ∷ []) ≡ record { session = 0; work = one_read 1 10 ∷ [] } ∷ []
+unfolding get insert keep remove entries empty effect lay
+setup_row_commits = refl
+
+setup_row_read : readings setup_row (0 ∷ []) (0 ∷ [])
+    ≡ record { status = Outside; pending = []; ended = record { is_committed = true; events = RowEvent (number 10 ∷ []) ∷ Rows 1 ∷ [] } ∷ [] } ∷ []
+unfolding get insert keep remove entries empty effect lay
+setup_row_read = refl
+
+-- ---- a block that only locks a table and sets a variable commits nothing
+
+abbrev idle_row : Spec
+idle_row = record setup_row { steps = step 0 (LockTable 0 Share) ∷ step 0 SetVariable ∷ step 0 Commit ∷ []; session_setups = (Begin ∷ []) ∷ [] }
+
+idle_row_commits : commits idle_row (0 ∷ 1 ∷ 2 ∷ []) ≡ []
+unfolding get insert keep remove entries empty effect lay
+idle_row_commits = refl
+
+idle_row_read : readings idle_row (0 ∷ 1 ∷ 2 ∷ []) (0 ∷ []) ≡ record { status = Outside; pending = []; ended = [] } ∷ []
+unfolding get insert keep remove entries empty effect lay
+idle_row_read = refl
