@@ -3,12 +3,13 @@
 ghost use Rattle.std.specs.Prelude.{◌≤◌, IfOk, vec_len};
 
 use crate::fault::ProgramFault;
+use spec_reader::MAX_BYTES;
 use std::alloc::Global;
 use std::io::Read;
 use transcripts::{Counted, ReadError};
 
 /// One byte more than the longest spec file: a longer file is refused by what is read of it.
-pub const MAX_SPEC_READ: usize = 65_537;
+pub const MAX_SPEC_READ: usize = MAX_BYTES + 1;
 
 /// Opens files for reading.
 pub trait Opener {
