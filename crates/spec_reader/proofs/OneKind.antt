@@ -7,7 +7,7 @@ use Rattle.spec_reader.specs.Tokens.{Token, SessionWord, StepWord, PermutationWo
 use Rattle.spec_reader.specs.Fault.{Form, Limits, MayCome, IsMissing, IsNoToken, EndsSteps, EndsSessions, IsKind, name_fault}
 use Rattle.spec_reader.specs.Reading.{Place, Head, HeadSetup, HeadTeardown, SessionBegun, Headed, HeadedSetup, HeadedTeardown, StepBegun, StepNamed, Stepped, LastTeardown, Sessioned, LineBegun, ItemNamed, MarkerBegun, MarkerNamed, Noticed, Marked, ItemDone, Whole, next}
 use Rattle.spec_reader.proofs.Faults.{never, can, Here}
-use Rattle.spec_reader.proofs.Pieces.{or_true}
+use Rattle.byte_runs.proofs.RunLemmas.{or_true}
 
 -- ---- what is wrong, by tests
 

@@ -5,8 +5,8 @@ ghost use Rattle.spec_reader.specs.Bytes.{word_of};
 ghost use Rattle.spec_reader.specs.Lexing.{piece_of, block_of, quoted_of, word_piece, view_piece, view_token, views, token_list, sign_of, FitsIn};
 
 use crate::quoted::{has_quote_at, quoted_len};
-use crate::runs::{Class, after_first, run_len, run_of};
 use crate::token::{Placed, Token};
+use byte_runs::{Class, after_first, run_len, run_of};
 use std::alloc::{AllocError, Global};
 
 /// What stands at the front of a text.

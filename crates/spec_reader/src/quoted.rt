@@ -4,7 +4,7 @@ ghost use Rattle.std.specs.Prelude.{◌≡◌, ◌≤◌, ◌<◌, ◌+◌, ◌+
 ghost use Rattle.std.specs.String.{string_bytes};
 ghost use Rattle.spec_reader.specs.Quoted.{begins_quote, ends_quoted, stops, quoted_len, undoubled};
 
-use crate::runs::{Class, after_first, run_of};
+use byte_runs::{Class, after_first, run_of};
 use std::alloc::{AllocError, Global};
 
 fn begins_quote(bytes: &[u8]) -> bool
@@ -88,7 +88,7 @@ fn push_unquoted<'a>(name: &mut String, text: &'a str) -> Result<&'a str, AllocE
     ensures quote { IfOk result (λ rest. begins_quote rest.now ≡ false → rest.now ≡ []) }
     ensures shorter { IfOk result (λ rest. length rest.now < length text.now + 1) }
 {
-    let (plain, rest) = run_of(Class::Unquoted, text);
+    let (plain, rest) = run_of(Class::DoubleQuoted, text);
     name.push_str(plain)?;
     Ok(rest)
 }

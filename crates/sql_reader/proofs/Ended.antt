@@ -1,12 +1,13 @@
 -- A block's tokens have one end, and it is the last.
 use Rattle.std.proofs.Common.{◌≡◌, ℕ, zero, suc, ◌+◌, ◌-◌, Bool, true, false, cond, List, [], ◌∷◌, Option, Some, None, Ok, Err, refl}
 use Rattle.std.specs.Prelude.{⊤, ◌==◌, take_while}
-use Rattle.sql_reader.specs.declared.cutting.Class.TheVariants as class
+use Rattle.byte_runs.specs.declared.runs.Class.TheVariants as class
 use Rattle.std.specs.Char.{is_ascii_digit}
 use Rattle.sql_reader.specs.Tokens.{Placed, is_last}
 use Rattle.sql_reader.specs.Tree.{Block}
 use Rattle.sql_reader.specs.Grammar.{good, spelling, Fault, FirstFault}
-use Rattle.sql_reader.specs.Lexing.{Piece, Blank, Next, Last, is_white, begins_comment, begins_word, in_class, is_reserved, is_sign, is_pair, quoted, text_piece, key_of, other_of, sign_of, piece_of, with_piece, tokens_past, token_list}
+use Rattle.byte_runs.specs.Bytes.{is_white, begins_word, in_class}
+use Rattle.sql_reader.specs.Lexing.{Piece, Blank, Next, Last, begins_comment, is_reserved, is_sign, is_pair, quoted, text_piece, key_of, other_of, sign_of, piece_of, with_piece, tokens_past, token_list}
 use Rattle.sql_reader.specs.Text.{read_text}
 use Rattle.sql_reader.proofs.Laws.{HasEnd}
 use Rattle.sql_reader.proofs.BlockLaws.{read_is_spelled, spelled_is_read, fault_is_first}

@@ -1,46 +1,14 @@
 -- One piece of a text after another.
-use Rattle.std.proofs.Common.{◌≡◌, ℕ, zero, suc, ◌+◌, ◌-◌, ◌<◌, ◌≤◌, Bool, true, false, cond, lit<, get_or, IsUtf8, List, [], ◌∷◌, ◌++◌, length, drop, refl, sym, ap, subst, ◌∙◌, append_assoc, arith, add-one, Option, Some, None, option_map, drop-cons, ◌*◌, ◌^◌, min}
+use Rattle.std.proofs.Common.{◌≡◌, ℕ, zero, suc, ◌+◌, ◌-◌, ◌<◌, ◌≤◌, Bool, true, false, cond, get_or, IsUtf8, List, [], ◌∷◌, ◌++◌, length, drop, refl, sym, ap, ◌∙◌, append_assoc, arith, add-one, Option, Some, None, option_map, drop-cons, ◌*◌, ◌^◌, min}
 use Rattle.std.specs.Prelude.{not, ◌==◌, ◌&&◌, ⊤}
-use Rattle.std.specs.List.{prefix_len}
 use Rattle.std.specs.Char.{is_ascii_digit}
-use Rattle.std.proofs.lemmas.List.Sums.{prefix_len-le-length, prefix_len_passes, prefix_len_stops}
 use Rattle.std.proofs.lemmas.Bool.{eqb-true}
-use Rattle.std.proofs.lemmas.Str.{IsCharBoundary-start, IsCharBoundary-after_ascii}
-use Rattle.std.specs.Str.{IsCharBoundary}
-use Rattle.sql_reader.specs.declared.cutting.Class.{Class}
-use Rattle.sql_reader.specs.declared.cutting.Class.TheVariants as class
+use Rattle.std.proofs.lemmas.Str.{IsCharBoundary-after_ascii}
+use Rattle.byte_runs.specs.declared.runs.Class.TheVariants as class
+use Rattle.byte_runs.proofs.RunLemmas.{white_is_ascii, run_begins, run_boundary}
 use Rattle.sql_reader.specs.Tokens.{Placed}
-use Rattle.sql_reader.specs.Lexing.{is_white, begins_word, in_class, begins_comment, is_sign, is_pair, sign_of, value_of, with_byte, with_quote, quoted, text_piece, Piece, Blank, Next, Last, piece_of, with_piece, tokens_past, CutsAt, FitsIn}
-
--- ---- where a text may be cut
-
-not_is : (b c : ℕ) → c < 128 → not (b == c) ≡ false → b < 128
-not_is b c lt e = grind arith
-
-is : (b c : ℕ) → c < 128 → (b == c) ≡ true → b < 128
-is b c lt e = grind arith
-
-word_is_ascii : (b : ℕ) → in_class class.Word b ≡ true → b < 128
-word_is_ascii b e = grind arith
-
-white_is_ascii : (b : ℕ) → is_white b ≡ true → b < 128
-white_is_ascii b e = grind arith
-
--- the byte behind a run is ASCII
-behind_run : (P : ℕ → Bool) → ((b : ℕ) → P b ≡ false → b < 128) → (bs : List ℕ) → IsCharBoundary bs (prefix_len P bs)
-behind_run P ascii bs = (prefix_len-le-length P bs, λ lt big. let here : get_or bs (prefix_len P bs) 0 < 128 = ascii _ (prefix_len_stops P bs 0 lt) in absurd (omega arith))
-
--- the last byte of a run is ASCII
-within_run : (P : ℕ → Bool) → ((b : ℕ) → P b ≡ true → b < 128) → (bs : List ℕ) → IsUtf8 bs → (n : ℕ) → prefix_len P bs ≡ n → IsCharBoundary bs n
-within_run P ascii bs utf8 zero e = IsCharBoundary-start bs utf8
-within_run P ascii bs utf8 (suc n) e = subst (IsCharBoundary bs) (add-one n) (IsCharBoundary-after_ascii bs n utf8 (omega (arith, prefix_len-le-length P bs)) (ascii _ (prefix_len_passes P bs n 0 (omega arith))))
-
--- no run of a class ends within a character
-pub run_boundary : (cl : Class) (bs : List ℕ) → IsUtf8 bs → IsCharBoundary bs (prefix_len (in_class cl) bs)
-run_boundary class.Word bs utf8 = within_run (in_class class.Word) word_is_ascii bs utf8 _ refl
-run_boundary class.Digit bs utf8 = within_run is_ascii_digit (λ b e. grind arith) bs utf8 _ refl
-run_boundary class.Comment bs utf8 = behind_run (in_class class.Comment) (λ b e. not_is b 10 (lit< tt) e) bs
-run_boundary class.Unquoted bs utf8 = behind_run (in_class class.Unquoted) (λ b e. not_is b 39 (lit< tt) e) bs
+use Rattle.byte_runs.specs.Bytes.{is_white, begins_word, in_class}
+use Rattle.sql_reader.specs.Lexing.{begins_comment, is_sign, is_pair, sign_of, value_of, with_byte, with_quote, quoted, text_piece, Piece, Blank, Next, Last, piece_of, with_piece, tokens_past, CutsAt, FitsIn}
 
 -- ---- a text in quotes
 
@@ -114,10 +82,6 @@ sign_fits b [] utf8 = cond_fits (b ∷ []) (is_sign b) _ _ (λ e. one b [] utf8 
 sign_fits b (c ∷ bs) utf8 =
     cond_fits (b ∷ c ∷ bs) (is_pair b c) _ _ (λ e. two b c bs utf8 (pair_is_ascii b c e))
     (cond_fits (b ∷ c ∷ bs) (is_sign b) _ _ (λ e. one b (c ∷ bs) utf8 (sign_is_ascii b e)) tt)
-
--- a run that begins is not empty
-run_begins : (P : ℕ → Bool) (b : ℕ) (bs : List ℕ) → P b ≡ true → 0 < prefix_len P (b ∷ bs)
-run_begins P b bs e = rw e (omega arith)
 
 word_begins : (b : ℕ) → begins_word b ≡ true → in_class class.Word b ≡ true
 word_begins b e = rw e refl

@@ -2,8 +2,9 @@
 use Rattle.std.proofs.Common.{◌≡◌, refl, sym, ap, subst, ◌∙◌, ℕ, suc, Bool, true, false, List, [], ◌∷◌, ◌++◌, Option, Some, None, option_map, take, drop, append_assoc, arith}
 use Rattle.std.specs.Prelude.{◌==◌}
 use Rattle.std.specs.List.{prefix_len}
-use Rattle.sql_reader.specs.declared.cutting.Class.TheVariants as class
-use Rattle.sql_reader.specs.Lexing.{in_class, quoted, with_byte, with_quote, content, with_front, begins_quote}
+use Rattle.byte_runs.specs.declared.runs.Class.TheVariants as class
+use Rattle.byte_runs.specs.Bytes.{in_class}
+use Rattle.sql_reader.specs.Lexing.{quoted, with_byte, with_quote, content, with_front, begins_quote}
 
 byte_first : (b : ℕ) (o : Option (List ℕ × ℕ)) → option_map (λ (x : List ℕ × ℕ). x.0) (with_byte b o) ≡ with_front (b ∷ []) (option_map (λ (x : List ℕ × ℕ). x.0) o)
 byte_first b None = refl
@@ -29,7 +30,7 @@ no_front None = refl
 no_front (Some x) = refl
 
 abbrev run : List ℕ → ℕ
-run bs = prefix_len (in_class class.Unquoted) bs
+run bs = prefix_len (in_class class.SingleQuoted) bs
 
 run-zero : (b : ℕ) (bs : List ℕ) → (b == 39) ≡ true → run (b ∷ bs) ≡ 0
 run-zero b bs e = rw e refl
@@ -44,7 +45,7 @@ go_front : (b : ℕ) (bs : List ℕ) (q : Bool) → (b == 39) ≡ q → content 
 go_front b bs true e h = no_front (content (b ∷ bs)) ∙ sym (ap (split_front (b ∷ bs)) (run-zero b bs e))
 go_front b bs false e h = content-byte b bs e ∙ ap (with_front (b ∷ [])) h ∙ front-twice (b ∷ []) (take (run bs) bs) (content (drop (run bs) bs)) ∙ sym (ap (split_front (b ∷ bs)) (run-suc b bs e))
 
-pub content-front : (bs : List ℕ) → content bs ≡ with_front (take (prefix_len (in_class class.Unquoted) bs) bs) (content (drop (prefix_len (in_class class.Unquoted) bs) bs))
+pub content-front : (bs : List ℕ) → content bs ≡ with_front (take (prefix_len (in_class class.SingleQuoted) bs) bs) (content (drop (prefix_len (in_class class.SingleQuoted) bs) bs))
 content-front [] = refl
 content-front (b ∷ bs) = go_front b bs (b == 39) refl (content-front bs)
 
@@ -56,6 +57,6 @@ go_stops b bs true e h = subst (StopsAt (b ∷ bs)) (sym (run-zero b bs e)) (λ 
 go_stops b bs false e h = subst (StopsAt (b ∷ bs)) (sym (run-suc b bs e)) h
 
 -- a quote follows the run, or nothing
-pub run_stops : (bs : List ℕ) → begins_quote (drop (prefix_len (in_class class.Unquoted) bs) bs) ≡ false → drop (prefix_len (in_class class.Unquoted) bs) bs ≡ []
+pub run_stops : (bs : List ℕ) → begins_quote (drop (prefix_len (in_class class.SingleQuoted) bs) bs) ≡ false → drop (prefix_len (in_class class.SingleQuoted) bs) bs ≡ []
 run_stops [] = λ _. refl
 run_stops (b ∷ bs) = go_stops b bs (b == 39) refl (run_stops bs)

@@ -1,30 +1,16 @@
 -- The tokens of a block.
-use Rattle.std.specs.Prelude.{ℕ, ⊤, ◌<◌, zero, suc, ◌+◌, ◌-◌, ◌*◌, ◌^◌, Bool, true, false, not, ◌||◌, ◌&&◌, List, [], ◌∷◌, map, Option, Some, None, min, ◌==◌, codes, bytes_eq, if◌then◌else◌, take_while, option_map, ◌++◌, length, ◌≡◌}
+use Rattle.std.specs.Prelude.{ℕ, ⊤, ◌<◌, zero, suc, ◌+◌, ◌-◌, ◌*◌, ◌^◌, Bool, true, false, ◌||◌, ◌&&◌, List, [], ◌∷◌, map, Option, Some, None, min, ◌==◌, codes, bytes_eq, if◌then◌else◌, take_while, option_map, ◌++◌, length, ◌≡◌}
 use Rattle.std.specs.List.{prefix_len, list_any}
-use Rattle.std.specs.Char.{is_ascii_digit, is_ascii_alphabetic}
+use Rattle.std.specs.Char.{is_ascii_digit}
 use Rattle.std.specs.Str.{str_to_ascii_lowercase, IsCharBoundary}
 use Rattle.sql_reader.specs.declared.token.Token.{Token as Written}
 use Rattle.sql_reader.specs.declared.token.Token.TheVariants as written
 use Rattle.sql_reader.specs.declared.token.Placed.{Placed as WrittenAt}
-use Rattle.sql_reader.specs.declared.cutting.Class.{Class}
-use Rattle.sql_reader.specs.declared.cutting.Class.TheVariants as class
+use Rattle.byte_runs.specs.declared.runs.Class.TheVariants as class
+use Rattle.byte_runs.specs.Bytes.{is_white, begins_word, in_class}
 use Rattle.sql_reader.specs.declared.cutting.Piece.{Piece as WrittenPiece}
 use Rattle.sql_reader.specs.declared.cutting.Piece.TheVariants as piece
 use Rattle.sql_reader.specs.Tokens.{Token, Key, Word, Sign, Number, Text, End, NoToken, NotClosed, Placed}
-
--- space, tab, carriage return, form feed, line feed
-abbrev pub is_white : ℕ → Bool
-is_white b = b == 32 || b == 9 || b == 13 || b == 12 || b == 10
-
-abbrev pub begins_word : ℕ → Bool
-begins_word b = is_ascii_alphabetic b || b == 95
-
--- what a word, a number and a comment go on with
-abbrev pub in_class : Class → ℕ → Bool
-in_class class.Word b = begins_word b || is_ascii_digit b
-in_class class.Digit b = is_ascii_digit b
-in_class class.Comment b = not (b == 10)
-in_class class.Unquoted b = not (b == 39)
 
 -- the words that are no names, up to the letter n and from there on
 abbrev pub reserved_to_n : List (List ℕ)

@@ -2,22 +2,12 @@
 
 ghost use Rattle.std.specs.Prelude.{◌≡◌, ◌==◌, ◌&&◌, not, take, IfSome, ℕ, List, ◌∷◌, ◌*◌, ◌-◌, min, ◌+◌, ◌<◌, ◌≤◌, ◌^◌, length, drop, IfOk, slice_index, take_while, option_map, false};
 ghost use Rattle.std.specs.List.{prefix_len};
-ghost use Rattle.sql_reader.specs.Lexing.{in_class, begins_comment, is_pair, is_one_of, reserved_to_n, reserved_from_o, is_reserved, is_sign, value_of, quoted, text_of, sign_of, word_piece, number_piece, piece_of, view_piece, views, token_list, FitsIn};
+ghost use Rattle.byte_runs.specs.Bytes.{in_class};
+ghost use Rattle.sql_reader.specs.Lexing.{begins_comment, is_pair, is_one_of, reserved_to_n, reserved_from_o, is_reserved, is_sign, value_of, quoted, text_of, sign_of, word_piece, number_piece, piece_of, view_piece, views, token_list, FitsIn};
 
 use crate::token::{Placed, Token};
+use byte_runs::{Class, after_first, run_len, run_of};
 use std::alloc::{AllocError, Global};
-
-/// A set of bytes.
-#[derive(Clone, Copy, Debug, PartialEq, Eq)]
-pub enum Class {
-    /// What a word goes on with.
-    Word,
-    Digit,
-    /// What a comment goes on with.
-    Comment,
-    /// What is no quote.
-    Unquoted,
-}
 
 /// What stands at the front of a text.
 #[derive(Clone, Copy, Debug)]
@@ -32,47 +22,6 @@ pub enum Piece<'a> {
 
 /// Where the value of a number is no longer told apart.
 const PAST_I64: u64 = (1 << 63) + 1;
-
-fn is_in(class: Class, b: u8) -> bool
-    ensures { result ≡ in_class class b }
-{
-    match class {
-        Class::Word => b.is_ascii_alphabetic() || b == b'_' || b.is_ascii_digit(),
-        Class::Digit => b.is_ascii_digit(),
-        Class::Comment => b != b'\n',
-        Class::Unquoted => b != b'\'',
-    }
-}
-
-/// How many bytes at the front are of the class.
-pub fn run_len(class: Class, bytes: &[u8]) -> usize
-    ensures { result ≡ prefix_len (in_class class) bytes.now }
-{
-    let mut n = 0;
-    while n < bytes.len() && is_in(class, bytes[n]) {
-        n += 1;
-    }
-    n
-}
-
-/// The front of the text that is of the class.
-fn run_of(class: Class, text: &str) -> &str
-    ensures run { result.now ≡ take_while (in_class class) text.now }
-    ensures len { length result.now ≡ prefix_len (in_class class) text.now }
-{
-    let (run, _) = text.split_at(run_len(class, text.as_bytes()));
-    run
-}
-
-/// What follows the first byte, which is a whole character.
-pub fn after_first(text: &str) -> &str
-    requires some { 0 < length text.now }
-    requires ascii { slice_index text.now 0 < 128 }
-    ensures { result.now ≡ drop 1 text.now }
-{
-    let (_, rest) = text.split_at(1);
-    rest
-}
 
 /// The value with one digit more, or 2^63 + 1 where it is more.
 fn with_digit(value: u64, digit: u8) -> u64
@@ -219,7 +168,7 @@ fn is_reserved(word: &str) -> bool
 fn word_piece(text: &str) -> Piece<'_>
     ensures { view_piece result ≡ word_piece text.now }
 {
-    let word = run_of(Class::Word, text);
+    let (word, _) = run_of(Class::Word, text);
     let token = if is_reserved(word) {
         Token::Key(word)
     } else {
@@ -231,7 +180,7 @@ fn word_piece(text: &str) -> Piece<'_>
 fn number_piece(text: &str) -> Piece<'_>
     ensures { view_piece result ≡ number_piece text.now }
 {
-    let digits = run_of(Class::Digit, text);
+    let (digits, _) = run_of(Class::Digit, text);
     Piece::Next(Token::Number(value_of(digits.as_bytes())), digits.len())
 }
 

@@ -3,7 +3,7 @@
 ghost use Rattle.std.specs.Prelude.{◌≡◌, ◌≤◌, ◌<◌, ◌++◌, ◌∷◌, [], length, IfOk, MatchOption, string_bytes, true, false, Some};
 ghost use Rattle.sql_reader.specs.Lexing.{content, with_front, begins_quote, Pair};
 
-use crate::cutting::{Class, after_first, run_len};
+use byte_runs::{Class, after_first, run_len};
 use lock_modes::Text;
 use std::alloc::{AllocError, Global};
 
@@ -19,7 +19,7 @@ fn push_unquoted<'a>(to: &mut String, text: &'a str) -> Result<&'a str, AllocErr
     ensures quote { IfOk result (λ rest. begins_quote rest.now ≡ false → rest.now ≡ []) }
     ensures shorter { IfOk result (λ rest. length rest.now ≤ length text.now) }
 {
-    let (plain, rest) = text.split_at(run_len(Class::Unquoted, text.as_bytes()));
+    let (plain, rest) = text.split_at(run_len(Class::SingleQuoted, text.as_bytes()));
     to.push_str(plain)?;
     Ok(rest)
 }

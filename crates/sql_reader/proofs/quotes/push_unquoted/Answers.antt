@@ -1,13 +1,13 @@
 use Rattle.std.proofs.Common.{sym, ap, ◌∙◌}
 use Rattle.std.specs.String.{string_bytes}
-use Rattle.sql_reader.specs.declared.cutting.Class.TheVariants as class
+use Rattle.byte_runs.specs.declared.runs.Class.TheVariants as class
 use Rattle.sql_reader.specs.Lexing.{with_front}
-use Rattle.sql_reader.proofs.Pieces.{run_boundary}
+use Rattle.byte_runs.proofs.RunLemmas.{run_boundary}
 use Rattle.sql_reader.proofs.QuoteLemmas.{content-front, front-twice, run_stops}
 use Rattle.sql_reader.proofs.quotes.push_unquoted.Goals as goal
 
 pub split_at-requires : goal.split_at-requires
-split_at-requires c = rw (c.run_len.ensures, c.as_bytes.ensures.value) (run_boundary class.Unquoted c.args.text.now c.utf8.text)
+split_at-requires c = rw (c.run_len.ensures, c.as_bytes.ensures.value) (run_boundary class.SingleQuoted c.args.text.now c.utf8.text)
 
 pub returns-clause-whole : goal.returns-clause-whole
 returns-clause-whole c =

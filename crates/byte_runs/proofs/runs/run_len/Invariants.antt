@@ -1,7 +1,7 @@
 use Rattle.std.proofs.Common.{length, drop, ◌-◌, ◌≡◌, ◌+◌, ◌≤◌}
 use Rattle.std.specs.List.{prefix_len}
-use Rattle.spec_reader.specs.Bytes.{in_class}
-use Rattle.spec_reader.proofs.runs.run_len.Given as goal
+use Rattle.byte_runs.specs.Bytes.{in_class}
+use Rattle.byte_runs.proofs.runs.run_len.Given as goal
 
 abbrev pub invariant-loop-n : goal.invariant-loop-n
 invariant-loop-n l = record { within : l.n ≤ length l.bytes; so_far : l.n + prefix_len (in_class l.class) (drop l.n l.bytes) ≡ prefix_len (in_class l.class) l.bytes }

@@ -1,22 +1,24 @@
-//! Runs of bytes of one class, at the front of a text.
-
 ghost use Rattle.std.specs.Prelude.{◌≡◌, ◌+◌, ◌<◌, length, drop, slice_index, take_while};
 ghost use Rattle.std.specs.List.{prefix_len};
-ghost use Rattle.spec_reader.specs.Bytes.{in_class};
+ghost use Rattle.byte_runs.specs.Bytes.{in_class};
 
 /// A set of bytes.
 #[derive(Clone, Copy, Debug, PartialEq, Eq)]
 pub enum Class {
-    /// What a plain name goes on with.
+    /// What a name of a spec file goes on with: letters, digits, `_`, `$` and bytes past ASCII.
     Name,
+    /// What a word of SQL goes on with: letters, digits and `_`.
+    Word,
     /// What a number goes on with.
     Digit,
     /// What a comment goes on with: only a line feed ends it.
     Comment,
-    /// What a block goes on with.
+    /// What a block goes on with: only a closing brace ends it.
     Block,
-    /// What stands between the quotes in a text.
-    Unquoted,
+    /// What stands between double quotes.
+    DoubleQuoted,
+    /// What stands between single quotes.
+    SingleQuoted,
 }
 
 /// Whether a byte is of the class.
@@ -29,10 +31,12 @@ fn is_in(class: Class, b: u8) -> bool
             || b >= 128
             || b.is_ascii_digit()
             || b == b'$',
+        Class::Word => b.is_ascii_alphabetic() || b == b'_' || b.is_ascii_digit(),
         Class::Digit => b.is_ascii_digit(),
         Class::Comment => b != b'\n',
         Class::Block => b != b'}',
-        Class::Unquoted => b != b'"',
+        Class::DoubleQuoted => b != b'"',
+        Class::SingleQuoted => b != b'\'',
     }
 }
 
