@@ -26,6 +26,7 @@ is_data Resumed = false
 is_data Done = false
 is_data (NotSent k) = false
 
+-- of these events those that tell of data
 abbrev pub data_of : List Event → List Event
 data_of [] = []
 data_of (e ∷ es) = cond (is_data e) (e ∷ data_of es) (data_of es)
@@ -89,10 +90,11 @@ abbrev pub read : Reading → List Event → Reading
 read x [] = x
 read x (e ∷ es) = read (read_one x e) es
 
--- the data events of what ended, and then of what is open
+-- the data events of what ended, one transaction after another
 abbrev pub closed_events : List Closed → List Event
 closed_events [] = []
 closed_events (x ∷ xs) = x.events ++ closed_events xs
 
+-- the data events of what ended, and then of what is open
 abbrev pub told_in : Reading → List Event
 told_in x = closed_events x.ended ++ x.pending

@@ -21,6 +21,7 @@ use Rattle.sql_statements.specs.declared.statement.Bound.{Bound}
 use Rattle.sql_statements.specs.declared.statement.Bound.TheVariants.{Select, Insert, Update, Delete, Begin, Commit, Rollback, LockTable, SetVariable}
 use Rattle.serial_history.specs.Reading.{Closed, Reading, nothing_read, read}
 
+-- a statement that was done, and what it told
 pub record Did : Type 0 where
   pub statement : Bound
   pub events : List Event
@@ -54,15 +55,17 @@ is_work Begin = false
 is_work Commit = false
 is_work Rollback = false
 
--- the transaction that did this work, if there is any
+-- the transaction that did this work and ended so, where any was done
 abbrev pub ended_with : Bool → List Did → List Ended
 ended_with committed [] = []
 ended_with committed (d ∷ ds) = record { is_committed = committed; work = d ∷ ds } ∷ []
 
+-- the commit of a session's work, where any was done
 abbrev pub commit_of : ℕ → List Did → List Transaction
 commit_of i [] = []
 commit_of i (d ∷ ds) = record { session = i; work = d ∷ ds } ∷ []
 
+-- the open work is committed
 abbrev pub ended_well : Tally → Tally
 ended_well t =
     record {
@@ -72,10 +75,11 @@ ended_well t =
       commits = t.commits ++ commit_of t.session t.work;
     }
 
+-- the open work is dropped
 abbrev pub dropped : Tally → Tally
 dropped t = record { session = t.session; work = []; ended = t.ended ++ ended_with false t.work; commits = t.commits }
 
--- with one more statement done, where it is one that works on rows
+-- with a statement done, which counts where it is work
 abbrev pub did : Bound → Effect → Tally → Tally
 did st (Gives events writes) t =
     record {
@@ -101,6 +105,7 @@ tally_by Outside Works s rows st t = did st (effect st (lay s.overlay rows)) t
 tally_by InBlock Works s rows st t = did st (effect st (lay s.overlay rows)) t
 tally_by Broken Works s rows st t = t
 
+-- the tally at the end of a step
 abbrev pub tally_end : Status → Tally → Tally
 tally_end Outside t = ended_well t
 tally_end InBlock t = t
@@ -130,21 +135,26 @@ pub record History : Type 0 where
   pub ended : List (List Ended)
   pub commits : List Transaction
 
+-- one session's part of a history
 abbrev pub tally_of : History → ℕ → Tally
 tally_of h i = record { session = i; work = get_or h.works i []; ended = get_or h.ended i []; commits = h.commits }
 
+-- the history with that part
 abbrev pub told : History → ℕ → Tally → History
 told h i t = record { works = set h.works i t.work; ended = set h.ended i t.ended; commits = t.commits }
 
+-- the history after the session, as given, has gone with these tasks
 abbrev pub goes_told : World → ℕ → Session → List Task → History → History
 goes_told w i s ts h = told h i (go_tally (scene_of w) i s w.rows ts (tally_of h i))
 
+-- the history after the wait is granted
 abbrev pub granted_told : World → Spot → History → History
 granted_told w spot h =
     let i = spot.wait.session in
     let s = session_at w i in
     goes_told (record w { waits = spot.before ++ spot.after }) i (note (record (taking s spot.wait.resource spot.wait.mode) { rest = [] }) Resumed) s.rest h
 
+-- the history after the waits that are ripe are granted
 abbrev pub settle_told : ℕ → World → History → History
 settle_told zero w h = h
 settle_told (suc n) w h =
@@ -161,6 +171,7 @@ send_told steps w k h =
     let v = goes w st.session s (tasks_of st.statements) in
     elim (waits_now w.waits st.session) [ true ↦ h | false ↦ settle_told (left_to_do v) v (goes_told w st.session s (tasks_of st.statements) h) ]
 
+-- the history after a line
 abbrev pub send_all_told : List Step → World → List ℕ → History → History
 send_all_told steps w [] h = h
 send_all_told steps w (k ∷ ks) h = send_all_told steps (send steps w k) ks (send_told steps w k h)
@@ -197,10 +208,12 @@ pub record Told (start : Rows') (w : World) (h : History) : Type 0 where
 
 -- ---- what a history says of the transcripts
 
+-- what the work told
 abbrev pub events_of : List Did → List Event
 events_of [] = []
 events_of (d ∷ ds) = d.events ++ events_of ds
 
+-- what those that ended told
 abbrev pub closed_of : List Ended → List Closed
 closed_of [] = []
 closed_of (x ∷ xs) = record { is_committed = x.is_committed; events = events_of x.work } ∷ closed_of xs
@@ -218,11 +231,12 @@ abbrev pub AllTell : List Did → Type 0
 AllTell [] = Unit {0}
 AllTell (d ∷ ds) = (d.events ≢ []) × AllTell ds
 
--- the transactions that the session committed: of all commits its own, and of what it ended the committed
+-- of all commits the session's own
 abbrev pub commits_of : ℕ → List Transaction → List (List Did)
 commits_of c [] = []
 commits_of c (t ∷ ts) = cond (t.session == c) (t.work ∷ commits_of c ts) (commits_of c ts)
 
+-- of what ended that which was committed
 abbrev pub committed_in : List Ended → List (List Did)
 committed_in [] = []
 committed_in (x ∷ xs) = cond x.is_committed (x.work ∷ committed_in xs) (committed_in xs)
@@ -241,6 +255,7 @@ pub record Shown (from : ℕ → Reading) (w : World) (h : History) : Type 0 whe
 abbrev pub no_history : ℕ → History
 no_history n = record { works = replicate n []; ended = replicate n []; commits = [] }
 
+-- the history after the setups of the sessions from this one on
 abbrev pub session_setups_told : ℕ → World → List (List Bound) → History → History
 session_setups_told i w [] h = h
 session_setups_told i w (block ∷ blocks) h =
@@ -250,7 +265,7 @@ session_setups_told i w (block ∷ blocks) h =
 abbrev pub first_rows : Spec → Rows'
 first_rows spec = elim (set_up spec) [ Started w ↦ w.rows | _ ↦ empty ]
 
--- what the session setups did
+-- the history after the session setups
 abbrev pub start_told : Spec → History
 start_told spec = elim (set_up spec) [ Started w ↦ session_setups_told 0 w spec.session_setups (no_history (suc spec.sessions)) | _ ↦ no_history 0 ]
 
@@ -260,6 +275,7 @@ session_setups_said i w [] c = []
 session_setups_said i w (block ∷ blocks) c =
     (session_at (after_setup w i block) c).transcript ++ session_setups_said (suc i) (forgotten (after_setup w i block) i) blocks c
 
+-- what its setup told each session of the spec
 abbrev pub setups_said : Spec → ℕ → List Event
 setups_said spec c = elim (set_up spec) [ Started w ↦ session_setups_said 0 w spec.session_setups c | _ ↦ [] ]
 
