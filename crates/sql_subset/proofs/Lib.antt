@@ -12,3 +12,4 @@ pub mod JoinLemmas
 pub mod OptionLemmas
 pub mod SentLemmas
 pub mod FileLemmas
+pub mod MemoryLemmas

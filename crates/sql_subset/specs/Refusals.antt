@@ -1,5 +1,6 @@
 -- Refusals, their numbers in the order of their list, and what is bound or refused.
-use Rattle.std.specs.Prelude.{◌≡◌, ℕ, Bool, List, [], ◌∷◌, ◌++◌, Result, Ok, Err, if◌then◌else◌, ⊤}
+use Rattle.std.specs.Prelude.{◌≡◌, ◌≢◌, ℕ, Bool, List, [], ◌∷◌, ◌++◌, Result, Ok, Err, if◌then◌else◌, ⊤}
+use Rattle.sql_reader.specs.declared.error.SqlErrorKind.TheVariants as sql
 use Rattle.sql_subset.specs.declared.error.BindErrorKind.{BindErrorKind}
 use Rattle.sql_subset.specs.declared.error.BindErrorKind.TheVariants.{Sql, UnknownTable, UnknownColumn, TypeMismatch, KeyChanged, DuplicateTable, WrongCount, Shape, NoMemory}
 use Rattle.sql_subset.specs.declared.error.BindError.{BindError}
@@ -48,3 +49,9 @@ abbrev pub Binds : {X Y : Type 0} → (X → Y) → Result X BindStop → Bind Y
 Binds view (Ok x) b = b ≡ Ok (view x)
 Binds view (Err (Refused e)) b = b ≡ Err e
 Binds view (Err Memory) b = ⊤
+
+-- the kind is no want of memory, in reading SQL or in binding
+abbrev pub IsNamed : BindErrorKind → Type 0
+IsNamed (Sql kind) = kind ≢ sql.NoMemory
+IsNamed NoMemory = ⊥
+IsNamed k = ⊤

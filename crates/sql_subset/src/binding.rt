@@ -5,6 +5,7 @@ ghost use Rattle.perm_ranks.specs.declared.TheConstants.{MAX_SESSIONS};
 ghost use Rattle.sql_subset.specs.declared.TheConstants.{MAX_LINED_STEPS};
 ghost use Rattle.spec_reader.specs.Views.{session_tree, step_tree, line_tree};
 ghost use Rattle.spec_reader.specs.Whole.{spec_tree};
+ghost use Rattle.sql_reader.specs.declared.error.SqlErrorKind.TheVariants as sql;
 ghost use Rattle.sql_subset.specs.Orders.{lines_of};
 ghost use Rattle.sql_subset.specs.Bindings.{bound_session, FitsCounts};
 ghost use Rattle.sql_subset.specs.Lines.{all_some, line_of, counts_in, step_names, session_names, lines_by, orders_of};
@@ -197,6 +198,8 @@ pub fn bind(alloc: Global, text: &SpecText) -> Result<Spec, BindError>
     ensures bound { IfOk result (λ spec. bound_file (string_bytes text.now.text) (spec_tree text.now) ≡ Ok spec) }
     // What is refused has that first refusal, unless memory ran out.
     ensures refused { IfErr result (λ e. (bound_file (string_bytes text.now.text) (spec_tree text.now) ≡ Err e) ⊎ (e ≡ record { kind = BindErrorKind.NoMemory; offset = 0 })) }
+    // Want of memory is told as such, and as no refusal of a block's SQL.
+    ensures memory { IfErr result (λ e. e.kind ≢ BindErrorKind.Sql sql.NoMemory) }
 {
     match bound(alloc, text) {
         Ok(spec) => Ok(spec),

@@ -5,8 +5,11 @@ ghost use Rattle.sql_reader.specs.Grammar.{Fault, FirstFault};
 ghost use Rattle.sql_reader.specs.Lexing.{token_list};
 ghost use Rattle.sql_reader.specs.Text.{StatementAt, IsSpelled};
 ghost use Rattle.sql_reader.specs.declared.error.SqlErrorKind.TheVariants.{NoMemory};
+ghost use Rattle.spec_reader.specs.Tree.{SpecTree};
+ghost use Rattle.sql_subset.specs.declared.error.BindError.{BindError};
+ghost use Rattle.sql_subset.specs.Refusals.{IsNamed};
 ghost use Rattle.sql_subset.specs.Spec.{SpecFile};
-ghost use Rattle.sql_subset.specs.Binding.{IsFileOf, read_text};
+ghost use Rattle.sql_subset.specs.Binding.{IsFileOf, read_text, bound_file};
 ghost use Rattle.sql_subset.specs.Chains.{ChainsKeepParts, ChainsAreLists, ChainsNameFirstKeys, AlternativesNameNoKey};
 
 /// A text is that of one file at most.
@@ -27,4 +30,9 @@ pub fn blocks_are_spelled()
     ensures spelled { (text : List ℕ) (ss : List StatementAt) → (read_text text ≡ Ok ss) ↔ IsSpelled text ss }
     ensures refused { (text : List ℕ) (f : Fault) → (read_text text ≡ Err f) ↔ FirstFault (token_list text) f }
     ensures memory { (text : List ℕ) (f : Fault) → FirstFault (token_list text) f → f.kind ≢ NoMemory }
+{}
+
+/// No refusal that the file itself has is want of memory: neither binding's own, nor one of reading SQL.
+pub fn refusals_are_named()
+    ensures { (text : List ℕ) (tree : SpecTree) (e : BindError) → bound_file text tree ≡ Err e → IsNamed e.kind }
 {}
