@@ -97,7 +97,7 @@ others-under l t owns within steady c =
 
 idle-now : (i : ℕ) (ws : List Wait) → EachWait (λ w. w.session ≢ i) ws → waits_now ws i ≡ false
 idle-now i [] each = refl
-idle-now i (w ∷ ws) each = Rattle.lock_queues.proofs.Basics.refuted _ (λ e. ⊎_elim (λ h. each.0 (eqb-true w.session i h)) (λ h. not_both _ h (idle-now i ws each.1)) (either_true (w.session == i) _ e))
+idle-now i (w ∷ ws) each = Rattle.std.proofs.lemmas.Bool.false_from_ne_true _ (λ e. ⊎_elim (λ h. each.0 (eqb-true w.session i h)) (λ h. not_both _ h (idle-now i ws each.1)) (either_true (w.session == i) _ e))
 
 -- a session that enters a world with these tasks is to go on with the statements that they are of
 pub to-go : (l : Layers) (t : Locks) (owns : List Own) (i : ℕ) (u : Locks) (own : Own) (sts : List Bound) (k n : ℕ) → IsWithin (length owns) l t → SameOthers i l l t u → u.waits ≡ t.waits
