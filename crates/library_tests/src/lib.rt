@@ -13,6 +13,8 @@ mod lines;
 #[cfg(test)]
 mod modes;
 #[cfg(test)]
+mod outcomes;
+#[cfg(test)]
 mod queues;
 #[cfg(test)]
 mod ranks;

@@ -141,3 +141,25 @@ fn a_refused_fork_leaves_what_is_forked(rt: HostRuntime) {
     }
     assert!(rt; is_a_key(&resource));
 }
+
+fn resources(alloc: Global) -> Result<Vec<Resource>, AllocError> {
+    let mut resources = Vec::new(alloc);
+    for table in [1, 2] {
+        resources.push(Resource::Table(table))?;
+        resources.push(Resource::Row(table, Value::Int(1)))?;
+        resources.push(Resource::Row(table, text(alloc, "1")?))?;
+    }
+    Ok(resources)
+}
+
+#[test]
+fn places_are_one_where_they_name_one_resource(rt: HostRuntime) -> Result<(), Fail> {
+    let left = resources(rt.alloc())?;
+    let right = resources(rt.alloc())?;
+    for (i, a) in left.iter().enumerate() {
+        for (j, b) in right.iter().enumerate() {
+            assert_eq!(rt; a.place().is_same(b.place()), i == j, "{a:?} and {b:?}");
+        }
+    }
+    Ok(())
+}
