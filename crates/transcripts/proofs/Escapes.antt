@@ -56,7 +56,8 @@ no_control x h = grind (arith, nat_tests)
 -- a byte past the backslash stands as it is
 plain : (x : ℕ) → 93 ≤ x → escape_byte x ≡ x ∷ []
 unfolding escape_byte
-plain x h = λ i. cond (nat_lt 0 (no_letter x h i)) (92 ∷ no_letter x h i ∷ []) (cond (no_control x h i) (92 ∷ 117 ∷ 48 ∷ 48 ∷ digit_char (x / 16) ∷ digit_char (x % 16) ∷ []) (x ∷ []))
+plain x h = λ i. cond (nat_lt 0 (no_letter x h i)) (92 ∷ no_letter x h i ∷ [])
+    (cond (no_control x h i) (92 ∷ 117 ∷ 48 ∷ 48 ∷ digit_char (x / 16) ∷ digit_char (x % 16) ∷ []) (x ∷ []))
 
 first_plain : (x : ℕ) → 93 ≤ x → first_written x ≡ x
 first_plain x h = λ i. cond (nat_lt 0 (no_letter x h i) || no_control x h i) 92 x
@@ -116,7 +117,8 @@ firsts_apart x y ne = (λ i. is_apart ((begins x).is i) ((begins y).is i)) ∙ h
 pub bytes_apart : (x y : ℕ) → is_apart (escape_byte x) (escape_byte y) ≡ true
 bytes_apart x y =
     split x _
-    (λ p. split y _ (λ q. passes_both 93 (λ x y. is_apart (escape_byte x) (escape_byte y)) lows_apart x y p q) (λ q. firsts_apart x y (λ e. firsts_differ y x q p (sym e))))
+    (λ p. split y _ (λ q. passes_both 93 (λ x y. is_apart (escape_byte x) (escape_byte y)) lows_apart x y p q)
+    (λ q. firsts_apart x y (λ e. firsts_differ y x q p (sym e))))
     (λ p. split y _ (λ q. firsts_apart x y (firsts_differ x y p q)) (λ q. (λ i. is_apart (plain x p i) (plain y q i)) ∙ ones_apart x y (x == y) refl))
 
 same_firsts : (x y : ℕ) → escape_byte x ≡ escape_byte y → first_written x ≡ first_written y
@@ -131,7 +133,8 @@ lows_one x y e t =
 pub bytes_one : (x y : ℕ) → escape_byte x ≡ escape_byte y → x ≡ y
 bytes_one x y e =
     split x _
-    (λ p. split y _ (λ q. lows_one x y e (passes_both 93 (λ x y. (x == y) || not (bytes_eq (escape_byte x) (escape_byte y))) lows_same x y p q)) (λ q. absurd (firsts_differ y x q p (sym (same_firsts x y e)))))
+    (λ p. split y _ (λ q. lows_one x y e (passes_both 93 (λ x y. (x == y) || not (bytes_eq (escape_byte x) (escape_byte y))) lows_same x y p q))
+    (λ q. absurd (firsts_differ y x q p (sym (same_firsts x y e)))))
     (λ p. split y _ (λ q. absurd (firsts_differ x y p q (same_firsts x y e))) (λ q. sym (first_plain x p) ∙ same_firsts x y e ∙ first_plain y q))
 
 -- ---- the order of two bytes' texts
@@ -166,7 +169,8 @@ plains_order : (x y : ℕ) → 93 ≤ x → 93 ≤ y → bytes_cmp (escape_byte 
 unfolding order_by
 plains_order x y p q =
     (λ i. bytes_cmp (plain x p i) (plain y q i)) ∙ plain_order (nat_cmp x y)
-    ∙ sym (λ i. ordering_then (ordering_then (nat_cmp (first_plain x p i) (first_plain y q i)) (nat_cmp (second_plain x p i) (second_plain y q i))) (nat_cmp x y))
+    ∙ sym (λ i. ordering_then (ordering_then (nat_cmp (first_plain x p i) (first_plain y q i)) (nat_cmp (second_plain x p i) (second_plain y q i)))
+    (nat_cmp x y))
 
 pub escaped_order : (x y : ℕ) → bytes_cmp (escape_byte x) (escape_byte y)
     ≡ ordering_then (ordering_then (nat_cmp (first_written x) (first_written y)) (nat_cmp (second_written x) (second_written y))) (nat_cmp x y)

@@ -41,7 +41,8 @@ unfolding tails_cmp
 tails-order k m n us vs s t = by (k == 1) (is_word k)
   where
     by : (a b : Bool)
-        → bytes_cmp (cond a (array_json cell_json us ++ 93 ∷ []) (cond b [] (whole_json m ++ 93 ∷ [])) ++ s) (cond a (array_json cell_json vs ++ 93 ∷ []) (cond b [] (whole_json n ++ 93 ∷ [])) ++ t)
+        → bytes_cmp (cond a (array_json cell_json us ++ 93 ∷ []) (cond b [] (whole_json m ++ 93 ∷ [])) ++ s)
+        (cond a (array_json cell_json vs ++ 93 ∷ []) (cond b [] (whole_json n ++ 93 ∷ [])) ++ t)
         ≡ ordering_then (cond a (items_cmp cell_json us vs) (cond b Equal (bytes_cmp (whole_json m ++ 93 ∷ []) (whole_json n ++ 93 ∷ [])))) (bytes_cmp s t)
     by true b = rows-order us vs s t
     by false true = refl
@@ -51,7 +52,8 @@ tails-order k m n us vs s t = by (k == 1) (is_word k)
 
 -- by their fronts, and where these are one by what stands behind
 pub event_cmp : Event → Event → Ordering
-event_cmp x y = ordering_then (bytes_cmp (front_by (kind_of x)) (front_by (kind_of y))) (tails_cmp (kind_of x) (number_of x) (number_of y) (values_of x) (values_of y))
+event_cmp x y = ordering_then (bytes_cmp (front_by (kind_of x)) (front_by (kind_of y)))
+    (tails_cmp (kind_of x) (number_of x) (number_of y) (values_of x) (values_of y))
 
 -- fronts that tie are of one kind
 kinds_same : (x y : Event) → bytes_cmp (front_by (kind_of x)) (front_by (kind_of y)) ≡ Equal → kind_of x ≡ kind_of y
@@ -89,7 +91,8 @@ tie_or_not Equal = inl refl
 tie_or_not Greater = inr (λ e. cc)
 
 parts-order : (x y : Event) (s t : List ℕ)
-    → ordering_then (bytes_cmp (front_by (kind_of x)) (front_by (kind_of y))) (bytes_cmp (tail_by (kind_of x) (number_of x) (values_of x) ++ s) (tail_by (kind_of y) (number_of y) (values_of y) ++ t))
+    → ordering_then (bytes_cmp (front_by (kind_of x)) (front_by (kind_of y)))
+    (bytes_cmp (tail_by (kind_of x) (number_of x) (values_of x) ++ s) (tail_by (kind_of y) (number_of y) (values_of y) ++ t))
     ≡ ordering_then (event_cmp x y) (bytes_cmp s t)
 unfolding event_cmp
 parts-order x y s t = elim (tie_or_not o) [
@@ -107,8 +110,10 @@ parts-order x y s t = elim (tie_or_not o) [
 events-order : (x y : Event) (s t : List ℕ) → bytes_cmp (event_json x ++ s) (event_json y ++ t) ≡ ordering_then (event_cmp x y) (bytes_cmp s t)
 events-order x y s t =
     (λ i. bytes_cmp (in-parts x i ++ s) (in-parts y i ++ t))
-    ∙ (λ i. bytes_cmp (append_assoc (front_by (kind_of x)) (tail_by (kind_of x) (number_of x) (values_of x)) s i) (append_assoc (front_by (kind_of y)) (tail_by (kind_of y) (number_of y) (values_of y)) t i))
-    ∙ apart-order (front_by (kind_of x)) (front_by (kind_of y)) _ _ (passes_both 17 (λ j k. is_apart (front_by j) (front_by k)) fronts_apart (kind_of x) (kind_of y) (kind_small x) (kind_small y))
+    ∙ (λ i. bytes_cmp (append_assoc (front_by (kind_of x)) (tail_by (kind_of x) (number_of x) (values_of x)) s i)
+    (append_assoc (front_by (kind_of y)) (tail_by (kind_of y) (number_of y) (values_of y)) t i))
+    ∙ apart-order (front_by (kind_of x)) (front_by (kind_of y)) _ _ (passes_both 17 (λ j k. is_apart (front_by j) (front_by k)) fronts_apart (kind_of x)
+    (kind_of y) (kind_small x) (kind_small y))
     ∙ parts-order x y s t
 
 -- the texts of two events
@@ -117,7 +122,8 @@ event-cmp x y = (λ i. bytes_cmp (sym (append-nil (event_json x)) i) (sym (appen
 
 -- the order of two events: by their fronts, by their numbers, and by their rows
 pub event-by-parts : (x y : Event) → bytes_cmp (event_json x) (event_json y)
-    ≡ ordering_then (ordering_then (bytes_cmp (front_by (kind_of x)) (front_by (kind_of y))) (bytes_cmp (whole_json (number_of x) ++ 93 ∷ []) (whole_json (number_of y) ++ 93 ∷ [])))
+    ≡ ordering_then (ordering_then (bytes_cmp (front_by (kind_of x)) (front_by (kind_of y)))
+    (bytes_cmp (whole_json (number_of x) ++ 93 ∷ []) (whole_json (number_of y) ++ 93 ∷ [])))
     (bytes_cmp (array_json cell_json (values_of x)) (array_json cell_json (values_of y)))
 unfolding event_cmp
 event-by-parts x y = elim (tie_or_not o) [
@@ -147,8 +153,11 @@ tails_same k m n us vs = by (k == 1) (is_word k)
         → cond a (items_cmp cell_json us vs) (cond b Equal (bytes_cmp (whole_json m ++ 93 ∷ []) (whole_json n ++ 93 ∷ []))) ≡ Equal → (m ≡ n) × (us ≡ vs)
     by true b u v p q e = (p refl ∙ sym (q refl), items-same cell_json cell_code us vs e)
     by false true u v p q e = (p refl ∙ sym (q refl), u refl ∙ sym (v refl))
-    by false false u v p q e =
-        (whole-same m n (inner-same (whole_json m) (whole_json n) 93 93 (whole_digits m).inner (whole_digits n).inner (inr refl) (inr refl) e).0, u refl ∙ sym (v refl))
+    by false false u v p q e = (
+      whole-same m n (inner-same (whole_json m) (whole_json n) 93 93 (whole_digits m).inner (whole_digits n).inner (inr refl) (inr refl) e).0,
+      u refl
+          ∙ sym (v refl),
+    )
 
 event-same : (x y : Event) → event_cmp x y ≡ Equal → x ≡ y
 unfolding event_cmp
