@@ -17,3 +17,4 @@ pub mod QuoteLemmas
 pub mod ReadingLemmas
 pub mod TextLemmas
 pub mod RowLemmas
+pub mod FaultLemmas

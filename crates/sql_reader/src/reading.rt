@@ -3,7 +3,8 @@
 ghost use Rattle.std.specs.Prelude.{◌≡◌, ◌++◌, ℕ, List, suc, length, is_some, option_map, false, IfOk, IfErr, MatchResult};
 ghost use Rattle.sql_reader.specs.declared.error.Failure.TheVariants.{Refused};
 ghost use Rattle.sql_reader.specs.declared.error.SqlErrorKind.TheVariants.{NoMemory};
-ghost use Rattle.sql_reader.specs.Lexing.{quoted, view_token, views};
+ghost use Rattle.sql_reader.specs.Grammar.{Fault, FirstFault};
+ghost use Rattle.sql_reader.specs.Lexing.{quoted, token_list, view_token, views};
 ghost use Rattle.sql_reader.specs.Reading.{first, other_form, form, begins_begin, begins_form, kind_of, refused, no_form, statement, maybe_statement};
 ghost use Rattle.sql_reader.specs.Text.{StatementAt, IsSpelled, Explains, AllHaveFewRows, at_offset, fault_at, next_statement, statements_from, pushed, seen, failure_of, Tells};
 ghost use Rattle.sql_reader.specs.Views.{Gives, option_by, view_form};
@@ -243,7 +244,7 @@ const NO_MEMORY: SqlError = SqlError {
 pub fn read_sql(alloc: Global, text: &str) -> Result<Vec<Statement>, SqlError>
     // What is read is what the text spells.
     ensures sound { IfOk result (λ all. IsSpelled text.now (seen all.items)) }
-    // So an INSERT has at most 100 rows.
+    // So an INSERT has at most so many rows.
     ensures few_rows { IfOk result (λ all. AllHaveFewRows (seen all.items)) }
     // What a text spells is read, unless memory runs out.
     ensures complete { (all : List StatementAt) → IsSpelled text.now all →
@@ -252,6 +253,8 @@ pub fn read_sql(alloc: Global, text: &str) -> Result<Vec<Statement>, SqlError>
     ensures refused { IfErr result (Explains text.now) }
     // A text spells one list of statements at most.
     ensures one { (a b : List StatementAt) → IsSpelled text.now a → IsSpelled text.now b → a ≡ b }
+    // It has one first fault at most.
+    ensures one_fault { (a b : Fault) → FirstFault (token_list text.now) a → FirstFault (token_list text.now) b → a ≡ b }
 {
     let Ok(tokens) = tokens_of(alloc, text) else {
         return Err(NO_MEMORY);

@@ -6,7 +6,6 @@ pub mod EachLemmas
 pub mod ChainLemmas
 pub mod ChainedLemmas
 pub mod ConditionLemmas
-pub mod FaultLemmas
 pub mod ReadLemmas
 pub mod JoinLemmas
 pub mod OptionLemmas

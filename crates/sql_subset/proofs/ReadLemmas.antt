@@ -9,11 +9,11 @@ use Rattle.sql_reader.specs.Lexing.{token_list}
 use Rattle.sql_reader.specs.Text.{StatementAt, IsSpelled, Explains, AllHaveFewRows, fault_of_error}
 use Rattle.sql_reader.specs.declared.error.SqlError.{SqlError}
 use Rattle.sql_reader.specs.declared.error.SqlErrorKind.TheVariants as kind
+use Rattle.sql_reader.proofs.FaultLemmas.{fault-one}
 use Rattle.sql_reader.proofs.Laws.{good-append}
 use Rattle.sql_reader.proofs.RowLemmas.{spelled-few}
 use Rattle.sql_reader.proofs.TextLemmas.{read-complete, read-sound, read-fault}
 use Rattle.sql_subset.specs.Binding.{read_at, read_text}
-use Rattle.sql_subset.proofs.FaultLemmas.{fault-one}
 
 pub read-is : (text : List ℕ) (ss : List StatementAt) → IsSpelled text ss → read_text text ≡ Ok ss
 read-is text ss h = read-complete text ss h

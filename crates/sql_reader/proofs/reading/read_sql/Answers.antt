@@ -2,12 +2,16 @@ use Rattle.std.proofs.Common.{◌≡◌, sym, ap, ◌∙◌, length, List, suc, 
 use Rattle.sql_reader.specs.Lexing.{views, token_list}
 use Rattle.sql_reader.specs.Tokens.{Placed}
 use Rattle.sql_reader.specs.Text.{statements_from, seen, fault_of_error}
+use Rattle.sql_reader.proofs.FaultLemmas.{fault-one}
 use Rattle.sql_reader.proofs.RowLemmas.{spelled-few}
 use Rattle.sql_reader.proofs.TextLemmas.{read-sound, read-only, read-fault, read-nothing, spelled-one}
 use Rattle.sql_reader.proofs.reading.read_sql.Goals as goal
 
 pub returns-in_default-clause-one : goal.returns-in_default-clause-one
 returns-in_default-clause-one c = spelled-one c.args.text.now
+
+pub returns-in_default-clause-one_fault : goal.returns-in_default-clause-one_fault
+returns-in_default-clause-one_fault c = fault-one (token_list c.args.text.now)
 
 pub returns-in-Ok-statements_of-clause-sound : goal.returns-in-Ok-statements_of-clause-sound
 returns-in-Ok-statements_of-clause-sound c =
@@ -28,8 +32,14 @@ returns-in-Ok-statements_of-clause-complete c =
 pub returns-in-Ok-statements_of-clause-one : goal.returns-in-Ok-statements_of-clause-one
 returns-in-Ok-statements_of-clause-one c = spelled-one c.args.text.now
 
+pub returns-in-Ok-statements_of-clause-one_fault : goal.returns-in-Ok-statements_of-clause-one_fault
+returns-in-Ok-statements_of-clause-one_fault c = fault-one (token_list c.args.text.now)
+
 pub returns-in-Err-Memory-clause-one : goal.returns-in-Err-Memory-clause-one
 returns-in-Err-Memory-clause-one c = spelled-one c.args.text.now
+
+pub returns-in-Err-Memory-clause-one_fault : goal.returns-in-Err-Memory-clause-one_fault
+returns-in-Err-Memory-clause-one_fault c = fault-one (token_list c.args.text.now)
 
 pub returns-clause-complete : goal.returns-clause-complete
 returns-clause-complete c =
@@ -45,3 +55,6 @@ returns-clause-refused c =
 
 pub returns-clause-one : goal.returns-clause-one
 returns-clause-one c = spelled-one c.args.text.now
+
+pub returns-clause-one_fault : goal.returns-clause-one_fault
+returns-clause-one_fault c = fault-one (token_list c.args.text.now)
