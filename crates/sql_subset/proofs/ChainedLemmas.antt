@@ -20,7 +20,8 @@ told-join level All a b = refl
 told-join level Any a b = refl
 
 -- neighbours may be joined first
-of-paired : {A : Type 0} (level : Level A → A) (j : Joint) (d : A) → IsAssociative (linked level j) → (cs : List Condition) → of_list level j d (paired j cs) ≡ of_list level j d cs
+of-paired : {A : Type 0} (level : Level A → A) (j : Joint) (d : A) → IsAssociative (linked level j)
+    → (cs : List Condition) → of_list level j d (paired j cs) ≡ of_list level j d cs
 of-paired level j d h [] = refl
 of-paired level j d h (a ∷ []) = refl
 of-paired level j d h (a ∷ b ∷ []) = told-join level j a b
@@ -33,7 +34,8 @@ of-paired level j d h (a ∷ b ∷ c ∷ e ∷ cs) =
     ∙ h (told level a) (told level b) rest
 
 -- and so again and again
-of-joined_in : {A : Type 0} (level : Level A → A) (j : Joint) (d : A) → IsAssociative (linked level j) → (n : ℕ) (cs : List Condition) → 1 ≤ length cs → length cs ≤ suc n
+of-joined_in : {A : Type 0} (level : Level A → A) (j : Joint) (d : A) → IsAssociative (linked level j)
+    → (n : ℕ) (cs : List Condition) → 1 ≤ length cs → length cs ≤ suc n
     → told level (joined_in n j cs) ≡ of_list level j d cs
 of-joined_in level j d h zero [] some few = absurd (omega arith)
 of-joined_in level j d h zero (c ∷ []) some few = refl

@@ -73,7 +73,8 @@ more-named : {X : Type 0} (xs : List X) (r : Bind (List Table × List X)) → Na
 more-named xs (Ok y) h = tt
 more-named xs (Err e) h = h
 
-declared-named : {A X : Type 0} (f : List Table → A → Bind (List Table × List X)) → ((t : List Table) (a : A) → Named (f t a)) → (tables : List Table) (as' : List A) → Named (declared f tables as')
+declared-named : {A X : Type 0} (f : List Table → A → Bind (List Table × List X)) → ((t : List Table) (a : A) → Named (f t a))
+    → (tables : List Table) (as' : List A) → Named (declared f tables as')
 declared-named f h tables [] = tt
 declared-named f h tables (a ∷ as') = then-named (f tables a) _ (h tables a) (λ x. more-named x.1 (declared f x.0 as') (declared-named f h x.0 as'))
 
@@ -86,7 +87,8 @@ column_if (Some c) at = tt
 column-named : (t : Table) (at : ℕ) (n : Name) → Named (column t at n)
 column-named t at n = column_if (column_number t n) at
 
-table_if : (tables : List Table) (o : Option ℕ) (at : ℕ) → Named {X = ℕ × Table} (elim o [ None ↦ refuse at UnknownTable | Some t ↦ Ok (t, get_or tables t no_table) ])
+table_if : (tables : List Table) (o : Option ℕ) (at : ℕ)
+    → Named {X = ℕ × Table} (elim o [ None ↦ refuse at UnknownTable | Some t ↦ Ok (t, get_or tables t no_table) ])
 table_if tables None at = tt
 table_if tables (Some t) at = tt
 
@@ -113,12 +115,14 @@ product-named t at term =
 expression-named : (t : Table) (at : ℕ) (s : tree.Sum) → Named (expression t at s)
 expression-named t at s =
     then-named (product t at (sum_head s)) _ (product-named t at (sum_head s)) (λ p.
-    then-named (each (signed t at) (sum_tail s)) _ (each-named (signed t at) (λ x. then-named (product t at x.1) _ (product-named t at x.1) (λ q. tt)) (sum_tail s)) (λ ps. tt))
+    then-named (each (signed t at) (sum_tail s)) _
+    (each-named (signed t at) (λ x. then-named (product t at x.1) _ (product-named t at x.1) (λ q. tt)) (sum_tail s)) (λ ps. tt))
 
 mutual
   alternatives-named : (c : tree.Condition) (t : Table) (at : ℕ) → Named (alternatives c t at)
   alternatives-named (tree.Alone p) t at = then-named (parts p t at) _ (parts-named p t at) (λ cs. tt)
-  alternatives-named (tree.Or p more) t at = then-named (parts p t at) _ (parts-named p t at) (λ cs. front-named (joined All cs ∷ []) (alternatives more t at) (alternatives-named more t at))
+  alternatives-named (tree.Or p more) t at =
+      then-named (parts p t at) _ (parts-named p t at) (λ cs. front-named (joined All cs ∷ []) (alternatives more t at) (alternatives-named more t at))
 
   parts-named : (p : tree.Part) (t : Table) (at : ℕ) → Named (parts p t at)
   parts-named (tree.Single a) t at = then-named (atom a t at) _ (atom-named a t at) (λ c. tt)
@@ -143,7 +147,8 @@ row_columns-named t at (Some names) = each-named (column t at) (column-named t a
 insert-named : (t : Table) (at n : ℕ) (names : Option (Chain Name)) (rows : Chain (Chain Literal)) → Named (insert t at n names rows)
 insert-named t at n names rows =
     then-named (row_columns t at names) _ (row_columns-named t at names) (λ columns.
-    then-named (each (row_values at) (list_of rows)) _ (each-named (row_values at) (λ row. each-named (value at) (value-named at) (list_of row)) (list_of rows)) (λ values.
+    then-named (each (row_values at) (list_of rows)) _
+    (each-named (row_values at) (λ row. each-named (value at) (value-named at) (list_of row)) (list_of rows)) (λ values.
     let made : Bind Bound = Ok (Insert n (key_column t) (map (at_places (places t columns)) values)) in
     unless-named (list_any (row_mixes t columns) values) at TypeMismatch (unless (rows_miscount t columns values) at WrongCount made) tt
     (unless-named (rows_miscount t columns values) at WrongCount made tt tt)))
@@ -154,8 +159,10 @@ aggregate-named t at (aggregated.Total n) = then-named (column t at n) _ (column
 
 output-named : (t : Table) (at : ℕ) (items : tree.Items) → Named (output t at items)
 output-named t at tree.AllColumns = tt
-output-named t at (tree.Columns names) = then-named (each (column t at) (list_of names)) _ (each-named (column t at) (column-named t at) (list_of names)) (λ cs. tt)
-output-named t at (tree.Aggregates as') = then-named (each (aggregate t at) (list_of as')) _ (each-named (aggregate t at) (aggregate-named t at) (list_of as')) (λ x. tt)
+output-named t at (tree.Columns names) =
+    then-named (each (column t at) (list_of names)) _ (each-named (column t at) (column-named t at) (list_of names)) (λ cs. tt)
+output-named t at (tree.Aggregates as') =
+    then-named (each (aggregate t at) (list_of as')) _ (each-named (aggregate t at) (aggregate-named t at) (list_of as')) (λ x. tt)
 
 sort_keys-named : (t : Table) (at : ℕ) (o : Option (Chain Sorted)) → Named (sort_keys t at o)
 sort_keys-named t at None = tt
@@ -170,7 +177,8 @@ select-named t at n s =
 update-named : (t : Table) (at n : ℕ) (as' : Chain tree.Assignment) (c : Option tree.Condition) → Named (update t at n as' c)
 update-named t at n as' c =
     then-named (each (assignment t at) (list_of as')) _
-    (each-named (assignment t at) (λ a. then-named (column t at a.column) _ (column-named t at a.column) (λ k. then-named (expression t at a.value) _ (expression-named t at a.value) (λ e. tt))) (list_of as'))
+    (each-named (assignment t at) (λ a. then-named (column t at a.column) _ (column-named t at a.column) (λ k.
+    then-named (expression t at a.value) _ (expression-named t at a.value) (λ e. tt))) (list_of as'))
     (λ sets. then-named (where_of t at c) _ (where-named t at c) (λ d.
     let made : Bind Bound = Ok (Update n (key_of (key_column t) d) sets d) in
     let counted = unless (repeats [] (set_columns sets)) at WrongCount made in
@@ -178,7 +186,8 @@ update-named t at n as' c =
     (unless-named (sets_key (key_column t) sets) at KeyChanged counted tt (unless-named (repeats [] (set_columns sets)) at WrongCount made tt tt))))
 
 delete-named : (t : Table) (at n : ℕ) (c : Option tree.Condition) → Named (delete t at n c)
-delete-named t at n c = then-named (where_of t at c) _ (where-named t at c) (λ d. unless-named (condition_mixes t d) at TypeMismatch (Ok (Delete n (key_of (key_column t) d) d)) tt tt)
+delete-named t at n c =
+    then-named (where_of t at c) _ (where-named t at c) (λ d. unless-named (condition_mixes t d) at TypeMismatch (Ok (Delete n (key_of (key_column t) d) d)) tt tt)
 
 statement-named : (tables : List Table) (at : ℕ) (s : tree.Statement) → Named (statement tables at s)
 statement-named tables at (tree.CreateTable n ps) = not_here
@@ -194,7 +203,8 @@ statement-named tables at (tree.Set setting) = tt
 -- ---- declarations
 
 create_if : (a b c d : Bool) (at : ℕ) (made : List Table)
-    → Named (elim (cond a (Some (Sql kind.TooLarge)) (cond b (Some UnknownColumn) (cond c (Some DuplicateTable) (cond d (Some WrongCount) None)))) [ Some k ↦ refuse at k | None ↦ Ok made ])
+    → Named (elim (cond a (Some (Sql kind.TooLarge)) (cond b (Some UnknownColumn) (cond c (Some DuplicateTable) (cond d (Some WrongCount) None))))
+    [ Some k ↦ refuse at k | None ↦ Ok made ])
 create_if true b c d at made = too_many
 create_if false true c d at made = tt
 create_if false false true d at made = tt

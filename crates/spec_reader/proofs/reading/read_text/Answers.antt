@@ -10,7 +10,8 @@ use Rattle.spec_reader.proofs.reading.read_text.Goals as goal
 use Rattle.spec_reader.proofs.reading.read_text.Goals.{In-Ok-parts_of}
 
 -- the tokens of the text are read as these parts
-is_read_as : (c : In-Ok-parts_of) → reads Start (token_list c.args.text.now) ≡ Ok (file_tree c.in-Ok-parts_of.front c.in-Ok-parts_of.sessions.items c.in-Ok-parts_of.lines.items)
+is_read_as : (c : In-Ok-parts_of)
+    → reads Start (token_list c.args.text.now) ≡ Ok (file_tree c.in-Ok-parts_of.front c.in-Ok-parts_of.sessions.items c.in-Ok-parts_of.lines.items)
 is_read_as c =
     let all : views c.deref.result.now ≡ token_list c.args.text.now = ap views c.deref.ensures.value ∙ c.in-Ok-tokens_of.ensures in
     ap (reads Start) (sym all) ∙ c.in-Ok-parts_of.ensures
@@ -20,8 +21,11 @@ is_of_parts : (c : In-Ok-parts_of) → IsSpec c.args.text.now (file_tree c.in-Ok
 is_of_parts c = is_spec c.args.text.now _ (omega arith) c.utf8.text (is_read_as c)
 
 -- and so is its copy
-is_of_text : (c : In-Ok-parts_of) → IsSpec (string_bytes c.in-Ok.whole) (file_tree c.in-Ok-parts_of.front c.in-Ok-parts_of.sessions.items c.in-Ok-parts_of.lines.items)
-is_of_text c = subst (λ bytes. IsSpec bytes (file_tree c.in-Ok-parts_of.front c.in-Ok-parts_of.sessions.items c.in-Ok-parts_of.lines.items)) (sym c.in-Ok.ensures.ok) (is_of_parts c)
+is_of_text : (c : In-Ok-parts_of)
+    → IsSpec (string_bytes c.in-Ok.whole) (file_tree c.in-Ok-parts_of.front c.in-Ok-parts_of.sessions.items c.in-Ok-parts_of.lines.items)
+is_of_text c =
+    let tree = file_tree c.in-Ok-parts_of.front c.in-Ok-parts_of.sessions.items c.in-Ok-parts_of.lines.items in
+    subst (λ bytes. IsSpec bytes tree) (sym c.in-Ok.ensures.ok) (is_of_parts c)
 
 pub invariant_of-result : goal.invariant_of-result
 invariant_of-result c = record { is_spec = ∣ is_of_text (goal.at.invariant_of-result c).In-Ok-parts_of ∣₁ }
@@ -30,7 +34,8 @@ pub returns-in-Ok-parts_of-clause-sound : goal.returns-in-Ok-parts_of-clause-sou
 returns-in-Ok-parts_of-clause-sound c = is_of_parts (goal.at.returns-in-Ok-parts_of-clause-sound c).In-Ok-parts_of
 
 pub returns-in-Ok-parts_of-clause-complete : goal.returns-in-Ok-parts_of-clause-complete
-returns-in-Ok-parts_of-clause-complete c = λ tree h. same_tree c.args.text.now _ tree (is_read_as (goal.at.returns-in-Ok-parts_of-clause-complete c).In-Ok-parts_of) h
+returns-in-Ok-parts_of-clause-complete c =
+    λ tree h. same_tree c.args.text.now _ tree (is_read_as (goal.at.returns-in-Ok-parts_of-clause-complete c).In-Ok-parts_of) h
 
 pub returns-in-Err-Fault-clause-complete : goal.returns-in-Err-Fault-clause-complete
 returns-in-Err-Fault-clause-complete c =
