@@ -48,7 +48,7 @@ pub record IsAnswerOf (bytes : List ℕ) (rank : ℕ) (text : List ℕ) : Type 0
 -- why the bytes have no answer: they are no spec file, or binding refuses it, or the one permutation is not written; memory aside
 abbrev pub IsRefusedOf : OneFault → List ℕ → ℕ → Type 0
 IsRefusedOf (Spec error) bytes rank = Explains bytes error
-IsRefusedOf (Bind error) bytes rank = (tree : SpecTree) × IsSpec bytes tree × ((bound_file bytes tree ≡ Err error) ⊎ (error.kind ≡ NoMemory))
+IsRefusedOf (Bind error) bytes rank = (tree : SpecTree) × IsSpec bytes tree × ((bound_file bytes tree ≡ Err error) ⊎ (error ≡ record { kind = NoMemory; offset = 0 }))
 IsRefusedOf OutOfRange bytes rank = (file : SpecFile) × IsFileOf bytes file × IsRefused OutOfRange file rank
 IsRefusedOf (Run error) bytes rank = (file : SpecFile) × IsFileOf bytes file × IsRefused (Run error) file rank
 IsRefusedOf (Write fault) bytes rank = (file : SpecFile) × IsFileOf bytes file × IsRefused (Write fault) file rank
