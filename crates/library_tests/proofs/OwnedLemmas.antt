@@ -4,7 +4,7 @@ use Rattle.std.specs.Option.{unwrap_or}
 use Rattle.std.specs.Result.{OnOk, OnErr}
 use Rattle.std.specs.Prelude.{Result, Ok, Err}
 use Rattle.version_tree.specs.Map.{same_key-true, get, insert, empty, get-empty, get-insert}
-use Rattle.lock_modes.specs.Place.{Place, place_order}
+use Rattle.lock_modes.specs.RowPlace.{RowPlace, place_order}
 use Rattle.lock_modes.specs.declared.value.Value.{Value}
 use Rattle.row_tables.specs.Overlay.{Tuple, Overlay}
 use Rattle.row_tables.specs.Layers.{Layers, session_order, overlay_of, no_rows, IsOnlyWriterIn, wrote, undone, kept}
@@ -42,7 +42,7 @@ wrote-owned session table key left l own owned = record {
 }
   where
     theirs : (u : ℕ) (j : Value) (other : ℕ) → other ≢ owner u → same_session other session ≡ true → (b : Bool) → same_place (u, j) (table, key) ≡ b → get (insert (overlay_of session l) (table, key) left) (u, j) ≡ None
-    theirs u j other ne is true here = absurd (ne (same_key-true session_order other session is ∙ own ∙ ap (λ (p : Place). owner p.0) (sym (same_key-true place_order (u, j) (table, key) here))))
+    theirs u j other ne is true here = absurd (ne (same_key-true session_order other session is ∙ own ∙ ap (λ (p : RowPlace). owner p.0) (sym (same_key-true place_order (u, j) (table, key) here))))
     theirs u j other ne is false there =
         get-insert (overlay_of session l) (table, key) left (u, j)
         ∙ ap (λ b. cond b (Some left) (get (overlay_of session l) (u, j))) there

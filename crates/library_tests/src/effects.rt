@@ -212,7 +212,7 @@ fn a_table_of_names_is_read_thinned_and_summed(rt: HostRuntime) -> Result<(), Fa
         )?,
         numbers(alloc, above, &[Aggregate::Sum(1)])?,
         Bound::Update(0, None, doubled, Condition::Always),
-        Bound::LockTable(0, Mode::Share),
+        Bound::Lock(0, Mode::Share),
         Bound::SetVariable,
         Bound::Begin,
     ];

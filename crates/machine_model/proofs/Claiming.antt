@@ -2,7 +2,7 @@
 use Rattle.std.proofs.Common.{◌≡◌, ap, ◌∙◌, Bool, true, false, ◌&&◌, ◌||◌, List, [], ◌∷◌, Option, Some, None, ◌⊎◌, inl, inr, ⊎_elim}
 use Rattle.std.specs.List.{list_any}
 use Rattle.version_tree.specs.Map.{same_key-true, same_key-refl, get}
-use Rattle.lock_modes.specs.Place.{Place}
+use Rattle.lock_modes.specs.RowPlace.{RowPlace}
 use Rattle.lock_modes.specs.Resource.{resource_order, same_resource}
 use Rattle.lock_modes.specs.Mode.{same_mode}
 use Rattle.sql_statements.specs.Plan.{Request}
@@ -52,7 +52,7 @@ or_implies : (a b x y : Bool) → (a ≡ true → x ≡ true) → (b ≡ true �
 or_implies a b x y f g e = ⊎_elim (λ h. or_true_left x y (f h)) (λ h. or_true_right x y (g h)) (either_true a b e)
 
 -- more claims let more be written
-pub may_write-more : (a b : Claims) → ((r : Resource) (m : Mode) → a r m ≡ true → b r m ≡ true) → (p : Place) → may_write a p ≡ true → may_write b p ≡ true
+pub may_write-more : (a b : Claims) → ((r : Resource) (m : Mode) → a r m ≡ true → b r m ≡ true) → (p : RowPlace) → may_write a p ≡ true → may_write b p ≡ true
 may_write-more a b h p e =
     or_implies (a (Table p.0) Exclusive) _ (b (Table p.0) Exclusive) _ (h (Table p.0) Exclusive)
     (λ x.

@@ -1,7 +1,7 @@
 -- What the plan of a statement says of what it reads and writes.
 use Rattle.std.proofs.Common.{◌≡◌, refl, subst, ℕ, Bool, true, false, ◌&&◌, ◌||◌, List, [], ◌∷◌, map, Some, None, ◌⊎◌, inl, inr, ⊎_elim}
 use Rattle.version_tree.specs.Map.{same_key-true, same_key-refl, entries}
-use Rattle.lock_modes.specs.Place.{Place}
+use Rattle.lock_modes.specs.RowPlace.{RowPlace}
 use Rattle.lock_modes.specs.Resource.{resource_order, same_resource}
 use Rattle.lock_modes.specs.Mode.{compatible}
 use Rattle.sql_statements.specs.Plan.{Tuple, Request, request, plan, opened, asks_on, reads_table, writes_in, is_exclusive, looks_at, key_at}
@@ -18,7 +18,7 @@ use Rattle.lock_modes.specs.declared.mode.Mode.TheVariants.{IntentShare, IntentE
 use Rattle.lock_modes.specs.declared.resource.Resource.{Resource}
 use Rattle.lock_modes.specs.declared.resource.Resource.TheVariants.{Table, Row as RowOf}
 use Rattle.sql_statements.specs.declared.statement.Bound.{Bound}
-use Rattle.sql_statements.specs.declared.statement.Bound.TheVariants.{Select, Insert, Update, Delete, Begin, Commit, Rollback, LockTable, SetVariable}
+use Rattle.sql_statements.specs.declared.statement.Bound.TheVariants.{Select, Insert, Update, Delete, Begin, Commit, Rollback, Lock, SetVariable}
 use Rattle.machine_model.proofs.Basics.{some_passes, both_true, and_true, either_true, or_true_left, or_true_right, not_both, known}
 use Rattle.statement_effects.proofs.ListLemmas.{Each, Each-map}
 use Rattle.machine_model.proofs.Looks.{looked-opened, writable}
@@ -56,7 +56,7 @@ any_then_write ShareIntent w = refl
 any_then_write Exclusive w = refl
 
 -- under such requests what may be read may be written
-opened-writable : (qs : List Request) (p : Place) → Each (λ q. is_writing q.mode ≡ true) qs → opened qs p ≡ true → writable qs p ≡ true
+opened-writable : (qs : List Request) (p : RowPlace) → Each (λ q. is_writing q.mode ≡ true) qs → opened qs p ≡ true → writable qs p ≡ true
 opened-writable qs p each e =
     let P : Request → Type 0 = λ q. is_writing q.mode ≡ true in
     elim (either_true (asks_on qs (Table p.0) reads_table) _ e) [
@@ -89,21 +89,21 @@ writable-table : (t : ℕ) (v : Value) → writable (request (Table t) Exclusive
 writable-table t v = or_true_left _ _ (or_true_left _ _ (and_true _ _ (same_key-refl resource_order (Table t)) refl))
 
 -- a statement whose plan has such requests alone
-seen-writable : (st : Bound) (rows : Rows') → Each (λ q. is_writing q.mode ≡ true) (plan st) → Each (λ (e : Place × Tuple). writable (plan st) e.0 ≡ true) (entries (visible st rows))
-seen-writable st rows each = Each-map (λ (e : Place × Tuple). looks_at st e.0 ≡ true) (λ (e : Place × Tuple). writable (plan st) e.0 ≡ true) (λ e h. opened-writable (plan st) e.0 each (looked-opened st e.0 h)) (entries (visible st rows)) (each-kept (looks_at st) rows)
+seen-writable : (st : Bound) (rows : Rows') → Each (λ q. is_writing q.mode ≡ true) (plan st) → Each (λ (e : RowPlace × Tuple). writable (plan st) e.0 ≡ true) (entries (visible st rows))
+seen-writable st rows each = Each-map (λ (e : RowPlace × Tuple). looks_at st e.0 ≡ true) (λ (e : RowPlace × Tuple). writable (plan st) e.0 ≡ true) (λ e h. opened-writable (plan st) e.0 each (looked-opened st e.0 h)) (entries (visible st rows)) (each-kept (looks_at st) rows)
 
 updated-under : (st : Bound) (sets : List Assignment) (c : Condition) (rows : Rows') → Each (λ q. is_writing q.mode ≡ true) (plan st)
     → OnGives (elim (matching c (entries (visible st rows))) [ None ↦ Faults OutOfRange | Some es ↦ or_fault OutOfRange (all_assigned sets es) Updated ]) (Each (λ w. writable (plan st) w.place ≡ true))
 updated-under st sets c rows each =
-    let P : Place → Type 0 = λ p. writable (plan st) p ≡ true in
+    let P : RowPlace → Type 0 = λ p. writable (plan st) p ≡ true in
     on-matched P (matching c (entries (visible st rows))) (λ es. or_fault OutOfRange (all_assigned sets es) Updated)
     (λ es h. on-or_fault P OutOfRange (all_assigned sets es) Updated (each-all_assigned P sets es h)) (each-matching P c _ (seen-writable st rows each))
 
 deleted-under : (st : Bound) (c : Condition) (rows : Rows') → Each (λ q. is_writing q.mode ≡ true) (plan st)
-    → OnGives (elim (matching c (entries (visible st rows))) [ None ↦ Faults OutOfRange | Some es ↦ counted Deleted (map (λ (e : Place × Tuple). record { place = e.0; left = None }) es) ]) (Each (λ w. writable (plan st) w.place ≡ true))
+    → OnGives (elim (matching c (entries (visible st rows))) [ None ↦ Faults OutOfRange | Some es ↦ counted Deleted (map (λ (e : RowPlace × Tuple). record { place = e.0; left = None }) es) ]) (Each (λ w. writable (plan st) w.place ≡ true))
 deleted-under st c rows each =
-    let P : Place → Type 0 = λ p. writable (plan st) p ≡ true in
-    on-matched P (matching c (entries (visible st rows))) (λ es. counted Deleted (map (λ (e : Place × Tuple). record { place = e.0; left = None }) es))
+    let P : RowPlace → Type 0 = λ p. writable (plan st) p ≡ true in
+    on-matched P (matching c (entries (visible st rows))) (λ es. counted Deleted (map (λ (e : RowPlace × Tuple). record { place = e.0; left = None }) es))
     (λ es h. each-deleted P es h) (each-matching P c _ (seen-writable st rows each))
 
 -- each write of an effect lies where the plan lets the statement write
@@ -116,7 +116,7 @@ effect-writable (Update t (Some key) sets c) rows = updated-under (Update t (Som
 effect-writable (Update t None sets c) rows = updated-under (Update t None sets c) sets c rows (refl, tt)
 effect-writable (Delete t (Some key) c) rows = deleted-under (Delete t (Some key) c) c rows (refl, (refl, tt))
 effect-writable (Delete t None c) rows = deleted-under (Delete t None c) c rows (refl, tt)
-effect-writable (LockTable t m) rows = tt
+effect-writable (Lock t m) rows = tt
 effect-writable SetVariable rows = tt
 effect-writable Begin rows = tt
 effect-writable Commit rows = tt
@@ -152,7 +152,7 @@ intent-claim claims r Share c w = cc
 intent-claim claims r ShareIntent c w = inr (or_true_right (claims r IntentExclusive) _ c)
 intent-claim claims r Exclusive c w = inl c
 
-writable-claimed : (claims : Claims) (qs : List Request) (p : Place) → Claimed claims qs → writable qs p ≡ true → may_write claims p ≡ true
+writable-claimed : (claims : Claims) (qs : List Request) (p : RowPlace) → Claimed claims qs → writable qs p ≡ true → may_write claims p ≡ true
 writable-claimed claims qs p each e =
     elim (either_true (asks_on qs (Table p.0) is_exclusive) _ e) [
       | inl h ↦ let x = claimed claims qs (Table p.0) is_exclusive each h in or_true_left _ _ (subst (λ m. claims (Table p.0) m ≡ true) (exclusive-is x.0 x.2) x.1)
@@ -203,7 +203,7 @@ reads-no-intent Exclusive ShareIntent r w = refl
 reads-no-intent Exclusive Exclusive r w = refl
 
 -- what a claim of theirs to write needs: any claim of ours on the table, and on the row or for reading on the table, stands against it
-module _ (ours theirs : Claims) (friends : Friends ours theirs) (p : Place) where
+module _ (ours theirs : Claims) (friends : Friends ours theirs) (p : RowPlace) where
   -- theirs on the table is exclusive
   against-table : (m : Mode) → ours (Table p.0) m ≡ true → theirs (Table p.0) Exclusive ≡ true → ⊥
   against-table m o t = not_both _ (friends.fit (Table p.0) m Exclusive o t) (no-exclusive m)

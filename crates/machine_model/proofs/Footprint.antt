@@ -1,7 +1,7 @@
 -- What a session that goes alone reads and writes.
 use Rattle.std.proofs.Common.{◌≡◌, refl, sym, ap, ◌∙◌, subst, Bool, true, false, cond, List, [], ◌∷◌, Option, Some, None, ◌⊎◌, inl, inr, ⊎_elim}
 use Rattle.version_tree.specs.Map.{same_key, same_key-true, get, insert, get-insert, get-keep, empty, get-empty, same_map}
-use Rattle.lock_modes.specs.Place.{Place, place_order}
+use Rattle.lock_modes.specs.RowPlace.{RowPlace, place_order}
 use Rattle.sql_statements.specs.Plan.{Tuple, plan, opened, looks_at}
 use Rattle.row_tables.specs.Overlay.{Rows', Write, Overlay, lay, written}
 use Rattle.statement_effects.specs.Effect.{visible, Effect, Gives, Faults, effect, effect_on}
@@ -23,23 +23,23 @@ use Rattle.statement_effects.proofs.WriteLemmas.{OnGives}
 
 -- ---- a statement reads what it looks at, so what its plan opens
 
-pub visible-same : (st : Bound) (a b : Rows') → ((p : Place) → looks_at st p ≡ true → get a p ≡ get b p) → visible st a ≡ visible st b
+pub visible-same : (st : Bound) (a b : Rows') → ((p : RowPlace) → looks_at st p ≡ true → get a p ≡ get b p) → visible st a ≡ visible st b
 visible-same st a b h = same_map _ _ (λ p. get-keep (looks_at st) a p ∙ at p (looks_at st p) refl ∙ sym (get-keep (looks_at st) b p))
   where
-    at : (p : Place) (t : Bool) → looks_at st p ≡ t → cond (looks_at st p) (get a p) None ≡ cond (looks_at st p) (get b p) None
+    at : (p : RowPlace) (t : Bool) → looks_at st p ≡ t → cond (looks_at st p) (get a p) None ≡ cond (looks_at st p) (get b p) None
     at p true is = ap (cond (looks_at st p) (get a p)) refl ∙ ap (λ x. cond (looks_at st p) x None) (h p is)
     at p false is = ap (λ t. cond t (get a p) None) is ∙ sym (ap (λ t. cond t (get b p) None) is)
 
-pub effect-looks : (st : Bound) (a b : Rows') → ((p : Place) → looks_at st p ≡ true → get a p ≡ get b p) → effect st a ≡ effect st b
+pub effect-looks : (st : Bound) (a b : Rows') → ((p : RowPlace) → looks_at st p ≡ true → get a p ≡ get b p) → effect st a ≡ effect st b
 unfolding effect
 effect-looks st a b h = ap (effect_on st) (visible-same st a b h)
 
-pub effect-same : (st : Bound) (a b : Rows') → ((p : Place) → opened (plan st) p ≡ true → get a p ≡ get b p) → effect st a ≡ effect st b
+pub effect-same : (st : Bound) (a b : Rows') → ((p : RowPlace) → opened (plan st) p ≡ true → get a p ≡ get b p) → effect st a ≡ effect st b
 effect-same st a b h = effect-looks st a b (λ p e. h p (looked-opened st p e))
 
 -- ---- rows that agree but at hidden places
 
-pub AgreeBut-lay : (hidden : Place → Bool) (a b : Rows') (o : Overlay) → AgreeBut hidden a b → AgreeBut hidden (lay o a) (lay o b)
+pub AgreeBut-lay : (hidden : RowPlace → Bool) (a b : Rows') (o : Overlay) → AgreeBut hidden a b → AgreeBut hidden (lay o a) (lay o b)
 AgreeBut-lay hidden a b o h = record { each = λ p off. get-lay o a p ∙ ap (over (get o p)) (h.each p off) ∙ sym (get-lay o b p) }
 
 -- ---- changes
@@ -63,7 +63,7 @@ changes-then a x z b y v first second p =
     (λ s. inr s) (second p)
 
 -- rows that agreed still do
-pub agree-changed : (hidden : Place → Bool) (a x b y : Rows') → AgreeBut hidden a b → SameChanges a x b y → AgreeBut hidden x y
+pub agree-changed : (hidden : RowPlace → Bool) (a x b y : Rows') → AgreeBut hidden a b → SameChanges a x b y → AgreeBut hidden x y
 agree-changed hidden a x b y h changes = record { each = λ p off. ⊎_elim (λ f. f.0 ∙ h.each p off ∙ sym f.1) (λ f. f) (changes p) }
 
 -- a statement on the rows a and b: both go the same way
@@ -75,13 +75,13 @@ worked-same : (s : Session) (a b : Rows') (e : Effect) → SameWay a b (worked s
 worked-same s a b (Gives events writes) = both_go (changes-none a b)
 worked-same s a b (Faults f) = both_fail
 
-works-same : (hidden : Place → Bool) (s : Session) (a b : Rows') (st : Bound) → ReadsBut hidden st → AgreeBut hidden a b
+works-same : (hidden : RowPlace → Bool) (s : Session) (a b : Rows') (st : Bound) → ReadsBut hidden st → AgreeBut hidden a b
     → SameWay a b (worked s a (effect st (lay s.overlay a))) (worked s b (effect st (lay s.overlay b)))
 works-same hidden s a b st off h =
     let e : effect st (lay s.overlay a) ≡ effect st (lay s.overlay b) = effect-same st _ _ (λ p o. (AgreeBut-lay hidden a b s.overlay h).each p (off.each p o)) in
     subst (λ x. SameWay a b (worked s a (effect st (lay s.overlay a))) (worked s b x)) e (worked-same s a b _)
 
-pub perform_by-same : (hidden : Place → Bool) (status : Status) (k : Kind) (s : Session) (a b : Rows') (st : Bound) → ReadsBut hidden st → AgreeBut hidden a b
+pub perform_by-same : (hidden : RowPlace → Bool) (status : Status) (k : Kind) (s : Session) (a b : Rows') (st : Bound) → ReadsBut hidden st → AgreeBut hidden a b
     → SameWay a b (perform_by status k s a st) (perform_by status k s b st)
 perform_by-same hidden Outside Begins s a b st off h = both_go (changes-none a b)
 perform_by-same hidden InBlock Begins s a b st off h = both_go (changes-none a b)
@@ -102,7 +102,7 @@ finished-same InBlock s a b = record { session = refl; changes = changes-none a 
 finished-same Broken s a b = record { session = refl; changes = changes-none a b }
 
 -- the session ends the same over rows that agree where it reads
-pub solo-same-but : (hidden : Place → Bool) (s : Session) (a b : Rows') (ts : List Task) → EachDo (ReadsBut hidden) ts → AgreeBut hidden a b → EndsSame a b (solo s a ts) (solo s b ts)
+pub solo-same-but : (hidden : RowPlace → Bool) (s : Session) (a b : Rows') (ts : List Task) → EachDo (ReadsBut hidden) ts → AgreeBut hidden a b → EndsSame a b (solo s a ts) (solo s b ts)
 solo-same-but hidden s a b [] off h = finished-same s.status s a b
 solo-same-but hidden s a b (Ask r m ∷ ts) off h = asked (is_broken s.status) (solo-same-but hidden (taking s r m) a b ts off h)
   where
@@ -143,7 +143,7 @@ solo-same claims s a b ts off h =
 -- ---- a session writes where it may
 
 pub record OverlayUnder (claims : Claims) (o : Overlay) : Type 0 where
-  pub each : (p : Place) (x : Option Tuple) → get o p ≡ Some x → may_write claims p ≡ true
+  pub each : (p : RowPlace) (x : Option Tuple) → get o p ≡ Some x → may_write claims p ≡ true
 
 pub record WritesUnder (claims : Claims) (st : Bound) : Type 0 where
   pub each : (rows : Rows') → OnGives (effect st rows) (Each (λ w. may_write claims w.place ≡ true))
@@ -151,10 +151,10 @@ pub record WritesUnder (claims : Claims) (st : Bound) : Type 0 where
 pub OverlayUnder-empty : (claims : Claims) → OverlayUnder claims empty
 OverlayUnder-empty claims = record { each = λ p x is. absurd (let e = sym (get-empty place_order (Option Tuple) p) ∙ is in cc) }
 
-OverlayUnder-insert : (claims : Claims) (o : Overlay) (k : Place) (y : Option Tuple) → may_write claims k ≡ true → OverlayUnder claims o → OverlayUnder claims (insert o k y)
+OverlayUnder-insert : (claims : Claims) (o : Overlay) (k : RowPlace) (y : Option Tuple) → may_write claims k ≡ true → OverlayUnder claims o → OverlayUnder claims (insert o k y)
 OverlayUnder-insert claims o k y may h = record { each = λ p x is. at p x (same_key place_order p k) refl (sym (get-insert o k y p) ∙ is) }
   where
-    at : (p : Place) (x : Option Tuple) (b : Bool) → same_key place_order p k ≡ b → cond (same_key place_order p k) (Some y) (get o p) ≡ Some x → may_write claims p ≡ true
+    at : (p : RowPlace) (x : Option Tuple) (b : Bool) → same_key place_order p k ≡ b → cond (same_key place_order p k) (Some y) (get o p) ≡ Some x → may_write claims p ≡ true
     at p x true same is = subst (λ q. may_write claims q ≡ true) (sym (same_key-true place_order p k same)) may
     at p x false same is = h.each p x (ap (λ b. cond b (Some y) (get o p)) (sym same) ∙ is)
 
@@ -169,7 +169,7 @@ AgreeOff-refl claims a = record { each = λ p off. refl }
 pub AgreeOff-laid : (claims : Claims) (o : Overlay) (rows : Rows') → OverlayUnder claims o → AgreeOff claims (lay o rows) rows
 AgreeOff-laid claims o rows under = record { each = λ p off. get-lay o rows p ∙ at p (get o p) refl off }
   where
-    at : (p : Place) (x : Option (Option Tuple)) → get o p ≡ x → may_write claims p ≡ false → over (get o p) (get rows p) ≡ get rows p
+    at : (p : RowPlace) (x : Option (Option Tuple)) → get o p ≡ x → may_write claims p ≡ false → over (get o p) (get rows p) ≡ get rows p
     at p None is off = ap (λ x. over x (get rows p)) is
     at p (Some y) is off = absurd (not_both _ (under.each p y is) off)
 

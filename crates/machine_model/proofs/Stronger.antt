@@ -1,7 +1,7 @@
 -- Modes that stand for others, and what they let a session write.
 use Rattle.std.proofs.Common.{◌≡◌, refl, sym, ap, ◌∙◌, subst, Bool, true, false, cond, ◌&&◌, ◌||◌, List, [], ◌∷◌, Option, Some, None, ◌⊎◌, inl, inr, ⊎_elim}
 use Rattle.version_tree.specs.Map.{same_key, same_key-true, same_key-refl, get, insert, get-insert}
-use Rattle.lock_modes.specs.Place.{Place}
+use Rattle.lock_modes.specs.RowPlace.{RowPlace}
 use Rattle.lock_modes.specs.Resource.{resource_order, same_resource}
 use Rattle.lock_modes.specs.Mode.{cover, AtLeast}
 use Rattle.lock_queues.specs.Locks.{wanted}
@@ -28,7 +28,7 @@ pub record HasMode (h : Held) (r : Resource) (test : Mode → Bool) : Type 0 whe
   pub is : get h r ≡ Some mode
   pub passes : test mode ≡ true
 
-abbrev pub CanWrite : Held → Place → Type 0
+abbrev pub CanWrite : Held → RowPlace → Type 0
 CanWrite h p = HasMode h (Table p.0) is_exclusive ⊎ (HasMode h (RowOf p.0 p.1) is_exclusive × HasMode h (Table p.0) writes_in)
 
 pub held-claim : (h : Held) (r : Resource) (m : Mode) → claims_of h [] r m ≡ true → get h r ≡ Some m
@@ -37,7 +37,7 @@ held-claim h r m e = ⊎_elim (λ x. x) (λ x. absurd x.1) (claims-cases (λ q. 
 has-claim : (h : Held) (r : Resource) (m : Mode) (test : Mode → Bool) → test m ≡ true → claims_of h [] r m ≡ true → HasMode h r test
 has-claim h r m test t e = record { mode = m; is = held-claim h r m e; passes = t }
 
-pub may-can : (h : Held) (p : Place) → may_write (claims_of h []) p ≡ true → CanWrite h p
+pub may-can : (h : Held) (p : RowPlace) → may_write (claims_of h []) p ≡ true → CanWrite h p
 may-can h p e =
     ⊎_elim (λ x. inl (has-claim h (Table p.0) Exclusive is_exclusive refl x))
     (λ x.
@@ -58,7 +58,7 @@ intent-cases h r Share is e = cc
 intent-cases h r ShareIntent is e = inr (or_true_right (claims_of h [] r IntentExclusive) _ (claims-held h [] r ShareIntent is))
 intent-cases h r Exclusive is e = inl (claims-held h [] r Exclusive is)
 
-pub can-may : (h : Held) (p : Place) → CanWrite h p → may_write (claims_of h []) p ≡ true
+pub can-may : (h : Held) (p : RowPlace) → CanWrite h p → may_write (claims_of h []) p ≡ true
 can-may h p (inl x) = or_true_left _ _ (exclusive-claim h (Table p.0) x)
 can-may h p (inr x) =
     ⊎_elim (λ y. or_true_left _ _ y) (λ y. or_true_right (claims_of h [] (Table p.0) Exclusive) _ (and_true _ _ (exclusive-claim h (RowOf p.0 p.1) x.0) y))
@@ -86,7 +86,7 @@ stronger-taking h r m = record { each = λ q n e. subst (λ o. Covers o n) (sym 
 pub has-stronger : (h k : Held) → Stronger h k → (r : Resource) (test : Mode → Bool) → ((n m : Mode) → AtLeast n m → test m ≡ true → test n ≡ true) → HasMode h r test → HasMode k r test
 has-stronger h k s r test up x = let c = s.each r x.mode x.is in record { mode = c.0; is = c.1; passes = up c.0 x.mode c.2 x.passes }
 
-pub can-stronger : (h k : Held) → Stronger h k → (p : Place) → CanWrite h p → CanWrite k p
+pub can-stronger : (h k : Held) → Stronger h k → (p : RowPlace) → CanWrite h p → CanWrite k p
 can-stronger h k s p (inl x) = inl (has-stronger h k s (Table p.0) is_exclusive exclusive-up x)
 can-stronger h k s p (inr x) = inr (has-stronger h k s (RowOf p.0 p.1) is_exclusive exclusive-up x.0, has-stronger h k s (Table p.0) writes_in writes-up x.1)
 
@@ -128,7 +128,7 @@ asks-has h (q ∷ qs) r test up x e =
     record { mode = x.0.0; is = sym (ap (get h) (same_key-true resource_order q.resource r b.0)) ∙ x.0.1; passes = up x.0.0 q.mode x.0.2 b.1 })
     (λ y. asks-has h qs r test up x.1 y) (either_true (same_resource q.resource r && test q.mode) _ e)
 
-pub writable-can : (h : Held) (qs : List Request) (p : Place) → HoldsAll h qs → writable qs p ≡ true → CanWrite h p
+pub writable-can : (h : Held) (qs : List Request) (p : RowPlace) → HoldsAll h qs → writable qs p ≡ true → CanWrite h p
 writable-can h qs p x e =
     ⊎_elim (λ y. inl (asks-has h qs (Table p.0) is_exclusive exclusive-up x y))
     (λ y. let b = both_true (asks_on qs (RowOf p.0 p.1) is_exclusive) _ y in inr (asks-has h qs (RowOf p.0 p.1) is_exclusive exclusive-up x b.0, asks-has h qs (Table p.0) writes_in writes-up x b.1))

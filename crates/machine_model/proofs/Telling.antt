@@ -1,7 +1,7 @@
 -- What the effect of a statement tells.
 use Rattle.std.proofs.Common.{◌≡◌, refl, ℕ, true, List, [], ◌∷◌, ◌++◌, length, map, Option, Some, None}
 use Rattle.version_tree.specs.Map.{entries}
-use Rattle.lock_modes.specs.Place.{Place}
+use Rattle.lock_modes.specs.RowPlace.{RowPlace}
 use Rattle.sql_statements.specs.Plan.{Tuple}
 use Rattle.row_tables.specs.Overlay.{Rows', Write}
 use Rattle.statement_effects.specs.Effect.{Effect, Gives, Faults, effect, visible, matching, sorted_by, shown, projected, all_aggregated, all_assigned, placed, or_fault, counted}
@@ -13,7 +13,7 @@ use Rattle.transcripts.specs.declared.event.Fault.TheVariants.{OutOfRange, Dupli
 use Rattle.sql_statements.specs.declared.statement.Output.{Output}
 use Rattle.sql_statements.specs.declared.statement.Output.TheVariants.{Columns, Aggregates}
 use Rattle.sql_statements.specs.declared.statement.Bound.{Bound}
-use Rattle.sql_statements.specs.declared.statement.Bound.TheVariants.{Select, Insert, Update, Delete, Begin, Commit, Rollback, LockTable, SetVariable}
+use Rattle.sql_statements.specs.declared.statement.Bound.TheVariants.{Select, Insert, Update, Delete, Begin, Commit, Rollback, Lock, SetVariable}
 use Rattle.lock_modes.specs.declared.value.Value.{Value}
 
 abbrev pub AllEffects : List Event → Type 0
@@ -28,12 +28,12 @@ told-append : (es fs : List Event) → AllEffects es → AllEffects fs → AllEf
 told-append [] fs p q = q
 told-append (e ∷ es) fs p q = (p.0, told-append es fs p.1 q)
 
-told-rows : (columns : List ℕ) (es : List (Place × Tuple)) → AllEffects (map (λ (e : Place × Tuple). RowEvent (projected columns e.1)) es)
+told-rows : (columns : List ℕ) (es : List (RowPlace × Tuple)) → AllEffects (map (λ (e : RowPlace × Tuple). RowEvent (projected columns e.1)) es)
 told-rows columns [] = tt
 told-rows columns (e ∷ es) = (refl, told-rows columns es)
 
-told-shown : (out : Output) (es : List (Place × Tuple)) → TellsEffects (shown out es)
-told-shown (Columns columns) es = told-append (map (λ (e : Place × Tuple). RowEvent (projected columns e.1)) es) (Rows (length es) ∷ []) (told-rows columns es) (refl, tt)
+told-shown : (out : Output) (es : List (RowPlace × Tuple)) → TellsEffects (shown out es)
+told-shown (Columns columns) es = told-append (map (λ (e : RowPlace × Tuple). RowEvent (projected columns e.1)) es) (Rows (length es) ∷ []) (told-rows columns es) (refl, tt)
 told-shown (Aggregates each) es = on (all_aggregated each es)
   where
     on : (o : Option (List Value)) → TellsEffects (elim o [ None ↦ Faults OutOfRange | Some vs ↦ Gives (RowEvent vs ∷ Rows 1 ∷ []) [] ])
@@ -44,7 +44,7 @@ told-or_fault : (f : Fault) (o : Option (List Write)) (event : ℕ → Event) �
 told-or_fault f None event h = tt
 told-or_fault f (Some ws) event h = (h (length ws), tt)
 
-told-matched : (o : Option (List (Place × Tuple))) (then' : List (Place × Tuple) → Effect) → ((es : List (Place × Tuple)) → TellsEffects (then' es)) → TellsEffects (elim o [ None ↦ Faults OutOfRange | Some es ↦ then' es ])
+told-matched : (o : Option (List (RowPlace × Tuple))) (then' : List (RowPlace × Tuple) → Effect) → ((es : List (RowPlace × Tuple)) → TellsEffects (then' es)) → TellsEffects (elim o [ None ↦ Faults OutOfRange | Some es ↦ then' es ])
 told-matched None then' h = tt
 told-matched (Some es) then' h = h es
 
@@ -55,8 +55,8 @@ effect-tells (Select t key c by out) rows = told-matched (matching c (entries (v
 effect-tells (Insert t (Some k) new) rows = told-or_fault Duplicate (placed t k new (visible (Insert t (Some k) new) rows)) Inserted (λ n. refl)
 effect-tells (Insert t None new) rows = (refl, tt)
 effect-tells (Update t key sets c) rows = told-matched (matching c (entries (visible (Update t key sets c) rows))) (λ es. or_fault OutOfRange (all_assigned sets es) Updated) (λ es. told-or_fault OutOfRange (all_assigned sets es) Updated (λ n. refl))
-effect-tells (Delete t key c) rows = told-matched (matching c (entries (visible (Delete t key c) rows))) (λ es. counted Deleted (map (λ (e : Place × Tuple). record { place = e.0; left = None }) es)) (λ es. (refl, tt))
-effect-tells (LockTable t m) rows = (refl, tt)
+effect-tells (Delete t key c) rows = told-matched (matching c (entries (visible (Delete t key c) rows))) (λ es. counted Deleted (map (λ (e : RowPlace × Tuple). record { place = e.0; left = None }) es)) (λ es. (refl, tt))
+effect-tells (Lock t m) rows = (refl, tt)
 effect-tells SetVariable rows = (refl, tt)
 effect-tells Begin rows = tt
 effect-tells Commit rows = tt

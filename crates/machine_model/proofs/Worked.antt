@@ -24,7 +24,7 @@ use Rattle.sql_statements.specs.declared.statement.Aggregate.TheVariants.{Count,
 use Rattle.sql_statements.specs.declared.statement.Order.TheVariants.{Falls}
 use Rattle.sql_statements.specs.declared.statement.Output.TheVariants.{Columns, Aggregates}
 use Rattle.sql_statements.specs.declared.statement.Bound.{Bound}
-use Rattle.sql_statements.specs.declared.statement.Bound.TheVariants.{Select, Insert, Update, Delete, Begin, Commit, Rollback, LockTable}
+use Rattle.sql_statements.specs.declared.statement.Bound.TheVariants.{Select, Insert, Update, Delete, Begin, Commit, Rollback, Lock}
 
 abbrev pub number : ℕ → Value
 number n = Int (pos n)
@@ -186,7 +186,7 @@ unfolding get insert keep remove entries empty effect lay
 range_row_is = refl
 
 abbrev pub upgrade_row : Spec
-upgrade_row = in_blocks 2 (step 0 (LockTable 0 Share) ∷ step 0 (LockTable 0 Exclusive) ∷ step 1 (LockTable 0 Share) ∷ step 1 (LockTable 0 Exclusive) ∷ [])
+upgrade_row = in_blocks 2 (step 0 (Lock 0 Share) ∷ step 0 (Lock 0 Exclusive) ∷ step 1 (Lock 0 Share) ∷ step 1 (Lock 0 Exclusive) ∷ [])
 
 -- two conversions would wait for each other
 upgrade_row_is : transcripts upgrade_row (0 ∷ 2 ∷ 1 ∷ 3 ∷ [])

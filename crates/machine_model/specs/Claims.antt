@@ -1,7 +1,7 @@
 -- What a session claims in a step, and what its claims let it write.
 use Rattle.std.specs.Prelude.{Bool, false, ◌&&◌, ◌||◌, List, [], ◌∷◌, ◌++◌, Option, Some, None}
 use Rattle.std.specs.List.{list_any}
-use Rattle.lock_modes.specs.Place.{Place}
+use Rattle.lock_modes.specs.RowPlace.{RowPlace}
 use Rattle.version_tree.specs.Map.{get}
 use Rattle.lock_modes.specs.Mode.{same_mode}
 use Rattle.lock_modes.specs.Resource.{same_resource}
@@ -26,7 +26,7 @@ abbrev pub claims_of : Held → List Request → Claims
 claims_of held qs r m = is_mode (get held r) m || list_any (λ q. same_resource q.resource r && same_mode q.mode m) qs
 
 -- a side with these claims may write the row at the place
-abbrev pub may_write : Claims → Place → Bool
+abbrev pub may_write : Claims → RowPlace → Bool
 may_write claims p =
     claims (Table p.0) Exclusive || (claims (RowOf p.0 p.1) Exclusive && (claims (Table p.0) IntentExclusive || claims (Table p.0) ShareIntent))
 

@@ -1,7 +1,7 @@
 -- What a session reads and writes while each of its requests is had.
 use Rattle.std.specs.Prelude.{◌≡◌, ◌⊎◌, ℕ, Bool, true, false, List, [], ◌∷◌, Some}
 use Rattle.version_tree.specs.Map.{get}
-use Rattle.lock_modes.specs.Place.{Place}
+use Rattle.lock_modes.specs.RowPlace.{RowPlace}
 use Rattle.lock_queues.specs.Locks.{fits, nobody_waits, may_have}
 use Rattle.row_tables.specs.Overlay.{Rows'}
 use Rattle.sql_statements.specs.Plan.{plan, opened}
@@ -30,16 +30,16 @@ pub record HeldFits (e : Scene) (i : ℕ) (h : Held) : Type 0 where
 abbrev pub IsFree : Scene → ℕ → Resource → Mode → Type 0
 IsFree e i r m = (fits e.count e.look i r m ≡ true) × (nobody_waits e.waits r ≡ true)
 
-pub record AgreeBut (hidden : Place → Bool) (a b : Rows') : Type 0 where
-  pub each : (p : Place) → hidden p ≡ false → get a p ≡ get b p
+pub record AgreeBut (hidden : RowPlace → Bool) (a b : Rows') : Type 0 where
+  pub each : (p : RowPlace) → hidden p ≡ false → get a p ≡ get b p
 
 -- the statement reads nothing that the side may write
-pub record ReadsBut (hidden : Place → Bool) (st : Bound) : Type 0 where
-  pub each : (p : Place) → opened (plan st) p ≡ true → hidden p ≡ false
+pub record ReadsBut (hidden : RowPlace → Bool) (st : Bound) : Type 0 where
+  pub each : (p : RowPlace) → opened (plan st) p ≡ true → hidden p ≡ false
 
 -- from the rows a and b on, two runs that end in x and y leave each place as it was, or leave the same there
 abbrev pub SameChanges : Rows' → Rows' → Rows' → Rows' → Type 0
-SameChanges a x b y = (p : Place) → ((get x p ≡ get a p) × (get y p ≡ get b p)) ⊎ (get x p ≡ get y p)
+SameChanges a x b y = (p : RowPlace) → ((get x p ≡ get a p) × (get y p ≡ get b p)) ⊎ (get x p ≡ get y p)
 
 -- two stops of one session, from the rows a and b on: it stands the same, and changed the same
 pub record EndsSame (a b : Rows') (x y : Stop) : Type 0 where

@@ -15,7 +15,7 @@ use Rattle.transcripts.specs.declared.event.Event.TheVariants.{Began, Committed,
 use Rattle.machine_model.specs.declared.status.Status.{Status}
 use Rattle.machine_model.specs.declared.status.Status.TheVariants.{Outside, InBlock, Broken}
 use Rattle.sql_statements.specs.declared.statement.Bound.{Bound}
-use Rattle.sql_statements.specs.declared.statement.Bound.TheVariants.{Select, Insert, Update, Delete, Begin, Commit, Rollback, LockTable, SetVariable}
+use Rattle.sql_statements.specs.declared.statement.Bound.TheVariants.{Select, Insert, Update, Delete, Begin, Commit, Rollback, Lock, SetVariable}
 
 -- a step is its requests and its statements, each statement behind its requests
 pub data Task : Type 0 where
@@ -68,7 +68,7 @@ kind (Select t k c by o) = Works
 kind (Insert t k r) = Works
 kind (Update t k a c) = Works
 kind (Delete t k c) = Works
-kind (LockTable t m) = Works
+kind (Lock t m) = Works
 kind SetVariable = Works
 
 -- what a statement does whose requests are had

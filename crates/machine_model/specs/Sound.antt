@@ -1,7 +1,7 @@
 -- What holds in every world that is reached.
 use Rattle.std.specs.Prelude.{◌≡◌, ℕ, ◌<◌, true, List, [], ◌∷◌, length, Option, Some, None}
 use Rattle.version_tree.specs.Map.{get}
-use Rattle.lock_modes.specs.Place.{Place}
+use Rattle.lock_modes.specs.RowPlace.{RowPlace}
 use Rattle.lock_modes.specs.Mode.{AtLeast}
 use Rattle.lock_queues.specs.declared.wait.Wait.{Wait}
 use Rattle.lock_queues.specs.Locks.{next_grant, waits_for}
@@ -15,7 +15,7 @@ use Rattle.lock_modes.specs.declared.mode.Mode.{Mode}
 
 -- each entry of the overlay lies where what is held lets it be written
 abbrev pub UnderLocks : Overlay → Held → Type 0
-UnderLocks o held = (p : Place) (x : Option Tuple) → get o p ≡ Some x → may_write (claims_of held []) p ≡ true
+UnderLocks o held = (p : RowPlace) (x : Option Tuple) → get o p ≡ Some x → may_write (claims_of held []) p ≡ true
 
 -- a mode is held there that stands for this one
 abbrev pub Covers : Option Mode → Mode → Type 0

@@ -2,7 +2,7 @@
 use Rattle.std.proofs.Common.{◌≡◌, ◌≢◌, refl, sym, ap, ◌∙◌, subst, ℕ, zero, suc, ◌<◌, Bool, true, false, cond, ◌&&◌, ◌||◌, ◌==◌, List, [], ◌∷◌, ◌++◌, length, set, get_or, filter, Option, Some, None, is_some, ◌⊎◌, inl, inr, ⊎_elim, length-set, get_or-set_same, get_or-set_other}
 use Rattle.std.proofs.lemmas.List.{set_comm}
 use Rattle.version_tree.specs.Map.{same_key, same_key-true, get, get-insert, get-empty, same_map}
-use Rattle.lock_modes.specs.Place.{Place}
+use Rattle.lock_modes.specs.RowPlace.{RowPlace}
 use Rattle.lock_modes.specs.Resource.{resource_order, same_resource}
 use Rattle.lock_modes.specs.Mode.{compatible, cover}
 use Rattle.lock_queues.specs.declared.wait.Wait.{Wait}
@@ -248,13 +248,13 @@ rows-same : (w : World) (i j : ℕ) (s t : Session) (ss ts : List Bound) → Apa
 rows-same w i j s t ss ts a = same_map _ _ (λ p. at p (known (may_write (claims_of s.held (plans ss)) p)))
   where
     -- where the one may not write, both orders leave what the other leaves alone
-    off-one : (p : Place) → may_write (claims_of s.held (plans ss)) p ≡ false → get (alone t (alone s w.rows ss).rows ts).rows p ≡ get (alone s (alone t w.rows ts).rows ss).rows p
+    off-one : (p : RowPlace) → may_write (claims_of s.held (plans ss)) p ≡ false → get (alone t (alone s w.rows ss).rows ts).rows p ≡ get (alone s (alone t w.rows ts).rows ss).rows p
     off-one p off = (ends-same w i j s t ss ts a).rows.each p off ∙ sym ((solo-within (claims_of s.held (plans ss)) s (alone t w.rows ts).rows (tasks_of ss) (writes-claimed s ss) a.one_under).each p off)
 
-    off-other : (p : Place) → may_write (claims_of t.held (plans ts)) p ≡ false → get (alone t (alone s w.rows ss).rows ts).rows p ≡ get (alone s (alone t w.rows ts).rows ss).rows p
+    off-other : (p : RowPlace) → may_write (claims_of t.held (plans ts)) p ≡ false → get (alone t (alone s w.rows ss).rows ts).rows p ≡ get (alone s (alone t w.rows ts).rows ss).rows p
     off-other p off = (solo-within (claims_of t.held (plans ts)) t (alone s w.rows ss).rows (tasks_of ts) (writes-claimed t ts) a.other_under).each p off ∙ sym ((ends-same w j i t s ts ss (apart-flip w i j s t (plans ss) (plans ts) a)).rows.each p off)
 
-    at : (p : Place) → (may_write (claims_of s.held (plans ss)) p ≡ true) ⊎ (may_write (claims_of s.held (plans ss)) p ≡ false) → get (alone t (alone s w.rows ss).rows ts).rows p ≡ get (alone s (alone t w.rows ts).rows ss).rows p
+    at : (p : RowPlace) → (may_write (claims_of s.held (plans ss)) p ≡ true) ⊎ (may_write (claims_of s.held (plans ss)) p ≡ false) → get (alone t (alone s w.rows ss).rows ts).rows p ≡ get (alone s (alone t w.rows ts).rows ss).rows p
     at p (inl one) = ⊎_elim (λ other. absurd (not_both_write (claims_of s.held (plans ss)) (claims_of t.held (plans ts)) a.friends p one other)) (off-other p) (known (may_write (claims_of t.held (plans ts)) p))
     at p (inr off) = off-one p off
 

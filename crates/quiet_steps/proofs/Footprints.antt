@@ -1,7 +1,7 @@
 -- The footprint of a session whose requests are had.
 use Rattle.std.proofs.Common.{◌≡◌, refl, sym, ap, ◌∙◌, subst, ℕ, Bool, true, false, true≢false, List, [], ◌∷◌, ◌++◌}
 use Rattle.version_tree.specs.Map.{get}
-use Rattle.lock_modes.specs.Place.{Place}
+use Rattle.lock_modes.specs.RowPlace.{RowPlace}
 use Rattle.lock_queues.specs.Locks.{may_have, closes_ring, answered}
 use Rattle.lock_queues.specs.declared.answer.Answer.TheVariants.{Granted, Waits, Ring}
 use Rattle.row_tables.specs.Overlay.{Rows', Overlay, lay}
@@ -116,7 +116,7 @@ same-goes a b _ _ (both_go {s = s} {x = x} {y = y} changes) u c e =
     (y, (ap (λ v. Goes v y) es, subst (λ z. SameChanges a z b y) ex changes))
 same-goes a b _ _ both_fail u c e = cc
 
-leads-same : (hidden : Place → Bool) (s : Session) (a b : Rows') (ts : List Task) (t : Session) (c : Rows') → EachDo (ReadsBut hidden) ts → AgreeBut hidden a b → Leads s a ts t c
+leads-same : (hidden : RowPlace → Bool) (s : Session) (a b : Rows') (ts : List Task) (t : Session) (c : Rows') → EachDo (ReadsBut hidden) ts → AgreeBut hidden a b → Leads s a ts t c
     → (d : Rows') × (Leads s b ts t d × SameChanges a c b d)
 leads-same hidden s a b [] t c off h leads = (b, ((leads.0, refl), subst (λ z. SameChanges a z b b) leads.1 (changes-none a b)))
 leads-same hidden s a b (Ask r m ∷ ts) t c off h leads =

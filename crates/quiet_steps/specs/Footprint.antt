@@ -1,7 +1,7 @@
 -- What a step reads and writes while its requests are had.
 use Rattle.std.specs.Prelude.{◌≡◌, ℕ, Bool, true, false, List, [], ◌∷◌, ◌++◌}
 use Rattle.version_tree.specs.Map.{get}
-use Rattle.lock_modes.specs.Place.{Place}
+use Rattle.lock_modes.specs.RowPlace.{RowPlace}
 use Rattle.row_tables.specs.Overlay.{Rows'}
 use Rattle.sql_statements.specs.declared.statement.Bound.{Bound}
 use Rattle.machine_model.specs.Session.{Task, Ask, Do, Session, Held, Goes, Fails, perform, tasks_of}
@@ -12,7 +12,7 @@ use Rattle.machine_model.specs.Footprint.{EachDo, ReadsBut, AgreeBut, SameChange
 
 -- rows change only where what is held now lets the session write
 abbrev pub ChangesUnder : Held → Rows' → Rows' → Type 0
-ChangesUnder held a b = (p : Place) → may_write (claims_of held []) p ≡ false → get b p ≡ get a p
+ChangesUnder held a b = (p : RowPlace) → may_write (claims_of held []) p ≡ false → get b p ≡ get a p
 
 -- each statement on the way changes rows only where what is held at that moment lets it, and the last standing is such
 abbrev pub WritesUnder : (Session → Rows' → Type 0) → Session → Rows' → List Task → Type 0
@@ -33,13 +33,13 @@ Leads s rows (Do st ∷ ts) t last = (u : Session) × ((after : Rows') × ((perf
 -- a session whose requests are all had goes as if alone; over rows that agree where its plans let it read it ends the same and changes the same; and it changes rows only where it then holds the locks to write
 pub record Footprint (w : World) (i : ℕ) (ss : List Bound) : Type 0 where
   pub alone : go (scene_of w) i (session_at w i) w.rows (tasks_of ss) ≡ stopped (scene_of w) (solo (session_at w i) w.rows (tasks_of ss))
-  pub reads : (hidden : Place → Bool) (b : Rows') → EachDo (ReadsBut hidden) (tasks_of ss) → AgreeBut hidden w.rows b
+  pub reads : (hidden : RowPlace → Bool) (b : Rows') → EachDo (ReadsBut hidden) (tasks_of ss) → AgreeBut hidden w.rows b
       → EndsSame w.rows b (solo (session_at w i) w.rows (tasks_of ss)) (solo (session_at w i) b (tasks_of ss))
   pub writes : WritesUnder EndsUnder (session_at w i) w.rows (tasks_of ss)
 
 -- the same of the first tasks of a step, whose requests are had, whatever comes behind them
 pub record FootprintUntil (w : World) (i : ℕ) (ts us : List Task) (t : Session) (rows : Rows') : Type 0 where
   pub alone : go (scene_of w) i (session_at w i) w.rows (ts ++ us) ≡ go (scene_of w) i t rows us
-  pub reads : (hidden : Place → Bool) (b : Rows') → EachDo (ReadsBut hidden) ts → AgreeBut hidden w.rows b
+  pub reads : (hidden : RowPlace → Bool) (b : Rows') → EachDo (ReadsBut hidden) ts → AgreeBut hidden w.rows b
       → (c : Rows') × (Leads (session_at w i) b ts t c × SameChanges w.rows rows b c)
   pub writes : WritesUnder (λ s last. Unit {0}) (session_at w i) w.rows ts

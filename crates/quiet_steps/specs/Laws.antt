@@ -3,7 +3,7 @@ use Rattle.std.specs.Prelude.{◌≡◌, ◌≢◌, ◌↔◌, ℕ, ◌<◌, Boo
 use Rattle.sql_subset.specs.Spec.{Spec, Step, no_step, Queues, queues_of, line, line_of, IsBound}
 use Rattle.machine_model.specs.World.{World, send, send_all, session_at, scene_of}
 use Rattle.machine_model.specs.Session.{Session, Task, tasks_of}
-use Rattle.lock_modes.specs.Place.{Place}
+use Rattle.lock_modes.specs.RowPlace.{RowPlace}
 use Rattle.machine_model.specs.Footprint.{AllHad}
 use Rattle.quiet_steps.specs.Footprint.{Leads, Footprint, FootprintUntil}
 use Rattle.sql_statements.specs.declared.statement.Bound.{Bound}
@@ -90,4 +90,4 @@ StepsHaveFootprintsUntil =
 
 -- the plan of a statement opens every row that the statement looks at
 abbrev pub PlansOpen : Type 0
-PlansOpen = (st : Bound) (p : Place) → looks_at st p ≡ true → opened (plan st) p ≡ true
+PlansOpen = (st : Bound) (p : RowPlace) → looks_at st p ≡ true → opened (plan st) p ≡ true

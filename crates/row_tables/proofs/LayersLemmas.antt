@@ -2,7 +2,7 @@
 use Rattle.std.proofs.Common.{◌≡◌, refl, sym, ap, ◌∙◌, ℕ, Bool, true, false, cond, Option, Some, None}
 use Rattle.std.specs.Option.{unwrap_or}
 use Rattle.version_tree.specs.Map.{same_key-refl, get, insert, empty, get-insert, get-remove, same_map}
-use Rattle.lock_modes.specs.Place.{Place}
+use Rattle.lock_modes.specs.RowPlace.{RowPlace}
 use Rattle.row_tables.specs.Overlay.{Tuple, Overlay, laid}
 use Rattle.row_tables.specs.Layers.{Layers, session_order, overlay_of, sight, wrote, undone, kept}
 use Rattle.row_tables.proofs.OverlayLemmas.{over, get-laid, get-lay}
@@ -17,7 +17,7 @@ dropped true p = refl
 dropped false p = refl
 
 -- a write changes one entry of the writer's overlay
-pub overlay_of-wrote : (session : ℕ) (place : Place) (left : Option Tuple) (l : Layers) (c : ℕ) → overlay_of c (wrote session place left l) ≡ cond (same_session c session) (insert (overlay_of session l) place left) (overlay_of c l)
+pub overlay_of-wrote : (session : ℕ) (place : RowPlace) (left : Option Tuple) (l : Layers) (c : ℕ) → overlay_of c (wrote session place left l) ≡ cond (same_session c session) (insert (overlay_of session l) place left) (overlay_of c l)
 overlay_of-wrote session place left l c = ap (λ o. unwrap_or o empty) (get-insert l.overlays session (insert (overlay_of session l) place left) c) ∙ chosen (same_session c session) _ (get l.overlays c)
 
 -- an undo drops one overlay
@@ -33,7 +33,7 @@ over-cond true x o y = refl
 over-cond false x o y = refl
 
 -- the writer sees what it left
-pub sight-wrote : (session : ℕ) (place : Place) (left : Option Tuple) (l : Layers) → sight session (wrote session place left l) ≡ laid place left (sight session l)
+pub sight-wrote : (session : ℕ) (place : RowPlace) (left : Option Tuple) (l : Layers) → sight session (wrote session place left l) ≡ laid place left (sight session l)
 sight-wrote session place left l =
     same_map _ _ (λ q.
     get-lay (overlay_of session (wrote session place left l)) l.committed q

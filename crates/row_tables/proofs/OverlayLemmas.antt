@@ -5,7 +5,7 @@ use Rattle.std.specs.declared.cmp.Ordering.TheVariants.{Less, Equal, Greater}
 use Rattle.std.specs.Ordering.{is_eq, is_lt, ordering_then}
 use Rattle.std.specs.FinMap.Entries.{find}
 use Rattle.version_tree.specs.Map.{same_key, get, get-insert, get-remove, entries}
-use Rattle.lock_modes.specs.Place.{Place, place_order, place_cmp}
+use Rattle.lock_modes.specs.RowPlace.{RowPlace, place_order, place_cmp}
 use Rattle.row_tables.specs.Overlay.{Tuple, Rows', Overlay, laid, lay, lay_entries}
 
 -- what an overlay has at a place, or else the row below it
@@ -13,7 +13,7 @@ abbrev pub over : Option (Option Tuple) → Option Tuple → Option Tuple
 over None row = row
 over (Some left) row = left
 
-pub get-laid : (place : Place) (left : Option Tuple) (rows : Rows') (q : Place) → get (laid place left rows) q ≡ cond (same_key place_order q place) left (get rows q)
+pub get-laid : (place : RowPlace) (left : Option Tuple) (rows : Rows') (q : RowPlace) → get (laid place left rows) q ≡ cond (same_key place_order q place) left (get rows q)
 get-laid place None rows q = get-remove rows place q
 get-laid place (Some row) rows q = get-insert rows place row q
 
@@ -21,11 +21,11 @@ over-cond : (b : Bool) (x : Option Tuple) (o : Option (Option Tuple)) (y : Optio
 over-cond true x o y = refl
 over-cond false x o y = refl
 
-get-lay_entries : (es : List (Place × Option Tuple)) (rows : Rows') (q : Place) → get (lay_entries es rows) q ≡ over (find place_cmp q es) (get rows q)
+get-lay_entries : (es : List (RowPlace × Option Tuple)) (rows : Rows') (q : RowPlace) → get (lay_entries es rows) q ≡ over (find place_cmp q es) (get rows q)
 get-lay_entries [] rows q = refl
 get-lay_entries (e ∷ es) rows q = get-laid e.0 e.1 (lay_entries es rows) q ∙ ap (cond (same_key place_order q e.0) e.1) (get-lay_entries es rows q) ∙ over-cond (same_key place_order q e.0) e.1 (find place_cmp q es) (get rows q)
 
-pub get-lay : (o : Overlay) (rows : Rows') (q : Place) → get (lay o rows) q ≡ over (get o q) (get rows q)
+pub get-lay : (o : Overlay) (rows : Rows') (q : RowPlace) → get (lay o rows) q ≡ over (get o q) (get rows q)
 unfolding lay get entries
 get-lay o rows q = get-lay_entries o.list rows q
 

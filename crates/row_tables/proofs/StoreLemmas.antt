@@ -3,7 +3,7 @@ use Rattle.std.proofs.Common.{◌≡◌, ◌≢◌, refl, sym, ap, ◌∙◌, su
 use Rattle.std.specs.Option.{unwrap_or, option_map}
 use Rattle.version_tree.specs.Map
 use Rattle.version_tree.specs.Map.{same_key, same_key-true, same_key-refl, get, insert, entries, empty, get-empty, get-insert, get-remove, same_map}
-use Rattle.lock_modes.specs.Place.{Place, place_order}
+use Rattle.lock_modes.specs.RowPlace.{RowPlace, place_order}
 use Rattle.row_tables.specs.Overlay.{Tuple, Rows', Overlay, laid, lay}
 use Rattle.row_tables.specs.Layers.{Layers, session_order, overlay_of, sight, IsOnlyWriterAt, IsOnlyWriterIn, wrote, undone, kept, rows_of}
 use Rattle.row_tables.specs.Undo.{Lists, before_in, before, noted, AreApart, in_place, layers}
@@ -12,7 +12,7 @@ use Rattle.row_tables.proofs.TableLemmas.{find-rows_of, sorted-rows_of, is_rows_
 use Rattle.row_tables.proofs.UndoLemmas.{same_session, same_place, stands, get-in_place, in_place-same, get-overlays, get-overlay_of, committed-none, committed-some, committed-same, none_or_none, some_or_none}
 
 -- layers with the same look-ups are one
-pub same_layers : (l m : Layers) → ((q : Place) → get l.committed q ≡ get m.committed q) → ((c : ℕ) → get l.overlays c ≡ get m.overlays c) → l ≡ m
+pub same_layers : (l m : Layers) → ((q : RowPlace) → get l.committed q ≡ get m.committed q) → ((c : ℕ) → get l.overlays c ≡ get m.overlays c) → l ≡ m
 same_layers l m rows overlays =
     let committed : l.committed ≡ m.committed = same_map _ _ rows in
     let each : l.overlays ≡ m.overlays = same_map _ _ overlays in
@@ -28,22 +28,22 @@ stands-None (Some left) row h = cc
 -- ---- what a session sees
 
 -- where a session is the only writer, no other session's list has what stood there before
-pub only-before : (rows : Rows') (lists : Lists) (session : ℕ) (q : Place) → IsOnlyWriterAt session q (layers rows lists) → (other : ℕ) → other ≢ session → before lists other q ≡ None
+pub only-before : (rows : Rows') (lists : Lists) (session : ℕ) (q : RowPlace) → IsOnlyWriterAt session q (layers rows lists) → (other : ℕ) → other ≢ session → before lists other q ≡ None
 only-before rows lists session q alone other ne = stands-None (before lists other q) (get rows q) (sym (get-overlay_of rows lists other q) ∙ alone other ne)
 
 -- where one session alone may have written and did not, none did
-none-before : (lists : Lists) (session : ℕ) (q : Place) → ((other : ℕ) → other ≢ session → before lists other q ≡ None) → before lists session q ≡ None → (c : ℕ) → before lists c q ≡ None
+none-before : (lists : Lists) (session : ℕ) (q : RowPlace) → ((other : ℕ) → other ≢ session → before lists other q ≡ None) → before lists session q ≡ None → (c : ℕ) → before lists c q ≡ None
 none-before lists session q alone none c =
     elim (same_session c session) as (λ b. same_session c session ≡ b → before lists c q ≡ None) [
       | true ↦ λ same. ap (λ (d : ℕ). before lists d q) (same_key-true session_order c session same) ∙ none
       | false ↦ λ is. alone c (apart_from c session is)
     ] refl
 
-get-sight : (rows : Rows') (lists : Lists) (session : ℕ) (q : Place) → get (sight session (layers rows lists)) q ≡ over (stands (before lists session q) (get rows q)) (get (layers rows lists).committed q)
+get-sight : (rows : Rows') (lists : Lists) (session : ℕ) (q : RowPlace) → get (sight session (layers rows lists)) q ≡ over (stands (before lists session q) (get rows q)) (get (layers rows lists).committed q)
 get-sight rows lists session q =
     get-lay (overlay_of session (layers rows lists)) (layers rows lists).committed q ∙ ap (λ o. over o (get (layers rows lists).committed q)) (get-overlay_of rows lists session q)
 
-in_place-seen : (rows : Rows') (lists : Lists) (session : ℕ) (q : Place) → IsOnlyWriterAt session q (layers rows lists) → get rows q ≡ get (sight session (layers rows lists)) q
+in_place-seen : (rows : Rows') (lists : Lists) (session : ℕ) (q : RowPlace) → IsOnlyWriterAt session q (layers rows lists) → get rows q ≡ get (sight session (layers rows lists)) q
 in_place-seen rows lists session q alone = sym (get-sight rows lists session q ∙ at (before lists session q) refl)
   where
     at : (o : Option (Option Tuple)) → before lists session q ≡ o → over (stands o (get rows q)) (get (layers rows lists).committed q) ≡ get rows q
@@ -51,7 +51,7 @@ in_place-seen rows lists session q alone = sym (get-sight rows lists session q �
     at None is = committed-none rows lists q (none-before lists session q (only-before rows lists session q alone) is)
 
 -- where a session is the only writer, it sees what stands in place
-pub seen : (rows : Rows') (lists : Lists) (l : Layers) (session : ℕ) (q : Place) → layers rows lists ≡ l → IsOnlyWriterAt session q l → get rows q ≡ get (sight session l) q
+pub seen : (rows : Rows') (lists : Lists) (l : Layers) (session : ℕ) (q : RowPlace) → layers rows lists ≡ l → IsOnlyWriterAt session q l → get rows q ≡ get (sight session l) q
 seen rows lists l session q is = subst (λ (m : Layers). IsOnlyWriterAt session q m → get rows q ≡ get (sight session m) q) is (in_place-seen rows lists session q)
 
 pub rows_of-seen : (rows : Rows') (lists : Lists) (l : Layers) (session table : ℕ) → layers rows lists ≡ l → IsOnlyWriterIn session table l → rows_of table rows ≡ rows_of table (sight session l)
@@ -60,11 +60,11 @@ rows_of-seen rows lists l session table is alone =
 
 -- ---- a session's list is dropped
 
-drop-before : (b : Bool) (o : Option Overlay) (q : Place) → before_in (cond b None o) q ≡ cond b None (before_in o q)
+drop-before : (b : Bool) (o : Option Overlay) (q : RowPlace) → before_in (cond b None o) q ≡ cond b None (before_in o q)
 drop-before true o q = refl
 drop-before false o q = refl
 
-before-removed : (lists : Lists) (session c : ℕ) (q : Place) → before (Map.remove lists session) c q ≡ cond (same_session c session) None (before lists c q)
+before-removed : (lists : Lists) (session c : ℕ) (q : RowPlace) → before (Map.remove lists session) c q ≡ cond (same_session c session) None (before lists c q)
 before-removed lists session c q = ap (λ o. before_in o q) (get-remove lists session c) ∙ drop-before (same_session c session) (get lists c) q
 
 pub removed-apart : (lists : Lists) (session : ℕ) → AreApart lists → AreApart (Map.remove lists session)
@@ -75,7 +75,7 @@ removed-apart lists session apart = record {
 }
 
 -- where the session wrote, no other did
-removed-alone : (lists : Lists) (session : ℕ) (q : Place) (left : Option Tuple) → AreApart lists → before lists session q ≡ Some left → (c : ℕ) → before (Map.remove lists session) c q ≡ None
+removed-alone : (lists : Lists) (session : ℕ) (q : RowPlace) (left : Option Tuple) → AreApart lists → before lists session q ≡ Some left → (c : ℕ) → before (Map.remove lists session) c q ≡ None
 removed-alone lists session q left apart did c =
     before-removed lists session c q
     ∙ elim (same_session c session) as (λ b. same_session c session ≡ b → cond b None (before lists c q) ≡ None) [
@@ -84,7 +84,7 @@ removed-alone lists session q left apart did c =
     ] refl
 
 -- where the session did not write, each list has what it had
-removed-same : (lists : Lists) (session : ℕ) (q : Place) → before lists session q ≡ None → (c : ℕ) → before (Map.remove lists session) c q ≡ before lists c q
+removed-same : (lists : Lists) (session : ℕ) (q : RowPlace) → before lists session q ≡ None → (c : ℕ) → before (Map.remove lists session) c q ≡ before lists c q
 removed-same lists session q none c =
     before-removed lists session c q
     ∙ elim (same_session c session) as (λ b. same_session c session ≡ b → cond b None (before lists c q) ≡ before lists c q) [
@@ -96,7 +96,7 @@ removed-same lists session q none c =
 pub kept-layers : (rows : Rows') (lists : Lists) (session : ℕ) → AreApart lists → layers rows (Map.remove lists session) ≡ kept session (layers rows lists)
 kept-layers rows lists session apart = same_layers _ _ (λ q. committed q (before lists session q) refl ∙ sym (get-sight rows lists session q)) overlays
   where
-    committed : (q : Place) (o : Option (Option Tuple)) → before lists session q ≡ o → get (layers rows (Map.remove lists session)).committed q ≡ over (stands (before lists session q) (get rows q)) (get (layers rows lists).committed q)
+    committed : (q : RowPlace) (o : Option (Option Tuple)) → before lists session q ≡ o → get (layers rows (Map.remove lists session)).committed q ≡ over (stands (before lists session q) (get rows q)) (get (layers rows lists).committed q)
     committed q (Some left) is =
         committed-none rows (Map.remove lists session) q (removed-alone lists session q left apart is)
         ∙ sym (ap (λ o. over (stands o (get rows q)) (get (layers rows lists).committed q)) is)
@@ -128,10 +128,10 @@ nothing-undone rows lists session none = same_layers _ _ (λ q. refl) (λ c. sym
 pub undone-layers : (rows : Rows') (lists : Lists) (session : ℕ) (list : Overlay) → AreApart lists → get lists session ≡ Some list → layers (lay list rows) (Map.remove lists session) ≡ undone session (layers rows lists)
 undone-layers rows lists session list apart is = same_layers _ _ (λ q. committed q (before lists session q) refl) overlays
   where
-    has : (q : Place) → get list q ≡ before lists session q
+    has : (q : RowPlace) → get list q ≡ before lists session q
     has q = sym (ap (λ o. before_in o q) is)
 
-    committed : (q : Place) (o : Option (Option Tuple)) → before lists session q ≡ o → get (layers (lay list rows) (Map.remove lists session)).committed q ≡ get (layers rows lists).committed q
+    committed : (q : RowPlace) (o : Option (Option Tuple)) → before lists session q ≡ o → get (layers (lay list rows) (Map.remove lists session)).committed q ≡ get (layers rows lists).committed q
     committed q (Some left) did =
         committed-none (lay list rows) (Map.remove lists session) q (removed-alone lists session q left apart did)
         ∙ get-lay list rows q
@@ -160,7 +160,7 @@ undone-layers rows lists session list apart is = same_layers _ _ (λ q. committe
 
 -- ---- a session writes
 
-get-noted : (place : Place) (rows : Rows') (list : Overlay) (q : Place) → get (noted place rows list) q ≡ cond (same_place q place) (Some (unwrap_or (get list place) (get rows place))) (get list q)
+get-noted : (place : RowPlace) (rows : Rows') (list : Overlay) (q : RowPlace) → get (noted place rows list) q ≡ cond (same_place q place) (Some (unwrap_or (get list place) (get rows place))) (get list q)
 get-noted place rows list q = at (get list place) refl
   where
     again : (b : Bool) (left : Option Tuple) → same_place q place ≡ b → get list place ≡ Some left → get list q ≡ cond b (Some left) (get list q)
@@ -171,15 +171,15 @@ get-noted place rows list q = at (get list place) refl
     at None is = get-insert list place (get rows place) q
     at (Some left) is = again (same_place q place) left refl is
 
-put-before : (b : Bool) (list : Overlay) (o : Option Overlay) (q : Place) → before_in (cond b (Some list) o) q ≡ cond b (get list q) (before_in o q)
+put-before : (b : Bool) (list : Overlay) (o : Option Overlay) (q : RowPlace) → before_in (cond b (Some list) o) q ≡ cond b (get list q) (before_in o q)
 put-before true list o q = refl
 put-before false list o q = refl
 
-before-empty : (o : Option Overlay) (q : Place) → get (unwrap_or o empty) q ≡ before_in o q
+before-empty : (o : Option Overlay) (q : RowPlace) → get (unwrap_or o empty) q ≡ before_in o q
 before-empty None q = get-empty place_order (Option Tuple) q
 before-empty (Some list) q = refl
 
-module _ (rows : Rows') (lists : Lists) (session : ℕ) (place : Place) (left : Option Tuple) (apart : AreApart lists) (alone : (other : ℕ) → other ≢ session → before lists other place ≡ None) where
+module _ (rows : Rows') (lists : Lists) (session : ℕ) (place : RowPlace) (left : Option Tuple) (apart : AreApart lists) (alone : (other : ℕ) → other ≢ session → before lists other place ≡ None) where
   abbrev new_list : Overlay
   new_list = noted place rows (unwrap_or (get lists session) empty)
 
@@ -189,13 +189,13 @@ module _ (rows : Rows') (lists : Lists) (session : ℕ) (place : Place) (left : 
   abbrev new_rows : Rows'
   new_rows = laid place left rows
 
-  get-new_list : (q : Place) → get new_list q ≡ cond (same_place q place) (Some (unwrap_or (before lists session place) (get rows place))) (before lists session q)
+  get-new_list : (q : RowPlace) → get new_list q ≡ cond (same_place q place) (Some (unwrap_or (before lists session place) (get rows place))) (before lists session q)
   get-new_list q =
       get-noted place rows (unwrap_or (get lists session) empty) q
       ∙ ap (λ o. cond (same_place q place) (Some (unwrap_or o (get rows place))) (get (unwrap_or (get lists session) empty) q)) (before-empty (get lists session) place)
       ∙ ap (cond (same_place q place) (Some (unwrap_or (before lists session place) (get rows place)))) (before-empty (get lists session) q)
 
-  before-new : (c : ℕ) (q : Place) → before new_lists c q ≡ cond (same_session c session) (get new_list q) (before lists c q)
+  before-new : (c : ℕ) (q : RowPlace) → before new_lists c q ≡ cond (same_session c session) (get new_list q) (before lists c q)
   before-new c q = ap (λ o. before_in o q) (get-insert lists session new_list c) ∙ put-before (same_session c session) new_list (get lists c) q
 
   -- at the place
@@ -215,7 +215,7 @@ module _ (rows : Rows') (lists : Lists) (session : ℕ) (place : Place) (left : 
       ] refl
 
   -- elsewhere
-  before-there : (c : ℕ) (q : Place) → same_place q place ≡ false → before new_lists c q ≡ before lists c q
+  before-there : (c : ℕ) (q : RowPlace) → same_place q place ≡ false → before new_lists c q ≡ before lists c q
   before-there c q not_here =
       let list : get new_list q ≡ before lists session q = get-new_list q ∙ ap (λ b. cond b (Some (unwrap_or (before lists session place) (get rows place))) (before lists session q)) not_here in
       before-new c q
@@ -224,7 +224,7 @@ module _ (rows : Rows') (lists : Lists) (session : ℕ) (place : Place) (left : 
         | false ↦ λ is. refl
       ] refl
 
-  row-there : (q : Place) → same_place q place ≡ false → get new_rows q ≡ get rows q
+  row-there : (q : RowPlace) → same_place q place ≡ false → get new_rows q ≡ get rows q
   row-there q not_here = get-laid place left rows q ∙ ap (λ b. cond b left (get rows q)) not_here
 
   not_both : (c : ℕ) (x : Option Tuple) → before new_lists c place ≡ Some x → (d : ℕ) → d ≢ c → before new_lists d place ≡ None
@@ -253,19 +253,19 @@ module _ (rows : Rows') (lists : Lists) (session : ℕ) (place : Place) (left : 
       committed-some new_rows new_lists place session (get rows place) new-apart (before-here ∙ ap (λ o. Some (unwrap_or o (get rows place))) is)
       ∙ sym (committed-none rows lists place (none-before lists session place alone is))
 
-  committed-stays : (q : Place) → get (layers new_rows new_lists).committed q ≡ get (layers rows lists).committed q
+  committed-stays : (q : RowPlace) → get (layers new_rows new_lists).committed q ≡ get (layers rows lists).committed q
   committed-stays q =
       elim (same_place q place) as (λ b. same_place q place ≡ b → get (layers new_rows new_lists).committed q ≡ get (layers rows lists).committed q) [
         | true ↦ λ is.
             let here : q ≡ place = same_key-true place_order q place is in
-            subst (λ (p : Place). get (layers new_rows new_lists).committed p ≡ get (layers rows lists).committed p) (sym here) (committed-here (before lists session place) refl)
+            subst (λ (p : RowPlace). get (layers new_rows new_lists).committed p ≡ get (layers rows lists).committed p) (sym here) (committed-here (before lists session place) refl)
         | false ↦ λ is. committed-same new_rows rows new_lists lists q new-apart apart (λ c. before-there c q is) (row-there q is)
       ] refl
 
   own-overlay : in_place new_rows new_list ≡ insert (overlay_of session (layers rows lists)) place left
   own-overlay = same_map _ _ (λ q. get-in_place new_rows new_list q ∙ at q (same_place q place) refl ∙ sym (get-insert (overlay_of session (layers rows lists)) place left q))
     where
-      at : (q : Place) (b : Bool) → same_place q place ≡ b → stands (get new_list q) (get new_rows q) ≡ cond (same_place q place) (Some left) (get (overlay_of session (layers rows lists)) q)
+      at : (q : RowPlace) (b : Bool) → same_place q place ≡ b → stands (get new_list q) (get new_rows q) ≡ cond (same_place q place) (Some left) (get (overlay_of session (layers rows lists)) q)
       at q true is =
           ap (λ o. stands o (get new_rows q)) (get-new_list q ∙ ap (λ b. cond b (Some (unwrap_or (before lists session place) (get rows place))) (before lists session q)) is)
           ∙ ap Some (get-laid place left rows q ∙ ap (λ b. cond b left (get rows q)) is)
@@ -280,7 +280,7 @@ module _ (rows : Rows') (lists : Lists) (session : ℕ) (place : Place) (left : 
   other-overlay c ne None h = refl
   other-overlay c ne (Some other) h = ap Some (in_place-same new_rows rows other (λ q x did. at q x did (same_place q place) refl))
     where
-      at : (q : Place) (x : Option Tuple) → get other q ≡ Some x → (b : Bool) → same_place q place ≡ b → get new_rows q ≡ get rows q
+      at : (q : RowPlace) (x : Option Tuple) → get other q ≡ Some x → (b : Bool) → same_place q place ≡ b → get new_rows q ≡ get rows q
       at q x did true is =
           let none : before lists c place ≡ None = alone c ne in
           let some : before lists c place ≡ Some x = ap (λ o. before_in o place) h ∙ ap (get other) (sym (same_key-true place_order q place is)) ∙ did in

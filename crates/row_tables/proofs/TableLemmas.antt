@@ -9,7 +9,7 @@ use Rattle.std.specs.FinMap.Entries.{find, put, find-put, find-where_key, is_sor
 use Rattle.version_tree.specs.Entries.{without}
 use Rattle.version_tree.specs.Map
 use Rattle.version_tree.specs.Map.{same_key, get, insert, keep, entries, get-insert, get-keep, get-empty, same_map}
-use Rattle.lock_modes.specs.Place.{Place, place_order, place_cmp}
+use Rattle.lock_modes.specs.RowPlace.{RowPlace, place_order, place_cmp}
 use Rattle.lock_modes.specs.Value.{value_cmp, value_total, value_same}
 use Rattle.lock_modes.specs.declared.value.Value.{Value}
 use Rattle.row_tables.specs.Overlay.{Tuple, Rows', laid}
@@ -53,7 +53,7 @@ cond-same : (b : Bool) (x : Option Tuple) → x ≡ cond b (option_or None x) x
 cond-same true x = refl
 cond-same false x = refl
 
-get-with_rows : (t : ℕ) (es : Table) (rows : Rows') (q : Place) → get (with_rows t es rows) q ≡ cond (same_table q.0 t) (option_or (find value_cmp q.1 es) (get rows q)) (get rows q)
+get-with_rows : (t : ℕ) (es : Table) (rows : Rows') (q : RowPlace) → get (with_rows t es rows) q ≡ cond (same_table q.0 t) (option_or (find value_cmp q.1 es) (get rows q)) (get rows q)
 get-with_rows t [] rows q = cond-same (same_table q.0 t) (get rows q)
 get-with_rows t (e ∷ es) rows q =
     get-insert (with_rows t es rows) (t, e.0) e.1 q
@@ -69,7 +69,7 @@ in_its_place : (b : Bool) (f g : Option Tuple) → cond b (option_or f (cond (no
 in_its_place true f g = option_or-None f
 in_its_place false f g = refl
 
-pub get-put_rows : (t : ℕ) (es : Table) (rows : Rows') (q : Place) → get (put_rows t es rows) q ≡ cond (same_table q.0 t) (find value_cmp q.1 es) (get rows q)
+pub get-put_rows : (t : ℕ) (es : Table) (rows : Rows') (q : RowPlace) → get (put_rows t es rows) q ≡ cond (same_table q.0 t) (find value_cmp q.1 es) (get rows q)
 get-put_rows t es rows q =
     get-with_rows t es (keep (λ place. not (same_table place.0 t)) rows) q
     ∙ ap (λ g. cond (same_table q.0 t) (option_or (find value_cmp q.1 es) g) g) (get-keep (λ place. not (same_table place.0 t)) rows q)
@@ -80,7 +80,7 @@ found true k t o = refl
 found false k t o = refl
 
 -- the row at a place is the one at its key in its table
-pub get-rows_of_tables : (ts : List (ℕ × Table)) (q : Place) → get (rows_of_tables ts) q ≡ find value_cmp q.1 (unwrap_or (find nat_cmp q.0 ts) [])
+pub get-rows_of_tables : (ts : List (ℕ × Table)) (q : RowPlace) → get (rows_of_tables ts) q ≡ find value_cmp q.1 (unwrap_or (find nat_cmp q.0 ts) [])
 get-rows_of_tables [] q = get-empty place_order Tuple q
 get-rows_of_tables (t ∷ ts) q =
     get-put_rows t.0 t.1 (rows_of_tables ts) q
@@ -103,7 +103,7 @@ find-cond : (b : Bool) (k : Value) (e : Value × Tuple) (es : Table) → find va
 find-cond true k e es = refl
 find-cond false k e es = refl
 
-find-rows_in : (t : ℕ) (k : Value) (es : List (Place × Tuple)) → find value_cmp k (rows_in t es) ≡ find place_cmp (t, k) es
+find-rows_in : (t : ℕ) (k : Value) (es : List (RowPlace × Tuple)) → find value_cmp k (rows_in t es) ≡ find place_cmp (t, k) es
 find-rows_in t k [] = refl
 find-rows_in t k (e ∷ es) =
     find-cond (same_table t e.0.0) k (e.0.1, e.1) (rows_in t es)
@@ -115,7 +115,7 @@ pub find-rows_of : (t : ℕ) (k : Value) (rows : Rows') → find value_cmp k (ro
 unfolding get entries
 find-rows_of t k rows = find-rows_in t k rows.list
 
-below-rows_in : (t : ℕ) (k : Value) (es : List (Place × Tuple)) → T (below_all place_cmp (t, k) es) → T (below_all value_cmp k (rows_in t es))
+below-rows_in : (t : ℕ) (k : Value) (es : List (RowPlace × Tuple)) → T (below_all place_cmp (t, k) es) → T (below_all value_cmp k (rows_in t es))
 below-rows_in t k [] h = tt
 below-rows_in t k (e ∷ es) h =
     let rest : T (below_all value_cmp k (rows_in t es)) = below-rows_in t k es (back _ _ h) in
@@ -124,7 +124,7 @@ below-rows_in t k (e ∷ es) h =
       | false ↦ λ is. rest
     ] refl
 
-sorted-rows_in : (t : ℕ) (es : List (Place × Tuple)) → T (is_sorted place_cmp es) → T (is_sorted value_cmp (rows_in t es))
+sorted-rows_in : (t : ℕ) (es : List (RowPlace × Tuple)) → T (is_sorted place_cmp es) → T (is_sorted value_cmp (rows_in t es))
 sorted-rows_in t [] h = tt
 sorted-rows_in t (e ∷ es) h =
     let rest : T (is_sorted value_cmp (rows_in t es)) = sorted-rows_in t es (back _ _ h) in
@@ -157,7 +157,7 @@ replaced t k left es rows h =
     ∙ ap (λ b. cond b left (get rows q)) (sym (is_eq-then (nat_cmp q.0 t) (value_cmp q.1 k)))
     ∙ sym (get-laid (t, k) left rows q))
   where
-    at : (q : Place) (b : Bool) → same_table q.0 t ≡ b → cond b (find value_cmp q.1 es) (get rows q) ≡ cond (b && same_value q.1 k) left (get rows q)
+    at : (q : RowPlace) (b : Bool) → same_table q.0 t ≡ b → cond b (find value_cmp q.1 es) (get rows q) ≡ cond (b && same_value q.1 k) left (get rows q)
     at q true is = h q.1 ∙ ap (λ (u : ℕ). cond (same_value q.1 k) left (get rows (u, q.1))) (sym (same_table-true q.0 t is))
     at q false is = refl
 

@@ -6,7 +6,7 @@ use Rattle.std.specs.Cmp.{nat_cmp_total}
 use Rattle.std.specs.FinMap.{nat_cmp-IsAntisymmetric}
 use Rattle.version_tree.specs.Map
 use Rattle.version_tree.specs.Map.{Order, Map, get, insert, empty, entries}
-use Rattle.lock_modes.specs.Place.{Place}
+use Rattle.lock_modes.specs.RowPlace.{RowPlace}
 use Rattle.lock_modes.specs.declared.value.Value.{Value}
 use Rattle.row_tables.specs.Overlay.{Tuple, Rows', Overlay, lay}
 
@@ -28,7 +28,7 @@ abbrev pub sight : ℕ → Layers → Rows'
 sight session l = lay (overlay_of session l) l.committed
 
 -- no other session has written at the place
-abbrev pub IsOnlyWriterAt : ℕ → Place → Layers → Type 0
+abbrev pub IsOnlyWriterAt : ℕ → RowPlace → Layers → Type 0
 IsOnlyWriterAt session place l = (other : ℕ) → other ≢ session → get (overlay_of other l) place ≡ None
 
 -- no other session has written in the table
@@ -40,7 +40,7 @@ abbrev pub no_rows : Layers
 no_rows = record { committed = empty; overlays = empty }
 
 -- the session has left a row, or none, at the place
-abbrev pub wrote : ℕ → Place → Option Tuple → Layers → Layers
+abbrev pub wrote : ℕ → RowPlace → Option Tuple → Layers → Layers
 wrote session place left l = record l { overlays = insert l.overlays session (insert (overlay_of session l) place left) }
 
 -- the session's overlay is dropped
@@ -51,7 +51,7 @@ undone session l = record l { overlays = Map.remove l.overlays session }
 abbrev pub kept : ℕ → Layers → Layers
 kept session l = record { committed = sight session l; overlays = Map.remove l.overlays session }
 
-abbrev pub rows_in : ℕ → List (Place × Tuple) → List (Value × Tuple)
+abbrev pub rows_in : ℕ → List (RowPlace × Tuple) → List (Value × Tuple)
 rows_in table [] = []
 rows_in table (e ∷ es) = cond (eq_by_cmp nat_cmp table e.0.0) ((e.0.1, e.1) ∷ rows_in table es) (rows_in table es)
 

@@ -2,7 +2,7 @@
 use Rattle.std.specs.Prelude.{List, [], ◌∷◌, Option, Some, None}
 use Rattle.version_tree.specs.Map
 use Rattle.version_tree.specs.Map.{Map, insert, entries}
-use Rattle.lock_modes.specs.Place.{Place, place_order}
+use Rattle.lock_modes.specs.RowPlace.{RowPlace, place_order}
 use Rattle.lock_modes.specs.declared.value.Value.{Value}
 
 -- the values of a row in the order of the columns
@@ -19,15 +19,15 @@ Overlay = Map place_order (Option Tuple)
 
 -- what a write leaves at a place: a row, or none
 pub record Write : Type 0 where
-  pub place : Place
+  pub place : RowPlace
   pub left : Option Tuple
 
 -- one entry of an overlay laid over the rows
-abbrev pub laid : Place → Option Tuple → Rows' → Rows'
+abbrev pub laid : RowPlace → Option Tuple → Rows' → Rows'
 laid p None rows = Map.remove rows p
 laid p (Some row) rows = insert rows p row
 
-abbrev pub lay_entries : List (Place × Option Tuple) → Rows' → Rows'
+abbrev pub lay_entries : List (RowPlace × Option Tuple) → Rows' → Rows'
 lay_entries [] rows = rows
 lay_entries (e ∷ es) rows = laid e.0 e.1 (lay_entries es rows)
 

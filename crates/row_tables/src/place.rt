@@ -2,7 +2,7 @@ ghost use Rattle.std.specs.Prelude.{◌≡◌, Some};
 ghost use Rattle.std.proofs.Common.{rules};
 ghost use Rattle.std.specs.Ordering.{eq_by_cmp};
 ghost use Rattle.std.specs.Cmp.{po, eq_by_cmp_equiv, partial_equiv_from_equiv};
-ghost use Rattle.lock_modes.specs.Place.{place_cmp, place_total};
+ghost use Rattle.lock_modes.specs.RowPlace.{place_cmp, place_total};
 
 use lock_modes::Value;
 use std::alloc::AllocError;
@@ -18,9 +18,9 @@ pub(crate) struct RowPlace {
 }
 
 impl Model for RowPlace {
-    ghost use Rattle.lock_modes.specs.Place.{Place};
+    ghost use Rattle.lock_modes.specs.RowPlace.{RowPlace};
 
-    ghost Value = { Place };
+    ghost Value = { RowPlace };
 
     ghost view = { λ k. (k.table, k.key) };
 }

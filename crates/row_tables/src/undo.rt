@@ -5,7 +5,7 @@ ghost use Rattle.std.specs.Option.{option_copied, unwrap_or};
 ghost use Rattle.std.specs.Ordering.{nat_cmp};
 ghost use Rattle.std.specs.BTreeMap.{insert_entry};
 ghost use Rattle.version_tree.specs.Map as map;
-ghost use Rattle.lock_modes.specs.Place.{place_cmp};
+ghost use Rattle.lock_modes.specs.RowPlace.{place_cmp};
 ghost use Rattle.row_tables.specs.Overlay.{lay};
 ghost use Rattle.row_tables.specs.Undo.{noted};
 
@@ -27,7 +27,7 @@ impl Model for UndoList {
     ghost use Rattle.std.specs.Coded.{codes};
     ghost use Rattle.version_tree.specs.Codes.{map_code};
     ghost use Rattle.version_tree.specs.Map.{of_entries};
-    ghost use Rattle.lock_modes.specs.Place.{place_order};
+    ghost use Rattle.lock_modes.specs.RowPlace.{place_order};
     ghost use Rattle.lock_modes.specs.contracts.value.Value as value;
     ghost use Rattle.row_tables.specs.Overlay.{Overlay};
 

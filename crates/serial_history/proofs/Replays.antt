@@ -1,7 +1,7 @@
 -- Every line is a serial run of its commits.
 use Rattle.std.proofs.Common.{◌≡◌, refl, sym, ap, ◌∙◌, subst, ℕ, Bool, true, false, cond, List, [], ◌∷◌, ◌++◌, Some, ⊎_elim, append-nil}
 use Rattle.version_tree.specs.Map.{Map, get, empty, entries}
-use Rattle.lock_modes.specs.Place.{Place}
+use Rattle.lock_modes.specs.RowPlace.{RowPlace}
 use Rattle.lock_modes.specs.Mode.{compatible, AtLeast}
 use Rattle.lock_queues.specs.Locks.{may_have, closes_ring, answered}
 use Rattle.row_tables.specs.Overlay.{Rows', Write, Overlay, lay, written}
@@ -112,7 +112,7 @@ held-reads-off : (ours theirs : Held) (st : Bound) → Friends (claims_of ours [
     → ReadsOff (claims_of theirs []) st
 held-reads-off ours theirs st friends holds = record { each = λ p o. ⊎_elim (λ w. absurd (against p o w)) (λ f. f) (known (may_write (claims_of theirs []) p)) }
   where
-    against : (p : Place) → opened (plan st) p ≡ true → may_write (claims_of theirs []) p ≡ true → ⊥
+    against : (p : RowPlace) → opened (plan st) p ≡ true → may_write (claims_of theirs []) p ≡ true → ⊥
     against p o w =
         ⊎_elim
         (λ h. let x = asks-has ours (plan st) (Table p.0) reads_table reads-up holds h in reading-table (claims_of ours [])

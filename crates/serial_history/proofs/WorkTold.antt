@@ -1,7 +1,7 @@
 -- What is work tells data, and what is not tells none and writes nothing.
 use Rattle.std.proofs.Common.{◌≡◌, ◌≢◌, refl, ℕ, Bool, true, false, List, [], ◌∷◌, ◌++◌, length, map, Option, Some, None}
 use Rattle.version_tree.specs.Map.{entries}
-use Rattle.lock_modes.specs.Place.{Place}
+use Rattle.lock_modes.specs.RowPlace.{RowPlace}
 use Rattle.sql_statements.specs.Plan.{Tuple}
 use Rattle.row_tables.specs.Overlay.{Rows', Write}
 use Rattle.statement_effects.specs.Effect.{Effect, Gives, Faults, effect, visible, matching, sorted_by, shown, projected, all_aggregated, all_assigned, placed, or_fault, counted}
@@ -12,7 +12,7 @@ use Rattle.transcripts.specs.declared.event.Fault.TheVariants.{OutOfRange, Dupli
 use Rattle.sql_statements.specs.declared.statement.Output.{Output}
 use Rattle.sql_statements.specs.declared.statement.Output.TheVariants.{Columns, Aggregates}
 use Rattle.sql_statements.specs.declared.statement.Bound.{Bound}
-use Rattle.sql_statements.specs.declared.statement.Bound.TheVariants.{Select, Insert, Update, Delete, Begin, Commit, Rollback, LockTable, SetVariable}
+use Rattle.sql_statements.specs.declared.statement.Bound.TheVariants.{Select, Insert, Update, Delete, Begin, Commit, Rollback, Lock, SetVariable}
 use Rattle.lock_modes.specs.declared.value.Value.{Value}
 use Rattle.serial_history.specs.Reading.{is_data, Reading, read}
 use Rattle.serial_history.specs.Serial.{is_work}
@@ -39,14 +39,14 @@ data-append : (es fs : List Event) → AllData es → AllData fs → AllData (es
 data-append [] fs p q = q
 data-append (e ∷ es) fs p q = (p.0, data-append es fs p.1 q)
 
-data-rows : (columns : List ℕ) (es : List (Place × Tuple)) → AllData (map (λ (e : Place × Tuple). RowEvent (projected columns e.1)) es)
+data-rows : (columns : List ℕ) (es : List (RowPlace × Tuple)) → AllData (map (λ (e : RowPlace × Tuple). RowEvent (projected columns e.1)) es)
 data-rows columns [] = tt
 data-rows columns (e ∷ es) = (refl, data-rows columns es)
 
 -- rows and their count, the sums, and counts of writes
-shown-work : (out : Output) (es : List (Place × Tuple)) → TellsWork true (shown out es)
+shown-work : (out : Output) (es : List (RowPlace × Tuple)) → TellsWork true (shown out es)
 shown-work (Columns columns) es =
-    let rows : List Event = map (λ (e : Place × Tuple). RowEvent (projected columns e.1)) es in
+    let rows : List Event = map (λ (e : RowPlace × Tuple). RowEvent (projected columns e.1)) es in
     (data-append rows (Rows (length es) ∷ []) (data-rows columns es) (refl, tt), some-last rows (Rows (length es)))
 shown-work (Aggregates each) es = on (all_aggregated each es)
   where
@@ -61,7 +61,7 @@ or_fault-work : (f : Fault) (o : Option (List Write)) (event : ℕ → Event) �
 or_fault-work f None event h = tt
 or_fault-work f (Some ws) event h = counted-work event ws h
 
-matched-work : (o : Option (List (Place × Tuple))) (then' : List (Place × Tuple) → Effect) → ((es : List (Place × Tuple)) → TellsWork true (then' es))
+matched-work : (o : Option (List (RowPlace × Tuple))) (then' : List (RowPlace × Tuple) → Effect) → ((es : List (RowPlace × Tuple)) → TellsWork true (then' es))
     → TellsWork true (elim o [ None ↦ Faults OutOfRange | Some es ↦ then' es ])
 matched-work None then' h = tt
 matched-work (Some es) then' h = h es
@@ -78,9 +78,9 @@ effect-work (Update t key sets c) rows =
     (λ es. or_fault-work OutOfRange (all_assigned sets es) Updated (λ n. refl))
 effect-work (Delete t key c) rows =
     matched-work (matching c (entries (visible (Delete t key c) rows)))
-    (λ es. counted Deleted (map (λ (e : Place × Tuple). record { place = e.0; left = None }) es))
-    (λ es. counted-work Deleted (map (λ (e : Place × Tuple). record { place = e.0; left = None }) es) (λ n. refl))
-effect-work (LockTable t m) rows = ((λ x. refl), refl)
+    (λ es. counted Deleted (map (λ (e : RowPlace × Tuple). record { place = e.0; left = None }) es))
+    (λ es. counted-work Deleted (map (λ (e : RowPlace × Tuple). record { place = e.0; left = None }) es) (λ n. refl))
+effect-work (Lock t m) rows = ((λ x. refl), refl)
 effect-work SetVariable rows = ((λ x. refl), refl)
 effect-work Begin rows = ((λ x. refl), refl)
 effect-work Commit rows = ((λ x. refl), refl)

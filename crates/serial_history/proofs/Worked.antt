@@ -9,7 +9,7 @@ use Rattle.machine_model.specs.World.{send_all, session_at}
 use Rattle.transcripts.specs.declared.event.Event.TheVariants.{Row as RowEvent, Rows, Updated}
 use Rattle.sql_statements.specs.declared.statement.Output.TheVariants.{Columns}
 use Rattle.sql_statements.specs.declared.statement.Bound.{Bound}
-use Rattle.sql_statements.specs.declared.statement.Bound.TheVariants.{Select, Begin, Commit, LockTable, SetVariable}
+use Rattle.sql_statements.specs.declared.statement.Bound.TheVariants.{Select, Begin, Commit, Lock, SetVariable}
 use Rattle.lock_modes.specs.declared.mode.Mode.TheVariants.{Share}
 use Rattle.machine_model.specs.declared.status.Status.TheVariants.{Outside, InBlock, Broken}
 use Rattle.machine_model.proofs.Worked.{number, id_is, step, two_rows, adds, sets, in_blocks, all_rows}
@@ -144,7 +144,7 @@ setup_row_read = refl
 -- ---- a block that only locks a table and sets a variable commits nothing
 
 abbrev idle_row : Spec
-idle_row = record setup_row { steps = step 0 (LockTable 0 Share) ∷ step 0 SetVariable ∷ step 0 Commit ∷ []; session_setups = (Begin ∷ []) ∷ [] }
+idle_row = record setup_row { steps = step 0 (Lock 0 Share) ∷ step 0 SetVariable ∷ step 0 Commit ∷ []; session_setups = (Begin ∷ []) ∷ [] }
 
 idle_row_commits : commits idle_row (0 ∷ 1 ∷ 2 ∷ []) ≡ []
 unfolding get insert keep remove entries empty effect lay

@@ -18,7 +18,7 @@ use Rattle.transcripts.specs.declared.event.Event.TheVariants.{Sent, Resumed}
 use Rattle.machine_model.specs.declared.status.Status.{Status}
 use Rattle.machine_model.specs.declared.status.Status.TheVariants.{Outside, InBlock, Broken}
 use Rattle.sql_statements.specs.declared.statement.Bound.{Bound}
-use Rattle.sql_statements.specs.declared.statement.Bound.TheVariants.{Select, Insert, Update, Delete, Begin, Commit, Rollback, LockTable, SetVariable}
+use Rattle.sql_statements.specs.declared.statement.Bound.TheVariants.{Select, Insert, Update, Delete, Begin, Commit, Rollback, Lock, SetVariable}
 use Rattle.serial_history.specs.Reading.{Closed, Reading, nothing_read, read}
 
 -- a statement that was done, and what it told
@@ -49,7 +49,7 @@ is_work (Select t k c by o) = true
 is_work (Insert t k r) = true
 is_work (Update t k a c) = true
 is_work (Delete t k c) = true
-is_work (LockTable t m) = false
+is_work (Lock t m) = false
 is_work SetVariable = false
 is_work Begin = false
 is_work Commit = false

@@ -11,7 +11,7 @@ use Rattle.lock_queues.specs.LockTable.{Locks, look_in, taken, let_go, slice}
 use Rattle.lock_queues.specs.Rules.{IsAnswer}
 use Rattle.lock_queues.proofs.Slices.{get-slice}
 use Rattle.sql_statements.specs.declared.statement.Bound.{Bound}
-use Rattle.sql_statements.specs.declared.statement.Bound.TheVariants.{Select, Insert, Update, Delete, Begin, Commit, Rollback, LockTable, SetVariable}
+use Rattle.sql_statements.specs.declared.statement.Bound.TheVariants.{Select, Insert, Update, Delete, Begin, Commit, Rollback, Lock, SetVariable}
 use Rattle.transcripts.specs.declared.event.Fault.{Fault}
 use Rattle.transcripts.specs.declared.event.Fault.TheVariants.{Deadlock, Aborted}
 use Rattle.transcripts.specs.declared.event.Event.{Event}

@@ -4,7 +4,7 @@ use Rattle.std.proofs.lemmas.List.{map-append}
 use Rattle.spec_reader.specs.declared.error.Kind.{Kind}
 use Rattle.spec_reader.specs.Tokens.{Token, Placed, tokens}
 use Rattle.spec_reader.specs.Fault.{Form, Limits, All, Begins, MayCome, IsKind, Fault, FirstFault}
-use Rattle.spec_reader.specs.Reading.{Place, Whole, Start}
+use Rattle.spec_reader.specs.Reading.{State, Whole, Start}
 use Rattle.spec_reader.proofs.Complete.{and_then, runs, runs-append, complete}
 use Rattle.spec_reader.proofs.Faults.{Here}
 use Rattle.spec_reader.proofs.Agrees.{reached, runs_weaker}
@@ -41,10 +41,10 @@ cut xs x zs ys e b =
     }
 
 -- tokens that a text begins with lead to a place
-leads : (before : List Token) → Begins All before → (q : Place) × Here before q
+leads : (before : List Token) → Begins All before → (q : State) × Here before q
 leads before b = go (runs All Start before) refl (sym (runs-append All Start before b.rest) ∙ ap (runs All Start) b.whole ∙ complete All b.tree b.keeps)
   where
-    go : (o : Result Place Kind) → runs All Start before ≡ o → and_then (runs All Start before) (λ q. runs All q b.rest) ≡ Ok (Whole b.tree) → (q : Place) × Here before q
+    go : (o : Result State Kind) → runs All Start before ≡ o → and_then (runs All Start before) (λ q. runs All q b.rest) ≡ Ok (Whole b.tree) → (q : State) × Here before q
     go (Ok q) e h =
         let w = runs_weaker Start before q e in
         let form = reached Form Start before q tt w.0 in

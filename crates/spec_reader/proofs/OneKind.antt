@@ -5,7 +5,7 @@ use Rattle.spec_reader.specs.declared.error.Kind.{Kind}
 use Rattle.spec_reader.specs.declared.error.Kind.TheVariants.{NotUtf8, BadToken, Unclosed, Misplaced, NoStep, DuplicateStep, DuplicateSession, UnknownStep, TooLarge, NoMemory}
 use Rattle.spec_reader.specs.Tokens.{Token, SessionWord, StepWord, PermutationWord, End, NoToken, NotClosed}
 use Rattle.spec_reader.specs.Fault.{Form, Limits, MayCome, IsMissing, IsNoToken, EndsSteps, EndsSessions, IsKind, name_fault}
-use Rattle.spec_reader.specs.Reading.{Place, Head, HeadSetup, HeadTeardown, SessionBegun, Headed, HeadedSetup, HeadedTeardown, StepBegun, StepNamed, Stepped, LastTeardown, Sessioned, LineBegun, ItemNamed, MarkerBegun, MarkerNamed, Noticed, Marked, ItemDone, Whole, next}
+use Rattle.spec_reader.specs.Reading.{State, Head, HeadSetup, HeadTeardown, SessionBegun, Headed, HeadedSetup, HeadedTeardown, StepBegun, StepNamed, Stepped, LastTeardown, Sessioned, LineBegun, ItemNamed, MarkerBegun, MarkerNamed, Noticed, Marked, ItemDone, Whole, next}
 use Rattle.spec_reader.proofs.Faults.{never, can, Here}
 use Rattle.byte_runs.proofs.RunLemmas.{or_true}
 
@@ -29,14 +29,14 @@ ends_steps SessionWord = true
 ends_steps t = ends_sessions t
 
 -- by the form the token may come at the place
-abbrev pub takes : Place → Token → Bool
+abbrev pub takes : State → Token → Bool
 takes q t = is_ok (next Form q t)
 
 -- a session or a step is missing
 abbrev pub missing : Bool → Bool → Bool → Bool → Bool → Bool
 missing es st s p e = (es && (s && not e)) || (st && (p && not e))
 
-abbrev pub is_missing : Place → Token → Bool
+abbrev pub is_missing : State → Token → Bool
 is_missing q t = missing (ends_sessions t) (ends_steps t) (takes q SessionWord) (takes q StepWord) (takes q End)
 
 -- the kind, by these tests in their order
@@ -44,7 +44,7 @@ abbrev pub kind_by : Bool → Bool → Bool → Bool → Bool → Kind → Kind
 kind_by no_token not_closed lacks form limits named = cond no_token BadToken (cond not_closed Unclosed (cond lacks NoStep (cond form (cond limits named TooLarge) Misplaced)))
 
 -- a token that may come lacks nothing
-takes_all : (q : Place) (t : Token) → takes q t ≡ true → is_missing q t ≡ false
+takes_all : (q : State) (t : Token) → takes q t ≡ true → is_missing q t ≡ false
 takes_all (Head bs None) End e = absurd cc
 takes_all (Head bs None) PermutationWord e = absurd cc
 takes_all (Head bs None) SessionWord e = refl
@@ -143,7 +143,7 @@ takes_all (Whole f) SessionWord e = absurd cc
 takes_all (Whole f) t e = refl
 
 -- what is no token comes nowhere
-takes_none : (q : Place) → (takes q NoToken ≡ false) × (takes q NotClosed ≡ false)
+takes_none : (q : State) → (takes q NoToken ≡ false) × (takes q NotClosed ≡ false)
 takes_none (Head bs None) = (refl, refl)
 takes_none (Head bs (Some b)) = (refl, refl)
 takes_none (HeadSetup a) = (refl, refl)
@@ -169,7 +169,7 @@ takes_none (Marked a b c d f h i) = (refl, refl)
 takes_none (ItemDone a b c d) = (refl, refl)
 takes_none (Whole f) = (refl, refl)
 
-is_token : (q : Place) (t : Token) → takes q t ≡ true → (is_no_token t ≡ false) × (is_not_closed t ≡ false)
+is_token : (q : State) (t : Token) → takes q t ≡ true → (is_no_token t ≡ false) × (is_not_closed t ≡ false)
 is_token q NoToken e = let none = takes_none q in absurd cc
 is_token q NotClosed e = let none = takes_none q in absurd cc
 is_token q t e = (refl, refl)
@@ -235,26 +235,26 @@ missing_by false false false true false h = absurd cc
 missing_by false false false false true h = absurd cc
 missing_by false false false false false h = absurd cc
 
-module _ (before : List Token) (q : Place) (h : Here before q) where
+module _ (before : List Token) (q : State) (h : Here before q) where
   -- the tests say what may come
   takes_it : (t : Token) → MayCome Form before t → takes q t ≡ true
   takes_it t m = go (next Form q t) refl
     where
-      go : (o : Result Place Kind) → next Form q t ≡ o → is_ok o ≡ true
+      go : (o : Result State Kind) → next Form q t ≡ o → is_ok o ≡ true
       go (Ok x) e = refl
       go (Err k) e = absurd (never Form before q t k h.form e m)
 
   takes_not : (t : Token) → (MayCome Form before t → ⊥) → takes q t ≡ false
   takes_not t m = go (next Form q t) refl
     where
-      go : (o : Result Place Kind) → next Form q t ≡ o → is_ok o ≡ false
+      go : (o : Result State Kind) → next Form q t ≡ o → is_ok o ≡ false
       go (Ok x) e = absurd (m (can Form before q t x h.same h.held_form e))
       go (Err k) e = refl
 
   may_come : (t : Token) → takes q t ≡ true → MayCome Form before t
   may_come t m = go (next Form q t) refl m
     where
-      go : (o : Result Place Kind) → next Form q t ≡ o → is_ok o ≡ true → MayCome Form before t
+      go : (o : Result State Kind) → next Form q t ≡ o → is_ok o ≡ true → MayCome Form before t
       go (Ok x) e m = can Form before q t x h.same h.held_form e
       go (Err k) e m = absurd cc
 
@@ -264,14 +264,14 @@ module _ (before : List Token) (q : Place) (h : Here before q) where
   within_it : (t : Token) → MayCome Limits before t → is_ok (next Limits q t) ≡ true
   within_it t m = go (next Limits q t) refl
     where
-      go : (o : Result Place Kind) → next Limits q t ≡ o → is_ok o ≡ true
+      go : (o : Result State Kind) → next Limits q t ≡ o → is_ok o ≡ true
       go (Ok x) e = refl
       go (Err k) e = absurd (never Limits before q t k h.limits e m)
 
   within_not : (t : Token) → (MayCome Limits before t → ⊥) → is_ok (next Limits q t) ≡ false
   within_not t m = go (next Limits q t) refl
     where
-      go : (o : Result Place Kind) → next Limits q t ≡ o → is_ok o ≡ false
+      go : (o : Result State Kind) → next Limits q t ≡ o → is_ok o ≡ false
       go (Ok x) e = absurd (m (can Limits before q t x h.same h.held_limits e))
       go (Err k) e = refl
 

@@ -16,7 +16,7 @@ use Rattle.sql_reader.specs.declared.statement.End.{End as WrittenEnd}
 use Rattle.sql_reader.specs.declared.statement.Form.{Form}
 use Rattle.sql_reader.specs.declared.statement.Form.TheVariants as form
 use Rattle.sql_reader.specs.declared.statement.Insert.{Insert as WrittenInsert}
-use Rattle.sql_reader.specs.declared.statement.LockTable.{LockTable as WrittenLock}
+use Rattle.sql_reader.specs.declared.statement.TableLock.{TableLock as WrittenLock}
 use Rattle.sql_reader.specs.declared.statement.Select.{Select as WrittenSelect}
 use Rattle.sql_reader.specs.declared.statement.Selected.{Selected}
 use Rattle.sql_reader.specs.declared.statement.Selected.TheVariants as selected
@@ -117,7 +117,7 @@ view_form (form.Update u) = view_update u
 view_form (form.Delete d) = view_delete d
 view_form (form.Begin b) = view_begin b
 view_form (form.End e) = view_end e
-view_form (form.LockTable l) = view_lock l
+view_form (form.Lock l) = view_lock l
 view_form (form.Set s) = Set s
 
 -- ---- what the code answers

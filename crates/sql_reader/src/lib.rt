@@ -26,8 +26,8 @@ pub use expression::{
 pub use reading::read_sql;
 pub use statement::{
     Aggregate, Assignment, Begin, CreateTable, Delete, Direction, End, EndWord, Form, Insert,
-    Level, LockMode, LockTable, Noise, Property, ReadWord, Scope, Select, Selected, SetSign,
-    Setting, SortKey, Start, Statement, Strength, TablePart, TypeWord, Update,
+    Level, LockMode, Noise, Property, ReadWord, Scope, Select, Selected, SetSign, Setting, SortKey,
+    Start, Statement, Strength, TableLock, TablePart, TypeWord, Update,
 };
 
 /// The rows of an INSERT, at most.

@@ -7,7 +7,7 @@ ghost use Rattle.sql_reader.specs.Reading.{strength, row_exclusive, share_mode, 
 ghost use Rattle.sql_reader.specs.Views.{Gives, view_lock};
 
 use crate::error::Stop;
-use crate::statement::{LockMode, LockTable, Strength};
+use crate::statement::{LockMode, Strength, TableLock};
 use crate::steps::{at_key, at_word, first, name, skip_key, skip_word, taken};
 use crate::token::{Placed, Token};
 use std::alloc::Global;
@@ -115,7 +115,7 @@ fn table_word<'a, 't>(tokens: &'t [Placed<'a>]) -> Result<(bool, &'t [Placed<'a>
 pub fn lock<'a, 't>(
     alloc: Global,
     tokens: &'t [Placed<'a>],
-) -> Result<(LockTable, &'t [Placed<'a>]), Stop<'a>>
+) -> Result<(TableLock, &'t [Placed<'a>]), Stop<'a>>
     ensures reads { Gives (λ x. (view_lock x.0, views x.1.now)) result (lock (views tokens.now)) }
     ensures shorter { IfOk result (λ x. length x.1.now ≤ length tokens.now) }
 {
@@ -124,7 +124,7 @@ pub fn lock<'a, 't>(
     let (table, rest) = name(alloc, rest)?;
     let (mode, rest) = maybe_mode(rest)?;
     Ok((
-        LockTable {
+        TableLock {
             table_word,
             table,
             mode,

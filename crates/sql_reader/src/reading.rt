@@ -45,7 +45,7 @@ fn other_form<'a, 't>(
         Ok((Form::End(end), rest))
     } else if at_word(tokens, "lock") {
         let (lock, rest) = lock(alloc, tokens)?;
-        Ok((Form::LockTable(lock), rest))
+        Ok((Form::Lock(lock), rest))
     } else {
         let (setting, rest) = set(alloc, tokens)?;
         Ok((Form::Set(setting), rest))

@@ -186,7 +186,7 @@ pub enum LockMode {
 
 /// `LOCK [TABLE] table [IN mode MODE]`
 #[derive(Drop)]
-pub struct LockTable {
+pub struct TableLock {
     /// Whether TABLE is written.
     pub table_word: bool,
     pub table: Text,
@@ -228,7 +228,7 @@ pub enum Form {
     Delete(Delete),
     Begin(Begin),
     End(End),
-    LockTable(LockTable),
+    Lock(TableLock),
     Set(Setting),
 }
 

@@ -2,7 +2,7 @@
 use Rattle.std.specs.Prelude.{ℕ, ◌<◌, ◌≤◌, ⊤, Bool, true, false, ◌&&◌, ◌||◌, List, [], ◌∷◌, ◌==◌, length, map, get_or, Option, Some, None, pos, All}
 use Rattle.std.specs.List.{list_any}
 use Rattle.version_tree.specs.Map.{same_key}
-use Rattle.lock_modes.specs.Place.{Place}
+use Rattle.lock_modes.specs.RowPlace.{RowPlace}
 use Rattle.lock_modes.specs.Value.{value_order}
 use Rattle.lock_modes.specs.Resource.{same_resource}
 use Rattle.lock_modes.specs.declared.mode.Mode.{Mode}
@@ -12,7 +12,7 @@ use Rattle.lock_modes.specs.declared.value.Value.TheVariants.{Int}
 use Rattle.lock_modes.specs.declared.resource.Resource.{Resource}
 use Rattle.lock_modes.specs.declared.resource.Resource.TheVariants.{Table, Row as RowOf}
 use Rattle.sql_statements.specs.declared.statement.Bound.{Bound}
-use Rattle.sql_statements.specs.declared.statement.Bound.TheVariants.{Select, Insert, Update, Delete, Begin, Commit, Rollback, LockTable, SetVariable}
+use Rattle.sql_statements.specs.declared.statement.Bound.TheVariants.{Select, Insert, Update, Delete, Begin, Commit, Rollback, Lock, SetVariable}
 
 abbrev pub Tuple : Type 0
 Tuple = List Value
@@ -51,7 +51,7 @@ plan (Insert t (Some k) rows) = insert_plan t k rows
 plan (Insert t None rows) = table_plan t Exclusive
 plan (Update t key sets c) = row_plan t key IntentExclusive Exclusive
 plan (Delete t key c) = row_plan t key IntentExclusive Exclusive
-plan (LockTable t m) = table_plan t m
+plan (Lock t m) = table_plan t m
 plan Begin = []
 plan Commit = []
 plan Rollback = []
@@ -98,7 +98,7 @@ abbrev pub asks_on : List Request → Resource → (Mode → Bool) → Bool
 asks_on qs r test = list_any (λ q. same_resource q.resource r && test q.mode) qs
 
 -- the requests let the row at the place be read: by the table, or by the row below a mode on the table
-abbrev pub opened : List Request → Place → Bool
+abbrev pub opened : List Request → RowPlace → Bool
 opened qs p = asks_on qs (Table p.0) reads_table || (asks_on qs (RowOf p.0 p.1) reads_table && asks_on qs (Table p.0) (λ _. true))
 
 -- the row has the key that is named, or none is named
@@ -107,13 +107,13 @@ at_key None v = true
 at_key (Some k) v = same_key value_order k v
 
 -- the rows that a statement looks at, by its text alone: those of its table, and only the ones with a key that it names where it names one
-abbrev pub looks_at : Bound → Place → Bool
+abbrev pub looks_at : Bound → RowPlace → Bool
 looks_at (Select t key c by out) p = (p.0 == t) && at_key key p.1
 looks_at (Insert t (Some k) rows) p = (p.0 == t) && list_any (λ row. at_key (Some (key_at k row)) p.1) rows
 looks_at (Insert t None rows) p = p.0 == t
 looks_at (Update t key sets c) p = (p.0 == t) && at_key key p.1
 looks_at (Delete t key c) p = (p.0 == t) && at_key key p.1
-looks_at (LockTable t m) p = false
+looks_at (Lock t m) p = false
 looks_at Begin p = false
 looks_at Commit p = false
 looks_at Rollback p = false

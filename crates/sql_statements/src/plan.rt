@@ -42,7 +42,7 @@ pub fn lock_plan(statement: &Bound, number: u8) -> Option<(Place<'_>, Mode)>
             Mode::Exclusive,
             number,
         ),
-        Bound::LockTable(table, mode) => table_request(*table, *mode, number),
+        Bound::Lock(table, mode) => table_request(*table, *mode, number),
         Bound::Begin | Bound::Commit | Bound::Rollback | Bound::SetVariable => None,
     }
 }

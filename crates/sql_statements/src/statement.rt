@@ -55,6 +55,6 @@ pub enum Bound {
     Begin,
     Commit,
     Rollback,
-    LockTable(u16, Mode),
+    Lock(u16, Mode),
     SetVariable,
 }

@@ -21,7 +21,7 @@ use Rattle.sql_subset.specs.declared.TheConstants.{MAX_LINED_STEPS}
 use Rattle.sql_subset.specs.declared.tables.Table.{Table}
 use Rattle.sql_subset.specs.Spec.{Step, Spec, SpecFile, counts_of, steps_of, queues_from, queues_of, step_limit, IsLine, IsStep, IsReady, AllHaveKeys, AllAreShort}
 use Rattle.sql_subset.specs.Binding.{BoundSession, session, declared, main_setup, numbered, all_steps, made_file, shaped, bound_file, IsFileOf}
-use Rattle.sql_subset.specs.Lines.{counts_in, step_names, then_some, all_some, step_number, line_of, lines_by, orders_of}
+use Rattle.sql_subset.specs.Lines.{counts_in, step_names, then_some, all_some, step_number, numbered_line, lines_by, orders_of}
 use Rattle.sql_subset.specs.Refusals.{Bind, ◌>>=◌, each}
 use Rattle.sql_subset.specs.declared.orders.Orders.{Orders}
 use Rattle.sql_subset.specs.declared.orders.Orders.TheVariants.{Words, Lines}
@@ -163,7 +163,7 @@ some-All P f h (a ∷ as') xs e =
     let rest = some-All P f h as' b.1.1.0 b.1.1.1.0 in
     (subst (All P) b.1.1.1.1 (All-cons P b.0 b.1.1.0 (h a b.0 b.1.0) rest.0), ap length (sym b.1.1.1.1) ∙ ap suc rest.1)
 
-line-is : (names : List (List ℕ)) (items : LineTree) (line : List ℕ) → line_of names items ≡ Some line → IsLine (length names) line
+line-is : (names : List (List ℕ)) (items : LineTree) (line : List ℕ) → numbered_line names items ≡ Some line → IsLine (length names) line
 line-is names items line e =
     let a = some_if (nat_le 1 (length items) && nat_le (length items) MAX_ITEMS) (all_some (step_number names) items) line e in
     let few = then_true (nat_le 1 (length items)) (nat_le (length items) MAX_ITEMS) a.0 in
@@ -209,9 +209,9 @@ by_lines ss [] lines e =
     let none : [] ≡ lines = cc (a.1) in
     subst (IsOrdered ss) none (record { few_steps = shape-few (counts_in ss) a.0; few_lines = omega arith; known = All-nil (IsLine (length (step_names ss))) })
 by_lines ss (l ∷ ls) lines e =
-    let a = some_if (nat_le (total (counts_in ss)) MAX_LINED_STEPS && nat_le (length (l ∷ ls)) MAX_LINES) (all_some (line_of (step_names ss)) (l ∷ ls)) lines e in
+    let a = some_if (nat_le (total (counts_in ss)) MAX_LINED_STEPS && nat_le (length (l ∷ ls)) MAX_LINES) (all_some (numbered_line (step_names ss)) (l ∷ ls)) lines e in
     let few = then_true (nat_le (total (counts_in ss)) MAX_LINED_STEPS) (nat_le (length (l ∷ ls)) MAX_LINES) a.0 in
-    let all = some-All (IsLine (length (step_names ss))) (line_of (step_names ss)) (λ items line h. line-is (step_names ss) items line h) (l ∷ ls) lines a.1 in
+    let all = some-All (IsLine (length (step_names ss))) (numbered_line (step_names ss)) (λ items line h. line-is (step_names ss) items line h) (l ∷ ls) lines a.1 in
     record {
       few_steps = limit_of lines (length ls) (total (counts_in ss)) all.1 (leb-true (total (counts_in ss)) MAX_LINED_STEPS few.0);
       few_lines = omega (arith, leb-true (length (l ∷ ls)) MAX_LINES few.1, all.1);
@@ -226,9 +226,9 @@ ordered tree lines e =
 pub some-length : {A X : Type 0} (f : A → Option X) (as' : List A) (xs : List X) → all_some f as' ≡ Some xs → length xs ≡ length as'
 some-length f as' xs e = (some-All (λ x. Unit {0}) f (λ a x h. tt) as' xs e).1
 
-pub lines-some : {X : Type 0} (items : X → List ℕ) (lines : List X) (names : List (List ℕ)) (texts : List LineTree) → Some (map items lines) ≡ all_some (line_of names) texts → 0 < length texts → lines ≡ [] → ⊥
+pub lines-some : {X : Type 0} (items : X → List ℕ) (lines : List X) (names : List (List ℕ)) (texts : List LineTree) → Some (map items lines) ≡ all_some (numbered_line names) texts → 0 < length texts → lines ≡ [] → ⊥
 lines-some items lines names texts e h none =
-    let many : length lines ≡ length texts = sym (length-map lines items) ∙ some-length (line_of names) texts (map items lines) (sym e) in
+    let many : length lines ≡ length texts = sym (length-map lines items) ∙ some-length (numbered_line names) texts (map items lines) (sym e) in
     let zero : length lines ≡ 0 = ap length none in
     omega (arith, many, zero)
 

@@ -36,14 +36,14 @@ abbrev pub step_number : List Name → ItemTree → Option ℕ
 step_number names i = place_in i.name names
 
 -- the numbers of the steps that a line names, of one item or more within the limit
-abbrev pub line_of : List Name → LineTree → Option (List ℕ)
-line_of names items = if nat_le 1 (length items) && nat_le (length items) MAX_ITEMS then all_some (step_number names) items else None
+abbrev pub numbered_line : List Name → LineTree → Option (List ℕ)
+numbered_line names items = if nat_le 1 (length items) && nat_le (length items) MAX_ITEMS then all_some (step_number names) items else None
 
 -- the lines of a file without lines are none, if its steps have a shape; with lines their steps and the lines are within the limits
 abbrev pub lines_by : List SessionTree → List LineTree → Option (List (List ℕ))
 lines_by sessions [] = if is_ok (shape_of (counts_in sessions)) then Some [] else None
 lines_by sessions (l ∷ ls) =
-    if nat_le (total (counts_in sessions)) MAX_LINED_STEPS && nat_le (length (l ∷ ls)) MAX_LINES then all_some (line_of (step_names sessions)) (l ∷ ls) else None
+    if nat_le (total (counts_in sessions)) MAX_LINED_STEPS && nat_le (length (l ∷ ls)) MAX_LINES then all_some (numbered_line (step_names sessions)) (l ∷ ls) else None
 
 -- none where the file is outside the limits
 abbrev pub orders_of : SpecTree → Option (List (List ℕ))

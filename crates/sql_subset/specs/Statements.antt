@@ -23,7 +23,7 @@ use Rattle.sql_statements.specs.declared.statement.Aggregate.{Aggregate}
 use Rattle.sql_statements.specs.declared.statement.Aggregate.TheVariants as aggregates
 use Rattle.sql_statements.specs.declared.statement.Assignment.{Assignment}
 use Rattle.sql_statements.specs.declared.statement.Bound.{Bound}
-use Rattle.sql_statements.specs.declared.statement.Bound.TheVariants.{Select, Insert, Update, Delete, Begin, Commit, Rollback, LockTable, SetVariable}
+use Rattle.sql_statements.specs.declared.statement.Bound.TheVariants.{Select, Insert, Update, Delete, Begin, Commit, Rollback, Lock, SetVariable}
 use Rattle.sql_statements.specs.declared.condition.Condition.{Condition}
 use Rattle.sql_statements.specs.declared.statement.Order.{Order}
 use Rattle.sql_statements.specs.declared.statement.Order.TheVariants.{Rises, Falls}
@@ -179,5 +179,5 @@ statement tables at (tree.Update n as' c) = table tables at n >>= λ x. update x
 statement tables at (tree.Delete n c) = table tables at n >>= λ x. delete x.1 at x.0 c
 statement tables at (tree.Begin start level) = Ok Begin
 statement tables at (tree.Ends end noise) = Ok (end_of end)
-statement tables at (tree.Lock noise n mode) = table tables at n >>= λ x. Ok (LockTable x.0 (mode_of mode))
+statement tables at (tree.Lock noise n mode) = table tables at n >>= λ x. Ok (Lock x.0 (mode_of mode))
 statement tables at (tree.Set setting) = Ok SetVariable

@@ -8,7 +8,7 @@ ghost use Rattle.spec_reader.specs.Whole.{spec_tree};
 ghost use Rattle.sql_reader.specs.declared.error.SqlErrorKind.TheVariants as sql;
 ghost use Rattle.sql_subset.specs.Orders.{lines_of};
 ghost use Rattle.sql_subset.specs.Bindings.{bound_session, FitsCounts};
-ghost use Rattle.sql_subset.specs.Lines.{all_some, line_of, counts_in, step_names, session_names, lines_by, orders_of};
+ghost use Rattle.sql_subset.specs.Lines.{all_some, numbered_line, counts_in, step_names, session_names, lines_by, orders_of};
 ghost use Rattle.sql_subset.specs.Binding.{numbered, all_steps, shaped, bound_file};
 ghost use Rattle.sql_subset.specs.Refusals.{Binds};
 
@@ -81,7 +81,7 @@ fn words(sessions: &[SessionText]) -> Result<Orders, BindStop>
 fn some_lines(alloc: Global, texts: &[LineText], names: &[Text]) -> Result<Vec<Line>, BindStop>
     requires some { 0 < length texts.now }
     requires few { length names.now ≤ MAX_LINED_STEPS }
-    ensures bound { Binds (λ lines. map (λ line. line.items) lines.items) result (shaped (all_some (line_of names.now) (map line_tree texts.now))) }
+    ensures bound { Binds (λ lines. map (λ line. line.items) lines.items) result (shaped (all_some (numbered_line names.now) (map line_tree texts.now))) }
     ensures some { IfOk result (λ lines. lines.items ≢ []) }
 {
     match lines(alloc, names, texts)? {

@@ -6,7 +6,7 @@ ghost use Rattle.perm_ranks.specs.declared.TheConstants.{MAX_SESSIONS};
 ghost use Rattle.perm_ranks.specs.Shape.{shape_of};
 ghost use Rattle.perm_ranks.specs.Words.{total};
 ghost use Rattle.sql_subset.specs.declared.TheConstants.{MAX_LINED_STEPS};
-ghost use Rattle.sql_subset.specs.Lines.{counts_in, all_some, line_of};
+ghost use Rattle.sql_subset.specs.Lines.{counts_in, all_some, numbered_line};
 
 use crate::names::position;
 use crate::orders::Line;
@@ -63,7 +63,7 @@ pub(crate) fn shape(sessions: &[SessionText]) -> Option<Shape>
 /// The steps that a line names, if it is one. Each name is looked for among all of them.
 fn line(names: &[Text], items: &[ItemText]) -> Option<Line>
     requires { length names.now ≤ MAX_LINED_STEPS }
-    ensures { option_map (λ line. line.items) result ≡ line_of names.now (map item_tree items.now) }
+    ensures { option_map (λ line. line.items) result ≡ numbered_line names.now (map item_tree items.now) }
 {
     if items.is_empty() || items.len() > MAX_ITEMS {
         return None;
@@ -83,7 +83,7 @@ pub(crate) fn lines(
     texts: &[LineText],
 ) -> Result<Option<Vec<Line>>, AllocError>
     requires { length names.now ≤ MAX_LINED_STEPS }
-    ensures { IfOk result (λ lines. option_map (λ lines. map (λ line. line.items) lines.items) lines ≡ all_some (line_of names.now) (map line_tree texts.now)) }
+    ensures { IfOk result (λ lines. option_map (λ lines. map (λ line. line.items) lines.items) lines ≡ all_some (numbered_line names.now) (map line_tree texts.now)) }
 {
     let mut lines = Vec::new(alloc);
     for text in texts {

@@ -77,9 +77,9 @@ pub(crate) fn statement(
         }
         Form::Begin(_) => Ok(Bound::Begin),
         Form::End(end) => Ok(end_of(end.word)),
-        Form::LockTable(text) => {
+        Form::Lock(text) => {
             let (number, _) = table_named(tables, at, text.table.as_str())?;
-            Ok(Bound::LockTable(number, mode_of(text.mode)))
+            Ok(Bound::Lock(number, mode_of(text.mode)))
         }
         Form::Set(_) => Ok(Bound::SetVariable),
     }

@@ -1,7 +1,7 @@
 -- The effect of each statement from what the code finds.
 use Rattle.std.proofs.Common.{◌≡◌, refl, ap, ℕ, Bool, true, false, ◌&&◌, ◌==◌, List, [], ◌∷◌, map, Option, Some, None}
 use Rattle.version_tree.specs.Map.{keep, entries}
-use Rattle.lock_modes.specs.Place.{Place}
+use Rattle.lock_modes.specs.RowPlace.{RowPlace}
 use Rattle.lock_modes.specs.declared.mode.Mode.{Mode}
 use Rattle.lock_modes.specs.declared.value.Value.{Value}
 use Rattle.transcripts.specs.declared.event.Fault.TheVariants.{Duplicate, OutOfRange}
@@ -11,7 +11,7 @@ use Rattle.sql_statements.specs.declared.condition.Condition.{Condition}
 use Rattle.sql_statements.specs.declared.statement.Assignment.{Assignment}
 use Rattle.sql_statements.specs.declared.statement.SortKey.{SortKey}
 use Rattle.sql_statements.specs.declared.statement.Output.{Output}
-use Rattle.sql_statements.specs.declared.statement.Bound.TheVariants.{Select, Insert, Update, Delete, Begin, Commit, Rollback, LockTable, SetVariable}
+use Rattle.sql_statements.specs.declared.statement.Bound.TheVariants.{Select, Insert, Update, Delete, Begin, Commit, Rollback, Lock, SetVariable}
 use Rattle.row_tables.specs.Overlay.{Tuple, Rows'}
 use Rattle.row_tables.specs.Layers.{Layers, IsOnlyWriterAt}
 use Rattle.statement_effects.specs.Effect.{Effect, Gives, Faults, effect, matching, shown, sorted_by, all_assigned, placed, numbered, next_number, or_fault, counted}
@@ -20,15 +20,15 @@ use Rattle.statement_effects.specs.Seen.{named, selected, updated, deleted, Keys
 use Rattle.statement_effects.proofs.ListLemmas.{Each-at, Each-map}
 use Rattle.statement_effects.proofs.PlaceLemmas.{placed-visible, looks-each}
 
-matched-selected : (by : List SortKey) (out : Output) (o : Option (List (Place × Tuple))) → (let f : Effect = elim o [ None ↦ Faults OutOfRange | Some es ↦ shown out (sorted_by by es) ] in f) ≡ selected by out o
+matched-selected : (by : List SortKey) (out : Output) (o : Option (List (RowPlace × Tuple))) → (let f : Effect = elim o [ None ↦ Faults OutOfRange | Some es ↦ shown out (sorted_by by es) ] in f) ≡ selected by out o
 matched-selected by out None = refl
 matched-selected by out (Some es) = refl
 
-matched-updated : (sets : List Assignment) (o : Option (List (Place × Tuple))) → (let f : Effect = elim o [ None ↦ Faults OutOfRange | Some es ↦ or_fault OutOfRange (all_assigned sets es) Updated ] in f) ≡ updated sets o
+matched-updated : (sets : List Assignment) (o : Option (List (RowPlace × Tuple))) → (let f : Effect = elim o [ None ↦ Faults OutOfRange | Some es ↦ or_fault OutOfRange (all_assigned sets es) Updated ] in f) ≡ updated sets o
 matched-updated sets None = refl
 matched-updated sets (Some es) = refl
 
-matched-deleted : (o : Option (List (Place × Tuple))) → (let f : Effect = elim o [ None ↦ Faults OutOfRange | Some es ↦ counted Deleted (map (λ (e : Place × Tuple). record { place = e.0; left = None }) es) ] in f) ≡ deleted o
+matched-deleted : (o : Option (List (RowPlace × Tuple))) → (let f : Effect = elim o [ None ↦ Faults OutOfRange | Some es ↦ counted Deleted (map (λ (e : RowPlace × Tuple). record { place = e.0; left = None }) es) ] in f) ≡ deleted o
 matched-deleted None = refl
 matched-deleted (Some es) = refl
 
@@ -57,7 +57,7 @@ module _ (rows : Rows') where
   unfolding effect
   effect-numbered t new = λ i. counted Inserted (numbered t (next_number 1 (entries (keep (λ p. and-true (p.0 == t) i) rows))) new)
 
-  pub effect-locked : (t : ℕ) (m : Mode) → effect (LockTable t m) rows ≡ Gives (Locked ∷ []) []
+  pub effect-locked : (t : ℕ) (m : Mode) → effect (Lock t m) rows ≡ Gives (Locked ∷ []) []
   unfolding effect
   effect-locked t m = refl
 

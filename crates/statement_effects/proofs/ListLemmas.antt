@@ -1,6 +1,6 @@
 -- Lists of what has been computed so far, with what is left.
 use Rattle.std.proofs.Common.{◌≡◌, refl, sym, ap, ℕ, zero, suc, ◌<◌, length, get_or, arith, Bool, true, false, cond, List, [], ◌∷◌, ◌++◌, Option, Some, None, append_assoc}
-use Rattle.lock_modes.specs.Place.{Place}
+use Rattle.lock_modes.specs.RowPlace.{RowPlace}
 use Rattle.lock_modes.specs.declared.value.Value.{Value}
 use Rattle.row_tables.specs.Overlay.{Tuple, Write}
 use Rattle.statement_effects.specs.Effect.{consed, passed, consed_value, consed_write}
@@ -33,7 +33,7 @@ pub onto-value : (xs : List Value) (v : Value) (o : Option (List Value)) → ont
 onto-value xs v None = refl
 onto-value xs v (Some vs) = ap Some (one-more xs v vs)
 
-pub onto-write : (xs : List Write) (p : Place) (row : Tuple) (o : Option (List Write)) → onto xs (consed_write p (Some row) o) ≡ onto (xs ++ record { place = p; left = Some row } ∷ []) o
+pub onto-write : (xs : List Write) (p : RowPlace) (row : Tuple) (o : Option (List Write)) → onto xs (consed_write p (Some row) o) ≡ onto (xs ++ record { place = p; left = Some row } ∷ []) o
 onto-write xs p row None = refl
 onto-write xs p row (Some ws) = ap Some (one-more xs _ ws)
 

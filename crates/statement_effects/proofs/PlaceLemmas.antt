@@ -6,7 +6,7 @@ use Rattle.std.proofs.Common.{◌≡◌, refl, sym, ap, ◌∙◌, ℕ, Bool, tr
 use Rattle.std.specs.List.{list_any}
 use Rattle.std.proofs.lemmas.Bool.{and_from, or_left, or_right}
 use Rattle.version_tree.specs.Map.{same_key, same_key-true, same_key-refl, get, insert, keep, get-insert, get-keep, same_map}
-use Rattle.lock_modes.specs.Place.{Place, place_order}
+use Rattle.lock_modes.specs.RowPlace.{RowPlace, place_order}
 use Rattle.lock_modes.specs.Value.{value_order, value_cmp, value_total}
 use Rattle.lock_modes.specs.declared.value.Value.{Value}
 use Rattle.sql_statements.specs.Plan.{key_at, at_key, looks_at}
@@ -80,19 +80,19 @@ looks-each t k new =
 
 -- ---- rows are placed alike in what is kept
 
-keep-insert : (p : Place → Bool) (rows : Rows') (q : Place) (row : Tuple) → p q ≡ true → insert (keep p rows) q row ≡ keep p (insert rows q row)
+keep-insert : (p : RowPlace → Bool) (rows : Rows') (q : RowPlace) (row : Tuple) → p q ≡ true → insert (keep p rows) q row ≡ keep p (insert rows q row)
 keep-insert p rows q row h = same_map _ _ (λ x. get-insert (keep p rows) q row x ∙ ap (cond (same_key place_order x q) (Some row)) (get-keep p rows x) ∙ at x (same_key place_order x q) refl ∙ sym (get-keep p (insert rows q row) x ∙ ap (λ o. cond (p x) o None) (get-insert rows q row x)))
   where
-    at : (x : Place) (b : Bool) → same_key place_order x q ≡ b → cond (same_key place_order x q) (Some row) (cond (p x) (get rows x) None) ≡ cond (p x) (cond (same_key place_order x q) (Some row) (get rows x)) None
+    at : (x : RowPlace) (b : Bool) → same_key place_order x q ≡ b → cond (same_key place_order x q) (Some row) (cond (p x) (get rows x) None) ≡ cond (p x) (cond (same_key place_order x q) (Some row) (get rows x)) None
     at x true is =
         let here : p x ≡ true = ap p (same_key-true place_order x q is) ∙ h in
         ap (λ b. cond b (Some row) (cond (p x) (get rows x) None)) is ∙ sym (ap (λ b. cond b (cond (same_key place_order x q) (Some row) (get rows x)) None) here ∙ ap (λ b. cond b (Some row) (get rows x)) is)
     at x false is = ap (λ b. cond b (Some row) (cond (p x) (get rows x) None)) is ∙ sym (ap (λ b. cond (p x) (cond b (Some row) (get rows x)) None) is)
 
-placed-kept : (p : Place → Bool) (t k : ℕ) (new : List Tuple) (rows : Rows') → Each (λ row. p (t, key_at k row) ≡ true) new → placed t k new (keep p rows) ≡ placed t k new rows
+placed-kept : (p : RowPlace → Bool) (t k : ℕ) (new : List Tuple) (rows : Rows') → Each (λ row. p (t, key_at k row) ≡ true) new → placed t k new (keep p rows) ≡ placed t k new rows
 placed-kept p t k [] rows each = refl
 placed-kept p t k (row ∷ more) rows each =
-    let q : Place = (t, key_at k row) in
+    let q : RowPlace = (t, key_at k row) in
     let seen : get (keep p rows) q ≡ get rows q = get-keep p rows q ∙ ap (λ b. cond b (get rows q) None) each.0 in
     ap (λ o. cond (is_some o) None (consed_write q (Some row) (placed t k more (insert (keep p rows) q row)))) seen
     ∙ ap (λ m. cond (is_some (get rows q)) None (consed_write q (Some row) (placed t k more m))) (keep-insert p rows q row each.0)

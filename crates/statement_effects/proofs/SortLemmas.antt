@@ -8,7 +8,7 @@ use Rattle.std.specs.List.{filter}
 use Rattle.std.specs.List.Sorted.{IsSortedBy, IsStableBy, ties}
 use Rattle.std.proofs.lemmas.List.Sorted.{ranks_by, sorted_far}
 use Rattle.std.proofs.lemmas.Bool.{and_parts, not-true}
-use Rattle.lock_modes.specs.Place.{Place}
+use Rattle.lock_modes.specs.RowPlace.{RowPlace}
 use Rattle.lock_modes.specs.Value.{value_cmp, value_total}
 use Rattle.lock_modes.specs.declared.value.Value.{Value}
 use Rattle.lock_modes.specs.declared.value.Value.TheVariants.{Int}
@@ -133,7 +133,7 @@ sort_cmp-total (k ∷ ks) = then_total (on_total (λ (row : Tuple). get_or row k
 -- ---- entries that are put in one after another
 
 abbrev Entry : Type 0
-Entry = Place × Tuple
+Entry = RowPlace × Tuple
 
 is_lt-reverse : (r : Ordering) → is_lt (ordering_reverse r) ≡ is_gt r
 is_lt-reverse Less = refl

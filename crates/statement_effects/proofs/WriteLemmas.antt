@@ -2,7 +2,7 @@
 use Rattle.std.proofs.Common.{◌≡◌, refl, sym, subst, ℕ, suc, Bool, true, false, cond, List, [], ◌∷◌, map, Option, Some, None, is_some, pos, eq-eqb}
 use Rattle.std.specs.List.{filter}
 use Rattle.version_tree.specs.Map.{get, insert, keep, entries}
-use Rattle.lock_modes.specs.Place.{Place}
+use Rattle.lock_modes.specs.RowPlace.{RowPlace}
 use Rattle.lock_modes.specs.declared.value.Value.{Value}
 use Rattle.lock_modes.specs.declared.value.Value.TheVariants.{Int}
 use Rattle.transcripts.specs.declared.event.Fault.{Fault}
@@ -16,7 +16,7 @@ use Rattle.sql_statements.specs.declared.statement.SortKey.{SortKey}
 use Rattle.sql_statements.specs.declared.statement.Output.{Output}
 use Rattle.sql_statements.specs.declared.statement.Output.TheVariants.{Columns, Aggregates}
 use Rattle.sql_statements.specs.declared.statement.Bound.{Bound}
-use Rattle.sql_statements.specs.declared.statement.Bound.TheVariants.{Select, Insert, Update, Delete, Begin, Commit, Rollback, LockTable, SetVariable}
+use Rattle.sql_statements.specs.declared.statement.Bound.TheVariants.{Select, Insert, Update, Delete, Begin, Commit, Rollback, Lock, SetVariable}
 use Rattle.row_tables.specs.Overlay.{Tuple, Rows', Write}
 use Rattle.row_tables.specs.Layers.{Layers, IsOnlyWriterAt}
 use Rattle.statement_effects.specs.Evaluate.{holds}
@@ -36,42 +36,42 @@ OnGives (Gives events writes) P = P writes
 OnGives (Faults f) P = Unit {0}
 
 -- the entries that are kept pass the test
-pub each-kept : (test : Place → Bool) (rows : Rows') → Each (λ (e : Place × Tuple). test e.0 ≡ true) (entries (keep test rows))
+pub each-kept : (test : RowPlace → Bool) (rows : Rows') → Each (λ (e : RowPlace × Tuple). test e.0 ≡ true) (entries (keep test rows))
 unfolding entries keep
 each-kept test rows = filtered rows.list
   where
-    filtered : (es : List (Place × Tuple)) → Each (λ (e : Place × Tuple). test e.0 ≡ true) (filter (λ e. test e.0) es)
+    filtered : (es : List (RowPlace × Tuple)) → Each (λ (e : RowPlace × Tuple). test e.0 ≡ true) (filter (λ e. test e.0) es)
     filtered [] = tt
-    filtered (e ∷ es) = elim (test e.0) as (λ b. test e.0 ≡ b → Each (λ (x : Place × Tuple). test x.0 ≡ true) (cond b (e ∷ filter (λ e. test e.0) es) (filter (λ e. test e.0) es))) [ true ↦ λ is. (is, filtered es) | false ↦ λ is. filtered es ] refl
+    filtered (e ∷ es) = elim (test e.0) as (λ b. test e.0 ≡ b → Each (λ (x : RowPlace × Tuple). test x.0 ≡ true) (cond b (e ∷ filter (λ e. test e.0) es) (filter (λ e. test e.0) es))) [ true ↦ λ is. (is, filtered es) | false ↦ λ is. filtered es ] refl
 
 -- what holds of each entry that a statement looks at holds of each write of its effect
-module _ (P : Place → Type 0) where
-  pub each-consed : (e : Place × Tuple) (o : Option (List (Place × Tuple))) → P e.0 → OnSome o (Each (λ (e : Place × Tuple). P e.0)) → OnSome (consed e o) (Each (λ (e : Place × Tuple). P e.0))
+module _ (P : RowPlace → Type 0) where
+  pub each-consed : (e : RowPlace × Tuple) (o : Option (List (RowPlace × Tuple))) → P e.0 → OnSome o (Each (λ (e : RowPlace × Tuple). P e.0)) → OnSome (consed e o) (Each (λ (e : RowPlace × Tuple). P e.0))
   each-consed e None p h = tt
   each-consed e (Some es) p h = (p, h)
 
-  pub each-passed : (e : Place × Tuple) (b : Option Bool) (o : Option (List (Place × Tuple))) → P e.0 → OnSome o (Each (λ (e : Place × Tuple). P e.0)) → OnSome (passed e b o) (Each (λ (e : Place × Tuple). P e.0))
+  pub each-passed : (e : RowPlace × Tuple) (b : Option Bool) (o : Option (List (RowPlace × Tuple))) → P e.0 → OnSome o (Each (λ (e : RowPlace × Tuple). P e.0)) → OnSome (passed e b o) (Each (λ (e : RowPlace × Tuple). P e.0))
   each-passed e None o p h = tt
   each-passed e (Some true) o p h = each-consed e o p h
   each-passed e (Some false) o p h = h
 
-  pub each-matching : (c : Condition) (es : List (Place × Tuple)) → Each (λ (e : Place × Tuple). P e.0) es → OnSome (matching c es) (Each (λ (e : Place × Tuple). P e.0))
+  pub each-matching : (c : Condition) (es : List (RowPlace × Tuple)) → Each (λ (e : RowPlace × Tuple). P e.0) es → OnSome (matching c es) (Each (λ (e : RowPlace × Tuple). P e.0))
   each-matching c [] h = tt
   each-matching c (e ∷ es) h = each-passed e (holds e.1 c) (matching c es) h.0 (each-matching c es h.1)
 
-  pub each-consed_write : (p : Place) (r : Option Tuple) (o : Option (List Write)) → P p → OnSome o (Each (λ (w : Write). P w.place)) → OnSome (consed_write p r o) (Each (λ (w : Write). P w.place))
+  pub each-consed_write : (p : RowPlace) (r : Option Tuple) (o : Option (List Write)) → P p → OnSome o (Each (λ (w : Write). P w.place)) → OnSome (consed_write p r o) (Each (λ (w : Write). P w.place))
   each-consed_write p None o here h = tt
   each-consed_write p (Some row) None here h = tt
   each-consed_write p (Some row) (Some ws) here h = (here, h)
 
-  pub each-all_assigned : (sets : List Assignment) (es : List (Place × Tuple)) → Each (λ (e : Place × Tuple). P e.0) es → OnSome (all_assigned sets es) (Each (λ (w : Write). P w.place))
+  pub each-all_assigned : (sets : List Assignment) (es : List (RowPlace × Tuple)) → Each (λ (e : RowPlace × Tuple). P e.0) es → OnSome (all_assigned sets es) (Each (λ (w : Write). P w.place))
   each-all_assigned sets [] h = tt
   each-all_assigned sets (e ∷ es) h = each-consed_write e.0 (assigned e.1 sets e.1) (all_assigned sets es) h.0 (each-all_assigned sets es h.1)
 
   pub each-placed : (t k : ℕ) (new : List Tuple) (rows : Rows') → Each (λ row. P (t, key_at k row)) new → OnSome (placed t k new rows) (Each (λ (w : Write). P w.place))
   each-placed t k [] rows h = tt
   each-placed t k (row ∷ more) rows h =
-      let at : Place = (t, key_at k row) in
+      let at : RowPlace = (t, key_at k row) in
       elim (is_some (get rows at)) as (λ b. OnSome (cond b None (consed_write at (Some row) (placed t k more (insert rows at row)))) (Each (λ (w : Write). P w.place))) [
         | true ↦ tt
         | false ↦ each-consed_write at (Some row) (placed t k more (insert rows at row)) h.0 (each-placed t k more (insert rows at row) h.1)
@@ -81,7 +81,7 @@ module _ (P : Place → Type 0) where
   each-numbered t n [] h = tt
   each-numbered t n (row ∷ more) h = (h (Int (pos n)), each-numbered t (suc n) more h)
 
-  pub each-deleted : (es : List (Place × Tuple)) → Each (λ (e : Place × Tuple). P e.0) es → Each (λ (w : Write). P w.place) (map (λ (e : Place × Tuple). record { place = e.0; left = None }) es)
+  pub each-deleted : (es : List (RowPlace × Tuple)) → Each (λ (e : RowPlace × Tuple). P e.0) es → Each (λ (w : Write). P w.place) (map (λ (e : RowPlace × Tuple). record { place = e.0; left = None }) es)
   each-deleted [] h = tt
   each-deleted (e ∷ es) h = (h.0, each-deleted es h.1)
 
@@ -89,12 +89,12 @@ module _ (P : Place → Type 0) where
   on-or_fault f None event h = tt
   on-or_fault f (Some ws) event h = h
 
-  pub on-matched : (o : Option (List (Place × Tuple))) (then' : List (Place × Tuple) → Effect) → ((es : List (Place × Tuple)) → Each (λ (e : Place × Tuple). P e.0) es → OnGives (then' es) (Each (λ (w : Write). P w.place))) → OnSome o (Each (λ (e : Place × Tuple). P e.0))
+  pub on-matched : (o : Option (List (RowPlace × Tuple))) (then' : List (RowPlace × Tuple) → Effect) → ((es : List (RowPlace × Tuple)) → Each (λ (e : RowPlace × Tuple). P e.0) es → OnGives (then' es) (Each (λ (w : Write). P w.place))) → OnSome o (Each (λ (e : RowPlace × Tuple). P e.0))
       → OnGives (elim o [ None ↦ Faults OutOfRange | Some es ↦ then' es ]) (Each (λ (w : Write). P w.place))
   on-matched None then' f h = tt
   on-matched (Some es) then' f h = f es h
 
-  pub on-shown : (out : Output) (es : List (Place × Tuple)) → OnGives (shown out es) (Each (λ (w : Write). P w.place))
+  pub on-shown : (out : Output) (es : List (RowPlace × Tuple)) → OnGives (shown out es) (Each (λ (w : Write). P w.place))
   on-shown (Columns columns) es = tt
   on-shown (Aggregates each) es = on (all_aggregated each es)
     where
@@ -102,16 +102,16 @@ module _ (P : Place → Type 0) where
       on None = tt
       on (Some vs) = tt
 
-  pub on-selected : (by : List SortKey) (out : Output) (o : Option (List (Place × Tuple))) → OnGives (elim o [ None ↦ Faults OutOfRange | Some es ↦ shown out (sorted_by by es) ]) (Each (λ (w : Write). P w.place))
+  pub on-selected : (by : List SortKey) (out : Output) (o : Option (List (RowPlace × Tuple))) → OnGives (elim o [ None ↦ Faults OutOfRange | Some es ↦ shown out (sorted_by by es) ]) (Each (λ (w : Write). P w.place))
   on-selected by out None = tt
   on-selected by out (Some es) = on-shown out (sorted_by by es)
 
 -- what holds where a statement looks holds where it writes
-module _ (P : Place → Type 0) where
-  seen-each : (st : Bound) (rows : Rows') → ((p : Place) → looks_at st p ≡ true → P p) → Each (λ (e : Place × Tuple). P e.0) (entries (visible st rows))
-  seen-each st rows sees = Each-map (λ (e : Place × Tuple). looks_at st e.0 ≡ true) (λ (e : Place × Tuple). P e.0) (λ e h. sees e.0 h) (entries (visible st rows)) (each-kept (looks_at st) rows)
+module _ (P : RowPlace → Type 0) where
+  seen-each : (st : Bound) (rows : Rows') → ((p : RowPlace) → looks_at st p ≡ true → P p) → Each (λ (e : RowPlace × Tuple). P e.0) (entries (visible st rows))
+  seen-each st rows sees = Each-map (λ (e : RowPlace × Tuple). looks_at st e.0 ≡ true) (λ (e : RowPlace × Tuple). P e.0) (λ e h. sees e.0 h) (entries (visible st rows)) (each-kept (looks_at st) rows)
 
-  effect-each : (st : Bound) (rows : Rows') → ((p : Place) → looks_at st p ≡ true → P p) → OnGives (effect st rows) (Each (λ (w : Write). P w.place))
+  effect-each : (st : Bound) (rows : Rows') → ((p : RowPlace) → looks_at st p ≡ true → P p) → OnGives (effect st rows) (Each (λ (w : Write). P w.place))
   unfolding effect
   effect-each (Select t key c by out) rows sees = on-selected P by out (matching c (entries (visible (Select t key c by out) rows)))
   effect-each (Insert t (Some k) new) rows sees =
@@ -124,9 +124,9 @@ module _ (P : Place → Type 0) where
       (λ es h. on-or_fault P OutOfRange (all_assigned sets es) Updated (each-all_assigned P sets es h)) (each-matching P c _ (seen-each st rows sees))
   effect-each (Delete t key c) rows sees =
       let st : Bound = Delete t key c in
-      on-matched P (matching c (entries (visible st rows))) (λ es. counted Deleted (map (λ (e : Place × Tuple). record { place = e.0; left = None }) es))
+      on-matched P (matching c (entries (visible st rows))) (λ es. counted Deleted (map (λ (e : RowPlace × Tuple). record { place = e.0; left = None }) es))
       (λ es h. each-deleted P es h) (each-matching P c _ (seen-each st rows sees))
-  effect-each (LockTable t m) rows sees = tt
+  effect-each (Lock t m) rows sees = tt
   effect-each SetVariable rows sees = tt
   effect-each Begin rows sees = tt
   effect-each Commit rows sees = tt

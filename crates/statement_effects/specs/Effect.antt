@@ -3,7 +3,7 @@ use Rattle.std.specs.Prelude.{ℕ, suc, Bool, true, false, List, [], ◌∷◌, 
 use Rattle.std.proofs.Common.{Ordering, Less, Equal, Greater, is_gt}
 use Rattle.std.specs.Ordering.{ordering_then}
 use Rattle.version_tree.specs.Map.{get, insert, keep, entries}
-use Rattle.lock_modes.specs.Place.{Place}
+use Rattle.lock_modes.specs.RowPlace.{RowPlace}
 use Rattle.lock_modes.specs.Value.{value_cmp}
 use Rattle.lock_modes.specs.declared.value.Value.{Value}
 use Rattle.lock_modes.specs.declared.value.Value.TheVariants.{Int, Text}
@@ -21,7 +21,7 @@ use Rattle.sql_statements.specs.declared.statement.SortKey.{SortKey}
 use Rattle.sql_statements.specs.declared.statement.Output.{Output}
 use Rattle.sql_statements.specs.declared.statement.Output.TheVariants.{Columns, Aggregates}
 use Rattle.sql_statements.specs.declared.statement.Bound.{Bound}
-use Rattle.sql_statements.specs.declared.statement.Bound.TheVariants.{Select, Insert, Update, Delete, Begin, Commit, Rollback, LockTable, SetVariable}
+use Rattle.sql_statements.specs.declared.statement.Bound.TheVariants.{Select, Insert, Update, Delete, Begin, Commit, Rollback, Lock, SetVariable}
 use Rattle.sql_statements.specs.Plan.{Tuple, key_at, looks_at}
 pub use Rattle.row_tables.specs.Overlay.{Rows', Write}
 use Rattle.statement_effects.specs.Evaluate.{checked, holds}
@@ -45,7 +45,7 @@ passed x None o = None
 passed x (Some true) o = consed x o
 passed x (Some false) o = o
 
-abbrev pub matching : Condition → List (Place × Tuple) → Option (List (Place × Tuple))
+abbrev pub matching : Condition → List (RowPlace × Tuple) → Option (List (RowPlace × Tuple))
 matching c [] = Some []
 matching c (e ∷ es) = passed e (holds e.1 c) (matching c es)
 
@@ -61,12 +61,12 @@ sort_cmp [] x y = Equal
 sort_cmp (k ∷ ks) x y = ordering_then (in_order k.order (value_cmp (get_or x k.column (Int (pos 0))) (get_or y k.column (Int (pos 0))))) (sort_cmp ks x y)
 
 -- the entry before the first that does not stand before it
-abbrev pub put_in : List SortKey → Place × Tuple → List (Place × Tuple) → List (Place × Tuple)
+abbrev pub put_in : List SortKey → RowPlace × Tuple → List (RowPlace × Tuple) → List (RowPlace × Tuple)
 put_in ks e [] = e ∷ []
 put_in ks e (x ∷ xs) = if is_gt (sort_cmp ks e.1 x.1) then x ∷ put_in ks e xs else e ∷ x ∷ xs
 
 -- sorted, ties in the order before it, which is that of the keys
-abbrev pub sorted_by : List SortKey → List (Place × Tuple) → List (Place × Tuple)
+abbrev pub sorted_by : List SortKey → List (RowPlace × Tuple) → List (RowPlace × Tuple)
 sorted_by ks [] = []
 sorted_by ks (e ∷ es) = put_in ks e (sorted_by ks es)
 
@@ -76,11 +76,11 @@ projected columns row = map (λ c. get_or row c (Int (pos 0))) columns
 abbrev pub number_in : ℕ → Tuple → ℤ
 number_in c row = elim (get_or row c (Int (pos 0))) [ Int z ↦ z | Text s ↦ pos 0 ]
 
-abbrev pub total_of : ℕ → List (Place × Tuple) → ℤ
+abbrev pub total_of : ℕ → List (RowPlace × Tuple) → ℤ
 total_of c [] = pos 0
 total_of c (e ∷ es) = number_in c e.1 +ℤ total_of c es
 
-abbrev pub aggregated : Aggregate → List (Place × Tuple) → Option Value
+abbrev pub aggregated : Aggregate → List (RowPlace × Tuple) → Option Value
 aggregated Count es = Some (Int (pos (length es)))
 aggregated (Sum c) es = checked (total_of c es)
 
@@ -89,11 +89,11 @@ consed_value None o = None
 consed_value (Some v) None = None
 consed_value (Some v) (Some vs) = Some (v ∷ vs)
 
-abbrev pub all_aggregated : List Aggregate → List (Place × Tuple) → Option (List Value)
+abbrev pub all_aggregated : List Aggregate → List (RowPlace × Tuple) → Option (List Value)
 all_aggregated [] es = Some []
 all_aggregated (a ∷ as') es = consed_value (aggregated a es) (all_aggregated as' es)
 
-abbrev pub shown : Output → List (Place × Tuple) → Effect
+abbrev pub shown : Output → List (RowPlace × Tuple) → Effect
 shown (Columns columns) es = Gives (map (λ e. RowEvent (projected columns e.1)) es ++ Rows (length es) ∷ []) []
 shown (Aggregates each) es = elim (all_aggregated each es) [ None ↦ Faults OutOfRange | Some vs ↦ Gives (RowEvent vs ∷ Rows 1 ∷ []) [] ]
 
@@ -102,12 +102,12 @@ abbrev pub assigned : Tuple → List Assignment → Tuple → Option Tuple
 assigned old [] row = Some row
 assigned old (a ∷ as') row = elim (value_of old a.value) [ None ↦ None | Some v ↦ assigned old as' (set row a.column v) ]
 
-abbrev pub consed_write : Place → Option Tuple → Option (List Write) → Option (List Write)
+abbrev pub consed_write : RowPlace → Option Tuple → Option (List Write) → Option (List Write)
 consed_write p None o = None
 consed_write p (Some row) None = None
 consed_write p (Some row) (Some ws) = Some (record { place = p; left = Some row } ∷ ws)
 
-abbrev pub all_assigned : List Assignment → List (Place × Tuple) → Option (List Write)
+abbrev pub all_assigned : List Assignment → List (RowPlace × Tuple) → Option (List Write)
 all_assigned sets [] = Some []
 all_assigned sets (e ∷ es) = consed_write e.0 (assigned e.1 sets e.1) (all_assigned sets es)
 
@@ -115,11 +115,11 @@ all_assigned sets (e ∷ es) = consed_write e.0 (assigned e.1 sets e.1) (all_ass
 abbrev pub placed : ℕ → ℕ → List Tuple → Rows' → Option (List Write)
 placed t k [] rows = Some []
 placed t k (row ∷ more) rows =
-    let p : Place = (t, key_at k row) in
+    let p : RowPlace = (t, key_at k row) in
     if is_some (get rows p) then None else consed_write p (Some row) (placed t k more (insert rows p row))
 
 -- one more than the greatest row number
-abbrev pub next_number : ℕ → List (Place × Tuple) → ℕ
+abbrev pub next_number : ℕ → List (RowPlace × Tuple) → ℕ
 next_number n [] = n
 next_number n (e ∷ es) = next_number (elim e.0.1 [ Int z ↦ elim z [ pos m ↦ suc m | negsuc m ↦ n ] | Text s ↦ n ]) es
 
@@ -141,8 +141,8 @@ effect_on (Select t key c by out) rows = elim (matching c (entries rows)) [ None
 effect_on (Insert t (Some k) new) rows = or_fault Duplicate (placed t k new rows) Inserted
 effect_on (Insert t None new) rows = counted Inserted (numbered t (next_number 1 (entries rows)) new)
 effect_on (Update t key sets c) rows = elim (matching c (entries rows)) [ None ↦ Faults OutOfRange | Some es ↦ or_fault OutOfRange (all_assigned sets es) Updated ]
-effect_on (Delete t key c) rows = elim (matching c (entries rows)) [ None ↦ Faults OutOfRange | Some es ↦ counted Deleted (map (λ (e : Place × Tuple). record { place = e.0; left = None }) es) ]
-effect_on (LockTable t m) rows = Gives (Locked ∷ []) []
+effect_on (Delete t key c) rows = elim (matching c (entries rows)) [ None ↦ Faults OutOfRange | Some es ↦ counted Deleted (map (λ (e : RowPlace × Tuple). record { place = e.0; left = None }) es) ]
+effect_on (Lock t m) rows = Gives (Locked ∷ []) []
 effect_on SetVariable rows = Gives (Set ∷ []) []
 effect_on Begin rows = Gives [] []
 effect_on Commit rows = Gives [] []

@@ -1,6 +1,6 @@
 -- What running a statement tells, and what it leaves in the store.
 use Rattle.std.specs.Prelude.{◌≡◌, ⊤, ℕ, true, List, [], ◌∷◌, Option, Some, None}
-use Rattle.lock_modes.specs.Place.{Place}
+use Rattle.lock_modes.specs.RowPlace.{RowPlace}
 use Rattle.transcripts.specs.declared.event.Fault.{Fault}
 use Rattle.transcripts.specs.declared.event.Event.{Event}
 use Rattle.sql_statements.specs.declared.statement.Bound.{Bound}
@@ -31,7 +31,7 @@ left_by session (Faults f) l = l
 
 -- no other session has written where the statement looks
 abbrev pub SeesAlone : ℕ → Bound → Layers → Type 0
-SeesAlone session s l = (p : Place) → looks_at s p ≡ true → IsOnlyWriterAt session p l
+SeesAlone session s l = (p : RowPlace) → looks_at s p ≡ true → IsOnlyWriterAt session p l
 
 -- no other session has written where these are written
 abbrev pub WritesAlone : ℕ → List Write → Layers → Type 0

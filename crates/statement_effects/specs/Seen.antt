@@ -1,7 +1,7 @@
 -- The rows that a statement looks at.
 use Rattle.std.specs.Prelude.{◌≡◌, ℕ, suc, ◌<◌, Bool, true, ◌&&◌, ◌==◌, List, length, get_or, map, Option, Some, None, pos, negsuc}
 use Rattle.version_tree.specs.Map.{keep, entries}
-use Rattle.lock_modes.specs.Place.{Place}
+use Rattle.lock_modes.specs.RowPlace.{RowPlace}
 use Rattle.lock_modes.specs.declared.value.Value.{Value}
 use Rattle.lock_modes.specs.declared.value.Value.TheVariants.{Int, Text}
 use Rattle.sql_statements.specs.Plan.{Tuple, at_key, key_at}
@@ -15,19 +15,19 @@ use Rattle.statement_effects.specs.Effect.{Effect, Faults, shown, sorted_by, all
 use Rattle.row_tables.specs.Layers.{Layers, IsOnlyWriterAt}
 
 -- a place in the table, at the key if one is named
-abbrev pub is_named : ℕ → Option Value → Place → Bool
+abbrev pub is_named : ℕ → Option Value → RowPlace → Bool
 is_named t key p = (p.0 == t) && at_key key p.1
 
 -- the entries of these places in order
-abbrev pub named : ℕ → Option Value → Rows' → List (Place × Tuple)
+abbrev pub named : ℕ → Option Value → Rows' → List (RowPlace × Tuple)
 named t key rows = entries (keep (is_named t key) rows)
 
 -- no other session has written at these places
 abbrev pub NamesAlone : ℕ → ℕ → Option Value → Layers → Type 0
-NamesAlone session t key l = (p : Place) → is_named t key p ≡ true → IsOnlyWriterAt session p l
+NamesAlone session t key l = (p : RowPlace) → is_named t key p ≡ true → IsOnlyWriterAt session p l
 
 -- the rows of a table with the table before their keys
-abbrev pub in_table : ℕ → List (Value × Tuple) → List (Place × Tuple)
+abbrev pub in_table : ℕ → List (Value × Tuple) → List (RowPlace × Tuple)
 in_table t es = map (λ (e : Value × Tuple). ((t, e.0), e.1)) es
 
 -- one more than the number that a key is, or else n
@@ -40,14 +40,14 @@ KeysAlone session t k new l = (i : ℕ) (row : Tuple) → i < length new → IsO
 
 -- ---- effects from the entries that match, or none where the condition faults
 
-abbrev pub selected : List SortKey → Output → Option (List (Place × Tuple)) → Effect
+abbrev pub selected : List SortKey → Output → Option (List (RowPlace × Tuple)) → Effect
 selected by out None = Faults OutOfRange
 selected by out (Some es) = shown out (sorted_by by es)
 
-abbrev pub updated : List Assignment → Option (List (Place × Tuple)) → Effect
+abbrev pub updated : List Assignment → Option (List (RowPlace × Tuple)) → Effect
 updated sets None = Faults OutOfRange
 updated sets (Some es) = or_fault OutOfRange (all_assigned sets es) Updated
 
-abbrev pub deleted : Option (List (Place × Tuple)) → Effect
+abbrev pub deleted : Option (List (RowPlace × Tuple)) → Effect
 deleted None = Faults OutOfRange
-deleted (Some es) = counted Deleted (map (λ (e : Place × Tuple). record { place = e.0; left = None }) es)
+deleted (Some es) = counted Deleted (map (λ (e : RowPlace × Tuple). record { place = e.0; left = None }) es)

@@ -18,10 +18,10 @@ pub(crate) struct Entry<'a> {
 }
 
 impl<'a> Model for Entry<'a> {
-    ghost use Rattle.lock_modes.specs.Place.{Place};
+    ghost use Rattle.lock_modes.specs.RowPlace.{RowPlace};
     ghost use Rattle.row_tables.specs.Overlay.{Tuple};
 
-    ghost Value = { Place × Tuple };
+    ghost Value = { RowPlace × Tuple };
 
     ghost view = { λ e. ((e.table, e.key.now), e.row.now) };
 }
@@ -60,10 +60,10 @@ pub(crate) struct Entries<'a> {
 
 impl<'a> Model for Entries<'a> {
     ghost use Rattle.std.specs.Prelude.{List};
-    ghost use Rattle.lock_modes.specs.Place.{Place};
+    ghost use Rattle.lock_modes.specs.RowPlace.{RowPlace};
     ghost use Rattle.row_tables.specs.Overlay.{Tuple};
 
-    ghost Value = { List (Place × Tuple) };
+    ghost Value = { List (RowPlace × Tuple) };
 
     ghost view = { λ e. e.items.items };
 }

@@ -64,7 +64,7 @@ fn given(alloc: Global, statement: &Bound, session: u8, store: &Store) -> Result
             let found = matching(alloc, store, session, *table, key.as_ref(), condition)?;
             deleted(alloc, found)
         }
-        Bound::LockTable(_, _) => telling(alloc, Event::Locked, Writes::new(alloc)),
+        Bound::Lock(_, _) => telling(alloc, Event::Locked, Writes::new(alloc)),
         Bound::SetVariable => telling(alloc, Event::Set, Writes::new(alloc)),
         Bound::Begin | Bound::Commit | Bound::Rollback => Ok(nothing(alloc)),
     }

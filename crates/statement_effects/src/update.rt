@@ -2,7 +2,7 @@
 
 ghost use Rattle.std.specs.Prelude.{◌≡◌, IfOk, None, map, set};
 ghost use Rattle.row_tables.specs.Overlay.{Tuple};
-ghost use Rattle.lock_modes.specs.Place.{Place};
+ghost use Rattle.lock_modes.specs.RowPlace.{RowPlace};
 ghost use Rattle.statement_effects.specs.Effect as spec;
 ghost use Rattle.statement_effects.specs.Borrowed.{effect_at};
 ghost use Rattle.statement_effects.specs.Seen.{updated, deleted};
@@ -100,7 +100,7 @@ fn put(values: &mut Vec<Value>, column: u16, value: Value)
 
 /// The writes that leave no row where these are.
 fn remove_each(alloc: Global, found: &[Entry<'_>]) -> Result<Writes, AllocError>
-    ensures { IfOk result (λ writes. writes ≡ map (λ (e : Place × Tuple). record { place = e.0; left = None }) found.now) }
+    ensures { IfOk result (λ writes. writes ≡ map (λ (e : RowPlace × Tuple). record { place = e.0; left = None }) found.now) }
 {
     let mut writes = Writes::new(alloc);
     for entry in found {

@@ -2,7 +2,7 @@ use Rattle.std.specs.Result.{IfOk, OnOk}
 use Rattle.std.specs.Prelude.{Result, Ok, Err}
 use Rattle.std.proofs.Common.{◌≡◌, refl, sym, ap, ◌∙◌, ◌⊎◌, inl, inr, true≢false}
 use Rattle.sql_statements.specs.declared.statement.Bound.{Bound}
-use Rattle.sql_statements.specs.declared.statement.Bound.TheVariants.{Select, Insert, Update, Delete, Begin, Commit, Rollback, LockTable, SetVariable}
+use Rattle.sql_statements.specs.declared.statement.Bound.TheVariants.{Select, Insert, Update, Delete, Begin, Commit, Rollback, Lock, SetVariable}
 use Rattle.machine_model.specs.Session.{Begins, Works, kind}
 use Rattle.machine_model.specs.Go.{is_broken}
 use Rattle.session_machine.proofs.Moves.{broken-fails, does-work}
@@ -18,7 +18,7 @@ works-else (Select t key w by out) (inl is) other = cc
 works-else (Insert t key new) (inl is) other = cc
 works-else (Update t key sets w) (inl is) other = cc
 works-else (Delete t key w) (inl is) other = cc
-works-else (LockTable t m) (inl is) other = cc
+works-else (Lock t m) (inl is) other = cc
 works-else SetVariable (inl is) other = cc
 
 -- three facts of one answer

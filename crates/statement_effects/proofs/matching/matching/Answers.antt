@@ -1,7 +1,7 @@
 use Rattle.std.proofs.Common.{◌≡◌, sym, ap, ◌∙◌, subst, List}
 use Rattle.std.specs.Option.{option_copied}
 use Rattle.std.specs.Result.{IfOk}
-use Rattle.lock_modes.specs.Place.{Place}
+use Rattle.lock_modes.specs.RowPlace.{RowPlace}
 use Rattle.row_tables.specs.Overlay.{Tuple}
 use Rattle.row_tables.specs.Layers.{sight, rows_of}
 use Rattle.statement_effects.specs.Effect.{matching}
@@ -18,4 +18,4 @@ returns-in-None c =
     let rows = sight c.args.session c.args.store.now in
     let all : in_table c.args.table (rows_of c.args.table rows) ≡ named c.args.table (option_copied c.args.key) rows =
     sym (named-table c.args.table rows) ∙ ap (λ o. named c.args.table (option_copied o) rows) (sym c.in-None.is) in
-    subst (λ (es : List (Place × Tuple)). IfOk c.in_table.result (λ found. found ≡ matching c.args.condition.now es)) all c.in_table.ensures
+    subst (λ (es : List (RowPlace × Tuple)). IfOk c.in_table.result (λ found. found ≡ matching c.args.condition.now es)) all c.in_table.ensures

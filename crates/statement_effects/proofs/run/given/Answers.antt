@@ -36,10 +36,10 @@ returns-in_ok-found-in-Delete c =
     ∙ sym (effect-delete rows s.table s.key s.condition) ∙ ap (λ (st : Bound). effect st rows) (sym s.is) in
     subst (λ (e : Effect). IfOk c.deleted.result (λ given. effect_at given ≡ e)) is c.deleted.ensures
 
-pub returns-in-LockTable : goal.returns-in-LockTable
-returns-in-LockTable c =
+pub returns-in-Lock : goal.returns-in-Lock
+returns-in-Lock c =
     subst (λ (e : Effect). IfOk c.telling.result (λ given. effect_at given ≡ e))
-    (ap (Gives (Locked ∷ [])) c.new.ensures ∙ sym (effect-locked (sight c.args.session c.args.store.now) c.in-LockTable.field-0 c.in-LockTable.field-1) ∙ ap (λ (st : Bound). effect st (sight c.args.session c.args.store.now)) (sym c.in-LockTable.is))
+    (ap (Gives (Locked ∷ [])) c.new.ensures ∙ sym (effect-locked (sight c.args.session c.args.store.now) c.in-Lock.field-0 c.in-Lock.field-1) ∙ ap (λ (st : Bound). effect st (sight c.args.session c.args.store.now)) (sym c.in-Lock.is))
     c.telling.ensures
 
 pub returns-in-SetVariable : goal.returns-in-SetVariable

@@ -2,13 +2,13 @@ use Rattle.std.proofs.Common.{◌≡◌, ℕ, List, ◌∷◌, get_or, ◌+◌, 
 use lib.IntN.{neg_ℤ, ℤ}
 use mir.Val.{SFits, to_z, of_z}
 use mir.Syntax.{w64, w128}
-use Rattle.lock_modes.specs.Place.{Place}
+use Rattle.lock_modes.specs.RowPlace.{RowPlace}
 use Rattle.row_tables.specs.Overlay.{Tuple}
 use Rattle.std.proofs.lemmas.Int.{ints}
 use Rattle.statement_effects.specs.Effect.{total_of, number_in}
 use Rattle.statement_effects.proofs.select.total.Goals as goal
 
-first : (column : ℕ) (found : List (Place × Tuple)) (i : ℕ) (e : Place × Tuple) (x : ℤ) → i < length found → e ≡ get_or found i e → x ≡ number_in column e.1
+first : (column : ℕ) (found : List (RowPlace × Tuple)) (i : ℕ) (e : RowPlace × Tuple) (x : ℤ) → i < length found → e ≡ get_or found i e → x ≡ number_in column e.1
     → total_of column (drop i found) ≡ x +ℤ total_of column (drop (i + 1) found)
 first column found i e x inside is number =
     ap (total_of column) (drop-cons found i e inside ∙ (λ j. sym is j ∷ drop (sym (add-one i) j) found))

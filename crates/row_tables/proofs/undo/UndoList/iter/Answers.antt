@@ -1,6 +1,6 @@
 use Rattle.std.proofs.Common.{sym, ap, ◌∙◌}
 use Rattle.version_tree.specs.Map.{entries, entries-of_entries}
-use Rattle.lock_modes.specs.Place.{place_order}
+use Rattle.lock_modes.specs.RowPlace.{place_order}
 use Rattle.row_tables.proofs.undo.UndoList.iter.Goals as goal
 
 -- the entries of the tree are those of the map

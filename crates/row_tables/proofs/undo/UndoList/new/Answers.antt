@@ -1,6 +1,6 @@
 use Rattle.std.proofs.Common.{ap, ◌∙◌, refl}
 use Rattle.version_tree.specs.Map.{of_entries}
-use Rattle.lock_modes.specs.Place.{place_order}
+use Rattle.lock_modes.specs.RowPlace.{place_order}
 use Rattle.row_tables.proofs.undo.UndoList.new.Goals as goal
 
 -- no entries are the empty map
