@@ -2,7 +2,7 @@
 
 pub use sql_reader::{
     AddSign, Aggregate, Assignment, Atom, Begin, Chain, Comparison, Condition, CreateTable, Delete,
-    Direction, End, EndWord, Factor, Form, Insert, Level, Literal, LockMode, TableLock, Noise,
-    Part, Property, ReadWord, Scope, Select, Selected, SetSign, Setting, SignedTerm, SortKey,
-    Start, Statement, Strength, Sum, TablePart, TypeWord, Update,
+    Direction, End, EndWord, Factor, Form, Insert, Level, Literal, LockMode, Noise, Part, Property,
+    ReadWord, Scope, Select, Selected, SetSign, Setting, SignedTerm, SortKey, Start, Statement,
+    Strength, Sum, TableLock, TablePart, TypeWord, Update,
 };
