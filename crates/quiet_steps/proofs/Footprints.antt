@@ -81,8 +81,9 @@ writes-under last ends s rows (Ask r m ∷ ts) have under holds backed =
     (writes-under last ends (taking s r m) rows ts (request r m ∷ have) (under-stronger s.overlay s.held _ (stronger-taking s.held r m) under)
     (covers-taking s.held r m, holds-stronger s.held _ (stronger-taking s.held r m) have holds) backed)
   where
-    asked : (b : Bool) → WritesUnder last (taking s r m) rows ts → (let T : Type 0 = elim b [ true ↦ Unit {0} | false ↦ WritesUnder last (taking s r m) rows ts ] in T)
-    asked true rec = tt
+    asked : (b : Bool) → WritesUnder last (taking s r m) rows ts
+        → (let T : Type 0 = elim b [ true ↦ ChangesUnder s.held rows (failed s rows Aborted).rows | false ↦ WritesUnder last (taking s r m) rows ts ] in T)
+    asked true rec = λ p off. refl
     asked false rec = rec
 writes-under last ends s rows (Do st ∷ ts) have under holds backed =
     done (perform s rows st) (changes-by s.status (kind st) s rows st under) (perform_by-under s.status (kind st) s rows st (holds-plan s.held have (plan st) holds backed.0) under)
@@ -90,9 +91,9 @@ writes-under last ends s rows (Do st ∷ ts) have under holds backed =
   where
     done : (d : Performed) → OnGoes d (λ u after. ChangesUnder s.held rows after) → OnGoes d (λ u after. UnderLocks u.overlay u.held)
         → ((u : Session) (after : Rows') → UnderLocks u.overlay u.held → WritesUnder last u after ts)
-        → (let T : Type 0 = elim d [ Goes u after ↦ ChangesUnder s.held rows after × WritesUnder last u after ts | Fails f ↦ Unit {0} ] in T)
+        → (let T : Type 0 = elim d [ Goes u after ↦ ChangesUnder s.held rows after × WritesUnder last u after ts | Fails f ↦ ChangesUnder s.held rows (failed s rows f).rows ] in T)
     done (Goes u after) changes h rec = (changes, rec u after h)
-    done (Fails f) changes h rec = tt
+    done (Fails f) changes h rec = λ p off. refl
 
 pub footprint : (w : World) (i : ℕ) (ss : List Bound) → Sound w → AllHad (scene_of w) i (session_at w i) w.rows (tasks_of ss) → Footprint w i ss
 footprint w i ss sound had =

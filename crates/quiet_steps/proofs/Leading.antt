@@ -1,10 +1,10 @@
 -- Where exchanges of letters lead.
-use Rattle.std.proofs.Common.{◌≡◌, refl, sym, ap, ◌∙◌, subst, ℕ, zero, suc, ◌<◌, ◌≤◌, true, List, [], ◌∷◌, length, Option, Some, None, is_some, ◌⊎◌, ⊎_elim, arith}
+use Rattle.std.proofs.Common.{◌≡◌, refl, sym, ap, ◌∙◌, subst, ◌↔◌, ℕ, zero, suc, ◌<◌, ◌≤◌, true, List, [], ◌∷◌, length, Option, Some, None, is_some, ◌⊎◌, ⊎_elim, arith}
 use Rattle.std.proofs.lemmas.List.{get_or_past}
 use Rattle.perm_ranks.specs.Words.{Word, place_of, word_less, total, all_words, word_at}
 use Rattle.perm_ranks.specs.Swapped.{exchanged}
 use Rattle.perm_ranks.proofs.SwapLemmas.{exchanged-takes, exchanged-less}
-use Rattle.perm_ranks.proofs.WordLemmas.{words-rise, stands-before, place-is, in-place, takes-in, words-take, each-at, Takes}
+use Rattle.perm_ranks.proofs.WordLemmas.{words-rise, stands-before, place-is, in-place, takes-in, words-take, each-at, entry-place, Takes}
 use Rattle.sql_subset.specs.Spec.{Step, Spec, Queues, line, line_by, line_of, ranks_by, counts_of, queues_of, IsBound}
 use Rattle.transcripts.specs.declared.event.Event.{Event}
 use Rattle.machine_model.specs.World.{World, send_all, outcome_of}
@@ -72,6 +72,26 @@ module _ (q : Queues) where
       ap (λ v. send_all steps w (line q v)) p.1 ∙ sym (swap-same steps w q k (word_at (counts_of q) r) x.0 sound fit x.1 quiet)
 
 -- ---- of a spec
+
+-- an exchange leads to the rank of the word that it gives
+pub leads-exchanged : (spec : Spec) (r k below : ℕ)
+    → (leads_in spec r k ≡ Some below) ↔ ((spec.lines ≡ []) × (below < ranks spec) × (exchanged k (word_of spec r) ≡ Some (word_of spec below)))
+leads-exchanged spec r k below = (λ e. there spec.lines refl e, λ h. back h)
+  where
+    there : (ls : List (List ℕ)) → spec.lines ≡ ls → leads_by ls (queues_of spec) r k ≡ Some below
+        → (spec.lines ≡ []) × (below < ranks spec) × (exchanged k (word_of spec r) ≡ Some (word_of spec below))
+    there [] is e =
+        let x = led (queues_of spec) r k below e in
+        let p = place-is x.0 (all_words (counts_of (queues_of spec))) below x.2 in
+        (is, subst (λ ls. below < ranks_by ls (queues_of spec)) (sym is) p.0, x.1 ∙ ap Some (sym p.1))
+    there (l ∷ ls) is e = cc
+
+    back : (spec.lines ≡ []) × (below < ranks spec) × (exchanged k (word_of spec r) ≡ Some (word_of spec below)) → leads_in spec r k ≡ Some below
+    back h =
+        let ws : List Word = all_words (counts_of (queues_of spec)) in
+        let lt : below < length ws = subst (λ ls. below < ranks_by ls (queues_of spec)) h.0 h.1 in
+        ap (λ ls. leads_by ls (queues_of spec) r k) h.0 ∙ ap (placed_at ws) h.2
+        ∙ entry-place ws (word_of spec below) below (words-rise (total (counts_of (queues_of spec))) (counts_of (queues_of spec))) lt refl
 
 pub leads-down : (spec : Spec) (r k below : ℕ) → leads_in spec r k ≡ Some below → below < r
 leads-down spec r k below e = at spec.lines e

@@ -4,7 +4,7 @@ use Rattle.sql_subset.specs.Spec.{Spec, line_of, ranks, IsBound}
 use Rattle.transcripts.specs.declared.event.Event.{Event}
 use Rattle.machine_model.specs.Outcome.{outcome_of_line}
 use Rattle.quiet_steps.specs.Swap.{leads_in}
-use Rattle.quiet_steps.specs.Values.{Facts, IsValue, ran, swap, AllTrue, Covers, TellTheMachine}
+use Rattle.quiet_steps.specs.Values.{Facts, IsValue, ran, swap, AllTrue, CoverEachRank, TellTheMachine}
 use Rattle.quiet_steps.specs.declared.fact.Fact.{Fact}
 use Rattle.quiet_steps.specs.declared.fact.Fact.TheVariants.{Ran, Swap}
 use Rattle.quiet_steps.proofs.Leading.{swaps-hold}
@@ -20,7 +20,7 @@ module _ (spec : Spec) (bound : IsBound spec) (has : Facts) (all : AllTrue spec 
   abbrev HasValue : ℕ → Type 0
   HasValue r = (o : List (List Event)) × IsValue has (leads_in spec) r o
 
-  value-below : (n : ℕ) → Covers spec has → (r : ℕ) → r < n → r < ranks spec → HasValue r
+  value-below : (n : ℕ) → CoverEachRank spec has → (r : ℕ) → r < n → r < ranks spec → HasValue r
   value-below zero covers r less lt = absurd (omega arith)
   value-below (suc n) covers r less lt = at (covers r lt).0 (covers r lt).1 (λ b l. value-below n covers b (omega arith) (omega arith))
     where

@@ -3,9 +3,10 @@ use Rattle.std.specs.Prelude.{◌≡◌, ℕ, Bool, true, false, List, [], ◌�
 use Rattle.version_tree.specs.Map.{get}
 use Rattle.lock_modes.specs.RowPlace.{RowPlace}
 use Rattle.row_tables.specs.Overlay.{Rows'}
+use Rattle.transcripts.specs.declared.event.Fault.TheVariants.{Aborted}
 use Rattle.sql_statements.specs.declared.statement.Bound.{Bound}
 use Rattle.machine_model.specs.Session.{Task, Ask, Do, Session, Held, Goes, Fails, perform, tasks_of}
-use Rattle.machine_model.specs.Go.{go, solo, stopped, taking, is_broken, finished_by}
+use Rattle.machine_model.specs.Go.{go, solo, stopped, failed, taking, is_broken, finished_by}
 use Rattle.machine_model.specs.World.{World, session_at, scene_of}
 use Rattle.machine_model.specs.Claims.{claims_of, may_write}
 use Rattle.machine_model.specs.Footprint.{EachDo, ReadsBut, AgreeBut, SameChanges, EndsSame}
@@ -14,11 +15,11 @@ use Rattle.machine_model.specs.Footprint.{EachDo, ReadsBut, AgreeBut, SameChange
 abbrev pub ChangesUnder : Held → Rows' → Rows' → Type 0
 ChangesUnder held a b = (p : RowPlace) → may_write (claims_of held []) p ≡ false → get b p ≡ get a p
 
--- each statement on the way changes rows only where what is held at that moment lets it, and the last standing is such
+-- each statement on the way, and a fault that ends the step, changes rows only where what is held at that moment lets it; the last standing is such
 abbrev pub WritesUnder : (Session → Rows' → Type 0) → Session → Rows' → List Task → Type 0
 WritesUnder last s rows [] = last s rows
-WritesUnder last s rows (Ask r m ∷ ts) = elim (is_broken s.status) [ true ↦ Unit {0} | false ↦ WritesUnder last (taking s r m) rows ts ]
-WritesUnder last s rows (Do st ∷ ts) = elim (perform s rows st) [ Goes u after ↦ ChangesUnder s.held rows after × WritesUnder last u after ts | Fails f ↦ Unit {0} ]
+WritesUnder last s rows (Ask r m ∷ ts) = elim (is_broken s.status) [ true ↦ ChangesUnder s.held rows (failed s rows Aborted).rows | false ↦ WritesUnder last (taking s r m) rows ts ]
+WritesUnder last s rows (Do st ∷ ts) = elim (perform s rows st) [ Goes u after ↦ ChangesUnder s.held rows after × WritesUnder last u after ts | Fails f ↦ ChangesUnder s.held rows (failed s rows f).rows ]
 
 -- the end of a step, outside a block a commit, changes rows under what is held then
 abbrev pub EndsUnder : Session → Rows' → Type 0

@@ -1,6 +1,6 @@
 -- The laws of quiet steps, of swaps and of what is true of ranks.
 use Rattle.std.specs.Prelude.{◌≡◌, ◌≢◌, ◌↔◌, ℕ, ◌<◌, Bool, true, ◌++◌, List, [], get_or, Some}
-use Rattle.sql_subset.specs.Spec.{Spec, Step, no_step, Queues, queues_of, line, line_of, IsBound}
+use Rattle.sql_subset.specs.Spec.{Spec, Step, no_step, Queues, queues_of, line, line_of, ranks, IsBound}
 use Rattle.machine_model.specs.World.{World, send, send_all, session_at, scene_of}
 use Rattle.machine_model.specs.Session.{Session, Task, tasks_of}
 use Rattle.lock_modes.specs.RowPlace.{RowPlace}
@@ -44,6 +44,12 @@ abbrev pub LettersAreSteps : Type 0
 LettersAreSteps =
     (spec : Spec) (w : World) (r k : ℕ) → spec.lines ≡ [] → falls_at k (word_of spec r) ≡ true
     → quiet_at spec.steps w (queues_of spec) k (word_of spec r) ≡ are_quiet_at spec w r k
+
+-- an exchange leads exactly to the rank whose word it gives, started or not; between given lines it leads nowhere
+abbrev pub LeadsAreExchanges : Type 0
+LeadsAreExchanges =
+    (spec : Spec) (r k below : ℕ)
+    → (leads_in spec r k ≡ Some below) ↔ ((spec.lines ≡ []) × (below < ranks spec) × (exchanged k (word_of spec r) ≡ Some (word_of spec below)))
 
 -- wherever an exchange leads there is a smaller rank
 abbrev pub SwapsLeadDown : Type 0

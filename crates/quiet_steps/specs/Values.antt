@@ -21,10 +21,10 @@ abbrev pub AllTrue : Spec → Facts → Type 0
 AllTrue spec has = (r : ℕ) (fact : Fact) → has r fact ≡ true → IsTrueAt spec r fact
 
 -- each rank of the spec has a fact
-abbrev pub Covers : Spec → Facts → Type 0
-Covers spec has = (r : ℕ) → r < ranks spec → (fact : Fact) × (has r fact ≡ true)
+abbrev pub CoverEachRank : Spec → Facts → Type 0
+CoverEachRank spec has = (r : ℕ) → r < ranks spec → (fact : Fact) × (has r fact ≡ true)
 
 -- the facts tell what the sequential machine tells: no rank has another value than its outcome, and where each rank has a fact each has its outcome as a value
 pub record TellTheMachine (spec : Spec) (has : Facts) : Type 0 where
   pub never_another : (r : ℕ) (outcome : List (List Event)) → IsValue has (leads_in spec) r outcome → outcome_of_line spec (line_of spec r) ≡ Some outcome
-  pub each_has_one : Covers spec has → (r : ℕ) → r < ranks spec → (outcome : List (List Event)) × IsValue has (leads_in spec) r outcome
+  pub each_has_one : CoverEachRank spec has → (r : ℕ) → r < ranks spec → (outcome : List (List Event)) × IsValue has (leads_in spec) r outcome

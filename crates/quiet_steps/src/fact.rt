@@ -7,8 +7,8 @@ use version_tree::Fork;
 pub enum Fact {
     /// Its line was run, with this outcome.
     Ran(Outcome),
-    /// The two steps at this place of its line and after it are quiet and stand in falling order, so that exchanging them leads
-    /// to a smaller rank with the same outcome. Places count from 0.
+    /// It tells that the two steps at this place of its line and after it are quiet and stand in falling order, so that exchanging
+    /// them leads to a smaller rank with the same outcome. Places count from 0.
     Swap(u8),
 }
 

@@ -1,6 +1,6 @@
 //! The laws of quiet steps and of facts, each the contract of a function that does nothing.
 
-ghost use Rattle.quiet_steps.specs.Laws.{QuietStepsCommute, QuietIsMutual, QuietStepsAreCalm, StepsHaveFootprints, StepsHaveFootprintsUntil, PlansOpen, SwapKeepsWorlds, LettersAreSteps, ChainsEnd, SwapsLeadDown, SwapsHold, FactsAreOne, LinesRun, Headline};
+ghost use Rattle.quiet_steps.specs.Laws.{QuietStepsCommute, QuietIsMutual, QuietStepsAreCalm, StepsHaveFootprints, StepsHaveFootprintsUntil, PlansOpen, SwapKeepsWorlds, LettersAreSteps, ChainsEnd, LeadsAreExchanges, SwapsLeadDown, SwapsHold, FactsAreOne, LinesRun, Headline};
 
 /// Two quiet steps may be sent in either order.
 pub fn quiet_steps_commute()
@@ -45,6 +45,11 @@ pub fn letters_are_steps()
 /// Each exchange leaves fewer falls, so a chain of exchanges ends.
 pub fn chains_end()
     ensures { ChainsEnd }
+{}
+
+/// An exchange leads exactly to the rank whose word it gives.
+pub fn leads_are_exchanges()
+    ensures { LeadsAreExchanges }
 {}
 
 /// Wherever an exchange leads there is a smaller rank.

@@ -11,7 +11,7 @@ use Rattle.transcripts.specs.declared.event.Event.{Event}
 use Rattle.transcripts.specs.declared.event.Event.TheVariants.{Sent, Row, Rows, Inserted, Updated, Deleted, Began, Committed, RolledBack, Locked, Set, Warned, Failed, Waiting, Resumed, Done, NotSent}
 use Rattle.transcripts.specs.Json.{warning_number, fault_number}
 
--- the last so many decimal digits of a number, the first of which is not 0
+-- the last so many decimal digits of a number, or all of them where there are fewer
 unfoldable pub digits_in : ℕ → ℕ → List ℕ
 digits_in zero n = []
 digits_in (suc room) n = elim (nat_lt n 10) [ true ↦ (48 + n) ∷ [] | false ↦ digits_in room (n / 10) ++ (48 + n % 10) ∷ [] ]
