@@ -5,7 +5,7 @@ use Rattle.perm_ranks.specs.Words.{Word, place_of, word_less, total, all_words, 
 use Rattle.perm_ranks.specs.Swapped.{exchanged}
 use Rattle.perm_ranks.proofs.SwapLemmas.{exchanged-takes, exchanged-less}
 use Rattle.perm_ranks.proofs.WordLemmas.{words-rise, stands-before, place-is, in-place, takes-in, words-take, each-at, entry-place, Takes}
-use Rattle.sql_subset.specs.Spec.{Step, Spec, Queues, line, line_by, line_of, ranks_by, counts_of, queues_of, IsBound}
+use Rattle.sql_subset.specs.Spec.{Step, Spec, Queues, line, line_by, line_of, ranks, ranks_by, counts_of, queues_of, IsBound}
 use Rattle.transcripts.specs.declared.event.Event.{Event}
 use Rattle.machine_model.specs.World.{World, send_all, outcome_of}
 use Rattle.machine_model.specs.Start.{Start, Started, start}
@@ -13,7 +13,7 @@ use Rattle.machine_model.specs.Sound.{Sound}
 use Rattle.machine_model.specs.Outcome.{outcome_of_line}
 use Rattle.machine_model.proofs.Starts.{start-sound}
 use Rattle.machine_model.proofs.Counts.{Fitting, bound-fits}
-use Rattle.quiet_steps.specs.Swap.{placed_at, falls_at, quiet_at, leads_by, leads_in}
+use Rattle.quiet_steps.specs.Swap.{placed_at, falls_at, quiet_at, word_of, leads_by, leads_in}
 use Rattle.quiet_steps.specs.Facts.{IsTrueAt}
 use Rattle.quiet_steps.specs.declared.fact.Fact.TheVariants.{Swap}
 use Rattle.quiet_steps.proofs.Swaps.{swap-same}

@@ -6,7 +6,7 @@ mod laws;
 
 pub use fact::Fact;
 pub use laws::{
-    chains_end, facts_are_one, headline, leads_are_exchanges, letters_are_steps, lines_run, plans_open, quiet_is_mutual,
-    quiet_steps_are_calm, quiet_steps_commute, steps_have_footprints, steps_have_footprints_until,
-    swap_keeps_worlds, swaps_hold, swaps_lead_down,
+    chains_end, facts_are_one, headline, leads_are_exchanges, letters_are_steps, lines_run,
+    plans_open, quiet_is_mutual, quiet_steps_are_calm, quiet_steps_commute, steps_have_footprints,
+    steps_have_footprints_until, swap_keeps_worlds, swaps_hold, swaps_lead_down,
 };
