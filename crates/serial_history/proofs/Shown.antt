@@ -10,7 +10,7 @@ use Rattle.machine_model.specs.World.{World, session_at, look_of, scene_of, goes
 use Rattle.sql_subset.specs.Spec.{Step, no_step}
 use Rattle.machine_model.specs.Sound.{Steady, Sound}
 use Rattle.serial_history.specs.Reading.{Reading, ends, step_ends, read}
-use Rattle.serial_history.specs.Serial.{Did, Transaction, is_work, ended_with, commit_of, Ended, Tally, ended_well, dropped, did, tally_by, tally_end, go_tally, History, tally_of, goes_told, granted_told, settle_told, send_told, send_all_told, reading_of, AllTell, commits_of, committed_in, Shown}
+use Rattle.serial_history.specs.Serial.{Did, Transaction, is_work, ended_with, commit_of, Ended, Tally, ended_well, dropped, did, tally_by, tally_end, go_tally, History, tally_of, goes_told, granted_told, settle_told, send_told, send_all_told, reading_of, AllTell, EndedTell, commits_of, committed_in, Shown}
 use Rattle.lock_queues.specs.declared.answer.Answer.TheVariants.{Granted, Waits, Ring}
 use Rattle.transcripts.specs.declared.event.Event.{Event}
 use Rattle.transcripts.specs.declared.event.Event.TheVariants.{Sent, Began, Committed, RolledBack, Warned, Failed, Waiting, Resumed, Done, NotSent}
@@ -58,6 +58,15 @@ other-commit : (c i : ℕ) → i ≢ c → (ds : List Did) → commits_of c (com
 other-commit c i ne [] = refl
 other-commit c i ne (d ∷ ds) = ap (λ b. cond b ((d ∷ ds) ∷ []) []) (⊎_elim (λ h. absurd (ne (eqb-true i c h))) (λ h. h) (known (i == c)))
 
+ended-append : (xs ys : List Ended) → EndedTell xs → EndedTell ys → EndedTell (xs ++ ys)
+ended-append [] ys p q = q
+ended-append (x ∷ xs) ys p q = (p.0, ended-append xs ys p.1 q)
+
+-- the work that ends tells
+with-tells : (b : Bool) (ds : List Did) → AllTell ds → EndedTell (ended_with b ds)
+with-tells b [] h = tt
+with-tells b (d ∷ ds) h = (h, tt)
+
 -- ---- a session goes. `before` is what was committed before it
 module _ (from : Reading) (i : ℕ) (before : List Transaction) where
   abbrev reading : Session → Tally → Reading
@@ -67,6 +76,7 @@ module _ (from : Reading) (i : ℕ) (before : List Transaction) where
     pub session : t.session ≡ i
     pub reads : reading_of s.status t.work t.ended ≡ read from s.transcript
     pub tells : AllTell t.work
+    pub told : EndedTell t.ended
     pub owns : commits_of i t.commits ≡ committed_in t.ended
     pub others : (c : ℕ) → c ≢ i → commits_of c t.commits ≡ commits_of c before
 
@@ -78,6 +88,7 @@ module _ (from : Reading) (i : ℕ) (before : List Transaction) where
         session = x.session;
         reads = e ∙ read-more from (reading s t) s.transcript es x.reads ∙ ap (read from) (sym told);
         tells = x.tells;
+        told = x.told;
         owns = x.owns;
         others = x.others;
       }
@@ -90,6 +101,7 @@ module _ (from : Reading) (i : ℕ) (before : List Transaction) where
         reads = ended-reads false s.status s2.status t.work t.ended x.tells ∙ e ∙ read-more from (reading s t) s.transcript es x.reads
             ∙ ap (read from) (sym told);
         tells = tt;
+        told = ended-append t.ended (ended_with false t.work) x.told (with-tells false t.work x.tells);
         owns = x.owns ∙ sym (committed_in-append t.ended (ended_with false t.work) ∙ ap (λ d. committed_in t.ended ++ d) (dropped-work t.work)
             ∙ append-nil (committed_in t.ended));
         others = x.others;
@@ -103,6 +115,7 @@ module _ (from : Reading) (i : ℕ) (before : List Transaction) where
         reads = ended-reads true s.status s2.status t.work t.ended x.tells ∙ e ∙ read-more from (reading s t) s.transcript es x.reads
             ∙ ap (read from) (sym told);
         tells = tt;
+        told = ended-append t.ended (ended_with true t.work) x.told (with-tells true t.work x.tells);
         owns = commits_of-append i t.commits (commit_of t.session t.work)
             ∙ ap (λ d. commits_of i t.commits ++ d) (own-commit i t.session x.session t.work)
             ∙ ap (λ d. d ++ committed_in (ended_with true t.work)) x.owns
@@ -120,6 +133,7 @@ module _ (from : Reading) (i : ℕ) (before : List Transaction) where
         session = x.session;
         reads = did-reads (is_work st) s.status t.work t.ended new writes h ∙ read-more from (reading s t) s.transcript events x.reads;
         tells = did-tells (is_work st) t.work new writes h x.tells;
+        told = x.told;
         owns = x.owns;
         others = x.others;
       }
@@ -214,6 +228,9 @@ goes-shown from w h i s ts lt is e x =
       tells = λ c. ⊎_elim (λ k. subst (λ d. AllTell (get_or (set h.works i its.work) d [])) (sym k) (subst AllTell (sym work-here) f.tells))
           (λ ne. subst AllTell (sym (get_or-set_other h.works i c its.work [] ne)) (x.tells c))
           (cases-eq c i);
+      told = λ c. ⊎_elim (λ k. subst (λ d. EndedTell (get_or (set h.ended i its.ended) d [])) (sym k) (subst EndedTell (sym ended-here) f.told))
+          (λ ne. subst EndedTell (sym (get_or-set_other h.ended i c its.ended [] ne)) (x.told c))
+          (cases-eq c i);
       owns = λ c. ⊎_elim (λ k. subst (λ d. commits_of d its.commits ≡ committed_in (get_or (set h.ended i its.ended) d [])) (sym k)
           (f.owns ∙ ap committed_in (sym ended-here)))
           (λ ne. f.others c ne ∙ x.owns c ∙ ap committed_in (sym (get_or-set_other h.ended i c its.ended [] ne)))
@@ -234,6 +251,7 @@ goes-shown from w h i s ts lt is e x =
           session = refl;
           reads = ap (λ k. reading_of k (get_or h.works i []) (get_or h.ended i [])) is ∙ x.reads i ∙ sym e;
           tells = x.tells i;
+          told = x.told i;
           owns = x.owns i;
           others = λ c ne. refl;
         })
@@ -252,7 +270,7 @@ granted-shown from w h spot st g x =
     goes-shown from (record w { waits = spot.before ++ spot.after }) h i
     (note (record (taking s spot.wait.resource spot.wait.mode) { rest = [] }) Resumed) s.rest (entering-granted w spot st g).known refl
     (sym (read-more (from i) _ s.transcript (Resumed ∷ []) refl))
-    (record { reads = x.reads; tells = x.tells; owns = x.owns; count_works = x.count_works; count_ended = x.count_ended })
+    (record { reads = x.reads; tells = x.tells; told = x.told; owns = x.owns; count_works = x.count_works; count_ended = x.count_ended })
 
 pub settle-shown : (n : ℕ) (from : ℕ → Reading) (w : World) (h : History) → Steady w → Shown from w h → Shown from (settle_for n w) (settle_told n w h)
 settle-shown zero from w h st x = x
@@ -289,6 +307,7 @@ send-shown from steps w k h sound lt x = at (waits_now w.waits i) refl
           reads = λ c. touched-same w i c n (λ y. reading_of y.status (get_or h.works c []) (get_or h.ended c []) ≡ read (from c) y.transcript)
               (λ p. p ∙ read-more (from c) _ (session_at w i).transcript (NotSent k ∷ []) refl) (x.reads c);
           tells = x.tells;
+          told = x.told;
           owns = x.owns;
           count_works = x.count_works ∙ sym (length-set w.sessions i n);
           count_ended = x.count_ended ∙ sym (length-set w.sessions i n);

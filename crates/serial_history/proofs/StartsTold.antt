@@ -9,7 +9,7 @@ use Rattle.machine_model.specs.Go.{Run, Stop, taking, is_broken, solo, failed, f
 use Rattle.machine_model.specs.World.{World, fresh, session_at, scene_of, send_all}
 use Rattle.sql_subset.specs.Spec.{Spec, no_step, IsBound}
 use Rattle.machine_model.specs.Start.{Start, Started, SetupFailed, SessionSetupFailed, SessionSetupWaits, start, set_up, started_then, main_setups, session_setups, after_setup, forgotten, has_failed, is_outside, IsAlone, IsIdle}
-use Rattle.serial_history.specs.Serial.{Shown, reading_in, reading_of, session_setups_said, after_setups, AllTell, commits_of, committed_in, Repeats, Told, History, no_history, goes_told, session_setups_told, first_rows, start_told, send_all_told}
+use Rattle.serial_history.specs.Serial.{Shown, reading_in, reading_of, session_setups_said, after_setups, AllTell, EndedTell, commits_of, committed_in, Repeats, Told, History, no_history, goes_told, session_setups_told, first_rows, start_told, send_all_told}
 use Rattle.serial_history.specs.Reading.{Reading, nothing_read, read}
 use Rattle.transcripts.specs.declared.event.Fault.TheVariants.{Aborted}
 use Rattle.lock_modes.specs.declared.mode.Mode.{Mode}
@@ -196,6 +196,7 @@ record Forgot (from : ℕ → Reading) (w : World) (h : History) : Type 0 where
   blank : (c : ℕ) → (session_at w c).transcript ≡ []
   stands : (c : ℕ) → reading_in w h c ≡ from c
   tells : (c : ℕ) → AllTell (get_or h.works c [])
+  told : (c : ℕ) → EndedTell (get_or h.ended c [])
   owns : (c : ℕ) → commits_of c h.commits ≡ committed_in (get_or h.ended c [])
   count_works : length h.works ≡ length w.sessions
   count_ended : length h.ended ≡ length w.sessions
@@ -205,6 +206,7 @@ shown-forgot from w h x =
     record {
       reads = λ c. x.stands c ∙ ap (read (from c)) (sym (x.blank c));
       tells = x.tells;
+      told = x.told;
       owns = x.owns;
       count_works = x.count_works;
       count_ended = x.count_ended;
@@ -217,6 +219,7 @@ forgot-first n control w a =
           (cases-eq c control);
       stands = λ c. λ j. reading_of (outside c j) (get_or-replicate n c [] j) (get_or-replicate n c [] j);
       tells = λ c. subst AllTell (sym (get_or-replicate n c [])) tt;
+      told = λ c. subst EndedTell (sym (get_or-replicate n c [])) tt;
       owns = λ c. ap committed_in (sym (get_or-replicate n c []));
       count_works = length_replicate n [] ∙ sym a.alone.count;
       count_ended = length_replicate n [] ∙ sym a.alone.count;
@@ -246,6 +249,7 @@ forgot-goes from w i block h lt x =
       stands = λ c. touched-same w2 i c s2
           (λ z. reading_of z.status (get_or h2.works c []) (get_or h2.ended c []) ≡ read (from c) (session_at w2 c).transcript) (λ p. p) (y.reads c);
       tells = y.tells;
+      told = y.told;
       owns = y.owns;
       count_works = y.count_works ∙ sym (length-set w2.sessions i s2);
       count_ended = y.count_ended ∙ sym (length-set w2.sessions i s2);

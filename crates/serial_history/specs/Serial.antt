@@ -231,6 +231,11 @@ abbrev pub AllTell : List Did → Type 0
 AllTell [] = Unit {0}
 AllTell (d ∷ ds) = (d.events ≢ []) × AllTell ds
 
+-- the same of all that ended
+abbrev pub EndedTell : List Ended → Type 0
+EndedTell [] = Unit {0}
+EndedTell (x ∷ xs) = AllTell x.work × EndedTell xs
+
 -- of all commits the session's own
 abbrev pub commits_of : ℕ → List Transaction → List (List Did)
 commits_of c [] = []
@@ -245,6 +250,7 @@ committed_in (x ∷ xs) = cond x.is_committed (x.work ∷ committed_in xs) (comm
 pub record Shown (from : ℕ → Reading) (w : World) (h : History) : Type 0 where
   pub reads : (c : ℕ) → reading_in w h c ≡ read (from c) (session_at w c).transcript
   pub tells : (c : ℕ) → AllTell (get_or h.works c [])
+  pub told : (c : ℕ) → EndedTell (get_or h.ended c [])
   pub owns : (c : ℕ) → commits_of c h.commits ≡ committed_in (get_or h.ended c [])
   pub count_works : length h.works ≡ length w.sessions
   pub count_ended : length h.ended ≡ length w.sessions
