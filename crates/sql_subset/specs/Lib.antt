@@ -2,6 +2,7 @@ pub mod Binding
 pub mod Bindings
 pub mod Chains
 pub mod KeyParts
+pub mod Kinds
 pub mod Lines
 pub mod Names
 pub mod Orders

@@ -28,7 +28,9 @@ pub mod written;
 pub use binding::bind;
 pub use block::Block;
 pub use error::{BindError, BindErrorKind};
-pub use laws::{blocks_are_spelled, chains_are_lists, one_file, refusals_are_named};
+pub use laws::{
+    blocks_are_spelled, chains_are_lists, least_kinds_are_told, one_file, refusals_are_named,
+};
 pub use orders::Line;
 use perm_ranks::MAX_STEPS;
 pub use spec::Spec;
