@@ -92,14 +92,14 @@ kept_if : (b : Bool) (m n : ℕ) → cond b (Some m) None ≡ Some n → (b ≡ 
 kept_if true m n e = (refl, cc)
 kept_if false m n e = absurd (cc e)
 
-below-is : (limit : ℕ) (o : Option ℕ) (n : ℕ) → below limit o ≡ Some n → (o ≡ Some n) × (n < limit)
+pub below-is : (limit : ℕ) (o : Option ℕ) (n : ℕ) → below limit o ≡ Some n → (o ≡ Some n) × (n < limit)
 below-is limit None n e = absurd (cc e)
 below-is limit (Some m) n e =
     let a = kept_if (nat_lt m limit) m n e in
     let lt : m < limit = ltb-true m limit a.0 in
     (ap Some (a.1), omega (arith, lt, a.1))
 
-column-below : (t : Table) (name : List ℕ) (n : ℕ) → column_number t name ≡ Some n → n < width t
+pub column-below : (t : Table) (name : List ℕ) (n : ℕ) → column_number t name ≡ Some n → n < width t
 column-below t name n e =
     let a = below-is MAX_COLUMNS (column_place t.columns name) n e in
     let b : n < 0 + length t.columns = position-below _ 0 t.columns n a.0 in
@@ -116,7 +116,7 @@ length-numbers : (k n : ℕ) → length (numbers_from k n) ≡ n
 length-numbers k zero = refl
 length-numbers k (suc n) = ap suc (length-numbers (suc k) n)
 
-length-places : (t : Table) (columns : List ℕ) (row : List Value) → length (at_places (places t columns) row) ≡ width t
+pub length-places : (t : Table) (columns : List ℕ) (row : List Value) → length (at_places (places t columns) row) ≡ width t
 length-places t columns row = length-map (places t columns) _ ∙ length-map (numbers_from 0 (width t)) _ ∙ length-numbers 0 (width t)
 
 rows-have : (n w : ℕ) (o : Option ℕ) (rows : List (List Value)) → ((k : ℕ) → o ≡ Some k → k < w) → All (λ (row : List Value). length row ≡ w) rows → HasKeys (Insert n o rows)

@@ -1,6 +1,7 @@
 pub mod Binding
 pub mod Bindings
 pub mod Chains
+pub mod Fits
 pub mod KeyParts
 pub mod Kinds
 pub mod Lines

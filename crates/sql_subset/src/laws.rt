@@ -13,6 +13,7 @@ ghost use Rattle.sql_statements.specs.declared.statement.Bound.{Bound};
 ghost use Rattle.sql_subset.specs.declared.error.BindErrorKind.{BindErrorKind};
 ghost use Rattle.sql_subset.specs.declared.error.BindErrorKind.TheVariants.{Sql};
 ghost use Rattle.sql_subset.specs.declared.tables.Table.{Table};
+ghost use Rattle.sql_subset.specs.Fits.{Fits};
 ghost use Rattle.sql_subset.specs.Kinds.{has, IsLeast, statement_faults, declaration_faults};
 ghost use Rattle.sql_subset.specs.Names.{Name};
 ghost use Rattle.sql_subset.specs.Statements.{statement};
@@ -54,4 +55,10 @@ pub fn least_kinds_are_told()
     ensures refused { (tables : List Table) (at : ℕ) (s : Statement) (e : BindError) → statement tables at s ≡ Err e → e.kind ≢ Sql NumberTooLarge → IsLeast (statement_faults tables at s) e.kind }
     ensures bound { (tables : List Table) (at : ℕ) (s : Statement) (b : Bound) → statement tables at s ≡ Ok b → (k : BindErrorKind) → has (statement_faults tables at s) k ≡ false }
     ensures declared { (tables : List Table) (at : ℕ) (name : Name) (parts : Chain TablePart) (e : BindError) → create tables at name parts ≡ Err e → IsLeast (declaration_faults tables name parts) e.kind }
+{}
+
+/// A statement that is bound fits the tables: its table and its columns are there, arithmetic and sums are of numbers alone, what is compared has one type,
+/// what is set has its column's, and a new row is as wide as its table.
+pub fn bound_statements_fit()
+    ensures { (tables : List Table) (at : ℕ) (s : Statement) (b : Bound) → statement tables at s ≡ Ok b → Fits tables b }
 {}

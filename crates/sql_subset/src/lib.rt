@@ -29,7 +29,8 @@ pub use binding::bind;
 pub use block::Block;
 pub use error::{BindError, BindErrorKind};
 pub use laws::{
-    blocks_are_spelled, chains_are_lists, least_kinds_are_told, one_file, refusals_are_named,
+    blocks_are_spelled, bound_statements_fit, chains_are_lists, least_kinds_are_told, one_file,
+    refusals_are_named,
 };
 pub use orders::Line;
 use perm_ranks::MAX_STEPS;
