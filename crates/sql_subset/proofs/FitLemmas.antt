@@ -1,8 +1,11 @@
 -- What is bound fits the tables.
-use Rattle.std.proofs.Common.{◌≡◌, refl, sym, subst, ℕ, zero, suc, ◌+◌, ◌<◌, ◌≤◌, Bool, true, false, List, [], ◌∷◌, length, map, All, get_or, Option, Some, None, Ok, Err, arith}
-use Rattle.std.specs.Prelude.{◌||◌}
+use Rattle.std.proofs.Common.{◌≡◌, refl, sym, subst, ℕ, zero, suc, ◌+◌, ◌<◌, ◌≤◌, Bool, true, false, List, [], ◌∷◌, length, map, All, get_or, Option, Some}
+use Rattle.std.proofs.Common.{None, Ok, Err, arith}
+use Rattle.std.specs.Prelude.{◌||◌, not, nat_eq}
 use Rattle.std.specs.List.{list_any}
-use Rattle.std.proofs.lemmas.List.Elements.{All-nil, All-cons, All-map, All-head, All-tail}
+use Rattle.std.proofs.lemmas.Bool.{eqb-true}
+use Rattle.std.proofs.lemmas.List.Elements.{All-nil, All-cons, All-head, All-tail}
+use Rattle.lock_modes.specs.declared.value.Value.{Value}
 use Rattle.sql_reader.specs.Tree as tree
 use Rattle.sql_reader.specs.Tree.{Chain}
 use Rattle.sql_reader.specs.declared.expression.Factor.{Factor}
@@ -36,7 +39,7 @@ use Rattle.sql_subset.specs.declared.tables.ColumnType.{ColumnType}
 use Rattle.sql_subset.specs.declared.tables.ColumnType.TheVariants.{Number, Text}
 use Rattle.sql_subset.specs.declared.tables.Table.{Table}
 use Rattle.sql_subset.specs.Fits.{IsColumn, OperandIs, FactorsAre, ProductIs, TermsAre, ExpressionIs, EachComparison, ComparisonFits, ConditionFits}
-use Rattle.sql_subset.specs.Fits.{AggregateFits, OutputFits, SortKeyFits, AssignmentFits, IsWide, OfTable, Fits}
+use Rattle.sql_subset.specs.Fits.{AggregateFits, OutputFits, SortKeyFits, AssignmentFits, RowFits, OfTable, Fits}
 use Rattle.sql_subset.specs.KeyParts.{key_of}
 use Rattle.sql_subset.specs.Names.{Name, head, tail, list_of, repeats}
 use Rattle.sql_subset.specs.Refusals.{Bind, ◌>>=◌, refuse, unless, with_front, each}
@@ -47,11 +50,14 @@ use Rattle.sql_subset.specs.Translation.{value, operand, product, signed, sum_he
 use Rattle.sql_subset.specs.Translation.{join, paired, first_or_always, joined_in, joined, alternatives, parts, atom, where_of}
 use Rattle.sql_subset.specs.Types.{differ, operand_type, is_text, any_text, product_has_text, any_has_text, expression_type, expression_mixes}
 use Rattle.sql_subset.specs.Types.{comparison_mixes, condition_mixes, assignment_mixes, aggregate_mixes, output_mixes, row_mixes}
+use Rattle.sql_subset.specs.Statements.{has_other_width}
+use Rattle.sql_subset.proofs.RowLemmas.{or_false, same_if, row-typed}
 use Rattle.sql_subset.proofs.SentLemmas.{IfBound, then-bound, bound-is, position-below, below-is, column-below, length-places}
 
 -- ---- one part behind another
 
-then-both : {A X : Type 0} (P : A → Type 0) (Q : X → Type 0) (r : Bind A) (f : A → Bind X) → IfBound P r → ((a : A) → P a → IfBound Q (f a)) → IfBound Q (r >>= f)
+then-both : {A X : Type 0} (P : A → Type 0) (Q : X → Type 0) (r : Bind A) (f : A → Bind X) → IfBound P r → ((a : A) → P a → IfBound Q (f a))
+    → IfBound Q (r >>= f)
 then-both P Q (Ok a) f h k = k a h
 then-both P Q (Err e) f h k = tt
 
@@ -64,15 +70,13 @@ each-bound P f h [] = All-nil P
 each-bound P f h (a ∷ as') = then-both P (All P) (f a) _ (h a) (λ x p. front-bound P x (each f as') p (each-bound P f h as'))
 
 -- what passed the test
-unless-passed : {X : Type 0} (P : X → Type 0) (test : Bool) (at : ℕ) (kind : BindErrorKind) (r : Bind X) → (test ≡ false → IfBound P r) → IfBound P (unless test at kind r)
+unless-passed : {X : Type 0} (P : X → Type 0) (test : Bool) (at : ℕ) (kind : BindErrorKind) (r : Bind X) → (test ≡ false → IfBound P r)
+    → IfBound P (unless test at kind r)
 unless-passed P true at kind r h = tt
 unless-passed P false at kind r h = h refl
 
-or_false : (a b : Bool) → (a || b) ≡ false → (a ≡ false) × (b ≡ false)
-or_false true b e = absurd (cc e)
-or_false false b e = (refl, e)
-
-none-All : {A : Type 0} (P : A → Type 0) (test : A → Bool) (Q : A → Type 0) → ((a : A) → P a → test a ≡ false → Q a) → (as' : List A) → All P as' → list_any test as' ≡ false → All Q as'
+none-All : {A : Type 0} (P : A → Type 0) (test : A → Bool) (Q : A → Type 0) → ((a : A) → P a → test a ≡ false → Q a) → (as' : List A) → All P as'
+    → list_any test as' ≡ false → All Q as'
 none-All P test Q h [] all e = All-nil Q
 none-All P test Q h (a ∷ as') all e =
     let both = or_false (test a) (list_any test as') e in
@@ -110,13 +114,15 @@ operand-known t at (factor.Column n) = then-both (IsColumn t) (Known t) (column 
 product-known : (t : Table) (at : ℕ) (term : tree.Term) → IfBound (KnownProduct t) (product t at term)
 product-known t at term =
     then-both (Known t) (KnownProduct t) (operand t at (head term)) _ (operand-known t at (head term)) (λ o h.
-    then-both (All (Known t)) (KnownProduct t) (each (operand t at) (tail term)) _ (each-bound (Known t) (operand t at) (operand-known t at) (tail term)) (λ os k. (h, k)))
+    then-both (All (Known t)) (KnownProduct t) (each (operand t at) (tail term)) _
+    (each-bound (Known t) (operand t at) (operand-known t at) (tail term)) (λ os k. (h, k)))
 
 expression-known : (t : Table) (at : ℕ) (s : tree.Sum) → IfBound (KnownExpression t) (expression t at s)
 expression-known t at s =
     then-both (KnownProduct t) (KnownExpression t) (product t at (sum_head s)) _ (product-known t at (sum_head s)) (λ p h.
     then-both (All (KnownTerm t)) (KnownExpression t) (each (signed t at) (sum_tail s)) _
-    (each-bound (KnownTerm t) (signed t at) (λ x. then-both (KnownProduct t) (KnownTerm t) (product t at x.1) _ (product-known t at x.1) (λ q k. k)) (sum_tail s))
+    (each-bound (KnownTerm t) (signed t at) (λ x. then-both (KnownProduct t) (KnownTerm t) (product t at x.1) _ (product-known t at x.1)
+    (λ q k. k)) (sum_tail s))
     (λ ps k. (h, k)))
 
 module _ (P : Expression → Expression → Type 0) where
@@ -156,7 +162,8 @@ module _ (t : Table) (at : ℕ) where
   mutual
     alternatives-known : (c : tree.Condition) → IfBound (All Each) (alternatives c t at)
     alternatives-known (tree.Alone p) =
-        then-both (All Each) (All Each) (parts p t at) _ (parts-known p) (λ cs h. All-cons Each (joined AllOf cs) [] (joined-each Sides AllOf cs h) (All-nil Each))
+        then-both (All Each) (All Each) (parts p t at) _ (parts-known p)
+        (λ cs h. All-cons Each (joined AllOf cs) [] (joined-each Sides AllOf cs h) (All-nil Each))
     alternatives-known (tree.Or p more) =
         then-both (All Each) (All Each) (parts p t at) _ (parts-known p)
         (λ cs h. front-bound Each (joined AllOf cs) (alternatives more t at) (joined-each Sides AllOf cs h) (alternatives-known more))
@@ -182,12 +189,6 @@ number_if : (k : ColumnType) → is_text k ≡ false → k ≡ Number
 number_if Number e = refl
 number_if Text e = absurd (cc e)
 
-same_if : (a b : ColumnType) → differ a b ≡ false → a ≡ b
-same_if Number Number e = refl
-same_if Number Text e = absurd (cc e)
-same_if Text Number e = absurd (cc e)
-same_if Text Text e = refl
-
 operand-is : (t : Table) (o : Operand) → Known t o → OperandIs t (operand_type t o) o
 operand-is t (operands.Literal v) h = refl
 operand-is t (operands.Column c) h = (h, refl)
@@ -195,7 +196,8 @@ operand-is t (operands.Column c) h = (h, refl)
 operand-number : (t : Table) (o : Operand) → Known t o → is_text (operand_type t o) ≡ false → OperandIs t Number o
 operand-number t o h e = subst (λ k. OperandIs t k o) (number_if (operand_type t o) e) (operand-is t o h)
 
-factors-number : (t : Table) (o : Operand) (os : List Operand) → Known t o → All (Known t) os → (is_text (operand_type t o) || any_text t os) ≡ false → FactorsAre t Number o os
+factors-number : (t : Table) (o : Operand) (os : List Operand) → Known t o → All (Known t) os → (is_text (operand_type t o) || any_text t os) ≡ false
+    → FactorsAre t Number o os
 factors-number t o [] h k e = operand-number t o h (or_false (is_text (operand_type t o)) false e).0
 factors-number t o (p ∷ ps) h k e =
     let both = or_false (is_text (operand_type t o)) (any_text t (p ∷ ps)) e in
@@ -215,13 +217,17 @@ expression-by t o [] (s ∷ ss) h k l e =
     (refl, (factors-number t o [] h k both.0, terms (s ∷ ss) l both.1))
   where
     terms : (ts : List SignedProduct) → All (KnownTerm t) ts → any_has_text t ts ≡ false → All (λ (u : SignedProduct). ProductIs t Number u.product) ts
-    terms ts l e = none-All (KnownTerm t) (λ (u : SignedProduct). product_has_text t u.product) (λ (u : SignedProduct). ProductIs t Number u.product) (λ u h f. product-number t u.product h f) ts l e
+    terms ts l e =
+        none-All (KnownTerm t) (λ (u : SignedProduct). product_has_text t u.product) (λ (u : SignedProduct). ProductIs t Number u.product)
+        (λ u h f. product-number t u.product h f) ts l e
 expression-by t o (p ∷ ps) (s ∷ ss) h k l e =
     let both = or_false (product_has_text t (record { first = o; more = p ∷ ps })) (any_has_text t (s ∷ ss)) e in
     (refl, (factors-number t o (p ∷ ps) h k both.0, terms (s ∷ ss) l both.1))
   where
     terms : (ts : List SignedProduct) → All (KnownTerm t) ts → any_has_text t ts ≡ false → All (λ (u : SignedProduct). ProductIs t Number u.product) ts
-    terms ts l e = none-All (KnownTerm t) (λ (u : SignedProduct). product_has_text t u.product) (λ (u : SignedProduct). ProductIs t Number u.product) (λ u h f. product-number t u.product h f) ts l e
+    terms ts l e =
+        none-All (KnownTerm t) (λ (u : SignedProduct). product_has_text t u.product) (λ (u : SignedProduct). ProductIs t Number u.product)
+        (λ u h f. product-number t u.product h f) ts l e
 
 expression-is : (t : Table) (e : Expression) → KnownExpression t e → expression_mixes t e ≡ false → ExpressionIs t (expression_type t e) e
 expression-is t e h f = expression-by t e.first.first e.first.more e.more h.0.0 h.0.1 h.1 f
@@ -263,9 +269,11 @@ aggregate-known t at (aggregated.Total n) = then-both (IsColumn t) (KnownAggrega
 output-known : (t : Table) (at : ℕ) (items : tree.Items) → IfBound (KnownOutput t) (output t at items)
 output-known t at tree.AllColumns = numbers-below 0 (width t) (width t) (omega arith)
 output-known t at (tree.Columns names) =
-    then-both (All (IsColumn t)) (KnownOutput t) (each (column t at) (list_of names)) _ (each-bound (IsColumn t) (column t at) (column-bound t at) (list_of names)) (λ cs h. h)
+    then-both (All (IsColumn t)) (KnownOutput t) (each (column t at) (list_of names)) _
+    (each-bound (IsColumn t) (column t at) (column-bound t at) (list_of names)) (λ cs h. h)
 output-known t at (tree.Aggregates as') =
-    then-both (All (KnownAggregate t)) (KnownOutput t) (each (aggregate t at) (list_of as')) _ (each-bound (KnownAggregate t) (aggregate t at) (aggregate-known t at) (list_of as')) (λ x h. h)
+    then-both (All (KnownAggregate t)) (KnownOutput t) (each (aggregate t at) (list_of as')) _
+    (each-bound (KnownAggregate t) (aggregate t at) (aggregate-known t at) (list_of as')) (λ x h. h)
 
 aggregate-fits : (t : Table) (a : Aggregate) → KnownAggregate t a → aggregate_mixes t a ≡ false → AggregateFits t a
 aggregate-fits t aggregates.Count h e = tt
@@ -278,7 +286,8 @@ output-fits t (Aggregates as') h e = none-All (KnownAggregate t) (aggregate_mixe
 sorted-known : (t : Table) (at : ℕ) (o : Option (Chain Sorted)) → IfBound (All (SortKeyFits t)) (sort_keys t at o)
 sorted-known t at None = All-nil (SortKeyFits t)
 sorted-known t at (Some ks) =
-    each-bound (SortKeyFits t) (sort_key t at) (λ k. then-both (IsColumn t) (SortKeyFits t) (column t at k.column) _ (column-bound t at k.column) (λ c h. h)) (list_of ks)
+    each-bound (SortKeyFits t) (sort_key t at) (λ k. then-both (IsColumn t) (SortKeyFits t) (column t at k.column) _ (column-bound t at k.column)
+    (λ c h. h)) (list_of ks)
 
 abbrev KnownAssignment : Table → Assignment → Type 0
 KnownAssignment t a = IsColumn t a.column × KnownExpression t a.value
@@ -312,16 +321,50 @@ table-named tables at n = go (table_number tables n) refl
 of-table : (tables : List Table) (P : Table → Type 0) (x : ℕ × Table) → Named tables x → P x.1 → OfTable tables x.0 P
 of-table tables P x h p = (h.0, subst P h.1 p)
 
+abbrev NumbersBelow : Table → List ℕ → Type 0
+NumbersBelow t cs = All (IsColumn t) cs
+
+columns-known : (t : Table) (at : ℕ) (o : Option (Chain Name)) → IfBound (NumbersBelow t) (row_columns t at o)
+columns-known t at None = numbers-below 0 (width t) (width t) (omega arith)
+columns-known t at (Some names) = each-bound (IsColumn t) (column t at) (column-bound t at) (list_of names)
+
+same_count : (m n : ℕ) (b : Bool) → (not (nat_eq m n) || b) ≡ false → m ≡ n
+same_count m n b e = go (nat_eq m n) refl e
+  where
+    go : (test : Bool) → nat_eq m n ≡ test → (not test || b) ≡ false → m ≡ n
+    go true s h = eqb-true m n s
+    go false s h = absurd (cc h)
+
+-- each row that was tested has its values where they belong
+rows-fit : (t : Table) (columns : List ℕ) (rows : List (List Value)) → NumbersBelow t columns → list_any (row_mixes t columns) rows ≡ false
+    → rows_miscount t columns rows ≡ false → All (RowFits t) (map (at_places (places t columns)) rows)
+rows-fit t columns rows known typed counted =
+    let rest = or_false (not (nat_eq (length columns) (width t))) (repeats [] columns || has_other_width (width t) rows) counted in
+    let once = or_false (repeats [] columns) (has_other_width (width t) rows) rest.1 in
+    let len : length columns ≡ width t = same_count (length columns) (width t) (repeats [] columns || has_other_width (width t) rows) counted in
+    each-fits rows typed once.1 len once.0
+  where
+    each-fits : (rows : List (List Value)) → list_any (row_mixes t columns) rows ≡ false → has_other_width (width t) rows ≡ false
+        → length columns ≡ width t → repeats [] columns ≡ false → All (RowFits t) (map (at_places (places t columns)) rows)
+    each-fits [] e f len once = All-nil (RowFits t)
+    each-fits (row ∷ rows) e f len once =
+        let typed = or_false (row_mixes t columns row) (list_any (row_mixes t columns) rows) e in
+        let wide = same_count (length row) (width t) (has_other_width (width t) rows) f in
+        let others = or_false (not (nat_eq (length row) (width t))) (has_other_width (width t) rows) f in
+        All-cons (RowFits t) (at_places (places t columns) row) (map (at_places (places t columns)) rows)
+        (length-places t columns row, row-typed t columns row len once known wide typed.0)
+        (each-fits rows typed.1 others.1 len once)
+
 insert-fits : (tables : List Table) (at : ℕ) (names : Option (Chain Name)) (rows : Chain (Chain Literal)) (x : ℕ × Table) → Named tables x
     → IfBound (Fits tables) (insert x.1 at x.0 names rows)
 insert-fits tables at names rows x h =
     let t = x.1 in
-    then-bound (Fits tables) (row_columns t at names) _ (λ columns. then-bound (Fits tables) (each (row_values at) (list_of rows)) _ (λ values.
+    then-both (NumbersBelow t) (Fits tables) (row_columns t at names) _ (columns-known t at names) (λ columns known.
+    then-bound (Fits tables) (each (row_values at) (list_of rows)) _ (λ values.
     let made : Bind Bound = Ok (Insert x.0 (key_column t) (map (at_places (places t columns)) values)) in
     unless-passed (Fits tables) (list_any (row_mixes t columns) values) at TypeMismatch (unless (rows_miscount t columns values) at WrongCount made) (λ typed.
     unless-passed (Fits tables) (rows_miscount t columns values) at WrongCount made (λ counted.
-    of-table tables (λ t'. All (IsWide t') (map (at_places (places t columns)) values)) x h
-    (All-map (IsWide t) (at_places (places t columns)) values (λ i d lt. length-places t columns (get_or values i d)))))))
+    of-table tables (λ t'. All (RowFits t') (map (at_places (places t columns)) values)) x h (rows-fit t columns values known typed counted)))))
 
 select-fits : (tables : List Table) (at : ℕ) (s : tree.Select) (x : ℕ × Table) → Named tables x → IfBound (Fits tables) (select x.1 at x.0 s)
 select-fits tables at s x h =
@@ -344,7 +387,8 @@ update-fits tables at as' c x h =
     then-both (KnownCondition t) (Fits tables) (where_of t at c) _ (where-known t at c) (λ d k.
     let made : Bind Bound = Ok (Update x.0 (key_of (key_column t) d) sets d) in
     let counted = unless (repeats [] (set_columns sets)) at WrongCount made in
-    unless-passed (Fits tables) (list_any (assignment_mixes t) sets || condition_mixes t d) at TypeMismatch (unless (sets_key (key_column t) sets) at KeyChanged counted) (λ e.
+    unless-passed (Fits tables) (list_any (assignment_mixes t) sets || condition_mixes t d) at TypeMismatch
+    (unless (sets_key (key_column t) sets) at KeyChanged counted) (λ e.
     let both = or_false (list_any (assignment_mixes t) sets) (condition_mixes t d) e in
     unless-passed (Fits tables) (sets_key (key_column t) sets) at KeyChanged counted (λ e'.
     unless-passed (Fits tables) (repeats [] (set_columns sets)) at WrongCount made (λ e''.

@@ -1,5 +1,6 @@
 -- The kind that is told is the least of those that a statement has.
-use Rattle.std.proofs.Common.{◌≡◌, ◌≢◌, refl, sym, ap, subst, ℕ, ◌<◌, Bool, true, false, cond, List, [], ◌∷◌, ◌++◌, length, map, get_or, Option, Some, None, Ok, Err, arith}
+use Rattle.std.proofs.Common.{◌≡◌, ◌≢◌, refl, sym, ap, subst, ℕ, ◌<◌, Bool, true, false, cond, List, [], ◌∷◌, ◌++◌, length, map, get_or, Option, Some, None}
+use Rattle.std.proofs.Common.{Ok, Err, arith}
 use Rattle.std.specs.Prelude.{◌||◌, ℤ, not, is_some, nat_lt, nat_le}
 use Rattle.std.specs.List.{list_any}
 use Rattle.std.proofs.lemmas.List.Folds.{list_any-append}
@@ -28,14 +29,19 @@ use Rattle.sql_statements.specs.declared.statement.Bound.TheVariants.{Insert, Se
 use Rattle.sql_subset.specs.declared.TheConstants.{MAX_COLUMNS, MAX_TABLES}
 use Rattle.sql_subset.specs.declared.error.BindError.{BindError}
 use Rattle.sql_subset.specs.declared.error.BindErrorKind.{BindErrorKind}
-use Rattle.sql_subset.specs.declared.error.BindErrorKind.TheVariants.{Sql, UnknownTable, UnknownColumn, TypeMismatch, KeyChanged, DuplicateTable, WrongCount, Shape, NoMemory}
+use Rattle.sql_subset.specs.declared.error.BindErrorKind.TheVariants.{Sql, UnknownTable, UnknownColumn, TypeMismatch, KeyChanged, DuplicateTable, WrongCount}
+use Rattle.sql_subset.specs.declared.error.BindErrorKind.TheVariants.{Shape, NoMemory}
 use Rattle.sql_subset.specs.declared.joining.Joint.TheVariants.{All}
 use Rattle.sql_subset.specs.declared.tables.Table.{Table}
 use Rattle.sql_subset.specs.Names.{Name, head, tail, list_of, repeats}
 use Rattle.sql_subset.specs.Refusals.{Bind, ◌>>=◌, refuse, unless, with_front, each, bind_number_of}
-use Rattle.sql_subset.specs.Kinds.{Faults, has, IsLeast, factor_names, term_names, sum_names, condition_names, part_names, atom_names, where_names, aggregate_names, item_names, order_names, assignment_names, row_names, names_unknown, both, faults_by, never, no_faults, in_table, statement_faults, insert_faults, select_faults, update_faults, delete_faults, declaration_faults}
-use Rattle.sql_subset.specs.Statements.{places, at_places, rows_miscount, set_columns, sets_key, row_columns, row_values, insert, aggregate, output, sort_key, sort_keys, select, assignment, update, delete, mode_of, statement}
-use Rattle.sql_subset.specs.Tables.{create, key_column, column_number, column, no_table, table_number, joined as each_of, part_columns, part_keys, has_unknown, repeated, declared, table_place}
+use Rattle.sql_subset.specs.Kinds.{Faults, has, IsLeast, factor_names, term_names, sum_names, condition_names, part_names, atom_names, where_names}
+use Rattle.sql_subset.specs.Kinds.{aggregate_names, item_names, order_names, assignment_names, row_names, names_unknown, both, faults_by, never, no_faults}
+use Rattle.sql_subset.specs.Kinds.{in_table, statement_faults, insert_faults, select_faults, update_faults, delete_faults, declaration_faults}
+use Rattle.sql_subset.specs.Statements.{places, at_places, rows_miscount, set_columns, sets_key, row_columns, row_values, insert, aggregate, output, sort_key}
+use Rattle.sql_subset.specs.Statements.{sort_keys, select, assignment, update, delete, mode_of, statement}
+use Rattle.sql_subset.specs.Tables.{create, key_column, column_number, column, no_table, table_number, joined as each_of, part_columns, part_keys}
+use Rattle.sql_subset.specs.Tables.{has_unknown, repeated, declared, table_place}
 use Rattle.sql_subset.specs.Translation.{value, operand, product, signed, sum_head, sum_tail, expression, joined, alternatives, parts, atom, where_of}
 use Rattle.sql_subset.specs.Types.{condition_mixes, assignment_mixes, output_mixes, row_mixes}
 use Rattle.sql_subset.specs.KeyParts.{key_of}
@@ -162,7 +168,8 @@ where-tells t at (Some c) = keep-tells (names_unknown t (condition_names c)) (al
 columns-tells : (t : Table) (at : ℕ) (ns : List Name) → Tells (names_unknown t ns) (each (column t at) ns)
 columns-tells t at [] = refl
 columns-tells t at (n ∷ ns) =
-    then-tells t (n ∷ []) ns (column t at n) _ (column-tells t at n) (λ c. front-tells (names_unknown t ns) (c ∷ []) (each (column t at) ns) (columns-tells t at ns))
+    then-tells t (n ∷ []) ns (column t at n) _ (column-tells t at n)
+    (λ c. front-tells (names_unknown t ns) (c ∷ []) (each (column t at) ns) (columns-tells t at ns))
 
 row_columns-tells : (t : Table) (at : ℕ) (o : Option (Chain Name)) → Tells (names_unknown t (row_names o)) (row_columns t at o)
 row_columns-tells t at None = refl
@@ -257,10 +264,16 @@ known column mix key count = record no_faults { unknown_column = column; mixes =
 
 tested : (mix key count : Bool) (at : ℕ) (b : Bound)
     → Judged (known false mix key count) (unless mix at TypeMismatch (unless key at KeyChanged (unless count at WrongCount (Ok b))))
-tested true key count at b = λ o.
-    (refl, lower (known false true key count) 4 (λ h. (refl, refl)) (λ h. refl) (λ h. refl) (λ h. absurd (omega arith)) (λ h. absurd (omega arith)) (λ h. refl) (λ h. absurd (omega arith)))
-tested false true count at b = λ o.
-    (refl, lower (known false false true count) 5 (λ h. (refl, refl)) (λ h. refl) (λ h. refl) (λ h. refl) (λ h. absurd (omega arith)) (λ h. refl) (λ h. absurd (omega arith)))
+tested true key count at b = λ o. (
+  refl,
+  lower (known false true key count) 4 (λ h. (refl, refl)) (λ h. refl) (λ h. refl) (λ h. absurd (omega arith)) (λ h. absurd (omega arith))
+      (λ h. refl) (λ h. absurd (omega arith)),
+)
+tested false true count at b = λ o. (
+  refl,
+  lower (known false false true count) 5 (λ h. (refl, refl)) (λ h. refl) (λ h. refl) (λ h. refl) (λ h. absurd (omega arith)) (λ h. refl)
+      (λ h. absurd (omega arith)),
+)
 tested false false true at b = λ o.
     (refl, lower (known false false false true) 7 (λ h. (refl, refl)) (λ h. refl) (λ h. refl) (λ h. refl) (λ h. refl) (λ h. refl) (λ h. absurd (omega arith)))
 tested false false false at b = none no_faults refl refl refl refl refl refl refl refl
@@ -308,8 +321,11 @@ Told f g = (x : ℕ × Table) → Judged (f x.1) (g x)
 
 in-table : (tables : List Table) (o : Option ℕ) (at : ℕ) (f : Table → Faults) (g : ℕ × Table → Bind Bound) → Told f g
     → Judged (in_table tables o f) (elim o [ None ↦ refuse {X = ℕ × Table} at UnknownTable | Some t ↦ Ok (t, get_or tables t no_table) ] >>= g)
-in-table tables None at f g h = λ o.
-    (refl, lower (record no_faults { unknown_table = true }) 2 (λ h. (refl, refl)) (λ h. absurd (omega arith)) (λ h. refl) (λ h. refl) (λ h. refl) (λ h. refl) (λ h. refl))
+in-table tables None at f g h = λ o. (
+  refl,
+  lower (record no_faults { unknown_table = true }) 2 (λ h. (refl, refl)) (λ h. absurd (omega arith)) (λ h. refl) (λ h. refl) (λ h. refl)
+      (λ h. refl) (λ h. refl),
+)
 in-table tables (Some i) at f g h = h (i, get_or tables i no_table)
 
 fault_free : NoneOf no_faults
@@ -324,7 +340,8 @@ insert-judged at names rows x =
     let made : List ℕ × List (List Value) → Bound = λ y. Insert x.0 (key_column t) (map (at_places (places t y.0)) y.1) in
     let mixes : List ℕ × List (List Value) → Bool = λ y. list_any (row_mixes t y.0) y.1 in
     let counts : List ℕ × List (List Value) → Bool = λ y. rows_miscount t y.0 y.1 in
-    let told : Tells (names_unknown t (row_names names)) (both columns values) = and_values (names_unknown t (row_names names)) columns values (row_columns-tells t at names) (values-tells at (list_of rows)) in
+    let told : Tells (names_unknown t (row_names names)) (both columns values) =
+    and_values (names_unknown t (row_names names)) columns values (row_columns-tells t at names) (values-tells at (list_of rows)) in
     subst (Judged faults) (both_first columns values (tests t (row_names names) mixes never counts at made))
     (said-judged t (row_names names) mixes never counts at made (both columns values) told)
   where
@@ -409,14 +426,26 @@ Least f (Err e) = IsLeast f e.kind
 create_if : (a b c d : Bool) (at : ℕ) (made : List Table)
     → Least (of_table a b c d) (elim (cond a (Some (Sql sql.TooLarge)) (cond b (Some UnknownColumn) (cond c (Some DuplicateTable) (cond d (Some WrongCount) None))))
     [ Some k ↦ refuse at k | None ↦ Ok made ])
-create_if true b c d at made =
-    (refl, lower (of_table true b c d) 1 (λ h. absurd (omega arith)) (λ h. absurd (omega arith)) (λ h. absurd (omega arith)) (λ h. refl) (λ h. refl) (λ h. absurd (omega arith)) (λ h. absurd (omega arith)))
-create_if false true c d at made =
-    (refl, lower (of_table false true c d) 3 (λ h. (refl, refl)) (λ h. refl) (λ h. absurd (omega arith)) (λ h. refl) (λ h. refl) (λ h. absurd (omega arith)) (λ h. absurd (omega arith)))
-create_if false false true d at made =
-    (refl, lower (of_table false false true d) 6 (λ h. (refl, refl)) (λ h. refl) (λ h. refl) (λ h. refl) (λ h. refl) (λ h. absurd (omega arith)) (λ h. absurd (omega arith)))
-create_if false false false true at made =
-    (refl, lower (of_table false false false true) 7 (λ h. (refl, refl)) (λ h. refl) (λ h. refl) (λ h. refl) (λ h. refl) (λ h. refl) (λ h. absurd (omega arith)))
+create_if true b c d at made = (
+  refl,
+  lower (of_table true b c d) 1 (λ h. absurd (omega arith)) (λ h. absurd (omega arith)) (λ h. absurd (omega arith)) (λ h. refl) (λ h. refl)
+      (λ h. absurd (omega arith)) (λ h. absurd (omega arith)),
+)
+create_if false true c d at made = (
+  refl,
+  lower (of_table false true c d) 3 (λ h. (refl, refl)) (λ h. refl) (λ h. absurd (omega arith)) (λ h. refl) (λ h. refl)
+      (λ h. absurd (omega arith)) (λ h. absurd (omega arith)),
+)
+create_if false false true d at made = (
+  refl,
+  lower (of_table false false true d) 6 (λ h. (refl, refl)) (λ h. refl) (λ h. refl) (λ h. refl) (λ h. refl) (λ h. absurd (omega arith))
+      (λ h. absurd (omega arith)),
+)
+create_if false false false true at made = (
+  refl,
+  lower (of_table false false false true) 7 (λ h. (refl, refl)) (λ h. refl) (λ h. refl) (λ h. refl) (λ h. refl) (λ h. refl)
+      (λ h. absurd (omega arith)),
+)
 create_if false false false false at made = fault_free
 
 created : (tables : List Table) (at : ℕ) (n : Name) (ps : Chain TablePart) → Least (declaration_faults tables n ps) (create tables at n ps)

@@ -8,6 +8,7 @@ pub mod ChainedLemmas
 pub mod ConditionLemmas
 pub mod ReadLemmas
 pub mod JoinLemmas
+pub mod RowLemmas
 pub mod FitLemmas
 pub mod KindLemmas
 pub mod OptionLemmas

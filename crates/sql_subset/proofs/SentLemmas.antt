@@ -112,7 +112,7 @@ key_if t (Some name) n e = column-below t name n e
 key-below : (t : Table) (n : ℕ) → key_column t ≡ Some n → n < width t
 key-below t n e = key_if t t.key n e
 
-length-numbers : (k n : ℕ) → length (numbers_from k n) ≡ n
+pub length-numbers : (k n : ℕ) → length (numbers_from k n) ≡ n
 length-numbers k zero = refl
 length-numbers k (suc n) = ap suc (length-numbers (suc k) n)
 

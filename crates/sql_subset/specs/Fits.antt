@@ -1,6 +1,7 @@
 -- Which statements over numbers fit the tables: their columns are there, and numbers and texts stand where they belong.
-use Rattle.std.specs.Prelude.{◌≡◌, ℕ, ◌<◌, ⊤, All, List, [], ◌∷◌, length, get_or}
+use Rattle.std.specs.Prelude.{◌≡◌, ℕ, ◌<◌, ⊤, All, List, [], ◌∷◌, length, get_or, pos}
 use Rattle.lock_modes.specs.declared.value.Value.{Value}
+use Rattle.lock_modes.specs.declared.value.Value.TheVariants.{Int}
 use Rattle.sql_statements.specs.declared.condition.Condition.{Condition, more_of-Condition, end_of-Condition}
 use Rattle.sql_statements.specs.declared.condition.Condition.TheVariants.{Always, Compares, Not', And', Or'}
 use Rattle.sql_statements.specs.declared.expression.Expression.{Expression}
@@ -80,9 +81,9 @@ SortKeyFits t k = IsColumn t k.column
 abbrev pub AssignmentFits : Table → Assignment → Type 0
 AssignmentFits t a = IsColumn t a.column × ExpressionIs t (type_of t a.column) a.value
 
--- a row has a value for each column
-abbrev pub IsWide : Table → List Value → Type 0
-IsWide t row = length row ≡ width t
+-- a row has a value for each column, of its type
+abbrev pub RowFits : Table → List Value → Type 0
+RowFits t row = (length row ≡ width t) × ((c : ℕ) → IsColumn t c → value_type (get_or row c (Int (pos 0))) ≡ type_of t c)
 
 -- the number is a table's, of which this holds
 abbrev pub OfTable : List Table → ℕ → (Table → Type 0) → Type 0
@@ -90,7 +91,7 @@ OfTable tables n P = (n < length tables) × P (get_or tables n no_table)
 
 abbrev pub Fits : List Table → Bound → Type 0
 Fits tables (Select n key c by out) = OfTable tables n (λ t. OutputFits t out × (All (SortKeyFits t) by × ConditionFits t c))
-Fits tables (Insert n key rows) = OfTable tables n (λ t. All (IsWide t) rows)
+Fits tables (Insert n key rows) = OfTable tables n (λ t. All (RowFits t) rows)
 Fits tables (Update n key sets c) = OfTable tables n (λ t. All (AssignmentFits t) sets × ConditionFits t c)
 Fits tables (Delete n key c) = OfTable tables n (λ t. ConditionFits t c)
 Fits tables (Lock n mode) = n < length tables

@@ -1,5 +1,6 @@
 -- Which faults a statement has, each by itself, and which of them is the least.
-use Rattle.std.specs.Prelude.{◌≡◌, ℕ, ◌<◌, Bool, true, false, not, ◌||◌, nat_lt, nat_le, is_some, List, [], ◌∷◌, ◌++◌, length, map, get_or, Option, Some, None, Ok, Err}
+use Rattle.std.specs.Prelude.{◌≡◌, ℕ, ◌<◌, Bool, true, false, not, ◌||◌, nat_lt, nat_le, is_some, List, [], ◌∷◌, ◌++◌, length, map, get_or, Option, Some}
+use Rattle.std.specs.Prelude.{None, Ok, Err}
 use Rattle.std.specs.List.{list_any}
 use Rattle.sql_reader.specs.Tree as tree
 use Rattle.sql_reader.specs.Tree.{Chain}
@@ -14,7 +15,8 @@ use Rattle.sql_reader.specs.declared.statement.SortKey.{SortKey}
 use Rattle.sql_reader.specs.declared.statement.TablePart.{TablePart}
 use Rattle.sql_subset.specs.declared.TheConstants.{MAX_COLUMNS, MAX_TABLES}
 use Rattle.sql_subset.specs.declared.error.BindErrorKind.{BindErrorKind}
-use Rattle.sql_subset.specs.declared.error.BindErrorKind.TheVariants.{Sql, UnknownTable, UnknownColumn, TypeMismatch, KeyChanged, DuplicateTable, WrongCount, Shape, NoMemory}
+use Rattle.sql_subset.specs.declared.error.BindErrorKind.TheVariants.{Sql, UnknownTable, UnknownColumn, TypeMismatch, KeyChanged, DuplicateTable, WrongCount}
+use Rattle.sql_subset.specs.declared.error.BindErrorKind.TheVariants.{Shape, NoMemory}
 use Rattle.sql_subset.specs.declared.tables.Table.{Table}
 use Rattle.sql_subset.specs.Names.{Name, list_of, head, tail, repeats}
 use Rattle.sql_subset.specs.Refusals.{Bind, ◌>>=◌, each, bind_number_of}

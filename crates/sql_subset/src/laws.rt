@@ -52,13 +52,16 @@ pub fn refusals_are_named()
 /// A statement that binding refuses has a fault of the kind that is told, and none of a kind with a smaller number; one that is bound has no fault.
 /// A number past 64 bits is no fault of binding: the reader tells it.
 pub fn least_kinds_are_told()
-    ensures refused { (tables : List Table) (at : ℕ) (s : Statement) (e : BindError) → statement tables at s ≡ Err e → e.kind ≢ Sql NumberTooLarge → IsLeast (statement_faults tables at s) e.kind }
-    ensures bound { (tables : List Table) (at : ℕ) (s : Statement) (b : Bound) → statement tables at s ≡ Ok b → (k : BindErrorKind) → has (statement_faults tables at s) k ≡ false }
-    ensures declared { (tables : List Table) (at : ℕ) (name : Name) (parts : Chain TablePart) (e : BindError) → create tables at name parts ≡ Err e → IsLeast (declaration_faults tables name parts) e.kind }
+    ensures refused { (tables : List Table) (at : ℕ) (s : Statement) (e : BindError)
+        → statement tables at s ≡ Err e → e.kind ≢ Sql NumberTooLarge → IsLeast (statement_faults tables at s) e.kind }
+    ensures bound { (tables : List Table) (at : ℕ) (s : Statement) (b : Bound)
+        → statement tables at s ≡ Ok b → (k : BindErrorKind) → has (statement_faults tables at s) k ≡ false }
+    ensures declared { (tables : List Table) (at : ℕ) (name : Name) (parts : Chain TablePart) (e : BindError)
+        → create tables at name parts ≡ Err e → IsLeast (declaration_faults tables name parts) e.kind }
 {}
 
 /// A statement that is bound fits the tables: its table and its columns are there, arithmetic and sums are of numbers alone, what is compared has one type,
-/// what is set has its column's, and a new row is as wide as its table.
+/// what is set has its column's, and a new row has a value for each column, of its type.
 pub fn bound_statements_fit()
     ensures { (tables : List Table) (at : ℕ) (s : Statement) (b : Bound) → statement tables at s ≡ Ok b → Fits tables b }
 {}
