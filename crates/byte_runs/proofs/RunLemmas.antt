@@ -28,7 +28,8 @@ behind_run P ascii bs = (prefix_len-le-length P bs, λ lt big. let here : get_or
 -- the last byte of a run is ASCII
 pub within_run : (P : ℕ → Bool) → ((b : ℕ) → P b ≡ true → b < 128) → (bs : List ℕ) → IsUtf8 bs → (n : ℕ) → prefix_len P bs ≡ n → IsCharBoundary bs n
 within_run P ascii bs utf8 zero e = IsCharBoundary-start bs utf8
-within_run P ascii bs utf8 (suc n) e = subst (IsCharBoundary bs) (add-one n) (IsCharBoundary-after_ascii bs n utf8 (omega (arith, prefix_len-le-length P bs)) (ascii _ (prefix_len_passes P bs n 0 (omega arith))))
+within_run P ascii bs utf8 (suc n) e =
+    subst (IsCharBoundary bs) (add-one n) (IsCharBoundary-after_ascii bs n utf8 (omega (arith, prefix_len-le-length P bs)) (ascii _ (prefix_len_passes P bs n 0 (omega arith))))
 
 pub not_is : (b c : ℕ) → c < 128 → not (b == c) ≡ false → b < 128
 not_is b c lt e = grind arith

@@ -13,7 +13,8 @@ use Rattle.row_tables.proofs.UndoLemmas.{same_session, same_place}
 use Rattle.library_tests.specs.Owned.{owner, HasOwners}
 
 pub no_rows-owned : HasOwners no_rows
-no_rows-owned = record { each = λ table key other ne. ap (λ (o : Option Overlay). get (unwrap_or o empty) (table, key)) (get-empty session_order Overlay other) ∙ get-empty place_order (Option Tuple) (table, key) }
+no_rows-owned = record { each = λ table key other ne. ap (λ (o : Option Overlay). get (unwrap_or o empty) (table, key)) (get-empty session_order Overlay other)
+    ∙ get-empty place_order (Option Tuple) (table, key) }
 
 dropped-owned : (session : ℕ) (l m : Layers) → ((c : ℕ) → overlay_of c m ≡ cond (same_session c session) empty (overlay_of c l)) → HasOwners l → HasOwners m
 dropped-owned session l m is owned = record {
@@ -41,7 +42,8 @@ wrote-owned session table key left l own owned = record {
       ] refl;
 }
   where
-    theirs : (u : ℕ) (j : Value) (other : ℕ) → other ≢ owner u → same_session other session ≡ true → (b : Bool) → same_place (u, j) (table, key) ≡ b → get (insert (overlay_of session l) (table, key) left) (u, j) ≡ None
+    theirs : (u : ℕ) (j : Value) (other : ℕ) → other ≢ owner u → same_session other session ≡ true → (b : Bool)
+        → same_place (u, j) (table, key) ≡ b → get (insert (overlay_of session l) (table, key) left) (u, j) ≡ None
     theirs u j other ne is true here = absurd (ne (same_key-true session_order other session is ∙ own ∙ ap (λ (p : RowPlace). owner p.0) (sym (same_key-true place_order (u, j) (table, key) here))))
     theirs u j other ne is false there =
         get-insert (overlay_of session l) (table, key) left (u, j)

@@ -247,7 +247,23 @@ fn totals_are_exact_and_row_numbers_leave_gaps(rt: HostRuntime) -> Result<(), Fa
         &rt,
         alloc,
         &statements,
-        "session s\n  inserted 3\n  row 9223372036854775806\n  rows 1\n  deleted 1\n  inserted 2\n  row 9223372036854775807\n  row -2\n  row 1\n  row 1\n  rows 4\n  row 1\n  row 1\n  row -2\n  rows 3\n  error: integer out of range\n",
+        "session s
+  inserted 3
+  row 9223372036854775806
+  rows 1
+  deleted 1
+  inserted 2
+  row 9223372036854775807
+  row -2
+  row 1
+  row 1
+  rows 4
+  row 1
+  row 1
+  row -2
+  rows 3
+  error: integer out of range
+",
     )?;
     Ok(())
 }
@@ -303,7 +319,23 @@ fn keys_are_unique_and_falling_ties_stay(rt: HostRuntime) -> Result<(), Fail> {
         &rt,
         alloc,
         &statements,
-        "session s\n  error: duplicate key\n  rows 0\n  inserted 3\n  error: duplicate key\n  row 2|6\n  row 1|5\n  row 3|5\n  rows 3\n  rows 0\n  updated 0\n  updated 1\n  row 6|5\n  row 6|7\n  row 5|8\n  rows 3\n",
+        "session s
+  error: duplicate key
+  rows 0
+  inserted 3
+  error: duplicate key
+  row 2|6
+  row 1|5
+  row 3|5
+  rows 3
+  rows 0
+  updated 0
+  updated 1
+  row 6|5
+  row 6|7
+  row 5|8
+  rows 3
+",
     )?;
     Ok(())
 }
