@@ -23,7 +23,7 @@ use Rattle.machine_model.proofs.Basics.{some_passes, both_true, and_true, either
 use Rattle.statement_effects.proofs.ListLemmas.{Each, Each-map}
 use Rattle.machine_model.proofs.Looks.{looked-opened, writable}
 use Rattle.machine_model.proofs.Footprint.{ReadsOff, WritesUnder}
-use Rattle.statement_effects.proofs.WriteLemmas.{OnGives, each-kept, each-matching, each-all_assigned, each-placed, each-numbered, each-deleted, on-or_fault, on-matched, on-selected}
+use Rattle.statement_effects.proofs.WriteLemmas.{OnGives, each-kept, each-any, each-placed, each-numbered, on-or_fault, on-selected, updated-each, deleted-each}
 
 asks_on-map : (P : Request → Type 0) (f g : Mode → Bool) → ((q : Request) → P q → f q.mode ≡ true → g q.mode ≡ true) → (qs : List Request) (r : Resource) → Each P qs → asks_on qs r f ≡ true → asks_on qs r g ≡ true
 asks_on-map P f g imp [] r each e = e
@@ -93,25 +93,28 @@ seen-writable : (st : Bound) (rows : Rows') → Each (λ q. is_writing q.mode �
 seen-writable st rows each = Each-map (λ (e : RowPlace × Tuple). looks_at st e.0 ≡ true) (λ (e : RowPlace × Tuple). writable (plan st) e.0 ≡ true) (λ e h. opened-writable (plan st) e.0 each (looked-opened st e.0 h)) (entries (visible st rows)) (each-kept (looks_at st) rows)
 
 updated-under : (st : Bound) (sets : List Assignment) (c : Condition) (rows : Rows') → Each (λ q. is_writing q.mode ≡ true) (plan st)
-    → OnGives (elim (matching c (entries (visible st rows))) [ None ↦ Faults OutOfRange | Some es ↦ or_fault OutOfRange (all_assigned sets es) Updated ]) (Each (λ w. writable (plan st) w.place ≡ true))
-updated-under st sets c rows each =
-    let P : RowPlace → Type 0 = λ p. writable (plan st) p ≡ true in
-    on-matched P (matching c (entries (visible st rows))) (λ es. or_fault OutOfRange (all_assigned sets es) Updated)
-    (λ es h. on-or_fault P OutOfRange (all_assigned sets es) Updated (each-all_assigned P sets es h)) (each-matching P c _ (seen-writable st rows each))
+    → OnGives (elim (matching c (entries (visible st rows))) [ None ↦ Faults OutOfRange | Some es ↦ or_fault OutOfRange (all_assigned sets es) Updated ])
+    (Each (λ w. writable (plan st) w.place ≡ true))
+updated-under st sets c rows each = updated-each (λ p. writable (plan st) p ≡ true) sets c (entries (visible st rows)) (seen-writable st rows each)
 
 deleted-under : (st : Bound) (c : Condition) (rows : Rows') → Each (λ q. is_writing q.mode ≡ true) (plan st)
-    → OnGives (elim (matching c (entries (visible st rows))) [ None ↦ Faults OutOfRange | Some es ↦ counted Deleted (map (λ (e : RowPlace × Tuple). record { place = e.0; left = None }) es) ]) (Each (λ w. writable (plan st) w.place ≡ true))
-deleted-under st c rows each =
-    let P : RowPlace → Type 0 = λ p. writable (plan st) p ≡ true in
-    on-matched P (matching c (entries (visible st rows))) (λ es. counted Deleted (map (λ (e : RowPlace × Tuple). record { place = e.0; left = None }) es))
-    (λ es h. each-deleted P es h) (each-matching P c _ (seen-writable st rows each))
+    → OnGives (elim (matching c (entries (visible st rows))) [
+      | None ↦ Faults OutOfRange
+      | Some es ↦ counted Deleted (map (λ (e : RowPlace × Tuple). record { place = e.0; left = None }) es)
+    ]) (Each (λ w. writable (plan st) w.place ≡ true))
+deleted-under st c rows each = deleted-each (λ p. writable (plan st) p ≡ true) c (entries (visible st rows)) (seen-writable st rows each)
 
 -- each write of an effect lies where the plan lets the statement write
 pub effect-writable : (st : Bound) (rows : Rows') → OnGives (effect st rows) (Each (λ w. writable (plan st) w.place ≡ true))
 unfolding effect
-effect-writable (Select t key c by out) rows = on-selected (λ p. writable (plan (Select t key c by out)) p ≡ true) by out (matching c (entries (visible (Select t key c by out) rows)))
-effect-writable (Insert t (Some k) new) rows = on-or_fault (λ p. writable (plan (Insert t (Some k) new)) p ≡ true) Duplicate (placed t k new (visible (Insert t (Some k) new) rows)) Inserted (each-placed (λ p. writable (plan (Insert t (Some k) new)) p ≡ true) t k new _ (writable-new t k new))
-effect-writable (Insert t None new) rows = each-numbered (λ p. writable (plan (Insert t None new)) p ≡ true) t _ new (λ v. writable-table t v)
+effect-writable (Select t key c by out) rows =
+    on-selected (λ w. writable (plan (Select t key c by out)) w.place ≡ true) by out (matching c (entries (visible (Select t key c by out) rows)))
+effect-writable (Insert t (Some k) new) rows =
+    let R : Write → Type 0 = λ w. writable (plan (Insert t (Some k) new)) w.place ≡ true in
+    on-or_fault R Duplicate (placed t k new (visible (Insert t (Some k) new) rows)) Inserted (each-placed R t k new _ (writable-new t k new))
+effect-writable (Insert t None new) rows =
+    each-numbered (λ w. writable (plan (Insert t None new)) w.place ≡ true) t _ new
+    (each-any (λ row. (v : Value) → writable (plan (Insert t None new)) (t, v) ≡ true) (λ row v. writable-table t v) new)
 effect-writable (Update t (Some key) sets c) rows = updated-under (Update t (Some key) sets c) sets c rows (refl, (refl, tt))
 effect-writable (Update t None sets c) rows = updated-under (Update t None sets c) sets c rows (refl, tt)
 effect-writable (Delete t (Some key) c) rows = deleted-under (Delete t (Some key) c) c rows (refl, (refl, tt))

@@ -13,5 +13,7 @@ pub mod Starts
 pub mod Counts
 pub mod Telling
 pub mod Owned
+pub mod Takings
+pub mod Typed
 pub mod Waiters
 pub mod Worked

@@ -7,4 +7,5 @@ pub mod Outcome
 pub mod Claims
 pub mod Footprint
 pub mod Sound
+pub mod Typed
 pub mod Laws

@@ -1,6 +1,7 @@
 //! The laws of the machine, each the contract of a function that does nothing.
 
 ghost use Rattle.machine_model.specs.Laws.{SendKeepsSound, WaitsAreRings, StartsSound, WaitersReach, OutcomesAreOwn, WorldsReachedAreSound};
+ghost use Rattle.machine_model.specs.Typed.{RowsSeenFit, NoDefaultIsMet};
 
 /// A step sent leaves a sound world sound: held modes compatible, overlays under locks, no ripe wait, no ring.
 pub fn send_keeps_sound()
@@ -30,4 +31,15 @@ pub fn outcomes_are_own()
 /// Every world of a line of a spec is sound, with a part for each session and for the control session.
 pub fn worlds_reached_are_sound()
     ensures { WorldsReachedAreSound }
+{}
+
+/// In every world of a line of a spec whose statements fit its tables, each row that a session sees fits its table: a value for each column, of its type.
+pub fn rows_seen_fit()
+    ensures { RowsSeenFit }
+{}
+
+/// A statement that fits the tables, over rows that fit them, meets no default of evaluation: each column that it takes of a row has a value there, and
+/// what it multiplies, adds, sums or compares has the type for it.
+pub fn no_default_is_met()
+    ensures { NoDefaultIsMet }
 {}

@@ -38,7 +38,7 @@ use Rattle.sql_subset.specs.declared.joining.Joint.TheVariants.{All as AllOf, An
 use Rattle.sql_subset.specs.declared.tables.ColumnType.{ColumnType}
 use Rattle.sql_subset.specs.declared.tables.ColumnType.TheVariants.{Number, Text}
 use Rattle.sql_subset.specs.declared.tables.Table.{Table}
-use Rattle.sql_subset.specs.Fits.{IsColumn, OperandIs, FactorsAre, ProductIs, TermsAre, ExpressionIs, EachComparison, ComparisonFits, ConditionFits}
+use Rattle.sql_subset.specs.Fits.{IsColumn, IsThere, ColumnOf, OperandIs, FactorsAre, ProductIs, TermsAre, ExpressionIs, EachComparison, ComparisonFits, ConditionFits}
 use Rattle.sql_subset.specs.Fits.{AggregateFits, OutputFits, SortKeyFits, AssignmentFits, RowFits, OfTable, Fits}
 use Rattle.sql_subset.specs.KeyParts.{key_of}
 use Rattle.sql_subset.specs.Names.{Name, head, tail, list_of, repeats}
@@ -56,7 +56,7 @@ use Rattle.sql_subset.proofs.SentLemmas.{IfBound, then-bound, bound-is, position
 
 -- ---- one part behind another
 
-then-both : {A X : Type 0} (P : A → Type 0) (Q : X → Type 0) (r : Bind A) (f : A → Bind X) → IfBound P r → ((a : A) → P a → IfBound Q (f a))
+pub then-both : {A X : Type 0} (P : A → Type 0) (Q : X → Type 0) (r : Bind A) (f : A → Bind X) → IfBound P r → ((a : A) → P a → IfBound Q (f a))
     → IfBound Q (r >>= f)
 then-both P Q (Ok a) f h k = k a h
 then-both P Q (Err e) f h k = tt
@@ -65,7 +65,7 @@ front-bound : {X : Type 0} (P : X → Type 0) (x : X) (r : Bind (List X)) → P 
 front-bound P x (Ok xs) h k = All-cons P x xs h k
 front-bound P x (Err e) h k = tt
 
-each-bound : {A X : Type 0} (P : X → Type 0) (f : A → Bind X) → ((a : A) → IfBound P (f a)) → (as' : List A) → IfBound (All P) (each f as')
+pub each-bound : {A X : Type 0} (P : X → Type 0) (f : A → Bind X) → ((a : A) → IfBound P (f a)) → (as' : List A) → IfBound (All P) (each f as')
 each-bound P f h [] = All-nil P
 each-bound P f h (a ∷ as') = then-both P (All P) (f a) _ (h a) (λ x p. front-bound P x (each f as') p (each-bound P f h as'))
 
@@ -189,26 +189,26 @@ number_if : (k : ColumnType) → is_text k ≡ false → k ≡ Number
 number_if Number e = refl
 number_if Text e = absurd (cc e)
 
-operand-is : (t : Table) (o : Operand) → Known t o → OperandIs t (operand_type t o) o
+operand-is : (t : Table) (o : Operand) → Known t o → OperandIs (ColumnOf t) (operand_type t o) o
 operand-is t (operands.Literal v) h = refl
 operand-is t (operands.Column c) h = (h, refl)
 
-operand-number : (t : Table) (o : Operand) → Known t o → is_text (operand_type t o) ≡ false → OperandIs t Number o
-operand-number t o h e = subst (λ k. OperandIs t k o) (number_if (operand_type t o) e) (operand-is t o h)
+operand-number : (t : Table) (o : Operand) → Known t o → is_text (operand_type t o) ≡ false → OperandIs (ColumnOf t) Number o
+operand-number t o h e = subst (λ k. OperandIs (ColumnOf t) k o) (number_if (operand_type t o) e) (operand-is t o h)
 
 factors-number : (t : Table) (o : Operand) (os : List Operand) → Known t o → All (Known t) os → (is_text (operand_type t o) || any_text t os) ≡ false
-    → FactorsAre t Number o os
+    → FactorsAre (ColumnOf t) Number o os
 factors-number t o [] h k e = operand-number t o h (or_false (is_text (operand_type t o)) false e).0
 factors-number t o (p ∷ ps) h k e =
     let both = or_false (is_text (operand_type t o)) (any_text t (p ∷ ps)) e in
-    (refl, (operand-number t o h both.0, none-All (Known t) (λ q. is_text (operand_type t q)) (OperandIs t Number) (operand-number t) (p ∷ ps) k both.1))
+    (refl, (operand-number t o h both.0, none-All (Known t) (λ q. is_text (operand_type t q)) (OperandIs (ColumnOf t) Number) (operand-number t) (p ∷ ps) k both.1))
 
-product-number : (t : Table) (p : Product) → KnownProduct t p → product_has_text t p ≡ false → ProductIs t Number p
+product-number : (t : Table) (p : Product) → KnownProduct t p → product_has_text t p ≡ false → ProductIs (ColumnOf t) Number p
 product-number t p h e = factors-number t p.first p.more h.0 h.1 e
 
 expression-by : (t : Table) (o : Operand) (os : List Operand) (ss : List SignedProduct) → Known t o → All (Known t) os → All (KnownTerm t) ss
     → expression_mixes t (record { first = record { first = o; more = os }; more = ss }) ≡ false
-    → TermsAre t (expression_type t (record { first = record { first = o; more = os }; more = ss })) (record { first = o; more = os }) ss
+    → TermsAre (ColumnOf t) (expression_type t (record { first = record { first = o; more = os }; more = ss })) (record { first = o; more = os }) ss
 expression-by t o [] [] h k l e = operand-is t o h
 expression-by t o (p ∷ ps) [] h k l e =
     factors-number t o (p ∷ ps) h k (or_false (product_has_text t (record { first = o; more = p ∷ ps })) false e).0
@@ -216,30 +216,30 @@ expression-by t o [] (s ∷ ss) h k l e =
     let both = or_false (product_has_text t (record { first = o; more = [] })) (any_has_text t (s ∷ ss)) e in
     (refl, (factors-number t o [] h k both.0, terms (s ∷ ss) l both.1))
   where
-    terms : (ts : List SignedProduct) → All (KnownTerm t) ts → any_has_text t ts ≡ false → All (λ (u : SignedProduct). ProductIs t Number u.product) ts
+    terms : (ts : List SignedProduct) → All (KnownTerm t) ts → any_has_text t ts ≡ false → All (λ (u : SignedProduct). ProductIs (ColumnOf t) Number u.product) ts
     terms ts l e =
-        none-All (KnownTerm t) (λ (u : SignedProduct). product_has_text t u.product) (λ (u : SignedProduct). ProductIs t Number u.product)
+        none-All (KnownTerm t) (λ (u : SignedProduct). product_has_text t u.product) (λ (u : SignedProduct). ProductIs (ColumnOf t) Number u.product)
         (λ u h f. product-number t u.product h f) ts l e
 expression-by t o (p ∷ ps) (s ∷ ss) h k l e =
     let both = or_false (product_has_text t (record { first = o; more = p ∷ ps })) (any_has_text t (s ∷ ss)) e in
     (refl, (factors-number t o (p ∷ ps) h k both.0, terms (s ∷ ss) l both.1))
   where
-    terms : (ts : List SignedProduct) → All (KnownTerm t) ts → any_has_text t ts ≡ false → All (λ (u : SignedProduct). ProductIs t Number u.product) ts
+    terms : (ts : List SignedProduct) → All (KnownTerm t) ts → any_has_text t ts ≡ false → All (λ (u : SignedProduct). ProductIs (ColumnOf t) Number u.product) ts
     terms ts l e =
-        none-All (KnownTerm t) (λ (u : SignedProduct). product_has_text t u.product) (λ (u : SignedProduct). ProductIs t Number u.product)
+        none-All (KnownTerm t) (λ (u : SignedProduct). product_has_text t u.product) (λ (u : SignedProduct). ProductIs (ColumnOf t) Number u.product)
         (λ u h f. product-number t u.product h f) ts l e
 
-expression-is : (t : Table) (e : Expression) → KnownExpression t e → expression_mixes t e ≡ false → ExpressionIs t (expression_type t e) e
+expression-is : (t : Table) (e : Expression) → KnownExpression t e → expression_mixes t e ≡ false → ExpressionIs (ColumnOf t) (expression_type t e) e
 expression-is t e h f = expression-by t e.first.first e.first.more e.more h.0.0 h.0.1 h.1 f
 
-comparison-fits : (t : Table) (a b : Expression) → KnownExpression t a → KnownExpression t b → comparison_mixes t a b ≡ false → ComparisonFits t a b
+comparison-fits : (t : Table) (a b : Expression) → KnownExpression t a → KnownExpression t b → comparison_mixes t a b ≡ false → ComparisonFits (ColumnOf t) a b
 comparison-fits t a b h k e =
     let last = or_false (expression_mixes t a || expression_mixes t b) (differ (expression_type t a) (expression_type t b)) e in
     let sides = or_false (expression_mixes t a) (expression_mixes t b) last.0 in
     let same = same_if (expression_type t a) (expression_type t b) last.1 in
-    (expression_type t b, (subst (λ k. ExpressionIs t k a) same (expression-is t a h sides.0), expression-is t b k sides.1))
+    (expression_type t b, (subst (λ k. ExpressionIs (ColumnOf t) k a) same (expression-is t a h sides.0), expression-is t b k sides.1))
 
-condition-fits : (t : Table) (c : Condition) → KnownCondition t c → condition_mixes t c ≡ false → ConditionFits t c
+condition-fits : (t : Table) (c : Condition) → KnownCondition t c → condition_mixes t c ≡ false → ConditionFits (ColumnOf t) c
 condition-fits t Always h e = tt
 condition-fits t (Compares a comparison b) h e = comparison-fits t a b h.0 h.1 e
 condition-fits t (Not' _ (more_of-Condition c end_of-Condition)) h e = condition-fits t c h e
@@ -249,6 +249,9 @@ condition-fits t (Or' _ (more_of-Condition a end_of-Condition) _ (more_of-Condit
     let both = or_false (condition_mixes t a) (condition_mixes t b) e in (condition-fits t a h.0 both.0, condition-fits t b h.1 both.1)
 
 -- ---- the parts of statements
+
+there : (t : Table) (c : ℕ) → IsColumn t c → IsThere (ColumnOf t) c
+there t c h = (type_of t c, (h, refl))
 
 numbers-below : (k n w : ℕ) → k + n ≤ w → All (λ c. c < w) (numbers_from k n)
 numbers-below k zero w h = All-nil (λ c. c < w)
@@ -275,19 +278,19 @@ output-known t at (tree.Aggregates as') =
     then-both (All (KnownAggregate t)) (KnownOutput t) (each (aggregate t at) (list_of as')) _
     (each-bound (KnownAggregate t) (aggregate t at) (aggregate-known t at) (list_of as')) (λ x h. h)
 
-aggregate-fits : (t : Table) (a : Aggregate) → KnownAggregate t a → aggregate_mixes t a ≡ false → AggregateFits t a
+aggregate-fits : (t : Table) (a : Aggregate) → KnownAggregate t a → aggregate_mixes t a ≡ false → AggregateFits (ColumnOf t) a
 aggregate-fits t aggregates.Count h e = tt
 aggregate-fits t (aggregates.Sum c) h e = (h, number_if (type_of t c) e)
 
-output-fits : (t : Table) (out : Output) → KnownOutput t out → output_mixes t out ≡ false → OutputFits t out
-output-fits t (Columns cs) h e = h
-output-fits t (Aggregates as') h e = none-All (KnownAggregate t) (aggregate_mixes t) (AggregateFits t) (aggregate-fits t) as' h e
+output-fits : (t : Table) (out : Output) → KnownOutput t out → output_mixes t out ≡ false → OutputFits (ColumnOf t) out
+output-fits t (Columns cs) h e = λ i d lt. there t (get_or cs i d) (h i d lt)
+output-fits t (Aggregates as') h e = none-All (KnownAggregate t) (aggregate_mixes t) (AggregateFits (ColumnOf t)) (aggregate-fits t) as' h e
 
-sorted-known : (t : Table) (at : ℕ) (o : Option (Chain Sorted)) → IfBound (All (SortKeyFits t)) (sort_keys t at o)
-sorted-known t at None = All-nil (SortKeyFits t)
+sorted-known : (t : Table) (at : ℕ) (o : Option (Chain Sorted)) → IfBound (All (SortKeyFits (ColumnOf t))) (sort_keys t at o)
+sorted-known t at None = All-nil (SortKeyFits (ColumnOf t))
 sorted-known t at (Some ks) =
-    each-bound (SortKeyFits t) (sort_key t at) (λ k. then-both (IsColumn t) (SortKeyFits t) (column t at k.column) _ (column-bound t at k.column)
-    (λ c h. h)) (list_of ks)
+    each-bound (SortKeyFits (ColumnOf t)) (sort_key t at) (λ k. then-both (IsColumn t) (SortKeyFits (ColumnOf t)) (column t at k.column) _ (column-bound t at k.column)
+    (there t)) (list_of ks)
 
 abbrev KnownAssignment : Table → Assignment → Type 0
 KnownAssignment t a = IsColumn t a.column × KnownExpression t a.value
@@ -297,10 +300,11 @@ assignment-known t at a =
     then-both (IsColumn t) (KnownAssignment t) (column t at a.column) _ (column-bound t at a.column) (λ c h.
     then-both (KnownExpression t) (KnownAssignment t) (expression t at a.value) _ (expression-known t at a.value) (λ e k. (h, k)))
 
-assignment-fits : (t : Table) (a : Assignment) → KnownAssignment t a → assignment_mixes t a ≡ false → AssignmentFits t a
+assignment-fits : (t : Table) (a : Assignment) → KnownAssignment t a → assignment_mixes t a ≡ false → AssignmentFits (ColumnOf t) a
 assignment-fits t a h e =
     let both = or_false (expression_mixes t a.value) (differ (type_of t a.column) (expression_type t a.value)) e in
-    (h.0, subst (λ k. ExpressionIs t k a.value) (sym (same_if (type_of t a.column) (expression_type t a.value) both.1)) (expression-is t a.value h.1 both.0))
+    (type_of t a.column, ((h.0, refl),
+    subst (λ k. ExpressionIs (ColumnOf t) k a.value) (sym (same_if (type_of t a.column) (expression_type t a.value) both.1)) (expression-is t a.value h.1 both.0)))
 
 -- ---- statements
 
@@ -370,12 +374,12 @@ select-fits : (tables : List Table) (at : ℕ) (s : tree.Select) (x : ℕ × Tab
 select-fits tables at s x h =
     let t = x.1 in
     then-both (KnownOutput t) (Fits tables) (output t at s.items) _ (output-known t at s.items) (λ out o.
-    then-both (All (SortKeyFits t)) (Fits tables) (sort_keys t at s.order) _ (sorted-known t at s.order) (λ by b.
+    then-both (All (SortKeyFits (ColumnOf t))) (Fits tables) (sort_keys t at s.order) _ (sorted-known t at s.order) (λ by b.
     then-both (KnownCondition t) (Fits tables) (where_of t at s.where') _ (where-known t at s.where') (λ c k.
     let made : Bind Bound = Ok (Select x.0 (key_of (key_column t) c) c by out) in
     unless-passed (Fits tables) (output_mixes t out || condition_mixes t c) at TypeMismatch made (λ e.
     let both = or_false (output_mixes t out) (condition_mixes t c) e in
-    of-table tables (λ t'. OutputFits t' out × (All (SortKeyFits t') by × ConditionFits t' c)) x h
+    of-table tables (λ t'. OutputFits (ColumnOf t') out × (All (SortKeyFits (ColumnOf t')) by × ConditionFits (ColumnOf t') c)) x h
     (output-fits t out o both.0, (b, condition-fits t c k both.1))))))
 
 update-fits : (tables : List Table) (at : ℕ) (as' : Chain tree.Assignment) (c : Option tree.Condition) (x : ℕ × Table) → Named tables x
@@ -392,15 +396,15 @@ update-fits tables at as' c x h =
     let both = or_false (list_any (assignment_mixes t) sets) (condition_mixes t d) e in
     unless-passed (Fits tables) (sets_key (key_column t) sets) at KeyChanged counted (λ e'.
     unless-passed (Fits tables) (repeats [] (set_columns sets)) at WrongCount made (λ e''.
-    of-table tables (λ t'. All (AssignmentFits t') sets × ConditionFits t' d) x h
-    (none-All (KnownAssignment t) (assignment_mixes t) (AssignmentFits t) (assignment-fits t) sets known both.0, condition-fits t d k both.1))))))
+    of-table tables (λ t'. All (AssignmentFits (ColumnOf t')) sets × ConditionFits (ColumnOf t') d) x h
+    (none-All (KnownAssignment t) (assignment_mixes t) (AssignmentFits (ColumnOf t)) (assignment-fits t) sets known both.0, condition-fits t d k both.1))))))
 
 delete-fits : (tables : List Table) (at : ℕ) (c : Option tree.Condition) (x : ℕ × Table) → Named tables x → IfBound (Fits tables) (delete x.1 at x.0 c)
 delete-fits tables at c x h =
     let t = x.1 in
     then-both (KnownCondition t) (Fits tables) (where_of t at c) _ (where-known t at c) (λ d k.
     unless-passed (Fits tables) (condition_mixes t d) at TypeMismatch (Ok (Delete x.0 (key_of (key_column t) d) d)) (λ e.
-    of-table tables (λ t'. ConditionFits t' d) x h (condition-fits t d k e)))
+    of-table tables (λ t'. ConditionFits (ColumnOf t') d) x h (condition-fits t d k e)))
 
 end-fits : (tables : List Table) (w : EndWord) → Fits tables (end_of w)
 end-fits tables word.Commit = tt
@@ -412,7 +416,7 @@ in-table : (tables : List Table) (at : ℕ) (n : Name) (f : ℕ × Table → Bin
     → IfBound (Fits tables) (table tables at n >>= f)
 in-table tables at n f h = then-both (Named tables) (Fits tables) (table tables at n) f (table-named tables at n) h
 
-statement-fits : (tables : List Table) (at : ℕ) (s : tree.Statement) → IfBound (Fits tables) (statement tables at s)
+pub statement-fits : (tables : List Table) (at : ℕ) (s : tree.Statement) → IfBound (Fits tables) (statement tables at s)
 statement-fits tables at (tree.CreateTable n ps) = tt
 statement-fits tables at (tree.Insert n names rows) = in-table tables at n _ (insert-fits tables at names rows)
 statement-fits tables at (tree.Selects s) = in-table tables at s.table _ (select-fits tables at s)

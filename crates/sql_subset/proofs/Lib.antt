@@ -10,6 +10,7 @@ pub mod ReadLemmas
 pub mod JoinLemmas
 pub mod RowLemmas
 pub mod FitLemmas
+pub mod FileFitLemmas
 pub mod KindLemmas
 pub mod OptionLemmas
 pub mod SentLemmas

@@ -1,4 +1,4 @@
--- Which statements over numbers fit the tables: their columns are there, and numbers and texts stand where they belong.
+-- Which statements fit the tables: their columns are there, and numbers and texts stand where they belong.
 use Rattle.std.specs.Prelude.{◌≡◌, ℕ, ◌<◌, ⊤, All, List, [], ◌∷◌, length, get_or, pos}
 use Rattle.lock_modes.specs.declared.value.Value.{Value}
 use Rattle.lock_modes.specs.declared.value.Value.TheVariants.{Int}
@@ -20,34 +20,36 @@ use Rattle.sql_statements.specs.declared.statement.SortKey.{SortKey}
 use Rattle.sql_subset.specs.declared.tables.ColumnType.{ColumnType}
 use Rattle.sql_subset.specs.declared.tables.ColumnType.TheVariants.{Number}
 use Rattle.sql_subset.specs.declared.tables.Table.{Table}
+use Rattle.sql_subset.specs.Spec.{Spec, Step}
 use Rattle.sql_subset.specs.Tables.{no_table, type_of, width}
 use Rattle.sql_subset.specs.Types.{value_type}
 
--- ---- expressions and conditions
+-- ---- what is taken of columns, where it is known which of them are there, and of which type
 
-abbrev pub IsColumn : Table → ℕ → Type 0
-IsColumn t c = c < width t
+-- some type is that of the column
+abbrev pub IsThere : (ℕ → ColumnType → Type 0) → ℕ → Type 0
+IsThere Has c = (kind : ColumnType) × Has c kind
 
 -- an operand of a type
-abbrev pub OperandIs : Table → ColumnType → Operand → Type 0
-OperandIs t kind (Literal v) = value_type v ≡ kind
-OperandIs t kind (Column c) = IsColumn t c × (type_of t c ≡ kind)
+abbrev pub OperandIs : (ℕ → ColumnType → Type 0) → ColumnType → Operand → Type 0
+OperandIs Has kind (Literal v) = value_type v ≡ kind
+OperandIs Has kind (Column c) = Has c kind
 
 -- factors of a type: one alone has its own, and several are numbers
-abbrev pub FactorsAre : Table → ColumnType → Operand → List Operand → Type 0
-FactorsAre t kind o [] = OperandIs t kind o
-FactorsAre t kind o (p ∷ ps) = (kind ≡ Number) × (OperandIs t Number o × All (OperandIs t Number) (p ∷ ps))
+abbrev pub FactorsAre : (ℕ → ColumnType → Type 0) → ColumnType → Operand → List Operand → Type 0
+FactorsAre Has kind o [] = OperandIs Has kind o
+FactorsAre Has kind o (p ∷ ps) = (kind ≡ Number) × (OperandIs Has Number o × All (OperandIs Has Number) (p ∷ ps))
 
-abbrev pub ProductIs : Table → ColumnType → Product → Type 0
-ProductIs t kind p = FactorsAre t kind p.first p.more
+abbrev pub ProductIs : (ℕ → ColumnType → Type 0) → ColumnType → Product → Type 0
+ProductIs Has kind p = FactorsAre Has kind p.first p.more
 
 -- terms of a type: one alone has its own, and several are numbers
-abbrev pub TermsAre : Table → ColumnType → Product → List SignedProduct → Type 0
-TermsAre t kind p [] = ProductIs t kind p
-TermsAre t kind p (s ∷ ss) = (kind ≡ Number) × (ProductIs t Number p × All (λ (s : SignedProduct). ProductIs t Number s.product) (s ∷ ss))
+abbrev pub TermsAre : (ℕ → ColumnType → Type 0) → ColumnType → Product → List SignedProduct → Type 0
+TermsAre Has kind p [] = ProductIs Has kind p
+TermsAre Has kind p (s ∷ ss) = (kind ≡ Number) × (ProductIs Has Number p × All (λ (s : SignedProduct). ProductIs Has Number s.product) (s ∷ ss))
 
-abbrev pub ExpressionIs : Table → ColumnType → Expression → Type 0
-ExpressionIs t kind e = TermsAre t kind e.first e.more
+abbrev pub ExpressionIs : (ℕ → ColumnType → Type 0) → ColumnType → Expression → Type 0
+ExpressionIs Has kind e = TermsAre Has kind e.first e.more
 
 -- what holds of each comparison in a condition
 abbrev pub EachComparison : (Expression → Expression → Type 0) → Condition → Type 0
@@ -58,28 +60,52 @@ EachComparison P (And' _ (more_of-Condition a end_of-Condition) _ (more_of-Condi
 EachComparison P (Or' _ (more_of-Condition a end_of-Condition) _ (more_of-Condition b end_of-Condition)) = EachComparison P a × EachComparison P b
 
 -- both sides have one type
-abbrev pub ComparisonFits : Table → Expression → Expression → Type 0
-ComparisonFits t a b = (kind : ColumnType) × (ExpressionIs t kind a × ExpressionIs t kind b)
+abbrev pub ComparisonFits : (ℕ → ColumnType → Type 0) → Expression → Expression → Type 0
+ComparisonFits Has a b = (kind : ColumnType) × (ExpressionIs Has kind a × ExpressionIs Has kind b)
 
-abbrev pub ConditionFits : Table → Condition → Type 0
-ConditionFits t c = EachComparison (ComparisonFits t) c
+abbrev pub ConditionFits : (ℕ → ColumnType → Type 0) → Condition → Type 0
+ConditionFits Has c = EachComparison (ComparisonFits Has) c
 
--- ---- statements
+-- sums are of numbers
+abbrev pub AggregateFits : (ℕ → ColumnType → Type 0) → Aggregate → Type 0
+AggregateFits Has Count = ⊤
+AggregateFits Has (Sum c) = Has c Number
 
-abbrev pub AggregateFits : Table → Aggregate → Type 0
-AggregateFits t Count = ⊤
-AggregateFits t (Sum c) = IsColumn t c × (type_of t c ≡ Number)
+abbrev pub OutputFits : (ℕ → ColumnType → Type 0) → Output → Type 0
+OutputFits Has (Columns cs) = All (IsThere Has) cs
+OutputFits Has (Aggregates as') = All (AggregateFits Has) as'
 
-abbrev pub OutputFits : Table → Output → Type 0
-OutputFits t (Columns cs) = All (IsColumn t) cs
-OutputFits t (Aggregates as') = All (AggregateFits t) as'
-
-abbrev pub SortKeyFits : Table → SortKey → Type 0
-SortKeyFits t k = IsColumn t k.column
+abbrev pub SortKeyFits : (ℕ → ColumnType → Type 0) → SortKey → Type 0
+SortKeyFits Has k = IsThere Has k.column
 
 -- what is set is of the column's type
-abbrev pub AssignmentFits : Table → Assignment → Type 0
-AssignmentFits t a = IsColumn t a.column × ExpressionIs t (type_of t a.column) a.value
+abbrev pub AssignmentFits : (ℕ → ColumnType → Type 0) → Assignment → Type 0
+AssignmentFits Has a = (kind : ColumnType) × (Has a.column kind × ExpressionIs Has kind a.value)
+
+-- what a statement takes of columns
+abbrev pub Takes : (ℕ → ColumnType → Type 0) → Bound → Type 0
+Takes Has (Select n key c by out) = OutputFits Has out × (All (SortKeyFits Has) by × ConditionFits Has c)
+Takes Has (Update n key sets c) = All (AssignmentFits Has) sets × ConditionFits Has c
+Takes Has (Delete n key c) = ConditionFits Has c
+Takes Has (Insert n key rows) = ⊤
+Takes Has (Lock n mode) = ⊤
+Takes Has Begin = ⊤
+Takes Has Commit = ⊤
+Takes Has Rollback = ⊤
+Takes Has SetVariable = ⊤
+
+-- ---- tables, and rows
+
+abbrev pub IsColumn : Table → ℕ → Type 0
+IsColumn t c = c < width t
+
+-- the table has the column, of the type
+abbrev pub ColumnOf : Table → ℕ → ColumnType → Type 0
+ColumnOf t c kind = IsColumn t c × (type_of t c ≡ kind)
+
+-- the row has a value there, of the type
+abbrev pub ValueIn : List Value → ℕ → ColumnType → Type 0
+ValueIn row c kind = (c < length row) × (value_type (get_or row c (Int (pos 0))) ≡ kind)
 
 -- a row has a value for each column, of its type
 abbrev pub RowFits : Table → List Value → Type 0
@@ -89,13 +115,20 @@ RowFits t row = (length row ≡ width t) × ((c : ℕ) → IsColumn t c → valu
 abbrev pub OfTable : List Table → ℕ → (Table → Type 0) → Type 0
 OfTable tables n P = (n < length tables) × P (get_or tables n no_table)
 
+-- what a statement takes of columns its table has, and new rows have a value for each column, of its type
 abbrev pub Fits : List Table → Bound → Type 0
-Fits tables (Select n key c by out) = OfTable tables n (λ t. OutputFits t out × (All (SortKeyFits t) by × ConditionFits t c))
+Fits tables (Select n key c by out) = OfTable tables n (λ t. Takes (ColumnOf t) (Select n key c by out))
 Fits tables (Insert n key rows) = OfTable tables n (λ t. All (RowFits t) rows)
-Fits tables (Update n key sets c) = OfTable tables n (λ t. All (AssignmentFits t) sets × ConditionFits t c)
-Fits tables (Delete n key c) = OfTable tables n (λ t. ConditionFits t c)
+Fits tables (Update n key sets c) = OfTable tables n (λ t. Takes (ColumnOf t) (Update n key sets c))
+Fits tables (Delete n key c) = OfTable tables n (λ t. Takes (ColumnOf t) (Delete n key c))
 Fits tables (Lock n mode) = n < length tables
 Fits tables Begin = ⊤
 Fits tables Commit = ⊤
 Fits tables Rollback = ⊤
 Fits tables SetVariable = ⊤
+
+-- each statement of a spec fits the tables
+pub record SpecFits (tables : List Table) (spec : Spec) : Type 0 where
+  pub setups : All (All (Fits tables)) spec.setups
+  pub session_setups : All (All (Fits tables)) spec.session_setups
+  pub steps : All (λ (s : Step). All (Fits tables) s.statements) spec.steps

@@ -13,7 +13,7 @@ ghost use Rattle.sql_statements.specs.declared.statement.Bound.{Bound};
 ghost use Rattle.sql_subset.specs.declared.error.BindErrorKind.{BindErrorKind};
 ghost use Rattle.sql_subset.specs.declared.error.BindErrorKind.TheVariants.{Sql};
 ghost use Rattle.sql_subset.specs.declared.tables.Table.{Table};
-ghost use Rattle.sql_subset.specs.Fits.{Fits};
+ghost use Rattle.sql_subset.specs.Fits.{Fits, SpecFits};
 ghost use Rattle.sql_subset.specs.Kinds.{has, IsLeast, statement_faults, declaration_faults};
 ghost use Rattle.sql_subset.specs.Names.{Name};
 ghost use Rattle.sql_subset.specs.Statements.{statement};
@@ -64,4 +64,9 @@ pub fn least_kinds_are_told()
 /// what is set has its column's, and a new row has a value for each column, of its type.
 pub fn bound_statements_fit()
     ensures { (tables : List Table) (at : ℕ) (s : Statement) (b : Bound) → statement tables at s ≡ Ok b → Fits tables b }
+{}
+
+/// A spec file has tables that all its statements fit: those that its main setups declare.
+pub fn bound_files_fit()
+    ensures { (text : List ℕ) (file : SpecFile) → IsFileOf text file → (tables : List Table) × SpecFits tables file.run }
 {}

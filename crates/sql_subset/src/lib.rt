@@ -29,8 +29,8 @@ pub use binding::bind;
 pub use block::Block;
 pub use error::{BindError, BindErrorKind};
 pub use laws::{
-    blocks_are_spelled, bound_statements_fit, chains_are_lists, least_kinds_are_told, one_file,
-    refusals_are_named,
+    blocks_are_spelled, bound_files_fit, bound_statements_fit, chains_are_lists,
+    least_kinds_are_told, one_file, refusals_are_named,
 };
 pub use orders::Line;
 use perm_ranks::MAX_STEPS;
@@ -38,6 +38,7 @@ pub use spec::Spec;
 use spec_reader::MAX_ITEMS;
 pub use sql_reader::{SqlError, SqlErrorKind, read_sql};
 pub use sql_statements::{Bound, lock_plan};
+pub use tables::{Column, ColumnType, Table};
 
 /// The steps of a file with permutation lines, at most: their numbers and how many they are fit a byte.
 pub const MAX_LINED_STEPS: usize = 255;

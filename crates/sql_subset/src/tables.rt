@@ -13,7 +13,7 @@ use sqlite_items::Items;
 
 /// The type of a column.
 #[derive(Clone, Copy)]
-pub(crate) enum ColumnType {
+pub enum ColumnType {
     Number,
     Text,
 }
@@ -31,18 +31,18 @@ pub(crate) fn type_of(word: TypeWord) -> ColumnType
 
 /// A column of a table.
 #[derive(Drop)]
-pub(crate) struct Column {
-    pub(crate) name: Text,
-    pub(crate) kind: ColumnType,
+pub struct Column {
+    pub name: Text,
+    pub kind: ColumnType,
 }
 
-/// A table: its columns have numbers from 0.
+/// A table that a spec file declares: its columns have numbers from 0.
 #[derive(Drop)]
-pub(crate) struct Table {
-    pub(crate) name: Text,
-    pub(crate) columns: Items<Column>,
+pub struct Table {
+    pub name: Text,
+    pub columns: Items<Column>,
     /// The name of the primary key.
-    pub(crate) key: Option<Text>,
+    pub key: Option<Text>,
 }
 
 impl Table {

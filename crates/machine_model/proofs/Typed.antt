@@ -1,0 +1,258 @@
+-- The rows of a run fit their tables.
+use Rattle.std.proofs.Common.{◌≡◌, ◌≢◌, refl, sym, ap, ◌∙◌, subst, ℕ, zero, suc, ◌<◌, ◌≤◌, arith, Bool, true, false, not, ◌||◌, List, [], ◌∷◌, ◌++◌, length, get_or, set, Option, Some, None, All, ◌⊎◌, ⊎_elim, length-set, get_or-set_same, get_or-set_other}
+use Rattle.std.specs.Prelude.{⊤}
+use Rattle.std.proofs.lemmas.List.{get_or_past}
+use Rattle.std.proofs.lemmas.List.Elements.{All-head, All-tail}
+use Rattle.version_tree.specs.Map.{empty}
+use Rattle.lock_modes.specs.RowPlace.{place_order}
+use Rattle.lock_queues.specs.declared.answer.Answer.{Answer}
+use Rattle.lock_queues.specs.declared.answer.Answer.TheVariants.{Granted, Waits, Ring}
+use Rattle.lock_queues.specs.Locks.{Spot, next_grant, waits_now}
+use Rattle.row_tables.specs.Overlay.{Tuple, Rows', lay}
+use Rattle.sql_statements.specs.Plan.{Request, plan}
+use Rattle.sql_statements.specs.declared.statement.Bound.{Bound}
+use Rattle.sql_subset.specs.declared.tables.Table.{Table}
+use Rattle.sql_subset.specs.Fits.{Fits, SpecFits}
+use Rattle.sql_subset.specs.Spec.{Spec, Step, no_step}
+use Rattle.transcripts.specs.declared.event.Fault.{Fault}
+use Rattle.transcripts.specs.declared.event.Fault.TheVariants.{Deadlock, Aborted}
+use Rattle.transcripts.specs.declared.event.Event.TheVariants.{Sent, Resumed, NotSent}
+use Rattle.statement_effects.specs.Effect.{Effect, Gives, Faults, effect}
+use Rattle.statement_effects.proofs.ListLemmas.{Each}
+use Rattle.statement_effects.proofs.WriteLemmas.{OnGives}
+use Rattle.machine_model.specs.declared.status.Status.{Status}
+use Rattle.machine_model.specs.declared.status.Status.TheVariants.{Outside, InBlock, Broken}
+use Rattle.machine_model.specs.Session.{Task, Ask, Do, Session, Kind, Begins, Commits, RollsBack, Works, kind, note, asks, tasks_of, Performed, Goes, Fails, worked, perform_by, perform}
+use Rattle.machine_model.specs.Go.{Scene, Run, go, taking, is_broken, answer_in, finished_by, stopped, failed, held_up}
+use Rattle.machine_model.specs.World.{World, fresh, session_at, look_of, scene_of, noted, goes, granted, settle_for, settle, left_to_do, send, send_all}
+use Rattle.machine_model.specs.Start.{Start, Started, SetupFailed, SessionSetupFailed, SessionSetupWaits, start, set_up, started_then, main_setups, session_setups, after_setup, forgotten, has_failed, is_outside}
+use Rattle.machine_model.specs.Typed.{RowsFit, seen_by}
+use Rattle.machine_model.proofs.Basics.{cases-eq}
+use Rattle.machine_model.proofs.Starts.{OnStarted, first_world, get_or-replicate}
+use Rattle.machine_model.proofs.Takings.{each-all, each-empty, EachFits, OverlayFits, WriteFits, written-fits, lay-fits, effect-fits}
+use Rattle.lock_modes.specs.RowPlace.{RowPlace}
+use Rattle.machine_model.specs.Typed.{EntryFits}
+use Rattle.version_tree.specs.Map.{entries}
+use Rattle.machine_model.proofs.Takings.{LeftFits}
+
+-- what holds of a session that takes its place holds of all, where it does of the others
+set-each : (P : Session → Type 0) → P fresh → (ss : List Session) (i : ℕ) (s : Session) → P s → ((c : ℕ) → P (get_or ss c fresh)) → (c : ℕ) → P (get_or (set ss i s) c fresh)
+set-each P none ss i s own all c = ⊎_elim there (λ ne. subst P (sym (get_or-set_other ss i c s fresh ne)) (all c)) (cases-eq c i)
+  where
+    within : (i < length ss) ⊎ (length ss ≤ i) → P (get_or (set ss i s) i fresh)
+    within cases =
+        ⊎_elim (λ lt. subst P (sym (get_or-set_same ss i s fresh lt)) own)
+        (λ le. subst P (sym (get_or_past (set ss i s) i fresh (subst (λ n. n ≤ i) (sym (length-set ss i s)) le))) none) cases
+
+    there : c ≡ i → P (get_or (set ss i s) c fresh)
+    there is = subst (λ d. P (get_or (set ss i s) d fresh)) (sym is) (within (grind arith))
+
+module _ (tables : List Table) where
+  abbrev TaskFits : Task → Type 0
+  TaskFits (Ask r m) = ⊤
+  TaskFits (Do st) = Fits tables st
+
+  -- what a session has written fits, and so do the statements that are left of its step
+  record SessionFits (s : Session) : Type 0 where
+    pub overlay : OverlayFits tables s.overlay
+    pub rest : Each TaskFits s.rest
+
+  record RunFits (x : Run) : Type 0 where
+    pub session : SessionFits x.session
+    pub rows : EachFits tables x.rows
+
+  record WorldFits (w : World) : Type 0 where
+    pub rows : EachFits tables w.rows
+    pub sessions : (c : ℕ) → SessionFits (session_at w c)
+
+  no-rows : EachFits tables empty
+  no-rows = each-empty place_order (EntryFits tables)
+
+  no-overlay : OverlayFits tables empty
+  no-overlay = each-empty place_order (λ (e : RowPlace × Option Tuple). LeftFits tables e.0 e.1)
+
+  fresh-fits : SessionFits fresh
+  fresh-fits = record { overlay = no-overlay; rest = tt }
+
+  -- ---- a session goes
+
+  asks-fit : (qs : List Request) (ts : List Task) → Each TaskFits ts → Each TaskFits (asks qs ts)
+  asks-fit [] ts h = h
+  asks-fit (q ∷ qs) ts h = (tt, asks-fit qs ts h)
+
+  tasks-fit : (ss : List Bound) → All (Fits tables) ss → Each TaskFits (tasks_of ss)
+  tasks-fit [] h = tt
+  tasks-fit (s ∷ ss) h = asks-fit (plan s) (Do s ∷ tasks_of ss) (All-head (Fits tables) s ss h, tasks-fit ss (All-tail (Fits tables) s ss h))
+
+  abbrev PerformedFits : Performed → Type 0
+  PerformedFits (Goes s rows) = SessionFits s × EachFits tables rows
+  PerformedFits (Fails f) = ⊤
+
+  worked-fits : (s : Session) (rows : Rows') (f : Effect) → OnGives f (Each (WriteFits tables)) → SessionFits s → EachFits tables rows → PerformedFits (worked s rows f)
+  worked-fits s rows (Gives events writes) d h all = (record { overlay = written-fits tables writes s.overlay d h.overlay; rest = h.rest }, all)
+  worked-fits s rows (Faults f) d h all = tt
+
+  perform_by-fits : (b : Status) (k : Kind) (s : Session) (rows : Rows') (st : Bound) → Fits tables st → SessionFits s → EachFits tables rows
+      → PerformedFits (perform_by b k s rows st)
+  perform_by-fits Outside Begins s rows st fits h all = (record { overlay = h.overlay; rest = h.rest }, all)
+  perform_by-fits InBlock Begins s rows st fits h all = (record { overlay = h.overlay; rest = h.rest }, all)
+  perform_by-fits Broken Begins s rows st fits h all = tt
+  perform_by-fits Outside Commits s rows st fits h all = (record { overlay = no-overlay; rest = h.rest }, lay-fits tables s.overlay rows h.overlay all)
+  perform_by-fits InBlock Commits s rows st fits h all = (record { overlay = no-overlay; rest = h.rest }, lay-fits tables s.overlay rows h.overlay all)
+  perform_by-fits Broken Commits s rows st fits h all = (record { overlay = no-overlay; rest = h.rest }, all)
+  perform_by-fits Outside RollsBack s rows st fits h all = (record { overlay = no-overlay; rest = h.rest }, all)
+  perform_by-fits InBlock RollsBack s rows st fits h all = (record { overlay = no-overlay; rest = h.rest }, all)
+  perform_by-fits Broken RollsBack s rows st fits h all = (record { overlay = no-overlay; rest = h.rest }, all)
+  perform_by-fits Outside Works s rows st fits h all =
+      worked-fits s rows (effect st (lay s.overlay rows)) (effect-fits tables st (lay s.overlay rows) fits (lay-fits tables s.overlay rows h.overlay all)) h all
+  perform_by-fits InBlock Works s rows st fits h all =
+      worked-fits s rows (effect st (lay s.overlay rows)) (effect-fits tables st (lay s.overlay rows) fits (lay-fits tables s.overlay rows h.overlay all)) h all
+  perform_by-fits Broken Works s rows st fits h all = tt
+
+  failed-fits : (e : Scene) (s : Session) (rows : Rows') (f : Fault) → EachFits tables rows → RunFits (stopped e (failed s rows f))
+  failed-fits e s rows f all = record { session = record { overlay = no-overlay; rest = tt }; rows = all }
+
+  finished-fits : (e : Scene) (b : Status) (s : Session) (rows : Rows') → SessionFits s → EachFits tables rows → RunFits (stopped e (finished_by b s rows))
+  finished-fits e Outside s rows h all = record { session = record { overlay = no-overlay; rest = h.rest }; rows = lay-fits tables s.overlay rows h.overlay all }
+  finished-fits e InBlock s rows h all = record { session = record { overlay = h.overlay; rest = h.rest }; rows = all }
+  finished-fits e Broken s rows h all = record { session = record { overlay = h.overlay; rest = h.rest }; rows = all }
+
+  go-fits : (e : Scene) (i : ℕ) (s : Session) (rows : Rows') (ts : List Task) → SessionFits s → EachFits tables rows → Each TaskFits ts → RunFits (go e i s rows ts)
+  go-fits e i s rows [] h all fits = finished-fits e s.status s rows h all
+  go-fits e i s rows (Ask r m ∷ ts) h all fits =
+      at (is_broken s.status) (answer_in e i s r m) (go-fits e i (taking s r m) rows ts (record { overlay = h.overlay; rest = h.rest }) all fits.1)
+    where
+      at : (b : Bool) (a : Answer) → RunFits (go e i (taking s r m) rows ts)
+          → let x : Run = elim b [
+            | true ↦ stopped e (failed s rows Aborted)
+            | false ↦ elim a [
+              | Granted ↦ go e i (taking s r m) rows ts
+              | Waits ↦ held_up e i s rows r m ts
+              | Ring ↦ stopped e (failed s rows Deadlock)
+            ]
+          ] in
+          RunFits x
+      at true a rec = failed-fits e s rows Aborted all
+      at false Granted rec = rec
+      at false Waits rec = record { session = record { overlay = h.overlay; rest = fits.1 }; rows = all }
+      at false Ring rec = failed-fits e s rows Deadlock all
+  go-fits e i s rows (Do st ∷ ts) h all fits =
+      at (perform s rows st) (perform_by-fits s.status (kind st) s rows st fits.0 h all) (λ s2 rows2 h2 all2. go-fits e i s2 rows2 ts h2 all2 fits.1)
+    where
+      at : (p : Performed) → PerformedFits p
+          → ((s2 : Session) (rows2 : Rows') → SessionFits s2 → EachFits tables rows2 → RunFits (go e i s2 rows2 ts))
+          → let x : Run = elim p [ Goes s2 rows2 ↦ go e i s2 rows2 ts | Fails f ↦ stopped e (failed s rows f) ] in
+          RunFits x
+      at (Goes s2 rows2) d rec = rec s2 rows2 d.0 d.1
+      at (Fails f) d rec = failed-fits e s rows f all
+
+  -- ---- a world
+
+  goes-fits : (w : World) (i : ℕ) (s : Session) (ts : List Task) → WorldFits w → SessionFits s → Each TaskFits ts → WorldFits (goes w i s ts)
+  goes-fits w i s ts h own fits =
+      let x = go-fits (scene_of w) i s w.rows ts own h.rows fits in
+      record { rows = x.rows; sessions = set-each SessionFits fresh-fits w.sessions i (go (scene_of w) i s w.rows ts).session x.session h.sessions }
+
+  granted-fits : (w : World) (spot : Spot) → WorldFits w → WorldFits (granted w spot)
+  granted-fits w spot h =
+      let i = spot.wait.session in
+      let s = session_at w i in
+      goes-fits (record w { waits = spot.before ++ spot.after }) i (note (record (taking s spot.wait.resource spot.wait.mode) { rest = [] }) Resumed) s.rest
+      (record { rows = h.rows; sessions = h.sessions }) (record { overlay = (h.sessions i).overlay; rest = tt }) (h.sessions i).rest
+
+  settle_for-fits : (k : ℕ) (w : World) → WorldFits w → WorldFits (settle_for k w)
+  settle_for-fits zero w h = h
+  settle_for-fits (suc k) w h = at (next_grant (length w.sessions) (look_of w) w.waits) (λ spot. settle_for-fits k (granted w spot) (granted-fits w spot h))
+    where
+      at : (o : Option Spot) → ((spot : Spot) → WorldFits (settle_for k (granted w spot))) → WorldFits (elim o [ None ↦ w | Some spot ↦ settle_for k (granted w spot) ])
+      at None rec = h
+      at (Some spot) rec = rec spot
+
+  put-fits : (w : World) (i : ℕ) (s : Session) → WorldFits w → SessionFits s → WorldFits (record w { sessions = set w.sessions i s })
+  put-fits w i s h own = record { rows = h.rows; sessions = set-each SessionFits fresh-fits w.sessions i s own h.sessions }
+
+  send-fits : (steps : List Step) (w : World) (k : ℕ) → All (Fits tables) (get_or steps k no_step).statements → WorldFits w → WorldFits (send steps w k)
+  send-fits steps w k fits h = at (waits_now w.waits i)
+    where
+      i : ℕ
+      i = (get_or steps k no_step).session
+
+      s : Session
+      s = session_at w i
+
+      at : (b : Bool) → WorldFits (elim b [ true ↦ noted w i (NotSent k) | false ↦ settle (goes w i (note s (Sent k)) (tasks_of (get_or steps k no_step).statements)) ])
+      at true = put-fits w i (note s (NotSent k)) h (record { overlay = (h.sessions i).overlay; rest = (h.sessions i).rest })
+      at false =
+          let v = goes w i (note s (Sent k)) (tasks_of (get_or steps k no_step).statements) in
+          settle_for-fits (left_to_do v) v
+          (goes-fits w i (note s (Sent k)) (tasks_of (get_or steps k no_step).statements) h
+          (record { overlay = (h.sessions i).overlay; rest = (h.sessions i).rest }) (tasks-fit (get_or steps k no_step).statements fits))
+
+  -- ---- from the start of a spec
+
+  setup-fits : (w : World) (i : ℕ) (block : List Bound) → All (Fits tables) block → WorldFits w → WorldFits (forgotten (after_setup w i block) i)
+  setup-fits w i block fits h =
+      let v = after_setup w i block in
+      let gone = goes-fits w i (session_at w i) (tasks_of block) h (h.sessions i) (tasks-fit block fits) in
+      put-fits v i (record (session_at v i) { transcript = [] }) gone (record { overlay = (gone.sessions i).overlay; rest = (gone.sessions i).rest })
+
+  main-fits : (control k : ℕ) (w : World) (blocks : List (List Bound)) → All (All (Fits tables)) blocks → WorldFits w → OnStarted (main_setups control k w blocks) WorldFits
+  main-fits control k w [] fits h = h
+  main-fits control k w (block ∷ blocks) fits h =
+      at (has_failed (session_at (after_setup w control block) control) || not (is_outside (session_at (after_setup w control block) control).status))
+      (main-fits control (suc k) (forgotten (after_setup w control block) control) blocks (All-tail (All (Fits tables)) block blocks fits)
+      (setup-fits w control block (All-head (All (Fits tables)) block blocks fits) h))
+    where
+      rest : Start
+      rest = main_setups control (suc k) (forgotten (after_setup w control block) control) blocks
+
+      at : (b : Bool) → OnStarted rest WorldFits → OnStarted (elim b [ true ↦ SetupFailed k | false ↦ rest ]) WorldFits
+      at true rec = tt
+      at false rec = rec
+
+  own-fits : (i : ℕ) (w : World) (blocks : List (List Bound)) → All (All (Fits tables)) blocks → WorldFits w → OnStarted (session_setups i w blocks) WorldFits
+  own-fits i w [] fits h = h
+  own-fits i w (block ∷ blocks) fits h =
+      at (has_failed (session_at (after_setup w i block) i)) (waits_now (after_setup w i block).waits i)
+      (own-fits (suc i) (forgotten (after_setup w i block) i) blocks (All-tail (All (Fits tables)) block blocks fits)
+      (setup-fits w i block (All-head (All (Fits tables)) block blocks fits) h))
+    where
+      rest : Start
+      rest = session_setups (suc i) (forgotten (after_setup w i block) i) blocks
+
+      at : (b d : Bool) → OnStarted rest WorldFits → OnStarted (elim b [ true ↦ SessionSetupFailed i | false ↦ elim d [ true ↦ SessionSetupWaits i | false ↦ rest ] ]) WorldFits
+      at true d rec = tt
+      at false true rec = tt
+      at false false rec = rec
+
+  then-fits : (s : Start) (f : World → Start) → OnStarted s WorldFits → ((w : World) → WorldFits w → OnStarted (f w) WorldFits) → OnStarted (started_then s f) WorldFits
+  then-fits (Started w) f h rec = rec w h
+  then-fits (SetupFailed n) f h rec = tt
+  then-fits (SessionSetupFailed n) f h rec = tt
+  then-fits (SessionSetupWaits n) f h rec = tt
+
+  first-fits : (n : ℕ) → WorldFits (first_world n)
+  first-fits n = record { rows = no-rows; sessions = λ c. subst SessionFits (sym (get_or-replicate (suc n) c fresh)) fresh-fits }
+
+  start-fits : (spec : Spec) (w : World) → SpecFits tables spec → start spec ≡ Started w → WorldFits w
+  start-fits spec w fits e =
+      subst (λ s. OnStarted s WorldFits) e
+      (then-fits (set_up spec) (λ v. session_setups 0 v spec.session_setups) (main-fits spec.sessions 0 (first_world spec.sessions) spec.setups fits.setups (first-fits spec.sessions))
+      (λ v h. own-fits 0 v spec.session_setups fits.session_setups h))
+
+  step-fits : (steps : List Step) → All (λ (s : Step). All (Fits tables) s.statements) steps → (k : ℕ) → All (Fits tables) (get_or steps k no_step).statements
+  step-fits [] h k = λ i d lt. absurd (omega arith)
+  step-fits (s ∷ ss) h zero = All-head (λ (s : Step). All (Fits tables) s.statements) s ss h
+  step-fits (s ∷ ss) h (suc k) = step-fits ss (All-tail (λ (s : Step). All (Fits tables) s.statements) s ss h) k
+
+  line-fits : (steps : List Step) (w : World) (ks : List ℕ) → All (λ (s : Step). All (Fits tables) s.statements) steps → WorldFits w → WorldFits (send_all steps w ks)
+  line-fits steps w [] fits h = h
+  line-fits steps w (k ∷ ks) fits h = line-fits steps (send steps w k) ks fits (send-fits steps w k (step-fits steps fits k) h)
+
+-- in every world of a line of a spec whose statements fit the tables, the rows that a session sees fit
+pub rows-seen : (tables : List Table) (spec : Spec) (w : World) (ks : List ℕ) (c : ℕ) → SpecFits tables spec → start spec ≡ Started w
+    → RowsFit tables (seen_by (send_all spec.steps w ks) c)
+rows-seen tables spec w ks c fits e =
+    let h = line-fits tables spec.steps w ks fits.steps (start-fits tables spec w fits e) in
+    let v = send_all spec.steps w ks in
+    each-all (EntryFits tables) (entries (seen_by v c)) (lay-fits tables (session_at v c).overlay v.rows (h.sessions c).overlay h.rows)
