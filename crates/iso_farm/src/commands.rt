@@ -15,6 +15,9 @@ use std::alloc::{AllocError, Global};
 use std::io::{self, Write};
 use transcripts::Counted;
 
+/// The version of the program. From which commit and with which kit it was built is known to what builds it alone.
+const VERSION: &str = "0.1.0";
+
 /// What the words ask for.
 #[derive(Drop)]
 enum Asked<'a> {
@@ -61,6 +64,7 @@ fn command<'a>(alloc: Global) -> Result<Command<'a>, AllocError> {
         .arg(rank)?;
     Command::new(alloc, "isofarm")
         .about("Runs the steps of SQL sessions in their orders, under two-phase locking")
+        .version(VERSION)
         .subcommand_required(true)
         .subcommand(one)
 }

@@ -1,5 +1,8 @@
 //! Why the program stops without an answer.
 
+ghost use Rattle.std.specs.Prelude.{◌≡◌};
+ghost use Rattle.iso_farm.specs.Status.{status_of};
+
 use thiserror::Error;
 
 /// Why the program stops without an answer. Its text is the line on standard error; a path is the word of the command line.
@@ -53,7 +56,9 @@ pub enum ProgramFault<'a> {
 
 impl ProgramFault<'_> {
     /// The exit status: 3 for what is refused, 4 for want of memory, 5 for a read or write fault.
-    pub fn status(&self) -> u8 {
+    pub fn status(&self) -> u8
+        ensures { result ≡ status_of self.now }
+    {
         match self {
             ProgramFault::Spec { .. }
             | ProgramFault::Sql { .. }

@@ -254,6 +254,7 @@ fn an_output_that_fails_is_a_write_fault(rt: HostRuntime) -> Result<(), Fail> {
         "isofarm --help",
         "isofarm help",
         "isofarm one --help",
+        "isofarm --version",
     ] {
         assert_write_fault(&rt, rt.alloc(), line, BrokenPipe)?;
         assert_write_fault(&rt, rt.alloc(), line, FullDevice)?;
@@ -287,6 +288,17 @@ fn help_goes_to_the_output(rt: HostRuntime) -> Result<(), Fail> {
         assert_eq!(rt; told.status, 0, "{line}");
         assert_eq!(rt; told.err.as_str(), "", "{line}");
         assert!(rt; told.out.contains("Usage: isofarm"), "{line}");
+    }
+    Ok(())
+}
+
+#[test]
+fn the_version_goes_to_the_output(rt: HostRuntime) -> Result<(), Fail> {
+    for line in ["isofarm --version", "isofarm -V"] {
+        let told = tell(rt.alloc(), line, &holding(FIRST))?;
+        assert_eq!(rt; told.status, 0, "{line}");
+        assert_eq!(rt; told.err.as_str(), "", "{line}");
+        assert_eq!(rt; told.out.as_str(), "isofarm 0.1.0\n", "{line}");
     }
     Ok(())
 }
