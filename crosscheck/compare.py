@@ -12,7 +12,7 @@ from tempfile import TemporaryDirectory
 
 from binding import bind
 from generate import KINDS, Maker
-from machine import outcome
+from machine import outcome, outcome_text
 from refusal import Refusal
 from spec_file import read_spec
 
@@ -28,7 +28,7 @@ def expected(text, rank, path):
         spec = bind(read_spec(text))
         if rank >= spec.ranks():
             return 3, b"", f"isofarm: {path}: rank out of range\n".encode()
-        return 0, f"rank {rank}\n".encode() + outcome(spec, rank), b""
+        return 0, f"rank {rank}\n".encode() + outcome_text(spec, outcome(spec, rank)), b""
     except Refusal as refusal:
         return 3, b"", refusal.line(path)
 
