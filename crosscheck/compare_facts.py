@@ -1,0 +1,64 @@
+"""Compares the facts that a program tells with those of this second implementation, on specs made from seeds.
+
+usage: python3 crosscheck/compare_facts.py PROGRAM any|hindering|wrong|misfits|limits|wide FIRST_SEED SEEDS [sent]
+
+PROGRAM is run as `PROGRAM SPEC FIRST END reduce|every`, and with `sent` also as `PROGRAM SPEC FIRST END sent`; the ranks are
+the spec's. What it prints then is what `facts.py` prints with the same words. A spec or a start that is refused is told as
+`isofarm one` tells it: a line on standard error, nothing on standard output, and status 3.
+"""
+
+import sys
+from collections import Counter
+from pathlib import Path
+from random import Random
+
+from binding import bind
+from compare import compare, ended
+from facts import answer
+from generate import KINDS
+from refusal import Refusal
+from spec_file import read_spec
+
+MOST_RANKS = 150
+WORDS = ['"waiting"', '"notsent"', '["failed",1]', '["failed",2]', '["failed",3]', '["failed",4]', '["warned",1]', '["warned",2]']
+
+
+def ranges_of(text, seed):
+    """The first ranks of a spec, or a range elsewhere where it has more, and a short range anywhere."""
+    try:
+        number = bind(read_spec(text)).ranks()
+    except Refusal:
+        return [(0, 1)]
+    random = Random(seed)
+    most = min(number, MOST_RANKS)
+    long = random.choice([0, number - most, random.randint(0, number - most)])
+    short = random.randint(0, number)
+    return [(long, long + most), (short, random.randint(short, min(short + 10, number)))]
+
+
+def runs(modes, text, seed, path):
+    return [
+        ([path, str(first), str(end), mode], answer(text, path, first, end, mode))
+        for first, end in ranges_of(text, seed)
+        for mode in modes
+    ]
+
+
+def kind_of(out):
+    """What facts show, in words to be counted."""
+    counts = Counter()
+    for line in out.decode().split("\n"):
+        counts.update(word for word in ['"ran"', '"swap"', *WORDS] if word in line)
+    return list(counts.elements())
+
+
+def main(program, *words):
+    *start, has_sent = words
+    modes = ["reduce", "every"] + ["sent"] * has_sent
+    return compare(Path(program).resolve(), lambda *run: runs(modes, *run), kind_of, *start)
+
+
+if __name__ == "__main__":
+    if len(sys.argv) not in (5, 6) or sys.argv[2] not in KINDS or sys.argv[5:] not in ([], ["sent"]):
+        sys.exit(__doc__)
+    sys.exit(ended(main, sys.argv[1], sys.argv[2], int(sys.argv[3]), int(sys.argv[4]), len(sys.argv) == 6))
