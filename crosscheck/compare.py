@@ -1,6 +1,6 @@
 """Compares what `isofarm one` tells with what this second implementation tells, on specs made from seeds.
 
-usage: python3 crosscheck/compare.py any|hindering|wrong|misfits|limits|wide FIRST_SEED SEEDS
+usage: python3 crosscheck/compare.py KIND FIRST_SEED SEEDS
 """
 
 import os
@@ -81,6 +81,10 @@ def compare(program, runs_of, kind_of_output, kind, first, seeds):
     return 1 if differences else 0
 
 
+def usage(text):
+    sys.exit(f"{text}\nKIND is one of {', '.join(KINDS)}.")
+
+
 def ended(work, *arguments):
     """The exit status of work that prints. Whoever reads may stop early."""
     try:
@@ -94,5 +98,5 @@ def ended(work, *arguments):
 
 if __name__ == "__main__":
     if len(sys.argv) != 4 or sys.argv[1] not in KINDS:
-        sys.exit(__doc__)
+        usage(__doc__)
     sys.exit(ended(compare, PROGRAM, runs, kind_of, sys.argv[1], int(sys.argv[2]), int(sys.argv[3])))

@@ -1,6 +1,6 @@
 """Compares the facts that a program tells with those of this second implementation, on specs made from seeds.
 
-usage: python3 crosscheck/compare_facts.py PROGRAM any|hindering|wrong|misfits|limits|wide FIRST_SEED SEEDS [sent]
+usage: python3 crosscheck/compare_facts.py PROGRAM KIND FIRST_SEED SEEDS [sent]
 
 PROGRAM is run as `PROGRAM SPEC FIRST END reduce|every`, and with `sent` also as `PROGRAM SPEC FIRST END sent`; the ranks are
 the spec's. What it prints then is what `facts.py` prints with the same words. A spec or a start that is refused is told as
@@ -13,7 +13,7 @@ from pathlib import Path
 from random import Random
 
 from binding import bind
-from compare import compare, ended
+from compare import compare, ended, usage
 from facts import answer
 from generate import KINDS
 from refusal import Refusal
@@ -60,5 +60,5 @@ def main(program, *words):
 
 if __name__ == "__main__":
     if len(sys.argv) not in (5, 6) or sys.argv[2] not in KINDS or sys.argv[5:] not in ([], ["sent"]):
-        sys.exit(__doc__)
+        usage(__doc__)
     sys.exit(ended(main, sys.argv[1], sys.argv[2], int(sys.argv[3]), int(sys.argv[4]), len(sys.argv) == 6))

@@ -1,6 +1,6 @@
 """Looks for a swap that changes something, on specs made from seeds.
 
-usage: python3 crosscheck/laws.py any|hindering|wrong|misfits|limits|wide FIRST_SEED SEEDS
+usage: python3 crosscheck/laws.py KIND FIRST_SEED SEEDS
 
 Of up to twenty ranks of each spec, and of each swap of each of these ranks: it leads to an earlier rank with the same outcome;
 the other ranks that share the letters up to both exchanged have it too, and are a range; both orders of its steps give equal
@@ -13,7 +13,7 @@ from collections import Counter
 from random import Random
 
 from binding import bind
-from compare import WORDS, ended
+from compare import WORDS, ended, usage
 from facts import Worlds, fact, ranks_with, sent, swap_covers, swapped, swaps, word_of
 from generate import KINDS, Maker
 from machine import FAILED_BLOCK, OUTSIDE, outcome, outcome_text
@@ -147,5 +147,5 @@ def main(kind, first, seeds):
 
 if __name__ == "__main__":
     if len(sys.argv) != 4 or sys.argv[1] not in KINDS:
-        sys.exit(__doc__)
+        usage(__doc__)
     sys.exit(ended(main, sys.argv[1], int(sys.argv[2]), int(sys.argv[3])))

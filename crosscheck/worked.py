@@ -31,7 +31,17 @@ setup { CREATE TABLE t (id int PRIMARY KEY); CREATE TABLE u (id int PRIMARY KEY)
 session a step a1 { INSERT INTO t VALUES (2); } step a2 { DELETE FROM t WHERE id = 2; }
 session b step b1 { INSERT INTO u VALUES (2); } step b2 { DELETE FROM u WHERE id = 2; }
 """
+WAITS_ASIDE = ROWS + """
+setup { CREATE TABLE u (id int PRIMARY KEY); }
+session a setup { BEGIN; } step a1 { SELECT * FROM t WHERE id = 1; }
+  step a2 { INSERT INTO t VALUES (1, 0); } step a3 { UPDATE t SET v = 0; }
+session b setup { BEGIN; } step b1 { LOCK u; } step b2 { SELECT * FROM t WHERE id = 2; }
+session c setup { BEGIN; } step c1 { SELECT * FROM u; } step c2 {}
+session d setup { BEGIN; } step d1 { SET x = 1; LOCK t; } step d2 {}
+"""
+TWO_ROWS = ONE_ROW.replace("v + 10 WHERE id = 1", "v + 10 WHERE id = 2")
 EMPTY_STEP = "session a step s {}"
+FALLING_LINE = EMPTY_STEP + " session b step r {} permutation r s permutation r s s"
 
 
 def worlds_of(text):
@@ -49,6 +59,12 @@ def transcript(worlds, rank, session):
     told = [transcript if place == session else [] for place, transcript in enumerate(worlds.outcome(rank))]
     lines = outcome_text(worlds.spec, told).decode().split("\n")
     return "/".join(line.strip() for line in lines if line.startswith("  "))
+
+
+def quiet(worlds, front, pair):
+    """Whether two steps are quiet after others."""
+    before, steps = ([worlds.spec.step_names.index(name) for name in names.split()] for names in (front, pair))
+    return are_quiet(worlds.after(before), *steps)
 
 
 def of_insert_and_read():
@@ -73,7 +89,7 @@ def of_one_row():
     yield "all ranks are run", kinds(worlds, range(6)), ["ran"] * 6
     yield "rank 2, session a", transcript(worlds, 2, 0), "step a1/updated 1/done/step a2/committed/done"
     yield "rank 2, session b", transcript(worlds, 2, 1), "step b1/waiting/not sent b2/resumed/updated 1/done"
-    yield "a commit beside a request for what it holds", are_quiet(worlds.after([2]), 3, 0), False
+    yield "a commit beside a request for what it holds", quiet(worlds, "b1", "b2 a1"), False
 
 
 def of_readers_and_a_writer():
@@ -86,10 +102,9 @@ def of_readers_and_a_writer():
     yield "rank 7, session c", transcript(worlds, 7, 2), "step c1/waiting"
     yield "rank 8, session a", transcript(worlds, 8, 0).endswith(read_all.format(5)), True
     yield "rank 8, session c", transcript(worlds, 8, 2), "step c1/waiting/resumed/updated 1/done"
-    world = worlds.after([0, 2])
-    yield "b holds the table in S", world.held[1, ("t",)], "S"
-    yield "c asks for IX there", [are_quiet(world, 4, step) for step in (1, 3)], [False, False]
-    yield "c waits where b holds and a asks", are_quiet(worlds.after([0, 2, 4]), 3, 1), False
+    yield "b holds the table in S", worlds.after([0, 2]).held[1, ("t",)], "S"
+    yield "c asks for IX there", [quiet(worlds, "a1 b1", pair) for pair in ("c1 a2", "c1 b2")], [False, False]
+    yield "c waits where b holds and a asks", quiet(worlds, "a1 b1 c1", "b2 a2"), False
 
 
 def of_two_tables():
@@ -114,13 +129,40 @@ def of_two_tables():
     yield "steps sent where each rank is run alone", sum(sent(worlds.spec, [rank]) for rank in range(6)), 24
 
 
+def of_two_rows():
+    worlds = worlds_of(TWO_ROWS)
+    yield "facts", kinds(worlds, range(6)), ["ran", ("swap", 1), ("swap", 2), ("swap", 0), ("swap", 0), ("swap", 1)]
+
+
+def of_waits_aside():
+    worlds = worlds_of(WAITS_ASIDE)
+    yield "locks are held elsewhere", quiet(worlds, "b1", "b2 a1"), True
+    yield "a lock is asked for by its holder", quiet(worlds, "b1", "b1 a1"), True
+    yield "somebody waits for what one of the two holds", quiet(worlds, "b1 c1", "b2 a1"), False
+    yield "one of the two waits", quiet(worlds, "b1 c1", "c2 a1"), False
+    yield "one asks for what is held in a mode that goes with it", quiet(worlds, "b2", "c2 a1"), True
+    yield "one asks for what somebody waits for", quiet(worlds, "b2 d1", "c2 a1"), False
+    yield "somebody waits elsewhere", quiet(worlds, "b1 c1", "d2 a1"), True
+    yield "the second statement asks", quiet(worlds, "", "d1 a1"), False
+    yield "a read in a failed block", quiet(worlds, "a2", "b2 a1"), True
+    yield "a write in a failed block", quiet(worlds, "a2", "b2 a3"), False
+
+
 def of_an_empty_step():
     worlds = worlds_of(EMPTY_STEP)
     yield "its fact", fact_line(0, fact(worlds, 0, True)), '[0,"ran",[[["sent",0],"done"]]]'
 
 
+def of_a_falling_line():
+    worlds = worlds_of(FALLING_LINE)
+    yield "lines are run", kinds(worlds, range(2)), ["ran", "ran"]
+    yield "they fall to quiet steps", quiet(worlds, "", "r s"), True
+    yield "steps sent", sent(worlds.spec, range(2)), 3
+
+
 def main():
-    examples = [of_insert_and_read, of_one_line, of_one_row, of_readers_and_a_writer, of_two_tables, of_an_empty_step]
+    examples = [of_insert_and_read, of_one_line, of_one_row, of_readers_and_a_writer, of_two_tables]
+    examples += [of_two_rows, of_waits_aside, of_an_empty_step, of_a_falling_line]
     compared = differences = 0
     for example in examples:
         for what, computed, expected in example():
