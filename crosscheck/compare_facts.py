@@ -2,9 +2,10 @@
 
 usage: python3 crosscheck/compare_facts.py PROGRAM KIND FIRST_SEED SEEDS [sent]
 
-PROGRAM is run as `PROGRAM SPEC FIRST END reduce|every`, and with `sent` also as `PROGRAM SPEC FIRST END sent`; the ranks are
-the spec's. What it prints then is what `facts.py` prints with the same words. A spec or a start that is refused is told as
-`isofarm one` tells it: a line on standard error, nothing on standard output, and status 3.
+PROGRAM is run as `PROGRAM SPEC FIRST END reduce|every`, and with `sent` also as `PROGRAM SPEC FIRST END sent`. It prints what
+`facts.py` prints with the same words, and ends with 0. What is refused has nothing on standard output, status 3, and a line
+on standard error: for a spec and its start the one of `isofarm one`, and between them `isofarm: SPEC: shard error 1` where
+FIRST is over END or END over the number of ranks, else `isofarm: SPEC: shard error 2` over 1,000,000 ranks.
 """
 
 import sys
@@ -24,7 +25,7 @@ WORDS = ['"waiting"', '"notsent"', '["failed",1]', '["failed",2]', '["failed",3]
 
 
 def ranges_of(text, seed):
-    """The first ranks of a spec, or a range elsewhere where it has more, and a short range anywhere."""
+    """Ranges of the ranks of a spec: all of them or a long range, a short one, and sometimes one that is refused."""
     try:
         number = bind(read_spec(text)).ranks()
     except Refusal:
@@ -33,7 +34,9 @@ def ranges_of(text, seed):
     most = min(number, MOST_RANKS)
     long = random.choice([0, number - most, random.randint(0, number - most)])
     short = random.randint(0, number)
-    return [(long, long + most), (short, random.randint(short, min(short + 10, number)))]
+    ranges = [(long, long + most), (short, random.randint(short, min(short + 10, number)))]
+    refused = [(number, number + 1), (short + 1, short)]
+    return ranges + [random.choice(refused)] * (random.random() < 0.1)
 
 
 def runs(modes, text, seed, path):

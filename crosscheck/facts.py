@@ -18,6 +18,7 @@ from machine import GO_TOGETHER, plan, start
 from refusal import Refusal
 from spec_file import read_spec
 
+MOST_RANKS = 1_000_000
 
 def asked(spec, step):
     """The requests of all statements of a step, from its text alone."""
@@ -144,14 +145,19 @@ def fact_line(rank, told):
 
 
 def answer(text, path, first, end, mode):
-    """The exit status, and what stands on the two outputs. The ranks are some of the spec's, if it is one."""
+    """The exit status, and what stands on the two outputs."""
     try:
-        worlds = Worlds(bind(read_spec(text)))
+        spec = bind(read_spec(text))
+        if not first <= end <= spec.ranks():
+            return 3, b"", f"isofarm: {path}: shard error 1\n".encode()
+        if end - first > MOST_RANKS:
+            return 3, b"", f"isofarm: {path}: shard error 2\n".encode()
+        worlds = Worlds(spec)
     except Refusal as refusal:
         return 3, b"", refusal.line(path)
     ranks = range(first, end)
     if mode == "sent":
-        lines = [f"{sent(worlds.spec, ranks)}"]
+        lines = [f"{sent(spec, ranks)}"]
     else:
         lines = [fact_line(rank, fact(worlds, rank, mode == "reduce")) for rank in ranks]
     return 0, "".join(f"{line}\n" for line in lines).encode(), b""

@@ -3,7 +3,7 @@
 import sys
 
 from binding import bind
-from facts import Worlds, are_quiet, fact, fact_line, runs, sent, swap_covers, swapped, swaps, word_of
+from facts import Worlds, answer, are_quiet, fact, fact_line, runs, sent, swap_covers, swapped, swaps, word_of
 from machine import outcome_text
 from spec_file import read_spec
 
@@ -40,6 +40,7 @@ session c setup { BEGIN; } step c1 { SELECT * FROM u; } step c2 {}
 session d setup { BEGIN; } step d1 { SET x = 1; LOCK t; } step d2 {}
 """
 TWO_ROWS = ONE_ROW.replace("v + 10 WHERE id = 1", "v + 10 WHERE id = 2")
+LARGE = "".join(f"session s{place} " + "".join(f"step s{place}_{step} {{}} " for step in range(4)) for place in range(6))
 EMPTY_STEP = "session a step s {}"
 FALLING_LINE = EMPTY_STEP + " session b step r {} permutation r s permutation r s s"
 
@@ -125,6 +126,10 @@ def of_two_tables():
     job = set(zip(range(4), kinds(worlds, range(4)))) | set(zip(range(2, 6), kinds(worlds, range(2, 6), False)))
     both = {(0, "ran"), (1, ("swap", 1)), (2, "ran"), (2, ("swap", 2)), (3, "ran"), (3, ("swap", 0)), (4, "ran"), (5, "ran")}
     yield "0 to 3 reduced and 2 to 5 run", job, both
+    refused = [answer(TWO_TABLES.encode(), "x", first, end, "reduce") for first, end in ((0, 7), (4, 3))]
+    yield "ranges that are none", refused, [(3, b"", b"isofarm: x: shard error 1\n")] * 2
+    too_long = answer(LARGE.encode(), "x", 0, 1_000_001, "reduce")
+    yield "a range that is too long", too_long, (3, b"", b"isofarm: x: shard error 2\n")
     yield "steps sent", sent(worlds.spec, range(6)), 18
     yield "steps sent where each rank is run alone", sum(sent(worlds.spec, [rank]) for rank in range(6)), 24
 
