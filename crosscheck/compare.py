@@ -12,6 +12,7 @@ from random import Random
 from tempfile import TemporaryDirectory
 
 from binding import bind
+from facts import shared
 from generate import KINDS, Maker
 from machine import outcome, outcome_text
 from refusal import Refusal
@@ -19,6 +20,7 @@ from spec_file import read_spec
 
 PROGRAM = Path(__file__).resolve().parent.parent / "crates/isofarm/out/isofarm"
 RANKS_A_SPEC = 4
+LINES_TOLD = 5
 WORDS = ["waiting", "resumed", "not sent", "error: deadlock", "error: duplicate key", "error: integer out of range"]
 WORDS += ["error: transaction is aborted", "warning: no transaction block", "warning: already in a transaction block"]
 
@@ -60,6 +62,16 @@ def kind_of(out):
     return ["an outcome"] + [word for word in WORDS if word.encode() in out]
 
 
+def difference(want, got):
+    """Two answers, their outputs from the first line on that differs."""
+    outs = [out.split(b"\n") for _status, out, _error in (want, got)]
+    first = shared(*outs)
+    lines = [out[first : first + LINES_TOLD] for out in outs]
+    (status, _out, error), (told_status, _told, told_error) = want, got
+    expected = f"expected {status} {error}, and from line {first} on {lines[0]}"
+    return f"{expected}\n  but was told {told_status} {told_error} {lines[1]}"
+
+
 def compare(program, runs_of, kind_of_output, kind, first, seeds):
     """Whether each run of the specs of the seeds tells what is expected. What differs is printed, and what was expected is counted."""
     counts, number, differences = Counter(), 0, 0
@@ -74,7 +86,7 @@ def compare(program, runs_of, kind_of_output, kind, first, seeds):
                 counts.update([error.decode().rsplit(": ", 1)[1].split(" at ")[0].strip()] if status else kind_of_output(out))
                 if want != got:
                     differences += 1
-                    print(f"seed {seed}, {' '.join(words)}: expected {want}\n  but was told {got}")
+                    print(f"seed {seed}, {' '.join(words)}: {difference(want, got)}")
     print(f"{number} runs, {differences} differences; in what was expected:")
     for word, count in counts.most_common():
         print(f"  {count:6} {word}")

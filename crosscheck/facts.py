@@ -130,13 +130,17 @@ def runs(facts):
     ]
 
 
+def shared(one, other):
+    """How many entries two lists have in common before they part."""
+    return len(list(takewhile(lambda pair: pair[0] == pair[1], zip(one, other))))
+
+
 def sent(spec, ranks):
     """How many steps are sent for ranks in order, where each goes on from the front that its line shares with the one before."""
     number, before = 0, []
     for rank in ranks:
         line = spec.line(rank)
-        shared = takewhile(lambda pair: pair[0] == pair[1], zip(before, line))
-        number, before = number + len(line) - len(list(shared)), line
+        number, before = number + len(line) - shared(before, line), line
     return number
 
 
