@@ -73,7 +73,9 @@ def difference(want, got):
 
 
 def compare(program, runs_of, kind_of_output, kind, first, seeds):
-    """Whether each run of the specs of the seeds tells what is expected. What differs is printed, and what was expected is counted."""
+    """Runs a program on the specs of the seeds, prints where it tells something else, and counts what was expected of it.
+
+    The runs of a text are their words with what each tells. The exit status is given."""
     counts, number, differences = Counter(), 0, 0
     with TemporaryDirectory() as folder:
         for seed in range(first, first + seeds):

@@ -21,7 +21,8 @@ from refusal import Refusal
 from spec_file import read_spec
 
 MOST_RANKS = 150
-WORDS = ['"waiting"', '"notsent"', '["failed",1]', '["failed",2]', '["failed",3]', '["failed",4]', '["warned",1]', '["warned",2]']
+WORDS = ['"ran"', '"swap"', '"waiting"', '"notsent"', *[f'["failed",{kind}]' for kind in range(1, 5)]]
+WORDS += ['["warned",1]', '["warned",2]']
 
 
 def ranges_of(text, seed):
@@ -51,7 +52,7 @@ def kind_of(out):
     """What facts show, in words to be counted."""
     counts = Counter()
     for line in out.decode().split("\n"):
-        counts.update(word for word in ['"ran"', '"swap"', *WORDS] if word in line)
+        counts.update(word for word in WORDS if word in line)
     return list(counts.elements())
 
 

@@ -136,7 +136,7 @@ def shared(one, other):
 
 
 def sent(spec, ranks):
-    """How many steps are sent for ranks in order, where each goes on from the front that its line shares with the one before."""
+    """How many steps are sent for ranks in order, where each goes on from what its line shares with the one before."""
     number, before = 0, []
     for rank in ranks:
         line = spec.line(rank)
