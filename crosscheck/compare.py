@@ -1,8 +1,9 @@
 """Compares what `isofarm one` tells with what this second implementation tells, on specs made from seeds.
 
-usage: python3 crosscheck/compare.py any|hindering|wrong|misfits|limits FIRST_SEED SEEDS
+usage: python3 crosscheck/compare.py KIND FIRST_SEED SEEDS
 """
 
+import os
 import subprocess
 import sys
 from collections import Counter
@@ -11,13 +12,15 @@ from random import Random
 from tempfile import TemporaryDirectory
 
 from binding import bind
+from facts import shared
 from generate import KINDS, Maker
-from machine import outcome
+from machine import outcome, outcome_text
 from refusal import Refusal
 from spec_file import read_spec
 
 PROGRAM = Path(__file__).resolve().parent.parent / "crates/isofarm/out/isofarm"
 RANKS_A_SPEC = 4
+LINES_TOLD = 5
 WORDS = ["waiting", "resumed", "not sent", "error: deadlock", "error: duplicate key", "error: integer out of range"]
 WORDS += ["error: transaction is aborted", "warning: no transaction block", "warning: already in a transaction block"]
 
@@ -28,7 +31,7 @@ def expected(text, rank, path):
         spec = bind(read_spec(text))
         if rank >= spec.ranks():
             return 3, b"", f"isofarm: {path}: rank out of range\n".encode()
-        return 0, f"rank {rank}\n".encode() + outcome(spec, rank), b""
+        return 0, f"rank {rank}\n".encode() + outcome_text(spec, outcome(spec, rank)), b""
     except Refusal as refusal:
         return 3, b"", refusal.line(path)
 
@@ -44,38 +47,70 @@ def ranks_of(text, seed):
     return sorted(ranks | ({number} if random.random() < 0.05 else set()))
 
 
-def told(folder, path, rank):
-    ran = subprocess.run([PROGRAM, "one", path, str(rank)], cwd=folder, capture_output=True, check=False)
+def runs(text, seed, path):
+    """The words of some runs of a spec, and what each tells."""
+    return [(["one", path, str(rank)], expected(text, rank, path)) for rank in ranks_of(text, seed)]
+
+
+def told(program, words, folder, settings):
+    ran = subprocess.run([program, *words], cwd=folder, capture_output=True, check=False, env={**os.environ, **settings})
     return ran.returncode, ran.stdout, ran.stderr
 
 
-def kind_of(status, out, error):
-    """What an answer shows, in words to be counted."""
-    if status:
-        return [error.decode().rsplit(": ", 1)[1].split(" at ")[0].strip()]
+def kind_of(out):
+    """What an outcome shows, in words to be counted."""
     return ["an outcome"] + [word for word in WORDS if word.encode() in out]
 
 
-def main(kind, first, seeds):
-    counts, runs, differences = Counter(), 0, 0
+def difference(want, got):
+    """Two answers, their outputs from the first line on that differs."""
+    outs = [out.split(b"\n") for _status, out, _error in (want, got)]
+    first = shared(*outs)
+    lines = [out[first : first + LINES_TOLD] for out in outs]
+    (status, _out, error), (told_status, _told, told_error) = want, got
+    expected = f"expected {status} {error}, and from line {first} on {lines[0]}"
+    return f"{expected}\n  but was told {told_status} {told_error} {lines[1]}"
+
+
+def compare(program, runs_of, kind_of_output, kind, first, seeds):
+    """Runs a program on the specs of the seeds, prints where it tells something else, and counts what was expected of it.
+
+    The runs of a text are their words with what each tells. The exit status is given."""
+    counts, number, differences = Counter(), 0, 0
     with TemporaryDirectory() as folder:
         for seed in range(first, first + seeds):
             text = KINDS[kind](Maker(seed))
             Path(folder, "made.spec").write_bytes(text)
-            for rank in ranks_of(text, seed):
-                want, got = expected(text, rank, "made.spec"), told(folder, "made.spec", rank)
-                runs += 1
-                counts.update(kind_of(*want))
+            for words, want in runs_of(text, seed, "made.spec"):
+                got = told(program, words, folder, {})
+                number += 1
+                status, out, error = want
+                counts.update([error.decode().rsplit(": ", 1)[1].split(" at ")[0].strip()] if status else kind_of_output(out))
                 if want != got:
                     differences += 1
-                    print(f"seed {seed} rank {rank}: expected {want}\n  but was told {got}")
-    print(f"{runs} runs, {differences} differences; in what was expected:")
+                    print(f"seed {seed}, {' '.join(words)}: {difference(want, got)}")
+    print(f"{number} runs, {differences} differences; in what was expected:")
     for word, count in counts.most_common():
         print(f"  {count:6} {word}")
     return 1 if differences else 0
 
 
+def usage(text):
+    sys.exit(f"{text}\nKIND is one of {', '.join(KINDS)}.")
+
+
+def ended(work, *arguments):
+    """The exit status of work that prints. Whoever reads may stop early."""
+    try:
+        status = work(*arguments)
+        sys.stdout.flush()
+        return status
+    except BrokenPipeError:
+        os.dup2(os.open(os.devnull, os.O_WRONLY), sys.stdout.fileno())
+        return 1
+
+
 if __name__ == "__main__":
     if len(sys.argv) != 4 or sys.argv[1] not in KINDS:
-        sys.exit(__doc__)
-    sys.exit(main(sys.argv[1], int(sys.argv[2]), int(sys.argv[3])))
+        usage(__doc__)
+    sys.exit(ended(compare, PROGRAM, runs, kind_of, sys.argv[1], int(sys.argv[2]), int(sys.argv[3])))

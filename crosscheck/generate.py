@@ -188,9 +188,9 @@ class Maker:
 
     # sessions that hinder one another
 
-    def hindering_statement(self):
+    def hindering_statement(self, home):
         kind, key, letter = self.random.random(), self.random.randint(1, 3), self.one("ab")
-        table = self.one(["t", "t", "t", "u", "n"])
+        table = home or self.one(["t", "t", "t", "u", "n"])
         by_key = {"t": f" WHERE id = {key}", "u": f" WHERE k = '{letter}'", "n": ""}[table]
         change = {"t": f"v = v + {key}", "u": "w = w * 2", "n": "a = b, b = a"}[table]
         other = {"t": " WHERE v > 15", "u": "", "n": " WHERE b = 2"}[table]
@@ -210,24 +210,29 @@ class Maker:
             return f"DELETE FROM {table}{by_key}"
         return f"LOCK {table}" + self.one([""] + [f" IN {mode} MODE" for mode in LOCK_MODES[:5]])
 
-    def hindering_spec(self):
+    def hindering_spec(self, numbers=(2, 3, 3, 4), homes=""):
         made = (
             "setup { CREATE TABLE t (id int PRIMARY KEY, v int); CREATE TABLE u (k text PRIMARY KEY, w int);\n"
             "  CREATE TABLE n (a int, b int); INSERT INTO t VALUES (1, 10), (2, 20), (3, 30);\n"
             "  INSERT INTO u VALUES ('a', 1), ('b', 2); INSERT INTO n VALUES (1, 1), (1, 2); }\n"
         )
-        sessions = self.one([2, 3, 3, 4])
+        sessions = self.one(numbers)
         for session in range(sessions):
+            home = self.one(homes) if homes else None
             made += f"session s{session}\n" + ("setup { BEGIN; }\n" if self.some(0.85) else "")
             steps = self.one({2: [3, 4, 5], 3: [3, 3, 4], 4: [2, 3]}[sessions])
             for number in range(steps):
-                statements = [self.hindering_statement() for _ in range(self.one([1, 1, 1, 2]))]
+                statements = [self.hindering_statement(home) for _ in range(self.one([1, 1, 1, 2]))]
                 is_last = number == steps - 1
                 if self.some(0.9 if is_last else 0.08):
                     end = self.one(["COMMIT"] * 3 + ["ROLLBACK"])
                     statements = [end] if is_last and self.some(0.5) else statements + [end]
                 made += f"step s{session}_{number} {self.block(statements)}\n"
         return made.encode()
+
+    def apart_spec(self):
+        """Each session keeps to a table, so that those of one table hinder one another beside those of others."""
+        return self.hindering_spec([4], "ttun")
 
     # texts with something wrong in them
 
@@ -364,6 +369,7 @@ class Maker:
 KINDS = {
     "any": Maker.any_spec,
     "hindering": Maker.hindering_spec,
+    "apart": Maker.apart_spec,
     "wrong": Maker.wrong_spec,
     "misfits": Maker.misfit_spec,
     "limits": Maker.limit_spec,

@@ -3,7 +3,7 @@
 The rules are followed word by word. Everything is looked up in plain lists and maps, and nothing is kept to be fast.
 """
 
-from dataclasses import dataclass, field
+from dataclasses import dataclass, field, replace
 
 from refusal import Refusal
 from sql import LEAST, MOST, All, Any, Begin, Column, Compare, Create, Delete, End, Insert, Lock, Not, Select, Set, Sum, Update
@@ -19,17 +19,27 @@ GO_TOGETHER = {
     "SIX": {"IS"},
     "X": set(),
 }
-DUPLICATE, OUT_OF_RANGE, DEADLOCK, ABORTED = (
-    "error: duplicate key",
-    "error: integer out of range",
-    "error: deadlock",
-    "error: transaction is aborted",
-)
+DUPLICATE, OUT_OF_RANGE, DEADLOCK, ABORTED = FAULTS = [("failed", number) for number in range(1, 5)]
+IN_BLOCK_ALREADY, NO_BLOCK = ("warned", 1), ("warned", 2)
+# An event is a word, or a word and a number or the values of a row, as in the value of an outcome. The lines of some:
+LINES = {
+    "began": "begun",
+    "rolledback": "rolled back",
+    DUPLICATE: "error: duplicate key",
+    OUT_OF_RANGE: "error: integer out of range",
+    DEADLOCK: "error: deadlock",
+    ABORTED: "error: transaction is aborted",
+    IN_BLOCK_ALREADY: "warning: already in a transaction block",
+    NO_BLOCK: "warning: no transaction block",
+}
 OUTSIDE, IN_BLOCK, FAILED_BLOCK = "outside", "in a block", "in a failed block"
 
 
+@dataclass
 class Fault(Exception):
     """Why a statement has no effect: the event that tells it."""
+
+    event: tuple
 
 
 def cover(one, other):
@@ -135,8 +145,20 @@ def written(value):
     return str(value).encode() if isinstance(value, int) else b"'" + value.replace(b"'", b"''") + b"'"
 
 
+def printed(spec, event):
+    """The line of an event."""
+    if event in LINES or isinstance(event, str):
+        return LINES.get(event, event).encode()
+    word, value = event
+    if word == "row":
+        return b"row " + b"|".join(map(written, value))
+    if word in ("sent", "notsent"):
+        return f"{'step' if word == 'sent' else 'not sent'} {spec.step_names[value]}".encode()
+    return f"{word} {value}".encode()
+
+
 def told(rows):
-    return [b"row " + b"|".join(map(written, row)) for row in rows] + [f"rows {len(rows)}"]
+    return [("row", tuple(row)) for row in rows] + [("rows", len(rows))]
 
 
 class World:
@@ -148,6 +170,19 @@ class World:
         self.members = [Member() for _ in range(len(spec.session_names) + 1)]
         self.held = {}
         self.waits = []
+
+    def fork(self):
+        """An equal world. What both have is never changed in place."""
+        other = World(self.spec)
+        other.committed, other.held, other.waits = self.committed, dict(self.held), list(self.waits)
+        other.members = [
+            replace(member, overlay=dict(member.overlay), transcript=list(member.transcript))
+            for member in self.members
+        ]
+        return other
+
+    def outcome(self):
+        return [member.transcript for member in self.members[:-1]]
 
     # what a session sees, and what a statement does
 
@@ -174,9 +209,9 @@ class World:
         rows = [(key, row) for key, row in rows if not keys or key == keys[0]]
         rows = [(key, row) for key, row in rows if holds(table, row, statement.where)]
         if isinstance(statement, Delete):
-            return [f"deleted {len(rows)}"], {(name, key): None for key, _row in rows}
+            return [("deleted", len(rows))], {(name, key): None for key, _row in rows}
         if isinstance(statement, Update):
-            return [f"updated {len(rows)}"], {
+            return [("updated", len(rows))], {
                 (name, key): self.updated(table, row, statement) for key, row in rows
             }
         return told(self.selected(table, rows, statement)), {}
@@ -192,7 +227,7 @@ class World:
                     raise Fault(DUPLICATE)
             taken.add(key)
             new[name, key] = row
-        return [f"inserted {len(new)}"], new
+        return [("inserted", len(new))], new
 
     def updated(self, table, row, update):
         new = list(row)
@@ -293,20 +328,20 @@ class World:
     def end_block(self, session, keeps):
         member = self.members[session]
         if member.status == OUTSIDE:
-            member.transcript.append("warning: no transaction block")
+            member.transcript.append(NO_BLOCK)
         if keeps and member.status != FAILED_BLOCK:
             self.commit(session)
             member.transcript.append("committed")
         else:
             self.let_go(session)
-            member.transcript.append("rolled back")
+            member.transcript.append("rolledback")
         member.status = OUTSIDE
 
     def begin(self, member):
         if member.status == IN_BLOCK:
-            member.transcript.append("warning: already in a transaction block")
+            member.transcript.append(IN_BLOCK_ALREADY)
         member.status = IN_BLOCK
-        member.transcript.append("begun")
+        member.transcript.append("began")
 
     # steps
 
@@ -336,7 +371,7 @@ class World:
                 try:
                     events, overlay = self.effect(session, statement)
                 except Fault as fault:
-                    return self.fail(session, str(fault))
+                    return self.fail(session, fault.event)
                 member.transcript += events
                 member.overlay |= overlay
             member.rest, member.requests = member.rest[1:], 0
@@ -356,11 +391,11 @@ class World:
 
     def send(self, step):
         session, statements = self.spec.steps[step]
-        member, name = self.members[session], self.spec.step_names[step]
+        member = self.members[session]
         if self.is_waiting(session):
-            member.transcript.append(f"not sent {name}")
+            member.transcript.append(("notsent", step))
             return
-        member.transcript.append(f"step {name}")
+        member.transcript.append(("sent", step))
         member.rest = statements
         self.go(session)
         self.settle()
@@ -371,7 +406,7 @@ class World:
         member.rest = statements
         self.go(session)
         events, member.transcript = member.transcript, []
-        return not any(event in (DUPLICATE, OUT_OF_RANGE, DEADLOCK, ABORTED) for event in events)
+        return not any(event in FAULTS for event in events)
 
 
 def start(spec):
@@ -389,13 +424,17 @@ def start(spec):
 
 
 def outcome(spec, rank):
-    """The text of a rank's outcome."""
+    """The transcripts of a rank's line."""
     world = start(spec)
     for step in spec.line(rank):
         world.send(step)
+    return world.outcome()
+
+
+def outcome_text(spec, transcripts):
+    """The text of an outcome."""
     lines = []
-    for name, member in zip(spec.session_names, world.members):
+    for name, transcript in zip(spec.session_names, transcripts):
         lines.append(f"session {name}".encode())
-        for event in member.transcript:
-            lines.append(b"  " + (event if isinstance(event, bytes) else event.encode()))
+        lines += [b"  " + printed(spec, event) for event in transcript]
     return b"".join(line + b"\n" for line in lines)

@@ -6,13 +6,12 @@ Each run has to tell what it tells with memory, or that there is none. It is don
 line, and for the specs of the seeds. It needs gcc.
 """
 
-import os
 import subprocess
 import sys
 from pathlib import Path
 from tempfile import TemporaryDirectory
 
-from compare import PROGRAM
+from compare import PROGRAM, ended, told
 from generate import KINDS, Maker
 
 TOP = Path(__file__).resolve().parent.parent
@@ -21,20 +20,15 @@ WORDS = [[], ["--help"], ["one", "x"], ["one", "first.spec", "x"], ["one", "firs
 WORDS += [["one", "first.spec", "0"], ["one", "deadlock.spec", "5"], ["one", "lost_update.spec", "1"], ["one", "names.spec", "0"]]
 
 
-def told(words, folder, settings):
-    ran = subprocess.run([PROGRAM, *words], cwd=folder, capture_output=True, check=False, env={**os.environ, **settings})
-    return ran.returncode, ran.stdout, ran.stderr
-
-
 def others(words, folder, library):
     """How many calls there are, and the runs that tell something else."""
-    with_memory = told(words, folder, {})
+    with_memory = told(PROGRAM, words, folder, {})
     count = Path(library).with_name("count")
-    told(words, folder, {"LD_PRELOAD": library, "COUNT": str(count)})
+    told(PROGRAM, words, folder, {"LD_PRELOAD": library, "COUNT": str(count)})
     calls, found = int(count.read_text()), []
     for all_after in ({}, {"REFUSE_ALL": "1"}):
         for call in range(1, calls + 1):
-            answer = told(words, folder, {"LD_PRELOAD": library, "REFUSE": str(call), **all_after})
+            answer = told(PROGRAM, words, folder, {"LD_PRELOAD": library, "REFUSE": str(call), **all_after})
             if answer not in (with_memory, NO_MEMORY):
                 found.append((call, bool(all_after), answer))
     return calls, found
@@ -65,4 +59,4 @@ def main(first, seeds):
 if __name__ == "__main__":
     if len(sys.argv) != 3:
         sys.exit(__doc__)
-    sys.exit(main(int(sys.argv[1]), int(sys.argv[2])))
+    sys.exit(ended(main, int(sys.argv[1]), int(sys.argv[2])))

@@ -1,0 +1,183 @@
+"""Facts worked out by hand, each compared with what is computed. usage: python3 crosscheck/worked.py"""
+
+import sys
+
+from binding import bind
+from facts import Worlds, answer, are_quiet, fact, fact_line, runs, sent, swap_covers, swapped, swaps, word_of
+from machine import outcome_text
+from spec_file import read_spec
+
+ROWS = "setup { CREATE TABLE t (id int PRIMARY KEY, v int); INSERT INTO t VALUES (1, 10), (2, 20); }\n"
+INSERT_AND_READ = ROWS + """
+session a step a1 { INSERT INTO t VALUES (3, 30); }
+session b step b1 { SELECT v FROM t WHERE id = 3; }
+"""
+ONE_LINE = ROWS + """
+session a step a1 { SELECT v FROM t WHERE id = 1; } step a2 { COMMIT; }
+session b step b1 { UPDATE t SET v = v + 1 WHERE id = 1; }
+permutation a1(*) b1(a1 notices 1) a1
+"""
+ONE_ROW = ROWS + """
+session a setup { BEGIN; } step a1 { UPDATE t SET v = v + 1 WHERE id = 1; } step a2 { COMMIT; }
+session b setup { BEGIN; } step b1 { UPDATE t SET v = v + 10 WHERE id = 1; } step b2 { COMMIT; }
+"""
+READERS_AND_A_WRITER = ROWS + """
+session a setup { BEGIN; } step a1 { SELECT v FROM t WHERE id = 1; } step a2 { SELECT * FROM t; }
+session b setup { BEGIN; } step b1 { SELECT * FROM t; } step b2 { COMMIT; }
+session c step c1 { UPDATE t SET v = 5 WHERE id = 2; }
+"""
+TWO_TABLES = """
+setup { CREATE TABLE t (id int PRIMARY KEY); CREATE TABLE u (id int PRIMARY KEY); }
+session a step a1 { INSERT INTO t VALUES (2); } step a2 { DELETE FROM t WHERE id = 2; }
+session b step b1 { INSERT INTO u VALUES (2); } step b2 { DELETE FROM u WHERE id = 2; }
+"""
+WAITS_ASIDE = ROWS + """
+setup { CREATE TABLE u (id int PRIMARY KEY); }
+session a setup { BEGIN; } step a1 { SELECT * FROM t WHERE id = 1; }
+  step a2 { INSERT INTO t VALUES (1, 0); } step a3 { UPDATE t SET v = 0; }
+session b setup { BEGIN; } step b1 { LOCK u; } step b2 { SELECT * FROM t WHERE id = 2; }
+session c setup { BEGIN; } step c1 { SELECT * FROM u; } step c2 {}
+session d setup { BEGIN; } step d1 { SET x = 1; LOCK t; } step d2 {}
+"""
+TWO_ROWS = ONE_ROW.replace("v + 10 WHERE id = 1", "v + 10 WHERE id = 2")
+LARGE = "".join(f"session s{place} " + "".join(f"step s{place}_{step} {{}} " for step in range(4)) for place in range(6))
+EMPTY_STEP = "session a step s {}"
+FALLING_LINE = EMPTY_STEP + " session b step r {} permutation r s permutation r s s"
+
+
+def worlds_of(text):
+    return Worlds(bind(read_spec(text.encode())))
+
+
+def kinds(worlds, ranks, reduces=True):
+    """The facts of ranks, without outcomes."""
+    told = [fact(worlds, rank, reduces) for rank in ranks]
+    return [word if word == "ran" else (word, value) for word, value in told]
+
+
+def transcript(worlds, rank, session):
+    """A session's lines, with a stroke between them."""
+    told = [transcript if place == session else [] for place, transcript in enumerate(worlds.outcome(rank))]
+    lines = outcome_text(worlds.spec, told).decode().split("\n")
+    return "/".join(line.strip() for line in lines if line.startswith("  "))
+
+
+def quiet(worlds, front, pair):
+    """Whether two steps are quiet after others."""
+    before, steps = ([worlds.spec.step_names.index(name) for name in names.split()] for names in (front, pair))
+    return are_quiet(worlds.after(before), *steps)
+
+
+def of_insert_and_read():
+    worlds = worlds_of(INSERT_AND_READ)
+    yield "both ranks are run", kinds(worlds, range(2)), ["ran", "ran"]
+    yield "no swap leads from rank 1 to 0", list(swaps(worlds, 1)), []
+    yield "rank 0, session a", transcript(worlds, 0, 0), "step a1/inserted 1/done"
+    yield "rank 0, session b", transcript(worlds, 0, 1), "step b1/row 30/rows 1/done"
+    yield "rank 1, session b", transcript(worlds, 1, 1), "step b1/rows 0/done"
+
+
+def of_one_line():
+    worlds = worlds_of(ONE_LINE)
+    yield "lines", worlds.spec.ranks(), 1
+    yield "a line is run", kinds(worlds, range(1)), ["ran"]
+    yield "session a", transcript(worlds, 0, 0), "step a1/row 10/rows 1/done/step a1/row 11/rows 1/done"
+    yield "session b", transcript(worlds, 0, 1), "step b1/updated 1/done"
+
+
+def of_one_row():
+    worlds = worlds_of(ONE_ROW)
+    yield "all ranks are run", kinds(worlds, range(6)), ["ran"] * 6
+    yield "rank 2, session a", transcript(worlds, 2, 0), "step a1/updated 1/done/step a2/committed/done"
+    yield "rank 2, session b", transcript(worlds, 2, 1), "step b1/waiting/not sent b2/resumed/updated 1/done"
+    yield "a commit beside a request for what it holds", quiet(worlds, "b1", "b2 a1"), False
+
+
+def of_readers_and_a_writer():
+    worlds = worlds_of(READERS_AND_A_WRITER)
+    yield "ranks", worlds.spec.ranks(), 30
+    yield "words", [word_of(worlds.spec, rank) for rank in (7, 8)], [[0, 1, 2, 0, 1], [0, 1, 2, 1, 0]]
+    yield "ranks 7 and 8 are run", kinds(worlds, (7, 8)), ["ran", "ran"]
+    read_all = "/step a2/row 1|10/row 2|{}/rows 2/done"
+    yield "rank 7, session a", transcript(worlds, 7, 0).endswith(read_all.format(20)), True
+    yield "rank 7, session c", transcript(worlds, 7, 2), "step c1/waiting"
+    yield "rank 8, session a", transcript(worlds, 8, 0).endswith(read_all.format(5)), True
+    yield "rank 8, session c", transcript(worlds, 8, 2), "step c1/waiting/resumed/updated 1/done"
+    yield "b holds the table in S", worlds.after([0, 2]).held[1, ("t",)], "S"
+    yield "c asks for IX there", [quiet(worlds, "a1 b1", pair) for pair in ("c1 a2", "c1 b2")], [False, False]
+    yield "c waits where b holds and a asks", quiet(worlds, "a1 b1 c1", "b2 a2"), False
+
+
+def of_two_tables():
+    worlds = worlds_of(TWO_TABLES)
+    reduced = ["ran", ("swap", 1), ("swap", 2), ("swap", 0), ("swap", 0), ("swap", 1)]
+    yield "facts", kinds(worlds, range(6)), reduced
+    yield "facts where all are run", kinds(worlds, range(6), False), ["ran"] * 6
+    yield "all swaps of rank 4", list(swaps(worlds, 4)), [0, 2]
+    yield "where they lead", [swapped(worlds.spec, 4, place) for place in (0, 2)], [2, 3]
+    yield "the ranks of the swap at 0", list(swap_covers(worlds.spec, 3, 0)), [3, 4]
+    outcomes = [worlds.outcome(rank) for rank in range(6)]
+    yield "six equal outcomes", outcomes, [outcomes[0]] * 6
+    yield "session a", transcript(worlds, 0, 0), "step a1/inserted 1/done/step a2/deleted 1/done"
+    groups = [(0, 1, "ran"), (1, 1, ("swap", 1)), (2, 1, ("swap", 2)), (3, 2, ("swap", 0)), (5, 1, ("swap", 1))]
+    yield "runs", runs(list(enumerate(kinds(worlds, range(6))))), groups
+    every = [(rank, fact(worlds, rank, False)) for rank in range(6)]
+    yield "runs where all are run", [entry[:2] for entry in runs(every)], [(0, 6)]
+    job = set(zip(range(4), kinds(worlds, range(4)))) | set(zip(range(2, 6), kinds(worlds, range(2, 6), False)))
+    both = {(0, "ran"), (1, ("swap", 1)), (2, "ran"), (2, ("swap", 2)), (3, "ran"), (3, ("swap", 0)), (4, "ran"), (5, "ran")}
+    yield "0 to 3 reduced and 2 to 5 run", job, both
+    refused = [answer(TWO_TABLES.encode(), "x", first, end, "reduce") for first, end in ((0, 7), (4, 3))]
+    yield "ranges that are none", refused, [(3, b"", b"isofarm: x: shard error 1\n")] * 2
+    too_long = answer(LARGE.encode(), "x", 0, 1_000_001, "reduce")
+    yield "a range that is too long", too_long, (3, b"", b"isofarm: x: shard error 2\n")
+    yield "steps sent", sent(worlds.spec, range(6)), 18
+    yield "steps sent where each rank is run alone", sum(sent(worlds.spec, [rank]) for rank in range(6)), 24
+
+
+def of_two_rows():
+    worlds = worlds_of(TWO_ROWS)
+    yield "facts", kinds(worlds, range(6)), ["ran", ("swap", 1), ("swap", 2), ("swap", 0), ("swap", 0), ("swap", 1)]
+
+
+def of_waits_aside():
+    worlds = worlds_of(WAITS_ASIDE)
+    yield "locks are held elsewhere", quiet(worlds, "b1", "b2 a1"), True
+    yield "a lock is asked for by its holder", quiet(worlds, "b1", "b1 a1"), True
+    yield "somebody waits for what one of the two holds", quiet(worlds, "b1 c1", "b2 a1"), False
+    yield "one of the two waits", quiet(worlds, "b1 c1", "c2 a1"), False
+    yield "one asks for what is held in a mode that goes with it", quiet(worlds, "b2", "c2 a1"), True
+    yield "one asks for what somebody waits for", quiet(worlds, "b2 d1", "c2 a1"), False
+    yield "somebody waits elsewhere", quiet(worlds, "b1 c1", "d2 a1"), True
+    yield "the second statement asks", quiet(worlds, "", "d1 a1"), False
+    yield "a read in a failed block", quiet(worlds, "a2", "b2 a1"), True
+    yield "a write in a failed block", quiet(worlds, "a2", "b2 a3"), False
+
+
+def of_an_empty_step():
+    worlds = worlds_of(EMPTY_STEP)
+    yield "its fact", fact_line(0, fact(worlds, 0, True)), '[0,"ran",[[["sent",0],"done"]]]'
+
+
+def of_a_falling_line():
+    worlds = worlds_of(FALLING_LINE)
+    yield "lines are run", kinds(worlds, range(2)), ["ran", "ran"]
+    yield "they fall to quiet steps", quiet(worlds, "", "r s"), True
+    yield "steps sent", sent(worlds.spec, range(2)), 3
+
+
+def main():
+    examples = [of_insert_and_read, of_one_line, of_one_row, of_readers_and_a_writer, of_two_tables]
+    examples += [of_two_rows, of_waits_aside, of_an_empty_step, of_a_falling_line]
+    compared = differences = 0
+    for example in examples:
+        for what, computed, expected in example():
+            compared += 1
+            if computed != expected:
+                differences += 1
+                print(f"{example.__name__}: {what}: {computed} is computed and not {expected}")
+    print(f"{compared} values, {differences} differences")
+    return 1 if differences else 0
+
+
+if __name__ == "__main__":
+    sys.exit(main())
