@@ -1,10 +1,11 @@
 -- One piece of a text after another, whatever its tokens are.
-use Rattle.std.proofs.Common.{◌≡◌, ℕ, zero, suc, ◌+◌, ◌-◌, ◌<◌, ◌≤◌, Bool, true, false, cond, IsUtf8, List, [], ◌∷◌, ◌++◌, length, drop, refl, sym, ap, ◌∙◌, append_assoc, arith}
+use Rattle.std.proofs.Common.{◌≡◌, ℕ, zero, suc, ◌+◌, ◌-◌, ◌<◌, ◌≤◌, Bool, true, false, cond, IsUtf8, List, [], ◌∷◌, ◌++◌, length, drop, map, refl, sym, ap, subst, ◌∙◌, append_assoc, arith}
+use Rattle.std.proofs.lemmas.List.{map_push}
 use Rattle.std.proofs.lemmas.Str.{IsCharBoundary-after_ascii}
 use Rattle.byte_runs.specs.declared.pieces.Piece.{Piece}
 use Rattle.byte_runs.specs.declared.pieces.Piece.TheVariants as piece
 use Rattle.byte_runs.specs.declared.pieces.Placed.{Placed}
-use Rattle.byte_runs.specs.Pieces.{CutsAt, FitsIn, with_piece, tokens_past}
+use Rattle.byte_runs.specs.Pieces.{CutsAt, FitsIn, with_piece, tokens_past, placed_by}
 
 -- a piece that a test picks fits where the picked one does
 pub cond_fits : {T : Type 0} (bs : List ℕ) (c : Bool) (p q : Piece T) → (c ≡ true → FitsIn bs p) → FitsIn bs q → FitsIn bs (cond c p q)
@@ -17,7 +18,6 @@ one_fits b bs utf8 lt = record { some = omega arith; at_char = IsCharBoundary-af
 
 -- over what stands at an offset, which is a part of the text, and the token of the end
 module _ {T : Type 0} (piece_of : ℕ → List ℕ → Piece T) (end : T) where
-
   abbrev past : ℕ → ℕ → List ℕ → List (Placed T)
   past = tokens_past piece_of end
 
@@ -37,26 +37,32 @@ module _ {T : Type 0} (piece_of : ℕ → List ℕ → Piece T) (end : T) where
   rest_is at (suc k) b bs lt le =
       ap (λ (n : ℕ). past n (at + 1) bs) (omega arith) ∙ past_is k (at + 1) bs (omega arith) ∙ ap (λ (n : ℕ). past 0 n (drop k bs)) (omega arith)
 
-  with_piece_is : (at b : ℕ) (bs : List ℕ) (p : Piece T) → FitsIn (b ∷ bs) p → with_piece at p (λ k. past k (at + 1) bs) ≡ from_piece at (b ∷ bs) p
+  with_piece_is : (at b : ℕ) (bs : List ℕ) (p : Piece T) → FitsIn (b ∷ bs) p
+      → with_piece at p (λ k. past k (at + 1) bs) ≡ from_piece at (b ∷ bs) p
   with_piece_is at b bs (piece.Blank len) h = rest_is at len b bs h.some h.at_char.0
   with_piece_is at b bs (piece.Next t len) h = ap (λ (ps : List (Placed T)). record { at = at; token = t } ∷ ps) (rest_is at len b bs h.some h.at_char.0)
   with_piece_is at b bs (piece.Last t) h = refl
 
-  -- where each piece is a part of the text, and the end has its token
-  module _ (fits : (at : ℕ) (bs : List ℕ) → IsUtf8 bs → FitsIn bs (piece_of at bs)) (ended : (at : ℕ) → piece_of at [] ≡ piece.Last end) where
-
-    -- the tokens of a text are those of its first piece and those after it
-    pub tokens_by_piece : (at : ℕ) (bs : List ℕ) → IsUtf8 bs → past 0 at bs ≡ from_piece at bs (piece_of at bs)
-    tokens_by_piece at [] utf8 = sym (ap (from_piece at []) (ended at))
-    tokens_by_piece at (b ∷ bs) utf8 = with_piece_is at b bs (piece_of at (b ∷ bs)) (fits at (b ∷ bs) utf8)
+  -- where the end has its token, the tokens of a text are those of its first piece, which is a part of it, and those after it
+  module _ (ended : (at : ℕ) → piece_of at [] ≡ piece.Last end) where
+    tokens_by_piece : (at : ℕ) (bs : List ℕ) → FitsIn bs (piece_of at bs) → past 0 at bs ≡ from_piece at bs (piece_of at bs)
+    tokens_by_piece at [] fits = sym (ap (from_piece at []) (ended at))
+    tokens_by_piece at (b ∷ bs) fits = with_piece_is at b bs (piece_of at (b ∷ bs)) fits
 
     -- a loop over the pieces: the tokens so far and those to come are all of them
-    pub goes_on : (front whole : List (Placed T)) (at : ℕ) (bs : List ℕ) (p : Piece T) → IsUtf8 bs → p ≡ piece_of at bs
+    pub goes_on : (front whole : List (Placed T)) (at : ℕ) (bs : List ℕ) (p : Piece T) → FitsIn bs p → p ≡ piece_of at bs
         → front ++ past 0 at bs ≡ whole → front ++ from_piece at bs p ≡ whole
-    goes_on front whole at bs p utf8 e so_far =
-        ap (λ (q : Piece T). front ++ from_piece at bs q) e ∙ ap (λ (ps : List (Placed T)). front ++ ps) (sym (tokens_by_piece at bs utf8)) ∙ so_far
+    goes_on front whole at bs p fits e so_far =
+        ap (λ (q : Piece T). front ++ from_piece at bs q) e
+        ∙ ap (λ (ps : List (Placed T)). front ++ ps) (sym (tokens_by_piece at bs (subst (FitsIn bs) e fits))) ∙ so_far
 
 -- a token more in front is one less to come
-pub goes_on_after : {T : Type 0} (front front' whole : List (Placed T)) (t : Placed T) (more : List (Placed T)) → front' ≡ front ++ t ∷ [] → front ++ (t ∷ more) ≡ whole
+pub goes_on_after : {T : Type 0} (front front' whole : List (Placed T)) (t : Placed T) (more : List (Placed T))
+    → front' ≡ front ++ t ∷ [] → front ++ (t ∷ more) ≡ whole
     → front' ++ more ≡ whole
 goes_on_after front front' whole t more e so_far = rw (e, append_assoc) so_far
+
+-- what is seen of the tokens after one more
+pub placed_push : {S T : Type 0} (view : S → T) (front front' : List (Placed S)) (p : Placed S) → front' ≡ front ++ p ∷ []
+    → map (placed_by view) front' ≡ map (placed_by view) front ++ placed_by view p ∷ []
+placed_push view front front' p e = ap (map (placed_by view)) e ∙ map_push (placed_by view) front p

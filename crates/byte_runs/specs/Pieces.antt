@@ -1,5 +1,5 @@
 -- A text as pieces, one after another, whatever its tokens are.
-use Rattle.std.specs.Prelude.{ℕ, zero, suc, ◌+◌, ◌-◌, ◌<◌, ⊤, List, [], ◌∷◌, map}
+use Rattle.std.specs.Prelude.{ℕ, zero, suc, ◌+◌, ◌-◌, ◌<◌, ⊤, List, [], ◌∷◌}
 use Rattle.std.specs.Str.{IsCharBoundary}
 use Rattle.byte_runs.specs.declared.pieces.Piece.{Piece}
 use Rattle.byte_runs.specs.declared.pieces.Piece.TheVariants as piece
