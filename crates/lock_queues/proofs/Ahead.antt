@@ -45,14 +45,14 @@ first-is look s = at (converts look s.wait)
         (filter (λ (v : Wait). same_resource v.resource s.wait.resource) s.before ++ filter (λ (v : Wait). same_resource v.resource s.wait.resource && converts look v) s.after))
     at true =
         ap (λ b. not (list_any (λ (v : Wait). same_resource v.resource s.wait.resource && converts look v) s.before) && not b)
-            (any-none (λ (v : Wait). same_resource v.resource s.wait.resource && false) (λ v. and-false (same_resource v.resource s.wait.resource)) s.after)
+        (any-none (λ (v : Wait). same_resource v.resource s.wait.resource && false) (λ v. and-false (same_resource v.resource s.wait.resource)) s.after)
         ∙ and-one _ ∙ sym (empty-filter (λ (v : Wait). same_resource v.resource s.wait.resource && converts look v) s.before)
     at false =
         ap (λ b. not b && not (list_any (λ (v : Wait). same_resource v.resource s.wait.resource && converts look v) s.after))
-            (any-same (λ (v : Wait). same_resource v.resource s.wait.resource && true)
-            (λ (v : Wait). same_resource v.resource s.wait.resource) (λ v. and-one (same_resource v.resource s.wait.resource)) s.before)
+        (any-same (λ (v : Wait). same_resource v.resource s.wait.resource && true)
+        (λ (v : Wait). same_resource v.resource s.wait.resource) (λ v. and-one (same_resource v.resource s.wait.resource)) s.before)
         ∙ (λ i. sym (empty-filter (λ (v : Wait). same_resource v.resource s.wait.resource) s.before) i
-            && sym (empty-filter (λ (v : Wait). same_resource v.resource s.wait.resource && converts look v) s.after) i)
+        && sym (empty-filter (λ (v : Wait). same_resource v.resource s.wait.resource && converts look v) s.after) i)
         ∙ sym (empty-append (filter (λ (v : Wait). same_resource v.resource s.wait.resource) s.before) (filter (λ (v : Wait). same_resource v.resource s.wait.resource && converts look v) s.after))
 
 -- ---- whom a wait waits for, among the sessions that wait
@@ -98,14 +98,14 @@ module _ (look : Look) (b : ℕ) where
           any-filter (λ (v : Wait). same_resource v.resource s.wait.resource && converts look v) (λ (w : Wait). w.session == b) s.before ∙ sym (or-false _)
           ∙ ap (λ t. list_any (λ (v : Wait). (v.session == b) && (same_resource v.resource s.wait.resource && converts look v)) s.before || t)
           (sym (any-none (λ (v : Wait). (v.session == b) && (same_resource v.resource s.wait.resource && false))
-              (λ v. ap (λ t. (v.session == b) && t) (and-false (same_resource v.resource s.wait.resource)) ∙ and-false (v.session == b)) s.after))
+          (λ v. ap (λ t. (v.session == b) && t) (and-false (same_resource v.resource s.wait.resource)) ∙ and-false (v.session == b)) s.after))
       at false =
           any-append (λ (w : Wait). w.session == b) (filter (λ (v : Wait). same_resource v.resource s.wait.resource) s.before)
-              (filter (λ (v : Wait). same_resource v.resource s.wait.resource && converts look v) s.after)
+          (filter (λ (v : Wait). same_resource v.resource s.wait.resource && converts look v) s.after)
           ∙ (λ i. (any-filter (λ (v : Wait). same_resource v.resource s.wait.resource) (λ (w : Wait). w.session == b) s.before
           ∙ any-same (λ (v : Wait). (v.session == b) && same_resource v.resource s.wait.resource)
-              (λ (v : Wait). (v.session == b) && (same_resource v.resource s.wait.resource && true))
-              (λ v. ap (λ t. (v.session == b) && t) (sym (and-one (same_resource v.resource s.wait.resource)))) s.before) i
+          (λ (v : Wait). (v.session == b) && (same_resource v.resource s.wait.resource && true))
+          (λ v. ap (λ t. (v.session == b) && t) (sym (and-one (same_resource v.resource s.wait.resource)))) s.before) i
           || any-filter (λ (v : Wait). same_resource v.resource s.wait.resource && converts look v) (λ (w : Wait). w.session == b) s.after i)
 
   -- the mode that the session holds there keeps the wait from being granted
@@ -132,8 +132,8 @@ module _ (look : Look) (b : ℕ) where
   side-held : (w : Wait) (earlier : Bool) (others : List Wait) → not (w.session == b) ≡ true → conflicts w ≡ true → waits_now others b ≡ true → some_holds_up look w earlier others b ≡ true
   side-held w earlier others n c = any-more (λ (v : Wait). v.session == b) (λ (v : Wait). (v.session == b) && is_held_up_by look w earlier v)
       (λ v h. let same : b ≡ v.session = sym (eqb-true v.session b h) in and_from _ _ h
-          (and_from _ _ (subst (λ x. not (w.session == x) ≡ true) same n)
-          (or_left _ _ (subst (λ x. not (fits_with (wanted_by look w) (look x w.resource)) ≡ true) same c)))) others
+      (and_from _ _ (subst (λ x. not (w.session == x) ≡ true) same n)
+      (or_left _ _ (subst (λ x. not (fits_with (wanted_by look w) (look x w.resource)) ≡ true) same c)))) others
 
   side-ahead : (w : Wait) (earlier : Bool) (others : List Wait) → not (w.session == b) ≡ true → list_any (one-ahead w earlier) others ≡ true → some_holds_up look w earlier others b ≡ true
   side-ahead w earlier others n = any-more (one-ahead w earlier) (λ (v : Wait). (v.session == b) && is_held_up_by look w earlier v)
@@ -146,7 +146,7 @@ module _ (look : Look) (b : ℕ) where
       let p = and_parts (s.wait.session == a) _ e in
       and_from _ _ p.0 (⊎_elim (λ k. let r = side-sound s.wait true s.before k in and_from _ _ r.0 (⊎_elim (λ h. or_left _ _ h) (λ h. or_right (conflicts s.wait) _ (ahead-any s ∙ or_left _ _ h)) r.1))
       (λ k. let r = side-sound s.wait false s.after k in and_from _ _ r.0
-          (⊎_elim (λ h. or_left _ _ h) (λ h. or_right (conflicts s.wait) _ (ahead-any s ∙ or_right (list_any (one-ahead s.wait true) s.before) _ h)) r.1))
+      (⊎_elim (λ h. or_left _ _ h) (λ h. or_right (conflicts s.wait) _ (ahead-any s ∙ or_right (list_any (one-ahead s.wait true) s.before) _ h)) r.1))
       (or_cases (some_holds_up look s.wait true s.before b) _ p.1))
 
   -- and each session that waits and holds it up is marked
@@ -165,5 +165,5 @@ module _ (look : Look) (b : ℕ) where
       held n c =
           ⊎_elim (λ h. or_left _ _ (side-held s.wait true s.before n c h))
           (λ h. ⊎_elim (λ k. absurd (both_ways (s.wait.session == b) (not-true _ n) k))
-              (λ k. or_right (some_holds_up look s.wait true s.before b) _ (side-held s.wait false s.after n c k)) (or_cases (s.wait.session == b) _ h))
+          (λ k. or_right (some_holds_up look s.wait true s.before b) _ (side-held s.wait false s.after n c k)) (or_cases (s.wait.session == b) _ h))
           (or_cases (waits_now s.before b) _ (sym (any-append (λ (w : Wait). w.session == b) s.before (s.wait ∷ s.after)) ∙ now))

@@ -86,13 +86,13 @@ module _ (count : ℕ) (l : Locks) (below : IsBelow count l) where
   had-not : (i : ℕ) (r : Resource) (m : Mode) → ¬ (MayHave l i r m) → may_have count (look_in l) l.waits i (look_in l i r) r m ≡ false
   had-not i r m never = false_from_ne_true _
       (λ e. let p = and_parts (fits count (look_in l) i r (wanted (look_in l i r) m)) _ e in
-          never (fits-all count (look_in l) below.holders i r (wanted (look_in l i r) m) p.0, p.1))
+      never (fits-all count (look_in l) below.holders i r (wanted (look_in l i r) m) p.0, p.1))
 
   ring-is : (i : ℕ) (r : Resource) (m : Mode) → i < count → IsInRing (queued l i r m) i → closes_ring count (look_in l) (queued l i r m).waits i ≡ true
   ring-is i r m lt v =
       way-is-found (waits_for (look_in l) (queued l i r m).waits) count
       (λ a b e. below-waits count (queued l i r m).waits (below-push count l.waits (record { session = i; resource = r; mode = m }) below.waiters lt) a
-          (edge-waits (look_in l) (queued l i r m).waits a b e)) i i v
+      (edge-waits (look_in l) (queued l i r m).waits a b e)) i i v
 
   ring-not : (i : ℕ) (r : Resource) (m : Mode) → ¬ (IsInRing (queued l i r m) i) → closes_ring count (look_in l) (queued l i r m).waits i ≡ false
   ring-not i r m never = false_from_ne_true _ (λ e. never (way-found (waits_for (look_in l) (queued l i r m).waits) count i i e))

@@ -17,7 +17,8 @@ use Rattle.lock_queues.specs.Tabulate.{get-tabulate}
 use Rattle.lock_queues.specs.Locks.{fits_with}
 use Rattle.lock_queues.specs.LockTable.{Holding, holding_order, Fits, look_at}
 use Rattle.lock_queues.specs.Records.{Sessions, mode_of, known_modes, held_by, holdings_of, held_map, all_fit}
-use Rattle.lock_queues.proofs.Known.{nat_order, any-left, any-right, known-through}
+use Rattle.version_tree.specs.Numbers.{nat_order}
+use Rattle.lock_queues.proofs.Known.{any-left, any-right, known-through}
 use Rattle.lock_queues.proofs.ModesLemmas.{then-both}
 
 modes-known : (c : ℕ) (r : Resource) (m : Map resource_order Mode) → is_some (get m r) ≡ true → list_any (same_key holding_order (c, r)) (map (λ (e : Resource × Mode). (c, e.0)) (entries m)) ≡ true

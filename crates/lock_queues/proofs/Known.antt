@@ -9,9 +9,6 @@ use Rattle.std.specs.FinMap.Entries.{find}
 use Rattle.std.proofs.lemmas.Bool.{or_left, or_right}
 use Rattle.version_tree.specs.Map.{Order, same_key, same_key-true, same_key-refl}
 
-abbrev pub nat_order : Order ℕ
-nat_order = record { cmp = nat_cmp; total = nat_cmp_total; same = nat_cmp-IsAntisymmetric }
-
 pub any-left : {A : Type 0} (f : A → Bool) (xs ys : List A) → list_any f xs ≡ true → list_any f (xs ++ ys) ≡ true
 any-left f [] ys e = absurd (true-false e)
   where

@@ -14,9 +14,6 @@ pub record MarkedTo (look : Look) (waits : List Wait) (a k : ℕ) (old new : ℕ
   pub sound : (b : ℕ) → new b ≡ true → (old b ≡ true) ⊎ (waits_for look waits a b ≡ true)
   pub so_far : (s : Spot) → IsSpot waits s → length s.before < k → (b : ℕ) → waits_now waits b ≡ true → ((s.wait.session == a) && holds_up look s b) ≡ true → new b ≡ true
 
-pub marked-none : (look : Look) (waits : List Wait) (a : ℕ) (old : ℕ → Bool) → MarkedTo look waits a 0 old old
-marked-none look waits a old = record { kept = λ b e. e; sound = λ b e. inl e; so_far = λ s p lt b now e. absurd (omega arith) }
-
 pub marked-more : (look : Look) (waits : List Wait) (a k : ℕ) (old mid new : ℕ → Bool) (t : Spot) → MarkedTo look waits a k old mid → IsSpot waits t → length t.before ≡ k → ((b : ℕ) → new b ≡ (mid b || spot_marks look t a b))
     → MarkedTo look waits a (k + 1) old new
 marked-more look waits a k old mid new t m there place is = record {

@@ -16,7 +16,8 @@ use Rattle.lock_modes.specs.declared.resource.Resource.{Resource}
 use Rattle.lock_modes.specs.declared.resource.Resource.TheVariants.{Table, Row}
 use Rattle.lock_queues.specs.Tabulate.{get-tabulate}
 use Rattle.lock_queues.specs.Records.{Tables, Keys, mode_at, mode_at_key, known_keys, rows_of, resources_of, modes_map}
-use Rattle.lock_queues.proofs.Known.{nat_order, any-left, any-right, known-through}
+use Rattle.version_tree.specs.Numbers.{nat_order}
+use Rattle.lock_queues.proofs.Known.{any-left, any-right, known-through}
 
 row-known : (t : ℕ) (k : Value) (keys : Keys) → is_some (mode_at_key (find nat_cmp t keys) k) ≡ true → list_any (same_resource (Row t k)) (rows_of keys) ≡ true
 row-known t k [] e = cc

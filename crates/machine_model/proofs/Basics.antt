@@ -3,10 +3,6 @@ use Rattle.std.proofs.Common.{◌≡◌, ◌≢◌, refl, sym, ◌∙◌, ℕ, a
 use Rattle.std.specs.List.{list_any, list_all}
 use Rattle.statement_effects.proofs.ListLemmas.{Each, Each-map}
 
-pub Each-append : {A : Type 0} (P : A → Type 0) (xs ys : List A) → Each P xs → Each P ys → Each P (xs ++ ys)
-Each-append P [] ys p q = q
-Each-append P (x ∷ xs) ys p q = (p.0, Each-append P xs ys p.1 q)
-
 pub Each-left : {A : Type 0} (P : A → Type 0) (xs ys : List A) → Each P (xs ++ ys) → Each P xs
 Each-left P [] ys p = tt
 Each-left P (x ∷ xs) ys p = (p.0, Each-left P xs ys p.1)

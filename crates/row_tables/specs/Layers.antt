@@ -2,17 +2,16 @@
 use Rattle.std.specs.Prelude.{◌≡◌, ◌≢◌, ℕ, cond, List, [], ◌∷◌, Option, None}
 use Rattle.std.specs.Option.{unwrap_or}
 use Rattle.std.specs.Ordering.{nat_cmp, eq_by_cmp}
-use Rattle.std.specs.Cmp.{nat_cmp_total}
-use Rattle.std.specs.FinMap.{nat_cmp-IsAntisymmetric}
 use Rattle.version_tree.specs.Map
 use Rattle.version_tree.specs.Map.{Order, Map, get, insert, empty, entries}
+use Rattle.version_tree.specs.Numbers.{nat_order}
 use Rattle.lock_modes.specs.RowPlace.{RowPlace}
 use Rattle.lock_modes.specs.declared.value.Value.{Value}
 use Rattle.row_tables.specs.Overlay.{Tuple, Rows', Overlay, lay}
 
 -- sessions by their number
 abbrev pub session_order : Order ℕ
-session_order = record { cmp = nat_cmp; total = nat_cmp_total; same = nat_cmp-IsAntisymmetric }
+session_order = nat_order
 
 -- the committed rows, and an overlay for each session that has writes of its own
 pub record Layers : Type 0 where

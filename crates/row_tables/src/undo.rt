@@ -7,7 +7,7 @@ ghost use Rattle.std.specs.BTreeMap.{insert_entry};
 ghost use Rattle.version_tree.specs.Map as map;
 ghost use Rattle.lock_modes.specs.RowPlace.{place_cmp};
 ghost use Rattle.row_tables.specs.Overlay.{lay};
-ghost use Rattle.row_tables.specs.Undo.{noted};
+ghost use Rattle.row_tables.specs.Undo.{noted, AreApart};
 
 use crate::left::Left;
 use crate::place::RowPlace;
@@ -147,7 +147,9 @@ impl UndoLists {
     }
 
     pub fn remove(&mut self, session: u8)
-        ensures { self.new ≡ map.remove self.old session }
+        ensures gone { self.new ≡ map.remove self.old session }
+        // No two lists come to speak of one place.
+        ensures apart { AreApart self.old → AreApart self.new }
     {
         self.lists.remove(&session);
     }

@@ -7,10 +7,6 @@ pub on_ok : {A E : Type 0} (r : Result A E) (P Q : Type 0) → OnOk r P → (P �
 on_ok (Ok x) P Q p f = f p
 on_ok (Err e) P Q p f = tt
 
-pub if_ok : {A E : Type 0} (r : Result A E) (P Q : A → Type 0) → IfOk r P → ((x : A) → P x → Q x) → IfOk r Q
-if_ok (Ok x) P Q p f = f x p
-if_ok (Err e) P Q p f = tt
-
 -- one that follows from three
 pub on_all : {A E : Type 0} (r : Result A E) (P Q R S : Type 0) → OnOk r P → OnOk r Q → OnOk r R → (P → Q → R → S) → OnOk r S
 on_all (Ok x) P Q R S p q r f = f p q r

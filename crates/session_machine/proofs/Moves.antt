@@ -48,9 +48,6 @@ still-scene e i l m t u same waits scene = record {
     look : (c : ℕ) (r : Resource) → c ≢ i → look_in u c r ≡ look_in t c r
     look c r ne = sym (get-slice c u.held r) ∙ ap (λ h. get h r) (same.held c ne) ∙ get-slice c t.held r
 
-pub stays : (i : ℕ) (x : Standing) (ts : List Task) → GoesOnTo i x ts x ts
-stays i x ts = record { goes = λ e scene. refl; others = same-refl i x.layers x.locks; waits = refl }
-
 pub goes-on-on : (i : ℕ) (x y z : Standing) (ts us vs : List Task) → GoesOnTo i x ts y us → GoesOnTo i y us z vs → GoesOnTo i x ts z vs
 goes-on-on i x y z ts us vs p q = record {
   goes = λ e scene. p.goes e scene ∙ q.goes e (still-scene e i x.layers y.layers x.locks y.locks p.others p.waits scene);

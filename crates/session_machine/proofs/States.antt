@@ -109,9 +109,6 @@ waits-let_go t i idle = sym (Rattle.lock_queues.proofs.Keeping.absent-others i t
 
 -- ---- the store
 
-same_session : ℕ → ℕ → Bool
-same_session c i = same_key session_order c i
-
 overlay-wrote : (i : ℕ) (w : Write) (l : Layers) → overlay_of i (wrote i w.place w.left l) ≡ insert (overlay_of i l) w.place w.left
 overlay-wrote i w l = overlay_of-wrote i w.place w.left l i ∙ ap (λ b. cond b (insert (overlay_of i l) w.place w.left) (overlay_of i l)) (same_key-refl session_order i)
 

@@ -47,10 +47,6 @@ more_behind a p s n had more = λ name.
     ∙ sym (list_any-append (bytes_eq name) s p)
     ∙ more name
 
--- one name more behind those that are in the set
-pub one_more : (a p : List (List ℕ)) (x : List ℕ) (s n : List (List ℕ)) → HaveSame (a ++ p) s → HaveSame (s ++ x ∷ []) n → HaveSame (a ++ (p ++ x ∷ [])) n
-one_more a p x s n had more = λ name. ap (is_among name) (sym (append_assoc a p (x ∷ []))) ∙ more_behind (a ++ p) (x ∷ []) s n had more name
-
 step_names_behind : (ss : List Session) (s : Session) → step_names (map session_tree (ss ++ s ∷ [])) ≡ step_names (map session_tree ss) ++ names_in (map step_tree s.steps.items)
 step_names_behind [] s = append-nil (names_in (map step_tree s.steps.items))
 step_names_behind (t ∷ ss) s =

@@ -24,19 +24,6 @@ pub unquoted_stops : (xs : List ℕ) → begins_quote (drop (prefix_len (in_clas
 unquoted_stops [] = λ _. refl
 unquoted_stops (b ∷ bs) = front_stops b bs (b == 34) refl (unquoted_stops bs)
 
--- a quote stands for itself, and so do two
-pub undoubled_quote : (xs : List ℕ) → begins_quote xs ≡ true → undoubled false xs ≡ 34 ∷ undoubled true (drop 1 xs)
-undoubled_quote [] e = absurd cc
-undoubled_quote (b ∷ bs) e = let is : b ≡ 34 = grind arith in rw is refl
-
-pub second_quote : (xs : List ℕ) → begins_quote xs ≡ true → undoubled false (drop 1 xs) ≡ undoubled true xs
-second_quote [] e = absurd cc
-second_quote (b ∷ bs) e = rw e refl
-
-pub no_second : (xs : List ℕ) → begins_quote xs ≡ false → undoubled false xs ≡ undoubled true xs
-no_second [] e = refl
-no_second (b ∷ bs) e = rw e refl
-
 -- how far a quoted name goes on
 pub quoted_stops : (second : Bool) (xs : List ℕ) → stops second xs ≡ true → quoted_len second xs ≡ 0
 quoted_stops second [] e = refl

@@ -1,24 +1,13 @@
 //! Cuts a text into tokens.
 
-ghost use Rattle.std.specs.Prelude.{◌≡◌, ◌+◌, ◌<◌, ◌^◌, length, IfOk};
+ghost use Rattle.std.specs.Prelude.{◌≡◌, ◌+◌, ◌<◌, ◌^◌, length};
 ghost use Rattle.spec_reader.specs.Bytes.{word_of};
-ghost use Rattle.spec_reader.specs.Lexing.{piece_of, block_of, quoted_of, word_piece, view_piece, view_token, views, token_list, sign_of, FitsIn};
+ghost use Rattle.spec_reader.specs.Tokens.{Token as Seen, End};
+ghost use Rattle.spec_reader.specs.Lexing.{piece_of, block_of, quoted_of, word_piece, view_piece, view_token, sign_of, piece_of-end};
 
 use crate::quoted::{has_quote_at, quoted_len};
-use crate::token::{Placed, Token};
-use byte_runs::{Class, after_first, run_len, run_of};
-use std::alloc::{AllocError, Global};
-
-/// What stands at the front of a text.
-#[derive(Clone, Copy, Debug)]
-pub enum Piece<'a> {
-    /// White space or a comment, and its length.
-    Blank(usize),
-    /// A token, and its length.
-    Next(Token<'a>, usize),
-    /// A token after which nothing is read.
-    Last(Token<'a>),
-}
+use crate::token::Token;
+use byte_runs::{Class, Cut, Piece, after_first, run_len, run_of};
 
 /// A word of the grammar, or a plain name.
 fn word_of(text: &str) -> Token<'_>
@@ -36,7 +25,7 @@ fn word_of(text: &str) -> Token<'_>
 }
 
 /// A word of the grammar or a plain name, which the text begins with.
-fn word_piece(text: &str) -> Piece<'_>
+fn word_piece(text: &str) -> Piece<Token<'_>>
     ensures { view_piece result ≡ word_piece text.now }
 {
     let (word, _) = run_of(Class::Name, text);
@@ -44,7 +33,7 @@ fn word_piece(text: &str) -> Piece<'_>
 }
 
 /// A block, of the text after its opening sign, which stands at this offset.
-fn block_of(at: usize, text: &str) -> Piece<'_>
+fn block_of(at: usize, text: &str) -> Piece<Token<'_>>
     requires { at + length text.now + 1 < 2 ^ 63 }
     ensures { view_piece result ≡ block_of at text.now }
 {
@@ -57,7 +46,7 @@ fn block_of(at: usize, text: &str) -> Piece<'_>
 }
 
 /// A quoted name, of the text after its opening quote.
-fn quoted_of(text: &str) -> Piece<'_>
+fn quoted_of(text: &str) -> Piece<Token<'_>>
     requires { length text.now < 2 ^ 63 }
     ensures { view_piece result ≡ quoted_of text.now }
 {
@@ -73,7 +62,7 @@ fn quoted_of(text: &str) -> Piece<'_>
 }
 
 /// A sign of one byte.
-fn sign_of<'a>(b: u8) -> Piece<'a>
+fn sign_of<'a>(b: u8) -> Piece<Token<'a>>
     ensures { view_piece result ≡ sign_of b }
 {
     match b {
@@ -87,7 +76,7 @@ fn sign_of<'a>(b: u8) -> Piece<'a>
 
 /// What stands at the front of the text at this offset.
 #[tactic(auto, unfolding(crate::specs::Lexing::piece_of))]
-fn piece_of(at: usize, text: &str) -> Piece<'_>
+fn piece_of(at: usize, text: &str) -> Piece<Token<'_>>
     requires { at + length text.now < 2 ^ 63 }
     ensures { view_piece result ≡ piece_of at text.now }
 {
@@ -112,40 +101,18 @@ fn piece_of(at: usize, text: &str) -> Piece<'_>
     }
 }
 
-/// The same, which is a part of the text.
-fn piece_in(at: usize, text: &str) -> Piece<'_>
-    requires { at + length text.now < 2 ^ 63 }
-    ensures piece { view_piece result ≡ piece_of at text.now }
-    ensures fits { FitsIn text.now (view_piece result) }
-{
-    piece_of(at, text)
-}
+impl<'a> Cut<'a> for Token<'a> {
+    ghost Seen = { Seen };
 
-/// The tokens of a text, up to its end or to what is no token.
-pub fn tokens_of(alloc: Global, text: &str) -> Result<Vec<Placed<'_>>, AllocError>
-    requires { length text.now < 2 ^ 62 }
-    ensures { IfOk result (λ tokens. views tokens.items ≡ token_list text.now) }
-{
-    let mut tokens = Vec::new(alloc);
-    let mut at = 0;
-    let mut rest = text;
-    loop {
-        match piece_in(at, rest) {
-            Piece::Blank(len) => {
-                let (_, after) = rest.split_at(len);
-                at += len;
-                rest = after;
-            }
-            Piece::Next(token, len) => {
-                tokens.push(Placed { at, token })?;
-                let (_, after) = rest.split_at(len);
-                at += len;
-                rest = after;
-            }
-            Piece::Last(token) => {
-                tokens.push(Placed { at, token })?;
-                return Ok(tokens);
-            }
-        }
+    ghost view = { view_token };
+
+    ghost piece_of = { piece_of };
+
+    ghost end = { End };
+
+    ghost ended = { piece_of-end };
+
+    fn piece_of(at: usize, text: &'a str) -> Piece<Token<'a>> {
+        piece_of(at, text)
     }
 }

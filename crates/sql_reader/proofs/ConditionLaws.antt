@@ -76,10 +76,6 @@ mutual
   heads_part (Single a) n = heads_atom a n
   heads_part (And a p) n = heads-append (λ t. true) true (grammar.atom a n) _ (heads_atom a n)
 
-  heads_condition : (c : Condition) (n : ℕ) → Heads (λ t. true) true (grammar.condition c n)
-  heads_condition (Alone p) n = heads_part p n
-  heads_condition (Or p c) n = heads-append (λ t. true) true (grammar.part p n) _ (heads_part p n)
-
   heads_atom : (a : Atom) (n : ℕ) → Heads (λ t. true) true (grammar.atom a n)
   heads_atom (Compares a c b) n = heads-append (λ t. true) true (grammar.sum a) _ (heads_sum (λ t. true) true (λ w. refl) (λ w. refl) (λ w. refl) refl a)
   heads_atom (Not a) n = refl

@@ -3,11 +3,13 @@ use Rattle.std.proofs.Common.{◌≡◌, ℕ, zero, suc, ◌+◌, ◌-◌, Bool,
 use Rattle.std.specs.Prelude.{⊤, ◌==◌, take_while}
 use Rattle.byte_runs.specs.declared.runs.Class.TheVariants as class
 use Rattle.std.specs.Char.{is_ascii_digit}
-use Rattle.sql_reader.specs.Tokens.{Placed, is_last}
+use Rattle.sql_reader.specs.Tokens.{Placed, End, is_last}
 use Rattle.sql_reader.specs.Tree.{Block}
 use Rattle.sql_reader.specs.Grammar.{good, spelling, Fault, FirstFault}
+use Rattle.byte_runs.specs.declared.pieces.Piece.TheVariants.{Blank, Next, Last}
+use Rattle.byte_runs.specs.Pieces.{with_piece, tokens_past}
 use Rattle.byte_runs.specs.Bytes.{is_white, begins_word, in_class}
-use Rattle.sql_reader.specs.Lexing.{Piece, Blank, Next, Last, begins_comment, is_reserved, is_sign, is_pair, quoted, text_piece, key_of, other_of, sign_of, piece_of, with_piece, tokens_past, token_list}
+use Rattle.sql_reader.specs.Lexing.{Piece, begins_comment, is_reserved, is_sign, is_pair, quoted, text_piece, key_of, other_of, sign_of, piece_of, token_list}
 use Rattle.sql_reader.specs.Text.{read_text}
 use Rattle.sql_reader.proofs.Laws.{HasEnd}
 use Rattle.sql_reader.proofs.BlockLaws.{read_is_spelled, spelled_is_read, fault_is_first}
@@ -45,7 +47,7 @@ with_fine at (Blank n) more f h = h (n - 1)
 with_fine at (Next t n) more f h = rw f (h (n - 1))
 with_fine at (Last t) more f h = rw f refl
 
-past_ends : (skip at : ℕ) (bs : List ℕ) → HasEnd (tokens_past skip at bs)
+past_ends : (skip at : ℕ) (bs : List ℕ) → HasEnd (tokens_past (λ at. piece_of) End skip at bs)
 past_ends skip at [] = refl
 past_ends zero at (b ∷ bs) = with_fine at (piece_of (b ∷ bs)) _ (piece_fine b bs) (λ k. past_ends k (at + 1) bs)
 past_ends (suc k) at (b ∷ bs) = past_ends k (at + 1) bs

@@ -49,9 +49,6 @@ heads_number : (n : Numbers) (more : List Marked) → Heads is_text false (sp_nu
 heads_number (inl p) more = refl
 heads_number (inr n) more = refl
 
-to_literal : List ℕ ⊎ Numbers → Literal
-to_literal = both (λ (b : List ℕ). Quoted b) tree_number
-
 abbrev of_literal : Literal → List ℕ ⊎ Numbers
 of_literal (Whole true n) = inr (inl (tt, n))
 of_literal (Whole false n) = inr (inr n)

@@ -162,13 +162,6 @@ of_statement (Lock true n m) = (refl, (refl, (refl, of_optional grammar.mode_par
 of_statement (Lock false n m) = (refl, (refl, of_optional grammar.mode_part of_mode_part m))
 of_statement (Set s) = (refl, and (grammar.optional grammar.scope s.scope) _ (of_optional grammar.scope of_scope s.scope) (refl, (of_set_sign s.sign, of_factor s.value)))
 
-pub no_end : (front tail : List Marked) (t : Token) (rest : List Marked) → Inside front → front ≡ tail ++ (plain t ∷ rest) → inside t ≡ true
-no_end front tail t rest h e = go tail (subst Inside e h)
-  where
-    go : (xs : List Marked) → Inside (xs ++ (plain t ∷ rest)) → inside t ≡ true
-    go [] k = k.0
-    go (x ∷ xs) k = go xs k.1
-
 -- ---- the first word
 
 pub heads_inside : (s : Statement) → Heads inside true (grammar.statement s)
@@ -227,9 +220,6 @@ begun_end t e = go (end_word t) refl e
     go None h k = absurd cc
     go (Some w) h k = begun t (Word (grammar.end_word w)) (Ends w None) [] refl
         (which-back (λ w. Word (grammar.end_word w)) ((Word (codes "commit"), tree.Commit) ∷ (Word (codes "end"), tree.End) ∷ (Word (codes "rollback"), tree.Rollback) ∷ (Word (codes "abort"), tree.Abort) ∷ []) (refl, (refl, (refl, (refl, tt)))) t w h)
-
-some_name : Name
-some_name = []
 
 pub starts : (t : Token) → begins_form t ≡ true → Begun t
 starts t e = elim (split (is (Word (codes "create")) t) _ e) [

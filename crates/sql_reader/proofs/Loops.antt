@@ -1,9 +1,8 @@
 -- A loop over items with separators between them: the items so far and those to come.
 use Rattle.std.proofs.Common.{◌≡◌, refl, sym, ap, subst, ◌∙◌, ℕ, suc, ◌+◌, ◌-◌, ◌<◌, ◌≤◌, List, [], ◌∷◌, ◌++◌, length, Option, Some, None, Ok, Err, arith, length-append, append_assoc, Bool, true, false, cond, Result}
 use Rattle.std.proofs.lemmas.List.{length-map, append-nil}
-use Rattle.sql_reader.specs.declared.token.Placed.{Placed as WrittenAt}
 use Rattle.sql_reader.specs.Tokens.{Token, Placed}
-use Rattle.sql_reader.specs.Lexing.{view, views}
+use Rattle.sql_reader.specs.Lexing.{WrittenAt, view, views}
 use Rattle.sql_reader.specs.Reading.{Stop, Read, ◌>>=◌, first, rest, chain, many}
 use Rattle.sql_reader.specs.Views.{joined, Refuses, Passed}
 use Rattle.sql_reader.specs.declared.error.Stop.{Stop as Stopped}
@@ -88,12 +87,6 @@ module _ {A S L X : Type 0} (last : A → L) (more : A → S → L → L) (sep :
   pub starts_with : (ts : List Placed) (a : A) (xs : List X) (left : List Placed) → xs ≡ [] → item 0 ts ≡ Ok (a, left) → SoFar (length ts) a xs left (chain last more sep item (suc (length ts)) 0 ts)
   starts_with ts a xs left none e = subst (λ (ys : List X). SoFar (length ts) a ys left (chain last more sep item (suc (length ts)) 0 ts)) (sym none) (starts ts a left e)
 
-  pub never_starts : (ts : List Placed) (stop : Stop) → item 0 ts ≡ Err stop → chain last more sep item (suc (length ts)) 0 ts ≡ Err stop
-  never_starts ts stop e = chain-none (length ts) 0 ts stop e
-
-  pub stops : (n : ℕ) (a : A) (xs : List X) (ts : List Placed) (whole : Read L) → SoFar n a xs ts whole → sep (first ts).token ≡ None → whole ≡ Ok (all a xs, ts)
-  stops n a xs ts whole so_far e = sym so_far ∙ ap (tail_by (n - length xs) (suc (length xs)) a xs ts) e
-
   fuel : (n : ℕ) (xs : List X) → length xs < n → n - length xs ≡ suc (n - suc (length xs))
   fuel n xs lt = omega arith
 
@@ -153,16 +146,6 @@ module _ {A : Type 0} (goes : Token → Bool) (item : List Placed → Read A) wh
   -- the items so far, and those to come
   abbrev pub ManySoFar : ℕ → List A → List Placed → Read (List A) → Type 0
   ManySoFar n xs ts whole = ◌>>=◌ {B = List A × List Placed} (many goes item (suc n - length xs) ts) (λ l. Ok (xs ++ l.0, l.1)) ≡ whole
-
-  same_read : (r : Read (List A)) → ◌>>=◌ {B = List A × List Placed} r (λ l. Ok ([] ++ l.0, l.1)) ≡ r
-  same_read (Ok x) = refl
-  same_read (Err e) = refl
-
-  pub many-starts : (ts : List Placed) (xs : List A) → xs ≡ [] → ManySoFar (length ts) xs ts (many goes item (suc (length ts)) ts)
-  many-starts ts xs none =
-      let all : suc (length ts) - length {A = A} [] ≡ suc (length ts) = omega arith in
-      subst (λ (ys : List A). ManySoFar (length ts) ys ts (many goes item (suc (length ts)) ts)) (sym none)
-      (ap (λ (m : ℕ). ◌>>=◌ {B = List A × List Placed} (many goes item m ts) (λ l. Ok ([] ++ l.0, l.1))) all ∙ same_read (many goes item (suc (length ts)) ts))
 
   abbrev many_by : ℕ → List Placed → Bool → Read A → Read (List A)
   many_by n ts b r = cond b (r >>= λ a. ◌>>=◌ {B = List A × List Placed} (many goes item n a.1) (λ l. Ok (a.0 ∷ l.0, l.1))) (Ok ([], ts))

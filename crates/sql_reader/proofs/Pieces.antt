@@ -7,8 +7,10 @@ use Rattle.std.proofs.lemmas.Str.{IsCharBoundary-after_ascii}
 use Rattle.byte_runs.specs.declared.runs.Class.TheVariants as class
 use Rattle.byte_runs.proofs.RunLemmas.{white_is_ascii, run_begins, run_boundary}
 use Rattle.sql_reader.specs.Tokens.{Placed}
+use Rattle.byte_runs.specs.Pieces.{CutsAt, FitsIn}
+use Rattle.byte_runs.proofs.PieceLemmas.{cond_fits, one_fits}
 use Rattle.byte_runs.specs.Bytes.{is_white, begins_word, in_class}
-use Rattle.sql_reader.specs.Lexing.{begins_comment, is_sign, is_pair, sign_of, value_of, with_byte, with_quote, quoted, text_piece, Piece, Blank, Next, Last, piece_of, with_piece, tokens_past, CutsAt, FitsIn}
+use Rattle.sql_reader.specs.Lexing.{begins_comment, is_sign, is_pair, sign_of, value_of, with_byte, with_quote, quoted, text_piece, Piece, piece_of}
 
 -- ---- a text in quotes
 
@@ -51,9 +53,6 @@ ends_in_quote true (b ∷ bs) = doubled b bs (b == 39) (ends_in_quote false bs)
 up_to : (bs : List ℕ) (n : ℕ) → IsUtf8 bs → n < length bs → get_or bs n 0 < 128 → CutsAt bs (n + 1)
 up_to bs n utf8 h lt = record { some = omega arith; at_char = IsCharBoundary-after_ascii bs n utf8 h lt }
 
-one : (b : ℕ) (bs : List ℕ) → IsUtf8 (b ∷ bs) → b < 128 → CutsAt (b ∷ bs) 1
-one b bs utf8 lt = up_to (b ∷ bs) 0 utf8 (omega arith) lt
-
 two : (b c : ℕ) (bs : List ℕ) → IsUtf8 (b ∷ c ∷ bs) → c < 128 → CutsAt (b ∷ c ∷ bs) 2
 two b c bs utf8 lt = up_to (b ∷ c ∷ bs) 1 utf8 (omega arith) lt
 
@@ -65,10 +64,6 @@ text_fits : (b : ℕ) (bs : List ℕ) (o : Option (List ℕ × ℕ)) → IsUtf8 
 text_fits b bs None utf8 h = tt
 text_fits b bs (Some x) utf8 h = behind_quote b bs x.1 utf8 h.0 h.1 (h.2 refl)
 
-cond_fits : (bs : List ℕ) (c : Bool) (p q : Piece) → (c ≡ true → FitsIn bs p) → FitsIn bs q → FitsIn bs (cond c p q)
-cond_fits bs true p q f h = f refl
-cond_fits bs false p q f h = h
-
 pub sign_is_ascii : (b : ℕ) → is_sign b ≡ true → b < 128
 sign_is_ascii b e = grind arith
 
@@ -78,10 +73,10 @@ pair_is_ascii b c e = grind arith
 pub ruleset signs_are_ascii = (sign_is_ascii, pair_is_ascii)
 
 sign_fits : (b : ℕ) (bs : List ℕ) → IsUtf8 (b ∷ bs) → FitsIn (b ∷ bs) (sign_of b bs)
-sign_fits b [] utf8 = cond_fits (b ∷ []) (is_sign b) _ _ (λ e. one b [] utf8 (sign_is_ascii b e)) tt
+sign_fits b [] utf8 = cond_fits (b ∷ []) (is_sign b) _ _ (λ e. one_fits b [] utf8 (sign_is_ascii b e)) tt
 sign_fits b (c ∷ bs) utf8 =
     cond_fits (b ∷ c ∷ bs) (is_pair b c) _ _ (λ e. two b c bs utf8 (pair_is_ascii b c e))
-    (cond_fits (b ∷ c ∷ bs) (is_sign b) _ _ (λ e. one b (c ∷ bs) utf8 (sign_is_ascii b e)) tt)
+    (cond_fits (b ∷ c ∷ bs) (is_sign b) _ _ (λ e. one_fits b (c ∷ bs) utf8 (sign_is_ascii b e)) tt)
 
 word_begins : (b : ℕ) → begins_word b ≡ true → in_class class.Word b ≡ true
 word_begins b e = rw e refl
@@ -93,50 +88,17 @@ comment_begins b (c ∷ bs) e = grind arith
 pub piece_fits : (b : ℕ) (bs : List ℕ) → IsUtf8 (b ∷ bs) → FitsIn (b ∷ bs) (piece_of (b ∷ bs))
 unfolding piece_of
 piece_fits b bs utf8 =
-    cond_fits (b ∷ bs) (is_white b) _ _ (λ e. one b bs utf8 (white_is_ascii b e))
+    cond_fits (b ∷ bs) (is_white b) _ _ (λ e. one_fits b bs utf8 (white_is_ascii b e))
     (cond_fits (b ∷ bs) (begins_comment (b ∷ bs)) _ _ (λ e. record { some = run_begins (in_class class.Comment) b bs (comment_begins b bs e); at_char = run_boundary class.Comment (b ∷ bs) utf8 })
     (cond_fits (b ∷ bs) (begins_word b) _ _ (λ e. record { some = run_begins (in_class class.Word) b bs (word_begins b e); at_char = run_boundary class.Word (b ∷ bs) utf8 })
     (cond_fits (b ∷ bs) (is_ascii_digit b) _ _ (λ e. record { some = run_begins is_ascii_digit b bs e; at_char = run_boundary class.Digit (b ∷ bs) utf8 })
     (cond_fits (b ∷ bs) (b == 39) _ _ (λ e. text_fits b bs (quoted false bs) utf8 (ends_in_quote false bs))
     (sign_fits b bs utf8)))))
 
-past_is : (k at : ℕ) (bs : List ℕ) → k ≤ length bs → tokens_past k at bs ≡ tokens_past 0 (at + k) (drop k bs)
-past_is zero at bs le = ap (λ (n : ℕ). tokens_past 0 n bs) (omega arith)
-past_is (suc k) at [] le = absurd (omega arith)
-past_is (suc k) at (b ∷ bs) le = past_is k (at + 1) bs (omega arith) ∙ ap (λ (n : ℕ). tokens_past 0 n (drop k bs)) (omega arith)
-
--- the tokens from a piece on
-abbrev pub from_piece : ℕ → List ℕ → Piece → List Placed
-from_piece at bs (Blank len) = tokens_past 0 (at + len) (drop len bs)
-from_piece at bs (Next t len) = record { at = at; token = t } ∷ tokens_past 0 (at + len) (drop len bs)
-from_piece at bs (Last t) = record { at = at; token = t } ∷ []
-
-rest_is : (at len : ℕ) (b : ℕ) (bs : List ℕ) → 0 < len → len ≤ length (b ∷ bs) → tokens_past (len - 1) (at + 1) bs ≡ tokens_past 0 (at + len) (drop len (b ∷ bs))
-rest_is at zero b bs lt le = absurd (omega arith)
-rest_is at (suc k) b bs lt le = ap (λ (n : ℕ). tokens_past n (at + 1) bs) (omega arith) ∙ past_is k (at + 1) bs (omega arith) ∙ ap (λ (n : ℕ). tokens_past 0 n (drop k bs)) (omega arith)
-
-with_piece_is : (at b : ℕ) (bs : List ℕ) (p : Piece) → FitsIn (b ∷ bs) p → with_piece at p (λ k. tokens_past k (at + 1) bs) ≡ from_piece at (b ∷ bs) p
-with_piece_is at b bs (Blank len) h = rest_is at len b bs h.some h.at_char.0
-with_piece_is at b bs (Next t len) h = ap (λ (ps : List Placed). record { at = at; token = t } ∷ ps) (rest_is at len b bs h.some h.at_char.0)
-with_piece_is at b bs (Last t) h = refl
-
--- the tokens of a text are those of its first piece and those after it
-pub tokens_by_piece : (at : ℕ) (bs : List ℕ) → IsUtf8 bs → tokens_past 0 at bs ≡ from_piece at bs (piece_of bs)
-unfolding piece_of
-tokens_by_piece at [] utf8 = refl
-tokens_by_piece at (b ∷ bs) utf8 = with_piece_is at b bs (piece_of (b ∷ bs)) (piece_fits b bs utf8)
-
 pub fits : (bs : List ℕ) → IsUtf8 bs → FitsIn bs (piece_of bs)
 unfolding piece_of
 fits [] utf8 = tt
 fits (b ∷ bs) utf8 = piece_fits b bs utf8
-
--- a loop over the pieces: the tokens so far and those to come are all of them
-pub goes_on : (front whole : List Placed) (at : ℕ) (bs : List ℕ) (p : Piece) → IsUtf8 bs → p ≡ piece_of bs → front ++ tokens_past 0 at bs ≡ whole → front ++ from_piece at bs p ≡ whole
-goes_on front whole at bs p utf8 e so_far = ap (λ (q : Piece). front ++ from_piece at bs q) e ∙ ap (λ (ps : List Placed). front ++ ps) (sym (tokens_by_piece at bs utf8)) ∙ so_far
-
-pub goes_on_after : (front front' whole : List Placed) (t : Placed) (more : List Placed) → front' ≡ front ++ t ∷ [] → front ++ (t ∷ more) ≡ whole → front' ++ more ≡ whole
-goes_on_after front front' whole t more e so_far = rw (e, append_assoc) so_far
 
 -- ---- how long a text is, byte by byte
 
@@ -188,7 +150,3 @@ len-goes_on n after after' bs whole h e f so_far =
     ∙ so_far
 
 pub ruleset len_steps = (len-step, len-stop)
-
--- the value of digits, one more of them
-pub value_of-step : (n i : ℕ) (ds : List ℕ) → i < length ds → value_of n (drop i ds) ≡ value_of (min (10 * n + (get_or ds i 0 - 48)) (2 ^ 63 + 1)) (drop (i + 1) ds)
-value_of-step n i ds h = ap (value_of n) (drop-cons ds i 0 h) ∙ ap (λ rest. value_of (min (10 * n + (get_or ds i 0 - 48)) (2 ^ 63 + 1)) rest) (ap (λ k. drop k ds) (sym (add-one i)))

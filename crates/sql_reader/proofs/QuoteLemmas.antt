@@ -10,10 +10,6 @@ byte_first : (b : ℕ) (o : Option (List ℕ × ℕ)) → option_map (λ (x : Li
 byte_first b None = refl
 byte_first b (Some x) = refl
 
-quote_first : (o : Option (List ℕ × ℕ)) → option_map (λ (x : List ℕ × ℕ). x.0) (with_quote o) ≡ option_map (λ (x : List ℕ × ℕ). x.0) o
-quote_first None = refl
-quote_first (Some x) = refl
-
 byte_if : (b : ℕ) (bs : List ℕ) (c : Bool) → c ≡ false → option_map (λ (x : List ℕ × ℕ). x.0) (elim c [ true ↦ with_quote (quoted true bs) | false ↦ with_byte b (quoted false bs) ]) ≡ with_front (b ∷ []) (content bs)
 byte_if b bs true e = absurd cc
 byte_if b bs false e = byte_first b (quoted false bs)

@@ -502,9 +502,6 @@ strength_law on ts ends = one_of (λ s. Word (grammar.strength s)) ((Word (codes
 abbrev on_mode : Token → Bool
 on_mode t = is (Word (codes "row")) t
 
-abbrev sp_shared : Bool → List Marked
-sp_shared more = cond more (plain (Word (codes "row")) ∷ plain (Word (codes "exclusive")) ∷ []) []
-
 abbrev of_bool : Bool → Unit {0} ⊎ Unit {0}
 of_bool true = inl tt
 of_bool false = inr tt

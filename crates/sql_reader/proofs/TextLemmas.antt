@@ -136,28 +136,9 @@ next_ok xs n (Ok (zs, Some us)) ys more e =
     twice (Ok ws) = ap (λ (l : List StatementAt). Ok l) (sym (append_assoc xs zs ws))
     twice (Err f) = refl
 
-next_end : (xs : List StatementAt) (n : ℕ) (r : Result Next Fault) (ys : List StatementAt) → pushed xs r ≡ Ok (ys, None) → with_front xs (then_more r (statements_from n)) ≡ Ok ys
-next_end xs n (Err f) ys e = absurd cc
-next_end xs n (Ok (zs, None)) ys e = let both = same_next (xs ++ zs, None) (ys, None) e in ap (λ (p : Next). Ok p.0) both
-next_end xs n (Ok (zs, Some us)) ys e =
-    let both = same_next (xs ++ zs, Some us) (ys, None) e in
-    let behind : ◌≡◌ {A = Option (List Placed)} (Some us) None = ap (λ (p : Next). p.1) both in
-    absurd cc
-
-next_fault : (xs : List StatementAt) (n : ℕ) (r : Result (List StatementAt × Option (List Placed)) Fault) (f : Fault) → pushed xs r ≡ Err f → with_front xs (then_more r (statements_from n)) ≡ Err f
-next_fault xs n (Err g) f e = let same : g ≡ f = cc in ap (λ (h : Fault). Err h) same
-next_fault xs n (Ok (zs, None)) f e = absurd cc
-next_fault xs n (Ok (zs, Some us)) f e = absurd cc
-
 -- the statements so far and those to come, of n more at most
 abbrev pub SoFar : ℕ → List StatementAt → List Placed → Result (List StatementAt) Fault → Type 0
 SoFar n xs ts whole = with_front xs (statements_from n ts) ≡ whole
 
 pub goes_on : (n m : ℕ) (xs ys : List StatementAt) (ts more : List Placed) (whole : Result (List StatementAt) Fault) → n ≡ suc m → SoFar n xs ts whole → pushed xs (next_statement ts) ≡ Ok (ys, Some more) → SoFar m ys more whole
 goes_on n m xs ys ts more whole k so_far e = sym (next_ok xs m (next_statement ts) ys more e) ∙ ap (λ (i : ℕ). with_front xs (statements_from i ts)) (sym k) ∙ so_far
-
-pub stops : (n m : ℕ) (xs ys : List StatementAt) (ts : List Placed) (whole : Result (List StatementAt) Fault) → n ≡ suc m → SoFar n xs ts whole → pushed xs (next_statement ts) ≡ Ok (ys, None) → whole ≡ Ok ys
-stops n m xs ys ts whole k so_far e = sym so_far ∙ ap (λ (i : ℕ). with_front xs (statements_from i ts)) k ∙ next_end xs m (next_statement ts) ys e
-
-pub fails : (n m : ℕ) (xs : List StatementAt) (ts : List Placed) (whole : Result (List StatementAt) Fault) (f : Fault) → n ≡ suc m → SoFar n xs ts whole → pushed xs (next_statement ts) ≡ Err f → whole ≡ Err f
-fails n m xs ts whole f k so_far e = sym so_far ∙ ap (λ (i : ℕ). with_front xs (statements_from i ts)) k ∙ next_fault xs m (next_statement ts) f e

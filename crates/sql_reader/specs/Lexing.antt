@@ -1,15 +1,17 @@
 -- The tokens of a block.
-use Rattle.std.specs.Prelude.{ℕ, ⊤, ◌<◌, zero, suc, ◌+◌, ◌-◌, ◌*◌, ◌^◌, Bool, true, false, ◌||◌, ◌&&◌, List, [], ◌∷◌, map, Option, Some, None, min, ◌==◌, codes, bytes_eq, if◌then◌else◌, take_while, option_map, ◌++◌, length, ◌≡◌}
+use Rattle.std.specs.Prelude.{refl, ℕ, ⊤, ◌<◌, zero, suc, ◌+◌, ◌-◌, ◌*◌, ◌^◌, Bool, true, false, ◌||◌, ◌&&◌, List, [], ◌∷◌, map, Option, Some, None, min, ◌==◌, codes, bytes_eq, if◌then◌else◌, take_while, option_map, ◌++◌, length, ◌≡◌}
 use Rattle.std.specs.List.{prefix_len, list_any}
 use Rattle.std.specs.Char.{is_ascii_digit}
 use Rattle.std.specs.Str.{str_to_ascii_lowercase, IsCharBoundary}
 use Rattle.sql_reader.specs.declared.token.Token.{Token as Written}
 use Rattle.sql_reader.specs.declared.token.Token.TheVariants as written
-use Rattle.sql_reader.specs.declared.token.Placed.{Placed as WrittenAt}
 use Rattle.byte_runs.specs.declared.runs.Class.TheVariants as class
+use Rattle.byte_runs.specs.declared.pieces.Piece.{Piece as PieceOf}
+use Rattle.byte_runs.specs.declared.pieces.Piece.TheVariants.{Blank, Next, Last}
+use Rattle.byte_runs.specs.declared.pieces.Placed.{Placed as TokenAt}
+use Rattle.byte_runs.specs.Pieces as pieces
+use Rattle.byte_runs.specs.Pieces.{piece_by, placed_by}
 use Rattle.byte_runs.specs.Bytes.{is_white, begins_word, in_class}
-use Rattle.sql_reader.specs.declared.cutting.Piece.{Piece as WrittenPiece}
-use Rattle.sql_reader.specs.declared.cutting.Piece.TheVariants as piece
 use Rattle.sql_reader.specs.Tokens.{Token, Key, Word, Sign, Number, Text, End, NoToken, NotClosed, Placed}
 
 -- the words that are no names, up to the letter n and from there on
@@ -42,11 +44,9 @@ value_of n (d ∷ ds) = value_of (min (10 * n + (d - 48)) (2 ^ 63 + 1)) ds
 
 -- ---- the piece at the front of some bytes
 
--- blank space, a token, or a token after which nothing is read
-pub data Piece : Type 0 where
-  Blank : (len : ℕ) → Piece
-  Next : (token : Token) → (len : ℕ) → Piece
-  Last : (token : Token) → Piece
+-- what stands at the front of some bytes: blank space, a token, or a token after which nothing is read
+abbrev pub Piece : Type 0
+Piece = PieceOf Token
 
 -- what stands between quotes, and how many bytes after the first quote it takes with the last one; the flag says that the byte before was a quote
 abbrev pub with_byte : ℕ → Option (List ℕ × ℕ) → Option (List ℕ × ℕ)
@@ -126,22 +126,18 @@ piece_of (b ∷ bs) =
 
 -- ---- all of them
 
-abbrev pub with_piece : ℕ → Piece → (ℕ → List Placed) → List Placed
-with_piece at (Blank len) more = more (len - 1)
-with_piece at (Next t len) more = record { at = at; token = t } ∷ more (len - 1)
-with_piece at (Last t) more = record { at = at; token = t } ∷ []
+-- nothing is read behind the end
+pub piece_of-end : (at : ℕ) → piece_of [] ≡ Last End
+unfolding piece_of
+piece_of-end at = refl
 
--- the tokens of the bytes at this offset, of which the first ones are passed over
-abbrev pub tokens_past : ℕ → ℕ → List ℕ → List Placed
-tokens_past skip at [] = record { at = at; token = End } ∷ []
-tokens_past zero at (b ∷ bs) = with_piece at (piece_of (b ∷ bs)) (λ k. tokens_past k (at + 1) bs)
-tokens_past (suc k) at (b ∷ bs) = tokens_past k (at + 1) bs
-
+-- the tokens of a block
 abbrev pub token_list : List ℕ → List Placed
-token_list bs = tokens_past 0 0 bs
+token_list bs = pieces.token_list (λ at. piece_of) End bs
 
 -- ---- what the code has
 
+-- a token of the code
 abbrev pub view_token : Written → Token
 view_token (written.Key x) = key_of x.now
 view_token (written.Word x) = other_of x.now
@@ -152,24 +148,17 @@ view_token written.End = End
 view_token written.NoToken = NoToken
 view_token written.NotClosed = NotClosed
 
-abbrev pub view_piece : WrittenPiece → Piece
-view_piece (piece.Blank len) = Blank len
-view_piece (piece.Next t len) = Next (view_token t) len
-view_piece (piece.Last t) = Last (view_token t)
+-- a piece of the code
+abbrev pub view_piece : PieceOf Written → Piece
+view_piece p = piece_by view_token p
+
+-- a token of the code, with its offset
+abbrev pub WrittenAt : Type 0
+WrittenAt = TokenAt Written
 
 abbrev pub view : WrittenAt → Placed
-view p = record { at = p.at; token = view_token p.token }
+view p = placed_by view_token p
 
+-- tokens of the code
 abbrev pub views : List WrittenAt → List Placed
 views ps = map view ps
-
--- a part of some bytes that ends between two characters
-pub record CutsAt (bs : List ℕ) (len : ℕ) : Type 0 where
-  pub some : 0 < len
-  pub at_char : IsCharBoundary bs len
-
--- a piece is a part of the bytes, and not nothing
-abbrev pub FitsIn : List ℕ → Piece → Type 0
-FitsIn bs (Blank len) = CutsAt bs len
-FitsIn bs (Next t len) = CutsAt bs len
-FitsIn bs (Last t) = ⊤

@@ -23,8 +23,7 @@ use Rattle.sql_reader.specs.declared.statement.Selected.TheVariants as selected
 use Rattle.sql_reader.specs.declared.statement.Update.{Update as WrittenUpdate}
 use Rattle.sql_reader.specs.Tree.{Chain, Last, More, Sum, Only, Then, Condition, Alone, Or, Part, Single, And, Atom, Compares, Not, Group, Items, AllColumns, Columns, Aggregates, Assignment, Statement, CreateTable, Insert, Selects, Update, Delete, Begin, Ends, Lock, Set}
 use Rattle.sql_reader.specs.Tokens.{Token}
-use Rattle.sql_reader.specs.declared.token.Placed.{Placed as WrittenAt}
-use Rattle.sql_reader.specs.Lexing.{view, views}
+use Rattle.sql_reader.specs.Lexing.{WrittenAt, view, views}
 use Rattle.sql_reader.specs.Reading.{Stop, first, rest}
 
 -- ---- lists of one or more

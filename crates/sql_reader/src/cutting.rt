@@ -1,24 +1,13 @@
 //! Cuts a block into tokens.
 
-ghost use Rattle.std.specs.Prelude.{◌≡◌, ◌==◌, ◌&&◌, not, take, IfSome, ℕ, List, ◌∷◌, ◌*◌, ◌-◌, min, ◌+◌, ◌<◌, ◌≤◌, ◌^◌, length, drop, IfOk, slice_index, take_while, option_map, false};
+ghost use Rattle.std.specs.Prelude.{◌≡◌, ◌==◌, ◌&&◌, not, take, IfSome, ℕ, List, ◌∷◌, ◌*◌, ◌-◌, min, ◌+◌, ◌<◌, ◌≤◌, ◌^◌, length, drop, slice_index, take_while, option_map, false};
 ghost use Rattle.std.specs.List.{prefix_len};
 ghost use Rattle.byte_runs.specs.Bytes.{in_class};
-ghost use Rattle.sql_reader.specs.Lexing.{begins_comment, is_pair, is_one_of, reserved_to_n, reserved_from_o, is_reserved, is_sign, value_of, quoted, text_of, sign_of, word_piece, number_piece, piece_of, view_piece, views, token_list, FitsIn};
+ghost use Rattle.sql_reader.specs.Tokens.{Token as Seen, End};
+ghost use Rattle.sql_reader.specs.Lexing.{begins_comment, is_pair, is_one_of, reserved_to_n, reserved_from_o, is_reserved, is_sign, value_of, quoted, text_of, sign_of, word_piece, number_piece, piece_of, view_piece, view_token, piece_of-end};
 
-use crate::token::{Placed, Token};
-use byte_runs::{Class, after_first, run_len, run_of};
-use std::alloc::{AllocError, Global};
-
-/// What stands at the front of a text.
-#[derive(Clone, Copy, Debug)]
-pub enum Piece<'a> {
-    /// White space or a comment, and its length.
-    Blank(usize),
-    /// A token, and its length.
-    Next(Token<'a>, usize),
-    /// A token after which nothing is read.
-    Last(Token<'a>),
-}
+use crate::token::Token;
+use byte_runs::{Class, Cut, Piece, after_first, run_len, run_of};
 
 /// Where the value of a number is no longer told apart.
 const PAST_I64: u64 = (1 << 63) + 1;
@@ -77,7 +66,7 @@ pub fn quoted_len(bytes: &[u8]) -> Option<usize>
 }
 
 /// A text, of what follows its opening quote.
-fn text_of(after: &str) -> Piece<'_>
+fn text_of(after: &str) -> Piece<Token<'_>>
     ensures { view_piece result ≡ text_of after.now }
 {
     match quoted_len(after.as_bytes()) {
@@ -114,7 +103,7 @@ fn up_to(text: &str, last: usize) -> &str
 
 /// A sign of one or two characters, which the text begins with.
 #[tactic(auto, using(crate::proofs::Pieces::signs_are_ascii))]
-fn sign_of(text: &str) -> Piece<'_>
+fn sign_of(text: &str) -> Piece<Token<'_>>
     ensures { (b : ℕ) (bs : List ℕ) → text.now ≡ b ∷ bs → view_piece result ≡ sign_of b bs }
 {
     match text.as_bytes() {
@@ -165,7 +154,7 @@ fn is_reserved(word: &str) -> bool
     is_reserved_to_n(word) || is_reserved_from_o(word)
 }
 
-fn word_piece(text: &str) -> Piece<'_>
+fn word_piece(text: &str) -> Piece<Token<'_>>
     ensures { view_piece result ≡ word_piece text.now }
 {
     let (word, _) = run_of(Class::Word, text);
@@ -177,7 +166,7 @@ fn word_piece(text: &str) -> Piece<'_>
     Piece::Next(token, word.len())
 }
 
-fn number_piece(text: &str) -> Piece<'_>
+fn number_piece(text: &str) -> Piece<Token<'_>>
     ensures { view_piece result ≡ number_piece text.now }
 {
     let (digits, _) = run_of(Class::Digit, text);
@@ -186,7 +175,7 @@ fn number_piece(text: &str) -> Piece<'_>
 
 /// What stands at the front of the text.
 #[tactic(auto, unfolding(crate::specs::Lexing::piece_of))]
-fn piece_of(text: &str) -> Piece<'_>
+fn piece_of(text: &str) -> Piece<Token<'_>>
     ensures { view_piece result ≡ piece_of text.now }
 {
     let [b, ..] = text.as_bytes() else {
@@ -208,38 +197,18 @@ fn piece_of(text: &str) -> Piece<'_>
     }
 }
 
-/// The same, which is a part of the text.
-fn piece_in(text: &str) -> Piece<'_>
-    ensures piece { view_piece result ≡ piece_of text.now }
-    ensures fits { FitsIn text.now (view_piece result) }
-{
-    piece_of(text)
-}
+impl<'a> Cut<'a> for Token<'a> {
+    ghost Seen = { Seen };
 
-/// The tokens of a text, up to its end or to what is no token.
-pub fn tokens_of(alloc: Global, text: &str) -> Result<Vec<Placed<'_>>, AllocError>
-    ensures { IfOk result (λ tokens. views tokens.items ≡ token_list text.now) }
-{
-    let mut tokens = Vec::new(alloc);
-    let mut at = 0;
-    let mut rest = text;
-    loop {
-        match piece_in(rest) {
-            Piece::Blank(len) => {
-                let (_, after) = rest.split_at(len);
-                at += len;
-                rest = after;
-            }
-            Piece::Next(token, len) => {
-                tokens.push(Placed { at, token })?;
-                let (_, after) = rest.split_at(len);
-                at += len;
-                rest = after;
-            }
-            Piece::Last(token) => {
-                tokens.push(Placed { at, token })?;
-                return Ok(tokens);
-            }
-        }
+    ghost view = { view_token };
+
+    ghost piece_of = { λ at. piece_of };
+
+    ghost end = { End };
+
+    ghost ended = { piece_of-end };
+
+    fn piece_of(_at: usize, text: &'a str) -> Piece<Token<'a>> {
+        piece_of(text)
     }
 }

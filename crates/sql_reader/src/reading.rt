@@ -10,7 +10,7 @@ ghost use Rattle.sql_reader.specs.Text.{StatementAt, IsSpelled, Explains, AllHav
 ghost use Rattle.sql_reader.specs.Views.{Gives, option_by, view_form};
 
 use crate::changes::{delete, update};
-use crate::cutting::{quoted_len, tokens_of};
+use crate::cutting::quoted_len;
 use crate::error::{Failure, Limit, SqlError, SqlErrorKind, Stop, Why};
 use crate::locks::lock;
 use crate::queries::select;
@@ -21,6 +21,7 @@ use crate::steps::{at_key, at_sign, at_word, behind, first};
 use crate::table::create;
 use crate::token::{Placed, Token};
 use crate::transactions::{begin, end_word, ends};
+use byte_runs::tokens_of;
 use std::alloc::{AllocError, Global};
 
 fn begins_begin(tokens: &[Placed]) -> bool
@@ -256,7 +257,7 @@ pub fn read_sql(alloc: Global, text: &str) -> Result<Vec<Statement>, SqlError>
     // It has one first fault at most.
     ensures one_fault { (a b : Fault) → FirstFault (token_list text.now) a → FirstFault (token_list text.now) b → a ≡ b }
 {
-    let Ok(tokens) = tokens_of(alloc, text) else {
+    let Ok(tokens) = tokens_of::<Token>(alloc, text) else {
         return Err(NO_MEMORY);
     };
     match statements_of(alloc, &tokens) {

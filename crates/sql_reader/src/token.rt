@@ -63,8 +63,4 @@ impl Token<'_> {
 }
 
 /// A token and its offset.
-#[derive(Clone, Copy, Debug)]
-pub struct Placed<'a> {
-    pub at: usize,
-    pub token: Token<'a>,
-}
+pub type Placed<'a> = byte_runs::Placed<Token<'a>>;

@@ -1,12 +1,15 @@
 -- Lists of one or more, as the reader gives them and as the grammar has them.
-use Rattle.std.proofs.Common.{◌≡◌, refl, sym, ap, ◌∙◌, List, [], ◌∷◌, map, Ok, Err}
+use Rattle.std.proofs.Common.{◌≡◌, refl, sym, ap, ◌∙◌, ℕ, List, [], ◌∷◌, map, Ok, Err}
 use Rattle.sql_reader.specs.declared.expression.Chain.{Chain as Written}
 use Rattle.sql_reader.specs.declared.expression.Factor.{Factor}
 use Rattle.sql_reader.specs.declared.expression.SignedTerm.{SignedTerm}
+use Rattle.sql_reader.specs.declared.statement.Assignment.{Assignment as AssignmentText}
 use Rattle.sql_reader.specs.Tree.{Chain, Last, More, Sum, Only, Then}
-use Rattle.sql_reader.specs.Views.{joined, chain_by, chain_of}
+use Rattle.sql_reader.specs.Views.{joined, chain_by, chain_of, view_assignment}
 use Rattle.sql_subset.specs.Names.{list_of, head, tail}
 use Rattle.sql_subset.specs.Refusals.{Bind, ◌>>=◌, with_front, each}
+use Rattle.sql_subset.specs.Statements.{assignment}
+use Rattle.sql_subset.specs.declared.tables.Table.{Table}
 use Rattle.sql_subset.specs.Translation.{sum_head, sum_tail}
 use Rattle.sql_subset.proofs.EachLemmas.{each-map}
 
@@ -49,26 +52,17 @@ pub sum_tail-summed : (t : Chain Factor) (ss : List SignedTerm) → sum_tail (su
 sum_tail-summed t [] = refl
 sum_tail-summed t (s ∷ ss) = λ i. (s.sign, sum_head-summed (chain_of s.term) ss i) ∷ sum_tail-summed (chain_of s.term) ss i
 
--- the first item, and then those behind it
-pub each-chain : {A B X : Type 0} (f : A → B) (g : B → Bind X) (c : Written A) → each g (list_of (chain_by f c)) ≡ (g (f c.first) >>= λ x. with_front (x ∷ []) (each (λ a. g (f a)) c.more))
-each-chain f g c = ap (each g) (list_of-chain f c) ∙ ap (λ r. g (f c.first) >>= λ x. with_front (x ∷ []) r) (each-map f g c.more)
-
-with_first : {X : Type 0} (r : Bind X) (x : X) (more : Bind (List X)) → r ≡ Ok x → (r >>= λ x. with_front (x ∷ []) more) ≡ with_front (x ∷ []) more
-with_first r x more e = ap (λ r. r >>= λ x. with_front (x ∷ []) more) e
-
--- a chain whose first item is bound goes on with those behind it
-pub chain-starts : {A B X : Type 0} (f : A → B) (g : B → Bind X) (c : Written A) (x : X) → g (f c.first) ≡ Ok x → with_front (x ∷ []) (each (λ a. g (f a)) c.more) ≡ each g (list_of (chain_by f c))
-chain-starts f g c x e = sym (each-chain f g c ∙ with_first (g (f c.first)) x (each (λ a. g (f a)) c.more) e)
-
-pub chain-stops : {A B X : Type 0} (f : A → B) (g : B → Bind X) (c : Written A) (e : _) → g (f c.first) ≡ Err e → each g (list_of (chain_by f c)) ≡ Err e
-chain-stops f g c e h = each-chain f g c ∙ ap (λ r. r >>= λ x. with_front (x ∷ []) (each (λ a. g (f a)) c.more)) h
-
 pub list_of-chain_of : {A : Type 0} (c : Written A) → list_of (chain_of c) ≡ c.first ∷ c.more
 list_of-chain_of c = list_of-chain (λ x. x) c ∙ ap (λ as'. c.first ∷ as') (map-same c.more)
 
 -- what is bound of each item behind the first
 pub each-listed : {A B X : Type 0} (f : A → B) (g : B → Bind X) (c : Written A) → each g (list_of (chain_by f c)) ≡ each (λ a. g (f a)) (c.first ∷ c.more)
 each-listed f g c = ap (each g) (list_of-chain f c) ∙ each-map f g (c.first ∷ c.more)
+
+-- what is bound of each assignment of an UPDATE
+pub assignments-listed : (table : Table) (at : ℕ) (texts : Written AssignmentText)
+    → each (assignment table at) (list_of (chain_by view_assignment texts)) ≡ each (λ a. assignment table at (view_assignment a)) (texts.first ∷ texts.more)
+assignments-listed table at texts = each-listed view_assignment (assignment table at) texts
 
 pub each-summed : {X : Type 0} (g : _ → Bind X) (t : Chain Factor) (ss : List SignedTerm) → each g (sum_tail (summed t ss)) ≡ each (λ s. g (s.sign, chain_of s.term)) ss
 each-summed g t ss = ap (each g) (sum_tail-summed t ss) ∙ each-map (λ s. (s.sign, chain_of s.term)) g ss
@@ -79,4 +73,4 @@ bound-both r s f a b e g = (λ i. e i >>= λ p. (g i >>= λ q. Ok (f p q)))
 pub then-both : {A B X : Type 0} (r : Bind A) (s : Bind B) (f : A → B → Bind X) (a : A) (b : B) → r ≡ Ok a → s ≡ Ok b → (r >>= λ p. (s >>= λ q. f p q)) ≡ f a b
 then-both r s f a b e g = (λ i. e i >>= λ p. (g i >>= λ q. f p q))
 
-pub ruleset chains = (head-chain, tail-chain, list_of-chain_of, each-listed, sum_head-summed, each-summed)
+pub ruleset chains = (head-chain, tail-chain, list_of-chain_of, each-listed, assignments-listed, sum_head-summed, each-summed)

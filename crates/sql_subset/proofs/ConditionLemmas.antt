@@ -39,3 +39,5 @@ parts-viewed t at p = ap (λ q. parts q t at) (fold_out-Part tree.Atom tree.Cond
 pub alternatives-viewed : (t : Table) (at : ℕ) (w : WrittenCondition) → alternatives (view_condition w) t at ≡ (part (view_part (out-Condition w).first) t at >>= λ c. with_front (c ∷ []) (each (λ p. part (view_part p) t at) (out-Condition w).more))
 unfolding view_condition view_part
 alternatives-viewed t at w = ap (λ q. alternatives q t at) (fold_out-Condition tree.Atom tree.Condition tree.Part atom_step condition_step part_step w) ∙ alternatives-by t at (λ p. p) (view_part (out-Condition w).first) (map view_part (out-Condition w).more) ∙ ap (λ r. part (view_part (out-Condition w).first) t at >>= λ c. with_front (c ∷ []) r) (each-map view_part (λ p. part p t at) (out-Condition w).more)
+
+pub ruleset viewed = (parts-viewed, alternatives-viewed)

@@ -26,9 +26,6 @@ module _ {A X : Type 0} (f : A → Bind X) where
   each-ok : (a : A) (as' : List A) (x : X) → f a ≡ Ok x → each f (a ∷ as') ≡ with_front (x ∷ []) (each f as')
   each-ok a as' x e = ap (λ r. r >>= λ y. with_front (y ∷ []) (each f as')) e
 
-  each-err : (a : A) (as' : List A) (e : BindError) → f a ≡ Err e → each f (a ∷ as') ≡ Err e
-  each-err a as' e h = ap (λ r. r >>= λ y. with_front (y ∷ []) (each f as')) h
-
   -- the parts so far, and those to come
   pub each-goes_on : (xs : List X) (as' : List A) (k : ℕ) (d : A) (x : X) → k < length as' → f (get_or as' k d) ≡ Ok x
       → with_front xs (each f (drop k as')) ≡ with_front (xs ++ x ∷ []) (each f (drop (k + 1) as'))
@@ -37,14 +34,6 @@ module _ {A X : Type 0} (f : A → Bind X) where
       ∙ ap (with_front xs) (each-ok (get_or as' k d) (drop (suc k) as') x e)
       ∙ front_twice xs (x ∷ []) (each f (drop (suc k) as'))
       ∙ ap (λ n. with_front (xs ++ x ∷ []) (each f (drop n as'))) (sym (add-one k))
-
-  pub each-fails : (xs : List X) (as' : List A) (k : ℕ) (d : A) (e : BindError) → k < length as' → f (get_or as' k d) ≡ Err e → with_front xs (each f (drop k as')) ≡ Err e
-  each-fails xs as' k d e h r =
-      ap (λ bs. with_front xs (each f bs)) (drop-cons as' k d h)
-      ∙ ap (with_front xs) (each-err (get_or as' k d) (drop (suc k) as') e r)
-
-  pub each-ends : (xs : List X) (as' : List A) (k : ℕ) → length as' ≤ k → with_front xs (each f (drop k as')) ≡ Ok xs
-  each-ends xs as' k h = ap (λ bs. with_front xs (each f bs)) (drop_all k as' h) ∙ ap Ok (append-nil xs)
 
 -- ---- with the tables that are declared so far
 
@@ -63,26 +52,12 @@ module _ {A X : Type 0} (f : List Table → A → Bind (List Table × List X)) w
       more_twice xs y.1 (declared f y.0 as') ∙ (λ i. then_more (both.1 i) (declared f (both.0 i) as'))
   step_by xs (Err e) as' tables ys h = absurd (cc h)
 
-  stop_by : (xs : List X) (r : Bind (List Table × List X)) (as' : List A) (e : BindError) → then_more xs r ≡ Err e
-      → then_more xs (r >>= λ x. then_more x.1 (declared f x.0 as')) ≡ Err e
-  stop_by xs (Ok y) as' e h = absurd (cc h)
-  stop_by xs (Err e') as' e h = h
-
   pub declared-goes_on : (tables : List Table) (xs : List X) (as' : List A) (k : ℕ) (d : A) (new : List Table) (ys : List X) → k < length as' → then_more xs (f tables (get_or as' k d)) ≡ Ok (new, ys)
       → then_more xs (declared f tables (drop k as')) ≡ then_more ys (declared f new (drop (k + 1) as'))
   declared-goes_on tables xs as' k d new ys h e =
       ap (λ bs. then_more xs (declared f tables bs)) (drop-cons as' k d h)
       ∙ step_by xs (f tables (get_or as' k d)) (drop (suc k) as') new ys e
       ∙ ap (λ n. then_more ys (declared f new (drop n as'))) (sym (add-one k))
-
-  pub declared-fails : (tables : List Table) (xs : List X) (as' : List A) (k : ℕ) (d : A) (e : BindError) → k < length as' → then_more xs (f tables (get_or as' k d)) ≡ Err e
-      → then_more xs (declared f tables (drop k as')) ≡ Err e
-  declared-fails tables xs as' k d e h r =
-      ap (λ bs. then_more xs (declared f tables bs)) (drop-cons as' k d h)
-      ∙ stop_by xs (f tables (get_or as' k d)) (drop (suc k) as') e r
-
-  pub declared-ends : (tables : List Table) (xs : List X) (as' : List A) (k : ℕ) → length as' ≤ k → then_more xs (declared f tables (drop k as')) ≡ Ok (tables, xs)
-  declared-ends tables xs as' k h = ap (λ bs. then_more xs (declared f tables bs)) (drop_all k as' h) ∙ ap (λ ys. Ok (tables, ys)) (append-nil xs)
 
   pub declared-starts : (tables : List Table) (as' : List A) → then_more [] (declared f tables as') ≡ declared f tables as'
   declared-starts tables as' = none_more (declared f tables as')

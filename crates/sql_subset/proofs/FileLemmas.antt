@@ -186,16 +186,6 @@ shape_if false true c x y z counts e = absurd (cc e)
 shape_if false false true x y z counts e = absurd (cc e)
 shape_if false false false x y z counts e = refl
 
-shape_ok : (a b c : Bool) (x y z : ShapeError) (counts shape : List ℕ) → cond a (Err x) (cond b (Err y) (cond c (Err z) (Ok counts))) ≡ Ok shape → counts ≡ shape
-shape_ok true b c x y z counts shape e = absurd (cc e)
-shape_ok false true c x y z counts shape e = absurd (cc e)
-shape_ok false false true x y z counts shape e = absurd (cc e)
-shape_ok false false false x y z counts shape e = cc
-
--- a shape is its counts
-pub shape-is : (counts shape : List ℕ) → shape_of counts ≡ Ok shape → counts ≡ shape
-shape-is counts shape e = shape_ok (length counts == 0 || has_idle counts) (nat_lt MAX_SESSIONS (length counts)) (nat_lt MAX_STEPS (total counts)) Empty TooManySessions TooManySteps counts shape e
-
 shape-few : (counts : List ℕ) → is_ok (shape_of counts) ≡ true → total counts ≤ MAX_STEPS
 shape-few counts e = ltb-false MAX_STEPS (total counts) (shape_if (length counts == 0 || has_idle counts) (nat_lt MAX_SESSIONS (length counts)) (nat_lt MAX_STEPS (total counts)) Empty TooManySessions TooManySteps counts e)
 

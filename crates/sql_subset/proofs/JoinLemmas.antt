@@ -14,17 +14,6 @@ pub last-waits : (j : Joint) (pairs : List Condition) (waiting : Option Conditio
 last-waits j pairs None whole new e h = e ∙ h ∙ ap (paired j) (append-nil whole)
 last-waits j pairs (Some c) whole new e h = e ∙ h ∙ ap (paired j) (append-nil whole)
 
-pub joined-none : (n : ℕ) (j : Joint) (cs : List Condition) → n ≡ 0 → first_or_always cs ≡ joined_in n j cs
-joined-none zero j [] e = refl
-joined-none zero j (c ∷ cs) e = refl
-joined-none (suc n) j cs e = absurd (omega arith)
-
-pub joined-few : (n : ℕ) (j : Joint) (cs : List Condition) → length cs < 2 → first_or_always cs ≡ joined_in n j cs
-joined-few zero j cs h = joined-none zero j cs refl
-joined-few (suc n) j [] h = refl
-joined-few (suc n) j (c ∷ []) h = refl
-joined-few (suc n) j (a ∷ b ∷ cs) h = absurd (omega arith)
-
 pub joined-many : (n m : ℕ) (j : Joint) (cs : List Condition) → n ≡ suc m → 2 ≤ length cs → joined_in m j (paired j cs) ≡ joined_in n j cs
 joined-many zero m j cs e h = absurd (omega arith)
 joined-many (suc n) m j [] e h = absurd (omega arith)

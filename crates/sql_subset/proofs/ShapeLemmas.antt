@@ -1,38 +1,26 @@
 -- Counts of steps, and lines of step numbers, one after another.
-use Rattle.std.proofs.Common.{◌≡◌, refl, sym, ap, ◌∙◌, ℕ, zero, suc, ◌+◌, ◌<◌, ◌≤◌, List, [], ◌∷◌, ◌++◌, length, map, get_or, drop, Option, Some, None, drop-cons, add-one, append_assoc, arith}
+use Rattle.std.proofs.Common.{◌≡◌, refl, sym, ap, ◌∙◌, ℕ, zero, suc, ◌+◌, ◌<◌, ◌≤◌, List, [], ◌∷◌, ◌++◌, length, map, get_or, drop, Option, Some, None, option_map, drop-cons, add-one, append_assoc, arith}
 use Rattle.std.proofs.lemmas.List.{append-nil, drop_all, length-map}
 use Rattle.spec_reader.specs.declared.tree.Session.{Session}
 use Rattle.spec_reader.specs.Views.{session_tree, step_tree}
 use Rattle.perm_ranks.specs.Words.{total}
-use Rattle.sql_subset.specs.Lines.{counts_in, front_some, then_some, all_some}
+use Rattle.sql_subset.specs.Lines.{counts_in, then_some, all_some}
 
 -- ---- counts of steps
 
 abbrev pub counts_of : List Session → List ℕ
 counts_of ss = counts_in (map session_tree ss)
 
-pub counts-next : (ss : List Session) (k : ℕ) (d : Session) → k < length ss → counts_of (drop k ss) ≡ length (get_or ss k d).steps.items ∷ counts_of (drop (k + 1) ss)
-counts-next ss k d h =
-    ap counts_of (drop-cons ss k d h)
-    ∙ (λ i. length-map (get_or ss k d).steps.items step_tree i ∷ counts_of (drop (sym (add-one k) i) ss))
-
-pub total-next : (ss : List Session) (k : ℕ) (d : Session) → k < length ss → total (counts_of (drop k ss)) ≡ length (get_or ss k d).steps.items + total (counts_of (drop (k + 1) ss))
-total-next ss k d h = ap total (counts-next ss k d h)
-
-pub total-none : (ss : List Session) (k : ℕ) → length ss ≤ k → total (counts_of (drop k ss)) ≡ 0
-total-none ss k h = ap (λ us. total (counts_of us)) (drop_all k ss h)
-
-pub counts-none : (ss : List Session) (k : ℕ) → length ss ≤ k → counts_of (drop k ss) ≡ []
-counts-none ss k h = ap counts_of (drop_all k ss h)
-
 pub item-le-total : (ss : List Session) (k : ℕ) (d : Session) → k < length ss → length (get_or ss k d).steps.items ≤ total (counts_of ss)
 item-le-total [] k d h = absurd (omega arith)
 item-le-total (s ∷ ss) zero d h = omega (arith, length-map s.steps.items step_tree)
 item-le-total (s ∷ ss) (suc k) d h = omega (arith, item-le-total ss k d (omega arith))
 
-pub ruleset countings = (total-next, total-none)
-
 -- ---- what each gives
+
+-- these in front of those that are left, if there are such
+abbrev pub front_some : {X : Type 0} → List X → Option (List X) → Option (List X)
+front_some xs = option_map (λ ys. xs ++ ys)
 
 front_twice : {X : Type 0} (xs ys : List X) (o : Option (List X)) → front_some xs (front_some ys o) ≡ front_some (xs ++ ys) o
 front_twice xs ys None = refl
@@ -57,11 +45,3 @@ module _ {A X : Type 0} (f : A → Option X) where
       ∙ ap (λ o. front_some xs (then_some o (all_some f (drop (suc k) as')))) e
       ∙ front_twice xs (x ∷ []) (all_some f (drop (suc k) as'))
       ∙ ap (λ n. front_some (xs ++ x ∷ []) (all_some f (drop n as'))) (sym (add-one k))
-
-  pub some-fails : (xs : List X) (as' : List A) (k : ℕ) (d : A) → k < length as' → f (get_or as' k d) ≡ None → front_some xs (all_some f (drop k as')) ≡ None
-  some-fails xs as' k d h e =
-      ap (λ bs. front_some xs (all_some f bs)) (drop-cons as' k d h)
-      ∙ ap (λ o. front_some xs (then_some o (all_some f (drop (suc k) as')))) e
-
-  pub some-ends : (xs : List X) (as' : List A) (k : ℕ) → length as' ≤ k → front_some xs (all_some f (drop k as')) ≡ Some xs
-  some-ends xs as' k h = ap (λ bs. front_some xs (all_some f bs)) (drop_all k as' h) ∙ ap Some (append-nil xs)

@@ -5,26 +5,6 @@ use Rattle.perm_ranks.specs.Words.{Word}
 use Rattle.sql_subset.specs.Spec.{Step, Queues, line, steps_of, queues_from}
 use Rattle.sql_subset.specs.Walking.{steps_from, queues_at}
 
--- past the last step nothing is left
-pub steps_from-past : (i k : ℕ) (steps : List Step) → length steps ≤ k → steps_from i k steps ≡ []
-steps_from-past i k steps h = ap (steps_of i k) (drop_all k steps h)
-
-of_session : (b : Bool) (k : ℕ) (ks : List ℕ) → b ≡ true → cond b (k ∷ ks) ks ≡ k ∷ ks
-of_session true k ks e = refl
-of_session false k ks e = cc
-
-of_other : (b : Bool) (k : ℕ) (ks : List ℕ) → b ≡ false → cond b (k ∷ ks) ks ≡ ks
-of_other true k ks e = cc
-of_other false k ks e = refl
-
--- a step of the session stands at the head of what is left
-pub steps_from-own : (i k : ℕ) (steps : List Step) (d : Step) → k < length steps → ((get_or steps k d).session == i) ≡ true → steps_from i k steps ≡ k ∷ steps_from i (suc k) steps
-steps_from-own i k steps d h e = ap (steps_of i k) (drop-cons steps k d h) ∙ of_session ((get_or steps k d).session == i) k (steps_from i (suc k) steps) e
-
--- another session's step is passed over
-pub steps_from-other : (i k : ℕ) (steps : List Step) (d : Step) → k < length steps → ((get_or steps k d).session == i) ≡ false → steps_from i k steps ≡ steps_from i (suc k) steps
-steps_from-other i k steps d h e = ap (steps_of i k) (drop-cons steps k d h) ∙ of_other ((get_or steps k d).session == i) k (steps_from i (suc k) steps) e
-
 -- a letter takes the head of its queue
 pub line-takes : (q : Queues) (i k : ℕ) (ks : List ℕ) (word : Word) → get_or q i [] ≡ k ∷ ks → line q (i ∷ word) ≡ k ∷ line (set q i ks) word
 line-takes q i k ks word e = rw (e, line) refl

@@ -1,5 +1,5 @@
 -- In which orders the steps of a file are sent.
-use Rattle.std.specs.Prelude.{ℕ, ◌&&◌, nat_le, List, [], ◌∷◌, ◌++◌, length, map, Option, Some, None, is_ok, if◌then◌else◌}
+use Rattle.std.specs.Prelude.{ℕ, ◌&&◌, nat_le, List, [], ◌∷◌, ◌++◌, length, map, Option, Some, None, option_map, is_ok, if◌then◌else◌}
 use Rattle.perm_ranks.specs.declared.TheConstants.{MAX_SESSIONS}
 use Rattle.perm_ranks.specs.Shape.{shape_of}
 use Rattle.perm_ranks.specs.Words.{total}
@@ -18,13 +18,9 @@ step_names (s ∷ ss) = map (λ (t : StepTree). t.name) s.steps ++ step_names ss
 abbrev pub session_names : List SessionTree → List Name
 session_names sessions = map (λ (s : SessionTree). s.head.name) sessions
 
-abbrev pub front_some : {X : Type 0} → List X → Option (List X) → Option (List X)
-front_some xs None = None
-front_some xs (Some ys) = Some (xs ++ ys)
-
 abbrev pub then_some : {X : Type 0} → Option X → Option (List X) → Option (List X)
 then_some None xs = None
-then_some (Some x) xs = front_some (x ∷ []) xs
+then_some (Some x) xs = option_map (λ ys. x ∷ ys) xs
 
 -- what each gives, where each gives something
 abbrev pub all_some : {A X : Type 0} → (A → Option X) → List A → Option (List X)

@@ -58,7 +58,7 @@ fn atom(alloc: Global, table: &Table, at: usize, atom_text: &Atom) -> Result<Con
 
 /// Parts with AND between them.
 #[cycle(condition)]
-#[tactic(auto, unfolding(sql_reader::specs::Views::view_atom, sql_reader::specs::Views::view_part))]
+#[tactic(auto, using(crate::proofs::ConditionLemmas::viewed), unfolding(sql_reader::specs::Views::view_atom, sql_reader::specs::Views::view_part))]
 fn part(alloc: Global, table: &Table, at: usize, text: &PartText) -> Result<Condition, BindStop>
     ensures { Binds (λ condition. condition) result (spec.part (view_part text.now) table.now at) }
 {
@@ -72,7 +72,7 @@ fn part(alloc: Global, table: &Table, at: usize, text: &PartText) -> Result<Cond
 
 /// Parts with OR between them.
 #[cycle(condition)]
-#[tactic(auto, unfolding(sql_reader::specs::Views::view_part, sql_reader::specs::Views::view_condition))]
+#[tactic(auto, using(crate::proofs::ConditionLemmas::viewed), unfolding(sql_reader::specs::Views::view_part, sql_reader::specs::Views::view_condition))]
 fn condition(
     alloc: Global,
     table: &Table,

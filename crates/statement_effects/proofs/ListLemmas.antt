@@ -1,4 +1,5 @@
 -- Lists of what has been computed so far, with what is left.
+pub use Rattle.perm_ranks.proofs.TruthLemmas.{Each, Each-map}
 use Rattle.std.proofs.Common.{◌≡◌, refl, sym, ap, ℕ, zero, suc, ◌<◌, length, get_or, arith, Bool, true, false, cond, List, [], ◌∷◌, ◌++◌, Option, Some, None, append_assoc}
 use Rattle.lock_modes.specs.RowPlace.{RowPlace}
 use Rattle.lock_modes.specs.declared.value.Value.{Value}
@@ -29,21 +30,9 @@ pub onto-passed : {A : Type 0} (xs : List A) (x : A) (b : Bool) (o : Option (Lis
 onto-passed xs x true o = onto-consed xs x o
 onto-passed xs x false o = ap (λ ys. onto ys o) (sym (append-[] xs))
 
-pub onto-value : (xs : List Value) (v : Value) (o : Option (List Value)) → onto xs (consed_value (Some v) o) ≡ onto (xs ++ v ∷ []) o
-onto-value xs v None = refl
-onto-value xs v (Some vs) = ap Some (one-more xs v vs)
-
 pub onto-write : (xs : List Write) (p : RowPlace) (row : Tuple) (o : Option (List Write)) → onto xs (consed_write p (Some row) o) ≡ onto (xs ++ record { place = p; left = Some row } ∷ []) o
 onto-write xs p row None = refl
 onto-write xs p row (Some ws) = ap Some (one-more xs _ ws)
-
-abbrev pub Each : {A : Type 0} → (A → Type 0) → List A → Type 0
-Each P [] = Unit {0}
-Each P (x ∷ xs) = P x × Each P xs
-
-pub Each-map : {A : Type 0} (P Q : A → Type 0) → ((x : A) → P x → Q x) → (xs : List A) → Each P xs → Each Q xs
-Each-map P Q f [] p = tt
-Each-map P Q f (x ∷ xs) p = (f x p.0, Each-map P Q f xs p.1)
 
 -- what holds of each holds at an index
 pub Each-at : {A : Type 0} (P : A → Type 0) (xs : List A) → Each P xs → (i : ℕ) (d : A) → i < length xs → P (get_or xs i d)

@@ -39,10 +39,6 @@ at-test : (t k : ℕ) (row : Tuple) (more : List Tuple) (now : Rows') (b : Bool)
 at-test t k row more now b is = ap (λ b. cond b None (consed_write (t, key_at k row) (Some row) (placed t k more (insert now (t, key_at k row) row)))) is
 
 module _ (t k : ℕ) (rows : Rows') (new : List Tuple) (row : Tuple) (more : List Tuple) (writes : List Write) (keys : List (Value × ℕ)) where
-  -- a key is taken
-  pub placing-stops : Placing t k rows new (row ∷ more) writes keys → (is_some (get rows (t, key_at k row)) || is_some (find value_cmp (key_at k row) keys)) ≡ true → placed t k new rows ≡ None
-  placing-stops p is = sym p.all ∙ ap (onto writes) (at-test t k row more p.so_far true (p.taken (key_at k row) ∙ is))
-
   same_place-value : (v w : Value) → same_key place_order (t, v) (t, w) ≡ same_key value_order v w
   same_place-value v w = sym (tied_then (nat_cmp t t) (value_cmp v w)) ∙ ap (λ b. b && same_key value_order v w) (same_key-refl session_order t)
 

@@ -104,11 +104,3 @@ module _ (t : ℕ) (key : Value) (rows : Rows') (c : Condition) where
       at : (b : Bool) → passed {A = RowPlace × Tuple} ((t, key), row) (Some b) (Some []) ≡ Some ([] ++ cond b (((t, key), row) ∷ []) [])
       at true = refl
       at false = refl
-
--- one more entry that is tested
-pub onto-tested : (c : Condition) (xs : List (RowPlace × Tuple)) (e : RowPlace × Tuple) (es : List (RowPlace × Tuple)) (b : Bool) → holds e.1 c ≡ Some b
-    → onto xs (matching c (e ∷ es)) ≡ onto (xs ++ cond b (e ∷ []) []) (matching c es)
-onto-tested c xs e es b f = ap (λ o. onto xs (passed e o (matching c es))) f ∙ onto-passed xs e b (matching c es)
-
-pub onto-fault : (c : Condition) (xs : List (RowPlace × Tuple)) (e : RowPlace × Tuple) (es : List (RowPlace × Tuple)) → holds e.1 c ≡ None → onto xs (matching c (e ∷ es)) ≡ None
-onto-fault c xs e es f = ap (λ o. onto xs (passed e o (matching c es))) f

@@ -208,7 +208,3 @@ session_code = closed_code session_json session_closed
 
 pub outcome_closed : IsClosed outcome_json
 outcome_closed = array_closed session_json session_code
-
--- outcomes with one text are one
-pub texts_tell : (a b : List (List Event)) → outcome_json a ≡ outcome_json b → a ≡ b
-texts_tell a b e = outcome_closed.same a b (ap (bytes_cmp (outcome_json a)) (sym e) ∙ bytes_tied (outcome_json a))

@@ -18,10 +18,6 @@ next-of f s xs i x d lt e =
 module _
     {W : Type 0}
     (contents : W → Option (List ℕ)) where
-  -- nothing is written, and nothing fails
-  pub wrote-nil : (a : Counted W) → Wrote contents a a []
-  wrote-nil a = record { whole = Appends-nil _; failures = refl }
-
   -- one text, and then the next
   pub wrote-append : (a b c : Counted W) (s t : List ℕ) → Wrote contents a b s → Wrote contents b c t → Wrote contents a c (s ++ t)
   wrote-append a b c s t p q = record {

@@ -116,8 +116,3 @@ abbrev pub Reads : {X Y : Type 0} → (X → Y) → Result X ValueError → Opti
 Reads seen (Ok x) o = o ≡ Some (seen x)
 Reads seen (Err BadField) o = o ≡ None
 Reads seen (Err NoMemory) o = ⊤
-
--- what was read already, before what is still to be read
-abbrev pub with_front : {X : Type 0} → List X → Option (List X) → Option (List X)
-with_front xs None = None
-with_front xs (Some ys) = Some (xs ++ ys)

@@ -5,15 +5,8 @@ use Rattle.sql_statements.specs.declared.condition.Condition.{Condition}
 use Rattle.sql_subset.specs.Refusals.{Bind}
 use Rattle.sql_reader.specs.Views.{view_atom, view_part}
 use Rattle.sql_subset.specs.Translation.{atom, part}
-use Rattle.sql_subset.proofs.ConditionLemmas.{parts-viewed, alternatives-viewed}
 use Rattle.sql_subset.proofs.EachLemmas.{each-goes_on}
 use Rattle.sql_subset.proofs.conditions.+condition.Goals as goal
-
-pub part-returns-in_err-atom : goal.part-returns-in_err-atom
-part-returns-in_err-atom t c = let viewed = parts-viewed c.args.table.now c.args.at c.args.text.now in rw viewed (search rules)
-
-pub part-ands-init : goal.part-ands-init
-part-ands-init t c = let viewed = parts-viewed c.args.table.now c.args.at c.args.text.now in rw viewed (search rules)
 
 pub part-ands-preserved : goal.part-ands-preserved
 part-ands-preserved t c =
@@ -22,12 +15,6 @@ part-ands-preserved t c =
     let found = ap (λ xs. f (view_atom (get_or xs c.ands.next-index c.next-item.result))) (sym items) ∙ ap (λ a. f (view_atom a)) (sym c.next-item.is) ∙ c.in_ok-atom-2.ensures in
     rw c.in_ok-push-2.ensures.items
     (sym (each-goes_on (λ a. f (view_atom a)) c.ands.all.items c.args.text.now.more c.ands.next-index c.next-item.result c.in_ok-atom-2.field-0 (omega (arith, c.ands-test.true, ap length items)) found) ∙ c.ands.invariant)
-
-pub condition-returns-in_err-part : goal.condition-returns-in_err-part
-condition-returns-in_err-part t c = let viewed = alternatives-viewed c.args.table.now c.args.at c.args.text.now in rw viewed (search rules)
-
-pub condition-ors-init : goal.condition-ors-init
-condition-ors-init t c = let viewed = alternatives-viewed c.args.table.now c.args.at c.args.text.now in rw viewed (search rules)
 
 pub condition-ors-preserved : goal.condition-ors-preserved
 condition-ors-preserved t c =

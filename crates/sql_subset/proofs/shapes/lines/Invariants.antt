@@ -1,7 +1,10 @@
 use Rattle.std.proofs.Common.{◌≡◌, drop, map}
 use Rattle.spec_reader.specs.Views.{line_tree}
-use Rattle.sql_subset.specs.Lines.{front_some, all_some, numbered_line}
+use Rattle.sql_subset.specs.Lines.{all_some, numbered_line}
+use Rattle.sql_subset.proofs.ShapeLemmas.{front_some}
 use Rattle.sql_subset.proofs.shapes.lines.Given as goal
 
 abbrev pub invariant-loop-text : goal.invariant-loop-text
-invariant-loop-text l = front_some (map (λ line. line.items) l.lines.items) (all_some (λ t. numbered_line l.names (line_tree t)) (drop l.text-index l.texts)) ≡ all_some (numbered_line l.names) (map line_tree l.texts)
+invariant-loop-text l =
+    front_some (map (λ line. line.items) l.lines.items) (all_some (λ t. numbered_line l.names (line_tree t)) (drop l.text-index l.texts))
+    ≡ all_some (numbered_line l.names) (map line_tree l.texts)
