@@ -1,0 +1,15 @@
+pub mod Prefixes
+pub mod Places
+pub mod FactsAt
+pub mod Tables
+pub mod Turns
+pub mod Stacks
+pub mod Listed
+pub mod Asked
+pub mod Quiets
+pub mod FrontLemmas
+pub mod Trails
+pub mod Firsts
+pub mod Walkings
+pub mod Givings
+pub mod Shards

@@ -1,0 +1,95 @@
+use Rattle.std.proofs.Common.{◌≡◌, sym, ap, ◌∙◌, subst, suc, ◌-◌, ◌<◌, true, false, [], ◌∷◌, ◌++◌, length, get_or, arith, length-append}
+use Rattle.perm_ranks.specs.Words.{total, all_words}
+use Rattle.perm_ranks.specs.Blocks.{HasRank, end_of}
+use Rattle.perm_ranks.proofs.CountLemmas.{length-all_words}
+use Rattle.sql_subset.specs.Spec.{SpecFile}
+use Rattle.machine_model.specs.World.{send, outcome_of}
+use Rattle.quiet_steps.specs.Facts.{IsFactOf}
+use Rattle.quiet_steps.specs.declared.fact.Fact.TheVariants.{Ran}
+use Rattle.step_reducer.specs.Reduced.{tour_of}
+use Rattle.step_reducer.proofs.FactsAt.{swap-within, swap-all, ran-at}
+use Rattle.step_reducer.proofs.Turns.{turn-place}
+use Rattle.step_reducer.proofs.word_walk.find.Goals as goal
+
+pub returns-then-is_swap-clause-found : goal.returns-then-is_swap-clause-found
+returns-then-is_swap-clause-found c =
+    let file = c.args.stack.now.top.world.file in
+    let top = c.letter.stack.top in
+    let frame = c.letter.invariant.at.stack.top.frame in
+    let turn = c.turn-turn.ensures in
+    let u = c.turn-turn.result in
+    let listed : get_or top.swaps.items u.letter false ≡ true = sym c.is_swap.ensures ∙ c.if-is_swap.true in
+    let letters = frame.stands.ranks.letters in
+    let some = frame.stands.some u.letter listed in
+    let k = c.args.steps - c.letters_left-left.result - 1 in
+    let last : suc k ≡ length frame.shared = omega (arith, letters, some, c.requires.steps, c.letters_left-left.ensures.all) in
+    let from = turn.inside.0 in
+    let to = turn.inside.1 in
+    record {
+      some = omega (arith, to, c.requires.some, c.min-behind.ensures, c.end.ensures.end);
+      few = omega (arith, c.min-behind.ensures);
+      sent_few = omega (arith, c.letters_left-before.ensures.few);
+      facts = λ r le lt. (
+          let behind : r < end_of u.block = omega (arith, lt, c.min-behind.ensures, c.end.ensures.end) in
+          let has : HasRank u.block r = (omega (arith, from, le), behind) in
+          swap-within (tour_of file.run c.args.reduce) frame.shared top.block top.world.world top.swaps.items u.letter k r c.requires.tour frame.stands turn.left listed last
+          (subst (λ b. HasRank b r) turn.block_is has));
+    }
+
+pub returns-then-is_covered-clause-found : goal.returns-then-is_covered-clause-found
+returns-then-is_covered-clause-found c =
+    let file = c.args.stack.now.top.world.file in
+    let top = c.letter.stack.top in
+    let frame = c.letter.invariant.at.stack.top.frame in
+    let turn = c.turn-turn.ensures in
+    let u = c.turn-turn.result in
+    let unlisted : get_or top.swaps.items u.letter false ≡ false = sym c.is_swap.ensures ∙ c.if-is_swap.false in
+    let covered = c.is_covered.ensures c.if-is_covered.true in
+    let letters = frame.stands.ranks.letters in
+    let k = c.args.steps - c.letters_left-left.result in
+    let last : suc k ≡ length (frame.shared ++ u.letter ∷ []) = omega (arith, letters, c.requires.steps, c.letters_left-left.ensures.all, length-append frame.shared (u.letter ∷ [])) in
+    let from = turn.inside.0 in
+    let to = turn.inside.1 in
+    record {
+      some = omega (arith, to, c.requires.some, c.min-behind.ensures, c.end.ensures.end);
+      few = omega (arith, c.min-behind.ensures);
+      sent_few = omega (arith, c.letters_left-before.ensures.few);
+      facts = λ r le lt. (
+          let behind : r < end_of u.block = omega (arith, lt, c.min-behind.ensures, c.end.ensures.end) in
+          let has : HasRank u.block r = (omega (arith, from, le), behind) in
+          swap-all (tour_of file.run c.args.reduce) (frame.shared ++ u.letter ∷ []) u.block (send top.world.file.run.steps top.world.world u.step) u.swaps.items k r c.requires.tour
+          (turn-place c.args.reduce file top u c.args.at frame turn unlisted) covered.some covered.all last has);
+    }
+
+pub letter-smaller : goal.letter-smaller
+letter-smaller c =
+    (c.in_ok-descend.ensures c.args.reduce c.args.stack.now.top.world.file c.args.at c.requires.some c.letter.invariant.at c.turn-turn.ensures (sym c.is_swap.ensures ∙ c.if-is_swap.false)).less
+
+pub letter-preserved : goal.letter-preserved
+letter-preserved c =
+    let gone = c.in_ok-descend.ensures c.args.reduce c.args.stack.now.top.world.file c.args.at c.requires.some c.letter.invariant.at c.turn-turn.ensures (sym c.is_swap.ensures ∙ c.if-is_swap.false) in
+    let less = gone.less in
+    record { at = gone.now; letters = omega (arith, less, c.letter.invariant.letters) }
+
+pub returns-clause-found : goal.returns-clause-found
+returns-clause-found c =
+    let file = c.args.stack.now.top.world.file in
+    let top = c.letter.stack.top in
+    let frame = c.letter.invariant.at.stack.top.frame in
+    let has = c.letter.invariant.at.has in
+    let none : total top.block.left ≡ 0 = omega (arith, c.letter-test.false, c.letters_left.ensures.all) in
+    let one : length (all_words top.block.left) ≡ 1 = length-all_words top.block.left 0 none in
+    let from = has.0 in
+    let to = has.1 in
+    let told : Ran (outcome_of file.run.sessions top.world.world) ≡ Ran c.in_ok-outcome.outcome =
+    ap Ran (sym (c.in_ok-outcome.ensures ∙ ap (λ (f : SpecFile). outcome_of f.run.sessions top.world.world) frame.file_is)) in
+    record {
+      some = omega arith;
+      few = omega (arith, c.requires.some);
+      sent_few = omega (arith, c.letters_left-before.ensures.few);
+      facts = λ r le lt. (
+          let same : r ≡ top.block.first = omega (arith, one, from, to, le, lt) in
+          subst (λ n. IsFactOf c.args.reduce file.run n (Ran c.in_ok-outcome.outcome)) (sym same)
+          (subst (IsFactOf c.args.reduce file.run top.block.first) told
+          (ran-at (tour_of file.run c.args.reduce) frame.shared top.block top.world.world top.swaps.items c.requires.tour frame.stands none)));
+    }

@@ -1,0 +1,6 @@
+pub mod Fronts
+pub mod Pairs
+pub mod Reduced
+pub mod Walks
+pub mod Lines
+pub mod Walking

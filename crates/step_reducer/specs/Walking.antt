@@ -1,0 +1,130 @@
+-- A walker between its calls, and what they give.
+use Rattle.std.specs.Prelude.{◌≡◌, ◌≢◌, ℕ, ◌+◌, ◌-◌, ◌*◌, [], ◌<◌, ◌≤◌, Bool, true, false, Option, Some, None, List, length, get_or, ◌⊎◌}
+use Rattle.step_reducer.specs.declared.walker.TheConstants.{MAX_RANKS}
+use Rattle.spec_reader.specs.declared.TheConstants.{MAX_ITEMS}
+use Rattle.sql_subset.specs.Spec.{Spec, SpecFile, ranks}
+use Rattle.machine_model.specs.World.{World}
+use Rattle.machine_model.specs.Start.{Started, start}
+use Rattle.quiet_steps.specs.Facts.{IsFactOf}
+use Rattle.quiet_steps.specs.declared.fact.Fact.{Fact}
+use Rattle.session_machine.specs.Running.{IsNotRunBy}
+use Rattle.session_machine.specs.declared.error.RunError.{RunError}
+use Rattle.session_machine.specs.declared.error.RunError.TheVariants as run_error
+use Rattle.step_reducer.specs.declared.walker.Shard.{Shard}
+use Rattle.step_reducer.specs.declared.fact.FactRun.{FactRun}
+use Rattle.step_reducer.specs.declared.fact.Given.{Given}
+use Rattle.step_reducer.specs.declared.word_walk.WordWalk.{WordWalk}
+use Rattle.step_reducer.specs.declared.line_walk.LineWalk.{LineWalk}
+use Rattle.step_reducer.specs.declared.walk.Walk.{Walk}
+use Rattle.step_reducer.specs.declared.walk.Walk.TheVariants.{Words, Lines}
+use Rattle.step_reducer.specs.Walks.{AllHave, IsWalk}
+use Rattle.step_reducer.specs.Lines.{IsLines}
+
+-- a spec, whether its facts are reduced, the first rank of the shard, the next one, the one behind the last, the steps sent for the ranks given so far, whether no run was given in part, and whether memory was refused
+pub record Walking : Type 0 where
+  pub file : SpecFile
+  pub reduce : Bool
+  pub first : ℕ
+  pub at : ℕ
+  pub end : ℕ
+  pub sent : ℕ
+  pub whole : Bool
+  pub spent : Bool
+
+-- the fact of some ranks from the next one on
+pub record IsRun (x : Walking) (run : FactRun) : Type 0 where
+  pub first : run.first ≡ x.at
+  pub some : run.first < run.end
+  pub few : run.end ≤ x.end
+  pub facts : AllHave x.reduce x.file.run run.first run.end run.fact
+
+-- none at the end alone, where the walker stays; else a run, behind which it stands, and for which no more steps were sent than a line has
+abbrev pub GivesRun : Walking → Walking → Option FactRun → Type 0
+GivesRun x y None = (x.at ≡ x.end) × (y ≡ x)
+GivesRun x y (Some run) = IsRun x run × (y.sent ≤ x.sent + MAX_ITEMS) × (y ≡ record x { at = run.end; sent = y.sent; whole = true })
+
+-- the next rank with its fact
+abbrev pub GivesFact : Walking → Walking → Option (ℕ × Fact) → Type 0
+GivesFact x y None = (x.at ≡ x.end) × (y ≡ x)
+GivesFact x y (Some p) = (p.0 ≡ x.at) × (x.at < x.end) × IsFactOf x.reduce x.file.run x.at p.1 × (y ≡ record x { at = x.at + 1; sent = y.sent; whole = y.whole })
+
+-- the walker is spent; the next rank is still the one that was refused, and the steps sent for the ranks before it are still counted
+abbrev pub HasStopped : Walking → Walking → Type 0
+HasStopped x y = y ≡ record x { whole = y.whole; spent = true }
+
+-- ---- what a walker keeps
+
+abbrev pub walk_at : Walk → ℕ
+walk_at (Words w) = w.at
+walk_at (Lines w) = w.at
+
+-- a walk of the spec's words up to the end
+pub record IsWords (file : SpecFile) (reduce : Bool) (end : ℕ) (w : WordWalk) : Type 0 where
+  pub walk : IsWalk file w
+  pub reduce_is : w.reduce ≡ reduce
+  pub end_is : w.end ≡ end
+  pub few : w.at ≤ end
+
+-- a walk of the spec's lines up to the end
+pub record IsLinesTo (file : SpecFile) (end : ℕ) (w : LineWalk) : Type 0 where
+  pub walk : IsLines file w
+  pub lines : file.run.lines ≢ []
+  pub few : w.at ≤ end
+  pub known : end ≤ ranks file.run
+
+abbrev pub IsWalkOf : SpecFile → Bool → ℕ → Walk → Type 0
+IsWalkOf file reduce end (Words w) = IsWords file reduce end w
+IsWalkOf file reduce end (Lines w) = IsLinesTo file end w
+
+-- the walk has given the fact of the ranks from where it stood on, and stands behind them
+pub record HasWalked (file : SpecFile) (reduce : Bool) (end : ℕ) (x : Walk) (given : Given) (y : Walk) : Type 0 where
+  pub walk : IsWalkOf file reduce end y
+  pub first : given.run.first ≡ walk_at x
+  pub some : given.run.first < given.run.end
+  pub at : walk_at y ≡ given.run.end
+  pub facts : AllHave reduce file.run given.run.first given.run.end given.run.fact
+  pub sent_few : given.sent ≤ MAX_ITEMS
+
+-- what is left of a run whose first ranks were given one by one
+abbrev pub IsRest : SpecFile → Bool → ℕ → Walk → Option FactRun → Type 0
+IsRest file reduce at w None = walk_at w ≡ at
+IsRest file reduce at w (Some run) = (run.first ≡ at) × (run.first < run.end) × (run.end ≡ walk_at w) × AllHave reduce file.run run.first run.end run.fact
+
+abbrev pub is_whole : Option FactRun → Bool
+is_whole None = true
+is_whole (Some run) = false
+
+pub record IsStanding (file : SpecFile) (reduce : Bool) (first at end sent : ℕ) (w : Walk) (rest : Option FactRun) : Type 0 where
+  pub walk : IsWalkOf file reduce end w
+  pub rest_is : IsRest file reduce at w rest
+  pub from : first ≤ at
+  pub few : end ≤ first + MAX_RANKS
+  pub sent_few : sent ≤ MAX_ITEMS * (at - first)
+
+abbrev pub IsStandingUnless : Bool → SpecFile → Bool → ℕ → ℕ → ℕ → ℕ → Walk → Option FactRun → Type 0
+IsStandingUnless spent file reduce first at end sent w rest = spent ≡ false → IsStanding file reduce first at end sent w rest
+
+-- ---- which shards are walked
+
+-- the shard is of ranks of the spec, and not too long
+pub record IsShardOf (spec : Spec) (shard : Shard) : Type 0 where
+  pub order : shard.first ≤ shard.end
+  pub inside : shard.end ≤ ranks spec
+  pub few : shard.end ≤ shard.first + MAX_RANKS
+
+-- why a shard of a spec is not walked: the first of these that fits, unless memory ran out behind the first two
+abbrev pub IsNotWalked : Spec → Shard → RunError → Type 0
+IsNotWalked spec shard run_error.OutOfRange = (shard.end < shard.first) ⊎ (ranks spec < shard.end)
+IsNotWalked spec shard run_error.TooLong = (shard.first ≤ shard.end) × (shard.end ≤ ranks spec) × (shard.first + MAX_RANKS < shard.end)
+IsNotWalked spec shard run_error.TooDeep = ⊥
+IsNotWalked spec shard run_error.NoMemory = IsShardOf spec shard
+IsNotWalked spec shard (run_error.Start error) = IsShardOf spec shard × IsNotRunBy (run_error.Start error) (start spec)
+
+-- the spec starts
+abbrev pub Starts : Spec → Type 0
+Starts spec = (w : World) × (start spec ≡ Started w)
+
+-- the facts of a shard's ranks in order, so many of them
+pub record AreFacts (reduce : Bool) (spec : Spec) (first count : ℕ) (facts : List (ℕ × Fact)) : Type 0 where
+  pub count_is : length facts ≡ count
+  pub each : (k : ℕ) (d : ℕ × Fact) → k < count → ((get_or facts k d).0 ≡ first + k) × IsFactOf reduce spec (first + k) (get_or facts k d).1

@@ -1,0 +1,110 @@
+-- What the code of a walk keeps.
+use Rattle.std.specs.Prelude.{◌≡◌, ℕ, ◌<◌, ◌≤◌, Bool, true, false, List, [], ◌∷◌, ◌++◌, length, get_or, All}
+use Rattle.perm_ranks.specs.Words.{Word, total}
+use Rattle.perm_ranks.specs.Blocks.{HasRank, end_of, narrowed}
+use Rattle.spec_reader.specs.declared.TheConstants.{MAX_ITEMS}
+use Rattle.sql_subset.specs.Spec.{Spec, SpecFile, counts_of, queues_of}
+use Rattle.machine_model.specs.World.{send}
+use Rattle.quiet_steps.specs.Facts.{IsFactOf}
+use Rattle.quiet_steps.specs.declared.fact.Fact.{Fact}
+use Rattle.step_reducer.specs.Reduced.{tour_of, IsTour, IsPlace}
+use Rattle.step_reducer.specs.declared.frame.Frame.{Frame}
+use Rattle.step_reducer.specs.declared.frame.Turn.{Turn}
+use Rattle.step_reducer.specs.declared.fact.Given.{Given}
+use Rattle.step_reducer.specs.declared.stack.Stack.{Stack}
+use Rattle.step_reducer.specs.declared.word_walk.Found.{Found}
+use Rattle.step_reducer.specs.declared.word_walk.WordWalk.{WordWalk}
+
+-- each of these ranks has the fact
+abbrev pub AllHave : Bool → Spec → ℕ → ℕ → Fact → Type 0
+AllHave reduce spec first end fact = (rank : ℕ) → first ≤ rank → rank < end → IsFactOf reduce spec rank fact
+
+-- the frame stands at these letters
+abbrev pub StandsAt : Bool → Spec → Word → Frame → Type 0
+StandsAt reduce spec shared f = IsPlace (tour_of spec reduce) shared f.block f.world.world f.swaps.items
+
+-- the frame stands somewhere, with a world of the spec that is not spent
+pub record IsFrame (reduce : Bool) (file : SpecFile) (f : Frame) : Type 0 where
+  pub shared : Word
+  pub stands : StandsAt reduce file.run shared f
+  pub file_is : f.world.file ≡ file
+  pub whole : f.world.spent ≡ false
+
+-- an equal frame
+pub record IsSame (f g : Frame) : Type 0 where
+  pub block : g.block ≡ f.block
+  pub swaps : g.swaps.items ≡ f.swaps.items
+  pub world : g.world ≡ f.world
+
+-- where the words go on from a frame with the letter of a rank's word
+pub record IsTurn (reduce : Bool) (f : Frame) (rank : ℕ) (u : Turn) : Type 0 where
+  pub left : 0 < get_or f.block.left u.letter 0
+  pub block_is : u.block ≡ narrowed f.block u.letter
+  pub inside : HasRank u.block rank
+  pub known : u.step < length f.world.file.run.steps
+  pub next : (shared : Word) → StandsAt reduce f.world.file.run shared f → get_or f.swaps.items u.letter false ≡ false
+      → IsPlace (tour_of f.world.file.run reduce) (shared ++ u.letter ∷ []) u.block (send f.world.file.run.steps f.world.world u.step) u.swaps.items
+
+-- some letter is left, and each one that is makes a swap
+pub record IsCovered (u : Turn) : Type 0 where
+  pub some : 0 < total u.block.left
+  pub all : (letter : ℕ) → 0 < get_or u.block.left letter 0 → get_or u.swaps.items letter false ≡ true
+
+-- the frame has gone on
+pub record HasTurned (f : Frame) (u : Turn) (g : Frame) : Type 0 where
+  pub block : g.block ≡ u.block
+  pub swaps : g.swaps.items ≡ u.swaps.items
+  pub world : g.world.world ≡ send f.world.file.run.steps f.world.world u.step
+  pub file : g.world.file ≡ f.world.file
+  pub whole : g.world.spent ≡ false
+
+-- the frame stands at letters of a word of this rank or one before it
+pub record IsBefore (reduce : Bool) (file : SpecFile) (at : ℕ) (f : Frame) : Type 0 where
+  pub frame : IsFrame reduce file f
+  pub from : f.block.first ≤ at
+
+abbrev pub lowest : List Frame → Frame → Frame
+lowest [] top = top
+lowest (f ∷ fs) top = f
+
+-- frames of words up to this rank, of which the lowest has all that are to come up to the end
+pub record IsStack (reduce : Bool) (file : SpecFile) (at end : ℕ) (s : Stack) : Type 0 where
+  pub below : All (IsBefore reduce file at) s.below.items
+  pub top : IsBefore reduce file at s.top
+  pub to : end ≤ end_of (lowest s.below.items s.top).block
+
+-- the topmost frame has the rank
+pub record IsAt (reduce : Bool) (file : SpecFile) (at end : ℕ) (s : Stack) : Type 0 where
+  pub stack : IsStack reduce file at end s
+  pub has : HasRank s.top.block at
+
+-- from the one stack, which has the rank, to the other, which has it with a letter less to go
+pub record HasGone (reduce : Bool) (file : SpecFile) (at end : ℕ) (x y : Stack) : Type 0 where
+  pub now : IsAt reduce file at end y
+  pub less : total y.top.block.left < total x.top.block.left
+
+-- a walk of a spec's words before a rank
+pub record IsWalk (file : SpecFile) (w : WordWalk) : Type 0 where
+  pub tour : IsTour (tour_of file.run w.reduce)
+  pub table : w.table ≡ queues_of file.run
+  pub steps : w.steps ≡ total (counts_of (queues_of file.run))
+  pub stack : IsStack w.reduce file w.at w.end w.stack
+
+-- the fact of ranks from this one on, up to an end
+pub record IsFound (reduce : Bool) (file : SpecFile) (at end : ℕ) (found : Found) : Type 0 where
+  pub some : at < found.end
+  pub few : found.end ≤ end
+  pub facts : AllHave reduce file.run at found.end found.fact
+  pub sent_few : found.sent ≤ MAX_ITEMS
+
+-- the walk has given the fact of the ranks from where it stood on, and stands behind them
+pub record HasGiven (file : SpecFile) (x : WordWalk) (given : Given) (y : WordWalk) : Type 0 where
+  pub walk : IsWalk file y
+  pub first : given.run.first ≡ x.at
+  pub some : given.run.first < given.run.end
+  pub few : given.run.end ≤ x.end
+  pub facts : AllHave x.reduce file.run given.run.first given.run.end given.run.fact
+  pub at : y.at ≡ given.run.end
+  pub end : y.end ≡ x.end
+  pub reduce : y.reduce ≡ x.reduce
+  pub sent_few : given.sent ≤ MAX_ITEMS

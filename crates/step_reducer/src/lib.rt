@@ -1,0 +1,21 @@
+//! Which neighbouring steps may be exchanged, and the facts of a spec's ranks in runs.
+#![tactic(auto)]
+
+mod error;
+mod fact;
+mod frame;
+mod line_walk;
+mod pairs;
+mod stack;
+mod step_table;
+mod trail;
+mod walk;
+mod walker;
+mod word_walk;
+mod worlds;
+
+pub use error::WalkError;
+pub use fact::FactRun;
+pub use pairs::quiet;
+pub use quiet_steps::Fact;
+pub use walker::{MAX_RANKS, Shard, Walker, run_shard};

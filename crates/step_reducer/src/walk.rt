@@ -1,0 +1,36 @@
+//! A walk of words or of lines.
+
+ghost use Rattle.std.specs.Prelude.{◌≡◌, ◌<◌, IfOk};
+ghost use Rattle.step_reducer.specs.Walking.{walk_at, IsWalkOf, HasWalked};
+
+use crate::fact::Given;
+use crate::line_walk::LineWalk;
+use crate::word_walk::WordWalk;
+use sql_subset::Spec;
+use std::alloc::AllocError;
+
+/// How the ranks are walked.
+#[derive(Drop)]
+pub(crate) enum Walk<'a> {
+    Words(WordWalk<'a>),
+    Lines(LineWalk<'a>),
+}
+
+impl<'a> Walk<'a> {
+    /// The fact of the next ranks, at least of one.
+    pub(crate) fn next_run(
+        &mut self,
+        spec: &Spec,
+        reduce: bool,
+        end: u64,
+    ) -> Result<Given, AllocError>
+        requires walk { IsWalkOf spec.now reduce end self.old }
+        requires some { walk_at self.old < end }
+        ensures { IfOk result (λ given. HasWalked spec.now reduce end self.old given self.new) }
+    {
+        match self {
+            Walk::Words(walk) => walk.next_run(),
+            Walk::Lines(walk) => walk.next_run(),
+        }
+    }
+}

@@ -1,0 +1,213 @@
+//! The facts of the ranks of a shard, in order.
+
+ghost use Rattle.std.specs.Prelude.{◌≡◌, ◌↔◌, ◌-◌, ◌++◌, [], ◌∷◌, true, false, IfOk, IfErr, OnOk, OnErr, IsErrOf};
+ghost use Rattle.machine_model.specs.Start.{Start};
+ghost use Rattle.session_machine.specs.Running.{IsRefusedBy, IsNotRunBy};
+ghost use Rattle.step_reducer.specs.declared.error.WalkError.TheVariants as walk_error;
+ghost use Rattle.step_reducer.specs.Walking.{GivesRun, GivesFact, HasStopped, IsNotWalked, IsShardOf, Starts, AreFacts};
+
+use crate::error::WalkError;
+use crate::fact::FactRun;
+use crate::line_walk::LineWalk;
+use crate::walk::Walk;
+use crate::word_walk::WordWalk;
+use quiet_steps::Fact;
+use session_machine::{RunError, StartError, World};
+use sql_subset::Spec;
+use std::alloc::{AllocError, Global};
+use std::marker::Model;
+use version_tree::Fork;
+
+/// The ranks of a shard, at most.
+pub const MAX_RANKS: u64 = 1_000_000;
+
+/// The ranks from `first` up to but not `end`.
+#[derive(Clone, Copy, Debug, PartialEq, Eq)]
+pub struct Shard {
+    pub first: u64,
+    pub end: u64,
+}
+
+/// Gives the facts of the ranks of a shard in rising order, of many ranks at once where one swap covers them. Contracts see
+/// the spec, whether facts are reduced, the shard, the next rank, the steps sent so far, and whether memory was refused.
+#[derive(Drop)]
+pub struct Walker<'a> {
+    spec: &'a Spec,
+    reduce: bool,
+    first: u64,
+    at: u64,
+    end: u64,
+    sent: u64,
+    walk: Walk<'a>,
+    rest: Option<FactRun>,
+    is_spent: bool,
+}
+
+impl<'a> Model for Walker<'a> {
+    ghost use Rattle.std.specs.Coded.{codes};
+    ghost use Rattle.sql_statements.specs.contracts.statement.Bound as bound;
+    ghost use Rattle.step_reducer.specs.Walking.{Walking, is_whole, IsStandingUnless};
+
+    ghost Value = { Walking };
+
+    ghost coded = { Prim.hlevel (codes, bound.the_row.coded) };
+
+    ghost view = { λ w. record { file = w.spec.now; reduce = w.reduce; first = w.first; at = w.at; end = w.end; sent = w.sent; whole = is_whole w.rest; spent = w.is_spent } };
+
+    ghost invariant = { λ w. IsStandingUnless w.is_spent w.spec.now w.reduce w.first w.at w.end w.sent w.walk w.rest };
+}
+
+impl<'a> Walker<'a> {
+    /// A walker at the first rank of a shard. Of these refusals the first that fits comes: a shard out of the spec's ranks, one that
+    /// is too long, and a spec that does not start.
+    pub fn new(
+        alloc: Global,
+        spec: &'a Spec,
+        shard: Shard,
+        reduce: bool,
+    ) -> Result<Walker<'a>, RunError>
+        ensures refused { IfErr result (IsNotWalked spec.now.run shard) }
+        ensures lawful { OnOk result (IsShardOf spec.now.run shard) }
+        ensures started { OnOk result (Starts spec.now.run) }
+        ensures begun { IfOk result (λ walker. walker ≡ record { file = spec.now; reduce = reduce; first = shard.first; at = shard.first; end = shard.end; sent = 0; whole = true; spent = false }) }
+    {
+        if shard.first > shard.end {
+            return Err(RunError::OutOfRange);
+        }
+        if shard.end > spec.ranks() {
+            return Err(RunError::OutOfRange);
+        }
+        if shard.end - shard.first > MAX_RANKS {
+            return Err(RunError::TooLong);
+        }
+        let world = match World::start(alloc, spec) {
+            Ok(world) => world,
+            Err(error) => return Err(not_started(error)),
+        };
+        let walk = match spec.shape() {
+            Some(shape) => Walk::Words(WordWalk::new(
+                alloc,
+                spec,
+                shape,
+                world,
+                shard.first,
+                shard.end,
+                reduce,
+            )?),
+            None => Walk::Lines(LineWalk::new(alloc, spec, world, shard.first)),
+        };
+        Ok(Walker {
+            spec,
+            reduce,
+            first: shard.first,
+            at: shard.first,
+            end: shard.end,
+            sent: 0,
+            walk,
+            rest: None,
+            is_spent: false,
+        })
+    }
+
+    /// The steps sent for the ranks given so far. A refused call adds none.
+    pub fn sent(&self) -> u64
+        ensures { result ≡ self.now.sent }
+    {
+        self.sent
+    }
+
+    /// The fact of the next ranks, at least of one, in time that does not grow with their number. None at the end of the shard.
+    pub fn next_run(&mut self) -> Result<Option<FactRun>, WalkError>
+        ensures run { IfOk result (GivesRun self.old self.new) }
+        ensures whole { OnOk result (self.new.spent ≡ false) }
+        ensures spent { IsErrOf result walk_error.Spent ↔ (self.old.spent ≡ true) }
+        ensures after { OnErr result (HasStopped self.old self.new) }
+    {
+        if self.is_spent {
+            return Err(WalkError::Spent);
+        }
+        if let Some(rest) = self.rest.take() {
+            self.at = rest.end;
+            return Ok(Some(rest));
+        }
+        if self.at == self.end {
+            return Ok(None);
+        }
+        self.is_spent = true;
+        let given = self.walk.next_run(self.spec, self.reduce, self.end)?;
+        self.is_spent = false;
+        self.at = given.run.end;
+        self.sent += given.sent as u64;
+        Ok(Some(given.run))
+    }
+
+    /// The fact of the next rank. None at the end of the shard.
+    pub fn next(&mut self) -> Result<Option<(u64, Fact)>, WalkError>
+        ensures fact { IfOk result (GivesFact self.old self.new) }
+        ensures spent { IsErrOf result walk_error.Spent ↔ (self.old.spent ≡ true) }
+        ensures after { OnErr result (HasStopped self.old self.new) }
+    {
+        let sent = self.sent;
+        let Some(run) = self.next_run()? else {
+            return Ok(None);
+        };
+        let FactRun { first, end, fact } = run;
+        if first + 1 == end {
+            return Ok(Some((first, fact)));
+        }
+        let Ok(one) = fact.fork() else {
+            self.is_spent = true;
+            self.at = first;
+            self.sent = sent;
+            return Err(WalkError::NoMemory);
+        };
+        self.at = first + 1;
+        self.rest = Some(FactRun {
+            first: first + 1,
+            end,
+            fact,
+        });
+        Ok(Some((first, one)))
+    }
+}
+
+/// A walk of a spec that does not start. Want of memory is the walk's own.
+fn not_started(error: StartError) -> RunError
+    ensures { (s : Start) → IsRefusedBy error s → IsNotRunBy result s }
+{
+    match error {
+        StartError::NoMemory => RunError::NoMemory,
+        _ => RunError::Start(error),
+    }
+}
+
+/// The facts of the ranks of a shard, each with its rank.
+pub fn run_shard(
+    alloc: Global,
+    spec: &Spec,
+    shard: Shard,
+    reduce: bool,
+) -> Result<Vec<(u64, Fact)>, RunError>
+    ensures refused { IfErr result (IsNotWalked spec.now.run shard) }
+    ensures lawful { OnOk result (IsShardOf spec.now.run shard) }
+    ensures started { OnOk result (Starts spec.now.run) }
+    ensures facts { IfOk result (λ facts. AreFacts reduce spec.now.run shard.first (shard.end - shard.first) facts.items) }
+{
+    let mut walker = Walker::new(alloc, spec, shard, reduce)?;
+    let mut facts = Vec::with_capacity(alloc, (shard.end - shard.first) as usize)?;
+    for _rank in shard.first..shard.end {
+        match walker.next() {
+            Ok(Some(fact)) => push(&mut facts, fact)?,
+            Ok(None) => unreachable!(),
+            Err(_) => return Err(RunError::NoMemory),
+        }
+    }
+    Ok(facts)
+}
+
+fn push(facts: &mut Vec<(u64, Fact)>, fact: (u64, Fact)) -> Result<(), AllocError>
+    ensures { OnOk result (facts.new.items ≡ facts.old.items ++ fact ∷ []) }
+{
+    facts.push(fact)?;
+    Ok(())
+}

@@ -1,0 +1,152 @@
+//! The facts of ranks of a spec whose orders are all words.
+
+ghost use Rattle.std.specs.Prelude.{◌≡◌, ◌<◌, ◌≤◌, [], length, OnOk, IfOk, false};
+ghost use Rattle.perm_ranks.specs.Words.{total, all_words};
+ghost use Rattle.sql_subset.specs.Spec.{counts_of, queues_of};
+ghost use Rattle.machine_model.specs.Start.{Started, start};
+ghost use Rattle.step_reducer.specs.Walking.{IsWords};
+ghost use Rattle.step_reducer.specs.Reduced.{tour_of, IsTour};
+ghost use Rattle.step_reducer.specs.Walks.{IsAt, IsWalk, IsFound, HasGiven};
+
+use crate::fact::{FactRun, Given};
+use crate::frame::{Frame, Swaps};
+use crate::stack::Stack;
+use crate::step_table::StepTable;
+use crate::worlds::outcome;
+use perm_ranks::Shape;
+use quiet_steps::Fact;
+use session_machine::World;
+use sql_subset::Spec;
+use std::alloc::{AllocError, Global};
+
+/// Stands before a rank, with worlds of prefixes of its word that later words share.
+#[derive(Drop)]
+pub(crate) struct WordWalk<'a> {
+    pub(crate) table: StepTable,
+    pub(crate) reduce: bool,
+    pub(crate) end: u64,
+    pub(crate) steps: u8,
+    pub(crate) at: u64,
+    pub(crate) stack: Stack<'a>,
+}
+
+/// A fact, the rank behind the last one that has it, and how many steps were sent for it.
+#[derive(Drop)]
+pub(crate) struct Found {
+    pub(crate) end: u64,
+    pub(crate) fact: Fact,
+    pub(crate) sent: u8,
+}
+
+impl<'a> WordWalk<'a> {
+    pub(crate) fn new(
+        alloc: Global,
+        spec: &'a Spec,
+        shape: &Shape,
+        world: World<'a>,
+        first: u64,
+        end: u64,
+        reduce: bool,
+    ) -> Result<WordWalk<'a>, AllocError>
+        requires shape { shape.now ≡ counts_of (queues_of spec.now.run) }
+        requires words { spec.now.run.lines ≡ [] }
+        requires started { start spec.now.run ≡ Started world.world }
+        requires whole { world.spent ≡ false }
+        requires of_spec { world.file ≡ spec.now }
+        requires few { end ≤ length (all_words shape.now) }
+        requires order { first ≤ end }
+        ensures { IfOk result (λ walk. IsWords spec.now reduce end walk × (walk.at ≡ first)) }
+    {
+        let block = shape.block();
+        let steps = block.letters_left();
+        let table = StepTable::of(alloc, spec)?;
+        let swaps = Swaps::new();
+        let below = Vec::new(alloc);
+        let top = Frame {
+            block,
+            swaps,
+            world,
+        };
+        Ok(WordWalk {
+            table,
+            reduce,
+            end,
+            steps,
+            at: first,
+            stack: Stack { below, top },
+        })
+    }
+
+    /// The fact of the next ranks, at least of one.
+    pub(crate) fn next_run(&mut self) -> Result<Given, AllocError>
+        requires walk { IsWalk self.old.stack.top.world.file self.old }
+        requires some { self.old.at < self.old.end }
+        ensures { IfOk result (λ given. HasGiven self.old.stack.top.world.file self.old given self.new) }
+    {
+        let first = self.at;
+        self.stack.go_back(first);
+        let found = find(
+            &mut self.stack,
+            &self.table,
+            self.reduce,
+            self.steps,
+            first,
+            self.end,
+        )?;
+        self.at = found.end;
+        Ok(Given {
+            run: FactRun {
+                first,
+                end: found.end,
+                fact: found.fact,
+            },
+            sent: found.sent,
+        })
+    }
+}
+
+/// Goes down from a stack that has the rank to the fact of it and of the ranks behind it.
+fn find(
+    stack: &mut Stack<'_>,
+    table: &StepTable,
+    reduce: bool,
+    steps: u8,
+    at: u64,
+    end: u64,
+) -> Result<Found, AllocError>
+    requires tour { IsTour (tour_of stack.old.top.world.file.run reduce) }
+    requires table { table.now ≡ queues_of stack.old.top.world.file.run }
+    requires steps { steps ≡ total (counts_of (queues_of stack.old.top.world.file.run)) }
+    requires some { at < end }
+    requires has { IsAt reduce stack.old.top.world.file at end stack.old }
+    ensures found { IfOk result (IsFound reduce stack.old.top.world.file at end) }
+    ensures has { OnOk result (IsAt reduce stack.old.top.world.file at end stack.new) }
+{
+    let before = stack.top.block.letters_left();
+    'letter: while stack.top.block.letters_left() > 0 {
+        let turn = stack.top.turn(table, reduce, at);
+        let left = stack.top.block.letters_left();
+        let behind = end.min(turn.block.end());
+        if stack.top.is_swap(turn.letter) {
+            return Ok(Found {
+                end: behind,
+                fact: Fact::Swap(steps - left - 1),
+                sent: before - left,
+            });
+        }
+        if turn.is_covered() {
+            return Ok(Found {
+                end: behind,
+                fact: Fact::Swap(steps - left),
+                sent: before - left,
+            });
+        }
+        stack.descend(turn, end)?;
+    }
+    let outcome = outcome(&stack.top.world)?;
+    Ok(Found {
+        end: at + 1,
+        fact: Fact::Ran(outcome),
+        sent: before,
+    })
+}
