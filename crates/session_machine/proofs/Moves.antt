@@ -11,7 +11,6 @@ use Rattle.lock_queues.specs.LockTable.{Locks, look_in, taken, let_go, slice}
 use Rattle.lock_queues.specs.Rules.{IsAnswer}
 use Rattle.lock_queues.proofs.Slices.{get-slice}
 use Rattle.sql_statements.specs.declared.statement.Bound.{Bound}
-use Rattle.sql_statements.specs.declared.statement.Bound.TheVariants.{Select, Insert, Update, Delete, Begin, Commit, Rollback, Lock, SetVariable}
 use Rattle.transcripts.specs.declared.event.Fault.{Fault}
 use Rattle.transcripts.specs.declared.event.Fault.TheVariants.{Deadlock, Aborted}
 use Rattle.transcripts.specs.declared.event.Event.{Event}
@@ -27,7 +26,7 @@ use Rattle.machine_model.specs.declared.status.Status.TheVariants.{Outside, InBl
 use Rattle.machine_model.specs.Session.{Task, Ask, Do, Session, released, Begins, Commits, RollsBack, Works, kind, Performed, Goes, Fails, perform, perform_by, worked}
 use Rattle.machine_model.specs.Go.{Scene, Run, go, stopped, failed, finished_by, is_broken, answer_in, held_up, taking}
 use Rattle.session_machine.specs.State.{Own, session_of, SameOthers}
-use Rattle.session_machine.specs.Going.{Standing, session_in, run_in, IsScene, GoesOnTo, StopsIn, waiting_in, told, committed, failed_in, finished_by_status, finished_in, standing, begun_by, begun_in, ended_by, commits_by, commits_in, rolls_back_in, Does}
+use Rattle.session_machine.specs.Going.{Standing, session_in, run_in, IsScene, GoesOnTo, StopsIn, waiting_in, told, committed, failed_in, finished_by_status, finished_in, standing, ended_by, commits_by, commits_in, rolls_back_in, Does}
 use Rattle.session_machine.proofs.States.{same-refl, same-trans, session-taken, same-taken, held-let_go, same-let_go, waits-let_go, overlay-undone, overlay-kept, same-undone, same-kept, overlay-wrote_each, same-left_by, committed-left_by}
 use Rattle.session_machine.proofs.Going.{answer-is}
 

@@ -1,5 +1,5 @@
 -- Lists of one or more, as the reader gives them and as the grammar has them.
-use Rattle.std.proofs.Common.{◌≡◌, refl, sym, ap, ◌∙◌, ℕ, List, [], ◌∷◌, map, Ok, Err}
+use Rattle.std.proofs.Common.{◌≡◌, refl, ap, ◌∙◌, ℕ, List, [], ◌∷◌, map, Ok}
 use Rattle.sql_reader.specs.declared.expression.Chain.{Chain as Written}
 use Rattle.sql_reader.specs.declared.expression.Factor.{Factor}
 use Rattle.sql_reader.specs.declared.expression.SignedTerm.{SignedTerm}
@@ -7,7 +7,7 @@ use Rattle.sql_reader.specs.declared.statement.Assignment.{Assignment as Assignm
 use Rattle.sql_reader.specs.Tree.{Chain, Last, More, Sum, Only, Then}
 use Rattle.sql_reader.specs.Views.{joined, chain_by, chain_of, view_assignment}
 use Rattle.sql_subset.specs.Names.{list_of, head, tail}
-use Rattle.sql_subset.specs.Refusals.{Bind, ◌>>=◌, with_front, each}
+use Rattle.sql_subset.specs.Refusals.{Bind, ◌>>=◌, each}
 use Rattle.sql_subset.specs.Statements.{assignment}
 use Rattle.sql_subset.specs.declared.tables.Table.{Table}
 use Rattle.sql_subset.specs.Translation.{sum_head, sum_tail}

@@ -1,7 +1,5 @@
 -- One part after another is bound.
-use Rattle.std.proofs.Common.{◌≡◌, refl, sym, ap, ◌∙◌, ℕ, suc, ◌+◌, ◌<◌, ◌≤◌, List, [], ◌∷◌, ◌++◌, length, map, get_or, drop, Ok, Err, drop-cons, add-one, append_assoc}
-use Rattle.std.proofs.lemmas.List.{append-nil, drop_all}
-use Rattle.sql_subset.specs.declared.error.BindError.{BindError}
+use Rattle.std.proofs.Common.{◌≡◌, refl, sym, ap, ◌∙◌, ℕ, suc, ◌+◌, ◌<◌, List, [], ◌∷◌, ◌++◌, length, map, get_or, drop, Ok, Err, drop-cons, add-one, append_assoc}
 use Rattle.sql_subset.specs.declared.tables.Table.{Table}
 use Rattle.sql_subset.specs.Refusals.{Bind, ◌>>=◌, with_front, each}
 use Rattle.sql_subset.specs.Binding.{then_more, declared}

@@ -6,7 +6,7 @@ use Rattle.sql_subset.specs.declared.joining.Joint.{Joint}
 use Rattle.sql_subset.specs.declared.joining.Joint.TheVariants.{All, Any}
 use Rattle.sql_subset.specs.Chains.{leaves, each_leaves}
 use Rattle.sql_subset.specs.Names.{maybe}
-use Rattle.sql_subset.specs.Translation.{join, paired, first_or_always, joined_in, joined}
+use Rattle.sql_subset.specs.Translation.{join, paired, joined_in, joined}
 
 -- the part that waits last
 pub last-waits : (j : Joint) (pairs : List Condition) (waiting : Option Condition) (whole new : List Condition) → new ≡ pairs ++ maybe waiting

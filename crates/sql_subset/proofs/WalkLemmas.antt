@@ -1,8 +1,8 @@
 -- Queues by the step number from which on each session's steps are still to be sent.
-use Rattle.std.proofs.Common.{◌≡◌, refl, append_assoc, add-one, ◌++◌, sym, ap, ◌∙◌, ℕ, zero, suc, ◌+◌, ◌<◌, ◌≤◌, ◌≢◌, ◌==◌, Bool, true, false, cond, List, [], ◌∷◌, length, get_or, set, drop, arith, drop-cons, get_or-set_other, get_or-set_same}
-use Rattle.std.proofs.lemmas.List.{drop_all, get_or_past}
+use Rattle.std.proofs.Common.{◌≡◌, refl, append_assoc, add-one, ◌++◌, sym, ap, ◌∙◌, ℕ, zero, suc, ◌+◌, ◌<◌, ◌≤◌, ◌≢◌, List, [], ◌∷◌, length, get_or, set, drop, arith, drop-cons, get_or-set_other, get_or-set_same}
+use Rattle.std.proofs.lemmas.List.{get_or_past}
 use Rattle.perm_ranks.specs.Words.{Word}
-use Rattle.sql_subset.specs.Spec.{Step, Queues, line, steps_of, queues_from}
+use Rattle.sql_subset.specs.Spec.{Step, Queues, line, queues_from}
 use Rattle.sql_subset.specs.Walking.{steps_from, queues_at}
 
 -- a letter takes the head of its queue

@@ -2,9 +2,8 @@
 pub use Rattle.perm_ranks.proofs.TruthLemmas.{Each, Each-map}
 use Rattle.std.proofs.Common.{◌≡◌, refl, sym, ap, ℕ, zero, suc, ◌<◌, length, get_or, arith, Bool, true, false, cond, List, [], ◌∷◌, ◌++◌, Option, Some, None, append_assoc}
 use Rattle.lock_modes.specs.RowPlace.{RowPlace}
-use Rattle.lock_modes.specs.declared.value.Value.{Value}
 use Rattle.row_tables.specs.Overlay.{Tuple, Write}
-use Rattle.statement_effects.specs.Effect.{consed, passed, consed_value, consed_write}
+use Rattle.statement_effects.specs.Effect.{consed, passed, consed_write}
 
 -- these in front of those that are left, if there are such
 abbrev pub onto : {A : Type 0} → List A → Option (List A) → Option (List A)

@@ -14,7 +14,6 @@ use Rattle.sql_statements.specs.declared.condition.Condition.{Condition}
 use Rattle.statement_effects.specs.Evaluate.{holds}
 use Rattle.statement_effects.specs.Effect.{matching, passed}
 use Rattle.statement_effects.specs.Seen.{is_named, named, in_table}
-use Rattle.statement_effects.proofs.ListLemmas.{onto, onto-passed}
 
 -- ---- by a key
 

@@ -1,4 +1,4 @@
-use Rattle.std.proofs.Common.{ap, sym, ◌∙◌, get_or, length, arith, rules}
+use Rattle.std.proofs.Common.{ap, sym, ◌∙◌, get_or, length, arith}
 use Rattle.sql_reader.specs.Tree as tree
 use Rattle.sql_reader.specs.declared.expression.Condition.{out-Condition}
 use Rattle.sql_statements.specs.declared.condition.Condition.{Condition}
