@@ -13,8 +13,10 @@ use Rattle.row_tables.proofs.UndoLemmas.{same_session, same_place}
 use Rattle.library_tests.specs.Owned.{owner, HasOwners}
 
 pub no_rows-owned : HasOwners no_rows
-no_rows-owned = record { each = λ table key other ne. ap (λ (o : Option Overlay). get (unwrap_or o empty) (table, key)) (get-empty session_order Overlay other)
-    ∙ get-empty place_order (Option Tuple) (table, key) }
+no_rows-owned = record {
+  each = λ table key other ne. ap (λ (o : Option Overlay). get (unwrap_or o empty) (table, key)) (get-empty session_order Overlay other)
+      ∙ get-empty place_order (Option Tuple) (table, key);
+}
 
 dropped-owned : (session : ℕ) (l m : Layers) → ((c : ℕ) → overlay_of c m ≡ cond (same_session c session) empty (overlay_of c l)) → HasOwners l → HasOwners m
 dropped-owned session l m is owned = record {

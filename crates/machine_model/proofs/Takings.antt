@@ -65,9 +65,14 @@ module _ (Has Knows : ℕ → ColumnType → Type 0) (more : (c : ℕ) (kind : C
 
   terms : (kind : ColumnType) (p : Product) (ss : List SignedProduct) → TermsAre Has kind p ss → TermsAre Knows kind p ss
   terms kind p [] h = factors kind p.first p.more h
-  terms kind p (s ∷ ss) h =
-      (h.0, (factors Number p.first p.more h.1.0, λ i d lt.
-      factors Number (get_or (s ∷ ss) i d).product.first (get_or (s ∷ ss) i d).product.more (h.1.1 i d lt)))
+  terms kind p (s ∷ ss) h = (
+    h.0,
+    (
+      factors Number p.first p.more h.1.0,
+      λ i d lt.
+          factors Number (get_or (s ∷ ss) i d).product.first (get_or (s ∷ ss) i d).product.more (h.1.1 i d lt),
+    ),
+  )
 
   expression : (kind : ColumnType) (e : Expression) → ExpressionIs Has kind e → ExpressionIs Knows kind e
   expression kind e h = terms kind e.first e.more h

@@ -101,9 +101,12 @@ impl Block {
         let (letter, inside) = self.left.letter_at(rank - self.first);
         let mut left = self.left.copy();
         left.take(letter);
-        (letter, Block {
-            left,
-            first: rank - inside,
-        })
+        (
+            letter,
+            Block {
+                left,
+                first: rank - inside,
+            },
+        )
     }
 }

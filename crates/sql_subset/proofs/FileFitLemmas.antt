@@ -160,12 +160,14 @@ file-fits text tree =
     then-both (MadeBlocks []) FileFits (declared_by main_setup [] tree.front.setups) _
     (declared-grown (λ t. All (Fits t)) block-under main_setup setup-made tree.front.setups []) (λ main g.
     then-both (All (SessionFits main.0)) FileFits (each (session main.0) tree.sessions) _
-    (each-bound (SessionFits main.0) (session main.0) (session-fits main.0) tree.sessions) (λ sessions h.
-    (main.0, record {
-      setups = g.1;
-      session_setups = All-map (All (Fits main.0)) (λ (s : BoundSession). s.setup) sessions (λ i d lt. (h i d lt).setup);
-      steps = steps-fit main.0 0 sessions h;
-    }))))
+    (each-bound (SessionFits main.0) (session main.0) (session-fits main.0) tree.sessions) (λ sessions h. (
+      main.0,
+      record {
+        setups = g.1;
+        session_setups = All-map (All (Fits main.0)) (λ (s : BoundSession). s.setup) sessions (λ i d lt. (h i d lt).setup);
+        steps = steps-fit main.0 0 sessions h;
+      },
+    ))))
 
 -- a spec has tables that all its statements fit
 pub files-fit : (text : List ℕ) (file : SpecFile) → IsFileOf text file → (tables : List Table) × SpecFits tables file.run

@@ -302,9 +302,13 @@ assignment-known t at a =
 
 assignment-fits : (t : Table) (a : Assignment) → KnownAssignment t a → assignment_mixes t a ≡ false → AssignmentFits (ColumnOf t) a
 assignment-fits t a h e =
-    let both = or_false (expression_mixes t a.value) (differ (type_of t a.column) (expression_type t a.value)) e in
-    (type_of t a.column, ((h.0, refl),
-    subst (λ k. ExpressionIs (ColumnOf t) k a.value) (sym (same_if (type_of t a.column) (expression_type t a.value) both.1)) (expression-is t a.value h.1 both.0)))
+    let both = or_false (expression_mixes t a.value) (differ (type_of t a.column) (expression_type t a.value)) e in (
+      type_of t a.column,
+      (
+        (h.0, refl),
+        subst (λ k. ExpressionIs (ColumnOf t) k a.value) (sym (same_if (type_of t a.column) (expression_type t a.value) both.1)) (expression-is t a.value h.1 both.0),
+      ),
+    )
 
 -- ---- statements
 

@@ -29,4 +29,4 @@ returns-in-Err-print-clause-text g c =
     subst (λ ss. Stopped contents c.args.out.now c.print.new.out (rank_text c.args.rank ++ outcome_text ss spec.step_names o)) c.session_names.ensures.are
     (subst (λ ns. Stopped contents c.args.out.now c.print.new.out (rank_text c.args.rank ++ outcome_text c.session_names.result.now ns o)) c.step_names.ensures.are
     (stopped-after contents c.args.out.now c.print_rank.new.out c.print.new.out (rank_text c.args.rank)
-        (outcome_text c.session_names.result.now c.step_names.result.now o) c.in_default.ensures c.in-Err-print.ensures))
+    (outcome_text c.session_names.result.now c.step_names.result.now o) c.in_default.ensures c.in-Err-print.ensures))
