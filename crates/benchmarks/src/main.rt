@@ -1,8 +1,9 @@
-//! Prints how long operations on maps take, beside the standard library's (`benchmarks maps`), and how fast the machine is (`benchmarks machine`). Without words
-//! it prints what it measures of maps.
+//! Prints how long operations on maps take, beside the standard library's (`benchmarks maps`), how fast the machine is (`benchmarks machine`), and how fast a
+//! walker gives facts (`benchmarks reduce SPEC RANKS`, or `benchmarks every SPEC RANKS`). Without words it prints what it measures of maps.
 #![tactic(auto)]
 
 mod machine;
+mod walks;
 
 use std::alloc::{AllocError, Global};
 use std::collections::BTreeMap;
@@ -140,6 +141,9 @@ fn maps(rt: &HostRuntime) -> io::Result<()> {
 
 fn main(rt: HostRuntime) -> io::Result<()> {
     let words: Vec<String> = env::args(&rt)?.collect(rt.alloc())?;
+    if let [_program, how, path, most] = words.as_slice() {
+        return walks::print_walk(&rt, path.as_str(), most.as_str(), how.as_str() == "reduce");
+    }
     if words.iter().any(|word| word.as_str() == "maps") {
         maps(&rt)
     } else if words.iter().any(|word| word.as_str() == "machine") {

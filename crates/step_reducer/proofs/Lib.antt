@@ -13,3 +13,4 @@ pub mod Firsts
 pub mod Walkings
 pub mod Givings
 pub mod Shards
+pub mod Covering

@@ -4,3 +4,4 @@ pub mod Reduced
 pub mod Walks
 pub mod Lines
 pub mod Walking
+pub mod Laws

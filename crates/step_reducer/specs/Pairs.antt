@@ -13,7 +13,8 @@ use Rattle.session_machine.specs.Running.{Running, IsKnown}
 
 -- the steps with these numbers are quiet in the world; in one that is spent nothing is
 abbrev pub is_quiet_in : Running → ℕ → ℕ → Bool
-is_quiet_in r first second = elim r.spent [ true ↦ false | false ↦ is_quiet r.world (get_or r.file.run.steps first no_step) (get_or r.file.run.steps second no_step) ]
+is_quiet_in r first second =
+    elim r.spent [ true ↦ false | false ↦ is_quiet r.world (get_or r.file.run.steps first no_step) (get_or r.file.run.steps second no_step) ]
 
 -- the session of a step, and the world after two steps
 abbrev pub session_of : Running → ℕ → ℕ

@@ -20,7 +20,7 @@ use Rattle.step_reducer.specs.declared.walk.Walk.TheVariants.{Words, Lines}
 use Rattle.step_reducer.specs.Walks.{AllHave, IsWalk}
 use Rattle.step_reducer.specs.Lines.{IsLines}
 
--- a spec, whether its facts are reduced, the first rank of the shard, the next one, the one behind the last, the steps sent for the ranks given so far, whether no run was given in part, and whether memory was refused
+-- a shard's first rank, the next one and the end, the steps sent for the ranks given, whether no run was given in part, and whether memory was refused
 pub record Walking : Type 0 where
   pub file : SpecFile
   pub reduce : Bool
@@ -30,6 +30,10 @@ pub record Walking : Type 0 where
   pub sent : ℕ
   pub whole : Bool
   pub spent : Bool
+
+-- a walker that has given nothing
+abbrev pub begun_at : SpecFile → Shard → Bool → Walking
+begun_at file shard reduce = record { file = file; reduce = reduce; first = shard.first; at = shard.first; end = shard.end; sent = 0; whole = true; spent = false }
 
 -- the fact of some ranks from the next one on
 pub record IsRun (x : Walking) (run : FactRun) : Type 0 where
@@ -46,7 +50,8 @@ GivesRun x y (Some run) = IsRun x run × (y.sent ≤ x.sent + MAX_ITEMS) × (y �
 -- the next rank with its fact
 abbrev pub GivesFact : Walking → Walking → Option (ℕ × Fact) → Type 0
 GivesFact x y None = (x.at ≡ x.end) × (y ≡ x)
-GivesFact x y (Some p) = (p.0 ≡ x.at) × (x.at < x.end) × IsFactOf x.reduce x.file.run x.at p.1 × (y ≡ record x { at = x.at + 1; sent = y.sent; whole = y.whole })
+GivesFact x y (Some p) =
+    (p.0 ≡ x.at) × (x.at < x.end) × IsFactOf x.reduce x.file.run x.at p.1 × (y ≡ record x { at = x.at + 1; sent = y.sent; whole = y.whole })
 
 -- the walker is spent; the next rank is still the one that was refused, and the steps sent for the ranks before it are still counted
 abbrev pub HasStopped : Walking → Walking → Type 0

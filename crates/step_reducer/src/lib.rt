@@ -4,6 +4,7 @@
 mod error;
 mod fact;
 mod frame;
+mod laws;
 mod line_walk;
 mod pairs;
 mod stack;
@@ -16,6 +17,7 @@ mod worlds;
 
 pub use error::WalkError;
 pub use fact::FactRun;
+pub use laws::swaps_cover_blocks;
 pub use pairs::quiet;
 pub use quiet_steps::Fact;
 pub use walker::{MAX_RANKS, Shard, Walker, run_shard};

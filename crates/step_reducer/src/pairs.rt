@@ -253,11 +253,5 @@ fn none_asked_by(statement: &Bound, there: Place<'_>) -> bool
 fn is_same(place: Place<'_>, there: Place<'_>) -> bool
     ensures { result ≡ same_resource (resource_at place.entry) (resource_at there.entry) }
 {
-    match (place, there) {
-        (Place::Table(table), Place::Table(other)) => table == other,
-        (Place::Row(table, key), Place::Row(other, other_key)) => {
-            table == other && key == other_key
-        }
-        _ => false,
-    }
+    place.is_same(there)
 }

@@ -4,7 +4,7 @@ ghost use Rattle.std.specs.Prelude.{◌≡◌, ◌↔◌, ◌-◌, ◌++◌, [],
 ghost use Rattle.machine_model.specs.Start.{Start};
 ghost use Rattle.session_machine.specs.Running.{IsRefusedBy, IsNotRunBy};
 ghost use Rattle.step_reducer.specs.declared.error.WalkError.TheVariants as walk_error;
-ghost use Rattle.step_reducer.specs.Walking.{GivesRun, GivesFact, HasStopped, IsNotWalked, IsShardOf, Starts, AreFacts};
+ghost use Rattle.step_reducer.specs.Walking.{begun_at, GivesRun, GivesFact, HasStopped, IsNotWalked, IsShardOf, Starts, AreFacts};
 
 use crate::error::WalkError;
 use crate::fact::FactRun;
@@ -52,7 +52,9 @@ impl<'a> Model for Walker<'a> {
 
     ghost coded = { Prim.hlevel (codes, bound.the_row.coded) };
 
-    ghost view = { λ w. record { file = w.spec.now; reduce = w.reduce; first = w.first; at = w.at; end = w.end; sent = w.sent; whole = is_whole w.rest; spent = w.is_spent } };
+    ghost view = { λ w. record {
+        file = w.spec.now; reduce = w.reduce; first = w.first; at = w.at; end = w.end; sent = w.sent; whole = is_whole w.rest; spent = w.is_spent
+    } };
 
     ghost invariant = { λ w. IsStandingUnless w.is_spent w.spec.now w.reduce w.first w.at w.end w.sent w.walk w.rest };
 }
@@ -69,7 +71,7 @@ impl<'a> Walker<'a> {
         ensures refused { IfErr result (IsNotWalked spec.now.run shard) }
         ensures lawful { OnOk result (IsShardOf spec.now.run shard) }
         ensures started { OnOk result (Starts spec.now.run) }
-        ensures begun { IfOk result (λ walker. walker ≡ record { file = spec.now; reduce = reduce; first = shard.first; at = shard.first; end = shard.end; sent = 0; whole = true; spent = false }) }
+        ensures begun { IfOk result (λ walker. walker ≡ begun_at spec.now shard reduce) }
     {
         if shard.first > shard.end {
             return Err(RunError::OutOfRange);

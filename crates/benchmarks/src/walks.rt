@@ -1,0 +1,77 @@
+//! How fast a walker gives the facts of the ranks of a spec.
+
+use spec_reader::read_spec;
+use sql_subset::{Spec, bind};
+use std::alloc::Global;
+use std::fs::File;
+use std::io::{self, Read};
+use std::time::Instant;
+use step_reducer::{Fact, Shard, Walker};
+
+/// The walker refused what it is measured with.
+fn refused() -> io::Error {
+    io::Error::from(io::ErrorKind::Other)
+}
+
+fn spec_of(alloc: Global, text: &[u8]) -> io::Result<Spec> {
+    let Ok(tree) = read_spec(alloc, text) else {
+        return Err(refused());
+    };
+    match bind(alloc, &tree) {
+        Ok(spec) => Ok(spec),
+        Err(_) => Err(refused()),
+    }
+}
+
+/// What a walk gave: runs of one fact, those of an outcome, the ranks of them all, and the steps sent.
+#[derive(Clone, Copy, Debug)]
+struct Counts {
+    runs: u64,
+    outcomes: u64,
+    ranks: u64,
+    sent: u64,
+}
+
+/// Walks the first ranks of a spec, at most so many.
+fn walk(alloc: Global, spec: &Spec, reduce: bool, most: u64) -> io::Result<Counts> {
+    let end = spec.ranks().min(most);
+    let Ok(mut walker) = Walker::new(alloc, spec, Shard { first: 0, end }, reduce) else {
+        return Err(refused());
+    };
+    let mut counts = Counts {
+        runs: 0,
+        outcomes: 0,
+        ranks: 0,
+        sent: 0,
+    };
+    for _ in 0..u64::MAX {
+        match walker.next_run() {
+            Ok(Some(run)) => {
+                counts.runs = counts.runs.saturating_add(1);
+                counts.ranks = counts.ranks.saturating_add(run.end.saturating_sub(run.first));
+                if let Fact::Ran(_) = run.fact {
+                    counts.outcomes = counts.outcomes.saturating_add(1);
+                }
+            }
+            Ok(None) => break,
+            Err(_) => return Err(refused()),
+        }
+    }
+    counts.sent = walker.sent();
+    Ok(counts)
+}
+
+/// Prints what a walk of a spec file gave and how long it took, each rank run or swaps covered.
+pub fn print_walk(rt: &HostRuntime, path: &str, most: &str, reduce: bool) -> io::Result<()> {
+    let Ok(most) = most.parse::<u64>() else {
+        return Err(refused());
+    };
+    let mut file = File::open(rt, path)?;
+    let mut text = Vec::new(rt.alloc());
+    file.read_to_end(&mut text)?;
+    let spec = spec_of(rt.alloc(), &text)?;
+    let start = Instant::now(rt)?;
+    let counts = walk(rt.alloc(), &spec, reduce, most)?;
+    let time = start.elapsed(rt)?;
+    println!(rt; "{counts:?} in {} microseconds", time.as_micros())
+}
