@@ -48,7 +48,9 @@ fn walk(alloc: Global, spec: &Spec, reduce: bool, most: u64) -> io::Result<Count
         match walker.next_run() {
             Ok(Some(run)) => {
                 counts.runs = counts.runs.saturating_add(1);
-                counts.ranks = counts.ranks.saturating_add(run.end.saturating_sub(run.first));
+                counts.ranks = counts
+                    .ranks
+                    .saturating_add(run.end.saturating_sub(run.first));
                 if let Fact::Ran(_) = run.fact {
                     counts.outcomes = counts.outcomes.saturating_add(1);
                 }

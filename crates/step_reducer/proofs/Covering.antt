@@ -25,7 +25,7 @@ module _ (spec : Spec) (w : World) (shared : Word) (block : Block) (is : IsBlock
       let one = word-in r has_r in
       let other = word-in s has_s in
       let falls : falls_at k (word_of spec s) ≡ true =
-          ap (falls_at k) other ∙ falls-front k shared (behind s) (behind r) le ∙ sym (ap (falls_at k) one) ∙ swap.falls in
+      ap (falls_at k) other ∙ falls-front k shared (behind s) (behind r) le ∙ sym (ap (falls_at k) one) ∙ swap.falls in
       record {
         words = swap.words;
         falls = falls;

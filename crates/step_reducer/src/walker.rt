@@ -53,7 +53,14 @@ impl<'a> Model for Walker<'a> {
     ghost coded = { Prim.hlevel (codes, bound.the_row.coded) };
 
     ghost view = { λ w. record {
-        file = w.spec.now; reduce = w.reduce; first = w.first; at = w.at; end = w.end; sent = w.sent; whole = is_whole w.rest; spent = w.is_spent
+      file = w.spec.now;
+      reduce = w.reduce;
+      first = w.first;
+      at = w.at;
+      end = w.end;
+      sent = w.sent;
+      whole = is_whole w.rest;
+      spent = w.is_spent;
     } };
 
     ghost invariant = { λ w. IsStandingUnless w.is_spent w.spec.now w.reduce w.first w.at w.end w.sent w.walk w.rest };
