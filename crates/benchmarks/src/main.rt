@@ -1,12 +1,15 @@
 //! Prints how long operations on maps take, beside the standard library's (`benchmarks maps`), how fast the machine is (`benchmarks machine`), and how fast a
 //! walker gives facts (`benchmarks reduce SPEC RANKS`, or `benchmarks every SPEC RANKS`). Without words it prints what it measures of maps.
+//! `benchmarks SPEC FIRST END reduce|every|sent` prints the facts of these ranks, for `crosscheck`.
 #![tactic(auto)]
 
+mod facts;
 mod machine;
 mod walks;
 
 use std::alloc::{AllocError, Global};
 use std::collections::BTreeMap;
+use std::process::ExitCode;
 use std::time::{Duration, Instant};
 use std::{env, io};
 use version_tree::{Fork, VMap};
@@ -139,16 +142,30 @@ fn maps(rt: &HostRuntime) -> io::Result<()> {
     Ok(())
 }
 
-fn main(rt: HostRuntime) -> io::Result<()> {
-    let words: Vec<String> = env::args(&rt)?.collect(rt.alloc())?;
-    if let [_program, how, path, most] = words.as_slice() {
-        return walks::print_walk(&rt, path.as_str(), most.as_str(), how.as_str() == "reduce");
+fn measure(rt: &HostRuntime, words: &[String]) -> io::Result<()> {
+    if let [_program, how, path, most] = words {
+        return walks::print_walk(rt, path.as_str(), most.as_str(), how.as_str() == "reduce");
     }
     if words.iter().any(|word| word.as_str() == "maps") {
-        maps(&rt)
+        maps(rt)
     } else if words.iter().any(|word| word.as_str() == "machine") {
-        machine::print_speeds(&rt)
+        machine::print_speeds(rt)
     } else {
         println!(rt; "maps: put, get, without and fork of 10, 1,000 and 100,000 keys")
     }
+}
+
+fn main(rt: HostRuntime) -> io::Result<ExitCode> {
+    let words: Vec<String> = env::args(&rt)?.collect(rt.alloc())?;
+    if let [_program, path, first, end, how] = words.as_slice() {
+        return facts::print_facts(
+            &rt,
+            path.as_str(),
+            first.as_str(),
+            end.as_str(),
+            how.as_str(),
+        );
+    }
+    measure(&rt, &words)?;
+    Ok(ExitCode::SUCCESS)
 }

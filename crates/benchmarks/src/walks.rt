@@ -63,15 +63,20 @@ fn walk(alloc: Global, spec: &Spec, reduce: bool, most: u64) -> io::Result<Count
     Ok(counts)
 }
 
+/// The bytes of a file.
+pub fn text_of(rt: &HostRuntime, path: &str) -> io::Result<Vec<u8>> {
+    let mut file = File::open(rt, path)?;
+    let mut text = Vec::new(rt.alloc());
+    file.read_to_end(&mut text)?;
+    Ok(text)
+}
+
 /// Prints what a walk of a spec file gave and how long it took, each rank run or swaps covered.
 pub fn print_walk(rt: &HostRuntime, path: &str, most: &str, reduce: bool) -> io::Result<()> {
     let Ok(most) = most.parse::<u64>() else {
         return Err(refused());
     };
-    let mut file = File::open(rt, path)?;
-    let mut text = Vec::new(rt.alloc());
-    file.read_to_end(&mut text)?;
-    let spec = spec_of(rt.alloc(), &text)?;
+    let spec = spec_of(rt.alloc(), &text_of(rt, path)?)?;
     let start = Instant::now(rt)?;
     let counts = walk(rt.alloc(), &spec, reduce, most)?;
     let time = start.elapsed(rt)?;

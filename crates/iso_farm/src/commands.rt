@@ -129,7 +129,7 @@ fn flushed<'a, W: Write>(out: &mut Counted<W>) -> Result<(), ProgramFault<'a>>
 }
 
 /// The program's fault for a fault of the file at a path.
-fn fault_at(path: &str, fault: OneFault) -> ProgramFault<'_> {
+pub fn fault_at(path: &str, fault: OneFault) -> ProgramFault<'_> {
     match fault {
         OneFault::Spec(error) => spec_fault(path, error),
         OneFault::Bind(error) => bind_fault(path, error),

@@ -8,7 +8,7 @@ mod single;
 #[cfg(test)]
 mod tests;
 
-pub use commands::{run, tell_words_fault};
+pub use commands::{fault_at, run, tell_words_fault};
 pub use fault::ProgramFault;
 pub use files::{MAX_SPEC_READ, Opener};
 pub use single::{OneFault, one, one_of};
