@@ -8,6 +8,7 @@ use transcripts::Counted;
 mod memory;
 mod runs;
 mod statements;
+mod walks;
 mod worlds;
 
 const FIRST: &[u8] =
