@@ -77,11 +77,16 @@ fn assert_walk(
     facts: &str,
     sent: Option<u64>,
 ) {
-    let mut walker = Walker::new(alloc, spec, shard, reduce).ok().expect(rt, "a walker");
+    let mut walker = Walker::new(alloc, spec, shard, reduce)
+        .ok()
+        .expect(rt, "a walker");
     let count = shard.end.saturating_sub(shard.first);
     let told = facts_of(alloc, &mut walker, count).expect(rt, "facts");
     assert_eq!(rt; told.as_str(), facts);
-    assert!(rt; is_done(&mut walker) && is_done(&mut walker), "none behind the last");
+    assert!(rt;
+        is_done(&mut walker) && is_done(&mut walker),
+        "none behind the last"
+    );
     if sent.is_some() {
         assert_eq!(rt; Some(walker.sent()), sent, "{facts}");
     }
@@ -101,7 +106,15 @@ fn assert_row(rt: &impl Abort, alloc: Global, row: &str) -> Result<(), Fail> {
         end: end.parse::<u64>().ok().ok_or("a number")?,
     };
     let reduce = reduce == "yes";
-    assert_walk(rt, alloc, &spec, shard, reduce, facts, sent.parse::<u64>().ok());
+    assert_walk(
+        rt,
+        alloc,
+        &spec,
+        shard,
+        reduce,
+        facts,
+        sent.parse::<u64>().ok(),
+    );
     let told = facts_at_once(alloc, &spec, shard, reduce).ok_or("facts")?;
     assert_eq!(rt; told.as_str(), facts);
     Ok(())
@@ -186,7 +199,10 @@ fn facts_in_parts(rt: &impl Abort, alloc: Global, spec: &Spec, shard: Shard) -> 
     let mut walker = Walker::new(alloc, spec, shard, true).ok()?;
     let mut text = String::new(alloc);
     for first in shard.first..shard.end {
-        let rest = Shard { first, end: shard.end };
+        let rest = Shard {
+            first,
+            end: shard.end,
+        };
         let fact = next_anyhow(rt, alloc, spec, &mut walker, rest)?;
         push_fact(alloc, &mut text, &fact).ok()?;
     }
