@@ -14,5 +14,5 @@ mod stepping;
 mod world;
 
 pub use error::{RunError, SendError, StartError};
-pub use runs::run_one;
+pub use runs::{not_started, run_one};
 pub use world::World;

@@ -51,8 +51,8 @@ fn send_line(world: &mut World<'_>, steps: &[u8]) -> Result<(), RunError>
     Ok(())
 }
 
-/// A run of a spec that does not start. Want of memory is the run's own.
-fn not_started(error: StartError) -> RunError
+/// Why a run of a spec that does not start is refused: by its start, or for want of memory, which is the run's own.
+pub fn not_started(error: StartError) -> RunError
     ensures { (s : Start) → IsRefusedBy error s → IsNotRunBy result s }
 {
     match error {

@@ -1,10 +1,11 @@
 -- Whether the letters at a place may be exchanged depends on them and on those before them alone.
-use Rattle.std.proofs.Common.{◌≡◌, refl, sym, ◌∙◌, ℕ, zero, suc, ◌+◌, ◌≤◌, Bool, true, false, cond, nat_lt, List, [], ◌∷◌, ◌++◌, length, set, get_or, Option, Some, None, option_map, is_some, arith}
+use Rattle.std.proofs.Common.{◌≡◌, refl, sym, ◌∙◌, ℕ, zero, suc, ◌+◌, ◌≤◌, Bool, true, false, cond, nat_lt, List, [], ◌∷◌, ◌++◌, length, set, get_or, Some, None, is_some, arith}
 use Rattle.perm_ranks.specs.Words.{Word}
 use Rattle.perm_ranks.specs.Swapped.{exchanged}
 use Rattle.sql_subset.specs.Spec.{Step, Queues, line}
 use Rattle.machine_model.specs.World.{World, send, send_all}
 use Rattle.quiet_steps.specs.Swap.{quiet_at, falls_at}
+use Rattle.quiet_steps.proofs.Lines.{is_some-map}
 use Rattle.step_reducer.specs.Reduced.{rest_after}
 
 -- ---- what lies in front of the place
@@ -17,10 +18,6 @@ past (a ∷ p) k = suc (past p k)
 pub past-is : (p : Word) (k : ℕ) → past p k ≡ length p + k
 past-is [] k = omega arith
 past-is (a ∷ p) k = let rest = past-is p k in omega (arith, rest)
-
-pub is_some-map : {A B : Type 0} (f : A → B) (o : Option A) → is_some (option_map f o) ≡ is_some o
-is_some-map f None = refl
-is_some-map f (Some u) = refl
 
 pub falls-behind : (p v : Word) (k : ℕ) → falls_at (past p k) (p ++ v) ≡ falls_at k v
 falls-behind [] v k = refl

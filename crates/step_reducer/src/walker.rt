@@ -1,8 +1,6 @@
 //! The facts of the ranks of a shard, in order.
 
 ghost use Rattle.std.specs.Prelude.{◌≡◌, ◌↔◌, ◌-◌, ◌++◌, [], ◌∷◌, true, false, IfOk, IfErr, OnOk, OnErr, IsErrOf};
-ghost use Rattle.machine_model.specs.Start.{Start};
-ghost use Rattle.session_machine.specs.Running.{IsRefusedBy, IsNotRunBy};
 ghost use Rattle.step_reducer.specs.declared.error.WalkError.TheVariants as walk_error;
 ghost use Rattle.step_reducer.specs.Walking.{begun_at, GivesRun, GivesFact, HasStopped, IsNotWalked, IsShardOf, Starts, AreFacts};
 
@@ -12,7 +10,7 @@ use crate::line_walk::LineWalk;
 use crate::walk::Walk;
 use crate::word_walk::WordWalk;
 use quiet_steps::Fact;
-use session_machine::{RunError, StartError, World};
+use session_machine::{RunError, World, not_started};
 use sql_subset::Spec;
 use std::alloc::{AllocError, Global};
 use std::marker::Model;
@@ -177,16 +175,6 @@ impl<'a> Walker<'a> {
             fact,
         });
         Ok(Some((first, one)))
-    }
-}
-
-/// A walk of a spec that does not start. Want of memory is the walk's own.
-fn not_started(error: StartError) -> RunError
-    ensures { (s : Start) → IsRefusedBy error s → IsNotRunBy result s }
-{
-    match error {
-        StartError::NoMemory => RunError::NoMemory,
-        _ => RunError::Start(error),
     }
 }
 
