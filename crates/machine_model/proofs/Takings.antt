@@ -43,7 +43,7 @@ use Rattle.statement_effects.specs.Evaluate.{in_range, checked, on_numbers, oper
 use Rattle.statement_effects.specs.Effect.{visible, Effect, Gives, Faults, effect, matching, assigned, all_assigned, placed, or_fault, counted}
 use Rattle.statement_effects.proofs.ListLemmas.{Each, Each-map, Each-at}
 use Rattle.statement_effects.proofs.WriteLemmas.{OnSome, OnGives, leaves, each-kept, each-any, each-matching, each-all_assigned, each-placed, each-numbered, each-deleted, on-or_fault, on-matched, on-selected}
-use Rattle.machine_model.specs.Typed.{EntryFits, RowsFit}
+use Rattle.machine_model.specs.Typed.{EntryFits, RowsFit, LeftFits}
 use Rattle.machine_model.proofs.Basics.{cases-eq, both_true}
 
 -- ---- what is taken of columns, where more is known of them
@@ -274,27 +274,22 @@ module _ (tables : List Table) where
 
   -- ---- what statements leave
 
-  -- what is left at a place, if it is a row, fits its table
-  abbrev pub LeftFits : RowPlace → Option Tuple → Type 0
-  LeftFits p None = ⊤
-  LeftFits p (Some row) = EntryFits tables (p, row)
-
   abbrev pub WriteFits : Write → Type 0
-  WriteFits w = LeftFits w.place w.left
+  WriteFits w = LeftFits tables w.place w.left
 
   abbrev pub OverlayFits : Overlay → Type 0
-  OverlayFits o = Each (λ (e : RowPlace × Option Tuple). LeftFits e.0 e.1) (entries o)
+  OverlayFits o = Each (λ (e : RowPlace × Option Tuple). LeftFits tables e.0 e.1) (entries o)
 
   pub written-fits : (ws : List Write) (o : Overlay) → Each WriteFits ws → OverlayFits o → OverlayFits (written ws o)
   written-fits [] o h all = all
   written-fits (w ∷ ws) o h all =
-      written-fits ws (insert o w.place w.left) h.1 (each-insert _ (λ (e : RowPlace × Option Tuple). LeftFits e.0 e.1) o w.place w.left h.0 all)
+      written-fits ws (insert o w.place w.left) h.1 (each-insert _ (λ (e : RowPlace × Option Tuple). LeftFits tables e.0 e.1) o w.place w.left h.0 all)
 
-  laid-fits : (p : RowPlace) (left : Option Tuple) (rows : Rows') → LeftFits p left → EachFits rows → EachFits (laid p left rows)
+  laid-fits : (p : RowPlace) (left : Option Tuple) (rows : Rows') → LeftFits tables p left → EachFits rows → EachFits (laid p left rows)
   laid-fits p None rows h all = each-remove _ (EntryFits tables) rows p all
   laid-fits p (Some row) rows h all = each-insert _ (EntryFits tables) rows p row h all
 
-  entries-fit : (es : List (RowPlace × Option Tuple)) (rows : Rows') → Each (λ (e : RowPlace × Option Tuple). LeftFits e.0 e.1) es → EachFits rows
+  entries-fit : (es : List (RowPlace × Option Tuple)) (rows : Rows') → Each (λ (e : RowPlace × Option Tuple). LeftFits tables e.0 e.1) es → EachFits rows
       → EachFits (lay_entries es rows)
   entries-fit [] rows h all = all
   entries-fit (e ∷ es) rows h all = laid-fits e.0 e.1 (lay_entries es rows) h.0 (entries-fit es rows h.1 all)

@@ -1,5 +1,5 @@
 -- Rows that fit their tables, in the worlds of a run, and what statements take of them.
-use Rattle.std.specs.Prelude.{◌≡◌, ℕ, List}
+use Rattle.std.specs.Prelude.{◌≡◌, ℕ, ⊤, List, [], ◌∷◌, Option, Some, None}
 use Rattle.std.specs.List.{All}
 use Rattle.version_tree.specs.Map.{entries}
 use Rattle.lock_modes.specs.RowPlace.{RowPlace}
@@ -10,7 +10,9 @@ use Rattle.sql_subset.specs.Fits.{OfTable, RowFits, ValueIn, Takes, Fits, SpecFi
 use Rattle.sql_subset.specs.Spec.{Spec}
 use Rattle.statement_effects.specs.Effect.{visible}
 use Rattle.machine_model.specs.Start.{Started, start}
-use Rattle.machine_model.specs.World.{World, session_at, send_all}
+use Rattle.machine_model.specs.Session.{Session, Task, Ask, Do, Goes, Fails, perform}
+use Rattle.machine_model.specs.Go.{taking}
+use Rattle.machine_model.specs.World.{World, session_at, goes, send_all}
 
 -- the row is one of the table that its place names, and fits it
 abbrev pub EntryFits : List Table → RowPlace × Tuple → Type 0
@@ -23,13 +25,50 @@ RowsFit tables rows = All (EntryFits tables) (entries rows)
 abbrev pub seen_by : World → ℕ → Rows'
 seen_by w c = lay (session_at w c).overlay w.rows
 
+-- what is left at a place, if it is a row, fits its table
+abbrev pub LeftFits : List Table → RowPlace → Option Tuple → Type 0
+LeftFits tables p None = ⊤
+LeftFits tables p (Some row) = EntryFits tables (p, row)
+
+abbrev pub TaskFits : List Table → Task → Type 0
+TaskFits tables (Ask r m) = ⊤
+TaskFits tables (Do st) = Fits tables st
+
+-- what a session has written fits, and so do the statements that are left of its step
+pub record SessionFits (tables : List Table) (s : Session) : Type 0 where
+  pub overlay : All (λ (e : RowPlace × Option Tuple). LeftFits tables e.0 e.1) (entries s.overlay)
+  pub rest : All (TaskFits tables) s.rest
+
+pub record WorldFits (tables : List Table) (w : World) : Type 0 where
+  pub rows : RowsFit tables w.rows
+  pub sessions : (c : ℕ) → SessionFits tables (session_at w c)
+
+-- each of these statements that is performed sees rows that fit
+abbrev pub SeeFit : List Table → Session → Rows' → List Task → Type 0
+SeeFit tables s rows [] = ⊤
+SeeFit tables s rows (Ask r m ∷ ts) = SeeFit tables (taking s r m) rows ts
+SeeFit tables s rows (Do st ∷ ts) = RowsFit tables (lay s.overlay rows) × elim (perform s rows st) [ Goes s2 rows2 ↦ SeeFit tables s2 rows2 ts | Fails f ↦ ⊤ ]
+
+-- wherever a session goes, in a setup, with a step or when its wait is granted: from a world that fits it comes to one that fits, and each
+-- statement on the way sees rows that fit
+abbrev pub GoingKeepsFit : Type 0
+GoingKeepsFit =
+    (tables : List Table) (w : World) (i : ℕ) (s : Session) (ts : List Task) → WorldFits tables w → SessionFits tables s → All (TaskFits tables) ts
+    → SeeFit tables s w.rows ts × WorldFits tables (goes w i s ts)
+
+-- every world of a line of a spec whose statements fit the tables fits
+abbrev pub WorldsFit : Type 0
+WorldsFit =
+    (tables : List Table) (spec : Spec) (w : World) (ks : List ℕ) → SpecFits tables spec → start spec ≡ Started w → WorldFits tables (send_all spec.steps w ks)
+
 -- in every world of a line of a spec whose statements fit the tables, each row that a session sees fits its table
 abbrev pub RowsSeenFit : Type 0
 RowsSeenFit =
     (tables : List Table) (spec : Spec) (w : World) (ks : List ℕ) (c : ℕ) → SpecFits tables spec → start spec ≡ Started w
     → RowsFit tables (seen_by (send_all spec.steps w ks) c)
 
--- a statement that fits takes of each row that it looks at what is there, of the type that it takes: evaluation meets none of its defaults
+-- a statement that fits takes of each row that it looks at what is there, of the type that it takes: its conditions, expressions, sort keys, outputs
+-- and sums meet none of the defaults of evaluation
 abbrev pub NoDefaultIsMet : Type 0
 NoDefaultIsMet =
     (tables : List Table) (st : Bound) (rows : Rows') → Fits tables st → RowsFit tables rows

@@ -1,7 +1,7 @@
 //! The laws of the machine, each the contract of a function that does nothing.
 
 ghost use Rattle.machine_model.specs.Laws.{SendKeepsSound, WaitsAreRings, StartsSound, WaitersReach, OutcomesAreOwn, WorldsReachedAreSound};
-ghost use Rattle.machine_model.specs.Typed.{RowsSeenFit, NoDefaultIsMet};
+ghost use Rattle.machine_model.specs.Typed.{GoingKeepsFit, WorldsFit, RowsSeenFit, NoDefaultIsMet};
 
 /// A step sent leaves a sound world sound: held modes compatible, overlays under locks, no ripe wait, no ring.
 pub fn send_keeps_sound()
@@ -33,13 +33,16 @@ pub fn worlds_reached_are_sound()
     ensures { WorldsReachedAreSound }
 {}
 
-/// In every world of a line of a spec whose statements fit its tables, each row that a session sees fits its table: a value for each column, of its type.
-pub fn rows_seen_fit()
-    ensures { RowsSeenFit }
+/// Where the statements of a spec fit tables, every world of a line fits them: committed rows, what sessions have written, and what is left of their steps;
+/// wherever a session goes, each of its statements sees rows that fit; and so are the rows that a session sees between steps.
+pub fn rows_fit()
+    ensures going { GoingKeepsFit }
+    ensures worlds { WorldsFit }
+    ensures seen { RowsSeenFit }
 {}
 
-/// A statement that fits the tables, over rows that fit them, meets no default of evaluation: each column that it takes of a row has a value there, and
-/// what it multiplies, adds, sums or compares has the type for it.
+/// A statement that fits the tables, over rows that fit them, meets no default of evaluation: each column that its conditions, expressions, sort keys,
+/// outputs and sums take of a row has a value there, and what is multiplied, added, summed or compared has the type for it.
 pub fn no_default_is_met()
     ensures { NoDefaultIsMet }
 {}

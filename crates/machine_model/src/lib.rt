@@ -5,7 +5,7 @@ mod laws;
 mod status;
 
 pub use laws::{
-    no_default_is_met, outcomes_are_own, rows_seen_fit, send_keeps_sound, starts_sound,
-    waiters_reach, waits_are_rings, worlds_reached_are_sound,
+    no_default_is_met, outcomes_are_own, rows_fit, send_keeps_sound, starts_sound, waiters_reach,
+    waits_are_rings, worlds_reached_are_sound,
 };
 pub use status::Status;

@@ -13,7 +13,7 @@ use Rattle.sql_subset.specs.declared.error.BindErrorKind.{BindErrorKind}
 use Rattle.sql_subset.specs.declared.tables.Column.{Column}
 use Rattle.sql_subset.specs.declared.tables.Table.{Table}
 use Rattle.sql_subset.specs.Binding.{IsFileOf, read_block, statement_at, bind_block, session_setup, step, BoundSession, session, then_more, sent}
-use Rattle.sql_subset.specs.Binding.{main_statement, main_at, main_setup, offset_in, numbered, all_steps, shaped, bound_file}
+use Rattle.sql_subset.specs.Binding.{main_statement, main_at, main_setup, offset_in, numbered, all_steps, made_file, shaped, bound_file}
 use Rattle.sql_subset.specs.Binding.{declared as declared_by}
 use Rattle.sql_subset.specs.Fits.{Takes, ColumnOf, RowFits, OfTable, Fits, SpecFits}
 use Rattle.sql_subset.specs.Lines.{orders_of}
@@ -23,7 +23,7 @@ use Rattle.sql_subset.specs.Spec.{Step, Spec, SpecFile}
 use Rattle.sql_subset.specs.Statements.{statement}
 use Rattle.sql_subset.specs.Tables.{no_table, create, create_with, refusal, joined, part_columns, part_keys, declared}
 use Rattle.sql_subset.proofs.FitLemmas.{then-both, each-bound, statement-fits}
-use Rattle.sql_subset.proofs.SentLemmas.{IfBound, then-bound, bound-is}
+use Rattle.sql_subset.proofs.SentLemmas.{IfBound, then-bound, bound-is, bind}
 
 -- ---- more tables
 
@@ -151,24 +151,27 @@ steps-fit tables i (s ∷ ss) h =
 
 -- ---- the file
 
-abbrev FileFits : SpecFile → Type 0
-FileFits file = (tables : List Table) × SpecFits tables file.run
-
-file-fits : (text : List ℕ) (tree : SpecTree) → IfBound FileFits (bound_file text tree)
-file-fits text tree =
-    then-bound FileFits (shaped (orders_of tree)) _ (λ lines.
-    then-both (MadeBlocks []) FileFits (declared_by main_setup [] tree.front.setups) _
-    (declared-grown (λ t. All (Fits t)) block-under main_setup setup-made tree.front.setups []) (λ main g.
-    then-both (All (SessionFits main.0)) FileFits (each (session main.0) tree.sessions) _
-    (each-bound (SessionFits main.0) (session main.0) (session-fits main.0) tree.sessions) (λ sessions h. (
-      main.0,
-      record {
-        setups = g.1;
-        session_setups = All-map (All (Fits main.0)) (λ (s : BoundSession). s.setup) sessions (λ i d lt. (h i d lt).setup);
-        steps = steps-fit main.0 0 sessions h;
-      },
-    ))))
-
--- a spec has tables that all its statements fit
-pub files-fit : (text : List ℕ) (file : SpecFile) → IsFileOf text file → (tables : List Table) × SpecFits tables file.run
-files-fit text file is = bound-is FileFits (bound_file text is.tree) file (file-fits text is.tree) is.is_bound
+-- the statements of a spec fit the tables that its main setups declare
+pub files-fit : (text : List ℕ) (file : SpecFile) → (is : IsFileOf text file) → (main : List Table × List (List Bound))
+    × ((declared_by main_setup [] is.tree.front.setups ≡ Ok main) × SpecFits main.0 file.run)
+files-fit text file is =
+    let tree = is.tree in
+    let a = bind (shaped (orders_of tree)) _ file is.is_bound in
+    let b = bind (declared_by main_setup [] tree.front.setups) _ file a.1.1 in
+    let main = b.0 in
+    let c = bind (each (session main.0) tree.sessions) _ file b.1.1 in
+    let same : made_file text tree a.0 main.1 c.0 ≡ file = cc (c.1.1) in
+    let g : MadeBlocks [] main = bound-is (MadeBlocks []) (declared_by main_setup [] tree.front.setups) main
+    (declared-grown (λ t. All (Fits t)) block-under main_setup setup-made tree.front.setups []) b.1.0 in
+    let h : All (SessionFits main.0) c.0 = bound-is (All (SessionFits main.0)) (each (session main.0) tree.sessions) c.0
+    (each-bound (SessionFits main.0) (session main.0) (session-fits main.0) tree.sessions) c.1.0 in (
+      main,
+      (
+        b.1.0,
+        subst (λ (f : SpecFile). SpecFits main.0 f.run) same (record {
+          setups = g.1;
+          session_setups = All-map (All (Fits main.0)) (λ (s : BoundSession). s.setup) c.0 (λ i d lt. (h i d lt).setup);
+          steps = steps-fit main.0 0 c.0 h;
+        }),
+      ),
+    )

@@ -1,6 +1,6 @@
 //! Laws of binding. The functions do nothing: what they promise is the law.
 
-ghost use Rattle.std.specs.Prelude.{◌≡◌, ◌≢◌, ◌↔◌, ℕ, false, List, Ok, Err};
+ghost use Rattle.std.specs.Prelude.{◌≡◌, ◌≢◌, ◌↔◌, ℕ, false, List, [], Ok, Err};
 ghost use Rattle.sql_reader.specs.Grammar.{Fault, FirstFault};
 ghost use Rattle.sql_reader.specs.Lexing.{token_list};
 ghost use Rattle.sql_reader.specs.Text.{StatementAt, IsSpelled};
@@ -21,7 +21,7 @@ ghost use Rattle.sql_subset.specs.Tables.{create};
 ghost use Rattle.sql_subset.specs.declared.error.BindError.{BindError};
 ghost use Rattle.sql_subset.specs.Refusals.{IsNamed};
 ghost use Rattle.sql_subset.specs.Spec.{SpecFile};
-ghost use Rattle.sql_subset.specs.Binding.{IsFileOf, read_text, bound_file};
+ghost use Rattle.sql_subset.specs.Binding.{IsFileOf, read_text, bound_file, declared, main_setup};
 ghost use Rattle.sql_subset.specs.Chains.{ChainsKeepParts, ChainsAreLists, ChainsNameFirstKeys, AlternativesNameNoKey};
 
 /// A text is that of one file at most.
@@ -66,7 +66,8 @@ pub fn bound_statements_fit()
     ensures { (tables : List Table) (at : ℕ) (s : Statement) (b : Bound) → statement tables at s ≡ Ok b → Fits tables b }
 {}
 
-/// A spec file has tables that all its statements fit: those that its main setups declare.
+/// All statements of a spec file fit the tables that its main setups declare.
 pub fn bound_files_fit()
-    ensures { (text : List ℕ) (file : SpecFile) → IsFileOf text file → (tables : List Table) × SpecFits tables file.run }
+    ensures { (text : List ℕ) (file : SpecFile) → (is : IsFileOf text file) → (main : List Table × List (List Bound))
+        × ((declared main_setup [] is.tree.front.setups ≡ Ok main) × SpecFits main.0 file.run) }
 {}
