@@ -1,4 +1,4 @@
--- Steps that do not meet, and what a side may write.
+-- Steps that do not meet.
 use Rattle.std.specs.Prelude.{◌≡◌, ℕ, Bool, true, false, not, ◌&&◌, ◌||◌, ◌==◌, List, [], ◌∷◌, ◌++◌, length, is_some}
 use Rattle.std.specs.List.{list_all}
 use Rattle.lock_modes.specs.Mode.{compatible}

@@ -56,7 +56,7 @@ step_at spec r k = get_or spec.steps (get_or (line_of spec r) k 0) no_step
 abbrev pub are_quiet_at : Spec → World → ℕ → ℕ → Bool
 are_quiet_at spec w r k = is_quiet (send_all spec.steps w (take k (line_of spec r))) (step_at spec r k) (step_at spec r (suc k))
 
--- the spec, without lines, starts in this world: the word of the rank falls at k, and the steps there are quiet
+-- the spec has no lines, the word of the rank falls at k, and from this world on the steps there are quiet
 pub record IsSwap (spec : Spec) (w : World) (r k : ℕ) : Type 0 where
   pub words : spec.lines ≡ []
   pub falls : falls_at k (word_of spec r) ≡ true

@@ -29,7 +29,7 @@ on_numbers f (Some (Int x)) None = None
 on_numbers f (Some (Int x)) (Some (Text t)) = None
 on_numbers f (Some (Int x)) (Some (Int y)) = checked (f x y)
 
--- the values of what stands in an expression, or none where one leaves the range
+-- the values of what stands in an expression, or none where one leaves the range or arithmetic meets a text
 
 abbrev pub operand_value : List Value → Operand → Option Value
 operand_value row (Literal v) = Some v
@@ -91,6 +91,6 @@ level_holds row (Level.Not c) = negated c
 level_holds row (Level.And c d) = and_then c d
 level_holds row (Level.Or c d) = or_else c d
 
--- whether a row meets a condition, or none where a value leaves the range
+-- whether a row meets a condition, or none where a value has none
 abbrev pub holds : List Value → Condition → Option Bool
 holds row c = told (level_holds row) c

@@ -42,7 +42,7 @@ pub record IsRun (x : Walking) (run : FactRun) : Type 0 where
   pub few : run.end ≤ x.end
   pub facts : AllHave x.reduce x.file.run run.first run.end run.fact
 
--- none at the end alone, where the walker stays; else a run, behind which it stands, and for which no more steps were sent than a line has
+-- none at the end alone, where the walker stays; else a run, behind which it stands, and for which no more steps were sent than a line may have
 abbrev pub GivesRun : Walking → Walking → Option FactRun → Type 0
 GivesRun x y None = (x.at ≡ x.end) × (y ≡ x)
 GivesRun x y (Some run) = IsRun x run × (y.sent ≤ x.sent + MAX_ITEMS) × (y ≡ record x { at = run.end; sent = y.sent; whole = true })

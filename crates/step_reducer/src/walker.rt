@@ -27,7 +27,8 @@ pub struct Shard {
 }
 
 /// Gives the facts of the ranks of a shard in rising order, of many ranks at once where one swap covers them. Contracts see
-/// the spec, whether facts are reduced, the shard, the next rank, the steps sent so far, and whether memory was refused.
+/// the spec, whether facts are reduced, the shard, the next rank, the steps sent so far, whether no run was given in part, and
+/// whether memory was refused.
 #[derive(Drop)]
 pub struct Walker<'a> {
     spec: &'a Spec,
