@@ -3,6 +3,8 @@
 import sys
 
 from binding import bind
+from books import answer as book_answer
+from books import book_text, compact, facts_of, leads_to, missing, report
 from facts import Worlds, answer, are_quiet, fact, fact_line, runs, sent, swap_covers, swapped, swaps, word_of
 from machine import outcome_text
 from spec_file import read_spec
@@ -42,6 +44,7 @@ session d setup { BEGIN; } step d1 { SET x = 1; LOCK t; } step d2 {}
 TWO_ROWS = ONE_ROW.replace("v + 10 WHERE id = 1", "v + 10 WHERE id = 2")
 LARGE = "".join(f"session s{place} " + "".join(f"step s{place}_{step} {{}} " for step in range(4)) for place in range(6))
 EMPTY_STEP = "session a step s {}"
+EMPTY_BOOK = '{"facts":[[0,1,"ran",0]],"format":2,"outcomes":[[[["sent",0],"done"]]],"spec":"session a step s {}"}\n'
 FALLING_LINE = EMPTY_STEP + " session b step r {} permutation r s permutation r s s"
 
 
@@ -165,9 +168,54 @@ def of_a_falling_line():
     yield "steps sent", sent(worlds.spec, range(2)), 3
 
 
+def runs_written(worlds, facts):
+    """The runs of a book as its text has them."""
+    return book_text(b"", facts).split('],"format"')[0].removeprefix('{"facts":[')
+
+
+def of_books():
+    worlds = worlds_of(TWO_TABLES)
+    spec, six = worlds.spec, [compact(worlds.outcome(0)).encode()] * 6
+    reduced, every = (facts_of(worlds, 0, 6, reduces) for reduces in (True, False))
+    told = '[0,1,"ran",0],[1,1,"swap",1],[2,1,"swap",2],[3,2,"swap",0],[5,1,"swap",1]'
+    yield "runs of the reduced book", runs_written(worlds, reduced), told
+    yield "runs where all are run", runs_written(worlds, every), '[0,6,"ran",0]'
+    for facts in (reduced, every, reduced | every):
+        yield "nothing is missing", missing(spec, facts), None
+        yield "six equal outcomes", report(spec, facts), six
+    job, turned = (facts_of(worlds, 0, 4, True) | facts_of(worlds, 2, 6, False) for _turn in range(2))
+    told = '[0,1,"ran",0],[1,1,"swap",1],[2,4,"ran",0],[2,1,"swap",2],[3,1,"swap",0]'
+    yield "runs of 0 to 3 reduced and 2 to 5 run", (runs_written(worlds, job), job | job == turned), (told, True)
+    gap = facts_of(worlds, 0, 2, True) | facts_of(worlds, 3, 6, True)
+    yield "rank 2 is missing", (missing(spec, gap), report(spec, gap)), (2, "missing rank 2")
+    behind = facts_of(worlds, 3, 5, True)
+    yield "a swap leads to a rank that is missing", (missing(spec, behind), report(spec, behind)), (0, "missing rank 0")
+    leads = [leads_to(spec, rank, place) for rank, place in ((4, 0), (4, 2), (4, 1), (0, 0), (0, 3))]
+    yield "where exchanges lead", leads, [2, 3, None, None, None]
+
+
+def of_books_of_two_ranks():
+    worlds = worlds_of(INSERT_AND_READ)
+    parts = [facts_of(worlds, rank, rank + 1, True) for rank in range(2)]
+    told = [missing(worlds.spec, facts) for facts in (parts[0], parts[1], parts[0] | parts[1], set())]
+    yield "what is missing", told, [1, 0, None, 0]
+    refused = [book_answer(INSERT_AND_READ.encode(), "x", [(0, 1, "every"), (*shard, "every")], True) for shard in ((0, 3), (2, 1))]
+    yield "ranges that are none", refused, [(3, b"", b"isofarm: x: shard error 1\n")] * 2
+
+
+def of_false_books():
+    worlds = worlds_of(EMPTY_STEP)
+    true, false = facts_of(worlds, 0, 1, True), (0, "ran", b'[["done"]]')
+    yield "its text", book_text(EMPTY_STEP.encode(), true), EMPTY_BOOK
+    yield "its length", len(EMPTY_BOOK), 101
+    yield "two outcomes", report(worlds.spec, true | {false}), "clash at rank 0"
+    yield "a false one alone", report(worlds.spec, {false}), [b'[["done"]]']
+
+
 def main():
     examples = [of_insert_and_read, of_one_line, of_one_row, of_readers_and_a_writer, of_two_tables]
     examples += [of_two_rows, of_waits_aside, of_an_empty_step, of_a_falling_line]
+    examples += [of_books, of_books_of_two_ranks, of_false_books]
     compared = differences = 0
     for example in examples:
         for what, computed, expected in example():

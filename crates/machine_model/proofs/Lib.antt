@@ -14,6 +14,7 @@ pub mod Counts
 pub mod Telling
 pub mod Owned
 pub mod Takings
+pub mod RowNumbers
 pub mod Typed
 pub mod Waiters
 pub mod Worked

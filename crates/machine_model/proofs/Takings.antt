@@ -1,11 +1,12 @@
 -- What statements that fit the tables take of rows that fit them, and the rows that they leave.
-use Rattle.std.proofs.Common.{◌≡◌, ◌≢◌, refl, sym, ap, ◌∙◌, subst, ℕ, zero, suc, ◌<◌, ◌≤◌, arith, Bool, true, false, cond, List, [], ◌∷◌, length, get_or, set, Option, Some, None, All, ℤ, pos, ◌⊎◌, inl, inr, ⊎_elim}
+use Rattle.std.proofs.Common.{◌≡◌, ◌≢◌, refl, sym, ap, ◌∙◌, subst, ℕ, zero, suc, ◌<◌, ◌≤◌, arith, Bool, true, false, cond, List, [], ◌∷◌, length, get_or, set}
+use Rattle.std.proofs.Common.{Option, Some, None, All, ℤ, pos, negsuc, ◌⊎◌, inl, inr, ⊎_elim}
 use Rattle.std.proofs.Common.{length-set, get_or-set_same, get_or-set_other}
-use Rattle.std.specs.Prelude.{◌+ℤ◌, ◌-ℤ◌, ◌*ℤ◌, ⊤, ◌==◌, ◌&&◌, map}
+use Rattle.std.specs.Prelude.{◌+ℤ◌, ◌-ℤ◌, ◌*ℤ◌, ⊤, ◌==◌, ◌&&◌, ◌||◌, map}
 use Rattle.std.specs.List.{filter}
 use Rattle.std.specs.FinMap.Entries.{put, by_order}
 use Rattle.std.proofs.Common.{Less, Equal, Greater}
-use Rattle.std.proofs.lemmas.Bool.{eqb-true}
+use Rattle.std.proofs.lemmas.Bool.{eqb-true, eq-eqb}
 use Rattle.std.proofs.lemmas.List.Elements.{All-head, All-tail}
 use Rattle.version_tree.specs.Map.{Order, Map, empty, entries, insert, keep, remove}
 use Rattle.lock_modes.specs.RowPlace.{RowPlace}
@@ -33,17 +34,21 @@ use Rattle.sql_statements.specs.declared.statement.SortKey.{SortKey}
 use Rattle.sql_subset.specs.declared.tables.ColumnType.{ColumnType}
 use Rattle.sql_subset.specs.declared.tables.ColumnType.TheVariants.{Number}
 use Rattle.sql_subset.specs.declared.tables.Table.{Table}
-use Rattle.sql_subset.specs.Fits.{IsThere, OperandIs, FactorsAre, ProductIs, TermsAre, ExpressionIs, ComparisonFits, ConditionFits, AggregateFits, OutputFits, SortKeyFits}
+use Rattle.sql_subset.specs.Fits.{IsThere, OperandIs, FactorsAre, ProductIs, TermsAre, ExpressionIs, ComparisonFits, ConditionFits, AggregateFits, OutputFits}
+use Rattle.sql_subset.specs.Fits.{SortKeyFits}
 use Rattle.sql_subset.specs.Fits.{AssignmentFits, Takes, IsColumn, ColumnOf, ValueIn, RowFits, OfTable, Fits}
-use Rattle.sql_subset.specs.Tables.{no_table, type_of, width}
+use Rattle.sql_subset.specs.Statements.{sets_column, sets_key}
+use Rattle.sql_subset.specs.Tables.{no_table, key_column, type_of, width}
 use Rattle.sql_subset.specs.Types.{value_type}
 use Rattle.transcripts.specs.declared.event.Fault.TheVariants.{Duplicate, OutOfRange}
 use Rattle.transcripts.specs.declared.event.Event.TheVariants.{Inserted, Updated, Deleted}
 use Rattle.statement_effects.specs.Evaluate.{in_range, checked, on_numbers, operand_value, times_each, product_value, plus_or_minus, plus_each, value_of}
-use Rattle.statement_effects.specs.Effect.{visible, Effect, Gives, Faults, effect, matching, assigned, all_assigned, placed, or_fault, counted}
+use Rattle.statement_effects.specs.Effect.{visible, Effect, Gives, Faults, effect, matching, assigned, all_assigned, placed, next_number, numbered, or_fault}
+use Rattle.statement_effects.specs.Effect.{counted}
 use Rattle.statement_effects.proofs.ListLemmas.{Each, Each-map, Each-at}
-use Rattle.statement_effects.proofs.WriteLemmas.{OnSome, OnGives, leaves, each-kept, each-any, each-matching, each-all_assigned, each-placed, each-numbered, each-deleted, on-or_fault, on-matched, on-selected}
-use Rattle.machine_model.specs.Typed.{EntryFits, RowsFit, LeftFits}
+use Rattle.statement_effects.proofs.WriteLemmas.{OnSome, OnGives, leaves, any-some, each-kept, each-any, each-matching, each-all_assigned, each-placed}
+use Rattle.statement_effects.proofs.WriteLemmas.{each-deleted, on-or_fault, on-matched, on-selected}
+use Rattle.machine_model.specs.Typed.{LiesAt, EntryFits, RowsFit, LeftFits}
 use Rattle.machine_model.proofs.Basics.{cases-eq, both_true}
 
 -- ---- what is taken of columns, where more is known of them
@@ -234,36 +239,84 @@ assigned-fits t old fits (a ∷ as') row now all =
     at None is rec = tt
     at (Some v) is rec = rec v is
 
+on-both : (o : Option Tuple) (P Q : Tuple → Type 0) → OnSome o P → OnSome o Q → OnSome o (λ row. P row × Q row)
+on-both None P Q p q = tt
+on-both (Some row) P Q p q = (p, q)
+
+-- a row that is set elsewhere has its key as before
+keeps-key : (P : Value → Type 0) (old : Tuple) (key : ℕ) (sets : List Assignment) (row : Tuple) → sets_column key sets ≡ false → P (key_at key row)
+    → OnSome (assigned old sets row) (λ r. P (key_at key r))
+keeps-key P old key [] row e p = p
+keeps-key P old key (a ∷ as') row e p = at (a.column == key) refl e (value_of old a.value) (λ v. keeps-key P old key as' (set row a.column v))
+  where
+    other : (a.column == key) ≡ false → key ≢ a.column
+    other is same = absurd (cc (sym is ∙ eq-eqb a.column key (sym same)))
+
+    at : (b : Bool) → (a.column == key) ≡ b → (b || sets_column key as') ≡ false → (o : Option Value)
+        → ((v : Value) → sets_column key as' ≡ false → P (key_at key (set row a.column v))
+        → OnSome (assigned old as' (set row a.column v)) (λ r. P (key_at key r)))
+        → OnSome (let x : Option Tuple = elim o [ None ↦ None | Some v ↦ assigned old as' (set row a.column v) ] in x) (λ r. P (key_at key r))
+    at true is h o rec = absurd (cc h)
+    at false is h None rec = tt
+    at false is h (Some v) rec = rec v h (subst P (sym (get_or-set_other row a.column key v (Int (pos 0)) (other is))) p)
+
+lies-on : (key : Option ℕ) (at : Value) (old : Tuple) (sets : List Assignment) → sets_key key sets ≡ false → LiesAt key at old
+    → OnSome (assigned old sets old) (LiesAt key at)
+lies-on (Some k) at old sets e is = keeps-key (λ v. at ≡ v) old k sets old e is
+lies-on None at old sets e is = any-some (assigned old sets old) (LiesAt None at old) is
+
+-- row numbers count from 1
+pub counts : (n : ℕ) (es : List (RowPlace × Tuple)) → (m : ℕ) × (next_number (suc n) es ≡ suc m)
+counts n [] = (n, refl)
+counts n (e ∷ es) = at e.0.1 (λ k. counts k es)
+  where
+    at : (v : Value) → ((k : ℕ) → (m : ℕ) × (next_number (suc k) es ≡ suc m))
+        → (m : ℕ) × (next_number (elim v [ Int z ↦ elim z [ pos k ↦ suc k | negsuc k ↦ suc n ] | Text s ↦ suc n ]) es ≡ suc m)
+    at (Int (pos k)) rec = rec k
+    at (Int (negsuc k)) rec = rec n
+    at (Text s) rec = rec n
+
+each-counted : (R : Write → Type 0) (t n : ℕ) (new : List Tuple) → Each (λ row. (m : ℕ) → R (leaves (t, Int (pos (suc m))) row)) new
+    → Each R (numbered t (suc n) new)
+each-counted R t n [] h = tt
+each-counted R t n (row ∷ more) h = (h.0 n, each-counted R t (suc n) more h.1)
+
 -- ---- no default is met
 
 module _ (tables : List Table) where
   abbrev pub EachFits : Rows' → Type 0
   EachFits rows = Each (EntryFits tables) (entries rows)
 
-  -- the row is of this table, and fits it
-  abbrev IsOf : ℕ → RowPlace × Tuple → Type 0
-  IsOf n e = (e.0.0 ≡ n) × RowFits (get_or tables n no_table) e.1
+  -- the row at a place of this table is one of it
+  abbrev IsRowOf : ℕ → Value → Tuple → Type 0
+  IsRowOf n at row = let t = get_or tables n no_table in RowFits t row × LiesAt (key_column t) at row
+
+  abbrev pub IsOf : ℕ → RowPlace × Tuple → Type 0
+  IsOf n e = (e.0.0 ≡ n) × IsRowOf n e.0.1 e.1
 
   -- a statement looks at rows of its table alone
-  seen-fits : (st : Bound) (n : ℕ) → ((p : RowPlace) → looks_at st p ≡ true → p.0 ≡ n) → (rows : Rows') → EachFits rows → Each (IsOf n) (entries (visible st rows))
+  pub seen-fits : (st : Bound) (n : ℕ) → ((p : RowPlace) → looks_at st p ≡ true → p.0 ≡ n) → (rows : Rows') → EachFits rows
+      → Each (IsOf n) (entries (visible st rows))
   seen-fits st n own rows h =
       each-both (λ (e : RowPlace × Tuple). looks_at st e.0 ≡ true) (EntryFits tables) (IsOf n)
-      (λ e look fits. (own e.0 look, subst (λ k. RowFits (get_or tables k no_table) e.1) (own e.0 look) fits.1))
+      (λ e look fits. (own e.0 look, subst (λ k. IsRowOf k e.0.1 e.1) (own e.0 look) fits.1))
       (entries (visible st rows)) (each-kept (looks_at st) rows) (each-keep _ (EntryFits tables) (looks_at st) rows h)
 
   in-table : (n : ℕ) (p : RowPlace) (b : Bool) → ((p.0 == n) && b) ≡ true → p.0 ≡ n
   in-table n p b e = eqb-true p.0 n (both_true (p.0 == n) b e).0
 
-  taken : (st : Bound) (n : ℕ) → ((p : RowPlace) → looks_at st p ≡ true → p.0 ≡ n) → OfTable tables n (λ t. Takes (ColumnOf t) st) → (rows : Rows') → EachFits rows
+  taken : (st : Bound) (n : ℕ) → ((p : RowPlace) → looks_at st p ≡ true → p.0 ≡ n) → OfTable tables n (λ t. Takes (ColumnOf t) st) → (rows : Rows')
+      → EachFits rows
       → Each (λ (e : RowPlace × Tuple). Takes (ValueIn e.1) st) (entries (visible st rows))
   taken st n own fits rows h =
       let t = get_or tables n no_table in
-      Each-map (IsOf n) (λ (e : RowPlace × Tuple). Takes (ValueIn e.1) st) (λ e is. takes (ColumnOf t) (ValueIn e.1) (value-in t e.1 is.1) st fits.1)
+      Each-map (IsOf n) (λ (e : RowPlace × Tuple). Takes (ValueIn e.1) st) (λ e is. takes (ColumnOf t) (ValueIn e.1) (value-in t e.1 is.1.0) st fits.1)
       (entries (visible st rows)) (seen-fits st n own rows h)
 
-  each-taken : (st : Bound) → Fits tables st → (rows : Rows') → EachFits rows → Each (λ (e : RowPlace × Tuple). Takes (ValueIn e.1) st) (entries (visible st rows))
+  each-taken : (st : Bound) → Fits tables st → (rows : Rows') → EachFits rows
+      → Each (λ (e : RowPlace × Tuple). Takes (ValueIn e.1) st) (entries (visible st rows))
   each-taken (Select n key c by out) fits rows h = taken (Select n key c by out) n (λ p e. in-table n p (at_key key p.1) e) fits rows h
-  each-taken (Update n key sets c) fits rows h = taken (Update n key sets c) n (λ p e. in-table n p (at_key key p.1) e) fits rows h
+  each-taken (Update n key sets c) fits rows h = taken (Update n key sets c) n (λ p e. in-table n p (at_key key p.1) e) (fits.0, fits.1.0) rows h
   each-taken (Delete n key c) fits rows h = taken (Delete n key c) n (λ p e. in-table n p (at_key key p.1) e) fits rows h
   each-taken (Insert n key new) fits rows h = each-any (λ (e : RowPlace × Tuple). ⊤) (λ e. tt) (entries (visible (Insert n key new) rows))
   each-taken (Lock n mode) fits rows h = each-any (λ (e : RowPlace × Tuple). ⊤) (λ e. tt) (entries (visible (Lock n mode) rows))
@@ -298,32 +351,48 @@ module _ (tables : List Table) where
   unfolding lay
   lay-fits o rows h all = entries-fit (entries o) rows h all
 
-  new-fit : (n : ℕ) (new : List Tuple) → OfTable tables n (λ t. All (RowFits t) new) → Each (λ row. OfTable tables n (λ t. RowFits t row)) new
-  new-fit n new fits =
-      Each-map (RowFits (get_or tables n no_table)) (λ row. OfTable tables n (λ t. RowFits t row)) (λ row h. (fits.0, h)) new
-      (all-each (RowFits (get_or tables n no_table)) new fits.1)
+  -- a new row lies where its table says: at its key
+  keyed : (n k : ℕ) (new : List Tuple) → OfTable tables n (λ t. (Some k ≡ key_column t) × All (RowFits t) new)
+      → Each (λ row. WriteFits (leaves (n, key_at k row) row)) new
+  keyed n k new fits =
+      Each-map (RowFits (get_or tables n no_table)) (λ row. WriteFits (leaves (n, key_at k row) row))
+      (λ row h. (fits.0, (h, subst (λ key. LiesAt key (key_at k row) row) fits.1.0 refl))) new (all-each (RowFits (get_or tables n no_table)) new fits.1.1)
 
-  left-fits : (n : ℕ) (e : RowPlace × Tuple) → n < length tables → e.0.0 ≡ n → (o : Option Tuple) → OnSome o (RowFits (get_or tables n no_table))
+  -- and where there is none at a row number
+  keyless : (n : ℕ) (new : List Tuple) → OfTable tables n (λ t. (None ≡ key_column t) × All (RowFits t) new)
+      → Each (λ row. (m : ℕ) → WriteFits (leaves (n, Int (pos (suc m))) row)) new
+  keyless n new fits =
+      Each-map (RowFits (get_or tables n no_table)) (λ row. (m : ℕ) → WriteFits (leaves (n, Int (pos (suc m))) row))
+      (λ row h m. (fits.0, (h, subst (λ key. LiesAt key (Int (pos (suc m))) row) fits.1.0 (m, refl)))) new
+      (all-each (RowFits (get_or tables n no_table)) new fits.1.1)
+
+  left-fits : (n : ℕ) (e : RowPlace × Tuple) → n < length tables → e.0.0 ≡ n → (o : Option Tuple) → OnSome o (IsRowOf n e.0.1)
       → OnSome o (λ row. WriteFits (leaves e.0 row))
   left-fits n e lt is None h = tt
-  left-fits n e lt is (Some row) h = subst (λ k. OfTable tables k (λ t. RowFits t row)) (sym is) (lt, h)
+  left-fits n e lt is (Some row) h = subst (λ k. OfTable tables k (λ t. RowFits t row × LiesAt (key_column t) e.0.1 row)) (sym is) (lt, h)
+
+  updated-fits : (n : ℕ) (key : Option Value) (sets : List Assignment) (c : Condition) → Fits tables (Update n key sets c) → (e : RowPlace × Tuple) → IsOf n e
+      → OnSome (assigned e.1 sets e.1) (λ row. WriteFits (leaves e.0 row))
+  updated-fits n key sets c fits e is =
+      let t = get_or tables n no_table in
+      left-fits n e fits.0 is.0 (assigned e.1 sets e.1)
+      (on-both (assigned e.1 sets e.1) (RowFits t) (LiesAt (key_column t) e.0.1) (assigned-fits t e.1 is.1.0 sets e.1 is.1.0 fits.1.0.0)
+      (lies-on (key_column t) e.0.1 e.1 sets fits.1.1 is.1.1))
 
   -- what a statement that fits writes over rows that fit, fits
   pub effect-fits : (st : Bound) (rows : Rows') → Fits tables st → EachFits rows → OnGives (effect st rows) (Each WriteFits)
   unfolding effect
   effect-fits (Select n key c by out) rows fits h = on-selected WriteFits by out (matching c (entries (visible (Select n key c by out) rows)))
   effect-fits (Insert n (Some k) new) rows fits h =
-      on-or_fault WriteFits Duplicate (placed n k new (visible (Insert n (Some k) new) rows)) Inserted (each-placed WriteFits n k new _ (new-fit n new fits))
+      on-or_fault WriteFits Duplicate (placed n k new (visible (Insert n (Some k) new) rows)) Inserted (each-placed WriteFits n k new _ (keyed n k new fits))
   effect-fits (Insert n None new) rows fits h =
-      each-numbered WriteFits n _ new
-      (Each-map (λ row. OfTable tables n (λ t. RowFits t row)) (λ row. (v : Value) → WriteFits (leaves (n, v) row)) (λ row k v. k) new (new-fit n new fits))
+      let next = counts 0 (entries (visible (Insert n None new) rows)) in
+      subst (λ m. Each WriteFits (numbered n m new)) (sym next.1) (each-counted WriteFits n next.0 new (keyless n new fits))
   effect-fits (Update n key sets c) rows fits h =
       let st : Bound = Update n key sets c in
-      let t = get_or tables n no_table in
       on-matched WriteFits (IsOf n) (matching c (entries (visible st rows))) (λ es. or_fault OutOfRange (all_assigned sets es) Updated)
       (λ es all. on-or_fault WriteFits OutOfRange (all_assigned sets es) Updated
-      (each-all_assigned WriteFits (IsOf n) sets
-      (λ e is. left-fits n e fits.0 is.0 (assigned e.1 sets e.1) (assigned-fits t e.1 is.1 sets e.1 is.1 fits.1.0)) es all))
+      (each-all_assigned WriteFits (IsOf n) sets (updated-fits n key sets c fits) es all))
       (each-matching (IsOf n) c _ (seen-fits st n (λ p e. in-table n p (at_key key p.1) e) rows h))
   effect-fits (Delete n key c) rows fits h =
       on-matched WriteFits (λ (e : RowPlace × Tuple). ⊤) (matching c (entries (visible (Delete n key c) rows)))

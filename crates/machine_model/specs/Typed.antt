@@ -1,22 +1,32 @@
 -- Rows that fit their tables, in the worlds of a run, and what statements take of them.
-use Rattle.std.specs.Prelude.{◌≡◌, ℕ, ⊤, List, [], ◌∷◌, Option, Some, None}
+use Rattle.std.specs.Prelude.{◌≡◌, ℕ, suc, ◌<◌, ⊤, List, [], ◌∷◌, Option, Some, None, pos}
 use Rattle.std.specs.List.{All}
 use Rattle.version_tree.specs.Map.{entries}
 use Rattle.lock_modes.specs.RowPlace.{RowPlace}
+use Rattle.lock_modes.specs.declared.value.Value.{Value}
+use Rattle.lock_modes.specs.declared.value.Value.TheVariants.{Int}
 use Rattle.row_tables.specs.Overlay.{Tuple, Rows', lay}
+use Rattle.sql_statements.specs.Plan.{key_at}
 use Rattle.sql_statements.specs.declared.statement.Bound.{Bound}
+use Rattle.sql_statements.specs.declared.statement.Bound.TheVariants.{Insert}
 use Rattle.sql_subset.specs.declared.tables.Table.{Table}
 use Rattle.sql_subset.specs.Fits.{OfTable, RowFits, ValueIn, Takes, Fits, SpecFits}
 use Rattle.sql_subset.specs.Spec.{Spec}
-use Rattle.statement_effects.specs.Effect.{visible}
+use Rattle.sql_subset.specs.Tables.{key_column}
+use Rattle.statement_effects.specs.Effect.{visible, next_number}
 use Rattle.machine_model.specs.Start.{Started, start}
 use Rattle.machine_model.specs.Session.{Session, Task, Ask, Do, Goes, Fails, perform}
 use Rattle.machine_model.specs.Go.{taking}
 use Rattle.machine_model.specs.World.{World, session_at, goes, send_all}
 
--- the row is one of the table that its place names, and fits it
+-- a row lies at its value in the key column, and in a table without one at a row number, which counts from 1
+abbrev pub LiesAt : Option ℕ → Value → Tuple → Type 0
+LiesAt (Some key) at row = at ≡ key_at key row
+LiesAt None at row = (n : ℕ) × (at ≡ Int (pos (suc n)))
+
+-- the row is one of the table that its place names, fits it, and lies where it belongs
 abbrev pub EntryFits : List Table → RowPlace × Tuple → Type 0
-EntryFits tables e = OfTable tables e.0.0 (λ t. RowFits t e.1)
+EntryFits tables e = OfTable tables e.0.0 (λ t. RowFits t e.1 × LiesAt (key_column t) e.0.1 e.1)
 
 abbrev pub RowsFit : List Table → Rows' → Type 0
 RowsFit tables rows = All (EntryFits tables) (entries rows)
@@ -73,3 +83,10 @@ abbrev pub NoDefaultIsMet : Type 0
 NoDefaultIsMet =
     (tables : List Table) (st : Bound) (rows : Rows') → Fits tables st → RowsFit tables rows
     → All (λ (e : RowPlace × Tuple). Takes (ValueIn e.1) st) (entries (visible st rows))
+
+-- the number that a new row gets in a table without a key is past those of all rows there
+abbrev pub NumbersAreNew : Type 0
+NumbersAreNew =
+    (tables : List Table) (t : ℕ) (new : List Tuple) (rows : Rows') → Fits tables (Insert t None new) → RowsFit tables rows
+    → let there = entries (visible (Insert t None new) rows) in
+    All (λ (e : RowPlace × Tuple). (n : ℕ) × ((e.0.1 ≡ Int (pos n)) × (n < next_number 1 there))) there

@@ -1,7 +1,7 @@
 //! The laws of the machine, each the contract of a function that does nothing.
 
 ghost use Rattle.machine_model.specs.Laws.{SendKeepsSound, WaitsAreRings, StartsSound, WaitersReach, OutcomesAreOwn, WorldsReachedAreSound};
-ghost use Rattle.machine_model.specs.Typed.{GoingKeepsFit, WorldsFit, RowsSeenFit, NoDefaultIsMet};
+ghost use Rattle.machine_model.specs.Typed.{GoingKeepsFit, WorldsFit, RowsSeenFit, NoDefaultIsMet, NumbersAreNew};
 
 /// A step sent leaves a sound world sound: held modes compatible, overlays under locks, no ripe wait, no ring.
 pub fn send_keeps_sound()
@@ -34,7 +34,8 @@ pub fn worlds_reached_are_sound()
 {}
 
 /// Where the statements of a spec fit tables, every world of a line fits them: committed rows, what sessions have written, and what is left of their steps;
-/// wherever a session goes, each of its statements sees rows that fit; and so are the rows that a session sees between steps.
+/// wherever a session goes, each of its statements sees rows that fit; and so are the rows that a session sees between steps. A row that fits has a value of its
+/// type in each column, and lies at its key, or at a row number in a table without one.
 pub fn rows_fit()
     ensures going { GoingKeepsFit }
     ensures worlds { WorldsFit }
@@ -45,4 +46,9 @@ pub fn rows_fit()
 /// outputs and sums take of a row has a value there, and what is multiplied, added, summed or compared has the type for it.
 pub fn no_default_is_met()
     ensures { NoDefaultIsMet }
+{}
+
+/// Rows that fit are never overwritten by new ones where there is no key: the number that the first new row gets is past those of all rows there.
+pub fn numbers_are_new()
+    ensures { NumbersAreNew }
 {}

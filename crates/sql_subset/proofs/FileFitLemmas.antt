@@ -1,5 +1,6 @@
 -- The statements of a spec file fit the tables that it declares.
-use Rattle.std.proofs.Common.{◌≡◌, refl, sym, subst, ◌∙◌, ℕ, suc, ◌<◌, List, [], ◌∷◌, ◌++◌, length, map, All, get_or, Option, Some, None, Ok, Err, arith, append_assoc, length-append}
+use Rattle.std.proofs.Common.{false, ◌≡◌, refl, sym, subst, ◌∙◌, ℕ, suc, ◌<◌, List, [], ◌∷◌, ◌++◌, length, map, All, get_or, Option, Some, None, Ok, Err, arith}
+use Rattle.std.proofs.Common.{append_assoc, length-append}
 use Rattle.std.proofs.lemmas.List.{get_or_append_left}
 use Rattle.std.proofs.lemmas.List.Elements.{All-nil, All-cons, All-append, All-map, All-head, All-tail}
 use Rattle.spec_reader.specs.Tree.{BlockTree, SessionTree, SpecTree}
@@ -20,8 +21,8 @@ use Rattle.sql_subset.specs.Lines.{orders_of}
 use Rattle.sql_subset.specs.Names.{Name, list_of}
 use Rattle.sql_subset.specs.Refusals.{Bind, ◌>>=◌, refuse, each}
 use Rattle.sql_subset.specs.Spec.{Step, Spec, SpecFile}
-use Rattle.sql_subset.specs.Statements.{statement}
-use Rattle.sql_subset.specs.Tables.{no_table, create, create_with, refusal, joined, part_columns, part_keys, declared}
+use Rattle.sql_subset.specs.Statements.{sets_key, statement}
+use Rattle.sql_subset.specs.Tables.{no_table, key_column, create, create_with, refusal, joined, part_columns, part_keys, declared}
 use Rattle.sql_subset.proofs.FitLemmas.{then-both, each-bound, statement-fits}
 use Rattle.sql_subset.proofs.SentLemmas.{IfBound, then-bound, bound-is, bind}
 
@@ -48,8 +49,9 @@ of-more tables extra n P h = (longer tables extra n h.0, subst P (sym (get_or_ap
 
 fits-more : (tables extra : List Table) (b : Bound) → Fits tables b → Fits (tables ++ extra) b
 fits-more tables extra (Select n key c by out) h = of-more tables extra n (λ t. Takes (ColumnOf t) (Select n key c by out)) h
-fits-more tables extra (Insert n key rows) h = of-more tables extra n (λ t. All (RowFits t) rows) h
-fits-more tables extra (Update n key sets c) h = of-more tables extra n (λ t. Takes (ColumnOf t) (Update n key sets c)) h
+fits-more tables extra (Insert n key rows) h = of-more tables extra n (λ t. (key ≡ key_column t) × All (RowFits t) rows) h
+fits-more tables extra (Update n key sets c) h =
+    of-more tables extra n (λ t. Takes (ColumnOf t) (Update n key sets c) × (sets_key (key_column t) sets ≡ false)) h
 fits-more tables extra (Delete n key c) h = of-more tables extra n (λ t. Takes (ColumnOf t) (Delete n key c)) h
 fits-more tables extra (Lock n mode) h = longer tables extra n h
 fits-more tables extra Begin h = tt
@@ -69,7 +71,8 @@ module _ {X : Type 0} (P : List Table → X → Type 0) (under : (t u : List Tab
   abbrev Grown : List Table → List Table × List X → Type 0
   Grown tables y = Extends tables y.0 × All (P y.0) y.1
 
-  more-grown : (t u : List Table) (xs : List X) (r : Bind (List Table × List X)) → Extends t u → All (P u) xs → IfBound (Grown u) r → IfBound (Grown t) (then_more xs r)
+  more-grown : (t u : List Table) (xs : List X) (r : Bind (List Table × List X)) → Extends t u → All (P u) xs → IfBound (Grown u) r
+      → IfBound (Grown t) (then_more xs r)
   more-grown t u xs (Ok y) e all h = (extends-then t u y.0 e h.0, All-append (P y.0) xs y.1 (λ i d lt. under u y.0 (get_or xs i d) h.0 (all i d lt)) h.1)
   more-grown t u xs (Err e') e all h = tt
 
@@ -104,11 +107,13 @@ sent-made tables (Err e) h = tt
 main-made : (tables : List Table) (at : ℕ) (s : tree.Statement) → IfBound (Made tables) (main_statement tables at s)
 main-made tables at (tree.CreateTable n ps) =
     then-both (Extends tables) (Made tables) (create tables at n ps) (λ more. Ok (more, [])) (created tables at n ps) (λ more e. (e, All-nil (Fits more)))
-main-made tables at (tree.Insert n names rows) = sent-made tables (statement tables at (tree.Insert n names rows)) (statement-fits tables at (tree.Insert n names rows))
+main-made tables at (tree.Insert n names rows) =
+    sent-made tables (statement tables at (tree.Insert n names rows)) (statement-fits tables at (tree.Insert n names rows))
 main-made tables at (tree.Selects s) = sent-made tables (statement tables at (tree.Selects s)) (statement-fits tables at (tree.Selects s))
 main-made tables at (tree.Update n as' c) = sent-made tables (statement tables at (tree.Update n as' c)) (statement-fits tables at (tree.Update n as' c))
 main-made tables at (tree.Delete n c) = sent-made tables (statement tables at (tree.Delete n c)) (statement-fits tables at (tree.Delete n c))
-main-made tables at (tree.Begin start level) = sent-made tables (statement tables at (tree.Begin start level)) (statement-fits tables at (tree.Begin start level))
+main-made tables at (tree.Begin start level) =
+    sent-made tables (statement tables at (tree.Begin start level)) (statement-fits tables at (tree.Begin start level))
 main-made tables at (tree.Ends word noise) = sent-made tables (statement tables at (tree.Ends word noise)) (statement-fits tables at (tree.Ends word noise))
 main-made tables at (tree.Lock word n mode) = sent-made tables (statement tables at (tree.Lock word n mode)) (statement-fits tables at (tree.Lock word n mode))
 main-made tables at (tree.Set setting) = sent-made tables (statement tables at (tree.Set setting)) (statement-fits tables at (tree.Set setting))
@@ -141,7 +146,8 @@ session-fits tables s =
     then-both (All (All (Fits tables))) (SessionFits tables) (each (step tables) s.steps) (λ steps. Ok (record { setup = setup; steps = steps }))
     (each-bound (All (Fits tables)) (step tables) (λ t. block-fits tables t.block) s.steps) (λ steps k. record { setup = h; steps = k }))
 
-steps-fit : (tables : List Table) (i : ℕ) (ss : List BoundSession) → All (SessionFits tables) ss → All (λ (s : Step). All (Fits tables) s.statements) (all_steps i ss)
+steps-fit : (tables : List Table) (i : ℕ) (ss : List BoundSession) → All (SessionFits tables) ss
+    → All (λ (s : Step). All (Fits tables) s.statements) (all_steps i ss)
 steps-fit tables i [] h = All-nil (λ (s : Step). All (Fits tables) s.statements)
 steps-fit tables i (s ∷ ss) h =
     let P : Step → Type 0 = λ s. All (Fits tables) s.statements in

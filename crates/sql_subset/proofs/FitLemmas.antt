@@ -38,7 +38,8 @@ use Rattle.sql_subset.specs.declared.joining.Joint.TheVariants.{All as AllOf, An
 use Rattle.sql_subset.specs.declared.tables.ColumnType.{ColumnType}
 use Rattle.sql_subset.specs.declared.tables.ColumnType.TheVariants.{Number, Text}
 use Rattle.sql_subset.specs.declared.tables.Table.{Table}
-use Rattle.sql_subset.specs.Fits.{IsColumn, IsThere, ColumnOf, OperandIs, FactorsAre, ProductIs, TermsAre, ExpressionIs, EachComparison, ComparisonFits, ConditionFits}
+use Rattle.sql_subset.specs.Fits.{IsColumn, IsThere, ColumnOf, OperandIs, FactorsAre, ProductIs, TermsAre, ExpressionIs, EachComparison, ComparisonFits}
+use Rattle.sql_subset.specs.Fits.{ConditionFits}
 use Rattle.sql_subset.specs.Fits.{AggregateFits, OutputFits, SortKeyFits, AssignmentFits, RowFits, OfTable, Fits}
 use Rattle.sql_subset.specs.KeyParts.{key_of}
 use Rattle.sql_subset.specs.Names.{Name, head, tail, list_of, repeats}
@@ -200,8 +201,14 @@ factors-number : (t : Table) (o : Operand) (os : List Operand) → Known t o →
     → FactorsAre (ColumnOf t) Number o os
 factors-number t o [] h k e = operand-number t o h (or_false (is_text (operand_type t o)) false e).0
 factors-number t o (p ∷ ps) h k e =
-    let both = or_false (is_text (operand_type t o)) (any_text t (p ∷ ps)) e in
-    (refl, (operand-number t o h both.0, none-All (Known t) (λ q. is_text (operand_type t q)) (OperandIs (ColumnOf t) Number) (operand-number t) (p ∷ ps) k both.1))
+    let both = or_false (is_text (operand_type t o)) (any_text t (p ∷ ps)) e in (
+      refl,
+      (
+        operand-number t o h both.0,
+        none-All (Known t) (λ q. is_text (operand_type t q)) (OperandIs (ColumnOf t) Number) (operand-number t)
+            (p ∷ ps) k both.1,
+      ),
+    )
 
 product-number : (t : Table) (p : Product) → KnownProduct t p → product_has_text t p ≡ false → ProductIs (ColumnOf t) Number p
 product-number t p h e = factors-number t p.first p.more h.0 h.1 e
@@ -216,7 +223,8 @@ expression-by t o [] (s ∷ ss) h k l e =
     let both = or_false (product_has_text t (record { first = o; more = [] })) (any_has_text t (s ∷ ss)) e in
     (refl, (factors-number t o [] h k both.0, terms (s ∷ ss) l both.1))
   where
-    terms : (ts : List SignedProduct) → All (KnownTerm t) ts → any_has_text t ts ≡ false → All (λ (u : SignedProduct). ProductIs (ColumnOf t) Number u.product) ts
+    terms : (ts : List SignedProduct) → All (KnownTerm t) ts → any_has_text t ts ≡ false
+        → All (λ (u : SignedProduct). ProductIs (ColumnOf t) Number u.product) ts
     terms ts l e =
         none-All (KnownTerm t) (λ (u : SignedProduct). product_has_text t u.product) (λ (u : SignedProduct). ProductIs (ColumnOf t) Number u.product)
         (λ u h f. product-number t u.product h f) ts l e
@@ -224,7 +232,8 @@ expression-by t o (p ∷ ps) (s ∷ ss) h k l e =
     let both = or_false (product_has_text t (record { first = o; more = p ∷ ps })) (any_has_text t (s ∷ ss)) e in
     (refl, (factors-number t o (p ∷ ps) h k both.0, terms (s ∷ ss) l both.1))
   where
-    terms : (ts : List SignedProduct) → All (KnownTerm t) ts → any_has_text t ts ≡ false → All (λ (u : SignedProduct). ProductIs (ColumnOf t) Number u.product) ts
+    terms : (ts : List SignedProduct) → All (KnownTerm t) ts → any_has_text t ts ≡ false
+        → All (λ (u : SignedProduct). ProductIs (ColumnOf t) Number u.product) ts
     terms ts l e =
         none-All (KnownTerm t) (λ (u : SignedProduct). product_has_text t u.product) (λ (u : SignedProduct). ProductIs (ColumnOf t) Number u.product)
         (λ u h f. product-number t u.product h f) ts l e
@@ -289,7 +298,8 @@ output-fits t (Aggregates as') h e = none-All (KnownAggregate t) (aggregate_mixe
 sorted-known : (t : Table) (at : ℕ) (o : Option (Chain Sorted)) → IfBound (All (SortKeyFits (ColumnOf t))) (sort_keys t at o)
 sorted-known t at None = All-nil (SortKeyFits (ColumnOf t))
 sorted-known t at (Some ks) =
-    each-bound (SortKeyFits (ColumnOf t)) (sort_key t at) (λ k. then-both (IsColumn t) (SortKeyFits (ColumnOf t)) (column t at k.column) _ (column-bound t at k.column)
+    each-bound (SortKeyFits (ColumnOf t)) (sort_key t at)
+    (λ k. then-both (IsColumn t) (SortKeyFits (ColumnOf t)) (column t at k.column) _ (column-bound t at k.column)
     (there t)) (list_of ks)
 
 abbrev KnownAssignment : Table → Assignment → Type 0
@@ -306,7 +316,8 @@ assignment-fits t a h e =
       type_of t a.column,
       (
         (h.0, refl),
-        subst (λ k. ExpressionIs (ColumnOf t) k a.value) (sym (same_if (type_of t a.column) (expression_type t a.value) both.1)) (expression-is t a.value h.1 both.0),
+        subst (λ k. ExpressionIs (ColumnOf t) k a.value) (sym (same_if (type_of t a.column) (expression_type t a.value) both.1))
+            (expression-is t a.value h.1 both.0),
       ),
     )
 
@@ -372,7 +383,8 @@ insert-fits tables at names rows x h =
     let made : Bind Bound = Ok (Insert x.0 (key_column t) (map (at_places (places t columns)) values)) in
     unless-passed (Fits tables) (list_any (row_mixes t columns) values) at TypeMismatch (unless (rows_miscount t columns values) at WrongCount made) (λ typed.
     unless-passed (Fits tables) (rows_miscount t columns values) at WrongCount made (λ counted.
-    of-table tables (λ t'. All (RowFits t') (map (at_places (places t columns)) values)) x h (rows-fit t columns values known typed counted)))))
+    of-table tables (λ t'. (key_column t ≡ key_column t') × All (RowFits t') (map (at_places (places t columns)) values)) x h
+    (refl, rows-fit t columns values known typed counted)))))
 
 select-fits : (tables : List Table) (at : ℕ) (s : tree.Select) (x : ℕ × Table) → Named tables x → IfBound (Fits tables) (select x.1 at x.0 s)
 select-fits tables at s x h =
@@ -400,8 +412,10 @@ update-fits tables at as' c x h =
     let both = or_false (list_any (assignment_mixes t) sets) (condition_mixes t d) e in
     unless-passed (Fits tables) (sets_key (key_column t) sets) at KeyChanged counted (λ e'.
     unless-passed (Fits tables) (repeats [] (set_columns sets)) at WrongCount made (λ e''.
-    of-table tables (λ t'. All (AssignmentFits (ColumnOf t')) sets × ConditionFits (ColumnOf t') d) x h
-    (none-All (KnownAssignment t) (assignment_mixes t) (AssignmentFits (ColumnOf t)) (assignment-fits t) sets known both.0, condition-fits t d k both.1))))))
+    of-table tables (λ t'. (All (AssignmentFits (ColumnOf t')) sets × ConditionFits (ColumnOf t') d) × (sets_key (key_column t') sets ≡ false)) x h (
+      (none-All (KnownAssignment t) (assignment_mixes t) (AssignmentFits (ColumnOf t)) (assignment-fits t) sets known both.0, condition-fits t d k both.1),
+      e',
+    ))))))
 
 delete-fits : (tables : List Table) (at : ℕ) (c : Option tree.Condition) (x : ℕ × Table) → Named tables x → IfBound (Fits tables) (delete x.1 at x.0 c)
 delete-fits tables at c x h =

@@ -1,5 +1,5 @@
--- Which statements fit the tables: their columns are there, and numbers and texts stand where they belong.
-use Rattle.std.specs.Prelude.{◌≡◌, ℕ, ◌<◌, ⊤, All, List, [], ◌∷◌, length, get_or, pos}
+-- Which statements fit the tables: their columns are there, numbers and texts stand where they belong, and keys stay as they are.
+use Rattle.std.specs.Prelude.{◌≡◌, ℕ, ◌<◌, ⊤, false, All, List, [], ◌∷◌, length, get_or, pos}
 use Rattle.lock_modes.specs.declared.value.Value.{Value}
 use Rattle.lock_modes.specs.declared.value.Value.TheVariants.{Int}
 use Rattle.sql_statements.specs.declared.condition.Condition.{Condition, more_of-Condition, end_of-Condition}
@@ -21,7 +21,8 @@ use Rattle.sql_subset.specs.declared.tables.ColumnType.{ColumnType}
 use Rattle.sql_subset.specs.declared.tables.ColumnType.TheVariants.{Number}
 use Rattle.sql_subset.specs.declared.tables.Table.{Table}
 use Rattle.sql_subset.specs.Spec.{Spec, Step}
-use Rattle.sql_subset.specs.Tables.{no_table, type_of, width}
+use Rattle.sql_subset.specs.Statements.{sets_key}
+use Rattle.sql_subset.specs.Tables.{no_table, key_column, type_of, width}
 use Rattle.sql_subset.specs.Types.{value_type}
 
 -- ---- what is taken of columns, where it is known which of them are there, and of which type
@@ -115,11 +116,11 @@ RowFits t row = (length row ≡ width t) × ((c : ℕ) → IsColumn t c → valu
 abbrev pub OfTable : List Table → ℕ → (Table → Type 0) → Type 0
 OfTable tables n P = (n < length tables) × P (get_or tables n no_table)
 
--- what a statement takes of columns its table has, and new rows have a value for each column, of its type
+-- what a statement takes of columns its table has; new rows have a value for each column, of its type, and lie at the table's key; no key is set
 abbrev pub Fits : List Table → Bound → Type 0
 Fits tables (Select n key c by out) = OfTable tables n (λ t. Takes (ColumnOf t) (Select n key c by out))
-Fits tables (Insert n key rows) = OfTable tables n (λ t. All (RowFits t) rows)
-Fits tables (Update n key sets c) = OfTable tables n (λ t. Takes (ColumnOf t) (Update n key sets c))
+Fits tables (Insert n key rows) = OfTable tables n (λ t. (key ≡ key_column t) × All (RowFits t) rows)
+Fits tables (Update n key sets c) = OfTable tables n (λ t. Takes (ColumnOf t) (Update n key sets c) × (sets_key (key_column t) sets ≡ false))
 Fits tables (Delete n key c) = OfTable tables n (λ t. Takes (ColumnOf t) (Delete n key c))
 Fits tables (Lock n mode) = n < length tables
 Fits tables Begin = ⊤

@@ -1,0 +1,146 @@
+"""Books: the facts of ranks of one spec; what is missing, and what they tell of each rank.
+
+usage: python3 crosscheck/books.py SPEC {FIRST END reduce|every}
+
+Makes the book of each range of ranks as `facts.py` tells them, joins the books and prints three things: the book's text, then
+`missing R` for the first rank without a fact or `missing none`, and then the report: `rank R` and the text of its outcome for
+each rank, or one line that says why there is none.
+"""
+
+import json
+import sys
+from pathlib import Path
+
+from binding import bind
+from facts import MOST_RANKS, Worlds, fact, swapped, word_of
+from machine import outcome_text
+from refusal import Refusal
+from spec_file import read_spec
+
+
+def compact(value):
+    return json.dumps(value, separators=(",", ":"), ensure_ascii=False, default=bytes.decode)
+
+
+def noted(rank, told):
+    """A fact of a rank as a book holds it. The order of these is that of a book: `ran` by its text stands before `swap`."""
+    word, value = told
+    return (rank, word, compact(value).encode()) if word == "ran" else (rank, word, value)
+
+
+def facts_of(worlds, first, end, reduces):
+    """The facts of the ranks from `first` up to but not `end`."""
+    return {noted(rank, fact(worlds, rank, reduces)) for rank in range(first, end)}
+
+
+def missing(spec, facts):
+    """The first rank that has no fact, if there is one."""
+    has_facts = {rank for rank, _word, _value in facts}
+    first = next(rank for rank in range(len(has_facts) + 1) if rank not in has_facts)
+    return first if first < spec.ranks() else None
+
+
+def leads_to(spec, rank, place):
+    """The rank to which an exchange leads; none where there are lines, or where the letters do not fall."""
+    if spec.lines is not None:
+        return None
+    word = word_of(spec, rank)
+    falls = place + 1 < len(word) and word[place] > word[place + 1]
+    return swapped(spec, rank, place) if falls else None
+
+
+def values(spec, facts):
+    """The outcomes of each rank: those that it was seen to have, and those of the ranks to which its swaps lead."""
+    told = {}
+    for rank, word, value in sorted(facts, key=lambda one: one[0]):
+        told.setdefault(rank, set()).update({value} if word == "ran" else told.get(leads_to(spec, rank, value), set()))
+    return told
+
+
+def report(spec, facts):
+    """The outcome of each rank, as a book has it, or why there is none: the first rank that has not exactly one decides."""
+    if spec.ranks() > MOST_RANKS:
+        return "too many ranks"
+    told = values(spec, facts)
+    for rank in range(spec.ranks()):
+        found = told.get(rank, set())
+        if len(found) != 1:
+            return f"clash at rank {rank}" if found else f"missing rank {rank}"
+    return [outcome for rank in range(spec.ranks()) for outcome in told[rank]]
+
+
+def ranges(ranks):
+    """The longest ranges of which a set of numbers is made: where each begins, and how long it is."""
+    firsts = sorted(rank for rank in ranks if rank - 1 not in ranks)
+    lasts = sorted(rank for rank in ranks if rank + 1 not in ranks)
+    return [(first, last - first + 1) for first, last in zip(firsts, lasts)]
+
+
+def book_text(text, facts):
+    """The one text of a book: each outcome once, by its bytes; each fact with the ranges of ranks that have it."""
+    outcomes = sorted({value for _rank, word, value in facts if word == "ran"})
+    ranks = {}
+    for rank, word, value in facts:
+        ranks.setdefault((word, outcomes.index(value) if word == "ran" else value), set()).add(rank)
+    runs = sorted((first, *one, count) for one, those in ranks.items() for first, count in ranges(those))
+    lines = ",".join(compact([first, count, word, number]) for first, word, number, count in runs)
+    told = ",".join(outcome.decode() for outcome in outcomes)
+    return f'{{"facts":[{lines}],"format":2,"outcomes":[{told}],"spec":{compact(text.decode())}}}\n'
+
+
+def as_machine(value):
+    """A part of an event as the machine has it, of its value in a book: texts are bytes."""
+    return tuple(map(as_machine, value)) if isinstance(value, list) else value.encode() if isinstance(value, str) else value
+
+
+def event_of(value):
+    """An event of its value: its word is a word."""
+    return value if isinstance(value, str) else (value[0], *map(as_machine, value[1:]))
+
+
+def report_text(spec, facts):
+    told = report(spec, facts)
+    if isinstance(told, str):
+        return f"{told}\n".encode()
+    return b"".join(
+        f"rank {rank}\n".encode()
+        + outcome_text(spec, [[event_of(event) for event in transcript] for transcript in json.loads(outcome)])
+        for rank, outcome in enumerate(told)
+    )
+
+
+def answer(text, path, shards, has_book):
+    """The exit status, and what stands on the two outputs. Shards are looked at from left to right, and then the start."""
+    try:
+        spec = bind(read_spec(text))
+        for first, end, _how in shards:
+            if not first <= end <= spec.ranks():
+                return 3, b"", f"isofarm: {path}: shard error 1\n".encode()
+            if end - first > MOST_RANKS:
+                return 3, b"", f"isofarm: {path}: shard error 2\n".encode()
+        worlds = Worlds(spec)
+    except Refusal as refusal:
+        return 3, b"", refusal.line(path)
+    facts = set().union(*(facts_of(worlds, first, end, how == "reduce") for first, end, how in shards))
+    least = missing(spec, facts)
+    lines = book_text(text, facts) * has_book + f"missing {'none' if least is None else least}\n"
+    return 0, lines.encode() + report_text(spec, facts), b""
+
+
+def shards_of(words):
+    """Shards as they stand on a command line: the first rank, the end, and how."""
+    triples = list(zip(words[::3], words[1::3], words[2::3], strict=True))
+    if any(how not in ("reduce", "every") for _first, _end, how in triples):
+        raise ValueError(words)
+    return [(int(first), int(end), how) for first, end, how in triples]
+
+
+if __name__ == "__main__":
+    try:
+        spec_path, asked = sys.argv[1], shards_of(sys.argv[2:])
+    except (IndexError, ValueError):
+        sys.exit(__doc__)
+    status, out, error = answer(Path(spec_path).read_bytes(), spec_path, asked, True)
+    sys.stdout.buffer.write(out)
+    sys.stderr.buffer.write(error)
+    sys.exit(status)
