@@ -3,6 +3,7 @@
 import sys
 
 from binding import bind
+from book_file import Kind, NoBook, read_book, text_in_format_1
 from books import answer as book_answer
 from books import book_text, compact, facts_of, leads_to, missing, report
 from facts import Worlds, answer, are_quiet, fact, fact_line, runs, sent, swap_covers, swapped, swaps, word_of
@@ -212,10 +213,55 @@ def of_false_books():
     yield "a false one alone", report(worlds.spec, {false}), [b'[["done"]]']
 
 
+def read(text):
+    """What a text is read as: a spec's text and facts, or why it is no book."""
+    try:
+        return read_book(text.encode() if isinstance(text, str) else text)
+    except NoBook as refusal:
+        return refusal.kind
+
+
+def of_book_files():
+    spec, facts = EMPTY_STEP.encode(), {(0, "ran", b'[[["sent",0],"done"]]')}
+    old = '{"facts":[[0,"ran",[[["sent",0],"done"]]]],"format":1,"spec":"session a step s {}"}\n'
+    yield "a book in format 1", (text_in_format_1(spec, facts), len(old)), (old, 84)
+    yield "both formats are read", [read(old), read(old[:-1]), read(EMPTY_BOOK)], [(spec, facts)] * 3
+    yield "other spellings", read(" " + old.replace(",", " ,\t").replace("sent", "\\u0073ent")), (spec, facts)
+    for text in (old, EMPTY_BOOK):
+        yield "each shorter text is no JSON", {read(text[:length]) for length in range(len(text) - 1)}, {Kind.NOT_JSON}
+        yield "another format", read(text.replace('"format":', '"format":3')), Kind.BAD_VERSION
+        yield "no spec", read(text.replace(EMPTY_STEP, "")), Kind.BAD_SPEC
+        yield "a member too many", read(text.replace('"format"', '"x":0,"format"')), Kind.BAD_FIELD
+        yield "a step of no session", read(text.replace('["sent",0]', '["sent",1]')), Kind.BAD_FIELD
+        yield "a number with a fraction", read(text.replace('["sent",0]', '["sent",0.0]')), Kind.BAD_FIELD
+    fact = '[0,"ran",[[["sent",0],"done"]]]'
+    changed = [(f"{fact},{fact}", Kind.OUT_OF_ORDER), ('[0,"swap",0]', Kind.BAD_SWAP), ('[1,"swap",0]', Kind.BAD_RANK)]
+    changed += [('[0,"swap",256]', Kind.BAD_FIELD), ('[-1,"swap",0]', Kind.BAD_FIELD), ('[-0,"swap",0]', Kind.BAD_FIELD)]
+    yield "facts in format 1", [read(old.replace(fact, told)) for told, _kind in changed], [kind for _told, kind in changed]
+    false = f'[0,"ran",[["done"]]],{fact}'
+    yield "an outcome that is not true", read(old.replace(fact, false)), (spec, facts | {(0, "ran", b'[["done"]]')})
+    run = '[0,1,"ran",0]'
+    changed = [('[0,2,"ran",0]', Kind.BAD_RANK), ('[0,0,"ran",0]', Kind.BAD_FIELD), ('[0,1,"ran",1]', Kind.BAD_FIELD)]
+    changed += [(f"{run},{run}", Kind.OUT_OF_ORDER), ('[0,30000001,"ran",0]', Kind.TOO_LARGE), ("", Kind.BAD_FIELD)]
+    changed += [(f'{run},[0,1,"swap",0]', Kind.BAD_SWAP), (f'[0,{2**64},"ran",0]', Kind.BAD_FIELD)]
+    yield "runs in format 2", [read(EMPTY_BOOK.replace(run, told)) for told, _kind in changed], [kind for _told, kind in changed]
+
+
+def of_runs_in_files():
+    worlds = worlds_of(TWO_TABLES)
+    job = facts_of(worlds, 0, 4, True) | facts_of(worlds, 2, 6, False)
+    text = book_text(TWO_TABLES.encode(), job)
+    yield "a book is read back", read(text), (TWO_TABLES.encode(), job)
+    yield "and from format 1", read(text_in_format_1(TWO_TABLES.encode(), job)), (TWO_TABLES.encode(), job)
+    touching = text.replace('[2,4,"ran",0]', '[2,1,"ran",0]').replace('[2,1,"swap",2]', '[2,1,"swap",2],[3,3,"ran",0]')
+    yield "runs that touch", read(touching), Kind.OUT_OF_ORDER
+    yield "a swap where letters rise", read(text.replace('[1,1,"swap",1]', '[1,1,"swap",0]')), Kind.BAD_SWAP
+
+
 def main():
     examples = [of_insert_and_read, of_one_line, of_one_row, of_readers_and_a_writer, of_two_tables]
     examples += [of_two_rows, of_waits_aside, of_an_empty_step, of_a_falling_line]
-    examples += [of_books, of_books_of_two_ranks, of_false_books]
+    examples += [of_books, of_books_of_two_ranks, of_false_books, of_book_files, of_runs_in_files]
     compared = differences = 0
     for example in examples:
         for what, computed, expected in example():
