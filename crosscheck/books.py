@@ -109,7 +109,15 @@ def report_text(spec, facts):
     )
 
 
-def answer(text, path, shards, has_book):
+def report_values(spec, facts):
+    """The report as a program tells it that is compared with this one: for each rank a line with it and its outcome's value."""
+    told = report(spec, facts)
+    if isinstance(told, str):
+        return f"{told}\n".encode()
+    return b"".join(f"[{rank},".encode() + outcome + b"]\n" for rank, outcome in enumerate(told))
+
+
+def answer(text, path, shards, in_words):
     """The exit status, and what stands on the two outputs. Shards are looked at from left to right, and then the start."""
     try:
         spec = bind(read_spec(text))
@@ -118,13 +126,15 @@ def answer(text, path, shards, has_book):
                 return 3, b"", f"isofarm: {path}: shard error 1\n".encode()
             if end - first > MOST_RANKS:
                 return 3, b"", f"isofarm: {path}: shard error 2\n".encode()
-        worlds = Worlds(spec)
+        worlds = Worlds(spec) if shards else None
     except Refusal as refusal:
         return 3, b"", refusal.line(path)
     facts = set().union(*(facts_of(worlds, first, end, how == "reduce") for first, end, how in shards))
     least = missing(spec, facts)
-    lines = book_text(text, facts) * has_book + f"missing {'none' if least is None else least}\n"
-    return 0, lines.encode() + report_text(spec, facts), b""
+    told = f"missing {'none' if least is None else least}\n".encode()
+    if in_words:
+        return 0, book_text(text, facts).encode() + told + report_text(spec, facts), b""
+    return 0, told + report_values(spec, facts), b""
 
 
 def shards_of(words):

@@ -2,8 +2,9 @@
 
 usage: python3 crosscheck/compare_books.py PROGRAM KIND FIRST_SEED SEEDS
 
-PROGRAM is run as `PROGRAM SPEC {FIRST END reduce|every}`: it makes the book of each range, joins them, and prints what
-`books.py` prints with the same words behind the book's text. What is refused is told as `compare_facts.py` says.
+PROGRAM is run as `PROGRAM books SPEC {FIRST END reduce|every}`: it makes the book of each range, joins them, and prints `missing R`
+or `missing none` and then the report: `[R,OUTCOME]` for each rank with its outcome's value, or the line that says why there is none.
+What is refused is told as `compare_facts.py` says.
 """
 
 import sys
@@ -49,14 +50,14 @@ def jobs(text, seed):
 
 def runs(text, seed, path):
     for shards in jobs(text, seed):
-        yield [path, *(str(word) for shard in shards for word in shard)], answer(text, path, shards, False)
+        yield ["books", path, *(str(word) for shard in shards for word in shard)], answer(text, path, shards, False)
 
 
 def kind_of(out):
     """What is told of a book, in a few words."""
     missing, told = out.decode().split("\n")[:2]
-    words = told.split(" ")
-    return [f"{'complete' if missing == 'missing none' else 'with a missing rank'}: {'a report' if words[0] == 'rank' else ' '.join(words[:2])}"]
+    covers = "complete" if missing == "missing none" else "with a missing rank"
+    return [f"{covers}: {'a report' if told.startswith('[') else ' '.join(told.split(' ')[:2])}"]
 
 
 if __name__ == "__main__":

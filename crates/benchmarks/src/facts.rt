@@ -14,12 +14,12 @@ use transcripts::outcome_value;
 /// The status of what is refused.
 const REFUSED: u8 = 3;
 
-fn spec_of(alloc: Global, text: &[u8]) -> Result<Spec, OneFault> {
+pub(crate) fn spec_of(alloc: Global, text: &[u8]) -> Result<Spec, OneFault> {
     let tree = read_spec(alloc, text).map_err(OneFault::Spec)?;
     bind(alloc, &tree).map_err(OneFault::Bind)
 }
 
-fn number(word: &str) -> io::Result<u64> {
+pub(crate) fn number(word: &str) -> io::Result<u64> {
     match word.parse::<u64>() {
         Ok(number) => Ok(number),
         Err(_) => Err(io::Error::from(io::ErrorKind::InvalidInput)),
@@ -27,7 +27,7 @@ fn number(word: &str) -> io::Result<u64> {
 }
 
 /// Tells on standard error why a spec or its range is refused.
-fn refuse(rt: &HostRuntime, path: &str, fault: OneFault) -> io::Result<ExitCode> {
+pub(crate) fn refuse(rt: &HostRuntime, path: &str, fault: OneFault) -> io::Result<ExitCode> {
     match fault {
         OneFault::Run(RunError::OutOfRange) => eprintln!(rt; "isofarm: {path}: shard error 1")?,
         OneFault::Run(RunError::TooLong) => eprintln!(rt; "isofarm: {path}: shard error 2")?,

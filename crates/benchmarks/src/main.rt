@@ -1,8 +1,10 @@
 //! Prints how long operations on maps take, beside the standard library's (`benchmarks maps`), how fast the machine is (`benchmarks machine`), and how fast a
 //! walker gives facts (`benchmarks reduce SPEC RANKS`, or `benchmarks every SPEC RANKS`). Without words it prints what it measures of maps.
-//! `benchmarks SPEC FIRST END reduce|every|sent` prints the facts of these ranks, for `crosscheck`.
+//! `benchmarks SPEC FIRST END reduce|every|sent` prints the facts of these ranks, and `benchmarks books SPEC {FIRST END reduce|every}` what
+//! the joined books of these ranges tell, for `crosscheck`.
 #![tactic(auto)]
 
+mod books;
 mod facts;
 mod machine;
 mod walks;
@@ -157,6 +159,11 @@ fn measure(rt: &HostRuntime, words: &[String]) -> io::Result<()> {
 
 fn main(rt: HostRuntime) -> io::Result<ExitCode> {
     let words: Vec<String> = env::args(&rt)?.collect(rt.alloc())?;
+    if let [_program, books, path, ranges @ ..] = words.as_slice()
+        && books.as_str() == "books"
+    {
+        return books::print_books(&rt, path.as_str(), ranges);
+    }
     if let [_program, path, first, end, how] = words.as_slice() {
         return facts::print_facts(
             &rt,

@@ -1,0 +1,91 @@
+//! Prints what joined books of ranges of ranks tell, for a second implementation that it is compared with.
+
+use crate::facts::{number, refuse, spec_of};
+use crate::walks::text_of;
+use iso_farm::OneFault;
+use outcome_books::{Book, Job, Report, ReportError, make, missing, report};
+use session_machine::RunError;
+use sql_subset::Spec;
+use sqlite_items::Boxed;
+use std::alloc::Global;
+use std::io;
+use std::process::ExitCode;
+use step_reducer::Shard;
+use transcripts::outcome_value;
+
+/// The job of a range of ranks: its first rank, its end, and how.
+fn run_of(range: &[String]) -> io::Result<Job> {
+    let [first, end, how] = range else {
+        return Err(io::Error::from(io::ErrorKind::InvalidInput));
+    };
+    let shard = Shard {
+        first: number(first.as_str())?,
+        end: number(end.as_str())?,
+    };
+    Ok(Job::Run(shard, how.as_str() == "reduce"))
+}
+
+/// The job that joins all ranges, where there are any.
+fn job_of(alloc: Global, words: &[String]) -> io::Result<Option<Job>> {
+    let mut job = None;
+    for range in words.chunks(3) {
+        let more = run_of(range)?;
+        job = Some(match job {
+            None => more,
+            Some(before) => Job::Join(Boxed::new(alloc, before)?, Boxed::new(alloc, more)?),
+        });
+    }
+    Ok(job)
+}
+
+fn book_of(alloc: Global, spec: &Spec, job: &Option<Job>) -> Result<Book, RunError> {
+    match job {
+        Some(job) => make(alloc, spec, job),
+        None => match Book::empty(alloc, spec) {
+            Ok(book) => Ok(book),
+            Err(_) => Err(RunError::NoMemory),
+        },
+    }
+}
+
+fn print_values(rt: &HostRuntime, report: &Report) -> io::Result<()> {
+    for rank in 0..report.len() {
+        if let Some(outcome) = report.outcome(rank) {
+            let value = outcome_value(rt.alloc(), outcome)?;
+            println!(rt; "[{rank},{value}]")?;
+        }
+    }
+    Ok(())
+}
+
+fn print_report(rt: &HostRuntime, book: &Book) -> io::Result<()> {
+    match report(rt.alloc(), book) {
+        Ok(report) => print_values(rt, &report),
+        Err(ReportError::NoMemory) => Err(io::Error::from(io::ErrorKind::OutOfMemory)),
+        Err(error) => println!(rt; "{error}"),
+    }
+}
+
+fn print_book(rt: &HostRuntime, book: &Book) -> io::Result<()> {
+    match missing(book) {
+        Some(rank) => println!(rt; "missing {rank}")?,
+        None => println!(rt; "missing none")?,
+    }
+    print_report(rt, book)
+}
+
+/// Makes the book of each range of ranks of a spec file (`FIRST END reduce`, or `every`), joins them, and prints `missing R` or `missing
+/// none`, and then the report: `[R,OUTCOME]` for each rank, or why there is none. What is refused is told as for facts.
+pub fn print_books(rt: &HostRuntime, path: &str, words: &[String]) -> io::Result<ExitCode> {
+    let job = job_of(rt.alloc(), words)?;
+    let text = text_of(rt, path)?;
+    let spec = match spec_of(rt.alloc(), &text) {
+        Ok(spec) => spec,
+        Err(fault) => return refuse(rt, path, fault),
+    };
+    match book_of(rt.alloc(), &spec, &job) {
+        Ok(book) => print_book(rt, &book)?,
+        Err(error) => return refuse(rt, path, OneFault::Run(error)),
+    }
+    Ok(ExitCode::from(0))
+}
