@@ -1,5 +1,6 @@
 -- The fact of a rank from the exchanges of its word.
-use Rattle.std.proofs.Common.{◌≡◌, refl, sym, ap, ◌∙◌, subst, ℕ, suc, ◌+◌, ◌-◌, ◌<◌, ◌≤◌, Bool, true, false, ◌&&◌, List, [], ◌∷◌, ◌++◌, length, get_or, ◌⊎◌, ⊎_elim, arith, append-nil}
+use Rattle.std.proofs.Common.{◌≡◌, refl, sym, ap, ◌∙◌, subst, ℕ, suc, ◌+◌, ◌-◌, ◌<◌, ◌≤◌, Bool, true, false, ◌&&◌, List, [], ◌∷◌, ◌++◌, length, get_or, ◌⊎◌}
+use Rattle.std.proofs.Common.{⊎_elim, arith, append-nil}
 use Rattle.perm_ranks.specs.Words.{Word, total, words_of, all_words, word_at}
 use Rattle.perm_ranks.specs.Counting.{taken, words_starting, words_before}
 use Rattle.perm_ranks.specs.Blocks.{Block, HasRank, narrowed}
@@ -68,7 +69,8 @@ module _ (t : Tour) (r : ℕ) (u : Word) (is : IsTour t) (word : word_of t.spec 
 
 -- the word at this place of the block goes on with a letter that makes a swap with the last one
 pub swap-at : (t : Tour) (p : Word) (block : Block) (world : World) (swaps : List Bool) (i b k : ℕ) (v : Word)
-    → IsTour t → IsPlace t p block world swaps → i < length (all_words block.left) → word_at block.left i ≡ b ∷ v → get_or swaps b false ≡ true → 0 < total block.left → suc k ≡ length p
+    → IsTour t → IsPlace t p block world swaps → i < length (all_words block.left) → word_at block.left i ≡ b ∷ v → get_or swaps b false ≡ true
+    → 0 < total block.left → suc k ≡ length p
     → IsFactOf t.reduce t.spec (block.first + i) (Swap k)
 swap-at t p block world swaps i b k v tour is lt word listed some last =
     let inside = is.ranks.inside in
@@ -82,7 +84,8 @@ ran-at t p block world swaps tour is none =
     let some = some-words block.left in
     let first : block.first ≡ block.first + 0 = omega arith in
     let empty : word_at block.left 0 ≡ [] = ap (λ n. get_or (words_of n block.left) 0 []) none in
-    let word : word_at (counts_of (queues_of t.spec)) block.first ≡ p = ap (word_at (counts_of (queues_of t.spec))) first ∙ is.ranks.words 0 some ∙ ap (λ u. p ++ u) empty ∙ append-nil p in
+    let word : word_at (counts_of (queues_of t.spec)) block.first ≡ p = ap (word_at (counts_of (queues_of t.spec))) first ∙ is.ranks.words 0 some
+    ∙ ap (λ u. p ++ u) empty ∙ append-nil p in
     let inside = is.ranks.inside in
     subst (λ w. IsFactOf t.reduce t.spec block.first (Ran (outcome_of t.spec.sessions w))) (sym is.world_is)
     (fact-ran t block.first p tour word (omega (arith, inside, some)) (λ m. none-at m))
@@ -114,26 +117,29 @@ swap-within t p block world swaps a k r tour is left listed last has =
     let inside : before + i < length (all_words block.left) = omega (arith, part, len) in
     let in_block : i < length (words_starting block.left a) = omega (arith, len) in
     subst (λ n. IsFactOf t.reduce t.spec n (Swap k)) same
-    (swap-at t p block world swaps (before + i) a k (word_at (taken block.left a) i) tour is inside (word_at-taken block.left a (before + i) i some within refl in_block) listed some last)
+    (swap-at t p block world swaps (before + i) a k (word_at (taken block.left a) i) tour is inside
+    (word_at-taken block.left a (before + i) i some within refl in_block) listed some last)
 
 -- ---- the first letter of a word
 
-record Begins (counts : List ℕ) (word : Word) : Type 0 where
-  letter : ℕ
-  rest : Word
-  is : word ≡ letter ∷ rest
-  left : 0 < get_or counts letter 0
+pub record Begins (counts : List ℕ) (word : Word) : Type 0 where
+  pub letter : ℕ
+  pub rest : Word
+  pub is : word ≡ letter ∷ rest
+  pub left : 0 < get_or counts letter 0
 
 begins-of : (n : ℕ) (counts : List ℕ) (word : Word) → Takes n counts word → 0 < n → Begins counts word
 begins-of _ counts _ done some = absurd (omega arith)
 begins-of _ counts _ (takes {n = n} {i = i} {c = c} {v = v} lt is t) some = record { letter = i; rest = v; is = refl; left = omega (arith, is) }
 
-begins : (counts : List ℕ) (i : ℕ) → 0 < total counts → i < length (all_words counts) → Begins counts (word_at counts i)
-begins counts i some lt = begins-of (total counts) counts (word_at counts i) (each-at (Takes (total counts) counts) (all_words counts) i lt (words-take (total counts) counts)) some
+pub begins : (counts : List ℕ) (i : ℕ) → 0 < total counts → i < length (all_words counts) → Begins counts (word_at counts i)
+begins counts i some lt =
+    begins-of (total counts) counts (word_at counts i) (each-at (Takes (total counts) counts) (all_words counts) i lt (words-take (total counts) counts)) some
 
 -- each letter that is left makes a swap with the last one
 pub swap-all : (t : Tour) (p : Word) (block : Block) (world : World) (swaps : List Bool) (k r : ℕ)
-    → IsTour t → IsPlace t p block world swaps → 0 < total block.left → ((b : ℕ) → 0 < get_or block.left b 0 → get_or swaps b false ≡ true) → suc k ≡ length p → HasRank block r
+    → IsTour t → IsPlace t p block world swaps → 0 < total block.left → ((b : ℕ) → 0 < get_or block.left b 0 → get_or swaps b false ≡ true) → suc k ≡ length p
+    → HasRank block r
     → IsFactOf t.reduce t.spec r (Swap k)
 swap-all t p block world swaps k r tour is some all last has =
     let i = r - block.first in

@@ -1,6 +1,6 @@
 -- What a walker gives, and where it stands then.
-use Rattle.std.proofs.Common.{◌≡◌, ◌≢◌, refl, sym, ap, ◌∙◌, subst, ℕ, ◌+◌, ◌-◌, ◌*◌, ◌≤◌, Bool, true, false, Option, Some, None, arith}
-use Rattle.sql_subset.specs.Spec.{SpecFile}
+use Rattle.std.proofs.Common.{◌≡◌, ◌≢◌, refl, sym, ap, ◌∙◌, subst, ℕ, suc, ◌+◌, ◌-◌, ◌*◌, ◌≤◌, Bool, true, false, Option, Some, None, arith}
+use Rattle.sql_subset.specs.Spec.{Spec, SpecFile}
 use Rattle.quiet_steps.specs.Facts.{IsFactOf}
 use Rattle.quiet_steps.specs.declared.fact.Fact.{Fact}
 use Rattle.spec_reader.specs.declared.TheConstants.{MAX_ITEMS}
@@ -8,12 +8,33 @@ use Rattle.step_reducer.specs.declared.fact.FactRun.{FactRun}
 use Rattle.step_reducer.specs.declared.fact.Given.{Given}
 use Rattle.step_reducer.specs.declared.walk.Walk.{Walk}
 use Rattle.step_reducer.specs.declared.walk.Walk.TheVariants.{Words, Lines}
+use Rattle.step_reducer.specs.Fronts.{new_steps, sent_by, most_steps}
 use Rattle.step_reducer.specs.Walks.{AllHave}
-use Rattle.step_reducer.specs.Walking.{Walking, GivesRun, GivesFact, walk_at, IsWalkOf, HasWalked, IsRest, is_whole, IsStanding}
+use Rattle.step_reducer.specs.Walking.{Walking, skips, AreSent, HasAdded, GivesRun, GivesFact, walk_at, IsWalkOf, HasWalked, IsRest, is_whole, IsStanding}
 
-pub walk-few : (file : SpecFile) (reduce : Bool) (end : ℕ) (w : Walk) → IsWalkOf file reduce end w → walk_at w ≤ end
-walk-few file reduce end (Words w) is = is.few
-walk-few file reduce end (Lines w) is = is.few
+pub walk-few : (file : SpecFile) (reduce : Bool) (first end : ℕ) (w : Walk) → IsWalkOf file reduce first end w → walk_at w ≤ end
+walk-few file reduce first end (Words w) is = is.few
+walk-few file reduce first end (Lines w) is = is.few
+
+-- where no rank is skipped, no run is given in part
+never-skips : {A : Type 0} (reduce : Bool) (spec : Spec) → skips reduce spec ≡ true → skips reduce spec ≡ false → A
+never-skips reduce spec here none = absurd (let bad : true ≡ false = sym here ∙ none in cc)
+
+-- a run of several ranks there is only where ranks are skipped
+must-skip : (reduce : Bool) (spec : Spec) (first end : ℕ) → (skips reduce spec ≡ false → end ≡ first + 1) → first + 1 ≢ end → skips reduce spec ≡ true
+must-skip reduce spec first end one more = at (skips reduce spec) refl
+  where
+    at : (b : Bool) → skips reduce spec ≡ b → skips reduce spec ≡ true
+    at true e = e
+    at false e = absurd (more (sym (one e)))
+
+-- the steps of one rank more
+pub sent-more : (reduce : Bool) (spec : Spec) (first at next sent more : ℕ) → first ≤ at → (skips reduce spec ≡ false → next ≡ at + 1)
+    → (skips reduce spec ≡ false → more ≡ sent + new_steps spec first (at - first)) → AreSent reduce spec first at sent → AreSent reduce spec first next more
+sent-more reduce spec first at next sent more from one exact so_far = λ run.
+    let step = one run in
+    let same : suc (at - first) ≡ next - first = omega (arith, from, step) in
+    exact run ∙ ap (λ n. n + new_steps spec first (at - first)) (so_far run) ∙ ap (sent_by spec first) same
 
 module _ (file : SpecFile) (reduce : Bool) (first : ℕ) where
   -- where a walker with these parts stands
@@ -27,10 +48,10 @@ module _ (file : SpecFile) (reduce : Bool) (first : ℕ) where
   gives-rest at end sent w rest left spent run x is none standing here =
       subst (λ y. GivesRun y (now run.end end sent left spent) (Some run)) (ap (λ r. now at end sent r spent) is ∙ here)
       (let r : IsRest file reduce at w (Some run) = subst (IsRest file reduce at w) (sym is) standing.rest_is in
-      let few = walk-few file reduce end w standing.walk in
+      let few = walk-few file reduce first end w standing.walk in
       let behind = r.2 in (
-        record { first = r.0; some = r.1; few = omega (arith, few, behind); facts = r.3 },
-        omega arith,
+        record { first = r.0; some = r.1; few = omega (arith, few, behind); one = λ run. never-skips reduce file.run r.4 run; facts = r.3 },
+        record { least = omega arith; most = omega arith; few = omega arith; exact = λ run. never-skips reduce file.run r.4 run },
         ap (λ l. now run.end end sent l spent) none,
       ))
 
@@ -53,24 +74,43 @@ module _ (file : SpecFile) (reduce : Bool) (first : ℕ) where
 
   -- a run of the walk
   pub gives-run : (at end sent : ℕ) (w v : Walk) (rest left : Option FactRun) (spent : Bool) (given : Given) (x : Walking)
-      → None ≡ rest → left ≡ None → spent ≡ false → IsStanding file reduce first at end sent w rest → HasWalked file reduce end w given v → now at end sent rest spent ≡ x
+      → None ≡ rest → left ≡ None → spent ≡ false → IsStanding file reduce first at end sent w rest → HasWalked file reduce first end w given v
+      → now at end sent rest spent ≡ x
       → GivesRun x (now given.run.end end (sent + given.sent) left false) (Some given.run)
   gives-run at end sent w v rest left spent given x is none unspent standing walked here =
       subst (λ y. GivesRun y (now given.run.end end (sent + given.sent) left false) (Some given.run)) (ap (λ r. now at end sent r spent) is ∙ here)
       (let r : IsRest file reduce at w None = subst (IsRest file reduce at w) (sym is) standing.rest_is in
-      let few = walk-few file reduce end v walked.walk in
+      let few = walk-few file reduce first end v walked.walk in
       let behind = walked.at in
-      let sent_few = walked.sent_few in (
-        record { first = walked.first ∙ r; some = walked.some; few = omega (arith, few, behind); facts = walked.facts },
-        omega (arith, sent_few),
-        ap (λ l. now given.run.end end (sent + given.sent) l false) none ∙ (λ k. (let y : Walking = record { file = file; reduce = reduce; first = first; at = given.run.end; end = end; sent = sent + given.sent; whole = true; spent = sym unspent k } in y)),
+      let sent_few = walked.sent_few in
+      let begin : given.run.first ≡ at = walked.begin ∙ r in
+      let most : given.sent ≤ most_steps file.run at given.run.fact = subst (λ m. given.sent ≤ most_steps file.run m given.run.fact) begin walked.most in (
+        record { first = begin; some = walked.some; few = omega (arith, few, behind); one = walked.one; facts = walked.facts },
+        record {
+          least = omega arith;
+          most = omega (arith, most);
+          few = omega (arith, sent_few);
+          exact = λ run. ap (λ n. sent + n) (walked.exact run ∙ ap (λ m. new_steps file.run first (m - first)) r);
+        },
+        ap (λ l. now given.run.end end (sent + given.sent) l false) none
+            ∙ (λ k. (let y : Walking = record {
+              file = file;
+              reduce = reduce;
+              first = first;
+              at = given.run.end;
+              end = end;
+              sent = sent + given.sent;
+              whole = true;
+              spent = sym unspent k;
+            } in y)),
       ))
 
   pub stands-after-run : (at end sent : ℕ) (w v : Walk) (rest left : Option FactRun) (given : Given)
-      → None ≡ rest → left ≡ None → IsStanding file reduce first at end sent w rest → HasWalked file reduce end w given v → IsStanding file reduce first given.run.end end (sent + given.sent) v left
+      → None ≡ rest → left ≡ None → IsStanding file reduce first at end sent w rest → HasWalked file reduce first end w given v
+      → IsStanding file reduce first given.run.end end (sent + given.sent) v left
   stands-after-run at end sent w v rest left given is none standing walked =
       let r : IsRest file reduce at w None = subst (IsRest file reduce at w) (sym is) standing.rest_is in
-      let begin = walked.first in
+      let begin = walked.begin in
       let some = walked.some in
       let more = walked.sent_few in
       let from = standing.from in
@@ -82,6 +122,23 @@ module _ (file : SpecFile) (reduce : Bool) (first : ℕ) where
         few = standing.few;
         sent_few = omega (arith, begin, r, some, more, from, sent_few);
       }
+
+  -- and the steps sent are counted
+  pub sent-after-run : (at end sent : ℕ) (w v : Walk) (rest : Option FactRun) (given : Given)
+      → None ≡ rest → IsStanding file reduce first at end sent w rest → HasWalked file reduce first end w given v → AreSent reduce file.run first at sent
+      → AreSent reduce file.run first given.run.end (sent + given.sent)
+  sent-after-run at end sent w v rest given is standing walked so_far =
+      let r : IsRest file reduce at w None = subst (IsRest file reduce at w) (sym is) standing.rest_is in
+      let begin : given.run.first ≡ at = walked.begin ∙ r in
+      sent-more reduce file.run first at given.run.end sent (sent + given.sent) standing.from
+      (λ run. walked.one run ∙ ap (λ n. n + 1) begin)
+      (λ run. ap (λ n. sent + n) (walked.exact run ∙ ap (λ m. new_steps file.run first (m - first)) r)) so_far
+
+  pub sent-after-rest : (at end sent : ℕ) (w : Walk) (rest : Option FactRun) (run : FactRun)
+      → Some run ≡ rest → IsStanding file reduce first at end sent w rest → AreSent reduce file.run first run.end sent
+  sent-after-rest at end sent w rest run is standing =
+      let r : IsRest file reduce at w (Some run) = subst (IsRest file reduce at w) (sym is) standing.rest_is in
+      λ all. never-skips reduce file.run r.4 all
 
   -- behind a whole run the walk stands at its end
   stands-behind : (w : Walk) (rest : Option FactRun) (at : ℕ) → is_whole rest ≡ true → IsRest file reduce at w rest → walk_at w ≡ at
@@ -102,17 +159,28 @@ module _ (file : SpecFile) (reduce : Bool) (first : ℕ) where
       let firsts : first ≡ x.first = ap (λ (y : Walking). y.first) same in
       let ends : at ≡ run.end = ap (λ (y : Walking). y.at) same in
       let sents : sent ≡ z.sent = ap (λ (y : Walking). y.sent) here in
-      let most = gives.1 in
+      let most = gives.1.few in
       let behind = stands-behind w rest at (ap (λ (y : Walking). y.whole) same) standing.rest_is in
       let facts : AllHave reduce file.run run.first run.end run.fact =
       subst (λ (y : Walking). AllHave y.reduce y.file.run run.first run.end run.fact) (sym same) is.facts in
+      let skipped : skips reduce file.run ≡ true =
+      subst (λ (y : Walking). skips y.reduce y.file.run ≡ true) (sym same) (must-skip x.reduce x.file.run run.first run.end is.one more) in
       record {
         walk = standing.walk;
-        rest_is = (refl, omega (arith, some, more), sym ends ∙ sym behind, λ r le lt. facts r (omega (arith, le)) lt);
+        rest_is = (refl, omega (arith, some, more), sym ends ∙ sym behind, λ r le lt. facts r (omega (arith, le)) lt, skipped);
         from = omega (arith, firsts, begin, from);
         few = standing.few;
         sent_few = omega (arith, firsts, begin, from, sents, most, sent_few);
       }
+
+  -- the steps sent are counted then
+  pub sent-kept : (at end sent : ℕ) (rest : Option FactRun) (spent : Bool) (run : FactRun) (x z : Walking)
+      → now at end sent rest spent ≡ z → GivesRun x z (Some run) → run.first + 1 ≢ run.end → (next : ℕ) → AreSent reduce file.run first next sent
+  sent-kept at end sent rest spent run x z here gives more next =
+      let same : now at end sent rest spent ≡ record x { at = run.end; sent = z.sent; whole = true } = here ∙ gives.2 in
+      let skipped : skips reduce file.run ≡ true =
+      subst (λ (y : Walking). skips y.reduce y.file.run ≡ true) (sym same) (must-skip x.reduce x.file.run run.first run.end gives.0.one more) in
+      λ all. never-skips reduce file.run skipped all
 
   -- and its first rank is given
   pub fact-given : (at end sent : ℕ) (rest : Option FactRun) (spent : Bool) (run : FactRun) (one : Fact) (x z : Walking)
@@ -123,10 +191,12 @@ module _ (file : SpecFile) (reduce : Bool) (first : ℕ) where
       let same : now at end sent rest spent ≡ record x { at = run.end; sent = z.sent; whole = true } = here ∙ gives.2 in
       let begin = is.first in
       let some = is.some in
-      let few = is.few in (
+      let few = is.few in
+      let sents : sent ≡ z.sent = ap (λ (y : Walking). y.sent) here in (
         begin,
         omega (arith, begin, some, few),
         subst (IsFactOf x.reduce x.file.run x.at) (sym same_fact) (is.facts x.at (omega (arith, begin)) (omega (arith, begin, some))),
+        subst (λ f. HasAdded x f sent) (sym same_fact) (subst (HasAdded x run.fact) (sym sents) gives.1),
         (λ k. (let y : Walking = record {
           file = (same k).file;
           reduce = (same k).reduce;

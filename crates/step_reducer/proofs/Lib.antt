@@ -8,6 +8,8 @@ pub mod Listed
 pub mod Asked
 pub mod Quiets
 pub mod FrontLemmas
+pub mod Partings
+pub mod Sendings
 pub mod Trails
 pub mod Firsts
 pub mod Walkings

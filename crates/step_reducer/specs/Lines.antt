@@ -5,7 +5,7 @@ use Rattle.sql_subset.specs.Spec.{SpecFile, line_of}
 use Rattle.machine_model.specs.World.{World, send}
 use Rattle.machine_model.specs.Start.{Started, start}
 use Rattle.session_machine.specs.Running.{Running}
-use Rattle.step_reducer.specs.Fronts.{front}
+use Rattle.step_reducer.specs.Fronts.{front, most_steps}
 use Rattle.step_reducer.specs.Reduced.{first_world}
 use Rattle.step_reducer.specs.Walks.{AllHave}
 use Rattle.step_reducer.specs.declared.trail.Trail.{Trail}
@@ -46,4 +46,5 @@ pub record HasRun (x : LineWalk) (given : Given) (y : LineWalk) : Type 0 where
   pub line : y.line.items ≡ line_of x.spec.now.run x.at
   pub short : length y.line.items ≤ MAX_ITEMS
   pub sent : given.sent + front x.line.items y.line.items ≡ length y.line.items
+  pub most : given.sent ≤ most_steps x.spec.now.run given.run.first given.run.fact
   pub facts : (reduce : Bool) → AllHave reduce x.spec.now.run given.run.first given.run.end given.run.fact

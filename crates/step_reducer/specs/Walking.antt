@@ -1,11 +1,11 @@
 -- A walker between its calls, and what they give.
-use Rattle.std.specs.Prelude.{◌≡◌, ◌≢◌, ℕ, ◌+◌, ◌-◌, ◌*◌, [], ◌<◌, ◌≤◌, Bool, true, false, Option, Some, None, List, length, get_or, ◌⊎◌}
+use Rattle.std.specs.Prelude.{◌≡◌, ◌≢◌, ℕ, ◌+◌, ◌-◌, ◌*◌, [], ◌<◌, ◌≤◌, Bool, true, false, ◌&&◌, Option, Some, None, List, length, get_or, ◌⊎◌}
 use Rattle.step_reducer.specs.declared.walker.TheConstants.{MAX_RANKS}
 use Rattle.spec_reader.specs.declared.TheConstants.{MAX_ITEMS}
 use Rattle.sql_subset.specs.Spec.{Spec, SpecFile, ranks}
 use Rattle.machine_model.specs.World.{World}
 use Rattle.machine_model.specs.Start.{Started, start}
-use Rattle.quiet_steps.specs.Facts.{IsFactOf}
+use Rattle.quiet_steps.specs.Facts.{IsFactOf, has_no_lines}
 use Rattle.quiet_steps.specs.declared.fact.Fact.{Fact}
 use Rattle.session_machine.specs.Running.{IsNotRunBy}
 use Rattle.session_machine.specs.declared.error.RunError.{RunError}
@@ -17,7 +17,8 @@ use Rattle.step_reducer.specs.declared.word_walk.WordWalk.{WordWalk}
 use Rattle.step_reducer.specs.declared.line_walk.LineWalk.{LineWalk}
 use Rattle.step_reducer.specs.declared.walk.Walk.{Walk}
 use Rattle.step_reducer.specs.declared.walk.Walk.TheVariants.{Words, Lines}
-use Rattle.step_reducer.specs.Walks.{AllHave, IsWalk}
+use Rattle.step_reducer.specs.Fronts.{line_before, new_steps, sent_by, most_steps}
+use Rattle.step_reducer.specs.Walks.{AllHave, IsWalk, Follows}
 use Rattle.step_reducer.specs.Lines.{IsLines}
 
 -- a shard's first rank, the next one and the end, the steps sent for the ranks given, whether no run was given in part, and whether memory was refused
@@ -33,25 +34,44 @@ pub record Walking : Type 0 where
 
 -- a walker that has given nothing
 abbrev pub begun_at : SpecFile → Shard → Bool → Walking
-begun_at file shard reduce = record { file = file; reduce = reduce; first = shard.first; at = shard.first; end = shard.end; sent = 0; whole = true; spent = false }
+begun_at file shard reduce =
+    record { file = file; reduce = reduce; first = shard.first; at = shard.first; end = shard.end; sent = 0; whole = true; spent = false }
 
--- the fact of some ranks from the next one on
+-- whether ranks are skipped: when reducing, those of a spec without lines that a swap covers; elsewhere each rank is run
+abbrev pub skips : Bool → Spec → Bool
+skips reduce spec = reduce && has_no_lines spec.lines
+
+-- where no rank is skipped, of each line given the steps behind the front that it shares with the line before are sent
+abbrev pub AreSent : Bool → Spec → ℕ → ℕ → ℕ → Type 0
+AreSent reduce spec first at sent = skips reduce spec ≡ false → sent ≡ sent_by spec first (at - first)
+
+-- the fact of some ranks from the next one on, of this one alone where none is skipped
 pub record IsRun (x : Walking) (run : FactRun) : Type 0 where
   pub first : run.first ≡ x.at
   pub some : run.first < run.end
   pub few : run.end ≤ x.end
+  pub one : skips x.reduce x.file.run ≡ false → run.end ≡ run.first + 1
   pub facts : AllHave x.reduce x.file.run run.first run.end run.fact
 
--- none at the end alone, where the walker stays; else a run, behind which it stands, and for which no more steps were sent than a line may have
+-- the steps sent, with those for the fact of the next rank: no more than the fact and a line may take, and where no rank is skipped
+-- exactly the new ones of its line
+pub record HasAdded (x : Walking) (fact : Fact) (sent : ℕ) : Type 0 where
+  pub least : x.sent ≤ sent
+  pub most : sent ≤ x.sent + most_steps x.file.run x.at fact
+  pub few : sent ≤ x.sent + MAX_ITEMS
+  pub exact : skips x.reduce x.file.run ≡ false → sent ≡ x.sent + new_steps x.file.run x.first (x.at - x.first)
+
+-- none at the end alone, where the walker stays; else a run, behind which it stands, with the steps sent for it
 abbrev pub GivesRun : Walking → Walking → Option FactRun → Type 0
 GivesRun x y None = (x.at ≡ x.end) × (y ≡ x)
-GivesRun x y (Some run) = IsRun x run × (y.sent ≤ x.sent + MAX_ITEMS) × (y ≡ record x { at = run.end; sent = y.sent; whole = true })
+GivesRun x y (Some run) = IsRun x run × HasAdded x run.fact y.sent × (y ≡ record x { at = run.end; sent = y.sent; whole = true })
 
--- the next rank with its fact
+-- the next rank with its fact, and the steps sent for it
 abbrev pub GivesFact : Walking → Walking → Option (ℕ × Fact) → Type 0
 GivesFact x y None = (x.at ≡ x.end) × (y ≡ x)
 GivesFact x y (Some p) =
-    (p.0 ≡ x.at) × (x.at < x.end) × IsFactOf x.reduce x.file.run x.at p.1 × (y ≡ record x { at = x.at + 1; sent = y.sent; whole = y.whole })
+    (p.0 ≡ x.at) × (x.at < x.end) × IsFactOf x.reduce x.file.run x.at p.1 × HasAdded x p.1 y.sent ×
+    (y ≡ record x { at = x.at + 1; sent = y.sent; whole = y.whole })
 
 -- the walker is spent; the next rank is still the one that was refused, and the steps sent for the ranks before it are still counted
 abbrev pub HasStopped : Walking → Walking → Type 0
@@ -63,44 +83,51 @@ abbrev pub walk_at : Walk → ℕ
 walk_at (Words w) = w.at
 walk_at (Lines w) = w.at
 
--- a walk of the spec's words up to the end
-pub record IsWords (file : SpecFile) (reduce : Bool) (end : ℕ) (w : WordWalk) : Type 0 where
+-- a walk of the spec's words from the first rank up to the end
+pub record IsWords (file : SpecFile) (reduce : Bool) (first end : ℕ) (w : WordWalk) : Type 0 where
   pub walk : IsWalk file w
   pub reduce_is : w.reduce ≡ reduce
   pub end_is : w.end ≡ end
   pub few : w.at ≤ end
+  pub follows : reduce ≡ false → Follows file.run first w
 
--- a walk of the spec's lines up to the end
-pub record IsLinesTo (file : SpecFile) (end : ℕ) (w : LineWalk) : Type 0 where
+-- a walk of the spec's lines from the first rank up to the end
+pub record IsLinesTo (file : SpecFile) (first end : ℕ) (w : LineWalk) : Type 0 where
   pub walk : IsLines file w
   pub lines : file.run.lines ≢ []
+  pub line : w.line.items ≡ line_before file.run first (w.at - first)
+  pub from : first ≤ w.at
   pub few : w.at ≤ end
   pub known : end ≤ ranks file.run
 
-abbrev pub IsWalkOf : SpecFile → Bool → ℕ → Walk → Type 0
-IsWalkOf file reduce end (Words w) = IsWords file reduce end w
-IsWalkOf file reduce end (Lines w) = IsLinesTo file end w
+abbrev pub IsWalkOf : SpecFile → Bool → ℕ → ℕ → Walk → Type 0
+IsWalkOf file reduce first end (Words w) = IsWords file reduce first end w
+IsWalkOf file reduce first end (Lines w) = IsLinesTo file first end w
 
 -- the walk has given the fact of the ranks from where it stood on, and stands behind them
-pub record HasWalked (file : SpecFile) (reduce : Bool) (end : ℕ) (x : Walk) (given : Given) (y : Walk) : Type 0 where
-  pub walk : IsWalkOf file reduce end y
-  pub first : given.run.first ≡ walk_at x
+pub record HasWalked (file : SpecFile) (reduce : Bool) (first end : ℕ) (x : Walk) (given : Given) (y : Walk) : Type 0 where
+  pub walk : IsWalkOf file reduce first end y
+  pub begin : given.run.first ≡ walk_at x
   pub some : given.run.first < given.run.end
+  pub one : skips reduce file.run ≡ false → given.run.end ≡ given.run.first + 1
   pub at : walk_at y ≡ given.run.end
   pub facts : AllHave reduce file.run given.run.first given.run.end given.run.fact
+  pub most : given.sent ≤ most_steps file.run given.run.first given.run.fact
   pub sent_few : given.sent ≤ MAX_ITEMS
+  pub exact : skips reduce file.run ≡ false → given.sent ≡ new_steps file.run first (walk_at x - first)
 
--- what is left of a run whose first ranks were given one by one
+-- what is left of a run whose first ranks were given one by one, which there is only where ranks are skipped
 abbrev pub IsRest : SpecFile → Bool → ℕ → Walk → Option FactRun → Type 0
 IsRest file reduce at w None = walk_at w ≡ at
-IsRest file reduce at w (Some run) = (run.first ≡ at) × (run.first < run.end) × (run.end ≡ walk_at w) × AllHave reduce file.run run.first run.end run.fact
+IsRest file reduce at w (Some run) =
+    (run.first ≡ at) × (run.first < run.end) × (run.end ≡ walk_at w) × AllHave reduce file.run run.first run.end run.fact × (skips reduce file.run ≡ true)
 
 abbrev pub is_whole : Option FactRun → Bool
 is_whole None = true
 is_whole (Some run) = false
 
 pub record IsStanding (file : SpecFile) (reduce : Bool) (first at end sent : ℕ) (w : Walk) (rest : Option FactRun) : Type 0 where
-  pub walk : IsWalkOf file reduce end w
+  pub walk : IsWalkOf file reduce first end w
   pub rest_is : IsRest file reduce at w rest
   pub from : first ≤ at
   pub few : end ≤ first + MAX_RANKS

@@ -1,12 +1,13 @@
 -- What the code of a walk keeps.
-use Rattle.std.specs.Prelude.{◌≡◌, ℕ, ◌<◌, ◌≤◌, Bool, true, false, List, [], ◌∷◌, ◌++◌, length, get_or, All}
+use Rattle.std.specs.Prelude.{◌≡◌, ℕ, ◌+◌, ◌-◌, ◌<◌, ◌≤◌, Bool, true, false, List, [], ◌∷◌, ◌++◌, length, get_or, All, ◌⊎◌}
 use Rattle.perm_ranks.specs.Words.{Word, total}
-use Rattle.perm_ranks.specs.Blocks.{HasRank, end_of, narrowed}
+use Rattle.perm_ranks.specs.Blocks.{Block, HasRank, end_of, narrowed}
 use Rattle.spec_reader.specs.declared.TheConstants.{MAX_ITEMS}
 use Rattle.sql_subset.specs.Spec.{Spec, SpecFile, counts_of, queues_of}
 use Rattle.machine_model.specs.World.{send}
 use Rattle.quiet_steps.specs.Facts.{IsFactOf}
 use Rattle.quiet_steps.specs.declared.fact.Fact.{Fact}
+use Rattle.step_reducer.specs.Fronts.{new_steps, most_steps}
 use Rattle.step_reducer.specs.Reduced.{tour_of, IsTour, IsPlace}
 use Rattle.step_reducer.specs.declared.frame.Frame.{Frame}
 use Rattle.step_reducer.specs.declared.frame.Turn.{Turn}
@@ -67,11 +68,34 @@ abbrev pub lowest : List Frame → Frame → Frame
 lowest [] top = top
 lowest (f ∷ fs) top = f
 
+-- of two blocks, one below the other: the ranks of the upper one are some of those with one letter more, which begin at this rank or before it
+-- and, up to the end, go no further
+pub record IsAbove (at end : ℕ) (lower upper : Block) : Type 0 where
+  pub letter : ℕ
+  pub left : 0 < get_or lower.left letter 0
+  pub from : (narrowed lower letter).first ≤ at
+  pub within : end_of upper ≤ end_of (narrowed lower letter)
+  pub last : (end ≤ end_of upper) ⊎ (end_of (narrowed lower letter) ≤ end_of upper)
+
+-- each frame is above the one below it
+abbrev pub AreAbove : ℕ → ℕ → List Frame → Frame → Type 0
+AreAbove at end [] top = Unit {0}
+AreAbove at end (f ∷ fs) top = IsAbove at end f.block (lowest fs top).block × AreAbove at end fs top
+
 -- frames of words up to this rank, of which the lowest has all that are to come up to the end
 pub record IsStack (reduce : Bool) (file : SpecFile) (at end : ℕ) (s : Stack) : Type 0 where
   pub below : All (IsBefore reduce file at) s.below.items
   pub top : IsBefore reduce file at s.top
   pub to : end ≤ end_of (lowest s.below.items s.top).block
+  pub above : AreAbove at end s.below.items s.top
+
+-- from the one block back to the other, where the ranks that share one letter more, from this one or before it on, end at the rank to come
+pub record HasParted (last at : ℕ) (upper lower : Block) : Type 0 where
+  pub letter : ℕ
+  pub left : 0 < get_or lower.left letter 0
+  pub from : (narrowed lower letter).first ≤ last
+  pub within : end_of upper ≤ end_of (narrowed lower letter)
+  pub behind : end_of (narrowed lower letter) ≤ at
 
 -- the topmost frame has the rank
 pub record IsAt (reduce : Bool) (file : SpecFile) (at end : ℕ) (s : Stack) : Type 0 where
@@ -83,12 +107,26 @@ pub record HasGone (reduce : Bool) (file : SpecFile) (at end : ℕ) (x y : Stack
   pub now : IsAt reduce file at end y
   pub less : total y.top.block.left < total x.top.block.left
 
+-- the topmost frame has all words up to the end
+pub record IsFresh (spec : Spec) (end : ℕ) (s : Stack) : Type 0 where
+  pub all : total s.top.block.left ≡ total (counts_of (queues_of spec))
+  pub to : end ≤ end_of s.top.block
+
+-- the topmost frame has the word of the rank alone
+pub record IsBehind (rank : ℕ) (s : Stack) : Type 0 where
+  pub has : HasRank s.top.block rank
+  pub alone : end_of s.top.block ≤ rank + 1
+
+-- the walk stands at the first rank, or behind the word of the rank before
+abbrev pub Follows : Spec → ℕ → WordWalk → Type 0
+Follows spec first w = ((w.at ≡ first) × IsFresh spec w.end w.stack) ⊎ ((first < w.at) × IsBehind (w.at - 1) w.stack)
+
 -- a walk of a spec's words before a rank
 pub record IsWalk (file : SpecFile) (w : WordWalk) : Type 0 where
   pub tour : IsTour (tour_of file.run w.reduce)
   pub table : w.table ≡ queues_of file.run
   pub steps : w.steps ≡ total (counts_of (queues_of file.run))
-  pub stack : IsStack w.reduce file w.at w.end w.stack
+  pub stack : IsStack w.reduce file (w.at - 1) w.end w.stack
 
 -- the fact of ranks from this one on, up to an end
 pub record IsFound (reduce : Bool) (file : SpecFile) (at end : ℕ) (found : Found) : Type 0 where
@@ -96,6 +134,13 @@ pub record IsFound (reduce : Bool) (file : SpecFile) (at end : ℕ) (found : Fou
   pub few : found.end ≤ end
   pub facts : AllHave reduce file.run at found.end found.fact
   pub sent_few : found.sent ≤ MAX_ITEMS
+
+-- the steps sent on the way: no more than the fact may take; where nothing is reduced, those of all letters that were left, for one rank
+pub record HasSent (reduce : Bool) (spec : Spec) (at : ℕ) (x : Stack) (found : Found) (y : Stack) : Type 0 where
+  pub most : found.sent ≤ most_steps spec at found.fact
+  pub one : reduce ≡ false → found.end ≡ at + 1
+  pub all : reduce ≡ false → found.sent ≡ total x.top.block.left
+  pub whole : reduce ≡ false → total y.top.block.left ≡ 0
 
 -- the walk has given the fact of the ranks from where it stood on, and stands behind them
 pub record HasGiven (file : SpecFile) (x : WordWalk) (given : Given) (y : WordWalk) : Type 0 where
@@ -108,3 +153,6 @@ pub record HasGiven (file : SpecFile) (x : WordWalk) (given : Given) (y : WordWa
   pub end : y.end ≡ x.end
   pub reduce : y.reduce ≡ x.reduce
   pub sent_few : given.sent ≤ MAX_ITEMS
+  pub most : given.sent ≤ most_steps file.run given.run.first given.run.fact
+  pub one : x.reduce ≡ false → given.run.end ≡ given.run.first + 1
+  pub sent : (first : ℕ) → x.reduce ≡ false → Follows file.run first x → (given.sent ≡ new_steps file.run first (x.at - first)) × Follows file.run first y

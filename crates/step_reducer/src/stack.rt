@@ -1,8 +1,8 @@
 //! Frames of prefixes that later words share.
 
-ghost use Rattle.std.specs.Prelude.{◌≡◌, ℕ, ◌<◌, ◌≤◌, Bool, OnOk, false, length, get_or, ◌++◌, ◌∷◌, []};
+ghost use Rattle.std.specs.Prelude.{◌≡◌, ℕ, ◌<◌, ◌≤◌, Bool, OnOk, false, length, get_or, ◌++◌, ◌∷◌, [], ◌⊎◌};
 ghost use Rattle.sql_subset.specs.Spec.{SpecFile};
-ghost use Rattle.step_reducer.specs.Walks.{IsStack, IsAt, IsTurn, HasGone};
+ghost use Rattle.step_reducer.specs.Walks.{IsStack, IsAt, IsTurn, HasGone, HasParted};
 
 use crate::frame::{Frame, Turn};
 use std::alloc::AllocError;
@@ -17,7 +17,9 @@ pub(crate) struct Stack<'a> {
 impl<'a> Stack<'a> {
     /// Goes back to the longest prefix that the word of the rank shares.
     pub(crate) fn go_back(&mut self, at: u64)
-        ensures { (reduce : Bool) (file : SpecFile) (end : ℕ) → at < end → IsStack reduce file at end self.old → IsAt reduce file at end self.new }
+        ensures at { (reduce : Bool) (file : SpecFile) (end : ℕ) → at < end → IsStack reduce file at end self.old → IsAt reduce file at end self.new }
+        ensures parted { (reduce : Bool) (file : SpecFile) (last end : ℕ) → at < end → IsStack reduce file last end self.old
+            → (self.new.top.block ≡ self.old.top.block) ⊎ HasParted last at self.old.top.block self.new.top.block }
     {
         'shared: while self.top.block.end() <= at {
             let Some(frame) = self.below.pop() else {

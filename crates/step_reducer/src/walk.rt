@@ -22,11 +22,12 @@ impl<'a> Walk<'a> {
         &mut self,
         spec: &Spec,
         reduce: bool,
+        first: u64,
         end: u64,
     ) -> Result<Given, AllocError>
-        requires walk { IsWalkOf spec.now reduce end self.old }
+        requires walk { IsWalkOf spec.now reduce first end self.old }
         requires some { walk_at self.old < end }
-        ensures { IfOk result (λ given. HasWalked spec.now reduce end self.old given self.new) }
+        ensures { IfOk result (λ given. HasWalked spec.now reduce first end self.old given self.new) }
     {
         match self {
             Walk::Words(walk) => walk.next_run(),

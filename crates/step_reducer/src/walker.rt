@@ -2,7 +2,7 @@
 
 ghost use Rattle.std.specs.Prelude.{◌≡◌, ◌↔◌, ◌-◌, ◌++◌, [], ◌∷◌, true, false, IfOk, IfErr, OnOk, OnErr, IsErrOf};
 ghost use Rattle.step_reducer.specs.declared.error.WalkError.TheVariants as walk_error;
-ghost use Rattle.step_reducer.specs.Walking.{begun_at, GivesRun, GivesFact, HasStopped, IsNotWalked, IsShardOf, Starts, AreFacts};
+ghost use Rattle.step_reducer.specs.Walking.{begun_at, AreSent, GivesRun, GivesFact, HasStopped, IsNotWalked, IsShardOf, Starts, AreFacts};
 
 use crate::error::WalkError;
 use crate::fact::FactRun;
@@ -45,7 +45,7 @@ pub struct Walker<'a> {
 impl<'a> Model for Walker<'a> {
     ghost use Rattle.std.specs.Coded.{codes};
     ghost use Rattle.sql_statements.specs.contracts.statement.Bound as bound;
-    ghost use Rattle.step_reducer.specs.Walking.{Walking, is_whole, IsStandingUnless};
+    ghost use Rattle.step_reducer.specs.Walking.{Walking, is_whole, AreSent, IsStandingUnless};
 
     ghost Value = { Walking };
 
@@ -62,7 +62,8 @@ impl<'a> Model for Walker<'a> {
       spent = w.is_spent;
     } };
 
-    ghost invariant = { λ w. IsStandingUnless w.is_spent w.spec.now w.reduce w.first w.at w.end w.sent w.walk w.rest };
+    ghost invariant = { λ w. IsStandingUnless w.is_spent w.spec.now w.reduce w.first w.at w.end w.sent w.walk w.rest
+        × AreSent w.reduce w.spec.now.run w.first w.at w.sent };
 }
 
 impl<'a> Walker<'a> {
@@ -117,9 +118,11 @@ impl<'a> Walker<'a> {
         })
     }
 
-    /// The steps sent for the ranks given so far. A refused call adds none.
+    /// The steps sent for the ranks given so far: where no rank is skipped, of each rank's line those behind the longest front that it
+    /// shares with the line of the rank before it, and of the first one all. The setups are no steps. A refused call adds none.
     pub fn sent(&self) -> u64
-        ensures { result ≡ self.now.sent }
+        ensures sent { result ≡ self.now.sent }
+        ensures exact { AreSent self.now.reduce self.now.file.run self.now.first self.now.at result }
     {
         self.sent
     }
@@ -142,7 +145,9 @@ impl<'a> Walker<'a> {
             return Ok(None);
         }
         self.is_spent = true;
-        let given = self.walk.next_run(self.spec, self.reduce, self.end)?;
+        let given = self
+            .walk
+            .next_run(self.spec, self.reduce, self.first, self.end)?;
         self.is_spent = false;
         self.at = given.run.end;
         self.sent += given.sent as u64;

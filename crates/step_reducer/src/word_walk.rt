@@ -6,7 +6,7 @@ ghost use Rattle.sql_subset.specs.Spec.{counts_of, queues_of};
 ghost use Rattle.machine_model.specs.Start.{Started, start};
 ghost use Rattle.step_reducer.specs.Walking.{IsWords};
 ghost use Rattle.step_reducer.specs.Reduced.{tour_of, IsTour};
-ghost use Rattle.step_reducer.specs.Walks.{IsAt, IsWalk, IsFound, HasGiven};
+ghost use Rattle.step_reducer.specs.Walks.{IsAt, IsWalk, IsFound, HasSent, HasGiven};
 
 use crate::fact::{FactRun, Given};
 use crate::frame::{Frame, Swaps};
@@ -55,7 +55,7 @@ impl<'a> WordWalk<'a> {
         requires of_spec { world.file ≡ spec.now }
         requires few { end ≤ length (all_words shape.now) }
         requires order { first ≤ end }
-        ensures { IfOk result (λ walk. IsWords spec.now reduce end walk × (walk.at ≡ first)) }
+        ensures { IfOk result (λ walk. IsWords spec.now reduce first end walk × (walk.at ≡ first)) }
     {
         let block = shape.block();
         let steps = block.letters_left();
@@ -121,6 +121,7 @@ fn find(
     requires has { IsAt reduce stack.old.top.world.file at end stack.old }
     ensures found { IfOk result (IsFound reduce stack.old.top.world.file at end) }
     ensures has { OnOk result (IsAt reduce stack.old.top.world.file at end stack.new) }
+    ensures sent { IfOk result (λ found. HasSent reduce stack.old.top.world.file.run at stack.old found stack.new) }
 {
     let before = stack.top.block.letters_left();
     'letter: while stack.top.block.letters_left() > 0 {

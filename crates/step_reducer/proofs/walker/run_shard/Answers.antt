@@ -24,11 +24,11 @@ loop-rank-preserved c =
     subst (λ (f : SpecFile). IsFactOf w.reduce f.run x.at p.1) inv.file (subst (λ b. IsFactOf b x.file.run x.at p.1) inv.reduce gives.2) in
     let fact : IsFactOf w.reduce w.file.run (w.at + (rank - w.at)) p.1 = subst (λ n. IsFactOf w.reduce w.file.run n p.1) (at ∙ sym sum) here in
     record {
-      file = ap (λ (v : Walking). v.file) gives.3 ∙ inv.file;
-      reduce = ap (λ (v : Walking). v.reduce) gives.3 ∙ inv.reduce;
-      end = ap (λ (v : Walking). v.end) gives.3 ∙ inv.end;
-      at = ap (λ (v : Walking). v.at) gives.3 ∙ ap (λ n. n + 1) at;
-      spent = ap (λ (v : Walking). v.spent) gives.3 ∙ inv.spent;
+      file = ap (λ (v : Walking). v.file) gives.4 ∙ inv.file;
+      reduce = ap (λ (v : Walking). v.reduce) gives.4 ∙ inv.reduce;
+      end = ap (λ (v : Walking). v.end) gives.4 ∙ inv.end;
+      at = ap (λ (v : Walking). v.at) gives.4 ∙ ap (λ n. n + 1) at;
+      spent = ap (λ (v : Walking). v.spent) gives.4 ∙ inv.spent;
       facts = subst (AreFacts w.reduce w.file.run w.at (rank + 1 - w.at)) (sym c.in_ok-push-in-Ok-Some.ensures)
           (subst (λ n. AreFacts w.reduce w.file.run w.at n (c.loop-rank.facts.items ++ p ∷ [])) more
           (facts-push w.reduce w.file.run w.at (rank - w.at) c.loop-rank.facts.items p inv.facts place fact));

@@ -1,15 +1,20 @@
-use Rattle.std.proofs.Common.{◌≡◌, sym, ap, ◌∙◌, subst, suc, ◌-◌, ◌<◌, true, false, [], ◌∷◌, ◌++◌, length, get_or, arith, length-append}
+use Rattle.std.proofs.Common.{◌≡◌, refl, sym, ap, ◌∙◌, subst, ℕ, suc, ◌-◌, ◌<◌, Bool, true, false, [], ◌∷◌, ◌++◌, length, get_or, arith, length-append}
 use Rattle.perm_ranks.specs.Words.{total, all_words}
 use Rattle.perm_ranks.specs.Blocks.{HasRank, end_of}
 use Rattle.perm_ranks.proofs.CountLemmas.{length-all_words}
-use Rattle.sql_subset.specs.Spec.{SpecFile}
+use Rattle.sql_subset.specs.Spec.{Spec, SpecFile}
 use Rattle.machine_model.specs.World.{send, outcome_of}
 use Rattle.quiet_steps.specs.Facts.{IsFactOf}
-use Rattle.quiet_steps.specs.declared.fact.Fact.TheVariants.{Ran}
+use Rattle.quiet_steps.specs.declared.fact.Fact.TheVariants.{Ran, Swap}
 use Rattle.step_reducer.specs.Reduced.{tour_of}
 use Rattle.step_reducer.proofs.FactsAt.{swap-within, swap-all, ran-at}
+use Rattle.step_reducer.proofs.Partings.{line-length}
 use Rattle.step_reducer.proofs.Turns.{turn-place}
 use Rattle.step_reducer.proofs.word_walk.find.Goals as goal
+
+-- a swap is a fact only where facts are reduced
+reduces : (reduce : Bool) (spec : Spec) (r k : ℕ) → IsFactOf reduce spec r (Swap k) → reduce ≡ false → ⊥
+reduces reduce spec r k fact e = (let bad : false ≡ true = sym e ∙ fact.0 in cc)
 
 pub returns-then-is_swap-clause-found : goal.returns-then-is_swap-clause-found
 returns-then-is_swap-clause-found c =
@@ -32,8 +37,34 @@ returns-then-is_swap-clause-found c =
       facts = λ r le lt. (
           let behind : r < end_of u.block = omega (arith, lt, c.min-behind.ensures, c.end.ensures.end) in
           let has : HasRank u.block r = (omega (arith, from, le), behind) in
-          swap-within (tour_of file.run c.args.reduce) frame.shared top.block top.world.world top.swaps.items u.letter k r c.requires.tour frame.stands turn.left listed last
+          swap-within (tour_of file.run c.args.reduce) frame.shared top.block top.world.world top.swaps.items
+          u.letter k r c.requires.tour frame.stands turn.left listed last
           (subst (λ b. HasRank b r) turn.block_is has));
+    }
+
+pub returns-then-is_swap-clause-sent : goal.returns-then-is_swap-clause-sent
+returns-then-is_swap-clause-sent c =
+    let file = c.args.stack.now.top.world.file in
+    let top = c.letter.stack.top in
+    let frame = c.letter.invariant.at.stack.top.frame in
+    let turn = c.turn-turn.ensures in
+    let u = c.turn-turn.result in
+    let listed : get_or top.swaps.items u.letter false ≡ true = sym c.is_swap.ensures ∙ c.if-is_swap.true in
+    let letters = frame.stands.ranks.letters in
+    let before = c.requires.has.stack.top.frame.stands.ranks.letters in
+    let some = frame.stands.some u.letter listed in
+    let k = c.args.steps - c.letters_left-left.result - 1 in
+    let last : suc k ≡ length frame.shared = omega (arith, letters, some, c.requires.steps, c.letters_left-left.ensures.all) in
+    let fact = swap-within
+    (tour_of file.run c.args.reduce) frame.shared top.block top.world.world top.swaps.items u.letter
+    k c.args.at c.requires.tour frame.stands turn.left listed last
+    (subst (λ b. HasRank b c.args.at) turn.block_is turn.inside) in
+    let never = reduces c.args.reduce file.run c.args.at k fact in
+    record {
+      most = omega (arith, letters, some, before, c.requires.steps, c.letters_left-left.ensures.all, c.letters_left-before.ensures.all);
+      one = λ e. absurd (never e);
+      all = λ e. absurd (never e);
+      whole = λ e. absurd (never e);
     }
 
 pub returns-then-is_covered-clause-found : goal.returns-then-is_covered-clause-found
@@ -47,7 +78,8 @@ returns-then-is_covered-clause-found c =
     let covered = c.is_covered.ensures c.if-is_covered.true in
     let letters = frame.stands.ranks.letters in
     let k = c.args.steps - c.letters_left-left.result in
-    let last : suc k ≡ length (frame.shared ++ u.letter ∷ []) = omega (arith, letters, c.requires.steps, c.letters_left-left.ensures.all, length-append frame.shared (u.letter ∷ [])) in
+    let last : suc k ≡ length (frame.shared ++ u.letter ∷ []) =
+    omega (arith, letters, c.requires.steps, c.letters_left-left.ensures.all, length-append frame.shared (u.letter ∷ [])) in
     let from = turn.inside.0 in
     let to = turn.inside.1 in
     record {
@@ -57,17 +89,60 @@ returns-then-is_covered-clause-found c =
       facts = λ r le lt. (
           let behind : r < end_of u.block = omega (arith, lt, c.min-behind.ensures, c.end.ensures.end) in
           let has : HasRank u.block r = (omega (arith, from, le), behind) in
-          swap-all (tour_of file.run c.args.reduce) (frame.shared ++ u.letter ∷ []) u.block (send top.world.file.run.steps top.world.world u.step) u.swaps.items k r c.requires.tour
+          swap-all (tour_of file.run c.args.reduce) (frame.shared ++ u.letter ∷ []) u.block
+          (send top.world.file.run.steps top.world.world u.step) u.swaps.items k r c.requires.tour
           (turn-place c.args.reduce file top u c.args.at frame turn unlisted) covered.some covered.all last has);
+    }
+
+pub returns-then-is_covered-clause-sent : goal.returns-then-is_covered-clause-sent
+returns-then-is_covered-clause-sent c =
+    let file = c.args.stack.now.top.world.file in
+    let top = c.letter.stack.top in
+    let frame = c.letter.invariant.at.stack.top.frame in
+    let turn = c.turn-turn.ensures in
+    let u = c.turn-turn.result in
+    let unlisted : get_or top.swaps.items u.letter false ≡ false = sym c.is_swap.ensures ∙ c.if-is_swap.false in
+    let covered = c.is_covered.ensures c.if-is_covered.true in
+    let letters = frame.stands.ranks.letters in
+    let before = c.requires.has.stack.top.frame.stands.ranks.letters in
+    let k = c.args.steps - c.letters_left-left.result in
+    let last : suc k ≡ length (frame.shared ++ u.letter ∷ []) =
+    omega (arith, letters, c.requires.steps, c.letters_left-left.ensures.all, length-append frame.shared (u.letter ∷ [])) in
+    let fact = swap-all (tour_of file.run c.args.reduce) (frame.shared ++ u.letter ∷ []) u.block
+    (send top.world.file.run.steps top.world.world u.step) u.swaps.items k c.args.at c.requires.tour
+    (turn-place c.args.reduce file top u c.args.at frame turn unlisted) covered.some covered.all last turn.inside in
+    let never = reduces c.args.reduce file.run c.args.at k fact in
+    record {
+      most = omega (arith, letters, before, c.requires.steps, c.letters_left-left.ensures.all, c.letters_left-before.ensures.all);
+      one = λ e. absurd (never e);
+      all = λ e. absurd (never e);
+      whole = λ e. absurd (never e);
+    }
+
+pub returns-clause-sent : goal.returns-clause-sent
+returns-clause-sent c =
+    let file = c.args.stack.now.top.world.file in
+    let ranks = c.requires.has.stack.top.frame.stands.ranks in
+    let before = ranks.letters in
+    let inside = ranks.inside in
+    let to = c.requires.has.has.1 in
+    let len = line-length file.run c.requires.tour.words c.args.at (omega (arith, inside, to)) in
+    record {
+      most = omega (arith, len, before, c.letters_left-before.ensures.all);
+      one = λ e. refl;
+      all = λ e. c.letters_left-before.ensures.all;
+      whole = λ e. omega (arith, c.letter-test.false, c.letters_left.ensures.all);
     }
 
 pub letter-smaller : goal.letter-smaller
 letter-smaller c =
-    (c.in_ok-descend.ensures c.args.reduce c.args.stack.now.top.world.file c.args.at c.requires.some c.letter.invariant.at c.turn-turn.ensures (sym c.is_swap.ensures ∙ c.if-is_swap.false)).less
+    (c.in_ok-descend.ensures c.args.reduce c.args.stack.now.top.world.file c.args.at c.requires.some c.letter.invariant.at c.turn-turn.ensures
+    (sym c.is_swap.ensures ∙ c.if-is_swap.false)).less
 
 pub letter-preserved : goal.letter-preserved
 letter-preserved c =
-    let gone = c.in_ok-descend.ensures c.args.reduce c.args.stack.now.top.world.file c.args.at c.requires.some c.letter.invariant.at c.turn-turn.ensures (sym c.is_swap.ensures ∙ c.if-is_swap.false) in
+    let gone = c.in_ok-descend.ensures c.args.reduce c.args.stack.now.top.world.file c.args.at c.requires.some c.letter.invariant.at c.turn-turn.ensures
+    (sym c.is_swap.ensures ∙ c.if-is_swap.false) in
     let less = gone.less in
     record { at = gone.now; letters = omega (arith, less, c.letter.invariant.letters) }
 

@@ -21,7 +21,8 @@ shares shared a b c d is x y = is ∙ (λ k. front (x k) (y k))
 pub go_back-requires : goal.go_back-requires
 go_back-requires c =
     let x = c.args.self.now in
-    let shared = shares c.shared_front-shared.result c.as_slice.result.now c.as_slice-2.result.now x.line.items c.in-Some.line.items c.shared_front-shared.ensures c.as_slice.ensures.value c.as_slice-2.ensures.value in
+    let shared = shares c.shared_front-shared.result c.as_slice.result.now c.as_slice-2.result.now x.line.items c.in-Some.line.items
+    c.shared_front-shared.ensures c.as_slice.ensures.value c.as_slice-2.ensures.value in
     omega (arith, trail-below x.spec.now x.line.items x.trail c.requires.walk.trail, front-old x.line.items c.in-Some.line.items, shared)
 
 pub go_on-requires-clause-trail : goal.go_on-requires-clause-trail
@@ -30,7 +31,8 @@ go_on-requires-clause-trail c =
     let file = x.spec.now in
     let n = c.shared_front-shared.result in
     let line = c.in-Some.line.items in
-    let shared = shares n c.as_slice.result.now c.as_slice-2.result.now x.line.items line c.shared_front-shared.ensures c.as_slice.ensures.value c.as_slice-2.ensures.value in
+    let shared = shares n c.as_slice.result.now c.as_slice-2.result.now x.line.items line
+    c.shared_front-shared.ensures c.as_slice.ensures.value c.as_slice-2.ensures.value in
     let back = gone-back file x.line.items line x.trail c.go_back.new.self n shared c.requires.walk.trail c.go_back.ensures in
     let same = ap (λ (r : Running). r.file) (trail-top file (take n line) c.go_back.new.self back) in
     subst (λ ks. IsTrailOf c.go_back.new.self.top.file (take n ks) c.go_back.new.self) (sym c.as_slice-3.ensures.value)
@@ -42,7 +44,8 @@ go_on-requires-clause-known c =
     let file = x.spec.now in
     let n = c.shared_front-shared.result in
     let line = c.in-Some.line.items in
-    let shared = shares n c.as_slice.result.now c.as_slice-2.result.now x.line.items line c.shared_front-shared.ensures c.as_slice.ensures.value c.as_slice-2.ensures.value in
+    let shared = shares n c.as_slice.result.now c.as_slice-2.result.now x.line.items line
+    c.shared_front-shared.ensures c.as_slice.ensures.value c.as_slice-2.ensures.value in
     let back = gone-back file x.line.items line x.trail c.go_back.new.self n shared c.requires.walk.trail c.go_back.ensures in
     let same = ap (λ (r : Running). r.file) (trail-top file (take n line) c.go_back.new.self back) in
     subst (λ ks. All (λ k. k < length c.go_back.new.self.top.file.run.steps) ks) (sym c.as_slice-3.ensures.value)
@@ -51,7 +54,8 @@ go_on-requires-clause-known c =
 pub go_on-requires-clause-inside : goal.go_on-requires-clause-inside
 go_on-requires-clause-inside c =
     let x = c.args.self.now in
-    let shared = shares c.shared_front-shared.result c.as_slice.result.now c.as_slice-2.result.now x.line.items c.in-Some.line.items c.shared_front-shared.ensures c.as_slice.ensures.value c.as_slice-2.ensures.value in
+    let shared = shares c.shared_front-shared.result c.as_slice.result.now c.as_slice-2.result.now x.line.items c.in-Some.line.items
+    c.shared_front-shared.ensures c.as_slice.ensures.value c.as_slice-2.ensures.value in
     omega (arith, front-new x.line.items c.in-Some.line.items, shared, ap (λ (l : List ℕ). length l) c.as_slice-3.ensures.value)
 
 -- the trail of the whole line
@@ -65,7 +69,8 @@ outcome-requires c =
 pub overflow_sub-sent : goal.overflow_sub-sent
 overflow_sub-sent c =
     let x = c.args.self.now in
-    let shared = shares c.shared_front-shared.result c.as_slice.result.now c.as_slice-2.result.now x.line.items c.in-Some.line.items c.shared_front-shared.ensures c.as_slice.ensures.value c.as_slice-2.ensures.value in
+    let shared = shares c.shared_front-shared.result c.as_slice.result.now c.as_slice-2.result.now x.line.items c.in-Some.line.items
+    c.shared_front-shared.ensures c.as_slice.ensures.value c.as_slice-2.ensures.value in
     omega (arith, front-new x.line.items c.in-Some.line.items, shared, c.len.ensures.value)
 
 pub returns : goal.returns
@@ -75,12 +80,15 @@ returns c =
     let run = file.run in
     let n = c.shared_front-shared.result in
     let line = c.in-Some.line.items in
-    let shared = shares n c.as_slice.result.now c.as_slice-2.result.now x.line.items line c.shared_front-shared.ensures c.as_slice.ensures.value c.as_slice-2.ensures.value in
+    let shared = shares n c.as_slice.result.now c.as_slice-2.result.now x.line.items line
+    c.shared_front-shared.ensures c.as_slice.ensures.value c.as_slice-2.ensures.value in
     let back = gone-back file x.line.items line x.trail c.go_back.new.self n shared c.requires.walk.trail c.go_back.ensures in
     let same = ap (λ (r : Running). r.file) (trail-top file (take n line) c.go_back.new.self back) in
-    let trail : IsTrailOf file line c.go_on.new.self = gone x c.go_back.new.self c.go_on.new.self line c.as_slice-3.result.now same c.as_slice-3.ensures.value c.in_ok-go_on.ensures in
+    let trail : IsTrailOf file line c.go_on.new.self =
+    gone x c.go_back.new.self c.go_on.new.self line c.as_slice-3.result.now same c.as_slice-3.ensures.value c.in_ok-go_on.ensures in
     let top = trail-top file line c.go_on.new.self trail in
-    let told : outcome_of run.sessions (send_all run.steps (first_world run) line) ≡ c.in_ok-outcome.outcome = sym (c.in_ok-outcome.ensures ∙ ap (λ (r : Running). outcome_of r.file.run.sessions r.world) top) in
+    let told : outcome_of run.sessions (send_all run.steps (first_world run) line) ≡ c.in_ok-outcome.outcome =
+    sym (c.in_ok-outcome.ensures ∙ ap (λ (r : Running). outcome_of r.file.run.sessions r.world) top) in
     record {
       lines = record { file_is = refl; starts = c.requires.walk.starts; trail = trail };
       first = refl;
@@ -89,6 +97,7 @@ returns c =
       line = c.in-Some.ensures.line;
       short = omega (arith, c.len.ensures.value, c.len.ensures.fits);
       sent = omega (arith, front-new x.line.items line, shared, c.len.ensures.value);
+      most = (let all = ap (λ (l : List ℕ). length l) c.in-Some.ensures.line in omega (arith, c.len.ensures.value, all));
       facts = λ reduce r le lt. (let here : r ≡ x.at = omega (arith, le, lt) in
           subst (λ m. IsFactOf reduce run m (Ran c.in_ok-outcome.outcome)) (sym here)
           (line-fact reduce run x.at line c.in_ok-outcome.outcome c.requires.lines c.requires.inside c.in-Some.ensures.line

@@ -1,10 +1,11 @@
-use Rattle.std.proofs.Common.{Bool, ℕ, length}
+use Rattle.std.proofs.Common.{◌≡◌, Bool, ℕ, ◌<◌, ◌⊎◌, length}
 use Rattle.sql_subset.specs.Spec.{SpecFile}
-use Rattle.step_reducer.specs.Walks.{IsStack}
+use Rattle.step_reducer.specs.Walks.{IsStack, HasParted}
 use Rattle.step_reducer.proofs.stack.Stack.go_back.Given as goal
 
 abbrev pub invariant-shared : goal.invariant-shared
-invariant-shared l = (reduce : Bool) (file : SpecFile) (end : ℕ) → IsStack reduce file l.at end l.initial.self → IsStack reduce file l.at end l.self
+invariant-shared l = (reduce : Bool) (file : SpecFile) (last end : ℕ) → l.at < end → IsStack reduce file last end l.initial.self
+    → IsStack reduce file last end l.self × ((l.self.top.block ≡ l.initial.self.top.block) ⊎ HasParted last l.at l.initial.self.top.block l.self.top.block)
 
 abbrev pub decreases-shared : goal.decreases-shared
 decreases-shared l = length l.self.below.items

@@ -1,13 +1,27 @@
 use Rattle.std.proofs.Common.{sym, ◌∙◌}
-use Rattle.step_reducer.proofs.Givings.{gives-rest, gives-run}
+use Rattle.step_reducer.proofs.Givings.{gives-rest, gives-run, stands-after-run, sent-after-run}
 use Rattle.step_reducer.proofs.walker.Walker.next_run.Goals as goal
+
+pub invariant_of-self-2 : goal.invariant_of-self-2
+invariant_of-self-2 c =
+    let x = c.self.inside in
+    let none = sym c.in_default.is ∙ c.take.ensures.value in
+    let standing = c.self.invariant.0 c.if-self.false in (
+      λ whole. stands-after-run x.spec.now x.reduce x.first x.at x.end x.sent x.walk c.next_run.new.self x.rest c.take.new.self
+          c.in_ok-given.given none c.take.ensures.after standing c.in_ok-given.ensures,
+      sent-after-run x.spec.now x.reduce x.first x.at x.end x.sent x.walk c.next_run.new.self x.rest
+          c.in_ok-given.given none standing c.in_ok-given.ensures c.self.invariant.1,
+    )
 
 pub returns-in-Some-clause-run : goal.returns-in-Some-clause-run
 returns-in-Some-clause-run c =
     let x = c.self.inside in
-    gives-rest x.spec.now x.reduce x.first x.at x.end x.sent x.walk x.rest c.take.new.self x.is_spent c.in-Some.rest c.args.self.now c.in-Some.ensures.value c.take.ensures.after (c.self.invariant c.if-self.false) c.self.view_is
+    gives-rest x.spec.now x.reduce x.first x.at x.end x.sent x.walk x.rest c.take.new.self x.is_spent
+    c.in-Some.rest c.args.self.now c.in-Some.ensures.value c.take.ensures.after (c.self.invariant.0 c.if-self.false) c.self.view_is
 
 pub returns-clause-run : goal.returns-clause-run
 returns-clause-run c =
     let x = c.self.inside in
-    gives-run x.spec.now x.reduce x.first x.at x.end x.sent x.walk c.next_run.new.self x.rest c.take.new.self x.is_spent c.in_ok-given.given c.args.self.now (sym c.in_default.is ∙ c.take.ensures.value) c.take.ensures.after c.if-self.false (c.self.invariant c.if-self.false) c.in_ok-given.ensures c.self.view_is
+    gives-run x.spec.now x.reduce x.first x.at x.end x.sent x.walk c.next_run.new.self x.rest c.take.new.self x.is_spent c.in_ok-given.given c.args.self.now
+    (sym c.in_default.is ∙ c.take.ensures.value) c.take.ensures.after c.if-self.false
+    (c.self.invariant.0 c.if-self.false) c.in_ok-given.ensures c.self.view_is
