@@ -1,0 +1,6 @@
+pub mod Entries
+pub mod Runs
+pub mod Tables
+pub mod About
+pub mod Books
+pub mod Laws
