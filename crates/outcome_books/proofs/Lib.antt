@@ -4,3 +4,6 @@ pub mod SetLemmas
 pub mod TableLemmas
 pub mod GapLemmas
 pub mod BookLemmas
+pub mod PushLemmas
+pub mod Recordable
+pub mod ShardLemmas

@@ -1,8 +1,8 @@
 -- The order of entries tells them apart.
-use Rattle.std.proofs.Common.{◌≡◌, refl, ap}
+use Rattle.std.proofs.Common.{◌≡◌, refl, ap, true}
 use Rattle.std.proofs.Common.{Ordering, nat_cmp}
 use Rattle.std.specs.declared.cmp.Ordering.TheVariants.{Less, Equal, Greater}
-use Rattle.std.specs.Ordering.{ordering_then}
+use Rattle.std.specs.Ordering.{on, ordering_then, eq_by_cmp, is_eq}
 use Rattle.std.specs.Cmp.{IsTotalOrder, nat_cmp_total, on_total, then_total}
 use Rattle.std.specs.FinSet.{IsAntisymmetric, nat_cmp-IsAntisymmetric}
 use Rattle.transcripts.specs.Compact.{outcome_cmp, outcome_total}
@@ -40,3 +40,12 @@ entry_same x y e =
     let t = nat_cmp-IsAntisymmetric _ _ p.0 in
     let f = fact_same _ _ p.1 in
     λ i. (t i, f i)
+
+tied : (o : Ordering) → is_eq o ≡ true → o ≡ Equal
+tied Less e = cc
+tied Equal e = refl
+tied Greater e = cc
+
+-- facts that the order does not tell apart are one
+pub tied_facts : (f g : Fact) → eq_by_cmp fact_cmp f g ≡ true → f ≡ g
+tied_facts f g e = fact_same f g (tied (fact_cmp f g) e)

@@ -3,4 +3,5 @@ pub mod Runs
 pub mod Tables
 pub mod About
 pub mod Books
+pub mod Building
 pub mod Laws

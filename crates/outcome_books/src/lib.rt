@@ -3,12 +3,14 @@
 
 mod about;
 mod book;
+mod builder;
 mod error;
 mod gaps;
 mod joining;
 mod laws;
 mod merging;
 mod run;
+mod shards;
 mod table;
 
 pub use book::Book;
