@@ -7,3 +7,9 @@ pub mod BookLemmas
 pub mod PushLemmas
 pub mod Recordable
 pub mod ShardLemmas
+pub mod ValueLemmas
+pub mod VerdictLemmas
+pub mod FillLemmas
+pub mod SweepLemmas
+pub mod BlockLeads
+pub mod ReportLemmas

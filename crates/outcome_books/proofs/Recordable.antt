@@ -2,10 +2,10 @@
 use Rattle.std.proofs.Common.{◌≡◌, ◌≢◌, refl, sym, ap, ◌∙◌, subst, ℕ, zero, suc, ◌+◌, ◌<◌, ◌≤◌, Bool, true, false, cond, ◌||◌, ◌==◌, List, [], ◌∷◌, length, set, get_or, All, Option, Some, None, Ok, ◌⊎◌, ⊎_elim, arith, eqb-true, get_or-set_other, get_or-set_same, inl, inr}
 use Rattle.std.proofs.lemmas.Bool.{eq-eqb}
 use Rattle.std.proofs.lemmas.List.{get_or_past}
-use Rattle.std.proofs.lemmas.List.Elements.{All-nil, All-cons}
+use Rattle.std.proofs.lemmas.List.Elements.{All-nil, All-cons, All-head, All-tail}
 use Rattle.sql_statements.specs.declared.statement.Bound.{Bound}
 use Rattle.sql_subset.specs.declared.tables.Table.{Table}
-use Rattle.sql_subset.specs.Spec.{Step, Spec, SpecFile, Queues, line, line_by, line_of, counts_of, steps_of, queues_from, queues_of, ranks, ranks_by, IsBound, IsLine, IsReady}
+use Rattle.sql_subset.specs.Spec.{Step, Spec, SpecFile, Queues, line, line_by, line_of, counts_of, steps_of, queues_from, queues_of, ranks, ranks_by, IsBound, EachStep, IsLine, IsStep, IsReady}
 use Rattle.sql_subset.specs.Binding.{IsFileOf, main_setup, session, shaped, made_file}
 use Rattle.sql_subset.specs.Binding.{declared as declared_by}
 use Rattle.sql_subset.specs.Lines.{orders_of}
@@ -70,7 +70,7 @@ line-known n q (i ∷ word) all = at (line-known n q word all) (λ ks rest. line
             (apart a (a == i) refl)
 
 -- the file of a text is ready to be run
-file-is-ready : (text : List ℕ) (file : SpecFile) → IsFileOf text file → IsReady file
+pub file-is-ready : (text : List ℕ) (file : SpecFile) → IsFileOf text file → IsReady file
 file-is-ready text file is =
     let tree = is.tree in
     let a = bind (shaped (orders_of tree)) _ file is.is_bound in
@@ -83,6 +83,20 @@ file-is-ready text file is =
     some_of : (o : Option (List (List ℕ))) (lines : List (List ℕ)) → shaped o ≡ Ok lines → o ≡ Some lines
     some_of None lines e = absurd (cc e)
     some_of (Some ls) lines e = let same_lines : ls ≡ lines = cc in ap Some same_lines
+
+each-step : (P : Step → Type 0) (Q : Step → Type 0) → ((s : Step) → P s → Q s) → (ss : List Step) → All P ss → EachStep Q ss
+each-step P Q f [] all = tt
+each-step P Q f (s ∷ ss) all = (f s (All-head P s ss all), each-step P Q f ss (All-tail P s ss all))
+
+-- and its steps are of its sessions
+pub file-is-bound : (text : List ℕ) (file : SpecFile) → IsFileOf text file → IsBound file.run
+file-is-bound text file is =
+    let ready = file-is-ready text file is in
+    let setups = ready.session_setups in
+    record {
+      session_setups = omega (arith, setups);
+      steps = each-step (IsStep file.run.sessions) (λ s. s.session < file.run.sessions) (λ s h. h.session) file.run.steps ready.steps;
+    }
 
 line-of-known : (spec : Spec) (r : ℕ) → r < ranks spec → All (IsLine (length spec.steps)) spec.lines → All (λ k. k < length spec.steps) (line_of spec r)
 line-of-known spec r lt known = by spec.lines known lt

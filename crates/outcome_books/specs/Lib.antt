@@ -4,4 +4,6 @@ pub mod Tables
 pub mod About
 pub mod Books
 pub mod Building
+pub mod Values
+pub mod Sweep
 pub mod Laws
