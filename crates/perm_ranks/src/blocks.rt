@@ -109,4 +109,17 @@ impl Block {
             },
         )
     }
+
+    /// Those of the words that go on with this letter.
+    pub fn narrowed(&self, letter: u8) -> Block
+        requires { 0 < slice_index self.now.left letter }
+        ensures narrowed { result ≡ narrowed self.now letter }
+        // They are those words of a shape that begin with all these letters.
+        ensures block { (counts : List ℕ) (shared : Word) → IsBlockOf counts shared self.now → IsBlockOf counts (shared ++ letter ∷ []) result }
+    {
+        let first = self.first + self.left.words_before(letter);
+        let mut left = self.left.copy();
+        left.take(letter);
+        Block { left, first }
+    }
 }

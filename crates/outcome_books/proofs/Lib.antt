@@ -1,0 +1,15 @@
+pub mod Orders
+pub mod RunLemmas
+pub mod SetLemmas
+pub mod TableLemmas
+pub mod GapLemmas
+pub mod BookLemmas
+pub mod PushLemmas
+pub mod Recordable
+pub mod ShardLemmas
+pub mod ValueLemmas
+pub mod VerdictLemmas
+pub mod FillLemmas
+pub mod SweepLemmas
+pub mod BlockLeads
+pub mod ReportLemmas

@@ -1,0 +1,50 @@
+-- A set of facts that is built up in the order of ranks, and the facts of a shard.
+use Rattle.std.specs.Prelude.{◌≡◌, ◌↔◌, ℕ, ◌-◌, ◌<◌, ◌≤◌, Bool, true, false, List, []}
+use Rattle.std.specs.FinSet.{union, from_list}
+use Rattle.transcripts.specs.Json.{OutcomeFits}
+use Rattle.sql_subset.specs.Spec.{Spec}
+use Rattle.quiet_steps.specs.Facts.{IsFactOf}
+use Rattle.quiet_steps.specs.declared.fact.Fact.{Fact}
+use Rattle.quiet_steps.specs.declared.fact.Fact.TheVariants.{Ran, Swap}
+use Rattle.step_reducer.specs.Walking.{Walking}
+use Rattle.outcome_books.specs.declared.run.Run.{Run}
+use Rattle.outcome_books.specs.Entries.{FactSet, recorded}
+use Rattle.outcome_books.specs.Runs.{Table, firsts, AllTo, repeated}
+use Rattle.outcome_books.specs.Books.{facts_in, IsKept, AllRecordable}
+
+-- facts of ranks before the next
+pub record Building : Type 0 where
+  pub facts : FactSet
+  pub next : ℕ
+
+abbrev pub built_of : Table → List Run → ℕ → Building
+built_of table runs next = record { facts = facts_in table runs; next = next }
+
+-- the runs are kept, and begin up to the next
+pub record IsBuilt (table : Table) (runs : List Run) (next : ℕ) : Type 0 where
+  pub kept : IsKept table runs
+  pub before : AllTo next (firsts runs)
+
+-- with the fact at each rank from first up to but not end
+abbrev pub added : Building → ℕ → ℕ → Fact → Building
+added b first end fact = record { facts = union b.facts (from_list (repeated first (end - first) fact)); next = end }
+
+-- the facts are those of these ranks, each with its own
+abbrev pub AreFactsOf : Bool → Spec → ℕ → ℕ → FactSet → Type 0
+AreFactsOf reduce spec first end facts = (r : ℕ) (fact : Fact) → (recorded facts r fact ≡ true) ↔ ((first ≤ r) × (r < end) × IsFactOf reduce spec r fact)
+
+-- the numbers of a fact have the widths of their types
+abbrev pub FactFits : Fact → Type 0
+FactFits (Ran outcome) = OutcomeFits outcome
+FactFits (Swap k) = k < 256
+
+-- the facts of the ranks that the walker has passed are gathered
+pub record IsGathering (begun walker : Walking) (b : Building) : Type 0 where
+  pub file : walker.file ≡ begun.file
+  pub reduce : walker.reduce ≡ begun.reduce
+  pub end : walker.end ≡ begun.end
+  pub whole : walker.spent ≡ false
+  pub from : begun.at ≤ walker.at
+  pub next : b.next ≤ walker.at
+  pub facts : AreFactsOf begun.reduce begun.file.run begun.at walker.at b.facts
+  pub recordable : AllRecordable begun.file.run b.facts

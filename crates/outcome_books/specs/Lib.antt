@@ -1,0 +1,9 @@
+pub mod Entries
+pub mod Runs
+pub mod Tables
+pub mod About
+pub mod Books
+pub mod Building
+pub mod Values
+pub mod Sweep
+pub mod Laws

@@ -1,0 +1,85 @@
+//! A set of facts that grows by runs in the order of ranks.
+
+ghost use Rattle.std.specs.Prelude.{◌≡◌, ◌<◌, ◌≤◌, OnOk, OnErr, IfOk, length};
+ghost use Rattle.std.specs.FinSet as set;
+ghost use Rattle.outcome_books.specs.Runs.{fact_in, IsNumbered};
+ghost use Rattle.outcome_books.specs.Tables.{Extends};
+ghost use Rattle.outcome_books.specs.Books.{IsKept};
+ghost use Rattle.outcome_books.specs.Building.{added, built_of};
+
+use crate::run::{Run, Tag, add_run};
+use crate::table::Table;
+use quiet_steps::Fact;
+use std::alloc::{AllocError, Global};
+use std::marker::Model;
+
+/// Facts of ranks before `next`.
+#[derive(Drop)]
+pub(crate) struct Builder {
+    table: Table,
+    runs: Vec<Run>,
+    next: u64,
+}
+
+impl Model for Builder {
+    ghost use Rattle.std.specs.Coded.{codes};
+    ghost use Rattle.std.specs.FinSet as set;
+    ghost use Rattle.quiet_steps.specs.contracts.fact.Fact as fact;
+    ghost use Rattle.outcome_books.specs.Building.{Building, built_of, IsBuilt};
+
+    ghost Value = { Building };
+
+    ghost coded = { Prim.hlevel (codes, set.code, fact.the_row.coded) };
+
+    ghost view = { λ b. built_of b.table b.runs.items b.next };
+
+    ghost invariant = { λ b. IsBuilt b.table b.runs.items b.next };
+}
+
+impl Builder {
+    /// No facts yet.
+    pub(crate) fn new(alloc: Global) -> Builder
+        ensures facts { result.facts ≡ set.empty }
+        ensures next { result.next ≡ 0 }
+    {
+        Builder {
+            table: Table::new(alloc),
+            runs: Vec::new(alloc),
+            next: 0,
+        }
+    }
+
+    /// Adds the fact at each rank from `first` up to but not `end`, at the cost of one.
+    pub(crate) fn push(&mut self, first: u64, end: u64, fact: &Fact) -> Result<(), AllocError>
+        requires in_order { self.old.next ≤ first }
+        requires some { first < end }
+        ensures ok { OnOk result (self.new ≡ added self.old first end fact.now) }
+        ensures err { OnErr result (self.new ≡ self.old) }
+    {
+        let tag = tag_of(&mut self.table, fact)?;
+        let last = self.runs.len().saturating_sub(1);
+        add_run(&mut self.runs, last, Run { first, end, tag })?;
+        self.next = end;
+        Ok(())
+    }
+
+    /// The table and the runs.
+    pub(crate) fn into_parts(self) -> (Table, Vec<Run>)
+        ensures is { built_of result.0 result.1.items self.next ≡ self }
+        ensures kept { IsKept result.0 result.1.items }
+    {
+        (self.table, self.runs)
+    }
+}
+
+/// The tag that stands for the fact.
+fn tag_of(table: &mut Table, fact: &Fact) -> Result<Tag, AllocError>
+    ensures fact { IfOk result (λ tag. fact_in table.new tag ≡ fact.now) }
+    ensures numbered { IfOk result (λ tag. IsNumbered (length table.new) tag) }
+    ensures extends { Extends table.old table.new }
+{
+    match fact {
+        Fact::Ran(outcome) => Ok(Tag::Ran(table.number(outcome)?)),
+        Fact::Swap(place) => Ok(Tag::Swap(*place)),
+    }
+}

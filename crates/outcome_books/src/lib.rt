@@ -1,0 +1,28 @@
+//! Books: a spec with its text and a finite set of facts of its ranks, kept as runs.
+#![tactic(auto)]
+
+mod about;
+mod book;
+mod builder;
+mod error;
+mod filling;
+mod gaps;
+mod joining;
+mod judging;
+mod laws;
+mod leading;
+mod merging;
+mod reporting;
+mod reports;
+mod run;
+mod shards;
+mod sweep;
+mod table;
+
+pub use book::Book;
+pub use error::{JoinError, MAX_REPORTED, ReportError};
+pub use gaps::missing;
+pub use joining::join;
+pub use laws::joins_are_unions;
+pub use reporting::report;
+pub use reports::Report;

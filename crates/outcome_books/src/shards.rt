@@ -1,0 +1,89 @@
+//! The book of a shard.
+
+ghost use Rattle.std.specs.Prelude.{◌≡◌, ◌<◌, false, IfOk, IfErr, OnOk};
+ghost use Rattle.sql_subset.specs.Spec.{IsBound};
+ghost use Rattle.sql_subset.specs.Binding.{IsFileOf};
+ghost use Rattle.step_reducer.specs.Walking.{IsNotWalked, IsShardOf, Starts};
+ghost use Rattle.outcome_books.specs.Books.{AllRecordable, file_of, IsAbout};
+ghost use Rattle.outcome_books.specs.Building.{AreFactsOf, FactFits};
+
+use crate::about::About;
+use crate::book::Book;
+use crate::builder::Builder;
+use quiet_steps::Fact;
+use session_machine::RunError;
+use sql_subset::Spec;
+use std::alloc::{AllocError, Global};
+use std::sync::Arc;
+use step_reducer::{Shard, Walker};
+
+impl Book {
+    /// The facts of the ranks of a shard, each with its own: when reducing the least swap where the rank has one, and else the
+    /// outcome. It is refused as its walker is.
+    pub fn of_shard(
+        alloc: Global,
+        spec: &Spec,
+        shard: Shard,
+        reduce: bool,
+    ) -> Result<Book, RunError>
+        ensures refused { IfErr result (IsNotWalked spec.now.run shard) }
+        ensures lawful { OnOk result (IsShardOf spec.now.run shard) }
+        ensures started { OnOk result (Starts spec.now.run) }
+        ensures of_spec { IfOk result (λ book. book.file ≡ spec.now) }
+        ensures facts { IfOk result (λ book. AreFactsOf reduce spec.now.run shard.first shard.end book.facts) }
+    {
+        spec.known();
+        let _sessions = spec.sessions();
+        let walker = Walker::new(alloc, spec, shard, reduce)?;
+        let builder = gathered(alloc, walker)?;
+        let about = About::of(alloc, spec)?;
+        Ok(book_of(alloc, about, builder)?)
+    }
+}
+
+/// The facts of the ranks that a walker has before it.
+fn gathered(alloc: Global, mut walker: Walker<'_>) -> Result<Builder, AllocError>
+    requires whole { walker.spent ≡ false }
+    requires bound { IsBound walker.file.run }
+    requires file { IsFileOf walker.file.text walker.file }
+    ensures facts { IfOk result (λ builder. AreFactsOf walker.entry.reduce walker.entry.file.run walker.entry.at walker.entry.end builder.facts) }
+    ensures recordable { IfOk result (λ builder. AllRecordable walker.entry.file.run builder.facts) }
+{
+    let mut builder = Builder::new(alloc);
+    'runs: loop {
+        let run = match walker.next_run() {
+            Ok(Some(run)) => run,
+            Ok(None) => return Ok(builder),
+            Err(_) => return Err(AllocError),
+        };
+        known_fact(&run.fact);
+        builder.push(run.first, run.end, &run.fact)?;
+    }
+}
+
+/// What holds of every fact: its numbers have the widths of their types.
+fn known_fact(fact: &Fact)
+    ensures { FactFits fact.now }
+{
+    match fact {
+        Fact::Ran(outcome) => outcome.known(),
+        Fact::Swap(place) => {
+            let _place = *place;
+        }
+    }
+}
+
+/// The book of a spec with the facts of a builder.
+fn book_of(alloc: Global, about: About, builder: Builder) -> Result<Book, AllocError>
+    requires about { IsAbout about }
+    requires recordable { AllRecordable (file_of about).run builder.facts }
+    ensures file { IfOk result (λ book. book.file ≡ file_of about) }
+    ensures facts { IfOk result (λ book. book.facts ≡ builder.facts) }
+{
+    let (table, runs) = builder.into_parts();
+    Ok(Book {
+        about: Arc::new(alloc, about)?,
+        table,
+        runs,
+    })
+}
