@@ -1,7 +1,7 @@
 -- Where exchanges lead in a block: words that share the two letters, and what stands before them, are exchanged alike.
-use Rattle.std.proofs.Common.{◌≡◌, ◌≢◌, refl, sym, ap, ◌∙◌, subst, ℕ, zero, suc, ◌+◌, ◌-◌, ◌<◌, ◌≤◌, Bool, true, false, cond, nat_lt, List, [], ◌∷◌, ◌++◌, length, set, get_or, Option, Some, None, option_map, ◌⊎◌, ⊎_elim, arith, append_assoc, length-append, lt-ltb, ltb-true, get_or-set_other, inl, inr}
+use Rattle.std.proofs.Common.{◌≡◌, ◌≢◌, refl, sym, ap, ◌∙◌, subst, ℕ, zero, suc, ◌+◌, ◌-◌, ◌<◌, ◌≤◌, Bool, true, false, cond, nat_lt, List, [], ◌∷◌, ◌++◌, length, set, get_or, Option, Some, None, option_map, ◌⊎◌, ⊎_elim, arith, append_assoc, lt-ltb, ltb-true, get_or-set_other, inl, inr}
 use Rattle.std.proofs.lemmas.List.{get_or_past, set_comm}
-use Rattle.perm_ranks.specs.Words.{Word, total, all_words, word_at, word_less, place_of}
+use Rattle.perm_ranks.specs.Words.{Word, total, all_words, word_at, word_less}
 use Rattle.perm_ranks.specs.Swapped.{exchanged}
 use Rattle.perm_ranks.specs.Counting.{taken}
 use Rattle.perm_ranks.specs.Blocks.{Block, end_of, HasRank, narrowed, IsBlockOf}
@@ -9,7 +9,6 @@ use Rattle.perm_ranks.proofs.SwapLemmas.{exchanged-less, exchanged-short}
 use Rattle.perm_ranks.proofs.WordLemmas.{Takes, takes, done, each-at, words-take, stands-before, place-is, entry-place, all_words-rise}
 use Rattle.quiet_steps.specs.Swap.{placed_at}
 use Rattle.outcome_books.specs.declared.run.Tag.TheVariants.{Swap}
-use Rattle.outcome_books.specs.declared.leading.Lead.{Lead}
 use Rattle.outcome_books.specs.declared.leading.Lead.TheVariants.{From, Nowhere}
 use Rattle.outcome_books.specs.Sweep.{leads_of, LeadsDown, IsLead}
 

@@ -1,6 +1,5 @@
 -- A stretch of ranks of which the same runs say all.
-use Rattle.std.proofs.Common.{◌≡◌, refl, sym, ap, subst, ◌∙◌, ℕ, zero, suc, ◌+◌, ◌-◌, ◌<◌, ◌≤◌, List, [], ◌∷◌, ◌++◌, append_assoc, append-nil, length, get_or, map, take, Option, Some, None, inl, inr, ◌⊎◌, arith, Ok, Err}
-use Rattle.std.specs.Option.{MatchOption}
+use Rattle.std.proofs.Common.{◌≡◌, refl, sym, ap, subst, ◌∙◌, ℕ, zero, suc, ◌+◌, ◌-◌, ◌<◌, ◌≤◌, List, [], ◌∷◌, ◌++◌, append_assoc, append-nil, length, get_or, take, Option, Some, None, inl, inr, ◌⊎◌, arith, Ok, Err}
 use Rattle.std.proofs.lemmas.List.{take_more}
 use Rattle.std.specs.List.{list_any}
 use Rattle.std.specs.FinSet.{contains}
@@ -8,7 +7,7 @@ use Rattle.quiet_steps.specs.Values.{IsValue}
 use Rattle.quiet_steps.specs.declared.fact.Fact.{Fact}
 use Rattle.outcome_books.specs.declared.run.Run.{Run}
 use Rattle.outcome_books.specs.declared.run.Tag.{Tag}
-use Rattle.outcome_books.specs.declared.run.Tag.TheVariants.{Ran, Swap}
+use Rattle.outcome_books.specs.declared.run.Tag.TheVariants.{Ran}
 use Rattle.outcome_books.specs.declared.leading.Lead.{Lead}
 use Rattle.outcome_books.specs.declared.leading.Lead.TheVariants.{Value, From, Nowhere}
 use Rattle.outcome_books.specs.declared.judging.Verdict.{Verdict}
@@ -16,9 +15,9 @@ use Rattle.outcome_books.specs.declared.judging.Verdict.TheVariants.{Nothing, On
 use Rattle.outcome_books.specs.declared.error.ReportError.{ReportError}
 use Rattle.outcome_books.specs.declared.error.ReportError.TheVariants.{Missing, Clash}
 use Rattle.outcome_books.specs.Entries.{Told, FactSet, recorded}
-use Rattle.outcome_books.specs.Runs.{Table, IsNumbered}
-use Rattle.outcome_books.specs.Values.{Leads, HasOne, OneBelow, AreValues}
-use Rattle.outcome_books.specs.Sweep.{LeadsDown, IsDone, values_of, AllBelow, LeadsFrom, LeadsNowhere, IsLead, AreLeads, IsIn, tag_vote, IsVerdict, IsOneOf, OnlyRan, GoesTo, copies}
+use Rattle.outcome_books.specs.Runs.{Table}
+use Rattle.outcome_books.specs.Values.{Leads, HasOne, OneBelow}
+use Rattle.outcome_books.specs.Sweep.{LeadsDown, IsDone, values_of, AllBelow, LeadsFrom, IsLead, AreLeads, IsIn, tag_vote, IsVerdict, IsOneOf, OnlyRan, GoesTo, copies}
 use Rattle.outcome_books.specs.Sweep.{states, IsStretch, IsStop, FillsStretch, StopsStretch}
 use Rattle.outcome_books.proofs.ValueLemmas.{done-more}
 use Rattle.outcome_books.proofs.VerdictLemmas.{in-push, verdict-one, verdict-none, verdict-clash, ran-one}

@@ -13,3 +13,5 @@ pub mod FillLemmas
 pub mod SweepLemmas
 pub mod BlockLeads
 pub mod ReportLemmas
+pub mod JobLemmas
+pub mod JobViews

@@ -1,24 +1,21 @@
 -- The facts of a spec may stand in its books.
-use Rattle.std.proofs.Common.{◌≡◌, ◌≢◌, refl, sym, ap, ◌∙◌, subst, ℕ, zero, suc, ◌+◌, ◌<◌, ◌≤◌, Bool, true, false, cond, ◌||◌, ◌==◌, List, [], ◌∷◌, length, set, get_or, All, Option, Some, None, Ok, ◌⊎◌, ⊎_elim, arith, eqb-true, get_or-set_other, get_or-set_same, inl, inr}
+use Rattle.std.proofs.Common.{◌≡◌, ◌≢◌, refl, sym, ap, ◌∙◌, subst, ℕ, zero, suc, ◌+◌, ◌<◌, ◌≤◌, Bool, true, false, cond, ◌==◌, List, [], ◌∷◌, length, set, get_or, All, Option, Some, None, Ok, ◌⊎◌, ⊎_elim, arith, eqb-true, get_or-set_other, get_or-set_same, inl, inr}
 use Rattle.std.proofs.lemmas.Bool.{eq-eqb}
 use Rattle.std.proofs.lemmas.List.{get_or_past}
 use Rattle.std.proofs.lemmas.List.Elements.{All-nil, All-cons, All-head, All-tail}
-use Rattle.sql_statements.specs.declared.statement.Bound.{Bound}
-use Rattle.sql_subset.specs.declared.tables.Table.{Table}
 use Rattle.sql_subset.specs.Spec.{Step, Spec, SpecFile, Queues, line, line_by, line_of, counts_of, steps_of, queues_from, queues_of, ranks, ranks_by, IsBound, EachStep, IsLine, IsStep, IsReady}
 use Rattle.sql_subset.specs.Binding.{IsFileOf, main_setup, session, shaped, made_file}
 use Rattle.sql_subset.specs.Binding.{declared as declared_by}
 use Rattle.sql_subset.specs.Lines.{orders_of}
-use Rattle.sql_subset.specs.Refusals.{Bind, each}
+use Rattle.sql_subset.specs.Refusals.{each}
 use Rattle.sql_subset.proofs.SentLemmas.{bind}
 use Rattle.sql_subset.proofs.FileLemmas.{file-ready}
-use Rattle.perm_ranks.specs.Words.{Word, all_words, word_at}
-use Rattle.transcripts.specs.declared.event.Event.{Event}
-use Rattle.machine_model.specs.World.{World, send_all, outcome_of}
+use Rattle.perm_ranks.specs.Words.{Word, word_at}
+use Rattle.machine_model.specs.World.{send_all, outcome_of}
 use Rattle.machine_model.specs.Start.{Start, Started, SetupFailed, SessionSetupFailed, SessionSetupWaits, start}
 use Rattle.machine_model.specs.Outcome.{IsOutcomeOf, outcome_of_line}
 use Rattle.machine_model.proofs.Owned.{lines-own}
-use Rattle.quiet_steps.specs.Facts.{IsTrueAt, IsFactOf}
+use Rattle.quiet_steps.specs.Facts.{IsFactOf}
 use Rattle.quiet_steps.specs.declared.fact.Fact.{Fact}
 use Rattle.quiet_steps.specs.declared.fact.Fact.TheVariants.{Ran, Swap}
 use Rattle.quiet_steps.proofs.Leading.{swaps-hold}

@@ -1,10 +1,9 @@
 -- The report of a book.
-use Rattle.std.proofs.Common.{◌≡◌, ◌≢◌, refl, sym, ap, subst, ◌∙◌, ℕ, zero, suc, ◌<◌, ◌≤◌, true, List, [], ◌∷◌, length, get_or, map, Option, Some, None, Result, Ok, Err, slice_get, inl, inr, ◌⊎◌, ⊎_elim, arith}
+use Rattle.std.proofs.Common.{◌≡◌, ◌≢◌, refl, sym, ap, subst, ◌∙◌, ℕ, zero, suc, ◌<◌, ◌≤◌, List, [], ◌∷◌, length, get_or, Option, Some, None, Result, Ok, Err, slice_get, ◌⊎◌, ⊎_elim, arith}
 use Rattle.std.specs.Result.{IfOk, IfErr}
-use Rattle.sql_subset.specs.Spec.{Spec, ranks, line_of, queues_of, IsBound}
-use Rattle.machine_model.specs.Outcome.{outcome_of_line}
+use Rattle.sql_subset.specs.Spec.{Spec, ranks, queues_of, IsBound}
 use Rattle.quiet_steps.specs.Swap.{leads_by, leads_in}
-use Rattle.quiet_steps.specs.Values.{IsValue, AllTrue, TellTheMachine}
+use Rattle.quiet_steps.specs.Values.{AllTrue, TellTheMachine}
 use Rattle.quiet_steps.proofs.TrueValues.{tell-the-machine}
 use Rattle.outcome_books.specs.declared.about.About.{About}
 use Rattle.outcome_books.specs.declared.error.ReportError.{ReportError}
@@ -12,10 +11,10 @@ use Rattle.outcome_books.specs.declared.error.ReportError.TheVariants.{TooMany, 
 use Rattle.outcome_books.specs.declared.error.TheConstants.{MAX_REPORTED}
 use Rattle.outcome_books.specs.declared.run.Run.{Run}
 use Rattle.outcome_books.specs.About.{IsShapeOf}
-use Rattle.outcome_books.specs.Entries.{Told, FactSet, recorded}
+use Rattle.outcome_books.specs.Entries.{Told, recorded}
 use Rattle.outcome_books.specs.Runs.{Table, first_gap}
-use Rattle.outcome_books.specs.Books.{Contents, contents_of, HasFact, facts_in, file_of, IsBook}
-use Rattle.outcome_books.specs.Values.{Leads, HasOne, AreValues, IsMissing, IsClash, IsNotReported, IsCovering}
+use Rattle.outcome_books.specs.Books.{contents_of, HasFact, facts_in, file_of, IsBook}
+use Rattle.outcome_books.specs.Values.{AreValues, IsMissing, IsNotReported, IsCovering}
 use Rattle.outcome_books.specs.Sweep.{leads_of, IsStop, values_of}
 use Rattle.outcome_books.proofs.GapLemmas.{has-below, none-at}
 use Rattle.outcome_books.proofs.Recordable.{file-is-bound}

@@ -1,5 +1,5 @@
 -- The values of the next rank are the votes of its facts.
-use Rattle.std.proofs.Common.{◌≡◌, refl, sym, ap, subst, ◌∙◌, ℕ, zero, suc, ◌+◌, ◌<◌, ◌≤◌, List, [], ◌∷◌, ◌++◌, length, get_or, true, Option, Some, None, arith, inl, inr, ◌⊎◌}
+use Rattle.std.proofs.Common.{◌≡◌, refl, sym, ap, subst, ℕ, zero, suc, ◌<◌, List, [], ◌∷◌, ◌++◌, length, get_or, true, Option, Some, None, arith, inl, inr, ◌⊎◌}
 use Rattle.std.specs.FinSet.{contains}
 use Rattle.quiet_steps.specs.Values.{IsValue, ran, swap}
 use Rattle.quiet_steps.specs.declared.fact.Fact.TheVariants.{Ran, Swap}

@@ -1,5 +1,5 @@
 -- What the runs that cover a rank give it.
-use Rattle.std.proofs.Common.{◌≡◌, refl, sym, ap, subst, ◌∙◌, ℕ, zero, suc, ◌<◌, Bool, true, false, ◌||◌, List, [], ◌∷◌, ◌++◌, length, get_or, Option, Some, None, inl, inr, ◌⊎◌, arith}
+use Rattle.std.proofs.Common.{◌≡◌, refl, sym, ap, subst, ◌∙◌, ℕ, ◌<◌, Bool, true, false, ◌||◌, List, [], ◌∷◌, ◌++◌, length, get_or, Option, Some, None, inl, inr, ◌⊎◌}
 use Rattle.std.proofs.lemmas.Bool.{false≢true}
 use Rattle.std.specs.Option.{MatchOption}
 use Rattle.std.specs.List.{list_any}
@@ -9,7 +9,7 @@ use Rattle.quiet_steps.specs.declared.fact.Fact.{Fact}
 use Rattle.quiet_steps.specs.declared.fact.Fact.TheVariants.{Ran as RanFact, Swap as SwapFact}
 use Rattle.outcome_books.specs.declared.run.Run.{Run}
 use Rattle.outcome_books.specs.declared.run.Tag.{Tag}
-use Rattle.outcome_books.specs.declared.run.Tag.TheVariants.{Ran, Swap}
+use Rattle.outcome_books.specs.declared.run.Tag.TheVariants.{Ran}
 use Rattle.outcome_books.specs.declared.judging.Verdict.{Verdict}
 use Rattle.outcome_books.specs.declared.judging.Verdict.TheVariants.{Nothing, One, Several}
 use Rattle.outcome_books.specs.Entries.{Told, FactSet, recorded}

@@ -1,5 +1,5 @@
 -- A set of facts that is built up in the order of ranks, and the facts of a shard.
-use Rattle.std.specs.Prelude.{◌≡◌, ◌↔◌, ℕ, ◌-◌, ◌<◌, ◌≤◌, Bool, true, false, List, []}
+use Rattle.std.specs.Prelude.{◌≡◌, ◌↔◌, ℕ, ◌-◌, ◌<◌, ◌≤◌, Bool, true, false, List}
 use Rattle.std.specs.FinSet.{union, from_list}
 use Rattle.transcripts.specs.Json.{OutcomeFits}
 use Rattle.sql_subset.specs.Spec.{Spec}

@@ -6,4 +6,6 @@ pub mod Books
 pub mod Building
 pub mod Values
 pub mod Sweep
+pub mod JobTrees
+pub mod Jobs
 pub mod Laws

@@ -1,6 +1,6 @@
-use Rattle.std.proofs.Common.{◌<◌, sym, subst, length, arith, rules}
+use Rattle.std.proofs.Common.{sym, subst, length, arith}
 use Rattle.std.proofs.lemmas.List.{take_more}
-use Rattle.outcome_books.specs.Sweep.{IsVerdict, IsLead, tag_vote, values_of, leads_of}
+use Rattle.outcome_books.specs.Sweep.{IsVerdict, tag_vote, values_of, leads_of}
 use Rattle.outcome_books.proofs.RunLemmas.{AllSound-at}
 use Rattle.outcome_books.proofs.VerdictLemmas.{verdict-step}
 use Rattle.outcome_books.proofs.FillLemmas.{leads-at, leads-length}

@@ -1,4 +1,4 @@
-use Rattle.std.proofs.Common.{◌≡◌, ◌+◌, ap, sym, subst, ◌∙◌, [], ◌∷◌, ◌++◌, length, length-append, Some, arith}
+use Rattle.std.proofs.Common.{◌≡◌, ap, subst, ◌∙◌, [], ◌∷◌, ◌++◌, length, length-append, Some, arith}
 use Rattle.perm_ranks.specs.Words.{total}
 use Rattle.perm_ranks.specs.Blocks.{Block}
 use Rattle.outcome_books.specs.declared.run.Tag.TheVariants.{Swap}

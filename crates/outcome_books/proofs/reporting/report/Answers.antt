@@ -1,4 +1,4 @@
-use Rattle.std.proofs.Common.{◌≤◌, ap, ◌∙◌, subst, arith}
+use Rattle.std.proofs.Common.{ap, subst, arith}
 use Rattle.std.specs.Result.{IfOk, IfErr}
 use Rattle.sql_subset.specs.Spec.{ranks}
 use Rattle.quiet_steps.specs.Swap.{leads_in}

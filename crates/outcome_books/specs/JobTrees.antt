@@ -1,0 +1,25 @@
+-- Jobs: the shards that they run, and how deep they are.
+use Rattle.std.specs.Prelude.{ℕ, suc, ◌+◌, max, Bool, List, [], ◌∷◌, ◌++◌}
+use Rattle.step_reducer.specs.declared.walker.Shard.{Shard}
+use Rattle.outcome_books.specs.declared.leaves.Leaf.{Leaf}
+use Rattle.outcome_books.specs.declared.job.Job.{Job, more_of-Job, end_of-Job, Run, Join'}
+
+-- the join of two jobs
+abbrev pub join_of : Job → Job → Job
+join_of a b = Join' tt (more_of-Job a end_of-Job) tt (more_of-Job b end_of-Job)
+
+-- what is told of a job, by what is told of a shard and of a join
+abbrev pub told : {A : Type 0} → (Shard → Bool → A) → (A → A → A) → Job → A
+told run join (Run shard reduce) = run shard reduce
+told run join (Join' _ (more_of-Job a end_of-Job) _ (more_of-Job b end_of-Job)) = join (told run join a) (told run join b)
+
+-- the shards from left to right
+abbrev pub leaves : Job → List Leaf
+leaves = told (λ shard reduce. record { shard = shard; reduce = reduce } ∷ []) (λ a b. a ++ b)
+
+abbrev pub levels : Job → ℕ
+levels = told (λ shard reduce. 1) (λ a b. suc (max a b))
+
+-- how many shards and joins there are
+abbrev pub parts : Job → ℕ
+parts = told (λ shard reduce. 1) (λ a b. suc (a + b))
