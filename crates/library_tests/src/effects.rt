@@ -79,54 +79,146 @@ fn scaled(alloc: Global, factor: i64, column: u16, minus: i64) -> Result<Express
     Ok(Expression { first, more })
 }
 
-fn test(
-    alloc: Global,
-    number: u16,
-    comparison: Comparison,
-    cell: Cell,
-) -> Result<Condition, AllocError> {
-    Ok(Condition::Compares(column(alloc, number), comparison, literal(alloc, cell)?))
+/// A test of a row.
+#[derive(Clone, Copy)]
+enum Test {
+    Compares(u16, Comparison, Cell),
+    /// The value of this one leaves the range at any row.
+    Overflows,
 }
 
-/// A test of any row whose value leaves the range.
+use Test::{Compares, Overflows};
+
+/// Which rows a statement is for.
+#[derive(Clone, Copy)]
+enum Rows {
+    Every,
+    Where(Test),
+    And(Test, Test),
+    Or(Test, Test),
+    /// Those that do not meet the first test, or meet the second.
+    NotOr(Test, Test),
+}
+
+/// What an update writes to a column.
+#[derive(Clone, Copy)]
+enum Written {
+    Column(u16),
+    /// A factor times a column, minus a number.
+    Scaled(i64, u16, i64),
+}
+
+/// A statement over table 0.
+#[derive(Clone, Copy)]
+enum Step {
+    /// With which column is the key, if there is one.
+    Inserts(Option<u16>, &'static [&'static [Cell]]),
+    Shows(Rows, &'static [u16], &'static [SortKey]),
+    Totals(Rows, &'static [Aggregate]),
+    /// With the key of the row that it names, if it names one.
+    Updates(Option<i64>, &'static [(u16, Written)], Rows),
+    Deletes(Rows),
+    Locks(Mode),
+    SetsVariable,
+    Begins,
+}
+
 fn overflow(alloc: Global) -> Result<Condition, AllocError> {
     let below = scaled(alloc, 1, 9, i64::MIN)?;
     Ok(Condition::Compares(below, Comparison::Same, literal(alloc, N(0))?))
 }
 
-fn or(alloc: Global, a: Condition, b: Condition) -> Result<Condition, AllocError> {
-    Ok(Condition::Or(Boxed::new(alloc, a)?, Boxed::new(alloc, b)?))
+fn tested(alloc: Global, test: Test) -> Result<Condition, AllocError> {
+    match test {
+        Compares(number, comparison, cell) => {
+            let right = literal(alloc, cell)?;
+            Ok(Condition::Compares(column(alloc, number), comparison, right))
+        }
+        Overflows => overflow(alloc),
+    }
 }
 
-fn and(alloc: Global, a: Condition, b: Condition) -> Result<Condition, AllocError> {
-    Ok(Condition::And(Boxed::new(alloc, a)?, Boxed::new(alloc, b)?))
+fn boxed(alloc: Global, test: Test) -> Result<Boxed<Condition>, AllocError> {
+    Boxed::new(alloc, tested(alloc, test)?)
 }
 
-/// These columns of the rows that match, sorted by one of them.
-fn select(
+fn negated(alloc: Global, test: Test) -> Result<Boxed<Condition>, AllocError> {
+    Boxed::new(alloc, Condition::Not(boxed(alloc, test)?))
+}
+
+fn condition(alloc: Global, rows: Rows) -> Result<Condition, AllocError> {
+    match rows {
+        Rows::Every => Ok(Condition::Always),
+        Rows::Where(test) => tested(alloc, test),
+        Rows::And(a, b) => Ok(Condition::And(boxed(alloc, a)?, boxed(alloc, b)?)),
+        Rows::Or(a, b) => Ok(Condition::Or(boxed(alloc, a)?, boxed(alloc, b)?)),
+        Rows::NotOr(a, b) => Ok(Condition::Or(negated(alloc, a)?, boxed(alloc, b)?)),
+    }
+}
+
+/// These columns of the rows, sorted.
+fn shows(
     alloc: Global,
-    condition: Condition,
+    rows: Rows,
     columns: &[u16],
     order: &[SortKey],
 ) -> Result<Bound, AllocError> {
     let columns = Items::from_slice(alloc, columns)?;
     let order = Items::from_slice(alloc, order)?;
-    Ok(Bound::Select(0, None, condition, order, Output::Columns(columns)))
+    Ok(Bound::Select(
+        0,
+        None,
+        condition(alloc, rows)?,
+        order,
+        Output::Columns(columns),
+    ))
 }
 
-fn numbers(
-    alloc: Global,
-    condition: Condition,
-    aggregates: &[Aggregate],
-) -> Result<Bound, AllocError> {
+fn totals(alloc: Global, rows: Rows, aggregates: &[Aggregate]) -> Result<Bound, AllocError> {
     let output = Output::Aggregates(Items::from_slice(alloc, aggregates)?);
-    Ok(Bound::Select(0, None, condition, Items::new(alloc), output))
+    Ok(Bound::Select(0, None, condition(alloc, rows)?, Items::new(alloc), output))
 }
 
-fn set(alloc: Global, column: u16, value: Expression) -> Result<Items<Assignment>, AllocError> {
-    let mut sets = Items::new(alloc);
-    sets.push(Assignment { column, value })?;
-    Ok(sets)
+fn expression(alloc: Global, written: Written) -> Result<Expression, AllocError> {
+    match written {
+        Written::Column(number) => Ok(column(alloc, number)),
+        Written::Scaled(factor, column, minus) => scaled(alloc, factor, column, minus),
+    }
+}
+
+fn assignments(alloc: Global, sets: &[(u16, Written)]) -> Result<Items<Assignment>, AllocError> {
+    let mut all = Items::new(alloc);
+    for (column, value) in sets {
+        let value = expression(alloc, *value)?;
+        all.push(Assignment {
+            column: *column,
+            value,
+        })?;
+    }
+    Ok(all)
+}
+
+fn updates(
+    alloc: Global,
+    key: Option<i64>,
+    sets: &[(u16, Written)],
+    rows: Rows,
+) -> Result<Bound, AllocError> {
+    let all = assignments(alloc, sets)?;
+    Ok(Bound::Update(0, key.map(Value::Int), all, condition(alloc, rows)?))
+}
+
+fn statement_of(alloc: Global, step: Step) -> Result<Bound, AllocError> {
+    match step {
+        Step::Inserts(key, rows) => insert(alloc, key, rows),
+        Step::Shows(rows, columns, order) => shows(alloc, rows, columns, order),
+        Step::Totals(rows, aggregates) => totals(alloc, rows, aggregates),
+        Step::Updates(key, sets, rows) => updates(alloc, key, sets, rows),
+        Step::Deletes(rows) => Ok(Bound::Delete(0, None, condition(alloc, rows)?)),
+        Step::Locks(mode) => Ok(Bound::Lock(0, mode)),
+        Step::SetsVariable => Ok(Bound::SetVariable),
+        Step::Begins => Ok(Bound::Begin),
+    }
 }
 
 fn empty_store(alloc: Global) -> Store
@@ -147,107 +239,119 @@ fn run(alloc: Global, statement: &Bound, store: Store, log: &mut Log) -> Result<
     Ok(store)
 }
 
-fn run_all(alloc: Global, statements: &[Bound]) -> Result<Log, AllocError> {
+fn take(alloc: Global, step: Step, store: Store, log: &mut Log) -> Result<Store, AllocError>
+    requires { IsAlone store }
+    ensures { IfOk result (λ store. IsAlone store) }
+{
+    let statement = statement_of(alloc, step)?;
+    run(alloc, &statement, store, log)
+}
+
+fn run_all(alloc: Global, steps: &[Step]) -> Result<Log, AllocError> {
     let mut log = Log::new(alloc);
     let mut store = empty_store(alloc);
-    for statement in statements {
-        store = run(alloc, statement, store, &mut log)?;
+    for step in steps {
+        store = take(alloc, *step, store, &mut log)?;
     }
     Ok(log)
 }
 
 /// The outcome of one session that sends the statements.
-fn told_by(alloc: Global, statements: &[Bound]) -> Result<Outcome, AllocError> {
-    let mut transcripts = Vec::new(alloc);
-    transcripts.push(run_all(alloc, statements)?.to_transcript()?)?;
-    Outcome::new(alloc, transcripts)
+fn told_by(alloc: Global, steps: &[Step]) -> Result<Outcome, AllocError> {
+    let log = run_all(alloc, steps)?;
+    Outcome::new(alloc, vec![in alloc; log.to_transcript()?]?)
 }
 
-fn assert_tells(
-    rt: &impl Abort,
-    alloc: Global,
-    statements: &[Bound],
-    want: &str,
-) -> Result<(), AllocError> {
-    let outcome = told_by(alloc, statements)?;
+/// The text of the outcome of a session s.
+fn text_of(rt: &impl Abort, alloc: Global, outcome: &Outcome) -> Result<Vec<u8>, AllocError> {
     let sessions = vec![in alloc; Text::from_str(alloc, "s")?]?;
     let names = Names {
         sessions: sessions.as_slice(),
         steps: &[],
     };
-    assert!(rt; names.fit(&outcome), "each event has its names");
+    assert!(rt; names.fit(outcome), "each event has its names");
     let mut out = Counted::new(Vec::new(alloc));
-    print(&outcome, &names, &mut out).expect(rt, "a text");
-    let text = String::from_utf8(out.into_inner()).expect(rt, "UTF-8");
-    assert_eq!(rt; text.as_str(), want);
+    let printed = print(outcome, &names, &mut out).is_ok();
+    assert!(rt; printed, "a text");
+    Ok(out.into_inner())
+}
+
+fn assert_tells(
+    rt: &impl Abort,
+    alloc: Global,
+    steps: &[Step],
+    want: &str,
+) -> Result<(), AllocError> {
+    let outcome = told_by(alloc, steps)?;
+    let text = text_of(rt, alloc, &outcome)?;
+    assert_eq!(rt; str::from_utf8(&text).ok(), Some(want));
     Ok(())
 }
 
-const BY_FIRST: [SortKey; 1] = [SortKey {
+const RISES: SortKey = SortKey {
+    column: 1,
+    order: Order::Rises,
+};
+
+const FALLS: SortKey = SortKey {
+    column: 1,
+    order: Order::Falls,
+};
+
+const BY_FIRST: SortKey = SortKey {
     column: 0,
     order: Order::Falls,
-}];
+};
+
+const THREE: Test = Compares(1, Comparison::Same, N(3));
+
+static NAMES: [Step; 9] = [
+    Step::Inserts(None, &[&[T("it's"), N(3)], &[T("b"), N(-1)]]),
+    Step::Shows(
+        Rows::NotOr(THREE, Compares(0, Comparison::Same, T("it's"))),
+        &[0],
+        &[RISES],
+    ),
+    Step::Deletes(Rows::Where(THREE)),
+    Step::Totals(Rows::Every, &[Aggregate::Count, Aggregate::Sum(1)]),
+    Step::Totals(
+        Rows::Where(Compares(1, Comparison::Above, N(9))),
+        &[Aggregate::Sum(1)],
+    ),
+    Step::Updates(None, &[(1, Written::Scaled(2, 1, i64::MAX))], Rows::Every),
+    Step::Locks(Mode::Share),
+    Step::SetsVariable,
+    Step::Begins,
+];
 
 #[test]
 fn a_table_of_names_is_read_thinned_and_summed(rt: HostRuntime) -> Result<(), Fail> {
-    let alloc = rt.alloc();
-    let three = test(alloc, 1, Comparison::Same, N(3))?;
-    let not_three = Condition::Not(Boxed::new(alloc, three)?);
-    let named = test(alloc, 0, Comparison::Same, T("it's"))?;
-    let rises = [SortKey {
-        column: 1,
-        order: Order::Rises,
-    }];
-    let third = test(alloc, 1, Comparison::Same, N(3))?;
-    let above = test(alloc, 1, Comparison::Above, N(9))?;
-    let doubled = set(alloc, 1, scaled(alloc, 2, 1, i64::MAX)?)?;
-    let statements = [
-        insert(alloc, None, &[&[T("it's"), N(3)], &[T("b"), N(-1)]])?,
-        select(alloc, or(alloc, not_three, named)?, &[0], &rises)?,
-        Bound::Delete(0, None, third),
-        numbers(
-            alloc,
-            Condition::Always,
-            &[Aggregate::Count, Aggregate::Sum(1)],
-        )?,
-        numbers(alloc, above, &[Aggregate::Sum(1)])?,
-        Bound::Update(0, None, doubled, Condition::Always),
-        Bound::Lock(0, Mode::Share),
-        Bound::SetVariable,
-        Bound::Begin,
-    ];
-    assert_tells(
-        &rt,
-        alloc,
-        &statements,
-        "session s\n  inserted 2\n  row 'b'\n  row 'it''s'\n  rows 2\n  deleted 1\n  row 1|-1\n  rows 1\n  row 0\n  rows 1\n  error: integer out of range\n  locked\n  set\n",
-    )?;
+    let want =
+        "session s\n  inserted 2\n  row 'b'\n  row 'it''s'\n  rows 2\n  deleted 1\n  row 1|-1\n  rows 1\n  row 0\n  rows 1\n  error: integer out of range\n  locked\n  set\n";
+    assert_tells(&rt, rt.alloc(), &NAMES, want)?;
     Ok(())
 }
 
+static TOTALS: [Step; 7] = [
+    Step::Inserts(None, &[&[N(i64::MAX)], &[N(1)], &[N(-2)]]),
+    Step::Totals(Rows::Every, &[Aggregate::Sum(0)]),
+    Step::Deletes(Rows::Where(Compares(0, Comparison::Same, N(1)))),
+    Step::Inserts(None, &[&[N(1)], &[N(1)]]),
+    Step::Shows(Rows::Every, &[0], &[]),
+    Step::Shows(
+        Rows::Where(Compares(0, Comparison::AtMost, N(1))),
+        &[0],
+        &[BY_FIRST],
+    ),
+    Step::Totals(
+        Rows::Where(Compares(0, Comparison::Above, N(0))),
+        &[Aggregate::Sum(0)],
+    ),
+];
+
 #[test]
 fn totals_are_exact_and_row_numbers_leave_gaps(rt: HostRuntime) -> Result<(), Fail> {
-    let alloc = rt.alloc();
-    let one = test(alloc, 0, Comparison::Same, N(1))?;
-    let two = test(alloc, 0, Comparison::AtMost, N(1))?;
-    let statements = [
-        insert(alloc, None, &[&[N(i64::MAX)], &[N(1)], &[N(-2)]])?,
-        numbers(alloc, Condition::Always, &[Aggregate::Sum(0)])?,
-        Bound::Delete(0, None, one),
-        insert(alloc, None, &[&[N(1)], &[N(1)]])?,
-        select(alloc, Condition::Always, &[0], &[])?,
-        select(alloc, two, &[0], &BY_FIRST)?,
-        numbers(
-            alloc,
-            test(alloc, 0, Comparison::Above, N(0))?,
-            &[Aggregate::Sum(0)],
-        )?,
-    ];
-    assert_tells(
-        &rt,
-        alloc,
-        &statements,
-        "session s
+    let want = "session s
   inserted 3
   row 9223372036854775806
   rows 1
@@ -263,63 +367,45 @@ fn totals_are_exact_and_row_numbers_leave_gaps(rt: HostRuntime) -> Result<(), Fa
   row -2
   rows 3
   error: integer out of range
-",
-    )?;
+";
+    assert_tells(&rt, rt.alloc(), &TOTALS, want)?;
     Ok(())
 }
 
+static KEYS: [Step; 9] = [
+    Step::Inserts(Some(0), &[&[N(1), N(5), N(6)], &[N(1), N(7), N(8)]]),
+    Step::Shows(Rows::Every, &[0], &[]),
+    Step::Inserts(
+        Some(0),
+        &[
+            &[N(3), N(5), N(8)],
+            &[N(1), N(5), N(6)],
+            &[N(2), N(6), N(7)],
+        ],
+    ),
+    Step::Inserts(Some(0), &[&[N(4), N(0), N(0)], &[N(2), N(0), N(0)]]),
+    Step::Shows(
+        Rows::Or(Compares(1, Comparison::AtLeast, N(0)), Overflows),
+        &[0, 1],
+        &[FALLS],
+    ),
+    Step::Shows(
+        Rows::And(Compares(1, Comparison::Below, N(0)), Overflows),
+        &[0],
+        &[],
+    ),
+    Step::Updates(Some(9), &[(1, Written::Column(1))], Rows::Where(Overflows)),
+    Step::Updates(
+        Some(1),
+        &[(1, Written::Column(2)), (2, Written::Column(1))],
+        Rows::Every,
+    ),
+    Step::Shows(Rows::Every, &[1, 2], &[]),
+];
+
 #[test]
 fn keys_are_unique_and_falling_ties_stay(rt: HostRuntime) -> Result<(), Fail> {
-    let alloc = rt.alloc();
-    let first_and = and(
-        alloc,
-        test(alloc, 1, Comparison::Below, N(0))?,
-        overflow(alloc)?,
-    )?;
-    let first_or = or(
-        alloc,
-        test(alloc, 1, Comparison::AtLeast, N(0))?,
-        overflow(alloc)?,
-    )?;
-    let falls = [SortKey {
-        column: 1,
-        order: Order::Falls,
-    }];
-    let mut swap = set(alloc, 1, column(alloc, 2))?;
-    swap.push(Assignment {
-        column: 2,
-        value: column(alloc, 1),
-    })?;
-    let absent = Bound::Update(
-        0,
-        Some(Value::Int(9)),
-        set(alloc, 1, column(alloc, 1))?,
-        overflow(alloc)?,
-    );
-    let statements = [
-        insert(alloc, Some(0), &[&[N(1), N(5), N(6)], &[N(1), N(7), N(8)]])?,
-        select(alloc, Condition::Always, &[0], &[])?,
-        insert(
-            alloc,
-            Some(0),
-            &[
-                &[N(3), N(5), N(8)],
-                &[N(1), N(5), N(6)],
-                &[N(2), N(6), N(7)],
-            ],
-        )?,
-        insert(alloc, Some(0), &[&[N(4), N(0), N(0)], &[N(2), N(0), N(0)]])?,
-        select(alloc, first_or, &[0, 1], &falls)?,
-        select(alloc, first_and, &[0], &[])?,
-        absent,
-        Bound::Update(0, Some(Value::Int(1)), swap, Condition::Always),
-        select(alloc, Condition::Always, &[1, 2], &[])?,
-    ];
-    assert_tells(
-        &rt,
-        alloc,
-        &statements,
-        "session s
+    let want = "session s
   error: duplicate key
   rows 0
   inserted 3
@@ -335,7 +421,7 @@ fn keys_are_unique_and_falling_ties_stay(rt: HostRuntime) -> Result<(), Fail> {
   row 6|7
   row 5|8
   rows 3
-",
-    )?;
+";
+    assert_tells(&rt, rt.alloc(), &KEYS, want)?;
     Ok(())
 }

@@ -3,6 +3,7 @@ use spec_reader::{
     Block, Item, Line, Marker, Session, SpecError, SpecErrorKind, SpecText, read_spec,
 };
 use std::alloc::{AllocError, Global};
+use std::process::Abort;
 use std::test::Fail;
 
 fn fault_of(alloc: Global, bytes: &[u8]) -> Option<SpecError> {
@@ -111,326 +112,196 @@ fn a_spec_file_is_read_with_the_offsets_of_its_blocks(rt: HostRuntime) -> Result
     Ok(())
 }
 
-#[test]
-fn a_missing_step_is_named(rt: HostRuntime) {
-    for (text, kind, offset) in [
-        ("", SpecErrorKind::NoStep, 0),
-        ("setup {} permutation s", SpecErrorKind::NoStep, 9),
-        ("session a # step s {}", SpecErrorKind::NoStep, 21),
-        ("session a permutation s", SpecErrorKind::NoStep, 10),
-        ("session a session b", SpecErrorKind::NoStep, 10),
-        ("# only a comment", SpecErrorKind::NoStep, 16),
-        ("setup {}", SpecErrorKind::NoStep, 8),
-        ("setup {} teardown {}", SpecErrorKind::NoStep, 20),
-        ("session a", SpecErrorKind::NoStep, 9),
-        (
-            "session a setup {} session b step s {}",
-            SpecErrorKind::NoStep,
-            19,
-        ),
-        ("session a teardown {}", SpecErrorKind::NoStep, 21),
-        ("session é permutation s", SpecErrorKind::NoStep, 11),
-        ("permutation s", SpecErrorKind::NoStep, 0),
-        ("\x0c\n\t permutation", SpecErrorKind::NoStep, 4),
-    ] {
-        assert_eq!(rt;
-            fault_of(rt.alloc(), text.as_bytes()),
-            fault(kind, offset),
-            "{text}"
-        );
+/// The text has a fault of the kind where its mark is.
+fn assert_fault(
+    rt: &impl Abort,
+    alloc: Global,
+    kind: SpecErrorKind,
+    marked: &str,
+) -> Result<(), Fail> {
+    let (front, behind) = marked.split_once('^').ok_or("a mark")?;
+    let text = repeated(alloc, front, behind, 1, "")?;
+    assert!(rt;
+        fault_of(alloc, text.as_bytes()) == fault(kind, front.len()),
+        "{marked}"
+    );
+    Ok(())
+}
+
+/// Each line has a fault of the kind where its mark is.
+fn assert_faults(
+    rt: &impl Abort,
+    alloc: Global,
+    kind: SpecErrorKind,
+    texts: &str,
+) -> Result<(), Fail> {
+    for marked in texts.lines() {
+        assert_fault(rt, alloc, kind, marked)?;
     }
+    Ok(())
+}
+
+/// Where a step is missing: at the mark.
+const MISSING_STEPS: &str = "\
+^
+setup {} ^permutation s
+session a # step s {}^
+session a ^permutation s
+session a ^session b
+# only a comment^
+setup {}^
+setup {} teardown {}^
+session a^
+session a setup {} ^session b step s {}
+session a teardown {}^
+session é ^permutation s
+^permutation s";
+
+#[test]
+fn a_missing_step_is_named(rt: HostRuntime) -> Result<(), Fail> {
+    assert_faults(&rt, rt.alloc(), SpecErrorKind::NoStep, MISSING_STEPS)?;
+    Ok(())
+}
+
+/// Tokens that cannot stand where the mark is.
+const MISPLACED_TOKENS: &str = "\
+^step s {}
+^\u{feff}session a step s {}
+session^
+session a step s {} permutation ^
+session a step ^setup {}
+session a step s {} teardown {} ^teardown {}
+session a step s {} permutation s(s notices 3^a)
+teardown {} ^setup {} session a step s {}
+teardown {} ^teardown {}
+setup ^session a
+setup^
+setup # {}^
+session ^setup step s {}
+session ^{} step s {}
+session ^1 step s {}
+session a step ^{}
+session a step s^
+session a step s ^t {}
+session a ^{}
+session a ^name step s {}
+session a teardown {} ^setup {} step s {}
+session a setup {} ^setup {} step s {}
+session a teardown {} step s {} ^teardown {}
+session a step s {} ^setup {}
+session a step s {} teardown {} ^step t {}
+session a step s {} permutation s ^session b
+session a step s {} permutation ^permutation
+session a step s {} permutation s(^)
+session a step s {} permutation s(*^
+session a step s {} permutation s(* ^*)
+session a step s {} permutation s(*,^)
+session a step s {} permutation s(s notices^)
+session a step s {} permutation s(s notices ^s)
+session a step s {} permutation s(* ^notices 1)
+session a step s {} permutation s(*)^(*)
+session a step s {} permutation ^(*)
+session a step s {} permutation ^1
+session a step s {} permutation s^,s
+session a step s {} ^Permutation s
+^SESSION a step s {}
+session \"a\" ^\"step\" s {}
+^notices";
+
+#[test]
+fn a_token_that_cannot_stand_is_named(rt: HostRuntime) -> Result<(), Fail> {
+    assert_faults(&rt, rt.alloc(), SpecErrorKind::Misplaced, MISPLACED_TOKENS)?;
+    Ok(())
+}
+
+/// Where no token begins.
+const BAD_TOKENS: &str = "\
+session a step s {} ^;
+session ^\"\"x\" step s {}
+session ^\"\"
+^\0
+session é^; step s {}
+^}
+session a step s {}^}
+session ^\"\" step s {}
+session a$ step ^$s {}
+session a step s {} permutation s(^-1)
+session a step s {} permutation s^.s
+session ^'a' step s {}
+session a^\x0bstep s {}";
+
+/// Names and blocks that are not closed.
+const UNCLOSED_TEXTS: &str = "\
+session a step s ^{ SELECT
+session a ^\"b
+session ^\"\"\"
+setup ^{
+session a step s {} step t ^{{
+session é ^\"
+session a step ^\"s\"\" {}";
+
+#[test]
+fn what_is_no_token_is_named(rt: HostRuntime) -> Result<(), Fail> {
+    assert_faults(&rt, rt.alloc(), SpecErrorKind::BadToken, BAD_TOKENS)?;
+    assert_faults(&rt, rt.alloc(), SpecErrorKind::Unclosed, UNCLOSED_TEXTS)?;
+    Ok(())
+}
+
+/// Names of steps that are taken.
+const TAKEN_STEPS: &str = "\
+session a step s {} step ^s {
+session a step s {} session b step t {} step ^s {}
+session a step s {} step ^\"s\" {}
+session a step é {} step ^é {}
+session a step s {} step ^s";
+
+/// Names of sessions that are taken.
+const TAKEN_SESSIONS: &str = "\
+session a step s {} session ^a step t {}
+session a step s {} session ^a
+session \"a\" step s {} session ^a step t {}
+session \"a\"\"\" step s {} session ^\"a\"\"\" step t {}";
+
+/// Names that no step has.
+const UNKNOWN_STEPS: &str = "\
+session a step s {} permutation ^x
+session a step s {} permutation s(^x)
+session a step Foo {} permutation ^foo
+session a step s {} permutation s ^a
+session a step s {} permutation s(s, ^t)
+session a step s {} permutation s(^t notices 1)
+session a step s {} permutation s permutation ^\"S\"
+session a step é {} permutation é ^ê";
+
+#[test]
+fn a_name_that_is_taken_or_unknown_is_named(rt: HostRuntime) -> Result<(), Fail> {
+    assert_faults(&rt, rt.alloc(), SpecErrorKind::DuplicateStep, TAKEN_STEPS)?;
+    assert_faults(
+        &rt,
+        rt.alloc(),
+        SpecErrorKind::DuplicateSession,
+        TAKEN_SESSIONS,
+    )?;
+    assert_faults(&rt, rt.alloc(), SpecErrorKind::UnknownStep, UNKNOWN_STEPS)?;
+    Ok(())
 }
 
 #[test]
-fn a_token_that_cannot_stand_is_named(rt: HostRuntime) {
-    for (text, kind, offset) in [
-        ("step s {}", SpecErrorKind::Misplaced, 0),
-        ("\u{feff}session a step s {}", SpecErrorKind::Misplaced, 0),
-        ("session", SpecErrorKind::Misplaced, 7),
+fn a_fault_may_stand_behind_a_line_end_or_before_one(rt: HostRuntime) -> Result<(), Fail> {
+    for (kind, marked) in [
+        (SpecErrorKind::NoStep, "\x0c\n\t ^permutation"),
+        (SpecErrorKind::BadToken, "# x\n^\x01"),
+        (SpecErrorKind::BadToken, "session a step s {} # end\n^@"),
+        (SpecErrorKind::Unclosed, "session ^\"a\n\" step s {}"),
         (
-            "session a step s {} permutation ",
-            SpecErrorKind::Misplaced,
-            32,
-        ),
-        ("session a step setup {}", SpecErrorKind::Misplaced, 15),
-        (
-            "session a step s {} teardown {} teardown {}",
-            SpecErrorKind::Misplaced,
-            32,
-        ),
-        (
-            "session a step s {} permutation s(s notices 3a)",
-            SpecErrorKind::Misplaced,
-            45,
-        ),
-        (
-            "teardown {} setup {} session a step s {}",
-            SpecErrorKind::Misplaced,
-            12,
-        ),
-        ("teardown {} teardown {}", SpecErrorKind::Misplaced, 12),
-        ("setup session a", SpecErrorKind::Misplaced, 6),
-        ("setup", SpecErrorKind::Misplaced, 5),
-        ("setup # {}", SpecErrorKind::Misplaced, 10),
-        ("session setup step s {}", SpecErrorKind::Misplaced, 8),
-        ("session {} step s {}", SpecErrorKind::Misplaced, 8),
-        ("session 1 step s {}", SpecErrorKind::Misplaced, 8),
-        ("session a step {}", SpecErrorKind::Misplaced, 15),
-        ("session a step s", SpecErrorKind::Misplaced, 16),
-        ("session a step s t {}", SpecErrorKind::Misplaced, 17),
-        ("session a {}", SpecErrorKind::Misplaced, 10),
-        ("session a name step s {}", SpecErrorKind::Misplaced, 10),
-        (
-            "session a teardown {} setup {} step s {}",
-            SpecErrorKind::Misplaced,
-            22,
-        ),
-        (
-            "session a setup {} setup {} step s {}",
-            SpecErrorKind::Misplaced,
-            19,
-        ),
-        (
-            "session a teardown {} step s {} teardown {}",
-            SpecErrorKind::Misplaced,
-            32,
-        ),
-        ("session a step s {} setup {}", SpecErrorKind::Misplaced, 20),
-        (
-            "session a step s {} teardown {} step t {}",
-            SpecErrorKind::Misplaced,
-            32,
-        ),
-        (
-            "session a step s {} permutation s session b",
-            SpecErrorKind::Misplaced,
-            34,
-        ),
-        (
-            "session a step s {} permutation permutation",
-            SpecErrorKind::Misplaced,
-            32,
-        ),
-        (
-            "session a step s {} permutation s()",
-            SpecErrorKind::Misplaced,
-            34,
-        ),
-        (
-            "session a step s {} permutation s(*",
-            SpecErrorKind::Misplaced,
-            35,
-        ),
-        (
-            "session a step s {} permutation s(* *)",
-            SpecErrorKind::Misplaced,
-            36,
-        ),
-        (
-            "session a step s {} permutation s(*,)",
-            SpecErrorKind::Misplaced,
-            36,
-        ),
-        (
-            "session a step s {} permutation s(s notices)",
-            SpecErrorKind::Misplaced,
-            43,
-        ),
-        (
-            "session a step s {} permutation s(s notices s)",
-            SpecErrorKind::Misplaced,
-            44,
-        ),
-        (
-            "session a step s {} permutation s(* notices 1)",
-            SpecErrorKind::Misplaced,
-            36,
-        ),
-        (
-            "session a step s {} permutation s(*)(*)",
-            SpecErrorKind::Misplaced,
-            36,
-        ),
-        (
-            "session a step s {} permutation (*)",
-            SpecErrorKind::Misplaced,
-            32,
-        ),
-        (
-            "session a step s {} permutation 1",
-            SpecErrorKind::Misplaced,
-            32,
-        ),
-        (
-            "session a step s {} permutation s,s",
-            SpecErrorKind::Misplaced,
-            33,
-        ),
-        (
-            "session a step s {} Permutation s",
-            SpecErrorKind::Misplaced,
-            20,
-        ),
-        ("SESSION a step s {}", SpecErrorKind::Misplaced, 0),
-        ("session \"a\" \"step\" s {}", SpecErrorKind::Misplaced, 12),
-        ("notices", SpecErrorKind::Misplaced, 0),
-    ] {
-        assert_eq!(rt;
-            fault_of(rt.alloc(), text.as_bytes()),
-            fault(kind, offset),
-            "{text}"
-        );
-    }
-}
-
-#[test]
-fn what_is_no_token_is_named(rt: HostRuntime) {
-    for (text, kind, offset) in [
-        ("session a step s {} ;", SpecErrorKind::BadToken, 20),
-        ("session \"\"x\" step s {}", SpecErrorKind::BadToken, 8),
-        ("session \"\"", SpecErrorKind::BadToken, 8),
-        ("\0", SpecErrorKind::BadToken, 0),
-        ("session a step s { SELECT", SpecErrorKind::Unclosed, 17),
-        ("session a \"b", SpecErrorKind::Unclosed, 10),
-        ("session \"\"\"", SpecErrorKind::Unclosed, 8),
-        ("session \"a\n\" step s {}", SpecErrorKind::Unclosed, 8),
-        ("session é; step s {}", SpecErrorKind::BadToken, 10),
-        ("}", SpecErrorKind::BadToken, 0),
-        ("session a step s {}}", SpecErrorKind::BadToken, 19),
-        ("# x\n\x01", SpecErrorKind::BadToken, 4),
-        ("session \"\" step s {}", SpecErrorKind::BadToken, 8),
-        ("session a$ step $s {}", SpecErrorKind::BadToken, 16),
-        (
-            "session a step s {} permutation s(-1)",
-            SpecErrorKind::BadToken,
-            34,
-        ),
-        (
-            "session a step s {} permutation s.s",
-            SpecErrorKind::BadToken,
-            33,
-        ),
-        ("session 'a' step s {}", SpecErrorKind::BadToken, 8),
-        ("session a\x0bstep s {}", SpecErrorKind::BadToken, 9),
-        ("session a step s {} # end\n@", SpecErrorKind::BadToken, 26),
-        ("setup {", SpecErrorKind::Unclosed, 6),
-        ("session a step s {} step t {{", SpecErrorKind::Unclosed, 27),
-        ("session é \"", SpecErrorKind::Unclosed, 11),
-        ("session a step \"s\"\" {}", SpecErrorKind::Unclosed, 15),
-        (
-            "session a step s {} permutation \"s\n\"",
             SpecErrorKind::Unclosed,
-            32,
+            "session a step s {} permutation ^\"s\n\"",
         ),
-        (
-            "# {\nsetup {# }\nteardown { # ",
-            SpecErrorKind::Unclosed,
-            24,
-        ),
+        (SpecErrorKind::Unclosed, "# {\nsetup {# }\nteardown ^{ # "),
     ] {
-        assert_eq!(rt;
-            fault_of(rt.alloc(), text.as_bytes()),
-            fault(kind, offset),
-            "{text}"
-        );
+        assert_fault(&rt, rt.alloc(), kind, marked)?;
     }
-}
-
-#[test]
-fn a_name_that_is_taken_or_unknown_is_named(rt: HostRuntime) {
-    for (text, kind, offset) in [
-        (
-            "session a step s {} step s {",
-            SpecErrorKind::DuplicateStep,
-            25,
-        ),
-        (
-            "session a step s {} session a step t {}",
-            SpecErrorKind::DuplicateSession,
-            28,
-        ),
-        (
-            "session a step s {} permutation x",
-            SpecErrorKind::UnknownStep,
-            32,
-        ),
-        (
-            "session a step s {} permutation s(x)",
-            SpecErrorKind::UnknownStep,
-            34,
-        ),
-        (
-            "session a step Foo {} permutation foo",
-            SpecErrorKind::UnknownStep,
-            34,
-        ),
-        (
-            "session a step s {} session b step t {} step s {}",
-            SpecErrorKind::DuplicateStep,
-            45,
-        ),
-        (
-            "session a step s {} step \"s\" {}",
-            SpecErrorKind::DuplicateStep,
-            25,
-        ),
-        (
-            "session a step é {} step é {}",
-            SpecErrorKind::DuplicateStep,
-            26,
-        ),
-        (
-            "session a step s {} step s",
-            SpecErrorKind::DuplicateStep,
-            25,
-        ),
-        (
-            "session a step s {} session a",
-            SpecErrorKind::DuplicateSession,
-            28,
-        ),
-        (
-            "session \"a\" step s {} session a step t {}",
-            SpecErrorKind::DuplicateSession,
-            30,
-        ),
-        (
-            "session \"a\"\"\" step s {} session \"a\"\"\" step t {}",
-            SpecErrorKind::DuplicateSession,
-            32,
-        ),
-        (
-            "session a step s {} permutation s a",
-            SpecErrorKind::UnknownStep,
-            34,
-        ),
-        (
-            "session a step s {} permutation s(s, t)",
-            SpecErrorKind::UnknownStep,
-            37,
-        ),
-        (
-            "session a step s {} permutation s(t notices 1)",
-            SpecErrorKind::UnknownStep,
-            34,
-        ),
-        (
-            "session a step s {} permutation s permutation \"S\"",
-            SpecErrorKind::UnknownStep,
-            46,
-        ),
-        (
-            "session a step é {} permutation é ê",
-            SpecErrorKind::UnknownStep,
-            36,
-        ),
-    ] {
-        assert_eq!(rt;
-            fault_of(rt.alloc(), text.as_bytes()),
-            fault(kind, offset),
-            "{text}"
-        );
-    }
+    Ok(())
 }
 
 #[test]

@@ -1,6 +1,8 @@
 -- The steps of a store: what is done to rows in place and undo lists is the step on committed rows and overlays.
 use Rattle.std.proofs.Common.{◌≡◌, ◌≢◌, refl, sym, ap, ◌∙◌, subst, ℕ, Bool, true, false, cond, true≢false, Option, Some, None}
 use Rattle.std.specs.Option.{unwrap_or, option_map}
+use Rattle.std.specs.Result.{OnErr}
+use Rattle.std.specs.Prelude.{Result, Ok, Err}
 use Rattle.version_tree.specs.Map
 use Rattle.version_tree.specs.Map.{same_key, same_key-true, same_key-refl, get, insert, entries, empty, get-empty, get-insert, get-remove, same_map}
 use Rattle.lock_modes.specs.RowPlace.{RowPlace, place_order}
@@ -10,6 +12,11 @@ use Rattle.row_tables.specs.Undo.{Lists, before_in, before, noted, AreApart, in_
 use Rattle.row_tables.proofs.OverlayLemmas.{over, get-lay, get-laid}
 use Rattle.row_tables.proofs.TableLemmas.{find-rows_of, sorted-rows_of, is_rows_of}
 use Rattle.row_tables.proofs.UndoLemmas.{same_session, same_place, stands, get-in_place, in_place-same, get-overlays, get-overlay_of, committed-none, committed-some, committed-same, none_or_none, some_or_none}
+
+-- what holds in either case holds where memory was refused
+pub on_err : {A E P : Type 0} (result : Result A E) → P → OnErr result P
+on_err (Ok x) p = tt
+on_err (Err e) p = p
 
 -- layers with the same look-ups are one
 pub same_layers : (l m : Layers) → ((q : RowPlace) → get l.committed q ≡ get m.committed q) → ((c : ℕ) → get l.overlays c ≡ get m.overlays c) → l ≡ m

@@ -1,4 +1,4 @@
-use Rattle.std.proofs.Common.{sym, ap, ◌∙◌, ◌++◌}
+use Rattle.std.proofs.Common.{sym, ap, ◌∙◌, ◌++◌, rules}
 use Rattle.row_tables.proofs.ListLemmas.{copied-more}
 use Rattle.row_tables.proofs.undo.UndoListsFork.fork.Goals as goal
 
@@ -9,3 +9,7 @@ loop-session-preserved c =
     c.iter-session-items.ensures.ordered
     (ap (λ rest. c.loop-session.lists.entries ++ rest) (sym c.in-Some.ensures.steps) ∙ c.loop-session.invariant)
     c.in_ok-copy_into.ensures
+
+-- all lists are copied
+pub returns : goal.returns
+returns c = search rules
