@@ -7,7 +7,7 @@ use sql_subset::{Spec, bind};
 use std::alloc::{AllocError, Global};
 use std::process::Abort;
 use std::test::Fail;
-use step_reducer::{Fact, Shard, WalkError, Walker, run_shard};
+use step_reducer::{Fact, FactRun, Shard, WalkError, Walker, run_shard};
 
 /// Shards: a name, the first rank and the end, whether facts are reduced, the fact of each rank (`ran`, or the place of a swap), the
 /// steps sent where each rank is run, and a spec.
@@ -207,6 +207,101 @@ fn facts_in_parts(rt: &impl Abort, alloc: Global, spec: &Spec, shard: Shard) -> 
         push_fact(alloc, &mut text, &fact).ok()?;
     }
     Some(text)
+}
+
+/// The next run, from a new walker where the one at hand is refused memory. None where memory runs out again.
+fn next_run_anyhow<'a>(
+    rt: &impl Abort,
+    alloc: Global,
+    spec: &'a Spec,
+    walker: &mut Walker<'a>,
+    rest: Shard,
+    reduce: bool,
+) -> Option<FactRun> {
+    if let Ok(given) = walker.next_run() {
+        return given;
+    }
+    assert!(rt;
+        matches!(walker.next_run(), Err(WalkError::Spent)),
+        "spent from then on"
+    );
+    *walker = Walker::new(alloc, spec, rest, reduce).ok()?;
+    walker.next_run().ok()?
+}
+
+/// A run as the table of runs has it.
+fn push_run(alloc: Global, text: &mut String, run: &FactRun) -> Result<(), AllocError> {
+    push_fact(alloc, text, &run.fact)?;
+    let ranks = format!(in alloc; " {}-{}", run.first, run.end)?;
+    text.push_str(ranks.as_str())
+}
+
+/// Takes the run at the front of what is left. None where memory runs out again.
+fn take_run<'a>(
+    rt: &impl Abort,
+    alloc: Global,
+    spec: &'a Spec,
+    walker: &mut Walker<'a>,
+    rest: &mut Shard,
+    reduce: bool,
+    text: &mut String,
+) -> Option<()> {
+    let run = next_run_anyhow(rt, alloc, spec, walker, *rest, reduce)?;
+    assert_eq!(rt; run.first, rest.first);
+    rest.first = run.end;
+    push_run(alloc, text, &run).ok()
+}
+
+/// All runs of a shard, in parts where memory is refused. None where memory runs out again.
+fn runs_in_parts(
+    rt: &impl Abort,
+    alloc: Global,
+    spec: &Spec,
+    shard: Shard,
+    reduce: bool,
+) -> Option<String> {
+    let mut walker = Walker::new(alloc, spec, shard, reduce).ok()?;
+    let mut text = String::new(alloc);
+    let mut rest = shard;
+    for _run in shard.first..shard.end {
+        if rest.first < rest.end {
+            take_run(rt, alloc, spec, &mut walker, &mut rest, reduce, &mut text)?;
+        }
+    }
+    Some(text)
+}
+
+/// Shards: the first rank and the end, whether facts are reduced, the fact of each run with its first rank and its end, and a spec. All
+/// words that begin with the letters up to a swap's second one are one run, as far as the shard goes.
+const RUNS_OF: &str =
+    "0 | 6 | yes | ran 0-1 1 1-2 2 2-3 0 3-5 1 5-6 | setup { CREATE TABLE t (id int PRIMARY KEY); CREATE TABLE u (id int PRIMARY KEY); } session a step a1 { INSERT INTO t VALUES (2); } step a2 { DELETE FROM t WHERE id = 2; } session b step b1 { INSERT INTO u VALUES (2); } step b2 { DELETE FROM u WHERE id = 2; }
+0 | 6 | no | ran 0-1 ran 1-2 ran 2-3 ran 3-4 ran 4-5 ran 5-6 | setup { CREATE TABLE t (id int PRIMARY KEY); CREATE TABLE u (id int PRIMARY KEY); } session a step a1 { INSERT INTO t VALUES (2); } step a2 { DELETE FROM t WHERE id = 2; } session b step b1 { INSERT INTO u VALUES (2); } step b2 { DELETE FROM u WHERE id = 2; }
+4 | 6 | yes | 0 4-5 1 5-6 | session a step a1 {} step a2 {} session b step b1 {} step b2 {}
+0 | 3 | yes | ran 0-1 ran 1-2 ran 2-3 | T session a step a1 {} step a2 {} session b step b1 {} permutation a1 a2 b1 permutation a1 a2 permutation b1 a1";
+
+fn assert_runs(rt: &impl Abort, alloc: Global, row: &str) -> Result<(), Fail> {
+    let (first, rest) = row.split_once(" | ").ok_or("a rank")?;
+    let (end, rest) = rest.split_once(" | ").ok_or("an end")?;
+    let (reduce, rest) = rest.split_once(" | ").ok_or("yes or no")?;
+    let (runs, spec) = rest.split_once(" | ").ok_or("runs")?;
+    let shard = Shard {
+        first: first.parse::<u64>().ok().ok_or("a number")?,
+        end: end.parse::<u64>().ok().ok_or("a number")?,
+    };
+    if let Some(spec) = bound(alloc, spec) {
+        if let Some(told) = runs_in_parts(rt, alloc, &spec, shard, reduce == "yes") {
+            assert_eq!(rt; told.as_str(), runs);
+        }
+    }
+    Ok(())
+}
+
+#[test]
+fn runs_follow_on_each_other_where_memory_ran_out_too(rt: HostRuntime) -> Result<(), Fail> {
+    for row in RUNS_OF.lines() {
+        assert_runs(&rt, rt.alloc(), row)?;
+    }
+    Ok(())
 }
 
 const DISJOINT: &str =
