@@ -5,6 +5,7 @@ use std::process::Abort;
 use std::test::Fail;
 use transcripts::Counted;
 
+mod books;
 mod memory;
 mod runs;
 mod statements;

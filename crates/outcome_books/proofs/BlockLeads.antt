@@ -1,5 +1,7 @@
 -- Where exchanges lead in a block: words that share the two letters, and what stands before them, are exchanged alike.
-use Rattle.std.proofs.Common.{◌≡◌, ◌≢◌, refl, sym, ap, ◌∙◌, subst, ℕ, zero, suc, ◌+◌, ◌-◌, ◌<◌, ◌≤◌, Bool, true, false, cond, nat_lt, List, [], ◌∷◌, ◌++◌, length, set, get_or, Option, Some, None, option_map, ◌⊎◌, ⊎_elim, arith, append_assoc, lt-ltb, ltb-true, get_or-set_other, inl, inr}
+use Rattle.std.proofs.Common.{◌≡◌, ◌≢◌, refl, sym, ap, ◌∙◌, subst, ℕ, zero, suc, ◌+◌, ◌-◌, ◌<◌, ◌≤◌, Bool, true, false, cond, nat_lt, List, [], ◌∷◌, ◌++◌}
+use Rattle.std.proofs.Common.{length, set, get_or, Option, Some, None, option_map, ◌⊎◌, ⊎_elim, arith, append_assoc, lt-ltb, ltb-true, get_or-set_other, inl}
+use Rattle.std.proofs.Common.{inr}
 use Rattle.std.proofs.lemmas.List.{get_or_past, set_comm}
 use Rattle.perm_ranks.specs.Words.{Word, total, all_words, word_at, word_less}
 use Rattle.perm_ranks.specs.Swapped.{exchanged}
@@ -22,7 +24,8 @@ pub leads-down : (shape : Option (List ℕ)) → LeadsDown (leads_of shape)
 leads-down None r k below e = cc
 leads-down (Some counts) r k below e = at (exchanged k (word_at counts r)) refl e
   where
-    in-range : (other : Word) → exchanged k (word_at counts r) ≡ Some other → (r < length (all_words counts)) ⊎ (length (all_words counts) ≤ r) → r < length (all_words counts)
+    in-range : (other : Word) → exchanged k (word_at counts r) ≡ Some other → (r < length (all_words counts)) ⊎ (length (all_words counts) ≤ r)
+        → r < length (all_words counts)
     in-range other f (inl l) = l
     in-range other f (inr l) = absurd (none-empty k other (subst (λ v. exchanged k v ≡ Some other) (get_or_past (all_words counts) r [] l) f))
 
@@ -36,7 +39,8 @@ leads-down (Some counts) r k below e = at (exchanged k (word_at counts r)) refl 
 -- ---- past the words, and where no two letters stand
 
 pub past-nowhere : (counts : List ℕ) (r k : ℕ) → length (all_words counts) ≤ r → leads_of (Some counts) r k ≡ None
-past-nowhere counts r k le = ap (λ v. placed_at (all_words counts) (exchanged k v)) (get_or_past (all_words counts) r [] le) ∙ ap (placed_at (all_words counts)) (none k)
+past-nowhere counts r k le = ap (λ v. placed_at (all_words counts) (exchanged k v)) (get_or_past (all_words counts) r [] le)
+    ∙ ap (placed_at (all_words counts)) (none k)
   where
     none : (k : ℕ) → exchanged k [] ≡ None
     none zero = refl
@@ -44,7 +48,8 @@ past-nowhere counts r k le = ap (λ v. placed_at (all_words counts) (exchanged k
 
 -- ---- in a block
 
-front-exchanged : (shared rest : Word) (a b : ℕ) → exchanged (length shared) (shared ++ (a ∷ b ∷ rest)) ≡ cond (nat_lt b a) (Some (shared ++ (b ∷ a ∷ rest))) None
+front-exchanged : (shared rest : Word) (a b : ℕ)
+    → exchanged (length shared) (shared ++ (a ∷ b ∷ rest)) ≡ cond (nat_lt b a) (Some (shared ++ (b ∷ a ∷ rest))) None
 front-exchanged [] rest a b = refl
 front-exchanged (x ∷ shared) rest a b = ap (option_map (λ v. x ∷ v)) (front-exchanged shared rest a b) ∙ on (nat_lt b a)
   where
@@ -63,21 +68,25 @@ module _ (counts : List ℕ) (shared : Word) (a b : ℕ) (inside : Block) (is : 
   pub rising-nowhere : (i : ℕ) → i < length (all_words inside.left) → a ≤ b → leads_of (Some counts) (inside.first + i) (length shared) ≡ None
   rising-nowhere i lt le =
       ap (λ v. placed_at (all_words counts) (exchanged (length shared) v)) (word-inside i lt)
-      ∙ ap (placed_at (all_words counts)) (front-exchanged shared (word_at inside.left i) a b ∙ ap (λ t. cond t (Some (shared ++ (b ∷ a ∷ word_at inside.left i))) None) (not-less (nat_lt b a) refl))
+      ∙ ap (placed_at (all_words counts))
+      (front-exchanged shared (word_at inside.left i) a b
+      ∙ ap (λ t. cond t (Some (shared ++ (b ∷ a ∷ word_at inside.left i))) None) (not-less (nat_lt b a) refl))
     where
       not-less : (t : Bool) → nat_lt b a ≡ t → nat_lt b a ≡ false
       not-less true e = absurd (let less = ltb-true b a e in omega (arith, less, le))
       not-less false e = e
 
   -- the others lead to the words of the block of the exchanged letters, in order
-  pub falling-leads : (other : Block) → IsBlockOf counts ((shared ++ b ∷ []) ++ a ∷ []) other → other.left ≡ inside.left → b < a → (i : ℕ) → i < length (all_words inside.left)
+  pub falling-leads : (other : Block) → IsBlockOf counts ((shared ++ b ∷ []) ++ a ∷ []) other → other.left ≡ inside.left → b < a → (i : ℕ)
+      → i < length (all_words inside.left)
       → leads_of (Some counts) (inside.first + i) (length shared) ≡ Some (other.first + i)
   falling-leads other there same less i lt =
       let few : i < length (all_words other.left) = subst (λ l. i < length (all_words l)) (sym same) lt in
       let word : word_at counts (other.first + i) ≡ shared ++ (b ∷ a ∷ word_at inside.left i) =
       there.words i few ∙ two-behind shared (word_at other.left i) b a ∙ ap (λ l. shared ++ (b ∷ a ∷ word_at l i)) same in
       ap (λ v. placed_at (all_words counts) (exchanged (length shared) v)) (word-inside i lt)
-      ∙ ap (placed_at (all_words counts)) (front-exchanged shared (word_at inside.left i) a b ∙ ap (λ t. cond t (Some (shared ++ (b ∷ a ∷ word_at inside.left i))) None) (lt-ltb b a less))
+      ∙ ap (placed_at (all_words counts))
+      (front-exchanged shared (word_at inside.left i) a b ∙ ap (λ t. cond t (Some (shared ++ (b ∷ a ∷ word_at inside.left i))) None) (lt-ltb b a less))
       ∙ entry-place (all_words counts) (shared ++ (b ∷ a ∷ word_at inside.left i)) (other.first + i) (all_words-rise counts)
       (let end = there.inside in omega (arith, few, end)) word
 
@@ -137,7 +146,8 @@ takes-length _ counts _ (takes {n = n} {i = i} {c = c} {v = v} lt is t) = ap suc
 short-nowhere : (counts : List ℕ) (r k : ℕ) → total counts < k + 2 → leads_of (Some counts) r k ≡ None
 short-nowhere counts r k short = ⊎_elim
     (λ lt.
-    let long = takes-length (total counts) counts (word_at counts r) (each-at (Takes (total counts) counts) (all_words counts) r lt (words-take (total counts) counts)) in
+    let long = takes-length (total counts) counts (word_at counts r)
+    (each-at (Takes (total counts) counts) (all_words counts) r lt (words-take (total counts) counts)) in
     ap (placed_at (all_words counts)) (exchanged-short k (word_at counts r) (omega (arith, long, short))))
     (λ past. past-nowhere counts r k past)
     cases

@@ -22,7 +22,8 @@ use Rattle.outcome_books.proofs.GapLemmas.{is-missing, none-missing}
 pub file-is : (text : List ℕ) (known : FileOf text) (file : SpecFile) → IsFileOf text file → known.0 ≡ file
 file-is text known file is = ∥∥₁_elim known.1 (Coded-set file_row.the_row.coded _ _) (λ other. one-file text known.0 file other is)
 
-pub about-is : (about : About) (file : SpecFile) → IsFileOf (string_bytes about.text) file → about.ranks ≡ ranks file.run → IsShapeOf file.run about.shape → IsAboutOf file about
+pub about-is : (about : About) (file : SpecFile) → IsFileOf (string_bytes about.text) file → about.ranks ≡ ranks file.run → IsShapeOf file.run about.shape
+    → IsAboutOf file about
 about-is about file is count shape =
     let same : file ≡ file_of about = sym (file-is (string_bytes about.text) about.known file is) in
     record {
@@ -39,7 +40,8 @@ pub missing-is : (about : About) (t : Table) (runs : List Run) (gap : ℕ) → I
     → IsLeastMissing (facts_in t runs) (ranks (file_of about).run) (Some gap)
 missing-is about t runs gap is e lt =
     let count = is.about_is.ranks_are in
-    subst (λ (n : ℕ). IsLeastMissing (facts_in t runs) (ranks (file_of about).run) (Some n)) (sym e) (is-missing t runs (ranks (file_of about).run) is.kept.rising (omega (arith, e, count, lt)))
+    subst (λ (n : ℕ). IsLeastMissing (facts_in t runs) (ranks (file_of about).run) (Some n)) (sym e)
+    (is-missing t runs (ranks (file_of about).run) is.kept.rising (omega (arith, e, count, lt)))
 
 pub none-is-missing : (about : About) (t : Table) (runs : List Run) (gap : ℕ) → IsBook about t runs → gap ≡ first_gap 0 runs → about.ranks ≤ gap
     → IsLeastMissing (facts_in t runs) (ranks (file_of about).run) None
@@ -59,11 +61,13 @@ empty-book about t runs is none =
 pub union-recordable : (spec : Spec) (s t : FactSet) → AllRecordable spec s → AllRecordable spec t → AllRecordable spec (union s t)
 union-recordable spec s t a b r fact h = ⊎_elim (a r fact) (b r fact) (or_cases _ _ (sym (in_union s t (r, fact)) ∙ h))
 
-pub joined-book : (about a b : About) (ta tb t : Table) (ra rb runs : List Run) → about ≡ a → IsBook a ta ra → IsBook b tb rb → file_of a ≡ file_of b → IsKept t runs
+pub joined-book : (about a b : About) (ta tb t : Table) (ra rb runs : List Run) → about ≡ a → IsBook a ta ra → IsBook b tb rb → file_of a ≡ file_of b
+    → IsKept t runs
     → facts_in t runs ≡ union (facts_in ta ra) (facts_in tb rb) → IsBook about t runs
 joined-book about a b ta tb t ra rb runs is left right same kept facts = subst (λ x. IsBook x t runs) (sym is) (record {
   about_is = left.about_is;
   kept = kept;
   recordable = subst (AllRecordable (file_of a).run) (sym facts)
-      (union-recordable (file_of a).run (facts_in ta ra) (facts_in tb rb) left.recordable (subst (λ (f : SpecFile). AllRecordable f.run (facts_in tb rb)) (sym same) right.recordable));
+      (union-recordable (file_of a).run (facts_in ta ra) (facts_in tb rb) left.recordable
+      (subst (λ (f : SpecFile). AllRecordable f.run (facts_in tb rb)) (sym same) right.recordable));
 })

@@ -1,5 +1,6 @@
 -- A stretch of ranks of which the same runs say all.
-use Rattle.std.proofs.Common.{◌≡◌, refl, sym, ap, subst, ◌∙◌, ℕ, zero, suc, ◌+◌, ◌-◌, ◌<◌, ◌≤◌, List, [], ◌∷◌, ◌++◌, append_assoc, append-nil, length, get_or, take, Option, Some, None, inl, inr, ◌⊎◌, arith, Ok, Err}
+use Rattle.std.proofs.Common.{◌≡◌, refl, sym, ap, subst, ◌∙◌, ℕ, zero, suc, ◌+◌, ◌-◌, ◌<◌, ◌≤◌, List, [], ◌∷◌, ◌++◌, append_assoc, append-nil, length, get_or}
+use Rattle.std.proofs.Common.{take, Option, Some, None, inl, inr, ◌⊎◌, arith, Ok, Err}
 use Rattle.std.proofs.lemmas.List.{take_more}
 use Rattle.std.specs.List.{list_any}
 use Rattle.std.specs.FinSet.{contains}
@@ -17,7 +18,8 @@ use Rattle.outcome_books.specs.declared.error.ReportError.TheVariants.{Missing, 
 use Rattle.outcome_books.specs.Entries.{Told, FactSet, recorded}
 use Rattle.outcome_books.specs.Runs.{Table}
 use Rattle.outcome_books.specs.Values.{Leads, HasOne, OneBelow}
-use Rattle.outcome_books.specs.Sweep.{LeadsDown, IsDone, values_of, AllBelow, LeadsFrom, IsLead, AreLeads, IsIn, tag_vote, IsVerdict, IsOneOf, OnlyRan, GoesTo, copies}
+use Rattle.outcome_books.specs.Sweep.{LeadsDown, IsDone, values_of, AllBelow, LeadsFrom, IsLead, AreLeads, IsIn, tag_vote, IsVerdict, IsOneOf, OnlyRan, GoesTo}
+use Rattle.outcome_books.specs.Sweep.{copies}
 use Rattle.outcome_books.specs.Sweep.{states, IsStretch, IsStop, FillsStretch, StopsStretch}
 use Rattle.outcome_books.proofs.ValueLemmas.{done-more}
 use Rattle.outcome_books.proofs.VerdictLemmas.{in-push, verdict-one, verdict-none, verdict-clash, ran-one}
@@ -69,13 +71,15 @@ lead-less leads first last end tag (Value n) le h = h
 lead-less leads first last end tag (From b) le h = (h.0, h.1, λ i lt. h.2 i (omega (arith, lt, le)))
 lead-less leads first last end tag Nowhere le h = (h.0, h.1, λ i lt. h.2 i (omega (arith, lt, le)))
 
-leads-less : (leads : Leads) (first last end : ℕ) (runs : List Run) (ls : List Lead) → end ≤ last → AreLeads leads first last runs ls → AreLeads leads first end runs ls
+leads-less : (leads : Leads) (first last end : ℕ) (runs : List Run) (ls : List Lead) → end ≤ last → AreLeads leads first last runs ls
+    → AreLeads leads first end runs ls
 leads-less leads first last end [] [] le h = tt
 leads-less leads first last end [] (l ∷ ls) le h = absurd h
 leads-less leads first last end (run ∷ runs) [] le h = absurd h
 leads-less leads first last end (run ∷ runs) (l ∷ ls) le h = (lead-less leads first last end run.tag l le h.0, leads-less leads first last end runs ls le h.1)
 
-leads-push : (leads : Leads) (first last : ℕ) (runs : List Run) (ls : List Lead) (run : Run) (l : Lead) → AreLeads leads first last runs ls → IsLead leads first last run.tag l
+leads-push : (leads : Leads) (first last : ℕ) (runs : List Run) (ls : List Lead) (run : Run) (l : Lead) → AreLeads leads first last runs ls
+    → IsLead leads first last run.tag l
     → AreLeads leads first last (runs ++ run ∷ []) (ls ++ l ∷ [])
 leads-push leads first last [] [] run l h k = (k, tt)
 leads-push leads first last [] (m ∷ ms) run l h k = absurd h
@@ -83,10 +87,12 @@ leads-push leads first last (x ∷ xs) [] run l h k = absurd h
 leads-push leads first last (x ∷ xs) (m ∷ ms) run l h k = (h.0, leads-push leads first last xs ms run l h.1 k)
 
 pub leads-more : (leads : Leads) (first last end : ℕ) (runs : List Run) (i : ℕ) (d : Run) (ls new : List Lead) (l : Lead) → i < length runs → end ≤ last
-    → AreLeads leads first last (take i runs) ls → IsLead leads first end (get_or runs i d).tag l → new ≡ ls ++ l ∷ [] → AreLeads leads first end (take (i + 1) runs) new
+    → AreLeads leads first last (take i runs) ls → IsLead leads first end (get_or runs i d).tag l → new ≡ ls ++ l ∷ []
+    → AreLeads leads first end (take (i + 1) runs) new
 leads-more leads first last end runs i d ls new l lt few h k is =
     subst (λ rs. AreLeads leads first end rs new) (sym (take_more runs i d lt))
-    (subst (AreLeads leads first end (take i runs ++ get_or runs i d ∷ [])) (sym is) (leads-push leads first end (take i runs) ls (get_or runs i d) l (leads-less leads first last end (take i runs) ls few h) k))
+    (subst (AreLeads leads first end (take i runs ++ get_or runs i d ∷ [])) (sym is)
+    (leads-push leads first end (take i runs) ls (get_or runs i d) l (leads-less leads first last end (take i runs) ls few h) k))
 
 pub leads-length : (leads : Leads) (first last : ℕ) (runs : List Run) (ls : List Lead) → AreLeads leads first last runs ls → length ls ≡ length runs
 leads-length leads first last [] [] h = refl
@@ -94,7 +100,8 @@ leads-length leads first last [] (l ∷ ls) h = absurd h
 leads-length leads first last (run ∷ runs) [] h = absurd h
 leads-length leads first last (run ∷ runs) (l ∷ ls) h = ap suc (leads-length leads first last runs ls h.1)
 
-pub leads-at : (leads : Leads) (first last : ℕ) (runs : List Run) (ls : List Lead) (i : ℕ) (d : Run) (e : Lead) → i < length runs → AreLeads leads first last runs ls
+pub leads-at : (leads : Leads) (first last : ℕ) (runs : List Run) (ls : List Lead) (i : ℕ) (d : Run) (e : Lead) → i < length runs
+    → AreLeads leads first last runs ls
     → IsLead leads first last (get_or runs i d).tag (get_or ls i e)
 leads-at leads first last [] ls i d e lt h = absurd (omega (arith, lt))
 leads-at leads first last (run ∷ runs) [] i d e lt h = absurd h
@@ -103,12 +110,15 @@ leads-at leads first last (run ∷ runs) (l ∷ ls) (suc i) d e lt h = leads-at 
 
 -- where the next rank leads
 lead-next : (leads : Leads) (first last n k b : ℕ) → first ≤ n → n < last → LeadsFrom leads first last k b → leads n k ≡ Some (b + (n - first))
-lead-next leads first last n k b le lt h = let is : first + (n - first) ≡ n = omega (arith, le) in subst (λ m. leads m k ≡ Some (b + (n - first))) is (h (n - first) (omega (arith, le, lt)))
+lead-next leads first last n k b le lt h = let is : first + (n - first) ≡ n =
+    omega (arith, le) in subst (λ m. leads m k ≡ Some (b + (n - first))) is (h (n - first) (omega (arith, le, lt)))
 
-pub from-below : (leads : Leads) (down : LeadsDown leads) (first last n b : ℕ) (tag : Tag) → first ≤ n → n < last → IsLead leads first last tag (From b) → b + (n - first) < n
+pub from-below : (leads : Leads) (down : LeadsDown leads) (first last n b : ℕ) (tag : Tag) → first ≤ n → n < last → IsLead leads first last tag (From b)
+    → b + (n - first) < n
 from-below leads down first last n b tag le lt h = down n h.0 (b + (n - first)) (lead-next leads first last n h.0 b le lt h.2)
 
-pub vote-from : (t : Table) (leads : Leads) (down : LeadsDown leads) (done : List ℕ) (first last b : ℕ) (tag : Tag) (d : ℕ) → first ≤ length done → length done < last
+pub vote-from : (t : Table) (leads : Leads) (down : LeadsDown leads) (done : List ℕ) (first last b : ℕ) (tag : Tag) (d : ℕ) → first ≤ length done
+    → length done < last
     → IsLead leads first last tag (From b) → AllBelow (length t) done
     → (get_or done (b + (length done - first)) d < length t)
     × (tag_vote t leads (values_of t done) (length done) tag ≡ Some (get_or t (get_or done (b + (length done - first)) d) []))
@@ -118,11 +128,13 @@ vote-from t leads down done first last b tag d le lt h below =
     let e = lead-next leads first last (length done) h.0 b le lt h.2 in (
       below-at (length t) done n d less below,
       subst (λ g. tag_vote t leads (values_of t done) (length done) g ≡ Some (get_or t (get_or done n d) [])) (sym h.1)
-          (subst (λ o. ◌≡◌ {A = Option Told} (elim o [ None ↦ None | Some c ↦ Some (get_or (values_of t done) c []) ]) (Some (get_or t (get_or done n d) []))) (sym e)
+          (subst (λ o. ◌≡◌ {A = Option Told} (elim o [ None ↦ None | Some c ↦ Some (get_or (values_of t done) c []) ]) (Some (get_or t (get_or done n d) [])))
+          (sym e)
           (ap Some (values-at t done n d less))),
     )
 
-pub vote-nowhere : (t : Table) (leads : Leads) (done : List ℕ) (first last : ℕ) (tag : Tag) → first ≤ length done → length done < last → IsLead leads first last tag Nowhere
+pub vote-nowhere : (t : Table) (leads : Leads) (done : List ℕ) (first last : ℕ) (tag : Tag) → first ≤ length done → length done < last
+    → IsLead leads first last tag Nowhere
     → tag_vote t leads (values_of t done) (length done) tag ≡ None
 vote-nowhere t leads done first last tag le lt h =
     let is : first + (length done - first) ≡ length done = omega (arith, le) in
@@ -151,7 +163,8 @@ done-many s t leads down n (suc k) done so_far h =
         (done-more s leads (values_of t done) (get_or t n []) so_far
         (subst (λ r. HasOne s leads r (get_or t n [])) (sym (values-length t done)) (h (length done) (omega arith) (omega arith))))
 
-pub only-step : (active : List Run) (i n : ℕ) (d : Run) → i < length active → OnlyRan (take i active) → (get_or active i d).tag ≡ Ran n → OnlyRan (take (i + 1) active)
+pub only-step : (active : List Run) (i n : ℕ) (d : Run) → i < length active → OnlyRan (take i active) → (get_or active i d).tag ≡ Ran n
+    → OnlyRan (take (i + 1) active)
 only-step active i n d lt h e run j = on (in-push (take i active) (get_or active i d) run (subst (IsIn run) (take_more active i d lt) j))
   where
     on : IsIn run (take i active) ⊎ (run ≡ get_or active i d) → (m : ℕ) × (run.tag ≡ Ran m)
@@ -160,12 +173,15 @@ only-step active i n d lt h e run j = on (in-push (take i active) (get_or active
 
 -- ---- a stretch
 
-at-length : (t : Table) (leads : Leads) (down : LeadsDown leads) (active : List Run) (done : List ℕ) (v : Verdict) → IsVerdict t (tag_vote t leads (values_of t done) (length done)) active v
+at-length : (t : Table) (leads : Leads) (down : LeadsDown leads) (active : List Run) (done : List ℕ) (v : Verdict)
+    → IsVerdict t (tag_vote t leads (values_of t done) (length done)) active v
     → IsVerdict t (tag_vote t leads (values_of t done) (length (values_of t done))) active v
 at-length t leads down active done v h = subst (λ n. IsVerdict t (tag_vote t leads (values_of t done) n) active v) (sym (values-length t done)) h
 
-pub fill-stops : (t : Table) (leads : Leads) (down : LeadsDown leads) (active : List Run) (until : ℕ) (old done : List ℕ) (v : Verdict) (e : ReportError) → FillsStretch t leads active until old done
-    → length old ≤ length done → length done < until → IsVerdict t (tag_vote t leads (values_of t done) (length done)) active v → IsOneOf v (length done) (Err e) → StopsStretch t leads active until old e
+pub fill-stops : (t : Table) (leads : Leads) (down : LeadsDown leads) (active : List Run) (until : ℕ) (old done : List ℕ) (v : Verdict) (e : ReportError)
+    → FillsStretch t leads active until old done
+    → length old ≤ length done → length done < until → IsVerdict t (tag_vote t leads (values_of t done) (length done)) active v
+    → IsOneOf v (length done) (Err e) → StopsStretch t leads active until old e
 fill-stops t leads down active until old done v e fills low lt h one s ranks few stretch so_far = on v (at-length t leads down active done v h) one
   where
     now : IsDone s leads (values_of t done)
@@ -177,14 +193,16 @@ fill-stops t leads down active until old done v e fills low lt h one s ranks few
     under : OneBelow s leads (length done)
     under r l = (get_or (values_of t done) r [], now r (let n = values-length t done in omega (arith, l, n)))
 
-    on : (v : Verdict) → IsVerdict t (tag_vote t leads (values_of t done) (length (values_of t done))) active v → IsOneOf v (length done) (Err e) → IsStop s leads ranks e
+    on : (v : Verdict) → IsVerdict t (tag_vote t leads (values_of t done) (length (values_of t done))) active v → IsOneOf v (length done) (Err e)
+        → IsStop s leads ranks e
     on Nothing w is =
         let same : e ≡ Missing (length done) = cc in
         subst (IsStop s leads ranks) (sym same)
         (record {
           inside = omega (arith, lt, few);
           below = under;
-          none = λ o x. verdict-none s t leads down active (values_of t done) now says w o (subst (λ n. IsValue (recorded s) leads n o) (sym (values-length t done)) x);
+          none = λ o x. verdict-none s t leads down active (values_of t done) now says w o
+              (subst (λ n. IsValue (recorded s) leads n o) (sym (values-length t done)) x);
         })
     on (One n) w is = cc
     on Several w is =
@@ -194,10 +212,18 @@ fill-stops t leads down active until old done v e fills low lt h one s ranks few
         (record {
           inside = omega (arith, lt, few);
           below = under;
-          two = (c.0, c.1, subst (λ n. IsValue (recorded s) leads n c.0) (values-length t done) c.2, subst (λ n. IsValue (recorded s) leads n c.1) (values-length t done) c.3, c.4);
+          two = (
+            c.0,
+            c.1,
+            subst (λ n. IsValue (recorded s) leads n c.0) (values-length t done) c.2,
+            subst (λ n. IsValue (recorded s) leads n c.1)
+                (values-length t done) c.3,
+            c.4,
+          );
         })
 
-pub fill-step : (t : Table) (leads : Leads) (down : LeadsDown leads) (active : List Run) (until : ℕ) (old done : List ℕ) (n last : ℕ) → FillsStretch t leads active until old done
+pub fill-step : (t : Table) (leads : Leads) (down : LeadsDown leads) (active : List Run) (until : ℕ) (old done : List ℕ) (n last : ℕ)
+    → FillsStretch t leads active until old done
     → length old ≤ length done → IsVerdict t (tag_vote t leads (values_of t done) (length done)) active (One n) → GoesTo active (length done) until last
     → FillsStretch t leads active until old (done ++ copies n (last - length done))
 fill-step t leads down active until old done n last fills low h to s stretch so_far =
@@ -211,12 +237,14 @@ fill-step t leads down active until old done n last fills low h to s stretch so_
         let w = at-length t leads down active done (One n) h in
         let p = to.1 in
         let q = to.0 in
-        let one = verdict-one s t leads down active (values_of t done) now (λ f. ap (λ m. contains s (m, f)) (values-length t done) ∙ stretch (length done) low (omega (arith, p, q)) f) n w in
+        let one = verdict-one s t leads down active (values_of t done) now
+        (λ f. ap (λ m. contains s (m, f)) (values-length t done) ∙ stretch (length done) low (omega (arith, p, q)) f) n w in
         let is : length (values_of t done) ≡ r = let v = values-length t done in omega (arith, v, a, b, e) in
         subst (λ m. HasOne s leads m (get_or t n [])) is one
     at r a b (inr only) =
         let p = to.1 in
-        ran-one s t leads down active (values_of t done) n r only (at-length t leads down active done (One n) h) (λ f. stretch r (omega (arith, low, a)) (omega (arith, b, p)) f)
+        ran-one s t leads down active (values_of t done) n r only (at-length t leads down active done (One n) h)
+        (λ f. stretch r (omega (arith, low, a)) (omega (arith, b, p)) f)
 
 filled-length : (done : List ℕ) (n k : ℕ) → length (done ++ copies n k) ≡ length done + k
 filled-length [] n k = let e = copies-length n k in omega (arith, e)
@@ -227,7 +255,8 @@ length-to done n last le = let e = filled-length done n (last - length done) in 
 
 -- ---- a stretch after another one
 
-less-stretch : (s : FactSet) (t : Table) (active : List Run) (low until a b : ℕ) → low ≤ a → b ≤ until → IsStretch s t active low until → IsStretch s t active a b
+less-stretch : (s : FactSet) (t : Table) (active : List Run) (low until a b : ℕ) → low ≤ a → b ≤ until → IsStretch s t active low until
+    → IsStretch s t active a b
 less-stretch s t active low until a b p q h r l m = h r (omega (arith, l, p)) (omega (arith, m, q))
 
 pub fills-trans : (t : Table) (leads : Leads) (active : List Run) (until last : ℕ) (old done new : List ℕ) → length old ≤ length done → last ≤ until
@@ -235,7 +264,8 @@ pub fills-trans : (t : Table) (leads : Leads) (active : List Run) (until last : 
 fills-trans t leads active until last old done new low few f g s stretch so_far =
     g s (less-stretch s t active (length old) until (length done) last low few stretch) (f s stretch so_far)
 
-pub fills-stops : (t : Table) (leads : Leads) (active : List Run) (until last : ℕ) (old done : List ℕ) (e : ReportError) → length old ≤ length done → last ≤ until
+pub fills-stops : (t : Table) (leads : Leads) (active : List Run) (until last : ℕ) (old done : List ℕ) (e : ReportError) → length old ≤ length done
+    → last ≤ until
     → FillsStretch t leads active until old done → StopsStretch t leads active last done e → StopsStretch t leads active until old e
 fills-stops t leads active until last old done e low few f g s count le stretch so_far =
     g s count (omega (arith, few, le)) (less-stretch s t active (length old) until (length done) last low few stretch) (f s stretch so_far)
@@ -246,12 +276,14 @@ fills-none t leads active until old s stretch so_far = so_far
 
 -- ---- numbers one after another
 
-pub extend-step : (old done new : List ℕ) (n last : ℕ) → done ≡ old ++ copies n (length done - length old) → (length old ≤ length done) × (length done ≤ last) → new ≡ done ++ n ∷ [] → length done < last
+pub extend-step : (old done new : List ℕ) (n last : ℕ) → done ≡ old ++ copies n (length done - length old) → (length old ≤ length done) × (length done ≤ last)
+    → new ≡ done ++ n ∷ [] → length done < last
     → (new ≡ old ++ copies n (length new - length old)) × (length old ≤ length new) × (length new ≤ last)
 extend-step old done new n last is low e lt =
     let long : length new ≡ length done + 1 = ap length e ∙ filled-length done n 1 in
     let count : length new - length old ≡ (length done - length old) + 1 = let p = low.0 in omega (arith, long, p) in (
-      e ∙ ap (λ l. l ++ n ∷ []) is ∙ append_assoc old (copies n (length done - length old)) (n ∷ []) ∙ ap (λ l. old ++ l) (copies-push n (length done - length old) ∙ ap (copies n) (sym count)),
+      e ∙ ap (λ l. l ++ n ∷ []) is ∙ append_assoc old (copies n (length done - length old)) (n ∷ [])
+          ∙ ap (λ l. old ++ l) (copies-push n (length done - length old) ∙ ap (copies n) (sym count)),
       let p = low.0 in omega (arith, long, p),
       omega (arith, long, lt),
     )

@@ -50,13 +50,15 @@ pub is-gap : (next : ℕ) (runs : List Run) → IsRising (firsts runs) → IsGap
 is-gap next [] rises = record { up = omega arith; covered = λ r l m. absurd (omega arith); uncovered = λ e. false≢true e }
 is-gap next (run ∷ runs) rises = by (ltb next run.first) refl (is-gap (max next run.end) runs rises.1)
   where
-    by : (b : Bool) → ltb next run.first ≡ b → IsGap (max next run.end) runs (first_gap (max next run.end) runs) → IsGap next (run ∷ runs) (cond b next (first_gap (max next run.end) runs))
+    by : (b : Bool) → ltb next run.first ≡ b → IsGap (max next run.end) runs (first_gap (max next run.end) runs)
+        → IsGap next (run ∷ runs) (cond b next (first_gap (max next run.end) runs))
     by true e g =
         let lt : next < run.first = ltb-true next run.first e in
         record {
           up = omega arith;
           covered = λ r l m. absurd (omega arith);
-          uncovered = λ h. either _ _ h _ (λ k. let p = within-true run.first run.end next k in absurd (omega (arith, lt, p.0))) (λ k. none-below runs run.first next rises.0 lt k);
+          uncovered = λ h. either _ _ h _ (λ k. let p = within-true run.first run.end next k in absurd (omega (arith, lt, p.0)))
+              (λ k. none-below runs run.first next rises.0 lt k);
         }
     by false e g =
         let le : run.first ≤ next = ltb-false next run.first e in
@@ -64,11 +66,13 @@ is-gap next (run ∷ runs) rises = by (ltb next run.first) refl (is-gap (max nex
         record {
           up = omega arith;
           covered = λ r l m. late r l m (ltb r run.end) refl;
-          uncovered = λ h. either _ _ h _ (λ k. let p = within-true run.first run.end (first_gap (max next run.end) runs) k in absurd (omega (arith, up, p.1))) g.uncovered;
+          uncovered = λ h. either _ _ h _
+              (λ k. let p = within-true run.first run.end (first_gap (max next run.end) runs) k in absurd (omega (arith, up, p.1))) g.uncovered;
         }
       where
         late : (r : ℕ) → next ≤ r → r < first_gap (max next run.end) runs → (c : Bool) → ltb r run.end ≡ c → (covers r run || list_any (covers r) runs) ≡ true
-        late r l m true d = ap (λ b. b || list_any (covers r) runs) (within-from run.first run.end r (let h : run.first ≤ next = ltb-false next run.first e in omega arith) (ltb-true r run.end d))
+        late r l m true d = ap (λ b. b || list_any (covers r) runs)
+            (within-from run.first run.end r (let h : run.first ≤ next = ltb-false next run.first e in omega arith) (ltb-true r run.end d))
         late r l m false d = or_true_right (covers r run) _ (g.covered r (let h : run.end ≤ r = ltb-false r run.end d in omega arith) m)
 
 -- the gap is the least rank without a fact, where it is one of the ranks
@@ -80,7 +84,8 @@ has-below t runs rises r lt =
 pub none-at : (t : Table) (runs : List Run) → IsRising (firsts runs) → HasFact (facts_in t runs) (first_gap 0 runs) → ⊥
 none-at t runs rises f = (is-gap 0 runs rises).uncovered (has-covered t runs _ f.0 (sym (contains-runs t runs (first_gap 0 runs, f.0)) ∙ f.1))
 
-pub is-missing : (t : Table) (runs : List Run) (ranks : ℕ) → IsRising (firsts runs) → first_gap 0 runs < ranks → IsLeastMissing (facts_in t runs) ranks (Some (first_gap 0 runs))
+pub is-missing : (t : Table) (runs : List Run) (ranks : ℕ) → IsRising (firsts runs) → first_gap 0 runs < ranks
+    → IsLeastMissing (facts_in t runs) ranks (Some (first_gap 0 runs))
 is-missing t runs ranks rises lt = (lt, none-at t runs rises, has-below t runs rises)
 
 pub none-missing : (t : Table) (runs : List Run) (ranks : ℕ) → IsRising (firsts runs) → ranks ≤ first_gap 0 runs → IsLeastMissing (facts_in t runs) ranks None

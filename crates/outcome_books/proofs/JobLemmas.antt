@@ -1,5 +1,6 @@
 -- Jobs: finding their shards, and making them.
-use Rattle.std.proofs.Common.{◌≡◌, refl, sym, ap, subst, ◌∙◌, ℕ, zero, suc, ◌+◌, ◌<◌, ◌≤◌, Bool, true, false, List, [], ◌∷◌, ◌++◌, append_assoc, append-nil, length, get_or, take, inl, inr, ◌⊎◌, ⊎_elim, arith}
+use Rattle.std.proofs.Common.{◌≡◌, refl, sym, ap, subst, ◌∙◌, ℕ, zero, suc, ◌+◌, ◌<◌, ◌≤◌, Bool, true, false, List, [], ◌∷◌, ◌++◌, append_assoc, append-nil}
+use Rattle.std.proofs.Common.{length, get_or, take, inl, inr, ◌⊎◌, ⊎_elim, arith}
 use Rattle.std.proofs.lemmas.Bool.{or_cases, or_left, or_right}
 use Rattle.std.proofs.lemmas.List.{take_more}
 use Rattle.std.specs.FinSet.{union, empty, contains-empty}
@@ -59,7 +60,8 @@ folding-begun job p rest is one e = subst (IsFolding job []) (sym e) (record {
 
 module _ (job : Job) (found : List Leaf) (old ps : List Pending) (p : Pending) (is : old ≡ ps ++ p ∷ []) (f : IsFolding job found old) where
   -- a shard is found
-  pub leaf-found : (shard : Shard) (reduce : Bool) (new : List Leaf) → p.job.now ≡ Run shard reduce → p.level ≤ MAX_LEVELS → new ≡ found ++ record { shard = shard; reduce = reduce } ∷ []
+  pub leaf-found : (shard : Shard) (reduce : Bool) (new : List Leaf) → p.job.now ≡ Run shard reduce → p.level ≤ MAX_LEVELS
+      → new ≡ found ++ record { shard = shard; reduce = reduce } ∷ []
       → IsFolding job new ps
   leaf-found shard reduce new e up n = subst (λ l. IsFolding job l ps) (sym n) (record {
     all =
@@ -73,7 +75,8 @@ module _ (job : Job) (found : List Leaf) (old ps : List Pending) (p : Pending) (
   leaf-less shard reduce e = let push = parts-push ps p in omega (arith, ap parts_in is, push, ap parts e)
 
   -- a join is taken apart
-  pub join-apart : (a b : Job) (pa pb : Pending) (mid new : List Pending) → p.job.now ≡ join_of a b → pa.job.now ≡ a → pb.job.now ≡ b → pa.level ≡ p.level + 1 → pb.level ≡ p.level + 1
+  pub join-apart : (a b : Job) (pa pb : Pending) (mid new : List Pending) → p.job.now ≡ join_of a b → pa.job.now ≡ a → pb.job.now ≡ b → pa.level ≡ p.level + 1
+      → pb.level ≡ p.level + 1
       → mid ≡ ps ++ pb ∷ [] → new ≡ mid ++ pa ∷ [] → IsFolding job found new
   join-apart a b pa pb mid new e ea eb la lb m n = subst (IsFolding job found) (sym (n ∙ ap (λ l. l ++ pa ∷ []) m)) (record {
     all =
@@ -105,7 +108,8 @@ module _ (job : Job) (found : List Leaf) (old ps : List Pending) (p : Pending) (
   -- a part that stands too deep
   pub too-deep : MAX_LEVELS < p.level → MAX_LEVELS < levels job
   too-deep low = ⊎_elim (λ lt. lt)
-      (λ le. (let x = (within-pop MAX_LEVELS ps p (subst (AllWithin MAX_LEVELS) is (f.deep le))).0 in let some = levels-some p.job.now in absurd (omega (arith, x, some, low))))
+      (λ le. (let x = (within-pop MAX_LEVELS ps p (subst (AllWithin MAX_LEVELS) is (f.deep le))).0 in let some = levels-some p.job.now in absurd
+      (omega (arith, x, some, low))))
       cases
     where
       cases : (MAX_LEVELS < levels job) ⊎ (levels job ≤ MAX_LEVELS)
@@ -126,10 +130,12 @@ lawful-push : (spec : Spec) (ls : List Leaf) (l : Leaf) → AllLawful spec ls �
 lawful-push spec [] l a h = (h, tt)
 lawful-push spec (m ∷ ls) l a h = (a.0, lawful-push spec ls l a.1 h)
 
-pub lawful-more : (spec : Spec) (ls : List Leaf) (i : ℕ) (d : Leaf) → i < length ls → AllLawful spec (take i ls) → IsShardOf spec (get_or ls i d).shard → AllLawful spec (take (i + 1) ls)
+pub lawful-more : (spec : Spec) (ls : List Leaf) (i : ℕ) (d : Leaf) → i < length ls → AllLawful spec (take i ls) → IsShardOf spec (get_or ls i d).shard
+    → AllLawful spec (take (i + 1) ls)
 lawful-more spec ls i d lt a h = subst (AllLawful spec) (sym (take_more ls i d lt)) (lawful-push spec (take i ls) (get_or ls i d) a h)
 
-pub first-outside : (spec : Spec) (ls : List Leaf) (i : ℕ) (d : Leaf) (e : RunError) → i < length ls → AllLawful spec (take i ls) → IsOutside spec (get_or ls i d).shard e → IsFirstOutside spec ls e
+pub first-outside : (spec : Spec) (ls : List Leaf) (i : ℕ) (d : Leaf) (e : RunError) → i < length ls → AllLawful spec (take i ls)
+    → IsOutside spec (get_or ls i d).shard e → IsFirstOutside spec ls e
 first-outside spec [] i d e lt a h = absurd (omega (arith, lt))
 first-outside spec (l ∷ ls) zero d e lt a h = inl h
 first-outside spec (l ∷ ls) (suc i) d e lt a h = inr (a.0, first-outside spec ls i d e (omega (arith, lt)) a.1 h)
@@ -137,7 +143,8 @@ first-outside spec (l ∷ ls) (suc i) d e lt a h = inr (a.0, first-outside spec 
 -- ---- making
 
 pub not-run : (spec : Spec) (shard : Shard) (e : RunError) → IsShardOf spec shard → IsNotWalked spec shard e → IsNotRunBy e (start spec)
-not-run spec shard run_error.OutOfRange is h = absurd (⊎_elim (λ l. (let o = is.order in omega (arith, l, o))) (λ l. (let i = is.inside in omega (arith, l, i))) h)
+not-run spec shard run_error.OutOfRange is h =
+    absurd (⊎_elim (λ l. (let o = is.order in omega (arith, l, o))) (λ l. (let i = is.inside in omega (arith, l, i))) h)
 not-run spec shard run_error.TooLong is h = absurd (let few = is.few in let long = h.2 in omega (arith, few, long))
 not-run spec shard run_error.TooDeep is h = absurd h
 not-run spec shard run_error.NoMemory is h = tt
@@ -173,20 +180,23 @@ none-made spec s is r fact = (
   λ h. absurd h,
 )
 
-in-push : (spec : Spec) (ls : List Leaf) (l : Leaf) (r : ℕ) (fact : Fact) → InLeaves spec (ls ++ l ∷ []) r fact → InLeaves spec ls r fact ⊎ HasFactIn spec l r fact
+in-push : (spec : Spec) (ls : List Leaf) (l : Leaf) (r : ℕ) (fact : Fact) → InLeaves spec (ls ++ l ∷ []) r fact
+    → InLeaves spec ls r fact ⊎ HasFactIn spec l r fact
 in-push spec [] l r fact (inl h) = inr h
 in-push spec [] l r fact (inr h) = absurd h
 in-push spec (m ∷ ls) l r fact (inl h) = inl (inl h)
 in-push spec (m ∷ ls) l r fact (inr h) = ⊎_elim (λ k. inl (inr k)) (λ k. inr k) (in-push spec ls l r fact h)
 
-push-in : (spec : Spec) (ls : List Leaf) (l : Leaf) (r : ℕ) (fact : Fact) → InLeaves spec ls r fact ⊎ HasFactIn spec l r fact → InLeaves spec (ls ++ l ∷ []) r fact
+push-in : (spec : Spec) (ls : List Leaf) (l : Leaf) (r : ℕ) (fact : Fact) → InLeaves spec ls r fact ⊎ HasFactIn spec l r fact
+    → InLeaves spec (ls ++ l ∷ []) r fact
 push-in spec [] l r fact (inl h) = absurd h
 push-in spec [] l r fact (inr h) = inl h
 push-in spec (m ∷ ls) l r fact (inl (inl h)) = inl h
 push-in spec (m ∷ ls) l r fact (inl (inr h)) = inr (push-in spec ls l r fact (inl h))
 push-in spec (m ∷ ls) l r fact (inr h) = inr (push-in spec ls l r fact (inr h))
 
-one-made : (spec : Spec) (ls : List Leaf) (l : Leaf) (s t : FactSet) → AreLeafFacts spec ls s → AreFactsOf l.reduce spec l.shard.first l.shard.end t → AreLeafFacts spec (ls ++ l ∷ []) (union s t)
+one-made : (spec : Spec) (ls : List Leaf) (l : Leaf) (s t : FactSet) → AreLeafFacts spec ls s → AreFactsOf l.reduce spec l.shard.first l.shard.end t
+    → AreLeafFacts spec (ls ++ l ∷ []) (union s t)
 one-made spec ls l s t a b r fact = (
   λ h. push-in spec ls l r fact
       (⊎_elim (λ x. inl ((a r fact).0 x)) (λ y. inr ((b r fact).0 y)) (or_cases (recorded s r fact) (recorded t r fact) (sym (in_union s t (r, fact)) ∙ h))),
@@ -202,10 +212,12 @@ making-begun file ls book is = record {
 }
 
 pub making-more : (file : SpecFile) (ls : List Leaf) (i : ℕ) (d : Leaf) (book more new : Contents) → i < length ls → IsMaking file ls i book
-    → AreFactsOf (get_or ls i d).reduce file.run (get_or ls i d).shard.first (get_or ls i d).shard.end more.facts → Starts file.run → new ≡ joined book more → IsMaking file ls (i + 1) new
+    → AreFactsOf (get_or ls i d).reduce file.run (get_or ls i d).shard.first (get_or ls i d).shard.end more.facts → Starts file.run → new ≡ joined book more
+    → IsMaking file ls (i + 1) new
 making-more file ls i d book more new lt m facts starts is = subst (IsMaking file ls (i + 1)) (sym is) (record {
   file_is = m.file_is;
-  facts = subst (λ rs. AreLeafFacts file.run rs (union book.facts more.facts)) (sym (take_more ls i d lt)) (one-made file.run (take i ls) (get_or ls i d) book.facts more.facts m.facts facts);
+  facts = subst (λ rs. AreLeafFacts file.run rs (union book.facts more.facts)) (sym (take_more ls i d lt))
+      (one-made file.run (take i ls) (get_or ls i d) book.facts more.facts m.facts facts);
   started = λ _. starts;
 })
 

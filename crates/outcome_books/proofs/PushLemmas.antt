@@ -23,7 +23,8 @@ has-stretch t run e first end f p q r =
     ∙ ap (λ b. b && eq_by_cmp fact_cmp e.1 f) (sym (stretch first end e.0))
     ∙ sym (any-repeated first (end - first) f e) ∙ sym (contains-from_list entry_total (repeated first (end - first) f) e)
 
-pub pushed : (old new : Table) (runs after : List Run) (run : Run) (first end : ℕ) (f : Fact) → Extends old new → AllSound (length old) runs → run.first ≡ first → run.end ≡ end → fact_in new run.tag ≡ f → Adds runs run after
+pub pushed : (old new : Table) (runs after : List Run) (run : Run) (first end : ℕ) (f : Fact) → Extends old new → AllSound (length old) runs → run.first ≡ first
+    → run.end ≡ end → fact_in new run.tag ≡ f → Adds runs run after
     → facts_in new after ≡ union (facts_in old runs) (from_list (repeated first (end - first) f))
 pushed old new runs after run first end f ext sound p q fact adds = same_facts _ _ (λ e.
     contains-runs new after e ∙ adds new e

@@ -1,9 +1,11 @@
 -- The facts of a spec may stand in its books.
-use Rattle.std.proofs.Common.{◌≡◌, ◌≢◌, refl, sym, ap, ◌∙◌, subst, ℕ, zero, suc, ◌+◌, ◌<◌, ◌≤◌, Bool, true, false, cond, ◌==◌, List, [], ◌∷◌, length, set, get_or, All, Option, Some, None, Ok, ◌⊎◌, ⊎_elim, arith, eqb-true, get_or-set_other, get_or-set_same, inl, inr}
+use Rattle.std.proofs.Common.{◌≡◌, ◌≢◌, refl, sym, ap, ◌∙◌, subst, ℕ, zero, suc, ◌+◌, ◌<◌, ◌≤◌, Bool, true, false, cond, ◌==◌, List, [], ◌∷◌, length, set}
+use Rattle.std.proofs.Common.{get_or, All, Option, Some, None, Ok, ◌⊎◌, ⊎_elim, arith, eqb-true, get_or-set_other, get_or-set_same, inl, inr}
 use Rattle.std.proofs.lemmas.Bool.{eq-eqb}
 use Rattle.std.proofs.lemmas.List.{get_or_past}
 use Rattle.std.proofs.lemmas.List.Elements.{All-nil, All-cons, All-head, All-tail}
-use Rattle.sql_subset.specs.Spec.{Step, Spec, SpecFile, Queues, line, line_by, line_of, counts_of, steps_of, queues_from, queues_of, ranks, ranks_by, IsBound, EachStep, IsLine, IsStep, IsReady}
+use Rattle.sql_subset.specs.Spec.{Step, Spec, SpecFile, Queues, line, line_by, line_of, counts_of, steps_of, queues_from, queues_of, ranks, ranks_by, IsBound}
+use Rattle.sql_subset.specs.Spec.{EachStep, IsLine, IsStep, IsReady}
 use Rattle.sql_subset.specs.Binding.{IsFileOf, main_setup, session, shaped, made_file}
 use Rattle.sql_subset.specs.Binding.{declared as declared_by}
 use Rattle.sql_subset.specs.Lines.{orders_of}
@@ -98,16 +100,20 @@ file-is-bound text file is =
 line-of-known : (spec : Spec) (r : ℕ) → r < ranks spec → All (IsLine (length spec.steps)) spec.lines → All (λ k. k < length spec.steps) (line_of spec r)
 line-of-known spec r lt known = by spec.lines known lt
   where
-    by : (ls : List (List ℕ)) → All (IsLine (length spec.steps)) ls → r < ranks_by ls (queues_of spec) → All (λ k. k < length spec.steps) (line_by ls (queues_of spec) r)
+    by : (ls : List (List ℕ)) → All (IsLine (length spec.steps)) ls → r < ranks_by ls (queues_of spec)
+        → All (λ k. k < length spec.steps) (line_by ls (queues_of spec) r)
     by [] each lt = line-known (length spec.steps) (queues_of spec) (word_at (counts_of (queues_of spec)) r) (queues-known 0 spec.sessions spec.steps)
     by (l ∷ ls) each lt = (each r [] lt).known
 
 -- ---- facts
 
-outcome-of-spec : (spec : Spec) (ks : List ℕ) (o : Told) → IsBound spec → All (λ k. k < length spec.steps) ks → outcome_of_line spec ks ≡ Some o → IsOutcomeOf spec o
+outcome-of-spec : (spec : Spec) (ks : List ℕ) (o : Told) → IsBound spec → All (λ k. k < length spec.steps) ks → outcome_of_line spec ks ≡ Some o
+    → IsOutcomeOf spec o
 outcome-of-spec spec ks o bound known e = at (start spec) refl e
   where
-    at : (s : Start) → start spec ≡ s → (let x : Option Told = elim s [ Started w ↦ Some (outcome_of spec.sessions (send_all spec.steps w ks)) | _ ↦ None ] in x) ≡ Some o → IsOutcomeOf spec o
+    at : (s : Start) → start spec ≡ s
+        → (let x : Option Told = elim s [ Started w ↦ Some (outcome_of spec.sessions (send_all spec.steps w ks)) | _ ↦ None ] in x) ≡ Some o
+        → IsOutcomeOf spec o
     at (Started w) is f =
         let same : outcome_of spec.sessions (send_all spec.steps w ks) ≡ o = cc in
         subst (IsOutcomeOf spec) same (lines-own spec w ks bound is known)
@@ -115,7 +121,8 @@ outcome-of-spec spec ks o bound known e = at (start spec) refl e
     at (SessionSetupFailed n) is f = cc
     at (SessionSetupWaits n) is f = cc
 
-pub fact-recordable : (file : SpecFile) (reduce : Bool) (r : ℕ) (fact : Fact) → IsFileOf file.text file → IsBound file.run → FactFits fact → IsFactOf reduce file.run r fact
+pub fact-recordable : (file : SpecFile) (reduce : Bool) (r : ℕ) (fact : Fact) → IsFileOf file.text file → IsBound file.run → FactFits fact
+    → IsFactOf reduce file.run r fact
     → IsRecordable file.run r fact
 fact-recordable file reduce r (Ran o) is bound fits h =
     let lt = h.0.0 in

@@ -56,7 +56,8 @@ tied_entry r first o = both (nat_cmp r first) ∙ ap (λ b. b && is_eq o) (unsig
     both Ordering.Equal = refl
     both Ordering.Greater = refl
 
-pub any-repeated : (first n : ℕ) (f : Fact) (e : Entry) → list_any (eq_by_cmp entry_cmp e) (repeated first n f) ≡ (within first (first + n) e.0 && eq_by_cmp fact_cmp e.1 f)
+pub any-repeated : (first n : ℕ) (f : Fact) (e : Entry)
+    → list_any (eq_by_cmp entry_cmp e) (repeated first n f) ≡ (within first (first + n) e.0 && eq_by_cmp fact_cmp e.1 f)
 any-repeated first zero f e = sym (none (within first (first + 0) e.0) refl)
   where
     none : (b : Bool) → within first (first + 0) e.0 ≡ b → (b && eq_by_cmp fact_cmp e.1 f) ≡ false
@@ -71,7 +72,8 @@ any-repeated first (suc n) f e =
       where
         there : (b : Bool) → eqb e.0 first ≡ b → (b || within (suc first) (suc first + n) e.0) ≡ true → within first (first + suc n) e.0 ≡ true
         there true is h = let at = eqb-true e.0 first is in within-from first (first + suc n) e.0 (omega (arith, at)) (omega (arith, at))
-        there false is h = let p = within-true (suc first) (suc first + n) e.0 h in within-from first (first + suc n) e.0 (omega (arith, p.0)) (omega (arith, p.1))
+        there false is h = let p =
+            within-true (suc first) (suc first + n) e.0 h in within-from first (first + suc n) e.0 (omega (arith, p.0)) (omega (arith, p.1))
 
         back : (b : Bool) → eqb e.0 first ≡ b → within first (first + suc n) e.0 ≡ true → (b || within (suc first) (suc first + n) e.0) ≡ true
         back true is h = refl
@@ -107,7 +109,8 @@ any-facts_of : (table : Table) (runs : List Run) (e : Entry) → list_any (eq_by
 any-facts_of table [] e = refl
 any-facts_of table (run ∷ runs) e =
     list_any-append (eq_by_cmp entry_cmp e) (repeated run.first (run.end - run.first) (fact_in table run.tag)) (facts_of table runs)
-    ∙ (λ i. (any-repeated run.first (run.end - run.first) (fact_in table run.tag) e ∙ ap (λ b. b && eq_by_cmp fact_cmp e.1 (fact_in table run.tag)) (stretch run.first run.end e.0)) i || any-facts_of table runs e i)
+    ∙ (λ i. (any-repeated run.first (run.end - run.first) (fact_in table run.tag) e
+    ∙ ap (λ b. b && eq_by_cmp fact_cmp e.1 (fact_in table run.tag)) (stretch run.first run.end e.0)) i || any-facts_of table runs e i)
 
 -- a set made of runs contains what a run says
 pub contains-runs : (table : Table) (runs : List Run) (e : Entry) → contains (from_list {R = entry_cmp} (facts_of table runs)) e ≡ list_any (has table e) runs

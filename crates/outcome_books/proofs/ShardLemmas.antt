@@ -29,9 +29,11 @@ one-fact : (reduce : Bool) (spec : Spec) (r : ℕ) (f g : Fact) → IsFactOf red
 one-fact reduce spec r f g x y = some-same f g (sym ((facts-one reduce spec r f).1 x) ∙ (facts-one reduce spec r g).1 y)
 
 -- the facts of a stretch of ranks with one fact
-pub in-stretch : (first end : ℕ) (f : Fact) (e : Entry) → recorded (from_list (repeated first (end - first) f)) e.0 e.1 ≡ (within first end e.0 && eq_by_cmp fact_cmp e.1 f)
+pub in-stretch : (first end : ℕ) (f : Fact) (e : Entry)
+    → recorded (from_list (repeated first (end - first) f)) e.0 e.1 ≡ (within first end e.0 && eq_by_cmp fact_cmp e.1 f)
 in-stretch first end f e =
-    contains-from_list entry_total (repeated first (end - first) f) e ∙ any-repeated first (end - first) f e ∙ ap (λ b. b && eq_by_cmp fact_cmp e.1 f) (stretch first end e.0)
+    contains-from_list entry_total (repeated first (end - first) f) e ∙ any-repeated first (end - first) f e
+    ∙ ap (λ b. b && eq_by_cmp fact_cmp e.1 f) (stretch first end e.0)
 
 -- no ranks have no facts
 pub none-gathered : (reduce : Bool) (spec : Spec) (at : ℕ) (s : FactSet) → s ≡ empty → AreFactsOf reduce spec at at s
@@ -41,7 +43,8 @@ none-gathered reduce spec at s is r fact = (
 )
 
 -- ranks up to here, and those of the next run
-pub more-gathered : (reduce : Bool) (spec : Spec) (first at end : ℕ) (f : Fact) (s : FactSet) → first ≤ at → at < end → AllHave reduce spec at end f → AreFactsOf reduce spec first at s
+pub more-gathered : (reduce : Bool) (spec : Spec) (first at end : ℕ) (f : Fact) (s : FactSet) → first ≤ at → at < end → AllHave reduce spec at end f
+    → AreFactsOf reduce spec first at s
     → AreFactsOf reduce spec first end (union s (from_list (repeated at (end - at) f)))
 more-gathered reduce spec first at end f s low lt all so_far r fact = (there, back)
   where
@@ -68,7 +71,8 @@ more-gathered reduce spec first at end f s low lt all so_far r fact = (there, ba
         or_right (recorded s r fact) _ (and_true _ _ (within-from at end r g h.1) (subst (λ x. eq_by_cmp fact_cmp x f ≡ true) (sym same) (same_fact f))))
         cases
 
-pub stretch-recordable : (file : SpecFile) (reduce : Bool) (at end : ℕ) (f : Fact) (s : FactSet) → IsFileOf file.text file → IsBound file.run → FactFits f → AllHave reduce file.run at end f
+pub stretch-recordable : (file : SpecFile) (reduce : Bool) (at end : ℕ) (f : Fact) (s : FactSet) → IsFileOf file.text file → IsBound file.run → FactFits f
+    → AllHave reduce file.run at end f
     → AllRecordable file.run s → AllRecordable file.run (union s (from_list (repeated at (end - at) f)))
 stretch-recordable file reduce at end f s is bound fits all so_far r fact h = ⊎_elim
     (so_far r fact)
@@ -93,7 +97,8 @@ begun x b whole none next = record {
 }
 
 -- one more run
-pub gathered-more : (x y z : Walking) (run : FactRun) (b : Building) → IsFileOf x.file.text x.file → IsBound x.file.run → IsGathering x y b → IsRun y run → z.spent ≡ false
+pub gathered-more : (x y z : Walking) (run : FactRun) (b : Building) → IsFileOf x.file.text x.file → IsBound x.file.run → IsGathering x y b → IsRun y run
+    → z.spent ≡ false
     → z ≡ record y { at = run.end; sent = z.sent; whole = true } → FactFits run.fact → IsGathering x z (added b run.first run.end run.fact)
 gathered-more x y z run b is bound g r whole moved fits =
     let at : z.at ≡ run.end = ap (λ (w : Walking). w.at) moved in
@@ -101,7 +106,8 @@ gathered-more x y z run b is bound g r whole moved fits =
     let first = r.first in
     let from = g.from in
     let all : AllHave x.reduce x.file.run run.first run.end run.fact =
-    subst (λ c. AllHave c x.file.run run.first run.end run.fact) g.reduce (subst (λ (f : SpecFile). AllHave y.reduce f.run run.first run.end run.fact) g.file r.facts) in
+    subst (λ c. AllHave c x.file.run run.first run.end run.fact) g.reduce
+    (subst (λ (f : SpecFile). AllHave y.reduce f.run run.first run.end run.fact) g.file r.facts) in
     record {
       file = ap (λ (w : Walking). w.file) moved ∙ g.file;
       reduce = ap (λ (w : Walking). w.reduce) moved ∙ g.reduce;

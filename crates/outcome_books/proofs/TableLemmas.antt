@@ -1,5 +1,6 @@
 -- A table that grows, runs with other numbers, and the set that joined runs stand for.
-use Rattle.std.proofs.Common.{◌≡◌, refl, sym, ap, subst, ◌∙◌, ℕ, zero, suc, ◌+◌, ◌<◌, ◌≤◌, Bool, true, false, ◌&&◌, ◌||◌, List, [], ◌∷◌, ◌++◌, append_assoc, length, get_or, map, arith}
+use Rattle.std.proofs.Common.{◌≡◌, refl, sym, ap, subst, ◌∙◌, ℕ, zero, suc, ◌+◌, ◌<◌, ◌≤◌, Bool, true, false, ◌&&◌, ◌||◌, List, [], ◌∷◌, ◌++◌, append_assoc}
+use Rattle.std.proofs.Common.{length, get_or, map, arith}
 use Rattle.std.specs.List.{list_any}
 use Rattle.std.specs.Ordering.{eq_by_cmp}
 use Rattle.std.specs.FinSet.{union}
@@ -41,7 +42,8 @@ Names-more old new [] (o ∷ os) h m = absurd m
 Names-more old new (n ∷ ns) [] h m = absurd m
 Names-more old new (n ∷ ns) (o ∷ os) h m = (omega (arith, m.0, Extends-length old new h), Extends-get old new n h m.0 ∙ m.1, Names-more old new ns os h m.2)
 
-pub Names-push : (t : Table) (ns : List ℕ) (os : Table) (n : ℕ) (o : Told) → Names t ns os → n < length t → get_or t n [] ≡ o → Names t (ns ++ n ∷ []) (os ++ o ∷ [])
+pub Names-push : (t : Table) (ns : List ℕ) (os : Table) (n : ℕ) (o : Told) → Names t ns os → n < length t → get_or t n [] ≡ o
+    → Names t (ns ++ n ∷ []) (os ++ o ∷ [])
 Names-push t [] [] n o m lt at = (lt, at, tt)
 Names-push t [] (p ∷ os) n o m lt at = absurd m
 Names-push t (k ∷ ns) [] n o m lt at = absurd m
@@ -53,7 +55,8 @@ Names-length t [] (o ∷ os) m = absurd m
 Names-length t (n ∷ ns) [] m = absurd m
 Names-length t (n ∷ ns) (o ∷ os) m = ap suc (Names-length t ns os m.2)
 
-Names-at : (t : Table) (ns : List ℕ) (os : Table) (n : ℕ) → Names t ns os → n < length os → (get_or ns n 0 < length t) × (get_or t (get_or ns n 0) [] ≡ get_or os n [])
+Names-at : (t : Table) (ns : List ℕ) (os : Table) (n : ℕ) → Names t ns os → n < length os
+    → (get_or ns n 0 < length t) × (get_or t (get_or ns n 0) [] ≡ get_or os n [])
 Names-at t [] [] n m lt = absurd (omega arith)
 Names-at t [] (o ∷ os) n m lt = absurd m
 Names-at t (k ∷ ns) [] n m lt = absurd m
@@ -68,7 +71,8 @@ AllSound-more n m (run ∷ runs) le a = ((tag run.tag a.0.0, a.0.1), AllSound-mo
     tag (Ran k) lt = omega arith
     tag (Swap k) lt = tt
 
-pub sound-renamed : (t : Table) (ns : List ℕ) (os : Table) (runs : List Run) → Names t ns os → AllSound (length os) runs → AllSound (length t) (map (renamed ns) runs)
+pub sound-renamed : (t : Table) (ns : List ℕ) (os : Table) (runs : List Run) → Names t ns os → AllSound (length os) runs
+    → AllSound (length t) (map (renamed ns) runs)
 sound-renamed t ns os [] m a = tt
 sound-renamed t ns os (run ∷ runs) m a = ((tag run.tag a.0.0, a.0.1), sound-renamed t ns os runs m a.1)
   where
@@ -84,7 +88,8 @@ fact-renamed : (t : Table) (ns : List ℕ) (os : Table) (g : Tag) → Names t ns
 fact-renamed t ns os (Ran k) m lt = ap RanFact (Names-at t ns os k m lt).1
 fact-renamed t ns os (Swap k) m lt = refl
 
-pub any-renamed : (t : Table) (ns : List ℕ) (os : Table) (runs : List Run) (e : Entry) → Names t ns os → AllSound (length os) runs → list_any (has t e) (map (renamed ns) runs) ≡ list_any (has os e) runs
+pub any-renamed : (t : Table) (ns : List ℕ) (os : Table) (runs : List Run) (e : Entry) → Names t ns os → AllSound (length os) runs
+    → list_any (has t e) (map (renamed ns) runs) ≡ list_any (has os e) runs
 any-renamed t ns os [] e m a = refl
 any-renamed t ns os (run ∷ runs) e m a =
     λ i. (within run.first run.end e.0 && eq_by_cmp fact_cmp e.1 (fact-renamed t ns os run.tag m a.0.0 i)) || any-renamed t ns os runs e m a.1 i
@@ -93,7 +98,8 @@ fact-extends : (old new : Table) (g : Tag) → Extends old new → IsNumbered (l
 fact-extends old new (Ran k) h lt = ap RanFact (Extends-get old new k h lt)
 fact-extends old new (Swap k) h lt = refl
 
-pub any-extends : (old new : Table) (runs : List Run) (e : Entry) → Extends old new → AllSound (length old) runs → list_any (has new e) runs ≡ list_any (has old e) runs
+pub any-extends : (old new : Table) (runs : List Run) (e : Entry) → Extends old new → AllSound (length old) runs
+    → list_any (has new e) runs ≡ list_any (has old e) runs
 any-extends old new [] e h a = refl
 any-extends old new (run ∷ runs) e h a =
     λ i. (within run.first run.end e.0 && eq_by_cmp fact_cmp e.1 (fact-extends old new run.tag h a.0.0 i)) || any-extends old new runs e h a.1 i

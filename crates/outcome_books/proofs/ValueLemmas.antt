@@ -45,7 +45,8 @@ get_or-front [] ys n lt = absurd (omega (arith, lt))
 get_or-front (x ∷ xs) ys zero lt = refl
 get_or-front (x ∷ xs) ys (suc n) lt = get_or-front xs ys n (omega (arith, lt))
 
-pub done-more : (s : FactSet) (leads : Leads) (done : List Told) (x : Told) → IsDone s leads done → HasOne s leads (length done) x → IsDone s leads (done ++ x ∷ [])
+pub done-more : (s : FactSet) (leads : Leads) (done : List Told) (x : Told) → IsDone s leads done → HasOne s leads (length done) x
+    → IsDone s leads (done ++ x ∷ [])
 done-more s leads done x so_far one r lt = by cases
   where
     cases : (r < length done) ⊎ (length done ≡ r)

@@ -1,5 +1,6 @@
 -- What the runs that cover a rank give it.
-use Rattle.std.proofs.Common.{◌≡◌, refl, sym, ap, subst, ◌∙◌, ℕ, ◌<◌, Bool, true, false, ◌||◌, List, [], ◌∷◌, ◌++◌, length, get_or, Option, Some, None, inl, inr, ◌⊎◌}
+use Rattle.std.proofs.Common.{◌≡◌, refl, sym, ap, subst, ◌∙◌, ℕ, ◌<◌, Bool, true, false, ◌||◌, List, [], ◌∷◌, ◌++◌, length, get_or, Option, Some, None, inl}
+use Rattle.std.proofs.Common.{inr, ◌⊎◌}
 use Rattle.std.proofs.lemmas.Bool.{false≢true}
 use Rattle.std.specs.Option.{MatchOption}
 use Rattle.std.specs.List.{list_any}
@@ -46,7 +47,8 @@ pub any-in : {A : Type 0} (p : A → Bool) (xs : List A) → list_any p xs ≡ t
 any-in p [] e = absurd (false≢true e)
 any-in p (x ∷ xs) e = on (p x) refl (any-in p xs) e
   where
-    on : (b : Bool) → p x ≡ b → (list_any p xs ≡ true → (y : _) × IsIn y xs × (p y ≡ true)) → (b || list_any p xs) ≡ true → (y : _) × IsIn y (x ∷ xs) × (p y ≡ true)
+    on : (b : Bool) → p x ≡ b → (list_any p xs ≡ true → (y : _) × IsIn y xs × (p y ≡ true)) → (b || list_any p xs) ≡ true
+        → (y : _) × IsIn y (x ∷ xs) × (p y ≡ true)
     on true h rec e = (x, inl refl, h)
     on false h rec e = let r = rec e in (r.0, inr r.1, r.2)
 
@@ -57,28 +59,34 @@ in-any p (x ∷ xs) a (inr i) h = or_true_right (p x) _ (in-any p xs a i h)
 
 -- ---- one more vote
 
-pub verdict-step : (t : Table) (votes : Tag → Option Told) (xs : List Run) (run : Run) (found : Verdict) (v : Option ℕ) (result : Verdict) → IsVerdict t votes xs found
-    → MatchOption v (votes run.tag ≡ None) (λ n. (n < length t) × (votes run.tag ≡ Some (get_or t n []))) → IsWith t found v result → IsVerdict t votes (xs ++ run ∷ []) result
+pub verdict-step : (t : Table) (votes : Tag → Option Told) (xs : List Run) (run : Run) (found : Verdict) (v : Option ℕ) (result : Verdict)
+    → IsVerdict t votes xs found
+    → MatchOption v (votes run.tag ≡ None) (λ n. (n < length t) × (votes run.tag ≡ Some (get_or t n []))) → IsWith t found v result
+    → IsVerdict t votes (xs ++ run ∷ []) result
 verdict-step t votes xs run Nothing None result h m is = subst (IsVerdict t votes (xs ++ run ∷ [])) (sym is) (λ r i. on r (in-push xs run r i))
   where
     on : (r : Run) → IsIn r xs ⊎ (r ≡ run) → votes r.tag ≡ None
     on r (inl j) = h r j
     on r (inr e) = subst (λ z. votes z.tag ≡ None) (sym e) m
-verdict-step t votes xs run Nothing (Some n) result h m is = subst (IsVerdict t votes (xs ++ run ∷ [])) (sym is) (m.0, (run, in-last xs run, m.1), λ r o i e. on r o e (in-push xs run r i))
+verdict-step t votes xs run Nothing (Some n) result h m is =
+    subst (IsVerdict t votes (xs ++ run ∷ [])) (sym is) (m.0, (run, in-last xs run, m.1), λ r o i e. on r o e (in-push xs run r i))
   where
     on : (r : Run) (o : Told) → votes r.tag ≡ Some o → IsIn r xs ⊎ (r ≡ run) → o ≡ get_or t n []
     on r o e (inl j) = let none = h r j in cc
     on r o e (inr f) = let mine : votes run.tag ≡ Some o = subst (λ z. votes z.tag ≡ Some o) f e in let two = m.1 in cc
-verdict-step t votes xs run (One m) None result h none is = subst (IsVerdict t votes (xs ++ run ∷ [])) (sym is) (h.0, (h.1.0, in-front xs (run ∷ []) h.1.0 h.1.1, h.1.2), λ r o i e. on r o e (in-push xs run r i))
+verdict-step t votes xs run (One m) None result h none is =
+    subst (IsVerdict t votes (xs ++ run ∷ [])) (sym is) (h.0, (h.1.0, in-front xs (run ∷ []) h.1.0 h.1.1, h.1.2), λ r o i e. on r o e (in-push xs run r i))
   where
     on : (r : Run) (o : Told) → votes r.tag ≡ Some o → IsIn r xs ⊎ (r ≡ run) → o ≡ get_or t m []
     on r o e (inl j) = h.2 r o j e
     on r o e (inr f) = let mine : votes run.tag ≡ Some o = subst (λ z. votes z.tag ≡ Some o) f e in cc
-verdict-step t votes xs run (One m) (Some n) result h v (inl is) = subst (IsVerdict t votes (xs ++ run ∷ [])) (sym is.0) (h.0, (h.1.0, in-front xs (run ∷ []) h.1.0 h.1.1, h.1.2), λ r o i e. on r o e (in-push xs run r i))
+verdict-step t votes xs run (One m) (Some n) result h v (inl is) =
+    subst (IsVerdict t votes (xs ++ run ∷ [])) (sym is.0) (h.0, (h.1.0, in-front xs (run ∷ []) h.1.0 h.1.1, h.1.2), λ r o i e. on r o e (in-push xs run r i))
   where
     on : (r : Run) (o : Told) → votes r.tag ≡ Some o → IsIn r xs ⊎ (r ≡ run) → o ≡ get_or t m []
     on r o e (inl j) = h.2 r o j e
-    on r o e (inr f) = let mine : votes run.tag ≡ Some o = subst (λ z. votes z.tag ≡ Some o) f e in let two = v.1 in let same : o ≡ get_or t n [] = cc in same ∙ is.1
+    on r o e (inr f) = let mine : votes run.tag ≡ Some o = subst (λ z. votes z.tag ≡ Some o) f e in let two = v.1 in let same : o ≡ get_or t n [] = cc in same
+        ∙ is.1
 verdict-step t votes xs run (One m) (Some n) result h v (inr is) = subst (IsVerdict t votes (xs ++ run ∷ [])) (sym is.0)
     (run, h.1.0, get_or t n [], get_or t m [], in-last xs run, in-front xs (run ∷ []) h.1.0 h.1.1, v.1, h.1.2, is.1)
 verdict-step t votes xs run Several v result h m is = subst (IsVerdict t votes (xs ++ run ∷ [])) (sym is)
@@ -114,11 +122,13 @@ module _ (s : FactSet) (t : Table) (leads : Leads) (down : LeadsDown leads) (act
   pub verdict-none : IsVerdict t (tag_vote t leads done (length done)) active Nothing → (o : Told) → IsValue (recorded s) leads (length done) o → ⊥
   verdict-none h o v = let r = value-run o v in let none = h r.0 r.1 in let some = r.2 in cc
 
-  pub verdict-clash : IsVerdict t (tag_vote t leads done (length done)) active Several → (o : Told) × (p : Told) × IsValue (recorded s) leads (length done) o × IsValue (recorded s) leads (length done) p × (o ≡ p → ⊥)
+  pub verdict-clash : IsVerdict t (tag_vote t leads done (length done)) active Several
+      → (o : Told) × (p : Told) × IsValue (recorded s) leads (length done) o × IsValue (recorded s) leads (length done) p × (o ≡ p → ⊥)
   verdict-clash h = (h.2, h.3, run-value h.0 h.2 h.4 h.6, run-value h.1 h.3 h.5 h.7, h.8)
 
 -- where only outcomes are said, they are the values of each rank that says the same
-pub ran-one : (s : FactSet) (t : Table) (leads : Leads) (down : LeadsDown leads) (active : List Run) (done : List Told) (n r : ℕ) → OnlyRan active → IsVerdict t (tag_vote t leads done (length done)) active (One n)
+pub ran-one : (s : FactSet) (t : Table) (leads : Leads) (down : LeadsDown leads) (active : List Run) (done : List Told) (n r : ℕ) → OnlyRan active
+    → IsVerdict t (tag_vote t leads done (length done)) active (One n)
     → ((f : Fact) → contains s (r, f) ≡ list_any (states t f) active) → HasOne s leads r (get_or t n [])
 ran-one s t leads down active done n r only h says = record { value = there; only = λ p v. one p v }
   where
@@ -132,7 +142,8 @@ ran-one s t leads down active done n r only h says = record { value = there; onl
         let two = vote-of run m.0 m.1 in
         let voted = h.1.2 in
         let same : get_or t m.0 [] ≡ get_or t n [] = cc in
-        ran (says (RanFact (get_or t n [])) ∙ subst (λ f. list_any (states t f) active ≡ true) (ap (fact_in t) m.1 ∙ ap RanFact same) (to-states t run active h.1.1))
+        ran (says (RanFact (get_or t n []))
+        ∙ subst (λ f. list_any (states t f) active ≡ true) (ap (fact_in t) m.1 ∙ ap RanFact same) (to-states t run active h.1.1))
 
     one : (p : Told) → IsValue (recorded s) leads r p → p ≡ get_or t n []
     one p (ran i) =

@@ -15,7 +15,8 @@ FileOf text = (file : SpecFile) × ∥ IsFileOf text file ∥₁
 -- there is one at most
 pub one_file_of : (text : List ℕ) → IsProp (FileOf text)
 one_file_of text a b =
-    Σ_prop_path (λ _. ∥∥₁_prop) (∥∥₁_elim a.1 (Coded-set file_row.the_row.coded _ _) (λ p. ∥∥₁_elim b.1 (Coded-set file_row.the_row.coded _ _) (λ q. one-file text a.0 b.0 p q)))
+    Σ_prop_path (λ _. ∥∥₁_prop)
+    (∥∥₁_elim a.1 (Coded-set file_row.the_row.coded _ _) (λ p. ∥∥₁_elim b.1 (Coded-set file_row.the_row.coded _ _) (λ q. one-file text a.0 b.0 p q)))
 
 -- the ranks are the words of this shape, or lines
 abbrev pub IsShapeOf : Spec → Option (List ℕ) → Type 0

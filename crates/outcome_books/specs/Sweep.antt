@@ -1,5 +1,6 @@
 -- The report's pass over runs: which runs say something of a stretch of ranks, and what they give there.
-use Rattle.std.specs.Prelude.{◌≡◌, ℕ, zero, suc, Result, Ok, Err, ◌+◌, ◌<◌, ◌≤◌, Bool, true, ◌||◌, List, [], ◌∷◌, length, map, take, drop, slice_index_or, Option, Some, None, ◌⊎◌}
+use Rattle.std.specs.Prelude.{◌≡◌, ℕ, zero, suc, Result, Ok, Err, ◌+◌, ◌<◌, ◌≤◌, Bool, true, ◌||◌, List, [], ◌∷◌, length, map, take, drop, slice_index_or}
+use Rattle.std.specs.Prelude.{Option, Some, None, ◌⊎◌}
 use Rattle.std.specs.List.{list_any}
 use Rattle.std.specs.Ordering.{eq_by_cmp}
 use Rattle.std.specs.FinSet.{contains}
@@ -89,7 +90,8 @@ IsVerdict t votes active (One n) =
     (n < length t) × ((run : Run) × IsIn run active × (votes run.tag ≡ Some (slice_index_or t n [])))
     × ((run : Run) (o : Told) → IsIn run active → votes run.tag ≡ Some o → o ≡ slice_index_or t n [])
 IsVerdict t votes active Several =
-    (run : Run) × (other : Run) × (o : Told) × (p : Told) × IsIn run active × IsIn other active × (votes run.tag ≡ Some o) × (votes other.tag ≡ Some p) × (o ≡ p → ⊥)
+    (run : Run) × (other : Run) × (o : Told) × (p : Told) × IsIn run active × IsIn other active × (votes run.tag ≡ Some o) × (votes other.tag ≡ Some p) ×
+    (o ≡ p → ⊥)
 
 -- the verdict with one more vote
 abbrev pub IsWith : Table → Verdict → Option ℕ → Verdict → Type 0
@@ -142,7 +144,8 @@ IsStop s leads count NoMemory = Unit {0}
 
 -- wherever these runs say all of the stretch, the new numbers are those of the values, if the old ones are
 abbrev pub FillsStretch : Table → Leads → List Run → ℕ → List ℕ → List ℕ → Type 0
-FillsStretch t leads active until old new = (s : FactSet) → IsStretch s t active (length old) until → IsDone s leads (values_of t old) → IsDone s leads (values_of t new)
+FillsStretch t leads active until old new = (s : FactSet) → IsStretch s t active (length old) until → IsDone s leads (values_of t old)
+    → IsDone s leads (values_of t new)
 
 abbrev pub StopsStretch : Table → Leads → List Run → ℕ → List ℕ → ReportError → Type 0
 StopsStretch t leads active until old e =

@@ -47,8 +47,8 @@ IsNotReported book (report_error.Missing r) = (ranks book.file.run ≤ MAX_REPOR
 IsNotReported book (report_error.Clash r) = (ranks book.file.run ≤ MAX_REPORTED) × IsClash book.facts (leads_in book.file.run) (ranks book.file.run) r
 IsNotReported book report_error.NoMemory = ranks book.file.run ≤ MAX_REPORTED
 
--- what a book of true facts is reported as: each rank's value is the outcome that the sequential machine gives it; never a clash; and a rank is missing only where
--- some rank has no fact
+-- what a book of true facts is reported as: each rank's value is the outcome that the sequential machine gives it; never a clash; and a rank is
+-- missing only where some rank has no fact
 abbrev pub IsCovering : Contents → Result (List Told) ReportError → Type 0
 IsCovering book (Ok report) = (r : ℕ) → r < ranks book.file.run → outcome_of_line book.file.run (line_of book.file.run r) ≡ Some (slice_index_or report r [])
 IsCovering book (Err (report_error.Clash r)) = ⊥

@@ -64,7 +64,8 @@ fn vote_of(
     requires to { length done.now < last }
     ensures { MatchOption result
         (tag_vote outcomes.now (leads_of shape.now) (values_of outcomes.now done.now) (length done.now) tag ≡ None)
-        (λ n. (n < length outcomes.now) × (tag_vote outcomes.now (leads_of shape.now) (values_of outcomes.now done.now) (length done.now) tag ≡ Some (slice_index_or outcomes.now n []))) }
+        (λ n. (n < length outcomes.now) × (tag_vote outcomes.now (leads_of shape.now) (values_of outcomes.now done.now) (length done.now) tag
+        ≡ Some (slice_index_or outcomes.now n []))) }
 {
     match lead {
         Lead::Value(n) => Some(n),

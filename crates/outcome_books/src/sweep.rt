@@ -55,7 +55,8 @@ fn active_at(
     ensures cover { IfOk result (λ p. AllCover rank p.0.items) }
     ensures sound { IfOk result (λ p. (n : ℕ) → AllSound n active.now → AllSound n runs.now → AllSound n p.0.items) }
     ensures rest { IfOk result (λ p. (d : _) → p.1 < length runs.now → rank < (slice_index_or runs.now p.1 d).first) }
-    ensures facts { IfOk result (λ p. (t : _) (all : _) → IsSplit t all active.now (drop next runs.now) rank → IsSplit t all p.0.items (drop p.1 runs.now) rank) }
+    ensures facts { IfOk result (λ p. (t : _) (all : _) → IsSplit t all active.now (drop next runs.now) rank
+        → IsSplit t all p.0.items (drop p.1 runs.now) rank) }
 {
     let mut now = Vec::new(alloc);
     for i in 0..active.len() {

@@ -23,7 +23,7 @@ two blocks that write one row | 0 | 6 | yes | ran ran ran ran ran ran | - | T se
 a writer that waits for the readers of a table | 7 | 9 | yes | ran ran | - | T session a setup { BEGIN; } step a1 { SELECT v FROM t WHERE id = 1; } step a2 { SELECT * FROM t; } session b setup { BEGIN; } step b1 { SELECT * FROM t; } step b2 { COMMIT; } session c step c1 { UPDATE t SET v = 5 WHERE id = 2; }";
 
 /// The spec of a row. None where memory ran out.
-fn bound(alloc: Global, text: &str) -> Option<Spec> {
+pub(super) fn bound(alloc: Global, text: &str) -> Option<Spec> {
     let text = spec_of(alloc, text).ok()?;
     let read = read_spec(alloc, text.as_bytes()).ok()?;
     bind(alloc, &read).ok()
@@ -304,7 +304,7 @@ fn runs_follow_on_each_other_where_memory_ran_out_too(rt: HostRuntime) -> Result
     Ok(())
 }
 
-const DISJOINT: &str =
+pub(super) const DISJOINT: &str =
     "setup { CREATE TABLE t (id int PRIMARY KEY); CREATE TABLE u (id int PRIMARY KEY); } session a step a1 { INSERT INTO t VALUES (2); } step a2 { DELETE FROM t WHERE id = 2; } session b step b1 { INSERT INTO u VALUES (2); } step b2 { DELETE FROM u WHERE id = 2; }";
 
 #[test]

@@ -5,7 +5,8 @@ use Rattle.outcome_books.proofs.filling.fill.Goals as goal
 
 pub returns-in-Err-clause-stop : goal.returns-in-Err-clause-stop
 returns-in-Err-clause-stop c =
-    fills-stops c.args.outcomes.now (leads_of c.args.shape.now) c.args.active.now c.args.until c.in_ok-leads.last c.args.done.now.items c.loop-done.done.items c.in-Err.error
+    fills-stops c.args.outcomes.now
+    (leads_of c.args.shape.now) c.args.active.now c.args.until c.in_ok-leads.last c.args.done.now.items c.loop-done.done.items c.in-Err.error
     c.loop-done.invariant.1 c.in_ok-leads.ensures.few c.loop-done.invariant.3 c.in-Err.ensures.stop
 
 pub loop-done-preserved : goal.loop-done-preserved

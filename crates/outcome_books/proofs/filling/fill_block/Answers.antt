@@ -10,9 +10,12 @@ returns-in-Err-clause-stop c =
     let leads = leads_of c.args.shape.now in
     let done = c.loop-done.done.items in
     let rank : c.len-rank.result ≡ length done = omega (arith, c.len-rank.ensures) in
-    let verdict = subst (λ d. IsVerdict t (tag_vote t leads (values_of t d) (length d)) c.args.active.now c.judged-verdict.result) c.as_slice.ensures.value c.judged-verdict.ensures in
-    let one : IsOneOf c.judged-verdict.result (length done) (Err c.in-Err.error) = subst (λ r. IsOneOf c.judged-verdict.result r (Err c.in-Err.error)) rank c.in-Err.ensures in
-    fill-stops t leads (leads-down c.args.shape.now) c.args.active.now c.args.last c.args.done.now.items done c.judged-verdict.result c.in-Err.error c.loop-done.invariant.3
+    let verdict = subst (λ d. IsVerdict t
+    (tag_vote t leads (values_of t d) (length d)) c.args.active.now c.judged-verdict.result) c.as_slice.ensures.value c.judged-verdict.ensures in
+    let one : IsOneOf c.judged-verdict.result (length done) (Err c.in-Err.error) =
+    subst (λ r. IsOneOf c.judged-verdict.result r (Err c.in-Err.error)) rank c.in-Err.ensures in
+    fill-stops t leads (leads-down c.args.shape.now) c.args.active.now c.args.last c.args.done.now.items done c.judged-verdict.result c.in-Err.error
+    c.loop-done.invariant.3
     c.loop-done.invariant.1 (omega (arith, c.len.ensures, c.loop-done-test.true)) verdict one
 
 pub loop-done-smaller : goal.loop-done-smaller
@@ -22,7 +25,8 @@ loop-done-smaller c =
     let to = c.last_of-end.ensures in
     let a = to.0 in
     let b = to.1 in
-    let long : length c.extend.new.done.items ≡ c.last_of-end.result = ap length c.in_ok-extend.ensures ∙ length-to done c.in-Ok.n c.last_of-end.result (omega (arith, a, rank)) in
+    let long : length c.extend.new.done.items ≡ c.last_of-end.result = ap length c.in_ok-extend.ensures
+    ∙ length-to done c.in-Ok.n c.last_of-end.result (omega (arith, a, rank)) in
     omega (arith, long, a, b, rank)
 
 pub loop-done-preserved : goal.loop-done-preserved
@@ -40,11 +44,14 @@ loop-done-preserved c =
     let low = c.loop-done.invariant.1 in
     let one = one-of-ok c.judged-verdict.result c.len-rank.result c.in-Ok.n c.in-Ok.ensures in
     let verdict = subst (λ v. IsVerdict t (tag_vote t leads (values_of t done) (length done)) c.args.active.now v) one
-    (subst (λ d. IsVerdict t (tag_vote t leads (values_of t d) (length d)) c.args.active.now c.judged-verdict.result) c.as_slice.ensures.value c.judged-verdict.ensures) in (
+    (subst (λ d. IsVerdict t
+    (tag_vote t leads (values_of t d) (length d)) c.args.active.now c.judged-verdict.result) c.as_slice.ensures.value c.judged-verdict.ensures) in (
       subst (AllBelow (length t)) (sym is)
-          (below-append (length t) done (copies c.in-Ok.n (c.last_of-end.result - length done)) c.loop-done.invariant.0 (below-copies (length t) c.in-Ok.n (c.last_of-end.result - length done) verdict.0)),
+          (below-append (length t) done (copies c.in-Ok.n (c.last_of-end.result - length done)) c.loop-done.invariant.0
+          (below-copies (length t) c.in-Ok.n (c.last_of-end.result - length done) verdict.0)),
       omega (arith, long, a, low),
       omega (arith, long, b),
       subst (FillsStretch t leads c.args.active.now c.args.last c.args.done.now.items) (sym is)
-          (fill-step t leads (leads-down c.args.shape.now) c.args.active.now c.args.last c.args.done.now.items done c.in-Ok.n c.last_of-end.result c.loop-done.invariant.3 low verdict to),
+          (fill-step t leads (leads-down c.args.shape.now) c.args.active.now c.args.last c.args.done.now.items done c.in-Ok.n c.last_of-end.result
+          c.loop-done.invariant.3 low verdict to),
     )

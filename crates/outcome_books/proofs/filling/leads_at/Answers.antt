@@ -11,7 +11,8 @@ loop-run-preserved c =
     let few = e.few in
     let below = c.loop-run.invariant.2 in
     let none : Run = record { first = 0; end = 0; tag = Ran 0 } in (
-      leads-more (leads_of c.args.shape.now) c.args.rank c.loop-run.last c.lead_of-lead.result.1 c.args.active.now c.loop-run.run-index none c.loop-run.leads.items
+      leads-more (leads_of c.args.shape.now) c.args.rank c.loop-run.last c.lead_of-lead.result.1 c.args.active.now c.loop-run.run-index none
+          c.loop-run.leads.items
           c.push.new.self.items c.lead_of-lead.result.0 c.loop-run-test.true few c.loop-run.invariant.0 e.lead c.in_ok-push.ensures.items,
       e.some,
       omega (arith, few, below),

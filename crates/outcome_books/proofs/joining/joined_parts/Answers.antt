@@ -13,7 +13,8 @@ renumber-requires c =
 pub merge-requires-clause-right_rising : goal.merge-requires-clause-right_rising
 merge-requires-clause-right_rising c =
     let is = c.as_slice-2.ensures.value ∙ c.in_ok-renumbered.ensures ∙ ap (λ ns. map (renamed ns) c.args.others.now) c.as_slice.ensures.value in
-    subst (λ rs. IsRising (firsts rs)) (sym is) (subst IsRising (sym (firsts-renamed c.in_ok-numbers.numbers.items c.args.others.now)) c.requires.others_kept.rising)
+    subst (λ rs. IsRising (firsts rs)) (sym is)
+    (subst IsRising (sym (firsts-renamed c.in_ok-numbers.numbers.items c.args.others.now)) c.requires.others_kept.rising)
 
 pub returns-clause-kept : goal.returns-clause-kept
 returns-clause-kept c =

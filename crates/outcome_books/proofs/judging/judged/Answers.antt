@@ -21,10 +21,14 @@ vote_of-vote-requires-clause-lead c =
 
 pub loop-i-preserved : goal.loop-i-preserved
 loop-i-preserved c =
-    subst (λ l. IsVerdict c.args.outcomes.now (tag_vote c.args.outcomes.now (leads_of c.args.shape.now) (values_of c.args.outcomes.now c.args.done.now) (length c.args.done.now)) l c.with_vote-found.result)
-    (sym (take_more c.args.active.now c.loop-i.i _ c.loop-i-test.true)) (verdict-step _ _ _ _ _ _ _ c.loop-i.invariant c.vote_of-vote.ensures c.with_vote-found.ensures)
+    subst (λ l. IsVerdict c.args.outcomes.now
+    (tag_vote c.args.outcomes.now (leads_of c.args.shape.now) (values_of c.args.outcomes.now c.args.done.now)
+    (length c.args.done.now)) l c.with_vote-found.result)
+    (sym (take_more c.args.active.now c.loop-i.i _ c.loop-i-test.true))
+    (verdict-step _ _ _ _ _ _ _ c.loop-i.invariant c.vote_of-vote.ensures c.with_vote-found.ensures)
 
 pub returns : goal.returns
 returns c =
-    subst (λ l. IsVerdict c.args.outcomes.now (tag_vote c.args.outcomes.now (leads_of c.args.shape.now) (values_of c.args.outcomes.now c.args.done.now) (length c.args.done.now)) l c.loop-i.found)
+    subst (λ l. IsVerdict c.args.outcomes.now
+    (tag_vote c.args.outcomes.now (leads_of c.args.shape.now) (values_of c.args.outcomes.now c.args.done.now) (length c.args.done.now)) l c.loop-i.found)
     (take-past c.args.active.now c.loop-i.i c.loop-i-test.false) c.loop-i.invariant

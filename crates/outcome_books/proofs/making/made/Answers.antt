@@ -11,11 +11,13 @@ loop-i-init c = making-begun c.args.spec.now c.args.leaves.now c.in_ok-book.book
 
 pub returns-in-Err-clause-refused : goal.returns-in-Err-clause-refused
 returns-in-Err-clause-refused c =
-    not-run c.args.spec.now.run _ c.in-Err.error (lawful-at c.args.spec.now.run c.args.leaves.now c.loop-i.i none c.loop-i-test.true c.requires.lawful) c.in-Err.ensures.refused
+    not-run c.args.spec.now.run _ c.in-Err.error
+    (lawful-at c.args.spec.now.run c.args.leaves.now c.loop-i.i none c.loop-i-test.true c.requires.lawful) c.in-Err.ensures.refused
 
 pub loop-i-preserved : goal.loop-i-preserved
 loop-i-preserved c =
-    making-more c.args.spec.now c.args.leaves.now c.loop-i.i none c.loop-i.book c.in-Ok.more c.in_ok-book-2.book c.loop-i-test.true c.loop-i.invariant c.in-Ok.ensures.facts
+    making-more c.args.spec.now c.args.leaves.now c.loop-i.i none c.loop-i.book c.in-Ok.more c.in_ok-book-2.book c.loop-i-test.true c.loop-i.invariant
+    c.in-Ok.ensures.facts
     c.in-Ok.ensures.started c.in_ok-book-2.ensures
 
 pub returns-clause-started : goal.returns-clause-started

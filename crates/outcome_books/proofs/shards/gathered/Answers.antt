@@ -11,12 +11,14 @@ pub runs-preserved-in_ok-push : goal.runs-preserved-in_ok-push
 runs-preserved-in_ok-push c =
     let run = subst (GivesRun c.runs.walker c.next_run.new.self) c.in-Ok-Some.field-0-is c.in-Ok-Some.ensures.run in
     subst (IsGathering c.args.walker c.next_run.new.self) (sym c.in_ok-push.ensures.ok)
-    (gathered-more c.args.walker c.runs.walker c.next_run.new.self c.in-Ok-Some.run' c.runs.builder c.requires.file c.requires.bound c.runs.invariant run.0 c.in-Ok-Some.ensures.whole
+    (gathered-more c.args.walker c.runs.walker c.next_run.new.self c.in-Ok-Some.run' c.runs.builder c.requires.file c.requires.bound c.runs.invariant run.0
+    c.in-Ok-Some.ensures.whole
     run.2 c.known_fact.ensures)
 
 pub runs-preserved : goal.runs-preserved
 runs-preserved c =
     let run = subst (GivesRun c.runs.walker c.next_run.new.self) c.in-Ok-Some.field-0-is c.in-Ok-Some.ensures.run in
     subst (IsGathering c.args.walker c.next_run.new.self) (sym c.in_ok-push.ensures.ok)
-    (gathered-more c.args.walker c.runs.walker c.next_run.new.self c.in-Ok-Some.run' c.runs.builder c.requires.file c.requires.bound c.runs.invariant run.0 c.in-Ok-Some.ensures.whole
+    (gathered-more c.args.walker c.runs.walker c.next_run.new.self c.in-Ok-Some.run' c.runs.builder c.requires.file c.requires.bound c.runs.invariant run.0
+    c.in-Ok-Some.ensures.whole
     run.2 c.known_fact.ensures)

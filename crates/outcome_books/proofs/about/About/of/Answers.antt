@@ -10,4 +10,5 @@ invariant_of-result c =
 
 pub returns : goal.returns
 returns c =
-    about-is _ c.args.spec.now (subst (λ t. IsFileOf t c.args.spec.now) (sym (c.in_ok-text.ensures.ok ∙ c.text.ensures)) c.known.ensures) c.ranks.ensures c.shape_of.ensures
+    about-is _ c.args.spec.now
+    (subst (λ t. IsFileOf t c.args.spec.now) (sym (c.in_ok-text.ensures.ok ∙ c.text.ensures)) c.known.ensures) c.ranks.ensures c.shape_of.ensures

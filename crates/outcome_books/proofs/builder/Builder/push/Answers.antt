@@ -22,11 +22,16 @@ returns-in_err-tag-clause-err c =
 pub invariant_of-self-in_err-add_run : goal.invariant_of-self-in_err-add_run
 invariant_of-self-in_err-add_run c =
     let e = c.in_err-add_run.ensures.err in
-    record { kept = subst (IsKept c.tag_of.new.table) (sym e) (kept-more _ _ _ c.tag_of.ensures.extends c.self.invariant.kept); before = subst (λ rs. AllTo c.self.inside.next (firsts rs)) (sym e) c.self.invariant.before }
+    record {
+      kept = subst (IsKept c.tag_of.new.table) (sym e) (kept-more _ _ _ c.tag_of.ensures.extends c.self.invariant.kept);
+      before = subst
+          (λ rs. AllTo c.self.inside.next (firsts rs)) (sym e) c.self.invariant.before;
+    }
 
 pub returns-in_err-add_run-clause-err : goal.returns-in_err-add_run-clause-err
 returns-in_err-add_run-clause-err c =
-    let same = ap (facts_in c.tag_of.new.table) c.in_err-add_run.ensures.err ∙ same-facts-more _ _ c.self.inside.runs.items c.tag_of.ensures.extends c.self.invariant.kept.sound in
+    let same = ap (facts_in c.tag_of.new.table) c.in_err-add_run.ensures.err
+    ∙ same-facts-more _ _ c.self.inside.runs.items c.tag_of.ensures.extends c.self.invariant.kept.sound in
     let is = (λ i. record { facts = same i; next = c.self.inside.next }) ∙ c.self.view_is in
     search rules
 
@@ -41,6 +46,11 @@ invariant_of-self-2 c =
 
 pub returns-clause-ok : goal.returns-clause-ok
 returns-clause-ok c =
-    let facts = pushed _ _ _ _ _ c.args.first c.args.end c.args.fact.now c.tag_of.ensures.extends c.self.invariant.kept.sound refl refl c.in_ok-tag.ensures.fact c.in_ok-add_run.ensures.facts in
+    let facts = pushed _ _ _ _ _ c.args.first c.args.end c.args.fact.now c.tag_of.ensures.extends c.self.invariant.kept.sound refl refl c.in_ok-tag.ensures.fact
+    c.in_ok-add_run.ensures.facts in
     (λ i. record { facts = facts i; next = c.args.end })
-    ∙ ap (λ (b : Building). record { facts = union b.facts (from_list (repeated c.args.first (c.args.end - c.args.first) c.args.fact.now)); next = c.args.end }) c.self.view_is
+    ∙ ap (λ (b : Building). record {
+      facts = union b.facts
+          (from_list (repeated c.args.first (c.args.end - c.args.first) c.args.fact.now));
+      next = c.args.end;
+    }) c.self.view_is

@@ -10,7 +10,8 @@ bounds-outcomes-n c =
     let long : length c.as_slice-numbers.result.now ≡ length c.self.inside.numbers.items = ap length numbers in
     let few : c.args.rank < length c.as_slice-numbers.result.now = omega (arith, long, c.len.ensures, c.if-rank-len.false) in
     subst (λ os. get_or c.as_slice-numbers.result.now c.args.rank 0 < length os) (sym c.as_slice-outcomes.ensures.value)
-    (below-at (length c.self.inside.outcomes.items) c.as_slice-numbers.result.now c.args.rank 0 few (subst (AllBelow (length c.self.inside.outcomes.items)) (sym numbers) c.self.invariant))
+    (below-at (length c.self.inside.outcomes.items) c.as_slice-numbers.result.now c.args.rank 0 few
+    (subst (AllBelow (length c.self.inside.outcomes.items)) (sym numbers) c.self.invariant))
 
 pub offset_bounds-outcomes-n : goal.offset_bounds-outcomes-n
 offset_bounds-outcomes-n c =
@@ -19,7 +20,8 @@ offset_bounds-outcomes-n c =
     let few : c.args.rank < length c.as_slice-numbers.result.now = omega (arith, long, c.len.ensures, c.if-rank-len.false) in
     let lt : get_or c.as_slice-numbers.result.now c.args.rank 0 < length c.as_slice-outcomes.result.now =
     subst (λ os. get_or c.as_slice-numbers.result.now c.args.rank 0 < length os) (sym c.as_slice-outcomes.ensures.value)
-    (below-at (length c.self.inside.outcomes.items) c.as_slice-numbers.result.now c.args.rank 0 few (subst (AllBelow (length c.self.inside.outcomes.items)) (sym numbers) c.self.invariant)) in
+    (below-at (length c.self.inside.outcomes.items) c.as_slice-numbers.result.now c.args.rank 0 few
+    (subst (AllBelow (length c.self.inside.outcomes.items)) (sym numbers) c.self.invariant)) in
     search rules
 
 pub returns : goal.returns
@@ -28,7 +30,9 @@ returns c =
     let outcomes = c.as_slice-outcomes.ensures.value in
     let long : length c.as_slice-numbers.result.now ≡ length c.self.inside.numbers.items = ap length numbers in
     let few : c.args.rank < length c.self.inside.numbers.items = omega (arith, long, c.len.ensures, c.if-rank-len.false) in
-    outcome-at c.self.inside.outcomes.items c.self.inside.numbers.items c.args.self.now c.args.rank (get_or c.as_slice-numbers.result.now c.args.rank 0) c.index-outcomes-n.result c.index-outcomes-n.result
+    outcome-at c.self.inside.outcomes.items c.self.inside.numbers.items c.args.self.now c.args.rank
+    (get_or c.as_slice-numbers.result.now c.args.rank 0) c.index-outcomes-n.result c.index-outcomes-n.result
     c.self.view_is few (default-at c.as_slice-numbers.result.now c.self.inside.numbers.items c.args.rank numbers few)
     (c.index-outcomes-n.is ∙ ap (λ os. get_or os (get_or c.as_slice-numbers.result.now c.args.rank 0) c.index-outcomes-n.result) outcomes)
-    (subst (λ ns. get_or ns c.args.rank 0 < length c.self.inside.outcomes.items) (sym numbers) (below-at (length c.self.inside.outcomes.items) c.self.inside.numbers.items c.args.rank 0 few c.self.invariant))
+    (subst (λ ns. get_or ns c.args.rank 0 < length c.self.inside.outcomes.items) (sym numbers)
+    (below-at (length c.self.inside.outcomes.items) c.self.inside.numbers.items c.args.rank 0 few c.self.invariant))
