@@ -5,8 +5,6 @@ mod commands;
 mod fault;
 mod files;
 mod single;
-#[cfg(test)]
-mod tests;
 
 pub use commands::{fault_at, run, tell_words_fault};
 pub use fault::ProgramFault;

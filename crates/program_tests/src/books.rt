@@ -1,6 +1,6 @@
 //! Books by their calls: what jobs make, what is missing, what is reported, and what is refused. The test without memory is to be read
 //! under `rt try --test --fail-alloc` too.
-use super::walks::bound;
+use crate::walks::bound;
 use outcome_books::{Book, Job, Report, join, make, missing, report};
 use session_machine::run_one;
 use sql_subset::Spec;
@@ -206,7 +206,7 @@ fn told_of(alloc: Global, spec: &Spec) -> Option<String> {
 
 #[test]
 fn a_job_is_made_whole_unless_memory_runs_out(rt: HostRuntime) {
-    if let Some(spec) = bound(rt.alloc(), super::walks::DISJOINT) {
+    if let Some(spec) = bound(rt.alloc(), crate::walks::DISJOINT) {
         if let Some(told) = told_of(rt.alloc(), &spec) {
             assert_eq!(rt; told.as_str(), "alike");
         }

@@ -2,20 +2,20 @@
 ghost use Rattle.std.specs.Prelude.{All};
 ghost use Rattle.sql_statements.specs.Plan.{HasKeys};
 
-use super::{holding, tell};
+use crate::disks::{assert_tells, assert_text, holding, tell};
 use lock_modes::{Mode, Place, Value};
 use spec_reader::read_spec;
-use sql_subset::{Bound, bind, lock_plan};
+use sql_subset::{BindError, Bound, Spec, bind, lock_plan};
 use std::alloc::{AllocError, Global};
 use std::process::Abort;
 use std::test::Fail;
 
 /// A table with a key and one without.
-pub(super) const TWO_TABLES: &str =
+pub const TWO_TABLES: &str =
     "setup { CREATE TABLE t (id int PRIMARY KEY, v int, b text); CREATE TABLE u (a int, b text) }";
 
 /// Refusals, each with its place in the SQL behind it, of a step.
-pub(super) const REFUSED_STEPS: &str = "sql error 7 at 0: CREATE TABLE x (i int);
+pub const REFUSED_STEPS: &str = "sql error 7 at 0: CREATE TABLE x (i int);
 sql error 4 at 0: VACUUM
 sql error 4 at 0: SAVEPOINT s
 sql error 4 at 7: BEGIN; VACUUM
@@ -70,8 +70,45 @@ bind error 7 at 0: CREATE TABLE x (i int, i int)
 bind error 7 at 0: CREATE TABLE x (i int PRIMARY KEY PRIMARY KEY)
 bind error 7 at 0: CREATE TABLE x (i int PRIMARY KEY, PRIMARY KEY (i))";
 
-/// Each SQL between the front and the end of a file is refused with its kind, at its place in the file.
+/// A refusal's kind and place, and the SQL that it is of.
+#[derive(Clone, Copy)]
+pub struct Refusal<'a> {
+    pub kind: &'a str,
+    place: usize,
+    pub sql: &'a str,
+}
+
+pub fn refusal_of(row: &str) -> Option<Refusal<'_>> {
+    let (refusal, sql) = row.split_once(": ")?;
+    let (kind, place) = refusal.split_once(" at ")?;
+    let place = place.parse::<usize>().ok()?;
+    Some(Refusal { kind, place, sql })
+}
+
+/// The SQL between the front and the end of a file is refused with its kind, at its place in the file.
 fn assert_refused(
+    rt: &impl Abort,
+    alloc: Global,
+    row: &str,
+    front: &str,
+    end: &str,
+) -> Result<(), Fail> {
+    let refusal = refusal_of(row).ok_or("a refusal and its SQL")?;
+    let at = front.len().checked_add(refusal.place).ok_or("a place")?;
+    let text = format!(in alloc; "{front}{}{end}", refusal.sql)?;
+    let want = format!(in alloc; "isofarm: first.spec: {} at {at}\n", refusal.kind)?;
+    let want = (3, "", want.as_str());
+    assert_tells(
+        rt,
+        alloc,
+        "isofarm one first.spec 0",
+        &holding(text.as_bytes()),
+        want,
+    )?;
+    Ok(())
+}
+
+fn assert_all_refused(
     rt: &impl Abort,
     alloc: Global,
     rows: &str,
@@ -79,31 +116,31 @@ fn assert_refused(
     end: &str,
 ) -> Result<(), Fail> {
     for row in rows.lines() {
-        let (refusal, sql) = row.split_once(": ").ok_or("a refusal and its SQL")?;
-        let (kind, place) = refusal.split_once(" at ").ok_or("a kind and its place")?;
-        let place: usize = place.parse().map_err(|_| "a place")?;
-        let text = format!(in alloc; "{front}{sql}{end}")?;
-        let told = tell(alloc, "isofarm one first.spec 0", &holding(text.as_bytes()))?;
-        let at = front.len().checked_add(place).ok_or("a place")?;
-        let want = format!(in alloc; "isofarm: first.spec: {kind} at {at}\n")?;
-        assert_eq!(rt; told.status, 3, "{sql}");
-        assert_eq!(rt; told.err.as_str(), want.as_str(), "{sql}");
+        assert_refused(rt, alloc, row, front, end)?;
     }
     Ok(())
 }
 
 #[test]
 fn statements_that_do_not_fit_are_refused_at_their_place(rt: HostRuntime) -> Result<(), Fail> {
-    let alloc = rt.alloc();
-    let step = format!(in alloc; "{TWO_TABLES} session a step s {{")?;
-    assert_refused(&rt, alloc, REFUSED_STEPS, &step, "}")?;
-    let setup = format!(in alloc; "{TWO_TABLES} setup {{")?;
-    assert_refused(&rt, alloc, REFUSED_SETUPS, &setup, "} session a step s {}")?;
-    Ok(())
+    let step = format!(in rt.alloc(); "{TWO_TABLES} session a step s {{")?;
+    assert_all_refused(&rt, rt.alloc(), REFUSED_STEPS, &step, "}")
+}
+
+#[test]
+fn setups_that_do_not_fit_are_refused_at_their_place(rt: HostRuntime) -> Result<(), Fail> {
+    let setup = format!(in rt.alloc(); "{TWO_TABLES} setup {{")?;
+    assert_all_refused(
+        &rt,
+        rt.alloc(),
+        REFUSED_SETUPS,
+        &setup,
+        "} session a step s {}",
+    )
 }
 
 /// Statements over the two tables, each with its lock plan: modes on tables (T) and on the keys of rows (R).
-pub(super) const PLANS: &str = "SELECT * FROM t | S T0
+pub const PLANS: &str = "SELECT * FROM t | S T0
 SELECT * FROM t WHERE id = 2 | IS T0, S R0:2
 SELECT * FROM t WHERE (v > 0) AND id = 2 | IS T0, S R0:2
 SELECT * FROM t WHERE (v > 0 AND id = 2) AND v < 9 | IS T0, S R0:2
@@ -158,56 +195,79 @@ fn mode_word(mode: Mode) -> &'static str {
     }
 }
 
-fn place_text(alloc: Global, place: Place<'_>) -> Result<String, AllocError> {
+fn push_place(text: &mut String, place: Place<'_>) -> Result<(), AllocError> {
     match place {
-        Place::Table(table) => format!(in alloc; "T{table}"),
-        Place::Row(table, Value::Int(key)) => format!(in alloc; "R{table}:{key}"),
-        Place::Row(table, Value::Text(key)) => format!(in alloc; "R{table}:{}", key.as_str()),
+        Place::Table(table) => write!(text, "T{table}"),
+        Place::Row(table, Value::Int(key)) => write!(text, "R{table}:{key}"),
+        Place::Row(table, Value::Text(key)) => write!(text, "R{table}:{}", key.as_str()),
     }
 }
 
-fn plan_text(alloc: Global, statement: &Bound) -> Result<String, AllocError>
+fn push_request(
+    text: &mut String,
+    number: u8,
+    place: Place<'_>,
+    mode: Mode,
+) -> Result<(), AllocError> {
+    if number > 0 {
+        text.push_str(", ")?;
+    }
+    text.push_str(mode_word(mode))?;
+    text.push_str(" ")?;
+    push_place(text, place)
+}
+
+fn push_plan(text: &mut String, statement: &Bound) -> Result<(), AllocError>
     requires { HasKeys statement.now }
 {
-    let mut text = String::new(alloc);
     for number in 0..u8::MAX {
         let Some((place, mode)) = lock_plan(statement, number) else {
-            return Ok(text);
+            return Ok(());
         };
-        if number > 0 {
-            text.push_str(", ")?;
-        }
-        let word = mode_word(mode);
-        let place = place_text(alloc, place)?;
-        text.push_str(word)?;
-        text.push_str(" ")?;
-        text.push_str(&place)?;
+        push_request(text, number, place, mode)?;
     }
-    Ok(text)
+    Ok(())
 }
 
 /// The plans of the statements of a step.
-pub(super) fn plans_text(alloc: Global, statements: &[Bound]) -> Result<String, AllocError>
+fn plans_text(alloc: Global, statements: &[Bound]) -> Result<String, AllocError>
     requires { All HasKeys statements.now }
 {
     let mut text = String::new(alloc);
     for statement in statements {
-        text.push_str(&plan_text(alloc, statement)?)?;
+        push_plan(&mut text, statement)?;
     }
     Ok(text)
 }
 
+/// What the file of two tables and a step is bound to. None where memory ran out before.
+pub fn bound_step(alloc: Global, sql: &str) -> Option<Result<Spec, BindError>> {
+    let text = format!(in alloc; "{TWO_TABLES} session a step s {{{sql}}}").ok()?;
+    let read = read_spec(alloc, text.as_bytes()).ok()?;
+    Some(bind(alloc, &read))
+}
+
+/// The plans of the only step. None where memory ran out, or where there are more steps.
+pub fn plans_of(alloc: Global, spec: &Spec) -> Option<String> {
+    if spec.steps() != 1 {
+        return None;
+    }
+    plans_text(alloc, spec.statements(0)).ok()
+}
+
+fn assert_plan(rt: &impl Abort, alloc: Global, row: &str) -> Result<(), Fail> {
+    let (sql, want) = row.split_once(" | ").ok_or("a statement and its plan")?;
+    let bound = bound_step(alloc, sql).ok_or("a spec")?;
+    let spec = bound.ok().ok_or("a bound spec")?;
+    let told = plans_of(alloc, &spec).ok_or("one step")?;
+    assert_eq!(rt; told.as_str(), want, "{sql}");
+    Ok(())
+}
+
 #[test]
 fn each_statement_asks_for_the_locks_of_its_plan(rt: HostRuntime) -> Result<(), Fail> {
-    let alloc = rt.alloc();
     for row in PLANS.lines() {
-        let (sql, want) = row.split_once(" | ").ok_or("a statement and its plan")?;
-        let text = format!(in alloc; "{TWO_TABLES} session a step s {{{sql}}}")?;
-        let read = read_spec(alloc, text.as_bytes()).map_err(|_| "a spec")?;
-        let spec = bind(alloc, &read).map_err(|_| "a bound spec")?;
-        assert!(rt; spec.steps() == 1);
-        let told = plans_text(alloc, spec.statements(0))?;
-        assert_eq!(rt; told.as_str(), want, "{sql}");
+        assert_plan(&rt, rt.alloc(), row)?;
     }
     Ok(())
 }
@@ -224,6 +284,15 @@ const SHAPES: [(usize, usize, bool, bool); 8] = [
     (7, 1, true, false),
 ];
 
+/// A session of so many steps.
+fn push_session(text: &mut String, session: usize, steps: usize) -> Result<(), AllocError> {
+    write!(text, "session s{session} ")?;
+    for step in 0..steps {
+        write!(text, "step t{session}_{step} {{}} ")?;
+    }
+    Ok(())
+}
+
 fn spec_of_shape(
     alloc: Global,
     sessions: usize,
@@ -232,12 +301,7 @@ fn spec_of_shape(
 ) -> Result<String, AllocError> {
     let mut text = String::new(alloc);
     for session in 0..sessions {
-        let head = format!(in alloc; "session s{session} ")?;
-        text.push_str(&head)?;
-        for step in 0..steps {
-            let step = format!(in alloc; "step t{session}_{step} {{}} ")?;
-            text.push_str(&step)?;
-        }
+        push_session(&mut text, session, steps)?;
     }
     if has_line {
         text.push_str("permutation t0_0")?;
@@ -245,18 +309,27 @@ fn spec_of_shape(
     Ok(text)
 }
 
+fn assert_shape(
+    rt: &impl Abort,
+    alloc: Global,
+    text: &str,
+    is_shape: bool,
+) -> Result<(), AllocError> {
+    let told = tell(alloc, "isofarm one first.spec 0", &holding(text.as_bytes()))?;
+    let want = if is_shape {
+        ""
+    } else {
+        "isofarm: first.spec: bind error 8 at 0\n"
+    };
+    assert_text(rt, &told.err, want, text);
+    Ok(())
+}
+
 #[test]
 fn shapes_past_the_limits_are_refused(rt: HostRuntime) -> Result<(), Fail> {
-    let alloc = rt.alloc();
     for (sessions, steps, has_line, is_shape) in SHAPES {
-        let text = spec_of_shape(alloc, sessions, steps, has_line)?;
-        let told = tell(alloc, "isofarm one first.spec 0", &holding(text.as_bytes()))?;
-        let want = if is_shape {
-            ""
-        } else {
-            "isofarm: first.spec: bind error 8 at 0\n"
-        };
-        assert_eq!(rt; told.err.as_str(), want, "{sessions} {steps}");
+        let text = spec_of_shape(rt.alloc(), sessions, steps, has_line)?;
+        assert_shape(&rt, rt.alloc(), &text, is_shape)?;
     }
     Ok(())
 }

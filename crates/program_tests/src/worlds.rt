@@ -1,6 +1,6 @@
 //! The machine by its calls: a world takes steps, is forked, and tells its outcome and its locks. The tests without memory are
 //! to be read under `rt try --test --fail-alloc` too.
-use super::runs::TABLE;
+use crate::runs::TABLE;
 use lock_modes::{Mode, Place, Value};
 use session_machine::{RunError, SendError, StartError, World, run_one};
 use spec_reader::read_spec;
@@ -119,10 +119,15 @@ fn send(rt: &impl Abort, world: &mut World<'_>, step: u8) -> Result<(), SendErro
     world.send(step)
 }
 
+/// Sends a step, for which there is memory.
+fn go_on(rt: &impl Abort, world: &mut World<'_>, step: u8) {
+    send(rt, world, step).expect(rt, "a step is sent");
+}
+
 /// A world to which the step was sent first.
 fn world_after<'a>(rt: &impl Abort, alloc: Global, spec: &'a Spec, step: u8) -> World<'a> {
     let mut world = World::start(alloc, spec).expect(rt, "a start");
-    send(rt, &mut world, step).expect(rt, "a step is sent");
+    go_on(rt, &mut world, step);
     world
 }
 
@@ -146,7 +151,7 @@ const FIRST_TOLD: &str = "session a\n  step a1\n  inserted 1\n  done\nsession b\
 
 fn assert_fork_goes_on(rt: &impl Abort, alloc: Global, world: &World<'_>) {
     let mut fork = world.fork().expect(rt, "a fork");
-    send(rt, &mut fork, 1).expect(rt, "b1 is sent");
+    go_on(rt, &mut fork, 1);
     assert_tells(rt, alloc, &fork, BOTH_TOLD);
 }
 
@@ -198,12 +203,12 @@ fn assert_first_holds(rt: &impl Abort, world: &World<'_>) {
 }
 
 fn assert_second_waits(rt: &impl Abort, world: &mut World<'_>) {
-    send(rt, world, 2).expect(rt, "b1 is sent");
+    go_on(rt, world, 2);
     assert!(rt; who_waits(world) == (false, true), "b waits for a");
 }
 
 fn assert_second_goes_on(rt: &impl Abort, world: &mut World<'_>) {
-    send(rt, world, 1).expect(rt, "a2 is sent");
+    go_on(rt, world, 1);
     assert!(rt; world.wait_of(1).is_none(), "b goes on");
     assert!(rt; !world.spent() && world.spec().steps() == 4);
 }
@@ -217,28 +222,41 @@ fn a_world_tells_who_holds_and_who_waits(rt: HostRuntime) {
     assert_second_goes_on(&rt, &mut world);
 }
 
-/// The world after a step, or a fork taken before it where the step is refused memory, after the same step. None where the
-/// fork was refused too.
-fn after_step<'a>(rt: &impl Abort, mut world: World<'a>, step: u8) -> Option<World<'a>> {
-    let fork = world.fork();
-    let Err(error) = send(rt, &mut world, step) else {
-        return Some(world);
-    };
-    assert_eq!(rt; error, SendError::NoMemory);
+fn assert_spent(rt: &impl Abort, world: &mut World<'_>, step: u8) {
     assert!(rt;
         world.spent() && world.wait_of(1).is_none(),
         "a spent world tells nothing"
     );
-    match send(rt, &mut world, step) {
+    match send(rt, world, step) {
         Err(error) => assert_eq!(rt; error, SendError::Spent),
         Ok(()) => assert!(rt; false, "a spent world takes no step"),
     }
+}
+
+/// Whether there was memory for a step. Where there was none the world is spent.
+fn is_sent(rt: &impl Abort, world: &mut World<'_>, step: u8) -> bool {
+    let Err(error) = send(rt, world, step) else {
+        return true;
+    };
+    assert_eq!(rt; error, SendError::NoMemory);
+    assert_spent(rt, world, step);
+    false
+}
+
+/// Whether the world went on by a step, by itself or, where the step was refused memory, as a fork that was taken before. It did not
+/// where the fork was refused too.
+fn goes_on(rt: &impl Abort, world: &mut World<'_>, step: u8) -> bool {
+    let fork = world.fork();
+    if is_sent(rt, world, step) {
+        return true;
+    }
     match fork {
-        Ok(mut fork) => {
-            send(rt, &mut fork, step).expect(rt, "the fork goes on");
-            Some(fork)
+        Ok(fork) => {
+            *world = fork;
+            go_on(rt, world, step);
+            true
         }
-        Err(_) => None,
+        Err(_) => false,
     }
 }
 
@@ -260,23 +278,24 @@ fn start_where_memory<'a>(rt: &impl Abort, alloc: Global, spec: &'a Spec) -> Opt
     }
 }
 
-#[test]
-fn a_world_without_memory_is_spent_and_its_forks_go_on(rt: HostRuntime) {
-    let Some(spec) = spec_where_memory(rt.alloc(), LOST_UPDATE) else {
-        return;
-    };
-    let Some(mut world) = start_where_memory(&rt, rt.alloc(), &spec) else {
-        return;
-    };
+fn assert_goes_on(rt: &impl Abort, alloc: Global, world: &mut World<'_>) {
     for step in [0, 2, 1, 3] {
-        let Some(next) = after_step(&rt, world, step) else {
+        if !goes_on(rt, world, step) {
             return;
-        };
-        world = next;
+        }
     }
     match world.outcome() {
-        Ok(outcome) => assert_lost_update(&rt, rt.alloc(), &spec, &outcome),
+        Ok(outcome) => assert_lost_update(rt, alloc, world.spec(), &outcome),
         Err(error) => assert_eq!(rt; error, SendError::NoMemory),
+    }
+}
+
+#[test]
+fn a_world_without_memory_is_spent_and_its_forks_go_on(rt: HostRuntime) {
+    if let Some(spec) = spec_where_memory(rt.alloc(), LOST_UPDATE) {
+        if let Some(mut world) = start_where_memory(&rt, rt.alloc(), &spec) {
+            assert_goes_on(&rt, rt.alloc(), &mut world);
+        }
     }
 }
 

@@ -1,15 +1,15 @@
 //! What sessions are told, in tables of runs.
-use super::{holding, tell};
+use crate::disks::{assert_tells, assert_text, holding, tell};
 use std::alloc::{AllocError, Global};
 use std::process::Abort;
 use std::test::Fail;
 
 /// The table that `T` stands for in the runs.
-pub(super) const TABLE: &str =
+pub const TABLE: &str =
     "setup { CREATE TABLE t (id int PRIMARY KEY, v int); INSERT INTO t VALUES (1, 10), (2, 20); }";
 
 /// Runs: a name, a rank, a spec, and what the sessions are told, with a slash between two lines.
-pub(super) const RUNS: &str =
+pub const RUNS: &str =
     "a fault undoes its step alone | 0 | T session a step a1 { INSERT INTO t VALUES (3, 0); INSERT INTO t VALUES (3, 1); SELECT * FROM t; } step a2 { SELECT count(*), sum(v) FROM t; } | session a/step a1/inserted 1/error: duplicate key/done/step a2/row 2|30/rows 1/done
 conditions, order and aggregates | 0 | setup { CREATE TABLE n (w text, c int); INSERT INTO n VALUES ('it''s', 3), ('b', -1); } session a step a1 { SELECT w FROM n WHERE NOT c = 3 OR w = 'it''s' ORDER BY c; } step a2 { DELETE FROM n WHERE c = 3; } step a3 { SELECT count(*), sum(c) FROM n; } step a4 { SELECT sum(c) FROM n WHERE c > 9; } step a5 { UPDATE n SET c = 2 * c - 9223372036854775807; } | session a/step a1/row 'b'/row 'it''s'/rows 2/done/step a2/deleted 1/done/step a3/row 1|-1/rows 1/done/step a4/row 0/rows 1/done/step a5/error: integer out of range/done
 a line sends a step twice | 0 | T session a step a1 { SELECT v FROM t WHERE id = 1; } step a2 { LOCK t; SET x = 1; } session b step b1 { UPDATE t SET v = v + 1 WHERE id = 1; } permutation a1(*) b1(a1 notices 1) a1 a2 | session a/step a1/row 10/rows 1/done/step a1/row 11/rows 1/done/step a2/locked/set/done/session b/step b1/updated 1/done
@@ -89,39 +89,64 @@ a session's setup fails before another would wait | start error 2 at 0 | T sessi
 a session's setup waits for the lock of another | start error 3 at 1 | T session a setup { BEGIN; LOCK TABLE t; } step s {} session b setup { BEGIN; LOCK TABLE t; } step u {}
 a session's setup waits before a later one would fail | start error 3 at 1 | T session a setup { UPDATE t SET v = 0; BEGIN; } step s {} session b setup { SELECT v FROM t WHERE id = 2; } step u {} session c setup { INSERT INTO t VALUES (1, 0); } step w {}";
 
+/// A run: what it shows, its rank, its spec, and what the sessions are told.
+#[derive(Clone, Copy)]
+pub struct Run<'a> {
+    pub name: &'a str,
+    pub rank: &'a str,
+    pub spec: &'a str,
+    pub told: &'a str,
+}
+
+pub fn run_of(row: &str) -> Option<Run<'_>> {
+    let (name, rest) = row.split_once(" | ")?;
+    let (rank, rest) = rest.split_once(" | ")?;
+    let (spec, told) = rest.split_once(" | ")?;
+    Some(Run {
+        name,
+        rank,
+        spec,
+        told,
+    })
+}
+
 /// The lines of an outcome, of which those of events stand behind two spaces.
-pub(super) fn lines_of(alloc: Global, rank: &str, told: &str) -> Result<String, AllocError> {
+pub fn lines_of(alloc: Global, rank: &str, told: &str) -> Result<String, AllocError> {
     let mut text = format!(in alloc; "rank {rank}\n")?;
     for line in told.split('/') {
-        if !line.starts_with("session ") {
-            text.push_str("  ")?;
-        }
-        text.push_str(line)?;
-        text.push_str("\n")?;
+        let margin = if line.starts_with("session ") {
+            ""
+        } else {
+            "  "
+        };
+        write!(text, "{margin}{line}\n")?;
     }
     Ok(text)
 }
 
 /// The spec, with its table written out.
-pub(super) fn spec_of(alloc: Global, text: &str) -> Result<String, AllocError> {
+pub fn spec_of(alloc: Global, text: &str) -> Result<String, AllocError> {
     match text.strip_prefix("T ") {
         Some(rest) => format!(in alloc; "{TABLE} {rest}"),
         None => String::from_str(alloc, text),
     }
 }
 
-/// Each run tells its sessions what stands behind its spec.
+/// A run tells its sessions what stands behind its spec.
+fn assert_run(rt: &impl Abort, alloc: Global, run: &Run<'_>) -> Result<(), AllocError> {
+    let text = spec_of(alloc, run.spec)?;
+    let line = format!(in alloc; "isofarm one first.spec {}", run.rank)?;
+    let told = tell(alloc, &line, &holding(text.as_bytes()))?;
+    let want = lines_of(alloc, run.rank, run.told)?;
+    assert_text(rt, &told.err, "", run.name);
+    assert_text(rt, &told.out, &want, run.name);
+    Ok(())
+}
+
 fn assert_told(rt: &impl Abort, alloc: Global, rows: &str) -> Result<(), Fail> {
     for row in rows.lines() {
-        let (name, rest) = row.split_once(" | ").ok_or("a name")?;
-        let (rank, rest) = rest.split_once(" | ").ok_or("a rank")?;
-        let (spec, want) = rest.split_once(" | ").ok_or("a spec")?;
-        let text = spec_of(alloc, spec)?;
-        let words = format!(in alloc; "isofarm one first.spec {rank}")?;
-        let told = tell(alloc, &words, &holding(text.as_bytes()))?;
-        let want = lines_of(alloc, rank, want)?;
-        assert_eq!(rt; told.err.as_str(), "", "{name}");
-        assert_eq!(rt; told.out.as_str(), want.as_str(), "{name}");
+        let run = run_of(row).ok_or("a run")?;
+        assert_run(rt, alloc, &run)?;
     }
     Ok(())
 }
@@ -146,18 +171,30 @@ fn who_closes_a_ring_is_its_victim(rt: HostRuntime) -> Result<(), Fail> {
     assert_told(&rt, rt.alloc(), RINGS)
 }
 
+fn assert_refused(
+    rt: &impl Abort,
+    alloc: Global,
+    spec: &str,
+    want: &str,
+) -> Result<(), AllocError> {
+    let text = spec_of(alloc, spec)?;
+    let want = format!(in alloc; "isofarm: first.spec: {want}\n")?;
+    let want = (3, "", want.as_str());
+    assert_tells(
+        rt,
+        alloc,
+        "isofarm one first.spec 0",
+        &holding(text.as_bytes()),
+        want,
+    )
+}
+
 #[test]
 fn starts_are_refused_by_their_first_fault(rt: HostRuntime) -> Result<(), Fail> {
-    let alloc = rt.alloc();
     for row in REFUSED_STARTS.lines() {
-        let (name, rest) = row.split_once(" | ").ok_or("a name")?;
+        let (_name, rest) = row.split_once(" | ").ok_or("a name")?;
         let (want, spec) = rest.split_once(" | ").ok_or("a line")?;
-        let text = spec_of(alloc, spec)?;
-        let told = tell(alloc, "isofarm one first.spec 0", &holding(text.as_bytes()))?;
-        let want = format!(in alloc; "isofarm: first.spec: {want}\n")?;
-        assert_eq!(rt; told.status, 3, "{name}");
-        assert_eq!(rt; told.out.as_str(), "", "{name}");
-        assert_eq!(rt; told.err.as_str(), want.as_str(), "{name}");
+        assert_refused(&rt, rt.alloc(), spec, want)?;
     }
     Ok(())
 }

@@ -1,6 +1,6 @@
 //! The walker by its calls: the facts of a shard, the steps sent for them, and what is refused. The tests without memory are to be
 //! read under `rt try --test --fail-alloc` too.
-use super::runs::spec_of;
+use crate::runs::spec_of;
 use session_machine::RunError;
 use spec_reader::read_spec;
 use sql_subset::{Spec, bind};
@@ -23,44 +23,50 @@ two blocks that write one row | 0 | 6 | yes | ran ran ran ran ran ran | - | T se
 a writer that waits for the readers of a table | 7 | 9 | yes | ran ran | - | T session a setup { BEGIN; } step a1 { SELECT v FROM t WHERE id = 1; } step a2 { SELECT * FROM t; } session b setup { BEGIN; } step b1 { SELECT * FROM t; } step b2 { COMMIT; } session c step c1 { UPDATE t SET v = 5 WHERE id = 2; }";
 
 /// The spec of a row. None where memory ran out.
-pub(super) fn bound(alloc: Global, text: &str) -> Option<Spec> {
+pub(crate) fn bound(alloc: Global, text: &str) -> Option<Spec> {
     let text = spec_of(alloc, text).ok()?;
     let read = read_spec(alloc, text.as_bytes()).ok()?;
     bind(alloc, &read).ok()
 }
 
 /// A fact as the table of walks has it.
-fn push_fact(alloc: Global, text: &mut String, fact: &Fact) -> Result<(), AllocError> {
+fn push_fact(text: &mut String, fact: &Fact) -> Result<(), AllocError> {
     if !text.is_empty() {
         text.push_str(" ")?;
     }
     match fact {
-        Fact::Ran(_) => text.push_str("ran")?,
-        Fact::Swap(place) => {
-            let place = format!(in alloc; "{place}")?;
-            text.push_str(place.as_str())?;
-        }
+        Fact::Ran(_) => text.push_str("ran"),
+        Fact::Swap(place) => write!(text, "{place}"),
     }
-    Ok(())
+}
+
+/// The fact of the next rank. None where memory ran out.
+fn push_next(text: &mut String, walker: &mut Walker<'_>) -> Option<()> {
+    let (_rank, fact) = walker.next().ok()??;
+    push_fact(text, &fact).ok()
 }
 
 /// The facts of the next ranks, so many. None where memory ran out.
 fn facts_of(alloc: Global, walker: &mut Walker<'_>, count: u64) -> Option<String> {
     let mut text = String::new(alloc);
     for _rank in 0..count {
-        let (_rank, fact) = walker.next().ok()??;
-        push_fact(alloc, &mut text, &fact).ok()?;
+        push_next(&mut text, walker)?;
     }
     Some(text)
+}
+
+fn push_facts(text: &mut String, facts: &[(u64, Fact)]) -> Result<(), AllocError> {
+    for (_rank, fact) in facts {
+        push_fact(text, fact)?;
+    }
+    Ok(())
 }
 
 /// The same by one call. None where memory ran out.
 fn facts_at_once(alloc: Global, spec: &Spec, shard: Shard, reduce: bool) -> Option<String> {
     let facts = run_shard(alloc, spec, shard, reduce).ok()?;
     let mut text = String::new(alloc);
-    for (_rank, fact) in facts.iter() {
-        push_fact(alloc, &mut text, fact).ok()?;
-    }
+    push_facts(&mut text, &facts).ok()?;
     Some(text)
 }
 
@@ -68,55 +74,62 @@ fn is_done(walker: &mut Walker<'_>) -> bool {
     matches!(walker.next(), Ok(None))
 }
 
-fn assert_walk(
-    rt: &impl Abort,
-    alloc: Global,
-    spec: &Spec,
+/// A row of the table.
+#[derive(Clone, Copy)]
+struct Walk<'a> {
     shard: Shard,
     reduce: bool,
-    facts: &str,
+    facts: &'a str,
     sent: Option<u64>,
-) {
-    let mut walker = Walker::new(alloc, spec, shard, reduce)
-        .ok()
-        .expect(rt, "a walker");
-    let count = shard.end.saturating_sub(shard.first);
-    let told = facts_of(alloc, &mut walker, count).expect(rt, "facts");
-    assert_eq!(rt; told.as_str(), facts);
-    assert!(rt;
-        is_done(&mut walker) && is_done(&mut walker),
-        "none behind the last"
-    );
-    if sent.is_some() {
-        assert_eq!(rt; Some(walker.sent()), sent, "{facts}");
+    spec: &'a str,
+}
+
+fn shard_of(first: &str, end: &str) -> Option<Shard> {
+    let first = first.parse::<u64>().ok()?;
+    let end = end.parse::<u64>().ok()?;
+    Some(Shard { first, end })
+}
+
+fn walk_of(row: &str) -> Option<Walk<'_>> {
+    let (_name, rest) = row.split_once(" | ")?;
+    let (first, rest) = rest.split_once(" | ")?;
+    let (end, rest) = rest.split_once(" | ")?;
+    let (reduce, rest) = rest.split_once(" | ")?;
+    let (facts, rest) = rest.split_once(" | ")?;
+    let (sent, spec) = rest.split_once(" | ")?;
+    Some(Walk {
+        shard: shard_of(first, end)?,
+        reduce: reduce == "yes",
+        facts,
+        sent: sent.parse::<u64>().ok(),
+        spec,
+    })
+}
+
+fn assert_walked(rt: &impl Abort, alloc: Global, walker: &mut Walker<'_>, walk: &Walk<'_>) {
+    let count = walk.shard.end.saturating_sub(walk.shard.first);
+    let told = facts_of(alloc, walker, count).expect(rt, "facts");
+    assert_eq!(rt; told.as_str(), walk.facts);
+    assert!(rt; is_done(walker) && is_done(walker), "none behind the last");
+    if walk.sent.is_some() {
+        assert_eq!(rt; Some(walker.sent()), walk.sent, "{}", walk.facts);
+    }
+}
+
+fn assert_walk(rt: &impl Abort, alloc: Global, spec: &Spec, walk: &Walk<'_>) {
+    match Walker::new(alloc, spec, walk.shard, walk.reduce) {
+        Ok(mut walker) => assert_walked(rt, alloc, &mut walker, walk),
+        Err(_) => assert!(rt; false, "a walker of {}", walk.spec),
     }
 }
 
 /// A row of the table, walked rank by rank and at once.
 fn assert_row(rt: &impl Abort, alloc: Global, row: &str) -> Result<(), Fail> {
-    let (_name, rest) = row.split_once(" | ").ok_or("a name")?;
-    let (first, rest) = rest.split_once(" | ").ok_or("a rank")?;
-    let (end, rest) = rest.split_once(" | ").ok_or("an end")?;
-    let (reduce, rest) = rest.split_once(" | ").ok_or("yes or no")?;
-    let (facts, rest) = rest.split_once(" | ").ok_or("facts")?;
-    let (sent, spec) = rest.split_once(" | ").ok_or("steps sent")?;
-    let spec = bound(alloc, spec).ok_or("a spec that binds")?;
-    let shard = Shard {
-        first: first.parse::<u64>().ok().ok_or("a number")?,
-        end: end.parse::<u64>().ok().ok_or("a number")?,
-    };
-    let reduce = reduce == "yes";
-    assert_walk(
-        rt,
-        alloc,
-        &spec,
-        shard,
-        reduce,
-        facts,
-        sent.parse::<u64>().ok(),
-    );
-    let told = facts_at_once(alloc, &spec, shard, reduce).ok_or("facts")?;
-    assert_eq!(rt; told.as_str(), facts);
+    let walk = walk_of(row).ok_or("a walk")?;
+    let spec = bound(alloc, walk.spec).ok_or("a spec that binds")?;
+    assert_walk(rt, alloc, &spec, &walk);
+    let told = facts_at_once(alloc, &spec, walk.shard, walk.reduce).ok_or("facts")?;
+    assert_eq!(rt; told.as_str(), walk.facts);
     Ok(())
 }
 
@@ -137,28 +150,34 @@ const REFUSALS: &str =
 1 | 1 | setup block 1 fails | T setup { INSERT INTO t VALUES (1, 0); } session a step s {}
 0 | 2 | ranks out of range | T setup { INSERT INTO t VALUES (1, 0); } session a step s {}";
 
-fn refusals(alloc: Global, spec: &Spec, shard: Shard) -> [Option<RunError>; 2] {
-    [
-        Walker::new(alloc, spec, shard, true).err(),
-        run_shard(alloc, spec, shard, false).err(),
-    ]
+fn refused_walker(alloc: Global, spec: &Spec, shard: Shard) -> Option<RunError> {
+    Walker::new(alloc, spec, shard, true).err()
+}
+
+fn refused_shard(alloc: Global, spec: &Spec, shard: Shard) -> Option<RunError> {
+    run_shard(alloc, spec, shard, false).err()
+}
+
+fn assert_refusal(
+    rt: &impl Abort,
+    alloc: Global,
+    refusal: Option<RunError>,
+    why: &str,
+) -> Result<(), Fail> {
+    let refusal = refusal.ok_or("a refusal")?;
+    let told = format!(in alloc; "{refusal}")?;
+    assert_eq!(rt; told.as_str(), why);
+    Ok(())
 }
 
 fn assert_refused(rt: &impl Abort, alloc: Global, row: &str) -> Result<(), Fail> {
     let (first, rest) = row.split_once(" | ").ok_or("a rank")?;
     let (end, rest) = rest.split_once(" | ").ok_or("an end")?;
     let (why, spec) = rest.split_once(" | ").ok_or("a refusal")?;
+    let shard = shard_of(first, end).ok_or("two numbers")?;
     let spec = bound(alloc, spec).ok_or("a spec that binds")?;
-    let shard = Shard {
-        first: first.parse::<u64>().ok().ok_or("a number")?,
-        end: end.parse::<u64>().ok().ok_or("a number")?,
-    };
-    for refusal in refusals(alloc, &spec, shard) {
-        let refusal = refusal.ok_or("a refusal")?;
-        let told = format!(in alloc; "{refusal}")?;
-        assert_eq!(rt; told.as_str(), why);
-    }
-    Ok(())
+    assert_refusal(rt, alloc, refused_walker(alloc, &spec, shard), why)?;
+    assert_refusal(rt, alloc, refused_shard(alloc, &spec, shard), why)
 }
 
 #[test]
@@ -174,6 +193,13 @@ fn is_spent(walker: &mut Walker<'_>) -> bool {
     matches!(walker.next(), Err(WalkError::Spent))
 }
 
+/// The fact of the next rank, which is this one. None where memory ran out.
+fn fact_of(rt: &impl Abort, walker: &mut Walker<'_>, want: u64) -> Option<Fact> {
+    let (rank, fact) = walker.next().ok()??;
+    assert!(rt; rank == want, "{rank}");
+    Some(fact)
+}
+
 /// The fact of the next rank, from a new walker where the one at hand is refused memory. None where memory runs out again.
 fn next_anyhow<'a>(
     rt: &impl Abort,
@@ -182,29 +208,40 @@ fn next_anyhow<'a>(
     walker: &mut Walker<'a>,
     rest: Shard,
 ) -> Option<Fact> {
-    if let Ok(given) = walker.next() {
-        let (rank, fact) = given?;
-        assert_eq!(rt; rank, rest.first);
+    if let Some(fact) = fact_of(rt, walker, rest.first) {
         return Some(fact);
     }
     assert!(rt; is_spent(walker), "spent from then on");
     *walker = Walker::new(alloc, spec, rest, true).ok()?;
-    let (rank, fact) = walker.next().ok()??;
-    assert_eq!(rt; rank, rest.first);
-    Some(fact)
+    fact_of(rt, walker, rest.first)
 }
 
-/// All facts of a shard, in parts where memory is refused.
-fn facts_in_parts(rt: &impl Abort, alloc: Global, spec: &Spec, shard: Shard) -> Option<String> {
-    let mut walker = Walker::new(alloc, spec, shard, true).ok()?;
+fn push_next_anyhow<'a>(
+    rt: &impl Abort,
+    alloc: Global,
+    spec: &'a Spec,
+    walker: &mut Walker<'a>,
+    rest: Shard,
+    text: &mut String,
+) -> Option<()> {
+    let fact = next_anyhow(rt, alloc, spec, walker, rest)?;
+    push_fact(text, &fact).ok()
+}
+
+fn facts_anyhow<'a>(
+    rt: &impl Abort,
+    alloc: Global,
+    spec: &'a Spec,
+    walker: &mut Walker<'a>,
+    shard: Shard,
+) -> Option<String> {
     let mut text = String::new(alloc);
     for first in shard.first..shard.end {
         let rest = Shard {
             first,
             end: shard.end,
         };
-        let fact = next_anyhow(rt, alloc, spec, &mut walker, rest)?;
-        push_fact(alloc, &mut text, &fact).ok()?;
+        push_next_anyhow(rt, alloc, spec, walker, rest, &mut text)?;
     }
     Some(text)
 }
@@ -304,7 +341,15 @@ fn runs_follow_on_each_other_where_memory_ran_out_too(rt: HostRuntime) -> Result
     Ok(())
 }
 
-pub(super) const DISJOINT: &str =
+/// All facts of a shard, in parts where memory is refused.
+fn facts_in_parts(rt: &impl Abort, alloc: Global, spec: &Spec, shard: Shard) -> Option<String> {
+    match Walker::new(alloc, spec, shard, true) {
+        Ok(mut walker) => facts_anyhow(rt, alloc, spec, &mut walker, shard),
+        Err(_) => None,
+    }
+}
+
+pub(crate) const DISJOINT: &str =
     "setup { CREATE TABLE t (id int PRIMARY KEY); CREATE TABLE u (id int PRIMARY KEY); } session a step a1 { INSERT INTO t VALUES (2); } step a2 { DELETE FROM t WHERE id = 2; } session b step b1 { INSERT INTO u VALUES (2); } step b2 { DELETE FROM u WHERE id = 2; }";
 
 #[test]

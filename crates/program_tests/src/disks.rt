@@ -1,0 +1,119 @@
+//! What the program tells, run over a disk with one file.
+use iso_farm::{Opener, run};
+use std::alloc::{AllocError, Global};
+use std::io::{self, Read};
+use std::process::Abort;
+use transcripts::Counted;
+
+// Gives a byte a call, up to a call that fails, if one does.
+#[derive(Drop)]
+pub struct FileReader<'a> {
+    text: &'a [u8],
+    calls_left: Option<usize>,
+}
+
+impl Read for FileReader<'_> {
+    fn read(&mut self, buf: &mut [u8]) -> io::Result<usize> {
+        if self.calls_left == Some(0) {
+            return Err(io::Error::from(io::ErrorKind::Interrupted));
+        }
+        self.calls_left = self.calls_left.map(|left| left.saturating_sub(1));
+        match (self.text.split_first(), buf.first_mut()) {
+            (Some((byte, rest)), Some(place)) => {
+                *place = *byte;
+                self.text = rest;
+                Ok(1)
+            }
+            _ => Ok(0),
+        }
+    }
+}
+
+// A disk with one file, whose reader may fail at a call.
+#[derive(Drop)]
+pub struct Disk<'a> {
+    pub path: &'a str,
+    pub text: &'a [u8],
+    pub calls_left: Option<usize>,
+}
+
+impl<'a> Opener for Disk<'a> {
+    type Reader = FileReader<'a>;
+
+    fn open(&self, path: &str) -> Option<FileReader<'a>> {
+        if path != self.path {
+            return None;
+        }
+        Some(FileReader {
+            text: self.text,
+            calls_left: self.calls_left,
+        })
+    }
+}
+
+/// The disk that has the text as `first.spec`.
+pub fn holding<'a>(text: &'a [u8]) -> Disk<'a> {
+    Disk {
+        path: "first.spec",
+        text,
+        calls_left: None,
+    }
+}
+
+pub fn words_of(alloc: Global, line: &str) -> Result<Vec<String>, AllocError> {
+    let mut words = Vec::new(alloc);
+    for word in line.split(' ') {
+        words.push(String::from_str(alloc, word)?)?;
+    }
+    Ok(words)
+}
+
+/// What a run told: its status, and what it wrote.
+#[derive(Drop)]
+pub struct Told {
+    pub status: u8,
+    pub out: Vec<u8>,
+    pub err: Vec<u8>,
+}
+
+/// What the words tell over a disk.
+pub fn told_by(alloc: Global, words: &[String], disk: &Disk<'_>) -> Told {
+    let mut out = Counted::new(Vec::new(alloc));
+    let mut err = Counted::new(Vec::new(alloc));
+    let status = run(alloc, words, disk, &mut out, &mut err);
+    let (out, err) = (out.into_inner(), err.into_inner());
+    Told { status, out, err }
+}
+
+pub fn tell(alloc: Global, line: &str, disk: &Disk<'_>) -> Result<Told, AllocError> {
+    let words = words_of(alloc, line)?;
+    Ok(told_by(alloc, &words, disk))
+}
+
+/// Whether bytes are the text; else they are shown.
+pub fn assert_text(rt: &impl Abort, bytes: &[u8], want: &str, name: &str) {
+    match str::from_utf8(bytes) {
+        Ok(text) => assert_eq!(rt; text, want, "{name}"),
+        Err(_) => assert!(rt; false, "{name} is no UTF-8"),
+    }
+}
+
+pub fn assert_told(rt: &impl Abort, told: &Told, want: (u8, &str, &str), name: &str) {
+    let (status, out, err) = want;
+    assert_text(rt, &told.err, err, name);
+    assert_text(rt, &told.out, out, name);
+    assert_eq!(rt; told.status, status, "{name}");
+}
+
+/// Asserts the status, and what is written to the two outputs, of a line of words over a disk.
+pub fn assert_tells(
+    rt: &impl Abort,
+    alloc: Global,
+    line: &str,
+    disk: &Disk<'_>,
+    want: (u8, &str, &str),
+) -> Result<(), AllocError> {
+    let told = tell(alloc, line, disk)?;
+    assert_told(rt, &told, want, line);
+    Ok(())
+}
