@@ -268,7 +268,7 @@ fn next_run_anyhow<'a>(
 
 /// A run as the table of runs has it.
 fn push_run(alloc: Global, text: &mut String, run: &FactRun) -> Result<(), AllocError> {
-    push_fact(alloc, text, &run.fact)?;
+    push_fact(text, &run.fact)?;
     let ranks = format!(in alloc; " {}-{}", run.first, run.end)?;
     text.push_str(ranks.as_str())
 }
