@@ -70,6 +70,29 @@ fn print_sent(rt: &HostRuntime, walker: &mut Walker<'_>) -> io::Result<()> {
     Ok(())
 }
 
+/// Prints what a walker gives.
+fn print_walk(rt: &HostRuntime, walker: &mut Walker<'_>, how: &str) -> io::Result<ExitCode> {
+    if how == "sent" {
+        print_sent(rt, walker)?;
+    } else {
+        print_all(rt, walker)?;
+    }
+    Ok(ExitCode::SUCCESS)
+}
+
+fn print_shard(
+    rt: &HostRuntime,
+    path: &str,
+    spec: &Spec,
+    shard: Shard,
+    how: &str,
+) -> io::Result<ExitCode> {
+    match Walker::new(rt.alloc(), spec, shard, how == "reduce") {
+        Ok(mut walker) => print_walk(rt, &mut walker, how),
+        Err(error) => refuse(rt, path, OneFault::Run(error)),
+    }
+}
+
 /// Prints the facts of the ranks from `first` up to but not `end`, of a spec file: `[RANK,"swap",K]` or `[RANK,"ran",OUTCOME]`. With
 /// `reduce` a rank that has a swap is told by its least one, with `every` all are run, and with `sent` how many steps are sent for
 /// these ranks when all are run is printed in their place. What is refused is told by a line on standard error and status 3.
@@ -85,18 +108,8 @@ pub fn print_facts(
         end: number(end)?,
     };
     let text = text_of(rt, path)?;
-    let spec = match spec_of(rt.alloc(), &text) {
-        Ok(spec) => spec,
-        Err(fault) => return refuse(rt, path, fault),
-    };
-    let mut walker = match Walker::new(rt.alloc(), &spec, shard, how == "reduce") {
-        Ok(walker) => walker,
-        Err(error) => return refuse(rt, path, OneFault::Run(error)),
-    };
-    if how == "sent" {
-        print_sent(rt, &mut walker)?;
-    } else {
-        print_all(rt, &mut walker)?;
+    match spec_of(rt.alloc(), &text) {
+        Ok(spec) => print_shard(rt, path, &spec, shard, how),
+        Err(fault) => refuse(rt, path, fault),
     }
-    Ok(ExitCode::from(0))
 }

@@ -114,6 +114,24 @@ fn send_all_forked(world: &mut World<'_>, steps: &[u8]) -> io::Result<()>
     Ok(())
 }
 
+/// How long it takes to send the steps.
+fn time_of(
+    rt: &HostRuntime,
+    world: &mut World<'_>,
+    steps: &[u8],
+    with_forks: bool,
+) -> io::Result<Duration>
+    requires { All (λ k. k < length world.old.file.run.steps) steps.now }
+{
+    let start = Instant::now(rt)?;
+    if with_forks {
+        send_all_forked(world, steps)?;
+    } else {
+        send_all(world, steps)?;
+    }
+    start.elapsed(rt)
+}
+
 /// How long it takes to send the steps of a line, from the start on.
 fn time_of_line(
     rt: &HostRuntime,
@@ -123,16 +141,10 @@ fn time_of_line(
 ) -> io::Result<Duration>
     requires { All (λ k. k < length spec.now.run.steps) line.now.items }
 {
-    let Ok(mut world) = World::start(rt.alloc(), spec) else {
-        return Err(refused());
-    };
-    let start = Instant::now(rt)?;
-    if with_forks {
-        send_all_forked(&mut world, line.as_slice())?;
-    } else {
-        send_all(&mut world, line.as_slice())?;
+    match World::start(rt.alloc(), spec) {
+        Ok(mut world) => time_of(rt, &mut world, line.as_slice(), with_forks),
+        Err(_) => Err(refused()),
     }
-    start.elapsed(rt)
 }
 
 /// Sends the steps of each permutation once more.

@@ -126,20 +126,41 @@ fn each(time: Duration) -> u128 {
     time.as_nanos() / u128::from(OPERATIONS)
 }
 
+/// Of a put, and of an insertion into the standard library's map.
+fn time_of_puts(rt: &HostRuntime, count: u32, rounds: u32) -> io::Result<(u128, u128)> {
+    let own = puts(rt, count, rounds)?;
+    let other = inserts(rt, count, rounds)?;
+    Ok((each(own), each(other)))
+}
+
+/// Of a search, a removal and a fork.
+fn times_in(rt: &HostRuntime, count: u32, rounds: u32) -> io::Result<(u128, u128, u128)> {
+    let map = filled(rt.alloc(), count)?;
+    let get = gets(rt, &map, count, rounds)?;
+    let without = removals(rt, &map, count, rounds)?;
+    let fork = forks(rt, &map)?;
+    Ok((each(get), each(without), each(fork)))
+}
+
+/// Of a search in the standard library's map.
+fn time_beside(rt: &HostRuntime, count: u32, rounds: u32) -> io::Result<u128> {
+    let map = filled_beside(rt.alloc(), count)?;
+    Ok(each(gets_beside(rt, &map, count, rounds)?))
+}
+
+fn print_times(rt: &HostRuntime, count: u32, rounds: u32) -> io::Result<()> {
+    let (put, insert) = time_of_puts(rt, count, rounds)?;
+    let (get, without, fork) = times_in(rt, count, rounds)?;
+    let beside = time_beside(rt, count, rounds)?;
+    println!(rt;
+        "{count} keys: put {put} ({insert}), get {get} ({beside}), without {without}, fork {fork}"
+    )
+}
+
 fn maps(rt: &HostRuntime) -> io::Result<()> {
     println!(rt; "nanoseconds of one operation, and of the standard library's map")?;
     for (count, rounds) in [(10, 100_000), (1_000, 1_000), (100_000, 10)] {
-        let map = filled(rt.alloc(), count)?;
-        let beside = filled_beside(rt.alloc(), count)?;
-        println!(rt;
-            "{count} keys: put {} ({}), get {} ({}), without {}, fork {}",
-            each(puts(rt, count, rounds)?),
-            each(inserts(rt, count, rounds)?),
-            each(gets(rt, &map, count, rounds)?),
-            each(gets_beside(rt, &beside, count, rounds)?),
-            each(removals(rt, &map, count, rounds)?),
-            each(forks(rt, &map)?)
-        )?;
+        print_times(rt, count, rounds)?;
     }
     Ok(())
 }
