@@ -3,7 +3,7 @@ use Rattle.std.proofs.Common.{◌≡◌, ◌≢◌, refl, sym, ap, ◌∙◌, su
 use Rattle.std.specs.Option.{unwrap_or}
 use Rattle.std.specs.Result.{OnOk, OnErr}
 use Rattle.std.specs.Prelude.{Result, Ok, Err}
-use Rattle.version_tree.specs.Map.{same_key-true, get, insert, empty, get-empty, get-insert}
+use Rattle.finite_maps.specs.Map.{same_key-true, get, insert, empty, get-empty, get-insert}
 use Rattle.lock_modes.specs.RowPlace.{RowPlace, place_order}
 use Rattle.lock_modes.specs.declared.value.Value.{Value}
 use Rattle.row_tables.specs.Overlay.{Tuple, Overlay}

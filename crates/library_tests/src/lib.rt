@@ -19,6 +19,8 @@ mod queues;
 #[cfg(test)]
 mod ranks;
 #[cfg(test)]
+mod sizes;
+#[cfg(test)]
 mod spec_texts;
 #[cfg(test)]
 mod sql_texts;

@@ -1,6 +1,7 @@
 ghost use Rattle.std.specs.Prelude.{◌≡◌, ◌<◌};
 ghost use Rattle.transcripts.specs.Counted.{failures_of};
 
+use finite_maps::Fork;
 use lock_modes::{Row, Text, Value};
 use serde_json::Value as Json;
 use std::alloc::{AllocError, Global};
@@ -12,7 +13,6 @@ use transcripts::{
     Counted, Event, Fault, Log, Names, Outcome, ReadError, ReadFault, Transcript, ValueError,
     Warning, WriteFault, outcome_of_value, outcome_value, print, print_rank,
 };
-use version_tree::Fork;
 
 fn texts(alloc: Global, names: &[&str]) -> Result<Vec<Text>, AllocError> {
     let mut texts = Vec::new(alloc);

@@ -1,8 +1,8 @@
+use finite_maps::Fork;
 use lock_modes::{Mode, Resource, Row, Text, Value, compatible, cover};
 use std::alloc::{AllocError, Global};
 use std::cmp::Ordering;
 use std::test::Fail;
-use version_tree::Fork;
 
 const MODES: [Mode; 5] = [
     Mode::IntentShare,

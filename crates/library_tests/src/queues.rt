@@ -1,9 +1,9 @@
+use finite_maps::Fork;
 use lock_modes::{Mode, Place, Text, Value};
 use lock_queues::{Answer, LockTable};
 use std::alloc::{AllocError, Global};
 use std::process::Abort;
 use std::test::Fail;
-use version_tree::Fork;
 
 /// A call on the tables of these numbers, with what it is to answer.
 #[derive(Clone, Copy)]
@@ -239,9 +239,29 @@ static ARRIVAL: [Step; 13] = [
     Step::Waits(0, None),
 ];
 
+// As many waits as a spec's sessions can have beside the one that is waited for.
+static SIX_WAITS: [Step; 15] = [
+    Step::Ask(6, 0, Mode::Exclusive, Answer::Granted),
+    Step::Ask(5, 0, Mode::Exclusive, Answer::Waits),
+    Step::Ask(0, 0, Mode::Exclusive, Answer::Waits),
+    Step::Ask(4, 0, Mode::Exclusive, Answer::Waits),
+    Step::Ask(1, 0, Mode::Exclusive, Answer::Waits),
+    Step::Ask(3, 0, Mode::Exclusive, Answer::Waits),
+    Step::Ask(2, 0, Mode::Exclusive, Answer::Waits),
+    Step::Grant(None),
+    Step::LetGo(6),
+    Step::Grant(Some(5)),
+    Step::Grant(None),
+    Step::LetGo(5),
+    Step::LetGo(0),
+    Step::Grant(Some(4)),
+    Step::Waits(2, Some(Mode::Exclusive)),
+];
+
 #[test]
 fn waits_are_granted_as_they_came(rt: HostRuntime) -> Result<(), Fail> {
     play_anew(&rt, rt.alloc(), &ARRIVAL)?;
+    play_anew(&rt, rt.alloc(), &SIX_WAITS)?;
     Ok(())
 }
 

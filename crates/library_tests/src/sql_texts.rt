@@ -1,10 +1,9 @@
 use crate::repeated;
-use sql_reader::SqlErrorKind::{
+use sql_grammar::SqlErrorKind::{
     BadToken, NoMemory, NotHere, NumberTooLarge, Syntax, TooLarge, Unclosed, Unsupported,
 };
-use sql_reader::{
-    AddSign, Atom, Factor, Form, Literal, SqlError, SqlErrorKind, Statement, read_sql,
-};
+use sql_grammar::{AddSign, Atom, Factor, Form, Literal, SqlError, SqlErrorKind, Statement};
+use sql_reader::read_sql;
 use std::alloc::{AllocError, Global};
 use std::test::Fail;
 
@@ -283,13 +282,13 @@ fn conditions_are_32_levels_deep_at_most(rt: HostRuntime) -> Result<(), Fail> {
 
 #[test]
 fn long_texts_are_read(rt: HostRuntime) -> Result<(), Fail> {
-    for (front, part) in [
-        ("DELETE FROM t WHERE v = 1", "+1"),
-        ("DELETE FROM t WHERE v = 1", " OR a=2 AND b=3"),
-        ("UPDATE t SET a = b", "*2"),
-        ("COMMIT", ";"),
+    for (front, part, times) in [
+        ("DELETE FROM t WHERE v = 1", "+1", 30_000),
+        ("DELETE FROM t WHERE v = 1", " OR a=2 AND b=3", 4_000),
+        ("UPDATE t SET a = b", "*2", 30_000),
+        ("COMMIT", ";", 60_000),
     ] {
-        let text = repeated(rt.alloc(), front, part, 4000, "")?;
+        let text = repeated(rt.alloc(), front, part, times, "")?;
         assert_eq!(rt; refusal(rt.alloc(), &text), None, "{front}");
     }
     Ok(())

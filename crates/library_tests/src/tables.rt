@@ -1,12 +1,12 @@
 ghost use Rattle.std.specs.Prelude.{◌≡◌};
 ghost use Rattle.library_tests.specs.Owned.{owner, HasOwners};
 
+use finite_maps::Fork;
 use lock_modes::{Row, Text, Value};
 use row_tables::Store;
 use std::alloc::{AllocError, Global};
 use std::process::Abort;
 use std::test::Fail;
-use version_tree::Fork;
 
 #[derive(Clone, Copy)]
 enum Key {

@@ -1,7 +1,8 @@
+use finite_maps::Fork;
 use std::alloc::{AllocError, Global};
 use std::process::Abort;
 use std::test::Fail;
-use version_tree::{Fork, Ticks, VMap};
+use version_tree::{Ticks, VMap};
 
 /// The place of each key from 1 to 1000, by a factor: 1 is the rising order, 1000 the falling one, and
 /// 379 a scattered one.

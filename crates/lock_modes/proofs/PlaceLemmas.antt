@@ -2,7 +2,7 @@
 use Rattle.std.specs.Prelude.{◌≡◌, ◌↔◌, ℕ, IsTrue}
 use Rattle.std.proofs.Common.{subst}
 use Rattle.std.specs.Ordering.{eq_by_cmp}
-use Rattle.version_tree.specs.Map.{same_key-true, same_key-refl}
+use Rattle.finite_maps.specs.Map.{same_key-true, same_key-refl}
 use Rattle.lock_modes.specs.Value.{value_cmp, value_order}
 use Rattle.lock_modes.specs.declared.value.Value.{Value}
 use Rattle.lock_modes.specs.declared.resource.Resource.TheVariants.{Row}

@@ -5,7 +5,7 @@ use Rattle.std.specs.declared.cmp.Ordering.TheVariants.{Equal}
 use Rattle.std.specs.Ordering.{nat_cmp, on, then_cmp}
 use Rattle.std.specs.Cmp.{IsTotalOrder, nat_cmp_total, on_total, then_total}
 use Rattle.std.specs.FinMap.{nat_cmp-IsAntisymmetric}
-use Rattle.version_tree.specs.Map.{Order}
+use Rattle.finite_maps.specs.Map.{Order}
 use Rattle.lock_modes.specs.Value.{value_cmp, value_total, value_same}
 use Rattle.lock_modes.specs.Resource.{both_equal}
 use Rattle.lock_modes.specs.declared.value.Value.{Value}

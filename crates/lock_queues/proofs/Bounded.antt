@@ -5,7 +5,7 @@ use Rattle.std.proofs.lemmas.Bool.{and_from, and_parts, cases_eq, false_from_ne_
 use Rattle.lock_modes.specs.Mode.{cover}
 use Rattle.lock_modes.specs.declared.mode.Mode.{Mode}
 use Rattle.lock_modes.specs.declared.resource.Resource.{Resource}
-use Rattle.version_tree.specs.Map.{get, insert, get-insert, same_map, same_key, same_key-true}
+use Rattle.finite_maps.specs.Map.{get, insert, get-insert, same_map, same_key, same_key-true}
 use Rattle.lock_queues.specs.Locks.{Wait, Spot, Look, all_below, fits, fits_with, wanted, wanted_by, may_have, closes_ring, answered, is_ripe, first_ripe, spots_from, waits_for, waits_now}
 use Rattle.lock_queues.specs.LockTable.{Locks, Holding, holding_cmp, holding_order, Asked, ask, look_in, queued, taken, Fits}
 use Rattle.lock_queues.specs.Sound.{Way, EachWait, edges, IsSound}

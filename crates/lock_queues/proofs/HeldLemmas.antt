@@ -7,8 +7,8 @@ use Rattle.std.specs.Ordering.{nat_cmp, eq_by_cmp}
 use Rattle.std.specs.Cmp.{nat_cmp_total}
 use Rattle.std.specs.FinMap.Entries.{find, put, find-put, find-where_key, below_all, is_sorted}
 use Rattle.std.proofs.lemmas.Bool.{and_from, and_parts, both_ways, cases_Bool, or_cases, or_left, or_right}
-use Rattle.version_tree.specs.Entries.{without}
-use Rattle.version_tree.specs.Map.{Map, get, entries, insert, get-insert, keep, get-keep, empty, get-empty, same_map, same_key, same_key-true, same_key-refl}
+use Rattle.finite_maps.specs.Entries.{without}
+use Rattle.finite_maps.specs.Map.{Map, get, entries, insert, get-insert, keep, get-keep, empty, get-empty, same_map, same_key, same_key-true, same_key-refl}
 use Rattle.version_tree.proofs.EntriesLemmas.{front, back, less}
 use Rattle.lock_modes.specs.Resource.{resource_order, resource_cmp}
 use Rattle.lock_modes.specs.declared.mode.Mode.{Mode}
@@ -17,7 +17,7 @@ use Rattle.lock_queues.specs.Tabulate.{get-tabulate}
 use Rattle.lock_queues.specs.Locks.{fits_with}
 use Rattle.lock_queues.specs.LockTable.{Holding, holding_order, Fits, look_at}
 use Rattle.lock_queues.specs.Records.{Sessions, mode_of, known_modes, held_by, holdings_of, held_map, all_fit}
-use Rattle.version_tree.specs.Numbers.{nat_order}
+use Rattle.finite_maps.specs.Numbers.{nat_order}
 use Rattle.lock_queues.proofs.Known.{any-left, any-right, known-through}
 use Rattle.lock_queues.proofs.ModesLemmas.{then-both}
 

@@ -9,7 +9,7 @@ use Rattle.lock_modes.specs.Mode.{compatible}
 use Rattle.lock_modes.proofs.ModeLaws.{compatible-comm}
 use Rattle.lock_modes.specs.declared.mode.Mode.{Mode}
 use Rattle.lock_modes.specs.declared.resource.Resource.{Resource}
-use Rattle.version_tree.specs.Map.{Map, get, get-empty, insert, get-insert, keep, get-keep, same_key, same_key-true}
+use Rattle.finite_maps.specs.Map.{Map, get, get-empty, insert, get-insert, keep, get-keep, same_key, same_key-true}
 use Rattle.lock_queues.specs.Locks.{Wait, Spot, Look, fits_with, wanted, wanted_by, waits_now, waits_for}
 use Rattle.lock_queues.specs.LockTable.{Locks, Holding, holding_order, no_locks, look_at, look_in, queued, taken, let_go, grant, Fits}
 use Rattle.lock_queues.specs.Sound.{NoRing, HeldTogether, EachWait, Distinct, edges, IsSound}

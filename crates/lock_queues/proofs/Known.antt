@@ -4,7 +4,7 @@ use Rattle.std.proofs.Common.{subst}
 use Rattle.std.specs.List.{list_any}
 use Rattle.std.specs.FinMap.Entries.{find}
 use Rattle.std.proofs.lemmas.Bool.{or_left, or_right}
-use Rattle.version_tree.specs.Map.{Order, same_key, same_key-true, same_key-refl}
+use Rattle.finite_maps.specs.Map.{Order, same_key, same_key-true, same_key-refl}
 
 pub any-left : {A : Type 0} (f : A → Bool) (xs ys : List A) → list_any f xs ≡ true → list_any f (xs ++ ys) ≡ true
 any-left f [] ys e = absurd (true-false e)

@@ -7,7 +7,7 @@ use Rattle.std.specs.declared.cmp.Ordering.TheVariants.{Less, Equal, Greater}
 use Rattle.std.specs.Ordering.{nat_cmp, is_eq, ordering_then, eq_by_cmp}
 use Rattle.std.specs.Cmp.{nat_cmp_total}
 use Rattle.std.specs.FinMap.Entries.{find, put, find-put}
-use Rattle.version_tree.specs.Map.{get, insert, get-insert, empty, get-empty, same_map, same_key, same_key-true}
+use Rattle.finite_maps.specs.Map.{get, insert, get-insert, empty, get-empty, same_map, same_key, same_key-true}
 use Rattle.lock_modes.specs.Value.{value_cmp, value_order, value_total}
 use Rattle.lock_modes.specs.Resource.{resource_order, same_resource}
 use Rattle.lock_modes.specs.declared.mode.Mode.{Mode}
@@ -16,7 +16,7 @@ use Rattle.lock_modes.specs.declared.resource.Resource.{Resource}
 use Rattle.lock_modes.specs.declared.resource.Resource.TheVariants.{Table, Row}
 use Rattle.lock_queues.specs.Tabulate.{get-tabulate}
 use Rattle.lock_queues.specs.Records.{Tables, Keys, mode_at, mode_at_key, known_keys, rows_of, resources_of, modes_map}
-use Rattle.version_tree.specs.Numbers.{nat_order}
+use Rattle.finite_maps.specs.Numbers.{nat_order}
 use Rattle.lock_queues.proofs.Known.{any-left, any-right, known-through}
 
 row-known : (t : ℕ) (k : Value) (keys : Keys) → is_some (mode_at_key (find nat_cmp t keys) k) ≡ true → list_any (same_resource (Row t k)) (rows_of keys) ≡ true

@@ -2,7 +2,7 @@
 use Rattle.std.proofs.Common.{◌≡◌, ◌≢◌, refl, sym, ap, ◌∙◌, ℕ, Bool, true, false, cond, not, ◌&&◌, ◌==◌, List, [], ◌∷◌, Some, None, eqb-true, eq-eqb}
 use Rattle.std.specs.FinMap.Entries.{find}
 use Rattle.std.proofs.lemmas.Bool.{both_ways, false_from_ne_true}
-use Rattle.version_tree.specs.Map.{Map, same_key, same_key-true, same_key-refl, get, insert, get-insert, keep, get-keep, entries, empty, get-empty, same_map}
+use Rattle.finite_maps.specs.Map.{Map, same_key, same_key-true, same_key-refl, get, insert, get-insert, keep, get-keep, entries, empty, get-empty, same_map}
 use Rattle.lock_modes.specs.Resource.{resource_order}
 use Rattle.lock_queues.specs.LockTable.{Holding, holding_cmp, holding_order, slice, slice_of}
 use Rattle.lock_modes.specs.declared.mode.Mode.{Mode}

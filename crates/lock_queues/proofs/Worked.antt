@@ -1,6 +1,6 @@
 -- Worked runs of the definitions.
 use Rattle.std.proofs.Common.{◌≡◌, refl, ℕ, List, [], ◌∷◌, Option, Some, None, option_map}
-use Rattle.version_tree.specs.Map.{get, insert, keep, empty}
+use Rattle.finite_maps.specs.Map.{get, insert, keep, empty}
 use Rattle.lock_queues.specs.Locks.{Spot}
 use Rattle.lock_queues.specs.LockTable.{no_locks, look_in, ask, Asked, let_go, to_grant}
 use Rattle.lock_queues.specs.declared.answer.Answer.{Answer}

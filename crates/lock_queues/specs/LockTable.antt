@@ -4,7 +4,7 @@ use Rattle.std.proofs.Common.{Ordering, Equal, nat_cmp}
 use Rattle.std.specs.Ordering.{on, then_cmp}
 use Rattle.std.specs.Cmp.{IsTotalOrder, nat_cmp_total, on_total, then_total}
 use Rattle.std.specs.FinMap.{nat_cmp-IsAntisymmetric}
-use Rattle.version_tree.specs.Map.{Map, Order, get, insert, keep, entries, empty}
+use Rattle.finite_maps.specs.Map.{Map, Order, get, insert, keep, entries, empty}
 use Rattle.lock_modes.specs.Resource.{resource_order, resource_cmp, resource_total, resource_same, both_equal}
 use Rattle.lock_queues.specs.Locks.{Wait, Spot, Look, fits_with, wanted, may_have, closes_ring, answered, next_grant}
 use Rattle.lock_queues.specs.declared.answer.Answer.{Answer}

@@ -3,7 +3,7 @@ use Rattle.std.specs.Prelude.{ℕ, Bool, ◌||◌, ◌==◌, List, [], ◌∷◌
 use Rattle.std.specs.List.{list_all}
 use Rattle.std.specs.Ordering.{nat_cmp}
 use Rattle.std.specs.FinMap.Entries.{find}
-use Rattle.version_tree.specs.Map.{Map, get, entries, empty}
+use Rattle.finite_maps.specs.Map.{Map, get, entries, empty}
 use Rattle.lock_modes.specs.Value.{value_cmp}
 use Rattle.lock_modes.specs.Resource.{resource_order}
 use Rattle.lock_modes.specs.declared.mode.Mode.{Mode}

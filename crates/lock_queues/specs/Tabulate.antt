@@ -2,7 +2,7 @@
 use Rattle.std.specs.Prelude.{◌≡◌, refl, Bool, true, false, cond, ◌||◌, List, [], ◌∷◌, Option, Some, None, is_some}
 use Rattle.std.proofs.Common.{sym, ap, ◌∙◌}
 use Rattle.std.specs.List.{list_any}
-use Rattle.version_tree.specs.Map.{Order, Map, same_key, same_key-true, get, get-empty, insert, get-insert, empty}
+use Rattle.finite_maps.specs.Map.{Order, Map, same_key, same_key-true, get, get-empty, insert, get-insert, empty}
 
 module _ {K X : Type 0} (o : Order K) where
   abbrev with_entry : Map o X → K → Option X → Map o X

@@ -1,16 +1,17 @@
 ghost use Rattle.std.specs.Prelude.{◌≡◌, ◌==◌, ◌↔◌, ℕ, not, IfOk, IsTrue};
 ghost use Rattle.std.specs.Option.{option_copied};
-ghost use Rattle.version_tree.specs.Map.{get, insert, keep, empty};
+ghost use Rattle.finite_maps.specs.Map.{get, insert, keep, empty};
 ghost use Rattle.lock_modes.specs.Resource.{resource_at};
 ghost use Rattle.lock_queues.specs.Locks as locks;
 ghost use Rattle.lock_queues.specs.LockTable.{Holding, Fits, look_at};
 ghost use Rattle.lock_queues.specs.Records as records;
 
 use crate::modes::Modes;
+use finite_maps::Fork;
 use lock_modes::{Mode, Place, compatible};
 use std::alloc::{AllocError, Global};
 use std::marker::Model;
-use version_tree::{Fork, VMap};
+use version_tree::VMap;
 
 /// The modes that sessions hold. A session that holds none has no entry.
 #[derive(Drop)]
@@ -21,8 +22,8 @@ pub struct Held {
 
 impl Model for Held {
     ghost use Rattle.std.specs.Coded.{codes};
-    ghost use Rattle.version_tree.specs.Codes.{map_code};
-    ghost use Rattle.version_tree.specs.Map.{Map};
+    ghost use Rattle.finite_maps.specs.Codes.{map_code};
+    ghost use Rattle.finite_maps.specs.Map.{Map};
     ghost use Rattle.lock_modes.specs.declared.mode.Mode.{Mode};
     ghost use Rattle.lock_modes.specs.contracts.resource.Resource as resource;
     ghost use Rattle.lock_queues.specs.LockTable.{holding_order};

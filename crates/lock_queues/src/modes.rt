@@ -1,15 +1,16 @@
 ghost use Rattle.std.specs.Prelude.{◌≡◌, IfOk};
-ghost use Rattle.version_tree.specs.Map.{get, insert, empty};
+ghost use Rattle.finite_maps.specs.Map.{get, insert, empty};
 ghost use Rattle.std.specs.Option.{option_copied};
 ghost use Rattle.std.specs.FinMap.Entries.{put};
 ghost use Rattle.lock_modes.specs.Value.{value_cmp};
 ghost use Rattle.lock_modes.specs.Resource.{resource_at};
 ghost use Rattle.lock_queues.specs.Records.{known_keys};
 
+use finite_maps::Fork;
 use lock_modes::{Mode, Place, Value};
 use std::alloc::{AllocError, Global};
 use std::marker::Model;
-use version_tree::{Fork, VMap};
+use version_tree::VMap;
 
 /// The modes that one session holds: by table, and there by key, so that a look-up takes no memory.
 #[derive(Drop)]
@@ -20,8 +21,8 @@ pub struct Modes {
 
 impl Model for Modes {
     ghost use Rattle.std.specs.Coded.{codes};
-    ghost use Rattle.version_tree.specs.Codes.{map_code};
-    ghost use Rattle.version_tree.specs.Map.{Map};
+    ghost use Rattle.finite_maps.specs.Codes.{map_code};
+    ghost use Rattle.finite_maps.specs.Map.{Map};
     ghost use Rattle.lock_modes.specs.Resource.{resource_order};
     ghost use Rattle.lock_modes.specs.declared.mode.Mode.{Mode};
     ghost use Rattle.lock_modes.specs.contracts.resource.Resource as resource;

@@ -12,10 +12,10 @@ use crate::held::Held;
 use crate::queue::{next_ripe, wanted, wanted_mode};
 use crate::ring::is_in_ring;
 use crate::wait::Wait;
+use finite_maps::Fork;
 use lock_modes::{Mode, Place};
 use std::alloc::{AllocError, Global};
 use std::marker::Model;
-use version_tree::Fork;
 
 /// Who holds which mode, and who waits, in the order of arrival.
 ///
@@ -30,7 +30,7 @@ pub struct LockTable {
 
 impl Model for LockTable {
     ghost use Rattle.std.specs.Coded.{codes};
-    ghost use Rattle.version_tree.specs.Codes.{map_code};
+    ghost use Rattle.finite_maps.specs.Codes.{map_code};
     ghost use Rattle.lock_modes.specs.contracts.resource.Resource as resource;
     ghost use Rattle.lock_queues.specs.contracts.wait.Wait as waiting;
     ghost use Rattle.lock_queues.specs.LockTable as spec;

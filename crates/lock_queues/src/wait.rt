@@ -1,9 +1,9 @@
 ghost use Rattle.std.specs.Prelude.{◌≡◌, IfOk};
 ghost use Rattle.lock_modes.specs.Resource.{resource_at, same_resource};
 
+use finite_maps::Fork;
 use lock_modes::{Mode, Place, Resource};
 use std::alloc::AllocError;
-use version_tree::Fork;
 
 /// A session that waits, with the mode that it asked for on a resource.
 #[derive(Drop)]

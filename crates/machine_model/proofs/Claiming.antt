@@ -1,7 +1,7 @@
 -- What a session claims.
 use Rattle.std.proofs.Common.{◌≡◌, ap, ◌∙◌, Bool, true, false, ◌&&◌, ◌||◌, List, [], ◌∷◌, Option, Some, None, ◌⊎◌, inl, inr, ⊎_elim}
 use Rattle.std.specs.List.{list_any}
-use Rattle.version_tree.specs.Map.{same_key-true, same_key-refl, get}
+use Rattle.finite_maps.specs.Map.{same_key-true, same_key-refl, get}
 use Rattle.lock_modes.specs.RowPlace.{RowPlace}
 use Rattle.lock_modes.specs.Resource.{resource_order, same_resource}
 use Rattle.lock_modes.specs.Mode.{same_mode}

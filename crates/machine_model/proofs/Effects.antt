@@ -1,6 +1,6 @@
 -- What the plan of a statement says of what it reads and writes.
 use Rattle.std.proofs.Common.{◌≡◌, refl, subst, ℕ, Bool, true, false, ◌&&◌, ◌||◌, List, [], ◌∷◌, map, Some, None, ◌⊎◌, inl, inr, ⊎_elim}
-use Rattle.version_tree.specs.Map.{same_key-true, same_key-refl, entries}
+use Rattle.finite_maps.specs.Map.{same_key-true, same_key-refl, entries}
 use Rattle.lock_modes.specs.RowPlace.{RowPlace}
 use Rattle.lock_modes.specs.Resource.{resource_order, same_resource}
 use Rattle.lock_modes.specs.Mode.{compatible}

@@ -1,6 +1,6 @@
 -- What fits beside what others hold.
 use Rattle.std.proofs.Common.{◌≡◌, ◌≢◌, refl, sym, ap, ◌∙◌, ℕ, zero, suc, ◌<◌, Bool, true, ◌||◌, ◌==◌, length, Option, Some, None, ◌⊎◌, ⊎_elim, arith, eq-eqb, eqb-true}
-use Rattle.version_tree.specs.Map.{get}
+use Rattle.finite_maps.specs.Map.{get}
 use Rattle.lock_modes.specs.Mode.{compatible}
 use Rattle.lock_queues.specs.Locks.{Look, fits, fits_with, all_below}
 use Rattle.machine_model.specs.World.{World, session_at, look_of, scene_of}

@@ -1,6 +1,6 @@
 -- What a session that goes alone reads and writes.
 use Rattle.std.proofs.Common.{◌≡◌, refl, sym, ap, ◌∙◌, subst, Bool, true, false, cond, List, [], ◌∷◌, Option, Some, None, ◌⊎◌, inl, inr, ⊎_elim}
-use Rattle.version_tree.specs.Map.{same_key, same_key-true, get, insert, get-insert, get-keep, empty, get-empty, same_map}
+use Rattle.finite_maps.specs.Map.{same_key, same_key-true, get, insert, get-insert, get-keep, empty, get-empty, same_map}
 use Rattle.lock_modes.specs.RowPlace.{RowPlace, place_order}
 use Rattle.sql_statements.specs.Plan.{Tuple, plan, opened, looks_at}
 use Rattle.row_tables.specs.Overlay.{Rows', Write, Overlay, lay, written}

@@ -1,6 +1,6 @@
 -- What a session that goes keeps.
 use Rattle.std.proofs.Common.{◌≡◌, refl, sym, ap, ◌∙◌, subst, ℕ, suc, ◌<◌, ◌≤◌, Bool, true, false, cond, List, [], ◌∷◌, length, Option, Some, ◌⊎◌, inl, inr, ⊎_elim, arith}
-use Rattle.version_tree.specs.Map.{same_key, same_key-true, get, insert, get-insert, empty, get-empty}
+use Rattle.finite_maps.specs.Map.{same_key, same_key-true, get, insert, get-insert, empty, get-empty}
 use Rattle.lock_modes.specs.RowPlace.{place_order}
 use Rattle.lock_modes.specs.Resource.{resource_order}
 use Rattle.lock_queues.specs.Locks.{fits, wanted, may_have, closes_ring, answered}

@@ -1,7 +1,7 @@
 -- The plan of a statement opens what the statement looks at; what a plan lets be written.
 use Rattle.std.proofs.Common.{◌≡◌, refl, sym, subst, ℕ, Bool, true, ◌&&◌, ◌||◌, ◌==◌, List, [], ◌∷◌, map, Some, None, inl, inr, eqb-true}
 use Rattle.std.specs.List.{list_any}
-use Rattle.version_tree.specs.Map.{same_key-true, same_key-refl}
+use Rattle.finite_maps.specs.Map.{same_key-true, same_key-refl}
 use Rattle.lock_modes.specs.RowPlace.{RowPlace}
 use Rattle.lock_modes.specs.Value.{value_order}
 use Rattle.lock_modes.specs.Resource.{resource_order, same_resource}

@@ -1,6 +1,6 @@
 -- A session whose requests are all had goes as if it were alone.
 use Rattle.std.proofs.Common.{◌≡◌, refl, sym, ap, ◌∙◌, subst, ℕ, zero, suc, Bool, true, false, cond, ◌&&◌, ◌||◌, ◌==◌, List, [], ◌∷◌, Option, Some, None, is_some}
-use Rattle.version_tree.specs.Map.{same_key, same_key-true, get, insert, get-insert, empty, get-empty}
+use Rattle.finite_maps.specs.Map.{same_key, same_key-true, get, insert, get-insert, empty, get-empty}
 use Rattle.lock_modes.specs.Resource.{resource_order}
 use Rattle.lock_modes.specs.Mode.{cover}
 use Rattle.lock_queues.specs.Locks.{Look, fits, fits_with, wanted, all_below, may_have, answered}

@@ -1,6 +1,6 @@
 -- A spec that starts, starts in a sound world.
 use Rattle.std.proofs.Common.{◌≡◌, ◌≢◌, refl, sym, ap, ◌∙◌, subst, ℕ, zero, suc, ◌+◌, ◌<◌, ◌≤◌, Bool, true, false, not, ◌||◌, ◌==◌, List, [], ◌∷◌, ◌++◌, length, get_or, replicate, None, ◌⊎◌, inl, inr, ⊎_elim, arith, length-set, get_or-set_other, eq-eqb}
-use Rattle.version_tree.specs.Map.{get, empty, get-empty}
+use Rattle.finite_maps.specs.Map.{get, empty, get-empty}
 use Rattle.lock_modes.specs.Resource.{resource_order}
 use Rattle.lock_queues.specs.declared.wait.Wait.{Wait}
 use Rattle.lock_queues.specs.Locks.{Look, fits_with, nobody_waits, waits_now, next_grant}

@@ -1,6 +1,6 @@
 -- Modes that stand for others, and what they let a session write.
 use Rattle.std.proofs.Common.{◌≡◌, refl, sym, ap, ◌∙◌, subst, Bool, true, false, cond, ◌&&◌, ◌||◌, List, [], ◌∷◌, Option, Some, None, ◌⊎◌, inl, inr, ⊎_elim}
-use Rattle.version_tree.specs.Map.{same_key, same_key-true, same_key-refl, get, insert, get-insert}
+use Rattle.finite_maps.specs.Map.{same_key, same_key-true, same_key-refl, get, insert, get-insert}
 use Rattle.lock_modes.specs.RowPlace.{RowPlace}
 use Rattle.lock_modes.specs.Resource.{resource_order, same_resource}
 use Rattle.lock_modes.specs.Mode.{cover, AtLeast}

@@ -8,7 +8,7 @@ use Rattle.std.specs.FinMap.Entries.{put, by_order}
 use Rattle.std.proofs.Common.{Less, Equal, Greater}
 use Rattle.std.proofs.lemmas.Bool.{eqb-true, eq-eqb}
 use Rattle.std.proofs.lemmas.List.Elements.{All-head, All-tail}
-use Rattle.version_tree.specs.Map.{Order, Map, empty, entries, insert, keep, remove}
+use Rattle.finite_maps.specs.Map.{Order, Map, empty, entries, insert, keep, remove}
 use Rattle.lock_modes.specs.RowPlace.{RowPlace}
 use Rattle.lock_modes.specs.declared.value.Value.{Value}
 use Rattle.lock_modes.specs.declared.value.Value.TheVariants.{Int, Text}
@@ -31,15 +31,15 @@ use Rattle.sql_statements.specs.declared.statement.Bound.TheVariants.{Select, In
 use Rattle.sql_statements.specs.declared.statement.Output.{Output}
 use Rattle.sql_statements.specs.declared.statement.Output.TheVariants.{Columns, Aggregates}
 use Rattle.sql_statements.specs.declared.statement.SortKey.{SortKey}
-use Rattle.sql_subset.specs.declared.tables.ColumnType.{ColumnType}
-use Rattle.sql_subset.specs.declared.tables.ColumnType.TheVariants.{Number}
-use Rattle.sql_subset.specs.declared.tables.Table.{Table}
+use Rattle.sql_binding.specs.declared.tables.ColumnType.{ColumnType}
+use Rattle.sql_binding.specs.declared.tables.ColumnType.TheVariants.{Number}
+use Rattle.sql_binding.specs.declared.tables.Table.{Table}
 use Rattle.sql_subset.specs.Fits.{IsThere, OperandIs, FactorsAre, ProductIs, TermsAre, ExpressionIs, ComparisonFits, ConditionFits, AggregateFits, OutputFits}
 use Rattle.sql_subset.specs.Fits.{SortKeyFits}
 use Rattle.sql_subset.specs.Fits.{AssignmentFits, Takes, IsColumn, ColumnOf, ValueIn, RowFits, OfTable, Fits}
-use Rattle.sql_subset.specs.Statements.{sets_column, sets_key}
-use Rattle.sql_subset.specs.Tables.{no_table, key_column, type_of, width}
-use Rattle.sql_subset.specs.Types.{value_type}
+use Rattle.sql_binding.specs.Statements.{sets_column, sets_key}
+use Rattle.sql_binding.specs.Tables.{no_table, key_column, type_of, width}
+use Rattle.sql_binding.specs.Types.{value_type}
 use Rattle.transcripts.specs.declared.event.Fault.TheVariants.{Duplicate, OutOfRange}
 use Rattle.transcripts.specs.declared.event.Event.TheVariants.{Inserted, Updated, Deleted}
 use Rattle.statement_effects.specs.Evaluate.{in_range, checked, on_numbers, operand_value, times_each, product_value, plus_or_minus, plus_each, value_of}

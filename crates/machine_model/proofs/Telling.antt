@@ -1,6 +1,6 @@
 -- What the effect of a statement tells.
 use Rattle.std.proofs.Common.{◌≡◌, refl, ℕ, true, List, [], ◌∷◌, ◌++◌, length, map, Option, Some, None}
-use Rattle.version_tree.specs.Map.{entries}
+use Rattle.finite_maps.specs.Map.{entries}
 use Rattle.lock_modes.specs.RowPlace.{RowPlace}
 use Rattle.sql_statements.specs.Plan.{Tuple}
 use Rattle.row_tables.specs.Overlay.{Rows', Write}

@@ -3,7 +3,7 @@ use Rattle.std.proofs.Common.{◌≡◌, ◌≢◌, refl, sym, ap, ◌∙◌, su
 use Rattle.std.specs.Prelude.{⊤}
 use Rattle.std.proofs.lemmas.List.{get_or_past}
 use Rattle.std.proofs.lemmas.List.Elements.{All-head, All-tail}
-use Rattle.version_tree.specs.Map.{empty}
+use Rattle.finite_maps.specs.Map.{empty}
 use Rattle.lock_modes.specs.RowPlace.{place_order}
 use Rattle.lock_queues.specs.declared.answer.Answer.{Answer}
 use Rattle.lock_queues.specs.declared.answer.Answer.TheVariants.{Granted, Waits, Ring}
@@ -11,7 +11,7 @@ use Rattle.lock_queues.specs.Locks.{Spot, next_grant, waits_now}
 use Rattle.row_tables.specs.Overlay.{Tuple, Rows', lay}
 use Rattle.sql_statements.specs.Plan.{Request, plan}
 use Rattle.sql_statements.specs.declared.statement.Bound.{Bound}
-use Rattle.sql_subset.specs.declared.tables.Table.{Table}
+use Rattle.sql_binding.specs.declared.tables.Table.{Table}
 use Rattle.sql_subset.specs.Fits.{Fits, SpecFits}
 use Rattle.sql_subset.specs.Spec.{Spec, Step, no_step}
 use Rattle.transcripts.specs.declared.event.Fault.{Fault}
@@ -31,7 +31,7 @@ use Rattle.machine_model.proofs.Basics.{cases-eq}
 use Rattle.machine_model.proofs.Starts.{OnStarted, first_world, get_or-replicate}
 use Rattle.machine_model.proofs.Takings.{each-all, all-each, each-empty, EachFits, OverlayFits, WriteFits, written-fits, lay-fits, effect-fits}
 use Rattle.lock_modes.specs.RowPlace.{RowPlace}
-use Rattle.version_tree.specs.Map.{entries}
+use Rattle.finite_maps.specs.Map.{entries}
 
 -- what holds of a session that takes its place holds of all, where it does of the others
 set-each : (P : Session → Type 0) → P fresh → (ss : List Session) (i : ℕ) (s : Session) → P s → ((c : ℕ) → P (get_or ss c fresh)) → (c : ℕ) → P (get_or (set ss i s) c fresh)

@@ -2,7 +2,7 @@
 use Rattle.std.specs.Prelude.{Bool, false, ◌&&◌, ◌||◌, List, [], ◌∷◌, ◌++◌, Option, Some, None}
 use Rattle.std.specs.List.{list_any}
 use Rattle.lock_modes.specs.RowPlace.{RowPlace}
-use Rattle.version_tree.specs.Map.{get}
+use Rattle.finite_maps.specs.Map.{get}
 use Rattle.lock_modes.specs.Mode.{same_mode}
 use Rattle.lock_modes.specs.Resource.{same_resource}
 use Rattle.sql_statements.specs.Plan.{Request, plan}

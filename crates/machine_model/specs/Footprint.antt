@@ -1,6 +1,6 @@
 -- What a session reads and writes while each of its requests is had.
 use Rattle.std.specs.Prelude.{◌≡◌, ◌⊎◌, ℕ, Bool, true, false, List, [], ◌∷◌, Some}
-use Rattle.version_tree.specs.Map.{get}
+use Rattle.finite_maps.specs.Map.{get}
 use Rattle.lock_modes.specs.RowPlace.{RowPlace}
 use Rattle.lock_queues.specs.Locks.{fits, nobody_waits, may_have}
 use Rattle.row_tables.specs.Overlay.{Rows'}

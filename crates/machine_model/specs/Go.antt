@@ -1,6 +1,6 @@
 -- A session goes on until its step ends, a request waits or an error ends the step.
 use Rattle.std.specs.Prelude.{ℕ, Bool, true, false, ◌==◌, List, [], ◌∷◌, ◌++◌, if◌then◌else◌}
-use Rattle.version_tree.specs.Map.{get, insert}
+use Rattle.finite_maps.specs.Map.{get, insert}
 use Rattle.lock_queues.specs.declared.wait.Wait.{Wait}
 use Rattle.lock_queues.specs.Locks.{Look, wanted, may_have, closes_ring, answered}
 use Rattle.row_tables.specs.Overlay.{Rows', lay}

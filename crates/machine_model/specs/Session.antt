@@ -1,6 +1,6 @@
 -- A session, what is left of its step, and what a statement does whose requests are had.
 use Rattle.std.specs.Prelude.{List, [], ◌∷◌, ◌++◌}
-use Rattle.version_tree.specs.Map.{Map, empty}
+use Rattle.finite_maps.specs.Map.{Map, empty}
 use Rattle.lock_modes.specs.Resource.{resource_order}
 use Rattle.sql_statements.specs.Plan.{Request, plan}
 use Rattle.row_tables.specs.Overlay.{Rows', Overlay, lay, written}

@@ -1,6 +1,6 @@
 -- What holds in every world that is reached.
 use Rattle.std.specs.Prelude.{◌≡◌, ℕ, ◌<◌, true, List, [], ◌∷◌, length, Option, Some, None}
-use Rattle.version_tree.specs.Map.{get}
+use Rattle.finite_maps.specs.Map.{get}
 use Rattle.lock_modes.specs.RowPlace.{RowPlace}
 use Rattle.lock_modes.specs.Mode.{AtLeast}
 use Rattle.lock_queues.specs.declared.wait.Wait.{Wait}

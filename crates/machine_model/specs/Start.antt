@@ -1,7 +1,7 @@
 -- The start of a spec: its main setups, then the setup of each session.
 use Rattle.std.specs.Prelude.{◌≡◌, ◌≢◌, ℕ, suc, length, Bool, true, false, not, ◌||◌, List, [], ◌∷◌, set, replicate}
 use Rattle.std.specs.List.{list_any}
-use Rattle.version_tree.specs.Map.{empty}
+use Rattle.finite_maps.specs.Map.{empty}
 use Rattle.lock_queues.specs.Locks.{waits_now}
 use Rattle.transcripts.specs.declared.event.Event.{Event}
 use Rattle.transcripts.specs.declared.event.Event.TheVariants.{Sent, Row as RowEvent, Rows, Inserted, Updated, Deleted, Began, Committed, RolledBack, Locked, Set, Warned, Failed, Waiting, Resumed, Done, NotSent}

@@ -1,7 +1,7 @@
 -- Rows that fit their tables, in the worlds of a run, and what statements take of them.
 use Rattle.std.specs.Prelude.{◌≡◌, ℕ, suc, ◌<◌, ⊤, List, [], ◌∷◌, Option, Some, None, pos}
 use Rattle.std.specs.List.{All}
-use Rattle.version_tree.specs.Map.{entries}
+use Rattle.finite_maps.specs.Map.{entries}
 use Rattle.lock_modes.specs.RowPlace.{RowPlace}
 use Rattle.lock_modes.specs.declared.value.Value.{Value}
 use Rattle.lock_modes.specs.declared.value.Value.TheVariants.{Int}
@@ -9,10 +9,10 @@ use Rattle.row_tables.specs.Overlay.{Tuple, Rows', lay}
 use Rattle.sql_statements.specs.Plan.{key_at}
 use Rattle.sql_statements.specs.declared.statement.Bound.{Bound}
 use Rattle.sql_statements.specs.declared.statement.Bound.TheVariants.{Insert}
-use Rattle.sql_subset.specs.declared.tables.Table.{Table}
+use Rattle.sql_binding.specs.declared.tables.Table.{Table}
 use Rattle.sql_subset.specs.Fits.{OfTable, RowFits, ValueIn, Takes, Fits, SpecFits}
 use Rattle.sql_subset.specs.Spec.{Spec}
-use Rattle.sql_subset.specs.Tables.{key_column}
+use Rattle.sql_binding.specs.Tables.{key_column}
 use Rattle.statement_effects.specs.Effect.{visible, next_number}
 use Rattle.machine_model.specs.Start.{Started, start}
 use Rattle.machine_model.specs.Session.{Session, Task, Ask, Do, Goes, Fails, perform}

@@ -1,6 +1,6 @@
 -- The sequential machine: a step is sent, and then the waits that are ripe are granted.
 use Rattle.std.specs.Prelude.{ℕ, zero, suc, ◌+◌, true, false, List, [], ◌∷◌, ◌++◌, length, map, take, set, get_or, Some, None}
-use Rattle.version_tree.specs.Map.{get, empty}
+use Rattle.finite_maps.specs.Map.{get, empty}
 use Rattle.lock_queues.specs.declared.wait.Wait.{Wait}
 use Rattle.lock_queues.specs.Locks.{Spot, Look, next_grant, waits_now}
 use Rattle.row_tables.specs.Overlay.{Rows'}

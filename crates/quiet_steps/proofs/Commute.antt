@@ -1,7 +1,7 @@
 -- Two steps that do not meet may be sent in either order.
 use Rattle.std.proofs.Common.{◌≡◌, ◌≢◌, refl, sym, ap, ◌∙◌, subst, ℕ, zero, suc, ◌<◌, Bool, true, false, cond, ◌&&◌, ◌||◌, ◌==◌, List, [], ◌∷◌, ◌++◌, length, set, get_or, filter, Option, Some, None, is_some, ◌⊎◌, inl, inr, ⊎_elim, length-set, get_or-set_same, get_or-set_other}
 use Rattle.std.proofs.lemmas.List.{set_comm}
-use Rattle.version_tree.specs.Map.{same_key, same_key-true, get, get-insert, get-empty, same_map}
+use Rattle.finite_maps.specs.Map.{same_key, same_key-true, get, get-insert, get-empty, same_map}
 use Rattle.lock_modes.specs.RowPlace.{RowPlace}
 use Rattle.lock_modes.specs.Resource.{resource_order, same_resource}
 use Rattle.lock_modes.specs.Mode.{compatible, cover}

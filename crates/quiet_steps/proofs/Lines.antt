@@ -21,7 +21,8 @@ get_or-counts [] i = refl
 get_or-counts (ks ∷ q) zero = refl
 get_or-counts (ks ∷ q) (suc i) = get_or-counts q i
 
-counts-set : (q : Queues) (i : ℕ) (ks : List ℕ) → counts_of (set q i ks) ≡ set (counts_of q) i (length ks)
+-- the counts of queues of which one is changed
+pub counts-set : (q : Queues) (i : ℕ) (ks : List ℕ) → counts_of (set q i ks) ≡ set (counts_of q) i (length ks)
 counts-set [] i ks = refl
 counts-set (l ∷ q) zero ks = refl
 counts-set (l ∷ q) (suc i) ks = ap (λ ns. length l ∷ ns) (counts-set q i ks)

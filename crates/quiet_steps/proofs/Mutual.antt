@@ -1,7 +1,7 @@
 -- Which of two quiet steps is called the first makes no difference.
 use Rattle.std.proofs.Common.{◌≡◌, refl, sym, ap, ◌∙◌, ℕ, Bool, true, false, not, ◌||◌, ◌==◌, List, eq-eqb, eqb-true, subst}
 use Rattle.std.specs.List.{list_all}
-use Rattle.version_tree.specs.Map.{same_key-true, same_key-refl}
+use Rattle.finite_maps.specs.Map.{same_key-true, same_key-refl}
 use Rattle.lock_modes.specs.Resource.{resource_order, same_resource}
 use Rattle.lock_modes.specs.declared.resource.Resource.{Resource}
 use Rattle.lock_queues.specs.Locks.{waits_now}

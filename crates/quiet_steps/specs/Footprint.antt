@@ -1,6 +1,6 @@
 -- What a step reads and writes while its requests are had.
 use Rattle.std.specs.Prelude.{◌≡◌, ℕ, Bool, true, false, List, [], ◌∷◌, ◌++◌}
-use Rattle.version_tree.specs.Map.{get}
+use Rattle.finite_maps.specs.Map.{get}
 use Rattle.lock_modes.specs.RowPlace.{RowPlace}
 use Rattle.row_tables.specs.Overlay.{Rows'}
 use Rattle.transcripts.specs.declared.event.Fault.TheVariants.{Aborted}

@@ -1,6 +1,6 @@
+use finite_maps::Fork;
 use std::alloc::AllocError;
 use transcripts::Outcome;
-use version_tree::Fork;
 
 /// What is known of a rank.
 #[derive(Drop)]

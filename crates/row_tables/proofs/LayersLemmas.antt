@@ -1,7 +1,7 @@
 -- What the steps of a store make of overlays and of what is seen, for the proofs of the layers above.
 use Rattle.std.proofs.Common.{◌≡◌, refl, ap, ◌∙◌, ℕ, Bool, true, false, cond, Option, Some, None}
 use Rattle.std.specs.Option.{unwrap_or}
-use Rattle.version_tree.specs.Map.{get, insert, empty, get-insert, get-remove}
+use Rattle.finite_maps.specs.Map.{get, insert, empty, get-insert, get-remove}
 use Rattle.lock_modes.specs.RowPlace.{RowPlace}
 use Rattle.row_tables.specs.Overlay.{Tuple, Overlay}
 use Rattle.row_tables.specs.Layers.{Layers, overlay_of, wrote, undone, kept}

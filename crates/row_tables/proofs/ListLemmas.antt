@@ -8,8 +8,8 @@ use Rattle.std.specs.Cmp.{nat_cmp_total, eq_by_cmp_equiv}
 use Rattle.std.specs.FinMap.Entries.{find}
 use Rattle.std.specs.Map.{lookup, keys_of}
 use Rattle.std.specs.BTreeMap.{is_at, insert_entry}
-use Rattle.version_tree.specs.Map
-use Rattle.version_tree.specs.Map.{get, insert, get-insert, get-remove, same_key, same_map, of_entries, get-of_entries}
+use Rattle.finite_maps.specs.Map
+use Rattle.finite_maps.specs.Map.{get, insert, get-insert, get-remove, same_key, same_map, of_entries, get-of_entries}
 use Rattle.row_tables.specs.Overlay.{Overlay}
 use Rattle.row_tables.specs.Layers.{session_order}
 

@@ -4,7 +4,7 @@ use Rattle.std.specs.declared.cmp.Ordering.{Ordering}
 use Rattle.std.specs.declared.cmp.Ordering.TheVariants.{Less, Equal, Greater}
 use Rattle.std.specs.Ordering.{is_eq, is_lt, ordering_then}
 use Rattle.std.specs.FinMap.Entries.{find}
-use Rattle.version_tree.specs.Map.{same_key, get, get-insert, get-remove, entries}
+use Rattle.finite_maps.specs.Map.{same_key, get, get-insert, get-remove, entries}
 use Rattle.lock_modes.specs.RowPlace.{RowPlace, place_order, place_cmp}
 use Rattle.row_tables.specs.Overlay.{Tuple, Rows', Overlay, laid, lay, lay_entries}
 

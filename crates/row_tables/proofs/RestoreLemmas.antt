@@ -2,7 +2,7 @@
 use Rattle.std.proofs.Common.{◌≡◌, refl, sym, ap, ◌∙◌, true, false, cond, List, [], ◌∷◌, Option, Some, None}
 use Rattle.std.specs.Prelude.{T}
 use Rattle.std.specs.FinMap.Entries.{find, is_sorted}
-use Rattle.version_tree.specs.Map.{get, insert, entries, empty, get-empty, same_key, same_key-true, same_map, of_entries}
+use Rattle.finite_maps.specs.Map.{get, insert, entries, empty, get-empty, same_key, same_key-true, same_map, of_entries}
 use Rattle.lock_modes.specs.RowPlace.{RowPlace, place_order, place_cmp}
 use Rattle.row_tables.specs.Overlay.{Tuple, Rows', Overlay, laid, lay}
 use Rattle.row_tables.specs.Layers.{no_rows}

@@ -3,8 +3,8 @@ use Rattle.std.proofs.Common.{◌≡◌, ◌≢◌, refl, sym, ap, ◌∙◌, su
 use Rattle.std.specs.Option.{unwrap_or, option_map}
 use Rattle.std.specs.Result.{OnErr}
 use Rattle.std.specs.Prelude.{Result, Ok, Err}
-use Rattle.version_tree.specs.Map
-use Rattle.version_tree.specs.Map.{same_key, same_key-true, same_key-refl, get, insert, entries, empty, get-empty, get-insert, get-remove, same_map}
+use Rattle.finite_maps.specs.Map
+use Rattle.finite_maps.specs.Map.{same_key, same_key-true, same_key-refl, get, insert, entries, empty, get-empty, get-insert, get-remove, same_map}
 use Rattle.lock_modes.specs.RowPlace.{RowPlace, place_order}
 use Rattle.row_tables.specs.Overlay.{Tuple, Rows', Overlay, laid, lay}
 use Rattle.row_tables.specs.Layers.{Layers, session_order, overlay_of, sight, IsOnlyWriterAt, IsOnlyWriterIn, wrote, undone, kept, rows_of}

@@ -6,9 +6,9 @@ use Rattle.std.specs.Ordering.{nat_cmp, eq_by_cmp}
 use Rattle.std.specs.Cmp.{nat_cmp_total, eq_by_cmp_equiv}
 use Rattle.std.specs.FinMap.{nat_cmp-IsAntisymmetric}
 use Rattle.std.specs.FinMap.Entries.{find, put, find-put, find-where_key, is_sorted, below_all, same_entries}
-use Rattle.version_tree.specs.Entries.{without}
-use Rattle.version_tree.specs.Map
-use Rattle.version_tree.specs.Map.{same_key, get, insert, keep, entries, get-insert, get-keep, get-empty, same_map}
+use Rattle.finite_maps.specs.Entries.{without}
+use Rattle.finite_maps.specs.Map
+use Rattle.finite_maps.specs.Map.{same_key, get, insert, keep, entries, get-insert, get-keep, get-empty, same_map}
 use Rattle.lock_modes.specs.RowPlace.{RowPlace, place_order, place_cmp}
 use Rattle.lock_modes.specs.Value.{value_cmp, value_total, value_same}
 use Rattle.lock_modes.specs.declared.value.Value.{Value}

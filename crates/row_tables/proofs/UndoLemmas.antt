@@ -7,7 +7,7 @@ use Rattle.std.specs.declared.cmp.Ordering.TheVariants.{Less, Equal, Greater}
 use Rattle.std.specs.Ordering.{is_eq, is_lt, nat_cmp}
 use Rattle.std.specs.Cmp.{nat_cmp_total, tied_itself}
 use Rattle.std.specs.FinMap.Entries.{find, is_sorted, below_all}
-use Rattle.version_tree.specs.Map.{same_key, same_key-true, same_key-refl, get, entries, empty, get-empty, same_map, get-of_entries}
+use Rattle.finite_maps.specs.Map.{same_key, same_key-true, same_key-refl, get, entries, empty, get-empty, same_map, get-of_entries}
 use Rattle.lock_modes.specs.RowPlace.{RowPlace, place_order, place_cmp}
 use Rattle.row_tables.specs.Overlay.{Tuple, Rows', Overlay}
 use Rattle.row_tables.specs.Layers.{session_order, overlay_of}

@@ -2,9 +2,9 @@
 use Rattle.std.specs.Prelude.{◌≡◌, ◌≢◌, ℕ, cond, List, [], ◌∷◌, Option, None}
 use Rattle.std.specs.Option.{unwrap_or}
 use Rattle.std.specs.Ordering.{nat_cmp, eq_by_cmp}
-use Rattle.version_tree.specs.Map
-use Rattle.version_tree.specs.Map.{Order, Map, get, insert, empty, entries}
-use Rattle.version_tree.specs.Numbers.{nat_order}
+use Rattle.finite_maps.specs.Map
+use Rattle.finite_maps.specs.Map.{Order, Map, get, insert, empty, entries}
+use Rattle.finite_maps.specs.Numbers.{nat_order}
 use Rattle.lock_modes.specs.RowPlace.{RowPlace}
 use Rattle.lock_modes.specs.declared.value.Value.{Value}
 use Rattle.row_tables.specs.Overlay.{Tuple, Rows', Overlay, lay}

@@ -1,7 +1,7 @@
 -- What a session has written over the committed rows.
 use Rattle.std.specs.Prelude.{List, [], ◌∷◌, Option, Some, None}
-use Rattle.version_tree.specs.Map
-use Rattle.version_tree.specs.Map.{Map, insert, entries}
+use Rattle.finite_maps.specs.Map
+use Rattle.finite_maps.specs.Map.{Map, insert, entries}
 use Rattle.lock_modes.specs.RowPlace.{RowPlace, place_order}
 use Rattle.lock_modes.specs.declared.value.Value.{Value}
 

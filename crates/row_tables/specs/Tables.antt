@@ -1,7 +1,7 @@
 -- What rows that are kept by table, and there by key, stand for.
 use Rattle.std.specs.Prelude.{ℕ, not, List, [], ◌∷◌}
 use Rattle.std.specs.Ordering.{nat_cmp, eq_by_cmp}
-use Rattle.version_tree.specs.Map.{insert, keep, empty}
+use Rattle.finite_maps.specs.Map.{insert, keep, empty}
 use Rattle.lock_modes.specs.declared.value.Value.{Value}
 use Rattle.row_tables.specs.Overlay.{Tuple, Rows'}
 

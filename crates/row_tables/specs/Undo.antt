@@ -1,6 +1,6 @@
 -- What rows in place and undo lists stand for. A session's undo list has, for each place where it wrote, what stood there before its first write.
 use Rattle.std.specs.Prelude.{◌≡◌, ◌≢◌, ℕ, List, [], ◌∷◌, map, Option, Some, None}
-use Rattle.version_tree.specs.Map.{Map, get, insert, entries, of_entries}
+use Rattle.finite_maps.specs.Map.{Map, get, insert, entries, of_entries}
 use Rattle.lock_modes.specs.RowPlace.{RowPlace, place_order}
 use Rattle.row_tables.specs.Overlay.{Tuple, Rows', Overlay, lay}
 use Rattle.row_tables.specs.Layers.{session_order, Layers}

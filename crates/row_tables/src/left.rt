@@ -1,9 +1,9 @@
 ghost use Rattle.std.specs.Prelude.{◌≡◌};
 
+use finite_maps::Fork;
 use lock_modes::Row;
 use std::alloc::AllocError;
 use std::marker::Model;
-use version_tree::Fork;
 
 /// What is left at a place, a row or none. Contracts see the option.
 #[derive(Drop)]

@@ -4,11 +4,11 @@ ghost use Rattle.std.specs.Ordering.{eq_by_cmp};
 ghost use Rattle.std.specs.Cmp.{po, eq_by_cmp_equiv, partial_equiv_from_equiv};
 ghost use Rattle.lock_modes.specs.RowPlace.{place_cmp, place_total};
 
+use finite_maps::Fork;
 use lock_modes::Value;
 use std::alloc::AllocError;
 use std::cmp::Ordering;
 use std::marker::Model;
-use version_tree::Fork;
 
 /// Where a row lies, seen by contracts as its table and its key.
 #[derive(Debug, Drop)]

@@ -2,8 +2,8 @@
 
 ghost use Rattle.std.specs.Prelude.{◌≡◌, IfOk};
 ghost use Rattle.std.specs.Option.{option_copied};
-ghost use Rattle.version_tree.specs.Map as map;
-ghost use Rattle.version_tree.specs.Entries.{IsInOrder};
+ghost use Rattle.finite_maps.specs.Map as map;
+ghost use Rattle.finite_maps.specs.Entries.{IsInOrder};
 ghost use Rattle.lock_modes.specs.Value.{value_cmp};
 ghost use Rattle.row_tables.specs.Overlay.{laid};
 ghost use Rattle.row_tables.specs.Layers.{rows_of};
@@ -11,10 +11,11 @@ ghost use Rattle.row_tables.specs.Tables.{put_rows};
 
 use crate::left::Left;
 use crate::place::RowPlace;
+use finite_maps::Fork;
 use lock_modes::{Row, Value};
 use std::alloc::{AllocError, Global};
 use std::marker::Model;
-use version_tree::{Fork, Iter, VMap};
+use version_tree::{Iter, VMap};
 
 /// Rows by table and key, in persistent versions. Contracts see their finite map.
 #[derive(Drop)]
@@ -27,7 +28,7 @@ pub(crate) struct Rows {
 impl Model for Rows {
     ghost use Rattle.std.specs.Prelude.{◌≡◌, []};
     ghost use Rattle.std.specs.Coded.{codes};
-    ghost use Rattle.version_tree.specs.Codes.{map_code};
+    ghost use Rattle.finite_maps.specs.Codes.{map_code};
     ghost use Rattle.lock_modes.specs.contracts.value.Value as value;
     ghost use Rattle.row_tables.specs.Overlay.{Rows'};
     ghost use Rattle.row_tables.specs.Tables.{rows_of_tables};

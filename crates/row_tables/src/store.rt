@@ -1,8 +1,8 @@
 ghost use Rattle.std.specs.Prelude.{◌≡◌, IfOk, OnOk, OnErr};
 ghost use Rattle.std.specs.Option.{option_copied, unwrap_or};
 ghost use Rattle.std.specs.FinMap.Entries.{find};
-ghost use Rattle.version_tree.specs.Map.{get, empty};
-ghost use Rattle.version_tree.specs.Entries.{IsInOrder};
+ghost use Rattle.finite_maps.specs.Map.{get, empty};
+ghost use Rattle.finite_maps.specs.Entries.{IsInOrder};
 ghost use Rattle.lock_modes.specs.Value.{value_cmp};
 ghost use Rattle.lock_modes.specs.declared.value.Value.{Value as Key};
 ghost use Rattle.row_tables.specs.Overlay.{laid};
@@ -13,10 +13,11 @@ use crate::left::Left;
 use crate::place::RowPlace;
 use crate::rows::Rows;
 use crate::undo::{UndoList, UndoLists};
+use finite_maps::Fork;
 use lock_modes::{Row, Value};
 use std::alloc::{AllocError, Global};
 use std::marker::Model;
-use version_tree::{Fork, Iter};
+use version_tree::Iter;
 
 /// The rows of all tables. Contracts see committed rows and for each session an overlay; what is kept is the rows as
 /// they were written last, and for each session a list that undoes its writes.
@@ -28,7 +29,7 @@ pub struct Store {
 
 impl Model for Store {
     ghost use Rattle.std.specs.Coded.{codes};
-    ghost use Rattle.version_tree.specs.Codes.{map_code};
+    ghost use Rattle.finite_maps.specs.Codes.{map_code};
     ghost use Rattle.lock_modes.specs.contracts.value.Value as value;
     ghost use Rattle.row_tables.specs.Layers.{Layers};
     ghost use Rattle.row_tables.specs.Undo.{layers, AreApart};

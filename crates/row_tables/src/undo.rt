@@ -4,7 +4,7 @@ ghost use Rattle.std.specs.Prelude.{◌≡◌, IfOk, OnOk, OnErr};
 ghost use Rattle.std.specs.Option.{option_copied, unwrap_or};
 ghost use Rattle.std.specs.Ordering.{nat_cmp};
 ghost use Rattle.std.specs.BTreeMap.{insert_entry};
-ghost use Rattle.version_tree.specs.Map as map;
+ghost use Rattle.finite_maps.specs.Map as map;
 ghost use Rattle.lock_modes.specs.RowPlace.{place_cmp};
 ghost use Rattle.row_tables.specs.Overlay.{lay};
 ghost use Rattle.row_tables.specs.Undo.{noted, AreApart};
@@ -12,10 +12,11 @@ ghost use Rattle.row_tables.specs.Undo.{noted, AreApart};
 use crate::left::Left;
 use crate::place::RowPlace;
 use crate::rows::Rows;
+use finite_maps::Fork;
 use std::alloc::{AllocError, Global};
 use std::collections::BTreeMap;
 use std::marker::Model;
-use version_tree::{Fork, Iter, VMap};
+use version_tree::{Iter, VMap};
 
 /// For each place where a session wrote, what stood there before its first write. Contracts see the finite map.
 #[derive(Drop)]
@@ -25,8 +26,8 @@ pub(crate) struct UndoList {
 
 impl Model for UndoList {
     ghost use Rattle.std.specs.Coded.{codes};
-    ghost use Rattle.version_tree.specs.Codes.{map_code};
-    ghost use Rattle.version_tree.specs.Map.{of_entries};
+    ghost use Rattle.finite_maps.specs.Codes.{map_code};
+    ghost use Rattle.finite_maps.specs.Map.{of_entries};
     ghost use Rattle.lock_modes.specs.RowPlace.{place_order};
     ghost use Rattle.lock_modes.specs.contracts.value.Value as value;
     ghost use Rattle.row_tables.specs.Overlay.{Overlay};
@@ -98,8 +99,8 @@ pub(crate) struct UndoLists {
 
 impl Model for UndoLists {
     ghost use Rattle.std.specs.Coded.{codes};
-    ghost use Rattle.version_tree.specs.Codes.{map_code};
-    ghost use Rattle.version_tree.specs.Map.{of_entries};
+    ghost use Rattle.finite_maps.specs.Codes.{map_code};
+    ghost use Rattle.finite_maps.specs.Map.{of_entries};
     ghost use Rattle.lock_modes.specs.contracts.value.Value as value;
     ghost use Rattle.row_tables.specs.Layers.{session_order};
     ghost use Rattle.row_tables.specs.Undo.{Lists};

@@ -1,6 +1,6 @@
 -- Every line is a serial run of its commits.
 use Rattle.std.proofs.Common.{◌≡◌, refl, sym, ap, ◌∙◌, subst, ℕ, Bool, true, false, cond, List, [], ◌∷◌, ◌++◌, Some, ⊎_elim, append-nil}
-use Rattle.version_tree.specs.Map.{Map, get, empty, entries}
+use Rattle.finite_maps.specs.Map.{Map, get, empty, entries}
 use Rattle.lock_modes.specs.RowPlace.{RowPlace}
 use Rattle.lock_modes.specs.Mode.{compatible, AtLeast}
 use Rattle.lock_queues.specs.Locks.{may_have, closes_ring, answered}
@@ -99,7 +99,7 @@ work-did h ds d true w x = work-push h ds d w x
 work-did h ds d false w x = subst (WorkHeld h) (sym (append-nil ds)) w
 
 pub work-taking : (h : Held) (r : Resource) (m : Mode) (s : Session) → s.held ≡ h → (ds : List Did) → WorkHeld h ds
-    → WorkHeld (Rattle.version_tree.specs.Map.insert h r (Rattle.lock_queues.specs.Locks.wanted (get h r) m)) ds
+    → WorkHeld (Rattle.finite_maps.specs.Map.insert h r (Rattle.lock_queues.specs.Locks.wanted (get h r) m)) ds
 work-taking h r m s e [] w = tt
 work-taking h r m s e (d ∷ ds) w = (holds-stronger h _ (stronger-taking h r m) (plan d.statement) w.0, work-taking h r m s e ds w.1)
 

@@ -1,6 +1,6 @@
 -- Every line is a serial run of its commits: the worlds.
 use Rattle.std.proofs.Common.{◌≡◌, ◌≢◌, refl, sym, ◌∙◌, subst, ℕ, zero, suc, ◌<◌, Bool, true, false, List, [], ◌∷◌, ◌++◌, length, set, get_or, Option, Some, None, ⊎_elim, length-set, get_or-set_same, get_or-set_other}
-use Rattle.version_tree.specs.Map.{empty}
+use Rattle.finite_maps.specs.Map.{empty}
 use Rattle.lock_queues.specs.declared.wait.Wait.{Wait}
 use Rattle.lock_queues.specs.Locks.{Spot, next_grant, waits_now}
 use Rattle.row_tables.specs.Overlay.{Rows', Overlay, lay}

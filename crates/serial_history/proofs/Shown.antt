@@ -1,6 +1,6 @@
 -- A history tells what the transcripts show.
 use Rattle.std.proofs.Common.{◌≡◌, ◌≢◌, refl, sym, ap, ◌∙◌, subst, ℕ, zero, suc, ◌<◌, Bool, true, false, cond, ◌==◌, List, [], ◌∷◌, ◌++◌, length, set, get_or, Option, Some, None, ⊎_elim, append_assoc, append-nil, eqb-true, eq-eqb, length-set, get_or-set_same, get_or-set_other}
-use Rattle.version_tree.specs.Map.{get}
+use Rattle.finite_maps.specs.Map.{get}
 use Rattle.lock_queues.specs.Locks.{Spot, may_have, closes_ring, answered, next_grant, waits_now}
 use Rattle.row_tables.specs.Overlay.{Rows', lay}
 use Rattle.statement_effects.specs.Effect.{Effect, Gives, Faults, effect}

@@ -1,6 +1,6 @@
 -- The history of a line from the start of its spec.
 use Rattle.std.proofs.Common.{◌≡◌, refl, sym, ap, ◌∙◌, subst, ℕ, suc, ◌+◌, ◌<◌, ◌≤◌, Bool, true, false, not, ◌||◌, List, [], ◌∷◌, length, get_or, ⊎_elim, arith, length-set, get_or-set_same, get_or-set_other}
-use Rattle.version_tree.specs.Map.{get, empty, get-empty}
+use Rattle.finite_maps.specs.Map.{get, empty, get-empty}
 use Rattle.lock_modes.specs.Resource.{resource_order}
 use Rattle.lock_queues.specs.Locks.{waits_now}
 use Rattle.row_tables.specs.Overlay.{Rows'}

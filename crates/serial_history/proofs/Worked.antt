@@ -1,6 +1,6 @@
 -- Worked histories of the machine, computed.
 use Rattle.std.proofs.Common.{◌≡◌, refl, ℕ, true, false, List, [], ◌∷◌, Some, map}
-use Rattle.version_tree.specs.Map.{get, insert, keep, remove, entries, empty}
+use Rattle.finite_maps.specs.Map.{get, insert, keep, remove, entries, empty}
 use Rattle.statement_effects.specs.Effect.{effect}
 use Rattle.row_tables.specs.Overlay.{lay}
 use Rattle.sql_subset.specs.Spec.{Spec}

@@ -1,7 +1,7 @@
 -- The transactions of a line in the order of their commits, and their serial run.
 -- What is told here is computed beside the machine, from the same choices: the machine itself keeps no history.
 use Rattle.std.specs.Prelude.{◌≡◌, ◌≢◌, ℕ, zero, suc, Bool, true, false, cond, ◌==◌, List, [], ◌∷◌, ◌++◌, length, replicate, set, get_or, Some, None}
-use Rattle.version_tree.specs.Map.{empty}
+use Rattle.finite_maps.specs.Map.{empty}
 use Rattle.lock_queues.specs.Locks.{Spot, next_grant, waits_now}
 use Rattle.machine_model.specs.Sound.{HoldsAll}
 use Rattle.sql_statements.specs.Plan.{plan}

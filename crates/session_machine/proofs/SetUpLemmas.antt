@@ -3,7 +3,7 @@ use Rattle.std.specs.List.{All, list_any}
 use Rattle.std.proofs.lemmas.List.Elements.{All-get_or, All-set, All-nil, All-cons}
 use Rattle.std.proofs.lemmas.List.{length-map, length-replicate}
 use Rattle.std.proofs.Common.{◌≡◌, refl, sym, ap, ◌∙◌, subst, ℕ, zero, suc, ◌<◌, Bool, true, false, List, [], ◌∷◌, length, drop, map, set, get_or, replicate, Option, Some, None, is_some, arith, length-set, get_or-set_same, not, ◌||◌}
-use Rattle.version_tree.specs.Map.{empty, get-empty}
+use Rattle.finite_maps.specs.Map.{empty, get-empty}
 use Rattle.lock_modes.specs.Resource.{resource_order}
 use Rattle.lock_modes.specs.declared.mode.Mode.{Mode}
 use Rattle.lock_queues.specs.Locks.{waits_now, next_grant}
@@ -140,7 +140,7 @@ map-blank zero = refl
 map-blank (suc n) = ap (λ os. no_own ∷ os) (map-blank n)
 
 slice-none : (i : ℕ) → slice i no_locks.held ≡ empty
-slice-none i = Rattle.version_tree.specs.Map.same_map _ _ (λ r. Rattle.lock_queues.proofs.Slices.get-slice i no_locks.held r ∙ get-empty holding_order Mode (i, r) ∙ sym (get-empty resource_order Mode r))
+slice-none i = Rattle.finite_maps.specs.Map.same_map _ _ (λ r. Rattle.lock_queues.proofs.Slices.get-slice i no_locks.held r ∙ get-empty holding_order Mode (i, r) ∙ sym (get-empty resource_order Mode r))
 
 overlay-none : (i : ℕ) → overlay_of i no_rows ≡ empty
 overlay-none i = ap (λ o. Rattle.std.specs.Option.unwrap_or o empty) (get-empty session_order Overlay i)

@@ -1,7 +1,7 @@
 -- A world in a store and a lock table: its sessions, and what one session's steps change of it.
 use Rattle.std.proofs.Common.{◌≡◌, ◌≢◌, refl, sym, ap, ◌∙◌, subst, ℕ, zero, suc, ◌+◌, ◌<◌, ◌≤◌, false, cond, List, [], ◌∷◌, length, set, get_or, ◌⊎◌, ⊎_elim, arith}
 use Rattle.std.proofs.lemmas.List.{get_or_past}
-use Rattle.version_tree.specs.Map.{same_key, same_key-true, same_key-refl, get, insert, empty, get-empty}
+use Rattle.finite_maps.specs.Map.{same_key, same_key-true, same_key-refl, get, insert, empty, get-empty}
 use Rattle.lock_modes.specs.Resource.{resource_order}
 use Rattle.lock_modes.specs.declared.mode.Mode.{Mode}
 use Rattle.lock_modes.specs.declared.resource.Resource.{Resource}

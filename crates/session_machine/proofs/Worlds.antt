@@ -1,7 +1,7 @@
 -- A session of a world goes: the world afterwards, from the store, the lock table and what is kept of each session.
 use Rattle.transcripts.specs.declared.event.Event.{Event}
 use Rattle.std.proofs.Common.{◌≡◌, ◌≢◌, refl, sym, ap, ◌∙◌, subst, ℕ, ◌<◌, ◌≤◌, false, List, [], ◌∷◌, ◌++◌, length, drop, set, get_or, ◌==◌, eqb-true, ◌⊎◌, ⊎_elim, arith, true, Some}
-use Rattle.version_tree.specs.Map.{get}
+use Rattle.finite_maps.specs.Map.{get}
 use Rattle.lock_modes.specs.declared.resource.Resource.{Resource}
 use Rattle.lock_queues.specs.declared.wait.Wait.{Wait}
 use Rattle.lock_queues.specs.Locks.{Spot, waits_now}

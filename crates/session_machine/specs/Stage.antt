@@ -1,6 +1,6 @@
 -- The world that a store, a lock table and the sessions kept beside them stand for, and what holds of them.
 use Rattle.std.specs.Prelude.{◌≡◌, ℕ, suc, ◌<◌, ◌≤◌, Bool, false, List, [], ◌∷◌, ◌++◌, length, map, set, get_or, drop, All, replicate, Option, Some, None, is_some}
-use Rattle.version_tree.specs.Map.{empty}
+use Rattle.finite_maps.specs.Map.{empty}
 use Rattle.lock_queues.specs.Locks.{next_grant, waits_now}
 use Rattle.lock_queues.specs.LockTable.{Locks, no_locks}
 use Rattle.lock_queues.specs.Laws.{IsBelow}

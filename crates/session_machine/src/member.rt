@@ -5,8 +5,8 @@ ghost use Rattle.session_machine.specs.Stage.{no_member};
 
 use crate::session::SessionState;
 use crate::stepping::Point;
+use finite_maps::Fork;
 use std::alloc::{AllocError, Global};
-use version_tree::Fork;
 
 /// What is left of a step: the session goes on there when its request is had.
 #[derive(Clone, Copy, Debug, PartialEq, Eq)]

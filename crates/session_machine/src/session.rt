@@ -1,9 +1,9 @@
 ghost use Rattle.std.specs.Prelude.{◌≡◌, []};
 
+use finite_maps::Fork;
 use machine_model::Status;
 use std::alloc::{AllocError, Global};
 use transcripts::Log;
-use version_tree::Fork;
 
 /// A session's block, and what it was told.
 #[derive(Drop)]

@@ -14,12 +14,12 @@ use crate::error::{SendError, StartError};
 use crate::member::Member;
 use crate::setups::{main_setups, session_setups};
 use crate::stage::Stage;
+use finite_maps::Fork;
 use lock_modes::{Mode, Place};
 use sql_subset::Spec;
 use std::alloc::{AllocError, Global};
 use std::marker::Model;
 use transcripts::{Outcome, Transcript};
-use version_tree::Fork;
 
 /// The sequential machine over a spec. Contracts see the spec, the world and whether it is spent.
 #[derive(Drop)]
@@ -32,7 +32,7 @@ pub struct World<'a> {
 
 impl<'a> Model for World<'a> {
     ghost use Rattle.std.specs.Coded.{codes};
-    ghost use Rattle.version_tree.specs.Codes.{map_code};
+    ghost use Rattle.finite_maps.specs.Codes.{map_code};
     ghost use Rattle.lock_modes.specs.contracts.value.Value as value;
     ghost use Rattle.lock_modes.specs.contracts.resource.Resource as resource;
     ghost use Rattle.lock_queues.specs.contracts.wait.Wait as waiting;

@@ -2,18 +2,20 @@
 use Rattle.std.proofs.Common.{◌≡◌, ℕ, zero, suc, ◌<◌, Bool, true, false, List, [], ◌∷◌, ◌++◌, length, Option, Some, None, Result, Ok, Err, refl, sym, ap, subst, ◌∙◌, append_assoc, inl, inr, ◌⊎◌, arith, cond, drop, ◌≤◌}
 use Rattle.std.specs.Prelude.{codes, if◌then◌else◌}
 use Rattle.std.proofs.lemmas.List.{append-nil, append_cancel_left, length-append, length-map}
-use Rattle.sql_reader.specs.declared.error.Limit.{Limit}
-use Rattle.sql_reader.specs.declared.error.SqlErrorKind.{SqlErrorKind as Kind}
-use Rattle.sql_reader.specs.Tokens.{Token, Key, Word, Sign, Number, Text, End, NoToken, NotClosed, Placed, is, is_last}
-use Rattle.sql_reader.specs.Tree.{Last, More, Statement, Block}
-use Rattle.sql_reader.specs.Grammar.{Marked, mark, plain, good, spelling, statements, Begins, MayCome, IsWord, IsToken, AtStatement, OnlyOver, CannotCome, IsKind, bad_token, unclosed, unsupported, syntax, over, kind_of_limit, Fault, FirstFault}
-use Rattle.sql_reader.specs.Grammar as grammar
-use Rattle.sql_reader.specs.Reading.{Why, CannotStand, Passes, Stop, Read, ◌>>=◌, first, rest, at, told, fault_of, kind_of, refused, no_form, and_then, inside, form, begins_form, statement, maybe_statement, block_of, block}
+use Rattle.sql_grammar.specs.declared.error.Limit.{Limit}
+use Rattle.sql_grammar.specs.declared.error.SqlErrorKind.{SqlErrorKind as Kind}
+use Rattle.sql_grammar.specs.Tokens.{Token, Key, Word, Sign, Number, Text, End, NoToken, NotClosed, Placed, is, is_last}
+use Rattle.sql_grammar.specs.Tree.{Last, More, Statement, Block}
+use Rattle.sql_grammar.specs.Grammar.{Marked, mark, plain, good, spelling, statements, Begins, MayCome, IsWord, IsToken, AtStatement, OnlyOver, CannotCome, IsKind, bad_token, unclosed, unsupported, syntax, over, kind_of_limit, Fault, FirstFault}
+use Rattle.sql_grammar.specs.Grammar as grammar
+use Rattle.sql_grammar.specs.Reading.{Stop, Read, ◌>>=◌, first, rest, at, told, fault_of, kind_of, refused, no_form, and_then, inside, form, begins_form, statement, maybe_statement, block_of, block}
 use Rattle.sql_reader.proofs.Laws.{Stops, HasEnd, Takes, Halts, Agrees, IsOver, Heads, same_token, same_rest, heads-append, good-append}
 use Rattle.sql_reader.proofs.TokenLaws.{is_same}
 use Rattle.sql_reader.proofs.ListLaws.{maybe, at_end}
 use Rattle.sql_reader.proofs.FormLaws.{form_law}
 use Rattle.sql_reader.proofs.Inside.{Inside, of_statement, heads_inside, heads_form, starts}
+use Rattle.sql_grammar.specs.declared.error.Why.{Why}
+use Rattle.sql_grammar.specs.declared.error.Why.TheVariants.{CannotStand, Passes}
 
 -- ---- a statement, or none
 

@@ -2,16 +2,18 @@
 use Rattle.std.proofs.Common.{◌≡◌, ℕ, zero, suc, ◌+◌, Bool, true, false, List, [], ◌∷◌, ◌++◌, length, Some, None, refl, ap, subst, inl, inr, ◌⊎◌, arith}
 use Rattle.std.specs.Prelude.{codes, ◌||◌, nat_le}
 use Rattle.std.proofs.lemmas.Bool.Decides.{nat_tests}
-use Rattle.sql_reader.specs.declared.TheConstants.{MAX_DEPTH}
-use Rattle.sql_reader.specs.declared.error.Limit.TheVariants.{TooLarge}
-use Rattle.sql_reader.specs.Tokens.{Token, Key, Sign, Placed, is, is_last}
-use Rattle.sql_reader.specs.Tree.{Sum, Comparison, Equal, Unequal, Differs, Less, AtMost, Greater, AtLeast, Condition, Alone, Or, Part, Single, And, Atom, Compares, Not, Group}
-use Rattle.sql_reader.specs.Grammar.{Marked, mark, plain, too_deep}
-use Rattle.sql_reader.specs.Grammar as grammar
-use Rattle.sql_reader.specs.Reading.{Read, first, taken, the, comparison, compares, part_of, condition_of, one_of_three, atom, condition, where_part}
+use Rattle.sql_grammar.specs.declared.TheConstants.{MAX_DEPTH}
+use Rattle.sql_grammar.specs.declared.error.Limit.TheVariants.{TooLarge}
+use Rattle.sql_grammar.specs.Tokens.{Token, Key, Sign, Placed, is, is_last}
+use Rattle.sql_grammar.specs.Tree.{Sum, Condition, Alone, Or, Part, Single, And, Atom, Compares, Not, Group}
+use Rattle.sql_grammar.specs.Grammar.{Marked, mark, plain, too_deep}
+use Rattle.sql_grammar.specs.Grammar as grammar
+use Rattle.sql_grammar.specs.Reading.{Read, first, taken, the, comparison, compares, part_of, condition_of, one_of_three, atom, condition, where_part}
 use Rattle.sql_reader.proofs.Laws.{HasEnd, Agrees, Heads, closed, stops_closed, then, mapped, choice, both, also, spelled_as, over_limit, IsChain, in_chain, or-false, heads-append}
 use Rattle.sql_reader.proofs.TokenLaws.{skips, one_of, the-back, the-none, is_same}
 use Rattle.sql_reader.proofs.ExpressionLaws.{on_sum, sum_law, some_sum, heads_sum}
+use Rattle.sql_grammar.specs.declared.expression.Comparison.{Comparison}
+use Rattle.sql_grammar.specs.declared.expression.Comparison.TheVariants.{Equal, Unequal, Differs, Less, AtMost, Greater, AtLeast}
 
 -- ---- comparisons
 

@@ -3,14 +3,14 @@ use Rattle.std.proofs.Common.{◌≡◌, ℕ, zero, suc, ◌+◌, ◌-◌, Bool,
 use Rattle.std.specs.Prelude.{⊤, ◌==◌, take_while}
 use Rattle.byte_runs.specs.declared.runs.Class.TheVariants as class
 use Rattle.std.specs.Char.{is_ascii_digit}
-use Rattle.sql_reader.specs.Tokens.{Placed, End, is_last}
-use Rattle.sql_reader.specs.Tree.{Block}
-use Rattle.sql_reader.specs.Grammar.{good, spelling, Fault, FirstFault}
+use Rattle.sql_grammar.specs.Tokens.{Placed, End, is_last}
+use Rattle.sql_grammar.specs.Tree.{Block}
+use Rattle.sql_grammar.specs.Grammar.{good, spelling, Fault, FirstFault}
 use Rattle.byte_runs.specs.declared.pieces.Piece.TheVariants.{Blank, Next, Last}
 use Rattle.byte_runs.specs.Pieces.{with_piece, tokens_past}
 use Rattle.byte_runs.specs.Bytes.{is_white, begins_word, in_class}
-use Rattle.sql_reader.specs.Lexing.{Piece, begins_comment, is_reserved, is_sign, is_pair, quoted, text_piece, key_of, other_of, sign_of, piece_of, token_list}
-use Rattle.sql_reader.specs.Text.{read_text}
+use Rattle.sql_grammar.specs.Lexing.{Piece, begins_comment, is_reserved, is_sign, is_pair, quoted, text_piece, key_of, other_of, sign_of, piece_of, token_list}
+use Rattle.sql_grammar.specs.Text.{read_text}
 use Rattle.sql_reader.proofs.Laws.{HasEnd}
 use Rattle.sql_reader.proofs.BlockLaws.{read_is_spelled, spelled_is_read, fault_is_first}
 

@@ -1,13 +1,19 @@
 -- Literals, factors, terms and sums are read as they are spelled.
 use Rattle.std.proofs.Common.{◌≡◌, ℕ, suc, Bool, true, false, List, [], ◌∷◌, ◌++◌, length, Some, None, Ok, refl, subst, inl, inr, ◌⊎◌, arith}
 use Rattle.std.specs.Prelude.{codes, ◌||◌}
-use Rattle.sql_reader.specs.Tokens.{Token, Word, Sign, Number, Text, Placed, is, is_last}
-use Rattle.sql_reader.specs.Tree.{Name, Last, More, Literal, Whole, Quoted, Factor, Value, Column, Term, AddSign, Plus, Minus, Sum, Only, Then}
-use Rattle.sql_reader.specs.Grammar.{Marked, mark, plain}
-use Rattle.sql_reader.specs.Grammar as grammar
-use Rattle.sql_reader.specs.Reading.{◌>>=◌, first, taken, the, skip, number_of, text_of, over_i64, is_text, is_name, whole, literal, factor, term, add_sign, sum}
+use Rattle.sql_grammar.specs.Tokens.{Token, Word, Sign, Number, Text, Placed, is, is_last}
+use Rattle.sql_grammar.specs.Tree.{Name, Last, More, Term, Sum, Only, Then}
+use Rattle.sql_grammar.specs.Grammar.{Marked, mark, plain}
+use Rattle.sql_grammar.specs.Grammar as grammar
+use Rattle.sql_grammar.specs.Reading.{◌>>=◌, first, taken, the, skip, number_of, text_of, over_i64, is_text, is_name, whole, literal, factor, term, add_sign, sum}
 use Rattle.sql_reader.proofs.Laws.{HasEnd, Agrees, Heads, closed, one, one_within, then, mapped, choice, both, also, IsChain, in_chain, or-false, heads-append}
 use Rattle.sql_reader.proofs.TokenLaws.{skips, names, the-back, the-none, which-back}
+use Rattle.sql_grammar.specs.declared.expression.Literal.{Literal}
+use Rattle.sql_grammar.specs.declared.expression.Literal.TheVariants.{Whole, Quoted}
+use Rattle.sql_grammar.specs.declared.expression.Factor.{Factor}
+use Rattle.sql_grammar.specs.declared.expression.Factor.TheVariants.{Value, Column}
+use Rattle.sql_grammar.specs.declared.expression.AddSign.{AddSign}
+use Rattle.sql_grammar.specs.declared.expression.AddSign.TheVariants.{Plus, Minus}
 
 -- ---- literals
 

@@ -1,37 +1,37 @@
 -- A text has one first fault at most.
 use Rattle.std.proofs.Common.{◌≡◌, refl, sym, ap, subst, ◌∙◌, ℕ, suc, Bool, true, false, cond, List, [], ◌∷◌, ◌++◌, Option, Some, None, append_assoc}
 use Rattle.std.specs.Prelude.{⊤, not, nat_le, codes}
-use Rattle.sql_reader.specs.declared.error.Limit.{Limit}
-use Rattle.sql_reader.specs.declared.error.Limit.TheVariants.{NumberTooLarge, TooLarge}
-use Rattle.sql_reader.specs.declared.error.SqlErrorKind.{SqlErrorKind as Kind}
-use Rattle.sql_reader.specs.declared.expression.Factor.{Factor}
-use Rattle.sql_reader.specs.declared.expression.Factor.TheVariants as factors
-use Rattle.sql_reader.specs.declared.expression.Literal.{Literal}
-use Rattle.sql_reader.specs.declared.expression.Literal.TheVariants.{Whole, Quoted}
-use Rattle.sql_reader.specs.declared.statement.Aggregate.{Aggregate}
-use Rattle.sql_reader.specs.declared.statement.Aggregate.TheVariants as aggregates
-use Rattle.sql_reader.specs.declared.statement.Direction.{Direction}
-use Rattle.sql_reader.specs.declared.statement.Direction.TheVariants as directions
-use Rattle.sql_reader.specs.declared.statement.Level.{Level}
-use Rattle.sql_reader.specs.declared.statement.Level.TheVariants as levels
-use Rattle.sql_reader.specs.declared.statement.LockMode.{LockMode}
-use Rattle.sql_reader.specs.declared.statement.LockMode.TheVariants as modes
-use Rattle.sql_reader.specs.declared.statement.Noise.{Noise}
-use Rattle.sql_reader.specs.declared.statement.Noise.TheVariants as noises
-use Rattle.sql_reader.specs.declared.statement.Property.{Property}
-use Rattle.sql_reader.specs.declared.statement.Property.TheVariants as properties
-use Rattle.sql_reader.specs.declared.statement.Scope.{Scope}
-use Rattle.sql_reader.specs.declared.statement.Scope.TheVariants as scopes
-use Rattle.sql_reader.specs.declared.statement.SortKey.{SortKey}
-use Rattle.sql_reader.specs.declared.statement.Start.{Start}
-use Rattle.sql_reader.specs.declared.statement.Start.TheVariants as starts
-use Rattle.sql_reader.specs.declared.statement.TablePart.{TablePart}
-use Rattle.sql_reader.specs.declared.statement.TablePart.TheVariants as parts
-use Rattle.sql_reader.specs.Tokens.{Token, Key, Word, Sign, Number, Text, End, NoToken, NotClosed, Placed}
-use Rattle.sql_reader.specs.Tree as tree
-use Rattle.sql_reader.specs.Tree.{Chain, Last, More}
-use Rattle.sql_reader.specs.Grammar as grammar
-use Rattle.sql_reader.specs.Grammar.{Marked, mark, plain, passes_if, good, Begins, MayCome, IsWord, IsToken, AtStatement, CannotCome, OnlyOver, IsKind, bad_token, unclosed, unsupported, syntax, over, kind_of_limit, Fault, FirstFault}
+use Rattle.sql_grammar.specs.declared.error.Limit.{Limit}
+use Rattle.sql_grammar.specs.declared.error.Limit.TheVariants.{NumberTooLarge, TooLarge}
+use Rattle.sql_grammar.specs.declared.error.SqlErrorKind.{SqlErrorKind as Kind}
+use Rattle.sql_grammar.specs.declared.expression.Factor.{Factor}
+use Rattle.sql_grammar.specs.declared.expression.Factor.TheVariants as factors
+use Rattle.sql_grammar.specs.declared.expression.Literal.{Literal}
+use Rattle.sql_grammar.specs.declared.expression.Literal.TheVariants.{Whole, Quoted}
+use Rattle.sql_grammar.specs.declared.statement.Aggregate.{Aggregate}
+use Rattle.sql_grammar.specs.declared.statement.Aggregate.TheVariants as aggregates
+use Rattle.sql_grammar.specs.declared.statement.Direction.{Direction}
+use Rattle.sql_grammar.specs.declared.statement.Direction.TheVariants as directions
+use Rattle.sql_grammar.specs.declared.statement.Level.{Level}
+use Rattle.sql_grammar.specs.declared.statement.Level.TheVariants as levels
+use Rattle.sql_grammar.specs.declared.statement.LockMode.{LockMode}
+use Rattle.sql_grammar.specs.declared.statement.LockMode.TheVariants as modes
+use Rattle.sql_grammar.specs.declared.statement.Noise.{Noise}
+use Rattle.sql_grammar.specs.declared.statement.Noise.TheVariants as noises
+use Rattle.sql_grammar.specs.declared.statement.Property.{Property}
+use Rattle.sql_grammar.specs.declared.statement.Property.TheVariants as properties
+use Rattle.sql_grammar.specs.declared.statement.Scope.{Scope}
+use Rattle.sql_grammar.specs.declared.statement.Scope.TheVariants as scopes
+use Rattle.sql_grammar.specs.declared.statement.SortKey.{SortKey}
+use Rattle.sql_grammar.specs.declared.statement.Start.{Start}
+use Rattle.sql_grammar.specs.declared.statement.Start.TheVariants as starts
+use Rattle.sql_grammar.specs.declared.statement.TablePart.{TablePart}
+use Rattle.sql_grammar.specs.declared.statement.TablePart.TheVariants as parts
+use Rattle.sql_grammar.specs.Tokens.{Token, Key, Word, Sign, Number, Text, End, NoToken, NotClosed, Placed}
+use Rattle.sql_grammar.specs.Tree as tree
+use Rattle.sql_grammar.specs.Tree.{Chain, Last, More}
+use Rattle.sql_grammar.specs.Grammar as grammar
+use Rattle.sql_grammar.specs.Grammar.{Marked, mark, plain, passes_if, good, Begins, MayCome, IsWord, IsToken, AtStatement, CannotCome, OnlyOver, IsKind, bad_token, unclosed, unsupported, syntax, over, kind_of_limit, Fault, FirstFault}
 use Rattle.sql_reader.proofs.Laws.{good-append}
 
 -- ---- which tokens pass which limit

@@ -1,16 +1,21 @@
 -- A statement is read as it is spelled.
 use Rattle.std.proofs.Common.{◌≡◌, true, false, List, ◌++◌, refl, inl, inr, ◌⊎◌}
 use Rattle.std.specs.Prelude.{codes}
-use Rattle.sql_reader.specs.Tokens.{Key, Word, Placed, is}
-use Rattle.sql_reader.specs.Tree.{Name, Chain, Condition, SortKey, Items, Select, Setting, Start, BeginWord, StartWords, Statement, CreateTable, Insert, Selects, Update, Delete, Begin, Ends, Lock, Set}
-use Rattle.sql_reader.specs.Tree as tree
-use Rattle.sql_reader.specs.Grammar.{Marked}
-use Rattle.sql_reader.specs.Grammar as grammar
-use Rattle.sql_reader.specs.Reading.{first, inside}
-use Rattle.sql_reader.specs.Reading as reading
+use Rattle.sql_grammar.specs.Tokens.{Key, Word, Placed, is}
+use Rattle.sql_grammar.specs.Tree.{Name, Chain, Condition, Items, Select, Statement, CreateTable, Insert, Selects, Update, Delete, Begin, Ends, Lock, Set}
+use Rattle.sql_grammar.specs.Tree as tree
+use Rattle.sql_grammar.specs.Grammar.{Marked}
+use Rattle.sql_grammar.specs.Grammar as grammar
+use Rattle.sql_grammar.specs.Reading.{first, inside}
+use Rattle.sql_grammar.specs.Reading as reading
 use Rattle.sql_reader.proofs.Laws.{Stops, HasEnd, Agrees, Heads, choice, both, also}
 use Rattle.sql_reader.proofs.StatementLaws.{CreateIndex, create_law, InsertIndex, insert_law, SelectIndex, tree_select, select_law, UpdateIndex, update_law, DeleteIndex, delete_law, BeginIndex, begin_law, EndIndex, ends_law, LockIndex, lock_law}
 use Rattle.sql_reader.proofs.SettingLaws.{set_law}
+use Rattle.sql_grammar.specs.declared.statement.SortKey.{SortKey}
+use Rattle.sql_grammar.specs.declared.statement.Setting.{Setting}
+use Rattle.sql_grammar.specs.declared.statement.Start.{Start}
+use Rattle.sql_grammar.specs.declared.statement.Start.TheVariants.{BeginWord, StartWords}
+use Rattle.sql_grammar.specs.declared.statement.EndWord.TheVariants as end_words
 
 abbrev Forms8 : Type 0
 Forms8 = Setting
@@ -103,10 +108,10 @@ other0 (inr (inr (inl p))) more stop = refl
 other0 (inr (inr (inr (inl p)))) more stop = refl
 other0 (inr (inr (inr (inr (inl (BeginWord o, l)))))) more stop = refl
 other0 (inr (inr (inr (inr (inl (StartWords, l)))))) more stop = refl
-other0 (inr (inr (inr (inr (inr (inl (tree.Commit, n))))))) more stop = refl
-other0 (inr (inr (inr (inr (inr (inl (tree.End, n))))))) more stop = refl
-other0 (inr (inr (inr (inr (inr (inl (tree.Rollback, n))))))) more stop = refl
-other0 (inr (inr (inr (inr (inr (inl (tree.Abort, n))))))) more stop = refl
+other0 (inr (inr (inr (inr (inr (inl (end_words.Commit, n))))))) more stop = refl
+other0 (inr (inr (inr (inr (inr (inl (end_words.End, n))))))) more stop = refl
+other0 (inr (inr (inr (inr (inr (inl (end_words.Rollback, n))))))) more stop = refl
+other0 (inr (inr (inr (inr (inr (inl (end_words.Abort, n))))))) more stop = refl
 other0 (inr (inr (inr (inr (inr (inr (inl p))))))) more stop = refl
 other0 (inr (inr (inr (inr (inr (inr (inr p))))))) more stop = refl
 
@@ -119,10 +124,10 @@ other1 (inr (inl p)) more stop = refl
 other1 (inr (inr (inl p))) more stop = refl
 other1 (inr (inr (inr (inl (BeginWord o, l))))) more stop = refl
 other1 (inr (inr (inr (inl (StartWords, l))))) more stop = refl
-other1 (inr (inr (inr (inr (inl (tree.Commit, n)))))) more stop = refl
-other1 (inr (inr (inr (inr (inl (tree.End, n)))))) more stop = refl
-other1 (inr (inr (inr (inr (inl (tree.Rollback, n)))))) more stop = refl
-other1 (inr (inr (inr (inr (inl (tree.Abort, n)))))) more stop = refl
+other1 (inr (inr (inr (inr (inl (end_words.Commit, n)))))) more stop = refl
+other1 (inr (inr (inr (inr (inl (end_words.End, n)))))) more stop = refl
+other1 (inr (inr (inr (inr (inl (end_words.Rollback, n)))))) more stop = refl
+other1 (inr (inr (inr (inr (inl (end_words.Abort, n)))))) more stop = refl
 other1 (inr (inr (inr (inr (inr (inl p)))))) more stop = refl
 other1 (inr (inr (inr (inr (inr (inr p)))))) more stop = refl
 
@@ -134,10 +139,10 @@ other2 (inl p) more stop = refl
 other2 (inr (inl p)) more stop = refl
 other2 (inr (inr (inl (BeginWord o, l)))) more stop = refl
 other2 (inr (inr (inl (StartWords, l)))) more stop = refl
-other2 (inr (inr (inr (inl (tree.Commit, n))))) more stop = refl
-other2 (inr (inr (inr (inl (tree.End, n))))) more stop = refl
-other2 (inr (inr (inr (inl (tree.Rollback, n))))) more stop = refl
-other2 (inr (inr (inr (inl (tree.Abort, n))))) more stop = refl
+other2 (inr (inr (inr (inl (end_words.Commit, n))))) more stop = refl
+other2 (inr (inr (inr (inl (end_words.End, n))))) more stop = refl
+other2 (inr (inr (inr (inl (end_words.Rollback, n))))) more stop = refl
+other2 (inr (inr (inr (inl (end_words.Abort, n))))) more stop = refl
 other2 (inr (inr (inr (inr (inl p))))) more stop = refl
 other2 (inr (inr (inr (inr (inr p))))) more stop = refl
 
@@ -148,10 +153,10 @@ other3 : (b : Forms4) (more : List Marked) → Stops inside more → Heads (is (
 other3 (inl p) more stop = refl
 other3 (inr (inl (BeginWord o, l))) more stop = refl
 other3 (inr (inl (StartWords, l))) more stop = refl
-other3 (inr (inr (inl (tree.Commit, n)))) more stop = refl
-other3 (inr (inr (inl (tree.End, n)))) more stop = refl
-other3 (inr (inr (inl (tree.Rollback, n)))) more stop = refl
-other3 (inr (inr (inl (tree.Abort, n)))) more stop = refl
+other3 (inr (inr (inl (end_words.Commit, n)))) more stop = refl
+other3 (inr (inr (inl (end_words.End, n)))) more stop = refl
+other3 (inr (inr (inl (end_words.Rollback, n)))) more stop = refl
+other3 (inr (inr (inl (end_words.Abort, n)))) more stop = refl
 other3 (inr (inr (inr (inl p)))) more stop = refl
 other3 (inr (inr (inr (inr p)))) more stop = refl
 
@@ -161,10 +166,10 @@ begins4 p more stop = refl
 other4 : (b : Forms5) (more : List Marked) → Stops inside more → Heads (is (Word (codes "delete"))) false (sp5 b ++ more)
 other4 (inl (BeginWord o, l)) more stop = refl
 other4 (inl (StartWords, l)) more stop = refl
-other4 (inr (inl (tree.Commit, n))) more stop = refl
-other4 (inr (inl (tree.End, n))) more stop = refl
-other4 (inr (inl (tree.Rollback, n))) more stop = refl
-other4 (inr (inl (tree.Abort, n))) more stop = refl
+other4 (inr (inl (end_words.Commit, n))) more stop = refl
+other4 (inr (inl (end_words.End, n))) more stop = refl
+other4 (inr (inl (end_words.Rollback, n))) more stop = refl
+other4 (inr (inl (end_words.Abort, n))) more stop = refl
 other4 (inr (inr (inl p))) more stop = refl
 other4 (inr (inr (inr p))) more stop = refl
 
@@ -173,18 +178,18 @@ begins5 (BeginWord o, l) more stop = refl
 begins5 (StartWords, l) more stop = refl
 
 other5 : (b : Forms6) (more : List Marked) → Stops inside more → Heads reading.begins_begin false (sp6 b ++ more)
-other5 (inl (tree.Commit, n)) more stop = refl
-other5 (inl (tree.End, n)) more stop = refl
-other5 (inl (tree.Rollback, n)) more stop = refl
-other5 (inl (tree.Abort, n)) more stop = refl
+other5 (inl (end_words.Commit, n)) more stop = refl
+other5 (inl (end_words.End, n)) more stop = refl
+other5 (inl (end_words.Rollback, n)) more stop = refl
+other5 (inl (end_words.Abort, n)) more stop = refl
 other5 (inr (inl p)) more stop = refl
 other5 (inr (inr p)) more stop = refl
 
 begins6 : (p : EndIndex) (more : List Marked) → Stops inside more → Heads reading.begins_end true (grammar.statement ((λ (p : EndIndex). Ends p.0 p.1) p) ++ more)
-begins6 (tree.Commit, n) more stop = refl
-begins6 (tree.End, n) more stop = refl
-begins6 (tree.Rollback, n) more stop = refl
-begins6 (tree.Abort, n) more stop = refl
+begins6 (end_words.Commit, n) more stop = refl
+begins6 (end_words.End, n) more stop = refl
+begins6 (end_words.Rollback, n) more stop = refl
+begins6 (end_words.Abort, n) more stop = refl
 
 other6 : (b : Forms7) (more : List Marked) → Stops inside more → Heads reading.begins_end false (sp7 b ++ more)
 other6 (inl p) more stop = refl

@@ -1,16 +1,54 @@
 -- No token of a statement is a semicolon or the end, and each begins with a word of its form.
 use Rattle.std.proofs.Common.{◌≡◌, ℕ, suc, Bool, true, false, List, [], ◌∷◌, ◌++◌, Option, Some, None, refl, sym, ap, subst, ◌∙◌, inl, inr, ◌⊎◌}
 use Rattle.std.specs.Prelude.{⊤, codes, ◌||◌, is_some}
-use Rattle.sql_reader.specs.Tokens.{Token, Key, Word, Sign, is}
-use Rattle.sql_reader.specs.Tree.{Name, Chain, Last, More, Literal, Whole, Quoted, Factor, Value, Column, Term, AddSign, Plus, Minus, Sum, Only, Then, Comparison, Equal, Unequal, Differs, Less, AtMost, Greater, AtLeast, Condition, Alone, Or, Part, Single, And, Atom, Compares, Not, Group}
-use Rattle.sql_reader.specs.Tree.{TypeWord, Int, Integer, Int4, BigInt, Int8, TextType, Property, PrimaryKey, NotNull, TablePart, ColumnPart, KeyPart, Direction, Ascending, Descending, SortKey, Aggregate, Count, Total, Items, AllColumns, Columns, Aggregates, Assignment}
-use Rattle.sql_reader.specs.Tree.{Noise, Work, Transaction, ReadWord, Committed, Uncommitted, Level, Serializable, RepeatableRead, EndWord, Strength, LockMode, Access, RowLevel, Shared, Exclusively, Scope, Local, Session, Start, BeginWord, StartWords, SetSign, EqualSign, ToWord, Select, Setting, Statement, CreateTable, Insert, Selects, Update, Delete, Begin, Ends, Lock, Set}
-use Rattle.sql_reader.specs.Tree as tree
-use Rattle.sql_reader.specs.Grammar.{Marked, mark, plain}
-use Rattle.sql_reader.specs.Grammar as grammar
-use Rattle.sql_reader.specs.Reading.{inside, begins_form, begins_begin, begins_end, end_word}
+use Rattle.sql_grammar.specs.Tokens.{Token, Key, Word, Sign, is}
+use Rattle.sql_grammar.specs.Tree.{Name, Chain, Last, More, Term, Sum, Only, Then, Condition, Alone, Or, Part, Single, And, Atom, Compares, Not, Group}
+use Rattle.sql_grammar.specs.Tree.{Items, AllColumns, Columns, Aggregates, Assignment}
+use Rattle.sql_grammar.specs.Tree.{Select, Statement, CreateTable, Insert, Selects, Update, Delete, Begin, Ends, Lock, Set}
+use Rattle.sql_grammar.specs.Tree as tree
+use Rattle.sql_grammar.specs.Grammar.{Marked, mark, plain}
+use Rattle.sql_grammar.specs.Grammar as grammar
+use Rattle.sql_grammar.specs.Reading.{inside, begins_form, begins_begin, begins_end, end_word}
 use Rattle.sql_reader.proofs.Laws.{Heads}
 use Rattle.sql_reader.proofs.TokenLaws.{is_same, which-back}
+use Rattle.sql_grammar.specs.declared.expression.Literal.{Literal}
+use Rattle.sql_grammar.specs.declared.expression.Literal.TheVariants.{Whole, Quoted}
+use Rattle.sql_grammar.specs.declared.expression.Factor.{Factor}
+use Rattle.sql_grammar.specs.declared.expression.Factor.TheVariants.{Value, Column}
+use Rattle.sql_grammar.specs.declared.expression.AddSign.{AddSign}
+use Rattle.sql_grammar.specs.declared.expression.AddSign.TheVariants.{Plus, Minus}
+use Rattle.sql_grammar.specs.declared.expression.Comparison.{Comparison}
+use Rattle.sql_grammar.specs.declared.expression.Comparison.TheVariants.{Equal, Unequal, Differs, Less, AtMost, Greater, AtLeast}
+use Rattle.sql_grammar.specs.declared.statement.TypeWord.{TypeWord}
+use Rattle.sql_grammar.specs.declared.statement.TypeWord.TheVariants.{Int, Integer, Int4, BigInt, Int8, Text as TextType}
+use Rattle.sql_grammar.specs.declared.statement.Property.{Property}
+use Rattle.sql_grammar.specs.declared.statement.Property.TheVariants.{PrimaryKey, NotNull}
+use Rattle.sql_grammar.specs.declared.statement.TablePart.{TablePart}
+use Rattle.sql_grammar.specs.declared.statement.TablePart.TheVariants.{Column as ColumnPart, Key as KeyPart}
+use Rattle.sql_grammar.specs.declared.statement.Direction.{Direction}
+use Rattle.sql_grammar.specs.declared.statement.Direction.TheVariants.{Ascending, Descending}
+use Rattle.sql_grammar.specs.declared.statement.SortKey.{SortKey}
+use Rattle.sql_grammar.specs.declared.statement.Aggregate.{Aggregate}
+use Rattle.sql_grammar.specs.declared.statement.Aggregate.TheVariants.{Count, Total}
+use Rattle.sql_grammar.specs.declared.statement.Noise.{Noise}
+use Rattle.sql_grammar.specs.declared.statement.Noise.TheVariants.{Work, Transaction}
+use Rattle.sql_grammar.specs.declared.statement.ReadWord.{ReadWord}
+use Rattle.sql_grammar.specs.declared.statement.ReadWord.TheVariants.{Committed, Uncommitted}
+use Rattle.sql_grammar.specs.declared.statement.Level.{Level}
+use Rattle.sql_grammar.specs.declared.statement.Level.TheVariants.{Serializable, RepeatableRead}
+use Rattle.sql_grammar.specs.declared.statement.EndWord.{EndWord}
+use Rattle.sql_grammar.specs.declared.statement.Strength.{Strength}
+use Rattle.sql_grammar.specs.declared.statement.LockMode.{LockMode}
+use Rattle.sql_grammar.specs.declared.statement.LockMode.TheVariants.{Access, RowLevel, Shared, Exclusively}
+use Rattle.sql_grammar.specs.declared.statement.Scope.{Scope}
+use Rattle.sql_grammar.specs.declared.statement.Scope.TheVariants.{Local, Session}
+use Rattle.sql_grammar.specs.declared.statement.Start.{Start}
+use Rattle.sql_grammar.specs.declared.statement.Start.TheVariants.{BeginWord, StartWords}
+use Rattle.sql_grammar.specs.declared.statement.SetSign.{SetSign}
+use Rattle.sql_grammar.specs.declared.statement.SetSign.TheVariants.{EqualSign, ToWord}
+use Rattle.sql_grammar.specs.declared.statement.Setting.{Setting}
+use Rattle.sql_grammar.specs.declared.statement.EndWord.TheVariants as end_words
+use Rattle.sql_grammar.specs.declared.statement.Level.TheVariants as levels
 
 abbrev pub Inside : List Marked → Type 0
 Inside [] = ⊤
@@ -126,7 +164,7 @@ of_noise Transaction = (refl, tt)
 of_level : (l : Level) → Inside (grammar.level_part l)
 of_level Serializable = (refl, (refl, (refl, tt)))
 of_level RepeatableRead = (refl, (refl, (refl, (refl, tt))))
-of_level (tree.Read w) = (refl, (refl, (refl, (refl, tt))))
+of_level (levels.Read w) = (refl, (refl, (refl, (refl, tt))))
 
 of_start : (s : Start) → Inside (grammar.start s)
 of_start (BeginWord o) = (refl, of_optional grammar.noise of_noise o)
@@ -172,10 +210,10 @@ heads_inside (Update n as' w) = refl
 heads_inside (Delete n w) = refl
 heads_inside (Begin (BeginWord o) l) = refl
 heads_inside (Begin StartWords l) = refl
-heads_inside (Ends tree.Commit n) = refl
-heads_inside (Ends tree.End n) = refl
-heads_inside (Ends tree.Rollback n) = refl
-heads_inside (Ends tree.Abort n) = refl
+heads_inside (Ends end_words.Commit n) = refl
+heads_inside (Ends end_words.End n) = refl
+heads_inside (Ends end_words.Rollback n) = refl
+heads_inside (Ends end_words.Abort n) = refl
 heads_inside (Lock t n m) = refl
 heads_inside (Set s) = refl
 
@@ -187,10 +225,10 @@ heads_form (Update n as' w) = refl
 heads_form (Delete n w) = refl
 heads_form (Begin (BeginWord o) l) = refl
 heads_form (Begin StartWords l) = refl
-heads_form (Ends tree.Commit n) = refl
-heads_form (Ends tree.End n) = refl
-heads_form (Ends tree.Rollback n) = refl
-heads_form (Ends tree.Abort n) = refl
+heads_form (Ends end_words.Commit n) = refl
+heads_form (Ends end_words.End n) = refl
+heads_form (Ends end_words.Rollback n) = refl
+heads_form (Ends end_words.Abort n) = refl
 heads_form (Lock t n m) = refl
 heads_form (Set s) = refl
 
@@ -219,7 +257,7 @@ begun_end t e = go (end_word t) refl e
     go : (o : Option EndWord) → end_word t ≡ o → is_some o ≡ true → Begun t
     go None h k = absurd cc
     go (Some w) h k = begun t (Word (grammar.end_word w)) (Ends w None) [] refl
-        (which-back (λ w. Word (grammar.end_word w)) ((Word (codes "commit"), tree.Commit) ∷ (Word (codes "end"), tree.End) ∷ (Word (codes "rollback"), tree.Rollback) ∷ (Word (codes "abort"), tree.Abort) ∷ []) (refl, (refl, (refl, (refl, tt)))) t w h)
+        (which-back (λ w. Word (grammar.end_word w)) ((Word (codes "commit"), end_words.Commit) ∷ (Word (codes "end"), end_words.End) ∷ (Word (codes "rollback"), end_words.Rollback) ∷ (Word (codes "abort"), end_words.Abort) ∷ []) (refl, (refl, (refl, (refl, tt)))) t w h)
 
 pub starts : (t : Token) → begins_form t ≡ true → Begun t
 starts t e = elim (split (is (Word (codes "create")) t) _ e) [

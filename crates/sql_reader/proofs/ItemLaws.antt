@@ -1,16 +1,18 @@
 -- What a SELECT shows: count and sum are aggregates where ( follows, else names.
 use Rattle.std.proofs.Common.{◌≡◌, Bool, true, false, List, [], ◌∷◌, ◌++◌, Option, None, Ok, Err, refl, sym, ap, subst, ◌∙◌, inl, inr, ◌⊎◌, cond}
 use Rattle.std.specs.Prelude.{codes, ◌||◌}
-use Rattle.sql_reader.specs.declared.error.Limit.{Limit}
-use Rattle.sql_reader.specs.Tokens.{Token, Word, Sign, End, Placed, is}
-use Rattle.sql_reader.specs.Tree.{Name, Chain, Last, More, Aggregate, Count, Total, Items, AllColumns, Columns, Aggregates}
-use Rattle.sql_reader.specs.Grammar.{Marked, mark, plain, good}
-use Rattle.sql_reader.specs.Grammar as grammar
-use Rattle.sql_reader.specs.Reading.{Read, ◌>>=◌, Stop, first, rest, name, with_commas, at_aggregate}
-use Rattle.sql_reader.specs.Reading as reading
+use Rattle.sql_grammar.specs.declared.error.Limit.{Limit}
+use Rattle.sql_grammar.specs.Tokens.{Token, Word, Sign, End, Placed, is}
+use Rattle.sql_grammar.specs.Tree.{Name, Chain, Last, More, Items, AllColumns, Columns, Aggregates}
+use Rattle.sql_grammar.specs.Grammar.{Marked, mark, plain, good}
+use Rattle.sql_grammar.specs.Grammar as grammar
+use Rattle.sql_grammar.specs.Reading.{Read, ◌>>=◌, Stop, first, rest, name, with_commas, at_aggregate}
+use Rattle.sql_grammar.specs.Reading as reading
 use Rattle.sql_reader.proofs.Laws.{Stops, HasEnd, Agrees, IsOver, Heads, head_of, closed, same_token, same_rest, mapped, choice, both, also, weaken}
 use Rattle.sql_reader.proofs.TokenLaws.{names, is_same}
 use Rattle.sql_reader.proofs.ListLaws.{past, past_name, at_last, commas, or_comma}
+use Rattle.sql_grammar.specs.declared.statement.Aggregate.{Aggregate}
+use Rattle.sql_grammar.specs.declared.statement.Aggregate.TheVariants.{Count, Total}
 
 -- ---- one of two, told by the first two tokens
 

@@ -2,10 +2,12 @@
 use Rattle.std.proofs.Common.{◌≡◌, ℕ, zero, suc, ◌+◌, ◌<◌, ◌≤◌, Bool, true, false, List, [], ◌∷◌, ◌++◌, length, Option, Some, None, Ok, Err, refl, sym, ap, subst, ◌∙◌, append_assoc, inl, inr, ◌⊎◌, arith, cond}
 use Rattle.std.specs.Prelude.{is_some, ◌||◌}
 use Rattle.std.proofs.lemmas.List.{append-nil, append_cancel_left, length-append}
-use Rattle.sql_reader.specs.declared.error.Limit.{Limit}
-use Rattle.sql_reader.specs.Tokens.{Token, Placed, is_last}
-use Rattle.sql_reader.specs.Grammar.{Marked, mark, plain, good}
-use Rattle.sql_reader.specs.Reading.{Why, CannotStand, Passes, Stop, Read, ◌>>=◌, first, rest, halt, taken, within, chain}
+use Rattle.sql_grammar.specs.declared.error.Limit.{Limit}
+use Rattle.sql_grammar.specs.Tokens.{Token, Placed, is_last}
+use Rattle.sql_grammar.specs.Grammar.{Marked, mark, plain, good}
+use Rattle.sql_grammar.specs.Reading.{Stop, Read, ◌>>=◌, first, rest, halt, taken, within, chain}
+use Rattle.sql_grammar.specs.declared.error.Why.{Why}
+use Rattle.sql_grammar.specs.declared.error.Why.TheVariants.{CannotStand, Passes}
 
 -- ---- the law
 

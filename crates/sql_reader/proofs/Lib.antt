@@ -1,4 +1,3 @@
-pub mod Pieces
 pub mod Laws
 pub mod TokenLaws
 pub mod ExpressionLaws

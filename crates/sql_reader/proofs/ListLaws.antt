@@ -3,11 +3,11 @@ use Rattle.std.proofs.Common.{◌≡◌, ℕ, zero, suc, ◌+◌, ◌<◌, Bool,
 use Rattle.std.specs.Prelude.{codes, ◌||◌, is_some, not}
 use Rattle.std.specs.List.{AllByRecursion}
 use Rattle.std.proofs.lemmas.List.{length-append}
-use Rattle.sql_reader.specs.Tokens.{Token, Word, Sign, End, Placed, is, is_last}
-use Rattle.sql_reader.specs.Tree.{Name, Chain, Last, More}
-use Rattle.sql_reader.specs.Grammar.{Marked, mark, plain, good}
-use Rattle.sql_reader.specs.Grammar as grammar
-use Rattle.sql_reader.specs.Reading.{Read, ◌>>=◌, first, rest, taken, the, skip, which, name, with_commas, many, inside}
+use Rattle.sql_grammar.specs.Tokens.{Token, Word, Sign, End, Placed, is, is_last}
+use Rattle.sql_grammar.specs.Tree.{Name, Chain, Last, More}
+use Rattle.sql_grammar.specs.Grammar.{Marked, mark, plain, good}
+use Rattle.sql_grammar.specs.Grammar as grammar
+use Rattle.sql_grammar.specs.Reading.{Read, ◌>>=◌, first, rest, taken, the, skip, which, name, with_commas, many, inside}
 use Rattle.sql_reader.proofs.Laws.{Stops, HasEnd, Agrees, Takes, Heads, closed, stops_closed, stops_weaker, then, mapped, choice, both, also, nothing, weaken, in_chain, or-false, heads-append}
 use Rattle.sql_reader.proofs.TokenLaws.{skips, names, one_of, the-back, the-none, is_same}
 

@@ -1,12 +1,12 @@
 -- A loop over items with separators between them: the items so far and those to come.
 use Rattle.std.proofs.Common.{◌≡◌, refl, sym, ap, subst, ◌∙◌, ℕ, suc, ◌+◌, ◌-◌, ◌<◌, ◌≤◌, List, [], ◌∷◌, ◌++◌, length, Option, Some, None, Ok, Err, arith, length-append, append_assoc, Bool, true, false, cond, Result}
 use Rattle.std.proofs.lemmas.List.{length-map, append-nil}
-use Rattle.sql_reader.specs.Tokens.{Token, Placed}
-use Rattle.sql_reader.specs.Lexing.{WrittenAt, view, views}
-use Rattle.sql_reader.specs.Reading.{Stop, Read, ◌>>=◌, first, rest, chain, many}
-use Rattle.sql_reader.specs.Views.{joined, Refuses, Passed}
-use Rattle.sql_reader.specs.declared.error.Stop.{Stop as Stopped}
-use Rattle.sql_reader.specs.declared.error.Stop.TheVariants as stop
+use Rattle.sql_grammar.specs.Tokens.{Token, Placed}
+use Rattle.sql_grammar.specs.Lexing.{WrittenAt, view, views}
+use Rattle.sql_grammar.specs.Reading.{Stop, Read, ◌>>=◌, first, rest, chain, many}
+use Rattle.sql_grammar.specs.Views.{joined, Refuses, Passed}
+use Rattle.sql_grammar.specs.declared.error.Stop.{Stop as Stopped}
+use Rattle.sql_grammar.specs.declared.error.Stop.TheVariants as stop
 
 pub length-views : (ps : List WrittenAt) → length (views ps) ≡ length ps
 length-views ps = length-map ps view

@@ -4,7 +4,7 @@ use Rattle.std.specs.Prelude.{◌==◌}
 use Rattle.std.specs.List.{prefix_len}
 use Rattle.byte_runs.specs.declared.runs.Class.TheVariants as class
 use Rattle.byte_runs.specs.Bytes.{in_class}
-use Rattle.sql_reader.specs.Lexing.{quoted, with_byte, with_quote, content, with_front, begins_quote}
+use Rattle.sql_grammar.specs.Lexing.{quoted, with_byte, with_quote, content, with_front, begins_quote}
 
 byte_first : (b : ℕ) (o : Option (List ℕ × ℕ)) → option_map (λ (x : List ℕ × ℕ). x.0) (with_byte b o) ≡ with_front (b ∷ []) (option_map (λ (x : List ℕ × ℕ). x.0) o)
 byte_first b None = refl

@@ -1,10 +1,10 @@
 -- What a token says about the reading that follows.
 use Rattle.std.proofs.Common.{◌≡◌, refl, ap, ◌∙◌, ℕ, suc, true, false, List, Option, Some, None}
 use Rattle.std.specs.Prelude.{codes, is_some, if◌then◌else◌}
-use Rattle.sql_reader.specs.declared.error.SqlErrorKind.TheVariants.{Syntax, Unclosed}
-use Rattle.sql_reader.specs.Tokens.{Key, Sign, Placed}
-use Rattle.sql_reader.specs.Lexing.{text_token}
-use Rattle.sql_reader.specs.Reading.{first, quoted_text, literal, refused, at, atom, group}
+use Rattle.sql_grammar.specs.declared.error.SqlErrorKind.TheVariants.{Syntax, Unclosed}
+use Rattle.sql_grammar.specs.Tokens.{Key, Sign, Placed}
+use Rattle.sql_grammar.specs.Lexing.{text_token}
+use Rattle.sql_grammar.specs.Reading.{first, quoted_text, literal, refused, at, atom, group}
 
 -- a literal that begins with a quote is a text, or none where the quote is not closed
 pub text-literal : (ts : List Placed) (o : Option (List ℕ × ℕ)) → (first ts).token ≡ text_token o → literal ts ≡ quoted_text ts

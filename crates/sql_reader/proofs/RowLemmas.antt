@@ -3,17 +3,18 @@ use Rattle.std.proofs.Common.{◌≡◌, refl, sym, subst, ℕ, suc, ◌+◌, �
 use Rattle.std.specs.Prelude.{⊤, nat_le, codes}
 use Rattle.std.proofs.lemmas.Bool.{leb-false}
 use Rattle.std.proofs.lemmas.List.Elements.{All-nil, All-cons, All-append}
-use Rattle.sql_reader.specs.declared.TheConstants.{MAX_ROWS}
-use Rattle.sql_reader.specs.declared.error.Limit.{Limit}
-use Rattle.sql_reader.specs.declared.error.Limit.TheVariants.{TooLarge}
-use Rattle.sql_reader.specs.Tokens.{Placed, End}
-use Rattle.sql_reader.specs.Lexing.{token_list}
-use Rattle.sql_reader.specs.Tree as tree
-use Rattle.sql_reader.specs.Tree.{Chain, Last, More, Literal, count, Statement, HasFewRows, Block}
-use Rattle.sql_reader.specs.Grammar as grammar
-use Rattle.sql_reader.specs.Grammar.{Marked, plain, passes_if, good}
-use Rattle.sql_reader.specs.Reading.{first}
-use Rattle.sql_reader.specs.Text.{StatementAt, AllHaveFewRows, at_offset, placed, IsSpelled}
+use Rattle.sql_grammar.specs.declared.TheConstants.{MAX_ROWS}
+use Rattle.sql_grammar.specs.declared.error.Limit.{Limit}
+use Rattle.sql_grammar.specs.declared.error.Limit.TheVariants.{TooLarge}
+use Rattle.sql_grammar.specs.Tokens.{Placed, End}
+use Rattle.sql_grammar.specs.Lexing.{token_list}
+use Rattle.sql_grammar.specs.Tree as tree
+use Rattle.sql_grammar.specs.Tree.{Chain, Last, More, count, Statement, HasFewRows, Block}
+use Rattle.sql_grammar.specs.Grammar as grammar
+use Rattle.sql_grammar.specs.Grammar.{Marked, plain, passes_if, good}
+use Rattle.sql_grammar.specs.Reading.{first}
+use Rattle.sql_grammar.specs.Text.{StatementAt, AllHaveFewRows, at_offset, placed, IsSpelled}
+use Rattle.sql_grammar.specs.declared.expression.Literal.{Literal}
 
 -- no token passes a limit
 abbrev AllWithin : List Marked → Type 0

@@ -2,17 +2,26 @@
 use Rattle.std.proofs.Common.{◌≡◌, Bool, true, false, List, [], ◌∷◌, ◌++◌, Option, Some, None, Ok, Err, refl, sym, ap, subst, ◌∙◌, append_assoc, inl, inr, ◌⊎◌, cond}
 use Rattle.std.specs.Prelude.{codes, ◌||◌, ◌&&◌}
 use Rattle.std.proofs.lemmas.List.{append-nil, append_cancel_left}
-use Rattle.sql_reader.specs.declared.error.Limit.{Limit}
-use Rattle.sql_reader.specs.Tokens.{Token, Key, Word, Sign, Number, Text, End, Placed, is, is_last}
-use Rattle.sql_reader.specs.Tree.{Name, Whole, Quoted, Factor, Value, Column, Scope, Local, Session, SetSign, EqualSign, ToWord, Setting, Statement, Set}
-use Rattle.sql_reader.specs.Grammar.{Marked, mark, plain, good}
-use Rattle.sql_reader.specs.Grammar as grammar
-use Rattle.sql_reader.specs.Reading.{Read, ◌>>=◌, Stop, CannotStand, halt, first, rest, at, taken, inside, is_name, has_scope, statement_end, setting_after, scoped_setting}
-use Rattle.sql_reader.specs.Reading as reading
+use Rattle.sql_grammar.specs.declared.error.Limit.{Limit}
+use Rattle.sql_grammar.specs.Tokens.{Token, Key, Word, Sign, Number, Text, End, Placed, is, is_last}
+use Rattle.sql_grammar.specs.Tree.{Name, Statement, Set}
+use Rattle.sql_grammar.specs.Grammar.{Marked, mark, plain, good}
+use Rattle.sql_grammar.specs.Grammar as grammar
+use Rattle.sql_grammar.specs.Reading.{Read, ◌>>=◌, Stop, halt, first, rest, at, taken, inside, is_name, has_scope, statement_end, setting_after, scoped_setting}
+use Rattle.sql_grammar.specs.Reading as reading
 use Rattle.sql_reader.proofs.Laws.{Stops, HasEnd, Agrees, IsOver, Heads, heads-append, closed, stops_closed, same_token, same_rest, good-append, then, mapped, also, both}
 use Rattle.sql_reader.proofs.TokenLaws.{one_of, is_same}
 use Rattle.sql_reader.proofs.ListLaws.{past, past_name}
 use Rattle.sql_reader.proofs.ExpressionLaws.{factor_law, heads_factor}
+use Rattle.sql_grammar.specs.declared.expression.Literal.TheVariants.{Whole, Quoted}
+use Rattle.sql_grammar.specs.declared.expression.Factor.{Factor}
+use Rattle.sql_grammar.specs.declared.expression.Factor.TheVariants.{Value, Column}
+use Rattle.sql_grammar.specs.declared.statement.Scope.{Scope}
+use Rattle.sql_grammar.specs.declared.statement.Scope.TheVariants.{Local, Session}
+use Rattle.sql_grammar.specs.declared.statement.SetSign.{SetSign}
+use Rattle.sql_grammar.specs.declared.statement.SetSign.TheVariants.{EqualSign, ToWord}
+use Rattle.sql_grammar.specs.declared.statement.Setting.{Setting}
+use Rattle.sql_grammar.specs.declared.error.Why.TheVariants.{CannotStand}
 
 -- ---- the end of a statement
 

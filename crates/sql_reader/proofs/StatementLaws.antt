@@ -1,20 +1,54 @@
 -- Each form of a statement is read as it is spelled.
 use Rattle.std.proofs.Common.{◌≡◌, ℕ, suc, Bool, true, false, List, [], ◌∷◌, ◌++◌, length, Option, Some, None, refl, sym, inl, inr, ◌⊎◌, arith, cond}
 use Rattle.std.specs.Prelude.{codes, ◌||◌, is_some}
-use Rattle.sql_reader.specs.Tokens.{Token, Key, Word, Sign, End, Placed, is, is_last}
-use Rattle.sql_reader.specs.Tree.{Name, Chain, Last, More, Literal, Quoted, Sum, Condition, TypeWord, Int, Integer, Int4, BigInt, Int8, TextType, Property, PrimaryKey, NotNull, TablePart, ColumnPart, KeyPart, Direction, Ascending, Descending, SortKey, Aggregate, Count, Total, Items, AllColumns, Columns, Aggregates, Assignment}
-use Rattle.sql_reader.specs.Tree.{Noise, Work, Transaction, ReadWord, Committed, Uncommitted, Level, Serializable, RepeatableRead, EndWord, Strength, LockMode, Access, RowLevel, Shared, Exclusively, Scope, Local, Session, Start, BeginWord, StartWords, SetSign, EqualSign, ToWord, Select, Setting, Statement, CreateTable, Insert, Selects, Update, Delete, Begin, Ends, Lock, Set}
-use Rattle.sql_reader.specs.Tree as tree
-use Rattle.sql_reader.specs.Grammar.{Marked, mark, plain}
-use Rattle.sql_reader.specs.Grammar as grammar
-use Rattle.sql_reader.specs.Reading.{Read, ◌>>=◌, first, rest, taken, the, skip, which, name, inside, with_commas, over_rows}
-use Rattle.sql_reader.specs.Reading as reading
+use Rattle.sql_grammar.specs.Tokens.{Token, Key, Word, Sign, End, Placed, is, is_last}
+use Rattle.sql_grammar.specs.Tree.{Name, Chain, Last, More, Sum, Condition, Items, AllColumns, Columns, Aggregates, Assignment}
+use Rattle.sql_grammar.specs.Tree.{Select, Statement, CreateTable, Insert, Selects, Update, Delete, Begin, Ends, Lock, Set}
+use Rattle.sql_grammar.specs.Tree as tree
+use Rattle.sql_grammar.specs.Grammar.{Marked, mark, plain}
+use Rattle.sql_grammar.specs.Grammar as grammar
+use Rattle.sql_grammar.specs.Reading.{Read, ◌>>=◌, first, rest, taken, the, skip, which, name, inside, with_commas, over_rows}
+use Rattle.sql_grammar.specs.Reading as reading
 use Rattle.sql_reader.proofs.Laws.{Stops, HasEnd, Agrees, Heads, closed, stops_closed, one_within, then, mapped, choice, both, also, nothing, weaken}
 use Rattle.sql_reader.proofs.TokenLaws.{names, one_of, the-back}
 use Rattle.sql_reader.proofs.ExpressionLaws.{on_sum, sum_law, some_sum, literal_law}
 use Rattle.sql_reader.proofs.ConditionLaws.{on_condition, where_law}
 use Rattle.sql_reader.proofs.ItemLaws.{on_items, items_law}
 use Rattle.sql_reader.proofs.ListLaws.{past, past_name, at_last, maybe, maybe_one_of, or_comma, numbered, commas, while_law, ends_on, ends_stop, before, two_words}
+use Rattle.sql_grammar.specs.declared.expression.Literal.{Literal}
+use Rattle.sql_grammar.specs.declared.expression.Literal.TheVariants.{Quoted}
+use Rattle.sql_grammar.specs.declared.statement.TypeWord.{TypeWord}
+use Rattle.sql_grammar.specs.declared.statement.TypeWord.TheVariants.{Int, Integer, Int4, BigInt, Int8, Text as TextType}
+use Rattle.sql_grammar.specs.declared.statement.Property.{Property}
+use Rattle.sql_grammar.specs.declared.statement.Property.TheVariants.{PrimaryKey, NotNull}
+use Rattle.sql_grammar.specs.declared.statement.TablePart.{TablePart}
+use Rattle.sql_grammar.specs.declared.statement.TablePart.TheVariants.{Column as ColumnPart, Key as KeyPart}
+use Rattle.sql_grammar.specs.declared.statement.Direction.{Direction}
+use Rattle.sql_grammar.specs.declared.statement.Direction.TheVariants.{Ascending, Descending}
+use Rattle.sql_grammar.specs.declared.statement.SortKey.{SortKey}
+use Rattle.sql_grammar.specs.declared.statement.Aggregate.{Aggregate}
+use Rattle.sql_grammar.specs.declared.statement.Aggregate.TheVariants.{Count, Total}
+use Rattle.sql_grammar.specs.declared.statement.Noise.{Noise}
+use Rattle.sql_grammar.specs.declared.statement.Noise.TheVariants.{Work, Transaction}
+use Rattle.sql_grammar.specs.declared.statement.ReadWord.{ReadWord}
+use Rattle.sql_grammar.specs.declared.statement.ReadWord.TheVariants.{Committed, Uncommitted}
+use Rattle.sql_grammar.specs.declared.statement.Level.{Level}
+use Rattle.sql_grammar.specs.declared.statement.Level.TheVariants.{Serializable, RepeatableRead}
+use Rattle.sql_grammar.specs.declared.statement.EndWord.{EndWord}
+use Rattle.sql_grammar.specs.declared.statement.Strength.{Strength}
+use Rattle.sql_grammar.specs.declared.statement.LockMode.{LockMode}
+use Rattle.sql_grammar.specs.declared.statement.LockMode.TheVariants.{Access, RowLevel, Shared, Exclusively}
+use Rattle.sql_grammar.specs.declared.statement.Scope.{Scope}
+use Rattle.sql_grammar.specs.declared.statement.Scope.TheVariants.{Local, Session}
+use Rattle.sql_grammar.specs.declared.statement.Start.{Start}
+use Rattle.sql_grammar.specs.declared.statement.Start.TheVariants.{BeginWord, StartWords}
+use Rattle.sql_grammar.specs.declared.statement.SetSign.{SetSign}
+use Rattle.sql_grammar.specs.declared.statement.SetSign.TheVariants.{EqualSign, ToWord}
+use Rattle.sql_grammar.specs.declared.statement.Setting.{Setting}
+use Rattle.sql_grammar.specs.declared.statement.EndWord.TheVariants as end_words
+use Rattle.sql_grammar.specs.declared.statement.Level.TheVariants as levels
+use Rattle.sql_grammar.specs.declared.expression.Literal.TheVariants as literals
+use Rattle.sql_grammar.specs.declared.statement.Strength.TheVariants as strengths
 
 -- ---- CREATE TABLE
 
@@ -147,8 +181,8 @@ names_part_law ts ends =
     (λ o ho. before (Sign (codes ")")) refl refl (λ ns. ns) (grammar.chain grammar.name) (or_comma closed) closed o.1 _ refl (commas grammar.name closed name [] (λ n. refl) refl (names closed) o.1 ho))
 
 heads_literal : (l : Literal) → Heads (λ t. true) true (grammar.literal l)
-heads_literal (tree.Whole true n) = refl
-heads_literal (tree.Whole false n) = refl
+heads_literal (literals.Whole true n) = refl
+heads_literal (literals.Whole false n) = refl
 heads_literal (Quoted b) = refl
 
 some_row : Chain Literal
@@ -422,13 +456,13 @@ Levels = Unit {0} ⊎ (Unit {0} ⊎ ReadWord)
 abbrev of_level : Level → Levels
 of_level Serializable = inl tt
 of_level RepeatableRead = inr (inl tt)
-of_level (tree.Read w) = inr (inr w)
+of_level (levels.Read w) = inr (inr w)
 
 abbrev tree_level : Levels → Level
-tree_level = both (λ u. Serializable) (both (λ u. RepeatableRead) (λ w. tree.Read w))
+tree_level = both (λ u. Serializable) (both (λ u. RepeatableRead) (λ w. levels.Read w))
 
 abbrev sp_level : Levels → List Marked
-sp_level = both (λ u. grammar.level Serializable) (both (λ u. grammar.level RepeatableRead) (λ w. grammar.level (tree.Read w)))
+sp_level = both (λ u. grammar.level Serializable) (both (λ u. grammar.level RepeatableRead) (λ w. grammar.level (levels.Read w)))
 
 level_to : (i : Levels) → (tree_level i ≡ tree_level i) × (grammar.level (tree_level i) ≡ sp_level i)
 level_to (inl u) = (refl, refl)
@@ -438,20 +472,20 @@ level_to (inr (inr w)) = (refl, refl)
 level_back : (l : Level) → (tree_level (of_level l) ≡ l) × (sp_level (of_level l) ≡ grammar.level l)
 level_back Serializable = (refl, refl)
 level_back RepeatableRead = (refl, refl)
-level_back (tree.Read w) = (refl, refl)
+level_back (levels.Read w) = (refl, refl)
 
 level_law : (on : Token → Bool) (ts : List Placed) → HasEnd ts → Agrees {I = Level} (λ l. l) grammar.level on ts (reading.level ts)
 level_law on ts ends =
     also tree_level sp_level (λ l. l) grammar.level on ts _ tree_level of_level level_to level_back
-    (choice (λ (u : Unit {0}). Serializable) (both (λ (u : Unit {0}). RepeatableRead) (λ w. tree.Read w)) (λ u. grammar.level Serializable) (both (λ (u : Unit {0}). grammar.level RepeatableRead) (λ w. grammar.level (tree.Read w))) on
+    (choice (λ (u : Unit {0}). Serializable) (both (λ (u : Unit {0}). RepeatableRead) (λ w. levels.Read w)) (λ u. grammar.level Serializable) (both (λ (u : Unit {0}). grammar.level RepeatableRead) (λ w. grammar.level (levels.Read w))) on
     (is (Word (codes "serializable"))) ts _ _ (λ u more stop. refl) others
     (λ e. at_last (Word (codes "serializable")) refl refl Serializable on ts ends)
-    (λ e. choice (λ (u : Unit {0}). RepeatableRead) (λ w. tree.Read w) (λ u. grammar.level RepeatableRead) (λ w. grammar.level (tree.Read w)) on (is (Word (codes "repeatable"))) ts _ _ (λ u more stop. refl) (λ w more stop. refl)
+    (λ e. choice (λ (u : Unit {0}). RepeatableRead) (λ w. levels.Read w) (λ u. grammar.level RepeatableRead) (λ w. grammar.level (levels.Read w)) on (is (Word (codes "repeatable"))) ts _ _ (λ u more stop. refl) (λ w more stop. refl)
     (λ e'. past (Word (codes "repeatable")) refl refl (λ (u : Unit {0}). RepeatableRead) (λ u. plain (Word (codes "read")) ∷ []) on ts _ tt ends (λ x h. at_last (Word (codes "read")) refl refl RepeatableRead on x.1 h))
-    (λ e'. past (Word (codes "read")) refl refl (λ w. tree.Read w) (λ w. plain (Word (grammar.read_word w)) ∷ []) on ts _ Committed ends
-    (λ x h. mapped (λ w. tree.Read w) (λ w. w) (λ w. plain (Word (grammar.read_word w)) ∷ []) on x.1 _ (read_word_law on x.1 h)))))
+    (λ e'. past (Word (codes "read")) refl refl (λ w. levels.Read w) (λ w. plain (Word (grammar.read_word w)) ∷ []) on ts _ Committed ends
+    (λ x h. mapped (λ w. levels.Read w) (λ w. w) (λ w. plain (Word (grammar.read_word w)) ∷ []) on x.1 _ (read_word_law on x.1 h)))))
   where
-    others : (b : Unit {0} ⊎ ReadWord) (more : List Marked) → Stops on more → Heads (is (Word (codes "serializable"))) false (both (λ (u : Unit {0}). grammar.level RepeatableRead) (λ w. grammar.level (tree.Read w)) b ++ more)
+    others : (b : Unit {0} ⊎ ReadWord) (more : List Marked) → Stops on more → Heads (is (Word (codes "serializable"))) false (both (λ (u : Unit {0}). grammar.level RepeatableRead) (λ w. grammar.level (levels.Read w)) b ++ more)
     others (inl u) more stop = refl
     others (inr w) more stop = refl
 
@@ -474,10 +508,10 @@ begin_law ts ends =
     (maybe (is (Word (codes "isolation"))) _ grammar.level_part closed inside s.1 (λ l. refl) (ends_on (is (Word (codes "isolation"))) refl refl) (ends_stop closed refl refl) hs.ended (λ e. level_part_law closed s.1 hs.ended)))
 
 end-forth : (w : EndWord) → reading.end_word (Word (grammar.end_word w)) ≡ Some w
-end-forth tree.Commit = refl
-end-forth tree.End = refl
-end-forth tree.Rollback = refl
-end-forth tree.Abort = refl
+end-forth end_words.Commit = refl
+end-forth end_words.End = refl
+end-forth end_words.Rollback = refl
+end-forth end_words.Abort = refl
 
 abbrev pub EndIndex : Type 0
 EndIndex = EndWord × Option Noise
@@ -485,7 +519,7 @@ EndIndex = EndWord × Option Noise
 pub ends_law : (ts : List Placed) → HasEnd ts → Agrees {I = EndIndex} (λ p. Ends p.0 p.1) (λ p. grammar.statement (Ends p.0 p.1)) inside ts (reading.ends ts)
 ends_law ts ends =
     then (λ w n. Ends w n) (λ w. plain (Word (grammar.end_word w)) ∷ []) (grammar.optional grammar.noise) closed inside ts _ _ None (λ j more stop. stops_closed inside (grammar.optional grammar.noise j) more stop)
-    (one_of (λ w. Word (grammar.end_word w)) ((Word (codes "commit"), tree.Commit) ∷ (Word (codes "end"), tree.End) ∷ (Word (codes "rollback"), tree.Rollback) ∷ (Word (codes "abort"), tree.Abort) ∷ []) tree.Commit
+    (one_of (λ w. Word (grammar.end_word w)) ((Word (codes "commit"), end_words.Commit) ∷ (Word (codes "end"), end_words.End) ∷ (Word (codes "rollback"), end_words.Rollback) ∷ (Word (codes "abort"), end_words.Abort) ∷ []) end_words.Commit
     (refl, (refl, (refl, (refl, tt)))) end-forth (λ w. refl) closed ts ends)
     (λ x h. mapped (λ n. Ends x.0 n) (λ n. n) (grammar.optional grammar.noise) inside x.1 _
     (weaken (λ n. n) (grammar.optional grammar.noise) inside on_noise x.1 _ (ends_stop on_noise refl refl) (noise_law x.1 h.ended)))
@@ -493,11 +527,11 @@ ends_law ts ends =
 -- ---- LOCK
 
 strength_law : (on : Token → Bool) (ts : List Placed) → HasEnd ts → Agrees {I = Strength} (λ s. s) (λ s. plain (Word (grammar.strength s)) ∷ []) on ts (taken (reading.strength (first ts).token) ts)
-strength_law on ts ends = one_of (λ s. Word (grammar.strength s)) ((Word (codes "share"), tree.Share) ∷ (Word (codes "exclusive"), tree.Exclusive) ∷ []) tree.Share (refl, (refl, tt)) forth (λ s. refl) on ts ends
+strength_law on ts ends = one_of (λ s. Word (grammar.strength s)) ((Word (codes "share"), strengths.Share) ∷ (Word (codes "exclusive"), strengths.Exclusive) ∷ []) strengths.Share (refl, (refl, tt)) forth (λ s. refl) on ts ends
   where
     forth : (s : Strength) → reading.strength (Word (grammar.strength s)) ≡ Some s
-    forth tree.Share = refl
-    forth tree.Exclusive = refl
+    forth strengths.Share = refl
+    forth strengths.Exclusive = refl
 
 abbrev on_mode : Token → Bool
 on_mode t = is (Word (codes "row")) t
@@ -565,10 +599,10 @@ mode_law ts ends =
     also tree_mode sp_mode (λ m. m) grammar.lock_mode on_mode ts _ tree_mode of_mode mode_to mode_back
     (choice (λ s. Access s) (both (λ s. RowLevel s) (both tree_shared (λ (u : Unit {0}). Exclusively))) (λ s. grammar.lock_mode (Access s)) (both (λ s. grammar.lock_mode (RowLevel s)) (both sp_share (λ (u : Unit {0}). grammar.lock_mode Exclusively))) on_mode
     (is (Word (codes "access"))) ts _ _ (λ s more stop. refl) (not_access on_mode)
-    (λ e. past (Word (codes "access")) refl refl (λ s. Access s) (λ s. plain (Word (grammar.strength s)) ∷ []) on_mode ts _ tree.Share ends
+    (λ e. past (Word (codes "access")) refl refl (λ s. Access s) (λ s. plain (Word (grammar.strength s)) ∷ []) on_mode ts _ strengths.Share ends
     (λ a ha. mapped (λ s. Access s) (λ s. s) (λ s. plain (Word (grammar.strength s)) ∷ []) on_mode a.1 _ (strength_law on_mode a.1 ha)))
     (λ e. choice (λ s. RowLevel s) (both tree_shared (λ (u : Unit {0}). Exclusively)) (λ s. grammar.lock_mode (RowLevel s)) (both sp_share (λ (u : Unit {0}). grammar.lock_mode Exclusively)) on_mode (is (Word (codes "row"))) ts _ _ (λ s more stop. refl) (not_row on_mode)
-    (λ e'. past (Word (codes "row")) refl refl (λ s. RowLevel s) (λ s. plain (Word (grammar.strength s)) ∷ []) on_mode ts _ tree.Share ends
+    (λ e'. past (Word (codes "row")) refl refl (λ s. RowLevel s) (λ s. plain (Word (grammar.strength s)) ∷ []) on_mode ts _ strengths.Share ends
     (λ a ha. mapped (λ s. RowLevel s) (λ s. s) (λ s. plain (Word (grammar.strength s)) ∷ []) on_mode a.1 _ (strength_law on_mode a.1 ha)))
     (λ e'. choice tree_shared (λ (u : Unit {0}). Exclusively) sp_share (λ (u : Unit {0}). grammar.lock_mode Exclusively) on_mode (is (Word (codes "share"))) ts _ _ (λ i more stop. refl) (λ u more stop. refl)
     (λ e''. past (Word (codes "share")) refl refl tree_shared sp_shares on_mode ts _ (inr tt) ends

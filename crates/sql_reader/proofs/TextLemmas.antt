@@ -1,12 +1,12 @@
 -- The statements of a text are those that it spells.
 use Rattle.std.proofs.Common.{◌≡◌, refl, sym, ap, subst, ◌∙◌, ℕ, zero, suc, ◌<◌, Bool, true, false, List, [], ◌∷◌, ◌++◌, length, drop, Option, Some, None, Result, Ok, Err, arith, cond, append_assoc}
 use Rattle.std.specs.Prelude.{codes}
-use Rattle.sql_reader.specs.Tokens.{Sign, End, Placed, is, is_last}
-use Rattle.sql_reader.specs.Lexing.{token_list}
-use Rattle.sql_reader.specs.Tree.{Last, More, Statement, Block}
-use Rattle.sql_reader.specs.Grammar.{Fault, FirstFault, optional, statement}
-use Rattle.sql_reader.specs.Reading.{first, rest, at, and_then, maybe_statement, block_of}
-use Rattle.sql_reader.specs.Text.{StatementAt, at_offset, placed, IsSpelled, read_text, fault_at, ended_by, next_statement, with_front, then_more, statements_from, pushed}
+use Rattle.sql_grammar.specs.Tokens.{Sign, End, Placed, is, is_last}
+use Rattle.sql_grammar.specs.Lexing.{token_list}
+use Rattle.sql_grammar.specs.Tree.{Last, More, Statement, Block}
+use Rattle.sql_grammar.specs.Grammar.{Fault, FirstFault, optional, statement}
+use Rattle.sql_grammar.specs.Reading.{first, rest, at, and_then, maybe_statement, block_of}
+use Rattle.sql_grammar.specs.Text.{StatementAt, at_offset, placed, IsSpelled, read_text, fault_at, ended_by, next_statement, with_front, then_more, statements_from, pushed}
 use Rattle.sql_reader.proofs.Laws.{HasEnd}
 use Rattle.sql_reader.proofs.TokenLaws.{is_same}
 use Rattle.sql_reader.proofs.BlockLaws.{Left, maybe_left}

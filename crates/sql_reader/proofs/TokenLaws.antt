@@ -2,10 +2,10 @@
 use Rattle.std.proofs.Common.{◌≡◌, Bool, true, false, List, [], ◌∷◌, Some, None, refl, sym, ap, ◌∙◌, cond}
 use Rattle.std.specs.List.{AllByRecursion}
 use Rattle.std.proofs.lemmas.Slice.Eq.{bytes_eq-Decides}
-use Rattle.sql_reader.specs.Tokens.{Token, Key, Word, Sign, End, Placed, is, is_last}
-use Rattle.sql_reader.specs.Tree.{Name}
-use Rattle.sql_reader.specs.Grammar.{plain}
-use Rattle.sql_reader.specs.Reading.{first, taken, the, skip, which, name_of, name}
+use Rattle.sql_grammar.specs.Tokens.{Token, Key, Word, Sign, End, Placed, is, is_last}
+use Rattle.sql_grammar.specs.Tree.{Name}
+use Rattle.sql_grammar.specs.Grammar.{plain}
+use Rattle.sql_grammar.specs.Reading.{first, taken, the, skip, which, name_of, name}
 use Rattle.sql_reader.proofs.Laws.{HasEnd, Agrees, one}
 
 pub is_same : (w t : Token) → is w t ≡ true → t ≡ w

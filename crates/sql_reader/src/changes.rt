@@ -1,17 +1,14 @@
 //! UPDATE and DELETE.
 
 ghost use Rattle.std.specs.Prelude.{◌≡◌, ◌≤◌, length, IfOk};
-ghost use Rattle.sql_reader.specs.Lexing.{views};
-ghost use Rattle.sql_reader.specs.Reading.{with_commas, assignment, update, delete};
-ghost use Rattle.sql_reader.specs.Views.{Gives, chain_by, view_assignment, view_update, view_delete};
+ghost use Rattle.sql_grammar.specs.Lexing.{views};
+ghost use Rattle.sql_grammar.specs.Reading.{with_commas, assignment, update, delete};
+ghost use Rattle.sql_grammar.specs.Views.{Gives, chain_by, view_assignment, view_update, view_delete};
 
 use crate::conditions::maybe_where;
-use crate::error::Stop;
-use crate::expression::Chain;
-use crate::statement::{Assignment, Delete, Update};
 use crate::steps::{name, past_sign, skip_key, skip_sign, skip_word};
-use crate::token::Placed;
 use crate::values::sum;
+use sql_grammar::{Assignment, Chain, Delete, Placed, Stop, Update};
 use sqlite_items::Items;
 use std::alloc::Global;
 

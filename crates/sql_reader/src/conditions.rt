@@ -1,19 +1,18 @@
 //! Conditions.
 
 ghost use Rattle.std.specs.Prelude.{◌≡◌, ◌≤◌, length, IfOk, None, MatchOption, codes, map};
-ghost use Rattle.sql_reader.specs.Lexing.{view_token, views};
-ghost use Rattle.sql_reader.specs.Tokens.{Key};
-ghost use Rattle.sql_reader.specs.Tree.{Compares, Not, Group};
-ghost use Rattle.sql_reader.specs.Lexing.{key_of};
-ghost use Rattle.sql_reader.specs.Reading.{first, the, comparison, compares, part_of, condition_of, negated, group, atom, condition, where_part, optional};
-ghost use Rattle.sql_reader.specs.Views.{Gives, Passed, view_sum, view_atom, view_part, view_condition, part_by, condition_by, option_by};
+ghost use Rattle.sql_grammar.specs.Lexing.{view_token, views};
+ghost use Rattle.sql_grammar.specs.Tokens.{Key};
+ghost use Rattle.sql_grammar.specs.Tree.{Compares, Not, Group};
+ghost use Rattle.sql_grammar.specs.Lexing.{key_of};
+ghost use Rattle.sql_grammar.specs.Reading.{first, the, comparison, compares, part_of, condition_of, negated, group, atom, condition, where_part, optional};
+ghost use Rattle.sql_grammar.specs.Views.{Gives, Passed, view_sum, view_atom, view_part, view_condition, part_by, condition_by, option_by};
 
-use crate::MAX_DEPTH;
-use crate::error::{Limit, Stop, Why};
-use crate::expression::{Atom, Comparison, Condition, Part, Sum};
 use crate::steps::{at_key, at_sign, first, skip_key, skip_sign, taken};
-use crate::token::{Placed, Token};
 use crate::values::sum;
+use sql_grammar::{
+    Atom, Comparison, Condition, Limit, MAX_DEPTH, Part, Placed, Stop, Sum, Token, Why,
+};
 use sqlite_items::{Boxed, Items};
 use std::alloc::{AllocError, Global};
 
@@ -51,28 +50,28 @@ fn comparison(token: &Token) -> Option<Comparison>
     }
 }
 
-#[tactic(auto, unfolding(crate::specs::Views::view_atom))]
+#[tactic(auto, unfolding(sql_grammar::specs::Views::view_atom))]
 fn comparing(a: Sum, c: Comparison, b: Sum) -> Atom
     ensures { view_atom result ≡ Compares (view_sum a) c (view_sum b) }
 {
     Atom::Compares(a, c, b)
 }
 
-#[tactic(auto, unfolding(crate::specs::Views::view_atom))]
+#[tactic(auto, unfolding(sql_grammar::specs::Views::view_atom))]
 fn not(alloc: Global, atom: Atom) -> Result<Atom, AllocError>
     ensures { IfOk result (λ x. view_atom x ≡ Not (view_atom atom)) }
 {
     Ok(Atom::Not(Boxed::new(alloc, atom)?))
 }
 
-#[tactic(auto, unfolding(crate::specs::Views::view_atom, crate::specs::Views::view_condition))]
+#[tactic(auto, unfolding(sql_grammar::specs::Views::view_atom, sql_grammar::specs::Views::view_condition))]
 fn in_parentheses(alloc: Global, condition: Condition) -> Result<Atom, AllocError>
     ensures { IfOk result (λ x. view_atom x ≡ Group (view_condition condition)) }
 {
     Ok(Atom::Group(Boxed::new(alloc, condition)?))
 }
 
-#[tactic(auto, unfolding(crate::specs::Views::view_atom, crate::specs::Views::view_part))]
+#[tactic(auto, unfolding(sql_grammar::specs::Views::view_atom, sql_grammar::specs::Views::view_part))]
 fn part(first: Atom, more: Vec<Atom>) -> Part
     ensures { view_part result ≡ part_by (λ a. a) (view_atom first) (map view_atom more.items) }
 {
@@ -80,7 +79,7 @@ fn part(first: Atom, more: Vec<Atom>) -> Part
     Part { first, more }
 }
 
-#[tactic(auto, unfolding(crate::specs::Views::view_part, crate::specs::Views::view_condition))]
+#[tactic(auto, unfolding(sql_grammar::specs::Views::view_part, sql_grammar::specs::Views::view_condition))]
 fn condition_from(first: Part, more: Vec<Part>) -> Condition
     ensures { view_condition result ≡ condition_by (λ p. p) (view_part first) (map view_part more.items) }
 {
@@ -211,7 +210,7 @@ fn condition_of<'a, 't>(
     Ok((any_of(first, more), rest))
 }
 
-#[tactic(auto, unfolding(crate::specs::Reading::condition))]
+#[tactic(auto, unfolding(sql_grammar::specs::Reading::condition))]
 fn condition<'a, 't>(
     alloc: Global,
     tokens: &'t [Placed<'a>],

@@ -1,15 +1,13 @@
 //! LOCK TABLE.
 
 ghost use Rattle.std.specs.Prelude.{◌≡◌, ◌≤◌, length, IfOk, codes};
-ghost use Rattle.sql_reader.specs.Lexing.{view_token, views};
-ghost use Rattle.sql_reader.specs.Tokens.{Key};
-ghost use Rattle.sql_reader.specs.Reading.{strength, row_exclusive, share_mode, lock_mode, mode_part, table_word, lock, optional};
-ghost use Rattle.sql_reader.specs.Views.{Gives, view_lock};
+ghost use Rattle.sql_grammar.specs.Lexing.{view_token, views};
+ghost use Rattle.sql_grammar.specs.Tokens.{Key};
+ghost use Rattle.sql_grammar.specs.Reading.{strength, row_exclusive, share_mode, lock_mode, mode_part, table_word, lock, optional};
+ghost use Rattle.sql_grammar.specs.Views.{Gives, view_lock};
 
-use crate::error::Stop;
-use crate::statement::{LockMode, Strength, TableLock};
 use crate::steps::{at_key, at_word, first, name, skip_key, skip_word, taken};
-use crate::token::{Placed, Token};
+use sql_grammar::{LockMode, Placed, Stop, Strength, TableLock, Token};
 use std::alloc::Global;
 
 fn strength(token: &Token) -> Option<Strength>

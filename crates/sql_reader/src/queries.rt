@@ -1,20 +1,17 @@
 //! SELECT.
 
 ghost use Rattle.std.specs.Prelude.{◌≡◌, ◌≤◌, length, IfOk, codes};
-ghost use Rattle.sql_reader.specs.Lexing.{view_token, views};
-ghost use Rattle.sql_reader.specs.Tokens.{Key};
-ghost use Rattle.sql_reader.specs.Reading.{with_commas, count_all, sum_of, aggregate, at_aggregate, items, direction, maybe_direction, sort_key, order_part, optional, select};
-ghost use Rattle.sql_reader.specs.Views.{Gives, chain_of, option_by, view_selected, view_select};
+ghost use Rattle.sql_grammar.specs.Lexing.{view_token, views};
+ghost use Rattle.sql_grammar.specs.Tokens.{Key};
+ghost use Rattle.sql_grammar.specs.Reading.{with_commas, count_all, sum_of, aggregate, at_aggregate, items, direction, maybe_direction, sort_key, order_part, optional, select};
+ghost use Rattle.sql_grammar.specs.Views.{Gives, chain_of, option_by, view_selected, view_select};
 
 use crate::conditions::maybe_where;
-use crate::error::Stop;
-use crate::expression::Chain;
 use crate::rows::names;
-use crate::statement::{Aggregate, Direction, Select, Selected, SortKey};
 use crate::steps::{
     at_key, at_sign, at_word, behind, first, name, past_sign, skip_key, skip_sign, skip_word,
 };
-use crate::token::{Placed, Token};
+use sql_grammar::{Aggregate, Chain, Direction, Placed, Select, Selected, SortKey, Stop, Token};
 use sqlite_items::Items;
 use std::alloc::Global;
 

@@ -1,7 +1,7 @@
 //! What a text in quotes stands for.
 
 ghost use Rattle.std.specs.Prelude.{◌≡◌, ◌≤◌, ◌<◌, ◌++◌, ◌∷◌, [], length, IfOk, MatchOption, string_bytes, true, false, Some};
-ghost use Rattle.sql_reader.specs.Lexing.{content, with_front, begins_quote, Pair};
+ghost use Rattle.sql_grammar.specs.Lexing.{content, with_front, begins_quote, Pair};
 
 use byte_runs::{Class, after_first, run_len};
 use lock_modes::Text;

@@ -1,27 +1,26 @@
 //! Reads the statements of a block.
 
 ghost use Rattle.std.specs.Prelude.{◌≡◌, ◌++◌, ℕ, List, suc, length, is_some, option_map, false, IfOk, IfErr, MatchResult};
-ghost use Rattle.sql_reader.specs.declared.error.Failure.TheVariants.{Refused};
-ghost use Rattle.sql_reader.specs.declared.error.SqlErrorKind.TheVariants.{NoMemory};
-ghost use Rattle.sql_reader.specs.Grammar.{Fault, FirstFault};
-ghost use Rattle.sql_reader.specs.Lexing.{quoted, token_list, view_token, views};
-ghost use Rattle.sql_reader.specs.Reading.{first, other_form, form, begins_begin, begins_form, kind_of, refused, no_form, statement, maybe_statement};
-ghost use Rattle.sql_reader.specs.Text.{StatementAt, IsSpelled, Explains, AllHaveFewRows, at_offset, fault_at, next_statement, statements_from, pushed, seen, failure_of, Tells};
-ghost use Rattle.sql_reader.specs.Views.{Gives, option_by, view_form};
+ghost use Rattle.sql_grammar.specs.declared.error.Failure.TheVariants.{Refused};
+ghost use Rattle.sql_grammar.specs.declared.error.SqlErrorKind.TheVariants.{NoMemory};
+ghost use Rattle.sql_grammar.specs.Grammar.{Fault, FirstFault};
+ghost use Rattle.sql_grammar.specs.Lexing.{quoted, token_list, view_token, views};
+ghost use Rattle.sql_grammar.specs.Reading.{first, other_form, form, begins_begin, begins_form, kind_of, refused, no_form, statement, maybe_statement};
+ghost use Rattle.sql_grammar.specs.Text.{StatementAt, IsSpelled, Explains, AllHaveFewRows, at_offset, fault_at, next_statement, statements_from, pushed, seen, failure_of, Tells};
+ghost use Rattle.sql_grammar.specs.Views.{Gives, option_by, view_form};
 
 use crate::changes::{delete, update};
-use crate::cutting::quoted_len;
-use crate::error::{Failure, Limit, SqlError, SqlErrorKind, Stop, Why};
 use crate::locks::lock;
 use crate::queries::select;
 use crate::rows::insert;
 use crate::settings::{inside, set};
-use crate::statement::{Form, Statement};
 use crate::steps::{at_key, at_sign, at_word, behind, first};
 use crate::table::create;
-use crate::token::{Placed, Token};
 use crate::transactions::{begin, end_word, ends};
 use byte_runs::tokens_of;
+use sql_grammar::{
+    Failure, Form, Limit, Placed, SqlError, SqlErrorKind, Statement, Stop, Token, Why, quoted_len,
+};
 use std::alloc::{AllocError, Global};
 
 fn begins_begin(tokens: &[Placed]) -> bool
@@ -31,7 +30,7 @@ fn begins_begin(tokens: &[Placed]) -> bool
 }
 
 /// BEGIN, COMMIT, LOCK, SET or another word for them.
-#[tactic(auto, unfolding(crate::specs::Reading::other_form))]
+#[tactic(auto, unfolding(sql_grammar::specs::Reading::other_form))]
 fn other_form<'a, 't>(
     alloc: Global,
     tokens: &'t [Placed<'a>],
@@ -54,7 +53,7 @@ fn other_form<'a, 't>(
 }
 
 /// A statement, by its first word.
-#[tactic(auto, unfolding(crate::specs::Reading::form))]
+#[tactic(auto, unfolding(sql_grammar::specs::Reading::form))]
 fn form<'a, 't>(
     alloc: Global,
     tokens: &'t [Placed<'a>],
@@ -195,7 +194,7 @@ fn push(all: &mut Vec<Statement>, at: usize, form: Option<Form>) -> Result<(), A
 }
 
 /// Adds the first statement, if it is no empty one, and gives the tokens behind its semicolon, if there is one.
-#[tactic(auto, unfolding(crate::specs::Text::next_statement))]
+#[tactic(auto, unfolding(sql_grammar::specs::Text::next_statement))]
 fn push_next<'a, 't>(
     alloc: Global,
     tokens: &'t [Placed<'a>],

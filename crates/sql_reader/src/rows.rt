@@ -1,19 +1,15 @@
 //! INSERT.
 
 ghost use Rattle.std.specs.Prelude.{◌≡◌, ◌≤◌, ◌+◌, suc, length, IfOk, codes};
-ghost use Rattle.sql_reader.specs.Lexing.{views};
-ghost use Rattle.sql_reader.specs.Tokens.{Sign};
-ghost use Rattle.sql_reader.specs.Reading.{with_commas, name, names_part, optional, literal, row, insert};
-ghost use Rattle.sql_reader.specs.Views.{Gives, chain_of, chain_by, option_by, view_insert};
+ghost use Rattle.sql_grammar.specs.Lexing.{views};
+ghost use Rattle.sql_grammar.specs.Tokens.{Sign};
+ghost use Rattle.sql_grammar.specs.Reading.{with_commas, name, names_part, optional, literal, row, insert};
+ghost use Rattle.sql_grammar.specs.Views.{Gives, chain_of, chain_by, option_by, view_insert};
 
-use crate::MAX_ROWS;
-use crate::error::{Limit, Stop, Why};
-use crate::expression::{Chain, Literal};
-use crate::statement::Insert;
 use crate::steps::{at_sign, first, name, past_sign, skip_key, skip_sign, skip_word};
-use crate::token::Placed;
 use crate::values::literal;
 use lock_modes::Text;
+use sql_grammar::{Chain, Insert, Limit, Literal, MAX_ROWS, Placed, Stop, Why};
 use sqlite_items::Items;
 use std::alloc::Global;
 

@@ -1,16 +1,14 @@
 //! SET. LOCAL, SESSION and TO are no reserved words, so there are two readings.
 
 ghost use Rattle.std.specs.Prelude.{◌≡◌, ◌≤◌, length, IfOk};
-ghost use Rattle.sql_reader.specs.Lexing.{view_token, views};
-ghost use Rattle.sql_reader.specs.Tree.{Set};
-ghost use Rattle.sql_reader.specs.Reading.{set_sign, scope, inside, statement_end, setting_after, scoped_setting, has_scope, set, is_name};
-ghost use Rattle.sql_reader.specs.Views.{Gives};
+ghost use Rattle.sql_grammar.specs.Lexing.{view_token, views};
+ghost use Rattle.sql_grammar.specs.Tree.{Set};
+ghost use Rattle.sql_grammar.specs.Reading.{set_sign, scope, inside, statement_end, setting_after, scoped_setting, has_scope, set, is_name};
+ghost use Rattle.sql_grammar.specs.Views.{Gives};
 
-use crate::error::{Stop, Why};
-use crate::statement::{Scope, SetSign, Setting};
 use crate::steps::{at_sign, at_word, behind, first, name, skip_key, taken};
-use crate::token::{Placed, Token};
 use crate::values::factor;
+use sql_grammar::{Placed, Scope, SetSign, Setting, Stop, Token, Why};
 use std::alloc::Global;
 
 fn set_sign(token: &Token) -> Option<SetSign>

@@ -1,14 +1,13 @@
 //! The steps that every rule is made of: one token at a time.
 
 ghost use Rattle.std.specs.Prelude.{◌≡◌, ◌≤◌, length, IfOk, Some, None, MatchOption};
-ghost use Rattle.sql_reader.specs.Tokens.{Sign};
-ghost use Rattle.sql_reader.specs.Lexing.{key_of, other_of, view, views};
-ghost use Rattle.sql_reader.specs.Reading.{first, rest, at, skip, taken, the, name};
-ghost use Rattle.sql_reader.specs.Views.{Gives, Passed};
+ghost use Rattle.sql_grammar.specs.Tokens.{Sign};
+ghost use Rattle.sql_grammar.specs.Lexing.{key_of, other_of, view, views};
+ghost use Rattle.sql_grammar.specs.Reading.{first, rest, at, skip, taken, the, name};
+ghost use Rattle.sql_grammar.specs.Views.{Gives, Passed};
 
-use crate::error::{Stop, Why};
-use crate::token::{Placed, Token};
 use lock_modes::Text;
+use sql_grammar::{Placed, Stop, Token, Why};
 use std::alloc::Global;
 
 /// The first token. Behind the last one there is none but the end.

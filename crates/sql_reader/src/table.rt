@@ -1,15 +1,12 @@
 //! CREATE TABLE.
 
 ghost use Rattle.std.specs.Prelude.{◌≡◌, ◌≤◌, ◌<◌, suc, length, option_map, IfOk, IfSome};
-ghost use Rattle.sql_reader.specs.Lexing.{view_token, views};
-ghost use Rattle.sql_reader.specs.Reading.{begins_property, next_property, property, many, type_word, column_part, key_part, table_part, create, with_commas};
-ghost use Rattle.sql_reader.specs.Views.{Gives, chain_of, view_create};
+ghost use Rattle.sql_grammar.specs.Lexing.{view_token, views};
+ghost use Rattle.sql_grammar.specs.Reading.{begins_property, next_property, property, many, type_word, column_part, key_part, table_part, create, with_commas};
+ghost use Rattle.sql_grammar.specs.Views.{Gives, chain_of, view_create};
 
-use crate::error::Stop;
-use crate::expression::Chain;
-use crate::statement::{CreateTable, Property, TablePart, TypeWord};
 use crate::steps::{at_key, first, name, past_sign, skip_key, skip_sign, skip_word, taken};
-use crate::token::{Placed, Token};
+use sql_grammar::{Chain, CreateTable, Placed, Property, Stop, TablePart, Token, TypeWord};
 use sqlite_items::Items;
 use std::alloc::Global;
 

@@ -1,15 +1,13 @@
 //! BEGIN, COMMIT, ROLLBACK and their other words.
 
 ghost use Rattle.std.specs.Prelude.{◌≡◌, ◌≤◌, length, IfOk, codes};
-ghost use Rattle.sql_reader.specs.Lexing.{view_token, views};
-ghost use Rattle.sql_reader.specs.Tokens.{Word};
-ghost use Rattle.sql_reader.specs.Reading.{noise, maybe_noise, read_word, level, level_part, start, begin, end_word, ends, optional};
-ghost use Rattle.sql_reader.specs.Views.{Gives, view_begin, view_end};
+ghost use Rattle.sql_grammar.specs.Lexing.{view_token, views};
+ghost use Rattle.sql_grammar.specs.Tokens.{Word};
+ghost use Rattle.sql_grammar.specs.Reading.{noise, maybe_noise, read_word, level, level_part, start, begin, end_word, ends, optional};
+ghost use Rattle.sql_grammar.specs.Views.{Gives, view_begin, view_end};
 
-use crate::error::Stop;
-use crate::statement::{Begin, End, EndWord, Level, Noise, ReadWord, Start};
 use crate::steps::{at_word, behind, first, skip_word, taken};
-use crate::token::{Placed, Token};
+use sql_grammar::{Begin, End, EndWord, Level, Noise, Placed, ReadWord, Start, Stop, Token};
 
 fn noise(token: &Token) -> Option<Noise>
     ensures { result ≡ noise (view_token token.now) }

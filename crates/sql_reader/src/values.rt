@@ -1,16 +1,16 @@
 //! Literals, factors, terms and sums.
 
 ghost use Rattle.std.specs.Prelude.{◌≡◌, ◌≤◌, length, IfOk, None, MatchOption};
-ghost use Rattle.sql_reader.specs.Lexing.{view_token, views};
-ghost use Rattle.sql_reader.specs.Grammar.{fits};
-ghost use Rattle.sql_reader.specs.Reading.{first, whole, quoted_text, literal, factor, term, add_sign, sum};
-ghost use Rattle.sql_reader.specs.Views.{Gives, Passed, chain_of, view_sum};
+ghost use Rattle.sql_grammar.specs.Lexing.{view_token, views};
+ghost use Rattle.sql_grammar.specs.Grammar.{fits};
+ghost use Rattle.sql_grammar.specs.Reading.{first, whole, quoted_text, literal, factor, term, add_sign, sum};
+ghost use Rattle.sql_grammar.specs.Views.{Gives, Passed, chain_of, view_sum};
 
-use crate::error::{Limit, Stop, Why};
-use crate::expression::{AddSign, Chain, Factor, Literal, SignedTerm, Sum};
 use crate::quotes::unquoted;
 use crate::steps::{at_sign, behind, first, name, past_sign, skip_sign};
-use crate::token::{Placed, Token};
+use sql_grammar::{
+    AddSign, Chain, Factor, Limit, Literal, Placed, SignedTerm, Stop, Sum, Token, Why,
+};
 use sqlite_items::Items;
 use std::alloc::Global;
 

@@ -1,7 +1,7 @@
 -- The requests of a statement, from its text alone, and the rows that it looks at.
 use Rattle.std.specs.Prelude.{ℕ, ◌<◌, ◌≤◌, ⊤, Bool, true, false, ◌&&◌, ◌||◌, List, [], ◌∷◌, ◌==◌, length, map, get_or, Option, Some, None, pos, All}
 use Rattle.std.specs.List.{list_any}
-use Rattle.version_tree.specs.Map.{same_key}
+use Rattle.finite_maps.specs.Map.{same_key}
 use Rattle.lock_modes.specs.RowPlace.{RowPlace}
 use Rattle.lock_modes.specs.Value.{value_order}
 use Rattle.lock_modes.specs.Resource.{same_resource}

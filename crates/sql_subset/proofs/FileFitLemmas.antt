@@ -4,25 +4,25 @@ use Rattle.std.proofs.Common.{append_assoc, length-append}
 use Rattle.std.proofs.lemmas.List.{get_or_append_left}
 use Rattle.std.proofs.lemmas.List.Elements.{All-nil, All-cons, All-append, All-map, All-head, All-tail}
 use Rattle.spec_reader.specs.Tree.{BlockTree, SessionTree, SpecTree}
-use Rattle.sql_reader.specs.Tree as tree
-use Rattle.sql_reader.specs.Tree.{Chain}
-use Rattle.sql_reader.specs.Text.{StatementAt}
-use Rattle.sql_reader.specs.declared.statement.TablePart.{TablePart}
+use Rattle.sql_grammar.specs.Tree as tree
+use Rattle.sql_grammar.specs.Tree.{Chain}
+use Rattle.sql_grammar.specs.Text.{StatementAt}
+use Rattle.sql_grammar.specs.declared.statement.TablePart.{TablePart}
 use Rattle.sql_statements.specs.declared.statement.Bound.{Bound}
 use Rattle.sql_statements.specs.declared.statement.Bound.TheVariants.{Select, Insert, Update, Delete, Begin, Commit, Rollback, Lock, SetVariable}
-use Rattle.sql_subset.specs.declared.error.BindErrorKind.{BindErrorKind}
-use Rattle.sql_subset.specs.declared.tables.Column.{Column}
-use Rattle.sql_subset.specs.declared.tables.Table.{Table}
+use Rattle.sql_binding.specs.declared.error.BindErrorKind.{BindErrorKind}
+use Rattle.sql_binding.specs.declared.tables.Column.{Column}
+use Rattle.sql_binding.specs.declared.tables.Table.{Table}
 use Rattle.sql_subset.specs.Binding.{IsFileOf, read_block, statement_at, bind_block, session_setup, step, BoundSession, session, then_more, sent}
 use Rattle.sql_subset.specs.Binding.{main_statement, main_at, main_setup, offset_in, numbered, all_steps, made_file, shaped, bound_file}
 use Rattle.sql_subset.specs.Binding.{declared as declared_by}
 use Rattle.sql_subset.specs.Fits.{Takes, ColumnOf, RowFits, OfTable, Fits, SpecFits}
 use Rattle.sql_subset.specs.Lines.{orders_of}
-use Rattle.sql_subset.specs.Names.{Name, list_of}
-use Rattle.sql_subset.specs.Refusals.{Bind, ◌>>=◌, refuse, each}
+use Rattle.sql_binding.specs.Names.{Name, list_of}
+use Rattle.sql_binding.specs.Refusals.{Bind, ◌>>=◌, refuse, each}
 use Rattle.sql_subset.specs.Spec.{Step, Spec, SpecFile}
-use Rattle.sql_subset.specs.Statements.{sets_key, statement}
-use Rattle.sql_subset.specs.Tables.{no_table, key_column, create, create_with, refusal, joined, part_columns, part_keys, declared}
+use Rattle.sql_binding.specs.Statements.{sets_key, statement}
+use Rattle.sql_binding.specs.Tables.{no_table, key_column, create, create_with, refusal, joined, part_columns, part_keys, declared}
 use Rattle.sql_subset.proofs.FitLemmas.{then-both, each-bound, statement-fits}
 use Rattle.sql_subset.proofs.SentLemmas.{IfBound, then-bound, bound-is, bind}
 

@@ -6,16 +6,16 @@ use Rattle.std.specs.List.{list_any}
 use Rattle.std.proofs.lemmas.Bool.{eqb-true}
 use Rattle.std.proofs.lemmas.List.Elements.{All-nil, All-cons, All-head, All-tail}
 use Rattle.lock_modes.specs.declared.value.Value.{Value}
-use Rattle.sql_reader.specs.Tree as tree
-use Rattle.sql_reader.specs.Tree.{Chain}
-use Rattle.sql_reader.specs.declared.expression.Factor.{Factor}
-use Rattle.sql_reader.specs.declared.expression.Factor.TheVariants as factor
-use Rattle.sql_reader.specs.declared.expression.Literal.{Literal}
-use Rattle.sql_reader.specs.declared.statement.Aggregate.{Aggregate as Aggregated}
-use Rattle.sql_reader.specs.declared.statement.Aggregate.TheVariants as aggregated
-use Rattle.sql_reader.specs.declared.statement.EndWord.{EndWord}
-use Rattle.sql_reader.specs.declared.statement.EndWord.TheVariants as word
-use Rattle.sql_reader.specs.declared.statement.SortKey.{SortKey as Sorted}
+use Rattle.sql_grammar.specs.Tree as tree
+use Rattle.sql_grammar.specs.Tree.{Chain}
+use Rattle.sql_grammar.specs.declared.expression.Factor.{Factor}
+use Rattle.sql_grammar.specs.declared.expression.Factor.TheVariants as factor
+use Rattle.sql_grammar.specs.declared.expression.Literal.{Literal}
+use Rattle.sql_grammar.specs.declared.statement.Aggregate.{Aggregate as Aggregated}
+use Rattle.sql_grammar.specs.declared.statement.Aggregate.TheVariants as aggregated
+use Rattle.sql_grammar.specs.declared.statement.EndWord.{EndWord}
+use Rattle.sql_grammar.specs.declared.statement.EndWord.TheVariants as word
+use Rattle.sql_grammar.specs.declared.statement.SortKey.{SortKey as Sorted}
 use Rattle.sql_statements.specs.declared.condition.Condition.{Condition, more_of-Condition, end_of-Condition}
 use Rattle.sql_statements.specs.declared.condition.Condition.TheVariants.{Always, Compares, Not', And', Or'}
 use Rattle.sql_statements.specs.declared.expression.Expression.{Expression}
@@ -30,28 +30,28 @@ use Rattle.sql_statements.specs.declared.statement.Bound.{Bound}
 use Rattle.sql_statements.specs.declared.statement.Bound.TheVariants.{Insert, Select, Update, Delete}
 use Rattle.sql_statements.specs.declared.statement.Output.{Output}
 use Rattle.sql_statements.specs.declared.statement.Output.TheVariants.{Columns, Aggregates}
-use Rattle.sql_subset.specs.declared.TheConstants.{MAX_TABLES}
-use Rattle.sql_subset.specs.declared.error.BindErrorKind.{BindErrorKind}
-use Rattle.sql_subset.specs.declared.error.BindErrorKind.TheVariants.{UnknownTable, UnknownColumn, TypeMismatch, KeyChanged, WrongCount}
-use Rattle.sql_subset.specs.declared.joining.Joint.{Joint}
-use Rattle.sql_subset.specs.declared.joining.Joint.TheVariants.{All as AllOf, Any}
-use Rattle.sql_subset.specs.declared.tables.ColumnType.{ColumnType}
-use Rattle.sql_subset.specs.declared.tables.ColumnType.TheVariants.{Number, Text}
-use Rattle.sql_subset.specs.declared.tables.Table.{Table}
+use Rattle.sql_binding.specs.declared.TheConstants.{MAX_TABLES}
+use Rattle.sql_binding.specs.declared.error.BindErrorKind.{BindErrorKind}
+use Rattle.sql_binding.specs.declared.error.BindErrorKind.TheVariants.{UnknownTable, UnknownColumn, TypeMismatch, KeyChanged, WrongCount}
+use Rattle.sql_binding.specs.declared.joining.Joint.{Joint}
+use Rattle.sql_binding.specs.declared.joining.Joint.TheVariants.{All as AllOf, Any}
+use Rattle.sql_binding.specs.declared.tables.ColumnType.{ColumnType}
+use Rattle.sql_binding.specs.declared.tables.ColumnType.TheVariants.{Number, Text}
+use Rattle.sql_binding.specs.declared.tables.Table.{Table}
 use Rattle.sql_subset.specs.Fits.{IsColumn, IsThere, ColumnOf, OperandIs, FactorsAre, ProductIs, TermsAre, ExpressionIs, EachComparison, ComparisonFits}
 use Rattle.sql_subset.specs.Fits.{ConditionFits}
 use Rattle.sql_subset.specs.Fits.{AggregateFits, OutputFits, SortKeyFits, AssignmentFits, RowFits, OfTable, Fits}
-use Rattle.sql_subset.specs.KeyParts.{key_of}
-use Rattle.sql_subset.specs.Names.{Name, head, tail, list_of, repeats}
-use Rattle.sql_subset.specs.Refusals.{Bind, ◌>>=◌, refuse, unless, with_front, each}
-use Rattle.sql_subset.specs.Statements.{numbers_from, places, at_places, rows_miscount, set_columns, sets_key, row_columns, row_values, insert}
-use Rattle.sql_subset.specs.Statements.{aggregate, output, sort_key, sort_keys, select, assignment, update, delete, end_of, statement}
-use Rattle.sql_subset.specs.Tables.{key_column, column_number, column, no_table, table_place, table_number, table, type_of, width}
-use Rattle.sql_subset.specs.Translation.{value, operand, product, signed, sum_head, sum_tail, expression}
-use Rattle.sql_subset.specs.Translation.{join, paired, first_or_always, joined_in, joined, alternatives, parts, atom, where_of}
-use Rattle.sql_subset.specs.Types.{differ, operand_type, is_text, any_text, product_has_text, any_has_text, expression_type, expression_mixes}
-use Rattle.sql_subset.specs.Types.{comparison_mixes, condition_mixes, assignment_mixes, aggregate_mixes, output_mixes, row_mixes}
-use Rattle.sql_subset.specs.Statements.{has_other_width}
+use Rattle.sql_binding.specs.KeyParts.{key_of}
+use Rattle.sql_binding.specs.Names.{Name, head, tail, list_of, repeats}
+use Rattle.sql_binding.specs.Refusals.{Bind, ◌>>=◌, refuse, unless, with_front, each}
+use Rattle.sql_binding.specs.Statements.{numbers_from, places, at_places, rows_miscount, set_columns, sets_key, row_columns, row_values, insert}
+use Rattle.sql_binding.specs.Statements.{aggregate, output, sort_key, sort_keys, select, assignment, update, delete, end_of, statement}
+use Rattle.sql_binding.specs.Tables.{key_column, column_number, column, no_table, table_place, table_number, table, type_of, width}
+use Rattle.sql_binding.specs.Translation.{value, operand, product, signed, sum_head, sum_tail, expression}
+use Rattle.sql_binding.specs.Translation.{join, paired, first_or_always, joined_in, joined, alternatives, parts, atom, where_of}
+use Rattle.sql_binding.specs.Types.{differ, operand_type, is_text, any_text, product_has_text, any_has_text, expression_type, expression_mixes}
+use Rattle.sql_binding.specs.Types.{comparison_mixes, condition_mixes, assignment_mixes, aggregate_mixes, output_mixes, row_mixes}
+use Rattle.sql_binding.specs.Statements.{has_other_width}
 use Rattle.sql_subset.proofs.RowLemmas.{or_false, same_if, row-typed}
 use Rattle.sql_subset.proofs.SentLemmas.{IfBound, then-bound, bound-is, position-below, below-is, column-below, length-places}
 

@@ -5,36 +5,36 @@ use Rattle.std.specs.List.{list_any}
 use Rattle.lock_modes.specs.declared.value.Value.{Value}
 use Rattle.lock_modes.specs.declared.value.Value.TheVariants.{Int}
 use Rattle.spec_reader.specs.Tree.{BlockTree, SessionTree, SpecTree}
-use Rattle.sql_reader.specs.Grammar.{Fault}
-use Rattle.sql_reader.specs.Numbers.{whole_of}
-use Rattle.sql_reader.specs.Text.{StatementAt}
-use Rattle.sql_reader.specs.Tree as tree
-use Rattle.sql_reader.specs.Tree.{Chain}
-use Rattle.sql_reader.specs.declared.error.SqlErrorKind.TheVariants as kind
-use Rattle.sql_reader.specs.declared.expression.Factor.{Factor}
-use Rattle.sql_reader.specs.declared.expression.Factor.TheVariants as factor
-use Rattle.sql_reader.specs.declared.expression.Literal.{Literal}
-use Rattle.sql_reader.specs.declared.expression.Literal.TheVariants.{Whole, Quoted}
-use Rattle.sql_reader.specs.declared.statement.Aggregate.{Aggregate as Aggregated}
-use Rattle.sql_reader.specs.declared.statement.Aggregate.TheVariants as aggregated
-use Rattle.sql_reader.specs.declared.statement.SortKey.{SortKey as Sorted}
-use Rattle.sql_reader.specs.declared.statement.TablePart.{TablePart}
+use Rattle.sql_grammar.specs.Grammar.{Fault}
+use Rattle.sql_grammar.specs.Numbers.{whole_of}
+use Rattle.sql_grammar.specs.Text.{StatementAt}
+use Rattle.sql_grammar.specs.Tree as tree
+use Rattle.sql_grammar.specs.Tree.{Chain}
+use Rattle.sql_grammar.specs.declared.error.SqlErrorKind.TheVariants as kind
+use Rattle.sql_grammar.specs.declared.expression.Factor.{Factor}
+use Rattle.sql_grammar.specs.declared.expression.Factor.TheVariants as factor
+use Rattle.sql_grammar.specs.declared.expression.Literal.{Literal}
+use Rattle.sql_grammar.specs.declared.expression.Literal.TheVariants.{Whole, Quoted}
+use Rattle.sql_grammar.specs.declared.statement.Aggregate.{Aggregate as Aggregated}
+use Rattle.sql_grammar.specs.declared.statement.Aggregate.TheVariants as aggregated
+use Rattle.sql_grammar.specs.declared.statement.SortKey.{SortKey as Sorted}
+use Rattle.sql_grammar.specs.declared.statement.TablePart.{TablePart}
 use Rattle.sql_statements.specs.declared.statement.Bound.{Bound}
 use Rattle.sql_statements.specs.declared.statement.Bound.TheVariants.{Insert, Select, Update, Delete}
-use Rattle.sql_subset.specs.declared.error.BindError.{BindError}
-use Rattle.sql_subset.specs.declared.error.BindErrorKind.{BindErrorKind}
-use Rattle.sql_subset.specs.declared.error.BindErrorKind.TheVariants.{Sql, UnknownTable, UnknownColumn, TypeMismatch, KeyChanged, DuplicateTable, WrongCount}
-use Rattle.sql_subset.specs.declared.joining.Joint.TheVariants.{All}
-use Rattle.sql_subset.specs.declared.tables.Table.{Table}
+use Rattle.sql_binding.specs.declared.error.BindError.{BindError}
+use Rattle.sql_binding.specs.declared.error.BindErrorKind.{BindErrorKind}
+use Rattle.sql_binding.specs.declared.error.BindErrorKind.TheVariants.{Sql, UnknownTable, UnknownColumn, TypeMismatch, KeyChanged, DuplicateTable, WrongCount}
+use Rattle.sql_binding.specs.declared.joining.Joint.TheVariants.{All}
+use Rattle.sql_binding.specs.declared.tables.Table.{Table}
 use Rattle.sql_subset.specs.Binding.{offset_in, read_text, read_at, read_block, statement_at, bind_block, session_setup, step, session, then_more, declared, sent, main_statement, main_at, main_setup, shaped, bound_file}
 use Rattle.sql_subset.specs.Lines.{orders_of}
-use Rattle.sql_subset.specs.Names.{Name, head, tail, list_of, repeats}
-use Rattle.sql_subset.specs.Refusals.{Bind, ◌>>=◌, refuse, unless, with_front, each, IsNamed}
-use Rattle.sql_subset.specs.Statements.{places, at_places, rows_miscount, set_columns, sets_key, row_columns, row_values, insert, aggregate, output, sort_key, sort_keys, select, assignment, update, delete, statement}
-use Rattle.sql_subset.specs.Tables.{create, key_column, column_number, column, no_table, table_number, table}
-use Rattle.sql_subset.specs.Translation.{value, operand, product, signed, sum_head, sum_tail, expression, joined, alternatives, parts, atom, where_of}
-use Rattle.sql_subset.specs.Types.{condition_mixes, assignment_mixes, output_mixes, row_mixes}
-use Rattle.sql_subset.specs.KeyParts.{key_of}
+use Rattle.sql_binding.specs.Names.{Name, head, tail, list_of, repeats}
+use Rattle.sql_binding.specs.Refusals.{Bind, ◌>>=◌, refuse, unless, with_front, each, IsNamed}
+use Rattle.sql_binding.specs.Statements.{places, at_places, rows_miscount, set_columns, sets_key, row_columns, row_values, insert, aggregate, output, sort_key, sort_keys, select, assignment, update, delete, statement}
+use Rattle.sql_binding.specs.Tables.{create, key_column, column_number, column, no_table, table_number, table}
+use Rattle.sql_binding.specs.Translation.{value, operand, product, signed, sum_head, sum_tail, expression, joined, alternatives, parts, atom, where_of}
+use Rattle.sql_binding.specs.Types.{condition_mixes, assignment_mixes, output_mixes, row_mixes}
+use Rattle.sql_binding.specs.KeyParts.{key_of}
 use Rattle.sql_subset.proofs.ReadLemmas.{refused-is, fault-not}
 
 -- what is refused is refused by a kind that is no want of memory

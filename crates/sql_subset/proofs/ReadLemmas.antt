@@ -1,14 +1,14 @@
 -- What is read of a block, and why it is refused.
 use Rattle.std.proofs.Common.{◌≡◌, ◌≢◌, refl, ap, subst, ◌∙◌, ℕ, List, ◌∷◌, Result, Ok, Err, inl, inr}
 use Rattle.std.specs.Prelude.{◌↔◌}
-use Rattle.sql_reader.specs.Grammar.{Fault, FirstFault, good, IsKind, bad_token, unclosed, unsupported, syntax, over}
-use Rattle.sql_reader.specs.Tokens.{Token, Placed}
-use Rattle.sql_reader.specs.declared.error.Limit.TheVariants.{NumberTooLarge, TooLarge}
-use Rattle.sql_reader.specs.declared.error.SqlErrorKind.{SqlErrorKind as Kind}
-use Rattle.sql_reader.specs.Lexing.{token_list}
-use Rattle.sql_reader.specs.Text.{StatementAt, IsSpelled, Explains, AllHaveFewRows, fault_of_error}
-use Rattle.sql_reader.specs.declared.error.SqlError.{SqlError}
-use Rattle.sql_reader.specs.declared.error.SqlErrorKind.TheVariants as kind
+use Rattle.sql_grammar.specs.Grammar.{Fault, FirstFault, good, IsKind, bad_token, unclosed, unsupported, syntax, over}
+use Rattle.sql_grammar.specs.Tokens.{Token, Placed}
+use Rattle.sql_grammar.specs.declared.error.Limit.TheVariants.{NumberTooLarge, TooLarge}
+use Rattle.sql_grammar.specs.declared.error.SqlErrorKind.{SqlErrorKind as Kind}
+use Rattle.sql_grammar.specs.Lexing.{token_list}
+use Rattle.sql_grammar.specs.Text.{StatementAt, IsSpelled, Explains, AllHaveFewRows, fault_of_error}
+use Rattle.sql_grammar.specs.declared.error.SqlError.{SqlError}
+use Rattle.sql_grammar.specs.declared.error.SqlErrorKind.TheVariants as kind
 use Rattle.sql_reader.proofs.FaultLemmas.{fault-one}
 use Rattle.sql_reader.proofs.Laws.{good-append}
 use Rattle.sql_reader.proofs.RowLemmas.{spelled-few}

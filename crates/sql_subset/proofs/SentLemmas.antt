@@ -9,28 +9,28 @@ use Rattle.lock_modes.specs.declared.mode.Mode.{Mode}
 use Rattle.lock_modes.specs.declared.mode.Mode.TheVariants.{IntentShare, IntentExclusive, Share, Exclusive}
 use Rattle.lock_modes.specs.declared.value.Value.{Value}
 use Rattle.spec_reader.specs.Tree.{BlockTree, SessionTree}
-use Rattle.sql_reader.specs.declared.TheConstants.{MAX_ROWS}
-use Rattle.sql_reader.specs.Tree as tree
-use Rattle.sql_reader.specs.Text.{StatementAt}
-use Rattle.sql_reader.specs.Tree.{Chain, Last, More, count, HasFewRows}
-use Rattle.sql_reader.specs.declared.expression.Literal.{Literal}
-use Rattle.sql_reader.specs.declared.statement.EndWord.{EndWord}
-use Rattle.sql_reader.specs.declared.statement.EndWord.TheVariants as word
-use Rattle.sql_subset.specs.declared.TheConstants.{MAX_COLUMNS}
+use Rattle.sql_grammar.specs.declared.TheConstants.{MAX_ROWS}
+use Rattle.sql_grammar.specs.Tree as tree
+use Rattle.sql_grammar.specs.Text.{StatementAt}
+use Rattle.sql_grammar.specs.Tree.{Chain, Last, More, count, HasFewRows}
+use Rattle.sql_grammar.specs.declared.expression.Literal.{Literal}
+use Rattle.sql_grammar.specs.declared.statement.EndWord.{EndWord}
+use Rattle.sql_grammar.specs.declared.statement.EndWord.TheVariants as word
+use Rattle.sql_binding.specs.declared.TheConstants.{MAX_COLUMNS}
 use Rattle.sql_statements.specs.Plan.{row_plan, key_lock, HasKeys, IsShort}
 use Rattle.sql_statements.specs.declared.statement.Bound.{Bound}
 use Rattle.sql_statements.specs.declared.statement.Bound.TheVariants.{Insert, Select, Update, Delete}
-use Rattle.sql_subset.specs.declared.error.BindErrorKind.{BindErrorKind}
-use Rattle.sql_subset.specs.declared.error.BindErrorKind.TheVariants.{TypeMismatch, KeyChanged, WrongCount}
-use Rattle.sql_subset.specs.Types.{row_mixes, assignment_mixes, condition_mixes, output_mixes}
-use Rattle.sql_subset.specs.declared.tables.Table.{Table}
+use Rattle.sql_binding.specs.declared.error.BindErrorKind.{BindErrorKind}
+use Rattle.sql_binding.specs.declared.error.BindErrorKind.TheVariants.{TypeMismatch, KeyChanged, WrongCount}
+use Rattle.sql_binding.specs.Types.{row_mixes, assignment_mixes, condition_mixes, output_mixes}
+use Rattle.sql_binding.specs.declared.tables.Table.{Table}
 use Rattle.sql_subset.specs.Binding.{read_block, statement_at, bind_block, session_setup, step, BoundSession, session, then_more, declared, sent, main_statement, main_at, main_setup, offset_in}
-use Rattle.sql_subset.specs.Refusals.{Bind, ◌>>=◌, unless, with_front, each}
-use Rattle.sql_subset.specs.Statements.{numbers_from, places, at_places, rows_miscount, set_columns, sets_key, row_columns, row_values, insert, output, sort_keys, select, assignment, update, delete, end_of, statement}
-use Rattle.sql_subset.specs.Translation.{where_of}
-use Rattle.sql_subset.specs.KeyParts.{key_of}
-use Rattle.sql_subset.specs.Names.{list_of, repeats}
-use Rattle.sql_subset.specs.Tables.{below, key_column, column_number, column_place, width, table, create}
+use Rattle.sql_binding.specs.Refusals.{Bind, ◌>>=◌, unless, with_front, each}
+use Rattle.sql_binding.specs.Statements.{numbers_from, places, at_places, rows_miscount, set_columns, sets_key, row_columns, row_values, insert, output, sort_keys, select, assignment, update, delete, end_of, statement}
+use Rattle.sql_binding.specs.Translation.{where_of}
+use Rattle.sql_binding.specs.KeyParts.{key_of}
+use Rattle.sql_binding.specs.Names.{list_of, repeats}
+use Rattle.sql_binding.specs.Tables.{below, key_column, column_number, column_place, width, table, create}
 use Rattle.sql_subset.proofs.ReadLemmas.{read-few}
 
 -- ---- what holds of what is bound

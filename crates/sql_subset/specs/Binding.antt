@@ -2,18 +2,18 @@
 use Rattle.std.specs.Prelude.{◌≡◌, ℕ, suc, ◌+◌, ◌-◌, ◌^◌, min, List, [], ◌∷◌, ◌++◌, length, map, Option, Some, None, Result, Ok, Err}
 use Rattle.spec_reader.specs.Tree.{BlockTree, StepTree, SessionTree, SpecTree}
 use Rattle.spec_reader.specs.Text.{IsSpec}
-use Rattle.sql_reader.specs.Tree as tree
-use Rattle.sql_reader.specs.Grammar.{Fault}
-use Rattle.sql_reader.specs.Lexing.{token_list}
-use Rattle.sql_reader.specs.Text.{StatementAt, statements_from}
+use Rattle.sql_grammar.specs.Tree as tree
+use Rattle.sql_grammar.specs.Grammar.{Fault}
+use Rattle.sql_grammar.specs.Lexing.{token_list}
+use Rattle.sql_grammar.specs.Text.{StatementAt, statements_from}
 use Rattle.sql_statements.specs.declared.statement.Bound.{Bound}
-use Rattle.sql_subset.specs.declared.error.BindErrorKind.TheVariants.{Sql, Shape}
-use Rattle.sql_subset.specs.declared.tables.Table.{Table}
+use Rattle.sql_binding.specs.declared.error.BindErrorKind.TheVariants.{Sql, Shape}
+use Rattle.sql_binding.specs.declared.tables.Table.{Table}
 use Rattle.sql_subset.specs.Lines.{step_names, session_names, orders_of}
-use Rattle.sql_subset.specs.Refusals.{Bind, ◌>>=◌, refuse, each}
+use Rattle.sql_binding.specs.Refusals.{Bind, ◌>>=◌, refuse, each}
 use Rattle.sql_subset.specs.Spec.{Step, SpecFile}
-use Rattle.sql_subset.specs.Statements.{statement}
-use Rattle.sql_subset.specs.Tables.{create}
+use Rattle.sql_binding.specs.Statements.{statement}
+use Rattle.sql_binding.specs.Tables.{create}
 
 -- ---- a block
 

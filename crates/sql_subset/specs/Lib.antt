@@ -1,17 +1,8 @@
 pub mod Binding
 pub mod Bindings
-pub mod Chains
 pub mod Fits
-pub mod KeyParts
-pub mod Kinds
 pub mod Lines
-pub mod Names
 pub mod Orders
-pub mod Refusals
 pub mod Spec
-pub mod Statements
-pub mod Tables
-pub mod Translation
-pub mod Types
 pub mod Views
 pub mod Walking

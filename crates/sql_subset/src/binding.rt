@@ -5,17 +5,16 @@ ghost use Rattle.perm_ranks.specs.declared.TheConstants.{MAX_SESSIONS};
 ghost use Rattle.sql_subset.specs.declared.TheConstants.{MAX_LINED_STEPS};
 ghost use Rattle.spec_reader.specs.Views.{session_tree, step_tree, line_tree};
 ghost use Rattle.spec_reader.specs.Whole.{spec_tree};
-ghost use Rattle.sql_reader.specs.declared.error.SqlErrorKind.TheVariants as sql;
+ghost use Rattle.sql_grammar.specs.declared.error.SqlErrorKind.TheVariants as sql;
 ghost use Rattle.sql_subset.specs.Orders.{lines_of};
 ghost use Rattle.sql_subset.specs.Bindings.{bound_session, FitsCounts};
 ghost use Rattle.sql_subset.specs.Lines.{all_some, numbered_line, counts_in, step_names, session_names, lines_by, orders_of};
 ghost use Rattle.sql_subset.specs.Binding.{numbered, all_steps, shaped, bound_file};
-ghost use Rattle.sql_subset.specs.Refusals.{Binds};
+ghost use Rattle.sql_binding.specs.Refusals.{Binds};
 
 use crate::MAX_LINED_STEPS;
 use crate::block::{Block, Step};
 use crate::blocks::{BoundSession, sessions, setups};
-use crate::error::{BindError, BindErrorKind, BindStop, refused};
 use crate::orders::{Line, Orders};
 use crate::shapes::{lines, shape, total_steps};
 use crate::spec::{Parts, Spec};
@@ -24,6 +23,7 @@ use perm_ranks::{MAX_SESSIONS, MAX_STEPS};
 use spec_reader::{
     Line as LineText, MAX_LINES, Session as SessionText, SpecText, Step as StepText,
 };
+use sql_binding::{BindError, BindErrorKind, BindStop, refused};
 use std::alloc::{AllocError, Global};
 
 fn push_names(alloc: Global, steps: &[StepText], names: &mut Vec<Text>) -> Result<(), AllocError>

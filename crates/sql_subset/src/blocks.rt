@@ -2,19 +2,17 @@
 
 ghost use Rattle.std.specs.Prelude.{◌≡◌, map};
 ghost use Rattle.spec_reader.specs.Views.{block_tree, step_tree, option_tree, session_tree};
-ghost use Rattle.sql_reader.specs.Text.{seen};
-ghost use Rattle.sql_reader.specs.Views.{view_form};
+ghost use Rattle.sql_grammar.specs.Text.{seen};
+ghost use Rattle.sql_grammar.specs.Views.{view_form};
 ghost use Rattle.sql_subset.specs.Binding.{offset_in, read_block, statement_at, bind_block, session_setup, step, session, main_statement, main_at, main_setup, then_more, declared};
 ghost use Rattle.sql_subset.specs.Bindings.{bound_session};
-ghost use Rattle.sql_subset.specs.Refusals.{Binds, each};
+ghost use Rattle.sql_binding.specs.Refusals.{Binds, each};
 
 use crate::block::Block;
-use crate::declaring::create;
-use crate::error::{BindErrorKind, BindStop, refused};
-use crate::statements::statement;
-use crate::tables::Table;
 use spec_reader::{Block as BlockText, Session as SessionText, Step as StepText};
-use sql_reader::{Form, SqlErrorKind, Statement, read_sql};
+use sql_binding::{BindErrorKind, BindStop, Table, create, refused, statement};
+use sql_grammar::{Form, SqlErrorKind, Statement};
+use sql_reader::read_sql;
 use sql_statements::Bound;
 use std::alloc::Global;
 

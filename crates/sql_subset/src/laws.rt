@@ -1,40 +1,24 @@
 //! Laws of binding. The functions do nothing: what they promise is the law.
 
-ghost use Rattle.std.specs.Prelude.{◌≡◌, ◌≢◌, ◌↔◌, ℕ, false, List, [], Ok, Err};
-ghost use Rattle.sql_reader.specs.Grammar.{Fault, FirstFault};
-ghost use Rattle.sql_reader.specs.Lexing.{token_list};
-ghost use Rattle.sql_reader.specs.Text.{StatementAt, IsSpelled};
-ghost use Rattle.sql_reader.specs.declared.error.SqlErrorKind.TheVariants.{NoMemory};
+ghost use Rattle.std.specs.Prelude.{◌≡◌, ◌≢◌, ◌↔◌, ℕ, List, [], Ok, Err};
+ghost use Rattle.sql_grammar.specs.Grammar.{Fault, FirstFault};
+ghost use Rattle.sql_grammar.specs.Lexing.{token_list};
+ghost use Rattle.sql_grammar.specs.Text.{StatementAt, IsSpelled};
+ghost use Rattle.sql_grammar.specs.declared.error.SqlErrorKind.TheVariants.{NoMemory};
 ghost use Rattle.spec_reader.specs.Tree.{SpecTree};
-ghost use Rattle.sql_reader.specs.Tree.{Chain, Statement};
-ghost use Rattle.sql_reader.specs.declared.error.SqlErrorKind.TheVariants.{NumberTooLarge};
-ghost use Rattle.sql_reader.specs.declared.statement.TablePart.{TablePart};
+ghost use Rattle.sql_grammar.specs.Tree.{Statement};
 ghost use Rattle.sql_statements.specs.declared.statement.Bound.{Bound};
-ghost use Rattle.sql_subset.specs.declared.error.BindErrorKind.{BindErrorKind};
-ghost use Rattle.sql_subset.specs.declared.error.BindErrorKind.TheVariants.{Sql};
-ghost use Rattle.sql_subset.specs.declared.tables.Table.{Table};
+ghost use Rattle.sql_binding.specs.declared.tables.Table.{Table};
 ghost use Rattle.sql_subset.specs.Fits.{Fits, SpecFits};
-ghost use Rattle.sql_subset.specs.Kinds.{has, IsLeast, statement_faults, declaration_faults};
-ghost use Rattle.sql_subset.specs.Names.{Name};
-ghost use Rattle.sql_subset.specs.Statements.{statement};
-ghost use Rattle.sql_subset.specs.Tables.{create};
-ghost use Rattle.sql_subset.specs.declared.error.BindError.{BindError};
-ghost use Rattle.sql_subset.specs.Refusals.{IsNamed};
+ghost use Rattle.sql_binding.specs.Statements.{statement};
+ghost use Rattle.sql_binding.specs.declared.error.BindError.{BindError};
+ghost use Rattle.sql_binding.specs.Refusals.{IsNamed};
 ghost use Rattle.sql_subset.specs.Spec.{SpecFile};
 ghost use Rattle.sql_subset.specs.Binding.{IsFileOf, read_text, bound_file, declared, main_setup};
-ghost use Rattle.sql_subset.specs.Chains.{ChainsKeepParts, ChainsAreLists, ChainsNameFirstKeys, AlternativesNameNoKey};
 
 /// A text is that of one file at most.
 pub fn one_file()
     ensures { (text : List ℕ) (a b : SpecFile) → IsFileOf text a → IsFileOf text b → a ≡ b }
-{}
-
-/// What is told of a chain of AND or of OR, as whether a row meets it, follows from the list of its parts, and so does the key that it names.
-pub fn chains_are_lists()
-    ensures kept { ChainsKeepParts }
-    ensures parts { ChainsAreLists }
-    ensures first_key { ChainsNameFirstKeys }
-    ensures no_key { AlternativesNameNoKey }
 {}
 
 /// What a block's text says is what it spells by the grammar; where it spells nothing, it has a first fault, which is never want of memory.
@@ -47,17 +31,6 @@ pub fn blocks_are_spelled()
 /// No refusal that the file itself has is want of memory: neither binding's own, nor one of reading SQL.
 pub fn refusals_are_named()
     ensures { (text : List ℕ) (tree : SpecTree) (e : BindError) → bound_file text tree ≡ Err e → IsNamed e.kind }
-{}
-
-/// A statement that binding refuses has a fault of the kind that is told, and none of a kind with a smaller number; one that is bound has no fault.
-/// A number past 64 bits is no fault of binding: the reader tells it.
-pub fn least_kinds_are_told()
-    ensures refused { (tables : List Table) (at : ℕ) (s : Statement) (e : BindError)
-        → statement tables at s ≡ Err e → e.kind ≢ Sql NumberTooLarge → IsLeast (statement_faults tables at s) e.kind }
-    ensures bound { (tables : List Table) (at : ℕ) (s : Statement) (b : Bound)
-        → statement tables at s ≡ Ok b → (k : BindErrorKind) → has (statement_faults tables at s) k ≡ false }
-    ensures declared { (tables : List Table) (at : ℕ) (name : Name) (parts : Chain TablePart) (e : BindError)
-        → create tables at name parts ≡ Err e → IsLeast (declaration_faults tables name parts) e.kind }
 {}
 
 /// A statement that is bound fits the tables: its table and its columns are there, arithmetic and sums are of numbers alone, what is compared has one type,

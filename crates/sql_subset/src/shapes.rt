@@ -8,12 +8,12 @@ ghost use Rattle.perm_ranks.specs.Words.{total};
 ghost use Rattle.sql_subset.specs.declared.TheConstants.{MAX_LINED_STEPS};
 ghost use Rattle.sql_subset.specs.Lines.{counts_in, all_some, numbered_line};
 
-use crate::names::position;
 use crate::orders::Line;
 use arrayvec::ArrayVec;
 use lock_modes::Text;
 use perm_ranks::{MAX_SESSIONS, Shape};
 use spec_reader::{Item as ItemText, Line as LineText, MAX_ITEMS, Session as SessionText};
+use sql_binding::position;
 use std::alloc::{AllocError, Global};
 
 /// How many steps the sessions have, if they are at most so many.

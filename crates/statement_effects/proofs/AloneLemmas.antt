@@ -1,7 +1,7 @@
 -- No other session has written where a statement writes.
 use Rattle.std.proofs.Common.{◌≡◌, ◌≢◌, refl, ap, ◌∙◌, ℕ, Bool, true, false, cond, List, [], ◌∷◌, Option, Some}
 use Rattle.std.specs.Option.{unwrap_or}
-use Rattle.version_tree.specs.Map.{same_key, same_key-true, get, insert, empty, get-insert, get-empty}
+use Rattle.finite_maps.specs.Map.{same_key, same_key-true, get, insert, empty, get-insert, get-empty}
 use Rattle.lock_modes.specs.RowPlace.{RowPlace, place_order}
 use Rattle.row_tables.specs.Overlay.{Tuple, Overlay, Write}
 use Rattle.row_tables.specs.Layers.{Layers, session_order, overlay_of, IsOnlyWriterAt, wrote, no_rows}

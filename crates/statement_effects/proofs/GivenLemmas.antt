@@ -1,6 +1,6 @@
 -- The effect of each statement from what the code finds.
 use Rattle.std.proofs.Common.{◌≡◌, refl, ap, ℕ, Bool, true, false, ◌&&◌, ◌==◌, List, [], ◌∷◌, map, Option, Some, None}
-use Rattle.version_tree.specs.Map.{keep, entries}
+use Rattle.finite_maps.specs.Map.{keep, entries}
 use Rattle.lock_modes.specs.RowPlace.{RowPlace}
 use Rattle.lock_modes.specs.declared.mode.Mode.{Mode}
 use Rattle.lock_modes.specs.declared.value.Value.{Value}

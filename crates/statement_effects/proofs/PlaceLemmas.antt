@@ -5,7 +5,7 @@ use Rattle.std.specs.FinMap.Entries.{find, put, find-put}
 use Rattle.std.proofs.Common.{◌≡◌, refl, sym, ap, ◌∙◌, ℕ, Bool, true, false, cond, ◌&&◌, ◌||◌, ◌==◌, List, [], ◌∷◌, ◌++◌, Some, None, is_some, eq-eqb}
 use Rattle.std.specs.List.{list_any}
 use Rattle.std.proofs.lemmas.Bool.{and_from, or_left, or_right}
-use Rattle.version_tree.specs.Map.{same_key, same_key-true, same_key-refl, get, insert, keep, get-insert, get-keep, same_map}
+use Rattle.finite_maps.specs.Map.{same_key, same_key-true, same_key-refl, get, insert, keep, get-insert, get-keep, same_map}
 use Rattle.lock_modes.specs.RowPlace.{RowPlace, place_order}
 use Rattle.lock_modes.specs.Value.{value_order, value_cmp, value_total}
 use Rattle.lock_modes.specs.declared.value.Value.{Value}

@@ -4,7 +4,7 @@ use Rattle.std.specs.Cmp.{both_ways}
 use Rattle.std.specs.FinMap.Entries.{where_key}
 use Rattle.std.proofs.Common.{◌≡◌, refl, sym, ap, ◌∙◌, subst, ℕ, Bool, true, false, cond, ◌&&◌, ◌==◌, List, [], ◌∷◌, ◌++◌, Some, None, eqb-true, eq-eqb}
 use Rattle.std.proofs.lemmas.Bool.{and_from, and_parts}
-use Rattle.version_tree.specs.Map.{same_key, same_key-true, same_key-refl, get, insert, keep, entries, empty, get-insert, get-keep, get-empty, same_map}
+use Rattle.finite_maps.specs.Map.{same_key, same_key-true, same_key-refl, get, insert, keep, entries, empty, get-insert, get-keep, get-empty, same_map}
 use Rattle.lock_modes.specs.RowPlace.{RowPlace, place_order, place_cmp}
 use Rattle.lock_modes.specs.Value.{value_order}
 use Rattle.lock_modes.specs.declared.value.Value.{Value}

@@ -1,7 +1,7 @@
 -- A statement writes where it looks.
 use Rattle.std.proofs.Common.{◌≡◌, refl, sym, subst, ℕ, suc, Bool, true, false, cond, List, [], ◌∷◌, map, Option, Some, None, is_some, pos, eq-eqb}
 use Rattle.std.specs.List.{filter}
-use Rattle.version_tree.specs.Map.{get, insert, keep, entries}
+use Rattle.finite_maps.specs.Map.{get, insert, keep, entries}
 use Rattle.lock_modes.specs.RowPlace.{RowPlace}
 use Rattle.lock_modes.specs.declared.value.Value.{Value}
 use Rattle.lock_modes.specs.declared.value.Value.TheVariants.{Int}

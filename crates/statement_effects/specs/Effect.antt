@@ -2,7 +2,7 @@
 use Rattle.std.specs.Prelude.{ℕ, suc, Bool, true, false, List, [], ◌∷◌, ◌++◌, length, map, set, get_or, Option, Some, None, is_some, ℤ, pos, negsuc, ◌+ℤ◌, if◌then◌else◌}
 use Rattle.std.proofs.Common.{Ordering, Less, Equal, Greater, is_gt}
 use Rattle.std.specs.Ordering.{ordering_then}
-use Rattle.version_tree.specs.Map.{get, insert, keep, entries}
+use Rattle.finite_maps.specs.Map.{get, insert, keep, entries}
 use Rattle.lock_modes.specs.RowPlace.{RowPlace}
 use Rattle.lock_modes.specs.Value.{value_cmp}
 use Rattle.lock_modes.specs.declared.value.Value.{Value}

@@ -1,6 +1,6 @@
 -- The rows that a statement looks at.
 use Rattle.std.specs.Prelude.{◌≡◌, ℕ, suc, ◌<◌, Bool, true, ◌&&◌, ◌==◌, List, length, get_or, map, Option, Some, None, pos, negsuc}
-use Rattle.version_tree.specs.Map.{keep, entries}
+use Rattle.finite_maps.specs.Map.{keep, entries}
 use Rattle.lock_modes.specs.RowPlace.{RowPlace}
 use Rattle.lock_modes.specs.declared.value.Value.{Value}
 use Rattle.lock_modes.specs.declared.value.Value.TheVariants.{Int, Text}

@@ -2,7 +2,7 @@
 
 ghost use Rattle.std.specs.Prelude.{◌≡◌, ◌||◌, IfOk, Some, None, is_some};
 ghost use Rattle.std.specs.FinMap.Entries.{find};
-ghost use Rattle.version_tree.specs.Map.{get};
+ghost use Rattle.finite_maps.specs.Map.{get};
 ghost use Rattle.lock_modes.specs.Value.{value_cmp};
 ghost use Rattle.transcripts.specs.declared.event.Fault.TheVariants.{Duplicate};
 ghost use Rattle.transcripts.specs.declared.event.Event.TheVariants.{Inserted};
@@ -16,11 +16,12 @@ ghost use Rattle.statement_effects.specs.Seen.{named, number_after, KeysAlone};
 use crate::effect::{Given, telling};
 use crate::value_ref::ValueRef;
 use crate::write::{Write, Writes};
+use finite_maps::Fork;
 use lock_modes::{Row, Value};
 use row_tables::Store;
 use std::alloc::{AllocError, Global};
 use transcripts::{Event, Fault};
-use version_tree::{Fork, VMap};
+use version_tree::VMap;
 
 /// How many rows are made, or a fault where a key is there already or comes twice.
 pub(crate) fn inserted(alloc: Global, writes: Option<Writes>) -> Result<Given, AllocError>

@@ -12,11 +12,11 @@ use crate::matching::matching;
 use crate::select::selected;
 use crate::update::{deleted, updated};
 use crate::write::Writes;
+use finite_maps::Fork;
 use row_tables::Store;
 use sql_statements::Bound;
 use std::alloc::{AllocError, Global};
 use transcripts::{Event, Fault, Log};
-use version_tree::Fork;
 
 /// Runs a statement whose locks are had: its whole effect on the rows that its session sees, or none where it fails. Tells of
 /// it; where it fails, the fault is the answer and nothing is told.

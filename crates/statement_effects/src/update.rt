@@ -11,11 +11,11 @@ use crate::effect::{Given, telling};
 use crate::entry::{Entries, Entry};
 use crate::evaluate::value_of;
 use crate::write::{Write, Writes};
+use finite_maps::Fork;
 use lock_modes::{Row, Value};
 use sql_statements::Assignment;
 use std::alloc::{AllocError, Global};
 use transcripts::{Event, Fault};
-use version_tree::Fork;
 
 /// Sets columns of the rows that match, if the condition has not faulted.
 pub(crate) fn updated(

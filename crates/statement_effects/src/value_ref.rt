@@ -5,10 +5,10 @@ ghost use Rattle.lock_modes.specs.Value.{value_cmp};
 ghost use Rattle.lock_modes.specs.declared.value.Value.TheVariants.{Int};
 ghost use Rattle.statement_effects.specs.Borrowed.{value_at};
 
+use finite_maps::Fork;
 use lock_modes::{Row, Text, Value};
 use std::alloc::AllocError;
 use std::cmp::Ordering;
-use version_tree::Fork;
 
 /// A number, or a text of a row or statement.
 #[derive(Clone, Copy)]

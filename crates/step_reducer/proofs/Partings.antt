@@ -9,6 +9,7 @@ use Rattle.perm_ranks.proofs.PlaceLemmas.{place_of-taken}
 use Rattle.perm_ranks.proofs.WordLemmas.{Takes, done, takes, words-take, each-at, entry-place, place-is, all_words-rise}
 use Rattle.sql_subset.specs.Spec.{no_step, Spec, Queues, line, line_by, line_of, counts_of, queues_of}
 use Rattle.machine_model.specs.World.{World}
+use Rattle.quiet_steps.proofs.Lines.{counts-set}
 use Rattle.quiet_steps.proofs.Swaps.{line-at}
 use Rattle.step_reducer.specs.Fronts.{front}
 use Rattle.step_reducer.specs.Reduced.{rest_after, tour_of, LeftOf, IsPlace}
@@ -43,14 +44,10 @@ line-le q (a ∷ v) = at (get_or q a []) (line-le q v) (λ ns. line-le (set q a 
 
 -- ---- how long a line is
 
-takes-length : (n : ℕ) (counts : List ℕ) (v : Word) → Takes n counts v → length v ≡ n
+-- a word of so many letters has them
+pub takes-length : (n : ℕ) (counts : List ℕ) (v : Word) → Takes n counts v → length v ≡ n
 takes-length _ counts _ done = refl
 takes-length _ counts _ (takes {n = n} {i = i} {c = c} {v = v} lt is t) = ap suc (takes-length n (set counts i c) v t)
-
-counts-set : (q : Queues) (i : ℕ) (ks : List ℕ) → counts_of (set q i ks) ≡ set (counts_of q) i (length ks)
-counts-set [] i ks = refl
-counts-set (l ∷ q) zero ks = refl
-counts-set (l ∷ q) (suc i) ks = ap (λ ns. length l ∷ ns) (counts-set q i ks)
 
 -- each letter takes a step
 line-takes : (n : ℕ) (counts : List ℕ) (v : Word) → Takes n counts v → (q : Queues) → counts_of q ≡ counts → length (line q v) ≡ n
@@ -116,6 +113,28 @@ next-of spec rest a left some is =
       own = step-owned spec a (length (get_or (queues_of spec) a []) - left) cut.0 cut.1.0 cut.1.1;
     }
 
+-- ---- numbers, apart from what they count
+
+beyond : (r first : ℕ) → first ≤ r → r ≡ first + (r - first)
+beyond r first low = omega (arith, low)
+
+inside : (r first count : ℕ) → first ≤ r → r < first + count → r - first < count
+inside r first count low high = omega (arith, low, high)
+
+below : (r end count : ℕ) → r < end → end ≤ count → r < count
+below r end count high most = omega (arith, high, most)
+
+-- behind all that is before and of its own
+too_far : (s first before own : ℕ) → first ≤ s → s - first < before + own → first + before + own ≤ s → ⊥
+too_far s first before own low near far = absurd (omega (arith, low, near, far))
+
+-- what parts have at most, and have together, they have each
+each-has : (one other most rest all : ℕ) → one + other ≡ all → most + rest ≡ all → one ≤ most → other ≤ rest → one ≡ most
+each-has one other most rest all here there small less = omega (arith, here, there, small, less)
+
+none-more : (m n : ℕ) → n ≡ 0 → m + n ≡ m
+none-more m n none = omega (arith, none)
+
 -- ---- where two words part
 
 module _ (spec : Spec) (reduce : Bool) (p : Word) (block : Block) (world : World) (swaps : List Bool) (words : spec.lines ≡ [])
@@ -136,8 +155,10 @@ module _ (spec : Spec) (reduce : Bool) (p : Word) (block : Block) (world : World
       ap (λ w. length (line q w)) (sym word) ∙ line-takes (total counts) counts (word_at counts r) (word-takes counts r lt) q refl in
       let all : length (p ++ v) ≡ total counts = ap (λ (w : Word). length w) (sym word)
       ∙ takes-length (total counts) counts (word_at counts r) (word-takes counts r lt) in
-      let cut = ap (λ (l : List ℕ). length l) (line-behind q p v) in
-      omega (arith, full, all, cut, length-append (line q p) (line (rest_after q p) v), length-append p v, line-le q p, line-le (rest_after q p) v)
+      let cut : length (line q (p ++ v)) ≡ length (line q p) + length (line (rest_after q p) v) =
+      ap (λ (l : List ℕ). length l) (line-behind q p v) ∙ length-append (line q p) (line (rest_after q p) v) in
+      each-has (length (line q p)) (length (line (rest_after q p) v)) (length p) (length v) (total counts) (sym cut ∙ full) (sym (length-append p v) ∙ all)
+      (line-le q p) (line-le (rest_after q p) v)
 
   -- two words with the letters that go on with letters of their own
   apart : (a b : ℕ) (u v : Word) → a ≢ b → 0 < get_or block.left a 0 → 0 < get_or block.left b 0
@@ -152,7 +173,8 @@ module _ (spec : Spec) (reduce : Bool) (p : Word) (block : Block) (world : World
       line-behind q p (b ∷ v) ∙ ap (λ l. line q p ++ l) (line-at (rest_after q p) b v (y.step ∷ y.more) y.there) in
       let none = front-apart x.step y.step (line (set (rest_after q p) a x.more) u) (line (set (rest_after q p) b y.more) v) differ in
       let both = front-behind (line q p) (x.step ∷ line (set (rest_after q p) a x.more) u) (y.step ∷ line (set (rest_after q p) b y.more) v) in
-      (λ k. front (one k) (other k)) ∙ (omega (arith, none, both))
+      (λ k. front (one k) (other k)) ∙ both
+      ∙ none-more (length (line q p)) (front (x.step ∷ line (set (rest_after q p) a x.more) u) (y.step ∷ line (set (rest_after q p) b y.more) v)) none
 
   -- one rank goes on with the letter, and the other one stands behind those that do
   pub parted-front : (r s a : ℕ) → 0 < get_or block.left a 0 → HasRank (narrowed block a) r → HasRank block s → end_of (narrowed block a) ≤ s
@@ -160,26 +182,21 @@ module _ (spec : Spec) (reduce : Bool) (p : Word) (block : Block) (world : World
   parted-front r s a some has_r has_s behind =
       let i = r - (narrowed block a).first in
       let j = s - block.first in
-      let from_r = has_r.0 in
-      let to_r = has_r.1 in
-      let from_s = has_s.0 in
-      let to_s = has_s.1 in
-      let inside = is.ranks.inside in
+      let own = length (all_words (taken block.left a)) in
       let child = block-narrowed counts p block a some is.ranks in
-      let place_r : r ≡ (narrowed block a).first + i = omega arith in
-      let place_s : s ≡ block.first + j = omega arith in
-      let in_s : j < length (all_words block.left) = omega arith in
+      let in_s : j < length (all_words block.left) = inside s block.first (length (all_words block.left)) has_s.0 has_s.1 in
       let b = begins block.left j (some-total block.left a some) in_s in
       let u = word_at (taken block.left a) i in
-      let word_r : word_at counts r ≡ p ++ a ∷ u = ap (word_at counts) place_r ∙ child.words i (omega arith) ∙ append_assoc p (a ∷ []) u in
-      let word_s : word_at counts s ≡ p ++ b.letter ∷ b.rest = ap (word_at counts) place_s ∙ is.ranks.words j in_s ∙ ap (λ w. p ++ w) b.is in
+      let word_r : word_at counts r ≡ p ++ a ∷ u =
+      ap (word_at counts) (beyond r (narrowed block a).first has_r.0) ∙ child.words i (inside r (narrowed block a).first own has_r.0 has_r.1) ∙ append_assoc p (a ∷ []) u in
+      let word_s : word_at counts s ≡ p ++ b.letter ∷ b.rest =
+      ap (word_at counts) (beyond s block.first has_s.0) ∙ is.ranks.words j in_s ∙ ap (λ w. p ++ w) b.is in
       let ne : a ≢ b.letter =
-      λ e. (let within = inside-of block.left a j b.rest some in_s (b.is ∙ ap (λ c. c ∷ b.rest) (sym e)) in omega (arith, within, behind, from_s)) in
-      let lt : s < length (all_words counts) = omega (arith, inside, to_s) in
+      λ e. too_far s block.first (length (words_before block.left a)) own has_s.0
+      (inside-of block.left a j b.rest some in_s (b.is ∙ ap (λ c. c ∷ b.rest) (sym e))) behind in
+      let lt : s < length (all_words counts) = below s (end_of block) (length (all_words counts)) has_s.1 is.ranks.inside in
       let lines : front (line_of spec r) (line_of spec s) ≡ front (line q (word_at counts r)) (line q (word_at counts s)) =
       λ k. front (line-is spec words r k) (line-is spec words s k) in
       let letters : front (line q (word_at counts r)) (line q (word_at counts s)) ≡ front (line q (p ++ a ∷ u)) (line q (p ++ b.letter ∷ b.rest)) =
       λ k. front (line q (word_r k)) (line q (word_s k)) in
-      let parted = apart a b.letter u b.rest ne some b.left in
-      let shared = shared-length s (b.letter ∷ b.rest) lt word_s in
-      omega (arith, lines, letters, parted, shared)
+      lines ∙ letters ∙ apart a b.letter u b.rest ne some b.left ∙ shared-length s (b.letter ∷ b.rest) lt word_s

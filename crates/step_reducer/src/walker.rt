@@ -1,6 +1,6 @@
 //! The facts of the ranks of a shard, in order.
 
-ghost use Rattle.std.specs.Prelude.{◌≡◌, ◌↔◌, ◌-◌, ◌++◌, [], ◌∷◌, true, false, IfOk, IfErr, OnOk, OnErr, IsErrOf};
+ghost use Rattle.std.specs.Prelude.{◌≡◌, ◌↔◌, ◌-◌, ◌++◌, [], ◌∷◌, true, false, IfOk, IfErr, OnOk, OnErr, IsErrOf, ◌≤◌};
 ghost use Rattle.step_reducer.specs.declared.error.WalkError.TheVariants as walk_error;
 ghost use Rattle.step_reducer.specs.Walking.{begun_at, AreSent, GivesRun, GivesFact, HasStopped, IsNotWalked, IsShardOf, Starts, AreFacts};
 
@@ -9,12 +9,12 @@ use crate::fact::FactRun;
 use crate::line_walk::LineWalk;
 use crate::walk::Walk;
 use crate::word_walk::WordWalk;
+use finite_maps::Fork;
 use quiet_steps::Fact;
 use session_machine::{RunError, World, not_started};
 use sql_subset::Spec;
 use std::alloc::{AllocError, Global};
 use std::marker::Model;
-use version_tree::Fork;
 
 /// The ranks of a shard, at most.
 pub const MAX_RANKS: u64 = 1_000_000;
@@ -197,12 +197,27 @@ pub fn run_shard(
     ensures facts { IfOk result (λ facts. AreFacts reduce spec.now.run shard.first (shard.end - shard.first) facts.items) }
 {
     let mut walker = Walker::new(alloc, spec, shard, reduce)?;
+    Ok(facts_of(alloc, &mut walker, shard)?)
+}
+
+/// The facts of all ranks that a walker has before it.
+fn facts_of(
+    alloc: Global,
+    walker: &mut Walker<'_>,
+    shard: Shard,
+) -> Result<Vec<(u64, Fact)>, AllocError>
+    requires whole { walker.old.spent ≡ false }
+    requires first { walker.old.at ≡ shard.first }
+    requires end { walker.old.end ≡ shard.end }
+    requires order { shard.first ≤ shard.end }
+    ensures { IfOk result (λ facts. AreFacts walker.old.reduce walker.old.file.run shard.first (shard.end - shard.first) facts.items) }
+{
     let mut facts = Vec::with_capacity(alloc, (shard.end - shard.first) as usize)?;
     for _rank in shard.first..shard.end {
         match walker.next() {
             Ok(Some(fact)) => push(&mut facts, fact)?,
             Ok(None) => unreachable!(),
-            Err(_) => return Err(RunError::NoMemory),
+            Err(_) => return Err(AllocError),
         }
     }
     Ok(facts)

@@ -1,7 +1,7 @@
 -- Outcomes as keys of a finite map: only equal outcomes tie.
 use Rattle.std.specs.Prelude.{◌≡◌, List}
 use Rattle.std.specs.declared.cmp.Ordering.TheVariants.{Equal}
-use Rattle.version_tree.specs.Map.{Order}
+use Rattle.finite_maps.specs.Map.{Order}
 use Rattle.transcripts.specs.declared.event.Event.{Event}
 use Rattle.transcripts.specs.Compact.{outcome_cmp, outcome_total}
 use Rattle.transcripts.proofs.EventOrder.{outcome_closed}

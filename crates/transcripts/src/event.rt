@@ -1,6 +1,6 @@
+use finite_maps::Fork;
 use lock_modes::Row;
 use std::alloc::AllocError;
-use version_tree::Fork;
 
 /// Why a statement failed.
 #[derive(Clone, Copy, Debug, PartialEq, Eq)]

@@ -4,9 +4,10 @@ ghost use Rattle.std.specs.Prelude.{◌≡◌, [], ◌∷◌, ◌++◌, IfOk, On
 
 use crate::event::Event;
 use crate::outcome::Transcript;
+use finite_maps::Fork;
 use std::alloc::{AllocError, Global};
 use std::marker::Model;
-use version_tree::{Fork, VMap};
+use version_tree::VMap;
 
 /// What one session has been told so far, seen by contracts as the list of its events in order. A fork shares the events
 /// and copies none, and each goes on alone.

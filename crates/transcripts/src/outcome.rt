@@ -8,12 +8,12 @@ ghost use Rattle.transcripts.specs.Json.{CellFits, EventFits, OutcomeFits};
 
 use crate::event::Event;
 use crate::order::outcome_order;
+use finite_maps::Fork;
 use lock_modes::Value;
 use std::alloc::{AllocError, Global};
 use std::cmp::Ordering;
 use std::marker::Model;
 use std::sync::Arc;
-use version_tree::Fork;
 
 /// What one session is told, seen by contracts as the list of its events in order.
 #[derive(Debug, Drop)]

@@ -3,7 +3,7 @@
 ghost use Rattle.std.specs.Prelude.{◌≡◌, IfOk};
 ghost use Rattle.std.specs.Map.Iter.{deref_pair};
 
-use crate::fork::Fork;
+use finite_maps::Fork;
 use std::alloc::{AllocError, Global};
 use std::marker::Model;
 use std::rc::Rc;

@@ -3,7 +3,7 @@ use borrow.Author.Tests.{tests}
 use Rattle.std.specs.Map.Iter.{deref_pair}
 use Rattle.std.proofs.lemmas.Iterator.Search.{all_from_yields_List}
 use Rattle.std.proofs.lemmas.Iterator.Consumers.{YieldsList-from_first}
-use Rattle.version_tree.specs.Map.{Map, get}
+use Rattle.finite_maps.specs.Map.{Map, get}
 use Rattle.lock_modes.specs.Resource.{resource_at, resource_order}
 use Rattle.lock_modes.specs.declared.mode.Mode.{Mode}
 use Rattle.lock_queues.specs.Locks.{fits_with}

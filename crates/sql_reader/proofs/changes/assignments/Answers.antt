@@ -1,11 +1,11 @@
 use Rattle.std.proofs.Common.{ap, arith}
 use Rattle.std.proofs.lemmas.Result.{err_from_is_err_and}
 use Rattle.std.specs.Prelude.{codes, length}
-use Rattle.sql_reader.specs.Tokens.{Sign}
-use Rattle.sql_reader.specs.Tree.{Last, More}
-use Rattle.sql_reader.specs.Lexing.{views}
-use Rattle.sql_reader.specs.Views.{view_assignment}
-use Rattle.sql_reader.specs.Reading.{the, assignment}
+use Rattle.sql_grammar.specs.Tokens.{Sign}
+use Rattle.sql_grammar.specs.Tree.{Last, More}
+use Rattle.sql_grammar.specs.Lexing.{views}
+use Rattle.sql_grammar.specs.Views.{view_assignment}
+use Rattle.sql_grammar.specs.Reading.{the, assignment}
 use Rattle.sql_reader.proofs.Loops.{starts_with, next, err, fits}
 use Rattle.sql_reader.proofs.changes.assignments.Goals as goal
 

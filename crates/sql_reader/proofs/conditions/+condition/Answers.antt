@@ -1,11 +1,11 @@
 use Rattle.std.proofs.Common.{ap, sym, ◌∙◌, ◌-◌, arith}
 use Rattle.std.proofs.lemmas.Result.{err_from_is_err_and}
 use Rattle.std.specs.Prelude.{codes, length}
-use Rattle.sql_reader.specs.Tokens.{Key}
-use Rattle.sql_reader.specs.Tree.{Single, And, Alone, Or}
-use Rattle.sql_reader.specs.Lexing.{views}
-use Rattle.sql_reader.specs.Views.{view_atom, view_part}
-use Rattle.sql_reader.specs.Reading.{the, atom, part_of}
+use Rattle.sql_grammar.specs.Tokens.{Key}
+use Rattle.sql_grammar.specs.Tree.{Single, And, Alone, Or}
+use Rattle.sql_grammar.specs.Lexing.{views}
+use Rattle.sql_grammar.specs.Views.{view_atom, view_part}
+use Rattle.sql_grammar.specs.Reading.{the, atom, part_of}
 use Rattle.sql_reader.proofs.ReadingLemmas.{group-opens}
 use Rattle.sql_reader.proofs.Loops.{starts_with, next, err, fits}
 use Rattle.sql_reader.proofs.conditions.+condition.Goals as goal

@@ -1,9 +1,9 @@
 use Rattle.std.specs.Prelude.{codes, ◌≤◌, ◌+◌, ◌*◌, length}
-use Rattle.sql_reader.specs.Tokens.{Key}
-use Rattle.sql_reader.specs.Tree.{Single, And, Alone, Or}
-use Rattle.sql_reader.specs.Lexing.{views}
-use Rattle.sql_reader.specs.Views.{view_atom, view_part}
-use Rattle.sql_reader.specs.Reading.{the, atom, part_of, condition_of}
+use Rattle.sql_grammar.specs.Tokens.{Key}
+use Rattle.sql_grammar.specs.Tree.{Single, And, Alone, Or}
+use Rattle.sql_grammar.specs.Lexing.{views}
+use Rattle.sql_grammar.specs.Views.{view_atom, view_part}
+use Rattle.sql_grammar.specs.Reading.{the, atom, part_of, condition_of}
 use Rattle.sql_reader.proofs.Loops.{SoFar}
 use Rattle.sql_reader.proofs.conditions.+condition.Given as goal
 

@@ -1,5 +1,5 @@
 use Rattle.std.proofs.Common.{◌∙◌}
-use Rattle.sql_reader.specs.Views.{view_atom}
+use Rattle.sql_grammar.specs.Views.{view_atom}
 use Rattle.sql_reader.proofs.Joined.{part_maps}
 use Rattle.sql_reader.proofs.conditions.all_of.Goals as goal
 

@@ -1,5 +1,5 @@
 use Rattle.std.proofs.Common.{◌∙◌}
-use Rattle.sql_reader.specs.Views.{view_part}
+use Rattle.sql_grammar.specs.Views.{view_part}
 use Rattle.sql_reader.proofs.Joined.{condition_maps}
 use Rattle.sql_reader.proofs.conditions.any_of.Goals as goal
 

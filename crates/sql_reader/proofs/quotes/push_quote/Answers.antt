@@ -1,6 +1,6 @@
 use Rattle.std.proofs.Common.{sym, ap, ◌∙◌, List, ℕ, [], ◌∷◌}
 use Rattle.std.specs.String.{string_bytes}
-use Rattle.sql_reader.specs.Lexing.{content, with_front}
+use Rattle.sql_grammar.specs.Lexing.{content, with_front}
 use Rattle.sql_reader.proofs.QuoteLemmas.{front-twice}
 use Rattle.sql_reader.proofs.quotes.push_quote.Goals as goal
 

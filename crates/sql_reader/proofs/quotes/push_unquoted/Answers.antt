@@ -1,7 +1,7 @@
 use Rattle.std.proofs.Common.{sym, ap, ◌∙◌}
 use Rattle.std.specs.String.{string_bytes}
 use Rattle.byte_runs.specs.declared.runs.Class.TheVariants as class
-use Rattle.sql_reader.specs.Lexing.{with_front}
+use Rattle.sql_grammar.specs.Lexing.{with_front}
 use Rattle.byte_runs.proofs.RunLemmas.{run_boundary}
 use Rattle.sql_reader.proofs.QuoteLemmas.{content-front, front-twice, run_stops}
 use Rattle.sql_reader.proofs.quotes.push_unquoted.Goals as goal

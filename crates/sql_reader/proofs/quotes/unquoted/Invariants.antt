@@ -1,6 +1,6 @@
 use Rattle.std.proofs.Common.{length, [], false, IsUtf8, ◌≡◌}
 use Rattle.std.specs.String.{string_bytes}
-use Rattle.sql_reader.specs.Lexing.{content, with_front, begins_quote}
+use Rattle.sql_grammar.specs.Lexing.{content, with_front, begins_quote}
 use Rattle.sql_reader.proofs.quotes.unquoted.Given as goal
 
 abbrev pub invariant-pairs : goal.invariant-pairs

@@ -1,7 +1,7 @@
 use Rattle.std.proofs.Common.{◌≡◌, sym, ap, ◌∙◌, length, List, suc, inr}
-use Rattle.sql_reader.specs.Lexing.{views, token_list}
-use Rattle.sql_reader.specs.Tokens.{Placed}
-use Rattle.sql_reader.specs.Text.{statements_from, seen, fault_of_error}
+use Rattle.sql_grammar.specs.Lexing.{views, token_list}
+use Rattle.sql_grammar.specs.Tokens.{Placed}
+use Rattle.sql_grammar.specs.Text.{statements_from, seen, fault_of_error}
 use Rattle.sql_reader.proofs.FaultLemmas.{fault-one}
 use Rattle.sql_reader.proofs.RowLemmas.{spelled-few}
 use Rattle.sql_reader.proofs.TextLemmas.{read-sound, read-only, read-fault, read-nothing, spelled-one}

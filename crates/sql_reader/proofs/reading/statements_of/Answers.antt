@@ -1,6 +1,6 @@
 use Rattle.std.proofs.Common.{arith, ◌-◌}
-use Rattle.sql_reader.specs.Lexing.{views}
-use Rattle.sql_reader.specs.Text.{seen}
+use Rattle.sql_grammar.specs.Lexing.{views}
+use Rattle.sql_grammar.specs.Text.{seen}
 use Rattle.sql_reader.proofs.TextLemmas.{goes_on}
 use Rattle.sql_reader.proofs.reading.statements_of.Goals as goal
 

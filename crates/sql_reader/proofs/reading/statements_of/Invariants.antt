@@ -1,6 +1,6 @@
 use Rattle.std.specs.Prelude.{suc, length}
-use Rattle.sql_reader.specs.Lexing.{views}
-use Rattle.sql_reader.specs.Text.{seen, statements_from}
+use Rattle.sql_grammar.specs.Lexing.{views}
+use Rattle.sql_grammar.specs.Text.{seen, statements_from}
 use Rattle.sql_reader.proofs.TextLemmas.{SoFar}
 use Rattle.sql_reader.proofs.reading.statements_of.Given as goal
 

@@ -1,8 +1,8 @@
 use Rattle.std.proofs.lemmas.Result.{err_from_is_err_and}
 use Rattle.std.specs.Prelude.{codes}
-use Rattle.sql_reader.specs.Tokens.{Sign}
-use Rattle.sql_reader.specs.Tree.{Last, More}
-use Rattle.sql_reader.specs.Reading.{the, name}
+use Rattle.sql_grammar.specs.Tokens.{Sign}
+use Rattle.sql_grammar.specs.Tree.{Last, More}
+use Rattle.sql_grammar.specs.Reading.{the, name}
 use Rattle.sql_reader.proofs.Loops.{next, err, fits}
 use Rattle.sql_reader.proofs.rows.names.Goals as goal
 

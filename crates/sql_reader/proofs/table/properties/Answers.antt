@@ -1,8 +1,8 @@
 use Rattle.std.proofs.Common.{ap, arith, length-append, []}
 use Rattle.std.proofs.lemmas.Result.{err_from_is_err_and}
 use Rattle.std.specs.Prelude.{length, ◌∷◌}
-use Rattle.sql_reader.specs.Lexing.{views}
-use Rattle.sql_reader.specs.Reading.{begins_property, property}
+use Rattle.sql_grammar.specs.Lexing.{views}
+use Rattle.sql_grammar.specs.Reading.{begins_property, property}
 use Rattle.sql_reader.proofs.Loops.{many-next, many-stops, many-err}
 use Rattle.sql_reader.proofs.table.properties.Goals as goal
 

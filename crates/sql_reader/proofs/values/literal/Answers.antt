@@ -1,6 +1,6 @@
 use Rattle.std.proofs.Common.{◌∙◌, sym, ap, false}
-use Rattle.sql_reader.specs.Tokens.{Placed}
-use Rattle.sql_reader.specs.Lexing.{views, view_token, quoted}
+use Rattle.sql_grammar.specs.Tokens.{Placed}
+use Rattle.sql_grammar.specs.Lexing.{views, view_token, quoted}
 use Rattle.sql_reader.proofs.ReadingLemmas.{text-literal}
 use Rattle.sql_reader.proofs.values.literal.Goals as goal
 

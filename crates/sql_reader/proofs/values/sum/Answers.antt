@@ -1,10 +1,10 @@
 use Rattle.std.proofs.Common.{ap, arith}
 use Rattle.std.proofs.lemmas.Result.{err_from_is_err_and}
 use Rattle.std.specs.Prelude.{length}
-use Rattle.sql_reader.specs.Tree.{Only, Then}
-use Rattle.sql_reader.specs.Lexing.{views}
-use Rattle.sql_reader.specs.Views.{chain_of}
-use Rattle.sql_reader.specs.Reading.{term, add_sign}
+use Rattle.sql_grammar.specs.Tree.{Only, Then}
+use Rattle.sql_grammar.specs.Lexing.{views}
+use Rattle.sql_grammar.specs.Views.{chain_of}
+use Rattle.sql_grammar.specs.Reading.{term, add_sign}
 use Rattle.sql_reader.proofs.Loops.{starts_with, next, err, fits}
 use Rattle.sql_reader.proofs.values.sum.Goals as goal
 

@@ -1,8 +1,8 @@
 use Rattle.std.specs.Prelude.{◌≤◌, ◌+◌, length}
-use Rattle.sql_reader.specs.Tree.{Only, Then}
-use Rattle.sql_reader.specs.Lexing.{views}
-use Rattle.sql_reader.specs.Views.{chain_of}
-use Rattle.sql_reader.specs.Reading.{term, add_sign, sum}
+use Rattle.sql_grammar.specs.Tree.{Only, Then}
+use Rattle.sql_grammar.specs.Lexing.{views}
+use Rattle.sql_grammar.specs.Views.{chain_of}
+use Rattle.sql_grammar.specs.Reading.{term, add_sign, sum}
 use Rattle.sql_reader.proofs.Loops.{SoFar}
 use Rattle.sql_reader.proofs.values.sum.Given as goal
 

@@ -1,8 +1,8 @@
 use Rattle.std.specs.Prelude.{codes, ◌≤◌, ◌+◌, length}
-use Rattle.sql_reader.specs.Tokens.{Sign}
-use Rattle.sql_reader.specs.Tree.{Last, More}
-use Rattle.sql_reader.specs.Lexing.{views}
-use Rattle.sql_reader.specs.Reading.{the, factor, term}
+use Rattle.sql_grammar.specs.Tokens.{Sign}
+use Rattle.sql_grammar.specs.Tree.{Last, More}
+use Rattle.sql_grammar.specs.Lexing.{views}
+use Rattle.sql_grammar.specs.Reading.{the, factor, term}
 use Rattle.sql_reader.proofs.Loops.{SoFar}
 use Rattle.sql_reader.proofs.values.term.Given as goal
 

@@ -1,7 +1,7 @@
 use Rattle.std.proofs.Common.{sym, ap, ◌∙◌}
 use Rattle.spec_reader.specs.Views.{block_tree}
 use Rattle.sql_subset.specs.Binding.{then_more, main_setup}
-use Rattle.sql_subset.proofs.EachLemmas.{declared-goes_on, declared-starts}
+use Rattle.sql_subset.proofs.DeclaredLemmas.{declared-goes_on, declared-starts}
 use Rattle.sql_subset.proofs.blocks.each_setup.Goals as goal
 
 pub loop-block-init : goal.loop-block-init

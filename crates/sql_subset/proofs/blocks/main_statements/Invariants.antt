@@ -1,6 +1,6 @@
 use Rattle.std.proofs.Common.{◌≡◌, drop}
-use Rattle.sql_reader.specs.Text.{seen}
-use Rattle.sql_reader.specs.Views.{view_form}
+use Rattle.sql_grammar.specs.Text.{seen}
+use Rattle.sql_grammar.specs.Views.{view_form}
 use Rattle.sql_subset.specs.Binding.{then_more, declared, main_at}
 use Rattle.sql_subset.proofs.blocks.main_statements.Given as goal
 

@@ -1,6 +1,6 @@
 use Rattle.spec_reader.specs.Views.{session_tree}
 use Rattle.sql_subset.specs.Binding.{session}
-use Rattle.sql_subset.proofs.EachLemmas.{each-starts}
+use Rattle.sql_binding.proofs.EachLemmas.{each-starts}
 use Rattle.sql_subset.proofs.blocks.sessions.Goals as goal
 
 pub loop-text-init : goal.loop-text-init

@@ -1,6 +1,6 @@
 use Rattle.spec_reader.specs.Views.{block_tree}
 use Rattle.sql_subset.specs.Binding.{main_setup}
-use Rattle.sql_subset.proofs.EachLemmas.{declared-map}
+use Rattle.sql_subset.proofs.DeclaredLemmas.{declared-map}
 use Rattle.sql_subset.proofs.blocks.setups.Goals as goal
 
 pub returns : goal.returns

@@ -1,6 +1,6 @@
 use Rattle.std.proofs.Common.{◌≡◌, ◌+◌, ◌<◌, ◌||◌, false, is_some, sym, ap, ◌∙◌, subst, drop, drop-cons, add-one, length, List, [], ◌∷◌, ◌++◌, Some, ℕ}
 use Rattle.std.specs.FinMap.Entries.{find, put}
-use Rattle.version_tree.specs.Map.{get}
+use Rattle.finite_maps.specs.Map.{get}
 use Rattle.lock_modes.specs.Value.{value_cmp}
 use Rattle.lock_modes.specs.declared.value.Value.{Value}
 use Rattle.sql_statements.specs.Plan.{Tuple, key_at}

@@ -1,6 +1,6 @@
 use Rattle.std.proofs.Common.{◌≡◌, subst, true}
 use Rattle.std.specs.Cmp.{both_ways}
-use Rattle.version_tree.specs.Map.{same_key, same_key-true, same_key-refl}
+use Rattle.finite_maps.specs.Map.{same_key, same_key-true, same_key-refl}
 use Rattle.lock_modes.specs.Resource.{resource_at, resource_order, same_resource}
 use Rattle.step_reducer.proofs.pairs.is_same.Goals as goal
 

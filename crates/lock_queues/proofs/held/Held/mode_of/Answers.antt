@@ -1,5 +1,5 @@
 use Rattle.std.proofs.Common.{sym, ap, ◌∙◌}
-use Rattle.version_tree.specs.Map.{get}
+use Rattle.finite_maps.specs.Map.{get}
 use Rattle.lock_modes.specs.Resource.{resource_at}
 use Rattle.lock_queues.specs.LockTable.{Holding}
 use Rattle.lock_queues.specs.Records.{mode_of}

@@ -1,7 +1,7 @@
 use Rattle.std.proofs.Common.{ap, ◌∙◌}
 use Rattle.std.specs.Ordering.{nat_cmp}
 use Rattle.std.specs.FinMap.Entries.{put}
-use Rattle.version_tree.specs.Map.{insert}
+use Rattle.finite_maps.specs.Map.{insert}
 use Rattle.lock_modes.specs.Resource.{resource_at}
 use Rattle.lock_queues.specs.Records.{held_map, known_modes}
 use Rattle.lock_queues.proofs.HeldLemmas.{held-put}

@@ -1,5 +1,5 @@
 use Rattle.std.proofs.Common.{ap, ◌∙◌, not, ◌==◌}
-use Rattle.version_tree.specs.Map.{keep}
+use Rattle.finite_maps.specs.Map.{keep}
 use Rattle.lock_queues.specs.LockTable.{Holding}
 use Rattle.lock_queues.specs.Records.{held_map}
 use Rattle.lock_queues.proofs.HeldLemmas.{held-without}

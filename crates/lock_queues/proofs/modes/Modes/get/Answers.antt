@@ -1,5 +1,5 @@
 use Rattle.std.proofs.Common.{Some, None, sym, ap, ◌∙◌}
-use Rattle.version_tree.specs.Map.{get}
+use Rattle.finite_maps.specs.Map.{get}
 use Rattle.lock_modes.specs.Resource.{resource_at}
 use Rattle.lock_modes.specs.declared.resource.Resource.TheVariants.{Table, Row}
 use Rattle.lock_queues.proofs.ModesLemmas.{get-modes, get-row}

@@ -2,7 +2,7 @@ use Rattle.std.proofs.Common.{sym, ap, ◌∙◌}
 use Rattle.std.specs.Ordering.{nat_cmp}
 use Rattle.std.specs.FinMap.Entries.{put}
 use Rattle.lock_modes.specs.Value.{value_cmp}
-use Rattle.version_tree.specs.Map.{insert}
+use Rattle.finite_maps.specs.Map.{insert}
 use Rattle.lock_modes.specs.Resource.{resource_at}
 use Rattle.lock_modes.specs.declared.resource.Resource.TheVariants.{Table, Row}
 use Rattle.lock_queues.specs.Records.{modes_map, known_keys}

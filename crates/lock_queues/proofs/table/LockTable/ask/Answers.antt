@@ -1,6 +1,6 @@
 use Rattle.std.proofs.Common.{◌≡◌, ◌∙◌, subst, sym, ap, false, [], ◌∷◌, ◌++◌}
 use Rattle.std.proofs.lemmas.Bool.{both_ways}
-use Rattle.version_tree.specs.Map.{insert}
+use Rattle.finite_maps.specs.Map.{insert}
 use Rattle.lock_modes.specs.Resource.{resource_at}
 use Rattle.lock_queues.specs.Locks as locks
 use Rattle.lock_queues.specs.LockTable.{Locks, taken, queued}

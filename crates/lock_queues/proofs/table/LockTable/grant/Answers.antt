@@ -1,6 +1,6 @@
 use Rattle.std.proofs.Common.{◌≡◌, ◌∙◌, subst, sym, ap, ◌==◌, None}
 use Rattle.std.specs.List.{find}
-use Rattle.version_tree.specs.Map.{insert}
+use Rattle.finite_maps.specs.Map.{insert}
 use Rattle.lock_queues.specs.Locks as locks
 use Rattle.lock_queues.specs.LockTable.{Locks, grant}
 use Rattle.lock_queues.specs.Sound.{IsSound}

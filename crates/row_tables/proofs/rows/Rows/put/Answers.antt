@@ -1,7 +1,7 @@
 use Rattle.std.proofs.Common.{◌≡◌, ap, ◌∙◌, subst}
 use Rattle.std.specs.Result.{IfOk}
 use Rattle.std.specs.FinMap.Entries.{put}
-use Rattle.version_tree.specs.Map.{insert}
+use Rattle.finite_maps.specs.Map.{insert}
 use Rattle.lock_modes.specs.Value.{value_cmp}
 use Rattle.row_tables.specs.Overlay.{Rows'}
 use Rattle.row_tables.specs.Tables.{put_rows}

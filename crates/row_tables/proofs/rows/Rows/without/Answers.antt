@@ -1,7 +1,7 @@
 use Rattle.std.proofs.Common.{◌≡◌, ap, ◌∙◌, subst}
 use Rattle.std.specs.Result.{IfOk}
-use Rattle.version_tree.specs.Map
-use Rattle.version_tree.specs.Entries.{without}
+use Rattle.finite_maps.specs.Map
+use Rattle.finite_maps.specs.Entries.{without}
 use Rattle.lock_modes.specs.Value.{value_cmp}
 use Rattle.row_tables.specs.Overlay.{Rows'}
 use Rattle.row_tables.specs.Tables.{put_rows}

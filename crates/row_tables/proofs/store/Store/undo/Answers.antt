@@ -1,6 +1,6 @@
 use Rattle.std.proofs.Common.{◌≡◌, sym, ap, ◌∙◌, subst, Some, None}
 use Rattle.std.specs.Option.{option_copied}
-use Rattle.version_tree.specs.Map.{get}
+use Rattle.finite_maps.specs.Map.{get}
 use Rattle.row_tables.specs.Layers.{Layers, undone}
 use Rattle.row_tables.specs.Undo.{layers}
 use Rattle.row_tables.proofs.StoreLemmas.{undone-layers, nothing-undone}

@@ -1,6 +1,6 @@
 use Rattle.std.proofs.Common.{◌≡◌, ◌≢◌, ℕ, sym, ap, ◌∙◌, subst, None}
 use Rattle.std.specs.Option.{unwrap_or}
-use Rattle.version_tree.specs.Map.{get, insert, empty}
+use Rattle.finite_maps.specs.Map.{get, insert, empty}
 use Rattle.lock_modes.specs.RowPlace.{RowPlace}
 use Rattle.row_tables.specs.Overlay.{laid}
 use Rattle.row_tables.specs.Layers.{IsOnlyWriterAt, wrote}

@@ -1,5 +1,5 @@
 use Rattle.std.proofs.Common.{sym, ap, ◌∙◌}
-use Rattle.version_tree.specs.Map.{entries, entries-of_entries}
+use Rattle.finite_maps.specs.Map.{entries, entries-of_entries}
 use Rattle.lock_modes.specs.RowPlace.{place_order}
 use Rattle.row_tables.proofs.undo.UndoList.iter.Goals as goal
 

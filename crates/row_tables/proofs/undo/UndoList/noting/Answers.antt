@@ -1,7 +1,7 @@
 use Rattle.std.proofs.Common.{◌≡◌, sym, ap, ◌∙◌, subst, Some, None}
 use Rattle.std.specs.Result.{IfOk}
 use Rattle.std.specs.Option.{option_copied}
-use Rattle.version_tree.specs.Map.{get, insert, of_entries, get-of_entries, of_entries-put}
+use Rattle.finite_maps.specs.Map.{get, insert, of_entries, get-of_entries, of_entries-put}
 use Rattle.lock_modes.specs.RowPlace.{place_order}
 use Rattle.row_tables.specs.Overlay.{Overlay}
 use Rattle.row_tables.proofs.RestoreLemmas.{noted-again, noted-first}

@@ -1,5 +1,5 @@
 use Rattle.std.proofs.Common.{sym, ap, ◌∙◌}
-use Rattle.version_tree.specs.Map.{entries}
+use Rattle.finite_maps.specs.Map.{entries}
 use Rattle.row_tables.specs.Overlay.{laid}
 use Rattle.row_tables.proofs.RestoreLemmas.{put_back, put_back-lay}
 use Rattle.row_tables.proofs.undo.UndoList.restored.Goals as goal

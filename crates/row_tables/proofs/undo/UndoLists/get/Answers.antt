@@ -1,5 +1,5 @@
 use Rattle.std.proofs.Common.{ap, ◌∙◌}
-use Rattle.version_tree.specs.Map.{get}
+use Rattle.finite_maps.specs.Map.{get}
 use Rattle.row_tables.proofs.ListLemmas.{get-lists}
 use Rattle.row_tables.proofs.undo.UndoLists.get.Goals as goal
 

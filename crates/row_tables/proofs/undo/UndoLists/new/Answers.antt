@@ -1,5 +1,5 @@
 use Rattle.std.proofs.Common.{ap, ◌∙◌, refl}
-use Rattle.version_tree.specs.Map.{of_entries}
+use Rattle.finite_maps.specs.Map.{of_entries}
 use Rattle.row_tables.specs.Layers.{session_order}
 use Rattle.row_tables.proofs.undo.UndoLists.new.Goals as goal
 

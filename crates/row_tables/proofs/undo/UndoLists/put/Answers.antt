@@ -1,5 +1,5 @@
 use Rattle.std.proofs.Common.{ap, ◌∙◌}
-use Rattle.version_tree.specs.Map.{insert}
+use Rattle.finite_maps.specs.Map.{insert}
 use Rattle.row_tables.proofs.ListLemmas.{put-lists}
 use Rattle.row_tables.proofs.undo.UndoLists.put.Goals as goal
 

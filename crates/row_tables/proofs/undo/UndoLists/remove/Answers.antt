@@ -1,5 +1,5 @@
 use Rattle.std.proofs.Common.{sym, ap, subst, ◌∙◌}
-use Rattle.version_tree.specs.Map
+use Rattle.finite_maps.specs.Map
 use Rattle.row_tables.specs.Undo.{AreApart}
 use Rattle.row_tables.proofs.ListLemmas.{remove-lists}
 use Rattle.row_tables.proofs.StoreLemmas.{removed-apart}

@@ -1,0 +1,8 @@
+mod Worked
+pub mod EachLemmas
+pub mod ChainLemmas
+pub mod ChainedLemmas
+pub mod ConditionLemmas
+pub mod JoinLemmas
+pub mod KindLemmas
+pub mod OptionLemmas

@@ -1,0 +1,9 @@
+pub mod Chains
+pub mod KeyParts
+pub mod Kinds
+pub mod Names
+pub mod Refusals
+pub mod Statements
+pub mod Tables
+pub mod Translation
+pub mod Types

@@ -1,0 +1,149 @@
+//! Binds SELECT.
+
+ghost use Rattle.std.specs.Prelude.{◌≡◌};
+ghost use Rattle.sql_grammar.specs.Views.{chain_of, option_by, view_selected, view_condition};
+ghost use Rattle.sql_binding.specs.Names.{list_of};
+ghost use Rattle.sql_binding.specs.Refusals.{Binds, each};
+ghost use Rattle.sql_binding.specs.Statements as spec;
+
+use crate::conditions::where_of;
+use crate::error::{BindErrorKind, BindStop, refused};
+use crate::inserts::{all_columns, columns};
+use crate::keys::key_of;
+use crate::tables::Table;
+use crate::types::{condition_mixes, output_mixes};
+use sql_grammar::{
+    Aggregate as AggregateText, Chain, Direction, Select, Selected, SortKey as SortKeyText,
+};
+use sql_statements::{Aggregate, Bound, Condition, Order, Output, SortKey};
+use sqlite_items::Items;
+use std::alloc::Global;
+
+fn aggregate(table: &Table, at: usize, text: &AggregateText) -> Result<Aggregate, BindStop>
+    ensures { Binds (λ a. a) result (spec.aggregate table.now at text.now) }
+{
+    match text {
+        AggregateText::Count => Ok(Aggregate::Count),
+        AggregateText::Total(name) => Ok(Aggregate::Sum(table.column(at, name.as_str())?)),
+    }
+}
+
+#[tactic(auto, using(crate::proofs::ChainLemmas::chains))]
+fn aggregates(
+    alloc: Global,
+    table: &Table,
+    at: usize,
+    texts: &Chain<AggregateText>,
+) -> Result<Vec<Aggregate>, BindStop>
+    ensures { Binds (λ all. all.items) result (each (spec.aggregate table.now at) (list_of (chain_of texts.now))) }
+{
+    let mut all = Vec::new(alloc);
+    all.push(aggregate(table, at, &texts.first)?)?;
+    for text in texts.more.as_slice() {
+        all.push(aggregate(table, at, text)?)?;
+    }
+    Ok(all)
+}
+
+fn output(alloc: Global, table: &Table, at: usize, selected: &Selected) -> Result<Output, BindStop>
+    ensures { Binds (λ output. output) result (spec.output table.now at (view_selected selected.now)) }
+{
+    match selected {
+        Selected::All => Ok(Output::Columns(Items::from_vec(all_columns(alloc, table)?))),
+        Selected::Columns(names) => Ok(Output::Columns(Items::from_vec(columns(
+            alloc, table, at, names,
+        )?))),
+        Selected::Aggregates(texts) => Ok(Output::Aggregates(Items::from_vec(aggregates(
+            alloc, table, at, texts,
+        )?))),
+    }
+}
+
+fn order_of(direction: Option<Direction>) -> Order
+    ensures { result ≡ spec.order_of direction }
+{
+    match direction {
+        None | Some(Direction::Ascending) => Order::Rises,
+        Some(Direction::Descending) => Order::Falls,
+    }
+}
+
+fn sort_key(table: &Table, at: usize, text: &SortKeyText) -> Result<SortKey, BindStop>
+    ensures { Binds (λ key. key) result (spec.sort_key table.now at text.now) }
+{
+    let column = table.column(at, text.column.as_str())?;
+    Ok(SortKey {
+        column,
+        order: order_of(text.direction),
+    })
+}
+
+#[tactic(auto, using(crate::proofs::ChainLemmas::chains))]
+fn keys(
+    alloc: Global,
+    table: &Table,
+    at: usize,
+    texts: &Chain<SortKeyText>,
+) -> Result<Vec<SortKey>, BindStop>
+    ensures { Binds (λ all. all.items) result (each (spec.sort_key table.now at) (list_of (chain_of texts.now))) }
+{
+    let mut all = Vec::new(alloc);
+    all.push(sort_key(table, at, &texts.first)?)?;
+    for text in texts.more.as_slice() {
+        all.push(sort_key(table, at, text)?)?;
+    }
+    Ok(all)
+}
+
+fn sort_keys(
+    alloc: Global,
+    table: &Table,
+    at: usize,
+    order: &Option<Chain<SortKeyText>>,
+) -> Result<Items<SortKey>, BindStop>
+    ensures { Binds (λ all. all) result (spec.sort_keys table.now at (option_by chain_of order.now)) }
+{
+    match order {
+        Some(texts) => Ok(Items::from_vec(keys(alloc, table, at, texts)?)),
+        None => Ok(Items::new(alloc)),
+    }
+}
+
+fn select_rows(
+    table: &Table,
+    at: usize,
+    number: u16,
+    output: Output,
+    order: Items<SortKey>,
+    condition: Condition,
+) -> Result<Bound, BindStop>
+    ensures { Binds (λ bound. bound) result (spec.select_rows table.now at number output order condition) }
+{
+    if output_mixes(table, &output) || condition_mixes(table, &condition) {
+        return Err(refused(at, BindErrorKind::TypeMismatch));
+    }
+    let key = key_of(table.key(), &condition)?;
+    Ok(Bound::Select(number, key, condition, order, output))
+}
+
+/// Binds a SELECT that begins at this offset.
+pub(crate) fn select(
+    alloc: Global,
+    table: &Table,
+    at: usize,
+    number: u16,
+    statement: &Select,
+) -> Result<Bound, BindStop>
+    ensures { Binds (λ bound. bound) result (spec.select table.now at number
+        (record {
+          items = view_selected statement.now.items;
+          table = statement.now.table;
+          where' = option_by view_condition statement.now.condition;
+          order = option_by chain_of statement.now.order;
+        })) }
+{
+    let output = output(alloc, table, at, &statement.items)?;
+    let order = sort_keys(alloc, table, at, &statement.order)?;
+    let condition = where_of(alloc, table, at, &statement.condition)?;
+    select_rows(table, at, number, output, order, condition)
+}

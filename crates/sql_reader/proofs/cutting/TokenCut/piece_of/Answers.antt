@@ -1,7 +1,0 @@
-use Rattle.std.proofs.Common.{subst, sym}
-use Rattle.byte_runs.specs.Pieces.{FitsIn}
-use Rattle.sql_reader.proofs.Pieces.{fits}
-use Rattle.sql_reader.proofs.cutting.TokenCut.piece_of.Goals as goal
-
-pub returns-clause-fits : goal.returns-clause-fits
-returns-clause-fits c = subst (FitsIn c.args.text.now) (sym c.piece_of.ensures) (fits c.args.text.now c.utf8.text)

@@ -1,9 +1,0 @@
-use Rattle.std.proofs.Common.{◌≡◌, drop}
-use Rattle.sql_reader.specs.Views.{chain_of}
-use Rattle.sql_subset.specs.Names.{list_of}
-use Rattle.sql_subset.specs.Refusals.{with_front, each}
-use Rattle.sql_subset.specs.Tables.{column}
-use Rattle.sql_subset.proofs.inserts.columns.Given as goal
-
-abbrev pub invariant-loop-name : goal.invariant-loop-name
-invariant-loop-name l = with_front l.all.items (each (column l.table l.at) (drop l.name-index l.names.more)) ≡ each (column l.table l.at) (list_of (chain_of l.names))

@@ -1,9 +1,0 @@
-use Rattle.std.proofs.Common.{◌≡◌, ◌∷◌, drop}
-use Rattle.sql_reader.specs.Views.{chain_of}
-use Rattle.sql_subset.specs.Refusals.{with_front, each}
-use Rattle.sql_subset.specs.Statements.{row_values}
-use Rattle.sql_subset.proofs.inserts.rows_values.Given as goal
-
-abbrev pub invariant-loop-row : goal.invariant-loop-row
-invariant-loop-row l =
-    with_front l.all.items (each (λ r. row_values l.at (chain_of r)) (drop l.row-index l.rows.more)) ≡ each (λ r. row_values l.at (chain_of r)) (l.rows.first ∷ l.rows.more)
