@@ -8,8 +8,9 @@ use Rattle.perm_ranks.specs.Swapped.{exchanged}
 use Rattle.perm_ranks.specs.Counting.{taken}
 use Rattle.perm_ranks.specs.Blocks.{Block, end_of, HasRank, narrowed, IsBlockOf}
 use Rattle.perm_ranks.proofs.SwapLemmas.{exchanged-less, exchanged-short}
-use Rattle.perm_ranks.proofs.WordLemmas.{Takes, takes, done, each-at, words-take, stands-before, place-is, entry-place, all_words-rise}
+use Rattle.perm_ranks.proofs.WordLemmas.{Takes, each-at, words-take, stands-before, place-is, entry-place, all_words-rise}
 use Rattle.quiet_steps.specs.Swap.{placed_at}
+use Rattle.step_reducer.proofs.Partings.{takes-length}
 use Rattle.outcome_books.specs.declared.run.Tag.TheVariants.{Swap}
 use Rattle.outcome_books.specs.declared.leading.Lead.TheVariants.{From, Nowhere}
 use Rattle.outcome_books.specs.Sweep.{leads_of, LeadsDown, IsLead}
@@ -139,10 +140,6 @@ module _ (counts : List ℕ) (shared : Word) (a b rank last : ℕ) (inside : Blo
           ∙ sym (ap (λ (x : Block). x.left) second ∙ ap (λ (x : Block). taken x.left b) first)
 
 -- no two letters stand from there on
-takes-length : (n : ℕ) (counts : List ℕ) (v : Word) → Takes n counts v → length v ≡ n
-takes-length _ counts _ done = refl
-takes-length _ counts _ (takes {n = n} {i = i} {c = c} {v = v} lt is t) = ap suc (takes-length n (set counts i c) v t)
-
 short-nowhere : (counts : List ℕ) (r k : ℕ) → total counts < k + 2 → leads_of (Some counts) r k ≡ None
 short-nowhere counts r k short = ⊎_elim
     (λ lt.

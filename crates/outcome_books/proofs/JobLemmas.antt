@@ -1,17 +1,17 @@
 -- Jobs: finding their shards, and making them.
 use Rattle.std.proofs.Common.{◌≡◌, refl, sym, ap, subst, ◌∙◌, ℕ, zero, suc, ◌+◌, ◌<◌, ◌≤◌, Bool, true, false, List, [], ◌∷◌, ◌++◌, append_assoc, append-nil}
-use Rattle.std.proofs.Common.{length, get_or, take, inl, inr, ◌⊎◌, ⊎_elim, arith}
+use Rattle.std.proofs.Common.{length, get_or, take, drop, inl, inr, ◌⊎◌, ⊎_elim, arith}
 use Rattle.std.proofs.lemmas.Bool.{or_cases, or_left, or_right}
-use Rattle.std.proofs.lemmas.List.{take_more}
+use Rattle.std.proofs.lemmas.List.{take_more, take-append-drop}
 use Rattle.std.specs.FinSet.{union, empty, contains-empty}
-use Rattle.sql_subset.specs.Spec.{Spec, SpecFile}
+use Rattle.sql_subset.specs.Spec.{Spec}
 use Rattle.machine_model.specs.Start.{start}
 use Rattle.quiet_steps.specs.declared.fact.Fact.{Fact}
 use Rattle.session_machine.specs.Running.{IsNotRunBy}
 use Rattle.session_machine.specs.declared.error.RunError.{RunError}
 use Rattle.session_machine.specs.declared.error.RunError.TheVariants as run_error
 use Rattle.step_reducer.specs.declared.walker.Shard.{Shard}
-use Rattle.step_reducer.specs.Walking.{IsNotWalked, IsShardOf, Starts}
+use Rattle.step_reducer.specs.Walking.{IsNotWalked, IsShardOf}
 use Rattle.outcome_books.specs.declared.job.Job.{Job, more_of-Job, end_of-Job, Run, Join'}
 use Rattle.outcome_books.specs.declared.job.TheConstants.{MAX_LEVELS}
 use Rattle.outcome_books.specs.declared.leaves.Leaf.{Leaf}
@@ -21,7 +21,7 @@ use Rattle.outcome_books.specs.Books.{Contents, joined}
 use Rattle.outcome_books.specs.Building.{AreFactsOf}
 use Rattle.outcome_books.specs.JobTrees.{join_of, leaves, levels, parts}
 use Rattle.outcome_books.specs.Jobs.{HasFactIn, InLeaves, AreLeafFacts, AllLawful, IsJobOf, IsOutside, IsFirstOutside, IsNotMade}
-use Rattle.outcome_books.specs.Jobs.{leaves_in, parts_in, AllWithin, IsFolding, IsMaking}
+use Rattle.outcome_books.specs.Jobs.{leaves_in, parts_in, AllWithin, IsFolding}
 use Rattle.outcome_books.specs.Laws.{IsOneOf, SameLeavesMakeSameFacts}
 use Rattle.outcome_books.proofs.SetLemmas.{in_union, same_facts}
 
@@ -121,11 +121,6 @@ all-found job found rest e f = (sym (append-nil found) ∙ ap (λ l. found ++ le
 
 -- ---- which shards are lawful
 
-pub lawful-at : (spec : Spec) (ls : List Leaf) (i : ℕ) (d : Leaf) → i < length ls → AllLawful spec ls → IsShardOf spec (get_or ls i d).shard
-lawful-at spec [] i d lt a = absurd (omega (arith, lt))
-lawful-at spec (l ∷ ls) zero d lt a = a.0
-lawful-at spec (l ∷ ls) (suc i) d lt a = lawful-at spec ls i d (omega (arith, lt)) a.1
-
 lawful-push : (spec : Spec) (ls : List Leaf) (l : Leaf) → AllLawful spec ls → IsShardOf spec l.shard → AllLawful spec (ls ++ l ∷ [])
 lawful-push spec [] l a h = (h, tt)
 lawful-push spec (m ∷ ls) l a h = (a.0, lawful-push spec ls l a.1 h)
@@ -174,52 +169,64 @@ outside-made spec job (run_error.Start error) few h = absurd (none-start (leaves
     none-start (l ∷ ls) (inl h) = h
     none-start (l ∷ ls) (inr h) = none-start ls h.1
 
-none-made : (spec : Spec) (s : FactSet) → s ≡ empty → AreLeafFacts spec [] s
+pub none-made : (spec : Spec) (s : FactSet) → s ≡ empty → AreLeafFacts spec [] s
 none-made spec s is r fact = (
   λ h. absurd (let f : false ≡ true = sym (ap (λ x. recorded x r fact) is ∙ contains-empty entry_cmp (r, fact)) ∙ h in cc),
   λ h. absurd h,
 )
 
-in-push : (spec : Spec) (ls : List Leaf) (l : Leaf) (r : ℕ) (fact : Fact) → InLeaves spec (ls ++ l ∷ []) r fact
-    → InLeaves spec ls r fact ⊎ HasFactIn spec l r fact
-in-push spec [] l r fact (inl h) = inr h
-in-push spec [] l r fact (inr h) = absurd h
-in-push spec (m ∷ ls) l r fact (inl h) = inl (inl h)
-in-push spec (m ∷ ls) l r fact (inr h) = ⊎_elim (λ k. inl (inr k)) (λ k. inr k) (in-push spec ls l r fact h)
+pub one-made : (spec : Spec) (l : Leaf) (s : FactSet) → AreFactsOf l.reduce spec l.shard.first l.shard.end s → AreLeafFacts spec (l ∷ []) s
+one-made spec l s a r fact = (λ h. inl ((a r fact).0 h), λ h. ⊎_elim (λ x. (a r fact).1 x) (λ x. absurd x) h)
 
-push-in : (spec : Spec) (ls : List Leaf) (l : Leaf) (r : ℕ) (fact : Fact) → InLeaves spec ls r fact ⊎ HasFactIn spec l r fact
-    → InLeaves spec (ls ++ l ∷ []) r fact
-push-in spec [] l r fact (inl h) = absurd h
-push-in spec [] l r fact (inr h) = inl h
-push-in spec (m ∷ ls) l r fact (inl (inl h)) = inl h
-push-in spec (m ∷ ls) l r fact (inl (inr h)) = inr (push-in spec ls l r fact (inl h))
-push-in spec (m ∷ ls) l r fact (inr h) = inr (push-in spec ls l r fact (inr h))
+-- what one of two lists of shards has, both together have
+in-both : (spec : Spec) (ls ms : List Leaf) (r : ℕ) (fact : Fact) → InLeaves spec (ls ++ ms) r fact → InLeaves spec ls r fact ⊎ InLeaves spec ms r fact
+in-both spec [] ms r fact h = inr h
+in-both spec (l ∷ ls) ms r fact (inl h) = inl (inl h)
+in-both spec (l ∷ ls) ms r fact (inr h) = ⊎_elim (λ k. inl (inr k)) (λ k. inr k) (in-both spec ls ms r fact h)
 
-one-made : (spec : Spec) (ls : List Leaf) (l : Leaf) (s t : FactSet) → AreLeafFacts spec ls s → AreFactsOf l.reduce spec l.shard.first l.shard.end t
-    → AreLeafFacts spec (ls ++ l ∷ []) (union s t)
-one-made spec ls l s t a b r fact = (
-  λ h. push-in spec ls l r fact
+both-in : (spec : Spec) (ls ms : List Leaf) (r : ℕ) (fact : Fact) → InLeaves spec ls r fact ⊎ InLeaves spec ms r fact → InLeaves spec (ls ++ ms) r fact
+both-in spec [] ms r fact (inl h) = absurd h
+both-in spec [] ms r fact (inr h) = h
+both-in spec (l ∷ ls) ms r fact (inl (inl h)) = inl h
+both-in spec (l ∷ ls) ms r fact (inl (inr h)) = inr (both-in spec ls ms r fact (inl h))
+both-in spec (l ∷ ls) ms r fact (inr h) = inr (both-in spec ls ms r fact (inr h))
+
+both-made : (spec : Spec) (ls ms : List Leaf) (s t : FactSet) → AreLeafFacts spec ls s → AreLeafFacts spec ms t → AreLeafFacts spec (ls ++ ms) (union s t)
+both-made spec ls ms s t a b r fact = (
+  λ h. both-in spec ls ms r fact
       (⊎_elim (λ x. inl ((a r fact).0 x)) (λ y. inr ((b r fact).0 y)) (or_cases (recorded s r fact) (recorded t r fact) (sym (in_union s t (r, fact)) ∙ h))),
   λ h. in_union s t (r, fact)
-      ∙ ⊎_elim (λ x. or_left _ _ ((a r fact).1 x)) (λ y. or_right (recorded s r fact) _ ((b r fact).1 y)) (in-push spec ls l r fact h),
+      ∙ ⊎_elim (λ x. or_left _ _ ((a r fact).1 x)) (λ y. or_right (recorded s r fact) _ ((b r fact).1 y)) (in-both spec ls ms r fact h),
 )
 
-pub making-begun : (file : SpecFile) (ls : List Leaf) (book : Contents) → book ≡ record { file = file; facts = empty } → IsMaking file ls 0 book
-making-begun file ls book is = record {
-  file_is = ap (λ (b : Contents). b.file) is;
-  facts = none-made file.run book.facts (ap (λ (b : Contents). b.facts) is);
-  started = λ lt. absurd (omega (arith, lt));
-}
+lawful-both : (spec : Spec) (ls ms : List Leaf) → AllLawful spec (ls ++ ms) → AllLawful spec ls × AllLawful spec ms
+lawful-both spec [] ms a = (tt, a)
+lawful-both spec (l ∷ ls) ms a = let p = lawful-both spec ls ms a.1 in ((a.0, p.0), p.1)
 
-pub making-more : (file : SpecFile) (ls : List Leaf) (i : ℕ) (d : Leaf) (book more new : Contents) → i < length ls → IsMaking file ls i book
-    → AreFactsOf (get_or ls i d).reduce file.run (get_or ls i d).shard.first (get_or ls i d).shard.end more.facts → Starts file.run → new ≡ joined book more
-    → IsMaking file ls (i + 1) new
-making-more file ls i d book more new lt m facts starts is = subst (IsMaking file ls (i + 1)) (sym is) (record {
-  file_is = m.file_is;
-  facts = subst (λ rs. AreLeafFacts file.run rs (union book.facts more.facts)) (sym (take_more ls i d lt))
-      (one-made file.run (take i ls) (get_or ls i d) book.facts more.facts m.facts facts);
-  started = λ _. starts;
-})
+-- the halves of a list of shards
+module _ (spec : Spec) (ls : List Leaf) (n : ℕ) where
+  pub lawful-left : AllLawful spec ls → AllLawful spec (take n ls)
+  lawful-left a = (lawful-both spec (take n ls) (drop n ls) (subst (AllLawful spec) (sym (take-append-drop n ls)) a)).0
+
+  pub lawful-right : AllLawful spec ls → AllLawful spec (drop n ls)
+  lawful-right a = (lawful-both spec (take n ls) (drop n ls) (subst (AllLawful spec) (sym (take-append-drop n ls)) a)).1
+
+  pub halves-made : (left right book : Contents) → AreLeafFacts spec (take n ls) left.facts → AreLeafFacts spec (drop n ls) right.facts
+      → book ≡ joined left right → AreLeafFacts spec ls book.facts
+  halves-made left right book a b is =
+      subst (λ (c : Contents). AreLeafFacts spec ls c.facts) (sym is)
+      (subst (λ xs. AreLeafFacts spec xs (union left.facts right.facts)) (take-append-drop n ls)
+      (both-made spec (take n ls) (drop n ls) left.facts right.facts a b))
+
+-- a list of one shard
+pub lone-leaf : (ls : List Leaf) (d : Leaf) → length ls ≡ 1 → get_or ls 0 d ∷ [] ≡ ls
+lone-leaf [] d e = absurd (omega (arith, e))
+lone-leaf (l ∷ []) d e = refl
+lone-leaf (l ∷ m ∷ ls) d e = absurd (omega (arith, e))
+
+pub no-leaf : (ls : List Leaf) → length ls ≡ 0 → [] ≡ ls
+no-leaf [] e = refl
+no-leaf (l ∷ ls) e = absurd (omega (arith, e))
 
 -- a job has a shard
 pub leaves-some : (job : Job) → 0 < length (leaves job)

@@ -13,5 +13,7 @@ pub mod FillLemmas
 pub mod SweepLemmas
 pub mod BlockLeads
 pub mod ReportLemmas
+pub mod RecordedRuns
 pub mod JobLemmas
 pub mod JobViews
+pub mod OneReport

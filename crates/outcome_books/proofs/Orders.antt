@@ -41,7 +41,7 @@ entry_same x y e =
     let f = fact_same _ _ p.1 in
     λ i. (t i, f i)
 
-tied : (o : Ordering) → is_eq o ≡ true → o ≡ Equal
+pub tied : (o : Ordering) → is_eq o ≡ true → o ≡ Equal
 tied Less e = cc
 tied Equal e = refl
 tied Greater e = cc

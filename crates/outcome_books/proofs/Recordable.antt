@@ -9,7 +9,7 @@ use Rattle.sql_subset.specs.Spec.{EachStep, IsLine, IsStep, IsReady}
 use Rattle.sql_subset.specs.Binding.{IsFileOf, main_setup, session, shaped, made_file}
 use Rattle.sql_subset.specs.Binding.{declared as declared_by}
 use Rattle.sql_subset.specs.Lines.{orders_of}
-use Rattle.sql_subset.specs.Refusals.{each}
+use Rattle.sql_binding.specs.Refusals.{each}
 use Rattle.sql_subset.proofs.SentLemmas.{bind}
 use Rattle.sql_subset.proofs.FileLemmas.{file-ready}
 use Rattle.perm_ranks.specs.Words.{Word, word_at}

@@ -20,7 +20,8 @@ use Rattle.outcome_books.specs.Sweep.{leads_of, IsStop, values_of}
 use Rattle.outcome_books.proofs.GapLemmas.{has-below, none-at}
 use Rattle.outcome_books.proofs.Recordable.{file-is-bound}
 
-same-leads : (run : Spec) (shape : Option (List ℕ)) → IsShapeOf run shape → (r k : ℕ) → leads_of shape r k ≡ leads_in run r k
+-- a shape leads where its spec does
+pub same-leads : (run : Spec) (shape : Option (List ℕ)) → IsShapeOf run shape → (r k : ℕ) → leads_of shape r k ≡ leads_in run r k
 same-leads run None h r k = on run.lines h
   where
     on : (lines : List (List ℕ)) → lines ≢ [] → leads_of None r k ≡ leads_by lines (queues_of run) r k

@@ -114,7 +114,7 @@ gathered-more x y z run b is bound g r whole moved fits =
       end = ap (λ (w : Walking). w.end) moved ∙ g.end;
       whole = whole;
       from = omega (arith, at, some, first, from);
-      next = omega (arith, at);
+      next = omega (arith, at, some);
       facts = subst (λ n. AreFactsOf x.reduce x.file.run x.at n (added b run.first run.end run.fact).facts) (sym at)
           (more-gathered x.reduce x.file.run x.at run.first run.end run.fact b.facts (omega (arith, first, from)) some all
           (subst (λ n. AreFactsOf x.reduce x.file.run x.at n b.facts) (sym first) g.facts));

@@ -12,7 +12,7 @@ use Rattle.outcome_books.specs.Entries.{FactSet, recorded}
 use Rattle.outcome_books.specs.Runs.{Table, firsts, AllTo, repeated}
 use Rattle.outcome_books.specs.Books.{facts_in, IsKept, AllRecordable}
 
--- facts of ranks before the next
+-- facts of ranks up to the next
 pub record Building : Type 0 where
   pub facts : FactSet
   pub next : ℕ
@@ -27,7 +27,7 @@ pub record IsBuilt (table : Table) (runs : List Run) (next : ℕ) : Type 0 where
 
 -- with the fact at each rank from first up to but not end
 abbrev pub added : Building → ℕ → ℕ → Fact → Building
-added b first end fact = record { facts = union b.facts (from_list (repeated first (end - first) fact)); next = end }
+added b first end fact = record { facts = union b.facts (from_list (repeated first (end - first) fact)); next = first }
 
 -- the facts are those of these ranks, each with its own
 abbrev pub AreFactsOf : Bool → Spec → ℕ → ℕ → FactSet → Type 0

@@ -1,8 +1,10 @@
 -- Jobs: the shards that they run, and how deep they are.
-use Rattle.std.specs.Prelude.{ℕ, suc, ◌+◌, max, Bool, List, [], ◌∷◌, ◌++◌}
+use Rattle.std.specs.Prelude.{◌≡◌, ℕ, suc, ◌+◌, max, Bool, List, [], ◌∷◌, ◌++◌}
 use Rattle.step_reducer.specs.declared.walker.Shard.{Shard}
 use Rattle.outcome_books.specs.declared.leaves.Leaf.{Leaf}
 use Rattle.outcome_books.specs.declared.job.Job.{Job, more_of-Job, end_of-Job, Run, Join'}
+use Rattle.outcome_books.specs.declared.job.Parts.{Parts}
+use Rattle.outcome_books.specs.declared.job.Parts.TheVariants.{Shard as OneShard, Both}
 
 -- the join of two jobs
 abbrev pub join_of : Job → Job → Job
@@ -23,3 +25,11 @@ levels = told (λ shard reduce. 1) (λ a b. suc (max a b))
 -- how many shards and joins there are
 abbrev pub parts : Job → ℕ
 parts = told (λ shard reduce. 1) (λ a b. suc (a + b))
+
+-- how much is left to let go, where a left part counts twice
+abbrev pub weight : Job → ℕ
+weight = told (λ shard reduce. 1) (λ a b. suc (a + (a + b)))
+
+abbrev pub AreParts : Job → Parts → Type 0
+AreParts job OneShard = weight job ≡ 1
+AreParts job (Both a b) = job ≡ join_of a b

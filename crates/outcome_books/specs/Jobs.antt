@@ -1,6 +1,6 @@
 -- What a job makes, and why it is refused.
-use Rattle.std.specs.Prelude.{◌≡◌, ◌↔◌, ℕ, ◌+◌, ◌<◌, ◌≤◌, true, List, [], ◌∷◌, ◌++◌, take, ◌⊎◌}
-use Rattle.sql_subset.specs.Spec.{Spec, SpecFile, ranks}
+use Rattle.std.specs.Prelude.{◌≡◌, ◌↔◌, ℕ, ◌+◌, ◌<◌, ◌≤◌, true, List, [], ◌∷◌, ◌++◌, ◌⊎◌}
+use Rattle.sql_subset.specs.Spec.{Spec, ranks}
 use Rattle.machine_model.specs.Start.{start}
 use Rattle.quiet_steps.specs.Facts.{IsFactOf}
 use Rattle.quiet_steps.specs.declared.fact.Fact.{Fact}
@@ -9,13 +9,12 @@ use Rattle.session_machine.specs.declared.error.RunError.{RunError}
 use Rattle.session_machine.specs.declared.error.RunError.TheVariants as run_error
 use Rattle.step_reducer.specs.declared.walker.Shard.{Shard}
 use Rattle.step_reducer.specs.declared.walker.TheConstants.{MAX_RANKS}
-use Rattle.step_reducer.specs.Walking.{IsShardOf, Starts}
+use Rattle.step_reducer.specs.Walking.{IsShardOf}
 use Rattle.outcome_books.specs.declared.job.Job.{Job}
 use Rattle.outcome_books.specs.declared.job.TheConstants.{MAX_LEVELS}
 use Rattle.outcome_books.specs.declared.leaves.Leaf.{Leaf}
 use Rattle.outcome_books.specs.declared.leaves.Pending.{Pending}
 use Rattle.outcome_books.specs.Entries.{FactSet, recorded}
-use Rattle.outcome_books.specs.Books.{Contents}
 use Rattle.outcome_books.specs.JobTrees.{leaves, levels, parts}
 
 -- the shard has the rank, with that fact under its flag
@@ -86,9 +85,3 @@ pub record IsFolding (job : Job) (found : List Leaf) (rest : List Pending) : Typ
   pub all : found ++ leaves_in rest ≡ leaves job
   pub few : AllWithin MAX_LEVELS rest → levels job ≤ MAX_LEVELS
   pub deep : levels job ≤ MAX_LEVELS → AllWithin MAX_LEVELS rest
-
--- the first so many shards are in the book
-pub record IsMaking (file : SpecFile) (ls : List Leaf) (i : ℕ) (book : Contents) : Type 0 where
-  pub file_is : book.file ≡ file
-  pub facts : AreLeafFacts file.run (take i ls) book.facts
-  pub started : 0 < i → Starts file.run

@@ -1,12 +1,15 @@
 -- The laws of books.
-use Rattle.std.specs.Prelude.{◌≡◌, List, [], ◌∷◌, ◌⊎◌}
+use Rattle.std.specs.Prelude.{◌≡◌, ◌≢◌, List, [], ◌∷◌, ◌⊎◌, Result, Err}
 use Rattle.sql_subset.specs.Spec.{Spec}
 use Rattle.outcome_books.specs.declared.job.Job.{Job}
 use Rattle.outcome_books.specs.declared.leaves.Leaf.{Leaf}
-use Rattle.outcome_books.specs.Entries.{FactSet}
+use Rattle.outcome_books.specs.declared.error.ReportError.{ReportError}
+use Rattle.outcome_books.specs.declared.error.ReportError.TheVariants.{NoMemory}
+use Rattle.outcome_books.specs.Entries.{Told, FactSet}
 use Rattle.outcome_books.specs.Books.{Contents, joined}
 use Rattle.outcome_books.specs.JobTrees.{leaves}
 use Rattle.outcome_books.specs.Jobs.{AreJobFacts}
+use Rattle.outcome_books.specs.Reports.{IsReportOf, report_of}
 
 -- books of one spec may be joined in any order
 abbrev pub JoinsCommute : Type 0
@@ -29,3 +32,11 @@ abbrev pub SameLeavesMakeSameFacts : Type 0
 SameLeavesMakeSameFacts =
     (spec : Spec) (a b : Job) (s t : FactSet) → AreJobFacts spec a s → AreJobFacts spec b t
     → ((leaf : Leaf) → IsOneOf leaf (leaves a) → IsOneOf leaf (leaves b)) → ((leaf : Leaf) → IsOneOf leaf (leaves b) → IsOneOf leaf (leaves a)) → s ≡ t
+
+-- a book has one report, unless memory runs out
+abbrev pub OneReport : Type 0
+OneReport = (book : Contents) (a b : Result (List Told) ReportError) → a ≢ Err NoMemory → b ≢ Err NoMemory → IsReportOf book a → IsReportOf book b → a ≡ b
+
+-- one pass over the ranks gives it
+abbrev pub ReportsByOnePass : Type 0
+ReportsByOnePass = (book : Contents) → IsReportOf book (report_of book)

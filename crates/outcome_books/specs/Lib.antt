@@ -1,11 +1,14 @@
+pub mod formers
 pub mod Entries
 pub mod Runs
 pub mod Tables
 pub mod About
 pub mod Books
 pub mod Building
+pub mod Recording
 pub mod Values
 pub mod Sweep
 pub mod JobTrees
 pub mod Jobs
+pub mod Reports
 pub mod Laws

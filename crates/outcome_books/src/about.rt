@@ -32,7 +32,7 @@ impl About {
     }
 }
 
-fn shape_of(spec: &Spec) -> Option<Shape>
+pub(crate) fn shape_of(spec: &Spec) -> Option<Shape>
     ensures { IsShapeOf spec.now.run result }
 {
     match spec.shape() {

@@ -13,9 +13,9 @@ use quiet_steps::Fact;
 use std::alloc::{AllocError, Global};
 use std::marker::Model;
 
-/// Facts of ranks before `next`.
+/// Facts of ranks up to `next`.
 #[derive(Drop)]
-pub(crate) struct Builder {
+pub struct Builder {
     table: Table,
     runs: Vec<Run>,
     next: u64,
@@ -38,7 +38,7 @@ impl Model for Builder {
 
 impl Builder {
     /// No facts yet.
-    pub(crate) fn new(alloc: Global) -> Builder
+    pub fn new(alloc: Global) -> Builder
         ensures facts { result.facts ≡ set.empty }
         ensures next { result.next ≡ 0 }
     {
@@ -49,8 +49,8 @@ impl Builder {
         }
     }
 
-    /// Adds the fact at each rank from `first` up to but not `end`, at the cost of one.
-    pub(crate) fn push(&mut self, first: u64, end: u64, fact: &Fact) -> Result<(), AllocError>
+    /// Adds the fact at each rank from `first` up to but not `end`, at the cost of one. A rank may get several facts.
+    pub fn push(&mut self, first: u64, end: u64, fact: &Fact) -> Result<(), AllocError>
         requires in_order { self.old.next ≤ first }
         requires some { first < end }
         ensures ok { OnOk result (self.new ≡ added self.old first end fact.now) }
@@ -59,7 +59,7 @@ impl Builder {
         let tag = tag_of(&mut self.table, fact)?;
         let last = self.runs.len().saturating_sub(1);
         add_run(&mut self.runs, last, Run { first, end, tag })?;
-        self.next = end;
+        self.next = first;
         Ok(())
     }
 

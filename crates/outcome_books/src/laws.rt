@@ -1,6 +1,6 @@
 //! The laws of books, each the contract of a function that does nothing.
 
-ghost use Rattle.outcome_books.specs.Laws.{JoinsCommute, JoinsAssociate, JoinsRepeat, SameLeavesMakeSameFacts};
+ghost use Rattle.outcome_books.specs.Laws.{JoinsCommute, JoinsAssociate, JoinsRepeat, SameLeavesMakeSameFacts, OneReport, ReportsByOnePass};
 
 /// Books of one spec may be joined in any order, in any grouping, and as often as one likes.
 pub fn joins_are_unions()
@@ -12,4 +12,10 @@ pub fn joins_are_unions()
 /// Jobs that run the same shards make the same facts, in whatever tree, order and number.
 pub fn leaves_decide()
     ensures { SameLeavesMakeSameFacts }
+{}
+
+/// A book's value decides its report: whichever way the book was made, it is reported alike, and as one pass over its ranks tells.
+pub fn facts_decide_report()
+    ensures one { OneReport }
+    ensures by_one_pass { ReportsByOnePass }
 {}

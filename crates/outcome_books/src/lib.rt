@@ -3,6 +3,7 @@
 
 mod about;
 mod book;
+mod boxed;
 mod builder;
 mod error;
 mod filling;
@@ -15,6 +16,8 @@ mod leading;
 mod leaves;
 mod making;
 mod merging;
+mod parts;
+mod recording;
 mod reporting;
 mod reports;
 mod run;
@@ -23,11 +26,16 @@ mod sweep;
 mod table;
 
 pub use book::Book;
+pub use boxed::Boxed;
+pub use builder::Builder;
 pub use error::{JoinError, MAX_REPORTED, ReportError};
 pub use gaps::missing;
 pub use job::{Job, MAX_LEVELS};
 pub use joining::join;
-pub use laws::{joins_are_unions, leaves_decide};
+pub use laws::{facts_decide_report, joins_are_unions, leaves_decide};
 pub use making::make;
+pub use merging::renumber;
+pub use recording::leads_along;
 pub use reporting::report;
 pub use reports::Report;
+pub use run::{Run, Tag};

@@ -1,6 +1,6 @@
 //! Making jobs.
 
-ghost use Rattle.std.specs.Prelude.{◌≡◌, ◌<◌, IfOk, IfErr, OnOk, MatchOption, length};
+ghost use Rattle.std.specs.Prelude.{◌≡◌, ◌<◌, IfOk, IfErr, OnOk, MatchOption, length, [], ◌∷◌};
 ghost use Rattle.machine_model.specs.Start.{start};
 ghost use Rattle.session_machine.specs.Running.{IsNotRunBy};
 ghost use Rattle.step_reducer.specs.Walking.{IsShardOf, Starts};
@@ -64,7 +64,8 @@ fn refusal(spec: &Spec, shard: Shard) -> Option<RunError>
     None
 }
 
-/// The facts of shards of the spec.
+/// The facts of shards of the spec. Their books are joined by halves, so that a run is merged once for each halving and not once for each
+/// shard, and a list of n shards is halved at most log n times.
 fn made(alloc: Global, spec: &Spec, leaves: &[Leaf]) -> Result<Book, RunError>
     requires lawful { AllLawful spec.now.run leaves.now }
     ensures refused { IfErr result (λ error. IsNotRunBy error (start spec.now.run)) }
@@ -72,14 +73,28 @@ fn made(alloc: Global, spec: &Spec, leaves: &[Leaf]) -> Result<Book, RunError>
     ensures of_spec { IfOk result (λ book. book.file ≡ spec.now) }
     ensures facts { IfOk result (λ book. AreLeafFacts spec.now.run leaves.now book.facts) }
 {
-    let mut book = Book::empty(alloc, spec)?;
-    for i in 0..leaves.len() {
-        let leaf = leaves[i];
-        let more = match Book::of_shard(alloc, spec, leaf.shard, leaf.reduce) {
-            Ok(more) => more,
-            Err(error) => return Err(error),
-        };
-        book = union(&book, &more)?;
+    if leaves.is_empty() {
+        return Ok(Book::empty(alloc, spec)?);
     }
-    Ok(book)
+    if leaves.len() == 1 {
+        return of_leaf(alloc, spec, leaves[0]);
+    }
+    let middle = leaves.len() / 2;
+    let left = made(alloc, spec, &leaves[..middle])?;
+    let right = made(alloc, spec, &leaves[middle..])?;
+    Ok(union(&left, &right)?)
+}
+
+/// The facts of one shard of the spec.
+fn of_leaf(alloc: Global, spec: &Spec, leaf: Leaf) -> Result<Book, RunError>
+    requires lawful { IsShardOf spec.now.run leaf.shard }
+    ensures refused { IfErr result (λ error. IsNotRunBy error (start spec.now.run)) }
+    ensures started { OnOk result (Starts spec.now.run) }
+    ensures of_spec { IfOk result (λ book. book.file ≡ spec.now) }
+    ensures facts { IfOk result (λ book. AreLeafFacts spec.now.run (leaf ∷ []) book.facts) }
+{
+    match Book::of_shard(alloc, spec, leaf.shard, leaf.reduce) {
+        Ok(book) => Ok(book),
+        Err(error) => Err(error),
+    }
 }

@@ -86,12 +86,8 @@ pub(crate) fn merge(
     }
 }
 
-/// The runs with other numbers for their outcomes.
-pub(crate) fn renumber(
-    alloc: Global,
-    numbers: &[usize],
-    runs: &[Run],
-) -> Result<Vec<Run>, AllocError>
+/// The runs with other numbers for their outcomes: at the place of each number stands the one that it becomes.
+pub fn renumber(alloc: Global, numbers: &[usize], runs: &[Run]) -> Result<Vec<Run>, AllocError>
     requires sound { AllSound (length numbers.now) runs.now }
     ensures { IfOk result (λ v. v.items ≡ map (renamed numbers.now) runs.now) }
 {

@@ -7,7 +7,7 @@ use std::alloc::AllocError;
 
 /// What a run says of each of its ranks: the outcome with this number in a table, or a swap at this place.
 #[derive(Clone, Copy, Debug, Drop)]
-pub(crate) enum Tag {
+pub enum Tag {
     Ran(usize),
     Swap(u8),
 }
@@ -22,7 +22,8 @@ impl Tag {
         }
     }
 
-    pub(crate) fn is(self, other: Tag) -> bool
+    /// Whether the tags say the same by the numbers of one table.
+    pub fn is(self, other: Tag) -> bool
         ensures { IsTrue result ↔ (self ≡ other) }
     {
         match (self, other) {
@@ -35,10 +36,10 @@ impl Tag {
 
 /// The same of each rank from `first` up to but not `end`.
 #[derive(Clone, Copy, Debug, Drop)]
-pub(crate) struct Run {
-    pub(crate) first: u64,
-    pub(crate) end: u64,
-    pub(crate) tag: Tag,
+pub struct Run {
+    pub first: u64,
+    pub end: u64,
+    pub tag: Tag,
 }
 
 /// Adds a run that begins after each one there, and answers where it went. Where the hint leads to a run with the same tag that it

@@ -74,7 +74,7 @@ fn known_fact(fact: &Fact)
 }
 
 /// The book of a spec with the facts of a builder.
-fn book_of(alloc: Global, about: About, builder: Builder) -> Result<Book, AllocError>
+pub(crate) fn book_of(alloc: Global, about: About, builder: Builder) -> Result<Book, AllocError>
     requires about { IsAbout about }
     requires recordable { AllRecordable (file_of about).run builder.facts }
     ensures file { IfOk result (λ book. book.file ≡ file_of about) }

@@ -3,11 +3,11 @@
 ghost use Rattle.std.specs.Prelude.{◌≡◌, ◌<◌, IfOk, IfSome, length, slice_index_or, []};
 ghost use Rattle.outcome_books.specs.Tables.{Extends, Names};
 
+use finite_maps::Fork;
 use std::alloc::{AllocError, Global};
 use std::collections::BTreeMap;
 use std::marker::Model;
 use transcripts::Outcome;
-use version_tree::Fork;
 
 /// Outcomes in the order of their numbers, seen by contracts as their list. What the index tells is looked up and compared, so
 /// that nothing but the table's size depends on it.
@@ -32,6 +32,16 @@ impl Table {
     {
         Table {
             outcomes: Vec::new(alloc),
+            index: BTreeMap::new(alloc),
+        }
+    }
+
+    /// These outcomes under their numbers, none of which is found again.
+    pub(crate) fn of(alloc: Global, outcomes: Vec<Outcome>) -> Table
+        ensures { result ≡ outcomes.items }
+    {
+        Table {
+            outcomes,
             index: BTreeMap::new(alloc),
         }
     }

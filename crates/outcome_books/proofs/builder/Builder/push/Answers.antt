@@ -41,16 +41,16 @@ invariant_of-self-2 c =
     let k = kept-more _ _ _ c.tag_of.ensures.extends c.self.invariant.kept in
     record {
       kept = record { rising = a.rising; sound = a.sound (length c.tag_of.new.table) k.sound (c.in_ok-tag.ensures.numbered, c.requires.some) };
-      before = AllTo-more _ _ _ (let lt = c.requires.some in omega (arith, lt)) a.low;
+      before = a.low;
     }
 
 pub returns-clause-ok : goal.returns-clause-ok
 returns-clause-ok c =
     let facts = pushed _ _ _ _ _ c.args.first c.args.end c.args.fact.now c.tag_of.ensures.extends c.self.invariant.kept.sound refl refl c.in_ok-tag.ensures.fact
     c.in_ok-add_run.ensures.facts in
-    (λ i. record { facts = facts i; next = c.args.end })
+    (λ i. record { facts = facts i; next = c.args.first })
     ∙ ap (λ (b : Building). record {
       facts = union b.facts
           (from_list (repeated c.args.first (c.args.end - c.args.first) c.args.fact.now));
-      next = c.args.end;
+      next = c.args.first;
     }) c.self.view_is
