@@ -86,11 +86,19 @@ def levels(text):
 
 
 def has_lone_surrogate(value):
+    """Whether a letter of a value is half of one. The objects in it were looked at as they were read."""
     if isinstance(value, str):
         return any("\ud800" <= letter <= "\udfff" for letter in value)
-    if isinstance(value, dict):
-        return any(map(has_lone_surrogate, [*value, *value.values()]))
-    return isinstance(value, list) and any(map(has_lone_surrogate, value))
+    return isinstance(value, list | tuple) and any(map(has_lone_surrogate, value))
+
+
+def object_of(pairs):
+    """An object. Of members with one name the last counts, but none may have half a letter."""
+    require(not any(map(has_lone_surrogate, pairs)), Kind.NOT_JSON)
+    return dict(pairs)
+
+
+HOOKS = {"parse_int": whole, "parse_float": fraction, "parse_constant": no_constant, "object_pairs_hook": object_of}
 
 
 def value_of(text):
@@ -98,7 +106,7 @@ def value_of(text):
     try:
         letters = text.decode()
         require(levels(letters) <= MOST_LEVELS, Kind.NOT_JSON)
-        value = json.loads(letters, parse_int=whole, parse_float=fraction, parse_constant=no_constant)
+        value = json.loads(letters, **HOOKS)
     except (ValueError, RecursionError):
         raise NoBook(Kind.NOT_JSON) from None
     require(not has_lone_surrogate(value), Kind.NOT_JSON)

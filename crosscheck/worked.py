@@ -234,6 +234,8 @@ def of_book_files():
         yield "a member too many", read(text.replace('"format"', '"x":0,"format"')), Kind.BAD_FIELD
         yield "a step of no session", read(text.replace('["sent",0]', '["sent",1]')), Kind.BAD_FIELD
         yield "a number with a fraction", read(text.replace('["sent",0]', '["sent",0.0]')), Kind.BAD_FIELD
+        hidden = [read(text.replace('"format"', f'"format":{value},"format"')) for value in ("3", '"\\ud800"')]
+        yield "a member that a later one hides, and one that is no text", hidden, [(spec, facts), Kind.NOT_JSON]
     fact = '[0,"ran",[[["sent",0],"done"]]]'
     changed = [(f"{fact},{fact}", Kind.OUT_OF_ORDER), ('[0,"swap",0]', Kind.BAD_SWAP), ('[1,"swap",0]', Kind.BAD_RANK)]
     changed += [('[0,"swap",256]', Kind.BAD_FIELD), ('[-1,"swap",0]', Kind.BAD_FIELD), ('[-0,"swap",0]', Kind.BAD_FIELD)]

@@ -1,10 +1,11 @@
 //! Books by their calls: what jobs make, what is missing, what is reported, and what is refused. The test without memory is to be read
 //! under `rt try --test --fail-alloc` too.
 use crate::walks::bound;
-use outcome_books::{Book, Job, Report, join, make, missing, report};
-use session_machine::run_one;
+use outcome_books::{
+    Book, Boxed, Job, JoinError, Report, ReportError, join, make, missing, report,
+};
+use session_machine::{RunError, run_one};
 use sql_subset::Spec;
-use sqlite_items::Boxed;
 use std::alloc::Global;
 use std::process::Abort;
 use std::test::Fail;
@@ -32,7 +33,7 @@ fn joined(alloc: Global, parts: &mut Vec<Job>) -> Option<Job> {
 }
 
 /// The job of a row. None where memory ran out, or the row has none.
-fn job_of(alloc: Global, row: &str) -> Option<Job> {
+pub(crate) fn job_of(alloc: Global, row: &str) -> Option<Job> {
     let mut parts = Vec::new(alloc);
     let mut words = row.split_whitespace();
     while let Some(word) = words.next() {
@@ -144,27 +145,79 @@ fn a_job_is_refused_by_the_first_that_fits(rt: HostRuntime) -> Result<(), Fail> 
     Ok(())
 }
 
-/// A job of so many levels, which runs the first rank again and again. None where memory ran out.
-fn deep(alloc: Global, levels: u64, end: u64) -> Option<Job> {
+/// How a deep job lies: on which side of its joins the deeper part stands.
+#[derive(Clone, Copy)]
+enum Lean {
+    Left,
+    Right,
+    InTurn,
+}
+
+impl Lean {
+    fn is_left(self, level: u64) -> bool {
+        match self {
+            Lean::Left => true,
+            Lean::Right => false,
+            Lean::InTurn => level % 2 == 0,
+        }
+    }
+}
+
+/// A job with one shard more, which is the first rank.
+fn with_one(alloc: Global, job: Job, is_left: bool) -> Option<Job> {
+    let deep = Boxed::new(alloc, job).ok()?;
+    let one = Boxed::new(alloc, Job::Run(Shard { first: 0, end: 1 }, false)).ok()?;
+    if is_left {
+        Some(Job::Join(deep, one))
+    } else {
+        Some(Job::Join(one, deep))
+    }
+}
+
+/// A job of so many levels, which runs the first rank again and again, and at last the ranks up to an end. None where memory ran out.
+fn deep(alloc: Global, levels: u64, end: u64, lean: Lean) -> Option<Job> {
     let mut job = Job::Run(Shard { first: 0, end }, false);
-    for _level in 1..levels {
-        let one = Job::Run(Shard { first: 0, end: 1 }, false);
-        job = Job::Join(Boxed::new(alloc, job).ok()?, Boxed::new(alloc, one).ok()?);
+    for level in 1..levels {
+        job = with_one(alloc, job, lean.is_left(level))?;
     }
     Some(job)
 }
 
+fn assert_levels_made(rt: &impl Abort, alloc: Global, spec: &Spec, lean: Lean) -> Option<()> {
+    let job = deep(alloc, 1_000, 1, lean)?;
+    let book = make(alloc, spec, &job).ok()?;
+    assert!(rt; missing(&book).is_none(), "the one rank was run");
+    Some(())
+}
+
 #[test]
-fn a_thousand_levels_are_made_and_one_more_is_too_deep(rt: HostRuntime) -> Result<(), Fail> {
+fn a_thousand_levels_are_made(rt: HostRuntime) -> Result<(), Fail> {
     let alloc = rt.alloc();
     let spec = bound(alloc, "session a step s {}").ok_or("a spec")?;
-    let job = deep(alloc, 1_000, 1).ok_or("a job")?;
-    let book = make(alloc, &spec, &job).ok().ok_or("a book")?;
-    assert!(rt; missing(&book).is_none(), "the one rank was run");
-    let job = deep(alloc, 1_001, 2).ok_or("a job")?;
-    let refusal = make(alloc, &spec, &job).err().ok_or("a refusal")?;
-    let told = format!(in alloc; "{refusal}")?;
+    for lean in [Lean::Left, Lean::Right, Lean::InTurn] {
+        assert_levels_made(&rt, alloc, &spec, lean).ok_or("a book")?;
+    }
+    Ok(())
+}
+
+/// The job is refused before its shard that is out of range, and is let go.
+fn assert_too_deep(rt: &impl Abort, alloc: Global, spec: &Spec, job: &Job) -> Option<()> {
+    let refusal = make(alloc, spec, job).err()?;
+    let told = format!(in alloc; "{refusal}").ok()?;
     assert_eq!(rt; told.as_str(), "too many levels");
+    Some(())
+}
+
+#[test]
+fn more_levels_are_refused_and_a_million_let_go(rt: HostRuntime) -> Result<(), Fail> {
+    let alloc = rt.alloc();
+    let spec = bound(alloc, "session a step s {}").ok_or("a spec")?;
+    for lean in [Lean::Left, Lean::Right, Lean::InTurn] {
+        for levels in [1_001, 1_000_000] {
+            let job = deep(alloc, levels, 2, lean).ok_or("a job")?;
+            assert_too_deep(&rt, alloc, &spec, &job).ok_or("a refusal")?;
+        }
+    }
     Ok(())
 }
 
@@ -187,28 +240,59 @@ fn books_of_two_specs_are_not_joined(rt: HostRuntime) -> Result<(), Fail> {
     Ok(())
 }
 
-/// What the table has of the book of two shards, and of the same book asked again. None where memory ran out.
-fn told_of(alloc: Global, spec: &Spec) -> Option<String> {
-    let job = job_of(alloc, "0 4 yes 2 6 no +")?;
-    let book = match make(alloc, spec, &job) {
-        Ok(book) => book,
-        Err(_) => make(alloc, spec, &job).ok()?,
-    };
-    let twice = match join(&book, &book) {
-        Ok(twice) => twice,
-        Err(_) => join(&book, &book).ok()?,
-    };
-    match reported(alloc, spec, &twice) {
-        Some(told) => Some(told),
-        None => reported(alloc, spec, &twice),
+/// The job made; where memory is refused to it, once more. No second growth is refused.
+fn made_again(rt: &impl Abort, alloc: Global, spec: &Spec, job: &str) -> Option<Book> {
+    let job = job_of(alloc, job)?;
+    match make(alloc, spec, &job) {
+        Ok(book) => return Some(book),
+        Err(error) => assert!(rt; matches!(error, RunError::NoMemory), "making"),
     }
+    let again = make(alloc, spec, &job).ok();
+    assert!(rt; again.is_some(), "making again");
+    again
+}
+
+/// The books joined; where memory is refused to it, they are as before, and are joined once more.
+fn joined_again(rt: &impl Abort, a: &Book, b: &Book) -> Option<Book> {
+    match join(a, b) {
+        Ok(book) => return Some(book),
+        Err(error) => assert!(rt; error == JoinError::NoMemory, "joining"),
+    }
+    assert!(rt;
+        missing(a) == Some(4) && missing(b) == Some(0),
+        "what is joined stays"
+    );
+    let again = join(a, b).ok();
+    assert!(rt; again.is_some(), "joining again");
+    again
+}
+
+/// The report of a book without gaps; where memory is refused to it, once more.
+fn reported_again(rt: &impl Abort, alloc: Global, book: &Book) -> Option<Report> {
+    match report(alloc, book) {
+        Ok(report) => return Some(report),
+        Err(error) => assert!(rt; error == ReportError::NoMemory, "reporting"),
+    }
+    let again = report(alloc, book).ok();
+    assert!(rt; again.is_some(), "reporting again");
+    again
+}
+
+/// The two books of ranks of a spec, each refused at most one growth, and all that is asked of them. None where memory ran out before.
+fn asked_again(rt: &impl Abort, alloc: Global, spec: &Spec) -> Option<bool> {
+    let front = made_again(rt, alloc, spec, "0 2 yes 2 4 no +")?;
+    let back = made_again(rt, alloc, spec, "2 4 yes 4 6 no 3 5 yes + +")?;
+    let both = joined_again(rt, &front, &back)?;
+    assert!(rt; missing(&both).is_none(), "the join has all");
+    let report = reported_again(rt, alloc, &both)?;
+    are_alike(alloc, spec, &report)
 }
 
 #[test]
-fn a_job_is_made_whole_unless_memory_runs_out(rt: HostRuntime) {
+fn books_are_whole_unless_memory_runs_out(rt: HostRuntime) {
     if let Some(spec) = bound(rt.alloc(), crate::walks::DISJOINT) {
-        if let Some(told) = told_of(rt.alloc(), &spec) {
-            assert_eq!(rt; told.as_str(), "alike");
+        if let Some(alike) = asked_again(&rt, rt.alloc(), &spec) {
+            assert!(rt; alike, "each rank has its outcome");
         }
     }
 }

@@ -1,0 +1,12 @@
+pub mod Forms
+pub mod Canonical
+pub mod Numbering
+pub mod BookText
+pub mod Pieces
+pub mod Writing
+pub mod Laws
+pub mod Reading
+pub mod ReadingRuns
+pub mod ReadingFacts
+pub mod ReadingBooks
+pub mod ReadingLaws

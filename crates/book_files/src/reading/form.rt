@@ -1,0 +1,74 @@
+//! The book of runs.
+
+ghost use Rattle.std.specs.Prelude.{◌≡◌, option_map};
+ghost use Rattle.serde_json.specs.View.{view, items_view};
+ghost use Rattle.book_files.specs.Reading.{Meets};
+ghost use Rattle.book_files.specs.ReadingBooks.{IsRunsBook, IsRunsOf, run_parts};
+
+use super::outcomes::outcomes_of;
+use super::parts::{items_at, members_in, spec_of_text, text_at};
+use super::runs::runs_of;
+use crate::error::BookError;
+use outcome_books::Book;
+use serde_json::Value as Json;
+use sql_subset::Spec;
+use std::alloc::Global;
+
+/// What a book of runs has besides its format.
+#[derive(Clone, Copy, Drop)]
+struct RunParts<'a> {
+    facts: &'a [Json],
+    outcomes: &'a [Json],
+    text: &'a str,
+}
+
+/// The parts of a book of runs. None where a member is missing, of another kind, or one too many.
+fn run_parts(value: &Json) -> Option<RunParts<'_>>
+    ensures { option_map (λ parts. record { facts = items_view parts.facts.now; outcomes = items_view parts.outcomes.now; text = parts.text.now }) result
+        ≡ run_parts (view value.now) }
+{
+    if members_in(value) != 4 {
+        return None;
+    }
+    let facts = items_at(value, "facts")?;
+    let outcomes = items_at(value, "outcomes")?;
+    let text = text_at(value, "spec")?;
+    Some(RunParts {
+        facts,
+        outcomes,
+        text,
+    })
+}
+
+/// The book of runs that a value is.
+pub(crate) fn runs_book(alloc: Global, value: &Json) -> Result<Book, BookError>
+    ensures { Meets (λ book. book) (IsRunsBook (view value.now)) result }
+{
+    let Some(parts) = run_parts(value) else {
+        return Err(BookError::BadField);
+    };
+    match spec_of_text(alloc, parts.text) {
+        Ok(spec) => book_of_runs(alloc, &spec, parts.facts, parts.outcomes),
+        Err(error) => Err(error),
+    }
+}
+
+/// The book of a spec with the runs and outcomes that these values are.
+fn book_of_runs(
+    alloc: Global,
+    spec: &Spec,
+    facts: &[Json],
+    outcomes: &[Json],
+) -> Result<Book, BookError>
+    ensures { Meets (λ book. book) (IsRunsOf spec.now (items_view facts.now) (items_view outcomes.now)) result }
+{
+    let table = match outcomes_of(alloc, spec, outcomes) {
+        Ok(table) => table,
+        Err(error) => return Err(error),
+    };
+    let runs = match runs_of(alloc, spec, table.len(), facts) {
+        Ok(runs) => runs,
+        Err(error) => return Err(error),
+    };
+    Ok(Book::of_runs(alloc, spec, table, runs)?)
+}
