@@ -3,10 +3,9 @@
 use crate::facts::{number, refuse, spec_of};
 use crate::walks::text_of;
 use iso_farm::OneFault;
-use outcome_books::{Book, Job, Report, ReportError, make, missing, report};
+use outcome_books::{Book, Boxed, Job, Report, ReportError, make, missing, report};
 use session_machine::RunError;
 use sql_subset::Spec;
-use sqlite_items::Boxed;
 use std::alloc::Global;
 use std::io;
 use std::process::ExitCode;

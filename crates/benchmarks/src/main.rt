@@ -1,20 +1,23 @@
 //! Prints how long operations on maps take, beside the standard library's (`benchmarks maps`), how fast the machine is (`benchmarks machine`), and how fast a
-//! walker gives facts (`benchmarks reduce SPEC RANKS`, or `benchmarks every SPEC RANKS`). Without words it prints what it measures of maps.
+//! walker gives facts (`benchmarks reduce SPEC RANKS`, or `benchmarks every SPEC RANKS`), or how fast books are made, joined and reported
+//! (`benchmarks join SPEC LENGTH`). Without words it prints what it measures of maps.
 //! `benchmarks SPEC FIRST END reduce|every|sent` prints the facts of these ranks, and `benchmarks books SPEC {FIRST END reduce|every}` what
 //! the joined books of these ranges tell, for `crosscheck`.
 #![tactic(auto)]
 
 mod books;
 mod facts;
+mod joins;
 mod machine;
 mod walks;
 
+use finite_maps::Fork;
 use std::alloc::{AllocError, Global};
 use std::collections::BTreeMap;
 use std::process::ExitCode;
 use std::time::{Duration, Instant};
 use std::{env, io};
-use version_tree::{Fork, VMap};
+use version_tree::VMap;
 
 /// How many operations are measured at each size.
 const OPERATIONS: u32 = 1_000_000;
@@ -166,6 +169,11 @@ fn maps(rt: &HostRuntime) -> io::Result<()> {
 }
 
 fn measure(rt: &HostRuntime, words: &[String]) -> io::Result<()> {
+    if let [_program, how, path, length] = words
+        && how.as_str() == "join"
+    {
+        return joins::print_books(rt, path.as_str(), length.as_str());
+    }
     if let [_program, how, path, most] = words {
         return walks::print_walk(rt, path.as_str(), most.as_str(), how.as_str() == "reduce");
     }

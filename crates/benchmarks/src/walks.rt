@@ -9,11 +9,11 @@ use std::time::Instant;
 use step_reducer::{Fact, FactRun, Shard, Walker};
 
 /// The walker refused what it is measured with.
-fn refused() -> io::Error {
+pub(crate) fn refused() -> io::Error {
     io::Error::from(io::ErrorKind::Other)
 }
 
-fn spec_of(alloc: Global, text: &[u8]) -> io::Result<Spec> {
+pub(crate) fn spec_of(alloc: Global, text: &[u8]) -> io::Result<Spec> {
     let Ok(tree) = read_spec(alloc, text) else {
         return Err(refused());
     };

@@ -1,10 +1,7 @@
 -- What the program writes for one permutation.
-use Rattle.std.specs.Prelude.{◌≡◌, ℕ, ◌<◌, ◌≤◌, ◌⊎◌, ◌++◌, List, Option, Some, Result, Ok, Err}
+use Rattle.std.specs.Prelude.{◌≡◌, ℕ, ◌<◌, ◌≤◌, ◌++◌, List, Option, Some, Result, Ok, Err}
 use Rattle.sql_subset.specs.Spec.{SpecFile, ranks, line_of}
-use Rattle.sql_subset.specs.Binding.{bound_file, IsFileOf}
-use Rattle.sql_subset.specs.declared.error.BindErrorKind.TheVariants.{NoMemory}
-use Rattle.spec_reader.specs.Tree.{SpecTree}
-use Rattle.spec_reader.specs.Text.{IsSpec, Explains}
+use Rattle.sql_subset.specs.Binding.{IsFileOf}
 use Rattle.transcripts.specs.Counted.{Stopped}
 use Rattle.transcripts.specs.Text.{rank_text, outcome_text}
 use Rattle.transcripts.specs.declared.counted.Counted.{Counted}
@@ -13,7 +10,8 @@ use Rattle.machine_model.specs.Start.{start}
 use Rattle.machine_model.specs.Outcome.{outcome_of_line}
 use Rattle.session_machine.specs.Running.{IsNotRunBy}
 use Rattle.iso_farm.specs.declared.single.OneFault.{OneFault}
-use Rattle.iso_farm.specs.declared.single.OneFault.TheVariants.{Spec, Bind, OutOfRange, Run, Write}
+use Rattle.iso_farm.specs.declared.single.OneFault.TheVariants.{Spec, OutOfRange, Run, Write}
+use Rattle.iso_farm.specs.SpecFiles.{IsNoSpec}
 
 -- the text tells the rank and then the outcome of its line, by the sequential machine
 pub record IsAnswer (file : SpecFile) (rank : ℕ) (text : List ℕ) : Type 0 where
@@ -24,8 +22,7 @@ pub record IsAnswer (file : SpecFile) (rank : ℕ) (text : List ℕ) : Type 0 wh
 
 -- why one permutation of a spec is not written: its rank is no rank, or its line is not run, or a write fails
 abbrev pub IsRefused : OneFault → SpecFile → ℕ → Type 0
-IsRefused (Spec error) file rank = ⊥
-IsRefused (Bind error) file rank = ⊥
+IsRefused (Spec fault) file rank = ⊥
 IsRefused OutOfRange file rank = ranks file.run ≤ rank
 IsRefused (Run error) file rank = (rank < ranks file.run) × IsNotRunBy error (start file.run)
 IsRefused (Write fault) file rank = rank < ranks file.run
@@ -33,8 +30,7 @@ IsRefused (Write fault) file rank = rank < ranks file.run
 -- how many writes fail in a call with this answer
 abbrev pub faults_of : {X : Type 0} → Result X OneFault → ℕ
 faults_of (Ok x) = 0
-faults_of (Err (Spec error)) = 0
-faults_of (Err (Bind error)) = 0
+faults_of (Err (Spec fault)) = 0
 faults_of (Err OutOfRange) = 0
 faults_of (Err (Run error)) = 0
 faults_of (Err (Write fault)) = 1
@@ -45,18 +41,16 @@ pub record IsAnswerOf (bytes : List ℕ) (rank : ℕ) (text : List ℕ) : Type 0
   pub is_file : IsFileOf bytes file
   pub answer : IsAnswer file rank text
 
--- why the bytes have no answer: they are no spec file, or binding refuses it, or the one permutation is not written; memory aside
+-- why the bytes have no answer: they are no spec file, or the one permutation is not written
 abbrev pub IsRefusedOf : OneFault → List ℕ → ℕ → Type 0
-IsRefusedOf (Spec error) bytes rank = Explains bytes error
-IsRefusedOf (Bind error) bytes rank = (tree : SpecTree) × IsSpec bytes tree × ((bound_file bytes tree ≡ Err error) ⊎ (error ≡ record { kind = NoMemory; offset = 0 }))
+IsRefusedOf (Spec fault) bytes rank = IsNoSpec bytes fault
 IsRefusedOf OutOfRange bytes rank = (file : SpecFile) × IsFileOf bytes file × IsRefused OutOfRange file rank
 IsRefusedOf (Run error) bytes rank = (file : SpecFile) × IsFileOf bytes file × IsRefused (Run error) file rank
 IsRefusedOf (Write fault) bytes rank = (file : SpecFile) × IsFileOf bytes file × IsRefused (Write fault) file rank
 
 -- what a refusal leaves in the writer: it is as it was, but where a write fails it has a front of such a text
 abbrev pub Leaves : {W : Type 0} → (W → Option (List ℕ)) → (List ℕ → Type 0) → Counted W → Counted W → OneFault → Type 0
-Leaves contents IsText old new (Spec error) = new ≡ old
-Leaves contents IsText old new (Bind error) = new ≡ old
+Leaves contents IsText old new (Spec fault) = new ≡ old
 Leaves contents IsText old new OutOfRange = new ≡ old
 Leaves contents IsText old new (Run error) = new ≡ old
 Leaves contents IsText old new (Write fault) = (text : List ℕ) × IsText text × Stopped contents old new text

@@ -1,32 +1,26 @@
-//! What the words of a command line ask for.
+//! What the program does for the words of a command line.
 
-ghost use Rattle.std.specs.Prelude.{◌≡◌, ◌<◌};
+ghost use Rattle.std.specs.Prelude.{◌≡◌, ◌<◌, OnOk, length};
 ghost use Rattle.transcripts.specs.Counted.{failures_of};
 
+use crate::counting::count;
 use crate::fault::ProgramFault;
+use crate::faults::{count_fault, fault_at, join_fault, range_fault, report_fault};
 use crate::files::{Opener, read_spec_file};
-use crate::single::{OneFault, one};
+use crate::joining::join_files;
+use crate::ranges::run_range;
+use crate::reporting::report_file;
+use crate::single::one;
+use crate::words::{Asked, parse_words};
+use clap::Error;
 use clap::error::ErrorKind;
-use clap::{Arg, ArgAction, ArgMatches, Command, Error, value_parser};
-use session_machine::{RunError, StartError};
-use spec_reader::{SpecError, SpecErrorKind};
-use sql_subset::{BindError, BindErrorKind};
-use std::alloc::{AllocError, Global};
+use std::alloc::Global;
 use std::io::{self, Write};
 use transcripts::Counted;
 
-/// The version of the program. From which commit and with which kit it was built is known to what builds it alone.
-const VERSION: &str = "0.1.0";
-
-/// What the words ask for.
-#[derive(Drop)]
-enum Asked<'a> {
-    /// One permutation of the spec at a path.
-    One { path: &'a str, rank: u64 },
-}
-
 /// Does what the words ask, the first of which is the program's name. What is asked for goes to `out`, faults go to `err`, and the answer is the
-/// exit status: 0 good, 2 for a fault of the command line, 3 for what is refused, 4 for want of memory, 5 for a read or write fault.
+/// exit status: 0 good, 1 where a rank has not exactly one value, 2 for a fault of the command line, 3 for what is refused, 4 for want of
+/// memory, 5 for a read or write fault.
 pub fn run<O: Opener, W: Write, E: Write>(
     alloc: Global,
     words: &[String],
@@ -47,50 +41,7 @@ pub fn run<O: Opener, W: Write, E: Write>(
     }
 }
 
-/// The commands and their words.
-fn command<'a>(alloc: Global) -> Result<Command<'a>, AllocError> {
-    let spec = Arg::new(alloc, "SPEC")
-        .required(true)
-        .action(ArgAction::Set)
-        .help("A spec file");
-    let rank = Arg::new(alloc, "RANK")
-        .required(true)
-        .action(ArgAction::Set)
-        .value_parser(value_parser!(u64))
-        .help("The number of a permutation, from 0");
-    let one = Command::new(alloc, "one")
-        .about("Runs one permutation and prints what each session saw")
-        .arg(spec)?
-        .arg(rank)?;
-    Command::new(alloc, "isofarm")
-        .about("Runs the steps of SQL sessions in their orders, under two-phase locking")
-        .version(VERSION)
-        .subcommand_required(true)
-        .subcommand(one)
-}
-
-fn parse_words<'a>(alloc: Global, words: &'a [String]) -> Result<Asked<'a>, Error> {
-    let matches = command(alloc)?.try_get_matches_from(words)?;
-    let Some(one) = matches.subcommand_matches("one") else {
-        return Err(no_command(alloc)?);
-    };
-    match one_of_words(one) {
-        Some(asked) => Ok(asked),
-        None => Err(no_command(alloc)?),
-    }
-}
-
-/// The fault of words that ask for nothing.
-fn no_command(alloc: Global) -> Result<Error, AllocError> {
-    command(alloc)?.error(ErrorKind::MissingSubcommand, "no command")
-}
-
-fn one_of_words<'a>(matches: &ArgMatches<'a>) -> Option<Asked<'a>> {
-    let path = matches.get_str("SPEC")?;
-    let rank = matches.get_one::<u64>("RANK")?;
-    Some(Asked::One { path, rank })
-}
-
+/// Writes what is asked for, with nothing held back.
 fn answer<'a, O: Opener, W: Write>(
     alloc: Global,
     asked: &Asked<'a>,
@@ -100,12 +51,91 @@ fn answer<'a, O: Opener, W: Write>(
     requires { failures_of out.old ≡ 0 }
 {
     match asked {
-        Asked::One { path, rank } => {
-            let bytes = read_spec_file(alloc, opener, path)?;
-            one(alloc, &bytes, *rank, out).map_err(|fault| fault_at(path, fault))?;
-            flushed(out)
-        }
+        Asked::One { path, rank } => answer_one(alloc, path, *rank, opener, out)?,
+        Asked::Count { path } => answer_count(alloc, path, opener, out)?,
+        Asked::Run {
+            path,
+            first,
+            end,
+            every,
+        } => answer_range(alloc, path, *first, *end, !*every, opener, out)?,
+        Asked::Join { paths } => answer_join(alloc, paths.as_slice(), opener, out)?,
+        Asked::Report { path } => answer_report(alloc, path, opener, out)?,
     }
+    flushed(out)
+}
+
+fn answer_one<'a, O: Opener, W: Write>(
+    alloc: Global,
+    path: &'a str,
+    rank: u64,
+    opener: &O,
+    out: &mut Counted<W>,
+) -> Result<(), ProgramFault<'a>>
+    requires { failures_of out.old ≡ 0 }
+    ensures { OnOk result (failures_of out.new ≡ 0) }
+{
+    let bytes = read_spec_file(alloc, opener, path)?;
+    one(alloc, bytes.as_slice(), rank, out).map_err(|fault| fault_at(path, fault))
+}
+
+fn answer_count<'a, O: Opener, W: Write>(
+    alloc: Global,
+    path: &'a str,
+    opener: &O,
+    out: &mut Counted<W>,
+) -> Result<(), ProgramFault<'a>>
+    requires { failures_of out.old ≡ 0 }
+    ensures { OnOk result (failures_of out.new ≡ 0) }
+{
+    let bytes = read_spec_file(alloc, opener, path)?;
+    count(alloc, bytes.as_slice(), out).map_err(|fault| count_fault(path, fault))
+}
+
+fn answer_range<'a, O: Opener, W: Write>(
+    alloc: Global,
+    path: &'a str,
+    first: u64,
+    end: u64,
+    reduce: bool,
+    opener: &O,
+    out: &mut Counted<W>,
+) -> Result<(), ProgramFault<'a>>
+    requires { failures_of out.old ≡ 0 }
+    ensures { OnOk result (failures_of out.new ≡ 0) }
+{
+    let bytes = read_spec_file(alloc, opener, path)?;
+    run_range(alloc, bytes.as_slice(), first, end, reduce, out).map_err(|fault| range_fault(
+        path, fault,
+    ))
+}
+
+fn answer_join<'a, O: Opener, W: Write>(
+    alloc: Global,
+    paths: &[&'a str],
+    opener: &O,
+    out: &mut Counted<W>,
+) -> Result<(), ProgramFault<'a>>
+    requires { failures_of out.old ≡ 0 }
+    ensures { OnOk result (failures_of out.new ≡ 0) }
+{
+    // The command line asks for one book at least.
+    if paths.is_empty() {
+        return Ok(());
+    }
+    join_files(alloc, opener, paths, out).map_err(|fault| join_fault(paths, fault))
+}
+
+fn answer_report<'a, O: Opener, W: Write>(
+    alloc: Global,
+    path: &'a str,
+    opener: &O,
+    out: &mut Counted<W>,
+) -> Result<(), ProgramFault<'a>>
+    requires { failures_of out.old ≡ 0 }
+    ensures { OnOk result (failures_of out.new ≡ 0) }
+{
+    report_file(alloc, opener, path, out).map_err(|fault| report_fault(path, fault))
 }
 
 /// Writes a text, with nothing held back.
@@ -125,65 +155,6 @@ fn flushed<'a, W: Write>(out: &mut Counted<W>) -> Result<(), ProgramFault<'a>>
     match out.flush() {
         Ok(()) => Ok(()),
         Err(_fault) => Err(ProgramFault::Write),
-    }
-}
-
-/// The program's fault for a fault of the file at a path.
-pub fn fault_at(path: &str, fault: OneFault) -> ProgramFault<'_> {
-    match fault {
-        OneFault::Spec(error) => spec_fault(path, error),
-        OneFault::Bind(error) => bind_fault(path, error),
-        OneFault::OutOfRange => ProgramFault::RankOutOfRange { path },
-        OneFault::Run(RunError::Start(error)) => start_fault(path, error),
-        OneFault::Run(_) => ProgramFault::NoMemory,
-        OneFault::Write(_) => ProgramFault::Write,
-    }
-}
-
-fn spec_fault(path: &str, error: SpecError) -> ProgramFault<'_> {
-    match error.kind {
-        SpecErrorKind::NoMemory => ProgramFault::NoMemory,
-        kind => ProgramFault::Spec {
-            path,
-            kind: kind.number(),
-            offset: error.offset as u64,
-        },
-    }
-}
-
-fn bind_fault(path: &str, error: BindError) -> ProgramFault<'_> {
-    let offset = error.offset as u64;
-    match error.kind {
-        BindErrorKind::NoMemory => ProgramFault::NoMemory,
-        BindErrorKind::Sql(kind) => ProgramFault::Sql {
-            path,
-            kind: kind.number(),
-            offset,
-        },
-        kind => ProgramFault::Bind {
-            path,
-            kind: kind.number(),
-            offset,
-        },
-    }
-}
-
-fn start_fault(path: &str, error: StartError) -> ProgramFault<'_> {
-    let kind = error.number();
-    match error {
-        StartError::SetupFailed { block } => ProgramFault::Start {
-            path,
-            kind,
-            number: block,
-        },
-        StartError::SessionSetupFailed { session } | StartError::SessionSetupWaits { session } => {
-            ProgramFault::Start {
-                path,
-                kind,
-                number: session,
-            }
-        }
-        StartError::NoMemory => ProgramFault::NoMemory,
     }
 }
 

@@ -41,6 +41,43 @@ pub enum ProgramFault<'a> {
     RankOutOfRange {
         path: &'a str,
     },
+    /// The range is none of the spec, or too long.
+    #[error("isofarm: {path}: shard error {kind}")]
+    Shard {
+        path: &'a str,
+        kind: u8,
+    },
+    /// The file is no book.
+    #[error("isofarm: {path}: book error {kind}")]
+    Book {
+        path: &'a str,
+        kind: u8,
+    },
+    /// The book to write is over its limit.
+    #[error("isofarm: book error 8")]
+    BookTooLarge,
+    /// The book is of another spec than those before it.
+    #[error("isofarm: {path}: books of different specs")]
+    OtherSpec {
+        path: &'a str,
+    },
+    /// The book's spec has more ranks than a report may have.
+    #[error("isofarm: {path}: too many ranks")]
+    TooManyRanks {
+        path: &'a str,
+    },
+    /// The least rank that has not exactly one value has none.
+    #[error("isofarm: {path}: missing rank {rank}")]
+    Missing {
+        path: &'a str,
+        rank: u64,
+    },
+    /// The least rank that has not exactly one value has more than one.
+    #[error("isofarm: {path}: clash at rank {rank}")]
+    Clash {
+        path: &'a str,
+        rank: u64,
+    },
     /// Memory ran out, anywhere.
     #[error("isofarm: no memory")]
     NoMemory,
@@ -55,16 +92,22 @@ pub enum ProgramFault<'a> {
 }
 
 impl ProgramFault<'_> {
-    /// The exit status: 3 for what is refused, 4 for want of memory, 5 for a read or write fault.
+    /// The exit status: 1 for a rank without exactly one value, 3 for what is refused, 4 for want of memory, 5 for a read or write fault.
     pub fn status(&self) -> u8
         ensures { result ≡ status_of self.now }
     {
         match self {
+            ProgramFault::Missing { .. } | ProgramFault::Clash { .. } => 1,
             ProgramFault::Spec { .. }
             | ProgramFault::Sql { .. }
             | ProgramFault::Bind { .. }
             | ProgramFault::Start { .. }
-            | ProgramFault::RankOutOfRange { .. } => 3,
+            | ProgramFault::RankOutOfRange { .. }
+            | ProgramFault::Shard { .. }
+            | ProgramFault::Book { .. }
+            | ProgramFault::BookTooLarge
+            | ProgramFault::OtherSpec { .. }
+            | ProgramFault::TooManyRanks { .. } => 3,
             ProgramFault::NoMemory => 4,
             ProgramFault::Read { .. } | ProgramFault::Write => 5,
         }

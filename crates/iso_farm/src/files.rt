@@ -1,6 +1,6 @@
 //! Where the program reads from.
 
-ghost use Rattle.std.specs.Prelude.{◌≤◌, IfOk, vec_len};
+ghost use Rattle.std.specs.Prelude.{◌≡◌, ◌≤◌, ℕ, List, Option, Some, None, IfOk, IfSome, take, vec_len};
 
 use crate::fault::ProgramFault;
 use spec_reader::MAX_BYTES;
@@ -15,8 +15,12 @@ pub const MAX_SPEC_READ: usize = MAX_BYTES + 1;
 pub trait Opener {
     type Reader: Read + Drop;
 
+    // The bytes of the file at each path, where they are known.
+    ghost bytes: { Self → List ℕ → Option (List ℕ) } = { λ _ _. None };
+
     /// A reader of the file at this path, none where it can't be opened.
-    fn open(&self, path: &str) -> Option<Self::Reader>;
+    fn open(&self, path: &str) -> Option<Self::Reader>
+        ensures { IfSome result (λ reader. IfSome (bytes self.now path.now) (λ known. Self.Reader.remaining reader ≡ Some known)) };
 }
 
 /// The bytes of a spec file, as far as its reader looks at them.
@@ -25,7 +29,8 @@ pub(crate) fn read_spec_file<'a, O: Opener>(
     opener: &O,
     path: &'a str,
 ) -> Result<Vec<u8>, ProgramFault<'a>>
-    ensures { IfOk result (λ bytes. vec_len bytes ≤ MAX_SPEC_READ) }
+    ensures short { IfOk result (λ bytes. vec_len bytes ≤ MAX_SPEC_READ) }
+    ensures read { IfOk result (λ bytes. IfSome (O.bytes opener.now path.now) (λ known. bytes.items ≡ take MAX_SPEC_READ known)) }
 {
     let Some(reader) = opener.open(path) else {
         return Err(ProgramFault::Read { path });

@@ -2,11 +2,26 @@
 #![tactic(auto)]
 
 mod commands;
+mod counting;
 mod fault;
+mod faults;
 mod files;
+mod joining;
+mod laws;
+mod ranges;
+mod reporting;
 mod single;
+mod spec;
+mod words;
 
-pub use commands::{fault_at, run, tell_words_fault};
+pub use commands::{run, tell_words_fault};
+pub use counting::{CountFault, count};
 pub use fault::ProgramFault;
+pub use faults::fault_at;
 pub use files::{MAX_SPEC_READ, Opener};
+pub use joining::{FileFault, JoinFault, join_files};
+pub use laws::reports_are_the_machines;
+pub use ranges::{MAX_RANGE, RangeFault, book_of_range, run_range};
+pub use reporting::{ReportFault, ReportFileFault, report_file, write_report};
 pub use single::{OneFault, one, one_of};
+pub use spec::{SpecFault, spec_of};

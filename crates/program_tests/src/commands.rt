@@ -1,6 +1,6 @@
 //! The words of the command line: what each writes, and with which status.
 use crate::disks::{Disk, assert_tells, assert_text, holding, tell, told_by, words_of};
-use iso_farm::{run, tell_words_fault};
+use iso_farm::{Opener, run, tell_words_fault};
 use std::alloc::{AllocError, Global};
 use std::io::{self, Write};
 use std::process::Abort;
@@ -14,7 +14,7 @@ session b step b1 { SELECT v FROM t WHERE id = 3; }";
 
 // Takes nothing.
 #[derive(Drop)]
-struct BrokenPipe;
+pub struct BrokenPipe;
 
 impl Write for BrokenPipe {
     fn write(&mut self, _buf: &[u8]) -> io::Result<usize> {
@@ -28,7 +28,7 @@ impl Write for BrokenPipe {
 
 // Takes everything, and has no room for it when it is flushed.
 #[derive(Drop)]
-struct FullDevice;
+pub struct FullDevice;
 
 impl Write for FullDevice {
     fn write(&mut self, buf: &[u8]) -> io::Result<usize> {
@@ -177,22 +177,17 @@ fn a_file_that_is_not_read_is_a_read_fault(rt: HostRuntime) -> Result<(), Fail> 
     Ok(())
 }
 
-fn assert_write_fault<W: Write + Drop>(
+pub fn assert_write_fault<O: Opener, W: Write + Drop>(
     rt: &impl Abort,
     alloc: Global,
     line: &str,
+    disk: &O,
     out: W,
 ) -> Result<(), AllocError> {
     let words = words_of(alloc, line)?;
     let mut out = Counted::new(out);
     let mut err = Counted::new(Vec::new(alloc));
-    let status = run(
-        alloc,
-        &words,
-        &holding(FIRST.as_bytes()),
-        &mut out,
-        &mut err,
-    );
+    let status = run(alloc, &words, disk, &mut out, &mut err);
     assert_text(rt, &err.into_inner(), "isofarm: write fault\n", line);
     assert!(rt; status == 5, "{line}");
     Ok(())
@@ -200,6 +195,7 @@ fn assert_write_fault<W: Write + Drop>(
 
 #[test]
 fn an_output_that_fails_is_a_write_fault(rt: HostRuntime) -> Result<(), Fail> {
+    let disk = holding(FIRST.as_bytes());
     for line in [
         "isofarm one first.spec 0",
         "isofarm --help",
@@ -207,14 +203,14 @@ fn an_output_that_fails_is_a_write_fault(rt: HostRuntime) -> Result<(), Fail> {
         "isofarm one --help",
         "isofarm --version",
     ] {
-        assert_write_fault(&rt, rt.alloc(), line, BrokenPipe)?;
-        assert_write_fault(&rt, rt.alloc(), line, FullDevice)?;
+        assert_write_fault(&rt, rt.alloc(), line, &disk, BrokenPipe)?;
+        assert_write_fault(&rt, rt.alloc(), line, &disk, FullDevice)?;
     }
     Ok(())
 }
 
 /// The words that a line has are no command, and that is told.
-fn assert_no_command(rt: &impl Abort, alloc: Global, line: &str) -> Result<(), AllocError> {
+pub fn assert_no_command(rt: &impl Abort, alloc: Global, line: &str) -> Result<(), AllocError> {
     let told = tell(alloc, line, &holding(FIRST.as_bytes()))?;
     assert!(rt; told.status == 2, "{line}");
     assert!(rt; told.out.is_empty(), "{line}");

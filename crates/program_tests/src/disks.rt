@@ -77,7 +77,7 @@ pub struct Told {
 }
 
 /// What the words tell over a disk.
-pub fn told_by(alloc: Global, words: &[String], disk: &Disk<'_>) -> Told {
+pub fn told_by<O: Opener>(alloc: Global, words: &[String], disk: &O) -> Told {
     let mut out = Counted::new(Vec::new(alloc));
     let mut err = Counted::new(Vec::new(alloc));
     let status = run(alloc, words, disk, &mut out, &mut err);

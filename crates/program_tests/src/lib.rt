@@ -5,6 +5,8 @@
 #![tactic(auto)]
 
 #[cfg(test)]
+mod book_commands;
+#[cfg(test)]
 mod books;
 #[cfg(test)]
 mod commands;
@@ -13,6 +15,8 @@ mod disks;
 #[cfg(test)]
 mod memory;
 #[cfg(test)]
+mod read_books;
+#[cfg(test)]
 mod runs;
 #[cfg(test)]
 mod statements;
@@ -20,3 +24,5 @@ mod statements;
 mod walks;
 #[cfg(test)]
 mod worlds;
+#[cfg(test)]
+mod written_books;

@@ -75,7 +75,7 @@ fn told_of(alloc: Global, run: &Run<'_>) -> Option<Told> {
 }
 
 /// A run that memory is refused to ends with 4, and has written a front of what it tells.
-fn assert_front(rt: &impl Abort, told: &Told, want: &str, name: &str) {
+pub fn assert_front(rt: &impl Abort, told: &Told, want: &str, name: &str) {
     match told.status {
         0 => assert!(rt;
             told.out.as_slice() == want.as_bytes() && told.err.is_empty(),

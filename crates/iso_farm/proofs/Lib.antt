@@ -1,0 +1,4 @@
+pub mod FileLemmas
+pub mod RangeLemmas
+pub mod ReportLemmas
+pub mod JoinLemmas

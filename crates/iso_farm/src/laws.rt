@@ -1,0 +1,12 @@
+//! The laws of what is run, joined and reported, each the contract of a function that does nothing.
+
+ghost use Rattle.iso_farm.specs.Laws.{RangesAreTrue, JoinsStayTrue, ReportsAreTheMachines, CoveringReports};
+
+/// Whatever ranges are run, whichever way they cover or overlap each other, and however their books are joined: what is reported is
+/// what the sequential machine tells, rank by rank, and nothing is missing where each rank has a fact.
+pub fn reports_are_the_machines()
+    ensures ranges { RangesAreTrue }
+    ensures joins { JoinsStayTrue }
+    ensures reports { ReportsAreTheMachines }
+    ensures covering { CoveringReports }
+{}

@@ -1,0 +1,128 @@
+//! The book of a range of ranks, from the bytes of a spec to the text of the book.
+
+ghost use Rattle.std.specs.Prelude.{◌≡◌, ◌<◌, ◌≤◌, IfErr, IfOk, OnOk, MatchOption};
+ghost use Rattle.machine_model.specs.Start.{start};
+ghost use Rattle.session_machine.specs.Running.{IsNotRunBy};
+ghost use Rattle.step_reducer.specs.Walking.{IsShardOf, Starts};
+ghost use Rattle.outcome_books.specs.Building.{AreFactsOf};
+ghost use Rattle.transcripts.specs.Counted.{failures_of};
+ghost use Rattle.iso_farm.specs.Ranges.{IsRangeOf, IsOutsideRange, IsNoRange, IsRangeRun, IsPartOf};
+
+use crate::spec::{SpecFault, spec_of};
+use book_files::{WriteError, write_book};
+use outcome_books::{Book, join};
+use session_machine::RunError;
+use sql_subset::Spec;
+use std::alloc::Global;
+use std::io::Write;
+use step_reducer::{MAX_RANKS, Shard};
+use transcripts::Counted;
+
+/// The ranks of a range, at most: as many shards of 1,000 ranks as a plan may have.
+pub const MAX_RANGE: u64 = 4_096_000;
+
+/// Why the book of a range was not written. Each is tried before those below it, but for want of memory.
+#[derive(Clone, Copy, Debug, PartialEq, Eq)]
+pub enum RangeFault {
+    /// The bytes are no spec file.
+    Spec(SpecFault),
+    /// The range is none of the spec, or too long, or the spec does not start, or memory ran out.
+    Run(RunError),
+    /// The book was not written.
+    Write(WriteError),
+}
+
+/// Reads a spec, and writes the book of the ranks from the first up to but not the end.
+pub fn run_range<W: Write>(
+    alloc: Global,
+    bytes: &[u8],
+    first: u64,
+    end: u64,
+    reduce: bool,
+    out: &mut Counted<W>,
+) -> Result<(), RangeFault>
+    requires { failures_of out.old < u64.MAX }
+    ensures { IsRangeRun W.contents out.old out.new bytes.now first end reduce result }
+{
+    let spec = match spec_of(alloc, bytes) {
+        Ok(spec) => spec,
+        Err(fault) => return Err(RangeFault::Spec(fault)),
+    };
+    let book = match book_of_range(alloc, &spec, first, end, reduce) {
+        Ok(book) => book,
+        Err(error) => return Err(RangeFault::Run(error)),
+    };
+    match write_book(alloc, &book, out) {
+        Ok(()) => Ok(()),
+        Err(error) => Err(RangeFault::Write(error)),
+    }
+}
+
+/// The facts of the ranks from the first up to but not the end: when reducing the least swap where the rank has one, and else the outcome.
+pub fn book_of_range(
+    alloc: Global,
+    spec: &Spec,
+    first: u64,
+    end: u64,
+    reduce: bool,
+) -> Result<Book, RunError>
+    ensures refused { IfErr result (IsNoRange spec.now.run first end) }
+    ensures lawful { OnOk result (IsRangeOf spec.now.run first end) }
+    ensures started { OnOk result (Starts spec.now.run) }
+    ensures of_spec { IfOk result (λ book. book.file ≡ spec.now) }
+    ensures facts { IfOk result (λ book. AreFactsOf reduce spec.now.run first end book.facts) }
+{
+    if let Some(error) = outside(spec, first, end) {
+        return Err(error);
+    }
+    let mut at = part_end(first, end);
+    let mut book = part(alloc, spec, first, at, reduce)?;
+    while at < end {
+        let next = part_end(at, end);
+        let more = part(alloc, spec, at, next, reduce)?;
+        book = match join(&book, &more) {
+            Ok(book) => book,
+            Err(_) => return Err(RunError::NoMemory),
+        };
+        at = next;
+    }
+    Ok(book)
+}
+
+/// Why this is no range of the spec.
+fn outside(spec: &Spec, first: u64, end: u64) -> Option<RunError>
+    ensures { MatchOption result (IsRangeOf spec.now.run first end) (IsOutsideRange spec.now.run first end) }
+{
+    if first > end {
+        return Some(RunError::OutOfRange);
+    }
+    if end > spec.ranks() {
+        return Some(RunError::OutOfRange);
+    }
+    if end - first > MAX_RANGE {
+        return Some(RunError::TooLong);
+    }
+    None
+}
+
+/// The end of the longest shard from here.
+fn part_end(at: u64, end: u64) -> u64
+    requires { at ≤ end }
+    ensures { IsPartOf at end result }
+{
+    if end - at > MAX_RANKS {
+        return at + MAX_RANKS;
+    }
+    end
+}
+
+/// The book of one shard.
+fn part(alloc: Global, spec: &Spec, first: u64, end: u64, reduce: bool) -> Result<Book, RunError>
+    requires { IsShardOf spec.now.run (record { first = first; end = end }) }
+    ensures refused { IfErr result (λ error. IsNotRunBy error (start spec.now.run)) }
+    ensures started { OnOk result (Starts spec.now.run) }
+    ensures of_spec { IfOk result (λ book. book.file ≡ spec.now) }
+    ensures facts { IfOk result (λ book. AreFactsOf reduce spec.now.run first end book.facts) }
+{
+    Book::of_shard(alloc, spec, Shard { first, end }, reduce)
+}

@@ -1,0 +1,192 @@
+//! What the words of a command line ask for.
+
+use clap::error::ErrorKind;
+use clap::{Arg, ArgAction, ArgMatches, Command, Error, value_parser};
+use std::alloc::{AllocError, Global};
+
+/// The version of the program. From which commit and with which kit it was built is known to what builds it alone.
+const VERSION: &str = "0.1.0";
+
+/// The books of a join, at most.
+const MAX_BOOKS: usize = 1_000;
+
+/// What the words ask for.
+#[derive(Drop)]
+pub(crate) enum Asked<'a> {
+    /// One permutation of the spec at a path.
+    One {
+        path: &'a str,
+        rank: u64,
+    },
+    /// The number of permutations of the spec at a path.
+    Count {
+        path: &'a str,
+    },
+    /// The book of the ranks from the first up to but not the end.
+    Run {
+        path: &'a str,
+        first: u64,
+        end: u64,
+        every: bool,
+    },
+    /// The join of the books at some paths.
+    Join {
+        paths: Vec<&'a str>,
+    },
+    /// The report of the book at a path.
+    Report {
+        path: &'a str,
+    },
+}
+
+/// What the words ask for, the first of which is the program's name.
+pub(crate) fn parse_words<'a>(alloc: Global, words: &'a [String]) -> Result<Asked<'a>, Error> {
+    let matches = command(alloc)?.try_get_matches_from(words)?;
+    match asked_of(alloc, &matches)? {
+        Some(asked) => Ok(asked),
+        None => Err(no_command(alloc)?),
+    }
+}
+
+/// The fault of words that ask for nothing.
+fn no_command(alloc: Global) -> Result<Error, AllocError> {
+    command(alloc)?.error(ErrorKind::MissingSubcommand, "no command")
+}
+
+/// The commands and their words.
+fn command<'a>(alloc: Global) -> Result<Command<'a>, AllocError> {
+    Command::new(alloc, "isofarm")
+        .about("Runs the steps of SQL sessions in their orders, under two-phase locking")
+        .version(VERSION)
+        .subcommand_required(true)
+        .subcommand(one_command(alloc)?)?
+        .subcommand(count_command(alloc)?)?
+        .subcommand(run_command(alloc)?)?
+        .subcommand(join_command(alloc)?)?
+        .subcommand(report_command(alloc)?)
+}
+
+fn one_command<'a>(alloc: Global) -> Result<Command<'a>, AllocError> {
+    Command::new(alloc, "one")
+        .about("Runs one permutation and prints what each session saw")
+        .arg(spec_word(alloc))?
+        .arg(number_word(alloc, "RANK", "The number of a permutation, from 0"))
+}
+
+fn count_command<'a>(alloc: Global) -> Result<Command<'a>, AllocError> {
+    Command::new(alloc, "count")
+        .about("Prints how many permutations a spec has")
+        .arg(spec_word(alloc))
+}
+
+fn run_command<'a>(alloc: Global) -> Result<Command<'a>, AllocError> {
+    let every = Arg::new(alloc, "every")
+        .long("every")
+        .action(ArgAction::SetTrue)
+        .help("Runs every permutation, and skips none that a smaller one covers");
+    Command::new(alloc, "run")
+        .about("Runs a range of permutations and prints the book of what they show")
+        .arg(spec_word(alloc))?
+        .arg(number_word(alloc, "FIRST", "The number of the first permutation"))?
+        .arg(number_word(
+            alloc,
+            "END",
+            "The number behind that of the last permutation",
+        ))?
+        .arg(every)
+}
+
+fn join_command<'a>(alloc: Global) -> Result<Command<'a>, AllocError> {
+    let books = Arg::new(alloc, "BOOK")
+        .required(true)
+        .action(ArgAction::Append)
+        .num_args(1..=MAX_BOOKS)
+        .help("Book files of one spec");
+    Command::new(alloc, "join")
+        .about("Prints one book with the facts of all")
+        .arg(books)
+}
+
+fn report_command<'a>(alloc: Global) -> Result<Command<'a>, AllocError> {
+    let book = Arg::new(alloc, "BOOK")
+        .required(true)
+        .action(ArgAction::Set)
+        .help("A book file");
+    Command::new(alloc, "report")
+        .about("Prints what each session saw in each permutation")
+        .arg(book)
+}
+
+fn spec_word<'a>(alloc: Global) -> Arg<'a> {
+    Arg::new(alloc, "SPEC")
+        .required(true)
+        .action(ArgAction::Set)
+        .help("A spec file")
+}
+
+fn number_word<'a>(alloc: Global, name: &'a str, help: &'a str) -> Arg<'a> {
+    Arg::new(alloc, name)
+        .required(true)
+        .action(ArgAction::Set)
+        .value_parser(value_parser!(u64))
+        .help(help)
+}
+
+fn asked_of<'a>(alloc: Global, matches: &ArgMatches<'a>) -> Result<Option<Asked<'a>>, AllocError> {
+    if let Some(words) = matches.subcommand_matches("one") {
+        return Ok(one_of_words(words));
+    }
+    if let Some(words) = matches.subcommand_matches("count") {
+        return Ok(count_of_words(words));
+    }
+    if let Some(words) = matches.subcommand_matches("run") {
+        return Ok(run_of_words(words));
+    }
+    if let Some(words) = matches.subcommand_matches("join") {
+        return join_of_words(alloc, words);
+    }
+    match matches.subcommand_matches("report") {
+        Some(words) => Ok(report_of_words(words)),
+        None => Ok(None),
+    }
+}
+
+fn one_of_words<'a>(words: &ArgMatches<'a>) -> Option<Asked<'a>> {
+    let path = words.get_str("SPEC")?;
+    let rank = words.get_one::<u64>("RANK")?;
+    Some(Asked::One { path, rank })
+}
+
+fn count_of_words<'a>(words: &ArgMatches<'a>) -> Option<Asked<'a>> {
+    let path = words.get_str("SPEC")?;
+    Some(Asked::Count { path })
+}
+
+fn run_of_words<'a>(words: &ArgMatches<'a>) -> Option<Asked<'a>> {
+    let path = words.get_str("SPEC")?;
+    let first = words.get_one::<u64>("FIRST")?;
+    let end = words.get_one::<u64>("END")?;
+    Some(Asked::Run {
+        path,
+        first,
+        end,
+        every: words.get_flag("every"),
+    })
+}
+
+fn join_of_words<'a>(
+    alloc: Global,
+    words: &ArgMatches<'a>,
+) -> Result<Option<Asked<'a>>, AllocError> {
+    match words.get_strs("BOOK") {
+        Some(paths) => Ok(Some(Asked::Join {
+            paths: Vec::from_slice(alloc, paths)?,
+        })),
+        None => Ok(None),
+    }
+}
+
+fn report_of_words<'a>(words: &ArgMatches<'a>) -> Option<Asked<'a>> {
+    let path = words.get_str("BOOK")?;
+    Some(Asked::Report { path })
+}
