@@ -4,6 +4,7 @@ usage: python3 crosscheck/compare.py KIND FIRST_SEED SEEDS
 """
 
 import os
+import re
 import subprocess
 import sys
 from collections import Counter
@@ -62,6 +63,11 @@ def kind_of(out):
     return ["an outcome"] + [word for word in WORDS if word.encode() in out]
 
 
+def fault_of(error):
+    """What a fault line tells, without the place."""
+    return re.split(r" at \d|(?<=rank) \d", error.decode().rsplit(": ", 1)[1])[0].strip()
+
+
 def difference(want, got):
     """Two answers, their outputs from the first line on that differs."""
     outs = [out.split(b"\n") for _status, out, _error in (want, got)]
@@ -85,7 +91,7 @@ def compare(program, runs_of, kind_of_output, kind, first, seeds):
                 got = told(program, words, folder, {})
                 number += 1
                 status, out, error = want
-                counts.update([error.decode().rsplit(": ", 1)[1].split(" at ")[0].strip()] if status else kind_of_output(out))
+                counts.update([fault_of(error)] if status else kind_of_output(out))
                 if want != got:
                     differences += 1
                     print(f"seed {seed}, {' '.join(words)}: {difference(want, got)}")

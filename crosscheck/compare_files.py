@@ -1,0 +1,297 @@
+"""Compares what the program's commands tell of files with what this second implementation tells, on specs made from seeds.
+
+usage: python3 crosscheck/compare_files.py KIND FIRST_SEED SEEDS
+
+`count` and `run` are given each spec, `join` and `report` books of its ranks: in both formats and any spelling, with facts that are
+not true, of different specs, damaged as `damage.py` does, and files that are not there.
+"""
+
+import json
+import sys
+from functools import lru_cache, partial
+from pathlib import Path
+from random import Random
+from tempfile import TemporaryDirectory
+
+from binding import bind
+from book_file import NoBook, read_book, text_in_format_1
+from books import book_text, compact, facts_of, leads_to, report, report_text
+from compare import PROGRAM, WORDS, compare, ended, usage
+from compare_books import MOST_RANKS, cut
+from damage import DAMAGES, spelled
+from facts import Worlds
+from generate import KINDS
+from refusal import Refusal
+from spec_file import read_spec
+from worked import EMPTY_BOOK, LARGE
+
+MOST_A_RUN = 4_096_000
+RANKS_OF_LARGE = 40
+RANKS_OF_DAMAGED = 12
+DAMAGED_A_SPEC = 12
+MOST_BOOKS = 1000
+U64 = 2**64
+
+
+# ---- what the commands tell
+
+
+class Fault(Exception):
+    """Why a command writes nothing. Its arguments are the answer."""
+
+
+def fault(status, path, text):
+    return Fault(status, b"", f"isofarm: {path}: {text}\n".encode())
+
+
+def answer(command, *asked):
+    """The exit status, and what stands on the two outputs."""
+    try:
+        return 0, command(*asked), b""
+    except Fault as told:
+        return told.args
+
+
+def understood(function, text, path):
+    """What a function makes of the text of a spec file."""
+    try:
+        return function(text)
+    except Refusal as refusal:
+        raise Fault(3, b"", refusal.line(path)) from None
+
+
+def spec_of(text):
+    return bind(read_spec(text))
+
+
+@lru_cache(maxsize=2)
+def worlds_of(text):
+    return Worlds(spec_of(text))
+
+
+def count(text, path):
+    return b"%d\n" % understood(spec_of, text, path).ranks()
+
+
+def run(text, path, first, end, how):
+    number = understood(spec_of, text, path).ranks()
+    if not first <= end <= number:
+        raise fault(3, path, "shard error 1")
+    if end - first > MOST_A_RUN:
+        raise fault(3, path, "shard error 2")
+    return book_text(text, facts_of(understood(worlds_of, text, path), first, end, how == "reduce")).encode()
+
+
+def book_at(path):
+    try:
+        return read_book(Path(path).read_bytes())
+    except OSError:
+        raise fault(5, path, "read fault") from None
+    except NoBook as refusal:
+        raise fault(3, path, f"book error {int(refusal.kind)}") from None
+
+
+def join(*paths):
+    text, facts = book_at(paths[0])
+    for path in paths[1:]:
+        other, more = book_at(path)
+        if other != text:
+            raise fault(3, path, "books of different specs")
+        facts = facts | more
+    return book_text(text, facts).encode()
+
+
+def report_of(path):
+    text, facts = book_at(path)
+    told = report(spec_of(text), facts)
+    if isinstance(told, str):
+        raise fault(3 if told == "too many ranks" else 1, path, told)
+    return report_text(spec_of(text), facts)
+
+
+# ---- what they are given
+
+
+def joining(*paths):
+    return ["join", *paths], answer(join, *paths)
+
+
+def reporting(path):
+    return ["report", path], answer(report_of, path)
+
+
+def running(random, text, path, first, end, how):
+    words = ["run", path, str(first), str(end)]
+    if how == "every":
+        words.insert(random.randint(1, len(words)), "--every")
+    return words, answer(run, text, path, first, end, how)
+
+
+def no_ranges(random, number):
+    """Ranges that a spec with so many ranks does not have, or that are too long."""
+    first, most = random.randint(0, number), U64 - 1
+    ranges = [(first, number + 1), (number + 1, number + 1), (first + 1, first), (0, most), (most, 0), (most, most)]
+    if number > MOST_A_RUN:
+        ranges += [(0, MOST_A_RUN + 1), (number - MOST_A_RUN - 1, number), (0, number), (0, number + 1), (MOST_A_RUN + 1, 0)]
+    return random.sample(ranges, 2)
+
+
+def shards_of(random, number, most):
+    """Shards that cover all ranks, or some neighbouring ones where they are many; and up to two more, which may be empty."""
+    few = min(number, most)
+    base = random.choice([0, number - few, random.randint(0, number - few)])
+    empty = random.randint(0, few)
+    shards = cut(random, few) + random.sample([*cut(random, few), (empty, empty, "reduce")], random.randrange(3))
+    return [(base + first, base + end, how) for first, end, how in shards]
+
+
+def any_event(random, spec, session):
+    """An event that a transcript of the session may have by its form."""
+    step = random.choice([step for step, (owner, _statements) in enumerate(spec.steps) if owner == session])
+    values = [0, -1, 2**63 - 1, -(2**63), "", "it's", "a|b\n", '"\\/\t\x01\x7f', "é\u2028\U0001f600"]
+    row = random.sample(values, random.randrange(4))
+    counts = [[word, random.choice([0, 1, U64 - 1])] for word in ("rows", "inserted", "updated", "deleted")]
+    plain = ["began", "committed", "rolledback", "locked", "set", "waiting", "resumed", "done"]
+    numbered = [["warned", random.randint(1, 2)], ["failed", random.randint(1, 4)], ["sent", step], ["notsent", step]]
+    return random.choice([*plain, *counts, *numbered, ["row", row], ["row", row]])
+
+
+def any_outcome(random, spec):
+    sessions = range(len(spec.session_names))
+    return [[any_event(random, spec, session) for _ in range(random.randrange(5))] for session in sessions]
+
+
+def false_fact(random, spec, outcomes):
+    """A fact that a reader takes, of a rank at the front or anywhere: an outcome of any rank or of none, or a swap of any steps."""
+    rank = random.choice([0, min(1, spec.ranks() - 1), random.randrange(spec.ranks())])
+    places = [place for place in range(len(spec.steps)) if leads_to(spec, rank, place) is not None]
+    if places and random.random() < 0.5:
+        return rank, "swap", random.choice(places)
+    if outcomes and random.random() < 0.5:
+        return rank, "ran", random.choice(outcomes)
+    return rank, "ran", compact(any_outcome(random, spec)).encode()
+
+
+def some_of(random, facts, most):
+    """Facts of a few ranks, which are neighbours or not."""
+    ranks = sorted({rank for rank, _word, _value in facts})
+    few = min(len(ranks), random.randint(0, most))
+    first = random.randint(0, len(ranks) - few)
+    some = random.choice([ranks[first : first + few], random.sample(ranks, few)])
+    return {fact for fact in facts if fact[0] in some}
+
+
+def file_text(random, text, facts):
+    """A file of a book: in one of the formats, as it is written or in another spelling."""
+    written = random.choice([book_text, book_text, text_in_format_1])(text, facts).encode()
+    return spelled(random, json.loads(written)) if random.random() < 0.3 else written
+
+
+def put(folder, name, text):
+    """The path of a new file."""
+    path = folder / f"{name}.book"
+    path.write_bytes(text)
+    return str(path)
+
+
+def of_books(random, folder, text, parts):
+    """Books of shards joined in any order, some of them often, and what is told of each and of all."""
+    paths = [put(folder, f"part{number}", file_text(random, text, facts)) for number, facts in enumerate(parts)]
+    yield joining(random.choice(paths))
+    often = paths + random.choices(paths, k=random.randrange(3))
+    yield joining(*random.sample(often, len(often)))
+    whole = put(folder, "whole", file_text(random, text, set().union(*parts)))
+    yield joining(whole, *random.sample(paths, random.randint(0, len(paths))))
+    yield from (reporting(path) for path in (whole, random.choice(paths)))
+
+
+def of_false_books(random, folder, text, facts):
+    """Books with facts that are not true, beside those that are or alone."""
+    outcomes = sorted({value for _rank, word, value in facts if word == "ran"})
+    others = {false_fact(random, spec_of(text), outcomes) for _ in range(random.randrange(4))}
+    false = put(folder, "false", file_text(random, text, random.choice([facts | others, others])))
+    true = put(folder, "true", file_text(random, text, facts))
+    yield reporting(false)
+    yield joining(*random.sample([false, true], random.randint(1, 2)))
+
+
+def of_many_books(random, folder, text, facts):
+    paths = [put(folder, f"few{number}", file_text(random, text, some_of(random, facts, 2))) for number in range(3)]
+    yield joining(*random.choices(paths, k=MOST_BOOKS))
+
+
+def of_other_books(random, folder, text, facts):
+    """Books of up to three specs, beside what is no file: the first fault is told."""
+    book = put(folder, "book", file_text(random, text, facts))
+    other = put(folder, "other", file_text(random, text + b"\n", facts))
+    no_files = [str(folder / "nothing"), str(folder)]
+    others = [book, other, put(folder, "empty", EMPTY_BOOK.encode()), *no_files]
+    yield joining(book, *random.choices(others, k=random.randint(1, 4)))
+    yield joining(*random.choices(others, k=2))
+    yield reporting(random.choice(no_files))
+
+
+def of_damaged_books(random, folder, text, facts):
+    for damage in random.sample(DAMAGES, DAMAGED_A_SPEC):
+        few = some_of(random, facts, RANKS_OF_DAMAGED)
+        written = random.choice([book_text, book_text, text_in_format_1])(text, few)
+        damaged = put(folder, damage.__name__, damage(random, json.loads(written)))
+        good = put(folder, "good", file_text(random, text, few))
+        paths = random.choice([[damaged], [damaged], [damaged, good], [good, damaged, good]])
+        yield reporting(damaged) if random.random() < 0.4 else joining(*paths)
+
+
+def of_spec(random, folder, text, path, most):
+    """Runs of all commands on a spec: some of its ranks, and books of them."""
+    yield ["count", path], answer(count, text, path)
+    try:
+        spec = spec_of(text)
+    except Refusal:
+        yield running(random, text, path, *random.choice([(0, 1), (1, 0)]), "reduce")
+        return
+    shards = shards_of(random, spec.ranks(), most)
+    yield from (running(random, text, path, *shard) for shard in shards)
+    refused = [(*ends, random.choice(["reduce", "every"])) for ends in no_ranges(random, spec.ranks())]
+    yield from (running(random, text, path, *shard) for shard in refused)
+    try:
+        parts = [facts_of(worlds_of(text), first, end, how == "reduce") for first, end, how in shards]
+    except Refusal:
+        parts = [set()]
+    facts = set().union(*parts)
+    yield from of_books(random, folder, text, parts)
+    yield from of_false_books(random, folder, text, facts)
+    yield from of_other_books(random, folder, text, some_of(random, facts, RANKS_OF_DAMAGED))
+    if random.random() < 0.03:
+        yield from of_many_books(random, folder, text, facts)
+    if most != RANKS_OF_LARGE:
+        yield from of_damaged_books(random, folder, text, facts)
+
+
+def runs(folder, text, seed, path):
+    random = Random(seed)
+    yield from of_spec(random, folder, text, path, MOST_RANKS)
+    if random.random() < 0.1:
+        large = folder / "large.spec"
+        large.write_text(LARGE)
+        yield from of_spec(random, folder, LARGE.encode(), str(large), RANKS_OF_LARGE)
+
+
+def kind_of(out):
+    """What is told, in words to be counted."""
+    if out.startswith(b"rank "):
+        return ["a report"] + [f"a report: {word}" for word in WORDS if word.encode() in out]
+    if not out.startswith(b"{"):
+        return ["a number of ranks"]
+    facts = out.split(b',"format":2')[0]
+    return ["a book"] + [f"a book: {word}" for word in ("ran", "swap") if f',"{word}",'.encode() in facts]
+
+
+def main(*start):
+    with TemporaryDirectory() as folder:
+        return compare(PROGRAM, partial(runs, Path(folder)), kind_of, *start)
+
+
+if __name__ == "__main__":
+    if len(sys.argv) != 4 or sys.argv[1] not in KINDS:
+        usage(__doc__)
+    sys.exit(ended(main, sys.argv[1], int(sys.argv[2]), int(sys.argv[3])))
