@@ -1,8 +1,8 @@
 //! Prints what joined books of ranges of ranks tell, for a second implementation that it is compared with.
 
-use crate::facts::{number, refuse, spec_of};
+use crate::facts::{number, refuse};
 use crate::walks::text_of;
-use iso_farm::OneFault;
+use iso_farm::{OneFault, spec_of};
 use outcome_books::{Book, Boxed, Job, Report, ReportError, make, missing, report};
 use session_machine::RunError;
 use sql_subset::Spec;
@@ -80,7 +80,7 @@ pub fn print_books(rt: &HostRuntime, path: &str, words: &[String]) -> io::Result
     let text = text_of(rt, path)?;
     let spec = match spec_of(rt.alloc(), &text) {
         Ok(spec) => spec,
-        Err(fault) => return refuse(rt, path, fault),
+        Err(fault) => return refuse(rt, path, OneFault::Spec(fault)),
     };
     match book_of(rt.alloc(), &spec, &job) {
         Ok(book) => print_book(rt, &book)?,

@@ -1,11 +1,9 @@
 //! Prints the facts of a range of ranks, one a line, for a second implementation that they are compared with.
 
 use crate::walks::text_of;
-use iso_farm::{OneFault, fault_at};
+use iso_farm::{OneFault, fault_at, spec_of};
 use session_machine::RunError;
-use spec_reader::read_spec;
-use sql_subset::{Spec, bind};
-use std::alloc::Global;
+use sql_subset::Spec;
 use std::io;
 use std::process::ExitCode;
 use step_reducer::{Fact, Shard, Walker};
@@ -13,11 +11,6 @@ use transcripts::outcome_value;
 
 /// The status of what is refused.
 const REFUSED: u8 = 3;
-
-pub(crate) fn spec_of(alloc: Global, text: &[u8]) -> Result<Spec, OneFault> {
-    let tree = read_spec(alloc, text).map_err(OneFault::Spec)?;
-    bind(alloc, &tree).map_err(OneFault::Bind)
-}
 
 pub(crate) fn number(word: &str) -> io::Result<u64> {
     match word.parse::<u64>() {
@@ -110,6 +103,6 @@ pub fn print_facts(
     let text = text_of(rt, path)?;
     match spec_of(rt.alloc(), &text) {
         Ok(spec) => print_shard(rt, path, &spec, shard, how),
-        Err(fault) => refuse(rt, path, fault),
+        Err(fault) => refuse(rt, path, OneFault::Spec(fault)),
     }
 }

@@ -1,7 +1,6 @@
 //! How fast a walker gives the facts of the ranks of a spec.
 
-use spec_reader::read_spec;
-use sql_subset::{Spec, bind};
+use sql_subset::Spec;
 use std::alloc::Global;
 use std::fs::File;
 use std::io::{self, Read};
@@ -14,10 +13,7 @@ pub(crate) fn refused() -> io::Error {
 }
 
 pub(crate) fn spec_of(alloc: Global, text: &[u8]) -> io::Result<Spec> {
-    let Ok(tree) = read_spec(alloc, text) else {
-        return Err(refused());
-    };
-    match bind(alloc, &tree) {
+    match iso_farm::spec_of(alloc, text) {
         Ok(spec) => Ok(spec),
         Err(_) => Err(refused()),
     }
