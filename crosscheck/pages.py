@@ -1,0 +1,116 @@
+"""Runs the commands that the pages show, and compares what they print with what stands below them.
+
+usage: python3 crosscheck/pages.py [PAGE..]
+
+A command is a line of a code block behind `$ `, and what it prints stands on the lines up to the next one. In a block that shows
+nothing but commands each of them has to end well. A block whose first line is `# NAME.spec: ..` is that file, for the blocks below
+it. A block is left out where it names a spec that is not there; then it may show no output.
+"""
+
+import os
+import re
+import shutil
+import subprocess
+import sys
+from pathlib import Path
+from tempfile import TemporaryDirectory
+
+from compare import PROGRAM, ended
+
+TOP = Path(__file__).resolve().parent.parent
+PAGES = ["README.md", "docs/GUIDE.md", "docs/DIFFERENCES.md", "docs/FARM.md", "examples/README.md"]
+
+
+def blocks_of(page):
+    """The code blocks of a page: the number of each one's first line, and its lines."""
+    first, lines = None, page.read_text().split("\n")
+    for number, line in enumerate(lines):
+        if line.startswith("```") and first is not None:
+            yield first + 1, lines[first:number]
+        if line.startswith("```"):
+            first = number + 1 if first is None else None
+
+
+def commands_of(block):
+    """The commands of a block, each with the lines below it."""
+    commands = []
+    for line in block:
+        if line.startswith("$ "):
+            commands.append((line[2:], []))
+        elif commands:
+            commands[-1][1].append(line)
+    return commands
+
+
+def script_of(commands, notes):
+    """A script that leaves what each command prints, and its status behind that, in a folder."""
+    return "".join(
+        f'{{ {text}\n}} > "{notes}/{number}.out" 2>&1\necho $? > "{notes}/{number}.status"\n'
+        for number, (text, _lines) in enumerate(commands)
+    )
+
+
+def results(commands, folder):
+    """What each command prints and its status, run one after another by one shell; no status where that had ended before."""
+    with TemporaryDirectory() as notes:
+        words = ["bash", "-c", script_of(commands, notes)]
+        settings = {**os.environ, "ISOFARM": str(PROGRAM)}
+        subprocess.run(words, cwd=folder, env=settings, stdin=subprocess.DEVNULL, capture_output=True, check=False)
+        for number in range(len(commands)):
+            out, status = Path(notes, f"{number}.out"), Path(notes, f"{number}.status")
+            yield (out.read_text().splitlines() if out.exists() else []), (int(status.read_text()) if status.exists() else None)
+
+
+def folder_for_pages(folder):
+    """What the commands of the pages find beside them."""
+    shutil.copytree(TOP / "examples", folder / "examples")
+    (folder / "isofarm").symlink_to(PROGRAM)
+    (folder / "farm").symlink_to(TOP / "farm")
+
+
+def keep_spec(block, folder):
+    """Puts a block into the folder that is a spec file."""
+    if name := re.fullmatch(r"# (\w+\.spec): .*", block[0] if block else ""):
+        (folder / name[1]).write_text("\n".join(block) + "\n")
+
+
+def is_left_out(commands, folder):
+    """Whether some command names a spec that is not there."""
+    specs = {spec for text, _lines in commands for spec in re.findall(r"[\w./]+\.spec\b", text)}
+    return not all((folder / spec).is_file() for spec in specs)
+
+
+def differences_in(place, commands, shows, folder):
+    """Where commands of a block do not print what is shown."""
+    for (text, lines), (out, status) in zip(commands, results(commands, folder), strict=True):
+        if status is None or (shows and out != lines) or (not shows and status != 0):
+            yield f"{place}, {text}: the page shows {lines}\n  but status {status} and this came: {out}"
+
+
+def looked_at(page, folder):
+    """Of each block with commands whether it was run, and what differs."""
+    for number, block in blocks_of(page):
+        keep_spec(block, folder)
+        commands, place = commands_of(block), f"{page.name}, line {number}"
+        shows = any(lines for _text, lines in commands)
+        if commands and is_left_out(commands, folder):
+            yield False, [f"{place}: shows an output of a spec that is not there"] * shows
+        elif commands:
+            yield True, list(differences_in(place, commands, shows, folder))
+
+
+def main(*names):
+    blocks = []
+    for name in names or PAGES:
+        with TemporaryDirectory() as folder:
+            folder_for_pages(Path(folder))
+            blocks += looked_at(TOP / name, Path(folder))
+    found = [difference for _was_run, differences in blocks for difference in differences]
+    print("".join(f"{difference}\n" for difference in found), end="")
+    ran = sum(was_run for was_run, _differences in blocks)
+    print(f"{ran} blocks run, {len(blocks) - ran} left out, {len(found)} differences")
+    return 1 if found else 0
+
+
+if __name__ == "__main__":
+    sys.exit(ended(main, *sys.argv[1:]))

@@ -1,0 +1,142 @@
+"""Looks at the program's exit statuses and streams where files, outputs and words are not as they should be.
+
+usage: python3 crosscheck/streams.py
+
+Each answer is written out here, or is the one of this second implementation. It needs /dev/full and /proc, as Linux has them.
+"""
+
+import os
+import subprocess
+import sys
+from pathlib import Path
+from tempfile import TemporaryDirectory
+
+from books import book_text, facts_of
+from compare import PROGRAM, difference, ended, expected, told
+from compare_files import answer, run
+from worked import INSERT_AND_READ, LARGE, worlds_of
+
+U32, U64 = 2**32, 2**64
+MARK = b"\xef\xbb\xbf"
+SPEC = INSERT_AND_READ.encode()
+WORLDS = worlds_of(INSERT_AND_READ)
+FACTS = facts_of(WORLDS, 0, 2, True)
+BOOK = book_text(SPEC, FACTS).encode()
+BOOK_OF_ONE = book_text(SPEC, {fact for fact in FACTS if fact[0] == 1}).encode()
+FILES = {
+    "first.spec": SPEC,
+    "large.spec": LARGE.encode(),
+    "mark.spec": MARK + SPEC,
+    "all.book": BOOK,
+    "one.book": BOOK_OF_ONE,
+    "mark.book": MARK + BOOK,
+    "half.book": BOOK[: len(BOOK) // 2],
+    "empty": b"",
+}
+GOOD = ["one first.spec 0", "count first.spec", "run first.spec 0 2", "join all.book", "report all.book"]
+HELP = ["help", "--help", "--version", *(f"{line.split()[0]} --help" for line in GOOD)]
+FAULTS = {"one first.spec 2": 3, "report one.book": 1, "count nothing": 5, "two first.spec 0": 2}
+NO_COMMANDS = ["", "one", "one first.spec", "one first.spec x", "one first.spec -1", f"one first.spec {U64}", "two first.spec 0"]
+NO_COMMANDS += ["count", "count first.spec 0", "run first.spec 0", f"run first.spec 0 {U64}", "run first.spec 0 1 --all", "join"]
+NO_COMMANDS += [f"join{' all.book' * 1001}", "report", "report all.book all.book", "report --every all.book"]
+WRITE_FAULT = b"isofarm: write fault\n"
+
+
+def line(status, text):
+    return status, b"", f"isofarm: {text}\n".encode()
+
+
+def unread():
+    """Files that are not opened or not read."""
+    # Whoever is root reads a file that nobody may read.
+    shut = ["shut"] if os.geteuid() else []
+    for path in ["nothing", "folder", "first.spec/x", "/proc/self/mem", *shut]:
+        commands = [["one", path, "0"], ["count", path], ["run", path, "0", "1"], ["join", path], ["join", "all.book", path]]
+        for words in [*commands, ["report", path]]:
+            yield words, line(5, f"{path}: read fault")
+
+
+def marked():
+    """Files that are empty, cut off, or begin with the mark of their byte order."""
+    for words in (["one", "mark.spec", "0"], ["count", "mark.spec"], ["run", "mark.spec", "0", "1"]):
+        yield words, line(3, "mark.spec: spec error 4 at 0")
+    yield ["one", "empty", "0"], line(3, "empty: spec error 5 at 0")
+    for path in ("mark.book", "empty", "half.book"):
+        for words in (["report", path], ["join", path], ["join", "all.book", path]):
+            yield words, line(3, f"{path}: book error 1")
+
+
+def far():
+    """Ranks past 32 bits, the last one and those behind it."""
+    last = worlds_of(LARGE).spec.ranks() - 1
+    yield ["count", "large.spec"], (0, b"%d\n" % (last + 1), b"")
+    for rank in (U32, U32 + 1, U64 - 1):
+        yield ["one", "first.spec", str(rank)], line(3, "first.spec: rank out of range")
+    for rank in (U32 - 1, U32, U32 + 1, last, last + 1, U64 - 1):
+        yield ["one", "large.spec", str(rank)], expected(LARGE.encode(), rank, "large.spec")
+    for first, end in [(U32, U32 + 2), (last, last + 1), (last + 1, last + 1), (last, last + 2), (U32, U64 - 1)]:
+        words = ["run", "large.spec", str(first), str(end)]
+        yield words, answer(run, LARGE.encode(), "large.spec", first, end, "reduce")
+
+
+def answers():
+    """Words, and the status and outputs that belong to them."""
+    yield from unread()
+    yield from marked()
+    yield from far()
+    yield ["join", "one.book", "all.book"], (0, BOOK, b"")
+    yield ["report", "one.book"], line(1, "one.book: missing rank 0")
+
+
+def told_into(text, folder, redirections):
+    """What words tell where a shell makes their outputs: the status, and what is left of standard error."""
+    words = ["sh", "-c", f'"$@" {redirections}', "sh", PROGRAM, *text.split()]
+    ran = subprocess.run(words, cwd=folder, capture_output=True, check=False)
+    return ran.returncode, ran.stderr
+
+
+def outputs():
+    """Words, outputs that take nothing, and the status and standard error that belong to them."""
+    for text in GOOD + HELP:
+        yield text, "> /dev/full", (5, WRITE_FAULT)
+        yield text, ">&-", (5, WRITE_FAULT)
+        yield text, "> /dev/full 2> /dev/full", (5, b"")
+        yield text, ">&- 2>&-", (5, b"")
+        yield text, "<&- >&- 2>&-", (5, b"")
+    for text, status in FAULTS.items():
+        for closed in ("2> /dev/full", "2>&-", ">&- 2>&-", "<&- >&- 2>&-"):
+            yield text, closed, (status, b"")
+
+
+def wrong_in(folder):
+    """For each run whether it tells something else: the difference, or nothing."""
+    for words, want in answers():
+        got = told(PROGRAM, words, folder, {})
+        yield f"{' '.join(words)}: {difference(want, got)}" if got != want else None
+    for text in NO_COMMANDS:
+        status, out, error = told(PROGRAM, text.split(), folder, {})
+        is_right = (status, out, error[:7]) == (2, b"", b"error: ")
+        yield None if is_right else f"{text[:60]}: expected 2 and an error, but was told {status} {out} {error}"
+    for text, redirections, want in outputs():
+        got = told_into(text, folder, redirections)
+        yield f"{text} {redirections}: expected {want}, but was told {got}" if got != want else None
+    for name, text in FILES.items():
+        yield f"{name} was changed" if Path(folder, name).read_bytes() != text else None
+
+
+def main():
+    with TemporaryDirectory() as folder:
+        for name, text in FILES.items():
+            Path(folder, name).write_bytes(text)
+        Path(folder, "folder").mkdir()
+        Path(folder, "shut").write_bytes(SPEC)
+        Path(folder, "shut").chmod(0)
+        wrong = list(wrong_in(folder))
+    found = [difference for difference in wrong if difference]
+    print("".join(f"{difference}\n" for difference in found), end="")
+    print(f"{len(wrong)} runs, {len(found)} differences")
+    return 1 if found else 0
+
+
+if __name__ == "__main__":
+    sys.exit(ended(main))
