@@ -1,4 +1,4 @@
-"""Compares what `isofarm one` tells with what this second implementation tells, on specs made from seeds.
+"""Compares what `isofarm one` and `isofarm check` tell with what this second implementation tells, on specs made from seeds.
 
 usage: python3 crosscheck/compare.py KIND FIRST_SEED SEEDS
 """
@@ -13,6 +13,7 @@ from random import Random
 from tempfile import TemporaryDirectory
 
 from binding import bind
+from checks import checked, without_sentence
 from facts import shared
 from generate import KINDS, Maker
 from machine import outcome, outcome_text
@@ -50,7 +51,7 @@ def ranks_of(text, seed):
 
 def runs(text, seed, path):
     """The words of some runs of a spec, and what each tells."""
-    return [(["one", path, str(rank)], expected(text, rank, path)) for rank in ranks_of(text, seed)]
+    return [(["check", path], checked(text, path))] + [(["one", path, str(rank)], expected(text, rank, path)) for rank in ranks_of(text, seed)]
 
 
 def told(program, words, folder, settings):
@@ -60,12 +61,15 @@ def told(program, words, folder, settings):
 
 def kind_of(out):
     """What an outcome shows, in words to be counted."""
+    if out.startswith(b"sessions "):
+        return ["a spec"]
     return ["an outcome"] + [word for word in WORDS if word.encode() in out]
 
 
 def fault_of(error):
     """What a fault line tells, without the place."""
-    return re.split(r" at \d|(?<=rank) \d", error.decode().rsplit(": ", 1)[1])[0].strip()
+    line = error.decode(errors="replace").split("\n")[0]
+    return re.split(r" at \d|(?<=rank) \d", line.rsplit(": ", 1)[1])[0].strip()
 
 
 def difference(want, got):
@@ -89,6 +93,7 @@ def compare(program, runs_of, kind_of_output, kind, first, seeds):
             Path(folder, "made.spec").write_bytes(text)
             for words, want in runs_of(text, seed, "made.spec"):
                 got = told(program, words, folder, {})
+                got = without_sentence(got) if words[0] == "check" else got
                 number += 1
                 status, out, error = want
                 counts.update([fault_of(error)] if status else kind_of_output(out))

@@ -2,8 +2,8 @@
 
 usage: python3 crosscheck/memory.py FIRST_SEED SEEDS
 
-Each run has to tell what it tells with memory, or that there is none. It is done for the examples, for faults of the command
-line, and for the specs of the seeds. It needs gcc.
+Each run has to tell what it tells with memory, or that there is none. It is done for each command over examples and their books, for
+faults of the command line and of files, and for the specs of the seeds. It needs gcc.
 """
 
 import subprocess
@@ -18,6 +18,21 @@ TOP = Path(__file__).resolve().parent.parent
 NO_MEMORY = (4, b"", b"isofarm: no memory\n")
 WORDS = [[], ["--help"], ["one", "x"], ["one", "first.spec", "x"], ["one", "first.spec", "2"], ["one", "no.spec", "0"]]
 WORDS += [["one", "first.spec", "0"], ["one", "deadlock.spec", "5"], ["one", "lost_update.spec", "1"], ["one", "names.spec", "0"]]
+
+# Two halves of all ranks, their join, and a spec with a fault.
+BOOKS = {"low.book": "run deadlock.spec 0 9", "high.book": "run deadlock.spec 9 20 --every", "all.book": "join low.book high.book"}
+WRONG = b"session a\n\tstep s {}\n\tstep {}\n"
+OF_BOOKS = ["check deadlock.spec", "check wrong.spec", "count deadlock.spec", "run deadlock.spec 0 20", "run deadlock.spec 0 21"]
+OF_BOOKS += ["join low.book high.book", "join all.book wrong.spec", "report all.book", "report low.book"]
+
+
+def make_books(folder):
+    """Puts into the folder what the commands over books find there."""
+    Path(folder, "wrong.spec").write_bytes(WRONG)
+    Path(folder, "deadlock.spec").write_bytes((TOP / "examples/deadlock.spec").read_bytes())
+    for name, words in BOOKS.items():
+        _status, out, _error = told(PROGRAM, words.split(), folder, {})
+        Path(folder, name).write_bytes(out)
 
 
 def others(words, folder, library):
@@ -40,7 +55,8 @@ def main(first, seeds):
         library = str(Path(folder, "refuse_memory.so"))
         source = Path(__file__).with_name("refuse_memory.c")
         subprocess.run(["gcc", "-shared", "-fPIC", "-o", library, source, "-ldl"], check=True)
-        runs = [(words, TOP / "examples") for words in WORDS]
+        make_books(folder)
+        runs = [(words, TOP / "examples") for words in WORDS] + [(words.split(), folder) for words in OF_BOOKS]
         for kind, make in KINDS.items():
             for seed in range(first, first + seeds):
                 name = f"{kind}{seed}.spec"

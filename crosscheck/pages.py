@@ -4,7 +4,8 @@ usage: python3 crosscheck/pages.py [PAGE..]
 
 A command is a line of a code block behind `$ `, and what it prints stands on the lines up to the next one. In a block that shows
 nothing but commands each of them has to end well. A block whose first line is `# NAME.spec: ..` is that file, for the blocks below
-it. A block is left out where it names a spec that is not there; then it may show no output.
+it. A block is left out where it names a spec that is not there; then it may show no output. One that runs jobs under GNU parallel is
+left out where that is not there.
 """
 
 import os
@@ -74,6 +75,11 @@ def keep_spec(block, folder):
         (folder / name[1]).write_text("\n".join(block) + "\n")
 
 
+def lacks_parallel(commands):
+    """Whether some command needs GNU parallel, and it is not there."""
+    return any("farm/parallel" in text for text, _lines in commands) and not shutil.which("parallel")
+
+
 def is_left_out(commands, folder):
     """Whether some command names a spec that is not there."""
     specs = {spec for text, _lines in commands for spec in re.findall(r"[\w./]+\.spec\b", text)}
@@ -93,7 +99,9 @@ def looked_at(page, folder):
         keep_spec(block, folder)
         commands, place = commands_of(block), f"{page.name}, line {number}"
         shows = any(lines for _text, lines in commands)
-        if commands and is_left_out(commands, folder):
+        if lacks_parallel(commands):
+            yield False, []
+        elif commands and is_left_out(commands, folder):
             yield False, [f"{place}: shows an output of a spec that is not there"] * shows
         elif commands:
             yield True, list(differences_in(place, commands, shows, folder))

@@ -33,11 +33,11 @@ FILES = {
     "half.book": BOOK[: len(BOOK) // 2],
     "empty": b"",
 }
-GOOD = ["one first.spec 0", "count first.spec", "run first.spec 0 2", "join all.book", "report all.book"]
+GOOD = ["one first.spec 0", "check first.spec", "count first.spec", "run first.spec 0 2", "join all.book", "report all.book"]
 HELP = ["help", "--help", "--version", *(f"{line.split()[0]} --help" for line in GOOD)]
 FAULTS = {"one first.spec 2": 3, "report one.book": 1, "count nothing": 5, "two first.spec 0": 2}
 NO_COMMANDS = ["", "one", "one first.spec", "one first.spec x", "one first.spec -1", f"one first.spec {U64}", "two first.spec 0"]
-NO_COMMANDS += ["count", "count first.spec 0", "run first.spec 0", f"run first.spec 0 {U64}", "run first.spec 0 1 --all", "join"]
+NO_COMMANDS += ["check", "check first.spec 0", "count", "count first.spec 0", "run first.spec 0", f"run first.spec 0 {U64}", "run first.spec 0 1 --all", "join"]
 NO_COMMANDS += [f"join{' all.book' * 1001}", "report", "report all.book all.book", "report --every all.book"]
 WRITE_FAULT = b"isofarm: write fault\n"
 
@@ -51,7 +51,7 @@ def unread():
     # Whoever is root reads a file that nobody may read.
     shut = ["shut"] if os.geteuid() else []
     for path in ["nothing", "folder", "first.spec/x", "/proc/self/mem", *shut]:
-        commands = [["one", path, "0"], ["count", path], ["run", path, "0", "1"], ["join", path], ["join", "all.book", path]]
+        commands = [["one", path, "0"], ["check", path], ["count", path], ["run", path, "0", "1"], ["join", path], ["join", "all.book", path]]
         for words in [*commands, ["report", path]]:
             yield words, line(5, f"{path}: read fault")
 

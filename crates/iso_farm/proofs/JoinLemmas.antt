@@ -1,9 +1,10 @@
 -- Books of files, joined one after another.
-use Rattle.std.proofs.Common.{◌≡◌, refl, sym, ap, subst, ◌∙◌, ℕ, zero, suc, ◌+◌, ◌<◌, ◌≤◌, List, [], ◌∷◌, length, Result, Ok, Err, IsErrAnd, arith}
+use Rattle.std.proofs.Common.{◌≡◌, refl, sym, ap, subst, ◌∙◌, ℕ, zero, suc, ◌+◌, ◌<◌, ◌≤◌, List, [], ◌∷◌, length, Option, Result, Ok, Err, IsErrAnd, arith}
+use Rattle.transcripts.specs.declared.counted.Counted.{Counted}
 use Rattle.outcome_books.specs.Books.{Contents}
 use Rattle.iso_farm.specs.declared.joining.JoinFault.{JoinFault}
 use Rattle.iso_farm.specs.declared.joining.JoinFault.TheVariants.{File, OtherSpec, NoMemory, Write}
-use Rattle.iso_farm.specs.Joining.{Files, IsJoinOf, AreJoined, IsNotJoined, IsJoined, IsNext}
+use Rattle.iso_farm.specs.Joining.{Files, IsJoinOf, AreJoined, IsNotJoined, IsJoined, IsJoinRun, IsNext, IsPlaced}
 
 module _ (files : Files) (paths : List (List ℕ)) where
   -- one more
@@ -31,3 +32,11 @@ module _ (files : Files) (paths : List (List ℕ)) where
       → IsJoinOf files paths place before → IsNext files paths place before (Err fault) → IsErrAnd result (λ f. f ≡ fault) → IsJoined files paths result
   refused-by place before fault (Ok book) some lt h n e = absurd e
   refused-by place before fault (Err f) some lt h n e = subst (IsNotJoined files paths) (sym e) (next-refused place before fault some lt h n)
+
+-- a fault of a file is one of these files
+pub run-placed : (files : Files) (paths : List (List ℕ)) {W : Type 0} (contents : W → Option (List ℕ)) (old new : Counted W) (fault : JoinFault)
+    → IsJoinRun files paths contents old new (Err fault) → IsPlaced (length paths) fault
+run-placed files paths contents old new (File place fault) h = h.1.0
+run-placed files paths contents old new (OtherSpec place) h = h.1.0
+run-placed files paths contents old new NoMemory h = tt
+run-placed files paths contents old new (Write error) h = tt

@@ -2,3 +2,4 @@ pub mod FileLemmas
 pub mod RangeLemmas
 pub mod ReportLemmas
 pub mod JoinLemmas
+pub mod CommandLemmas

@@ -55,6 +55,13 @@ IsJoinRun files paths contents old new (Err (Write error)) =
     (book : Contents) × IsJoinOf files paths (length paths) book × IsWritten contents old new book (Err error)
 IsJoinRun files paths contents old new (Err fault) = (new ≡ old) × IsNotJoined files paths fault
 
+-- a fault of one of so many files
+abbrev pub IsPlaced : ℕ → JoinFault → Type 0
+IsPlaced count (File place fault) = place < count
+IsPlaced count (OtherSpec place) = place < count
+IsPlaced count NoMemory = Unit {0}
+IsPlaced count (Write error) = Unit {0}
+
 -- ---- what the code keeps
 
 -- the next file's book is joined to one, or refused

@@ -6,3 +6,4 @@ pub mod Reporting
 pub mod Joining
 pub mod Laws
 pub mod Status
+pub mod Commands

@@ -1,8 +1,8 @@
 -- What the program writes for one permutation.
-use Rattle.std.specs.Prelude.{◌≡◌, ℕ, ◌<◌, ◌≤◌, ◌++◌, List, Option, Some, Result, Ok, Err}
+use Rattle.std.specs.Prelude.{◌≡◌, ℕ, ◌<◌, ◌≤◌, ◌++◌, List, Option, Some, Result, Ok, Err, ⊤}
 use Rattle.sql_subset.specs.Spec.{SpecFile, ranks, line_of}
 use Rattle.sql_subset.specs.Binding.{IsFileOf}
-use Rattle.transcripts.specs.Counted.{Stopped}
+use Rattle.transcripts.specs.Counted.{Wrote, Stopped}
 use Rattle.transcripts.specs.Text.{rank_text, outcome_text}
 use Rattle.transcripts.specs.declared.counted.Counted.{Counted}
 use Rattle.transcripts.specs.declared.event.Event.{Event}
@@ -54,3 +54,8 @@ Leaves contents IsText old new (Spec fault) = new ≡ old
 Leaves contents IsText old new OutOfRange = new ≡ old
 Leaves contents IsText old new (Run error) = new ≡ old
 Leaves contents IsText old new (Write fault) = (text : List ℕ) × IsText text × Stopped contents old new text
+
+-- all of it: the answer of the bytes is written, or a refusal is returned with what it leaves
+abbrev pub IsOneRun : {W : Type 0} → (W → Option (List ℕ)) → Counted W → Counted W → List ℕ → ℕ → Result ⊤ OneFault → Type 0
+IsOneRun contents old new bytes rank (Ok done) = (text : List ℕ) × IsAnswerOf bytes rank text × Wrote contents old new text
+IsOneRun contents old new bytes rank (Err fault) = IsRefusedOf fault bytes rank × Leaves contents (IsAnswerOf bytes rank) old new fault

@@ -1,8 +1,38 @@
 -- With which status the program ends.
 use Rattle.std.specs.Prelude.{ℕ}
+use Rattle.spec_reader.specs.declared.error.Kind.{Kind as SpecErrorKind}
+use Rattle.spec_reader.specs.declared.error.Kind.TheVariants as spec_kind
+use Rattle.sql_binding.specs.declared.error.BindErrorKind.{BindErrorKind}
+use Rattle.sql_binding.specs.declared.error.BindErrorKind.TheVariants as bind_kind
+use Rattle.session_machine.specs.declared.error.StartError.{StartError}
+use Rattle.session_machine.specs.declared.error.StartError.TheVariants as start_error
+use Rattle.session_machine.specs.declared.error.RunError.{RunError}
+use Rattle.session_machine.specs.declared.error.RunError.TheVariants as run_error
+use Rattle.outcome_books.specs.declared.error.ReportError.{ReportError}
+use Rattle.outcome_books.specs.declared.error.ReportError.TheVariants as report_error
+use Rattle.book_files.specs.declared.error.BookError.{BookError}
+use Rattle.book_files.specs.declared.error.BookError.TheVariants as book_error
+use Rattle.book_files.specs.declared.write_error.WriteError.{WriteError}
+use Rattle.book_files.specs.declared.write_error.WriteError.TheVariants as write_error
 use Rattle.iso_farm.specs.declared.fault.ProgramFault.{ProgramFault}
 use Rattle.iso_farm.specs.declared.fault.ProgramFault.TheVariants.{Spec, Sql, Bind, Start, RankOutOfRange, Shard, Book, BookTooLarge, OtherSpec}
-use Rattle.iso_farm.specs.declared.fault.ProgramFault.TheVariants.{TooManyRanks, Missing, Clash, NoMemory, Read, Write}
+use Rattle.iso_farm.specs.declared.fault.ProgramFault.TheVariants.{TooManyRanks, Explained, Missing, Clash, NoMemory, Read, Write}
+use Rattle.iso_farm.specs.declared.spec.SpecFault.{SpecFault}
+use Rattle.iso_farm.specs.declared.spec.SpecFault.TheVariants as spec_fault
+use Rattle.iso_farm.specs.declared.single.OneFault.{OneFault}
+use Rattle.iso_farm.specs.declared.single.OneFault.TheVariants as one_fault
+use Rattle.iso_farm.specs.declared.counting.CountFault.{CountFault}
+use Rattle.iso_farm.specs.declared.counting.CountFault.TheVariants as count_fault
+use Rattle.iso_farm.specs.declared.ranges.RangeFault.{RangeFault}
+use Rattle.iso_farm.specs.declared.ranges.RangeFault.TheVariants as range_fault
+use Rattle.iso_farm.specs.declared.joining.FileFault.{FileFault}
+use Rattle.iso_farm.specs.declared.joining.FileFault.TheVariants as file_fault
+use Rattle.iso_farm.specs.declared.joining.JoinFault.{JoinFault}
+use Rattle.iso_farm.specs.declared.joining.JoinFault.TheVariants as join_fault
+use Rattle.iso_farm.specs.declared.reporting.ReportFault.{ReportFault}
+use Rattle.iso_farm.specs.declared.reporting.ReportFault.TheVariants as values_fault
+use Rattle.iso_farm.specs.declared.reporting.ReportFileFault.{ReportFileFault}
+use Rattle.iso_farm.specs.declared.reporting.ReportFileFault.TheVariants as report_fault
 
 -- a rank without exactly one value is told by 1, what is refused by 3, want of memory by 4, and a read or write fault by 5
 abbrev pub status_of : ProgramFault → ℕ
@@ -16,8 +46,80 @@ status_of (Book path kind) = 3
 status_of BookTooLarge = 3
 status_of (OtherSpec path) = 3
 status_of (TooManyRanks path) = 3
+status_of (Explained told) = 3
 status_of (Missing path rank) = 1
 status_of (Clash path rank) = 1
 status_of NoMemory = 4
 status_of (Read path) = 5
 status_of Write = 5
+
+-- ---- of what calls refuse
+
+abbrev pub text_status : SpecErrorKind → ℕ
+text_status spec_kind.NoMemory = 4
+text_status kind = 3
+
+abbrev pub binding_status : BindErrorKind → ℕ
+binding_status bind_kind.NoMemory = 4
+binding_status kind = 3
+
+abbrev pub spec_status : SpecFault → ℕ
+spec_status (spec_fault.Text error) = text_status error.kind
+spec_status (spec_fault.Binding error) = binding_status error.kind
+
+abbrev pub start_status : StartError → ℕ
+start_status start_error.NoMemory = 4
+start_status error = 3
+
+abbrev pub run_status : RunError → ℕ
+run_status run_error.OutOfRange = 3
+run_status run_error.TooLong = 3
+run_status (run_error.Start error) = start_status error
+run_status run_error.NoMemory = 4
+run_status run_error.TooDeep = 4
+
+abbrev pub one_status : OneFault → ℕ
+one_status (one_fault.Spec fault) = spec_status fault
+one_status one_fault.OutOfRange = 3
+one_status (one_fault.Run error) = run_status error
+one_status (one_fault.Write fault) = 5
+
+abbrev pub count_status : CountFault → ℕ
+count_status (count_fault.Spec fault) = spec_status fault
+count_status (count_fault.Write fault) = 5
+
+abbrev pub write_status : WriteError → ℕ
+write_status write_error.TooLarge = 3
+write_status write_error.NoMemory = 4
+write_status write_error.WriteFault = 5
+
+abbrev pub range_status : RangeFault → ℕ
+range_status (range_fault.Spec fault) = spec_status fault
+range_status (range_fault.Run error) = run_status error
+range_status (range_fault.Write error) = write_status error
+
+abbrev pub book_status : BookError → ℕ
+book_status book_error.NoMemory = 4
+book_status book_error.ReadFault = 5
+book_status error = 3
+
+abbrev pub file_status : FileFault → ℕ
+file_status file_fault.Unopened = 5
+file_status (file_fault.Book error) = book_status error
+
+abbrev pub join_status : JoinFault → ℕ
+join_status (join_fault.File place fault) = file_status fault
+join_status (join_fault.OtherSpec place) = 3
+join_status join_fault.NoMemory = 4
+join_status (join_fault.Write error) = write_status error
+
+abbrev pub values_status : ReportError → ℕ
+values_status report_error.TooMany = 3
+values_status (report_error.Missing rank) = 1
+values_status (report_error.Clash rank) = 1
+values_status report_error.NoMemory = 4
+
+abbrev pub report_status : ReportFileFault → ℕ
+report_status (report_fault.File fault) = file_status fault
+report_status (report_fault.Report (values_fault.Report error)) = values_status error
+report_status (report_fault.Report (values_fault.Write fault)) = 5

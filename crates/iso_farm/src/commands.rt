@@ -1,11 +1,21 @@
 //! What the program does for the words of a command line.
 
-ghost use Rattle.std.specs.Prelude.{◌≡◌, ◌<◌, OnOk, length};
-ghost use Rattle.transcripts.specs.Counted.{failures_of};
+ghost use Rattle.std.specs.Prelude.{◌≡◌, ◌<◌, ◌⊎◌, [], map, Ok, OnOk, IfErr};
+ghost use Rattle.transcripts.specs.Counted.{Wrote, failures_of};
+ghost use Rattle.transcripts.specs.declared.counted.Counted.{Counted};
+ghost use Rattle.iso_farm.specs.Status.{status_of, one_status, count_status, range_status, join_status, report_status};
+ghost use Rattle.iso_farm.specs.One.{IsOneRun};
+ghost use Rattle.iso_farm.specs.Counting.{IsChecked, IsCounted};
+ghost use Rattle.iso_farm.specs.Ranges.{IsRangeRun};
+ghost use Rattle.iso_farm.specs.Joining.{IsJoinRun};
+ghost use Rattle.iso_farm.specs.Reporting.{IsFileReported};
+ghost use Rattle.iso_farm.specs.Commands.{IsAnswered, IsDone, IsCalled, IsPassedOn, IsRun, IsTold, IsUnread, IsUsage};
 
-use crate::counting::count;
+use crate::counting::{CountFault, check, count};
 use crate::fault::ProgramFault;
-use crate::faults::{count_fault, fault_at, join_fault, range_fault, report_fault};
+use crate::faults::{
+    count_fault, explained_fault, fault_at, join_fault, range_fault, report_fault,
+};
 use crate::files::{Opener, read_spec_file};
 use crate::joining::join_files;
 use crate::ranges::run_range;
@@ -30,6 +40,7 @@ pub fn run<O: Opener, W: Write, E: Write>(
 ) -> u8
     requires out { failures_of out.old ≡ 0 }
     requires err { failures_of err.old ≡ 0 }
+    ensures { IsRun (O.bytes opener.now) W.contents out.old out.new err.old err.new result }
 {
     let asked = match parse_words(alloc, words) {
         Ok(asked) => asked,
@@ -41,31 +52,49 @@ pub fn run<O: Opener, W: Write, E: Write>(
     }
 }
 
-/// Writes what is asked for, with nothing held back.
-fn answer<'a, O: Opener, W: Write>(
+/// Does what is asked. Where that is done, nothing of it is held back.
+pub fn answer<'a, O: Opener, W: Write>(
     alloc: Global,
     asked: &Asked<'a>,
     opener: &O,
     out: &mut Counted<W>,
 ) -> Result<(), ProgramFault<'a>>
     requires { failures_of out.old ≡ 0 }
+    ensures { IsAnswered (O.bytes opener.now) W.contents out.old out.new asked.now result }
+{
+    match work(alloc, asked, opener, out) {
+        Ok(()) => flushed(out),
+        Err(fault) => Err(fault),
+    }
+}
+
+/// Writes what is asked for; some of it may be held back.
+fn work<'a, O: Opener, W: Write>(
+    alloc: Global,
+    asked: &Asked<'a>,
+    opener: &O,
+    out: &mut Counted<W>,
+) -> Result<(), ProgramFault<'a>>
+    requires { failures_of out.old ≡ 0 }
+    ensures done { IsDone (O.bytes opener.now) W.contents out.old out.new asked.now result }
+    ensures failures { OnOk result (failures_of out.new ≡ 0) }
 {
     match asked {
-        Asked::One { path, rank } => answer_one(alloc, path, *rank, opener, out)?,
-        Asked::Count { path } => answer_count(alloc, path, opener, out)?,
+        Asked::One { path, rank } => one_of_file(alloc, path, *rank, opener, out),
+        Asked::Check { path } => check_of_file(alloc, path, opener, out),
+        Asked::Count { path } => count_of_file(alloc, path, opener, out),
         Asked::Run {
             path,
             first,
             end,
             every,
-        } => answer_range(alloc, path, *first, *end, !*every, opener, out)?,
-        Asked::Join { paths } => answer_join(alloc, paths.as_slice(), opener, out)?,
-        Asked::Report { path } => answer_report(alloc, path, opener, out)?,
+        } => range_of_file(alloc, path, *first, *end, !*every, opener, out),
+        Asked::Join { paths } => join_of_files(alloc, paths.as_slice(), opener, out),
+        Asked::Report { path } => report_of_file(alloc, path, opener, out),
     }
-    flushed(out)
 }
 
-fn answer_one<'a, O: Opener, W: Write>(
+fn one_of_file<'a, O: Opener, W: Write>(
     alloc: Global,
     path: &'a str,
     rank: u64,
@@ -73,26 +102,61 @@ fn answer_one<'a, O: Opener, W: Write>(
     out: &mut Counted<W>,
 ) -> Result<(), ProgramFault<'a>>
     requires { failures_of out.old ≡ 0 }
-    ensures { OnOk result (failures_of out.new ≡ 0) }
+    ensures done { IsUnread out.old out.new result ⊎ IsCalled (O.bytes opener.now path.now) (λ bytes. IsOneRun W.contents out.old out.new bytes rank) one_status result }
+    ensures failures { OnOk result (failures_of out.new ≡ 0) }
 {
-    let bytes = read_spec_file(alloc, opener, path)?;
-    one(alloc, bytes.as_slice(), rank, out).map_err(|fault| fault_at(path, fault))
+    let bytes = match read_spec_file(alloc, opener, path) {
+        Ok(bytes) => bytes,
+        Err(fault) => return Err(fault),
+    };
+    match one(alloc, bytes.as_slice(), rank, out) {
+        Ok(()) => Ok(()),
+        Err(fault) => Err(fault_at(path, fault)),
+    }
 }
 
-fn answer_count<'a, O: Opener, W: Write>(
+fn check_of_file<'a, O: Opener, W: Write>(
     alloc: Global,
     path: &'a str,
     opener: &O,
     out: &mut Counted<W>,
 ) -> Result<(), ProgramFault<'a>>
     requires { failures_of out.old ≡ 0 }
-    ensures { OnOk result (failures_of out.new ≡ 0) }
+    ensures done { IsUnread out.old out.new result ⊎ IsCalled (O.bytes opener.now path.now) (IsChecked W.contents out.old out.new) count_status result }
+    ensures failures { OnOk result (failures_of out.new ≡ 0) }
 {
-    let bytes = read_spec_file(alloc, opener, path)?;
-    count(alloc, bytes.as_slice(), out).map_err(|fault| count_fault(path, fault))
+    let bytes = match read_spec_file(alloc, opener, path) {
+        Ok(bytes) => bytes,
+        Err(fault) => return Err(fault),
+    };
+    match check(alloc, bytes.as_slice(), out) {
+        Ok(()) => Ok(()),
+        Err(CountFault::Spec(fault)) => Err(explained_fault(alloc, path, bytes.as_slice(), fault)),
+        Err(CountFault::Write(_)) => Err(ProgramFault::Write),
+    }
 }
 
-fn answer_range<'a, O: Opener, W: Write>(
+fn count_of_file<'a, O: Opener, W: Write>(
+    alloc: Global,
+    path: &'a str,
+    opener: &O,
+    out: &mut Counted<W>,
+) -> Result<(), ProgramFault<'a>>
+    requires { failures_of out.old ≡ 0 }
+    ensures done { IsUnread out.old out.new result ⊎ IsCalled (O.bytes opener.now path.now) (IsCounted W.contents out.old out.new) count_status result }
+    ensures failures { OnOk result (failures_of out.new ≡ 0) }
+{
+    let bytes = match read_spec_file(alloc, opener, path) {
+        Ok(bytes) => bytes,
+        Err(fault) => return Err(fault),
+    };
+    match count(alloc, bytes.as_slice(), out) {
+        Ok(()) => Ok(()),
+        Err(fault) => Err(count_fault(path, fault)),
+    }
+}
+
+fn range_of_file<'a, O: Opener, W: Write>(
     alloc: Global,
     path: &'a str,
     first: u64,
@@ -102,45 +166,60 @@ fn answer_range<'a, O: Opener, W: Write>(
     out: &mut Counted<W>,
 ) -> Result<(), ProgramFault<'a>>
     requires { failures_of out.old ≡ 0 }
-    ensures { OnOk result (failures_of out.new ≡ 0) }
+    ensures done { IsUnread out.old out.new result ⊎ IsCalled (O.bytes opener.now path.now) (λ bytes. IsRangeRun W.contents out.old out.new bytes first end reduce) range_status result }
+    ensures failures { OnOk result (failures_of out.new ≡ 0) }
 {
-    let bytes = read_spec_file(alloc, opener, path)?;
-    run_range(alloc, bytes.as_slice(), first, end, reduce, out).map_err(|fault| range_fault(
-        path, fault,
-    ))
+    let bytes = match read_spec_file(alloc, opener, path) {
+        Ok(bytes) => bytes,
+        Err(fault) => return Err(fault),
+    };
+    match run_range(alloc, bytes.as_slice(), first, end, reduce, out) {
+        Ok(()) => Ok(()),
+        Err(fault) => Err(range_fault(path, fault)),
+    }
 }
 
-fn answer_join<'a, O: Opener, W: Write>(
+/// No books are no join: the command line asks for one at least.
+fn join_of_files<'a, O: Opener, W: Write>(
     alloc: Global,
     paths: &[&'a str],
     opener: &O,
     out: &mut Counted<W>,
 ) -> Result<(), ProgramFault<'a>>
     requires { failures_of out.old ≡ 0 }
-    ensures { OnOk result (failures_of out.new ≡ 0) }
+    ensures done { ((paths.now ≡ []) × (out.new ≡ out.old) × (result ≡ Ok tt)) ⊎ IsTold (IsJoinRun (O.bytes opener.now) (map (λ p. p.now) paths.now) W.contents out.old out.new) join_status result }
+    ensures failures { OnOk result (failures_of out.new ≡ 0) }
 {
-    // The command line asks for one book at least.
     if paths.is_empty() {
         return Ok(());
     }
-    join_files(alloc, opener, paths, out).map_err(|fault| join_fault(paths, fault))
+    match join_files(alloc, opener, paths, out) {
+        Ok(()) => Ok(()),
+        Err(fault) => Err(join_fault(paths, fault)),
+    }
 }
 
-fn answer_report<'a, O: Opener, W: Write>(
+fn report_of_file<'a, O: Opener, W: Write>(
     alloc: Global,
     path: &'a str,
     opener: &O,
     out: &mut Counted<W>,
 ) -> Result<(), ProgramFault<'a>>
     requires { failures_of out.old ≡ 0 }
-    ensures { OnOk result (failures_of out.new ≡ 0) }
+    ensures done { IsTold (IsFileReported (O.bytes opener.now path.now) W.contents out.old out.new) report_status result }
+    ensures failures { OnOk result (failures_of out.new ≡ 0) }
 {
-    report_file(alloc, opener, path, out).map_err(|fault| report_fault(path, fault))
+    match report_file(alloc, opener, path, out) {
+        Ok(()) => Ok(()),
+        Err(fault) => Err(report_fault(path, fault)),
+    }
 }
 
 /// Writes a text, with nothing held back.
 fn written<'a, W: Write>(text: &str, out: &mut Counted<W>) -> Result<(), ProgramFault<'a>>
     requires { failures_of out.old ≡ 0 }
+    ensures whole { OnOk result ((between : Counted W) × Wrote W.contents out.old between text.now × IsPassedOn W.contents between out.new (Ok tt) (Ok tt)) }
+    ensures fault { IfErr result (λ fault. status_of fault ≡ 5) }
 {
     match out.write_str(text) {
         Ok(()) => flushed(out),
@@ -151,6 +230,7 @@ fn written<'a, W: Write>(text: &str, out: &mut Counted<W>) -> Result<(), Program
 /// Has everything written that is held back.
 fn flushed<'a, W: Write>(out: &mut Counted<W>) -> Result<(), ProgramFault<'a>>
     requires { failures_of out.old < u64.MAX }
+    ensures { IsPassedOn W.contents out.old out.new (Ok tt) result }
 {
     match out.flush() {
         Ok(()) => Ok(()),
@@ -161,6 +241,7 @@ fn flushed<'a, W: Write>(out: &mut Counted<W>) -> Result<(), ProgramFault<'a>>
 /// Writes the fault's line and gives its status. Where there is no memory for the line, that is told in its place.
 fn tell_fault<E: Write>(alloc: Global, fault: &ProgramFault<'_>, err: &mut Counted<E>) -> u8
     requires { failures_of err.old ≡ 0 }
+    ensures { (result ≡ status_of fault.now) ⊎ (result ≡ 4) }
 {
     match format!(in alloc; "{fault}\n") {
         Ok(line) => {
@@ -174,6 +255,7 @@ fn tell_fault<E: Write>(alloc: Global, fault: &ProgramFault<'_>, err: &mut Count
 /// Writes that memory ran out, without any, and gives the status.
 fn tell_no_memory<E: Write>(err: &mut Counted<E>) -> u8
     requires { failures_of err.old ≡ 0 }
+    ensures { result ≡ 4 }
 {
     let _told = err.write_str("isofarm: no memory\n");
     4
@@ -183,6 +265,7 @@ fn tell_no_memory<E: Write>(err: &mut Counted<E>) -> u8
 /// is no UTF-8, 4 for want of memory.
 pub fn tell_words_fault<E: Write>(error: &io::Error, err: &mut Counted<E>) -> u8
     requires { failures_of err.old ≡ 0 }
+    ensures { (result ≡ 2) ⊎ (result ≡ 4) }
 {
     if matches!(error.kind(), io::ErrorKind::InvalidData) {
         let _told = err.write_str("error: invalid UTF-8 was detected in one or more arguments\n");
@@ -200,6 +283,7 @@ fn tell_usage<W: Write, E: Write>(
 ) -> u8
     requires out { failures_of out.old ≡ 0 }
     requires err { failures_of err.old ≡ 0 }
+    ensures { IsUsage W.contents out.old out.new result }
 {
     let Ok(text) = format!(in alloc; "{error}") else {
         return tell_fault(alloc, &ProgramFault::NoMemory, err);

@@ -1,16 +1,18 @@
-//! The number of permutations, from the bytes of a spec to its text.
+//! How much a spec has, from its bytes to the text.
 
-ghost use Rattle.std.specs.Prelude.{◌≡◌, ◌<◌};
+ghost use Rattle.std.specs.Prelude.{◌≡◌, ◌<◌, ◌++◌, length};
+ghost use Rattle.sql_subset.specs.Spec.{ranks};
 ghost use Rattle.transcripts.specs.Counted.{Prints, failures_of};
-ghost use Rattle.iso_farm.specs.Counting.{IsCounted, number_line};
+ghost use Rattle.iso_farm.specs.Counting.{IsChecked, IsCounted, counts_lines, number_line};
 
 use crate::spec::{SpecFault, spec_of};
 use itoa::Buffer;
+use sql_subset::Spec;
 use std::alloc::Global;
 use std::io::Write;
 use transcripts::{Counted, WriteFault};
 
-/// Why the number of permutations was not written. The first is tried before the second.
+/// Why it was not written how much a spec has. The first is tried before the second.
 #[derive(Clone, Copy, Debug, PartialEq, Eq)]
 pub enum CountFault {
     /// The bytes are no spec file.
@@ -32,6 +34,60 @@ pub fn count<W: Write>(alloc: Global, bytes: &[u8], out: &mut Counted<W>) -> Res
         Ok(()) => Ok(()),
         Err(fault) => Err(CountFault::Write(fault)),
     }
+}
+
+/// Reads a spec, and writes how many sessions, steps and permutations it has.
+pub fn check<W: Write>(alloc: Global, bytes: &[u8], out: &mut Counted<W>) -> Result<(), CountFault>
+    requires { failures_of out.old < u64.MAX }
+    ensures { IsChecked W.contents out.old out.new bytes.now result }
+{
+    let counts = match spec_of(alloc, bytes) {
+        Ok(spec) => counts_of(&spec),
+        Err(fault) => return Err(CountFault::Spec(fault)),
+    };
+    match write_counts(counts, out) {
+        Ok(()) => Ok(()),
+        Err(fault) => Err(CountFault::Write(fault)),
+    }
+}
+
+/// How many sessions, steps and permutations a spec has.
+#[derive(Clone, Copy, Debug)]
+pub(crate) struct Counts {
+    sessions: u64,
+    steps: u64,
+    ranks: u64,
+}
+
+fn counts_of(spec: &Spec) -> Counts
+    ensures sessions { result.sessions ≡ spec.now.run.sessions }
+    ensures steps { result.steps ≡ length spec.now.run.steps }
+    ensures ranks { result.ranks ≡ ranks spec.now.run }
+{
+    Counts {
+        sessions: u64::from(spec.sessions()),
+        steps: u64::from(spec.steps()),
+        ranks: spec.ranks(),
+    }
+}
+
+/// Writes each number behind its word, on a line of its own.
+fn write_counts<W: Write>(counts: Counts, out: &mut Counted<W>) -> Result<(), WriteFault>
+    requires { failures_of out.old < u64.MAX }
+    ensures { Prints W.contents out.old out.new result (counts_lines counts.sessions counts.steps counts.ranks) }
+{
+    write_count("sessions ", counts.sessions, out)?;
+    write_count("steps ", counts.steps, out)?;
+    write_count("ranks ", counts.ranks, out)
+}
+
+/// Writes a number behind its word, on a line of its own.
+fn write_count<W: Write>(word: &str, number: u64, out: &mut Counted<W>) -> Result<(), WriteFault>
+    requires { failures_of out.old < u64.MAX }
+    ensures { Prints W.contents out.old out.new result (word.now ++ number_line number) }
+{
+    out.write_str(word)?;
+    write_number(number, out)
 }
 
 /// Writes a number on a line of its own.

@@ -78,6 +78,11 @@ pub enum ProgramFault<'a> {
         path: &'a str,
         rank: u64,
     },
+    /// The file of a check is no spec: the line that tells it elsewhere, and behind it where in the file that is and what is wrong.
+    #[error("{told}")]
+    Explained {
+        told: String,
+    },
     /// Memory ran out, anywhere.
     #[error("isofarm: no memory")]
     NoMemory,
@@ -107,7 +112,8 @@ impl ProgramFault<'_> {
             | ProgramFault::Book { .. }
             | ProgramFault::BookTooLarge
             | ProgramFault::OtherSpec { .. }
-            | ProgramFault::TooManyRanks { .. } => 3,
+            | ProgramFault::TooManyRanks { .. }
+            | ProgramFault::Explained { .. } => 3,
             ProgramFault::NoMemory => 4,
             ProgramFault::Read { .. } | ProgramFault::Write => 5,
         }

@@ -1,5 +1,10 @@
 //! The program's faults for the faults of its calls.
 
+ghost use Rattle.std.specs.Prelude.{◌≡◌, ◌⊎◌, length};
+ghost use Rattle.iso_farm.specs.Joining.{IsPlaced};
+ghost use Rattle.iso_farm.specs.Status.{status_of, one_status, count_status, range_status, join_status, report_status};
+ghost use Rattle.iso_farm.specs.Status.{values_status, file_status, write_status, spec_status, text_status, binding_status, run_status, start_status};
+
 use crate::counting::CountFault;
 use crate::fault::ProgramFault;
 use crate::joining::{FileFault, JoinFault};
@@ -8,13 +13,17 @@ use crate::reporting::{ReportFault, ReportFileFault};
 use crate::single::OneFault;
 use crate::spec::SpecFault;
 use book_files::{BookError, WriteError};
+use fault_words::{binding_sentence, explained, text_sentence};
 use outcome_books::ReportError;
 use session_machine::{RunError, StartError};
 use spec_reader::{SpecError, SpecErrorKind};
 use sql_subset::{BindError, BindErrorKind};
+use std::alloc::{AllocError, Global};
 
 /// The program's fault for a fault of one permutation of the file at a path.
-pub fn fault_at(path: &str, fault: OneFault) -> ProgramFault<'_> {
+pub fn fault_at(path: &str, fault: OneFault) -> ProgramFault<'_>
+    ensures { status_of result ≡ one_status fault }
+{
     match fault {
         OneFault::Spec(fault) => spec_fault(path, fault),
         OneFault::OutOfRange => ProgramFault::RankOutOfRange { path },
@@ -23,14 +32,54 @@ pub fn fault_at(path: &str, fault: OneFault) -> ProgramFault<'_> {
     }
 }
 
-pub(crate) fn count_fault(path: &str, fault: CountFault) -> ProgramFault<'_> {
+pub(crate) fn count_fault(path: &str, fault: CountFault) -> ProgramFault<'_>
+    ensures { status_of result ≡ count_status fault }
+{
     match fault {
         CountFault::Spec(fault) => spec_fault(path, fault),
         CountFault::Write(_) => ProgramFault::Write,
     }
 }
 
-pub(crate) fn range_fault(path: &str, fault: RangeFault) -> ProgramFault<'_> {
+/// The fault of a check: the line of a spec's fault, and behind it where in the file that is and what is wrong. Where there is no memory for
+/// these, want of memory is told in their place.
+pub(crate) fn explained_fault<'a>(
+    alloc: Global,
+    path: &'a str,
+    text: &[u8],
+    fault: SpecFault,
+) -> ProgramFault<'a>
+    ensures { (status_of result ≡ spec_status fault) ⊎ (status_of result ≡ 4) }
+{
+    let line = spec_fault(path, fault);
+    if line.status() != 3 {
+        return line;
+    }
+    match with_explanation(alloc, &line, path, text, fault) {
+        Ok(told) => ProgramFault::Explained { told },
+        Err(_) => ProgramFault::NoMemory,
+    }
+}
+
+/// A fault's line and its explanation.
+fn with_explanation(
+    alloc: Global,
+    line: &ProgramFault<'_>,
+    path: &str,
+    text: &[u8],
+    fault: SpecFault,
+) -> Result<String, AllocError> {
+    let (offset, sentence) = match fault {
+        SpecFault::Text(error) => (error.offset, text_sentence(error.kind)),
+        SpecFault::Binding(error) => (error.offset, binding_sentence(error.kind)),
+    };
+    let explanation = explained(alloc, path, text, offset, sentence)?;
+    format!(in alloc; "{line}\n{explanation}")
+}
+
+pub(crate) fn range_fault(path: &str, fault: RangeFault) -> ProgramFault<'_>
+    ensures { status_of result ≡ range_status fault }
+{
     match fault {
         RangeFault::Spec(fault) => spec_fault(path, fault),
         RangeFault::Run(error) => run_fault(path, error),
@@ -38,22 +87,21 @@ pub(crate) fn range_fault(path: &str, fault: RangeFault) -> ProgramFault<'_> {
     }
 }
 
-pub(crate) fn join_fault<'a>(paths: &[&'a str], fault: JoinFault) -> ProgramFault<'a> {
+pub(crate) fn join_fault<'a>(paths: &[&'a str], fault: JoinFault) -> ProgramFault<'a>
+    requires { IsPlaced (length paths.now) fault }
+    ensures { status_of result ≡ join_status fault }
+{
     match fault {
-        JoinFault::File { place, fault } => match paths.get(place) {
-            Some(path) => file_fault(path, fault),
-            None => ProgramFault::NoMemory,
-        },
-        JoinFault::OtherSpec { place } => match paths.get(place) {
-            Some(path) => ProgramFault::OtherSpec { path },
-            None => ProgramFault::NoMemory,
-        },
+        JoinFault::File { place, fault } => file_fault(paths[place], fault),
+        JoinFault::OtherSpec { place } => ProgramFault::OtherSpec { path: paths[place] },
         JoinFault::NoMemory => ProgramFault::NoMemory,
         JoinFault::Write(error) => write_fault(error),
     }
 }
 
-pub(crate) fn report_fault(path: &str, fault: ReportFileFault) -> ProgramFault<'_> {
+pub(crate) fn report_fault(path: &str, fault: ReportFileFault) -> ProgramFault<'_>
+    ensures { status_of result ≡ report_status fault }
+{
     match fault {
         ReportFileFault::File(fault) => file_fault(path, fault),
         ReportFileFault::Report(ReportFault::Report(error)) => values_fault(path, error),
@@ -61,7 +109,9 @@ pub(crate) fn report_fault(path: &str, fault: ReportFileFault) -> ProgramFault<'
     }
 }
 
-fn values_fault(path: &str, error: ReportError) -> ProgramFault<'_> {
+fn values_fault(path: &str, error: ReportError) -> ProgramFault<'_>
+    ensures { status_of result ≡ values_status error }
+{
     match error {
         ReportError::TooMany => ProgramFault::TooManyRanks { path },
         ReportError::Missing(rank) => ProgramFault::Missing { path, rank },
@@ -70,7 +120,9 @@ fn values_fault(path: &str, error: ReportError) -> ProgramFault<'_> {
     }
 }
 
-fn file_fault(path: &str, fault: FileFault) -> ProgramFault<'_> {
+fn file_fault(path: &str, fault: FileFault) -> ProgramFault<'_>
+    ensures { status_of result ≡ file_status fault }
+{
     match fault {
         FileFault::Unopened | FileFault::Book(BookError::ReadFault) => ProgramFault::Read { path },
         FileFault::Book(BookError::NoMemory) => ProgramFault::NoMemory,
@@ -81,7 +133,9 @@ fn file_fault(path: &str, fault: FileFault) -> ProgramFault<'_> {
     }
 }
 
-fn write_fault<'a>(error: WriteError) -> ProgramFault<'a> {
+fn write_fault<'a>(error: WriteError) -> ProgramFault<'a>
+    ensures { status_of result ≡ write_status error }
+{
     match error {
         WriteError::TooLarge => ProgramFault::BookTooLarge,
         WriteError::NoMemory => ProgramFault::NoMemory,
@@ -89,14 +143,18 @@ fn write_fault<'a>(error: WriteError) -> ProgramFault<'a> {
     }
 }
 
-fn spec_fault(path: &str, fault: SpecFault) -> ProgramFault<'_> {
+fn spec_fault(path: &str, fault: SpecFault) -> ProgramFault<'_>
+    ensures { status_of result ≡ spec_status fault }
+{
     match fault {
         SpecFault::Text(error) => text_fault(path, error),
         SpecFault::Binding(error) => bind_fault(path, error),
     }
 }
 
-fn text_fault(path: &str, error: SpecError) -> ProgramFault<'_> {
+fn text_fault(path: &str, error: SpecError) -> ProgramFault<'_>
+    ensures { status_of result ≡ text_status error.kind }
+{
     match error.kind {
         SpecErrorKind::NoMemory => ProgramFault::NoMemory,
         kind => ProgramFault::Spec {
@@ -107,7 +165,9 @@ fn text_fault(path: &str, error: SpecError) -> ProgramFault<'_> {
     }
 }
 
-fn bind_fault(path: &str, error: BindError) -> ProgramFault<'_> {
+fn bind_fault(path: &str, error: BindError) -> ProgramFault<'_>
+    ensures { status_of result ≡ binding_status error.kind }
+{
     let offset = error.offset as u64;
     match error.kind {
         BindErrorKind::NoMemory => ProgramFault::NoMemory,
@@ -124,7 +184,9 @@ fn bind_fault(path: &str, error: BindError) -> ProgramFault<'_> {
     }
 }
 
-fn run_fault(path: &str, error: RunError) -> ProgramFault<'_> {
+fn run_fault(path: &str, error: RunError) -> ProgramFault<'_>
+    ensures { status_of result ≡ run_status error }
+{
     match error {
         RunError::OutOfRange => ProgramFault::Shard { path, kind: 1 },
         RunError::TooLong => ProgramFault::Shard { path, kind: 2 },
@@ -133,7 +195,9 @@ fn run_fault(path: &str, error: RunError) -> ProgramFault<'_> {
     }
 }
 
-fn start_fault(path: &str, error: StartError) -> ProgramFault<'_> {
+fn start_fault(path: &str, error: StartError) -> ProgramFault<'_>
+    ensures { status_of result ≡ start_status error }
+{
     let kind = error.number();
     match error {
         StartError::SetupFailed { block } => ProgramFault::Start {

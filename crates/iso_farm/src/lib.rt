@@ -14,8 +14,8 @@ mod single;
 mod spec;
 mod words;
 
-pub use commands::{run, tell_words_fault};
-pub use counting::{CountFault, count};
+pub use commands::{answer, run, tell_words_fault};
+pub use counting::{CountFault, check, count};
 pub use fault::ProgramFault;
 pub use faults::fault_at;
 pub use files::{MAX_SPEC_READ, Opener};
@@ -25,3 +25,4 @@ pub use ranges::{MAX_RANGE, RangeFault, book_of_range, run_range};
 pub use reporting::{ReportFault, ReportFileFault, report_file, write_report};
 pub use single::{OneFault, one, one_of};
 pub use spec::{SpecFault, spec_of};
+pub use words::{Asked, parse_words};

@@ -12,11 +12,15 @@ const MAX_BOOKS: usize = 1_000;
 
 /// What the words ask for.
 #[derive(Drop)]
-pub(crate) enum Asked<'a> {
+pub enum Asked<'a> {
     /// One permutation of the spec at a path.
     One {
         path: &'a str,
         rank: u64,
+    },
+    /// Whether the file at a path is a spec, and how much it has.
+    Check {
+        path: &'a str,
     },
     /// The number of permutations of the spec at a path.
     Count {
@@ -40,7 +44,7 @@ pub(crate) enum Asked<'a> {
 }
 
 /// What the words ask for, the first of which is the program's name.
-pub(crate) fn parse_words<'a>(alloc: Global, words: &'a [String]) -> Result<Asked<'a>, Error> {
+pub fn parse_words<'a>(alloc: Global, words: &'a [String]) -> Result<Asked<'a>, Error> {
     let matches = command(alloc)?.try_get_matches_from(words)?;
     match asked_of(alloc, &matches)? {
         Some(asked) => Ok(asked),
@@ -59,11 +63,18 @@ fn command<'a>(alloc: Global) -> Result<Command<'a>, AllocError> {
         .about("Runs the steps of SQL sessions in their orders, under two-phase locking")
         .version(VERSION)
         .subcommand_required(true)
+        .subcommand(check_command(alloc)?)?
         .subcommand(one_command(alloc)?)?
         .subcommand(count_command(alloc)?)?
         .subcommand(run_command(alloc)?)?
         .subcommand(join_command(alloc)?)?
         .subcommand(report_command(alloc)?)
+}
+
+fn check_command<'a>(alloc: Global) -> Result<Command<'a>, AllocError> {
+    Command::new(alloc, "check")
+        .about("Prints how much a spec has, or where it is wrong and why")
+        .arg(spec_word(alloc))
 }
 
 fn one_command<'a>(alloc: Global) -> Result<Command<'a>, AllocError> {
@@ -133,6 +144,9 @@ fn number_word<'a>(alloc: Global, name: &'a str, help: &'a str) -> Arg<'a> {
 }
 
 fn asked_of<'a>(alloc: Global, matches: &ArgMatches<'a>) -> Result<Option<Asked<'a>>, AllocError> {
+    if let Some(words) = matches.subcommand_matches("check") {
+        return Ok(check_of_words(words));
+    }
     if let Some(words) = matches.subcommand_matches("one") {
         return Ok(one_of_words(words));
     }
@@ -149,6 +163,11 @@ fn asked_of<'a>(alloc: Global, matches: &ArgMatches<'a>) -> Result<Option<Asked<
         Some(words) => Ok(report_of_words(words)),
         None => Ok(None),
     }
+}
+
+fn check_of_words<'a>(words: &ArgMatches<'a>) -> Option<Asked<'a>> {
+    let path = words.get_str("SPEC")?;
+    Some(Asked::Check { path })
 }
 
 fn one_of_words<'a>(words: &ArgMatches<'a>) -> Option<Asked<'a>> {

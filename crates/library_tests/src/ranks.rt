@@ -1,7 +1,6 @@
 use perm_ranks::{Shape, ShapeError, Word, swapped};
+use std::alloc::{AllocError, Global};
 use std::process::Abort;
-
-const LARGEST: [u8; 6] = [4, 4, 4, 4, 4, 4];
 
 fn shape_of(rt: &impl Abort, counts: &[u8]) -> Shape {
     Shape::of(counts).expect(rt, "a shape")
@@ -11,185 +10,248 @@ fn word_of(rt: &impl Abort, letters: &[u8]) -> Word {
     Word::try_from(letters).expect(rt, "a word has at most 24 letters")
 }
 
+/// Counts that are no shape, each with why.
+static NO_SHAPES: [(&[u8], ShapeError); 10] = [
+    (&[], ShapeError::Empty),
+    (&[0], ShapeError::Empty),
+    (&[25, 0], ShapeError::Empty),
+    (&[9, 9, 9, 9, 9, 9, 0], ShapeError::Empty),
+    (&[9, 9, 9, 9, 9, 9, 9], ShapeError::TooManySessions),
+    (&[1, 1, 1, 1, 1, 1, 1], ShapeError::TooManySessions),
+    (&[25], ShapeError::TooManySteps),
+    (&[24, 1], ShapeError::TooManySteps),
+    (&[12, 13], ShapeError::TooManySteps),
+    (&[255, 255, 255, 255, 255, 255], ShapeError::TooManySteps),
+];
+
+fn assert_refused(rt: &impl Abort, counts: &[u8], want: ShapeError) {
+    let refused = Shape::of(counts).err();
+    assert!(rt; refused == Some(want), "{counts:?} is no shape");
+}
+
 #[test]
 fn refusals_come_in_their_order(rt: HostRuntime) {
-    for (counts, want) in [
-        ([].as_slice(), ShapeError::Empty),
-        ([0].as_slice(), ShapeError::Empty),
-        ([25, 0].as_slice(), ShapeError::Empty),
-        ([9, 9, 9, 9, 9, 9, 0].as_slice(), ShapeError::Empty),
-        (
-            [9, 9, 9, 9, 9, 9, 9].as_slice(),
-            ShapeError::TooManySessions,
-        ),
-        (
-            [1, 1, 1, 1, 1, 1, 1].as_slice(),
-            ShapeError::TooManySessions,
-        ),
-        ([25].as_slice(), ShapeError::TooManySteps),
-        ([24, 1].as_slice(), ShapeError::TooManySteps),
-        ([12, 13].as_slice(), ShapeError::TooManySteps),
-        (
-            [255, 255, 255, 255, 255, 255].as_slice(),
-            ShapeError::TooManySteps,
-        ),
-    ] {
-        match Shape::of(counts) {
-            Ok(_) => assert!(rt; false, "{counts:?} is no shape"),
-            Err(error) => assert_eq!(rt; error, want, "{counts:?}"),
-        }
+    for (counts, want) in &NO_SHAPES {
+        assert_refused(&rt, counts, *want);
     }
+}
+
+/// Shapes, each with how many words it has.
+static COUNTS: [(&[u8], u64); 10] = [
+    (&[1], 1),
+    (&[3], 1),
+    (&[24], 1),
+    (&[1, 1], 2),
+    (&[2, 2], 6),
+    (&[3, 2, 1], 60),
+    (&[12, 12], 2704156),
+    (&[8, 8, 8], 9465511770),
+    (&[6, 6, 6, 6], 2308743493056),
+    (&[4, 4, 4, 4, 4, 4], 3246670537110000),
+];
+
+fn assert_count(rt: &impl Abort, counts: &[u8], want: u64) {
+    let count = shape_of(rt, counts).count();
+    assert!(rt; count == want, "{counts:?}");
 }
 
 #[test]
 fn counts_are_multinomials(rt: HostRuntime) {
-    for (counts, want) in [
-        ([1].as_slice(), 1),
-        ([3].as_slice(), 1),
-        ([24].as_slice(), 1),
-        ([1, 1].as_slice(), 2),
-        ([2, 2].as_slice(), 6),
-        ([3, 2, 1].as_slice(), 60),
-        ([12, 12].as_slice(), 2704156),
-        ([8, 8, 8].as_slice(), 9465511770),
-        ([6, 6, 6, 6].as_slice(), 2308743493056),
-        (LARGEST.as_slice(), 3246670537110000),
-    ] {
-        assert_eq!(rt; shape_of(&rt, counts).count(), want, "{counts:?}");
+    for (counts, want) in &COUNTS {
+        assert_count(&rt, counts, *want);
     }
 }
+
+/// The word of the rank is this one, and the rank of the word is that one.
+fn assert_word(rt: &impl Abort, shape: &Shape, rank: u64, letters: &[u8]) {
+    let word = shape.unrank(rank).expect(rt, "a rank of the shape");
+    assert!(rt; word.as_slice() == letters, "rank {rank}");
+    assert_rank(rt, shape, letters, Some(rank));
+}
+
+fn assert_rank(rt: &impl Abort, shape: &Shape, letters: &[u8], want: Option<u64>) {
+    let rank = shape.rank(&word_of(rt, letters));
+    assert!(rt; rank == want, "{letters:?}");
+}
+
+fn assert_no_word(rt: &impl Abort, shape: &Shape, rank: u64) {
+    let found = shape.unrank(rank).is_some();
+    assert!(rt; !found, "rank {rank}");
+}
+
+/// The words of two sessions of two steps, by their ranks.
+static WORDS: [[u8; 4]; 6] = [
+    [0, 0, 1, 1],
+    [0, 1, 0, 1],
+    [0, 1, 1, 0],
+    [1, 0, 0, 1],
+    [1, 0, 1, 0],
+    [1, 1, 0, 0],
+];
 
 #[test]
 fn words_of_two_sessions_stand_in_order(rt: HostRuntime) {
     let shape = shape_of(&rt, &[2, 2]);
-    for (rank, want) in [
-        (0, [0, 0, 1, 1]),
-        (1, [0, 1, 0, 1]),
-        (2, [0, 1, 1, 0]),
-        (3, [1, 0, 0, 1]),
-        (4, [1, 0, 1, 0]),
-        (5, [1, 1, 0, 0]),
-    ] {
-        let word = shape.unrank(rank).expect(&rt, "a rank of the shape");
-        assert_eq!(rt; word.as_slice(), want.as_slice(), "rank {rank}");
-        assert_eq!(rt; shape.rank(&word), Some(rank));
+    for (rank, letters) in (0..6).zip(&WORDS) {
+        assert_word(&rt, &shape, rank, letters);
     }
-    assert!(rt; shape.unrank(6).is_none());
-    assert_eq!(rt; shape.rank(&word_of(&rt, &[0, 0, 0, 1])), None);
+    assert_no_word(&rt, &shape, 6);
+    assert_rank(&rt, &shape, &[0, 0, 0, 1], None);
 }
+
+/// The word of a rank, of which the rank is that one again.
+fn word_at(rt: &impl Abort, shape: &Shape, rank: u64) -> Word {
+    let word = shape.unrank(rank).expect(rt, "a rank of the shape");
+    assert!(rt; shape.rank(&word) == Some(rank), "rank {rank}");
+    word
+}
+
+fn assert_rises(rt: &impl Abort, before: &Word, word: &Word) {
+    assert!(rt; before.as_slice() < word.as_slice());
+}
+
+fn assert_words_rise(rt: &impl Abort, shape: &Shape) {
+    let mut before = Word::new();
+    for rank in 0..shape.count() {
+        let word = word_at(rt, shape, rank);
+        assert_rises(rt, &before, &word);
+        before = word;
+    }
+}
+
+static SMALL_SHAPES: [&[u8]; 4] = [&[1, 1, 1], &[3, 2, 1], &[1, 3, 1, 2], &[1, 1, 1, 1, 1, 1]];
 
 #[test]
 fn every_word_of_small_shapes_is_larger_than_the_one_before(rt: HostRuntime) {
-    for counts in [
-        [1, 1, 1].as_slice(),
-        [3, 2, 1].as_slice(),
-        [1, 3, 1, 2].as_slice(),
-        [1, 1, 1, 1, 1, 1].as_slice(),
-    ] {
+    for counts in &SMALL_SHAPES {
         let shape = shape_of(&rt, counts);
-        let mut before = Word::new();
-        for rank in 0..shape.count() {
-            let word = shape.unrank(rank).expect(&rt, "a rank of the shape");
-            assert!(rt; before.as_slice() < word.as_slice(), "{counts:?} at {rank}");
-            assert_eq!(rt; shape.rank(&word), Some(rank), "{counts:?}");
-            before = word;
-        }
-        assert!(rt; shape.unrank(shape.count()).is_none(), "{counts:?}");
+        assert_words_rise(&rt, &shape);
+        assert_no_word(&rt, &shape, shape.count());
     }
 }
+
+/// 65 ranks with like distances between them, the first one among them.
+fn assert_ranks_go_round(rt: &impl Abort, shape: &Shape, last: u64) {
+    for part in 0..=64 {
+        let _word = word_at(rt, shape, last / 64 * part);
+    }
+}
+
+static LARGE_SHAPES: [&[u8]; 5] = [
+    &[4, 4, 4, 4, 4, 4],
+    &[12, 12],
+    &[8, 8, 8],
+    &[19, 1, 1, 1, 1, 1],
+    &[24],
+];
 
 #[test]
 fn ranks_of_the_largest_shapes_go_round(rt: HostRuntime) {
-    for counts in [
-        LARGEST.as_slice(),
-        [12, 12].as_slice(),
-        [8, 8, 8].as_slice(),
-        [19, 1, 1, 1, 1, 1].as_slice(),
-        [24].as_slice(),
-    ] {
+    for counts in &LARGE_SHAPES {
         let shape = shape_of(&rt, counts);
         let last = shape.count() - 1;
-        for part in 0..=64 {
-            let rank = last / 64 * part;
-            let word = shape.unrank(rank).expect(&rt, "a rank of the shape");
-            assert_eq!(rt; shape.rank(&word), Some(rank), "{counts:?}");
-        }
-        let word = shape.unrank(last).expect(&rt, "the last rank");
-        assert_eq!(rt; shape.rank(&word), Some(last), "{counts:?}");
-        assert!(rt; shape.unrank(u64::MAX).is_none(), "{counts:?}");
+        assert_ranks_go_round(&rt, &shape, last);
+        let _word = word_at(&rt, &shape, last);
+        assert_no_word(&rt, &shape, u64::MAX);
     }
 }
 
+static FIRST: [u8; 24] = [
+    0, 0, 0, 0, 1, 1, 1, 1, 2, 2, 2, 2, 3, 3, 3, 3, 4, 4, 4, 4, 5, 5, 5, 5,
+];
+
+static LAST: [u8; 24] = [
+    5, 5, 5, 5, 4, 4, 4, 4, 3, 3, 3, 3, 2, 2, 2, 2, 1, 1, 1, 1, 0, 0, 0, 0,
+];
+
 #[test]
 fn first_and_last_words_are_sorted(rt: HostRuntime) {
-    let shape = shape_of(&rt, &LARGEST);
-    let first = word_of(
-        &rt,
-        &[
-            0, 0, 0, 0, 1, 1, 1, 1, 2, 2, 2, 2, 3, 3, 3, 3, 4, 4, 4, 4, 5, 5, 5, 5,
-        ],
-    );
-    let last = word_of(
-        &rt,
-        &[
-            5, 5, 5, 5, 4, 4, 4, 4, 3, 3, 3, 3, 2, 2, 2, 2, 1, 1, 1, 1, 0, 0, 0, 0,
-        ],
-    );
-    assert_eq!(rt; shape.rank(&first), Some(0));
-    assert_eq!(rt; shape.rank(&last), Some(3246670537109999));
-    let unranked = shape.unrank(3246670537109999).expect(&rt, "the last rank");
-    assert_eq!(rt; unranked.as_slice(), last.as_slice());
+    let shape = shape_of(&rt, &[4, 4, 4, 4, 4, 4]);
+    assert_word(&rt, &shape, 0, &FIRST);
+    assert_word(&rt, &shape, 3246670537109999, &LAST);
 }
+
+/// Words that are none of two sessions of two steps and one.
+static OTHER_WORDS: [&[u8]; 7] = [
+    &[],
+    &[0, 0],
+    &[0, 1, 1],
+    &[0, 0, 0],
+    &[0, 0, 2],
+    &[0, 255, 1],
+    &[0, 0, 1, 0],
+];
 
 #[test]
 fn other_words_have_no_rank(rt: HostRuntime) {
     let shape = shape_of(&rt, &[2, 1]);
-    for letters in [
-        [].as_slice(),
-        [0, 0].as_slice(),
-        [0, 1, 1].as_slice(),
-        [0, 0, 0].as_slice(),
-        [0, 0, 2].as_slice(),
-        [0, 255, 1].as_slice(),
-        [0, 0, 1, 0].as_slice(),
-    ] {
-        assert_eq!(rt; shape.rank(&word_of(&rt, letters)), None, "{letters:?}");
+    for letters in &OTHER_WORDS {
+        assert_rank(&rt, &shape, letters, None);
     }
+}
+
+/// A word, the place of a letter, and the word with it and the next one exchanged, where they fall.
+static SWAPS: [(&[u8], u8, Option<&[u8]>); 14] = [
+    (&[2, 0, 1, 1, 0], 0, Some(&[0, 2, 1, 1, 0])),
+    (&[2, 0, 1, 1, 0], 3, Some(&[2, 0, 1, 0, 1])),
+    (&[2, 0, 1, 1, 0], 1, None),
+    (&[2, 0, 1, 1, 0], 2, None),
+    (&[2, 0, 1, 1, 0], 4, None),
+    (&[2, 0, 1, 1, 0], 5, None),
+    (&[2, 0, 1, 1, 0], 255, None),
+    (&[0, 1, 0, 1], 1, Some(&[0, 0, 1, 1])),
+    (&[0, 1, 0, 1], 0, None),
+    (&[0, 0, 0], 0, None),
+    (&[0, 0, 0], 1, None),
+    (&[0, 0, 0], 2, None),
+    (&[0, 0, 0], 3, None),
+    (&[0, 0, 0], 255, None),
+];
+
+fn assert_swapped(rt: &impl Abort, letters: &[u8], k: u8, want: Option<&[u8]>) {
+    let other = swapped(&word_of(rt, letters), k);
+    let is_wanted = match (&other, want) {
+        (Some(other), Some(want)) => other.as_slice() == want,
+        (None, None) => true,
+        _ => false,
+    };
+    assert!(rt; is_wanted, "{letters:?} at {k}");
 }
 
 #[test]
 fn swaps_exchange_letters_that_fall(rt: HostRuntime) {
-    let word = word_of(&rt, &[2, 0, 1, 1, 0]);
-    for (k, want) in [(0, [0, 2, 1, 1, 0]), (3, [2, 0, 1, 0, 1])] {
-        let other = swapped(&word, k).expect(&rt, "letters that fall");
-        assert_eq!(rt; other.as_slice(), want.as_slice(), "at {k}");
+    for (letters, k, want) in &SWAPS {
+        assert_swapped(&rt, letters, *k, *want);
     }
-    for k in [1, 2, 4, 5, 255] {
-        assert!(rt; swapped(&word, k).is_none(), "at {k}");
-    }
-    let pair = word_of(&rt, &[0, 1, 0, 1]);
-    let lower = swapped(&pair, 1).expect(&rt, "letters that fall");
-    assert_eq!(rt; lower.as_slice(), [0, 0, 1, 1].as_slice());
-    assert!(rt; swapped(&pair, 0).is_none());
-    let alike = word_of(&rt, &[0, 0, 0]);
-    for k in [0, 1, 2, 3, 255] {
-        assert!(rt; swapped(&alike, k).is_none(), "at {k}");
-    }
+}
+
+/// Refusals, each with its number and its words.
+static REFUSALS: [(ShapeError, u8, &str); 3] = [
+    (
+        ShapeError::Empty,
+        1,
+        "no session, or a session without a step",
+    ),
+    (ShapeError::TooManySessions, 2, "too many sessions"),
+    (ShapeError::TooManySteps, 3, "too many steps"),
+];
+
+fn assert_words(
+    rt: &impl Abort,
+    alloc: Global,
+    error: ShapeError,
+    want: &str,
+) -> Result<(), AllocError> {
+    let words = error.to_string(alloc)?;
+    assert!(rt; words.as_str() == want, "{want}");
+    Ok(())
 }
 
 #[test]
 fn refusals_have_numbers_and_words(rt: HostRuntime) -> Result<(), std::test::Fail> {
-    for (error, number, want) in [
-        (
-            ShapeError::Empty,
-            1,
-            "no session, or a session without a step",
-        ),
-        (ShapeError::TooManySessions, 2, "too many sessions"),
-        (ShapeError::TooManySteps, 3, "too many steps"),
-    ] {
-        assert_eq!(rt; error.number(), number);
-        assert_eq!(rt; error.to_string(rt.alloc())?.as_str(), want);
+    for (error, number, want) in &REFUSALS {
+        assert!(rt; error.number() == *number);
+        assert_words(&rt, rt.alloc(), *error, want)?;
     }
     Ok(())
 }

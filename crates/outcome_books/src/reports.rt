@@ -41,6 +41,14 @@ impl Report {
         self.numbers.len() as u64
     }
 
+    /// The values, and for each rank the number of its own among them. Equal values may have several numbers.
+    pub fn parts(&self) -> (&[Outcome], &[usize])
+        ensures values { values_of result.0.now result.1.now ≡ self.now }
+        ensures numbered { AllBelow (length result.0.now) result.1.now }
+    {
+        (self.outcomes.as_slice(), self.numbers.as_slice())
+    }
+
     /// The value of a rank. None from `len` on.
     pub fn outcome(&self, rank: u64) -> Option<&Outcome>
         ensures { option_copied result ≡ slice_get self.now rank }

@@ -9,6 +9,7 @@ mod book_commands;
 #[cfg(test)]
 mod books;
 #[cfg(test)]
+mod checks;
 mod commands;
 #[cfg(test)]
 mod disks;

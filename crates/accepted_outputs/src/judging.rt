@@ -1,0 +1,39 @@
+//! A report judged by accepted ones.
+
+ghost use Rattle.std.specs.Prelude.{◌≡◌, All, IfOk};
+ghost use Rattle.quiet_steps.specs.Swap.{leads_in};
+ghost use Rattle.sql_subset.specs.Spec.{ranks};
+ghost use Rattle.outcome_books.specs.Values.{AreValues};
+ghost use Rattle.accepted_outputs.specs.Judging.{HasFewSessions, IsVerdict};
+
+use crate::comparing::first_difference;
+use crate::verdict::{Differences, Verdict};
+use outcome_books::{Book, Report};
+use std::alloc::{AllocError, Global};
+
+/// The first of the accepted reports that is equal to the report. Where none is, for each of them the first rank at which it differs,
+/// and there the first session that does. Where one report is longer, and both agree up to the end of the shorter one, the first
+/// rank behind that end differs, in session 0; where one outcome has more sessions, the first that the other lacks differs. Memory
+/// is all that can be refused. Two outcomes that stand side by side at ranks that follow one another are compared once.
+pub fn judge(alloc: Global, report: &Report, accepted: &[Report]) -> Result<Verdict, AllocError>
+    requires report { HasFewSessions report.now }
+    requires accepted { All HasFewSessions accepted.now }
+    ensures { IfOk result (IsVerdict report.now accepted.now) }
+{
+    let mut places = Vec::new(alloc);
+    for index in 0..accepted.len() {
+        match first_difference(alloc, report, &accepted[index])? {
+            None => return Ok(Verdict::Matches(index)),
+            Some(place) => places.push(place)?,
+        }
+    }
+    Ok(Verdict::Differs(Differences::from_vec(places)))
+}
+
+/// Each outcome that a book reports has few enough sessions to be judged.
+pub fn reports_have_few_sessions(book: &Book, report: &Report)
+    requires { AreValues book.now.facts (leads_in book.now.file.run) (ranks book.now.file.run) report.now }
+    ensures { HasFewSessions report.now }
+{
+    book.known();
+}

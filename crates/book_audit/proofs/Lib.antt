@@ -1,0 +1,3 @@
+pub mod Trails
+pub mod Tests
+pub mod Least

@@ -1,0 +1,13 @@
+use Rattle.std.proofs.Common.{◌≡◌, ◌≤◌, ◌++◌, ◌∷◌, List, length}
+use Rattle.session_machine.specs.Running.{Running}
+use Rattle.book_audit.specs.Trails.{worlds_of}
+use Rattle.book_audit.proofs.trail.Trail.go_back.Given as goal
+
+abbrev pub invariant-later : goal.invariant-later
+invariant-later l = record {
+  enough : l.steps ≤ length l.self.below.items;
+  front : (rest : List Running) × (worlds_of l.initial.self ≡ l.self.below.items ++ (l.self.top ∷ rest));
+}
+
+abbrev pub decreases-later : goal.decreases-later
+decreases-later l = length l.self.below.items

@@ -1,0 +1,21 @@
+//! The audit of a book.
+
+ghost use Rattle.book_audit.specs.Audit.{IsAudit};
+
+use crate::error::AuditError;
+use crate::finding::{finding_of, told};
+use crate::source::spec_of;
+use outcome_books::Book;
+use std::alloc::Global;
+
+/// Tests each fact of a book, on one thread: an outcome is true at the rank whose line tells it, and a swap at each place of a word
+/// where it may be made, the least of them or not. Where the spec does not start, no fact is true; a book without facts is good.
+/// Answers the least rank with a fact that is not true, if there is one. A swap is tested once for all ranks of a run whose words
+/// share the letters up to the one behind its place.
+pub fn audit_plain(alloc: Global, book: &Book) -> Result<(), AuditError>
+    ensures { IsAudit book.now result }
+{
+    let (outcomes, runs) = book.parts();
+    let spec = spec_of(alloc, book)?;
+    told(finding_of(alloc, &spec, outcomes, runs))
+}

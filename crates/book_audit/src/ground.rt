@@ -1,0 +1,102 @@
+//! Whether facts of a spec are true, whether it starts or not.
+
+ghost use Rattle.std.specs.Prelude.{◌≡◌, ◌<◌, length, IfOk, OnOk};
+ghost use Rattle.quiet_steps.specs.declared.fact.Fact.TheVariants as fact;
+ghost use Rattle.outcome_books.specs.Runs.{IsNumbered, fact_in};
+ghost use Rattle.book_audit.specs.Trails.{IsAuditor, IsGround, IsTrueUntil};
+ghost use Rattle.book_audit.specs.Findings.{IsFirstFalse};
+
+use crate::auditor::Auditor;
+use outcome_books::{Run, Tag};
+use session_machine::{StartError, World};
+use sql_subset::Spec;
+use std::alloc::{AllocError, Global};
+use transcripts::Outcome;
+
+/// What facts of a spec are tested on.
+#[derive(Drop)]
+pub(crate) enum Ground<'a> {
+    Started(Auditor<'a>),
+    /// The spec does not start: nothing is true.
+    Refused,
+}
+
+impl<'a> Ground<'a> {
+    pub(crate) fn of(alloc: Global, spec: &'a Spec) -> Result<Ground<'a>, AllocError>
+        ensures { IfOk result (IsGround spec.now) }
+    {
+        match World::start(alloc, spec) {
+            Ok(world) => Ok(Ground::Started(Auditor::new(alloc, spec, world))),
+            Err(StartError::NoMemory) => Err(AllocError),
+            Err(
+                StartError::SetupFailed { .. }
+                | StartError::SessionSetupFailed { .. }
+                | StartError::SessionSetupWaits { .. },
+            ) => Ok(Ground::Refused),
+        }
+    }
+
+    /// The least rank of a run, and below an end, at which what the run says is not true.
+    pub(crate) fn first_false(
+        &mut self,
+        spec: &Spec,
+        outcomes: &[Outcome],
+        run: Run,
+        end: u64,
+    ) -> Result<Option<u64>, AllocError>
+        requires ground { IsGround spec.now self.old }
+        requires numbered { IsNumbered (length outcomes.now) run.tag }
+        ensures ground { OnOk result (IsGround spec.now self.new) }
+        ensures answer { IfOk result (IsFirstFalse spec.now.run (fact_in outcomes.now run.tag) run.first end) }
+    {
+        let mut rank = run.first;
+        while rank < end {
+            let Some(after) = self.true_until(spec, outcomes, run.tag, rank)? else {
+                return Ok(Some(rank));
+            };
+            rank = after;
+        }
+        Ok(None)
+    }
+
+    /// Up to which rank what a tag says is true from this rank on. None where it is not true there.
+    fn true_until(
+        &mut self,
+        spec: &Spec,
+        outcomes: &[Outcome],
+        tag: Tag,
+        rank: u64,
+    ) -> Result<Option<u64>, AllocError>
+        requires ground { IsGround spec.now self.old }
+        requires numbered { IsNumbered (length outcomes.now) tag }
+        requires last { rank < u64.MAX }
+        ensures ground { OnOk result (IsGround spec.now self.new) }
+        ensures answer { IfOk result (IsTrueUntil spec.now.run (fact_in outcomes.now tag) rank) }
+    {
+        match self {
+            Ground::Started(auditor) => match tag {
+                Tag::Ran(number) => ran_until(auditor, &outcomes[number], rank),
+                Tag::Swap(place) => auditor.swap_until(rank, place),
+            },
+            Ground::Refused => Ok(None),
+        }
+    }
+}
+
+/// Behind the rank, if this is its outcome.
+fn ran_until(
+    auditor: &mut Auditor<'_>,
+    told: &Outcome,
+    rank: u64,
+) -> Result<Option<u64>, AllocError>
+    requires auditor { IsAuditor auditor.old.spec.now auditor.old }
+    requires last { rank < u64.MAX }
+    ensures auditor { OnOk result (IsAuditor auditor.old.spec.now auditor.new) }
+    ensures answer { IfOk result (IsTrueUntil auditor.old.spec.now.run (fact.Ran told.now) rank) }
+{
+    if auditor.is_ran(rank, told)? {
+        Ok(Some(rank + 1))
+    } else {
+        Ok(None)
+    }
+}

@@ -1,0 +1,13 @@
+//! Audits: each fact of a book is tested again.
+#![tactic(auto)]
+
+mod auditing;
+mod auditor;
+mod error;
+mod finding;
+mod ground;
+mod source;
+mod trail;
+
+pub use auditing::audit_plain;
+pub use error::AuditError;

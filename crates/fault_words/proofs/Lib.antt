@@ -1,0 +1,2 @@
+mod BlankLemmas
+mod PlaceLemmas

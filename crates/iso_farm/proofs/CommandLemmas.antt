@@ -1,0 +1,28 @@
+-- What is written and then passed on.
+use Rattle.std.specs.Prelude.{⊤}
+use Rattle.std.proofs.Common.{◌≡◌, refl, List, ℕ, Option, Result, Ok, Err, OnOk, ◌⊎◌, inl, inr}
+use Rattle.transcripts.specs.Counted.{Wrote}
+use Rattle.transcripts.specs.declared.counted.Counted.{Counted}
+use Rattle.iso_farm.specs.declared.fault.ProgramFault.{ProgramFault}
+use Rattle.spec_reader.specs.declared.error.Kind.TheVariants.{NoMemory}
+use Rattle.iso_farm.specs.declared.spec.SpecFault.{SpecFault}
+use Rattle.iso_farm.specs.declared.spec.SpecFault.TheVariants.{Text}
+use Rattle.iso_farm.specs.declared.counting.CountFault.TheVariants.{Spec}
+use Rattle.iso_farm.specs.SpecFiles.{IsNoSpec}
+use Rattle.iso_farm.specs.Status.{status_of, spec_status, count_status}
+use Rattle.iso_farm.specs.Counting.{IsChecked}
+use Rattle.iso_farm.specs.Commands.{IsPassedOn, IsTold}
+
+pub passed-on : {W : Type 0} (contents : W → Option (List ℕ)) (old mid new : Counted W) (text : List ℕ) (result : Result ⊤ ProgramFault)
+    → Wrote contents old mid text → IsPassedOn contents mid new (Ok tt) result
+    → OnOk result ((between : Counted W) × Wrote contents old between text × IsPassedOn contents between new (Ok tt) (Ok tt))
+passed-on contents old mid new text (Ok done) w p = (mid, w, p)
+passed-on contents old mid new text (Err fault) w p = tt
+
+-- a file that is no spec is told as such, or want of memory is told in place of that
+pub check-refused : {W : Type 0} (contents : W → Option (List ℕ)) (old new : Counted W) (bytes : List ℕ) (fault : SpecFault) (told : ProgramFault)
+    → new ≡ old → IsNoSpec bytes fault → (status_of told ≡ spec_status fault) ⊎ (status_of told ≡ 4)
+    → IsTold (IsChecked contents old new bytes) count_status (Err told)
+check-refused contents old new bytes fault told same none (inl is) = (Spec fault, (same, none), is)
+check-refused contents old new bytes fault told same none (inr is) =
+    (Spec (Text (record { kind = NoMemory; offset = 0 })), (same, inl (refl, refl)), is)

@@ -1,0 +1,24 @@
+use Rattle.std.proofs.Common.{◌≡◌, sym, ap, subst, inr, Ok, Err}
+use Rattle.iso_farm.specs.Status.{count_status}
+use Rattle.iso_farm.specs.Counting.{IsChecked}
+use Rattle.iso_farm.proofs.commands.check_of_file.Goals as goal
+
+pub returns-in-Ok-check-clause-done : goal.returns-in-Ok-check-clause-done
+returns-in-Ok-check-clause-done g c =
+    inr (
+      c.in-Ok.bytes.items,
+      c.in-Ok.ensures.read,
+      subst (λ b. IsChecked g.W.Write.contents c.args.out.now c.check.new.out b (Ok tt)) c.as_slice.ensures.value c.in-Ok-check.ensures,
+    )
+
+pub returns-clause-done : goal.returns-clause-done
+returns-clause-done g c =
+    inr (
+      c.in-Ok.bytes.items,
+      c.in-Ok.ensures.read,
+      (
+        c.in-Err-Write.field-0,
+        subst (λ b. IsChecked g.W.Write.contents c.args.out.now c.check.new.out b (Err c.in-Err-Write.field-0)) c.as_slice.ensures.value c.in-Err-Write.ensures,
+        sym (ap count_status c.in-Err-Write.field-0-is),
+      ),
+    )

@@ -1,0 +1,13 @@
+mod TotalLemmas
+mod HistoryLemmas
+mod RowLemmas
+mod TakeLemmas
+mod EndLemmas
+mod ClaimLemmas
+mod StepLemmas
+mod TurnLemmas
+mod NoteLemmas
+mod RestLemmas
+mod OpeningLemmas
+mod ClosingLemmas
+mod GrowthLemmas

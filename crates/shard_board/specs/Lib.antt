@@ -1,0 +1,9 @@
+pub mod Sums
+pub mod History
+pub mod Turning
+pub mod Claiming
+pub mod Shown
+pub mod Changes
+pub mod Refused
+pub mod Notes
+pub mod Closing
