@@ -1,12 +1,9 @@
 //! What sessions are told, in tables of runs.
 use crate::disks::{assert_tells, assert_text, holding, tell};
+use book_tests::spec_of;
 use std::alloc::{AllocError, Global};
 use std::process::Abort;
 use std::test::Fail;
-
-/// The table that `T` stands for in the runs.
-pub const TABLE: &str =
-    "setup { CREATE TABLE t (id int PRIMARY KEY, v int); INSERT INTO t VALUES (1, 10), (2, 20); }";
 
 /// Runs: a name, a rank, a spec, and what the sessions are told, with a slash between two lines.
 pub const RUNS: &str =
@@ -122,14 +119,6 @@ pub fn lines_of(alloc: Global, rank: &str, told: &str) -> Result<String, AllocEr
         write!(text, "{margin}{line}\n")?;
     }
     Ok(text)
-}
-
-/// The spec, with its table written out.
-pub fn spec_of(alloc: Global, text: &str) -> Result<String, AllocError> {
-    match text.strip_prefix("T ") {
-        Some(rest) => format!(in alloc; "{TABLE} {rest}"),
-        None => String::from_str(alloc, text),
-    }
 }
 
 /// A run tells its sessions what stands behind its spec.

@@ -1,6 +1,5 @@
 //! Book files by their calls: what is written of a book, and what a writer that fails has of it.
 use crate::books::job_of;
-use crate::disks::assert_text;
 use crate::walks::bound;
 use book_files::{WriteError, write_book};
 use outcome_books::{Book, join, make};
@@ -9,6 +8,14 @@ use std::io::{self, Write};
 use std::process::Abort;
 use std::test::Fail;
 use transcripts::Counted;
+
+/// Whether bytes are the text; else they are shown.
+fn assert_text(rt: &impl Abort, bytes: &[u8], want: &str, name: &str) {
+    match str::from_utf8(bytes) {
+        Ok(text) => assert_eq!(rt; text, want, "{name}"),
+        Err(_) => assert!(rt; false, "{name} is no UTF-8"),
+    }
+}
 
 /// Books: the shards of a job, its runs, its outcomes, and the spec.
 const BOOKS: &str = "0 1 yes | [[0,1,\"ran\",0]] | [[[[\"sent\",0],\"done\"]]] | session a step s {}

@@ -1,6 +1,6 @@
 //! The machine by its calls: a world takes steps, is forked, and tells its outcome and its locks. The tests without memory are
 //! to be read under `rt try --test --fail-alloc` too.
-use crate::runs::TABLE;
+use crate::texts::TABLE;
 use lock_modes::{Mode, Place, Value};
 use session_machine::{RunError, SendError, StartError, World, run_one};
 use spec_reader::read_spec;

@@ -1,6 +1,6 @@
 //! The walker by its calls: the facts of a shard, the steps sent for them, and what is refused. The tests without memory are to be
 //! read under `rt try --test --fail-alloc` too.
-use crate::runs::spec_of;
+use crate::texts::spec_of;
 use session_machine::RunError;
 use spec_reader::read_spec;
 use sql_subset::{Spec, bind};
