@@ -3,3 +3,4 @@ pub mod RangeLemmas
 pub mod ReportLemmas
 pub mod JoinLemmas
 pub mod CommandLemmas
+pub mod CutLemmas

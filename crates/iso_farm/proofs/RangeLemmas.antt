@@ -1,48 +1,36 @@
--- The facts of a range, part by part.
-use Rattle.std.proofs.Common.{◌≡◌, sym, subst, ◌∙◌, ℕ, ◌<◌, ◌≤◌, Bool, true, ◌||◌, ◌⊎◌, ⊎_elim, arith}
-use Rattle.std.proofs.lemmas.Bool.{or_cases, or_left, or_right}
+-- Refusals of ranges, and what their facts tell.
+use Rattle.std.proofs.Common.{◌≡◌, sym, subst, ◌∙◌, ℕ, Bool, true, ⊎_elim, inr, List}
+use Rattle.std.proofs.lemmas.Bool.{or_cases}
 use Rattle.std.specs.FinSet.{union}
 use Rattle.sql_subset.specs.Spec.{Spec, SpecFile}
+use Rattle.machine_model.specs.Start.{start}
+use Rattle.session_machine.specs.Running.{IsNotRunBy}
+use Rattle.session_machine.specs.declared.error.RunError.{RunError}
+use Rattle.session_machine.specs.declared.error.RunError.TheVariants as run_error
+use Rattle.step_reducer.specs.declared.walker.Shard.{Shard}
+use Rattle.shard_board.specs.Changes.{IsPlanOf}
+use Rattle.shard_farm.specs.Farming.{IsNotFarmed}
+use Rattle.shard_farm.specs.declared.error.FarmError.{FarmError}
+use Rattle.shard_farm.specs.declared.error.FarmError.TheVariants as farm_error
 use Rattle.quiet_steps.specs.Facts.{IsFactOf, IsTrueAt}
 use Rattle.quiet_steps.specs.declared.fact.Fact.{Fact}
 use Rattle.quiet_steps.specs.declared.fact.Fact.TheVariants.{Ran, Swap}
 use Rattle.outcome_books.specs.Entries.{FactSet, recorded}
-use Rattle.outcome_books.specs.Books.{Contents, joined}
-use Rattle.outcome_books.specs.Building.{AreFactsOf}
 use Rattle.outcome_books.proofs.SetLemmas.{in_union}
 use Rattle.iso_farm.specs.Laws.{RangesAreTrue, JoinsStayTrue}
-use Rattle.iso_farm.specs.Ranges.{IsBegun, IsPartOf}
+use Rattle.iso_farm.specs.Ranges.{IsRangeOf, IsNoRange, IsToldOf}
 
--- the facts up to here and those from here on
-pub facts-joined : (reduce : Bool) (spec : Spec) (first at end : ℕ) (s t : FactSet) → first ≤ at → at ≤ end
-    → AreFactsOf reduce spec first at s → AreFactsOf reduce spec at end t → AreFactsOf reduce spec first end (union s t)
-facts-joined reduce spec first at end s t low high a b r fact = (there, back)
-  where
-    there : recorded (union s t) r fact ≡ true → (first ≤ r) × (r < end) × IsFactOf reduce spec r fact
-    there h = ⊎_elim
-        (λ x. let p = (a r fact).0 x in let lt = p.1 in (p.0, omega (arith, lt, high), p.2))
-        (λ y. let p = (b r fact).0 y in let le = p.0 in (omega (arith, le, low), p.1, p.2))
-        (or_cases (recorded s r fact) (recorded t r fact) (sym (in_union s t (r, fact)) ∙ h))
-
-    back : (first ≤ r) × (r < end) × IsFactOf reduce spec r fact → recorded (union s t) r fact ≡ true
-    back h =
-        let cases : (r < at) ⊎ (at ≤ r) = grind arith in
-        in_union s t (r, fact)
-        ∙ ⊎_elim (λ lt. or_left _ _ ((a r fact).1 (h.0, lt, h.2))) (λ ge. or_right (recorded s r fact) _ ((b r fact).1 (ge, h.1, h.2))) cases
-
--- a part more
-pub begun-more : (file : SpecFile) (first at next end : ℕ) (reduce : Bool) (before more book : Contents) → IsBegun file first at end reduce before
-    → IsPartOf at end next → more.file ≡ file → AreFactsOf reduce file.run at next more.facts → book ≡ joined before more
-    → IsBegun file first next end reduce book
-begun-more file first at next end reduce before more book b part is facts all =
-    let low = b.from in
-    let up = part.order in
-    subst (IsBegun file first next end reduce) (sym all) (record {
-      from = omega (arith, low, up);
-      few = part.inside;
-      file_is = b.file_is;
-      facts = facts-joined reduce file.run first at next before.facts more.facts b.from part.order b.facts facts;
-    })
+-- a refusal of a run, told as that of the range
+pub not-run : (spec : Spec) (first end workers : ℕ) (reduce : Bool) (file : SpecFile) (shards : List Shard) (error : FarmError) (told : RunError)
+    → file.run ≡ spec → IsRangeOf spec first end → IsPlanOf spec shards workers → IsNotFarmed reduce file shards workers error → IsToldOf error told
+    → IsNoRange spec first end told
+not-run spec first end workers reduce file shards farm_error.BadPlan told is range plan no e = absurd (no (subst (λ s. IsPlanOf s shards workers) (sym is) plan))
+not-run spec first end workers reduce file shards (farm_error.Start error) told is range plan no e =
+    inr (range, subst (λ t. IsNotRunBy t (start spec)) (sym e) (subst (λ s. IsNotRunBy (run_error.Start error) (start s)) is no.1))
+not-run spec first end workers reduce file shards farm_error.NotStarted told is range plan no e =
+    inr (range, subst (λ t. IsNotRunBy t (start spec)) (sym e) tt)
+not-run spec first end workers reduce file shards (farm_error.NoMemory left) told is range plan no e =
+    inr (range, subst (λ t. IsNotRunBy t (start spec)) (sym e) tt)
 
 fact-true : (reduce : Bool) (spec : Spec) (r : ℕ) (fact : Fact) → IsFactOf reduce spec r fact → IsTrueAt spec r fact
 fact-true reduce spec r (Ran outcome) h = h.0

@@ -35,7 +35,7 @@ IsDone files contents old new (One path rank) result =
     IsUnread old new result ⊎ IsCalled (files path.now) (λ bytes. IsOneRun contents old new bytes rank) one_status result
 IsDone files contents old new (Check path) result = IsUnread old new result ⊎ IsCalled (files path.now) (IsChecked contents old new) count_status result
 IsDone files contents old new (Count path) result = IsUnread old new result ⊎ IsCalled (files path.now) (IsCounted contents old new) count_status result
-IsDone files contents old new (Run path first end every) result =
+IsDone files contents old new (Run path first end every workers) result =
     IsUnread old new result ⊎ IsCalled (files path.now) (λ bytes. IsRangeRun contents old new bytes first end (not every)) range_status result
 IsDone files contents old new (Join paths) result =
     ((paths.items ≡ []) × (new ≡ old) × (result ≡ Ok tt)) ⊎ IsTold (IsJoinRun files (map (λ p. p.now) paths.items) contents old new) join_status result

@@ -7,3 +7,4 @@ pub mod Joining
 pub mod Laws
 pub mod Status
 pub mod Commands
+pub mod Cutting

@@ -7,8 +7,9 @@ use Rattle.session_machine.specs.Running.{IsNotRunBy}
 use Rattle.session_machine.specs.declared.error.RunError.{RunError}
 use Rattle.session_machine.specs.declared.error.RunError.TheVariants as run_error
 use Rattle.transcripts.specs.declared.counted.Counted.{Counted}
-use Rattle.step_reducer.specs.declared.walker.TheConstants.{MAX_RANKS}
 use Rattle.step_reducer.specs.Walking.{Starts}
+use Rattle.shard_farm.specs.declared.error.FarmError.{FarmError}
+use Rattle.shard_farm.specs.declared.error.FarmError.TheVariants as farm_error
 use Rattle.outcome_books.specs.Books.{Contents}
 use Rattle.outcome_books.specs.Building.{AreFactsOf}
 use Rattle.book_files.specs.Writing.{IsWritten}
@@ -54,16 +55,7 @@ IsRangeRun contents old new bytes first end reduce (Err (range_fault.Write error
 
 -- ---- what the code keeps
 
--- a shard from here reaches the end, or is as long as one may be
-pub record IsPartOf (at end next : ℕ) : Type 0 where
-  pub order : at ≤ next
-  pub inside : next ≤ end
-  pub few : next ≤ at + MAX_RANKS
-  pub more : at < end → at < next
-
--- the book has the facts of the range's ranks up to here
-pub record IsBegun (file : SpecFile) (first at end : ℕ) (reduce : Bool) (book : Contents) : Type 0 where
-  pub from : first ≤ at
-  pub few : at ≤ end
-  pub file_is : book.file ≡ file
-  pub facts : AreFactsOf reduce file.run first at book.facts
+-- what a run of shards is refused with, told as that of a range
+abbrev pub IsToldOf : FarmError → RunError → Type 0
+IsToldOf (farm_error.Start error) told = told ≡ run_error.Start error
+IsToldOf error told = told ≡ run_error.NoMemory

@@ -22,16 +22,20 @@ use crate::ranges::run_range;
 use crate::reporting::report_file;
 use crate::single::one;
 use crate::words::{Asked, parse_words};
+use crate::workers::Workers;
 use clap::Error;
 use clap::error::ErrorKind;
 use std::alloc::Global;
 use std::io::{self, Write};
+use std::sync::Wait;
+use std::thread::Threads;
 use transcripts::Counted;
 
 /// Does what the words ask, the first of which is the program's name. What is asked for goes to `out`, faults go to `err`, and the answer is the
 /// exit status: 0 good, 1 where a rank has not exactly one value, 2 for a fault of the command line, 3 for what is refused, 4 for want of
 /// memory, 5 for a read or write fault.
-pub fn run<O: Opener, W: Write, E: Write>(
+pub fn run<R: Threads + Wait + Sync, O: Opener, W: Write, E: Write>(
+    rt: &R,
     alloc: Global,
     words: &[String],
     opener: &O,
@@ -46,14 +50,15 @@ pub fn run<O: Opener, W: Write, E: Write>(
         Ok(asked) => asked,
         Err(error) => return tell_usage(alloc, &error, out, err),
     };
-    match answer(alloc, &asked, opener, out) {
+    match answer(rt, alloc, &asked, opener, out) {
         Ok(()) => 0,
         Err(fault) => tell_fault(alloc, &fault, err),
     }
 }
 
 /// Does what is asked. Where that is done, nothing of it is held back.
-pub fn answer<'a, O: Opener, W: Write>(
+pub fn answer<'a, R: Threads + Wait + Sync, O: Opener, W: Write>(
+    rt: &R,
     alloc: Global,
     asked: &Asked<'a>,
     opener: &O,
@@ -62,14 +67,15 @@ pub fn answer<'a, O: Opener, W: Write>(
     requires { failures_of out.old ≡ 0 }
     ensures { IsAnswered (O.bytes opener.now) W.contents out.old out.new asked.now result }
 {
-    match work(alloc, asked, opener, out) {
+    match work(rt, alloc, asked, opener, out) {
         Ok(()) => flushed(out),
         Err(fault) => Err(fault),
     }
 }
 
 /// Writes what is asked for; some of it may be held back.
-fn work<'a, O: Opener, W: Write>(
+fn work<'a, R: Threads + Wait + Sync, O: Opener, W: Write>(
+    rt: &R,
     alloc: Global,
     asked: &Asked<'a>,
     opener: &O,
@@ -88,7 +94,8 @@ fn work<'a, O: Opener, W: Write>(
             first,
             end,
             every,
-        } => range_of_file(alloc, path, *first, *end, !*every, opener, out),
+            workers,
+        } => range_of_file(rt, alloc, path, *first, *end, !*every, workers, opener, out),
         Asked::Join { paths } => join_of_files(alloc, paths.as_slice(), opener, out),
         Asked::Report { path } => report_of_file(alloc, path, opener, out),
     }
@@ -156,12 +163,14 @@ fn count_of_file<'a, O: Opener, W: Write>(
     }
 }
 
-fn range_of_file<'a, O: Opener, W: Write>(
+fn range_of_file<'a, R: Threads + Wait + Sync, O: Opener, W: Write>(
+    rt: &R,
     alloc: Global,
     path: &'a str,
     first: u64,
     end: u64,
     reduce: bool,
+    workers: &Workers,
     opener: &O,
     out: &mut Counted<W>,
 ) -> Result<(), ProgramFault<'a>>
@@ -173,7 +182,7 @@ fn range_of_file<'a, O: Opener, W: Write>(
         Ok(bytes) => bytes,
         Err(fault) => return Err(fault),
     };
-    match run_range(alloc, bytes.as_slice(), first, end, reduce, out) {
+    match run_range(rt, alloc, bytes.as_slice(), first, end, reduce, workers, out) {
         Ok(()) => Ok(()),
         Err(fault) => Err(range_fault(path, fault)),
     }

@@ -3,6 +3,7 @@
 
 mod commands;
 mod counting;
+mod cutting;
 mod fault;
 mod faults;
 mod files;
@@ -13,11 +14,13 @@ mod reporting;
 mod single;
 mod spec;
 mod words;
+mod workers;
 
 pub use commands::{answer, run, tell_words_fault};
 pub use counting::{CountFault, check, count};
 pub use fault::ProgramFault;
 pub use faults::fault_at;
+pub use cutting::SHARD_RANKS;
 pub use files::{MAX_SPEC_READ, Opener};
 pub use joining::{FileFault, JoinFault, join_files};
 pub use laws::reports_are_the_machines;
@@ -26,3 +29,4 @@ pub use reporting::{ReportFault, ReportFileFault, report_file, write_report};
 pub use single::{OneFault, one, one_of};
 pub use spec::{SpecFault, spec_of};
 pub use words::{Asked, parse_words};
+pub use workers::Workers;

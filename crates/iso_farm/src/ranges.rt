@@ -1,21 +1,23 @@
 //! The book of a range of ranks, from the bytes of a spec to the text of the book.
 
 ghost use Rattle.std.specs.Prelude.{◌≡◌, ◌<◌, ◌≤◌, IfErr, IfOk, OnOk, MatchOption};
-ghost use Rattle.machine_model.specs.Start.{start};
-ghost use Rattle.session_machine.specs.Running.{IsNotRunBy};
-ghost use Rattle.step_reducer.specs.Walking.{IsShardOf, Starts};
+ghost use Rattle.step_reducer.specs.Walking.{Starts};
 ghost use Rattle.outcome_books.specs.Building.{AreFactsOf};
 ghost use Rattle.transcripts.specs.Counted.{failures_of};
-ghost use Rattle.iso_farm.specs.Ranges.{IsRangeOf, IsOutsideRange, IsNoRange, IsRangeRun, IsPartOf};
+ghost use Rattle.iso_farm.specs.Ranges.{IsRangeOf, IsOutsideRange, IsNoRange, IsRangeRun, IsToldOf};
 
+use crate::cutting::shards_of;
 use crate::spec::{SpecFault, spec_of};
+use crate::workers::Workers;
 use book_files::{WriteError, write_book};
-use outcome_books::{Book, join};
+use outcome_books::Book;
 use session_machine::RunError;
+use shard_farm::{FarmError, OpenGate, farm_run};
 use sql_subset::Spec;
 use std::alloc::Global;
 use std::io::Write;
-use step_reducer::{MAX_RANKS, Shard};
+use std::sync::Wait;
+use std::thread::Threads;
 use transcripts::Counted;
 
 /// The ranks of a range, at most: as many shards of 1,000 ranks as a plan may have.
@@ -32,13 +34,16 @@ pub enum RangeFault {
     Write(WriteError),
 }
 
-/// Reads a spec, and writes the book of the ranks from the first up to but not the end.
-pub fn run_range<W: Write>(
+/// Reads a spec, and writes the book of the ranks from the first up to but not the end. So many workers run them, of which each claims shards
+/// of 1,000 ranks from one supply.
+pub fn run_range<R: Threads + Wait + Sync, W: Write>(
+    rt: &R,
     alloc: Global,
     bytes: &[u8],
     first: u64,
     end: u64,
     reduce: bool,
+    workers: &Workers,
     out: &mut Counted<W>,
 ) -> Result<(), RangeFault>
     requires { failures_of out.old < u64.MAX }
@@ -48,7 +53,7 @@ pub fn run_range<W: Write>(
         Ok(spec) => spec,
         Err(fault) => return Err(RangeFault::Spec(fault)),
     };
-    let book = match book_of_range(alloc, &spec, first, end, reduce) {
+    let book = match book_of_range(rt, alloc, &spec, first, end, reduce, workers) {
         Ok(book) => book,
         Err(error) => return Err(RangeFault::Run(error)),
     };
@@ -59,12 +64,14 @@ pub fn run_range<W: Write>(
 }
 
 /// The facts of the ranks from the first up to but not the end: when reducing the least swap where the rank has one, and else the outcome.
-pub fn book_of_range(
+pub fn book_of_range<R: Threads + Wait + Sync>(
+    rt: &R,
     alloc: Global,
     spec: &Spec,
     first: u64,
     end: u64,
     reduce: bool,
+    workers: &Workers,
 ) -> Result<Book, RunError>
     ensures refused { IfErr result (IsNoRange spec.now.run first end) }
     ensures lawful { OnOk result (IsRangeOf spec.now.run first end) }
@@ -75,18 +82,29 @@ pub fn book_of_range(
     if let Some(error) = outside(spec, first, end) {
         return Err(error);
     }
-    let mut at = part_end(first, end);
-    let mut book = part(alloc, spec, first, at, reduce)?;
-    while at < end {
-        let next = part_end(at, end);
-        let more = part(alloc, spec, at, next, reduce)?;
-        book = match join(&book, &more) {
-            Ok(book) => book,
-            Err(_) => return Err(RunError::NoMemory),
-        };
-        at = next;
+    let shards = shards_of(alloc, first, end)?;
+    match farm_run(
+        rt,
+        alloc,
+        spec,
+        shards.as_slice(),
+        reduce,
+        workers.number(),
+        &OpenGate,
+    ) {
+        Ok(book) => Ok(book),
+        Err(error) => Err(not_run(error)),
     }
-    Ok(book)
+}
+
+/// Why a range is not run, whose shards are a lawful plan.
+fn not_run(error: FarmError) -> RunError
+    ensures { IsToldOf error result }
+{
+    match error {
+        FarmError::Start(error) => RunError::Start(error),
+        FarmError::BadPlan | FarmError::NotStarted | FarmError::NoMemory(_) => RunError::NoMemory,
+    }
 }
 
 /// Why this is no range of the spec.
@@ -103,26 +121,4 @@ fn outside(spec: &Spec, first: u64, end: u64) -> Option<RunError>
         return Some(RunError::TooLong);
     }
     None
-}
-
-/// The end of the longest shard from here.
-fn part_end(at: u64, end: u64) -> u64
-    requires { at ≤ end }
-    ensures { IsPartOf at end result }
-{
-    if end - at > MAX_RANKS {
-        return at + MAX_RANKS;
-    }
-    end
-}
-
-/// The book of one shard.
-fn part(alloc: Global, spec: &Spec, first: u64, end: u64, reduce: bool) -> Result<Book, RunError>
-    requires { IsShardOf spec.now.run (record { first = first; end = end }) }
-    ensures refused { IfErr result (λ error. IsNotRunBy error (start spec.now.run)) }
-    ensures started { OnOk result (Starts spec.now.run) }
-    ensures of_spec { IfOk result (λ book. book.file ≡ spec.now) }
-    ensures facts { IfOk result (λ book. AreFactsOf reduce spec.now.run first end book.facts) }
-{
-    Book::of_shard(alloc, spec, Shard { first, end }, reduce)
 }

@@ -2,6 +2,7 @@
 
 use clap::error::ErrorKind;
 use clap::{Arg, ArgAction, ArgMatches, Command, Error, value_parser};
+use crate::workers::Workers;
 use std::alloc::{AllocError, Global};
 
 /// The version of the program. From which commit and with which kit it was built is known to what builds it alone.
@@ -32,6 +33,7 @@ pub enum Asked<'a> {
         first: u64,
         end: u64,
         every: bool,
+        workers: Workers,
     },
     /// The join of the books at some paths.
     Join {
@@ -95,6 +97,13 @@ fn run_command<'a>(alloc: Global) -> Result<Command<'a>, AllocError> {
         .long("every")
         .action(ArgAction::SetTrue)
         .help("Runs every permutation, and skips none that a smaller one covers");
+    let workers = Arg::new(alloc, "workers")
+        .long("workers")
+        .value_name("N")
+        .action(ArgAction::Set)
+        .value_parser(value_parser!(u8).range(1..=16))
+        .default_value("4")
+        .help("How many workers run it, from 1 to 16");
     Command::new(alloc, "run")
         .about("Runs a range of permutations and prints the book of what they show")
         .arg(spec_word(alloc))?
@@ -104,7 +113,8 @@ fn run_command<'a>(alloc: Global) -> Result<Command<'a>, AllocError> {
             "END",
             "The number behind that of the last permutation",
         ))?
-        .arg(every)
+        .arg(every)?
+        .arg(workers)
 }
 
 fn join_command<'a>(alloc: Global) -> Result<Command<'a>, AllocError> {
@@ -185,11 +195,13 @@ fn run_of_words<'a>(words: &ArgMatches<'a>) -> Option<Asked<'a>> {
     let path = words.get_str("SPEC")?;
     let first = words.get_one::<u64>("FIRST")?;
     let end = words.get_one::<u64>("END")?;
+    let workers = Workers::of(words.get_one::<u8>("workers")?)?;
     Some(Asked::Run {
         path,
         first,
         end,
         every: words.get_flag("every"),
+        workers,
     })
 }
 

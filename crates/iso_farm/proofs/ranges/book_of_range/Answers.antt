@@ -1,8 +1,10 @@
-use Rattle.iso_farm.proofs.RangeLemmas.{begun-more}
+use Rattle.std.proofs.Common.{subst}
+use Rattle.shard_farm.specs.Farming.{AreShardFacts}
+use Rattle.iso_farm.proofs.CutLemmas.{cut-facts}
 use Rattle.iso_farm.proofs.ranges.book_of_range.Goals as goal
 
--- a part more
-pub loop-at-preserved : goal.loop-at-preserved
-loop-at-preserved c =
-    begun-more _ c.args.first c.loop-at.at c.part_end-next.result c.args.end c.args.reduce _ _ _ c.loop-at.invariant c.part_end-next.ensures
-    c.in_ok-more.ensures.of_spec c.in_ok-more.ensures.facts c.in-Ok.ensures.union
+-- the facts of the shards are those of the range
+pub returns-in-Ok-clause-facts : goal.returns-in-Ok-clause-facts
+returns-in-Ok-clause-facts g c =
+    cut-facts c.args.reduce c.args.spec.now.run c.args.first c.args.end c.in_ok-shards.shards.items c.in-Ok.book.facts c.in_ok-shards.ensures
+    (subst (λ shards. AreShardFacts c.args.reduce c.args.spec.now.run shards c.in-Ok.book.facts) c.as_slice.ensures.value c.in-Ok.ensures.facts)
