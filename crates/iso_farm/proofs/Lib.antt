@@ -2,4 +2,5 @@ pub mod FileLemmas
 pub mod RangeLemmas
 pub mod ReportLemmas
 pub mod JoinLemmas
+pub mod JudgeLemmas
 pub mod CommandLemmas

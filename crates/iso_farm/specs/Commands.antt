@@ -53,11 +53,14 @@ IsDone files contents old new (Audit path) result = IsFound (IsAuditRun (files p
 IsDone files contents old new (Judge path accepted) result =
     IsFound (IsJudgeRun files path.now (map (λ p. p.now) accepted.items) contents old new) judge_status result
 
+-- what is held back is passed on, and no call fails
+abbrev pub IsFlushed : {W : Type 0} → (W → Option (List ℕ)) → Counted W → Counted W → Type 0
+IsFlushed contents old new = Keeps (written contents old) (written contents new) × (failures_of new ≡ failures_of old)
+
 -- what is held back is passed on where the work is done, and the answer stays; a fault of that is a write fault
 abbrev pub IsPassedOn : {W X : Type 0} → (W → Option (List ℕ)) → Counted W → Counted W → Result X ProgramFault → Result X ProgramFault → Type 0
 IsPassedOn contents old new (Err fault) result = (new ≡ old) × (result ≡ Err fault)
-IsPassedOn contents old new (Ok answer) (Ok given) =
-    (given ≡ answer) × Keeps (written contents old) (written contents new) × (failures_of new ≡ failures_of old)
+IsPassedOn contents old new (Ok answer) (Ok given) = (given ≡ answer) × IsFlushed contents old new
 IsPassedOn contents old new (Ok answer) (Err fault) =
     Keeps (written contents old) (written contents new) × (failures_of new ≡ failures_of old + 1) × (fault ≡ Write)
 
@@ -74,7 +77,7 @@ IsEnd old new (Err fault) status = (status ≡ status_of fault) ⊎ (status ≡ 
 -- words that ask for nothing: help is written and passed on, or nothing is and the words' fault is told, or memory ran out, or a write failed
 abbrev pub IsUsage : {W : Type 0} → (W → Option (List ℕ)) → Counted W → Counted W → ℕ → Type 0
 IsUsage {W} contents old new status =
-    ((status ≡ 0) × ((text : List ℕ) × (between : Counted W) × Wrote contents old between text × IsPassedOn contents between new (Ok tt) (Ok tt)))
+    ((status ≡ 0) × ((text : List ℕ) × (between : Counted W) × Wrote contents old between text × IsFlushed contents between new))
     ⊎ (((status ≡ 2) × (new ≡ old)) ⊎ ((status ≡ 4) ⊎ (status ≡ 5)))
 
 -- what the program does for its words: what they ask, or else their usage

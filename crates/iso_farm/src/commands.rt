@@ -12,7 +12,7 @@ ghost use Rattle.iso_farm.specs.Reporting.{IsFileReported};
 ghost use Rattle.iso_farm.specs.Auditing.{IsAuditRun};
 ghost use Rattle.iso_farm.specs.Judging.{IsJudgeRun};
 ghost use Rattle.iso_farm.specs.declared.finding.Finding.TheVariants.{Good};
-ghost use Rattle.iso_farm.specs.Commands.{IsAnswered, IsDone, IsCalled, IsFound, IsPassedOn, IsRun, IsTold, IsUnread, IsUsage};
+ghost use Rattle.iso_farm.specs.Commands.{IsAnswered, IsDone, IsCalled, IsFlushed, IsFound, IsPassedOn, IsRun, IsTold, IsUnread, IsUsage};
 
 use crate::auditing::audit_file;
 use crate::counting::{CountFault, check, count};
@@ -268,7 +268,7 @@ fn judge_of_files<'a, O: Opener, W: Write>(
 /// Writes a text, with nothing held back.
 fn written<'a, W: Write>(text: &str, out: &mut Counted<W>) -> Result<(), ProgramFault<'a>>
     requires { failures_of out.old ≡ 0 }
-    ensures whole { OnOk result ((between : Counted W) × Wrote W.contents out.old between text.now × IsPassedOn W.contents between out.new (Ok tt) (Ok tt)) }
+    ensures whole { OnOk result ((between : Counted W) × Wrote W.contents out.old between text.now × IsFlushed W.contents between out.new) }
     ensures fault { IfErr result (λ fault. status_of fault ≡ 5) }
 {
     match out.write_str(text) {

@@ -2,7 +2,9 @@
 use crate::disks::{assert_tells, assert_text, holding, tell};
 use std::alloc::{AllocError, Global};
 use std::process::Abort;
+use std::sync::Wait;
 use std::test::Fail;
+use std::thread::Threads;
 
 /// The table that `T` stands for in the runs.
 pub const TABLE: &str =
@@ -133,17 +135,25 @@ pub fn spec_of(alloc: Global, text: &str) -> Result<String, AllocError> {
 }
 
 /// A run tells its sessions what stands behind its spec.
-fn assert_run(rt: &impl Abort, alloc: Global, run: &Run<'_>) -> Result<(), AllocError> {
+fn assert_run(
+    rt: &(impl Abort + Threads + Wait + Sync),
+    alloc: Global,
+    run: &Run<'_>,
+) -> Result<(), AllocError> {
     let text = spec_of(alloc, run.spec)?;
     let line = format!(in alloc; "isofarm one first.spec {}", run.rank)?;
-    let told = tell(alloc, &line, &holding(text.as_bytes()))?;
+    let told = tell(rt, alloc, &line, &holding(text.as_bytes()))?;
     let want = lines_of(alloc, run.rank, run.told)?;
     assert_text(rt, &told.err, "", run.name);
     assert_text(rt, &told.out, &want, run.name);
     Ok(())
 }
 
-fn assert_told(rt: &impl Abort, alloc: Global, rows: &str) -> Result<(), Fail> {
+fn assert_told(
+    rt: &(impl Abort + Threads + Wait + Sync),
+    alloc: Global,
+    rows: &str,
+) -> Result<(), Fail> {
     for row in rows.lines() {
         let run = run_of(row).ok_or("a run")?;
         assert_run(rt, alloc, &run)?;
@@ -172,7 +182,7 @@ fn who_closes_a_ring_is_its_victim(rt: HostRuntime) -> Result<(), Fail> {
 }
 
 fn assert_refused(
-    rt: &impl Abort,
+    rt: &(impl Abort + Threads + Wait + Sync),
     alloc: Global,
     spec: &str,
     want: &str,
