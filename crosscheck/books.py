@@ -12,7 +12,7 @@ import sys
 from pathlib import Path
 
 from binding import bind
-from facts import MOST_RANKS, Worlds, fact, swapped, word_of
+from facts import MOST_RANKS, Worlds, fact, shared, swapped, swaps, word_of
 from machine import outcome_text
 from refusal import Refusal
 from spec_file import read_spec
@@ -67,6 +67,29 @@ def report(spec, facts):
         if len(found) != 1:
             return f"clash at rank {rank}" if found else f"missing rank {rank}"
     return [outcome for rank in range(spec.ranks()) for outcome in told[rank]]
+
+
+def is_true(worlds, rank, word, value):
+    """Whether a fact is: an outcome is the one of its rank, a swap any that the rank's word has."""
+    return (rank, word, value) == noted(rank, ("ran", worlds.outcome(rank))) if word == "ran" else value in swaps(worlds, rank)
+
+
+def false_rank(spec, facts):
+    """The first rank with a fact that is not true, if there is one. Where the spec does not start, none is."""
+    by_rank = sorted(facts, key=lambda one: one[0])
+    try:
+        worlds = Worlds(spec)
+    except Refusal:
+        return by_rank[0][0] if facts else None
+    return next((one[0] for one in by_rank if not is_true(worlds, *one)), None)
+
+
+def first_difference(told, other):
+    """The first rank at which two reports differ, and there the first session; session 0 where one of them has ended."""
+    rank = shared(told, other)
+    if rank in (len(told), len(other)):
+        return rank, 0
+    return rank, shared(json.loads(told[rank]), json.loads(other[rank]))
 
 
 def ranges(ranks):

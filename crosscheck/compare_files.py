@@ -2,7 +2,7 @@
 
 usage: python3 crosscheck/compare_files.py KIND FIRST_SEED SEEDS
 
-`count` and `run` are given each spec, `join` and `report` books of its ranks: in both formats and any spelling, with facts that are
+`count` and `run` are given each spec, `join`, `report`, `audit` and `judge` books of its ranks: in both formats and any spelling, with facts that are
 not true, of different specs, damaged as `damage.py` does, and files that are not there.
 """
 
@@ -15,7 +15,7 @@ from tempfile import TemporaryDirectory
 
 from binding import bind
 from book_file import NoBook, read_book, text_in_format_1
-from books import book_text, compact, facts_of, leads_to, report, report_text
+from books import book_text, compact, facts_of, false_rank, first_difference, leads_to, report, report_text
 from compare import PROGRAM, WORDS, compare, ended, usage
 from compare_books import MOST_RANKS, cut
 from damage import DAMAGES, spelled
@@ -31,13 +31,14 @@ RANKS_OF_DAMAGED = 12
 DAMAGED_A_SPEC = 12
 MOST_BOOKS = 1000
 U64 = 2**64
+VERDICTS = {b"true\n": "an audit: true", b"false at rank": "an audit: false", b"matches ": "a verdict: matches", b" differs at ": "a verdict: differs"}
 
 
 # ---- what the commands tell
 
 
 class Fault(Exception):
-    """Why a command writes nothing. Its arguments are the answer."""
+    """Why a command does not end with 0. Its arguments are the answer."""
 
 
 def fault(status, path, text):
@@ -101,12 +102,34 @@ def join(*paths):
     return book_text(text, facts).encode()
 
 
-def report_of(path):
+def reported_at(path):
+    """The text of a book and its facts, and what it reports."""
     text, facts = book_at(path)
     told = report(spec_of(text), facts)
     if isinstance(told, str):
         raise fault(3 if told == "too many ranks" else 1, path, told)
+    return text, facts, told
+
+
+def report_of(path):
+    text, facts, _told = reported_at(path)
     return report_text(spec_of(text), facts)
+
+
+def audit(path):
+    text, facts = book_at(path)
+    false = false_rank(spec_of(text), facts)
+    if false is not None:
+        raise Fault(1, b"false at rank %d\n" % false, b"")
+    return b"true\n"
+
+
+def judge(path, *accepted):
+    told, *others = [reported_at(one)[2] for one in (path, *accepted)]
+    if told in others:
+        return b"matches %d\n" % others.index(told)
+    differences = [(index, *first_difference(told, other)) for index, other in enumerate(others)]
+    raise Fault(1, b"".join(b"%d differs at rank %d session %d\n" % one for one in differences), b"")
 
 
 # ---- what they are given
@@ -118,6 +141,14 @@ def joining(*paths):
 
 def reporting(path):
     return ["report", path], answer(report_of, path)
+
+
+def auditing(path):
+    return ["audit", path], answer(audit, path)
+
+
+def judging(*paths):
+    return ["judge", *paths], answer(judge, *paths)
 
 
 def running(random, text, path, first, end, how):
@@ -203,6 +234,8 @@ def of_books(random, folder, text, parts):
     whole = put(folder, "whole", file_text(random, text, set().union(*parts)))
     yield joining(whole, *random.sample(paths, random.randint(0, len(paths))))
     yield from (reporting(path) for path in (whole, random.choice(paths)))
+    yield auditing(random.choice([whole, *paths]))
+    yield judging(whole, *random.choices([whole, whole, *paths], k=random.randint(1, 3)))
 
 
 def of_false_books(random, folder, text, facts):
@@ -212,6 +245,8 @@ def of_false_books(random, folder, text, facts):
     false = put(folder, "false", file_text(random, text, random.choice([facts | others, others])))
     true = put(folder, "true", file_text(random, text, facts))
     yield reporting(false)
+    yield auditing(false)
+    yield judging(*random.choices([false, false, true], k=random.randint(2, 4)))
     yield joining(*random.sample([false, true], random.randint(1, 2)))
 
 
@@ -228,7 +263,8 @@ def of_other_books(random, folder, text, facts):
     others = [book, other, put(folder, "empty", EMPTY_BOOK.encode()), *no_files]
     yield joining(book, *random.choices(others, k=random.randint(1, 4)))
     yield joining(*random.choices(others, k=2))
-    yield reporting(random.choice(no_files))
+    yield random.choice([reporting, auditing])(random.choice(no_files))
+    yield judging(random.choice([book, book, *others]), *random.choices([book, *others], k=random.randint(1, 4)))
 
 
 def of_damaged_books(random, folder, text, facts):
@@ -238,7 +274,11 @@ def of_damaged_books(random, folder, text, facts):
         damaged = put(folder, damage.__name__, damage(random, json.loads(written)))
         good = put(folder, "good", file_text(random, text, few))
         paths = random.choice([[damaged], [damaged], [damaged, good], [good, damaged, good]])
-        yield reporting(damaged) if random.random() < 0.4 else joining(*paths)
+        command = random.choice([reporting, reporting, auditing, auditing, joining, joining, joining, judging])
+        if command is judging:
+            yield judging(*random.choice([[damaged, good], [good, damaged], [good, good, damaged], [damaged, damaged]]))
+        else:
+            yield joining(*paths) if command is joining else command(damaged)
 
 
 def of_spec(random, folder, text, path, most):
@@ -280,6 +320,9 @@ def kind_of(out):
     """What is told, in words to be counted."""
     if out.startswith(b"rank "):
         return ["a report"] + [f"a report: {word}" for word in WORDS if word.encode() in out]
+    told = [kind for word, kind in VERDICTS.items() if not out.startswith(b"{") and word in out]
+    if told:
+        return told
     if not out.startswith(b"{"):
         return ["a number of ranks"]
     facts = out.split(b',"format":2')[0]

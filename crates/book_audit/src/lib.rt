@@ -7,7 +7,9 @@ mod error;
 mod finding;
 mod ground;
 mod source;
+mod threaded;
 mod trail;
 
 pub use auditing::audit_plain;
 pub use error::AuditError;
+pub use threaded::audit;

@@ -11,13 +11,13 @@ use Rattle.iso_farm.specs.declared.counting.CountFault.TheVariants.{Spec}
 use Rattle.iso_farm.specs.SpecFiles.{IsNoSpec}
 use Rattle.iso_farm.specs.Status.{status_of, spec_status, count_status}
 use Rattle.iso_farm.specs.Counting.{IsChecked}
-use Rattle.iso_farm.specs.Commands.{IsPassedOn, IsTold}
+use Rattle.iso_farm.specs.Commands.{IsFlushed, IsPassedOn, IsTold}
 
-pub passed-on : {W : Type 0} (contents : W → Option (List ℕ)) (old mid new : Counted W) (text : List ℕ) (result : Result ⊤ ProgramFault)
-    → Wrote contents old mid text → IsPassedOn contents mid new (Ok tt) result
-    → OnOk result ((between : Counted W) × Wrote contents old between text × IsPassedOn contents between new (Ok tt) (Ok tt))
-passed-on contents old mid new text (Ok done) w p = (mid, w, p)
-passed-on contents old mid new text (Err fault) w p = tt
+pub passed-on : {W : Type 0} (contents : W → Option (List ℕ)) (old mid new : Counted W) (text : List ℕ) (done : ⊤) (result : Result ⊤ ProgramFault)
+    → Wrote contents old mid text → IsPassedOn contents mid new (Ok done) result
+    → OnOk result ((between : Counted W) × Wrote contents old between text × IsFlushed contents between new)
+passed-on contents old mid new text done (Ok given) w p = (mid, w, p.1)
+passed-on contents old mid new text done (Err fault) w p = tt
 
 -- a file that is no spec is told as such, or want of memory is told in place of that
 pub check-refused : {W : Type 0} (contents : W → Option (List ℕ)) (old new : Counted W) (bytes : List ℕ) (fault : SpecFault) (told : ProgramFault)

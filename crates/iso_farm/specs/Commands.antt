@@ -6,31 +6,40 @@ use Rattle.transcripts.specs.declared.counted.Counted.{Counted}
 use Rattle.iso_farm.specs.declared.files.TheConstants.{MAX_SPEC_READ}
 use Rattle.iso_farm.specs.declared.fault.ProgramFault.{ProgramFault}
 use Rattle.iso_farm.specs.declared.fault.ProgramFault.TheVariants.{Write}
+use Rattle.iso_farm.specs.declared.finding.Finding.{Finding}
+use Rattle.iso_farm.specs.declared.finding.Finding.TheVariants.{Good}
 use Rattle.iso_farm.specs.declared.words.Asked.{Asked}
-use Rattle.iso_farm.specs.declared.words.Asked.TheVariants.{Check, One, Count, Run, Join, Report}
-use Rattle.iso_farm.specs.Status.{status_of, one_status, count_status, range_status, join_status, report_status}
+use Rattle.iso_farm.specs.declared.words.Asked.TheVariants.{Check, One, Count, Run, Join, Report, Audit, Judge}
+use Rattle.iso_farm.specs.Status.{status_of, finding_status, one_status, count_status, range_status, join_status, report_status, audit_status, judge_status}
 use Rattle.iso_farm.specs.One.{IsOneRun}
 use Rattle.iso_farm.specs.Counting.{IsChecked, IsCounted}
 use Rattle.iso_farm.specs.Ranges.{IsRangeRun}
 use Rattle.iso_farm.specs.Joining.{Files, IsJoinRun}
 use Rattle.iso_farm.specs.Reporting.{IsFileReported}
+use Rattle.iso_farm.specs.Auditing.{IsAuditRun}
+use Rattle.iso_farm.specs.Judging.{IsJudgeRun}
 
--- a call's answer is the program's: a refusal is told with its status
-abbrev pub IsTold : {E : Type 0} → (Result ⊤ E → Type 0) → (E → ℕ) → Result ⊤ ProgramFault → Type 0
-IsTold Runs status (Ok done) = Runs (Ok done)
+-- what a call finds is the program's answer, and a refusal is told with its status
+abbrev pub IsFound : {E : Type 0} → (Result Finding E → Type 0) → (E → ℕ) → Result Finding ProgramFault → Type 0
+IsFound Runs status (Ok finding) = Runs (Ok finding)
+IsFound {E} Runs status (Err fault) = (error : E) × Runs (Err error) × (status_of fault ≡ status error)
+
+-- the same of a call that only writes: nothing is amiss where it is done
+abbrev pub IsTold : {E : Type 0} → (Result ⊤ E → Type 0) → (E → ℕ) → Result Finding ProgramFault → Type 0
+IsTold Runs status (Ok finding) = (finding ≡ Good) × Runs (Ok tt)
 IsTold {E} Runs status (Err fault) = (error : E) × Runs (Err error) × (status_of fault ≡ status error)
 
 -- a call over the bytes of a spec file: the file's own, where they are known, as far as a spec file is read
-abbrev pub IsCalled : {E : Type 0} → Option (List ℕ) → (List ℕ → Result ⊤ E → Type 0) → (E → ℕ) → Result ⊤ ProgramFault → Type 0
+abbrev pub IsCalled : {E : Type 0} → Option (List ℕ) → (List ℕ → Result ⊤ E → Type 0) → (E → ℕ) → Result Finding ProgramFault → Type 0
 IsCalled known Runs status result = (bytes : List ℕ) × IfSome known (λ all. bytes ≡ take MAX_SPEC_READ all) × IsTold (Runs bytes) status result
 
 -- a file that is not read is told as want of memory or as a read fault, and nothing is written
-abbrev pub IsUnread : {W : Type 0} → Counted W → Counted W → Result ⊤ ProgramFault → Type 0
-IsUnread old new (Ok done) = ⊥
+abbrev pub IsUnread : {W : Type 0} → Counted W → Counted W → Result Finding ProgramFault → Type 0
+IsUnread old new (Ok finding) = ⊥
 IsUnread old new (Err fault) = (new ≡ old) × ((status_of fault ≡ 4) ⊎ (status_of fault ≡ 5))
 
 -- what is asked for is done
-abbrev pub IsDone : Files → {W : Type 0} → (W → Option (List ℕ)) → Counted W → Counted W → Asked → Result ⊤ ProgramFault → Type 0
+abbrev pub IsDone : Files → {W : Type 0} → (W → Option (List ℕ)) → Counted W → Counted W → Asked → Result Finding ProgramFault → Type 0
 IsDone files contents old new (One path rank) result =
     IsUnread old new result ⊎ IsCalled (files path.now) (λ bytes. IsOneRun contents old new bytes rank) one_status result
 IsDone files contents old new (Check path) result = IsUnread old new result ⊎ IsCalled (files path.now) (IsChecked contents old new) count_status result
@@ -38,34 +47,41 @@ IsDone files contents old new (Count path) result = IsUnread old new result ⊎ 
 IsDone files contents old new (Run path first end every workers) result =
     IsUnread old new result ⊎ IsCalled (files path.now) (λ bytes. IsRangeRun contents old new bytes first end (not every)) range_status result
 IsDone files contents old new (Join paths) result =
-    ((paths.items ≡ []) × (new ≡ old) × (result ≡ Ok tt)) ⊎ IsTold (IsJoinRun files (map (λ p. p.now) paths.items) contents old new) join_status result
+    ((paths.items ≡ []) × (new ≡ old) × (result ≡ Ok Good)) ⊎ IsTold (IsJoinRun files (map (λ p. p.now) paths.items) contents old new) join_status result
 IsDone files contents old new (Report path) result = IsTold (IsFileReported (files path.now) contents old new) report_status result
+IsDone files contents old new (Audit path) result = IsFound (IsAuditRun (files path.now) contents old new) audit_status result
+IsDone files contents old new (Judge path accepted) result =
+    IsFound (IsJudgeRun files path.now (map (λ p. p.now) accepted.items) contents old new) judge_status result
 
--- what is held back is passed on where the work is done; a fault of that is a write fault
-abbrev pub IsPassedOn : {W : Type 0} → (W → Option (List ℕ)) → Counted W → Counted W → Result ⊤ ProgramFault → Result ⊤ ProgramFault → Type 0
+-- what is held back is passed on, and no call fails
+abbrev pub IsFlushed : {W : Type 0} → (W → Option (List ℕ)) → Counted W → Counted W → Type 0
+IsFlushed contents old new = Keeps (written contents old) (written contents new) × (failures_of new ≡ failures_of old)
+
+-- what is held back is passed on where the work is done, and the answer stays; a fault of that is a write fault
+abbrev pub IsPassedOn : {W X : Type 0} → (W → Option (List ℕ)) → Counted W → Counted W → Result X ProgramFault → Result X ProgramFault → Type 0
 IsPassedOn contents old new (Err fault) result = (new ≡ old) × (result ≡ Err fault)
-IsPassedOn contents old new (Ok done) (Ok all) = Keeps (written contents old) (written contents new) × (failures_of new ≡ failures_of old)
-IsPassedOn contents old new (Ok done) (Err fault) =
+IsPassedOn contents old new (Ok answer) (Ok given) = (given ≡ answer) × IsFlushed contents old new
+IsPassedOn contents old new (Ok answer) (Err fault) =
     Keeps (written contents old) (written contents new) × (failures_of new ≡ failures_of old + 1) × (fault ≡ Write)
 
 -- what is asked for is done, and nothing of it is held back
-abbrev pub IsAnswered : Files → {W : Type 0} → (W → Option (List ℕ)) → Counted W → Counted W → Asked → Result ⊤ ProgramFault → Type 0
+abbrev pub IsAnswered : Files → {W : Type 0} → (W → Option (List ℕ)) → Counted W → Counted W → Asked → Result Finding ProgramFault → Type 0
 IsAnswered files {W} contents old new asked result =
-    (work : Result ⊤ ProgramFault) × (between : Counted W) × IsDone files contents old between asked work × IsPassedOn contents between new work result
+    (work : Result Finding ProgramFault) × (between : Counted W) × IsDone files contents old between asked work × IsPassedOn contents between new work result
 
 -- with which status the program ends; only a fault is told, and where there is no memory for its line that is told in its place
-abbrev pub IsEnd : {E : Type 0} → Counted E → Counted E → Result ⊤ ProgramFault → ℕ → Type 0
-IsEnd old new (Ok done) status = (new ≡ old) × (status ≡ 0)
+abbrev pub IsEnd : {E : Type 0} → Counted E → Counted E → Result Finding ProgramFault → ℕ → Type 0
+IsEnd old new (Ok finding) status = (new ≡ old) × (status ≡ finding_status finding)
 IsEnd old new (Err fault) status = (status ≡ status_of fault) ⊎ (status ≡ 4)
 
 -- words that ask for nothing: help is written and passed on, or nothing is and the words' fault is told, or memory ran out, or a write failed
 abbrev pub IsUsage : {W : Type 0} → (W → Option (List ℕ)) → Counted W → Counted W → ℕ → Type 0
 IsUsage {W} contents old new status =
-    ((status ≡ 0) × ((text : List ℕ) × (between : Counted W) × Wrote contents old between text × IsPassedOn contents between new (Ok tt) (Ok tt)))
+    ((status ≡ 0) × ((text : List ℕ) × (between : Counted W) × Wrote contents old between text × IsFlushed contents between new))
     ⊎ (((status ≡ 2) × (new ≡ old)) ⊎ ((status ≡ 4) ⊎ (status ≡ 5)))
 
 -- what the program does for its words: what they ask, or else their usage
 abbrev pub IsRun : Files → {W E : Type 0} → (W → Option (List ℕ)) → Counted W → Counted W → Counted E → Counted E → ℕ → Type 0
 IsRun files contents old new told now status =
-    ((asked : Asked) × (result : Result ⊤ ProgramFault) × IsAnswered files contents old new asked result × IsEnd told now result status)
+    ((asked : Asked) × (result : Result Finding ProgramFault) × IsAnswered files contents old new asked result × IsEnd told now result status)
     ⊎ IsUsage contents old new status

@@ -4,6 +4,8 @@ pub mod Counting
 pub mod Ranges
 pub mod Reporting
 pub mod Joining
+pub mod Auditing
+pub mod Judging
 pub mod Laws
 pub mod Status
 pub mod Commands

@@ -33,6 +33,19 @@ use Rattle.iso_farm.specs.declared.reporting.ReportFault.{ReportFault}
 use Rattle.iso_farm.specs.declared.reporting.ReportFault.TheVariants as values_fault
 use Rattle.iso_farm.specs.declared.reporting.ReportFileFault.{ReportFileFault}
 use Rattle.iso_farm.specs.declared.reporting.ReportFileFault.TheVariants as report_fault
+use Rattle.iso_farm.specs.declared.auditing.AuditFault.{AuditFault}
+use Rattle.iso_farm.specs.declared.auditing.AuditFault.TheVariants as audit_fault
+use Rattle.iso_farm.specs.declared.judging.NoReport.{NoReport}
+use Rattle.iso_farm.specs.declared.judging.NoReport.TheVariants as no_report
+use Rattle.iso_farm.specs.declared.judging.JudgeFault.{JudgeFault}
+use Rattle.iso_farm.specs.declared.judging.JudgeFault.TheVariants as judge_fault
+use Rattle.iso_farm.specs.declared.finding.Finding.{Finding}
+use Rattle.iso_farm.specs.declared.finding.Finding.TheVariants.{Good, Bad}
+
+-- where no fault is told: a false fact, or a report that is equal to no accepted one, ends with 1
+abbrev pub finding_status : Finding → ℕ
+finding_status Good = 0
+finding_status Bad = 1
 
 -- a rank without exactly one value is told by 1, what is refused by 3, want of memory by 4, and a read or write fault by 5
 abbrev pub status_of : ProgramFault → ℕ
@@ -123,3 +136,18 @@ abbrev pub report_status : ReportFileFault → ℕ
 report_status (report_fault.File fault) = file_status fault
 report_status (report_fault.Report (values_fault.Report error)) = values_status error
 report_status (report_fault.Report (values_fault.Write fault)) = 5
+
+abbrev pub audit_status : AuditFault → ℕ
+audit_status (audit_fault.File fault) = file_status fault
+audit_status audit_fault.NoMemory = 4
+audit_status (audit_fault.Write fault) = 5
+
+abbrev pub no_report_status : NoReport → ℕ
+no_report_status (no_report.File fault) = file_status fault
+no_report_status (no_report.Report error) = values_status error
+
+abbrev pub judge_status : JudgeFault → ℕ
+judge_status (judge_fault.Book fault) = no_report_status fault
+judge_status (judge_fault.Accepted place fault) = no_report_status fault
+judge_status judge_fault.NoMemory = 4
+judge_status (judge_fault.Write fault) = 5

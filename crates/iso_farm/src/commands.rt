@@ -3,21 +3,28 @@
 ghost use Rattle.std.specs.Prelude.{◌≡◌, ◌<◌, ◌⊎◌, [], map, Ok, OnOk, IfErr};
 ghost use Rattle.transcripts.specs.Counted.{Wrote, failures_of};
 ghost use Rattle.transcripts.specs.declared.counted.Counted.{Counted};
-ghost use Rattle.iso_farm.specs.Status.{status_of, one_status, count_status, range_status, join_status, report_status};
+ghost use Rattle.iso_farm.specs.Status.{status_of, finding_status, one_status, count_status, range_status, join_status, report_status, audit_status, judge_status};
 ghost use Rattle.iso_farm.specs.One.{IsOneRun};
 ghost use Rattle.iso_farm.specs.Counting.{IsChecked, IsCounted};
 ghost use Rattle.iso_farm.specs.Ranges.{IsRangeRun};
 ghost use Rattle.iso_farm.specs.Joining.{IsJoinRun};
 ghost use Rattle.iso_farm.specs.Reporting.{IsFileReported};
-ghost use Rattle.iso_farm.specs.Commands.{IsAnswered, IsDone, IsCalled, IsPassedOn, IsRun, IsTold, IsUnread, IsUsage};
+ghost use Rattle.iso_farm.specs.Auditing.{IsAuditRun};
+ghost use Rattle.iso_farm.specs.Judging.{IsJudgeRun};
+ghost use Rattle.iso_farm.specs.declared.finding.Finding.TheVariants.{Good};
+ghost use Rattle.iso_farm.specs.Commands.{IsAnswered, IsDone, IsCalled, IsFlushed, IsFound, IsPassedOn, IsRun, IsTold, IsUnread, IsUsage};
 
+use crate::auditing::audit_file;
 use crate::counting::{CountFault, check, count};
 use crate::fault::ProgramFault;
 use crate::faults::{
-    count_fault, explained_fault, fault_at, join_fault, range_fault, report_fault,
+    audit_fault, count_fault, explained_fault, fault_at, join_fault, judge_fault, range_fault,
+    report_fault,
 };
 use crate::files::{Opener, read_spec_file};
+use crate::finding::Finding;
 use crate::joining::join_files;
+use crate::judging::judge_files;
 use crate::ranges::run_range;
 use crate::reporting::report_file;
 use crate::single::one;
@@ -32,8 +39,8 @@ use std::thread::Threads;
 use transcripts::Counted;
 
 /// Does what the words ask, the first of which is the program's name. What is asked for goes to `out`, faults go to `err`, and the answer is the
-/// exit status: 0 good, 1 where a rank has not exactly one value, 2 for a fault of the command line, 3 for what is refused, 4 for want of
-/// memory, 5 for a read or write fault.
+/// exit status: 0 good, 1 where a rank has not exactly one value, a fact is false or no accepted report is equal, 2 for a fault of the
+/// command line, 3 for what is refused, 4 for want of memory, 5 for a read or write fault.
 pub fn run<R: Threads + Wait + Sync, O: Opener, W: Write, E: Write>(
     rt: &R,
     alloc: Global,
@@ -51,7 +58,7 @@ pub fn run<R: Threads + Wait + Sync, O: Opener, W: Write, E: Write>(
         Err(error) => return tell_usage(alloc, &error, out, err),
     };
     match answer(rt, alloc, &asked, opener, out) {
-        Ok(()) => 0,
+        Ok(finding) => finding.status(),
         Err(fault) => tell_fault(alloc, &fault, err),
     }
 }
@@ -63,12 +70,12 @@ pub fn answer<'a, R: Threads + Wait + Sync, O: Opener, W: Write>(
     asked: &Asked<'a>,
     opener: &O,
     out: &mut Counted<W>,
-) -> Result<(), ProgramFault<'a>>
+) -> Result<Finding, ProgramFault<'a>>
     requires { failures_of out.old ≡ 0 }
     ensures { IsAnswered (O.bytes opener.now) W.contents out.old out.new asked.now result }
 {
     match work(rt, alloc, asked, opener, out) {
-        Ok(()) => flushed(out),
+        Ok(finding) => flushed(finding, out),
         Err(fault) => Err(fault),
     }
 }
@@ -80,7 +87,7 @@ fn work<'a, R: Threads + Wait + Sync, O: Opener, W: Write>(
     asked: &Asked<'a>,
     opener: &O,
     out: &mut Counted<W>,
-) -> Result<(), ProgramFault<'a>>
+) -> Result<Finding, ProgramFault<'a>>
     requires { failures_of out.old ≡ 0 }
     ensures done { IsDone (O.bytes opener.now) W.contents out.old out.new asked.now result }
     ensures failures { OnOk result (failures_of out.new ≡ 0) }
@@ -98,6 +105,10 @@ fn work<'a, R: Threads + Wait + Sync, O: Opener, W: Write>(
         } => range_of_file(rt, alloc, path, *first, *end, !*every, workers, opener, out),
         Asked::Join { paths } => join_of_files(alloc, paths.as_slice(), opener, out),
         Asked::Report { path } => report_of_file(alloc, path, opener, out),
+        Asked::Audit { path } => audit_of_file(rt, alloc, path, opener, out),
+        Asked::Judge { path, accepted } => {
+            judge_of_files(alloc, path, accepted.as_slice(), opener, out)
+        }
     }
 }
 
@@ -107,7 +118,7 @@ fn one_of_file<'a, O: Opener, W: Write>(
     rank: u64,
     opener: &O,
     out: &mut Counted<W>,
-) -> Result<(), ProgramFault<'a>>
+) -> Result<Finding, ProgramFault<'a>>
     requires { failures_of out.old ≡ 0 }
     ensures done { IsUnread out.old out.new result ⊎ IsCalled (O.bytes opener.now path.now) (λ bytes. IsOneRun W.contents out.old out.new bytes rank) one_status result }
     ensures failures { OnOk result (failures_of out.new ≡ 0) }
@@ -117,7 +128,7 @@ fn one_of_file<'a, O: Opener, W: Write>(
         Err(fault) => return Err(fault),
     };
     match one(alloc, bytes.as_slice(), rank, out) {
-        Ok(()) => Ok(()),
+        Ok(()) => Ok(Finding::Good),
         Err(fault) => Err(fault_at(path, fault)),
     }
 }
@@ -127,7 +138,7 @@ fn check_of_file<'a, O: Opener, W: Write>(
     path: &'a str,
     opener: &O,
     out: &mut Counted<W>,
-) -> Result<(), ProgramFault<'a>>
+) -> Result<Finding, ProgramFault<'a>>
     requires { failures_of out.old ≡ 0 }
     ensures done { IsUnread out.old out.new result ⊎ IsCalled (O.bytes opener.now path.now) (IsChecked W.contents out.old out.new) count_status result }
     ensures failures { OnOk result (failures_of out.new ≡ 0) }
@@ -137,7 +148,7 @@ fn check_of_file<'a, O: Opener, W: Write>(
         Err(fault) => return Err(fault),
     };
     match check(alloc, bytes.as_slice(), out) {
-        Ok(()) => Ok(()),
+        Ok(()) => Ok(Finding::Good),
         Err(CountFault::Spec(fault)) => Err(explained_fault(alloc, path, bytes.as_slice(), fault)),
         Err(CountFault::Write(_)) => Err(ProgramFault::Write),
     }
@@ -148,7 +159,7 @@ fn count_of_file<'a, O: Opener, W: Write>(
     path: &'a str,
     opener: &O,
     out: &mut Counted<W>,
-) -> Result<(), ProgramFault<'a>>
+) -> Result<Finding, ProgramFault<'a>>
     requires { failures_of out.old ≡ 0 }
     ensures done { IsUnread out.old out.new result ⊎ IsCalled (O.bytes opener.now path.now) (IsCounted W.contents out.old out.new) count_status result }
     ensures failures { OnOk result (failures_of out.new ≡ 0) }
@@ -158,7 +169,7 @@ fn count_of_file<'a, O: Opener, W: Write>(
         Err(fault) => return Err(fault),
     };
     match count(alloc, bytes.as_slice(), out) {
-        Ok(()) => Ok(()),
+        Ok(()) => Ok(Finding::Good),
         Err(fault) => Err(count_fault(path, fault)),
     }
 }
@@ -173,7 +184,7 @@ fn range_of_file<'a, R: Threads + Wait + Sync, O: Opener, W: Write>(
     workers: &Workers,
     opener: &O,
     out: &mut Counted<W>,
-) -> Result<(), ProgramFault<'a>>
+) -> Result<Finding, ProgramFault<'a>>
     requires { failures_of out.old ≡ 0 }
     ensures done { IsUnread out.old out.new result ⊎ IsCalled (O.bytes opener.now path.now) (λ bytes. IsRangeRun W.contents out.old out.new bytes first end reduce) range_status result }
     ensures failures { OnOk result (failures_of out.new ≡ 0) }
@@ -182,8 +193,17 @@ fn range_of_file<'a, R: Threads + Wait + Sync, O: Opener, W: Write>(
         Ok(bytes) => bytes,
         Err(fault) => return Err(fault),
     };
-    match run_range(rt, alloc, bytes.as_slice(), first, end, reduce, workers, out) {
-        Ok(()) => Ok(()),
+    match run_range(
+        rt,
+        alloc,
+        bytes.as_slice(),
+        first,
+        end,
+        reduce,
+        workers,
+        out,
+    ) {
+        Ok(()) => Ok(Finding::Good),
         Err(fault) => Err(range_fault(path, fault)),
     }
 }
@@ -194,16 +214,16 @@ fn join_of_files<'a, O: Opener, W: Write>(
     paths: &[&'a str],
     opener: &O,
     out: &mut Counted<W>,
-) -> Result<(), ProgramFault<'a>>
+) -> Result<Finding, ProgramFault<'a>>
     requires { failures_of out.old ≡ 0 }
-    ensures done { ((paths.now ≡ []) × (out.new ≡ out.old) × (result ≡ Ok tt)) ⊎ IsTold (IsJoinRun (O.bytes opener.now) (map (λ p. p.now) paths.now) W.contents out.old out.new) join_status result }
+    ensures done { ((paths.now ≡ []) × (out.new ≡ out.old) × (result ≡ Ok Good)) ⊎ IsTold (IsJoinRun (O.bytes opener.now) (map (λ p. p.now) paths.now) W.contents out.old out.new) join_status result }
     ensures failures { OnOk result (failures_of out.new ≡ 0) }
 {
     if paths.is_empty() {
-        return Ok(());
+        return Ok(Finding::Good);
     }
     match join_files(alloc, opener, paths, out) {
-        Ok(()) => Ok(()),
+        Ok(()) => Ok(Finding::Good),
         Err(fault) => Err(join_fault(paths, fault)),
     }
 }
@@ -213,36 +233,70 @@ fn report_of_file<'a, O: Opener, W: Write>(
     path: &'a str,
     opener: &O,
     out: &mut Counted<W>,
-) -> Result<(), ProgramFault<'a>>
+) -> Result<Finding, ProgramFault<'a>>
     requires { failures_of out.old ≡ 0 }
     ensures done { IsTold (IsFileReported (O.bytes opener.now path.now) W.contents out.old out.new) report_status result }
     ensures failures { OnOk result (failures_of out.new ≡ 0) }
 {
     match report_file(alloc, opener, path, out) {
-        Ok(()) => Ok(()),
+        Ok(()) => Ok(Finding::Good),
         Err(fault) => Err(report_fault(path, fault)),
+    }
+}
+
+fn audit_of_file<'a, R: Threads + Sync, O: Opener, W: Write>(
+    threads: &R,
+    alloc: Global,
+    path: &'a str,
+    opener: &O,
+    out: &mut Counted<W>,
+) -> Result<Finding, ProgramFault<'a>>
+    requires { failures_of out.old ≡ 0 }
+    ensures done { IsFound (IsAuditRun (O.bytes opener.now path.now) W.contents out.old out.new) audit_status result }
+    ensures failures { OnOk result (failures_of out.new ≡ 0) }
+{
+    match audit_file(threads, alloc, opener, path, out) {
+        Ok(finding) => Ok(finding),
+        Err(fault) => Err(audit_fault(path, fault)),
+    }
+}
+
+fn judge_of_files<'a, O: Opener, W: Write>(
+    alloc: Global,
+    path: &'a str,
+    accepted: &[&'a str],
+    opener: &O,
+    out: &mut Counted<W>,
+) -> Result<Finding, ProgramFault<'a>>
+    requires { failures_of out.old ≡ 0 }
+    ensures done { IsFound (IsJudgeRun (O.bytes opener.now) path.now (map (λ p. p.now) accepted.now) W.contents out.old out.new) judge_status result }
+    ensures failures { OnOk result (failures_of out.new ≡ 0) }
+{
+    match judge_files(alloc, opener, path, accepted, out) {
+        Ok(finding) => Ok(finding),
+        Err(fault) => Err(judge_fault(path, accepted, fault)),
     }
 }
 
 /// Writes a text, with nothing held back.
 fn written<'a, W: Write>(text: &str, out: &mut Counted<W>) -> Result<(), ProgramFault<'a>>
     requires { failures_of out.old ≡ 0 }
-    ensures whole { OnOk result ((between : Counted W) × Wrote W.contents out.old between text.now × IsPassedOn W.contents between out.new (Ok tt) (Ok tt)) }
+    ensures whole { OnOk result ((between : Counted W) × Wrote W.contents out.old between text.now × IsFlushed W.contents between out.new) }
     ensures fault { IfErr result (λ fault. status_of fault ≡ 5) }
 {
     match out.write_str(text) {
-        Ok(()) => flushed(out),
+        Ok(()) => flushed((), out),
         Err(_fault) => Err(ProgramFault::Write),
     }
 }
 
-/// Has everything written that is held back.
-fn flushed<'a, W: Write>(out: &mut Counted<W>) -> Result<(), ProgramFault<'a>>
+/// Has everything written that is held back, and then gives the answer.
+fn flushed<'a, X: Copy, W: Write>(answer: X, out: &mut Counted<W>) -> Result<X, ProgramFault<'a>>
     requires { failures_of out.old < u64.MAX }
-    ensures { IsPassedOn W.contents out.old out.new (Ok tt) result }
+    ensures { IsPassedOn W.contents out.old out.new (Ok answer) result }
 {
     match out.flush() {
-        Ok(()) => Ok(()),
+        Ok(()) => Ok(answer),
         Err(_fault) => Err(ProgramFault::Write),
     }
 }

@@ -82,7 +82,11 @@ fn write_counts<W: Write>(counts: Counts, out: &mut Counted<W>) -> Result<(), Wr
 }
 
 /// Writes a number behind its word, on a line of its own.
-fn write_count<W: Write>(word: &str, number: u64, out: &mut Counted<W>) -> Result<(), WriteFault>
+pub(crate) fn write_count<W: Write>(
+    word: &str,
+    number: u64,
+    out: &mut Counted<W>,
+) -> Result<(), WriteFault>
     requires { failures_of out.old < u64.MAX }
     ensures { Prints W.contents out.old out.new result (word.now ++ number_line number) }
 {

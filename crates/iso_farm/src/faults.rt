@@ -2,12 +2,15 @@
 
 ghost use Rattle.std.specs.Prelude.{◌≡◌, ◌⊎◌, length};
 ghost use Rattle.iso_farm.specs.Joining.{IsPlaced};
-ghost use Rattle.iso_farm.specs.Status.{status_of, one_status, count_status, range_status, join_status, report_status};
+ghost use Rattle.iso_farm.specs.Judging.{IsAcceptedPlace};
+ghost use Rattle.iso_farm.specs.Status.{status_of, one_status, count_status, range_status, join_status, report_status, audit_status, judge_status, no_report_status};
 ghost use Rattle.iso_farm.specs.Status.{values_status, file_status, write_status, spec_status, text_status, binding_status, run_status, start_status};
 
+use crate::auditing::AuditFault;
 use crate::counting::CountFault;
 use crate::fault::ProgramFault;
 use crate::joining::{FileFault, JoinFault};
+use crate::judging::{JudgeFault, NoReport};
 use crate::ranges::RangeFault;
 use crate::reporting::{ReportFault, ReportFileFault};
 use crate::single::OneFault;
@@ -106,6 +109,41 @@ pub(crate) fn report_fault(path: &str, fault: ReportFileFault) -> ProgramFault<'
         ReportFileFault::File(fault) => file_fault(path, fault),
         ReportFileFault::Report(ReportFault::Report(error)) => values_fault(path, error),
         ReportFileFault::Report(ReportFault::Write(_)) => ProgramFault::Write,
+    }
+}
+
+pub(crate) fn audit_fault(path: &str, fault: AuditFault) -> ProgramFault<'_>
+    ensures { status_of result ≡ audit_status fault }
+{
+    match fault {
+        AuditFault::File(fault) => file_fault(path, fault),
+        AuditFault::NoMemory => ProgramFault::NoMemory,
+        AuditFault::Write(_) => ProgramFault::Write,
+    }
+}
+
+pub(crate) fn judge_fault<'a>(
+    path: &'a str,
+    accepted: &[&'a str],
+    fault: JudgeFault,
+) -> ProgramFault<'a>
+    requires { IsAcceptedPlace (length accepted.now) fault }
+    ensures { status_of result ≡ judge_status fault }
+{
+    match fault {
+        JudgeFault::Book(fault) => no_report_fault(path, fault),
+        JudgeFault::Accepted { place, fault } => no_report_fault(accepted[place], fault),
+        JudgeFault::NoMemory => ProgramFault::NoMemory,
+        JudgeFault::Write(_) => ProgramFault::Write,
+    }
+}
+
+fn no_report_fault(path: &str, fault: NoReport) -> ProgramFault<'_>
+    ensures { status_of result ≡ no_report_status fault }
+{
+    match fault {
+        NoReport::File(fault) => file_fault(path, fault),
+        NoReport::Report(error) => values_fault(path, error),
     }
 }
 

@@ -1,13 +1,16 @@
 //! The farm as a library: what each command of the program does, over words, files and two writers.
 #![tactic(auto)]
 
+mod auditing;
 mod commands;
 mod counting;
 mod cutting;
 mod fault;
 mod faults;
 mod files;
+mod finding;
 mod joining;
+mod judging;
 mod laws;
 mod ranges;
 mod reporting;
@@ -16,13 +19,16 @@ mod spec;
 mod words;
 mod workers;
 
+pub use auditing::{AuditFault, audit_file};
 pub use commands::{answer, run, tell_words_fault};
 pub use counting::{CountFault, check, count};
 pub use fault::ProgramFault;
 pub use faults::fault_at;
 pub use cutting::SHARD_RANKS;
 pub use files::{MAX_SPEC_READ, Opener};
+pub use finding::Finding;
 pub use joining::{FileFault, JoinFault, join_files};
+pub use judging::{JudgeFault, NoReport, judge_files};
 pub use laws::reports_are_the_machines;
 pub use ranges::{MAX_RANGE, RangeFault, book_of_range, run_range};
 pub use reporting::{ReportFault, ReportFileFault, report_file, write_report};

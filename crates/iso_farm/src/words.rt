@@ -8,7 +8,7 @@ use std::alloc::{AllocError, Global};
 /// The version of the program. From which commit and with which kit it was built is known to what builds it alone.
 const VERSION: &str = "0.1.0";
 
-/// The books of a join, at most.
+/// The books of a join, and the accepted books of a judgement, at most.
 const MAX_BOOKS: usize = 1_000;
 
 /// What the words ask for.
@@ -43,6 +43,15 @@ pub enum Asked<'a> {
     Report {
         path: &'a str,
     },
+    /// Whether each fact of the book at a path is true.
+    Audit {
+        path: &'a str,
+    },
+    /// The report of the book at a path, beside those of accepted books.
+    Judge {
+        path: &'a str,
+        accepted: Vec<&'a str>,
+    },
 }
 
 /// What the words ask for, the first of which is the program's name.
@@ -70,7 +79,9 @@ fn command<'a>(alloc: Global) -> Result<Command<'a>, AllocError> {
         .subcommand(count_command(alloc)?)?
         .subcommand(run_command(alloc)?)?
         .subcommand(join_command(alloc)?)?
-        .subcommand(report_command(alloc)?)
+        .subcommand(report_command(alloc)?)?
+        .subcommand(audit_command(alloc)?)?
+        .subcommand(judge_command(alloc)?)
 }
 
 fn check_command<'a>(alloc: Global) -> Result<Command<'a>, AllocError> {
@@ -129,13 +140,34 @@ fn join_command<'a>(alloc: Global) -> Result<Command<'a>, AllocError> {
 }
 
 fn report_command<'a>(alloc: Global) -> Result<Command<'a>, AllocError> {
-    let book = Arg::new(alloc, "BOOK")
-        .required(true)
-        .action(ArgAction::Set)
-        .help("A book file");
     Command::new(alloc, "report")
         .about("Prints what each session saw in each permutation")
-        .arg(book)
+        .arg(book_word(alloc))
+}
+
+fn audit_command<'a>(alloc: Global) -> Result<Command<'a>, AllocError> {
+    Command::new(alloc, "audit")
+        .about("Tests each fact of a book again, and prints the first permutation with a false one")
+        .arg(book_word(alloc))
+}
+
+fn judge_command<'a>(alloc: Global) -> Result<Command<'a>, AllocError> {
+    let accepted = Arg::new(alloc, "ACCEPTED")
+        .required(true)
+        .action(ArgAction::Append)
+        .num_args(1..=MAX_BOOKS)
+        .help("Book files of outcomes that are accepted");
+    Command::new(alloc, "judge")
+        .about("Prints which accepted book tells the same, or where each differs first")
+        .arg(book_word(alloc))?
+        .arg(accepted)
+}
+
+fn book_word<'a>(alloc: Global) -> Arg<'a> {
+    Arg::new(alloc, "BOOK")
+        .required(true)
+        .action(ArgAction::Set)
+        .help("A book file")
 }
 
 fn spec_word<'a>(alloc: Global) -> Arg<'a> {
@@ -169,8 +201,14 @@ fn asked_of<'a>(alloc: Global, matches: &ArgMatches<'a>) -> Result<Option<Asked<
     if let Some(words) = matches.subcommand_matches("join") {
         return join_of_words(alloc, words);
     }
-    match matches.subcommand_matches("report") {
-        Some(words) => Ok(report_of_words(words)),
+    if let Some(words) = matches.subcommand_matches("report") {
+        return Ok(report_of_words(words));
+    }
+    if let Some(words) = matches.subcommand_matches("audit") {
+        return Ok(audit_of_words(words));
+    }
+    match matches.subcommand_matches("judge") {
+        Some(words) => judge_of_words(alloc, words),
         None => Ok(None),
     }
 }
@@ -220,4 +258,25 @@ fn join_of_words<'a>(
 fn report_of_words<'a>(words: &ArgMatches<'a>) -> Option<Asked<'a>> {
     let path = words.get_str("BOOK")?;
     Some(Asked::Report { path })
+}
+
+fn audit_of_words<'a>(words: &ArgMatches<'a>) -> Option<Asked<'a>> {
+    let path = words.get_str("BOOK")?;
+    Some(Asked::Audit { path })
+}
+
+fn judge_of_words<'a>(
+    alloc: Global,
+    words: &ArgMatches<'a>,
+) -> Result<Option<Asked<'a>>, AllocError> {
+    let Some(path) = words.get_str("BOOK") else {
+        return Ok(None);
+    };
+    match words.get_strs("ACCEPTED") {
+        Some(accepted) => Ok(Some(Asked::Judge {
+            path,
+            accepted: Vec::from_slice(alloc, accepted)?,
+        })),
+        None => Ok(None),
+    }
 }

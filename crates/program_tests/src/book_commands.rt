@@ -7,7 +7,9 @@ use crate::runs::lines_of;
 use iso_farm::Opener;
 use std::alloc::{AllocError, Global};
 use std::process::Abort;
+use std::sync::Wait;
 use std::test::Fail;
+use std::thread::Threads;
 
 /// Files: a path and a text. `RANGES` and `EVERY` tell which books are those of ranges; some are in format 1, some are not true, and some are
 /// no books.
@@ -84,16 +86,24 @@ impl<'a> Opener for Shelf<'a> {
 }
 
 /// What a line of words tells over the files.
-fn tell_of_files(alloc: Global, line: &str) -> Result<Told, AllocError> {
+fn tell_of_files(
+    rt: &(impl Threads + Wait + Sync),
+    alloc: Global,
+    line: &str,
+) -> Result<Told, AllocError> {
     let words = words_of(alloc, line)?;
-    Ok(told_by(alloc, &words, &Shelf { rows: FILES }))
+    Ok(told_by(rt, alloc, &words, &Shelf { rows: FILES }))
 }
 
 /// A row of a table: the line writes what stands behind it, and a line feed.
-fn assert_counted(rt: &impl Abort, alloc: Global, row: &str) -> Result<(), Fail> {
+fn assert_counted(
+    rt: &(impl Abort + Threads + Wait + Sync),
+    alloc: Global,
+    row: &str,
+) -> Result<(), Fail> {
     let (line, number) = row.split_once(" | ").ok_or("a line and a number")?;
     let want = format!(in alloc; "{number}\n")?;
-    let told = tell_of_files(alloc, line)?;
+    let told = tell_of_files(rt, alloc, line)?;
     assert_told(rt, &told, (0, want.as_str(), ""), line);
     Ok(())
 }
@@ -116,16 +126,24 @@ fn ranks_are_counted(rt: HostRuntime) -> Result<(), Fail> {
 }
 
 /// A row of a table: the line writes the text of the file that stands behind it, and a line feed.
-fn assert_written(rt: &impl Abort, alloc: Global, row: &str) -> Result<(), Fail> {
+fn assert_written(
+    rt: &(impl Abort + Threads + Wait + Sync),
+    alloc: Global,
+    row: &str,
+) -> Result<(), Fail> {
     let (line, path) = row.split_once(" | ").ok_or("a line and a path")?;
     let (_path, text) = file_of(FILES, path).ok_or("a file")?;
     let want = format!(in alloc; "{text}\n")?;
-    let told = tell_of_files(alloc, line)?;
+    let told = tell_of_files(rt, alloc, line)?;
     assert_told(rt, &told, (0, want.as_str(), ""), line);
     Ok(())
 }
 
-fn assert_each_written(rt: &impl Abort, alloc: Global, rows: &str) -> Result<(), Fail> {
+fn assert_each_written(
+    rt: &(impl Abort + Threads + Wait + Sync),
+    alloc: Global,
+    rows: &str,
+) -> Result<(), Fail> {
     for row in rows.lines() {
         assert_written(rt, alloc, row)?;
     }
@@ -242,16 +260,24 @@ fn refused_of(row: &str) -> Option<Refused<'_>> {
 }
 
 /// A row of a table: the line is refused, and nothing is written.
-fn assert_refused(rt: &impl Abort, alloc: Global, row: &str) -> Result<(), Fail> {
+fn assert_refused(
+    rt: &(impl Abort + Threads + Wait + Sync),
+    alloc: Global,
+    row: &str,
+) -> Result<(), Fail> {
     let refused = refused_of(row).ok_or("a refusal")?;
     let want = format!(in alloc; "isofarm: {}\n", refused.told)?;
-    let told = tell_of_files(alloc, refused.line)?;
+    let told = tell_of_files(rt, alloc, refused.line)?;
     let want = (refused.status, "", want.as_str());
     assert_told(rt, &told, want, refused.line);
     Ok(())
 }
 
-fn assert_each_refused(rt: &impl Abort, alloc: Global, rows: &str) -> Result<(), Fail> {
+fn assert_each_refused(
+    rt: &(impl Abort + Threads + Wait + Sync),
+    alloc: Global,
+    rows: &str,
+) -> Result<(), Fail> {
     for row in rows.lines() {
         assert_refused(rt, alloc, row)?;
     }
@@ -446,11 +472,15 @@ fn text_of_ranks(alloc: Global, ranks: u64, told: &str) -> Option<String> {
     Some(text)
 }
 
-fn assert_reported(rt: &impl Abort, alloc: Global, row: &str) -> Result<(), Fail> {
+fn assert_reported(
+    rt: &(impl Abort + Threads + Wait + Sync),
+    alloc: Global,
+    row: &str,
+) -> Result<(), Fail> {
     let reported = reported_of(row).ok_or("a report")?;
     let want = text_of_ranks(alloc, reported.ranks, reported.told).ok_or("memory")?;
     let line = format!(in alloc; "isofarm report {}", reported.book)?;
-    let told = tell_of_files(alloc, &line)?;
+    let told = tell_of_files(rt, alloc, &line)?;
     assert_told(rt, &told, (0, want.as_str(), ""), reported.book);
     Ok(())
 }
@@ -475,7 +505,7 @@ fn a_report_tells_each_rank(rt: HostRuntime) -> Result<(), Fail> {
 
 #[test]
 fn ranks_that_tell_two_things_are_reported_in_their_order(rt: HostRuntime) -> Result<(), Fail> {
-    let told = tell_of_files(rt.alloc(), "isofarm report first.book")?;
+    let told = tell_of_files(&rt, rt.alloc(), "isofarm report first.book")?;
     let want =
         "rank 0\nsession a\n  step a1\n  inserted 1\n  done\nsession b\n  step b1\n  row 30\n  rows 1\n  done\nrank 1\nsession a\n  step a1\n  inserted 1\n  done\nsession b\n  step b1\n  rows 0\n  done\n";
     assert_told(&rt, &told, (0, want, ""), "first.book");
@@ -490,28 +520,43 @@ two.spec | both.book | 6
 lines.spec | lines.book | 1";
 
 /// Adds what a rank tells where it is run alone. None where memory ran out.
-fn push_alone(alloc: Global, text: &mut Vec<u8>, spec: &str, rank: u64) -> Option<()> {
+fn push_alone(
+    rt: &(impl Threads + Wait + Sync),
+    alloc: Global,
+    text: &mut Vec<u8>,
+    spec: &str,
+    rank: u64,
+) -> Option<()> {
     let line = format!(in alloc; "isofarm one {spec} {rank}").ok()?;
-    let told = tell_of_files(alloc, &line).ok()?;
+    let told = tell_of_files(rt, alloc, &line).ok()?;
     text.extend_from_slice(&told.out).ok()
 }
 
 /// What all ranks tell, each run alone. None where memory ran out.
-fn each_alone(alloc: Global, spec: &str, ranks: u64) -> Option<Vec<u8>> {
+fn each_alone(
+    rt: &(impl Threads + Wait + Sync),
+    alloc: Global,
+    spec: &str,
+    ranks: u64,
+) -> Option<Vec<u8>> {
     let mut text = Vec::new(alloc);
     for rank in 0..ranks {
-        push_alone(alloc, &mut text, spec, rank)?;
+        push_alone(rt, alloc, &mut text, spec, rank)?;
     }
     Some(text)
 }
 
-fn assert_reported_alone(rt: &impl Abort, alloc: Global, row: &str) -> Result<(), Fail> {
+fn assert_reported_alone(
+    rt: &(impl Abort + Threads + Wait + Sync),
+    alloc: Global,
+    row: &str,
+) -> Result<(), Fail> {
     let (spec, rest) = row.split_once(" | ").ok_or("a spec")?;
     let (book, ranks) = rest.split_once(" | ").ok_or("a book")?;
     let ranks = ranks.parse::<u64>().ok().ok_or("a number")?;
-    let want = each_alone(alloc, spec, ranks).ok_or("memory")?;
+    let want = each_alone(rt, alloc, spec, ranks).ok_or("memory")?;
     let line = format!(in alloc; "isofarm report {book}")?;
-    let told = tell_of_files(alloc, &line)?;
+    let told = tell_of_files(rt, alloc, &line)?;
     assert!(rt; !want.is_empty(), "{line}");
     assert!(rt; told.out.as_slice() == want.as_slice(), "{line}");
     Ok(())
@@ -526,8 +571,13 @@ fn a_report_is_what_each_rank_tells_alone(rt: HostRuntime) -> Result<(), Fail> {
 }
 
 /// A line that writes a text, or that is refused memory and has written a front of it.
-fn assert_front_of(rt: &impl Abort, alloc: Global, line: &str, text: &str) {
-    if let Ok(told) = tell_of_files(alloc, line) {
+fn assert_front_of(
+    rt: &(impl Abort + Threads + Wait + Sync),
+    alloc: Global,
+    line: &str,
+    text: &str,
+) {
+    if let Ok(told) = tell_of_files(rt, alloc, line) {
         assert_front(rt, &told, text, line);
     }
 }

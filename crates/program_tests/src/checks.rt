@@ -2,11 +2,13 @@
 use crate::disks::{assert_tells, holding};
 use std::alloc::{AllocError, Global};
 use std::process::Abort;
+use std::sync::Wait;
 use std::test::Fail;
+use std::thread::Threads;
 
 /// Asserts what a check tells of a text that it refuses.
 fn assert_explained(
-    rt: &impl Abort,
+    rt: &(impl Abort + Threads + Wait + Sync),
     alloc: Global,
     text: &[u8],
     want: &str,
@@ -22,7 +24,12 @@ fn assert_explained(
 }
 
 /// Asserts what a check tells of a spec.
-fn assert_counts(rt: &impl Abort, alloc: Global, text: &str, want: &str) -> Result<(), AllocError> {
+fn assert_counts(
+    rt: &(impl Abort + Threads + Wait + Sync),
+    alloc: Global,
+    text: &str,
+    want: &str,
+) -> Result<(), AllocError> {
     assert_tells(
         rt,
         alloc,

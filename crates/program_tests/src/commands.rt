@@ -4,7 +4,9 @@ use iso_farm::{Opener, run, tell_words_fault};
 use std::alloc::{AllocError, Global};
 use std::io::{self, Write};
 use std::process::Abort;
+use std::sync::Wait;
 use std::test::Fail;
+use std::thread::Threads;
 use transcripts::Counted;
 
 pub const FIRST: &str =
@@ -42,7 +44,7 @@ impl Write for FullDevice {
 
 /// Asserts what a rank of a spec tells.
 fn assert_rank(
-    rt: &impl Abort,
+    rt: &(impl Abort + Threads + Wait + Sync),
     alloc: Global,
     text: &str,
     line: &str,
@@ -87,7 +89,7 @@ fn one_prints_the_rank_and_its_outcome(rt: HostRuntime) -> Result<(), Fail> {
 
 /// Asserts that the first rank of a text is refused by a line.
 fn assert_refused(
-    rt: &impl Abort,
+    rt: &(impl Abort + Threads + Wait + Sync),
     alloc: Global,
     line: &str,
     text: &[u8],
@@ -178,7 +180,7 @@ fn a_file_that_is_not_read_is_a_read_fault(rt: HostRuntime) -> Result<(), Fail> 
 }
 
 pub fn assert_write_fault<O: Opener, W: Write + Drop>(
-    rt: &impl Abort,
+    rt: &(impl Abort + Threads + Wait + Sync),
     alloc: Global,
     line: &str,
     disk: &O,
@@ -187,7 +189,7 @@ pub fn assert_write_fault<O: Opener, W: Write + Drop>(
     let words = words_of(alloc, line)?;
     let mut out = Counted::new(out);
     let mut err = Counted::new(Vec::new(alloc));
-    let status = run(alloc, &words, disk, &mut out, &mut err);
+    let status = run(rt, alloc, &words, disk, &mut out, &mut err);
     assert_text(rt, &err.into_inner(), "isofarm: write fault\n", line);
     assert!(rt; status == 5, "{line}");
     Ok(())
@@ -210,8 +212,12 @@ fn an_output_that_fails_is_a_write_fault(rt: HostRuntime) -> Result<(), Fail> {
 }
 
 /// The words that a line has are no command, and that is told.
-pub fn assert_no_command(rt: &impl Abort, alloc: Global, line: &str) -> Result<(), AllocError> {
-    let told = tell(alloc, line, &holding(FIRST.as_bytes()))?;
+pub fn assert_no_command(
+    rt: &(impl Abort + Threads + Wait + Sync),
+    alloc: Global,
+    line: &str,
+) -> Result<(), AllocError> {
+    let told = tell(rt, alloc, line, &holding(FIRST.as_bytes()))?;
     assert!(rt; told.status == 2, "{line}");
     assert!(rt; told.out.is_empty(), "{line}");
     assert!(rt; told.err.starts_with(b"error: "), "{line}");
@@ -234,8 +240,12 @@ fn words_that_ask_for_nothing_end_with_two(rt: HostRuntime) -> Result<(), Fail> 
     Ok(())
 }
 
-fn assert_help(rt: &impl Abort, alloc: Global, line: &str) -> Result<(), Fail> {
-    let told = tell(alloc, line, &holding(FIRST.as_bytes()))?;
+fn assert_help(
+    rt: &(impl Abort + Threads + Wait + Sync),
+    alloc: Global,
+    line: &str,
+) -> Result<(), Fail> {
+    let told = tell(rt, alloc, line, &holding(FIRST.as_bytes()))?;
     let out = str::from_utf8(&told.out).map_err(|_| "UTF-8 on standard output")?;
     assert!(rt; out.contains("Usage: isofarm"), "{line}");
     assert!(rt; told.status == 0, "{line}");

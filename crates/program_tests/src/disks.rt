@@ -3,6 +3,8 @@ use iso_farm::{Opener, run};
 use std::alloc::{AllocError, Global};
 use std::io::{self, Read};
 use std::process::Abort;
+use std::sync::Wait;
+use std::thread::Threads;
 use transcripts::Counted;
 
 // Gives a byte a call, up to a call that fails, if one does.
@@ -77,17 +79,27 @@ pub struct Told {
 }
 
 /// What the words tell over a disk.
-pub fn told_by<O: Opener>(alloc: Global, words: &[String], disk: &O) -> Told {
+pub fn told_by<O: Opener>(
+    rt: &(impl Threads + Wait + Sync),
+    alloc: Global,
+    words: &[String],
+    disk: &O,
+) -> Told {
     let mut out = Counted::new(Vec::new(alloc));
     let mut err = Counted::new(Vec::new(alloc));
-    let status = run(alloc, words, disk, &mut out, &mut err);
+    let status = run(rt, alloc, words, disk, &mut out, &mut err);
     let (out, err) = (out.into_inner(), err.into_inner());
     Told { status, out, err }
 }
 
-pub fn tell(alloc: Global, line: &str, disk: &Disk<'_>) -> Result<Told, AllocError> {
+pub fn tell(
+    rt: &(impl Threads + Wait + Sync),
+    alloc: Global,
+    line: &str,
+    disk: &Disk<'_>,
+) -> Result<Told, AllocError> {
     let words = words_of(alloc, line)?;
-    Ok(told_by(alloc, &words, disk))
+    Ok(told_by(rt, alloc, &words, disk))
 }
 
 /// Whether bytes are the text; else they are shown.
@@ -107,13 +119,13 @@ pub fn assert_told(rt: &impl Abort, told: &Told, want: (u8, &str, &str), name: &
 
 /// Asserts the status, and what is written to the two outputs, of a line of words over a disk.
 pub fn assert_tells(
-    rt: &impl Abort,
+    rt: &(impl Abort + Threads + Wait + Sync),
     alloc: Global,
     line: &str,
     disk: &Disk<'_>,
     want: (u8, &str, &str),
 ) -> Result<(), AllocError> {
-    let told = tell(alloc, line, disk)?;
+    let told = tell(rt, alloc, line, disk)?;
     assert_told(rt, &told, want, line);
     Ok(())
 }

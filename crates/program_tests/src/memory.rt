@@ -7,7 +7,9 @@ use book_tests::spec_of;
 use sql_subset::{BindError, BindErrorKind, Spec};
 use std::alloc::Global;
 use std::process::Abort;
+use std::sync::Wait;
 use std::test::Fail;
+use std::thread::Threads;
 
 const NO_MEMORY: BindError = BindError {
     kind: BindErrorKind::NoMemory,
@@ -69,10 +71,10 @@ fn a_step_is_refused_as_ever_unless_memory_runs_out(rt: HostRuntime) -> Result<(
 }
 
 /// What a run tells. None where memory ran out before.
-fn told_of(alloc: Global, run: &Run<'_>) -> Option<Told> {
+fn told_of(rt: &(impl Threads + Wait + Sync), alloc: Global, run: &Run<'_>) -> Option<Told> {
     let text = spec_of(alloc, run.spec).ok()?;
     let line = format!(in alloc; "isofarm one first.spec {}", run.rank).ok()?;
-    tell(alloc, &line, &holding(text.as_bytes())).ok()
+    tell(rt, alloc, &line, &holding(text.as_bytes())).ok()
 }
 
 /// A run that memory is refused to ends with 4, and has written a front of what it tells.
@@ -92,8 +94,8 @@ pub fn assert_front(rt: &impl Abort, told: &Told, want: &str, name: &str) {
     }
 }
 
-fn assert_run(rt: &impl Abort, alloc: Global, run: &Run<'_>) {
-    if let (Some(told), Ok(want)) = (told_of(alloc, run), lines_of(alloc, run.rank, run.told)) {
+fn assert_run(rt: &(impl Abort + Threads + Wait + Sync), alloc: Global, run: &Run<'_>) {
+    if let (Some(told), Ok(want)) = (told_of(rt, alloc, run), lines_of(alloc, run.rank, run.told)) {
         assert_front(rt, &told, &want, run.name);
     }
 }
@@ -132,7 +134,7 @@ fn usage_is_told_unless_memory_runs_out(rt: HostRuntime) {
         ("isofarm --help", 0),
         ("isofarm one --help", 0),
     ] {
-        if let Ok(told) = tell(rt.alloc(), line, &holding(FIRST.as_bytes())) {
+        if let Ok(told) = tell(&rt, rt.alloc(), line, &holding(FIRST.as_bytes())) {
             assert_usage(&rt, &told, line, want);
         }
     }

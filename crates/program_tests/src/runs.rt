@@ -3,7 +3,9 @@ use crate::disks::{assert_tells, assert_text, holding, tell};
 use book_tests::spec_of;
 use std::alloc::{AllocError, Global};
 use std::process::Abort;
+use std::sync::Wait;
 use std::test::Fail;
+use std::thread::Threads;
 
 /// Runs: a name, a rank, a spec, and what the sessions are told, with a slash between two lines.
 pub const RUNS: &str =
@@ -122,17 +124,25 @@ pub fn lines_of(alloc: Global, rank: &str, told: &str) -> Result<String, AllocEr
 }
 
 /// A run tells its sessions what stands behind its spec.
-fn assert_run(rt: &impl Abort, alloc: Global, run: &Run<'_>) -> Result<(), AllocError> {
+fn assert_run(
+    rt: &(impl Abort + Threads + Wait + Sync),
+    alloc: Global,
+    run: &Run<'_>,
+) -> Result<(), AllocError> {
     let text = spec_of(alloc, run.spec)?;
     let line = format!(in alloc; "isofarm one first.spec {}", run.rank)?;
-    let told = tell(alloc, &line, &holding(text.as_bytes()))?;
+    let told = tell(rt, alloc, &line, &holding(text.as_bytes()))?;
     let want = lines_of(alloc, run.rank, run.told)?;
     assert_text(rt, &told.err, "", run.name);
     assert_text(rt, &told.out, &want, run.name);
     Ok(())
 }
 
-fn assert_told(rt: &impl Abort, alloc: Global, rows: &str) -> Result<(), Fail> {
+fn assert_told(
+    rt: &(impl Abort + Threads + Wait + Sync),
+    alloc: Global,
+    rows: &str,
+) -> Result<(), Fail> {
     for row in rows.lines() {
         let run = run_of(row).ok_or("a run")?;
         assert_run(rt, alloc, &run)?;
@@ -161,7 +171,7 @@ fn who_closes_a_ring_is_its_victim(rt: HostRuntime) -> Result<(), Fail> {
 }
 
 fn assert_refused(
-    rt: &impl Abort,
+    rt: &(impl Abort + Threads + Wait + Sync),
     alloc: Global,
     spec: &str,
     want: &str,

@@ -8,7 +8,9 @@ use spec_reader::read_spec;
 use sql_subset::{BindError, Bound, Spec, bind, lock_plan};
 use std::alloc::{AllocError, Global};
 use std::process::Abort;
+use std::sync::Wait;
 use std::test::Fail;
+use std::thread::Threads;
 
 /// A table with a key and one without.
 pub const TWO_TABLES: &str =
@@ -87,7 +89,7 @@ pub fn refusal_of(row: &str) -> Option<Refusal<'_>> {
 
 /// The SQL between the front and the end of a file is refused with its kind, at its place in the file.
 fn assert_refused(
-    rt: &impl Abort,
+    rt: &(impl Abort + Threads + Wait + Sync),
     alloc: Global,
     row: &str,
     front: &str,
@@ -310,12 +312,17 @@ fn spec_of_shape(
 }
 
 fn assert_shape(
-    rt: &impl Abort,
+    rt: &(impl Abort + Threads + Wait + Sync),
     alloc: Global,
     text: &str,
     is_shape: bool,
 ) -> Result<(), AllocError> {
-    let told = tell(alloc, "isofarm one first.spec 0", &holding(text.as_bytes()))?;
+    let told = tell(
+        rt,
+        alloc,
+        "isofarm one first.spec 0",
+        &holding(text.as_bytes()),
+    )?;
     let want = if is_shape {
         ""
     } else {

@@ -1,4 +1,4 @@
-use Rattle.std.proofs.Common.{◌≡◌, sym, ap, subst, inr, Ok, Err}
+use Rattle.std.proofs.Common.{◌≡◌, refl, sym, ap, subst, inr, Ok, Err}
 use Rattle.iso_farm.specs.Status.{count_status}
 use Rattle.iso_farm.specs.Counting.{IsChecked}
 use Rattle.iso_farm.proofs.commands.check_of_file.Goals as goal
@@ -8,7 +8,7 @@ returns-in-Ok-check-clause-done g c =
     inr (
       c.in-Ok.bytes.items,
       c.in-Ok.ensures.read,
-      subst (λ b. IsChecked g.W.Write.contents c.args.out.now c.check.new.out b (Ok tt)) c.as_slice.ensures.value c.in-Ok-check.ensures,
+      (refl, subst (λ b. IsChecked g.W.Write.contents c.args.out.now c.check.new.out b (Ok tt)) c.as_slice.ensures.value c.in-Ok-check.ensures),
     )
 
 pub returns-clause-done : goal.returns-clause-done

@@ -1,4 +1,4 @@
-use Rattle.std.proofs.Common.{subst, inr, Ok}
+use Rattle.std.proofs.Common.{refl, subst, inr, Ok}
 use Rattle.iso_farm.specs.Counting.{IsCounted}
 use Rattle.iso_farm.proofs.commands.count_of_file.Goals as goal
 
@@ -7,5 +7,5 @@ returns-in-Ok-count-clause-done g c =
     inr (
       c.in-Ok.bytes.items,
       c.in-Ok.ensures.read,
-      subst (λ b. IsCounted g.W.Write.contents c.args.out.now c.count.new.out b (Ok tt)) c.as_slice.ensures.value c.in-Ok-count.ensures,
+      (refl, subst (λ b. IsCounted g.W.Write.contents c.args.out.now c.count.new.out b (Ok tt)) c.as_slice.ensures.value c.in-Ok-count.ensures),
     )

@@ -1,4 +1,4 @@
-use Rattle.std.proofs.Common.{subst, inr, Ok, Err}
+use Rattle.std.proofs.Common.{refl, subst, inr, Ok, Err}
 use Rattle.iso_farm.specs.One.{IsOneRun}
 use Rattle.iso_farm.proofs.commands.one_of_file.Goals as goal
 
@@ -7,7 +7,7 @@ returns-in-Ok-one-clause-done g c =
     inr (
       c.in-Ok.bytes.items,
       c.in-Ok.ensures.read,
-      subst (λ b. IsOneRun g.W.Write.contents c.args.out.now c.one.new.out b c.args.rank (Ok tt)) c.as_slice.ensures.value c.in-Ok-one.ensures.written,
+      (refl, subst (λ b. IsOneRun g.W.Write.contents c.args.out.now c.one.new.out b c.args.rank (Ok tt)) c.as_slice.ensures.value c.in-Ok-one.ensures.written),
     )
 
 pub returns-clause-done : goal.returns-clause-done

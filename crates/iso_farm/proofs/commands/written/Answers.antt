@@ -3,4 +3,4 @@ use Rattle.iso_farm.proofs.commands.written.Goals as goal
 
 pub returns-in-Ok-clause-whole : goal.returns-in-Ok-clause-whole
 returns-in-Ok-clause-whole g c =
-    passed-on g.W.Write.contents c.args.out.now c.write_str.new.self c.flushed.new.out c.args.text.now c.flushed.result c.in-Ok.ensures c.flushed.ensures
+    passed-on g.W.Write.contents c.args.out.now c.write_str.new.self c.flushed.new.out c.args.text.now _ c.flushed.result c.in-Ok.ensures c.flushed.ensures

@@ -1,0 +1,248 @@
+//! The commands that audit and judge books, over a disk with some files. The test without memory is to be read under
+//! `rt try --test --fail-alloc` too.
+use crate::shelf::{Told, assert_told, tell};
+use std::alloc::{AllocError, Global};
+use std::process::Abort;
+use std::sync::Wait;
+use std::test::Fail;
+use std::thread::Threads;
+
+/// More bytes than any answer has.
+const ALL: usize = 1_000;
+
+/// A line, its status, and what it tells, with a slash between two lines.
+#[derive(Clone, Copy)]
+struct Row<'a> {
+    line: &'a str,
+    status: u8,
+    told: &'a str,
+}
+
+fn row_of(row: &str) -> Option<Row<'_>> {
+    let (line, rest) = row.split_once(" | ")?;
+    let (status, told) = rest.split_once(" | ")?;
+    Some(Row {
+        line,
+        status: status.parse::<u8>().ok()?,
+        told,
+    })
+}
+
+/// The lines of a text in which a slash stands between two.
+fn lines_of(alloc: Global, told: &str) -> Result<String, AllocError> {
+    let mut text = String::new(alloc);
+    for line in told.split('/') {
+        text.push_str(line)?;
+        text.push_str("\n")?;
+    }
+    Ok(text)
+}
+
+/// A row of a table: what the line tells is found, and stands on standard output.
+fn assert_found<R: Abort + Threads + Wait + Sync>(
+    rt: &R,
+    alloc: Global,
+    row: &str,
+) -> Result<(), Fail> {
+    let row = row_of(row).ok_or("a finding")?;
+    let want = lines_of(alloc, row.told)?;
+    let told = tell(rt, alloc, row.line, ALL)?;
+    assert_told(rt, &told, (row.status, want.as_str(), ""), row.line);
+    Ok(())
+}
+
+/// Books and what an audit of them finds.
+const AUDITS: &str = "isofarm audit e.book | 0 | true
+isofarm audit none.book | 0 | true
+isofarm audit first.book | 0 | true
+isofarm audit reduced.book | 0 | true
+isofarm audit every.book | 0 | true
+isofarm audit short.book | 0 | true
+isofarm audit large.book | 0 | true
+isofarm audit late.book | 0 | true
+isofarm audit false.book | 1 | false at rank 0
+isofarm audit clash.book | 1 | false at rank 0
+isofarm audit other.book | 1 | false at rank 0
+isofarm audit late_ran.book | 1 | false at rank 0
+isofarm audit swap.book | 1 | false at rank 1";
+
+#[test]
+fn an_audit_tells_the_least_rank_with_a_false_fact(rt: HostRuntime) -> Result<(), Fail> {
+    for row in AUDITS.lines() {
+        assert_found(&rt, rt.alloc(), row)?;
+    }
+    Ok(())
+}
+
+/// Books, accepted books, and the verdict: the first that tells the same, or where each differs. Those of one spec, of books that tell the
+/// same by other facts, and of other specs.
+const VERDICTS: &str = "isofarm judge first.book other.book | 1 | 0 differs at rank 0 session 1
+isofarm judge first.book first.book | 0 | matches 0
+isofarm judge first.book other.book first.book first.book | 0 | matches 1
+isofarm judge other.book first.book first.book other.book | 0 | matches 2
+isofarm judge first.book other.book other.book | 1 | 0 differs at rank 0 session 1/1 differs at rank 0 session 1
+isofarm judge first.book swap.book | 1 | 0 differs at rank 1 session 1
+isofarm judge swap.book other.book first.book | 1 | 0 differs at rank 0 session 1/1 differs at rank 1 session 1
+isofarm judge reduced.book every.book | 0 | matches 0
+isofarm judge every.book reduced.book | 0 | matches 0
+isofarm judge every.book short.book | 1 | 0 differs at rank 1 session 0
+isofarm judge short.book every.book reduced.book | 1 | 0 differs at rank 1 session 0/1 differs at rank 1 session 0
+isofarm judge e.book first.book false.book | 1 | 0 differs at rank 0 session 0/1 differs at rank 0 session 0
+isofarm judge late_ran.book e.book | 0 | matches 0";
+
+#[test]
+fn a_verdict_tells_the_first_equal_report_or_where_each_differs(
+    rt: HostRuntime,
+) -> Result<(), Fail> {
+    for row in VERDICTS.lines() {
+        assert_found(&rt, rt.alloc(), row)?;
+    }
+    Ok(())
+}
+
+/// A row of a table: the line is refused, and nothing is written.
+fn assert_refused<R: Abort + Threads + Wait + Sync>(
+    rt: &R,
+    alloc: Global,
+    row: &str,
+) -> Result<(), Fail> {
+    let row = row_of(row).ok_or("a refusal")?;
+    let want = format!(in alloc; "isofarm: {}\n", row.told)?;
+    let told = tell(rt, alloc, row.line, ALL)?;
+    assert_told(rt, &told, (row.status, "", want.as_str()), row.line);
+    Ok(())
+}
+
+/// Files that are not there, that are no books, and that have no report: the first of the line is told.
+const REFUSALS: &str = "isofarm audit no.book | 5 | no.book: read fault
+isofarm audit text.book | 3 | text.book: book error 1
+isofarm audit version.book | 3 | version.book: book error 3
+isofarm judge no.book text.book | 5 | no.book: read fault
+isofarm judge first.book no.book text.book | 5 | no.book: read fault
+isofarm judge first.book first.book no.book | 5 | no.book: read fault
+isofarm judge text.book no.book | 3 | text.book: book error 1
+isofarm judge first.book version.book no.book | 3 | version.book: book error 3
+isofarm judge first.book first.book text.book | 3 | text.book: book error 1
+isofarm judge none.book no.book | 1 | none.book: missing rank 0
+isofarm judge first.book front.book no.book | 1 | front.book: missing rank 1
+isofarm judge e.book e.book late.book | 1 | late.book: missing rank 0
+isofarm judge clash.book text.book | 1 | clash.book: clash at rank 0
+isofarm judge e.book clash.book | 1 | clash.book: clash at rank 0
+isofarm judge large.book none.book | 3 | large.book: too many ranks
+isofarm judge first.book large.book | 3 | large.book: too many ranks";
+
+#[test]
+fn the_first_file_without_a_report_is_told(rt: HostRuntime) -> Result<(), Fail> {
+    for row in REFUSALS.lines() {
+        assert_refused(&rt, rt.alloc(), row)?;
+    }
+    Ok(())
+}
+
+/// A line with so many accepted books.
+fn line_of_accepted(alloc: Global, books: usize) -> Result<String, AllocError> {
+    let mut line = String::from_str(alloc, "isofarm judge e.book")?;
+    for _book in 0..books {
+        line.push_str(" e.book")?;
+    }
+    Ok(line)
+}
+
+/// Words that are no command.
+fn assert_no_command<R: Abort + Threads + Wait + Sync>(
+    rt: &R,
+    alloc: Global,
+    line: &str,
+) -> Result<(), AllocError> {
+    let told = tell(rt, alloc, line, ALL)?;
+    assert!(rt; told.status == 2, "{line}");
+    assert!(rt; told.out.is_empty(), "{line}");
+    assert!(rt; told.err.starts_with(b"error: "), "{line}");
+    Ok(())
+}
+
+#[test]
+fn words_that_name_no_books_end_with_two(rt: HostRuntime) -> Result<(), Fail> {
+    for line in [
+        "isofarm audit",
+        "isofarm audit e.book e.book",
+        "isofarm judge",
+        "isofarm judge e.book",
+    ] {
+        assert_no_command(&rt, rt.alloc(), line)?;
+    }
+    Ok(())
+}
+
+#[test]
+fn a_thousand_and_one_accepted_books_are_a_fault_of_the_line(rt: HostRuntime) -> Result<(), Fail> {
+    let line = line_of_accepted(rt.alloc(), 1_001)?;
+    assert_no_command(&rt, rt.alloc(), &line)?;
+    Ok(())
+}
+
+/// An output that takes so many bytes has a front of the text, and a write fault is told where that is not all.
+fn assert_stopped<R: Abort + Threads + Wait + Sync>(
+    rt: &R,
+    alloc: Global,
+    line: &str,
+    text: &str,
+    bytes: usize,
+) -> Result<(), AllocError> {
+    let told = tell(rt, alloc, line, bytes)?;
+    let front = text.as_bytes().get(..bytes);
+    assert!(rt; front == Some(told.out.as_slice()), "{line} after {bytes}");
+    assert!(rt;
+        told.err.as_slice() == b"isofarm: write fault\n".as_slice(),
+        "{line} after {bytes}"
+    );
+    assert!(rt; told.status == 5, "{line} after {bytes}");
+    Ok(())
+}
+
+/// A line, and its answer in one line.
+static ANSWERS: [(&str, &str); 4] = [
+    ("isofarm audit e.book", "true\n"),
+    ("isofarm audit swap.book", "false at rank 1\n"),
+    ("isofarm judge e.book e.book", "matches 0\n"),
+    (
+        "isofarm judge e.book first.book",
+        "0 differs at rank 0 session 0\n",
+    ),
+];
+
+#[test]
+fn an_output_that_fails_at_any_call_has_a_front_of_the_answer(rt: HostRuntime) -> Result<(), Fail> {
+    for (line, text) in &ANSWERS {
+        for bytes in 0..text.len() {
+            assert_stopped(&rt, rt.alloc(), line, text, bytes)?;
+        }
+    }
+    Ok(())
+}
+
+/// The answer is told whole, or want of memory is, with a front of the answer written.
+fn assert_whole(rt: &impl Abort, told: &Told, text: &str, line: &str) {
+    match told.status {
+        0 | 1 => assert!(rt;
+            told.out.as_slice() == text.as_bytes() && told.err.is_empty(),
+            "{line}"
+        ),
+        4 => {
+            assert!(rt; text.as_bytes().starts_with(&told.out), "{line}");
+            assert!(rt; b"isofarm: no memory\n".starts_with(&told.err), "{line}");
+        }
+        // The writer of this test did not take what it was given.
+        5 => assert!(rt; text.as_bytes().starts_with(&told.out), "{line}"),
+        status => assert!(rt; false, "{line} ends with {status}"),
+    }
+}
+
+#[test]
+fn answers_are_told_whole_unless_memory_runs_out(rt: HostRuntime) {
+    for (line, text) in &ANSWERS {
+        if let Ok(told) = tell(&rt, rt.alloc(), line, ALL) {
+            assert_whole(&rt, &told, text, line);
+        }
+    }
+}
