@@ -15,7 +15,7 @@ runs_of (piece ∷ pieces) = piece ++ runs_of pieces
 
 -- the runs that are cut so far
 abbrev pub runs_in : Pieces → List Run
-runs_in pieces = runs_of pieces.full.items ++ pieces.open
+runs_in pieces = runs_of pieces.ended.items ++ pieces.rest
 
 -- both lists say the same facts
 abbrev pub SaysAll : List Run → List Run → Type 0

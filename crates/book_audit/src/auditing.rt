@@ -23,18 +23,14 @@ pub fn audit_plain(alloc: Global, book: &Book) -> Result<(), AuditError>
     told(finding_of(alloc, &spec, outcomes, runs))
 }
 
-/// The same, in as many threads as there are processors and work for: it answers what `audit_plain` does. No thread waits for another,
-/// and where none can be made the pieces are tested on this one.
-pub fn audit<R: Threads + Sync>(
-    threads: &R,
-    alloc: Global,
-    book: &Book,
-) -> Result<(), AuditError>
+/// The same answer, from as many threads as there are processors and pieces of work for them. Where none can be made the pieces are
+/// tested on this one.
+pub fn audit<R: Threads + Sync>(threads: &R, alloc: Global, book: &Book) -> Result<(), AuditError>
     ensures { IsAudit book.now result }
 {
     let (outcomes, runs) = book.parts();
-    let spec = spec_of(alloc, book)?;
     let pieces = pieces_of(alloc, runs)?;
-    let findings = findings_of(threads, alloc, &spec, outcomes, pieces.as_slice())?;
+    book.known();
+    let findings = findings_of(threads, alloc, book.text(), outcomes, pieces.as_slice())?;
     told(all_of(findings.as_slice()))
 }

@@ -10,16 +10,16 @@ use std::alloc::{AllocError, Global};
 use std::mem;
 
 /// How many ranks with an outcome a piece has. Each of them sends a few steps, those that its line does not share with the line before,
-/// so a piece is some thousand steps and takes some milliseconds. To start a thread and the spec costs far less than that, and pieces
-/// are still small enough for all processors to have some until near the end.
+/// so that a piece is some thousand steps and takes milliseconds. It binds and starts the spec for itself and may need a thread of its
+/// own, which costs far less. Pieces are still small enough for each processor to have some until near the end.
 const PIECE: u64 = 1_024;
 
 /// Runs cut into pieces, as far as they are there.
 #[derive(Drop)]
 struct Pieces {
-    full: Vec<Items<Run>>,
-    open: Items<Run>,
-    /// How many ranks of the open piece are tested one by one.
+    ended: Vec<Items<Run>>,
+    rest: Items<Run>,
+    /// How many ranks of the last piece are tested one by one.
     ranks: u64,
 }
 
@@ -35,7 +35,7 @@ pub(crate) fn pieces_of(alloc: Global, runs: &[Run]) -> Result<Vec<Items<Run>>, 
         pieces.add(alloc, runs[i])?;
     }
     pieces.close(alloc)?;
-    Ok(pieces.full)
+    Ok(pieces.ended)
 }
 
 impl Pieces {
@@ -43,8 +43,8 @@ impl Pieces {
         ensures { runs_in result ≡ [] }
     {
         Pieces {
-            full: Vec::new(alloc),
-            open: Items::new(alloc),
+            ended: Vec::new(alloc),
+            rest: Items::new(alloc),
             ranks: 0,
         }
     }
@@ -80,7 +80,7 @@ impl Pieces {
     fn put(&mut self, alloc: Global, run: Run, ranks: u64) -> Result<(), AllocError>
         ensures { OnOk result (runs_in self.new ≡ runs_in self.old ++ run ∷ []) }
     {
-        self.open.push(run)?;
+        self.rest.push(run)?;
         self.ranks = self.ranks.saturating_add(ranks);
         if self.ranks < PIECE {
             return Ok(());
@@ -88,13 +88,13 @@ impl Pieces {
         self.close(alloc)
     }
 
-    /// Ends the open piece, and begins another.
+    /// Ends the last piece, and begins another.
     fn close(&mut self, alloc: Global) -> Result<(), AllocError>
         ensures same { OnOk result (runs_in self.new ≡ runs_in self.old) }
-        ensures open { OnOk result (self.new.open ≡ []) }
+        ensures rest { OnOk result (self.new.rest ≡ []) }
     {
-        let full = mem::replace(&mut self.open, Items::new(alloc));
-        self.full.push(full)?;
+        let rest = mem::replace(&mut self.rest, Items::new(alloc));
+        self.ended.push(rest)?;
         self.ranks = 0;
         Ok(())
     }

@@ -119,7 +119,8 @@ fn assert_row<R: Abort + Threads + Sync>(
 ) -> Result<(), Fail> {
     let (want, facts) = row.split_once(" | ").ok_or("facts")?;
     let text = format!(in alloc;
-        "{{\"facts\":[{facts}],\"format\":2,\"outcomes\":[{}],\"spec\":\"{}\"}}", table.outcomes, table.spec
+        "{{\"facts\":[{facts}],\"format\":2,\"outcomes\":[{}],\"spec\":\"{}\"}}",
+        table.outcomes, table.spec
     )?;
     assert_text_audited(rt, alloc, text.as_str(), want)
 }
@@ -213,5 +214,8 @@ fn assert_named<R: Abort + Threads + Sync>(rt: &R, alloc: Global, text: &str) {
 }
 
 fn assert_true_or_refused(rt: &impl Abort, told: Result<(), AuditError>) {
-    assert!(rt; matches!(told, Ok(()) | Err(AuditError::NoMemory)), "{told:?}");
+    assert!(rt;
+        matches!(told, Ok(()) | Err(AuditError::NoMemory)),
+        "{told:?}"
+    );
 }
