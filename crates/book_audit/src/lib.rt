@@ -6,8 +6,10 @@ mod auditor;
 mod error;
 mod finding;
 mod ground;
+mod pieces;
+mod sharing;
 mod source;
 mod trail;
 
-pub use auditing::audit_plain;
+pub use auditing::{audit, audit_plain};
 pub use error::AuditError;
