@@ -1,5 +1,5 @@
 -- The least rank with a fact that is not true, run by run.
-use Rattle.std.proofs.Common.{◌≡◌, refl, sym, ap, ◌∙◌, subst, ℕ, ◌<◌, ◌≤◌, min, Bool, true, false, ◌||◌, List, Option, Some, None, ◌⊎◌, ⊎_elim, inl, inr, Ok, Err, arith}
+use Rattle.std.proofs.Common.{◌≡◌, refl, sym, ap, ◌∙◌, subst, ℕ, ◌<◌, ◌≤◌, Bool, true, false, ◌||◌, List, Option, Some, None, ◌⊎◌, ⊎_elim, inl, inr, arith}
 use Rattle.std.specs.Cmp.{eq_by_cmp_equiv}
 use Rattle.std.specs.FinSet.{contains}
 use Rattle.sql_subset.specs.Spec.{Spec}
@@ -9,19 +9,18 @@ use Rattle.quiet_steps.specs.declared.fact.Fact.{Fact}
 use Rattle.outcome_books.specs.declared.run.Run.{Run}
 use Rattle.outcome_books.specs.Entries.{FactSet, recorded}
 use Rattle.outcome_books.specs.Runs.{Table, fact_in, has}
-use Rattle.outcome_books.specs.Books.{Contents, facts_in}
+use Rattle.outcome_books.specs.Books.{facts_in}
 use Rattle.outcome_books.proofs.Orders.{fact_total, tied_facts}
 use Rattle.outcome_books.proofs.RunLemmas.{both_true, and_true, or_true_right, within-true, within-from}
 use Rattle.outcome_books.proofs.SetLemmas.{contains-runs}
 use Rattle.book_audit.specs.declared.finding.Finding.{Finding}
-use Rattle.book_audit.specs.declared.finding.Finding.TheVariants.{AllTrue as EachTrue, False, NoMemory}
-use Rattle.book_audit.specs.Audit.{HasFalse, IsLeastFalse}
+use Rattle.book_audit.specs.Audit.{IsLeastFalse}
 use Rattle.book_audit.specs.Findings.{said, with_said, limit, first_of, IsFirstFalse, AllTrueBelow, IsLeast, IsFinding}
 
-or-left : (x y : Bool) → x ≡ true → (x || y) ≡ true
+pub or-left : (x y : Bool) → x ≡ true → (x || y) ≡ true
 or-left x y e = ap (λ b. b || y) e
 
-or-cases : (x y : Bool) → (x || y) ≡ true → (x ≡ true) ⊎ (y ≡ true)
+pub or-cases : (x y : Bool) → (x || y) ≡ true → (x ≡ true) ⊎ (y ≡ true)
 or-cases true y e = inl refl
 or-cases false y e = inr e
 

@@ -1,3 +1,5 @@
 pub mod Trails
 pub mod Tests
 pub mod Least
+pub mod PieceLemmas
+pub mod Combined

@@ -1,9 +1,9 @@
 -- What tests of facts come to.
-use Rattle.std.proofs.Common.{◌≡◌, ◌↔◌, refl, sym, ap, ◌∙◌, subst, ℕ, suc, ◌+◌, ◌<◌, ◌≤◌, Bool, true, false, IsTrue, List, [], length, Option, Some, None, is_some, option_map, ◌⊎◌, ⊎_elim, arith}
+use Rattle.std.proofs.Common.{◌≡◌, ◌↔◌, refl, sym, ap, ◌∙◌, subst, ℕ, ◌+◌, ◌<◌, ◌≤◌, Bool, true, false, IsTrue, List, [], length, Option, Some, None, is_some, option_map, ◌⊎◌, ⊎_elim, arith}
 use Rattle.perm_ranks.specs.Words.{Word, total, all_words, word_at}
 use Rattle.perm_ranks.specs.Swapped.{exchanged}
 use Rattle.perm_ranks.proofs.WordLemmas.{Takes, words-take, each-at}
-use Rattle.sql_subset.specs.Spec.{Spec, SpecFile, ranks, ranks_by, line_of, counts_of, queues_of}
+use Rattle.sql_subset.specs.Spec.{Spec, ranks, ranks_by, line_of, counts_of, queues_of}
 use Rattle.transcripts.specs.declared.event.Event.{Event}
 use Rattle.machine_model.specs.World.{World, send_all, outcome_of}
 use Rattle.machine_model.specs.Start.{Start, Started, SetupFailed, SessionSetupFailed, SessionSetupWaits, start}

@@ -1,3 +1,4 @@
 pub mod Audit
 pub mod Trails
 pub mod Findings
+pub mod Pieces

@@ -6,10 +6,12 @@ mod auditor;
 mod error;
 mod finding;
 mod ground;
+mod pieces;
+mod sharing;
 mod source;
 mod threaded;
 mod trail;
 
-pub use auditing::audit_plain;
+pub use auditing::{audit, audit_plain};
 pub use error::AuditError;
 pub use threaded::audit;

@@ -1,21 +1,31 @@
 //! The spec of a book.
 
 ghost use Rattle.std.specs.Prelude.{◌≡◌, IfOk};
+ghost use Rattle.sql_subset.specs.Spec.{SpecFile};
+ghost use Rattle.sql_subset.specs.Binding.{IsFileOf};
 
 use outcome_books::Book;
 use spec_reader::read_spec;
 use sql_subset::{Spec, bind};
 use std::alloc::{AllocError, Global};
 
-/// The spec of a book. Its text was bound when the book was made, so that only want of memory can refuse it now.
+/// The spec of a book.
 pub(crate) fn spec_of(alloc: Global, book: &Book) -> Result<Spec, AllocError>
     ensures { IfOk result (λ spec. spec ≡ book.now.file) }
 {
     book.known();
-    let Ok(text) = read_spec(alloc, book.text().as_bytes()) else {
+    let spec = bound_spec(alloc, book.text())?;
+    Ok(spec)
+}
+
+/// The spec with the text of a book. It was bound when the book was made, so that only want of memory can refuse it now.
+pub(crate) fn bound_spec(alloc: Global, text: &str) -> Result<Spec, AllocError>
+    ensures { IfOk result (λ spec. (file : SpecFile) → IsFileOf text.now file → spec ≡ file) }
+{
+    let Ok(read) = read_spec(alloc, text.as_bytes()) else {
         return Err(AllocError);
     };
-    let Ok(spec) = bind(alloc, &text) else {
+    let Ok(spec) = bind(alloc, &read) else {
         return Err(AllocError);
     };
     Ok(spec)

@@ -1,4 +1,4 @@
-use Rattle.std.proofs.Common.{◌≡◌, refl, sym, ap, subst, [], ◌∷◌, ◌++◌, length, length-append, arith}
+use Rattle.std.proofs.Common.{refl, sym, subst, [], ◌∷◌, ◌++◌, length-append, arith}
 use Rattle.perm_ranks.specs.Blocks.{Block, HasRank}
 use Rattle.book_audit.proofs.auditor.alike_to.Goals as goal
 

@@ -1,4 +1,4 @@
-use Rattle.std.proofs.Common.{◌≡◌, sym, ap, ◌∙◌, subst}
+use Rattle.std.proofs.Common.{sym, subst}
 use Rattle.outcome_books.specs.Runs.{fact_in}
 use Rattle.book_audit.specs.Findings.{IsFirstFalse, IsLeast, with_said}
 use Rattle.book_audit.proofs.Least.{with-run}

@@ -1,11 +1,10 @@
-use Rattle.std.proofs.Common.{◌≡◌, sym, ap, ◌∙◌, subst, ℕ, suc, ◌+◌, ◌<◌, Bool, List, length, take, get_or, arith, add-one}
+use Rattle.std.proofs.Common.{◌≡◌, sym, ap, ◌∙◌, subst, ℕ, suc, ◌+◌, ◌<◌, List, length, take, get_or, arith, add-one}
 use Rattle.sql_subset.specs.Spec.{SpecFile, no_step, line_of}
 use Rattle.machine_model.specs.World.{send_all}
 use Rattle.quiet_steps.specs.Quiet.{is_quiet}
 use Rattle.session_machine.specs.Running.{Running}
 use Rattle.step_reducer.specs.Reduced.{first_world}
 use Rattle.step_reducer.specs.Pairs.{is_quiet_in}
-use Rattle.step_reducer.proofs.Trails.{running}
 use Rattle.book_audit.proofs.Trails.{auditor-top}
 use Rattle.book_audit.proofs.auditor.Auditor.are_quiet.Goals as goal
 

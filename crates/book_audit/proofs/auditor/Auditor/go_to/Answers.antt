@@ -1,4 +1,4 @@
-use Rattle.std.proofs.Common.{◌≡◌, refl, sym, ap, ◌∙◌, subst, ℕ, ◌<◌, List, All, length, take, arith}
+use Rattle.std.proofs.Common.{refl, sym, ap, subst, ℕ, ◌<◌, List, All, length, take, arith}
 use Rattle.sql_subset.specs.Spec.{SpecFile}
 use Rattle.session_machine.specs.Running.{Running}
 use Rattle.step_reducer.proofs.FrontLemmas.{front-old, front-new}

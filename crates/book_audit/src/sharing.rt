@@ -1,0 +1,82 @@
+//! Pieces of work in threads.
+
+ghost use Rattle.std.specs.Prelude.{◌≡◌, All, IfOk, length};
+ghost use Rattle.std.specs.List.{AllZip};
+ghost use Rattle.sql_subset.specs.Spec.{SpecFile};
+ghost use Rattle.sql_subset.specs.Binding.{IsFileOf};
+ghost use Rattle.outcome_books.specs.Runs.{AllSound};
+ghost use Rattle.book_audit.specs.Findings.{IsFinding, said};
+ghost use Rattle.book_audit.specs.Pieces.{both, all_of};
+ghost use Rattle.book_audit.specs.declared.finding.Finding.TheVariants as found;
+
+use crate::finding::{Finding, finding_of};
+use crate::source::bound_spec;
+use outcome_books::Run;
+use rayon::prelude::*;
+use sqlite_items::Items;
+use std::alloc::{AllocError, Global};
+use std::thread::Threads;
+use transcripts::Outcome;
+
+/// What is found of each piece, in their order.
+pub(crate) fn findings_of<R: Threads + Sync>(
+    threads: &R,
+    alloc: Global,
+    text: &str,
+    outcomes: &[Outcome],
+    pieces: &[Items<Run>],
+) -> Result<Vec<Finding>, AllocError>
+    requires { All (AllSound (length outcomes.now)) pieces.now }
+    ensures { IfOk result (λ findings. (file : SpecFile) → IsFileOf text.now file
+        → AllZip (λ piece finding. IsFinding file.run (said outcomes.now piece) finding) pieces.now findings.items) }
+{
+    // A list of a few pieces is worth threads too, since each is some thousand steps.
+    pieces
+        .par_iter()
+        .with_min_len(1)
+        .map(
+            |piece: &Items<Run>| -> Finding
+                requires { AllSound (length outcomes.now) piece.now }
+                ensures { (file : SpecFile) → IsFileOf text.entry.now file → IsFinding file.run (said outcomes.entry.now piece.now) result }
+            { finding_in(alloc, text, outcomes, piece.as_slice()) },
+        )
+        .collect(threads, alloc)
+}
+
+/// What is found of the facts that runs say of the spec with this text. Threads share the text, and each piece binds and starts the
+/// spec for itself.
+fn finding_in(alloc: Global, text: &str, outcomes: &[Outcome], runs: &[Run]) -> Finding
+    requires { AllSound (length outcomes.now) runs.now }
+    ensures { (file : SpecFile) → IsFileOf text.now file → IsFinding file.run (said outcomes.now runs.now) result }
+{
+    match bound_spec(alloc, text) {
+        Ok(spec) => finding_of(alloc, &spec, outcomes, runs),
+        Err(AllocError) => Finding::NoMemory,
+    }
+}
+
+/// What is found of all pieces.
+pub(crate) fn all_of(findings: &[Finding]) -> Finding
+    ensures { result ≡ all_of found.AllTrue findings.now }
+{
+    let mut all = Finding::AllTrue;
+    for i in 0..findings.len() {
+        all = both(all, findings[i]);
+    }
+    all
+}
+
+/// What is found of two pieces.
+fn both(a: Finding, b: Finding) -> Finding
+    ensures { result ≡ both a b }
+{
+    match a {
+        Finding::NoMemory => Finding::NoMemory,
+        Finding::AllTrue => b,
+        Finding::False(rank) => match b {
+            Finding::NoMemory => Finding::NoMemory,
+            Finding::AllTrue => Finding::False(rank),
+            Finding::False(other) => Finding::False(rank.min(other)),
+        },
+    }
+}
