@@ -9,9 +9,7 @@ mod ground;
 mod pieces;
 mod sharing;
 mod source;
-mod threaded;
 mod trail;
 
 pub use auditing::{audit, audit_plain};
 pub use error::AuditError;
-pub use threaded::audit;

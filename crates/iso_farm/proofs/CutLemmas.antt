@@ -21,13 +21,13 @@ use Rattle.iso_farm.specs.Cutting.{AreCut, IsCut, IsCutAt, IsInOne}
 -- no shard up to the first rank
 pub cut-none : (first end : ℕ) → first ≤ end → AreCut first first end []
 cut-none first end le = record {
-    from = omega arith;
-    to = le;
-    parts = λ k d l. absurd (omega arith);
-    whole = λ r from to. absurd (omega arith);
-    full = λ lt. omega arith;
-    many = omega arith;
-  }
+  from = omega arith;
+  to = le;
+  parts = λ k d l. absurd (omega arith);
+  whole = λ r from to. absurd (omega arith);
+  full = λ lt. omega arith;
+  many = omega arith;
+}
 
 in-longer : (shards : List Shard) (one : Shard) (r : ℕ) → IsInOne shards r → IsInOne (shards ++ one ∷ []) r
 in-longer shards one r (n, (s, (is, inside))) = (n, (s, (at_longer shards (one ∷ []) n s is, inside)))
@@ -48,8 +48,8 @@ cut-more first at next end shards c a =
       to = inside;
       parts = All-push (IsCut first end) shards one a.parts (record { from = from; order = omega arith; to = inside; few = few });
       whole = λ r low high.
-        let cases : (r < at) ⊎ (at ≤ r) = grind arith in
-        ⊎_elim (λ lt. in-longer shards one r (a.whole r low lt)) (λ ge. (length shards, (one, (at_last shards one (length shards) refl, (ge, high))))) cases;
+          let cases : (r < at) ⊎ (at ≤ r) = grind arith in
+          ⊎_elim (λ lt. in-longer shards one r (a.whole r low lt)) (λ ge. (length shards, (one, (at_last shards one (length shards) refl, (ge, high))))) cases;
       full = λ lt. let e = c.full lt in omega arith;
       many = omega arith;
     }
@@ -63,7 +63,7 @@ cut-plan spec first end workers shards range c few =
     record {
       few = omega arith;
       lawful = λ k d l. let p = c.parts k d l in let to = p.to in let inside = range.inside in let short = p.few in
-        record { order = p.order; inside = omega arith; few = omega arith };
+          record { order = p.order; inside = omega arith; few = omega arith };
       some_seat = few.0;
       few_seats = few.1;
     }
