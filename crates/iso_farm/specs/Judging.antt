@@ -66,7 +66,7 @@ IsJudged files path accepted (Err fault) = IsNotJudged files path accepted fault
 -- where the accepted report with this number differs first: the rank, and there the session
 abbrev pub difference_line : ℕ → ℕ × ℕ → List ℕ
 difference_line index difference =
-    decimal index ++ (codes " differs at rank " ++ (decimal difference.0 ++ (codes " session " ++ number_line difference.1)))
+    (decimal index ++ codes " differs at rank ") ++ ((decimal difference.0 ++ codes " session ") ++ number_line difference.1)
 
 -- the first lines in order
 abbrev pub difference_lines : List (ℕ × ℕ) → ℕ → List ℕ

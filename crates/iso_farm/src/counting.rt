@@ -95,7 +95,7 @@ pub(crate) fn write_count<W: Write>(
 }
 
 /// Writes a number on a line of its own.
-fn write_number<W: Write>(number: u64, out: &mut Counted<W>) -> Result<(), WriteFault>
+pub(crate) fn write_number<W: Write>(number: u64, out: &mut Counted<W>) -> Result<(), WriteFault>
     requires { failures_of out.old < u64.MAX }
     ensures { Prints W.contents out.old out.new result (number_line number) }
 {

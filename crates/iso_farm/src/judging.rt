@@ -1,11 +1,11 @@
 //! The report of the book in a file, judged by those of accepted books.
 
-ghost use Rattle.std.specs.Prelude.{◌≡◌, ◌<◌, ◌++◌, All, IfOk, IfErr, codes, decimal, length, map};
+ghost use Rattle.std.specs.Prelude.{◌≡◌, ◌<◌, ◌++◌, All, IfOk, IfErr, decimal, length, map};
 ghost use Rattle.accepted_outputs.specs.Judging.{HasFewSessions};
 ghost use Rattle.transcripts.specs.Counted.{Prints, failures_of};
 ghost use Rattle.iso_farm.specs.Judging.{AreReports, IsFileReport, IsJudged, IsJudgeRun, IsNotAccepted, difference_line, difference_lines, finding_of, verdict_text};
 
-use crate::counting::write_count;
+use crate::counting::{write_count, write_number};
 use crate::files::Opener;
 use crate::finding::Finding;
 use crate::joining::{FileFault, book_of_file};
@@ -167,8 +167,16 @@ fn write_difference<W: Write>(
     ensures { Prints W.contents out.old out.new result (difference_line index difference) }
 {
     let (rank, session) = difference;
-    out.write_str(Buffer::new().format(index as u64))?;
-    out.write_str(" differs at rank ")?;
-    out.write_str(Buffer::new().format(rank))?;
-    write_count(" session ", u64::from(session), out)
+    write_before(index as u64, " differs at rank ", out)?;
+    write_before(rank, " session ", out)?;
+    write_number(session as u64, out)
+}
+
+/// Writes a number before its word.
+fn write_before<W: Write>(number: u64, word: &str, out: &mut Counted<W>) -> Result<(), WriteFault>
+    requires { failures_of out.old < u64.MAX }
+    ensures { Prints W.contents out.old out.new result (decimal number ++ word.now) }
+{
+    out.write_str(Buffer::new().format(number))?;
+    out.write_str(word)
 }
