@@ -111,7 +111,7 @@ fn assert_refused(
 }
 
 fn assert_all_refused(
-    rt: &impl Abort,
+    rt: &(impl Abort + Threads + Wait + Sync),
     alloc: Global,
     rows: &str,
     front: &str,
