@@ -1,0 +1,4 @@
+pub mod WorkLemmas
+pub mod CrewLemmas
+pub mod MissingLemmas
+pub mod ExactLemmas
