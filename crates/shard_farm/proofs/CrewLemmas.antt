@@ -1,12 +1,14 @@
 -- Workers and their seats.
-use Rattle.std.proofs.Common.{◌≡◌, ℕ, zero, suc, ◌<◌, List, [], ◌∷◌, length, get_or, map, refl, sym, ap, ◌∙◌, subst, arith}
+use Rattle.std.proofs.Common.{◌≡◌, ℕ, zero, suc, ◌<◌, Bool, List, [], ◌∷◌, length, get_or, map, refl, sym, ap, ◌∙◌, subst, arith}
 use Rattle.std.proofs.Common.{All}
 use mathlib.Core.Option.{some, some-ne-none, some-injective}
 use lib.ListN.{get_elem?}
+use Rattle.sql_subset.specs.Spec.{Spec}
+use Rattle.step_reducer.specs.declared.walker.Shard.{Shard}
 use Rattle.shard_board.specs.Shown.{ShownBoard, ShownSeat}
 use Rattle.shard_board.specs.Changes.{IsRowOf}
 use Rattle.shard_farm.specs.declared.worker.Worker.{Worker}
-use Rattle.shard_farm.specs.Working.{IsStarting}
+use Rattle.shard_farm.specs.Working.{IsStarting, IsDone}
 
 pub found_at : {A : Type 0} (l : List A) (k : ℕ) (d : A) → k < length l → get_elem? l k ≡ some (get_or l k d)
 found_at [] k d h = absurd (omega arith)
@@ -45,3 +47,14 @@ worker_at (w ∷ ws) (suc k) s e = worker_at ws k s e
 
 pub one_worker : (ws : List Worker) (j k : ℕ) (v w : Worker) → get_elem? ws j ≡ some v → get_elem? ws k ≡ some w → j ≡ k → v ≡ w
 one_worker ws j k v w at there same = some-injective v w (sym at ∙ (ap (get_elem? ws) same ∙ there))
+
+-- the rest of a list
+pub all_rest : {A : Type 0} (P : A → Type 0) (l : List A) (x : A) (xs : List A) → l ≡ x ∷ xs → All P l → P x × All P xs
+all_rest P l x xs is a =
+    let all : All P (x ∷ xs) = subst (All P) is a in (all 0 x (omega arith), λ k d within. all (suc k) d (omega arith))
+
+-- the seats of workers that are done are the board's
+pub all_of_board : (board : ShownBoard) (reduce : Bool) (spec : Spec) (shards : List Shard) (ws : List Worker) → All (IsDone board reduce spec shards) ws → All (λ (s : ShownSeat). s.board ≡ board) (map seat_of ws)
+all_of_board board reduce spec shards [] all k d within = absurd (omega arith)
+all_of_board board reduce spec shards (w ∷ ws) all zero d within = (all 0 w (omega arith)).board_is
+all_of_board board reduce spec shards (w ∷ ws) all (suc k) d within = all_of_board board reduce spec shards ws (λ j e l. all (suc j) e (omega arith)) k d (omega arith)

@@ -159,9 +159,9 @@ comes_from reduce spec shards s marks r fact (Deliver n facts (Some receipt)) t 
 comes_from reduce spec shards s marks r fact (Deliver n facts None) t b = absurd b
 comes_from reduce spec shards s marks r fact (Latest reply) t b = absurd b
 
-module _ (reduce : Bool) (board : ShownBoard) (shards : List Shard) (workers : List Worker) (book : Contents) (claimed turns : ℕ)
+module _ (reduce : Bool) (spec : Spec) (board : ShownBoard) (shards : List Shard) (workers : List Worker) (book : Contents) (claimed turns : ℕ)
     (c : IsClosed board (map seat_of workers) book claimed turns)
-    (done : (k : ℕ) (w : Worker) → get_elem? workers k ≡ some w → HasWorked reduce board.file.run shards w.seat w.missed.items)
+    (done : (k : ℕ) (w : Worker) → get_elem? workers k ≡ some w → HasWorked reduce spec shards w.seat w.missed.items)
     (same : board.shards ≡ length shards) (some_seat : 0 < length workers) where
   claimed_twice : (n j k : ℕ) (v w : Worker) → get_elem? workers j ≡ some v → get_elem? workers k ≡ some w → has n v.seat.claims ≡ true → has n w.seat.claims ≡ true → j ≢ k → ⊥
   claimed_twice n j k v w at there one two apart =
@@ -189,7 +189,7 @@ module _ (reduce : Bool) (board : ShownBoard) (shards : List Shard) (workers : L
       found_first [] h = absurd (omega arith)
       found_first (w ∷ ws) h = (w, refl)
 
-  no_other : (r : ℕ) (fact : Fact) → recorded book.facts r fact ≡ true → InShardsBut reduce board.file.run shards (numbers_missed workers (length shards)) r fact
+  no_other : (r : ℕ) (fact : Fact) → recorded book.facts r fact ≡ true → InShardsBut reduce spec shards (numbers_missed workers (length shards)) r fact
   no_other r fact h =
       let told : recorded (facts_from empty c.log) r fact ≡ true = subst (λ (f : FactSet). recorded f r fact ≡ true) c.facts h in
       let brought : Brought r fact c.log = ⊎_elim (λ no. absurd (true≢false (sym no ∙ contains-empty entry_cmp (r, fact)))) (λ (t : Brought r fact c.log). t) (fact_of r fact empty c.log told) in
@@ -206,10 +206,10 @@ module _ (reduce : Bool) (board : ShownBoard) (shards : List Shard) (workers : L
       let w : Worker = worker.0 in
       let d = done owner.0 w worker.1.0 in
       let deed = d.serves.only call.0 e (ap (λ (x : ShownSeat). get_elem? x.calls call.0) worker.1.1 ∙ mine) in
-      let t : Comes reduce board.file.run shards w.seat w.missed.items r fact = comes_from reduce board.file.run shards w.seat w.missed.items r fact e.call deed brought.1.1.1 in
+      let t : Comes reduce spec shards w.seat w.missed.items r fact = comes_from reduce spec shards w.seat w.missed.items r fact e.call deed brought.1.1.1 in
       (t.0, (t.1.0, (t.1.1.0, (not_missing t.0 (length shards) owner.0 w worker.1.0 t.1.1.1.0 t.1.1.1.1.0, t.1.1.1.1.1))))
 
-  each_one : (r : ℕ) (fact : Fact) → InShardsBut reduce board.file.run shards (numbers_missed workers (length shards)) r fact → recorded book.facts r fact ≡ true
+  each_one : (r : ℕ) (fact : Fact) → InShardsBut reduce spec shards (numbers_missed workers (length shards)) r fact → recorded book.facts r fact ≡ true
   each_one r fact t =
       let n : ℕ = t.0 in
       let shard : Shard = t.1.0 in
@@ -227,9 +227,9 @@ module _ (reduce : Bool) (board : ShownBoard) (shards : List Shard) (workers : L
       (λ d.
       let e : Entry = d.1.0 in
       let facts : FactSet = d.1.1.0 in
-      let are : AreFactsAt reduce board.file.run shards n facts = d.1.1.1.1.1.1 in
+      let are : AreFactsAt reduce spec shards n facts = d.1.1.1.1.1.1 in
       let shard_is : shard ≡ are.0 = some-injective shard are.0 (sym t.1.1.0 ∙ are.1.0) in
-      let fact_is : recorded facts r fact ≡ true = (are.1.1 r fact).1 (subst (λ (x : Shard). HasFact reduce board.file.run x r fact) shard_is t.1.1.1.1) in
+      let fact_is : recorded facts r fact ≡ true = (are.1.1 r fact).1 (subst (λ (x : Shard). HasFact reduce spec x r fact) shard_is t.1.1.1.1) in
       let mine : w.seat.calls ≡ calls_by s.number c.log = ap (λ (x : ShownSeat). x.calls) worker.1.1 ∙ sym (c.mine owner.0 s owner.1.1.0) in
       let there = call_in s.number c.log d.0 e (ap (λ (l : List Entry). get_elem? l d.0) (sym mine) ∙ d.1.1.1.1.0) in
       let brings : Brings r fact e.call = subst (Brings r fact) (sym d.1.1.1.1.1.0) fact_is in
@@ -237,5 +237,5 @@ module _ (reduce : Bool) (board : ShownBoard) (shards : List Shard) (workers : L
       (d.serves.each n claim)
 
   -- nothing is lost but what is missing, and nothing is made up
-  pub exact : AreFactsBut reduce board.file.run shards (numbers_missed workers (length shards)) book.facts
+  pub exact : AreFactsBut reduce spec shards (numbers_missed workers (length shards)) book.facts
   exact r fact = (no_other r fact, each_one r fact)

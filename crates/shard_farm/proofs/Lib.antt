@@ -2,3 +2,4 @@ pub mod WorkLemmas
 pub mod CrewLemmas
 pub mod MissingLemmas
 pub mod ExactLemmas
+pub mod FarmLemmas

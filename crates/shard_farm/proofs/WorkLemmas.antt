@@ -12,6 +12,9 @@ use Rattle.atomic_table.proofs.Lists.{at_longer, at_last}
 use Rattle.sql_subset.specs.Spec.{Spec}
 use Rattle.step_reducer.specs.declared.walker.Shard.{Shard}
 use Rattle.outcome_books.specs.Entries.{FactSet}
+use Rattle.outcome_books.specs.Books.{Contents}
+use Rattle.shard_board.specs.declared.error.DeliverErrorKind.{DeliverErrorKind}
+use Rattle.shard_board.specs.declared.error.DeliverErrorKind.TheVariants as deliver_error
 use Rattle.shard_board.specs.declared.history.Receipt.{Receipt}
 use Rattle.shard_board.specs.declared.history.Call.{Call}
 use Rattle.shard_board.specs.declared.history.Call.TheVariants.{Deliver, Latest}
@@ -19,6 +22,7 @@ use Rattle.shard_board.specs.declared.history.Entry.{Entry}
 use Rattle.shard_board.specs.History.{entry}
 use Rattle.shard_board.specs.Shown.{ShownSeat, ShownBoard, has}
 use Rattle.shard_board.specs.Changes.{with_new_claim, with_new_refusal, with_new_turn, IsClaim, IsTurn}
+use Rattle.shard_board.specs.Refused.{IsNotDelivered}
 use Rattle.shard_farm.specs.declared.worker.Worker.{Worker}
 use Rattle.shard_farm.specs.Working.{AreFactsAt, HasServed, is_marked, IsReady, IsDelivered, IsTrueCall, Serves, HasWorked}
 
@@ -126,15 +130,17 @@ module _ (reduce : Bool) (spec : Spec) (shards : List Shard) where
       }
 
   -- one more shard is claimed, and delivered or marked
-  pub goes_on : (s s' s'' : ShownSeat) (marks : List Bool) (n : ℕ) (served : Bool) → Serves reduce spec shards s marks → IsClaim (length shards) s s' n → HasServed reduce spec shards s' s'' n served → Serves reduce spec shards s'' (set marks n (not served))
-  goes_on s s' s'' marks n true v claim h =
+  pub goes_on : (count : ℕ) (s s' s'' : ShownSeat) (marks : List Bool) (n : ℕ) (served : Bool) → length shards ≡ count → Serves reduce spec shards s marks → IsClaim count s s' n → HasServed reduce spec shards s' s'' n served → Serves reduce spec shards s'' (set marks n (not served))
+  goes_on count s s' s'' marks n true same v claim h =
+      let below : n < length shards = let b = claim.below in omega arith in
       let turn = h.1.1.0 in
       let is : s'' ≡ with_new_turn (with_new_claim s n) turn.before (Deliver n h.0 (Some h.1.0)) =
       turn.seat ∙ ap (λ (x : ShownSeat). with_new_turn x turn.before (Deliver n h.0 (Some h.1.0))) claim.seat in
       subst (λ (x : ShownSeat). Serves reduce spec shards x (set marks n false)) (sym is)
-      (delivers_one s marks turn.before n h.0 h.1.0 claim.below (not_had n s.claims claim.greater) h.1.1.1 v)
-  goes_on s s' s'' marks n false v claim h =
-      let marked = marks_one s marks n claim.below (not_had n s.claims claim.greater) v in
+      (delivers_one s marks turn.before n h.0 h.1.0 below (not_had n s.claims claim.greater) h.1.1.1 v)
+  goes_on count s s' s'' marks n false same v claim h =
+      let below : n < length shards = let b = claim.below in omega arith in
+      let marked = marks_one s marks n below (not_had n s.claims claim.greater) v in
       ⊎_elim
       (λ (same : s'' ≡ s'). subst (λ (x : ShownSeat). Serves reduce spec shards x (set marks n true)) (sym (same ∙ claim.seat)) marked)
       (λ (t : (facts : FactSet) × IsTurn s' s'' (Deliver n facts None)).
@@ -147,3 +153,10 @@ module _ (reduce : Bool) (spec : Spec) (shards : List Shard) where
   pub ends : (s s' : ShownSeat) (marks : List Bool) → Serves reduce spec shards s marks → s' ≡ with_new_refusal s → HasWorked reduce spec shards s' marks
   ends s s' marks v is = subst (λ (x : ShownSeat). HasWorked reduce spec shards x marks) (sym is)
       record { ended = refl; serves = record { each = v.each; only = v.only; marked = v.marked; long = v.long } }
+
+  -- a delivery that was refused changes nothing, or was a turn that was refused memory
+  pub not_served : (kind : DeliverErrorKind) (old new : ShownSeat) (n : ℕ) (book : Contents) → IsNotDelivered kind old new n book → HasServed reduce spec shards old new n false
+  not_served deliver_error.SpecMismatch old new n book h = inl h.1
+  not_served deliver_error.NotClaimed old new n book h = inl h.2
+  not_served deliver_error.SeatSpent old new n book h = inl h.2
+  not_served deliver_error.NoMemory old new n book h = inr (book.facts, h.2)

@@ -1,6 +1,6 @@
 -- What a worker is before it works, and what it has done.
 use Rattle.std.specs.Prelude.{◌≡◌, ◌↔◌, ◌⊎◌, ℕ, ◌<◌, ◌||◌, Bool, true, false, List, [], ◌∷◌, length, replicate, filter, slice_index_or, Some, None}
-use Rattle.std.specs.List.{range_with_len}
+use Rattle.std.specs.List.{range_with_len, list_any}
 use mathlib.Core.Option.{some}
 use lib.ListN.{get_elem?}
 use Rattle.sql_subset.specs.Spec.{Spec}
@@ -69,8 +69,7 @@ pub record IsDone (board : ShownBoard) (reduce : Bool) (spec : Spec) (shards : L
 
 -- whether one of the workers has a mark for the number
 abbrev pub is_missed_by : List Worker → ℕ → Bool
-is_missed_by [] n = false
-is_missed_by (w ∷ ws) n = is_marked w.missed.items n || is_missed_by ws n
+is_missed_by ws n = list_any (λ (w : Worker). is_marked w.missed.items n) ws
 
 -- the numbers below the count that a worker has a mark for
 abbrev pub numbers_missed : List Worker → ℕ → List ℕ

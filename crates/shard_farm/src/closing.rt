@@ -1,14 +1,15 @@
 //! What a run gives in the end. Nothing here takes memory.
 
 ghost use Rattle.std.specs.Prelude.{◌≡◌, ◌≤◌, [], All, vec_len, vec_capacity, length, map};
+ghost use Rattle.std.specs.List.{list_any};
 ghost use Rattle.shard_farm.specs.Farming.{HasAllBut};
-ghost use Rattle.shard_farm.specs.Working.{IsDone, numbers_missed, is_missed_by};
+ghost use Rattle.shard_farm.specs.Working.{IsDone, is_marked, numbers_missed};
 
 use crate::error::Unfinished;
 use crate::numbers::ShardNumbers;
 use crate::plan::Plan;
 use crate::worker::Worker;
-use shard_board::{Board, Seat};
+use shard_board::{Board, MAX_SHARDS, Seat};
 
 /// Closes the board of workers that are done: its book, and the numbers of the shards that nobody delivered.
 pub(crate) fn closed(
@@ -18,12 +19,13 @@ pub(crate) fn closed(
     numbers: Vec<u32>,
     seats: Vec<Seat>,
 ) -> Unfinished
-    requires board { (board.file ≡ plan.spec.now) × (board.shards ≡ length plan.shards.now) }
+    requires few { length plan.shards.now ≤ MAX_SHARDS }
+    requires board { board.shards ≡ length plan.shards.now }
     requires many { (vec_len workers ≡ board.seats) × (1 ≤ board.seats) }
-    requires done { All (IsDone board plan.reduce plan.spec.now.run plan.shards.now) workers.items }
+    requires done { All (IsDone board plan.reduce board.file.run plan.shards.now) workers.items }
     requires numbers { (numbers.items ≡ []) × (length plan.shards.now ≤ vec_capacity numbers) }
     requires seats { (seats.items ≡ []) × (vec_len workers ≤ vec_capacity seats) }
-    ensures { HasAllBut plan.reduce plan.spec.now plan.shards.now result }
+    ensures { HasAllBut plan.entry.reduce board.file plan.entry.shards.now result }
 {
     let missing = missing_in(workers.as_slice(), plan.shards.len(), numbers);
     let seats = seats_of(workers, seats);
@@ -33,20 +35,21 @@ pub(crate) fn closed(
 
 /// The numbers that a worker has marked, of so many.
 fn missing_in(workers: &[Worker], shards: usize, mut numbers: Vec<u32>) -> ShardNumbers
-    requires { (numbers.items ≡ []) × (shards ≤ vec_capacity numbers) }
+    requires { (numbers.items ≡ []) × (shards ≤ vec_capacity numbers) × (shards ≤ MAX_SHARDS) }
     ensures { result ≡ numbers_missed workers.now shards }
 {
     for number in 0..shards {
-        if is_missed(workers, number) {
-            numbers.push_reserved(number as u32);
+        if !is_missed(workers, number) {
+            continue;
         }
+        numbers.push_reserved(number as u32);
     }
     ShardNumbers::from_vec(numbers)
 }
 
 /// Whether a worker has marked the number.
 fn is_missed(workers: &[Worker], number: usize) -> bool
-    ensures { result ≡ is_missed_by workers.now number }
+    ensures { result ≡ list_any (λ worker. is_marked worker.missed.items number) workers.now }
 {
     workers.iter().any(|worker| worker.has_missed(number))
 }

@@ -2,6 +2,7 @@
 
 ghost use Rattle.std.specs.Prelude.{◌≡◌, ◌≤◌, All, vec_len, vec_capacity, length, IfOk};
 ghost use Rattle.std.specs.Thread.{IsSync};
+ghost use Rattle.sql_subset.specs.Binding.{IsFileOf};
 ghost use Rattle.shard_farm.specs.Working.{IsReady, IsStarting, IsDone};
 
 use crate::gate::Gate;
@@ -28,15 +29,30 @@ pub(crate) fn workers_of(
 {
     let mut workers = Vec::with_capacity(alloc, seats.len())?;
     for seat in seats {
-        let missed = vec![in alloc; false; shards]?;
         let number = workers.len() as u8;
-        workers.push(Worker {
-            number,
-            seat,
-            missed,
-        })?;
+        workers.push(ready(alloc, board, shards, number, seat)?)?;
     }
     Ok(workers)
+}
+
+/// A worker of this number with a seat that is new.
+fn ready(
+    alloc: Global,
+    board: &Board,
+    shards: usize,
+    number: u8,
+    seat: Seat,
+) -> Result<Worker, AllocError>
+    requires shards { board.now.shards ≡ shards }
+    requires fresh { IsStarting board.now seat }
+    ensures { IfOk result (IsReady board.now) }
+{
+    let missed = vec![in alloc; false; shards]?;
+    Ok(Worker {
+        number,
+        seat,
+        missed,
+    })
 }
 
 /// Each worker works in a thread of its own. One for which no thread can be made works behind another one, on its thread.
@@ -49,9 +65,10 @@ pub(crate) fn run_all<R: Threads + Wait + Sync, G: Gate + Sync>(
     mut workers: Vec<Worker>,
 ) -> Vec<Worker>
     requires shards { length plan.shards.now ≡ board.now.shards }
+    requires file { IsFileOf plan.text.now board.now.file }
     requires ready { All (IsReady board.now) workers.items }
     ensures many { (vec_len result ≡ vec_len workers) × (vec_capacity result ≡ vec_capacity workers) }
-    ensures done { All (IsDone board.now plan.reduce plan.spec.now.run plan.shards.now) result.items }
+    ensures done { All (IsDone board.now plan.entry.reduce board.now.file.run plan.entry.shards.now) result.items }
 {
     let Some(mine) = workers.pop() else {
         return workers;
@@ -59,12 +76,12 @@ pub(crate) fn run_all<R: Threads + Wait + Sync, G: Gate + Sync>(
     let (mine, mut others) = thread::join(
         rt,
         || -> Worker
-            requires { IsSync R.row × IsSync G.row × (length plan.shards.now ≡ board.now.shards) × IsReady board.now mine }
-            ensures { IsDone board.entry.now plan.reduce plan.spec.now.run plan.shards.now result }
+            requires { IsSync R.row × IsSync G.row × (length plan.shards.now ≡ board.now.shards) × IsFileOf plan.text.now board.now.file × IsReady board.now mine }
+            ensures { IsDone board.entry.now plan.entry.reduce board.now.file.run plan.entry.shards.now result }
         { work(rt, alloc, board, plan, gate, mine) },
         || -> Vec<Worker>
-            requires { IsSync R.row × IsSync G.row × (length plan.shards.now ≡ board.now.shards) × All (IsReady board.now) workers.items }
-            ensures { All (IsDone board.entry.now plan.reduce plan.spec.now.run plan.shards.now) result.items × (vec_len result ≡ vec_len workers) × (vec_capacity result ≡ vec_capacity workers) }
+            requires { IsSync R.row × IsSync G.row × (length plan.shards.now ≡ board.now.shards) × IsFileOf plan.text.now board.now.file × All (IsReady board.now) workers.items }
+            ensures { All (IsDone board.entry.now plan.entry.reduce board.now.file.run plan.entry.shards.now) result.items × (vec_len result ≡ vec_len workers) × (vec_capacity result ≡ vec_capacity workers) }
         { run_all(rt, alloc, board, plan, gate, workers) },
     );
     others.push_reserved(mine);

@@ -23,6 +23,7 @@ use step_reducer::Shard;
 
 /// The facts of all shards of a plan, run by so many workers: when reducing the least swap where a rank has one, and else its outcome.
 /// Shards may overlap. A worker that is refused memory goes on with its next claim.
+#[tactic(auto, using(crate::proofs::FarmLemmas::none_missing))]
 pub fn farm_run<R: Threads + Wait + Sync, G: Gate + Sync>(
     rt: &R,
     alloc: Global,
@@ -46,12 +47,7 @@ pub fn farm_run<R: Threads + Wait + Sync, G: Gate + Sync>(
         Err(RunError::Start(error)) => return Err(FarmError::Start(error)),
         Err(_) => return Err(FarmError::NotStarted),
     }
-    let plan = Plan {
-        spec,
-        shards,
-        reduce,
-    };
-    let Ok(left) = run_plan(rt, alloc, plan, workers, gate) else {
+    let Ok(left) = run_plan(rt, alloc, spec, shards, reduce, workers, gate) else {
         return Err(FarmError::NotStarted);
     };
     if left.missing.is_empty() {
@@ -72,23 +68,32 @@ fn try_start(alloc: Global, spec: &Spec) -> Result<(), RunError>
 }
 
 /// Runs a lawful plan. All that is needed beside the shards' own runs and deliveries is reserved first.
+#[tactic(auto, using(crate::proofs::CrewLemmas::all_starting))]
 fn run_plan<R: Threads + Wait + Sync, G: Gate + Sync>(
     rt: &R,
     alloc: Global,
-    plan: Plan<'_>,
+    spec: &Spec,
+    shards: &[Shard],
+    reduce: bool,
     workers: u8,
     gate: &G,
 ) -> Result<Unfinished, AllocError>
-    requires { IsPlanOf plan.spec.now.run plan.shards.now workers }
-    ensures { IfOk result (HasAllBut plan.reduce plan.spec.now plan.shards.now) }
+    requires { IsPlanOf spec.now.run shards.now workers }
+    ensures { IfOk result (HasAllBut reduce spec.now shards.now) }
 {
-    let numbers = Vec::with_capacity(alloc, plan.shards.len())?;
+    spec.known();
+    let plan = Plan {
+        text: spec.text(),
+        shards,
+        reduce,
+    };
+    let numbers = Vec::with_capacity(alloc, shards.len())?;
     let room = Vec::with_capacity(alloc, usize::from(workers))?;
-    let shards = Vec::from_slice(alloc, plan.shards)?;
-    let Ok((board, seats)) = Board::new(alloc, plan.spec, shards, workers) else {
+    let copy = Vec::from_slice(alloc, shards)?;
+    let Ok((board, seats)) = Board::new(alloc, spec, copy, workers) else {
         return Err(AllocError);
     };
-    let workers = workers_of(alloc, &board, plan.shards.len(), seats)?;
+    let workers = workers_of(alloc, &board, shards.len(), seats)?;
     let workers = run_all(rt, alloc, &board, plan, gate, workers);
     Ok(closed(board, plan, workers, numbers, room))
 }

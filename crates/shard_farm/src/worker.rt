@@ -1,12 +1,16 @@
 //! One worker.
 
-ghost use Rattle.std.specs.Prelude.{◌≡◌, ◌<◌, length};
-ghost use Rattle.shard_farm.specs.Working.{is_marked, HasServed, IsReady, HasWorked};
+ghost use Rattle.std.specs.Prelude.{◌≡◌, ◌<◌, length, IfSome};
+ghost use Rattle.sql_subset.specs.Spec.{SpecFile};
+ghost use Rattle.sql_subset.specs.Binding.{IsFileOf};
+ghost use Rattle.shard_farm.specs.Working.{is_marked, AreFactsAt, HasServed, IsReady, HasWorked};
 
 use crate::gate::Gate;
 use crate::plan::Plan;
 use outcome_books::Book;
 use shard_board::{Board, Seat};
+use spec_reader::read_spec;
+use sql_subset::{Spec, bind};
 use std::alloc::Global;
 use std::sync::Wait;
 
@@ -27,6 +31,32 @@ impl Worker {
     }
 }
 
+/// The spec of a text. None where memory is wanted, or the text is none.
+fn spec_of(alloc: Global, text: &str) -> Option<Spec>
+    ensures { IfSome result (λ spec. IsFileOf text.now spec) }
+{
+    let Ok(read) = read_spec(alloc, text.as_bytes()) else {
+        return None;
+    };
+    let Ok(spec) = bind(alloc, &read) else {
+        return None;
+    };
+    Some(spec)
+}
+
+/// The book of a shard of the plan. None where memory is wanted.
+fn book_of(alloc: Global, plan: Plan<'_>, number: u32) -> Option<Book>
+    requires { number < length plan.shards.now }
+    ensures { IfSome result (λ book. (file : SpecFile) → IsFileOf plan.entry.text.now file → AreFactsAt plan.entry.reduce file.run plan.entry.shards.now number book.facts) }
+{
+    let shard = plan.shards[number as usize];
+    let spec = spec_of(alloc, plan.text)?;
+    let Ok(book) = Book::of_shard(alloc, &spec, shard, plan.reduce) else {
+        return None;
+    };
+    Some(book)
+}
+
 /// Runs a claimed shard and delivers its book. False where memory is wanted for either.
 fn serve<R: Wait>(
     rt: &R,
@@ -38,14 +68,17 @@ fn serve<R: Wait>(
 ) -> bool
     requires board { seat.old.board ≡ board.now }
     requires shard { number < length plan.shards.now }
+    requires file { IsFileOf plan.text.now board.now.file }
     ensures same { seat.new.board ≡ seat.old.board }
-    ensures served { HasServed plan.reduce plan.spec.now.run plan.shards.now seat.old seat.new number result }
+    ensures served { HasServed plan.entry.reduce board.now.file.run plan.entry.shards.now seat.old seat.new number result }
 {
-    let shard = plan.shards[number as usize];
-    let Ok(book) = Book::of_shard(alloc, plan.spec, shard, plan.reduce) else {
+    let Some(book) = book_of(alloc, plan, number) else {
         return false;
     };
-    board.deliver(rt, seat, number, book).is_ok()
+    let Ok(_receipt) = board.deliver(rt, seat, number, book) else {
+        return false;
+    };
+    true
 }
 
 /// Claims shards until there are no more, runs each and delivers its book. A shard for which memory is wanted is marked, and the work
@@ -59,9 +92,10 @@ pub(crate) fn work<R: Wait, G: Gate>(
     mut worker: Worker,
 ) -> Worker
     requires shards { length plan.shards.now ≡ board.now.shards }
+    requires file { IsFileOf plan.text.now board.now.file }
     requires ready { IsReady board.now worker }
     ensures board { result.seat.board ≡ board.now }
-    ensures worked { HasWorked plan.reduce plan.spec.now.run plan.shards.now result.seat result.missed.items }
+    ensures worked { HasWorked plan.entry.reduce board.now.file.run plan.entry.shards.now result.seat result.missed.items }
 {
     for _ in rt.forever() {
         let Some(number) = board.claim(&mut worker.seat) else {
