@@ -77,11 +77,11 @@ pub(crate) fn run_all<R: Threads + Wait + Sync, G: Gate + Sync>(
         rt,
         || -> Worker
             requires { IsSync R.row × IsSync G.row × (length plan.shards.now ≡ board.now.shards) × IsFileOf plan.text.now board.now.file × IsReady board.now mine }
-            ensures { IsDone board.entry.now plan.entry.reduce board.now.file.run plan.entry.shards.now result }
+            ensures { IsDone board.entry.now plan.entry.reduce board.entry.now.file.run plan.entry.shards.now result }
         { work(rt, alloc, board, plan, gate, mine) },
         || -> Vec<Worker>
             requires { IsSync R.row × IsSync G.row × (length plan.shards.now ≡ board.now.shards) × IsFileOf plan.text.now board.now.file × All (IsReady board.now) workers.items }
-            ensures { All (IsDone board.entry.now plan.entry.reduce board.now.file.run plan.entry.shards.now) result.items × (vec_len result ≡ vec_len workers) × (vec_capacity result ≡ vec_capacity workers) }
+            ensures { All (IsDone board.entry.now plan.entry.reduce board.entry.now.file.run plan.entry.shards.now) result.items × (vec_len result ≡ vec_len workers) × (vec_capacity result ≡ vec_capacity workers) }
         { run_all(rt, alloc, board, plan, gate, workers) },
     );
     others.push_reserved(mine);
