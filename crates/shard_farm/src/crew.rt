@@ -60,15 +60,15 @@ pub(crate) fn run_all<R: Threads + Wait + Sync, G: Gate + Sync>(
     rt: &R,
     alloc: Global,
     board: &Board,
-    plan: Plan<'_>,
+    plan: &Plan<'_>,
     gate: &G,
     mut workers: Vec<Worker>,
 ) -> Vec<Worker>
-    requires shards { length plan.shards.now ≡ board.now.shards }
-    requires file { IsFileOf plan.text.now board.now.file }
+    requires shards { length plan.now.shards.now ≡ board.now.shards }
+    requires file { IsFileOf plan.now.text.now board.now.file }
     requires ready { All (IsReady board.now) workers.items }
     ensures many { (vec_len result ≡ vec_len workers) × (vec_capacity result ≡ vec_capacity workers) }
-    ensures done { All (IsDone board.now plan.entry.reduce board.now.file.run plan.entry.shards.now) result.items }
+    ensures done { All (IsDone board.now plan.now.reduce board.now.file.run plan.now.shards.now) result.items }
 {
     let Some(mine) = workers.pop() else {
         return workers;
@@ -76,12 +76,12 @@ pub(crate) fn run_all<R: Threads + Wait + Sync, G: Gate + Sync>(
     let (mine, mut others) = thread::join(
         rt,
         || -> Worker
-            requires { IsSync R.row × IsSync G.row × (length plan.shards.now ≡ board.now.shards) × IsFileOf plan.text.now board.now.file × IsReady board.now mine }
-            ensures { IsDone board.entry.now plan.entry.reduce board.entry.now.file.run plan.entry.shards.now result }
-        { work(rt, alloc, board, plan, gate, mine) },
+            requires { IsSync R.row × IsSync G.row × (length plan.now.shards.now ≡ board.now.shards) × IsFileOf plan.now.text.now board.now.file × IsReady board.now mine }
+            ensures { IsDone board.entry.now plan.entry.now.reduce board.entry.now.file.run plan.entry.now.shards.now result }
+        { work(rt, alloc, board, *plan, gate, mine) },
         || -> Vec<Worker>
-            requires { IsSync R.row × IsSync G.row × (length plan.shards.now ≡ board.now.shards) × IsFileOf plan.text.now board.now.file × All (IsReady board.now) workers.items }
-            ensures { All (IsDone board.entry.now plan.entry.reduce board.entry.now.file.run plan.entry.shards.now) result.items × (vec_len result ≡ vec_len workers) × (vec_capacity result ≡ vec_capacity workers) }
+            requires { IsSync R.row × IsSync G.row × (length plan.now.shards.now ≡ board.now.shards) × IsFileOf plan.now.text.now board.now.file × All (IsReady board.now) workers.items }
+            ensures { All (IsDone board.entry.now plan.entry.now.reduce board.entry.now.file.run plan.entry.now.shards.now) result.items × (vec_len result ≡ vec_len workers) × (vec_capacity result ≡ vec_capacity workers) }
         { run_all(rt, alloc, board, plan, gate, workers) },
     );
     others.push_reserved(mine);

@@ -68,7 +68,6 @@ fn try_start(alloc: Global, spec: &Spec) -> Result<(), RunError>
 }
 
 /// Runs a lawful plan. All that is needed beside the shards' own runs and deliveries is reserved first.
-#[tactic(auto, using(crate::proofs::CrewLemmas::all_starting))]
 fn run_plan<R: Threads + Wait + Sync, G: Gate + Sync>(
     rt: &R,
     alloc: Global,
@@ -94,6 +93,6 @@ fn run_plan<R: Threads + Wait + Sync, G: Gate + Sync>(
         return Err(AllocError);
     };
     let workers = workers_of(alloc, &board, shards.len(), seats)?;
-    let workers = run_all(rt, alloc, &board, plan, gate, workers);
+    let workers = run_all(rt, alloc, &board, &plan, gate, workers);
     Ok(closed(board, plan, workers, numbers, room))
 }

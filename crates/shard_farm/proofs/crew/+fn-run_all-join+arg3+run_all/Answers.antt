@@ -13,5 +13,11 @@ returns-clause-many g t c =
 pub returns-clause-done : goal.returns-clause-done
 returns-clause-done g t c =
     let j = c.join-mine.ensures in
-    subst (All (IsDone c.args.board.now c.args.plan.reduce c.args.board.now.file.run c.args.plan.shards.now)) (sym c.push_reserved.ensures.items)
-    (All-push (IsDone c.args.board.now c.args.plan.reduce c.args.board.now.file.run c.args.plan.shards.now) _ _ j.second.0 j.first)
+    subst (All (IsDone c.args.board.now c.args.plan.now.reduce c.args.board.now.file.run c.args.plan.now.shards.now)) (sym c.push_reserved.ensures.items)
+    (All-push (IsDone c.args.board.now c.args.plan.now.reduce c.args.board.now.file.run c.args.plan.now.shards.now) _ _ j.second.0 j.first)
+
+pub push_reserved-requires : goal.push_reserved-requires
+push_reserved-requires g t c =
+    let rest = c.join-mine.ensures.second in
+    let popped = c.in-Some.ensures in
+    omega (arith, rest.1, rest.2, popped.cases, popped.capacity, c.args.workers.ok.1)
