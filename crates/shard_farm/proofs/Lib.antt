@@ -1,0 +1,5 @@
+pub mod WorkLemmas
+pub mod CrewLemmas
+pub mod MissingLemmas
+pub mod ExactLemmas
+pub mod FarmLemmas

@@ -1,0 +1,55 @@
+-- What a run of shards gives, and why a plan is not run whole.
+use Rattle.std.specs.Prelude.{◌≡◌, ◌≢◌, ◌↔◌, ℕ, ◌<◌, ◌≤◌, Bool, true, false, List, [], length, All}
+use Rattle.std.specs.List.Sorted.{IsStrictlyIncreasing}
+use mathlib.Core.Option.{some}
+use lib.ListN.{get_elem?}
+use Rattle.sql_subset.specs.Spec.{Spec, SpecFile}
+use Rattle.machine_model.specs.Start.{start}
+use Rattle.quiet_steps.specs.Facts.{IsFactOf}
+use Rattle.quiet_steps.specs.declared.fact.Fact.{Fact}
+use Rattle.session_machine.specs.Running.{IsNotRunBy}
+use Rattle.session_machine.specs.declared.error.RunError.TheVariants as run_error
+use Rattle.step_reducer.specs.declared.walker.Shard.{Shard}
+use Rattle.step_reducer.specs.Walking.{Starts}
+use Rattle.outcome_books.specs.Entries.{FactSet, recorded}
+use Rattle.shard_board.specs.Shown.{has}
+use Rattle.shard_board.specs.Changes.{IsPlanOf}
+use Rattle.shard_farm.specs.declared.error.Unfinished.{Unfinished}
+use Rattle.shard_farm.specs.declared.error.FarmError.{FarmError}
+use Rattle.shard_farm.specs.declared.error.FarmError.TheVariants as farm_error
+
+-- the shard has the rank, with that fact
+abbrev pub HasFact : Bool → Spec → Shard → ℕ → Fact → Type 0
+HasFact reduce spec shard r fact = (shard.first ≤ r) × (r < shard.end) × IsFactOf reduce spec r fact
+
+-- one of the shards has it
+abbrev pub InShards : Bool → Spec → List Shard → ℕ → Fact → Type 0
+InShards reduce spec shards r fact = (n : ℕ) × ((shard : Shard) × ((get_elem? shards n ≡ some shard) × HasFact reduce spec shard r fact))
+
+-- one of the shards has it whose number is not among these
+abbrev pub InShardsBut : Bool → Spec → List Shard → List ℕ → ℕ → Fact → Type 0
+InShardsBut reduce spec shards missing r fact =
+    (n : ℕ) × ((shard : Shard) × ((get_elem? shards n ≡ some shard) × ((has n missing ≡ false) × HasFact reduce spec shard r fact)))
+
+-- the facts are those of the shards: nothing is lost, and nothing is made up
+abbrev pub AreShardFacts : Bool → Spec → List Shard → FactSet → Type 0
+AreShardFacts reduce spec shards facts = (r : ℕ) (fact : Fact) → (recorded facts r fact ≡ true) ↔ InShards reduce spec shards r fact
+
+-- the facts are those of all other shards
+abbrev pub AreFactsBut : Bool → Spec → List Shard → List ℕ → FactSet → Type 0
+AreFactsBut reduce spec shards missing facts = (r : ℕ) (fact : Fact) → (recorded facts r fact ≡ true) ↔ InShardsBut reduce spec shards missing r fact
+
+-- the book has the facts of all shards but those that are missing, whose numbers rise
+pub record HasAllBut (reduce : Bool) (file : SpecFile) (shards : List Shard) (left : Unfinished) : Type 0 where
+  pub rising : IsStrictlyIncreasing left.missing
+  pub below : All (λ n. n < length shards) left.missing
+  pub of_spec : left.book.file ≡ file
+  pub facts : AreFactsBut reduce file.run shards left.missing left.book.facts
+
+-- why a plan is not run whole: the first of these that fits, but for want of memory. Before the first shard that may come in place of a refused start; behind it some shard is missing
+abbrev pub IsNotFarmed : Bool → SpecFile → List Shard → ℕ → FarmError → Type 0
+IsNotFarmed reduce file shards workers farm_error.BadPlan = IsPlanOf file.run shards workers → ⊥
+IsNotFarmed reduce file shards workers (farm_error.Start error) = IsPlanOf file.run shards workers × IsNotRunBy (run_error.Start error) (start file.run)
+IsNotFarmed reduce file shards workers farm_error.NotStarted = IsPlanOf file.run shards workers
+IsNotFarmed reduce file shards workers (farm_error.NoMemory left) =
+    IsPlanOf file.run shards workers × Starts file.run × (left.missing ≢ []) × HasAllBut reduce file shards left

@@ -1,0 +1,2 @@
+pub mod Farming
+pub mod Working

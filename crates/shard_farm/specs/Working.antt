@@ -1,0 +1,76 @@
+-- What a worker is before it works, and what it has done.
+use Rattle.std.specs.Prelude.{◌≡◌, ◌↔◌, ◌⊎◌, ℕ, ◌<◌, ◌||◌, Bool, true, false, List, [], ◌∷◌, length, replicate, filter, slice_index_or, Some, None}
+use Rattle.std.specs.List.{range_with_len, list_any}
+use mathlib.Core.Option.{some}
+use lib.ListN.{get_elem?}
+use Rattle.sql_subset.specs.Spec.{Spec}
+use Rattle.step_reducer.specs.declared.walker.Shard.{Shard}
+use Rattle.outcome_books.specs.Entries.{FactSet}
+use Rattle.outcome_books.specs.Building.{AreFactsOf}
+use Rattle.shard_board.specs.declared.history.Receipt.{Receipt}
+use Rattle.shard_board.specs.declared.history.Call.{Call}
+use Rattle.shard_board.specs.declared.history.Call.TheVariants.{Deliver, Latest}
+use Rattle.shard_board.specs.declared.history.Entry.{Entry}
+use Rattle.shard_board.specs.Shown.{ShownBoard, ShownSeat, has}
+use Rattle.shard_board.specs.Changes.{IsTurn}
+use Rattle.shard_farm.specs.declared.worker.Worker.{Worker}
+
+-- the facts are those of the shard of this number
+abbrev pub AreFactsAt : Bool → Spec → List Shard → ℕ → FactSet → Type 0
+AreFactsAt reduce spec shards n facts = (shard : Shard) × ((get_elem? shards n ≡ some shard) × AreFactsOf reduce spec shard.first shard.end facts)
+
+-- the shard's facts were delivered; or else no delivery was accepted
+abbrev pub HasServed : Bool → Spec → List Shard → ShownSeat → ShownSeat → ℕ → Bool → Type 0
+HasServed reduce spec shards old new n true =
+    (facts : FactSet) × ((receipt : Receipt) × (IsTurn old new (Deliver n facts (Some receipt)) × AreFactsAt reduce spec shards n facts))
+HasServed reduce spec shards old new n false = (new ≡ old) ⊎ ((facts : FactSet) × IsTurn old new (Deliver n facts None))
+
+abbrev pub is_marked : List Bool → ℕ → Bool
+is_marked marks n = slice_index_or marks n false
+
+-- a seat of the board that nothing was claimed or called with
+pub record IsStarting (board : ShownBoard) (seat : ShownSeat) : Type 0 where
+  pub board_is : seat.board ≡ board
+  pub claims : seat.claims ≡ []
+  pub calls : seat.calls ≡ []
+
+-- a worker with such a seat and no mark
+pub record IsReady (board : ShownBoard) (worker : Worker) : Type 0 where
+  pub starting : IsStarting board worker.seat
+  pub blank : worker.missed.items ≡ replicate board.shards false
+
+-- one of the calls is an accepted delivery of the shard's facts
+abbrev pub IsDelivered : Bool → Spec → List Shard → List Entry → ℕ → Type 0
+IsDelivered reduce spec shards calls n =
+    (k : ℕ) × ((e : Entry) × ((facts : FactSet) × ((r : Receipt) × ((get_elem? calls k ≡ some e) × ((e.call ≡ Deliver n facts (Some r)) × AreFactsAt reduce spec shards n facts)))))
+
+-- an accepted delivery is one of a claimed shard that has no mark, and of its facts
+abbrev pub IsTrueCall : Bool → Spec → List Shard → List ℕ → List Bool → Call → Type 0
+IsTrueCall reduce spec shards claims marks (Deliver n facts (Some r)) = (has n claims ≡ true) × ((is_marked marks n ≡ false) × AreFactsAt reduce spec shards n facts)
+IsTrueCall reduce spec shards claims marks (Deliver n facts None) = Unit {0}
+IsTrueCall reduce spec shards claims marks (Latest reply) = Unit {0}
+
+-- each shard that the seat claimed was delivered or has a mark, and nothing else was delivered or has one
+pub record Serves (reduce : Bool) (spec : Spec) (shards : List Shard) (seat : ShownSeat) (marks : List Bool) : Type 0 where
+  pub each : (n : ℕ) → has n seat.claims ≡ true → (is_marked marks n ≡ true) ⊎ IsDelivered reduce spec shards seat.calls n
+  pub only : (k : ℕ) (e : Entry) → get_elem? seat.calls k ≡ some e → IsTrueCall reduce spec shards seat.claims marks e.call
+  pub marked : (n : ℕ) → is_marked marks n ≡ true → has n seat.claims ≡ true
+  pub long : length marks ≡ length shards
+
+-- and there was no more to claim
+pub record HasWorked (reduce : Bool) (spec : Spec) (shards : List Shard) (seat : ShownSeat) (marks : List Bool) : Type 0 where
+  pub ended : seat.refused ≡ true
+  pub serves : Serves reduce spec shards seat marks
+
+-- a worker of the board that has worked
+pub record IsDone (board : ShownBoard) (reduce : Bool) (spec : Spec) (shards : List Shard) (worker : Worker) : Type 0 where
+  pub board_is : worker.seat.board ≡ board
+  pub worked : HasWorked reduce spec shards worker.seat worker.missed.items
+
+-- whether one of the workers has a mark for the number
+abbrev pub is_missed_by : List Worker → ℕ → Bool
+is_missed_by ws n = list_any (λ (w : Worker). is_marked w.missed.items n) ws
+
+-- the numbers below the count that a worker has a mark for
+abbrev pub numbers_missed : List Worker → ℕ → List ℕ
+numbers_missed ws count = filter (is_missed_by ws) (range_with_len 0 count)
