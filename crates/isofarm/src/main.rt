@@ -37,6 +37,13 @@ fn main(rt: HostRuntime) -> ExitCode {
         Err(error) => return ExitCode::from(tell_words_fault(&error, &mut err)),
     };
     let mut out = Counted::new(out);
-    let status = run(&rt, rt.alloc(), &words, &Disk { rt: &rt }, &mut out, &mut err);
+    let status = run(
+        &rt,
+        rt.alloc(),
+        &words,
+        &Disk { rt: &rt },
+        &mut out,
+        &mut err,
+    );
     ExitCode::from(status)
 }

@@ -20,6 +20,7 @@ lines.spec | setup { CREATE TABLE t (id int PRIMARY KEY, v int); INSERT INTO t V
 three.spec | setup { CREATE TABLE t (id int PRIMARY KEY, v int); INSERT INTO t VALUES (1, 10), (2, 20); } session a setup { BEGIN; } step a1 { SELECT v FROM t WHERE id = 1; } step a2 { SELECT * FROM t; } session b setup { BEGIN; } step b1 { SELECT * FROM t; } step b2 { COMMIT; } session c step c1 { UPDATE t SET v = 5 WHERE id = 2; }
 late.spec | setup { CREATE TABLE t (id int PRIMARY KEY, v int); INSERT INTO t VALUES (1, 10), (2, 20); } setup { INSERT INTO t VALUES (1, 0); } session a step s {}
 large.spec | session a step a1 {} step a2 {} step a3 {} step a4 {} session b step b1 {} step b2 {} step b3 {} step b4 {} session c step c1 {} step c2 {} step c3 {} step c4 {} session d step d1 {} step d2 {} step d3 {} step d4 {} session e step e1 {} step e2 {} step e3 {} step e4 {} session f step f1 {} step f2 {} step f3 {} step f4 {}
+idle.spec | session a step a1 {} step a2 {} step a3 {} session b step b1 {} step b2 {} step b3 {} session c step c1 {} step c2 {} step c3 {}
 bad.spec | session a
 sql.spec | session a step s {VACUUM t;}
 bind.spec | session a step s {SELECT v FROM u;}
@@ -43,6 +44,8 @@ right.book | {"facts":[[2,4,"ran",0]],"format":2,"outcomes":[[[["sent",0],["inse
 both.book | {"facts":[[0,1,"ran",0],[1,1,"swap",1],[2,4,"ran",0],[2,1,"swap",2],[3,1,"swap",0]],"format":2,"outcomes":[[[["sent",0],["inserted",1],"done",["sent",1],["deleted",1],"done"],[["sent",2],["inserted",1],"done",["sent",3],["deleted",1],"done"]]],"spec":"setup { CREATE TABLE t (id int PRIMARY KEY); CREATE TABLE u (id int PRIMARY KEY); } session a step a1 { INSERT INTO t VALUES (2); } step a2 { DELETE FROM t WHERE id = 2; } session b step b1 { INSERT INTO u VALUES (2); } step b2 { DELETE FROM u WHERE id = 2; }"}
 gap.book | {"facts":[[0,1,"ran",0],[1,1,"swap",1],[3,2,"swap",0],[5,1,"swap",1]],"format":2,"outcomes":[[[["sent",0],["inserted",1],"done",["sent",1],["deleted",1],"done"],[["sent",2],["inserted",1],"done",["sent",3],["deleted",1],"done"]]],"spec":"setup { CREATE TABLE t (id int PRIMARY KEY); CREATE TABLE u (id int PRIMARY KEY); } session a step a1 { INSERT INTO t VALUES (2); } step a2 { DELETE FROM t WHERE id = 2; } session b step b1 { INSERT INTO u VALUES (2); } step b2 { DELETE FROM u WHERE id = 2; }"}
 old_reduced.book | {"facts":[[0,"ran",[[["sent",0],["inserted",1],"done",["sent",1],["deleted",1],"done"],[["sent",2],["inserted",1],"done",["sent",3],["deleted",1],"done"]]],[1,"swap",1],[2,"swap",2],[3,"swap",0],[4,"swap",0],[5,"swap",1]],"format":1,"spec":"setup { CREATE TABLE t (id int PRIMARY KEY); CREATE TABLE u (id int PRIMARY KEY); } session a step a1 { INSERT INTO t VALUES (2); } step a2 { DELETE FROM t WHERE id = 2; } session b step b1 { INSERT INTO u VALUES (2); } step b2 { DELETE FROM u WHERE id = 2; }"}
+idle.book | {"facts":[[0,1680,"ran",0]],"format":2,"outcomes":[[[["sent",0],"done",["sent",1],"done",["sent",2],"done"],[["sent",3],"done",["sent",4],"done",["sent",5],"done"],[["sent",6],"done",["sent",7],"done",["sent",8],"done"]]],"spec":"session a step a1 {} step a2 {} step a3 {} session b step b1 {} step b2 {} step b3 {} session c step c1 {} step c2 {} step c3 {}"}
+middle.book | {"facts":[[1,1679,"ran",0]],"format":2,"outcomes":[[[["sent",0],"done",["sent",1],"done",["sent",2],"done"],[["sent",3],"done",["sent",4],"done",["sent",5],"done"],[["sent",6],"done",["sent",7],"done",["sent",8],"done"]]],"spec":"session a step a1 {} step a2 {} step a3 {} session b step b1 {} step b2 {} step b3 {} session c step c1 {} step c2 {} step c3 {}"}
 late.book | {"facts":[],"format":2,"outcomes":[],"spec":"setup { CREATE TABLE t (id int PRIMARY KEY, v int); INSERT INTO t VALUES (1, 10), (2, 20); } setup { INSERT INTO t VALUES (1, 0); } session a step s {}"}
 large.book | {"facts":[],"format":2,"outcomes":[],"spec":"session a step a1 {} step a2 {} step a3 {} step a4 {} session b step b1 {} step b2 {} step b3 {} step b4 {} session c step c1 {} step c2 {} step c3 {} step c4 {} session d step d1 {} step d2 {} step d3 {} step d4 {} session e step e1 {} step e2 {} step e3 {} step e4 {} session f step f1 {} step f2 {} step f3 {} step f4 {}"}
 cut.book | {"facts":[[0,"ran",[[["sent",0],"done"]]]],"format":1,"spec":"session a step s {}"
@@ -175,9 +178,23 @@ isofarm run lines.spec 0 1 --every | lines.book
 isofarm run two.spec 0 6 --every | every.book
 isofarm run --every two.spec 2 6 | right.book";
 
+/// The same by so many workers. Of nine steps that do nothing there are 1,680 orders, which are two shards.
+const WORKERS: &str = "isofarm run idle.spec 0 1680 --every | idle.book
+isofarm run idle.spec 0 1680 --every --workers 1 | idle.book
+isofarm run idle.spec 0 1680 --workers 2 --every | idle.book
+isofarm run idle.spec 1 1680 --every --workers 16 | middle.book
+isofarm run two.spec 0 6 --workers 1 | reduced.book
+isofarm run two.spec 0 6 --workers 16 | reduced.book
+isofarm run e.spec 0 0 --workers 16 | none.book";
+
 #[test]
 fn every_rank_is_run_where_that_is_asked(rt: HostRuntime) -> Result<(), Fail> {
     assert_each_written(&rt, rt.alloc(), EVERY)
+}
+
+#[test]
+fn a_range_gives_the_same_book_by_any_number_of_workers(rt: HostRuntime) -> Result<(), Fail> {
+    assert_each_written(&rt, rt.alloc(), WORKERS)
 }
 
 /// A line, and the file that has the joined book.
@@ -428,7 +445,10 @@ fn words_that_name_no_ranges_or_books_end_with_two(rt: HostRuntime) -> Result<()
         "isofarm run first.spec x 1",
         "isofarm run first.spec 0 -1",
         "isofarm run first.spec 0 18446744073709551616",
-        "isofarm run first.spec 0 1 --workers 4",
+        "isofarm run first.spec 0 1 --workers 0",
+        "isofarm run first.spec 0 1 --workers 17",
+        "isofarm run first.spec 0 1 --workers two",
+        "isofarm run first.spec 0 1 --workers",
         "isofarm join",
         "isofarm join --every first.spec",
         "isofarm report",
