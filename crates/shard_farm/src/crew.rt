@@ -13,6 +13,7 @@ use std::alloc::{AllocError, Global};
 use std::sync::Wait;
 use std::thread;
 use std::thread::Threads;
+use step_reducer::Shard;
 
 /// A worker for each seat.
 pub(crate) fn workers_of(
@@ -56,19 +57,21 @@ fn ready(
 }
 
 /// Each worker works in a thread of its own. One for which no thread can be made works behind another one, on its thread.
-pub(crate) fn run_all<R: Threads + Wait + Sync, G: Gate + Sync>(
+pub(crate) fn run_all<R: Threads + Wait + Sync, T: Gate + Sync>(
     rt: &R,
     alloc: Global,
     board: &Board,
-    plan: &Plan<'_>,
-    gate: &G,
+    text: &str,
+    shards: &[Shard],
+    reduce: bool,
+    gate: &T,
     mut workers: Vec<Worker>,
 ) -> Vec<Worker>
-    requires shards { length plan.now.shards.now ≡ board.now.shards }
-    requires file { IsFileOf plan.now.text.now board.now.file }
+    requires shards { length shards.now ≡ board.now.shards }
+    requires file { IsFileOf text.now board.now.file }
     requires ready { All (IsReady board.now) workers.items }
     ensures many { (vec_len result ≡ vec_len workers) × (vec_capacity result ≡ vec_capacity workers) }
-    ensures done { All (IsDone board.now plan.now.reduce board.now.file.run plan.now.shards.now) result.items }
+    ensures done { All (IsDone board.now reduce board.now.file.run shards.now) result.items }
 {
     let Some(mine) = workers.pop() else {
         return workers;
@@ -76,13 +79,26 @@ pub(crate) fn run_all<R: Threads + Wait + Sync, G: Gate + Sync>(
     let (mine, mut others) = thread::join(
         rt,
         || -> Worker
-            requires { IsSync R.row × IsSync G.row × (length plan.now.shards.now ≡ board.now.shards) × IsFileOf plan.now.text.now board.now.file × IsReady board.now mine }
-            ensures { IsDone board.entry.now plan.entry.now.reduce board.entry.now.file.run plan.entry.now.shards.now result }
-        { work(rt, alloc, board, *plan, gate, mine) },
+            requires { IsSync R.row × IsSync T.row × (length shards.now ≡ board.now.shards) × IsFileOf text.now board.now.file × IsReady board.now mine }
+            ensures { IsDone board.entry.now reduce board.entry.now.file.run shards.entry.now result }
+        {
+            work(
+                rt,
+                alloc,
+                board,
+                Plan {
+                    text,
+                    shards,
+                    reduce,
+                },
+                gate,
+                mine,
+            )
+        },
         || -> Vec<Worker>
-            requires { IsSync R.row × IsSync G.row × (length plan.now.shards.now ≡ board.now.shards) × IsFileOf plan.now.text.now board.now.file × All (IsReady board.now) workers.items }
-            ensures { All (IsDone board.entry.now plan.entry.now.reduce board.entry.now.file.run plan.entry.now.shards.now) result.items × (vec_len result ≡ vec_len workers) × (vec_capacity result ≡ vec_capacity workers) }
-        { run_all(rt, alloc, board, plan, gate, workers) },
+            requires { IsSync R.row × IsSync T.row × (length shards.now ≡ board.now.shards) × IsFileOf text.now board.now.file × All (IsReady board.now) workers.items }
+            ensures { All (IsDone board.entry.now reduce board.entry.now.file.run shards.entry.now) result.items × (vec_len result ≡ vec_len workers) × (vec_capacity result ≡ vec_capacity workers) }
+        { run_all(rt, alloc, board, text, shards, reduce, gate, workers) },
     );
     others.push_reserved(mine);
     others

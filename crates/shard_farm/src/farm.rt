@@ -93,6 +93,6 @@ fn run_plan<R: Threads + Wait + Sync, G: Gate + Sync>(
         return Err(AllocError);
     };
     let workers = workers_of(alloc, &board, shards.len(), seats)?;
-    let workers = run_all(rt, alloc, &board, &plan, gate, workers);
+    let workers = run_all(rt, alloc, &board, plan.text, shards, reduce, gate, workers);
     Ok(closed(board, plan, workers, numbers, room))
 }
