@@ -19,8 +19,9 @@ static int is_refused(void) {
         refused = number == NULL ? 0 : atol(number);
         refuses_all = getenv("REFUSE_ALL") != NULL;
     }
-    calls++;
-    return calls == refused || (refuses_all && refused > 0 && calls > refused);
+    // Threads count their calls together.
+    long call = __atomic_add_fetch(&calls, 1, __ATOMIC_SEQ_CST);
+    return call == refused || (refuses_all && refused > 0 && call > refused);
 }
 
 void *malloc(size_t size) {

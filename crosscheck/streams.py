@@ -34,11 +34,14 @@ FILES = {
     "empty": b"",
 }
 GOOD = ["one first.spec 0", "check first.spec", "count first.spec", "run first.spec 0 2", "join all.book", "report all.book"]
-HELP = ["help", "--help", "--version", *(f"{line.split()[0]} --help" for line in GOOD)]
+GOOD += ["run first.spec 0 2 --workers 16", "audit all.book", "judge all.book all.book"]
+HELP = ["help", "--help", "--version", *(f"{line} --help" for line in ("one", "check", "count", "run", "join", "report", "audit", "judge"))]
 FAULTS = {"one first.spec 2": 3, "report one.book": 1, "count nothing": 5, "two first.spec 0": 2}
 NO_COMMANDS = ["", "one", "one first.spec", "one first.spec x", "one first.spec -1", f"one first.spec {U64}", "two first.spec 0"]
 NO_COMMANDS += ["check", "check first.spec 0", "count", "count first.spec 0", "run first.spec 0", f"run first.spec 0 {U64}", "run first.spec 0 1 --all", "join"]
 NO_COMMANDS += [f"join{' all.book' * 1001}", "report", "report all.book all.book", "report --every all.book"]
+NO_COMMANDS += [f"run first.spec 0 1 --workers{number}" for number in ("", " 0", " 17", " x", " -1", " 4294967297")]
+NO_COMMANDS += ["audit", "audit all.book all.book", "judge", "judge all.book", f"judge{' all.book' * 1002}"]
 WRITE_FAULT = b"isofarm: write fault\n"
 
 
@@ -52,6 +55,7 @@ def unread():
     shut = ["shut"] if os.geteuid() else []
     for path in ["nothing", "folder", "first.spec/x", "/proc/self/mem", *shut]:
         commands = [["one", path, "0"], ["check", path], ["count", path], ["run", path, "0", "1"], ["join", path], ["join", "all.book", path]]
+        commands += [["judge", path, "all.book"], ["judge", "all.book", path], ["audit", path]]
         for words in [*commands, ["report", path]]:
             yield words, line(5, f"{path}: read fault")
 
@@ -62,7 +66,7 @@ def marked():
         yield words, line(3, "mark.spec: spec error 4 at 0")
     yield ["one", "empty", "0"], line(3, "empty: spec error 5 at 0")
     for path in ("mark.book", "empty", "half.book"):
-        for words in (["report", path], ["join", path], ["join", "all.book", path]):
+        for words in (["report", path], ["join", path], ["join", "all.book", path], ["audit", path], ["judge", path, path], ["judge", "all.book", path]):
             yield words, line(3, f"{path}: book error 1")
 
 
@@ -86,6 +90,10 @@ def answers():
     yield from far()
     yield ["join", "one.book", "all.book"], (0, BOOK, b"")
     yield ["report", "one.book"], line(1, "one.book: missing rank 0")
+    yield ["judge", "all.book", "one.book"], line(1, "one.book: missing rank 0")
+    yield ["judge", "one.book", "nothing"], line(1, "one.book: missing rank 0")
+    yield ["judge", "all.book", "all.book", "all.book"], (0, b"matches 0\n", b"")
+    yield ["audit", "one.book"], (0, b"true\n", b"")
 
 
 def told_into(text, folder, redirections):
