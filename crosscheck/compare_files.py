@@ -155,6 +155,8 @@ def running(random, text, path, first, end, how):
     words = ["run", path, str(first), str(end)]
     if how == "every":
         words.insert(random.randint(1, len(words)), "--every")
+    if random.random() < 0.5:
+        words += ["--workers", str(random.randint(1, 16))]
     return words, answer(run, text, path, first, end, how)
 
 
