@@ -1,33 +1,19 @@
 -- The shards of a range, one by one, and their facts.
-use Rattle.std.proofs.Common.{◌≡◌, ◌⊎◌, ⊎_elim, sym, subst, refl, ℕ, ◌+◌, ◌*◌, ◌<◌, ◌≤◌, Bool, true, List, [], ◌∷◌, ◌++◌, length, All, arith}
+use Rattle.std.proofs.Common.{◌≡◌, ◌⊎◌, ⊎_elim, sym, subst, refl, ℕ, ◌+◌, ◌<◌, ◌≤◌, Bool, true, List, [], ◌∷◌, ◌++◌, length, All, arith}
 use Rattle.std.proofs.lemmas.List.{length-append}
-use Rattle.std.proofs.lemmas.List.Elements.{All-push, All-nil}
+use Rattle.std.proofs.lemmas.List.Elements.{All-push}
 use mathlib.Core.Option.{some}
 use lib.ListN.{get_elem?}
 use Rattle.atomic_table.proofs.Lists.{at_longer, at_last}
-use Rattle.sql_subset.specs.Spec.{Spec, ranks}
+use Rattle.sql_subset.specs.Spec.{Spec}
 use Rattle.quiet_steps.specs.Facts.{IsFactOf}
 use Rattle.quiet_steps.specs.declared.fact.Fact.{Fact}
 use Rattle.step_reducer.specs.declared.walker.Shard.{Shard}
-use Rattle.step_reducer.specs.Walking.{IsShardOf}
 use Rattle.outcome_books.specs.Entries.{FactSet, recorded}
 use Rattle.outcome_books.specs.Building.{AreFactsOf}
-use Rattle.shard_board.specs.Changes.{IsPlanOf}
 use Rattle.shard_farm.specs.Farming.{AreShardFacts}
 use Rattle.shard_farm.proofs.CrewLemmas.{all_at}
-use Rattle.iso_farm.specs.Ranges.{IsRangeOf}
 use Rattle.iso_farm.specs.Cutting.{AreCut, IsCut, IsCutAt, IsInOne}
-
--- no shard up to the first rank
-pub cut-none : (first end : ℕ) → first ≤ end → AreCut first first end []
-cut-none first end le = record {
-  from = omega arith;
-  to = le;
-  parts = λ k d l. absurd (omega arith);
-  whole = λ r from to. absurd (omega arith);
-  full = λ lt. omega arith;
-  many = omega arith;
-}
 
 in-longer : (shards : List Shard) (one : Shard) (r : ℕ) → IsInOne shards r → IsInOne (shards ++ one ∷ []) r
 in-longer shards one r (n, (s, (is, inside))) = (n, (s, (at_longer shards (one ∷ []) n s is, inside)))
@@ -52,20 +38,6 @@ cut-more first at next end shards c a =
           ⊎_elim (λ lt. in-longer shards one r (a.whole r low lt)) (λ ge. (length shards, (one, (at_last shards one (length shards) refl, (ge, high))))) cases;
       full = λ lt. let e = c.full lt in omega arith;
       many = omega arith;
-    }
-
--- the shards of a range are a lawful plan
-pub cut-plan : (spec : Spec) (first end workers : ℕ) (shards : List Shard) → IsRangeOf spec first end → AreCut first end end shards
-    → (1 ≤ workers) × (workers ≤ 16) → IsPlanOf spec shards workers
-cut-plan spec first end workers shards range c few =
-    let most = range.few in
-    let many = c.many in
-    record {
-      few = omega arith;
-      lawful = λ k d l. let p = c.parts k d l in let to = p.to in let inside = range.inside in let short = p.few in
-          record { order = p.order; inside = omega arith; few = omega arith };
-      some_seat = few.0;
-      few_seats = few.1;
     }
 
 -- their facts are those of the range's ranks

@@ -1,0 +1,16 @@
+use Rattle.std.proofs.Common.{◌≡◌, All, sym, subst}
+use Rattle.std.proofs.lemmas.List.Elements.{All-push, All-pop}
+use Rattle.shard_board.specs.declared.seat.Seat.{Seat}
+use Rattle.farm_tests.proofs.boards.assert_board.Goals as goal
+
+-- the two seats are put behind the others, and all are of the board
+pub close-closed-requires-clause-seats : goal.close-closed-requires-clause-seats
+close-closed-requires-clause-seats g c =
+    let rest = (All-pop (λ (s : Seat). s.board ≡ c.args.board) c.args.seats.items c.pop.new.self.items c.pop.result c.pop.ensures.items c.requires.1).0 in
+    let less =
+    (All-pop (λ (s : Seat). s.board ≡ c.args.board) c.pop.new.self.items c.pop-2.new.self.items c.pop-2.result c.pop-2.ensures.items rest).0 in
+    let both = c.assert_turns-done.ensures in
+    subst (All (λ (s : Seat). s.board ≡ c.args.board)) (sym c.push_reserved-2.ensures.items)
+    (All-push (λ (s : Seat). s.board ≡ c.args.board) _ _
+    (subst (All (λ (s : Seat). s.board ≡ c.args.board)) (sym c.push_reserved.ensures.items) (All-push (λ (s : Seat). s.board ≡ c.args.board) _ _ less both.0))
+    both.1)
