@@ -96,7 +96,7 @@ def compare(program, runs_of, kind_of_output, kind, first, seeds):
                 got = without_sentence(got) if words[0] == "check" else got
                 number += 1
                 status, out, error = want
-                counts.update([fault_of(error)] if status else kind_of_output(out))
+                counts.update([fault_of(error)] if error else kind_of_output(out))
                 if want != got:
                     differences += 1
                     print(f"seed {seed}, {' '.join(words)}: {difference(want, got)}")
