@@ -16,3 +16,4 @@ pub mod BookLaws
 pub mod Steps
 pub mod BackLemmas
 pub mod FormsBack
+pub mod Utf8Lemmas

@@ -10,6 +10,7 @@ use Rattle.book_files.specs.declared.pieces.Pieces.{Pieces}
 use Rattle.book_files.specs.declared.pieces.TheConstants.{MAX_TEXT, MAX_FACTS}
 use Rattle.book_files.specs.BookText.{IsTextOf, total_of}
 use Rattle.book_files.specs.Pieces.{text_in}
+use Rattle.book_files.specs.ReadingBooks.{IsBookFile}
 
 -- the text, or the number of facts, is over its limit
 abbrev pub IsTooLarge : List ℕ → List Run → Type 0
@@ -23,6 +24,10 @@ IsWritten contents old new book (Err TooLarge) = (new ≡ old) × ((text : List 
 IsWritten contents old new book (Err NoMemory) = new ≡ old
 IsWritten contents old new book (Err WriteFault) =
     (text : List ℕ) × (t : IsTextOf text book) × (IsTooLarge text t.runs → ⊥) × Stopped contents old new text
+
+-- what was written is read as the book
+abbrev pub ReadsBack : {W : Type 0} → (W → Option (List ℕ)) → Counted W → Counted W → Contents → Type 0
+ReadsBack contents old new book = (text : List ℕ) × Wrote contents old new text × IsBookFile text (Ok book)
 
 -- the pieces make the book's one text
 pub record ArePieces (book : Contents) (pieces : Pieces) : Type 0 where

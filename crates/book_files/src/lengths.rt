@@ -1,8 +1,9 @@
 //! How long the parts of a book's text are, and how many facts a book has.
 
-ghost use Rattle.std.specs.Prelude.{◌≡◌, ◌≤◌, ◌-◌, codes, decimal, flat_map, length, min, string_bytes};
+ghost use Rattle.std.specs.Prelude.{◌≡◌, ◌<◌, ◌≤◌, ◌-◌, ◌^◌, All, codes, decimal, flat_map, length, min, string_bytes};
 ghost use Rattle.std.specs.List.{join_by};
 ghost use Rattle.book_files.specs.BookText.{total_of};
+ghost use Rattle.book_files.specs.Laws.{RunFits};
 ghost use Rattle.book_files.specs.Pieces.{run_text, tag_front, after_comma};
 
 use crate::canonical::number;
@@ -26,12 +27,30 @@ pub(crate) fn ranks_in(run: &Run) -> u64
     run.end.saturating_sub(run.first)
 }
 
+/// The numbers of a run have the widths of their types.
+fn widths(run: &Run)
+    ensures { RunFits run.now }
+{
+    width(run.first);
+    width(run.end);
+    width(number(run.tag) as u64);
+}
+
+/// The number has the width of its type.
+fn width(number: u64)
+    ensures { number < 2 ^ 64 }
+{
+    let _number = number;
+}
+
 /// How many facts the runs have, or the largest number where there are more.
 pub(crate) fn facts_in(runs: &[Run]) -> u64
-    ensures { result ≡ min (total_of runs.now) u64.MAX }
+    ensures facts { result ≡ min (total_of runs.now) u64.MAX }
+    ensures fit { All RunFits runs.now }
 {
     let mut facts: u64 = 0;
     for run in runs {
+        widths(run);
         facts = facts.saturating_add(ranks_in(run));
     }
     facts

@@ -1,6 +1,7 @@
 //! What a book's text is made of.
 
-ghost use Rattle.std.specs.Prelude.{◌≡◌, ◌↔◌, IsTrue, IfOk, IfErr, length, min};
+ghost use Rattle.std.specs.Prelude.{◌≡◌, ◌↔◌, All, IsTrue, false, IfOk, IfErr, length, min};
+ghost use Rattle.book_files.specs.Laws.{RunFits};
 ghost use Rattle.book_files.specs.Pieces.{text_in};
 ghost use Rattle.book_files.specs.Writing.{ArePieces, AreTooLarge, IsRefused};
 
@@ -32,6 +33,7 @@ pub(crate) struct Pieces {
 pub(crate) fn pieces_of(alloc: Global, book: &Book) -> Result<Pieces, WriteError>
     ensures pieces { IfOk result (ArePieces book.now) }
     ensures fit { IfOk result (λ pieces. AreTooLarge pieces → ⊥) }
+    ensures widths { IfOk result (λ pieces. All RunFits pieces.runs.items) }
     ensures refused { IfErr result (IsRefused book.now) }
 {
     let pieces = all_pieces(alloc, book)?;
@@ -57,7 +59,8 @@ fn all_pieces(alloc: Global, book: &Book) -> Result<Pieces, AllocError>
 
 /// Whether the text that the pieces make, or the number of facts, is over its limit.
 fn are_too_large(pieces: &Pieces) -> bool
-    ensures { IsTrue result ↔ AreTooLarge pieces.now }
+    ensures large { IsTrue result ↔ AreTooLarge pieces.now }
+    ensures widths { result ≡ false → All RunFits pieces.now.runs.items }
 {
     text_len(pieces) > MAX_TEXT || facts_in(pieces.runs.as_slice()) > MAX_FACTS
 }

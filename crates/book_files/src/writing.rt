@@ -1,8 +1,8 @@
 //! Writing a book.
 
-ghost use Rattle.std.specs.Prelude.{◌<◌};
+ghost use Rattle.std.specs.Prelude.{◌<◌, OnOk};
 ghost use Rattle.transcripts.specs.Counted.{failures_of};
-ghost use Rattle.book_files.specs.Writing.{IsWritten};
+ghost use Rattle.book_files.specs.Writing.{IsWritten, ReadsBack};
 
 use crate::pieces::{Pieces, pieces_of};
 use crate::printing::print_book;
@@ -22,8 +22,10 @@ pub fn write_book<W: Write>(
     out: &mut Counted<W>,
 ) -> Result<(), WriteError>
     requires { failures_of out.old < u64.MAX }
-    ensures { IsWritten W.contents out.old out.new book.now result }
+    ensures written { IsWritten W.contents out.old out.new book.now result }
+    ensures back { OnOk result (ReadsBack W.contents out.old out.new book.now) }
 {
+    book.known();
     let pieces = pieces_of(alloc, book)?;
     match print_book(&pieces, out) {
         Ok(()) => Ok(()),

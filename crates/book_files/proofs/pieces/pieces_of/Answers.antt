@@ -9,5 +9,5 @@ returns-then-are_too_large-clause-refused c =
     let are = c.in_ok-pieces.ensures in (
       text_in c.in_ok-pieces.pieces,
       are.text,
-      subst (IsTooLarge (text_in c.in_ok-pieces.pieces)) (sym are.runs_are) (c.are_too_large.ensures.0 c.if-are_too_large.true),
+      subst (IsTooLarge (text_in c.in_ok-pieces.pieces)) (sym are.runs_are) (c.are_too_large.ensures.large.0 c.if-are_too_large.true),
     )
