@@ -5,3 +5,4 @@ pub mod JoinLemmas
 pub mod JudgeLemmas
 pub mod CommandLemmas
 pub mod CutLemmas
+pub mod HeadlineLemmas

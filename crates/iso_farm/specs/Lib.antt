@@ -10,3 +10,4 @@ pub mod Laws
 pub mod Status
 pub mod Commands
 pub mod Cutting
+pub mod Headline

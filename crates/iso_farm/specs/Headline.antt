@@ -1,0 +1,154 @@
+-- All that is promised of runs, from the bytes of a spec to its report.
+use Rattle.std.specs.Prelude.{◌≡◌, ◌↔◌, ℕ, ◌<◌, ◌≤◌, ◌⊎◌, true, List, [], ◌∷◌, ◌++◌, length, Option, Some, Result, Ok, Err, ⊤}
+use mathlib.Core.Option.{some}
+use lib.ListN.{get_elem?}
+use Rattle.sql_subset.specs.Spec.{Spec, SpecFile, ranks, line_of}
+use Rattle.sql_subset.specs.Binding.{IsFileOf}
+use Rattle.machine_model.specs.Outcome.{outcome_of_line}
+use Rattle.quiet_steps.specs.declared.fact.Fact.{Fact}
+use Rattle.serial_history.specs.Serial.{IsSerial}
+use Rattle.step_reducer.specs.declared.walker.Shard.{Shard}
+use Rattle.step_reducer.specs.Walking.{Starts}
+use Rattle.transcripts.specs.Counted.{Wrote, Stopped}
+use Rattle.transcripts.specs.declared.counted.Counted.{Counted}
+use Rattle.transcripts.specs.declared.event.Event.{Event}
+use Rattle.outcome_books.specs.declared.error.ReportError.{ReportError}
+use Rattle.outcome_books.specs.declared.error.ReportError.TheVariants.{TooMany, Missing, Clash, NoMemory}
+use Rattle.outcome_books.specs.declared.job.Job.{Job}
+use Rattle.outcome_books.specs.Entries.{recorded}
+use Rattle.outcome_books.specs.Books.{Contents, joined}
+use Rattle.outcome_books.specs.JobTrees.{told, leaves}
+use Rattle.outcome_books.specs.Jobs.{InLeaves, IsJobOf, IsNotMade}
+use Rattle.outcome_books.specs.Values.{IsNotReported}
+use Rattle.shard_board.specs.Changes.{IsPlanOf}
+use Rattle.shard_farm.specs.Farming.{InShards, AreShardFacts, IsNotFarmed}
+use Rattle.iso_farm.specs.declared.headline.Plan.{Plan}
+use Rattle.iso_farm.specs.declared.headline.HeadlineFault.{HeadlineFault}
+use Rattle.iso_farm.specs.declared.headline.HeadlineFault.TheVariants as fault_of
+use Rattle.iso_farm.specs.declared.reporting.ReportFault.TheVariants.{Report, Write}
+use Rattle.iso_farm.specs.SpecFiles.{IsNoSpec}
+use Rattle.iso_farm.specs.Reporting.{IsReportText}
+use Rattle.iso_farm.specs.Laws.{AreAnswers}
+
+-- ---- what was run
+
+abbrev pub HasRank : ℕ → Shard → Type 0
+HasRank r shard = (shard.first ≤ r) × (r < shard.end)
+
+-- one of the shards has the rank
+abbrev pub InOne : List Shard → ℕ → Type 0
+InOne shards r = (n : ℕ) × ((shard : Shard) × ((get_elem? shards n ≡ some shard) × HasRank r shard))
+
+-- the shards of a job, from left to right
+abbrev pub shards_in : Job → List Shard
+shards_in = told (λ shard reduce. shard ∷ []) (λ a b. a ++ b)
+
+-- one of the shards of a plan has it
+abbrev pub InPlans : List Plan → ℕ → Type 0
+InPlans plans r = (k : ℕ) × ((plan : Plan) × ((get_elem? plans k ≡ some plan) × InOne plan.shards.items r))
+
+-- each rank of the spec was run, by the job or by a plan's workers
+abbrev pub EachWasRun : Spec → Job → List Plan → Type 0
+EachWasRun spec job plans = (r : ℕ) → r < ranks spec → InOne (shards_in job) r ⊎ InPlans plans r
+
+-- one of the plans has the rank, with that fact under its flag
+abbrev pub HaveFact : Spec → List Plan → ℕ → Fact → Type 0
+HaveFact spec plans r fact = (k : ℕ) × ((plan : Plan) × ((get_elem? plans k ≡ some plan) × InShards plan.reduce spec plan.shards.items r fact))
+
+-- the rank was run with that fact
+abbrev pub WasRun : Spec → Job → List Plan → ℕ → Fact → Type 0
+WasRun spec job plans r fact = InLeaves spec (leaves job) r fact ⊎ HaveFact spec plans r fact
+
+-- the first so many plans are lawful
+abbrev pub ArePlansOf : Spec → List Plan → ℕ → Type 0
+ArePlansOf spec plans n = (k : ℕ) (plan : Plan) → k < n → get_elem? plans k ≡ some plan → IsPlanOf spec plan.shards.items plan.workers
+
+-- the book holds exactly the facts of the ranks run
+pub record HoldsTheRuns (file : SpecFile) (job : Job) (plans : List Plan) (book : Contents) : Type 0 where
+  pub job_lawful : IsJobOf file.run job
+  pub plans_lawful : ArePlansOf file.run plans (length plans)
+  pub started : Starts file.run
+  pub file_is : book.file ≡ file
+  pub facts : (r : ℕ) (fact : Fact) → (recorded book.facts r fact ≡ true) ↔ WasRun file.run job plans r fact
+
+-- ---- what is told
+
+-- whatever the sequential machine tells of a rank, the transactions that are committed there behave as when they are run one after another in the order
+-- of their commits
+abbrev pub AreSerial : Spec → Type 0
+AreSerial spec = (r : ℕ) (outcome : List (List Event)) → outcome_of_line spec (line_of spec r) ≡ Some outcome → IsSerial spec (line_of spec r) outcome
+
+-- the text is the report of a book of the runs, and tells of each rank what the sequential machine tells
+pub record IsReportOfRuns (file : SpecFile) (job : Job) (plans : List Plan) (text : List ℕ) : Type 0 where
+  pub book : Contents
+  pub holds : HoldsTheRuns file job plans book
+  pub reports : IsReportText book text
+  pub answers : AreAnswers file (ranks file.run) text
+  pub serial : AreSerial file.run
+
+-- for which faults a report of runs is refused: too many ranks, or a rank that was not run, and never since two facts tell of a rank what differs
+abbrev pub IsNeverButFor : Spec → Job → List Plan → ReportError → Type 0
+IsNeverButFor spec job plans TooMany = Unit {0}
+IsNeverButFor spec job plans (Missing r) = EachWasRun spec job plans → ⊥
+IsNeverButFor spec job plans (Clash r) = ⊥
+IsNeverButFor spec job plans NoMemory = Unit {0}
+
+-- why the runs are not all made: the job is refused, or else the first plan that is, unless memory ran out
+abbrev pub IsNotRun : SpecFile → Job → List Plan → HeadlineFault → Type 0
+IsNotRun file job plans (fault_of.Job error) = IsNotMade file.run job error
+IsNotRun file job plans (fault_of.Plan place error) =
+    IsJobOf file.run job × ArePlansOf file.run plans place
+    × ((plan : Plan) × ((get_elem? plans place ≡ some plan) × IsNotFarmed plan.reduce file plan.shards.items plan.workers error))
+IsNotRun file job plans fault_of.NoMemory = Unit {0}
+IsNotRun file job plans (fault_of.Spec fault) = ⊥
+IsNotRun file job plans (fault_of.Report fault) = ⊥
+
+-- what comes of runs: the report of their book is written, or a front of it, or nothing, where the bytes are no spec, or a job, a plan or the report is refused
+abbrev pub AreRunsReported : {W : Type 0} → (W → Option (List ℕ)) → Counted W → Counted W → List ℕ → Job → List Plan → Result ⊤ HeadlineFault → Type 0
+AreRunsReported contents old new bytes job plans (Ok done) =
+    (file : SpecFile) × IsFileOf bytes file × ((text : List ℕ) × IsReportOfRuns file job plans text × Wrote contents old new text)
+AreRunsReported contents old new bytes job plans (Err (fault_of.Spec fault)) = (new ≡ old) × IsNoSpec bytes fault
+AreRunsReported contents old new bytes job plans (Err (fault_of.Report (Write fault))) =
+    (file : SpecFile) × IsFileOf bytes file × ((text : List ℕ) × IsReportOfRuns file job plans text × Stopped contents old new text)
+AreRunsReported contents old new bytes job plans (Err (fault_of.Report (Report error))) =
+    (new ≡ old) × ((file : SpecFile) × IsFileOf bytes file
+    × ((book : Contents) × HoldsTheRuns file job plans book × IsNotReported book error × IsNeverButFor file.run job plans error))
+AreRunsReported contents old new bytes job plans (Err (fault_of.Job error)) =
+    (new ≡ old) × ((file : SpecFile) × IsFileOf bytes file × IsNotRun file job plans (fault_of.Job error))
+AreRunsReported contents old new bytes job plans (Err (fault_of.Plan place error)) =
+    (new ≡ old) × ((file : SpecFile) × IsFileOf bytes file × IsNotRun file job plans (fault_of.Plan place error))
+AreRunsReported contents old new bytes job plans (Err fault_of.NoMemory) = new ≡ old
+
+-- ---- what the code keeps
+
+-- one of the first so many plans has the rank, with that fact under its flag
+abbrev pub HaveFactBelow : Spec → List Plan → ℕ → ℕ → Fact → Type 0
+HaveFactBelow spec plans n r fact = (k : ℕ) × ((plan : Plan) × ((k < n) × ((get_elem? plans k ≡ some plan) × InShards plan.reduce spec plan.shards.items r fact)))
+
+-- the book holds the facts of the job and of the first so many plans
+pub record HoldsTheFirst (file : SpecFile) (job : Job) (plans : List Plan) (n : ℕ) (book : Contents) : Type 0 where
+  pub job_lawful : IsJobOf file.run job
+  pub plans_lawful : ArePlansOf file.run plans n
+  pub started : Starts file.run
+  pub file_is : book.file ≡ file
+  pub facts : (r : ℕ) (fact : Fact) → (recorded book.facts r fact ≡ true) ↔ (InLeaves file.run (leaves job) r fact ⊎ HaveFactBelow file.run plans n r fact)
+
+-- the book holds the facts of all runs, or they are not all made
+abbrev pub AreRun : SpecFile → Job → List Plan → Result Contents HeadlineFault → Type 0
+AreRun file job plans (Ok book) = HoldsTheRuns file job plans book
+AreRun file job plans (Err fault) = IsNotRun file job plans fault
+
+-- the plan's facts are joined to a book, or it is not run whole, or memory ran out
+abbrev pub IsNextRun : SpecFile → Plan → ℕ → Contents → Result Contents HeadlineFault → Type 0
+IsNextRun file plan place book (Ok all) =
+    (next : Contents) × IsPlanOf file.run plan.shards.items plan.workers × AreShardFacts plan.reduce file.run plan.shards.items next.facts × (book.file ≡ next.file) × (all ≡ joined book next)
+IsNextRun file plan place book (Err (fault_of.Plan at error)) = (at ≡ place) × IsNotFarmed plan.reduce file plan.shards.items plan.workers error
+IsNextRun file plan place book (Err fault_of.NoMemory) = Unit {0}
+IsNextRun file plan place book (Err (fault_of.Spec fault)) = ⊥
+IsNextRun file plan place book (Err (fault_of.Job error)) = ⊥
+IsNextRun file plan place book (Err (fault_of.Report fault)) = ⊥
+
+-- the join of two books, unless memory ran out
+abbrev pub IsJoinedWith : Contents → Contents → Result Contents HeadlineFault → Type 0
+IsJoinedWith book next (Ok all) = (book.file ≡ next.file) × (all ≡ joined book next)
+IsJoinedWith book next (Err fault) = fault ≡ fault_of.NoMemory
