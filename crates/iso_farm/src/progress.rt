@@ -6,7 +6,7 @@ ghost use Rattle.iso_farm.specs.Progress.{ranks_of_shard};
 ghost use Rattle.iso_farm.specs.declared.progress.TheConstants.{GAP_NANOS};
 
 use crate::cutting::SHARD_RANKS;
-use crate::standing::Standing;
+use crate::headway::Headway;
 use crate::telling::say;
 use shard_farm::Gate;
 use std::alloc::{AllocError, Global};
@@ -96,7 +96,7 @@ impl<'a, C: Clock, E: Write> Progress<'a, C, E> {
 
     /// The line that tells what is done by now.
     fn line(&self, elapsed: Duration) -> Result<String, AllocError> {
-        Standing::of(self.done.load(Ordering::SeqCst), self.ranks, elapsed).line(self.alloc)
+        Headway::of(self.done.load(Ordering::SeqCst), self.ranks, elapsed).line(self.alloc)
     }
 }
 

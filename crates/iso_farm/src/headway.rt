@@ -2,7 +2,7 @@
 
 ghost use Rattle.std.specs.Prelude.{◌≡◌, ◌/◌, ◌%◌, IfOk, string_bytes};
 ghost use Rattle.std.specs.Duration.{as_nanos};
-ghost use Rattle.iso_farm.specs.Progress.{shards_of, standing_text, progress_line};
+ghost use Rattle.iso_farm.specs.Progress.{shards_of, headway_text, progress_line};
 
 use crate::cutting::SHARD_RANKS;
 use std::alloc::{AllocError, Global};
@@ -10,7 +10,7 @@ use std::time::Duration;
 
 /// How far a run is, by its shards, by its ranks and by the time that it took.
 #[derive(Clone, Copy, Debug)]
-pub(crate) struct Standing {
+pub(crate) struct Headway {
     pub(crate) shards: u64,
     pub(crate) all_shards: u64,
     pub(crate) ranks: u64,
@@ -19,14 +19,14 @@ pub(crate) struct Standing {
     pub(crate) tenth: u32,
 }
 
-impl Standing {
+impl Headway {
     /// Where a run is that has done so many ranks of so many.
-    pub(crate) fn of(ranks: u64, all_ranks: u64, elapsed: Duration) -> Standing
+    pub(crate) fn of(ranks: u64, all_ranks: u64, elapsed: Duration) -> Headway
         ensures shards { (result.shards ≡ shards_of ranks) × (result.all_shards ≡ shards_of all_ranks) }
         ensures ranks { (result.ranks ≡ ranks) × (result.all_ranks ≡ all_ranks) }
         ensures time { (result.seconds ≡ as_nanos elapsed / 1_000_000_000) × (result.tenth ≡ as_nanos elapsed % 1_000_000_000 / 100_000_000) }
     {
-        Standing {
+        Headway {
             shards: shards_in(ranks),
             all_shards: shards_in(all_ranks),
             ranks,
@@ -49,7 +49,7 @@ impl Standing {
 
     /// How many shards and ranks of how many it has.
     fn text(&self, alloc: Global) -> Result<String, AllocError>
-        ensures { IfOk result (λ text. string_bytes text ≡ standing_text self.now) }
+        ensures { IfOk result (λ text. string_bytes text ≡ headway_text self.now) }
     {
         format!(in alloc;
             "{} of {} shards, {} of {} ranks",
