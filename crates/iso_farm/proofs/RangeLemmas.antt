@@ -1,12 +1,11 @@
 -- The facts of ranges are true.
-use Rattle.std.proofs.Common.{◌≡◌, sym, subst, ◌∙◌, ℕ, Bool, true, ⊎_elim}
+use Rattle.std.proofs.Common.{sym, ◌∙◌, ℕ, Bool, ⊎_elim}
 use Rattle.std.proofs.lemmas.Bool.{or_cases}
-use Rattle.std.specs.FinSet.{union}
 use Rattle.sql_subset.specs.Spec.{Spec}
 use Rattle.quiet_steps.specs.Facts.{IsFactOf, IsTrueAt}
 use Rattle.quiet_steps.specs.declared.fact.Fact.{Fact}
 use Rattle.quiet_steps.specs.declared.fact.Fact.TheVariants.{Ran, Swap}
-use Rattle.outcome_books.specs.Entries.{FactSet, recorded}
+use Rattle.outcome_books.specs.Entries.{recorded}
 use Rattle.outcome_books.proofs.SetLemmas.{in_union}
 use Rattle.iso_farm.specs.Laws.{RangesAreTrue, JoinsStayTrue}
 

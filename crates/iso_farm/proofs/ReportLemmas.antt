@@ -1,15 +1,15 @@
 -- What is reported, value by value.
-use Rattle.std.proofs.Common.{◌≡◌, refl, sym, ap, subst, ◌∙◌, ℕ, zero, suc, ◌+◌, ◌-◌, ◌<◌, ◌≤◌, ◌++◌, List, [], ◌∷◌, length, get_or, Option, Some, None, slice_get, arith}
-use Rattle.sql_subset.specs.Spec.{Spec, SpecFile, ranks, line_of}
+use Rattle.std.proofs.Common.{◌≡◌, refl, sym, subst, ◌∙◌, ℕ, zero, suc, ◌+◌, ◌-◌, ◌<◌, ◌≤◌, ◌++◌, List, [], ◌∷◌, length, get_or, Option, Some, None, slice_get, arith}
+use Rattle.sql_subset.specs.Spec.{Spec, SpecFile, ranks}
 use Rattle.sql_subset.specs.Binding.{IsFileOf}
 use Rattle.transcripts.specs.Counted.{Wrote, Stopped}
 use Rattle.transcripts.specs.Text.{rank_text, outcome_text}
 use Rattle.transcripts.specs.declared.counted.Counted.{Counted}
 use Rattle.transcripts.proofs.Writing.{wrote-append, stopped-append, stopped-after}
-use Rattle.machine_model.specs.Outcome.{IsOutcomeOf, outcome_of_line}
+use Rattle.machine_model.specs.Outcome.{IsOutcomeOf}
 use Rattle.quiet_steps.specs.Swap.{leads_in}
 use Rattle.quiet_steps.specs.Values.{IsValue, ran, swap, AllTrue, CoverEachRank, TellTheMachine}
-use Rattle.quiet_steps.specs.declared.fact.Fact.TheVariants.{Ran, Swap}
+use Rattle.quiet_steps.specs.declared.fact.Fact.TheVariants.{Ran}
 use Rattle.quiet_steps.proofs.TrueValues.{tell-the-machine}
 use Rattle.outcome_books.specs.declared.error.ReportError.TheVariants.{Missing, Clash}
 use Rattle.outcome_books.specs.declared.error.TheConstants.{MAX_REPORTED}

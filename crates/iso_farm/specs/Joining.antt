@@ -1,5 +1,5 @@
 -- Books from files, and what the program writes for their join.
-use Rattle.std.specs.Prelude.{◌≡◌, ◌≢◌, ℕ, zero, suc, ◌<◌, ◌⊎◌, List, [], length, get_or, Option, Result, Ok, Err, IfSome, ⊤}
+use Rattle.std.specs.Prelude.{◌≡◌, ◌≢◌, ℕ, zero, suc, ◌<◌, List, [], length, get_or, Option, Result, Ok, Err, IfSome, ⊤}
 use Rattle.transcripts.specs.declared.counted.Counted.{Counted}
 use Rattle.outcome_books.specs.Books.{Contents, joined}
 use Rattle.book_files.specs.ReadingBooks.{IsReadOf}

@@ -1,7 +1,7 @@
 -- The laws of what is run, joined and reported.
-use Rattle.std.specs.Prelude.{◌≡◌, ◌≢◌, ℕ, zero, suc, ◌<◌, ◌++◌, Bool, List, [], Err}
+use Rattle.std.specs.Prelude.{◌≡◌, ℕ, zero, suc, ◌++◌, Bool, List, []}
 use Rattle.std.specs.FinSet.{union}
-use Rattle.sql_subset.specs.Spec.{Spec, SpecFile, ranks, IsBound}
+use Rattle.sql_subset.specs.Spec.{Spec, SpecFile, ranks}
 use Rattle.sql_subset.specs.Binding.{IsFileOf}
 use Rattle.quiet_steps.specs.Values.{AllTrue, CoverEachRank}
 use Rattle.outcome_books.specs.declared.error.ReportError.TheVariants.{Missing, Clash}
