@@ -54,6 +54,10 @@ def runs(text, seed, path):
     return [(["check", path], checked(text, path))] + [(["one", path, str(rank)], expected(text, rank, path)) for rank in ranks_of(text, seed)]
 
 
+# What a run tells on its way.
+PROGRESS = re.compile(rb"isofarm: (\d+) of (\d+) shards, (\d+) of (\d+) ranks, (\d+)\.(\d) seconds\n")
+
+
 def told(program, words, folder, settings):
     ran = subprocess.run([program, *words], cwd=folder, capture_output=True, check=False, env={**os.environ, **settings})
     return ran.returncode, ran.stdout, ran.stderr

@@ -11,7 +11,7 @@ import sys
 from pathlib import Path
 from tempfile import TemporaryDirectory
 
-from compare import PROGRAM, ended, told
+from compare import PROGRAM, PROGRESS, ended, told
 from generate import KINDS, Maker
 
 TOP = Path(__file__).resolve().parent.parent
@@ -24,6 +24,7 @@ BOOKS = {"low.book": "run deadlock.spec 0 9", "high.book": "run deadlock.spec 9 
 WRONG = b"session a\n\tstep s {}\n\tstep {}\n"
 OF_BOOKS = ["check deadlock.spec", "check wrong.spec", "count deadlock.spec", "run deadlock.spec 0 20", "run deadlock.spec 0 21"]
 OF_BOOKS += ["join low.book high.book", "join all.book wrong.spec", "report all.book", "report low.book", "run deadlock.spec 0 20 --workers 1"]
+OF_BOOKS += ["run deadlock.spec 0 20 --workers 1 --progress"]
 OF_BOOKS += ["audit all.book", "audit wrong.spec", "judge all.book all.book", "judge all.book low.book"]
 
 
@@ -36,15 +37,21 @@ def make_books(folder):
         Path(folder, name).write_bytes(out)
 
 
+def told_at_last(words, folder, settings):
+    """What a run tells, but for how far it is, which is left out where there is no memory for it."""
+    status, out, error = told(PROGRAM, words, folder, settings)
+    return status, out, PROGRESS.sub(b"", error)
+
+
 def others(words, folder, library):
     """How many calls there are, and the runs that tell something else."""
-    with_memory = told(PROGRAM, words, folder, {})
+    with_memory = told_at_last(words, folder, {})
     count = Path(library).with_name("count")
     told(PROGRAM, words, folder, {"LD_PRELOAD": library, "COUNT": str(count)})
     calls, found = int(count.read_text()), []
     for all_after in ({}, {"REFUSE_ALL": "1"}):
         for call in range(1, calls + 1):
-            answer = told(PROGRAM, words, folder, {"LD_PRELOAD": library, "REFUSE": str(call), **all_after})
+            answer = told_at_last(words, folder, {"LD_PRELOAD": library, "REFUSE": str(call), **all_after})
             if answer not in (with_memory, NO_MEMORY):
                 found.append((call, bool(all_after), answer))
     return calls, found

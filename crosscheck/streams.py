@@ -8,11 +8,12 @@ Each answer is written out here, or is the one of this second implementation. It
 import os
 import subprocess
 import sys
+import time
 from pathlib import Path
 from tempfile import TemporaryDirectory
 
 from books import book_text, facts_of
-from compare import PROGRAM, difference, ended, expected, told
+from compare import PROGRAM, PROGRESS, difference, ended, expected, told
 from compare_files import answer, run
 from worked import INSERT_AND_READ, LARGE, worlds_of
 
@@ -43,6 +44,7 @@ NO_COMMANDS += [f"join{' all.book' * 1001}", "report", "report all.book all.book
 NO_COMMANDS += [f"run first.spec 0 1 --workers{number}" for number in ("", " 0", " 17", " x", " -1", " 4294967297")]
 NO_COMMANDS += ["audit", "audit all.book all.book", "judge", "judge all.book", f"judge{' all.book' * 1002}"]
 WRITE_FAULT = b"isofarm: write fault\n"
+SHARD = 1_000
 
 
 def line(status, text):
@@ -96,6 +98,54 @@ def answers():
     yield ["audit", "one.book"], (0, b"true\n", b"")
 
 
+def standings(error):
+    """What lines of progress tell: shards, ranks, and tenths of a second. None where there is anything else."""
+    if PROGRESS.sub(b"", error):
+        return None
+    rows = [[int(number) for number in row] for row in PROGRESS.findall(error)]
+    return [(row[:2], row[2:4], row[4] * 10 + row[5]) for row in rows]
+
+
+def progress_fault(error, first, end, seconds):
+    """What is wrong with the lines of a run that took at most so many seconds, or nothing."""
+    rows, ranks = standings(error), end - first
+    if not rows:
+        return "other lines, or none"
+    shards = -(-ranks // SHARD)
+    if rows[-1][:2] != ([shards, shards], [ranks, ranks]):
+        return "the last line has other numbers"
+    for (done, of), (ranks_done, of_ranks), tenths in rows:
+        if (of, of_ranks) != (shards, ranks) or done != -(-ranks_done // SHARD) or tenths > seconds * 10:
+            return "a line has other numbers"
+    if rows != sorted(rows) or len(rows) - 1 > seconds * 8:
+        return "lines go back or are too many"
+    return None
+
+
+def progress_in(folder):
+    """For runs that tell how far they are: what is wrong, or nothing."""
+    for spec, first, end in [("first.spec", 0, 2), ("first.spec", 1, 1), ("large.spec", 7, 3_007), ("large.spec", U32, U32 + 60_020)]:
+        for flags in ("", "--workers 1", "--workers 16", "--every", "--every --workers 1"):
+            words = ["run", spec, str(first), str(end), *flags.split()]
+            plain = told(PROGRAM, words, folder, {})
+            begun = time.monotonic()
+            status, out, error = told(PROGRAM, [*words, "--progress"], folder, {})
+            fault = progress_fault(error, first, end, time.monotonic() - begun)
+            if (status, out, b"") != plain:
+                fault = "another book or status"
+            yield f"{' '.join(words)} --progress: {fault}" if fault else None
+    for redirections in ("2> /dev/full", "2>&-"):
+        got = told_into("run first.spec 0 2 --progress", folder, f"{redirections} > progress.book")
+        is_right = got == (0, b"") and Path(folder, "progress.book").read_bytes() == BOOK
+        yield None if is_right else f"progress {redirections}: was told {got}"
+    status, error = told_into("run first.spec 0 2 --progress", folder, "> /dev/full")
+    is_right = (status, PROGRESS.sub(b"", error, count=1)) == (5, WRITE_FAULT) and error != WRITE_FAULT
+    yield None if is_right else f"progress beside a write fault: was told {status} {error}"
+    got = told(PROGRAM, ["run", "first.spec", "0", "3", "--progress"], folder, {})
+    want = line(3, "first.spec: shard error 1")
+    yield f"progress of a refused range: {difference(want, got)}" if got != want else None
+
+
 def told_into(text, folder, redirections):
     """What words tell where a shell makes their outputs: the status, and what is left of standard error."""
     words = ["sh", "-c", f'"$@" {redirections}', "sh", PROGRAM, *text.split()]
@@ -128,6 +178,7 @@ def wrong_in(folder):
     for text, redirections, want in outputs():
         got = told_into(text, folder, redirections)
         yield f"{text} {redirections}: expected {want}, but was told {got}" if got != want else None
+    yield from progress_in(folder)
     for name, text in FILES.items():
         yield f"{name} was changed" if Path(folder, name).read_bytes() != text else None
 

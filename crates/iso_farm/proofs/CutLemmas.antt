@@ -1,13 +1,10 @@
 -- The shards of a range, one by one, and their facts.
-use Rattle.std.proofs.Common.{◌≡◌, ◌⊎◌, ⊎_elim, sym, subst, refl, ℕ, ◌+◌, ◌<◌, ◌≤◌, Bool, true, List, [], ◌∷◌, ◌++◌, length, All, arith}
+use Rattle.std.proofs.Common.{◌≡◌, ◌⊎◌, ⊎_elim, refl, ℕ, ◌<◌, ◌≤◌, Bool, true, List, [], ◌∷◌, ◌++◌, length, arith}
 use Rattle.std.proofs.lemmas.List.{length-append}
 use Rattle.std.proofs.lemmas.List.Elements.{All-push}
-use mathlib.Core.Option.{some}
-use lib.ListN.{get_elem?}
 use Rattle.atomic_table.proofs.Lists.{at_longer, at_last}
 use Rattle.sql_subset.specs.Spec.{Spec}
 use Rattle.quiet_steps.specs.Facts.{IsFactOf}
-use Rattle.quiet_steps.specs.declared.fact.Fact.{Fact}
 use Rattle.step_reducer.specs.declared.walker.Shard.{Shard}
 use Rattle.outcome_books.specs.Entries.{FactSet, recorded}
 use Rattle.outcome_books.specs.Building.{AreFactsOf}

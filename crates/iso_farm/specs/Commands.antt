@@ -1,7 +1,7 @@
 -- What the program does for what is asked.
-use Rattle.std.specs.Prelude.{◌≡◌, ℕ, ◌+◌, ◌⊎◌, ◌++◌, not, List, [], length, map, take, Option, Result, Ok, Err, IfSome, ⊤}
+use Rattle.std.specs.Prelude.{◌≡◌, ℕ, ◌+◌, ◌⊎◌, Bool, false, not, List, [], map, take, Option, Result, Ok, Err, IfSome, ⊤}
 use Rattle.std.specs.Io.KnownBytes.{Keeps}
-use Rattle.transcripts.specs.Counted.{Wrote, Stopped, written, failures_of}
+use Rattle.transcripts.specs.Counted.{Wrote, written, failures_of}
 use Rattle.transcripts.specs.declared.counted.Counted.{Counted}
 use Rattle.iso_farm.specs.declared.files.TheConstants.{MAX_SPEC_READ}
 use Rattle.iso_farm.specs.declared.fault.ProgramFault.{ProgramFault}
@@ -44,7 +44,7 @@ IsDone files contents old new (One path rank) result =
     IsUnread old new result ⊎ IsCalled (files path.now) (λ bytes. IsOneRun contents old new bytes rank) one_status result
 IsDone files contents old new (Check path) result = IsUnread old new result ⊎ IsCalled (files path.now) (IsChecked contents old new) count_status result
 IsDone files contents old new (Count path) result = IsUnread old new result ⊎ IsCalled (files path.now) (IsCounted contents old new) count_status result
-IsDone files contents old new (Run path first end every workers) result =
+IsDone files contents old new (Run path first end every workers progress) result =
     IsUnread old new result ⊎ IsCalled (files path.now) (λ bytes. IsRangeRun contents old new bytes first end (not every)) range_status result
 IsDone files contents old new (Join paths) result =
     ((paths.items ≡ []) × (new ≡ old) × (result ≡ Ok Good)) ⊎ IsTold (IsJoinRun files (map (λ p. p.now) paths.items) contents old new) join_status result
@@ -69,10 +69,22 @@ abbrev pub IsAnswered : Files → {W : Type 0} → (W → Option (List ℕ)) →
 IsAnswered files {W} contents old new asked result =
     (work : Result Finding ProgramFault) × (between : Counted W) × IsDone files contents old between asked work × IsPassedOn contents between new work result
 
--- with which status the program ends; only a fault is told, and where there is no memory for its line that is told in its place
-abbrev pub IsEnd : {E : Type 0} → Counted E → Counted E → Result Finding ProgramFault → ℕ → Type 0
-IsEnd old new (Ok finding) status = (new ≡ old) × (status ≡ finding_status finding)
-IsEnd old new (Err fault) status = (status ≡ status_of fault) ⊎ (status ≡ 4)
+-- whether it is asked to be told how far a run is
+abbrev pub tells_progress : Asked → Bool
+tells_progress (One path rank) = false
+tells_progress (Check path) = false
+tells_progress (Count path) = false
+tells_progress (Run path first end every workers progress) = progress
+tells_progress (Join paths) = false
+tells_progress (Report path) = false
+tells_progress (Audit path) = false
+tells_progress (Judge path accepted) = false
+
+-- With which status the program ends. Where nothing is to be told on the way only a fault is told; where there is no memory for its line, that is
+-- told in its place
+abbrev pub IsEnd : {E : Type 0} → Asked → Counted E → Counted E → Result Finding ProgramFault → ℕ → Type 0
+IsEnd asked old new (Ok finding) status = (tells_progress asked ≡ false → new ≡ old) × (status ≡ finding_status finding)
+IsEnd asked old new (Err fault) status = (status ≡ status_of fault) ⊎ (status ≡ 4)
 
 -- words that ask for nothing: help is written and passed on, or nothing is and the words' fault is told, or memory ran out, or a write failed
 abbrev pub IsUsage : {W : Type 0} → (W → Option (List ℕ)) → Counted W → Counted W → ℕ → Type 0
@@ -83,5 +95,5 @@ IsUsage {W} contents old new status =
 -- what the program does for its words: what they ask, or else their usage
 abbrev pub IsRun : Files → {W E : Type 0} → (W → Option (List ℕ)) → Counted W → Counted W → Counted E → Counted E → ℕ → Type 0
 IsRun files contents old new told now status =
-    ((asked : Asked) × (result : Result Finding ProgramFault) × IsAnswered files contents old new asked result × IsEnd told now result status)
+    ((asked : Asked) × (result : Result Finding ProgramFault) × IsAnswered files contents old new asked result × IsEnd asked told now result status)
     ⊎ IsUsage contents old new status

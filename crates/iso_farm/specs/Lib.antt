@@ -2,6 +2,7 @@ pub mod SpecFiles
 pub mod One
 pub mod Counting
 pub mod Ranges
+pub mod Progress
 pub mod Reporting
 pub mod Joining
 pub mod Auditing

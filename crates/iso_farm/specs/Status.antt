@@ -29,7 +29,6 @@ use Rattle.iso_farm.specs.declared.joining.FileFault.{FileFault}
 use Rattle.iso_farm.specs.declared.joining.FileFault.TheVariants as file_fault
 use Rattle.iso_farm.specs.declared.joining.JoinFault.{JoinFault}
 use Rattle.iso_farm.specs.declared.joining.JoinFault.TheVariants as join_fault
-use Rattle.iso_farm.specs.declared.reporting.ReportFault.{ReportFault}
 use Rattle.iso_farm.specs.declared.reporting.ReportFault.TheVariants as values_fault
 use Rattle.iso_farm.specs.declared.reporting.ReportFileFault.{ReportFileFault}
 use Rattle.iso_farm.specs.declared.reporting.ReportFileFault.TheVariants as report_fault

@@ -1,6 +1,6 @@
 //! What the program does for the words of a command line.
 
-ghost use Rattle.std.specs.Prelude.{◌≡◌, ◌<◌, ◌⊎◌, [], map, Ok, OnOk, IfErr};
+ghost use Rattle.std.specs.Prelude.{◌≡◌, ◌<◌, ◌⊎◌, [], map, Ok, OnOk, IfErr, false};
 ghost use Rattle.transcripts.specs.Counted.{Wrote, failures_of};
 ghost use Rattle.transcripts.specs.declared.counted.Counted.{Counted};
 ghost use Rattle.iso_farm.specs.Status.{status_of, finding_status, one_status, count_status, range_status, join_status, report_status, audit_status, judge_status};
@@ -12,7 +12,7 @@ ghost use Rattle.iso_farm.specs.Reporting.{IsFileReported};
 ghost use Rattle.iso_farm.specs.Auditing.{IsAuditRun};
 ghost use Rattle.iso_farm.specs.Judging.{IsJudgeRun};
 ghost use Rattle.iso_farm.specs.declared.finding.Finding.TheVariants.{Good};
-ghost use Rattle.iso_farm.specs.Commands.{IsAnswered, IsDone, IsCalled, IsFlushed, IsFound, IsPassedOn, IsRun, IsTold, IsUnread, IsUsage};
+ghost use Rattle.iso_farm.specs.Commands.{IsAnswered, IsDone, IsCalled, IsFlushed, IsFound, IsPassedOn, IsRun, IsTold, IsUnread, IsUsage, tells_progress};
 
 use crate::auditing::audit_file;
 use crate::counting::{CountFault, check, count};
@@ -25,9 +25,10 @@ use crate::files::{Opener, read_spec_file};
 use crate::finding::Finding;
 use crate::joining::join_files;
 use crate::judging::judge_files;
-use crate::ranges::run_range;
+use crate::ranges::run_told;
 use crate::reporting::report_file;
 use crate::single::one;
+use crate::telling::say;
 use crate::words::{Asked, parse_words};
 use crate::workers::Workers;
 use clap::Error;
@@ -36,12 +37,13 @@ use std::alloc::Global;
 use std::io::{self, Write};
 use std::sync::Wait;
 use std::thread::Threads;
+use std::time::Clock;
 use transcripts::Counted;
 
-/// Does what the words ask, the first of which is the program's name. What is asked for goes to `out`, faults go to `err`, and the answer is the
-/// exit status: 0 good, 1 where a rank has not exactly one value, a fact is false or no accepted report is equal, 2 for a fault of the
-/// command line, 3 for what is refused, 4 for want of memory, 5 for a read or write fault.
-pub fn run<R: Threads + Wait + Sync, O: Opener, W: Write, E: Write>(
+/// Does what the words ask, the first of which is the program's name. What is asked for goes to `out`; faults go to `err`, and so does how far a
+/// run is, where that is asked for. The answer is the exit status: 0 good, 1 where a rank has not exactly one value, a fact is false or no
+/// accepted report is equal, 2 for a fault of the command line, 3 for what is refused, 4 for want of memory, 5 for a read or write fault.
+pub fn run<R: Threads + Wait + Clock + Sync, O: Opener, W: Write, E: Write + Send>(
     rt: &R,
     alloc: Global,
     words: &[String],
@@ -49,48 +51,51 @@ pub fn run<R: Threads + Wait + Sync, O: Opener, W: Write, E: Write>(
     out: &mut Counted<W>,
     err: &mut Counted<E>,
 ) -> u8
-    requires out { failures_of out.old ≡ 0 }
-    requires err { failures_of err.old ≡ 0 }
+    requires { failures_of out.old ≡ 0 }
     ensures { IsRun (O.bytes opener.now) W.contents out.old out.new err.old err.new result }
 {
     let asked = match parse_words(alloc, words) {
         Ok(asked) => asked,
         Err(error) => return tell_usage(alloc, &error, out, err),
     };
-    match answer(rt, alloc, &asked, opener, out) {
+    match answer(rt, alloc, &asked, opener, out, err) {
         Ok(finding) => finding.status(),
         Err(fault) => tell_fault(alloc, &fault, err),
     }
 }
 
-/// Does what is asked. Where that is done, nothing of it is held back.
-pub fn answer<'a, R: Threads + Wait + Sync, O: Opener, W: Write>(
+/// Does what is asked. Where that is done, nothing of it is held back. Only a run that is to tell how far it is writes to `err`.
+pub fn answer<'a, R: Threads + Wait + Clock + Sync, O: Opener, W: Write, E: Write + Send>(
     rt: &R,
     alloc: Global,
     asked: &Asked<'a>,
     opener: &O,
     out: &mut Counted<W>,
+    err: &mut Counted<E>,
 ) -> Result<Finding, ProgramFault<'a>>
     requires { failures_of out.old ≡ 0 }
-    ensures { IsAnswered (O.bytes opener.now) W.contents out.old out.new asked.now result }
+    ensures answer { IsAnswered (O.bytes opener.now) W.contents out.old out.new asked.now result }
+    ensures quiet { tells_progress asked.now ≡ false → err.new ≡ err.old }
 {
-    match work(rt, alloc, asked, opener, out) {
+    match work(rt, alloc, asked, opener, out, err) {
         Ok(finding) => flushed(finding, out),
         Err(fault) => Err(fault),
     }
 }
 
 /// Writes what is asked for; some of it may be held back.
-fn work<'a, R: Threads + Wait + Sync, O: Opener, W: Write>(
+fn work<'a, R: Threads + Wait + Clock + Sync, O: Opener, W: Write, E: Write + Send>(
     rt: &R,
     alloc: Global,
     asked: &Asked<'a>,
     opener: &O,
     out: &mut Counted<W>,
+    err: &mut Counted<E>,
 ) -> Result<Finding, ProgramFault<'a>>
     requires { failures_of out.old ≡ 0 }
     ensures done { IsDone (O.bytes opener.now) W.contents out.old out.new asked.now result }
     ensures failures { OnOk result (failures_of out.new ≡ 0) }
+    ensures quiet { tells_progress asked.now ≡ false → err.new ≡ err.old }
 {
     match asked {
         Asked::One { path, rank } => one_of_file(alloc, path, *rank, opener, out),
@@ -102,7 +107,10 @@ fn work<'a, R: Threads + Wait + Sync, O: Opener, W: Write>(
             end,
             every,
             workers,
-        } => range_of_file(rt, alloc, path, *first, *end, !*every, workers, opener, out),
+            progress,
+        } => range_of_file(
+            rt, alloc, path, *first, *end, !*every, workers, *progress, opener, out, err,
+        ),
         Asked::Join { paths } => join_of_files(alloc, paths.as_slice(), opener, out),
         Asked::Report { path } => report_of_file(alloc, path, opener, out),
         Asked::Audit { path } => audit_of_file(rt, alloc, path, opener, out),
@@ -174,7 +182,7 @@ fn count_of_file<'a, O: Opener, W: Write>(
     }
 }
 
-fn range_of_file<'a, R: Threads + Wait + Sync, O: Opener, W: Write>(
+fn range_of_file<'a, R: Threads + Wait + Clock + Sync, O: Opener, W: Write, E: Write + Send>(
     rt: &R,
     alloc: Global,
     path: &'a str,
@@ -182,18 +190,21 @@ fn range_of_file<'a, R: Threads + Wait + Sync, O: Opener, W: Write>(
     end: u64,
     reduce: bool,
     workers: &Workers,
+    is_told: bool,
     opener: &O,
     out: &mut Counted<W>,
+    err: &mut Counted<E>,
 ) -> Result<Finding, ProgramFault<'a>>
     requires { failures_of out.old ≡ 0 }
     ensures done { IsUnread out.old out.new result ⊎ IsCalled (O.bytes opener.now path.now) (λ bytes. IsRangeRun W.contents out.old out.new bytes first end reduce) range_status result }
     ensures failures { OnOk result (failures_of out.new ≡ 0) }
+    ensures quiet { is_told ≡ false → err.new ≡ err.old }
 {
     let bytes = match read_spec_file(alloc, opener, path) {
         Ok(bytes) => bytes,
         Err(fault) => return Err(fault),
     };
-    match run_range(
+    match run_told(
         rt,
         alloc,
         bytes.as_slice(),
@@ -201,7 +212,9 @@ fn range_of_file<'a, R: Threads + Wait + Sync, O: Opener, W: Write>(
         end,
         reduce,
         workers,
+        is_told,
         out,
+        err,
     ) {
         Ok(()) => Ok(Finding::Good),
         Err(fault) => Err(range_fault(path, fault)),
@@ -303,12 +316,11 @@ fn flushed<'a, X: Copy, W: Write>(answer: X, out: &mut Counted<W>) -> Result<X, 
 
 /// Writes the fault's line and gives its status. Where there is no memory for the line, that is told in its place.
 fn tell_fault<E: Write>(alloc: Global, fault: &ProgramFault<'_>, err: &mut Counted<E>) -> u8
-    requires { failures_of err.old ≡ 0 }
     ensures { (result ≡ status_of fault.now) ⊎ (result ≡ 4) }
 {
     match format!(in alloc; "{fault}\n") {
         Ok(line) => {
-            let _told = err.write_str(line.as_str());
+            say(line.as_str(), err);
             fault.status()
         }
         Err(_) => tell_no_memory(err),
@@ -317,21 +329,22 @@ fn tell_fault<E: Write>(alloc: Global, fault: &ProgramFault<'_>, err: &mut Count
 
 /// Writes that memory ran out, without any, and gives the status.
 fn tell_no_memory<E: Write>(err: &mut Counted<E>) -> u8
-    requires { failures_of err.old ≡ 0 }
     ensures { result ≡ 4 }
 {
-    let _told = err.write_str("isofarm: no memory\n");
+    say("isofarm: no memory\n", err);
     4
 }
 
 /// Tells why the words of the command line, or the room to hold output back, were not had, and gives the exit status: 2 where a word
 /// is no UTF-8, 4 for want of memory.
 pub fn tell_words_fault<E: Write>(error: &io::Error, err: &mut Counted<E>) -> u8
-    requires { failures_of err.old ≡ 0 }
     ensures { (result ≡ 2) ⊎ (result ≡ 4) }
 {
     if matches!(error.kind(), io::ErrorKind::InvalidData) {
-        let _told = err.write_str("error: invalid UTF-8 was detected in one or more arguments\n");
+        say(
+            "error: invalid UTF-8 was detected in one or more arguments\n",
+            err,
+        );
         return 2;
     }
     tell_no_memory(err)
@@ -344,8 +357,7 @@ fn tell_usage<W: Write, E: Write>(
     out: &mut Counted<W>,
     err: &mut Counted<E>,
 ) -> u8
-    requires out { failures_of out.old ≡ 0 }
-    requires err { failures_of err.old ≡ 0 }
+    requires { failures_of out.old ≡ 0 }
     ensures { IsUsage W.contents out.old out.new result }
 {
     let Ok(text) = format!(in alloc; "{error}") else {
@@ -355,7 +367,7 @@ fn tell_usage<W: Write, E: Write>(
         return tell_fault(alloc, &ProgramFault::NoMemory, err);
     }
     if error.use_stderr() {
-        let _told = err.write_str(text.as_str());
+        say(text.as_str(), err);
         return 2;
     }
     match written(text.as_str(), out) {

@@ -1,23 +1,25 @@
 //! The book of a range of ranks, from the bytes of a spec to the text of the book.
 
-ghost use Rattle.std.specs.Prelude.{◌≡◌, ◌<◌, ◌≤◌, IfErr, IfOk, OnOk, MatchOption};
+ghost use Rattle.std.specs.Prelude.{◌≡◌, ◌<◌, ◌≤◌, IfErr, IfOk, OnOk, MatchOption, false};
 ghost use Rattle.step_reducer.specs.Walking.{Starts};
 ghost use Rattle.outcome_books.specs.Building.{AreFactsOf};
 ghost use Rattle.transcripts.specs.Counted.{failures_of};
 ghost use Rattle.iso_farm.specs.Ranges.{IsRangeOf, IsOutsideRange, IsNoRange, IsRangeRun, IsToldOf};
 
 use crate::cutting::shards_of;
+use crate::progress::Progress;
 use crate::spec::{SpecFault, spec_of};
 use crate::workers::Workers;
 use book_files::{WriteError, write_book};
 use outcome_books::Book;
 use session_machine::RunError;
-use shard_farm::{FarmError, OpenGate, farm_run};
+use shard_farm::{FarmError, Gate, OpenGate, farm_run};
 use sql_subset::Spec;
 use std::alloc::Global;
 use std::io::Write;
 use std::sync::Wait;
 use std::thread::Threads;
+use std::time::Clock;
 use transcripts::Counted;
 
 /// The ranks of a range, at most: as many shards of 1,000 ranks as a plan may have.
@@ -35,8 +37,8 @@ pub enum RangeFault {
 }
 
 /// Reads a spec, and writes the book of the ranks from the first up to but not the end. So many workers run them, of which each claims shards
-/// of 1,000 ranks from one supply.
-pub fn run_range<R: Threads + Wait + Sync, W: Write>(
+/// of 1,000 ranks from one supply. They call the gate round each of these.
+pub fn run_range<R: Threads + Wait + Sync, G: Gate + Sync, W: Write>(
     rt: &R,
     alloc: Global,
     bytes: &[u8],
@@ -44,6 +46,7 @@ pub fn run_range<R: Threads + Wait + Sync, W: Write>(
     end: u64,
     reduce: bool,
     workers: &Workers,
+    gate: &G,
     out: &mut Counted<W>,
 ) -> Result<(), RangeFault>
     requires { failures_of out.old < u64.MAX }
@@ -53,7 +56,7 @@ pub fn run_range<R: Threads + Wait + Sync, W: Write>(
         Ok(spec) => spec,
         Err(fault) => return Err(RangeFault::Spec(fault)),
     };
-    let book = match book_of_range(rt, alloc, &spec, first, end, reduce, workers) {
+    let book = match book_of_range(rt, alloc, &spec, first, end, reduce, workers, gate) {
         Ok(book) => book,
         Err(error) => return Err(RangeFault::Run(error)),
     };
@@ -63,8 +66,38 @@ pub fn run_range<R: Threads + Wait + Sync, W: Write>(
     }
 }
 
+/// Does as `run_range`, and tells how far it is where that is wanted.
+pub(crate) fn run_told<R: Threads + Wait + Clock + Sync, W: Write, E: Write + Send>(
+    rt: &R,
+    alloc: Global,
+    bytes: &[u8],
+    first: u64,
+    end: u64,
+    reduce: bool,
+    workers: &Workers,
+    is_told: bool,
+    out: &mut Counted<W>,
+    err: &mut Counted<E>,
+) -> Result<(), RangeFault>
+    requires { failures_of out.old < u64.MAX }
+    ensures run { IsRangeRun W.contents out.old out.new bytes.now first end reduce result }
+    ensures quiet { is_told ≡ false → err.new ≡ err.old }
+{
+    if !is_told {
+        return run_range(
+            rt, alloc, bytes, first, end, reduce, workers, &OpenGate, out,
+        );
+    }
+    let progress = Progress::new(rt, alloc, end.saturating_sub(first), err);
+    let result = run_range(
+        rt, alloc, bytes, first, end, reduce, workers, &progress, out,
+    );
+    progress.close(result.is_ok());
+    result
+}
+
 /// The facts of the ranks from the first up to but not the end: when reducing the least swap where the rank has one, and else the outcome.
-pub fn book_of_range<R: Threads + Wait + Sync>(
+pub fn book_of_range<R: Threads + Wait + Sync, G: Gate + Sync>(
     rt: &R,
     alloc: Global,
     spec: &Spec,
@@ -72,6 +105,7 @@ pub fn book_of_range<R: Threads + Wait + Sync>(
     end: u64,
     reduce: bool,
     workers: &Workers,
+    gate: &G,
 ) -> Result<Book, RunError>
     ensures refused { IfErr result (IsNoRange spec.now.run first end) }
     ensures lawful { OnOk result (IsRangeOf spec.now.run first end) }
@@ -90,7 +124,7 @@ pub fn book_of_range<R: Threads + Wait + Sync>(
         shards.as_slice(),
         reduce,
         workers.number(),
-        &OpenGate,
+        gate,
     ) {
         Ok(book) => Ok(book),
         Err(error) => Err(not_run(error)),

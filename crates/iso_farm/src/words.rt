@@ -27,13 +27,14 @@ pub enum Asked<'a> {
     Count {
         path: &'a str,
     },
-    /// The book of the ranks from the first up to but not the end.
+    /// The book of the ranks from the first up to but not the end, and whether it is told how far that is.
     Run {
         path: &'a str,
         first: u64,
         end: u64,
         every: bool,
         workers: Workers,
+        progress: bool,
     },
     /// The join of the books at some paths.
     Join {
@@ -115,6 +116,10 @@ fn run_command<'a>(alloc: Global) -> Result<Command<'a>, AllocError> {
         .value_parser(value_parser!(u8).range(1..=16))
         .default_value("4")
         .help("How many workers run it, from 1 to 16");
+    let progress = Arg::new(alloc, "progress")
+        .long("progress")
+        .action(ArgAction::SetTrue)
+        .help("Tells on standard error how far it is");
     Command::new(alloc, "run")
         .about("Runs a range of permutations and prints the book of what they show")
         .arg(spec_word(alloc))?
@@ -125,7 +130,8 @@ fn run_command<'a>(alloc: Global) -> Result<Command<'a>, AllocError> {
             "The number behind that of the last permutation",
         ))?
         .arg(every)?
-        .arg(workers)
+        .arg(workers)?
+        .arg(progress)
 }
 
 fn join_command<'a>(alloc: Global) -> Result<Command<'a>, AllocError> {
@@ -240,6 +246,7 @@ fn run_of_words<'a>(words: &ArgMatches<'a>) -> Option<Asked<'a>> {
         end,
         every: words.get_flag("every"),
         workers,
+        progress: words.get_flag("progress"),
     })
 }
 

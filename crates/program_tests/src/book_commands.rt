@@ -10,6 +10,7 @@ use std::process::Abort;
 use std::sync::Wait;
 use std::test::Fail;
 use std::thread::Threads;
+use std::time::Clock;
 
 /// Files: a path and a text. `RANGES` and `EVERY` tell which books are those of ranges; some are in format 1, some are not true, and some are
 /// no books.
@@ -90,7 +91,7 @@ impl<'a> Opener for Shelf<'a> {
 
 /// What a line of words tells over the files.
 fn tell_of_files(
-    rt: &(impl Threads + Wait + Sync),
+    rt: &(impl Threads + Wait + Clock + Sync),
     alloc: Global,
     line: &str,
 ) -> Result<Told, AllocError> {
@@ -100,7 +101,7 @@ fn tell_of_files(
 
 /// A row of a table: the line writes what stands behind it, and a line feed.
 fn assert_counted(
-    rt: &(impl Abort + Threads + Wait + Sync),
+    rt: &(impl Abort + Threads + Wait + Clock + Sync),
     alloc: Global,
     row: &str,
 ) -> Result<(), Fail> {
@@ -130,7 +131,7 @@ fn ranks_are_counted(rt: HostRuntime) -> Result<(), Fail> {
 
 /// A row of a table: the line writes the text of the file that stands behind it, and a line feed.
 fn assert_written(
-    rt: &(impl Abort + Threads + Wait + Sync),
+    rt: &(impl Abort + Threads + Wait + Clock + Sync),
     alloc: Global,
     row: &str,
 ) -> Result<(), Fail> {
@@ -143,7 +144,7 @@ fn assert_written(
 }
 
 fn assert_each_written(
-    rt: &(impl Abort + Threads + Wait + Sync),
+    rt: &(impl Abort + Threads + Wait + Clock + Sync),
     alloc: Global,
     rows: &str,
 ) -> Result<(), Fail> {
@@ -278,7 +279,7 @@ fn refused_of(row: &str) -> Option<Refused<'_>> {
 
 /// A row of a table: the line is refused, and nothing is written.
 fn assert_refused(
-    rt: &(impl Abort + Threads + Wait + Sync),
+    rt: &(impl Abort + Threads + Wait + Clock + Sync),
     alloc: Global,
     row: &str,
 ) -> Result<(), Fail> {
@@ -291,7 +292,7 @@ fn assert_refused(
 }
 
 fn assert_each_refused(
-    rt: &(impl Abort + Threads + Wait + Sync),
+    rt: &(impl Abort + Threads + Wait + Clock + Sync),
     alloc: Global,
     rows: &str,
 ) -> Result<(), Fail> {
@@ -493,7 +494,7 @@ fn text_of_ranks(alloc: Global, ranks: u64, told: &str) -> Option<String> {
 }
 
 fn assert_reported(
-    rt: &(impl Abort + Threads + Wait + Sync),
+    rt: &(impl Abort + Threads + Wait + Clock + Sync),
     alloc: Global,
     row: &str,
 ) -> Result<(), Fail> {
@@ -541,7 +542,7 @@ lines.spec | lines.book | 1";
 
 /// Adds what a rank tells where it is run alone. None where memory ran out.
 fn push_alone(
-    rt: &(impl Threads + Wait + Sync),
+    rt: &(impl Threads + Wait + Clock + Sync),
     alloc: Global,
     text: &mut Vec<u8>,
     spec: &str,
@@ -554,7 +555,7 @@ fn push_alone(
 
 /// What all ranks tell, each run alone. None where memory ran out.
 fn each_alone(
-    rt: &(impl Threads + Wait + Sync),
+    rt: &(impl Threads + Wait + Clock + Sync),
     alloc: Global,
     spec: &str,
     ranks: u64,
@@ -567,7 +568,7 @@ fn each_alone(
 }
 
 fn assert_reported_alone(
-    rt: &(impl Abort + Threads + Wait + Sync),
+    rt: &(impl Abort + Threads + Wait + Clock + Sync),
     alloc: Global,
     row: &str,
 ) -> Result<(), Fail> {
@@ -592,7 +593,7 @@ fn a_report_is_what_each_rank_tells_alone(rt: HostRuntime) -> Result<(), Fail> {
 
 /// A line that writes a text, or that is refused memory and has written a front of it.
 fn assert_front_of(
-    rt: &(impl Abort + Threads + Wait + Sync),
+    rt: &(impl Abort + Threads + Wait + Clock + Sync),
     alloc: Global,
     line: &str,
     text: &str,

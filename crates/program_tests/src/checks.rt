@@ -5,10 +5,11 @@ use std::process::Abort;
 use std::sync::Wait;
 use std::test::Fail;
 use std::thread::Threads;
+use std::time::Clock;
 
 /// Asserts what a check tells of a text that it refuses.
 fn assert_explained(
-    rt: &(impl Abort + Threads + Wait + Sync),
+    rt: &(impl Abort + Threads + Wait + Clock + Sync),
     alloc: Global,
     text: &[u8],
     want: &str,
@@ -25,7 +26,7 @@ fn assert_explained(
 
 /// Asserts what a check tells of a spec.
 fn assert_counts(
-    rt: &(impl Abort + Threads + Wait + Sync),
+    rt: &(impl Abort + Threads + Wait + Clock + Sync),
     alloc: Global,
     text: &str,
     want: &str,

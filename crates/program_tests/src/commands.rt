@@ -7,6 +7,7 @@ use std::process::Abort;
 use std::sync::Wait;
 use std::test::Fail;
 use std::thread::Threads;
+use std::time::Clock;
 use transcripts::Counted;
 
 pub const FIRST: &str =
@@ -44,7 +45,7 @@ impl Write for FullDevice {
 
 /// Asserts what a rank of a spec tells.
 fn assert_rank(
-    rt: &(impl Abort + Threads + Wait + Sync),
+    rt: &(impl Abort + Threads + Wait + Clock + Sync),
     alloc: Global,
     text: &str,
     line: &str,
@@ -89,7 +90,7 @@ fn one_prints_the_rank_and_its_outcome(rt: HostRuntime) -> Result<(), Fail> {
 
 /// Asserts that the first rank of a text is refused by a line.
 fn assert_refused(
-    rt: &(impl Abort + Threads + Wait + Sync),
+    rt: &(impl Abort + Threads + Wait + Clock + Sync),
     alloc: Global,
     line: &str,
     text: &[u8],
@@ -180,7 +181,7 @@ fn a_file_that_is_not_read_is_a_read_fault(rt: HostRuntime) -> Result<(), Fail> 
 }
 
 pub fn assert_write_fault<O: Opener, W: Write + Drop>(
-    rt: &(impl Abort + Threads + Wait + Sync),
+    rt: &(impl Abort + Threads + Wait + Clock + Sync),
     alloc: Global,
     line: &str,
     disk: &O,
@@ -213,7 +214,7 @@ fn an_output_that_fails_is_a_write_fault(rt: HostRuntime) -> Result<(), Fail> {
 
 /// The words that a line has are no command, and that is told.
 pub fn assert_no_command(
-    rt: &(impl Abort + Threads + Wait + Sync),
+    rt: &(impl Abort + Threads + Wait + Clock + Sync),
     alloc: Global,
     line: &str,
 ) -> Result<(), AllocError> {
@@ -241,7 +242,7 @@ fn words_that_ask_for_nothing_end_with_two(rt: HostRuntime) -> Result<(), Fail> 
 }
 
 fn assert_help(
-    rt: &(impl Abort + Threads + Wait + Sync),
+    rt: &(impl Abort + Threads + Wait + Clock + Sync),
     alloc: Global,
     line: &str,
 ) -> Result<(), Fail> {

@@ -5,6 +5,7 @@ use std::io::{self, Read};
 use std::process::Abort;
 use std::sync::Wait;
 use std::thread::Threads;
+use std::time::Clock;
 use transcripts::Counted;
 
 // Gives a byte a call, up to a call that fails, if one does.
@@ -80,7 +81,7 @@ pub struct Told {
 
 /// What the words tell over a disk.
 pub fn told_by<O: Opener>(
-    rt: &(impl Threads + Wait + Sync),
+    rt: &(impl Threads + Wait + Clock + Sync),
     alloc: Global,
     words: &[String],
     disk: &O,
@@ -93,7 +94,7 @@ pub fn told_by<O: Opener>(
 }
 
 pub fn tell(
-    rt: &(impl Threads + Wait + Sync),
+    rt: &(impl Threads + Wait + Clock + Sync),
     alloc: Global,
     line: &str,
     disk: &Disk<'_>,
@@ -119,7 +120,7 @@ pub fn assert_told(rt: &impl Abort, told: &Told, want: (u8, &str, &str), name: &
 
 /// Asserts the status, and what is written to the two outputs, of a line of words over a disk.
 pub fn assert_tells(
-    rt: &(impl Abort + Threads + Wait + Sync),
+    rt: &(impl Abort + Threads + Wait + Clock + Sync),
     alloc: Global,
     line: &str,
     disk: &Disk<'_>,

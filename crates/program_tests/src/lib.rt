@@ -18,6 +18,8 @@ mod headlines;
 #[cfg(test)]
 mod memory;
 #[cfg(test)]
+mod progress;
+#[cfg(test)]
 mod runs;
 #[cfg(test)]
 mod statements;

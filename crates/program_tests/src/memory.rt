@@ -10,6 +10,7 @@ use std::process::Abort;
 use std::sync::Wait;
 use std::test::Fail;
 use std::thread::Threads;
+use std::time::Clock;
 
 const NO_MEMORY: BindError = BindError {
     kind: BindErrorKind::NoMemory,
@@ -71,7 +72,11 @@ fn a_step_is_refused_as_ever_unless_memory_runs_out(rt: HostRuntime) -> Result<(
 }
 
 /// What a run tells. None where memory ran out before.
-fn told_of(rt: &(impl Threads + Wait + Sync), alloc: Global, run: &Run<'_>) -> Option<Told> {
+fn told_of(
+    rt: &(impl Threads + Wait + Clock + Sync),
+    alloc: Global,
+    run: &Run<'_>,
+) -> Option<Told> {
     let text = spec_of(alloc, run.spec).ok()?;
     let line = format!(in alloc; "isofarm one first.spec {}", run.rank).ok()?;
     tell(rt, alloc, &line, &holding(text.as_bytes())).ok()
@@ -94,7 +99,7 @@ pub fn assert_front(rt: &impl Abort, told: &Told, want: &str, name: &str) {
     }
 }
 
-fn assert_run(rt: &(impl Abort + Threads + Wait + Sync), alloc: Global, run: &Run<'_>) {
+fn assert_run(rt: &(impl Abort + Threads + Wait + Clock + Sync), alloc: Global, run: &Run<'_>) {
     if let (Some(told), Ok(want)) = (told_of(rt, alloc, run), lines_of(alloc, run.rank, run.told)) {
         assert_front(rt, &told, &want, run.name);
     }

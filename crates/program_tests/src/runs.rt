@@ -6,6 +6,7 @@ use std::process::Abort;
 use std::sync::Wait;
 use std::test::Fail;
 use std::thread::Threads;
+use std::time::Clock;
 
 /// Runs: a name, a rank, a spec, and what the sessions are told, with a slash between two lines.
 pub const RUNS: &str =
@@ -125,7 +126,7 @@ pub fn lines_of(alloc: Global, rank: &str, told: &str) -> Result<String, AllocEr
 
 /// A run tells its sessions what stands behind its spec.
 fn assert_run(
-    rt: &(impl Abort + Threads + Wait + Sync),
+    rt: &(impl Abort + Threads + Wait + Clock + Sync),
     alloc: Global,
     run: &Run<'_>,
 ) -> Result<(), AllocError> {
@@ -139,7 +140,7 @@ fn assert_run(
 }
 
 fn assert_told(
-    rt: &(impl Abort + Threads + Wait + Sync),
+    rt: &(impl Abort + Threads + Wait + Clock + Sync),
     alloc: Global,
     rows: &str,
 ) -> Result<(), Fail> {
@@ -171,7 +172,7 @@ fn who_closes_a_ring_is_its_victim(rt: HostRuntime) -> Result<(), Fail> {
 }
 
 fn assert_refused(
-    rt: &(impl Abort + Threads + Wait + Sync),
+    rt: &(impl Abort + Threads + Wait + Clock + Sync),
     alloc: Global,
     spec: &str,
     want: &str,

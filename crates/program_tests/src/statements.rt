@@ -11,6 +11,7 @@ use std::process::Abort;
 use std::sync::Wait;
 use std::test::Fail;
 use std::thread::Threads;
+use std::time::Clock;
 
 /// A table with a key and one without.
 pub const TWO_TABLES: &str =
@@ -89,7 +90,7 @@ pub fn refusal_of(row: &str) -> Option<Refusal<'_>> {
 
 /// The SQL between the front and the end of a file is refused with its kind, at its place in the file.
 fn assert_refused(
-    rt: &(impl Abort + Threads + Wait + Sync),
+    rt: &(impl Abort + Threads + Wait + Clock + Sync),
     alloc: Global,
     row: &str,
     front: &str,
@@ -111,7 +112,7 @@ fn assert_refused(
 }
 
 fn assert_all_refused(
-    rt: &(impl Abort + Threads + Wait + Sync),
+    rt: &(impl Abort + Threads + Wait + Clock + Sync),
     alloc: Global,
     rows: &str,
     front: &str,
@@ -312,7 +313,7 @@ fn spec_of_shape(
 }
 
 fn assert_shape(
-    rt: &(impl Abort + Threads + Wait + Sync),
+    rt: &(impl Abort + Threads + Wait + Clock + Sync),
     alloc: Global,
     text: &str,
     is_shape: bool,

@@ -6,6 +6,7 @@ use std::process::Abort;
 use std::sync::Wait;
 use std::test::Fail;
 use std::thread::Threads;
+use std::time::Clock;
 
 /// More bytes than any answer has.
 const ALL: usize = 1_000;
@@ -39,7 +40,7 @@ fn lines_of(alloc: Global, told: &str) -> Result<String, AllocError> {
 }
 
 /// A row of a table: what the line tells is found, and stands on standard output.
-fn assert_found<R: Abort + Threads + Wait + Sync>(
+fn assert_found<R: Abort + Threads + Wait + Clock + Sync>(
     rt: &R,
     alloc: Global,
     row: &str,
@@ -101,7 +102,7 @@ fn a_verdict_tells_the_first_equal_report_or_where_each_differs(
 }
 
 /// A row of a table: the line is refused, and nothing is written.
-fn assert_refused<R: Abort + Threads + Wait + Sync>(
+fn assert_refused<R: Abort + Threads + Wait + Clock + Sync>(
     rt: &R,
     alloc: Global,
     row: &str,
@@ -149,7 +150,7 @@ fn line_of_accepted(alloc: Global, books: usize) -> Result<String, AllocError> {
 }
 
 /// Words that are no command.
-fn assert_no_command<R: Abort + Threads + Wait + Sync>(
+fn assert_no_command<R: Abort + Threads + Wait + Clock + Sync>(
     rt: &R,
     alloc: Global,
     line: &str,
@@ -182,7 +183,7 @@ fn a_thousand_and_one_accepted_books_are_a_fault_of_the_line(rt: HostRuntime) ->
 }
 
 /// An output that takes so many bytes has a front of the text, and a write fault is told where that is not all.
-fn assert_stopped<R: Abort + Threads + Wait + Sync>(
+fn assert_stopped<R: Abort + Threads + Wait + Clock + Sync>(
     rt: &R,
     alloc: Global,
     line: &str,

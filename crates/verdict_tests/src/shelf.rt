@@ -5,6 +5,7 @@ use std::io::{self, Read, Write};
 use std::process::Abort;
 use std::sync::Wait;
 use std::thread::Threads;
+use std::time::Clock;
 use transcripts::Counted;
 
 /// Files: a path and a text. `other` differs from `first` in session b at rank 0; `swap` has a false swap at rank 1; `short` is of a spec with
@@ -114,7 +115,7 @@ pub struct Told {
 }
 
 /// What the words tell over the files, where the output takes so many bytes.
-fn told_by<R: Threads + Wait + Sync>(
+fn told_by<R: Threads + Wait + Clock + Sync>(
     rt: &R,
     alloc: Global,
     words: &[String],
@@ -131,7 +132,7 @@ fn told_by<R: Threads + Wait + Sync>(
 }
 
 /// What a line of words tells over the files, where the output takes so many bytes.
-pub fn tell<R: Threads + Wait + Sync>(
+pub fn tell<R: Threads + Wait + Clock + Sync>(
     rt: &R,
     alloc: Global,
     line: &str,

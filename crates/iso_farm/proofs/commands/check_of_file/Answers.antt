@@ -1,4 +1,4 @@
-use Rattle.std.proofs.Common.{◌≡◌, refl, sym, ap, subst, inr, Ok, Err}
+use Rattle.std.proofs.Common.{refl, sym, ap, subst, inr, Ok, Err}
 use Rattle.iso_farm.specs.Status.{count_status}
 use Rattle.iso_farm.specs.Counting.{IsChecked}
 use Rattle.iso_farm.proofs.commands.check_of_file.Goals as goal

@@ -1,4 +1,4 @@
-use Rattle.std.proofs.Common.{◌≡◌, ◌<◌, ◌+◌, sym, subst, length, map, arith, Bor, List, ℕ}
+use Rattle.std.proofs.Common.{◌≡◌, ◌<◌, subst, length, map, arith, Bor, List, ℕ}
 use Rattle.std.proofs.lemmas.List.{length-map}
 use Rattle.iso_farm.specs.Joining.{IsJoinOf}
 use Rattle.iso_farm.proofs.JoinLemmas.{joined-next, refused-by}

@@ -1,4 +1,4 @@
-use Rattle.std.proofs.Common.{◌≡◌, refl, sym, ap, subst, Ok, Err, Bor, List, ℕ}
+use Rattle.std.proofs.Common.{refl, sym, ap, subst, Ok, Err, Bor, List, ℕ}
 use Rattle.std.proofs.lemmas.List.{get_or-map}
 use Rattle.iso_farm.specs.Joining.{IsFileBook}
 use Rattle.iso_farm.proofs.joining.with_next.Goals as goal

@@ -1,4 +1,4 @@
-use Rattle.std.proofs.Common.{◌≡◌, ◌+◌, ◌<◌, sym, subst, length, map, take, arith, All, Ok, Bor, List, [], get_or, ℕ}
+use Rattle.std.proofs.Common.{◌+◌, ◌<◌, sym, subst, length, map, take, arith, All, Ok, Bor, List, [], get_or, ℕ}
 use Rattle.std.proofs.lemmas.List.{get_or-map, length-map}
 use Rattle.std.proofs.lemmas.List.Elements.{All-push}
 use Rattle.accepted_outputs.specs.Judging.{HasFewSessions}
