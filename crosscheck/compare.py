@@ -1,6 +1,8 @@
 """Compares what `isofarm one` and `isofarm check` tell with what this second implementation tells, on specs made from seeds.
 
 usage: python3 crosscheck/compare.py KIND FIRST_SEED SEEDS
+
+The program is the built one, or the one whose path stands in the variable ISOFARM.
 """
 
 import os
@@ -20,7 +22,8 @@ from machine import outcome, outcome_text
 from refusal import Refusal
 from spec_file import read_spec
 
-PROGRAM = Path(__file__).resolve().parent.parent / "crates/isofarm/out/isofarm"
+BUILT = Path(__file__).resolve().parent.parent / "crates/isofarm/out/isofarm"
+PROGRAM = Path(os.environ.get("ISOFARM", BUILT)).resolve()
 RANKS_A_SPEC = 4
 LINES_TOLD = 5
 WORDS = ["waiting", "resumed", "not sent", "error: deadlock", "error: duplicate key", "error: integer out of range"]
@@ -86,28 +89,41 @@ def difference(want, got):
     return f"{expected}\n  but was told {told_status} {told_error} {lines[1]}"
 
 
-def compare(program, runs_of, kind_of_output, kind, first, seeds):
-    """Runs a program on the specs of the seeds, prints where it tells something else, and counts what was expected of it.
+class Comparison:
+    """Runs of a program: prints where it tells something else than is expected, and counts what is expected of it."""
 
-    The runs of a text are their words with what each tells. The exit status is given."""
-    counts, number, differences = Counter(), 0, 0
+    def __init__(self, program, folder, kind_of_output):
+        self.program, self.folder, self.kind_of_output = program, folder, kind_of_output
+        self.counts, self.runs, self.differences = Counter(), 0, 0
+
+    def look(self, name, words, want):
+        got = told(self.program, words, self.folder, {})
+        got = without_sentence(got) if words[0] == "check" else got
+        _status, out, error = want
+        self.counts.update([fault_of(error)] if error else self.kind_of_output(out))
+        self.runs += 1
+        if want != got:
+            self.differences += 1
+            print(f"{name}, {' '.join(words)}: {difference(want, got)}", flush=True)
+
+    def end(self, first=""):
+        """Prints the counts. The exit status is given."""
+        print(f"{first}{self.runs} runs, {self.differences} differences; in what was expected:")
+        for word, count in self.counts.most_common():
+            print(f"  {count:6} {word}")
+        return 1 if self.differences else 0
+
+
+def compare(program, runs_of, kind_of_output, kind, first, seeds):
+    """Compares a program on the specs of the seeds. The runs of a text are their words with what each tells. The exit status is given."""
     with TemporaryDirectory() as folder:
+        comparison = Comparison(program, folder, kind_of_output)
         for seed in range(first, first + seeds):
             text = KINDS[kind](Maker(seed))
             Path(folder, "made.spec").write_bytes(text)
             for words, want in runs_of(text, seed, "made.spec"):
-                got = told(program, words, folder, {})
-                got = without_sentence(got) if words[0] == "check" else got
-                number += 1
-                status, out, error = want
-                counts.update([fault_of(error)] if error else kind_of_output(out))
-                if want != got:
-                    differences += 1
-                    print(f"seed {seed}, {' '.join(words)}: {difference(want, got)}")
-    print(f"{number} runs, {differences} differences; in what was expected:")
-    for word, count in counts.most_common():
-        print(f"  {count:6} {word}")
-    return 1 if differences else 0
+                comparison.look(f"seed {seed}", words, want)
+    return comparison.end()
 
 
 def usage(text):

@@ -13,16 +13,15 @@ from pathlib import Path
 from random import Random
 from tempfile import TemporaryDirectory
 
-from binding import bind
 from book_file import NoBook, read_book, text_in_format_1
-from books import book_text, compact, facts_of, false_rank, first_difference, leads_to, report, report_text
+from books import book_text, facts_of, false_rank, first_difference, report, report_text
 from compare import PROGRAM, WORDS, compare, ended, usage
 from compare_books import MOST_RANKS, cut
 from damage import DAMAGES, spelled
 from facts import Worlds
 from generate import KINDS
 from refusal import Refusal
-from spec_file import read_spec
+from untrue import false_fact, outcomes_of, spec_of
 from worked import EMPTY_BOOK, LARGE
 
 MOST_A_RUN = 4_096_000
@@ -59,10 +58,6 @@ def understood(function, text, path):
         return function(text)
     except Refusal as refusal:
         raise Fault(3, b"", refusal.line(path)) from None
-
-
-def spec_of(text):
-    return bind(read_spec(text))
 
 
 @lru_cache(maxsize=2)
@@ -178,33 +173,6 @@ def shards_of(random, number, most):
     return [(base + first, base + end, how) for first, end, how in shards]
 
 
-def any_event(random, spec, session):
-    """An event that a transcript of the session may have by its form."""
-    step = random.choice([step for step, (owner, _statements) in enumerate(spec.steps) if owner == session])
-    values = [0, -1, 2**63 - 1, -(2**63), "", "it's", "a|b\n", '"\\/\t\x01\x7f', "é\u2028\U0001f600"]
-    row = random.sample(values, random.randrange(4))
-    counts = [[word, random.choice([0, 1, U64 - 1])] for word in ("rows", "inserted", "updated", "deleted")]
-    plain = ["began", "committed", "rolledback", "locked", "set", "waiting", "resumed", "done"]
-    numbered = [["warned", random.randint(1, 2)], ["failed", random.randint(1, 4)], ["sent", step], ["notsent", step]]
-    return random.choice([*plain, *counts, *numbered, ["row", row], ["row", row]])
-
-
-def any_outcome(random, spec):
-    sessions = range(len(spec.session_names))
-    return [[any_event(random, spec, session) for _ in range(random.randrange(5))] for session in sessions]
-
-
-def false_fact(random, spec, outcomes):
-    """A fact that a reader takes, of a rank at the front or anywhere: an outcome of any rank or of none, or a swap of any steps."""
-    rank = random.choice([0, min(1, spec.ranks() - 1), random.randrange(spec.ranks())])
-    places = [place for place in range(len(spec.steps)) if leads_to(spec, rank, place) is not None]
-    if places and random.random() < 0.5:
-        return rank, "swap", random.choice(places)
-    if outcomes and random.random() < 0.5:
-        return rank, "ran", random.choice(outcomes)
-    return rank, "ran", compact(any_outcome(random, spec)).encode()
-
-
 def some_of(random, facts, most):
     """Facts of a few ranks, which are neighbours or not."""
     ranks = sorted({rank for rank, _word, _value in facts})
@@ -242,8 +210,7 @@ def of_books(random, folder, text, parts):
 
 def of_false_books(random, folder, text, facts):
     """Books with facts that are not true, beside those that are or alone."""
-    outcomes = sorted({value for _rank, word, value in facts if word == "ran"})
-    others = {false_fact(random, spec_of(text), outcomes) for _ in range(random.randrange(4))}
+    others = {false_fact(random, spec_of(text), outcomes_of(facts)) for _ in range(random.randrange(4))}
     false = put(folder, "false", file_text(random, text, random.choice([facts | others, others])))
     true = put(folder, "true", file_text(random, text, facts))
     yield reporting(false)

@@ -6,7 +6,9 @@ a book: that is for a reader to say.
 
 import re
 
-from books import compact
+from binding import bind
+from books import compact, leads_to
+from spec_file import read_spec
 
 BLANKS = ["", "", "", " ", "\n", "\t", "\r\n "]
 NUMBERS = [0, 1, 2, 3, 5, 255, 256, 15_000_001, 30_000_000, 30_000_001]
@@ -81,6 +83,12 @@ def cut_off(random, book):
     return text[: random.choice([0, 1, len(text) - 2, len(text) - 1, random.randrange(len(text))])]
 
 
+def cut_out(random, book):
+    text = text_of(book)
+    start, end = sorted(random.randrange(len(text)) for _ in range(2))
+    return text[:start] + text[random.choice([start + 1, end]) :]
+
+
 def grown(random, book):
     text = text_of(book)
     return text + random.choice([b"\n\n", b" ", b"\x00", b"\x0b", b"}", b",", b"null", text])
@@ -136,6 +144,14 @@ def with_a_hidden_member(random, book):
     """A member before another one of its name, which hides it: it has to be JSON all the same."""
     value = random.choice([random.choice(TOKENS), '"\\ud800"', '[{"\\udc00":0}]'])
     return f'{{"{random.choice(sorted(book))}":{value},'.encode() + text_of(book)[1:]
+
+
+def with_a_later_member(random, book):
+    """A member behind another one of its name: the later one counts, and it may still be a book."""
+    name = random.choice(sorted(book))
+    lawful = {"facts": book["facts"][1:], "format": 3 - book["format"], "outcomes": [], "spec": f"\n{book['spec']}"}[name]
+    value = random.choice([lawful, lawful, book[name], random.choice(VALUES)])
+    return text_of(book)[:-2] + f',"{name}":{compact(value)}}}\n'.encode()
 
 
 # ---- other facts
@@ -232,7 +248,42 @@ def with_a_hostile_run(random, book):
     return text_of(book | {"facts": facts[:place] + [run] + facts[place + random.randint(0, 1) :]})
 
 
-DAMAGES = [with_other_bytes, with_a_flipped_bit, cut_off, grown, in_another_encoding, too_deep, with_other_tokens]
-DAMAGES += [of_another_format, of_another_spec, with_other_members, with_a_hidden_member]
+def in_order(facts):
+    """Facts by their ranks, those that ran first, and then by what they name."""
+    named = lambda value: value if isinstance(value, int) else compact(value).encode()
+    return sorted(facts, key=lambda fact: (fact[0], fact[-2], named(fact[-1])))
+
+
+def with_a_swap_that_leads_nowhere(random, book):
+    """A swap in its place among the facts, of letters that do not fall or that are not there."""
+    spec = bind(read_spec(book["spec"].encode()))
+    rank = random.choice([0, spec.ranks() - 1, random.randrange(spec.ranks())])
+    places = [place for place in (*range(30), 254, 255) if leads_to(spec, rank, place) is None]
+    swap = [rank, "swap", random.choice(places)] if book["format"] == 1 else [rank, 1, "swap", random.choice(places)]
+    return text_of(book | {"facts": in_order([*book["facts"], swap])})
+
+
+def of_other_sessions(random, outcome):
+    """An outcome whose sessions are exchanged, or one of them lost or twice, one that is not there, or steps that are none of its own."""
+    steps = [event for events in outcome for event in events if event[0] in ("sent", "notsent")]
+    place = random.randrange(len(outcome))
+    told = [*outcome[place], *random.sample(steps, min(len(steps), 1))]
+    return random.choice([reordered(random, outcome), [*outcome, []], outcome[:place] + [told] + outcome[place + 1 :]])
+
+
+def with_an_outcome_of_other_sessions(random, book):
+    outcomes = book["outcomes"] if book["format"] == 2 else [fact[2] for fact in book["facts"] if fact[1] == "ran"]
+    if not outcomes:
+        return with_another_number(random, book)
+    outcome = random.choice(outcomes)
+    other = of_other_sessions(random, outcome)
+    if book["format"] == 2:
+        return text_of(book | {"outcomes": [other if one is outcome else one for one in outcomes]})
+    return text_of(book | {"facts": [[other if value is outcome else value for value in fact] for fact in book["facts"]]})
+
+
+DAMAGES = [with_other_bytes, with_a_flipped_bit, cut_off, cut_out, grown, in_another_encoding, too_deep, with_other_tokens]
+DAMAGES += [of_another_format, of_another_spec, with_other_members, with_a_hidden_member, with_a_later_member]
+DAMAGES += [with_a_swap_that_leads_nowhere, with_an_outcome_of_other_sessions]
 DAMAGES += [with_a_changed_fact, with_a_changed_outcome, with_another_number, with_facts_in_another_order]
 DAMAGES += [with_outcomes_in_another_order, with_cut_runs, with_a_longer_run, with_a_hostile_run]

@@ -25,6 +25,9 @@ BEGINS = [
 COMMITS = ["COMMIT", "END", "COMMIT WORK", "commit transaction"]
 ROLLBACKS = ["ROLLBACK", "ABORT", "rollback work"]
 SETTINGS = ["SET x = 1", "SET LOCAL a TO b", "SET SESSION a = 'q'", "SET local = 1", "SET LOCAL TO TO x"]
+# How many steps a session may have, by the number of sessions.
+MANY_STEPS = {2: [3, 4, 5], 3: [3, 3, 4], 4: [2, 3]}
+FEW_STEPS = {2: [2, 3, 4], 3: [1, 2, 2], 4: [1]}
 SESSION_NAMES = ["s{}", "session_{}", '"session {}"', '"step""{}"']
 STRAY = (
     "select from where and or not ( ) , * = < - + 1 99999999999999999999 'a' ' \" { } # -- step session setup permutation "
@@ -210,7 +213,7 @@ class Maker:
             return f"DELETE FROM {table}{by_key}"
         return f"LOCK {table}" + self.one([""] + [f" IN {mode} MODE" for mode in LOCK_MODES[:5]])
 
-    def hindering_spec(self, numbers=(2, 3, 3, 4), homes=""):
+    def hindering_spec(self, numbers=(2, 3, 3, 4), homes="", steps=MANY_STEPS):
         made = (
             "setup { CREATE TABLE t (id int PRIMARY KEY, v int); CREATE TABLE u (k text PRIMARY KEY, w int);\n"
             "  CREATE TABLE n (a int, b int); INSERT INTO t VALUES (1, 10), (2, 20), (3, 30);\n"
@@ -220,10 +223,10 @@ class Maker:
         for session in range(sessions):
             home = self.one(homes) if homes else None
             made += f"session s{session}\n" + ("setup { BEGIN; }\n" if self.some(0.85) else "")
-            steps = self.one({2: [3, 4, 5], 3: [3, 3, 4], 4: [2, 3]}[sessions])
-            for number in range(steps):
+            last = self.one(steps[sessions]) - 1
+            for number in range(last + 1):
                 statements = [self.hindering_statement(home) for _ in range(self.one([1, 1, 1, 2]))]
-                is_last = number == steps - 1
+                is_last = number == last
                 if self.some(0.9 if is_last else 0.08):
                     end = self.one(["COMMIT"] * 3 + ["ROLLBACK"])
                     statements = [end] if is_last and self.some(0.5) else statements + [end]
@@ -233,6 +236,10 @@ class Maker:
     def apart_spec(self):
         """Each session keeps to a table, so that those of one table hinder one another beside those of others."""
         return self.hindering_spec([4], "ttun")
+
+    def few_spec(self):
+        """So few steps that one book has all their orders."""
+        return self.hindering_spec([2, 2, 3, 4], steps=FEW_STEPS)
 
     # texts with something wrong in them
 
@@ -370,6 +377,7 @@ KINDS = {
     "any": Maker.any_spec,
     "hindering": Maker.hindering_spec,
     "apart": Maker.apart_spec,
+    "few": Maker.few_spec,
     "wrong": Maker.wrong_spec,
     "misfits": Maker.misfit_spec,
     "limits": Maker.limit_spec,
