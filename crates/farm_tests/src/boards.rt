@@ -14,7 +14,11 @@ use std::sync::Wait;
 use std::test::Fail;
 
 /// A board for the six ranks in two shards, or why there is none. None where memory ran out before.
-fn board_of(alloc: Global, spec: &Spec, seats: u8) -> Option<Result<(Board, Vec<Seat>), BoardError>>
+pub(crate) fn board_of(
+    alloc: Global,
+    spec: &Spec,
+    seats: u8,
+) -> Option<Result<(Board, Vec<Seat>), BoardError>>
     ensures { IfSome result (λ made. IfOk made (λ r. (vec_len r.1 ≡ r.0.seats) × All (λ s. s.board ≡ r.0) r.1.items)) }
 {
     let shards = Vec::from_slice(alloc, &SHARDS[..2]).ok()?;
@@ -34,7 +38,7 @@ fn assert_claims(rt: &impl Abort, board: &Board, a: &mut Seat, b: &mut Seat)
 }
 
 /// What is got is the book of the first three ranks. None where memory ran out.
-fn assert_front(rt: &impl Abort, alloc: Global, spec: &Spec, book: &Book) -> Option<()> {
+pub(crate) fn assert_front(rt: &impl Abort, alloc: Global, spec: &Spec, book: &Book) -> Option<()> {
     let front = made(alloc, spec, 0, 3)?;
     assert_same(rt, alloc, book, &front)
 }
@@ -188,6 +192,7 @@ fn assert_spent<R: Wait + Abort>(
     let DeliverError { kind, book } = board.deliver(rt, seat, 0, front).err()?;
     assert_eq!(rt; kind, DeliverErrorKind::SeatSpent);
     assert_eq!(rt; board.progress(seat), 100_000, "turns");
+    assert_eq!(rt; board.claim(seat), Some(1), "one more claim");
     assert_front(rt, alloc, spec, &book)
 }
 

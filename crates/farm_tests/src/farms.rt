@@ -7,7 +7,6 @@ use sql_subset::Spec;
 use std::alloc::Global;
 use std::process::Abort;
 use std::sync::Wait;
-use std::sync::atomic::AtomicU64;
 use std::sync::atomic::Ordering::SeqCst;
 use std::test::Fail;
 use std::thread::Threads;
@@ -71,13 +70,7 @@ fn assert_let_go<R: Threads + Wait + Abort + Clock + Sync>(
     spec: &Spec,
     holding: Holding,
 ) -> Option<()> {
-    let gate = Hold {
-        clock: rt,
-        holding,
-        before: AtomicU64::new(0),
-        after: AtomicU64::new(0),
-        given_up: AtomicU64::new(0),
-    };
+    let gate = Hold::new(rt, holding);
     assert_farmed(rt, alloc, spec, 2, &gate)?;
     assert_eq!(rt; gate.given_up.load(SeqCst), 0, "held until the limit");
     assert_eq!(rt;

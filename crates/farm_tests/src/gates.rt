@@ -28,11 +28,29 @@ pub(crate) struct Hold<'a, R> {
     pub(crate) given_up: AtomicU64,
 }
 
-fn bit(shard: u32) -> u64 {
+/// The set of one shard.
+pub(crate) fn bit(shard: u32) -> u64 {
     if shard < 64 { 1 << shard } else { 0 }
 }
 
-impl<R> Hold<'_, R> {
+/// A gate with this holds nobody, and notes who was begun and who was delivered.
+pub(crate) const HOLDS_NONE: Holding = Holding {
+    held: 0,
+    before: 0,
+    after: 0,
+};
+
+impl<'a, R> Hold<'a, R> {
+    pub(crate) fn new(clock: &'a R, holding: Holding) -> Self {
+        Hold {
+            clock,
+            holding,
+            before: AtomicU64::new(0),
+            after: AtomicU64::new(0),
+            given_up: AtomicU64::new(0),
+        }
+    }
+
     fn is_free(&self) -> bool {
         self.before.load(SeqCst) & self.holding.before == self.holding.before
             && self.after.load(SeqCst) & self.holding.after == self.holding.after
