@@ -14,6 +14,8 @@ mod commands;
 #[cfg(test)]
 mod disks;
 #[cfg(test)]
+mod errors;
+#[cfg(test)]
 mod headlines;
 #[cfg(test)]
 mod memory;
