@@ -3,9 +3,10 @@
 usage: python3 crosscheck/speeds.py RANKS SPEC..
 
 Of each spec the first RANKS ranks are run, or all where it has fewer: reduced and with `--every`, by 1, 2 and 4 workers. The book is
-then audited on one core and on four. Of each time the least of three is told, in seconds and as ranks, or facts, in a second; behind
-it how many times faster that is than one worker, or one core. The whole command is timed, with its start and its files. A machine
-that has other work tells less: the load is told first. It needs `taskset`.
+then audited on one core and on four. Each is tried three times. Told are the least seconds, the ranks or facts in a second by these,
+how many times faster that is than one worker or one core, and the least processor seconds of all threads. The whole command is timed,
+with its start and its files. On a machine that has other work the seconds say little, and the processor seconds more: the load is
+told first. It needs `taskset`.
 """
 
 import os
@@ -25,14 +26,22 @@ HOWS = {"reduced": [], "every": ["--every"]}
 
 
 def seconds(words, out):
-    """The least time of some tries. What the command prints is put into a file."""
-    times = []
-    for _ in range(TRIES):
-        with open(out, "wb") as file:
-            began = monotonic()
-            subprocess.run(words, stdout=file, check=True)
-            times.append(monotonic() - began)
-    return min(times)
+    """How long a command takes, and how long all processors together. What it prints is put into a file."""
+    with open(out, "wb") as file:
+        began = monotonic()
+        process = subprocess.Popen(words, stdout=file)
+        _process, status, used = os.wait4(process.pid, 0)
+        took = monotonic() - began
+    process.returncode = os.waitstatus_to_exitcode(status)
+    if process.returncode != 0:
+        raise SystemExit(f"{' '.join(map(str, words))}: status {process.returncode}")
+    return took, used.ru_utime + used.ru_stime
+
+
+def least(words, out):
+    """The least seconds and the least processor seconds of some tries."""
+    took, used = zip(*(seconds(words, out) for _ in range(TRIES)))
+    return min(took), min(used)
 
 
 def on_cores(number):
@@ -43,8 +52,11 @@ def on_cores(number):
 
 def tell(what, number, times):
     """A line for times of one thing: those of each number of workers or cores, beside the first."""
-    first = next(iter(times.values()))
-    told = [f"{many}: {time:.2f} s, {number / time:,.0f}/s, {first / time:.2f}" for many, time in times.items()]
+    first, _used = next(iter(times.values()))
+    told = [
+        f"{many}: {took:.2f} s, {number / took:,.0f}/s, {first / took:.2f}, processor {used:.2f} s"
+        for many, (took, used) in times.items()
+    ]
     print(f"  {what} {'; '.join(told)}", flush=True)
 
 
@@ -54,9 +66,9 @@ def time_spec(path, most, folder):
     for how, more in HOWS.items():
         book, out = f"{folder}/{how}.book", f"{folder}/out"
         run = [PROGRAM, "run", path, "0", str(number), *more]
-        tell(f"run, {how}, workers", number, {workers: seconds([*run, "--workers", str(workers)], book) for workers in WORKERS})
+        tell(f"run, {how}, workers", number, {workers: least([*run, "--workers", str(workers)], book) for workers in WORKERS})
         audit = [PROGRAM, "audit", book]
-        tell(f"audit, {how}, cores", number, {cores: seconds([*on_cores(cores), *audit], out) for cores in CORES})
+        tell(f"audit, {how}, cores", number, {cores: least([*on_cores(cores), *audit], out) for cores in CORES})
         if Path(out).read_bytes() != b"true\n":
             print(f"  the audit told {Path(out).read_bytes()!r}")
             return 1
