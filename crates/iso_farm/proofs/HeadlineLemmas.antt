@@ -1,5 +1,5 @@
 -- All runs of a spec: their facts, and what is told of them.
-use Rattle.std.proofs.Common.{◌≡◌, ◌↔◌, ◌⊎◌, inl, inr, ⊎_elim, refl, sym, ap, subst, ◌∙◌, ℕ, zero, suc, ◌+◌, ◌<◌, Bool, true, cond, nat_lt, List, [], ◌∷◌, ◌++◌, length, Option, Some, None, Result, Ok, Err, IsErrAnd, arith, lt-ltb}
+use Rattle.std.proofs.Common.{◌≡◌, ◌↔◌, ◌⊎◌, inl, inr, ⊎_elim, refl, sym, ap, subst, ◌∙◌, ℕ, zero, suc, ◌+◌, ◌<◌, ◌≤◌, Bool, true, false, cond, nat_lt, List, [], ◌∷◌, ◌++◌, length, Option, Some, None, Result, Ok, Err, IsErrAnd, arith, lt-ltb}
 use Rattle.std.proofs.lemmas.Bool.{or_cases, or_left, or_right}
 use Rattle.std.specs.FinSet.{union}
 use mathlib.Core.Option.{some, some-ne-none, some-injective}
@@ -11,8 +11,11 @@ use Rattle.machine_model.specs.World.{send_all, outcome_of}
 use Rattle.serial_history.specs.Serial.{IsSerial}
 use Rattle.serial_history.proofs.StartsTold.{bound-serial, bound-shown}
 use Rattle.quiet_steps.specs.Facts.{IsTrueAt, IsFactOf, fact_of, fact_from}
-use Rattle.quiet_steps.specs.Values.{AllTrue, CoverEachRank}
+use Rattle.quiet_steps.specs.Swap.{leads_in}
+use Rattle.quiet_steps.specs.Values.{ran, swap, AllTrue}
 use Rattle.quiet_steps.specs.declared.fact.Fact.{Fact}
+use Rattle.quiet_steps.specs.declared.fact.Fact.TheVariants.{Ran, Swap}
+use Rattle.quiet_steps.proofs.Leading.{leads-down}
 use Rattle.quiet_steps.proofs.TrueFacts.{facts-one}
 use Rattle.step_reducer.specs.declared.walker.Shard.{Shard}
 use Rattle.step_reducer.specs.Walking.{Starts}
@@ -22,11 +25,11 @@ use Rattle.outcome_books.specs.declared.error.ReportError.{ReportError}
 use Rattle.outcome_books.specs.declared.error.ReportError.TheVariants.{TooMany, Missing, Clash, NoMemory}
 use Rattle.outcome_books.specs.declared.job.Job.{Job, more_of-Job, end_of-Job, Run, Join'}
 use Rattle.outcome_books.specs.Entries.{FactSet, recorded}
-use Rattle.outcome_books.specs.Books.{Contents, joined}
+use Rattle.outcome_books.specs.Books.{Contents, joined, AllRecordable}
 use Rattle.outcome_books.specs.JobTrees.{leaves}
 use Rattle.outcome_books.specs.Jobs.{InLeaves, AreJobFacts, IsJobOf}
-use Rattle.outcome_books.specs.Values.{IsNotReported}
-use Rattle.outcome_books.proofs.SetLemmas.{in_union}
+use Rattle.outcome_books.specs.Values.{IsMissing, IsNotReported}
+use Rattle.outcome_books.proofs.SetLemmas.{in_union, same_facts}
 use Rattle.outcome_books.proofs.Recordable.{file-is-bound}
 use Rattle.shard_board.specs.Changes.{IsPlanOf}
 use Rattle.shard_farm.specs.Farming.{InShards, AreShardFacts}
@@ -37,10 +40,11 @@ use Rattle.iso_farm.specs.declared.headline.HeadlineFault.TheVariants as fault_o
 use Rattle.iso_farm.specs.declared.reporting.ReportFault.{ReportFault}
 use Rattle.iso_farm.specs.declared.reporting.ReportFault.TheVariants.{Report, Write}
 use Rattle.iso_farm.specs.Reporting.{IsReportText, IsReported}
+use Rattle.iso_farm.specs.Cutting.{IsInOne}
 use Rattle.iso_farm.specs.Laws.{AreAnswers}
-use Rattle.iso_farm.specs.Headline.{HasRank, InOne, shards_in, InPlans, EachWasRun, HaveFact, WasRun, ArePlansOf, HoldsTheRuns, AreSerial, IsReportOfRuns, IsNeverButFor, HaveFactBelow, HoldsTheFirst, AreRun, IsNotRun, IsNextRun, IsJoinedWith, AreRunsReported}
+use Rattle.iso_farm.specs.Headline.{shards_in, IsRun, HaveFact, WasRun, ArePlansOf, HoldsTheRuns, AreSerial, IsReportOfRuns, MayRefuse, RunsDecide, HaveFactBelow, HoldsTheFirst, AreRun, IsNotRun, IsNextRun, IsJoinedWith, AreRunsReported}
 use Rattle.iso_farm.proofs.RangeLemmas.{fact-true}
-use Rattle.iso_farm.proofs.ReportLemmas.{report-answers, none-missing, none-clash}
+use Rattle.iso_farm.proofs.ReportLemmas.{report-answers, none-clash}
 
 some-same : {A : Type 0} (a b : A) → Some a ≡ Some b → a ≡ b
 some-same a b e = cc
@@ -56,7 +60,7 @@ has-fact reduce spec r s lt =
     let computed : fact_of reduce spec r ≡ Some f = ap (of_start reduce spec r) s.1 ∙ ap (λ b. cond b (Some f) None) (lt-ltb r (ranks spec) lt) in
     (f, (facts-one reduce spec r f).0 computed)
 
-one-append : (xs ys : List Shard) (r : ℕ) → InOne (xs ++ ys) r → InOne xs r ⊎ InOne ys r
+one-append : (xs ys : List Shard) (r : ℕ) → IsInOne (xs ++ ys) r → IsInOne xs r ⊎ IsInOne ys r
 one-append [] ys r h = inr h
 one-append (x ∷ xs) ys r (zero, (s, (at, has))) = inl (zero, (s, (at, has)))
 one-append (x ∷ xs) ys r (suc n, (s, (at, has))) =
@@ -71,18 +75,20 @@ in-right : (spec : Spec) (ls ms : List _) (r : ℕ) (fact : Fact) → InLeaves s
 in-right spec [] ms r fact h = h
 in-right spec (l ∷ ls) ms r fact h = inr (in-right spec ls ms r fact h)
 
-job-fact : (spec : Spec) (job : Job) (r : ℕ) → Starts spec → r < ranks spec → InOne (shards_in job) r → (fact : Fact) × InLeaves spec (leaves job) r fact
+job-fact : (spec : Spec) (job : Job) (r : ℕ) → Starts spec → r < ranks spec → IsInOne (shards_in job) r → (fact : Fact) × InLeaves spec (leaves job) r fact
 job-fact spec (Run shard reduce) r s lt (zero, (one, (at, has))) =
     let f = has-fact reduce spec r s lt in
-    let here : HasRank r shard = subst (HasRank r) (sym (some-injective shard one at)) has in (f.0, inl (here.0, here.1, f.1))
+    let here : (shard.first ≤ r) × (r < shard.end) = subst (λ (x : Shard). (x.first ≤ r) × (r < x.end)) (sym (some-injective shard one at)) has in
+    (f.0, inl (here.0, here.1, f.1))
 job-fact spec (Run shard reduce) r s lt (suc n, (one, (at, has))) = absurd (some-ne-none one (sym at))
 job-fact spec (Join' _ (more_of-Job a end_of-Job) _ (more_of-Job b end_of-Job)) r s lt h =
     ⊎_elim (λ x. let f = job-fact spec a r s lt x in (f.0, in-left spec (leaves a) (leaves b) r f.0 f.1))
     (λ x. let f = job-fact spec b r s lt x in (f.0, in-right spec (leaves a) (leaves b) r f.0 f.1)) (one-append (shards_in a) (shards_in b) r h)
 
-plan-fact : (spec : Spec) (plans : List Plan) (r : ℕ) → Starts spec → r < ranks spec → InPlans plans r → (fact : Fact) × HaveFact spec plans r fact
-plan-fact spec plans r s lt (k, (plan, (is, (n, (shard, (at, has)))))) =
-    let f = has-fact plan.reduce spec r s lt in (f.0, (k, (plan, (is, (n, (shard, (at, (has.0, has.1, f.1))))))))
+run-fact : (spec : Spec) (job : Job) (plans : List Plan) (r : ℕ) → Starts spec → r < ranks spec → IsRun job plans r → (fact : Fact) × WasRun spec job plans r fact
+run-fact spec job plans r s lt (inl h) = let f = job-fact spec job r s lt h in (f.0, inl f.1)
+run-fact spec job plans r s lt (inr (k, (plan, (is, (n, (shard, (at, has))))))) =
+    let f = has-fact plan.reduce spec r s lt in (f.0, inr (k, (plan, (is, (n, (shard, (at, (has.0, has.1, f.1))))))))
 
 -- ---- and what was run of it is true
 
@@ -97,11 +103,6 @@ plan-true spec plans r fact (k, (plan, (is, (n, (shard, (at, has)))))) = fact-tr
 module _ (file : SpecFile) (job : Job) (plans : List Plan) (book : Contents) (h : HoldsTheRuns file job plans book) where
   runs-true : AllTrue file.run (recorded book.facts)
   runs-true r fact e = ⊎_elim (leaf-true file.run (leaves job) r fact) (plan-true file.run plans r fact) ((h.facts r fact).0 e)
-
-  runs-cover : EachWasRun file.run job plans → CoverEachRank file.run (recorded book.facts)
-  runs-cover all r lt =
-      ⊎_elim (λ x. let f = job-fact file.run job r h.started lt x in (f.0, (h.facts r f.0).1 (inl f.1)))
-      (λ x. let f = plan-fact file.run plans r h.started lt x in (f.0, (h.facts r f.0).1 (inr f.1))) (all r lt)
 
 -- ---- the serial order
 
@@ -194,7 +195,7 @@ module _ (file : SpecFile) (job : Job) (plans : List Plan) (place : ℕ) (plan :
     (h : HoldsTheFirst file job plans place book) where
   plan-refused : (fault : HeadlineFault) → IsNextRun file plan place book (Err fault) → IsNotRun file job plans fault
   plan-refused (fault_of.Plan at error) n =
-      subst (λ k. IsNotRun file job plans (fault_of.Plan k error)) (sym n.0) (h.job_lawful, h.plans_lawful, (plan, (here, n.1)))
+      subst (λ k. IsNotRun file job plans (fault_of.Plan k error)) (sym n.0) (h.job_lawful, h.started, h.plans_lawful, (plan, (here, n.1)))
   plan-refused fault_of.NoMemory n = tt
   plan-refused (fault_of.Spec fault) n = absurd n
   plan-refused (fault_of.Job error) n = absurd n
@@ -228,12 +229,9 @@ plans-all file job plans n book e h = record {
 -- ---- the report
 
 module _ (bytes : List ℕ) (file : SpecFile) (is : IsFileOf bytes file) (job : Job) (plans : List Plan) (book : Contents)
-    (own : IsFileOf book.file.text book.file) (h : HoldsTheRuns file job plans book) where
+    (own : IsFileOf book.file.text book.file) (lawful : AllRecordable book.file.run book.facts) (h : HoldsTheRuns file job plans book) where
   true-there : AllTrue book.file.run (recorded book.facts)
   true-there = subst (λ (f : SpecFile). AllTrue f.run (recorded book.facts)) (sym h.file_is) (runs-true file job plans book h)
-
-  covers : EachWasRun file.run job plans → CoverEachRank book.file.run (recorded book.facts)
-  covers all = subst (λ (f : SpecFile). CoverEachRank f.run (recorded book.facts)) (sym h.file_is) (runs-cover file job plans book h all)
 
   pub runs-reported : (text : List ℕ) → IsReportText book text → IsReportOfRuns file job plans text
   runs-reported text t = record {
@@ -244,9 +242,23 @@ module _ (bytes : List ℕ) (file : SpecFile) (is : IsFileOf bytes file) (job : 
     serial = lines-serial file.run (file-is-bound bytes file is);
   }
 
-  pub runs-refused : (error : ReportError) → IsNotReported book error → IsNeverButFor file.run job plans error
+  -- a rank that was run has a value, where each smaller rank has one
+  run-told : (r : ℕ) → IsMissing book.facts (leads_in book.file.run) (ranks book.file.run) r → IsRun job plans r → ⊥
+  run-told r m run = by f.0 ((h.facts r f.0).1 f.1)
+    where
+      f : (fact : Fact) × WasRun file.run job plans r fact
+      f = run-fact file.run job plans r h.started (subst (λ (s : SpecFile). r < ranks s.run) h.file_is m.inside) run
+
+      by : (fact : Fact) → recorded book.facts r fact ≡ true → ⊥
+      by (Ran outcome) has = m.none outcome (ran has)
+      by (Swap k) has =
+          let leads = (lawful r (Swap k) has).2 in
+          let below = m.below leads.0 (leads-down book.file.run r k leads.0 leads.1) in
+          m.none below.0 (swap has leads.1 below.1.value)
+
+  pub runs-refused : (error : ReportError) → IsNotReported book error → MayRefuse job plans error
   runs-refused TooMany n = tt
-  runs-refused (Missing r) n = λ all. none-missing book own true-there (covers all) r n
+  runs-refused (Missing r) n = run-told r n.1
   runs-refused (Clash r) n = none-clash book own true-there r n
   runs-refused NoMemory n = tt
 
@@ -255,3 +267,18 @@ module _ (bytes : List ℕ) (file : SpecFile) (is : IsFileOf bytes file) (job : 
       → AreRunsReported contents old new bytes job plans (Err (fault_of.Report fault))
   report-refused contents old new (Report error) r = (r.0, (file, is, (book, h, r.1, runs-refused error r.1)))
   report-refused contents old new (Write fault) r = (file, is, (r.0, runs-reported r.0 r.1, r.2))
+
+-- ---- what was run decides
+
+one-bool : (x y : Bool) → (x ≡ true → y ≡ true) → (y ≡ true → x ≡ true) → x ≡ y
+one-bool true y f g = sym (f refl)
+one-bool false true f g = g refl
+one-bool false false f g = refl
+
+pub runs-decide : RunsDecide
+runs-decide file job other plans others a b h k same = λ i. record { file = (h.file_is ∙ sym k.file_is) i; facts = facts i }
+  where
+    facts : a.facts ≡ b.facts
+    facts = same_facts a.facts b.facts (λ e. one-bool (recorded a.facts e.0 e.1) (recorded b.facts e.0 e.1)
+        (λ t. (k.facts e.0 e.1).1 ((same e.0 e.1).0 ((h.facts e.0 e.1).0 t)))
+        (λ t. (h.facts e.0 e.1).1 ((same e.0 e.1).1 ((k.facts e.0 e.1).0 t))))

@@ -123,4 +123,4 @@ pub reports-are : ReportsAreTheMachines
 reports-are book text is all h = report-answers book is all text h
 
 pub covering : CoveringReports
-covering book r is all covers = (none-missing book is all covers r, none-clash book is all r)
+covering book r is all = (none-clash book is all r, λ covers. none-missing book is all covers r)

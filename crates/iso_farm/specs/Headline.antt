@@ -1,5 +1,5 @@
--- All that is promised of runs, from the bytes of a spec to its report.
-use Rattle.std.specs.Prelude.{◌≡◌, ◌↔◌, ℕ, ◌<◌, ◌≤◌, ◌⊎◌, true, List, [], ◌∷◌, ◌++◌, length, Option, Some, Result, Ok, Err, ⊤}
+-- What comes of runs whose books stay in memory, from the bytes of a spec to its report.
+use Rattle.std.specs.Prelude.{◌≡◌, ◌↔◌, ℕ, ◌<◌, ◌⊎◌, true, List, [], ◌∷◌, ◌++◌, length, Option, Some, Result, Ok, Err, ⊤}
 use mathlib.Core.Option.{some}
 use lib.ListN.{get_elem?}
 use Rattle.sql_subset.specs.Spec.{Spec, SpecFile, ranks, line_of}
@@ -26,36 +26,27 @@ use Rattle.iso_farm.specs.declared.headline.Plan.{Plan}
 use Rattle.iso_farm.specs.declared.headline.HeadlineFault.{HeadlineFault}
 use Rattle.iso_farm.specs.declared.headline.HeadlineFault.TheVariants as fault_of
 use Rattle.iso_farm.specs.declared.reporting.ReportFault.TheVariants.{Report, Write}
+use Rattle.iso_farm.specs.Cutting.{IsInOne}
 use Rattle.iso_farm.specs.SpecFiles.{IsNoSpec}
 use Rattle.iso_farm.specs.Reporting.{IsReportText}
 use Rattle.iso_farm.specs.Laws.{AreAnswers}
 
 -- ---- what was run
 
-abbrev pub HasRank : ℕ → Shard → Type 0
-HasRank r shard = (shard.first ≤ r) × (r < shard.end)
-
--- one of the shards has the rank
-abbrev pub InOne : List Shard → ℕ → Type 0
-InOne shards r = (n : ℕ) × ((shard : Shard) × ((get_elem? shards n ≡ some shard) × HasRank r shard))
-
 -- the shards of a job, from left to right
 abbrev pub shards_in : Job → List Shard
 shards_in = told (λ shard reduce. shard ∷ []) (λ a b. a ++ b)
 
--- one of the shards of a plan has it
-abbrev pub InPlans : List Plan → ℕ → Type 0
-InPlans plans r = (k : ℕ) × ((plan : Plan) × ((get_elem? plans k ≡ some plan) × InOne plan.shards.items r))
-
--- each rank of the spec was run, by the job or by a plan's workers
-abbrev pub EachWasRun : Spec → Job → List Plan → Type 0
-EachWasRun spec job plans = (r : ℕ) → r < ranks spec → InOne (shards_in job) r ⊎ InPlans plans r
+-- the job runs the rank in one of its shards, or a plan's workers do. A job of one empty shard leaves all to the plans
+abbrev pub IsRun : Job → List Plan → ℕ → Type 0
+IsRun job plans r = IsInOne (shards_in job) r ⊎ ((k : ℕ) × ((plan : Plan) × ((get_elem? plans k ≡ some plan) × IsInOne plan.shards.items r)))
 
 -- one of the plans has the rank, with that fact under its flag
 abbrev pub HaveFact : Spec → List Plan → ℕ → Fact → Type 0
 HaveFact spec plans r fact = (k : ℕ) × ((plan : Plan) × ((get_elem? plans k ≡ some plan) × InShards plan.reduce spec plan.shards.items r fact))
 
--- the rank was run with that fact
+-- the rank was run with that fact. Neither the place of a shard in the job's tree or among the plans, nor how often it is there, nor how many workers
+-- run it, is part of it
 abbrev pub WasRun : Spec → Job → List Plan → ℕ → Fact → Type 0
 WasRun spec job plans r fact = InLeaves spec (leaves job) r fact ⊎ HaveFact spec plans r fact
 
@@ -86,24 +77,31 @@ pub record IsReportOfRuns (file : SpecFile) (job : Job) (plans : List Plan) (tex
   pub answers : AreAnswers file (ranks file.run) text
   pub serial : AreSerial file.run
 
--- for which faults a report of runs is refused: too many ranks, or a rank that was not run, and never since two facts tell of a rank what differs
-abbrev pub IsNeverButFor : Spec → Job → List Plan → ReportError → Type 0
-IsNeverButFor spec job plans TooMany = Unit {0}
-IsNeverButFor spec job plans (Missing r) = EachWasRun spec job plans → ⊥
-IsNeverButFor spec job plans (Clash r) = ⊥
-IsNeverButFor spec job plans NoMemory = Unit {0}
+-- what is more to say of why a report of runs is refused: a rank is missing only where it was not run, and two facts never tell different things of one
+abbrev pub MayRefuse : Job → List Plan → ReportError → Type 0
+MayRefuse job plans TooMany = Unit {0}
+MayRefuse job plans (Missing r) = IsRun job plans r → ⊥
+MayRefuse job plans (Clash r) = ⊥
+MayRefuse job plans NoMemory = Unit {0}
 
 -- why the runs are not all made: the job is refused, or else the first plan that is, unless memory ran out
 abbrev pub IsNotRun : SpecFile → Job → List Plan → HeadlineFault → Type 0
 IsNotRun file job plans (fault_of.Job error) = IsNotMade file.run job error
 IsNotRun file job plans (fault_of.Plan place error) =
-    IsJobOf file.run job × ArePlansOf file.run plans place
+    IsJobOf file.run job × Starts file.run × ArePlansOf file.run plans place
     × ((plan : Plan) × ((get_elem? plans place ≡ some plan) × IsNotFarmed plan.reduce file plan.shards.items plan.workers error))
 IsNotRun file job plans fault_of.NoMemory = Unit {0}
 IsNotRun file job plans (fault_of.Spec fault) = ⊥
 IsNotRun file job plans (fault_of.Report fault) = ⊥
 
--- what comes of runs: the report of their book is written, or a front of it, or nothing, where the bytes are no spec, or a job, a plan or the report is refused
+-- the book holds the facts of all runs, or they are not all made
+abbrev pub AreRun : SpecFile → Job → List Plan → Result Contents HeadlineFault → Type 0
+AreRun file job plans (Ok book) = HoldsTheRuns file job plans book
+AreRun file job plans (Err fault) = IsNotRun file job plans fault
+
+-- what comes of runs: the report of their book is written, or a front of it, or nothing, where the bytes are no spec, or a job, a plan or the report is
+-- refused, or memory ran out. Each call tells of that by its own refusal (the reader, binding, `make`, `farm_run` before its first shard and behind it,
+-- `join`, `report`); the book of a plan that was cut short so has that plan's facts alone
 abbrev pub AreRunsReported : {W : Type 0} → (W → Option (List ℕ)) → Counted W → Counted W → List ℕ → Job → List Plan → Result ⊤ HeadlineFault → Type 0
 AreRunsReported contents old new bytes job plans (Ok done) =
     (file : SpecFile) × IsFileOf bytes file × ((text : List ℕ) × IsReportOfRuns file job plans text × Wrote contents old new text)
@@ -112,7 +110,7 @@ AreRunsReported contents old new bytes job plans (Err (fault_of.Report (Write fa
     (file : SpecFile) × IsFileOf bytes file × ((text : List ℕ) × IsReportOfRuns file job plans text × Stopped contents old new text)
 AreRunsReported contents old new bytes job plans (Err (fault_of.Report (Report error))) =
     (new ≡ old) × ((file : SpecFile) × IsFileOf bytes file
-    × ((book : Contents) × HoldsTheRuns file job plans book × IsNotReported book error × IsNeverButFor file.run job plans error))
+    × ((book : Contents) × HoldsTheRuns file job plans book × IsNotReported book error × MayRefuse job plans error))
 AreRunsReported contents old new bytes job plans (Err (fault_of.Job error)) =
     (new ≡ old) × ((file : SpecFile) × IsFileOf bytes file × IsNotRun file job plans (fault_of.Job error))
 AreRunsReported contents old new bytes job plans (Err (fault_of.Plan place error)) =
@@ -133,11 +131,6 @@ pub record HoldsTheFirst (file : SpecFile) (job : Job) (plans : List Plan) (n : 
   pub file_is : book.file ≡ file
   pub facts : (r : ℕ) (fact : Fact) → (recorded book.facts r fact ≡ true) ↔ (InLeaves file.run (leaves job) r fact ⊎ HaveFactBelow file.run plans n r fact)
 
--- the book holds the facts of all runs, or they are not all made
-abbrev pub AreRun : SpecFile → Job → List Plan → Result Contents HeadlineFault → Type 0
-AreRun file job plans (Ok book) = HoldsTheRuns file job plans book
-AreRun file job plans (Err fault) = IsNotRun file job plans fault
-
 -- the plan's facts are joined to a book, or it is not run whole, or memory ran out
 abbrev pub IsNextRun : SpecFile → Plan → ℕ → Contents → Result Contents HeadlineFault → Type 0
 IsNextRun file plan place book (Ok all) =
@@ -152,3 +145,11 @@ IsNextRun file plan place book (Err (fault_of.Report fault)) = ⊥
 abbrev pub IsJoinedWith : Contents → Contents → Result Contents HeadlineFault → Type 0
 IsJoinedWith book next (Ok all) = (book.file ≡ next.file) × (all ≡ joined book next)
 IsJoinedWith book next (Err fault) = fault ≡ fault_of.NoMemory
+
+-- ---- the law
+
+-- what was run decides the book: neither order, grouping and repeats nor workers do
+abbrev pub RunsDecide : Type 0
+RunsDecide =
+    (file : SpecFile) (job other : Job) (plans others : List Plan) (a b : Contents) → HoldsTheRuns file job plans a → HoldsTheRuns file other others b
+    → ((r : ℕ) (fact : Fact) → WasRun file.run job plans r fact ↔ WasRun file.run other others r fact) → a ≡ b

@@ -33,4 +33,4 @@ ReportsAreTheMachines = (book : Contents) (text : List ℕ) → IsFileOf book.fi
 -- of true facts nothing clashes, and nothing is missing where each rank has one
 abbrev pub CoveringReports : Type 0
 CoveringReports = (book : Contents) (r : ℕ) → IsFileOf book.file.text book.file → AllTrue book.file.run (recorded book.facts)
-    → CoverEachRank book.file.run (recorded book.facts) → (IsNotReported book (Missing r) → ⊥) × (IsNotReported book (Clash r) → ⊥)
+    → (IsNotReported book (Clash r) → ⊥) × (CoverEachRank book.file.run (recorded book.facts) → IsNotReported book (Missing r) → ⊥)

@@ -81,8 +81,8 @@ pub fn report_of_runs<R: Threads + Wait + Sync, G: Gate + Sync, W: Write>(
     }
 }
 
-/// The facts of the job and of all plans, in one book.
-fn book_of_runs<R: Threads + Wait + Sync, G: Gate + Sync>(
+/// The facts of the job and of all plans, in one book. The job is refused first, then the first plan that is.
+pub fn book_of_runs<R: Threads + Wait + Sync, G: Gate + Sync>(
     rt: &R,
     alloc: Global,
     spec: &Spec,

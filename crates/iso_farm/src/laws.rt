@@ -1,5 +1,6 @@
 //! The laws of what is run, joined and reported, each the contract of a function that does nothing.
 
+ghost use Rattle.iso_farm.specs.Headline.{RunsDecide};
 ghost use Rattle.iso_farm.specs.Laws.{RangesAreTrue, JoinsStayTrue, ReportsAreTheMachines, CoveringReports};
 
 /// Whatever ranges are run, whichever way they cover or overlap each other, and however their books are joined: what is reported is
@@ -9,4 +10,9 @@ pub fn reports_are_the_machines()
     ensures joins { JoinsStayTrue }
     ensures reports { ReportsAreTheMachines }
     ensures covering { CoveringReports }
+{}
+
+/// What was run decides the book, and so its report: neither the order, the grouping and the number of its shards nor the workers do.
+pub fn runs_decide()
+    ensures { RunsDecide }
 {}
