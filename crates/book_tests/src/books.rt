@@ -1,5 +1,6 @@
 //! Books by their calls: what jobs make, what is missing, what is reported, and what is refused. The test without memory is to be read
 //! under `rt try --test --fail-alloc` too.
+use crate::asserts::assert_text;
 use crate::walks::bound;
 use outcome_books::{
     Book, Boxed, Job, JoinError, Report, ReportError, join, make, missing, report,
@@ -23,36 +24,63 @@ the first of two | 0 1 yes | 1 | missing rank 1 | T session a step a1 { INSERT I
 both of two | 0 1 yes 1 2 yes + | - | apart | T session a step a1 { INSERT INTO t VALUES (3, 30); } session b step b1 { SELECT v FROM t WHERE id = 3; }
 no rank | 0 0 yes | 0 | missing rank 0 | T session a step a1 { INSERT INTO t VALUES (3, 30); } session b step b1 { SELECT v FROM t WHERE id = 3; }";
 
-fn joined(alloc: Global, parts: &mut Vec<Job>) -> Option<Job> {
-    let right = parts.pop()?;
-    let left = parts.pop()?;
-    Some(Job::Join(
-        Boxed::new(alloc, left).ok()?,
-        Boxed::new(alloc, right).ok()?,
-    ))
+/// The last part, in a box. None where there is none, or memory ran out.
+fn popped(alloc: Global, parts: &mut Vec<Job>) -> Option<Boxed<Job>> {
+    Boxed::new(alloc, parts.pop()?).ok()
+}
+
+/// Puts the join of the last two parts in their place.
+fn join_last(alloc: Global, parts: &mut Vec<Job>) -> Option<()> {
+    let right = popped(alloc, parts)?;
+    let left = popped(alloc, parts)?;
+    parts.push(Job::Join(left, right)).ok()
+}
+
+fn push_shard(parts: &mut Vec<Job>, first: &str, end: &str, reduce: &str) -> Option<()> {
+    let first = first.parse::<u64>().ok()?;
+    let end = end.parse::<u64>().ok()?;
+    let shard = Shard { first, end };
+    parts.push(Job::Run(shard, reduce == "yes")).ok()
+}
+
+fn push_parts(alloc: Global, parts: &mut Vec<Job>, row: &str) -> Option<()> {
+    let mut words = row.split_whitespace();
+    while let Some(word) = words.next() {
+        if word == "+" {
+            join_last(alloc, parts)?;
+        } else {
+            let end = words.next()?;
+            let reduce = words.next()?;
+            push_shard(parts, word, end, reduce)?;
+        }
+    }
+    Some(())
 }
 
 /// The job of a row. None where memory ran out, or the row has none.
 pub(crate) fn job_of(alloc: Global, row: &str) -> Option<Job> {
     let mut parts = Vec::new(alloc);
-    let mut words = row.split_whitespace();
-    while let Some(word) = words.next() {
-        let part = if word == "+" {
-            joined(alloc, &mut parts)?
-        } else {
-            let first = word.parse::<u64>().ok()?;
-            let end = words.next()?.parse::<u64>().ok()?;
-            let reduce = words.next()? == "yes";
-            Job::Run(Shard { first, end }, reduce)
-        };
-        parts.push(part).ok()?;
+    match push_parts(alloc, &mut parts, row) {
+        Some(()) => parts.pop(),
+        None => None,
     }
-    parts.pop()
+}
+
+/// The book of the job of a row. None where memory ran out, or there is none.
+pub(crate) fn book_of(alloc: Global, spec: &Spec, row: &str) -> Option<Book> {
+    let job = job_of(alloc, row)?;
+    make(alloc, spec, &job).ok()
 }
 
 /// The outcome of a rank as the sequential machine gives it. None where memory ran out.
 fn run(alloc: Global, spec: &Spec, rank: u64) -> Option<Outcome> {
     run_one(alloc, spec, &spec.line(rank)?).ok()
+}
+
+/// Whether an outcome is the one of the rank. None where memory ran out.
+fn is_of_rank(alloc: Global, spec: &Spec, rank: u64, told: &Outcome) -> Option<bool> {
+    let outcome = run(alloc, spec, rank)?;
+    Some(told.is_same(&outcome))
 }
 
 /// Whether all ranks are reported with one outcome, where each has its own. None where one has not, or memory ran out.
@@ -61,7 +89,7 @@ fn are_alike(alloc: Global, spec: &Spec, report: &Report) -> Option<bool> {
     let mut alike = true;
     for rank in 0..report.len() {
         let told = report.outcome(rank)?;
-        if !told.is_same(&run(alloc, spec, rank)?) {
+        if !is_of_rank(alloc, spec, rank, told)? {
             return None;
         }
         alike = alike && told.is_same(first);
@@ -69,19 +97,30 @@ fn are_alike(alloc: Global, spec: &Spec, report: &Report) -> Option<bool> {
     Some(alike)
 }
 
-/// What the table has of a book's report. None where an outcome is not the rank's, or memory ran out.
-fn reported(alloc: Global, spec: &Spec, book: &Book) -> Option<String> {
-    match report(alloc, book) {
-        Ok(report) => {
-            let word = if are_alike(alloc, spec, &report)? {
-                "alike"
-            } else {
-                "apart"
-            };
-            String::from_str(alloc, word).ok()
-        }
-        Err(error) => format!(in alloc; "{error}").ok(),
+fn word_of(alloc: Global, spec: &Spec, report: &Report) -> Option<&'static str> {
+    if are_alike(alloc, spec, report)? {
+        Some("alike")
+    } else {
+        Some("apart")
     }
+}
+
+/// What the table has of a book's report is this. None where an outcome is not the rank's, or memory ran out.
+fn assert_reported(
+    rt: &impl Abort,
+    alloc: Global,
+    spec: &Spec,
+    book: &Book,
+    row: JobRow<'_>,
+) -> Option<()> {
+    match report(alloc, book) {
+        Ok(report) => assert_text(rt, word_of(alloc, spec, &report)?, row.report, row.name),
+        Err(error) => {
+            let told = format!(in alloc; "{error}").ok()?;
+            assert_text(rt, &told, row.report, row.name);
+        }
+    }
+    Some(())
 }
 
 fn gap(alloc: Global, book: &Book) -> Option<String> {
@@ -91,29 +130,67 @@ fn gap(alloc: Global, book: &Book) -> Option<String> {
     }
 }
 
-/// A row of the table, made, and joined with itself.
-fn assert_made(rt: &impl Abort, alloc: Global, row: &str) -> Result<(), Fail> {
-    let (name, rest) = row.split_once(" | ").ok_or("a name")?;
-    let (job, rest) = rest.split_once(" | ").ok_or("a job")?;
-    let (first, rest) = rest.split_once(" | ").ok_or("a rank")?;
-    let (want, spec) = rest.split_once(" | ").ok_or("a report")?;
-    let spec = bound(alloc, spec).ok_or("a spec that binds")?;
-    let job = job_of(alloc, job).ok_or("a job")?;
-    let once = make(alloc, &spec, &job).ok().ok_or("a book")?;
-    let twice = join(&once, &once).ok().ok_or("a join")?;
-    for book in [once, twice] {
-        let told = gap(alloc, &book).ok_or("memory")?;
-        assert_eq!(rt; told.as_str(), first, "{name}");
-        let told = reported(alloc, &spec, &book).ok_or("the outcomes of the ranks")?;
-        assert_eq!(rt; told.as_str(), want, "{name}");
-    }
-    Ok(())
+/// A row of the table of jobs.
+#[derive(Clone, Copy)]
+struct JobRow<'a> {
+    name: &'a str,
+    job: &'a str,
+    gap: &'a str,
+    report: &'a str,
+    spec: &'a str,
+}
+
+fn job_row(row: &str) -> Option<JobRow<'_>> {
+    let (name, rest) = row.split_once(" | ")?;
+    let (job, rest) = rest.split_once(" | ")?;
+    let (gap, rest) = rest.split_once(" | ")?;
+    let (report, spec) = rest.split_once(" | ")?;
+    Some(JobRow {
+        name,
+        job,
+        gap,
+        report,
+        spec,
+    })
+}
+
+fn assert_book(
+    rt: &impl Abort,
+    alloc: Global,
+    spec: &Spec,
+    book: &Book,
+    row: JobRow<'_>,
+) -> Option<()> {
+    let told = gap(alloc, book)?;
+    assert_text(rt, &told, row.gap, row.name);
+    assert_reported(rt, alloc, spec, book, row)
+}
+
+/// A book as the row has it, alone and joined with itself.
+fn assert_joined(
+    rt: &impl Abort,
+    alloc: Global,
+    spec: &Spec,
+    once: &Book,
+    row: JobRow<'_>,
+) -> Option<()> {
+    assert_book(rt, alloc, spec, once, row)?;
+    let twice = join(once, once).ok()?;
+    assert_book(rt, alloc, spec, &twice, row)
+}
+
+/// A row of the table, made, and joined with itself. None where there is no book, an outcome is not the rank's, or memory ran out.
+fn assert_made(rt: &impl Abort, alloc: Global, row: &str) -> Option<()> {
+    let row = job_row(row)?;
+    let spec = bound(alloc, row.spec)?;
+    let once = book_of(alloc, &spec, row.job)?;
+    assert_joined(rt, alloc, &spec, &once, row)
 }
 
 #[test]
 fn a_book_has_the_facts_of_its_job(rt: HostRuntime) -> Result<(), Fail> {
     for row in JOBS.lines() {
-        assert_made(&rt, rt.alloc(), row)?;
+        assert_made(&rt, rt.alloc(), row).ok_or(row)?;
     }
     Ok(())
 }
@@ -126,21 +203,30 @@ const REFUSALS: &str =
 0 1 yes | setup block 1 fails | T setup { INSERT INTO t VALUES (1, 0); } session a step s {}
 0 1 yes 0 2 yes + | ranks out of range | T setup { INSERT INTO t VALUES (1, 0); } session a step s {}";
 
-fn assert_refused(rt: &impl Abort, alloc: Global, row: &str) -> Result<(), Fail> {
-    let (job, rest) = row.split_once(" | ").ok_or("a job")?;
-    let (why, spec) = rest.split_once(" | ").ok_or("a refusal")?;
-    let spec = bound(alloc, spec).ok_or("a spec that binds")?;
-    let job = job_of(alloc, job).ok_or("a job")?;
-    let refusal = make(alloc, &spec, &job).err().ok_or("a refusal")?;
-    let told = format!(in alloc; "{refusal}")?;
-    assert_eq!(rt; told.as_str(), why);
-    Ok(())
+/// Why the job of a row is refused. None where it is not, or memory ran out.
+fn refusal_of(alloc: Global, spec: &Spec, job: &str) -> Option<RunError> {
+    let job = job_of(alloc, job)?;
+    make(alloc, spec, &job).err()
+}
+
+fn assert_refusal(rt: &impl Abort, alloc: Global, refusal: RunError, why: &str) -> Option<()> {
+    let told = format!(in alloc; "{refusal}").ok()?;
+    assert_text(rt, &told, why, "a refusal");
+    Some(())
+}
+
+fn assert_refused(rt: &impl Abort, alloc: Global, row: &str) -> Option<()> {
+    let (job, rest) = row.split_once(" | ")?;
+    let (why, spec) = rest.split_once(" | ")?;
+    let spec = bound(alloc, spec)?;
+    let refusal = refusal_of(alloc, &spec, job)?;
+    assert_refusal(rt, alloc, refusal, why)
 }
 
 #[test]
 fn a_job_is_refused_by_the_first_that_fits(rt: HostRuntime) -> Result<(), Fail> {
     for row in REFUSALS.lines() {
-        assert_refused(&rt, rt.alloc(), row)?;
+        assert_refused(&rt, rt.alloc(), row).ok_or(row)?;
     }
     Ok(())
 }
@@ -183,73 +269,90 @@ fn deep(alloc: Global, levels: u64, end: u64, lean: Lean) -> Option<Job> {
     Some(job)
 }
 
-fn assert_levels_made(rt: &impl Abort, alloc: Global, spec: &Spec, lean: Lean) -> Option<()> {
+static LEANS: [Lean; 3] = [Lean::Left, Lean::Right, Lean::InTurn];
+
+fn book_of_levels(alloc: Global, spec: &Spec, lean: Lean) -> Option<Book> {
     let job = deep(alloc, 1_000, 1, lean)?;
-    let book = make(alloc, spec, &job).ok()?;
+    make(alloc, spec, &job).ok()
+}
+
+fn assert_levels_made(rt: &impl Abort, alloc: Global, spec: &Spec, lean: Lean) -> Option<()> {
+    let book = book_of_levels(alloc, spec, lean)?;
     assert!(rt; missing(&book).is_none(), "the one rank was run");
     Some(())
 }
 
 #[test]
 fn a_thousand_levels_are_made(rt: HostRuntime) -> Result<(), Fail> {
-    let alloc = rt.alloc();
-    let spec = bound(alloc, "session a step s {}").ok_or("a spec")?;
-    for lean in [Lean::Left, Lean::Right, Lean::InTurn] {
-        assert_levels_made(&rt, alloc, &spec, lean).ok_or("a book")?;
+    let spec = bound(rt.alloc(), "session a step s {}").ok_or("a spec")?;
+    for lean in &LEANS {
+        assert_levels_made(&rt, rt.alloc(), &spec, *lean).ok_or("a book")?;
     }
     Ok(())
 }
 
 /// The job is refused before its shard that is out of range, and is let go.
-fn assert_too_deep(rt: &impl Abort, alloc: Global, spec: &Spec, job: &Job) -> Option<()> {
-    let refusal = make(alloc, spec, job).err()?;
-    let told = format!(in alloc; "{refusal}").ok()?;
-    assert_eq!(rt; told.as_str(), "too many levels");
-    Some(())
+fn assert_too_deep(
+    rt: &impl Abort,
+    alloc: Global,
+    spec: &Spec,
+    levels: u64,
+    lean: Lean,
+) -> Option<()> {
+    let job = deep(alloc, levels, 2, lean)?;
+    let refusal = make(alloc, spec, &job).err()?;
+    assert_refusal(rt, alloc, refusal, "too many levels")
 }
 
 #[test]
 fn more_levels_are_refused_and_a_quarter_of_a_million_let_go(rt: HostRuntime) -> Result<(), Fail> {
-    let alloc = rt.alloc();
-    let spec = bound(alloc, "session a step s {}").ok_or("a spec")?;
-    for lean in [Lean::Left, Lean::Right, Lean::InTurn] {
-        for levels in [1_001, 250_000] {
-            let job = deep(alloc, levels, 2, lean).ok_or("a job")?;
-            assert_too_deep(&rt, alloc, &spec, &job).ok_or("a refusal")?;
-        }
+    let spec = bound(rt.alloc(), "session a step s {}").ok_or("a spec")?;
+    for lean in &LEANS {
+        assert_too_deep(&rt, rt.alloc(), &spec, 1_001, *lean).ok_or("a refusal")?;
+        assert_too_deep(&rt, rt.alloc(), &spec, 250_000, *lean).ok_or("a refusal")?;
     }
     Ok(())
+}
+
+fn empty_book(alloc: Global, text: &str) -> Option<Book> {
+    let spec = bound(alloc, text)?;
+    Book::empty(alloc, &spec).ok()
+}
+
+fn assert_not_joined(rt: &impl Abort, alloc: Global, book: &Book, other: &Book) -> Option<()> {
+    let refusal = join(book, other).err()?;
+    let told = format!(in alloc; "{refusal}").ok()?;
+    assert_text(rt, &told, "books of different specs", "a refusal");
+    assert_text(rt, book.text(), "session a step s {}", "the first book");
+    Some(())
 }
 
 #[test]
 fn books_of_two_specs_are_not_joined(rt: HostRuntime) -> Result<(), Fail> {
-    let alloc = rt.alloc();
-    let one = bound(alloc, "session a step s {}").ok_or("a spec")?;
-    let other = bound(
-        alloc,
+    let book = empty_book(rt.alloc(), "session a step s {}").ok_or("a book")?;
+    let other = empty_book(
+        rt.alloc(),
         "T session a step a1 { INSERT INTO t VALUES (3, 30); } session b step b1 { SELECT v FROM t WHERE id = 3; }",
     )
-    .ok_or("a spec")?;
-    let book = Book::empty(alloc, &one)?;
-    let refusal = join(&book, &Book::empty(alloc, &other)?)
-        .err()
-        .ok_or("a refusal")?;
-    let told = format!(in alloc; "{refusal}")?;
-    assert_eq!(rt; told.as_str(), "books of different specs");
-    assert_eq!(rt; book.text(), "session a step s {}");
+    .ok_or("a book")?;
+    assert_not_joined(&rt, rt.alloc(), &book, &other).ok_or("a refusal")?;
     Ok(())
 }
 
 /// The job made; where memory is refused to it, once more. No second growth is refused.
-fn made_again(rt: &impl Abort, alloc: Global, spec: &Spec, job: &str) -> Option<Book> {
-    let job = job_of(alloc, job)?;
-    match make(alloc, spec, &job) {
+fn made_of(rt: &impl Abort, alloc: Global, spec: &Spec, job: &Job) -> Option<Book> {
+    match make(alloc, spec, job) {
         Ok(book) => return Some(book),
         Err(error) => assert!(rt; matches!(error, RunError::NoMemory), "making"),
     }
-    let again = make(alloc, spec, &job).ok();
+    let again = make(alloc, spec, job).ok();
     assert!(rt; again.is_some(), "making again");
     again
+}
+
+fn made_again(rt: &impl Abort, alloc: Global, spec: &Spec, job: &str) -> Option<Book> {
+    let job = job_of(alloc, job)?;
+    made_of(rt, alloc, spec, &job)
 }
 
 /// The books joined; where memory is refused to it, they are as before, and are joined once more.
@@ -278,14 +381,23 @@ fn reported_again(rt: &impl Abort, alloc: Global, book: &Book) -> Option<Report>
     again
 }
 
-/// The two books of ranks of a spec, each refused at most one growth, and all that is asked of them. None where memory ran out before.
-fn asked_again(rt: &impl Abort, alloc: Global, spec: &Spec) -> Option<bool> {
+/// The join of two books of ranks of a spec, each refused at most one growth. None where memory ran out before.
+fn both_again(rt: &impl Abort, alloc: Global, spec: &Spec) -> Option<Book> {
     let front = made_again(rt, alloc, spec, "0 2 yes 2 4 no +")?;
     let back = made_again(rt, alloc, spec, "2 4 yes 4 6 no 3 5 yes + +")?;
-    let both = joined_again(rt, &front, &back)?;
-    assert!(rt; missing(&both).is_none(), "the join has all");
-    let report = reported_again(rt, alloc, &both)?;
+    joined_again(rt, &front, &back)
+}
+
+fn are_alike_again(rt: &impl Abort, alloc: Global, spec: &Spec, both: &Book) -> Option<bool> {
+    let report = reported_again(rt, alloc, both)?;
     are_alike(alloc, spec, &report)
+}
+
+/// The two books, and all that is asked of them. None where memory ran out before.
+fn asked_again(rt: &impl Abort, alloc: Global, spec: &Spec) -> Option<bool> {
+    let both = both_again(rt, alloc, spec)?;
+    assert!(rt; missing(&both).is_none(), "the join has all");
+    are_alike_again(rt, alloc, spec, &both)
 }
 
 #[test]

@@ -1,5 +1,6 @@
 //! Book files as they are read: which bytes are a book, and why others are none. The test without memory is to be read under
 //! `rt try --test --fail-alloc` too.
+use crate::asserts::assert_text;
 use book_files::{BookError, read_book};
 use outcome_books::{Book, missing, report};
 use std::alloc::Global;
@@ -120,7 +121,7 @@ no JSON value | {"format":1,"format":2,"spec":"\ud800"}"#;
 fn assert_told(rt: &impl Abort, alloc: Global, row: &str) -> Result<(), Fail> {
     let (want, text) = row.split_once(" | ").ok_or("a text")?;
     let got = told(alloc, text.as_bytes()).ok_or("memory")?;
-    assert_eq!(rt; got.as_str(), want, "{text}");
+    assert_text(rt, &got, want, text);
     Ok(())
 }
 
@@ -163,7 +164,7 @@ fn assert_runs(rt: &impl Abort, alloc: Global, row: &str) -> Result<(), Fail> {
         "{{\"facts\":[{facts}],\"format\":2,\"outcomes\":[{SAME_OUTCOME}],\"spec\":\"{TWO_BY_TWO}\"}}"
     )?;
     let got = told(alloc, text.as_bytes()).ok_or("memory")?;
-    assert_eq!(rt; got.as_str(), want, "{facts}");
+    assert_text(rt, &got, want, facts);
     Ok(())
 }
 
@@ -180,25 +181,42 @@ const BOOKS: &str =
     r#"{"facts":[[0,"ran",[[["sent",0],"done"]]]],"format":1,"spec":"session a step s {}"}
 {"facts":[[0,1,"ran",0]],"format":2,"outcomes":[[[["sent",0],"done"]]],"spec":"session a step s {}"}"#;
 
+fn assert_unread(
+    rt: &impl Abort,
+    alloc: Global,
+    text: &[u8],
+    calls_left: Option<usize>,
+    want: BookError,
+) {
+    let refused = read(alloc, text, calls_left).err();
+    assert!(rt; refused == Some(want), "{want} of {} bytes", text.len());
+}
+
+fn assert_no_front(rt: &impl Abort, alloc: Global, book: &[u8]) {
+    for front in 0..book.len() {
+        assert_unread(rt, alloc, &book[..front], None, BookError::NotJson);
+    }
+}
+
 #[test]
 fn no_front_of_a_book_is_one(rt: HostRuntime) -> Result<(), Fail> {
     for (book, count) in BOOKS.lines().zip([83usize, 100]) {
-        assert_eq!(rt; book.len(), count);
-        for front in 0..book.len() {
-            let refused = read(rt.alloc(), &book.as_bytes()[..front], None).err();
-            assert_eq!(rt; refused, Some(BookError::NotJson), "{front}");
-        }
+        assert!(rt; book.len() == count, "{count}");
+        assert_no_front(&rt, rt.alloc(), book.as_bytes());
     }
     Ok(())
+}
+
+fn assert_reads_fail(rt: &impl Abort, alloc: Global, book: &[u8]) {
+    for calls in 0..=book.len() {
+        assert_unread(rt, alloc, book, Some(calls), BookError::ReadFault);
+    }
 }
 
 #[test]
 fn a_read_that_fails_is_told_at_once(rt: HostRuntime) -> Result<(), Fail> {
     for book in BOOKS.lines() {
-        for calls in 0..=book.len() {
-            let refused = read(rt.alloc(), book.as_bytes(), Some(calls)).err();
-            assert_eq!(rt; refused, Some(BookError::ReadFault), "{calls}");
-        }
+        assert_reads_fail(&rt, rt.alloc(), book.as_bytes());
     }
     Ok(())
 }
@@ -206,8 +224,7 @@ fn a_read_that_fails_is_told_at_once(rt: HostRuntime) -> Result<(), Fail> {
 #[test]
 fn bytes_that_are_no_text_are_no_book(rt: HostRuntime) -> Result<(), Fail> {
     for text in [b"\xff", b"\x00", b"{"] {
-        let refused = read(rt.alloc(), text.as_slice(), None).err();
-        assert_eq!(rt; refused, Some(BookError::NotJson));
+        assert_unread(&rt, rt.alloc(), text.as_slice(), None, BookError::NotJson);
     }
     Ok(())
 }
@@ -216,8 +233,8 @@ fn bytes_that_are_no_text_are_no_book(rt: HostRuntime) -> Result<(), Fail> {
 fn a_book_without_memory_is_refused_by_name(rt: HostRuntime) -> Result<(), Fail> {
     for book in BOOKS.lines() {
         match read(rt.alloc(), book.as_bytes(), None) {
-            Ok(book) => assert_eq!(rt; missing(&book), None),
-            Err(error) => assert_eq!(rt; error, BookError::NoMemory),
+            Ok(book) => assert!(rt; missing(&book).is_none()),
+            Err(error) => assert!(rt; error == BookError::NoMemory, "{error}"),
         }
     }
     Ok(())

@@ -1,5 +1,6 @@
 //! The walker by its calls: the facts of a shard, the steps sent for them, and what is refused. The tests without memory are to be
 //! read under `rt try --test --fail-alloc` too.
+use crate::asserts::assert_text;
 use crate::texts::spec_of;
 use session_machine::RunError;
 use spec_reader::read_spec;
@@ -62,12 +63,16 @@ fn push_facts(text: &mut String, facts: &[(u64, Fact)]) -> Result<(), AllocError
     Ok(())
 }
 
+fn told_facts(alloc: Global, facts: &[(u64, Fact)]) -> Option<String> {
+    let mut text = String::new(alloc);
+    push_facts(&mut text, facts).ok()?;
+    Some(text)
+}
+
 /// The same by one call. None where memory ran out.
 fn facts_at_once(alloc: Global, spec: &Spec, shard: Shard, reduce: bool) -> Option<String> {
     let facts = run_shard(alloc, spec, shard, reduce).ok()?;
-    let mut text = String::new(alloc);
-    push_facts(&mut text, &facts).ok()?;
-    Some(text)
+    told_facts(alloc, &facts)
 }
 
 fn is_done(walker: &mut Walker<'_>) -> bool {
@@ -109,10 +114,10 @@ fn walk_of(row: &str) -> Option<Walk<'_>> {
 fn assert_walked(rt: &impl Abort, alloc: Global, walker: &mut Walker<'_>, walk: &Walk<'_>) {
     let count = walk.shard.end.saturating_sub(walk.shard.first);
     let told = facts_of(alloc, walker, count).expect(rt, "facts");
-    assert_eq!(rt; told.as_str(), walk.facts);
+    assert_text(rt, &told, walk.facts, "rank by rank");
     assert!(rt; is_done(walker) && is_done(walker), "none behind the last");
     if walk.sent.is_some() {
-        assert_eq!(rt; Some(walker.sent()), walk.sent, "{}", walk.facts);
+        assert!(rt; Some(walker.sent()) == walk.sent, "{}", walk.facts);
     }
 }
 
@@ -123,20 +128,24 @@ fn assert_walk(rt: &impl Abort, alloc: Global, spec: &Spec, walk: &Walk<'_>) {
     }
 }
 
-/// A row of the table, walked rank by rank and at once.
-fn assert_row(rt: &impl Abort, alloc: Global, row: &str) -> Result<(), Fail> {
-    let walk = walk_of(row).ok_or("a walk")?;
-    let spec = bound(alloc, walk.spec).ok_or("a spec that binds")?;
+fn assert_at_once(rt: &impl Abort, alloc: Global, spec: &Spec, walk: &Walk<'_>) -> Option<()> {
+    let told = facts_at_once(alloc, spec, walk.shard, walk.reduce)?;
+    assert_text(rt, &told, walk.facts, "at once");
+    Some(())
+}
+
+/// A row of the table, walked rank by rank and at once. None where it is no row, or memory ran out.
+fn assert_row(rt: &impl Abort, alloc: Global, row: &str) -> Option<()> {
+    let walk = walk_of(row)?;
+    let spec = bound(alloc, walk.spec)?;
     assert_walk(rt, alloc, &spec, &walk);
-    let told = facts_at_once(alloc, &spec, walk.shard, walk.reduce).ok_or("facts")?;
-    assert_eq!(rt; told.as_str(), walk.facts);
-    Ok(())
+    assert_at_once(rt, alloc, &spec, &walk)
 }
 
 #[test]
 fn each_rank_has_its_fact(rt: HostRuntime) -> Result<(), Fail> {
     for row in WALKS.lines() {
-        assert_row(&rt, rt.alloc(), row)?;
+        assert_row(&rt, rt.alloc(), row).ok_or(row)?;
     }
     Ok(())
 }
@@ -158,32 +167,45 @@ fn refused_shard(alloc: Global, spec: &Spec, shard: Shard) -> Option<RunError> {
     run_shard(alloc, spec, shard, false).err()
 }
 
-fn assert_refusal(
-    rt: &impl Abort,
-    alloc: Global,
-    refusal: Option<RunError>,
-    why: &str,
-) -> Result<(), Fail> {
-    let refusal = refusal.ok_or("a refusal")?;
-    let told = format!(in alloc; "{refusal}")?;
-    assert_eq!(rt; told.as_str(), why);
-    Ok(())
+fn assert_refusal(rt: &impl Abort, alloc: Global, refusal: RunError, why: &str) -> Option<()> {
+    let told = format!(in alloc; "{refusal}").ok()?;
+    assert_text(rt, &told, why, "a refusal");
+    Some(())
 }
 
-fn assert_refused(rt: &impl Abort, alloc: Global, row: &str) -> Result<(), Fail> {
-    let (first, rest) = row.split_once(" | ").ok_or("a rank")?;
-    let (end, rest) = rest.split_once(" | ").ok_or("an end")?;
-    let (why, spec) = rest.split_once(" | ").ok_or("a refusal")?;
-    let shard = shard_of(first, end).ok_or("two numbers")?;
-    let spec = bound(alloc, spec).ok_or("a spec that binds")?;
-    assert_refusal(rt, alloc, refused_walker(alloc, &spec, shard), why)?;
-    assert_refusal(rt, alloc, refused_shard(alloc, &spec, shard), why)
+/// A row of the table of refusals.
+#[derive(Clone, Copy)]
+struct Refusal<'a> {
+    shard: Shard,
+    why: &'a str,
+    spec: &'a str,
+}
+
+fn refusal_of(row: &str) -> Option<Refusal<'_>> {
+    let (first, rest) = row.split_once(" | ")?;
+    let (end, rest) = rest.split_once(" | ")?;
+    let (why, spec) = rest.split_once(" | ")?;
+    Some(Refusal {
+        shard: shard_of(first, end)?,
+        why,
+        spec,
+    })
+}
+
+/// The row's shard is refused to a walker, and at once. None where it is not, or memory ran out.
+fn assert_refused(rt: &impl Abort, alloc: Global, row: &str) -> Option<()> {
+    let Refusal { shard, why, spec } = refusal_of(row)?;
+    let spec = bound(alloc, spec)?;
+    let walker = refused_walker(alloc, &spec, shard)?;
+    assert_refusal(rt, alloc, walker, why)?;
+    let at_once = refused_shard(alloc, &spec, shard)?;
+    assert_refusal(rt, alloc, at_once, why)
 }
 
 #[test]
 fn a_shard_is_refused_by_the_first_that_fits(rt: HostRuntime) -> Result<(), Fail> {
     for row in REFUSALS.lines() {
-        assert_refused(&rt, rt.alloc(), row)?;
+        assert_refused(&rt, rt.alloc(), row).ok_or(row)?;
     }
     Ok(())
 }
@@ -267,10 +289,9 @@ fn next_run_anyhow<'a>(
 }
 
 /// A run as the table of runs has it.
-fn push_run(alloc: Global, text: &mut String, run: &FactRun) -> Result<(), AllocError> {
+fn push_run(text: &mut String, run: &FactRun) -> Result<(), AllocError> {
     push_fact(text, &run.fact)?;
-    let ranks = format!(in alloc; " {}-{}", run.first, run.end)?;
-    text.push_str(ranks.as_str())
+    write!(text, " {}-{}", run.first, run.end)
 }
 
 /// Takes the run at the front of what is left. None where memory runs out again.
@@ -284,9 +305,40 @@ fn take_run<'a>(
     text: &mut String,
 ) -> Option<()> {
     let run = next_run_anyhow(rt, alloc, spec, walker, *rest, reduce)?;
-    assert_eq!(rt; run.first, rest.first);
+    assert!(rt; run.first == rest.first, "{}", run.first);
     rest.first = run.end;
-    push_run(alloc, text, &run).ok()
+    push_run(text, &run).ok()
+}
+
+fn push_runs<'a>(
+    rt: &impl Abort,
+    alloc: Global,
+    spec: &'a Spec,
+    walker: &mut Walker<'a>,
+    shard: Shard,
+    reduce: bool,
+    text: &mut String,
+) -> Option<()> {
+    let mut rest = shard;
+    for _run in shard.first..shard.end {
+        if rest.first < rest.end {
+            take_run(rt, alloc, spec, walker, &mut rest, reduce, text)?;
+        }
+    }
+    Some(())
+}
+
+fn runs_anyhow<'a>(
+    rt: &impl Abort,
+    alloc: Global,
+    spec: &'a Spec,
+    walker: &mut Walker<'a>,
+    shard: Shard,
+    reduce: bool,
+) -> Option<String> {
+    let mut text = String::new(alloc);
+    push_runs(rt, alloc, spec, walker, shard, reduce, &mut text)?;
+    Some(text)
 }
 
 /// All runs of a shard, in parts where memory is refused. None where memory runs out again.
@@ -297,15 +349,10 @@ fn runs_in_parts(
     shard: Shard,
     reduce: bool,
 ) -> Option<String> {
-    let mut walker = Walker::new(alloc, spec, shard, reduce).ok()?;
-    let mut text = String::new(alloc);
-    let mut rest = shard;
-    for _run in shard.first..shard.end {
-        if rest.first < rest.end {
-            take_run(rt, alloc, spec, &mut walker, &mut rest, reduce, &mut text)?;
-        }
+    match Walker::new(alloc, spec, shard, reduce) {
+        Ok(mut walker) => runs_anyhow(rt, alloc, spec, &mut walker, shard, reduce),
+        Err(_) => None,
     }
-    Some(text)
 }
 
 /// Shards: the first rank and the end, whether facts are reduced, the fact of each run with its first rank and its end, and a spec. All
@@ -316,27 +363,42 @@ const RUNS_OF: &str =
 4 | 6 | yes | 0 4-5 1 5-6 | session a step a1 {} step a2 {} session b step b1 {} step b2 {}
 0 | 3 | yes | ran 0-1 ran 1-2 ran 2-3 | T session a step a1 {} step a2 {} session b step b1 {} permutation a1 a2 b1 permutation a1 a2 permutation b1 a1";
 
-fn assert_runs(rt: &impl Abort, alloc: Global, row: &str) -> Result<(), Fail> {
-    let (first, rest) = row.split_once(" | ").ok_or("a rank")?;
-    let (end, rest) = rest.split_once(" | ").ok_or("an end")?;
-    let (reduce, rest) = rest.split_once(" | ").ok_or("yes or no")?;
-    let (runs, spec) = rest.split_once(" | ").ok_or("runs")?;
-    let shard = Shard {
-        first: first.parse::<u64>().ok().ok_or("a number")?,
-        end: end.parse::<u64>().ok().ok_or("a number")?,
-    };
-    if let Some(spec) = bound(alloc, spec) {
-        if let Some(told) = runs_in_parts(rt, alloc, &spec, shard, reduce == "yes") {
-            assert_eq!(rt; told.as_str(), runs);
+/// A row of the table of runs.
+#[derive(Clone, Copy)]
+struct Runs<'a> {
+    shard: Shard,
+    reduce: bool,
+    runs: &'a str,
+    spec: &'a str,
+}
+
+fn runs_of(row: &str) -> Option<Runs<'_>> {
+    let (first, rest) = row.split_once(" | ")?;
+    let (end, rest) = rest.split_once(" | ")?;
+    let (reduce, rest) = rest.split_once(" | ")?;
+    let (runs, spec) = rest.split_once(" | ")?;
+    Some(Runs {
+        shard: shard_of(first, end)?,
+        reduce: reduce == "yes",
+        runs,
+        spec,
+    })
+}
+
+/// The runs of a row, unless memory runs out.
+fn assert_runs(rt: &impl Abort, alloc: Global, row: Runs<'_>) {
+    if let Some(spec) = bound(alloc, row.spec) {
+        if let Some(told) = runs_in_parts(rt, alloc, &spec, row.shard, row.reduce) {
+            assert_text(rt, &told, row.runs, "runs");
         }
     }
-    Ok(())
 }
 
 #[test]
 fn runs_follow_on_each_other_where_memory_ran_out_too(rt: HostRuntime) -> Result<(), Fail> {
     for row in RUNS_OF.lines() {
-        assert_runs(&rt, rt.alloc(), row)?;
+        let row = runs_of(row).ok_or("runs")?;
+        assert_runs(&rt, rt.alloc(), row);
     }
     Ok(())
 }
@@ -357,7 +419,7 @@ fn a_new_walker_gives_the_rest_where_memory_ran_out(rt: HostRuntime) {
     if let Some(spec) = bound(rt.alloc(), DISJOINT) {
         let shard = Shard { first: 0, end: 6 };
         if let Some(facts) = facts_in_parts(&rt, rt.alloc(), &spec, shard) {
-            assert_eq!(rt; facts.as_str(), "ran 1 2 0 0 1");
+            assert_text(&rt, &facts, "ran 1 2 0 0 1", "facts");
         }
     }
 }
@@ -367,7 +429,7 @@ fn a_shard_is_run_whole_unless_memory_runs_out(rt: HostRuntime) {
     if let Some(spec) = bound(rt.alloc(), DISJOINT) {
         let shard = Shard { first: 0, end: 6 };
         if let Some(facts) = facts_at_once(rt.alloc(), &spec, shard, true) {
-            assert_eq!(rt; facts.as_str(), "ran 1 2 0 0 1");
+            assert_text(&rt, &facts, "ran 1 2 0 0 1", "facts");
         }
     }
 }

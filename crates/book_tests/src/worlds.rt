@@ -1,5 +1,6 @@
 //! The machine by its calls: a world takes steps, is forked, and tells its outcome and its locks. The tests without memory are
 //! to be read under `rt try --test --fail-alloc` too.
+use crate::asserts::assert_text;
 use crate::texts::TABLE;
 use lock_modes::{Mode, Place, Value};
 use session_machine::{RunError, SendError, StartError, World, run_one};
@@ -41,11 +42,16 @@ fn text_of(rt: &impl Abort, alloc: Global, spec: &Spec, outcome: &Outcome) -> St
     text_where_memory(rt, alloc, spec, outcome).expect(rt, "a text")
 }
 
+fn assert_outcome(rt: &impl Abort, alloc: Global, spec: &Spec, outcome: &Outcome, want: &str) {
+    let text = text_of(rt, alloc, spec, outcome);
+    assert_text(rt, &text, want, "an outcome");
+}
+
 fn assert_rank_tells(rt: &impl Abort, alloc: Global, sessions: &str, rank: u64, want: &str) {
     let spec = spec_of(rt, alloc, sessions);
     let line = spec.line(rank).expect(rt, "a rank of the spec");
     let outcome = run_one(alloc, &spec, &line).expect(rt, "an outcome");
-    assert_eq!(rt; text_of(rt, alloc, &spec, &outcome).as_str(), want);
+    assert_outcome(rt, alloc, &spec, &outcome, want);
 }
 
 const INSERT_AND_READ: &str = "session a step a1 { INSERT INTO t VALUES (3, 30); }
@@ -60,31 +66,34 @@ const STEP_SENT_TWICE: &str =
     session b step b1 { INSERT INTO t VALUES (4, 0); }
     permutation a1(*) b1(a1 notices 1) a1";
 
+/// Sessions, a rank, and what it tells.
+static RANKS: [(&str, u64, &str); 4] = [
+    (
+        INSERT_AND_READ,
+        0,
+        "session a\n  step a1\n  inserted 1\n  done\nsession b\n  step b1\n  row 30\n  rows 1\n  done\n",
+    ),
+    (
+        INSERT_AND_READ,
+        1,
+        "session a\n  step a1\n  inserted 1\n  done\nsession b\n  step b1\n  rows 0\n  done\n",
+    ),
+    (
+        FAILS_THEN_COUNTS,
+        0,
+        "session a\n  step a1\n  inserted 1\n  error: duplicate key\n  done\n  step a2\n  row 2|30\n  rows 1\n  done\n",
+    ),
+    (
+        STEP_SENT_TWICE,
+        0,
+        "session a\n  step a1\n  row 10\n  rows 1\n  done\n  step a1\n  row 10\n  rows 1\n  done\nsession b\n  step b1\n  inserted 1\n  done\n",
+    ),
+];
+
 #[test]
 fn a_rank_tells_what_its_steps_did(rt: HostRuntime) {
-    for (sessions, rank, want) in [
-        (
-            INSERT_AND_READ,
-            0,
-            "session a\n  step a1\n  inserted 1\n  done\nsession b\n  step b1\n  row 30\n  rows 1\n  done\n",
-        ),
-        (
-            INSERT_AND_READ,
-            1,
-            "session a\n  step a1\n  inserted 1\n  done\nsession b\n  step b1\n  rows 0\n  done\n",
-        ),
-        (
-            FAILS_THEN_COUNTS,
-            0,
-            "session a\n  step a1\n  inserted 1\n  error: duplicate key\n  done\n  step a2\n  row 2|30\n  rows 1\n  done\n",
-        ),
-        (
-            STEP_SENT_TWICE,
-            0,
-            "session a\n  step a1\n  row 10\n  rows 1\n  done\n  step a1\n  row 10\n  rows 1\n  done\nsession b\n  step b1\n  inserted 1\n  done\n",
-        ),
-    ] {
-        assert_rank_tells(&rt, rt.alloc(), sessions, rank, want);
+    for (sessions, rank, want) in &RANKS {
+        assert_rank_tells(&rt, rt.alloc(), sessions, *rank, want);
     }
 }
 
@@ -93,24 +102,21 @@ fn refusal(alloc: Global, spec: &Spec) -> Option<StartError> {
     World::start(alloc, spec).err()
 }
 
+fn assert_not_started(rt: &impl Abort, alloc: Global, sessions: &str, want: StartError) {
+    let spec = spec_of(rt, alloc, sessions);
+    assert!(rt; refusal(alloc, &spec) == Some(want), "{sessions}");
+}
+
 #[test]
 fn a_setup_that_fails_refuses_the_start(rt: HostRuntime) {
-    let alloc = rt.alloc();
     let twice =
         "setup { INSERT INTO t VALUES (3, 0); INSERT INTO t VALUES (1, 0); } session a step s {}";
-    let twice = spec_of(&rt, alloc, twice);
-    assert_eq!(rt;
-        refusal(alloc, &twice),
-        Some(StartError::SetupFailed { block: 1 })
-    );
+    assert_not_started(&rt, rt.alloc(), twice, StartError::SetupFailed { block: 1 });
     let second = "session a setup { INSERT INTO t VALUES (3, 0); } step s {}
         session b setup { SELECT v FROM t WHERE id = 3; INSERT INTO t VALUES (3, 1); } step u {}";
-    let second = spec_of(&rt, alloc, second);
-    assert_eq!(rt;
-        refusal(alloc, &second),
-        Some(StartError::SessionSetupFailed { session: 1 })
-    );
-    assert_eq!(rt; StartError::SessionSetupFailed { session: 1 }.number(), 2);
+    let refused = StartError::SessionSetupFailed { session: 1 };
+    assert_not_started(&rt, rt.alloc(), second, refused);
+    assert!(rt; refused.number() == 2, "the number");
 }
 
 /// Sends a step of the world's spec.
@@ -133,7 +139,7 @@ fn world_after<'a>(rt: &impl Abort, alloc: Global, spec: &'a Spec, step: u8) -> 
 
 fn assert_tells(rt: &impl Abort, alloc: Global, world: &World<'_>, want: &str) {
     let outcome = world.outcome().expect(rt, "an outcome");
-    assert_eq!(rt; text_of(rt, alloc, world.spec(), &outcome).as_str(), want);
+    assert_outcome(rt, alloc, world.spec(), &outcome, want);
 }
 
 #[test]
@@ -228,7 +234,7 @@ fn assert_spent(rt: &impl Abort, world: &mut World<'_>, step: u8) {
         "a spent world tells nothing"
     );
     match send(rt, world, step) {
-        Err(error) => assert_eq!(rt; error, SendError::Spent),
+        Err(error) => assert!(rt; error == SendError::Spent, "{error}"),
         Ok(()) => assert!(rt; false, "a spent world takes no step"),
     }
 }
@@ -238,7 +244,7 @@ fn is_sent(rt: &impl Abort, world: &mut World<'_>, step: u8) -> bool {
     let Err(error) = send(rt, world, step) else {
         return true;
     };
-    assert_eq!(rt; error, SendError::NoMemory);
+    assert!(rt; error == SendError::NoMemory, "{error}");
     assert_spent(rt, world, step);
     false
 }
@@ -263,7 +269,7 @@ fn goes_on(rt: &impl Abort, world: &mut World<'_>, step: u8) -> bool {
 /// What the lost update tells, or that memory ran out.
 fn assert_lost_update(rt: &impl Abort, alloc: Global, spec: &Spec, outcome: &Outcome) {
     if let Some(text) = text_where_memory(rt, alloc, spec, outcome) {
-        assert_eq!(rt; text.as_str(), LOST_UPDATE_TELLS);
+        assert_text(rt, &text, LOST_UPDATE_TELLS, "the lost update");
     }
 }
 
@@ -272,21 +278,23 @@ fn start_where_memory<'a>(rt: &impl Abort, alloc: Global, spec: &'a Spec) -> Opt
     match World::start(alloc, spec) {
         Ok(world) => Some(world),
         Err(error) => {
-            assert_eq!(rt; error, StartError::NoMemory);
+            assert!(rt; error == StartError::NoMemory, "{error}");
             None
         }
     }
 }
 
+static LOST_UPDATE_SENDS: [u8; 4] = [0, 2, 1, 3];
+
 fn assert_goes_on(rt: &impl Abort, alloc: Global, world: &mut World<'_>) {
-    for step in [0, 2, 1, 3] {
-        if !goes_on(rt, world, step) {
+    for step in &LOST_UPDATE_SENDS {
+        if !goes_on(rt, world, *step) {
             return;
         }
     }
     match world.outcome() {
         Ok(outcome) => assert_lost_update(rt, alloc, world.spec(), &outcome),
-        Err(error) => assert_eq!(rt; error, SendError::NoMemory),
+        Err(error) => assert!(rt; error == SendError::NoMemory, "{error}"),
     }
 }
 
@@ -307,6 +315,6 @@ fn a_run_without_memory_is_refused(rt: HostRuntime) {
     let line = spec.line(0).expect(&rt, "a rank of the spec");
     match run_one(rt.alloc(), &spec, &line) {
         Ok(outcome) => assert_lost_update(&rt, rt.alloc(), &spec, &outcome),
-        Err(error) => assert_eq!(rt; error, RunError::NoMemory),
+        Err(error) => assert!(rt; error == RunError::NoMemory, "{error}"),
     }
 }

@@ -1,5 +1,6 @@
 //! Book files by their calls: what is written of a book, and what a writer that fails has of it.
-use crate::books::job_of;
+use crate::asserts::assert_text;
+use crate::books::{book_of, job_of};
 use crate::walks::bound;
 use book_files::{WriteError, write_book};
 use outcome_books::{Book, join, make};
@@ -10,11 +11,8 @@ use std::test::Fail;
 use transcripts::Counted;
 
 /// Whether bytes are the text; else they are shown.
-fn assert_text(rt: &impl Abort, bytes: &[u8], want: &str, name: &str) {
-    match str::from_utf8(bytes) {
-        Ok(text) => assert_eq!(rt; text, want, "{name}"),
-        Err(_) => assert!(rt; false, "{name} is no UTF-8"),
-    }
+fn assert_bytes(rt: &impl Abort, bytes: &[u8], want: &str, name: &str) {
+    assert_text(rt, str::from_utf8(bytes).unwrap_or("no UTF-8"), want, name);
 }
 
 /// Books: the shards of a job, its runs, its outcomes, and the spec.
@@ -32,31 +30,67 @@ fn text_of(alloc: Global, facts: &str, outcomes: &str, spec: &str) -> Option<Str
     ).ok()
 }
 
-/// A row of the table, written alone, and joined with itself.
-fn assert_written(rt: &impl Abort, alloc: Global, row: &str) -> Result<(), Fail> {
-    let (job, rest) = row.split_once(" | ").ok_or("a job")?;
-    let (facts, rest) = rest.split_once(" | ").ok_or("runs")?;
-    let (outcomes, text) = rest.split_once(" | ").ok_or("outcomes")?;
-    let want = text_of(alloc, facts, outcomes, text).ok_or("memory")?;
-    let spec = bound(alloc, text).ok_or("a spec that binds")?;
-    let job = job_of(alloc, job).ok_or("a job")?;
-    let once = make(alloc, &spec, &job).ok().ok_or("a book")?;
-    let twice = join(&once, &once).ok().ok_or("a join")?;
-    for book in [once, twice] {
-        let mut out = Counted::new(Vec::new(alloc));
-        write_book(alloc, &book, &mut out).ok().ok_or("a text")?;
-        assert_text(rt, &out.into_inner(), &want, facts);
+/// A row of the table of books.
+#[derive(Clone, Copy)]
+struct BookRow<'a> {
+    job: &'a str,
+    facts: &'a str,
+    outcomes: &'a str,
+    spec: &'a str,
+}
+
+fn book_row(row: &str) -> Option<BookRow<'_>> {
+    let (job, rest) = row.split_once(" | ")?;
+    let (facts, rest) = rest.split_once(" | ")?;
+    let (outcomes, spec) = rest.split_once(" | ")?;
+    Some(BookRow {
+        job,
+        facts,
+        outcomes,
+        spec,
+    })
+}
+
+/// What is written of a book. None where memory ran out.
+fn bytes_of(alloc: Global, book: &Book) -> Option<Vec<u8>> {
+    let mut out = Counted::new(Vec::new(alloc));
+    match write_book(alloc, book, &mut out) {
+        Ok(()) => Some(out.into_inner()),
+        Err(_) => None,
     }
-    Ok(())
+}
+
+fn assert_book(rt: &impl Abort, alloc: Global, book: &Book, want: &str, name: &str) -> Option<()> {
+    let bytes = bytes_of(alloc, book)?;
+    assert_bytes(rt, &bytes, want, name);
+    Some(())
+}
+
+/// A book is written as the row has it, alone and joined with itself.
+fn assert_joined(rt: &impl Abort, alloc: Global, once: &Book, row: BookRow<'_>) -> Option<()> {
+    let want = text_of(alloc, row.facts, row.outcomes, row.spec)?;
+    assert_book(rt, alloc, once, &want, row.facts)?;
+    let twice = join(once, once).ok()?;
+    assert_book(rt, alloc, &twice, &want, row.facts)
+}
+
+/// The book of a job of a spec. None where memory ran out, or there is none.
+fn made(alloc: Global, spec: &str, job: &str) -> Option<Book> {
+    let spec = bound(alloc, spec)?;
+    book_of(alloc, &spec, job)
+}
+
+/// A row of the table, written alone, and joined with itself. None where there is no book, or memory ran out.
+fn assert_written(rt: &impl Abort, alloc: Global, row: &str) -> Option<()> {
+    let row = book_row(row)?;
+    let once = made(alloc, row.spec, row.job)?;
+    assert_joined(rt, alloc, &once, row)
 }
 
 /// What is written of the book of a job. None where memory ran out, or the spec does not bind.
 fn written(alloc: Global, text: &str, job: &str) -> Option<Vec<u8>> {
-    let spec = bound(alloc, text)?;
-    let book = make(alloc, &spec, &job_of(alloc, job)?).ok()?;
-    let mut out = Counted::new(Vec::new(alloc));
-    write_book(alloc, &book, &mut out).ok()?;
-    Some(out.into_inner())
+    let book = made(alloc, text, job)?;
+    bytes_of(alloc, &book)
 }
 
 #[test]
@@ -66,7 +100,7 @@ fn outcomes_stand_in_the_order_of_their_texts(rt: HostRuntime) -> Result<(), Fai
     let text = written(rt.alloc(), spec, "1 2 no 0 1 no +").ok_or("a text")?;
     let want =
         "{\"facts\":[[0,1,\"ran\",1],[1,1,\"ran\",0]],\"format\":2,\"outcomes\":[[[[\"sent\",0],[\"row\",[30]],[\"rows\",1],\"done\"],[[\"sent\",1],[\"inserted\",1],\"done\"]],[[[\"sent\",0],[\"rows\",0],\"done\"],[[\"sent\",1],[\"inserted\",1],\"done\"]]],\"spec\":\"setup { CREATE TABLE t (id int PRIMARY KEY, v int); } session a step a1 { SELECT v FROM t WHERE id = 3; } session b step b1 { INSERT INTO t VALUES (3, 30); }\"}\n";
-    assert_text(&rt, &text, want, "two outcomes");
+    assert_bytes(&rt, &text, want, "two outcomes");
     Ok(())
 }
 
@@ -75,14 +109,14 @@ fn the_text_of_a_spec_is_a_string(rt: HostRuntime) -> Result<(), Fail> {
     let text = written(rt.alloc(), "session \"a\"\n\tstep s {}", "0 1 yes").ok_or("a text")?;
     let want =
         "{\"facts\":[[0,1,\"ran\",0]],\"format\":2,\"outcomes\":[[[[\"sent\",0],\"done\"]]],\"spec\":\"session \\\"a\\\"\\n\\tstep s {}\"}\n";
-    assert_text(&rt, &text, want, "a quoted name");
+    assert_bytes(&rt, &text, want, "a quoted name");
     Ok(())
 }
 
 #[test]
 fn a_book_has_one_text(rt: HostRuntime) -> Result<(), Fail> {
     for row in BOOKS.lines() {
-        assert_written(&rt, rt.alloc(), row)?;
+        assert_written(&rt, rt.alloc(), row).ok_or(row)?;
     }
     Ok(())
 }
@@ -110,19 +144,21 @@ impl Write for Device {
     }
 }
 
-#[test]
-fn a_writer_that_fails_has_a_front_of_the_text(rt: HostRuntime) -> Result<(), Fail> {
-    let alloc = rt.alloc();
-    let spec = bound(alloc, "session a step s {}").ok_or("a spec")?;
-    let job = job_of(alloc, "0 1 yes").ok_or("a job")?;
-    let book = make(alloc, &spec, &job).ok().ok_or("a book")?;
+/// A device with room for 45 bytes has a front of a book.
+fn assert_front(rt: &impl Abort, alloc: Global, book: &Book) {
     let taken = Vec::new(alloc);
     let mut out = Counted::new(Device { taken, room: 45 });
-    let refusal = write_book(alloc, &book, &mut out).err();
-    assert_eq!(rt; refusal, Some(WriteError::WriteFault));
-    assert_eq!(rt; out.failures(), 1);
+    let refusal = write_book(alloc, book, &mut out).err();
+    assert!(rt; refusal == Some(WriteError::WriteFault), "a write fault");
+    assert!(rt; out.failures() == 1, "one failed call");
     let want = "{\"facts\":[[0,1,\"ran\",0]],\"format\":2,\"outcomes";
-    assert_text(&rt, &out.into_inner().taken, want, "a front");
+    assert_bytes(rt, &out.into_inner().taken, want, "a front");
+}
+
+#[test]
+fn a_writer_that_fails_has_a_front_of_the_text(rt: HostRuntime) -> Result<(), Fail> {
+    let book = made(rt.alloc(), "session a step s {}", "0 1 yes").ok_or("a book")?;
+    assert_front(&rt, rt.alloc(), &book);
     Ok(())
 }
 

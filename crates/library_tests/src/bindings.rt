@@ -1,9 +1,8 @@
 use spec_reader::read_spec;
 use sql_statements::{Bound, Output};
-use sql_subset::{BindErrorKind, bind};
+use sql_subset::{BindError, BindErrorKind, Spec, bind};
 use std::alloc::{AllocError, Global};
 use std::fmt::Write;
-use std::process::Abort;
 use std::test::Fail;
 
 /// A spec with a table of a key and 256 more columns, whose names are numbered or all the same.
@@ -28,36 +27,42 @@ fn shown_column(statement: &Bound) -> Option<u16> {
     }
 }
 
+/// The spec of a text. None where it does not bind, or memory ran out.
+fn bound(alloc: Global, text: &str) -> Option<Spec> {
+    let read = read_spec(alloc, text.as_bytes()).ok()?;
+    bind(alloc, &read).ok()
+}
+
+/// Why a spec file does not bind. None where it does, is no spec file, or memory ran out before.
+fn refusal(alloc: Global, text: &str) -> Option<BindError> {
+    let read = read_spec(alloc, text.as_bytes()).ok()?;
+    bind(alloc, &read).err()
+}
+
 #[test]
 fn a_table_of_257_columns_binds(rt: HostRuntime) -> Result<(), Fail> {
-    let alloc = rt.alloc();
-    let text = wide_spec(alloc, true, "SELECT count(*) FROM t")?;
-    assert_eq!(rt; text.len(), 2289);
-    let read = read_spec(alloc, text.as_bytes()).map_err(|_| "a spec")?;
-    let spec = bind(alloc, &read).map_err(|_| "a bound spec")?;
-    assert_eq!(rt; spec.steps(), 1);
+    let text = wide_spec(rt.alloc(), true, "SELECT count(*) FROM t")?;
+    assert!(rt; text.len() == 2289, "a wide spec");
+    let spec = bound(rt.alloc(), &text).ok_or("a bound spec")?;
+    assert!(rt; spec.steps() == 1, "one step");
     Ok(())
 }
 
 #[test]
 fn the_last_of_257_columns_has_number_256(rt: HostRuntime) -> Result<(), Fail> {
-    let alloc = rt.alloc();
-    let text = wide_spec(alloc, true, "SELECT c256 FROM t")?;
-    let read = read_spec(alloc, text.as_bytes()).map_err(|_| "a spec")?;
-    let spec = bind(alloc, &read).map_err(|_| "a bound spec")?;
-    assert!(rt; spec.steps() == 1);
-    let statement = spec.statements(0).first().ok_or("a statement")?;
-    assert_eq!(rt; shown_column(statement), Some(256));
+    let text = wide_spec(rt.alloc(), true, "SELECT c256 FROM t")?;
+    let spec = bound(rt.alloc(), &text).ok_or("a bound spec")?;
+    assert!(rt; spec.steps() == 1, "one step");
+    let shown = spec.statements(0).first().and_then(shown_column);
+    assert!(rt; shown == Some(256), "the last column");
     Ok(())
 }
 
 #[test]
 fn a_table_of_257_columns_of_one_name_is_a_wrong_count(rt: HostRuntime) -> Result<(), Fail> {
-    let alloc = rt.alloc();
-    let text = wide_spec(alloc, false, "SELECT count(*) FROM t")?;
-    let read = read_spec(alloc, text.as_bytes()).map_err(|_| "a spec")?;
-    let error = bind(alloc, &read).err().ok_or("a refusal")?;
-    assert_eq!(rt; error.kind, BindErrorKind::WrongCount);
-    assert_eq!(rt; error.offset, 8);
+    let text = wide_spec(rt.alloc(), false, "SELECT count(*) FROM t")?;
+    let error = refusal(rt.alloc(), &text).ok_or("a refusal")?;
+    assert!(rt; error.kind == BindErrorKind::WrongCount, "the kind");
+    assert!(rt; error.offset == 8, "the place");
     Ok(())
 }

@@ -1,6 +1,7 @@
-ghost use Rattle.std.specs.Prelude.{IfOk};
+ghost use Rattle.std.specs.Prelude.{OnOk};
 ghost use Rattle.statement_effects.specs.Alone.{IsAlone};
 
+use crate::asserts::assert_text;
 use lock_modes::{Mode, Row, Text, Value};
 use row_tables::Store;
 use sql_statements::{
@@ -12,7 +13,7 @@ use statement_effects::run_statement;
 use std::alloc::{AllocError, Global};
 use std::process::Abort;
 use std::test::Fail;
-use transcripts::{Counted, Event, Log, Names, Outcome, print};
+use transcripts::{Counted, Event, Log, Names, Outcome, Transcript, print};
 
 /// A value of a row.
 #[derive(Clone, Copy)]
@@ -67,15 +68,30 @@ fn literal(alloc: Global, cell: Cell) -> Result<Expression, AllocError> {
     })
 }
 
-/// `factor * column - minus`
-fn scaled(alloc: Global, factor: i64, column: u16, minus: i64) -> Result<Expression, AllocError> {
-    let mut first = product(alloc, Operand::Literal(Value::Int(factor)));
-    first.more.push(Operand::Column(column))?;
+/// `factor * column`
+fn times(alloc: Global, factor: i64, column: u16) -> Result<Product, AllocError> {
+    let mut more = Items::new(alloc);
+    more.push(Operand::Column(column))?;
+    Ok(Product {
+        first: Operand::Literal(Value::Int(factor)),
+        more,
+    })
+}
+
+/// `- minus`
+fn less(alloc: Global, minus: i64) -> Result<Items<SignedProduct>, AllocError> {
     let mut more = Items::new(alloc);
     more.push(SignedProduct {
         sign: AddSign::Minus,
         product: product(alloc, Operand::Literal(Value::Int(minus))),
     })?;
+    Ok(more)
+}
+
+/// `factor * column - minus`
+fn scaled(alloc: Global, factor: i64, column: u16, minus: i64) -> Result<Expression, AllocError> {
+    let first = times(alloc, factor, column)?;
+    let more = less(alloc, minus)?;
     Ok(Expression { first, more })
 }
 
@@ -146,13 +162,40 @@ fn negated(alloc: Global, test: Test) -> Result<Boxed<Condition>, AllocError> {
     Boxed::new(alloc, Condition::Not(boxed(alloc, test)?))
 }
 
+/// The two sides of a condition.
+fn sides(
+    alloc: Global,
+    a: Test,
+    b: Test,
+) -> Result<(Boxed<Condition>, Boxed<Condition>), AllocError> {
+    let left = boxed(alloc, a)?;
+    let right = boxed(alloc, b)?;
+    Ok((left, right))
+}
+
+fn and(alloc: Global, a: Test, b: Test) -> Result<Condition, AllocError> {
+    let (left, right) = sides(alloc, a, b)?;
+    Ok(Condition::And(left, right))
+}
+
+fn or(alloc: Global, a: Test, b: Test) -> Result<Condition, AllocError> {
+    let (left, right) = sides(alloc, a, b)?;
+    Ok(Condition::Or(left, right))
+}
+
+fn not_or(alloc: Global, a: Test, b: Test) -> Result<Condition, AllocError> {
+    let left = negated(alloc, a)?;
+    let right = boxed(alloc, b)?;
+    Ok(Condition::Or(left, right))
+}
+
 fn condition(alloc: Global, rows: Rows) -> Result<Condition, AllocError> {
     match rows {
         Rows::Every => Ok(Condition::Always),
         Rows::Where(test) => tested(alloc, test),
-        Rows::And(a, b) => Ok(Condition::And(boxed(alloc, a)?, boxed(alloc, b)?)),
-        Rows::Or(a, b) => Ok(Condition::Or(boxed(alloc, a)?, boxed(alloc, b)?)),
-        Rows::NotOr(a, b) => Ok(Condition::Or(negated(alloc, a)?, boxed(alloc, b)?)),
+        Rows::And(a, b) => and(alloc, a, b),
+        Rows::Or(a, b) => or(alloc, a, b),
+        Rows::NotOr(a, b) => not_or(alloc, a, b),
     }
 }
 
@@ -228,52 +271,76 @@ fn empty_store(alloc: Global) -> Store
 }
 
 /// Runs a statement of session 0. A fault is told here.
-fn run(alloc: Global, statement: &Bound, store: Store, log: &mut Log) -> Result<Store, AllocError>
-    requires { IsAlone store }
-    ensures { IfOk result (λ store. IsAlone store) }
+fn run(alloc: Global, statement: &Bound, store: &mut Store, log: &mut Log) -> Result<(), AllocError>
+    requires { IsAlone store.old }
+    ensures { OnOk result (IsAlone store.new) }
 {
-    let mut store = store;
-    if let Some(fault) = run_statement(alloc, statement, 0, &mut store, log)? {
+    if let Some(fault) = run_statement(alloc, statement, 0, store, log)? {
         log.push(Event::Failed(fault))?;
     }
-    Ok(store)
+    Ok(())
 }
 
-fn take(alloc: Global, step: Step, store: Store, log: &mut Log) -> Result<Store, AllocError>
-    requires { IsAlone store }
-    ensures { IfOk result (λ store. IsAlone store) }
+fn take(alloc: Global, step: Step, store: &mut Store, log: &mut Log) -> Result<(), AllocError>
+    requires { IsAlone store.old }
+    ensures { OnOk result (IsAlone store.new) }
 {
     let statement = statement_of(alloc, step)?;
     run(alloc, &statement, store, log)
 }
 
-fn run_all(alloc: Global, steps: &[Step]) -> Result<Log, AllocError> {
-    let mut log = Log::new(alloc);
-    let mut store = empty_store(alloc);
+fn take_all(
+    alloc: Global,
+    steps: &[Step],
+    store: &mut Store,
+    log: &mut Log,
+) -> Result<(), AllocError>
+    requires { IsAlone store.old }
+{
     for step in steps {
-        store = take(alloc, *step, store, &mut log)?;
+        take(alloc, *step, store, log)?;
     }
-    Ok(log)
+    Ok(())
+}
+
+fn run_all(alloc: Global, steps: &[Step], log: &mut Log) -> Result<(), AllocError> {
+    take_all(alloc, steps, &mut empty_store(alloc), log)
+}
+
+fn transcript_of(alloc: Global, steps: &[Step]) -> Result<Transcript, AllocError> {
+    let mut log = Log::new(alloc);
+    run_all(alloc, steps, &mut log)?;
+    log.to_transcript()
 }
 
 /// The outcome of one session that sends the statements.
 fn told_by(alloc: Global, steps: &[Step]) -> Result<Outcome, AllocError> {
-    let log = run_all(alloc, steps)?;
-    Outcome::new(alloc, vec![in alloc; log.to_transcript()?]?)
+    let transcript = transcript_of(alloc, steps)?;
+    Outcome::new(alloc, vec![in alloc; transcript]?)
 }
 
-/// The text of the outcome of a session s.
-fn text_of(rt: &impl Abort, alloc: Global, outcome: &Outcome) -> Result<Vec<u8>, AllocError> {
-    let sessions = vec![in alloc; Text::from_str(alloc, "s")?]?;
+fn session_names(alloc: Global) -> Result<Vec<Text>, AllocError> {
+    let name = Text::from_str(alloc, "s")?;
+    Ok(vec![in alloc; name]?)
+}
+
+/// What is printed of an outcome.
+fn printed(rt: &impl Abort, alloc: Global, outcome: &Outcome, sessions: &[Text]) -> Vec<u8> {
     let names = Names {
-        sessions: sessions.as_slice(),
+        sessions,
         steps: &[],
     };
     assert!(rt; names.fit(outcome), "each event has its names");
     let mut out = Counted::new(Vec::new(alloc));
-    let printed = print(outcome, &names, &mut out).is_ok();
-    assert!(rt; printed, "a text");
-    Ok(out.into_inner())
+    let is_printed = print(outcome, &names, &mut out).is_ok();
+    assert!(rt; is_printed, "a text");
+    out.into_inner()
+}
+
+/// The text of the outcome of a session s.
+fn text_of(rt: &impl Abort, alloc: Global, outcome: &Outcome) -> Result<Vec<u8>, AllocError> {
+    let sessions = session_names(alloc)?;
+    Ok(printed(rt, alloc, outcome, &sessions))
 }
 
 fn assert_tells(
@@ -284,7 +351,7 @@ fn assert_tells(
 ) -> Result<(), AllocError> {
     let outcome = told_by(alloc, steps)?;
     let text = text_of(rt, alloc, &outcome)?;
-    assert_eq!(rt; str::from_utf8(&text).ok(), Some(want));
+    assert_text(rt, str::from_utf8(&text).unwrap_or("no text"), want);
     Ok(())
 }
 

@@ -1,6 +1,7 @@
 ghost use Rattle.std.specs.Prelude.{◌≡◌, ◌<◌};
 ghost use Rattle.transcripts.specs.Counted.{failures_of};
 
+use crate::asserts::assert_text;
 use finite_maps::Fork;
 use lock_modes::{Row, Text, Value};
 use serde_json::Value as Json;
@@ -59,13 +60,27 @@ fn push_faults_and_ends(transcript: &mut Transcript) -> Result<(), AllocError> {
     transcript.push(Event::NotSent(1))
 }
 
+fn push_all(alloc: Global, transcript: &mut Transcript) -> Result<(), AllocError> {
+    push_counts(alloc, transcript)?;
+    push_plain(transcript)?;
+    push_faults_and_ends(transcript)
+}
+
+/// A transcript with each event.
+fn every_line(alloc: Global) -> Result<Transcript, AllocError> {
+    let mut transcript = Transcript::new(alloc);
+    match push_all(alloc, &mut transcript) {
+        Ok(()) => Ok(transcript),
+        Err(error) => Err(error),
+    }
+}
+
 /// Two sessions, the first of which has each event.
 fn every_event(alloc: Global) -> Result<Outcome, AllocError> {
-    let mut first = Transcript::new(alloc);
-    push_counts(alloc, &mut first)?;
-    push_plain(&mut first)?;
-    push_faults_and_ends(&mut first)?;
-    Outcome::new(alloc, vec![in alloc; first, Transcript::new(alloc)]?)
+    Outcome::new(
+        alloc,
+        vec![in alloc; every_line(alloc)?, Transcript::new(alloc)]?,
+    )
 }
 
 /// An outcome, with the names that it is printed with.
@@ -77,9 +92,9 @@ struct Named {
 }
 
 fn every_event_named(alloc: Global) -> Result<Named, AllocError> {
-    let outcome = every_event(alloc)?;
     let sessions = texts(alloc, &["s1", "\"S 2\""])?;
     let steps = texts(alloc, &["read", "Write it"])?;
+    let outcome = every_event(alloc)?;
     Ok(Named {
         outcome,
         sessions,
@@ -129,36 +144,52 @@ c'
 session \"S 2\"
 ";
 
+/// What is printed of an outcome, without a failed call.
+fn printed(rt: &impl Abort, alloc: Global, named: &Named) -> Vec<u8> {
+    let mut out = Counted::new(Vec::new(alloc));
+    let is_printed = print_named(rt, named, &mut out).is_ok();
+    assert!(rt; is_printed && out.failures() == 0, "a text");
+    out.into_inner()
+}
+
 #[test]
 fn each_event_has_its_line(rt: HostRuntime) -> Result<(), Fail> {
     let named = every_event_named(rt.alloc())?;
-    let mut out = Counted::new(Vec::new(rt.alloc()));
-    assert!(rt; print_named(&rt, &named, &mut out).is_ok());
-    assert!(rt; out.failures() == 0);
-    let text = out.into_inner();
+    let text = printed(&rt, rt.alloc(), &named);
     assert!(rt; text.as_slice() == EVERY_LINE.as_bytes());
     Ok(())
 }
 
+fn do_fit(outcome: &Outcome, sessions: &[Text], steps: &[Text]) -> bool {
+    Names { sessions, steps }.fit(outcome)
+}
+
+/// Names fit where there is one for each of two sessions and each of two steps.
+fn assert_fit(rt: &impl Abort, outcome: &Outcome, one: &[Text], two: &[Text]) {
+    assert!(rt; do_fit(outcome, two, two), "two sessions and two steps");
+    assert!(rt; !do_fit(outcome, one, two), "one session");
+    assert!(rt; !do_fit(outcome, two, one), "one step");
+}
+
 #[test]
 fn names_fit_where_each_is_there(rt: HostRuntime) -> Result<(), Fail> {
-    let alloc = rt.alloc();
-    let outcome = every_event(alloc)?;
-    let one = texts(alloc, &["a"])?;
-    let two = texts(alloc, &["a", "b"])?;
-    let (one, two) = (one.as_slice(), two.as_slice());
-    for (sessions, steps, want) in [(two, two, true), (one, two, false), (two, one, false)] {
-        assert_eq!(rt; Names { sessions, steps }.fit(&outcome), want);
-    }
+    let one = texts(rt.alloc(), &["a"])?;
+    let two = texts(rt.alloc(), &["a", "b"])?;
+    let outcome = every_event(rt.alloc())?;
+    assert_fit(&rt, &outcome, &one, &two);
     Ok(())
 }
 
 #[test]
 fn a_rank_has_a_line_of_its_own(rt: HostRuntime) -> Result<(), Fail> {
     let mut out = Counted::new(Vec::new(rt.alloc()));
-    print_rank(27_720, &mut out).expect(&rt, "written");
-    assert_eq!(rt; out.into_inner().as_slice(), b"rank 27720\n".as_slice());
+    assert!(rt; print_rank(27_720, &mut out).is_ok(), "written");
+    assert!(rt; out.into_inner().as_slice() == b"rank 27720\n".as_slice());
     Ok(())
+}
+
+fn shown(alloc: Global, event: &Event) -> Result<String, AllocError> {
+    format!(in alloc; "{event:?}")
 }
 
 fn assert_equal(
@@ -167,11 +198,9 @@ fn assert_equal(
     event: &Event,
     other: &Event,
 ) -> Result<(), AllocError> {
-    let (told, other) = (
-        format!(in alloc; "{event:?}")?,
-        format!(in alloc; "{other:?}")?,
-    );
-    assert_eq!(rt; told.as_str(), other.as_str());
+    let told = shown(alloc, event)?;
+    let other = shown(alloc, other)?;
+    assert_text(rt, &told, &other);
     Ok(())
 }
 
@@ -182,15 +211,25 @@ fn longer_fork(transcript: &Transcript) -> Result<Transcript, AllocError> {
     Ok(other)
 }
 
+/// The transcript of each event, and a fork of it with one more.
+fn assert_apart(
+    rt: &impl Abort,
+    alloc: Global,
+    events: &[Event],
+    longer: &[Event],
+) -> Result<(), AllocError> {
+    assert!(rt; events.len() == 22 && longer.len() == 23, "one event more");
+    for (event, copy) in events.iter().zip(longer) {
+        assert_equal(rt, alloc, event, copy)?;
+    }
+    Ok(())
+}
+
 #[test]
 fn a_fork_is_equal_and_apart(rt: HostRuntime) -> Result<(), Fail> {
-    let outcome = every_event(rt.alloc())?;
-    let first = outcome.sessions().first().ok_or("two sessions")?;
-    let other = longer_fork(first)?;
-    assert_eq!(rt; (first.events().len(), other.events().len()), (22, 23));
-    for (event, copy) in first.events().iter().zip(other.events()) {
-        assert_equal(&rt, rt.alloc(), event, copy)?;
-    }
+    let first = every_line(rt.alloc())?;
+    let other = longer_fork(&first)?;
+    assert_apart(&rt, rt.alloc(), first.events(), other.events())?;
     Ok(())
 }
 
@@ -243,16 +282,21 @@ fn assert_front(rt: &impl Abort, alloc: Global, named: &Named, calls: usize, tak
     assert!(rt; Some(front.as_slice()) == EVERY_LINE.as_bytes().get(..calls));
 }
 
+/// A writer leaves the front of the text up to the call that fails, and all of it where none does.
+fn assert_fronts(rt: &impl Abort, alloc: Global, named: &Named) {
+    for calls in 0..EVERY_LINE.len() {
+        assert_front(rt, alloc, named, calls, false);
+        assert_front(rt, alloc, named, calls, true);
+    }
+    let mut out = failing(alloc, EVERY_LINE.len(), false);
+    assert!(rt; print_named(rt, named, &mut out).is_ok());
+    assert!(rt; out.failures() == 0);
+}
+
 #[test]
 fn a_fault_leaves_the_front_of_the_text(rt: HostRuntime) -> Result<(), Fail> {
     let named = every_event_named(rt.alloc())?;
-    for calls in 0..EVERY_LINE.len() {
-        assert_front(&rt, rt.alloc(), &named, calls, false);
-        assert_front(&rt, rt.alloc(), &named, calls, true);
-    }
-    let mut out = failing(rt.alloc(), EVERY_LINE.len(), false);
-    assert!(rt; print_named(&rt, &named, &mut out).is_ok());
-    assert!(rt; out.failures() == 0);
+    assert_fronts(&rt, rt.alloc(), &named);
     Ok(())
 }
 
@@ -302,46 +346,72 @@ impl Read for FailingReader<'_> {
     }
 }
 
-#[test]
-fn reading_stops_at_the_end_or_the_limit(rt: HostRuntime) -> Result<(), Fail> {
-    let alloc = rt.alloc();
-    for (limit, want, rest) in [
-        (0, "", "abcde"),
-        (4, "abcd", "e"),
-        (5, "abcde", ""),
-        (6, "abcde", ""),
-    ] {
-        let mut input = Counted::new(FailingReader {
-            text: b"abcde",
-            calls_left: None,
-        });
-        let bytes = input.read_up_to(alloc, limit).expect(&rt, "read");
-        assert_eq!(rt; bytes.as_slice(), want.as_bytes());
-        assert_eq!(rt; input.failures(), 0);
-        assert_eq!(rt; input.into_inner().text, rest.as_bytes());
-    }
+/// What is read of five bytes up to a limit, and what is left.
+static LIMITS: [(usize, &str, &str); 4] = [
+    (0, "", "abcde"),
+    (4, "abcd", "e"),
+    (5, "abcde", ""),
+    (6, "abcde", ""),
+];
 
-    let long = [b'x'; 10_000];
-    let mut input = Counted::new(long.as_slice());
-    let bytes = input.read_up_to(alloc, 9_999).expect(&rt, "read");
-    assert_eq!(rt; bytes.len(), 9_999);
-    assert_eq!(rt; input.into_inner().len(), 1);
+fn assert_read_up_to(
+    rt: &impl Abort,
+    alloc: Global,
+    limit: usize,
+    want: &str,
+    rest: &str,
+) -> Result<(), ReadError> {
+    let mut input = Counted::new(FailingReader {
+        text: b"abcde",
+        calls_left: None,
+    });
+    let bytes = input.read_up_to(alloc, limit)?;
+    assert!(rt; bytes.as_slice() == want.as_bytes(), "{limit}");
+    assert!(rt; input.failures() == 0, "{limit}");
+    assert!(rt; input.into_inner().text == rest.as_bytes(), "{limit}");
+    Ok(())
+}
+
+fn assert_long_read(rt: &impl Abort, alloc: Global, long: &[u8]) -> Result<(), ReadError> {
+    let mut input = Counted::new(long);
+    let bytes = input.read_up_to(alloc, 9_999)?;
+    assert!(rt; bytes.len() == 9_999, "what is read");
+    assert!(rt; input.into_inner().len() == 1, "what is left");
     Ok(())
 }
 
 #[test]
+fn reading_stops_at_the_end_or_the_limit(rt: HostRuntime) {
+    for (limit, want, rest) in &LIMITS {
+        let read = assert_read_up_to(&rt, rt.alloc(), *limit, want, rest);
+        assert!(rt; read.is_ok(), "{limit}");
+    }
+    let long = [b'x'; 10_000];
+    assert!(rt;
+        assert_long_read(&rt, rt.alloc(), &long).is_ok(),
+        "a long text"
+    );
+}
+
+fn assert_read_fails(rt: &impl Abort, alloc: Global, calls: usize) {
+    let mut input = Counted::new(FailingReader {
+        text: b"abcde",
+        calls_left: Some(calls),
+    });
+    assert!(rt;
+        input.read_up_to(alloc, 65_537).err() == Some(ReadError::Fault),
+        "{calls}"
+    );
+    assert!(rt; input.failures() == 1, "{calls}");
+    let mut buf = [0; 8];
+    assert!(rt; input.read(&mut buf) == Err(ReadFault), "{calls}");
+    assert!(rt; input.failures() == 2, "{calls}");
+}
+
+#[test]
 fn a_failed_read_is_a_fault_at_once(rt: HostRuntime) -> Result<(), Fail> {
-    let alloc = rt.alloc();
     for calls in 0..6 {
-        let mut input = Counted::new(FailingReader {
-            text: b"abcde",
-            calls_left: Some(calls),
-        });
-        assert!(rt; input.read_up_to(alloc, 65_537).err() == Some(ReadError::Fault));
-        assert_eq!(rt; input.failures(), 1);
-        let mut buf = [0; 8];
-        assert_eq!(rt; input.read(&mut buf), Err(ReadFault));
-        assert_eq!(rt; input.failures(), 2);
+        assert_read_fails(&rt, rt.alloc(), calls);
     }
     Ok(())
 }
@@ -350,11 +420,11 @@ fn a_failed_read_is_a_fault_at_once(rt: HostRuntime) -> Result<(), Fail> {
 fn a_read_says_how_much_it_gave(rt: HostRuntime) -> Result<(), Fail> {
     let mut input = Counted::new(b"abc".as_slice());
     let mut buf = [0; 2];
-    assert_eq!(rt; input.read(&mut buf), Ok(2));
-    assert_eq!(rt; buf.as_slice(), b"ab".as_slice());
-    assert_eq!(rt; input.read(&mut buf), Ok(1));
-    assert_eq!(rt; input.read(&mut buf), Ok(0));
-    assert_eq!(rt; input.failures(), 0);
+    assert!(rt; input.read(&mut buf) == Ok(2));
+    assert!(rt; buf.as_slice() == b"ab".as_slice());
+    assert!(rt; input.read(&mut buf) == Ok(1));
+    assert!(rt; input.read(&mut buf) == Ok(0));
+    assert!(rt; input.failures() == 0);
     Ok(())
 }
 
@@ -420,37 +490,64 @@ fn value_text(alloc: Global, outcome: &Outcome) -> Result<String, AllocError> {
 }
 
 fn assert_every_value(rt: &impl Abort, alloc: Global, outcome: &Outcome) -> Result<(), AllocError> {
-    assert_eq!(rt; value_text(alloc, outcome)?.as_str(), EVERY_VALUE);
+    let text = value_text(alloc, outcome)?;
+    assert_text(rt, &text, EVERY_VALUE);
+    Ok(())
+}
+
+/// The outcome of a text. Its value is let go here.
+fn outcome_in(alloc: Global, text: &str) -> Result<Outcome, Fail> {
+    let value = Json::from_str(alloc, text)?;
+    Ok(outcome_of_value(alloc, &value)?)
+}
+
+fn assert_read_back(rt: &impl Abort, alloc: Global) -> Result<(), Fail> {
+    let outcome = outcome_in(alloc, EVERY_VALUE)?;
+    assert_every_value(rt, alloc, &outcome)?;
     Ok(())
 }
 
 #[test]
 fn an_outcome_is_its_value_and_back(rt: HostRuntime) -> Result<(), Fail> {
-    assert_every_value(&rt, rt.alloc(), &every_event(rt.alloc())?)?;
-    let value = Json::from_str(rt.alloc(), EVERY_VALUE)?;
-    assert_every_value(&rt, rt.alloc(), &outcome_of_value(rt.alloc(), &value)?)?;
+    assert_read_back(&rt, rt.alloc())?;
+    let outcome = every_event(rt.alloc())?;
+    assert_every_value(&rt, rt.alloc(), &outcome)?;
     Ok(())
+}
+
+fn assert_fork_has_every_value(
+    rt: &impl Abort,
+    alloc: Global,
+    outcome: &Outcome,
+) -> Result<(), AllocError> {
+    let fork = outcome.fork()?;
+    assert_every_value(rt, alloc, &fork)
 }
 
 #[test]
 fn a_fork_has_the_value_of_its_outcome(rt: HostRuntime) -> Result<(), Fail> {
     let outcome = every_event(rt.alloc())?;
-    assert_every_value(&rt, rt.alloc(), &outcome.fork()?)?;
+    assert_fork_has_every_value(&rt, rt.alloc(), &outcome)?;
     assert_every_value(&rt, rt.alloc(), &outcome)?;
     Ok(())
 }
 
+/// Why the value of a text is no outcome, if it is none.
+fn refusal(alloc: Global, text: &str) -> Result<Option<ValueError>, Fail> {
+    let value = Json::from_str(alloc, text)?;
+    Ok(outcome_of_value(alloc, &value).err())
+}
+
 #[test]
 fn only_values_of_outcomes_are_taken(rt: HostRuntime) -> Result<(), Fail> {
-    let alloc = rt.alloc();
     for text in OUTCOMES.lines() {
-        let value = Json::from_str(alloc, text)?;
-        assert!(rt; outcome_of_value(alloc, &value).is_ok(), "{text}");
+        assert!(rt; refusal(rt.alloc(), text)?.is_none(), "{text}");
     }
     for text in NO_OUTCOMES.lines() {
-        let value = Json::from_str(alloc, text)?;
-        let refused = outcome_of_value(alloc, &value).err();
-        assert_eq!(rt; refused, Some(ValueError::BadField), "{text}");
+        assert!(rt;
+            refusal(rt.alloc(), text)? == Some(ValueError::BadField),
+            "{text}"
+        );
     }
     Ok(())
 }
@@ -473,16 +570,26 @@ fn outcome_of_logs(alloc: Global, logs: [&Log; 2]) -> Result<Outcome, AllocError
     Outcome::new(alloc, transcripts)
 }
 
+/// Two logs that began as one: the first one waits, and the other one finishes.
+fn outcome_of_two(alloc: Global, log: &mut Log, other: &mut Log) -> Result<Outcome, AllocError> {
+    log.push(Event::Waiting)?;
+    finish(other)?;
+    outcome_of_logs(alloc, [log, other])
+}
+
+fn two_told(alloc: Global, log: &mut Log) -> Result<String, AllocError> {
+    let mut other = log.fork()?;
+    let outcome = outcome_of_two(alloc, log, &mut other)?;
+    value_text(alloc, &outcome)
+}
+
 #[test]
 fn logs_go_on_alone(rt: HostRuntime) -> Result<(), Fail> {
     let mut log = begun_log(rt.alloc())?;
-    let mut other = log.fork()?;
-    log.push(Event::Waiting)?;
-    finish(&mut other)?;
-    let outcome = outcome_of_logs(rt.alloc(), [&log, &other])?;
+    let told = two_told(rt.alloc(), &mut log)?;
     let want =
         r#"[[["sent",0],["row",[7,"it's"]],"waiting"],[["sent",0],["row",[7,"it's"]],["rows",1],"done"]]"#;
-    assert_eq!(rt; value_text(rt.alloc(), &outcome)?.as_str(), want);
+    assert_text(&rt, &told, want);
     Ok(())
 }
 
@@ -533,7 +640,7 @@ fn a_value_of_no_outcome_is_refused_unless_memory_runs_out(rt: HostRuntime) {
 
 /// Asserts that so many steps were sent, in the order of their numbers.
 fn assert_sent(rt: &impl Abort, transcript: &Transcript, count: u8) {
-    assert_eq!(rt; transcript.events().len(), usize::from(count));
+    assert!(rt; transcript.events().len() == usize::from(count), "{count}");
     for (step, event) in (0..count).zip(transcript.events()) {
         assert!(rt;
             matches!(event, Event::Sent(sent) if *sent == step),
@@ -548,32 +655,65 @@ fn assert_log(rt: &impl Abort, log: &Log, count: u8) {
     }
 }
 
+/// A refused event leaves the log, which takes it when it comes again.
+fn note_again(rt: &impl Abort, log: &mut Log, step: u8) -> Result<(), AllocError> {
+    if log.push(Event::Sent(step)).is_ok() {
+        return Ok(());
+    }
+    assert_log(rt, log, step);
+    log.push(Event::Sent(step))
+}
+
+/// Notes a step in the end. A fork stays as it was.
+fn note(rt: &impl Abort, log: &mut Log, step: u8) -> Result<(), AllocError> {
+    let fork = log.fork();
+    let noted = note_again(rt, log, step);
+    if let Ok(fork) = fork {
+        assert_log(rt, &fork, step);
+    }
+    noted?;
+    assert_log(rt, log, step.wrapping_add(1));
+    Ok(())
+}
+
+/// A refused event leaves the transcript, which takes it when it comes again.
+fn add_again(rt: &impl Abort, transcript: &mut Transcript, step: u8) -> Result<(), AllocError> {
+    if transcript.push(Event::Sent(step)).is_ok() {
+        return Ok(());
+    }
+    assert_sent(rt, transcript, step);
+    transcript.push(Event::Sent(step))
+}
+
+/// Adds a step in the end. A fork stays as it was.
+fn add(rt: &impl Abort, transcript: &mut Transcript, step: u8) -> Result<(), AllocError> {
+    let fork = transcript.fork();
+    let added = add_again(rt, transcript, step);
+    if let Ok(fork) = fork {
+        assert_sent(rt, &fork, step);
+    }
+    added?;
+    assert_sent(rt, transcript, step.wrapping_add(1));
+    Ok(())
+}
+
+fn note_and_add(
+    rt: &impl Abort,
+    log: &mut Log,
+    transcript: &mut Transcript,
+) -> Result<(), AllocError> {
+    for step in 0..9u8 {
+        note(rt, log, step)?;
+        add(rt, transcript, step)?;
+    }
+    Ok(())
+}
+
 #[test]
 fn a_refused_event_leaves_the_log_and_its_forks(rt: HostRuntime) {
     let mut log = Log::new(rt.alloc());
     let mut transcript = Transcript::new(rt.alloc());
-    for step in 0..9u8 {
-        let fork = log.fork();
-        let copy = transcript.fork();
-        if log.push(Event::Sent(step)).is_err() {
-            assert_log(&rt, &log, step);
-            if log.push(Event::Sent(step)).is_err() {
-                return;
-            }
-        }
-        if transcript.push(Event::Sent(step)).is_err() {
-            assert_sent(&rt, &transcript, step);
-            if transcript.push(Event::Sent(step)).is_err() {
-                return;
-            }
-        }
-        if let (Ok(fork), Ok(copy)) = (fork, copy) {
-            assert_log(&rt, &fork, step);
-            assert_sent(&rt, &copy, step);
-        }
-        assert_log(&rt, &log, step.wrapping_add(1));
-        assert_sent(&rt, &transcript, step.wrapping_add(1));
-    }
+    let _ = note_and_add(&rt, &mut log, &mut transcript);
 }
 
 #[test]
@@ -581,8 +721,8 @@ fn an_input_is_read_whole_unless_memory_runs_out(rt: HostRuntime) {
     let long = [b'x'; 10_000];
     let mut input = Counted::new(long.as_slice());
     match input.read_up_to(rt.alloc(), 9_999) {
-        Ok(bytes) => assert_eq!(rt; bytes.len(), 9_999),
+        Ok(bytes) => assert!(rt; bytes.len() == 9_999),
         Err(error) => assert!(rt; error == ReadError::NoMemory),
     }
-    assert_eq!(rt; input.failures(), 0);
+    assert!(rt; input.failures() == 0);
 }

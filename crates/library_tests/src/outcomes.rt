@@ -1,6 +1,8 @@
 use serde_json::Value as Json;
+use std::alloc::Global;
+use std::process::Abort;
 use std::test::Fail;
-use transcripts::outcome_of_value;
+use transcripts::{Outcome, outcome_of_value};
 
 /// Compact texts of outcomes in the order of their bytes, one a line.
 const RISING: &str = r#"[["began"]]
@@ -21,19 +23,46 @@ const RISING: &str = r#"[["began"]]
 [[]]
 []"#;
 
+/// The outcome of a text. Its value is let go here.
+fn outcome_in(alloc: Global, text: &str) -> Result<Outcome, Fail> {
+    let value = Json::from_str(alloc, text)?;
+    Ok(outcome_of_value(alloc, &value)?)
+}
+
+fn push_all(alloc: Global, rising: &mut Vec<Outcome>) -> Result<(), Fail> {
+    for text in RISING.lines() {
+        rising.push(outcome_in(alloc, text)?)?;
+    }
+    Ok(())
+}
+
+/// How an outcome stands to each of some that rise, of which it is the one at this place.
+fn assert_order(rt: &impl Abort, rising: &[Outcome], place: usize, outcome: &Outcome) {
+    for (other_place, other) in rising.iter().enumerate() {
+        let order = outcome.order(other);
+        assert!(rt;
+            order == place.cmp(&other_place),
+            "{place} and {other_place}"
+        );
+        let is_same = outcome.is_same(other);
+        assert!(rt;
+            is_same == (place == other_place),
+            "{place} and {other_place}"
+        );
+    }
+}
+
+fn assert_rise(rt: &impl Abort, rising: &[Outcome]) {
+    assert!(rt; rising.len() == 17, "all outcomes");
+    for (place, outcome) in rising.iter().enumerate() {
+        assert_order(rt, rising, place, outcome);
+    }
+}
+
 #[test]
 fn outcomes_stand_in_the_order_of_their_texts(rt: HostRuntime) -> Result<(), Fail> {
-    let alloc = rt.alloc();
-    let mut rising = Vec::new(alloc);
-    for text in RISING.lines() {
-        let value = Json::from_str(alloc, text)?;
-        rising.push(outcome_of_value(alloc, &value)?)?;
-    }
-    for (i, a) in rising.iter().enumerate() {
-        for (j, b) in rising.iter().enumerate() {
-            assert_eq!(rt; a.order(b), i.cmp(&j), "{i} and {j}");
-            assert_eq!(rt; a.is_same(b), i == j, "{i} and {j}");
-        }
-    }
+    let mut rising = Vec::new(rt.alloc());
+    push_all(rt.alloc(), &mut rising)?;
+    assert_rise(&rt, &rising);
     Ok(())
 }

@@ -86,13 +86,39 @@ static COVER_KEPT: [Step; 4] = [
     Step::Grant(None),
 ];
 
+/// Plays steps on a table and then on its fork.
+fn play_both(
+    rt: &impl Abort,
+    table: &mut LockTable,
+    steps: &[Step],
+    fork: &mut LockTable,
+    kept: &[Step],
+) -> Result<(), AllocError> {
+    play(rt, table, steps)?;
+    play(rt, fork, kept)
+}
+
+/// Forks a table, plays steps on it, and then those of the fork.
+fn play_forked(
+    rt: &impl Abort,
+    table: &mut LockTable,
+    steps: &[Step],
+    kept: &[Step],
+) -> Result<(), AllocError> {
+    match table.fork() {
+        Ok(mut fork) => play_both(rt, table, steps, &mut fork, kept),
+        Err(error) => Err(error),
+    }
+}
+
+fn cover(rt: &impl Abort, table: &mut LockTable) -> Result<(), AllocError> {
+    play(rt, table, &COVER)?;
+    play_forked(rt, table, &COVER_GONE, &COVER_KEPT)
+}
+
 #[test]
 fn a_session_gets_the_cover_and_a_fork_stays(rt: HostRuntime) -> Result<(), Fail> {
-    let mut table = LockTable::new(rt.alloc());
-    play(&rt, &mut table, &COVER)?;
-    let mut fork = table.fork()?;
-    play(&rt, &mut table, &COVER_GONE)?;
-    play(&rt, &mut fork, &COVER_KEPT)?;
+    cover(&rt, &mut LockTable::new(rt.alloc()))?;
     Ok(())
 }
 
@@ -117,24 +143,28 @@ static RIPE: [Step; 2] = [
     Step::Holds(1, 0, None),
 ];
 
-/// A fork of the table after these steps.
-fn forked_after(
+/// Plays what a fork does not see, with a second fork before the grant.
+fn wait_and_grant(
     rt: &impl Abort,
     table: &mut LockTable,
-    steps: &[Step],
-) -> Result<LockTable, AllocError> {
-    play(rt, table, steps)?;
-    table.fork()
+    free: &mut LockTable,
+) -> Result<(), AllocError> {
+    play(rt, table, &WAITED)?;
+    play_forked(rt, table, &GRANTED, &RIPE)?;
+    play(rt, free, &FREE)
+}
+
+fn hold_and_fork(rt: &impl Abort, table: &mut LockTable) -> Result<(), AllocError> {
+    play(rt, table, &HELD)?;
+    match table.fork() {
+        Ok(mut free) => wait_and_grant(rt, table, &mut free),
+        Err(error) => Err(error),
+    }
 }
 
 #[test]
 fn forks_before_a_request_and_a_grant_stay(rt: HostRuntime) -> Result<(), Fail> {
-    let mut table = LockTable::new(rt.alloc());
-    let mut free = forked_after(&rt, &mut table, &HELD)?;
-    let mut ripe = forked_after(&rt, &mut table, &WAITED)?;
-    play(&rt, &mut table, &GRANTED)?;
-    play(&rt, &mut free, &FREE)?;
-    play(&rt, &mut ripe, &RIPE)?;
+    hold_and_fork(&rt, &mut LockTable::new(rt.alloc()))?;
     Ok(())
 }
 
@@ -297,15 +327,24 @@ fn waits_for_share(table: &LockTable, session: u8, key: &Value) -> bool {
     }
 }
 
+/// One session gets a key of an empty table, and another one waits for it.
+fn assert_key_locked(
+    rt: &impl Abort,
+    table: &mut LockTable,
+    key: &Value,
+) -> Result<(), AllocError> {
+    let granted = ask_for_key(rt, table, 0, key, Mode::Exclusive)?;
+    let waits = ask_for_key(rt, table, 1, key, Mode::Share)?;
+    assert!(rt; (granted, waits) == (Answer::Granted, Answer::Waits));
+    assert!(rt; holdings(table, 0, key) == [Some(Mode::Exclusive), None, None, None]);
+    assert!(rt; waits_for_share(table, 1, key));
+    Ok(())
+}
+
 #[test]
 fn keys_are_locked_by_table_and_value(rt: HostRuntime) -> Result<(), Fail> {
     let key = Value::Text(Text::from_str(rt.alloc(), "key")?);
-    let mut table = LockTable::new(rt.alloc());
-    let granted = ask_for_key(&rt, &mut table, 0, &key, Mode::Exclusive)?;
-    let waits = ask_for_key(&rt, &mut table, 1, &key, Mode::Share)?;
-    assert!(rt; (granted, waits) == (Answer::Granted, Answer::Waits));
-    assert!(rt; holdings(&table, 0, &key) == [Some(Mode::Exclusive), None, None, None]);
-    assert!(rt; waits_for_share(&table, 1, &key));
+    assert_key_locked(&rt, &mut LockTable::new(rt.alloc()), &key)?;
     Ok(())
 }
 
@@ -329,18 +368,34 @@ fn standing(table: &LockTable) -> Standing {
     ]
 }
 
-/// A step that is refused leaves the table, and can be played again. A fork stays as it was.
+/// A step that is refused leaves the table as it stood before, and can be played again.
+fn play_again(
+    rt: &impl Abort,
+    table: &mut LockTable,
+    step: Step,
+    before: Standing,
+) -> Result<(), AllocError> {
+    if play_one(rt, table, step).is_ok() {
+        return Ok(());
+    }
+    assert!(rt; standing(table) == before, "a refused step");
+    play_one(rt, table, step)
+}
+
+/// A fork, if there was memory for one, stands as its table did.
+fn assert_stands(rt: &impl Abort, fork: Result<LockTable, AllocError>, before: Standing) {
+    if let Ok(fork) = fork {
+        assert!(rt; standing(&fork) == before, "a fork");
+    }
+}
+
+/// Plays a step in the end. A fork stays as it was.
 fn play_in_the_end(rt: &impl Abort, table: &mut LockTable, step: Step) -> Result<(), AllocError> {
     let before = standing(table);
     let fork = table.fork();
-    if play_one(rt, table, step).is_err() {
-        assert!(rt; standing(table) == before);
-        play_one(rt, table, step)?;
-    }
-    if let Ok(fork) = fork {
-        assert!(rt; standing(&fork) == before);
-    }
-    Ok(())
+    let played = play_again(rt, table, step, before);
+    assert_stands(rt, fork, before);
+    played
 }
 
 /// Plays the steps in the end on a table of their own.
@@ -382,19 +437,21 @@ fn asks_for_key(rt: &impl Abort, table: &mut LockTable, session: u8, key: &Value
     false
 }
 
-#[test]
-fn a_refused_request_for_a_key_leaves_it(rt: HostRuntime) {
-    let Ok(key) = Text::from_str(rt.alloc(), "key") else {
-        return;
-    };
-    let key = Value::Text(key);
-    let mut table = LockTable::new(rt.alloc());
+/// Three sessions ask for a key of an empty table, each in the end.
+fn assert_key_asked(rt: &impl Abort, table: &mut LockTable, key: &Value) {
     for session in 0..3u8 {
-        let asked = asks_for_key(&rt, &mut table, session, &key);
-        if !asked && !asks_for_key(&rt, &mut table, session, &key) {
+        let asked = asks_for_key(rt, table, session, key);
+        if !asked && !asks_for_key(rt, table, session, key) {
             return;
         }
     }
-    assert!(rt; table.holds(0, Place::Row(1, &key)) == Some(Mode::Exclusive));
+    assert!(rt; table.holds(0, Place::Row(1, key)) == Some(Mode::Exclusive));
     assert!(rt; table.waits(1) && table.waits(2));
+}
+
+#[test]
+fn a_refused_request_for_a_key_leaves_it(rt: HostRuntime) {
+    if let Ok(key) = Text::from_str(rt.alloc(), "key") {
+        assert_key_asked(&rt, &mut LockTable::new(rt.alloc()), &Value::Text(key));
+    }
 }

@@ -1,6 +1,7 @@
 //! Libraries at sizes that no other test has, with ample memory: what gives up past some size is not told from want of memory elsewhere.
 
 use std::alloc::{AllocError, Global};
+use std::process::Abort;
 use std::test::Fail;
 use transcripts::{Event, Log};
 use version_tree::VMap;
@@ -20,14 +21,18 @@ fn map_below(alloc: Global, end: u32) -> Result<VMap<u32, u32>, AllocError> {
     Ok(map)
 }
 
+fn assert_has_all_below(rt: &impl Abort, map: &VMap<u32, u32>, end: u32) {
+    for key in 0..end {
+        assert!(rt; map.get(&key).copied() == Some(key), "{key}");
+    }
+    assert!(rt; map.get(&end).is_none(), "{end}");
+}
+
 #[test]
 fn a_map_has_a_hundred_thousand_keys(rt: HostRuntime) -> Result<(), Fail> {
     let map = map_below(rt.alloc(), KEYS)?;
-    assert_eq!(rt; map.len(), 100_000);
-    for key in 0..KEYS {
-        assert_eq!(rt; map.get(&key).copied(), Some(key));
-    }
-    assert_eq!(rt; map.get(&KEYS).copied(), None);
+    assert!(rt; map.len() == 100_000, "all keys");
+    assert_has_all_below(&rt, &map, KEYS);
     Ok(())
 }
 
@@ -41,7 +46,8 @@ fn log_of(alloc: Global, events: usize) -> Result<Log, AllocError> {
 
 #[test]
 fn a_log_has_seventy_thousand_events(rt: HostRuntime) -> Result<(), Fail> {
-    let told = log_of(rt.alloc(), EVENTS)?.to_transcript()?;
-    assert_eq!(rt; told.events().len(), EVENTS);
+    let log = log_of(rt.alloc(), EVENTS)?;
+    let told = log.to_transcript()?;
+    assert!(rt; told.events().len() == EVENTS, "all events");
     Ok(())
 }

@@ -1,3 +1,4 @@
+use crate::asserts::assert_text;
 use crate::repeated;
 use sql_grammar::SqlErrorKind::{
     BadToken, NoMemory, NotHere, NumberTooLarge, Syntax, TooLarge, Unclosed, Unsupported,
@@ -5,6 +6,7 @@ use sql_grammar::SqlErrorKind::{
 use sql_grammar::{AddSign, Atom, Factor, Form, Literal, SqlError, SqlErrorKind, Statement};
 use sql_reader::read_sql;
 use std::alloc::{AllocError, Global};
+use std::process::Abort;
 use std::test::Fail;
 
 fn refusal(alloc: Global, text: &str) -> Option<SqlError> {
@@ -140,40 +142,63 @@ INSERT INTO t VALUES (^'
 SELECT v FROM t WHERE w = ^'a''
 SELECT v FROM t WHERE w = 'a' ^'b";
 
-#[test]
-fn the_first_fault_has_its_kind_and_place(rt: HostRuntime) -> Result<(), Fail> {
-    for (kind, texts) in [
-        (Syntax, SYNTAX_FAULTS),
-        (NumberTooLarge, LARGE_NUMBERS),
-        (Unsupported, UNSUPPORTED_WORDS),
-        (BadToken, BAD_TOKENS),
-        (Unclosed, UNCLOSED_TEXTS),
-    ] {
-        for marked in texts.lines() {
-            let (front, behind) = marked.split_once('^').expect(&rt, "a mark");
-            let text = repeated(rt.alloc(), front, behind, 1, "")?;
-            let want = SqlError {
-                kind,
-                offset: front.len(),
-            };
-            assert_eq!(rt; refusal(rt.alloc(), &text), Some(want), "{marked}");
-        }
+/// The kinds of faults, each with texts, one a line.
+static FAULTS: [(SqlErrorKind, &str); 5] = [
+    (Syntax, SYNTAX_FAULTS),
+    (NumberTooLarge, LARGE_NUMBERS),
+    (Unsupported, UNSUPPORTED_WORDS),
+    (BadToken, BAD_TOKENS),
+    (Unclosed, UNCLOSED_TEXTS),
+];
+
+fn assert_refused(rt: &impl Abort, alloc: Global, text: &str, kind: SqlErrorKind, offset: usize) {
+    let want = SqlError { kind, offset };
+    assert!(rt; refusal(alloc, text) == Some(want), "{text}");
+}
+
+/// The text has a fault of the kind where its mark is.
+fn assert_fault(
+    rt: &impl Abort,
+    alloc: Global,
+    kind: SqlErrorKind,
+    marked: &str,
+) -> Result<(), Fail> {
+    let (front, behind) = marked.split_once('^').ok_or("a mark")?;
+    let text = repeated(alloc, front, behind, 1, "")?;
+    assert_refused(rt, alloc, &text, kind, front.len());
+    Ok(())
+}
+
+fn assert_faults(
+    rt: &impl Abort,
+    alloc: Global,
+    kind: SqlErrorKind,
+    texts: &str,
+) -> Result<(), Fail> {
+    for marked in texts.lines() {
+        assert_fault(rt, alloc, kind, marked)?;
     }
     Ok(())
 }
 
 #[test]
+fn the_first_fault_has_its_kind_and_place(rt: HostRuntime) -> Result<(), Fail> {
+    for (kind, texts) in &FAULTS {
+        assert_faults(&rt, rt.alloc(), *kind, texts)?;
+    }
+    Ok(())
+}
+
+static FAULTS_AT_COMMENTS: [(&str, SqlErrorKind, usize); 3] = [
+    ("SELECT v -- a comment's end\n FRM t", Syntax, 29),
+    ("SELECT\u{b}v", BadToken, 6),
+    ("-- it's\n'x", Unclosed, 8),
+];
+
+#[test]
 fn a_fault_may_stand_behind_a_comment_or_in_it(rt: HostRuntime) {
-    for (text, kind, offset) in [
-        ("SELECT v -- a comment's end\n FRM t", Syntax, 29),
-        ("SELECT\u{b}v", BadToken, 6),
-        ("-- it's\n'x", Unclosed, 8),
-    ] {
-        assert_eq!(rt;
-            refusal(rt.alloc(), text),
-            Some(SqlError { kind, offset }),
-            "{text}"
-        );
+    for (text, kind, offset) in &FAULTS_AT_COMMENTS {
+        assert_refused(&rt, rt.alloc(), text, *kind, *offset);
     }
 }
 
@@ -205,91 +230,144 @@ const BLOCKS: &str = "\
 4 SET LOCAL = 1; SET LOCAL TO TO; SET LOCAL TO = 1; SET LOCAL TO TO x
 4 SET session SESSION TO to; SET LOCAL x = 5; SET LOCAL TO 'a'; SET SESSION TO -1";
 
+/// The number of the statements of a line of the table, and their text.
+fn block_of(line: &str) -> Option<(usize, &str)> {
+    let (count, text) = line.split_once(' ')?;
+    let count = count.parse::<usize>().ok()?;
+    Some((count, text))
+}
+
+fn assert_block(rt: &impl Abort, alloc: Global, text: &str, count: usize) -> Result<(), SqlError> {
+    let read = read_sql(alloc, text)?;
+    assert!(rt; read.len() == count, "{text}");
+    Ok(())
+}
+
 #[test]
 fn blocks_are_lists_of_statements(rt: HostRuntime) -> Result<(), Fail> {
     for line in BLOCKS.lines() {
-        let (count, text) = line.split_once(' ').expect(&rt, "a number");
-        let count: usize = count.parse().expect(&rt, "a number");
-        let read = read_sql(rt.alloc(), text)?;
-        assert_eq!(rt; read.len(), count, "{text}");
+        let (count, text) = block_of(line).ok_or("a number")?;
+        assert_block(&rt, rt.alloc(), text, count)?;
     }
+    Ok(())
+}
+
+fn assert_refusal(rt: &impl Abort, alloc: Global, text: &str, want: Option<SqlError>) {
+    assert!(rt; refusal(alloc, text) == want, "{text}");
+}
+
+/// How many rows there are before the last one, and why that is refused.
+static ROWS: [(usize, Option<SqlError>); 3] = [
+    (98, None),
+    (99, None),
+    // The 101st row begins behind 21 bytes and a hundred rows of four bytes each.
+    (
+        100,
+        Some(SqlError {
+            kind: TooLarge,
+            offset: 421,
+        }),
+    ),
+];
+
+fn assert_rows(
+    rt: &impl Abort,
+    alloc: Global,
+    times: usize,
+    last: &str,
+    want: Option<SqlError>,
+) -> Result<(), AllocError> {
+    let text = repeated(alloc, "INSERT INTO t VALUES ", "(1),", times, last)?;
+    assert_refusal(rt, alloc, &text, want);
     Ok(())
 }
 
 #[test]
 fn an_insert_has_a_hundred_rows_at_most(rt: HostRuntime) -> Result<(), Fail> {
-    for (times, want) in [
-        (98, None),
-        (99, None),
-        // The 101st row begins behind 21 bytes and a hundred rows of four bytes each.
-        (
-            100,
-            Some(SqlError {
-                kind: TooLarge,
-                offset: 421,
-            }),
-        ),
-    ] {
-        let text = repeated(rt.alloc(), "INSERT INTO t VALUES ", "(1),", times, "(2)")?;
-        assert_eq!(rt; refusal(rt.alloc(), &text), want, "{times}");
+    for (times, want) in &ROWS {
+        assert_rows(&rt, rt.alloc(), *times, "(2)", *want)?;
     }
     // The comma before the 101st row may stand.
-    let text = repeated(rt.alloc(), "INSERT INTO t VALUES ", "(1),", 100, "")?;
-    assert_eq!(rt;
-        refusal(rt.alloc(), &text),
+    let want = SqlError {
+        kind: Syntax,
+        offset: 421,
+    };
+    assert_rows(&rt, rt.alloc(), 100, "", Some(want))?;
+    Ok(())
+}
+
+/// What stands before a comparison, how often, and why it is refused.
+static LEVELS: [(&str, usize, Option<SqlError>); 4] = [
+    ("NOT ", 32, None),
+    (
+        "NOT ",
+        33,
         Some(SqlError {
-            kind: Syntax,
-            offset: 421
-        })
-    );
+            kind: TooLarge,
+            offset: 150,
+        }),
+    ),
+    (
+        "(",
+        33,
+        Some(SqlError {
+            kind: TooLarge,
+            offset: 54,
+        }),
+    ),
+    (
+        "NOT (",
+        17,
+        Some(SqlError {
+            kind: TooLarge,
+            offset: 102,
+        }),
+    ),
+];
+
+fn assert_levels(
+    rt: &impl Abort,
+    alloc: Global,
+    part: &str,
+    times: usize,
+    want: Option<SqlError>,
+) -> Result<(), AllocError> {
+    let text = repeated(alloc, "SELECT v FROM t WHERE ", part, times, "a = 1")?;
+    assert_refusal(rt, alloc, &text, want);
     Ok(())
 }
 
 #[test]
 fn conditions_are_32_levels_deep_at_most(rt: HostRuntime) -> Result<(), Fail> {
-    for (part, times, want) in [
-        ("NOT ", 32, None),
-        (
-            "NOT ",
-            33,
-            Some(SqlError {
-                kind: TooLarge,
-                offset: 150,
-            }),
-        ),
-        (
-            "(",
-            33,
-            Some(SqlError {
-                kind: TooLarge,
-                offset: 54,
-            }),
-        ),
-        (
-            "NOT (",
-            17,
-            Some(SqlError {
-                kind: TooLarge,
-                offset: 102,
-            }),
-        ),
-    ] {
-        let text = repeated(rt.alloc(), "SELECT v FROM t WHERE ", part, times, "a = 1")?;
-        assert_eq!(rt; refusal(rt.alloc(), &text), want, "{part} {times}");
+    for (part, times, want) in &LEVELS {
+        assert_levels(&rt, rt.alloc(), part, *times, *want)?;
     }
+    Ok(())
+}
+
+static LONG_TEXTS: [(&str, &str, usize); 4] = [
+    ("DELETE FROM t WHERE v = 1", "+1", 30_000),
+    ("DELETE FROM t WHERE v = 1", " OR a=2 AND b=3", 4_000),
+    ("UPDATE t SET a = b", "*2", 30_000),
+    ("COMMIT", ";", 60_000),
+];
+
+fn assert_long(
+    rt: &impl Abort,
+    alloc: Global,
+    front: &str,
+    part: &str,
+    times: usize,
+) -> Result<(), AllocError> {
+    let text = repeated(alloc, front, part, times, "")?;
+    assert!(rt; refusal(alloc, &text).is_none(), "{front}");
     Ok(())
 }
 
 #[test]
 fn long_texts_are_read(rt: HostRuntime) -> Result<(), Fail> {
-    for (front, part, times) in [
-        ("DELETE FROM t WHERE v = 1", "+1", 30_000),
-        ("DELETE FROM t WHERE v = 1", " OR a=2 AND b=3", 4_000),
-        ("UPDATE t SET a = b", "*2", 30_000),
-        ("COMMIT", ";", 60_000),
-    ] {
-        let text = repeated(rt.alloc(), front, part, times, "")?;
-        assert_eq!(rt; refusal(rt.alloc(), &text), None, "{front}");
+    for (front, part, times) in &LONG_TEXTS {
+        assert_long(&rt, rt.alloc(), front, part, *times)?;
     }
     Ok(())
 }
@@ -350,83 +428,124 @@ fn subtracts_from_the_left(statement: &Statement) -> bool {
         && third.term.more.len() == 1
 }
 
+/// Whether there are an UPDATE that subtracts and a statement behind it, at their offsets.
+fn are_update_and_commit(read: &[Statement]) -> bool {
+    match read {
+        [update, commit] => { subtracts_from_the_left(update) && update.at == 3 && commit.at == 35 }
+        _ => false,
+    }
+}
+
 #[test]
 fn a_statement_has_its_offset_and_names_in_lower_case(rt: HostRuntime) -> Result<(), Fail> {
     let read = read_sql(rt.alloc(), " ; update T set X = A - B - 2 * C; COMMIT")?;
-    let [update, commit] = read.as_slice() else {
-        return Err(Fail::new("two statements"));
-    };
-    assert!(rt; subtracts_from_the_left(update));
-    assert_eq!(rt; (update.at, commit.at), (3, 35));
+    assert!(rt; are_update_and_commit(&read), "two statements");
     Ok(())
+}
+
+/// Whole numbers with or without a sign, each with the one of i64 that it is.
+static WHOLE_NUMBERS: [(bool, u64, Option<i64>); 6] = [
+    (false, 0, Some(0)),
+    (true, 7, Some(-7)),
+    (false, 9223372036854775807, Some(i64::MAX)),
+    (true, 9223372036854775808, Some(i64::MIN)),
+    (false, 9223372036854775808, None),
+    (true, 9223372036854775809, None),
+];
+
+fn number_of(negative: bool, digits: u64) -> Option<i64> {
+    Literal::Whole { negative, digits }.number()
 }
 
 #[test]
 fn a_literal_is_one_of_i64(rt: HostRuntime) {
-    for (negative, digits, number) in [
-        (false, 0, Some(0)),
-        (true, 7, Some(-7)),
-        (false, 9223372036854775807, Some(i64::MAX)),
-        (true, 9223372036854775808, Some(i64::MIN)),
-        (false, 9223372036854775808, None),
-        (true, 9223372036854775809, None),
-    ] {
-        assert_eq!(rt;
-            Literal::Whole { negative, digits }.number(),
-            number,
+    for (negative, digits, number) in &WHOLE_NUMBERS {
+        assert!(rt;
+            number_of(*negative, *digits) == *number,
             "{negative} {digits}"
         );
     }
 }
 
+/// Refusals at byte 9, each with its number and its words.
+static REFUSALS: [(SqlErrorKind, u8, &str); 8] = [
+    (BadToken, 1, "no token at byte 9"),
+    (Unclosed, 2, "a text without its closing quote at byte 9"),
+    (Syntax, 3, "a token that cannot stand here at byte 9"),
+    (Unsupported, 4, "no statement of the subset at byte 9"),
+    (NumberTooLarge, 5, "a whole number outside i64 at byte 9"),
+    (TooLarge, 6, "too large at byte 9"),
+    (NotHere, 7, "CREATE TABLE outside a main setup at byte 9"),
+    (NoMemory, 8, "out of memory at byte 9"),
+];
+
+fn assert_words(
+    rt: &impl Abort,
+    alloc: Global,
+    kind: SqlErrorKind,
+    words: &str,
+) -> Result<(), AllocError> {
+    let error = SqlError { kind, offset: 9 };
+    let text = format!(in alloc; "{error}")?;
+    assert_text(rt, &text, words);
+    Ok(())
+}
+
 #[test]
 fn refusals_have_numbers_and_words(rt: HostRuntime) -> Result<(), Fail> {
-    for (kind, number, words) in [
-        (BadToken, 1, "no token at byte 9"),
-        (Unclosed, 2, "a text without its closing quote at byte 9"),
-        (Syntax, 3, "a token that cannot stand here at byte 9"),
-        (Unsupported, 4, "no statement of the subset at byte 9"),
-        (NumberTooLarge, 5, "a whole number outside i64 at byte 9"),
-        (TooLarge, 6, "too large at byte 9"),
-        (NotHere, 7, "CREATE TABLE outside a main setup at byte 9"),
-        (NoMemory, 8, "out of memory at byte 9"),
-    ] {
-        assert_eq!(rt; kind.number(), number);
-        let error = SqlError { kind, offset: 9 };
-        assert_eq!(rt; format!(in rt.alloc(); "{error}")?.as_str(), words);
+    for (kind, number, words) in &REFUSALS {
+        assert!(rt; kind.number() == *number, "{words}");
+        assert_words(&rt, rt.alloc(), *kind, words)?;
     }
     Ok(())
 }
 
+const WANT_OF_MEMORY: SqlError = SqlError {
+    kind: NoMemory,
+    offset: 0,
+};
+
+fn assert_block_in_memory(rt: &impl Abort, alloc: Global, text: &str, count: usize) {
+    match read_sql(alloc, text) {
+        Ok(all) => assert!(rt; all.len() == count, "{text}"),
+        Err(error) => assert!(rt; error == WANT_OF_MEMORY, "{text}"),
+    }
+}
+
+fn assert_refused_in_memory(
+    rt: &impl Abort,
+    alloc: Global,
+    text: &str,
+    kind: SqlErrorKind,
+    offset: usize,
+) {
+    let error = refusal(alloc, text);
+    let is_wanted = error == Some(SqlError { kind, offset });
+    assert!(rt; is_wanted || error == Some(WANT_OF_MEMORY), "{text}");
+}
+
+static REFUSED: [(&str, SqlErrorKind, usize); 6] = [
+    ("SELECT * FROM t WHERE (v = 1 OR NOT w = 'x'", Syntax, 43),
+    ("INSERT INTO t (a, b) VALUES (1, 'x'), (2", Syntax, 40),
+    ("CREATE TABLE t (id int PRIMARY KEY, v text,)", Syntax, 43),
+    ("UPDATE t SET a = 1, b = c + 2 * 5 x", Syntax, 34),
+    ("COMMIT; ANALYZE", Unsupported, 8),
+    (
+        "DELETE FROM t WHERE v = 1; DELETE FROM t WHERE v = 9223372036854775808",
+        NumberTooLarge,
+        51,
+    ),
+];
+
 /// Each growth may be refused: then the answer is `NoMemory` at 0, else it is the full one.
 #[test]
-fn want_of_memory_is_named(rt: HostRuntime) {
-    let no_memory = SqlError {
-        kind: NoMemory,
-        offset: 0,
-    };
+fn want_of_memory_is_named(rt: HostRuntime) -> Result<(), Fail> {
     for line in BLOCKS.lines() {
-        let (count, text) = line.split_once(' ').expect(&rt, "a number");
-        let count: usize = count.parse().expect(&rt, "a number");
-        match read_sql(rt.alloc(), text) {
-            Ok(all) => assert_eq!(rt; all.len(), count, "{text}"),
-            Err(error) => assert_eq!(rt; error, no_memory, "{text}"),
-        }
+        let (count, text) = block_of(line).ok_or("a number")?;
+        assert_block_in_memory(&rt, rt.alloc(), text, count);
     }
-    for (text, kind, offset) in [
-        ("SELECT * FROM t WHERE (v = 1 OR NOT w = 'x'", Syntax, 43),
-        ("INSERT INTO t (a, b) VALUES (1, 'x'), (2", Syntax, 40),
-        ("CREATE TABLE t (id int PRIMARY KEY, v text,)", Syntax, 43),
-        ("UPDATE t SET a = 1, b = c + 2 * 5 x", Syntax, 34),
-        ("COMMIT; ANALYZE", Unsupported, 8),
-        (
-            "DELETE FROM t WHERE v = 1; DELETE FROM t WHERE v = 9223372036854775808",
-            NumberTooLarge,
-            51,
-        ),
-    ] {
-        let error = refusal(rt.alloc(), text);
-        let is_wanted = error == Some(SqlError { kind, offset });
-        assert!(rt; is_wanted || error == Some(no_memory), "{text}");
+    for (text, kind, offset) in &REFUSED {
+        assert_refused_in_memory(&rt, rt.alloc(), text, *kind, *offset);
     }
+    Ok(())
 }

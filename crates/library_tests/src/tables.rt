@@ -117,7 +117,7 @@ fn take(rt: &impl Abort, alloc: Global, store: &mut Store, step: Step) -> Result
         }
         Step::Sees(table, key, want) => {
             let key = to_value(alloc, key)?;
-            assert_eq!(rt; value_at(store, table, &key), want);
+            assert!(rt; value_at(store, table, &key) == want, "table {table}");
             Ok(())
         }
         Step::Scans(table, want) => {
@@ -137,30 +137,39 @@ fn run(rt: &impl Abort, alloc: Global, store: &mut Store, steps: &[Step]) -> Res
     Ok(())
 }
 
+/// Runs the steps on a store of their own.
+fn run_anew(rt: &impl Abort, alloc: Global, steps: &[Step]) -> Result<(), AllocError> {
+    run(rt, alloc, &mut empty_store(alloc), steps)
+}
+
+const NAME: Key = Key::Name("name");
+
+const NUMBER: Key = Key::Number(1);
+
+const OTHER_NUMBER: Key = Key::Number(2);
+
+static UNDONE: [Step; 16] = [
+    Step::Put(0, NUMBER, 10),
+    Step::Keep(0),
+    Step::Put(0, NUMBER, 11),
+    Step::Sees(0, NUMBER, Some(11)),
+    Step::Remove(0, NUMBER),
+    Step::Sees(0, NUMBER, None),
+    Step::Undo(0),
+    Step::Sees(0, NUMBER, Some(10)),
+    Step::Put(0, OTHER_NUMBER, 20),
+    Step::Remove(0, OTHER_NUMBER),
+    Step::Put(0, OTHER_NUMBER, 21),
+    Step::Put(0, NUMBER, 12),
+    Step::Sees(0, OTHER_NUMBER, Some(21)),
+    Step::Undo(0),
+    Step::Sees(0, OTHER_NUMBER, None),
+    Step::Sees(0, NUMBER, Some(10)),
+];
+
 #[test]
 fn undo_restores_what_stood_before_the_first_write(rt: HostRuntime) -> Result<(), Fail> {
-    let one = Key::Number(1);
-    let two = Key::Number(2);
-    let steps = [
-        Step::Put(0, one, 10),
-        Step::Keep(0),
-        Step::Put(0, one, 11),
-        Step::Sees(0, one, Some(11)),
-        Step::Remove(0, one),
-        Step::Sees(0, one, None),
-        Step::Undo(0),
-        Step::Sees(0, one, Some(10)),
-        Step::Put(0, two, 20),
-        Step::Remove(0, two),
-        Step::Put(0, two, 21),
-        Step::Put(0, one, 12),
-        Step::Sees(0, two, Some(21)),
-        Step::Undo(0),
-        Step::Sees(0, two, None),
-        Step::Sees(0, one, Some(10)),
-    ];
-    let mut store = empty_store(rt.alloc());
-    run(&rt, rt.alloc(), &mut store, &steps)?;
+    run_anew(&rt, rt.alloc(), &UNDONE)?;
     Ok(())
 }
 
@@ -187,48 +196,70 @@ static KEPT_BY_THE_SECOND: [Step; 5] = [
     Step::Sees(1, NUMBER, Some(100)),
 ];
 
-#[test]
-fn sessions_and_forks_keep_and_undo_apart(rt: HostRuntime) -> Result<(), Fail> {
-    let mut store = empty_store(rt.alloc());
-    run(&rt, rt.alloc(), &mut store, &BEFORE_THE_FORK)?;
-    let mut fork = store.fork()?;
-    run(&rt, rt.alloc(), &mut store, &KEPT_BY_THE_FIRST)?;
-    run(&rt, rt.alloc(), &mut fork, &KEPT_BY_THE_SECOND)?;
-    Ok(())
+/// Runs steps on a store and on its fork.
+fn run_apart(
+    rt: &impl Abort,
+    alloc: Global,
+    store: &mut Store,
+    fork: &mut Store,
+) -> Result<(), AllocError>
+    requires { HasOwners store.old × HasOwners fork.old }
+    ensures { HasOwners store.new × HasOwners fork.new }
+{
+    run(rt, alloc, store, &KEPT_BY_THE_FIRST)?;
+    run(rt, alloc, fork, &KEPT_BY_THE_SECOND)
+}
+
+/// Runs steps on a store, and then on it and on a fork.
+fn run_forked(rt: &impl Abort, alloc: Global, store: &mut Store) -> Result<(), AllocError>
+    requires { HasOwners store.old }
+    ensures { HasOwners store.new }
+{
+    run(rt, alloc, store, &BEFORE_THE_FORK)?;
+    match store.fork() {
+        Ok(mut fork) => run_apart(rt, alloc, store, &mut fork),
+        Err(error) => Err(error),
+    }
 }
 
 #[test]
+fn sessions_and_forks_keep_and_undo_apart(rt: HostRuntime) -> Result<(), Fail> {
+    run_forked(&rt, rt.alloc(), &mut empty_store(rt.alloc()))?;
+    Ok(())
+}
+
+static SCANNED: [Step; 17] = [
+    Step::Put(1, Key::Name("b"), 0),
+    Step::Put(1, Key::Number(5), 0),
+    Step::Put(1, Key::Number(-1), 0),
+    Step::Put(1, Key::Name("a"), 0),
+    Step::Put(1, Key::Number(10), 0),
+    Step::Put(0, Key::Number(i64::MAX), 0),
+    Step::Put(65535, Key::Number(i64::MIN), 0),
+    Step::Put(3, Key::Number(1), 0),
+    Step::Remove(3, Key::Number(1)),
+    Step::Scans(0, &[Key::Number(i64::MAX)]),
+    Step::Scans(
+        1,
+        &[
+            Key::Number(-1),
+            Key::Number(5),
+            Key::Number(10),
+            Key::Name("a"),
+            Key::Name("b"),
+        ],
+    ),
+    Step::Scans(2, &[]),
+    Step::Scans(3, &[]),
+    Step::Scans(65535, &[Key::Number(i64::MIN)]),
+    Step::Undo(1),
+    Step::Scans(1, &[]),
+    Step::Scans(0, &[Key::Number(i64::MAX)]),
+];
+
+#[test]
 fn a_scan_has_the_rows_of_its_table_in_order(rt: HostRuntime) -> Result<(), Fail> {
-    let steps = [
-        Step::Put(1, Key::Name("b"), 0),
-        Step::Put(1, Key::Number(5), 0),
-        Step::Put(1, Key::Number(-1), 0),
-        Step::Put(1, Key::Name("a"), 0),
-        Step::Put(1, Key::Number(10), 0),
-        Step::Put(0, Key::Number(i64::MAX), 0),
-        Step::Put(65535, Key::Number(i64::MIN), 0),
-        Step::Put(3, Key::Number(1), 0),
-        Step::Remove(3, Key::Number(1)),
-        Step::Scans(0, &[Key::Number(i64::MAX)]),
-        Step::Scans(
-            1,
-            &[
-                Key::Number(-1),
-                Key::Number(5),
-                Key::Number(10),
-                Key::Name("a"),
-                Key::Name("b"),
-            ],
-        ),
-        Step::Scans(2, &[]),
-        Step::Scans(3, &[]),
-        Step::Scans(65535, &[Key::Number(i64::MIN)]),
-        Step::Undo(1),
-        Step::Scans(1, &[]),
-        Step::Scans(0, &[Key::Number(i64::MAX)]),
-    ];
-    let mut store = empty_store(rt.alloc());
-    run(&rt, rt.alloc(), &mut store, &steps)?;
+    run_anew(&rt, rt.alloc(), &SCANNED)?;
     Ok(())
 }
 
@@ -277,10 +308,6 @@ static STEPS: [(Step, Seen); 14] = [
     (Step::Undo(0), [Some(10), None, Some(20), Some(21)]),
 ];
 
-const NAME: Key = Key::Name("name");
-
-const NUMBER: Key = Key::Number(1);
-
 /// A step that is refused leaves the store, and can be taken again.
 fn take_in_the_end(
     rt: &impl Abort,
@@ -296,7 +323,7 @@ fn take_in_the_end(
     if take(rt, alloc, store, step).is_ok() {
         return Ok(());
     }
-    assert_eq!(rt; seen(store, keys), before);
+    assert!(rt; seen(store, keys) == before, "a refused step");
     take(rt, alloc, store, step)
 }
 
@@ -304,30 +331,55 @@ fn take_in_the_end(
 fn assert_forked(rt: &impl Abort, mut fork: Store, keys: (&Value, &Value), before: Seen)
     requires { HasOwners fork }
 {
-    assert_eq!(rt; seen(&fork, keys), before);
+    assert!(rt; seen(&fork, keys) == before, "a fork");
     if undo(&mut fork, 0).is_err() {
-        assert_eq!(rt; seen(&fork, keys), before);
+        assert!(rt; seen(&fork, keys) == before, "a fork that is not undone");
     }
+}
+
+/// Takes a step in the end. A fork from before it stays as it was.
+fn take_and_fork(
+    rt: &impl Abort,
+    alloc: Global,
+    store: &mut Store,
+    step: Step,
+    keys: (&Value, &Value),
+    before: Seen,
+) -> Result<(), AllocError>
+    requires { HasOwners store.old }
+    ensures { HasOwners store.new }
+{
+    let fork = store.fork();
+    let taken = take_in_the_end(rt, alloc, store, step, keys, before);
+    if let Ok(fork) = fork {
+        assert_forked(rt, fork, keys, before);
+    }
+    taken
+}
+
+/// Takes each step in the end.
+fn take_all_in_the_end(
+    rt: &impl Abort,
+    alloc: Global,
+    store: &mut Store,
+    keys: (&Value, &Value),
+) -> Result<(), AllocError>
+    requires { HasOwners store.old }
+{
+    let mut before = [None; 4];
+    for (step, after) in &STEPS {
+        take_and_fork(rt, alloc, store, *step, keys, before)?;
+        assert!(rt; seen(store, keys) == *after, "after a step");
+        before = *after;
+    }
+    Ok(())
 }
 
 #[test]
 fn a_refused_step_leaves_the_store_and_its_forks(rt: HostRuntime) {
-    let alloc = rt.alloc();
-    let (Ok(name), Ok(number)) = (to_value(alloc, NAME), to_value(alloc, NUMBER)) else {
+    let (Ok(name), Ok(number)) = (to_value(rt.alloc(), NAME), to_value(rt.alloc(), NUMBER)) else {
         return;
     };
-    let keys = (&name, &number);
-    let mut store = empty_store(alloc);
-    let mut before = [None; 4];
-    for (step, after) in &STEPS {
-        let fork = store.fork();
-        if take_in_the_end(&rt, alloc, &mut store, *step, keys, before).is_err() {
-            return;
-        }
-        if let Ok(fork) = fork {
-            assert_forked(&rt, fork, keys, before);
-        }
-        assert_eq!(rt; seen(&store, keys), *after);
-        before = *after;
-    }
+    let mut store = empty_store(rt.alloc());
+    let _ = take_all_in_the_end(&rt, rt.alloc(), &mut store, (&name, &number));
 }

@@ -1,5 +1,5 @@
 use Rattle.statement_effects.specs.Alone.{IsAlone}
-use Rattle.library_tests.proofs.effects.run_all.Given as goal
+use Rattle.library_tests.proofs.effects.take_all.Given as goal
 
 abbrev pub invariant-loop-step : goal.invariant-loop-step
 invariant-loop-step l = IsAlone l.store
