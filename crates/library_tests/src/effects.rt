@@ -439,6 +439,41 @@ fn totals_are_exact_and_row_numbers_leave_gaps(rt: HostRuntime) -> Result<(), Fa
     Ok(())
 }
 
+/// Rows whose numbers neither two nor four bytes count.
+static FAR: [Step; 8] = [
+    Step::Inserts(Some(0), &[&[N(65_535)]]),
+    Step::Inserts(None, &[&[N(1)]]),
+    Step::Inserts(Some(0), &[&[N(2_147_483_647)]]),
+    Step::Inserts(None, &[&[N(2)]]),
+    Step::Inserts(Some(0), &[&[N(4_294_967_295)]]),
+    Step::Inserts(None, &[&[N(3)], &[N(4)]]),
+    Step::Updates(Some(4_294_967_297), &[(0, Written::Column(0))], Rows::Every),
+    Step::Shows(Rows::Every, &[0], &[]),
+];
+
+#[test]
+fn row_numbers_go_past_four_bytes(rt: HostRuntime) -> Result<(), Fail> {
+    let want = "session s
+  inserted 1
+  inserted 1
+  inserted 1
+  inserted 1
+  inserted 1
+  inserted 2
+  updated 1
+  row 65535
+  row 1
+  row 2147483647
+  row 2
+  row 4294967295
+  row 3
+  row 4
+  rows 7
+";
+    assert_tells(&rt, rt.alloc(), &FAR, want)?;
+    Ok(())
+}
+
 static KEYS: [Step; 9] = [
     Step::Inserts(Some(0), &[&[N(1), N(5), N(6)], &[N(1), N(7), N(8)]]),
     Step::Shows(Rows::Every, &[0], &[]),
