@@ -24,15 +24,27 @@ fn run_of(range: &[String]) -> io::Result<Job> {
     Ok(Job::Run(shard, how.as_str() == "reduce"))
 }
 
+/// Two jobs, joined.
+fn joined(alloc: Global, before: Job, more: Job) -> io::Result<Job> {
+    let before = Boxed::new(alloc, before)?;
+    let more = Boxed::new(alloc, more)?;
+    Ok(Job::Join(before, more))
+}
+
+/// The job of a range, behind those that there are before it.
+fn with_range(alloc: Global, job: Option<Job>, range: &[String]) -> io::Result<Job> {
+    let more = run_of(range)?;
+    match job {
+        None => Ok(more),
+        Some(before) => joined(alloc, before, more),
+    }
+}
+
 /// The job that joins all ranges, where there are any.
 fn job_of(alloc: Global, words: &[String]) -> io::Result<Option<Job>> {
     let mut job = None;
     for range in words.chunks(3) {
-        let more = run_of(range)?;
-        job = Some(match job {
-            None => more,
-            Some(before) => Job::Join(Boxed::new(alloc, before)?, Boxed::new(alloc, more)?),
-        });
+        job = Some(with_range(alloc, job, range)?);
     }
     Ok(job)
 }
@@ -73,18 +85,32 @@ fn print_book(rt: &HostRuntime, book: &Book) -> io::Result<()> {
     print_report(rt, book)
 }
 
+fn print_made(
+    rt: &HostRuntime,
+    path: &str,
+    spec: &Spec,
+    job: &Option<Job>,
+) -> io::Result<ExitCode> {
+    match book_of(rt.alloc(), spec, job) {
+        Ok(book) => {
+            print_book(rt, &book)?;
+            Ok(ExitCode::SUCCESS)
+        }
+        Err(error) => refuse(rt, path, OneFault::Run(error)),
+    }
+}
+
+fn print_job(rt: &HostRuntime, path: &str, text: &[u8], job: &Option<Job>) -> io::Result<ExitCode> {
+    match spec_of(rt.alloc(), text) {
+        Ok(spec) => print_made(rt, path, &spec, job),
+        Err(fault) => refuse(rt, path, OneFault::Spec(fault)),
+    }
+}
+
 /// Makes the book of each range of ranks of a spec file (`FIRST END reduce`, or `every`), joins them, and prints `missing R` or `missing
 /// none`, and then the report: `[R,OUTCOME]` for each rank, or why there is none. What is refused is told as for facts.
 pub fn print_books(rt: &HostRuntime, path: &str, words: &[String]) -> io::Result<ExitCode> {
     let job = job_of(rt.alloc(), words)?;
     let text = text_of(rt, path)?;
-    let spec = match spec_of(rt.alloc(), &text) {
-        Ok(spec) => spec,
-        Err(fault) => return refuse(rt, path, OneFault::Spec(fault)),
-    };
-    match book_of(rt.alloc(), &spec, &job) {
-        Ok(book) => print_book(rt, &book)?,
-        Err(error) => return refuse(rt, path, OneFault::Run(error)),
-    }
-    Ok(ExitCode::from(0))
+    print_job(rt, path, &text, &job)
 }

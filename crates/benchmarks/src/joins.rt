@@ -33,6 +33,13 @@ fn print_stage(rt: &HostRuntime, name: &str, time: Duration) -> io::Result<()> {
     )
 }
 
+/// A job with one shard more.
+fn with_shard(alloc: Global, job: Job, shard: Shard) -> io::Result<Job> {
+    let job = Boxed::new(alloc, job)?;
+    let more = Boxed::new(alloc, Job::Run(shard, true))?;
+    Ok(Job::Join(job, more))
+}
+
 /// Every other shard of so many ranks: the first, the third and so on, or those between.
 fn every_other(alloc: Global, ranks: u64, length: u64, side: u64) -> io::Result<Job> {
     let length = length.max(1);
@@ -41,18 +48,22 @@ fn every_other(alloc: Global, ranks: u64, length: u64, side: u64) -> io::Result<
         let first = place.saturating_mul(length);
         let end = first.saturating_add(length).min(ranks);
         if place % 2 == side && first < end {
-            let shard = Job::Run(Shard { first, end }, true);
-            job = Job::Join(Boxed::new(alloc, job)?, Boxed::new(alloc, shard)?);
+            job = with_shard(alloc, job, Shard { first, end })?;
         }
     }
     Ok(job)
+}
+
+/// Tells how long a stage took that is over.
+fn print_since(rt: &HostRuntime, name: &str, start: Instant) -> io::Result<()> {
+    print_stage(rt, name, start.elapsed(rt)?)
 }
 
 fn print_made(rt: &HostRuntime, name: &str, spec: &Spec, job: &Job) -> io::Result<Book> {
     let start = Instant::now(rt)?;
     match make(rt.alloc(), spec, job) {
         Ok(book) => {
-            print_stage(rt, name, start.elapsed(rt)?)?;
+            print_since(rt, name, start)?;
             Ok(book)
         }
         Err(_) => Err(refused()),
@@ -63,7 +74,7 @@ fn print_joined(rt: &HostRuntime, a: &Book, b: &Book) -> io::Result<Book> {
     let start = Instant::now(rt)?;
     match join(a, b) {
         Ok(book) => {
-            print_stage(rt, "join", start.elapsed(rt)?)?;
+            print_since(rt, "join", start)?;
             Ok(book)
         }
         Err(_) => Err(refused()),
@@ -74,20 +85,34 @@ fn print_reported(rt: &HostRuntime, book: &Book) -> io::Result<()> {
     let start = Instant::now(rt)?;
     match report(rt.alloc(), book) {
         Ok(report) => {
-            print_stage(rt, "report", start.elapsed(rt)?)?;
+            print_since(rt, "report", start)?;
             println!(rt; "{} ranks are reported", report.len())
         }
         Err(error) => println!(rt; "{error}"),
     }
 }
 
-fn print_halves(rt: &HostRuntime, spec: &Spec, length: u64) -> io::Result<()> {
-    let job = every_other(rt.alloc(), spec.ranks(), length, 0)?;
-    let one = print_made(rt, "every other shard", spec, &job)?;
-    let job = every_other(rt.alloc(), spec.ranks(), length, 1)?;
-    let other = print_made(rt, "the shards between", spec, &job)?;
-    let both = print_joined(rt, &one, &other)?;
+/// Makes every other shard, from the first or the second on.
+fn print_half(
+    rt: &HostRuntime,
+    name: &str,
+    spec: &Spec,
+    length: u64,
+    side: u64,
+) -> io::Result<Book> {
+    let job = every_other(rt.alloc(), spec.ranks(), length, side)?;
+    print_made(rt, name, spec, &job)
+}
+
+fn print_both(rt: &HostRuntime, one: &Book, other: &Book) -> io::Result<()> {
+    let both = print_joined(rt, one, other)?;
     print_reported(rt, &both)
+}
+
+fn print_halves(rt: &HostRuntime, spec: &Spec, length: u64) -> io::Result<()> {
+    let one = print_half(rt, "every other shard", spec, length, 0)?;
+    let other = print_half(rt, "the shards between", spec, length, 1)?;
+    print_both(rt, &one, &other)
 }
 
 /// Cuts the ranks of a spec file into shards of so many ranks, and prints how long it takes to make the book of every other shard, that

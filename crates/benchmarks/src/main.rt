@@ -186,22 +186,26 @@ fn measure(rt: &HostRuntime, words: &[String]) -> io::Result<()> {
     }
 }
 
-fn main(rt: HostRuntime) -> io::Result<ExitCode> {
-    let words: Vec<String> = env::args(&rt)?.collect(rt.alloc())?;
-    if let [_program, books, path, ranges @ ..] = words.as_slice()
+fn run(rt: &HostRuntime, words: &[String]) -> io::Result<ExitCode> {
+    if let [_program, books, path, ranges @ ..] = words
         && books.as_str() == "books"
     {
-        return books::print_books(&rt, path.as_str(), ranges);
+        return books::print_books(rt, path.as_str(), ranges);
     }
-    if let [_program, path, first, end, how] = words.as_slice() {
+    if let [_program, path, first, end, how] = words {
         return facts::print_facts(
-            &rt,
+            rt,
             path.as_str(),
             first.as_str(),
             end.as_str(),
             how.as_str(),
         );
     }
-    measure(&rt, &words)?;
+    measure(rt, words)?;
     Ok(ExitCode::SUCCESS)
+}
+
+fn main(rt: HostRuntime) -> io::Result<ExitCode> {
+    let words: Vec<String> = env::args(&rt)?.collect(rt.alloc())?;
+    run(&rt, &words)
 }
