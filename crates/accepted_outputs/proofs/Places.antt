@@ -57,11 +57,6 @@ one-more xs ys n m is before here k lt = at (eqb k n) refl
 
 -- ---- reports
 
-pub below-at : (n : ℕ) (xs : List ℕ) (i d : ℕ) → i < length xs → AllBelow n xs → get_or xs i d < n
-below-at n [] i d lt a = absurd (omega (arith, lt))
-below-at n (x ∷ xs) zero d lt a = a.0
-below-at n (x ∷ xs) (suc i) d lt a = below-at n xs i d (omega (arith, lt)) a.1
-
 -- the value of a rank is the outcome with its number
 pub value-at : (t : List Told) (numbers : List ℕ) (rank : ℕ) → rank < length numbers → slice_get (values_of t numbers) rank ≡ Some (get_or t (get_or numbers rank 0) [])
 value-at t [] rank lt = absurd (omega (arith, lt))

@@ -1,5 +1,6 @@
 -- What is found of all pieces, from what is found of each.
 use Rattle.std.proofs.Common.{◌≡◌, sym, ap, ◌∙◌, subst, ℕ, ◌<◌, ◌≤◌, min, false, ◌||◌, List, [], ◌∷◌, ◌++◌, ◌⊎◌, ⊎_elim, inl, inr, Some, All, arith}
+use Rattle.std.proofs.Math.Bool.{or_assoc, or-false}
 use Rattle.std.proofs.lemmas.Bool.{false≢true, cases_lt}
 use Rattle.std.proofs.lemmas.List.Folds.{list_any-append}
 use Rattle.std.proofs.lemmas.List.Elements.{All-nil, All-cons}
@@ -14,7 +15,6 @@ use Rattle.book_audit.specs.declared.finding.Finding.TheVariants.{AllTrue as Eac
 use Rattle.book_audit.specs.Findings.{said, AllTrueBelow, IsLeast, IsFinding}
 use Rattle.book_audit.specs.Pieces.{runs_of, both, all_of}
 use Rattle.book_audit.proofs.Least.{or-left, or-cases, finding-same}
-use Rattle.book_audit.proofs.PieceLemmas.{or-none, or_assoc}
 
 -- ---- two pieces
 
@@ -54,13 +54,13 @@ pub pieces-finding : (spec : Spec) (table : Table) (before : Facts) (so_far : Fi
     → AllZip (λ piece finding. IsFinding spec (said table piece) finding) pieces findings → IsFinding spec before so_far
     → IsFinding spec (λ r fact. before r fact || said table (runs_of pieces) r fact) (all_of so_far findings)
 pieces-finding spec table before so_far [] [] each is =
-    finding-same spec before (λ r fact. before r fact || false) so_far (λ r fact. sym (or-none (before r fact))) is
+    finding-same spec before (λ r fact. before r fact || false) so_far (λ r fact. sym (or-false (before r fact))) is
 pieces-finding spec table before so_far [] (x ∷ xs) each is = absurd each
 pieces-finding spec table before so_far (p ∷ ps) [] each is = absurd each
 pieces-finding spec table before so_far (p ∷ ps) (x ∷ xs) each is =
     finding-same spec (λ r fact. (before r fact || said table p r fact) || said table (runs_of ps) r fact)
     (λ r fact. before r fact || said table (p ++ runs_of ps) r fact) (all_of (both so_far x) xs)
-    (λ r fact. sym (or_assoc (before r fact) (said table p r fact) (said table (runs_of ps) r fact))
+    (λ r fact. or_assoc (before r fact) (said table p r fact) (said table (runs_of ps) r fact)
     ∙ ap (λ b. before r fact || b) (sym (list_any-append (has table (r, fact)) p (runs_of ps))))
     (pieces-finding spec table (λ r fact. before r fact || said table p r fact) (both so_far x) ps xs each.1
     (both-finding spec before (said table p) so_far x is each.0))

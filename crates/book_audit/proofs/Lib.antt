@@ -1,4 +1,3 @@
-pub mod Trails
 pub mod Tests
 pub mod Least
 pub mod PieceLemmas

@@ -1,5 +1,6 @@
 -- Runs in pieces.
 use Rattle.std.proofs.Common.{◌≡◌, refl, sym, ap, ◌∙◌, subst, ℕ, ◌≤◌, max, Bool, true, false, ◌||◌, List, [], ◌∷◌, ◌++◌, append_assoc, append-nil, arith, Result, Ok, Err}
+use Rattle.std.proofs.Math.Bool.{or_assoc, or-false}
 use Rattle.std.proofs.lemmas.List.Folds.{list_any-append}
 use Rattle.std.specs.List.{list_any}
 use Rattle.std.specs.Result.{OnOk}
@@ -20,14 +21,6 @@ runs_of-ended ended piece =
 
 -- ---- one more run
 
-pub or-none : (x : Bool) → (x || false) ≡ x
-or-none true = refl
-or-none false = refl
-
-pub or_assoc : (x y z : Bool) → (x || (y || z)) ≡ ((x || y) || z)
-or_assoc true y z = refl
-or_assoc false y z = refl
-
 -- what a run says up to one of its ranks
 abbrev pub up_to : Run → ℕ → Run
 up_to run end = record { first = run.first; end = end; tag = run.tag }
@@ -40,12 +33,12 @@ has-no_rank table e run = none (has table e (up_to run run.first)) refl
     none true is = absurd (let inside = within-true run.first run.first e.0 (both_true _ _ is).0 in omega (arith, inside.0, inside.1))
 
 pub adds-no_rank : (old : List Run) (run : Run) → Adds old (up_to run run.first) old
-adds-no_rank old run = λ table e. sym (ap (λ b. list_any (has table e) old || b) (has-no_rank table e run) ∙ or-none _)
+adds-no_rank old run = λ table e. sym (ap (λ b. list_any (has table e) old || b) (has-no_rank table e run) ∙ or-false _)
 
 pub adds-last : (old new : List Run) (run : Run) → new ≡ old ++ run ∷ [] → Adds old run new
 adds-last old new run is = λ table e.
     ap (list_any (has table e)) is ∙ list_any-append (has table e) old (run ∷ [])
-    ∙ ap (λ b. list_any (has table e) old || b) (or-none (has table e run))
+    ∙ ap (λ b. list_any (has table e) old || b) (or-false (has table e run))
 
 pub sound-last : (old new : List Run) (run : Run) → new ≡ old ++ run ∷ [] → KeepsSound old run new
 sound-last old new run is = λ n a s. subst (AllSound n) (sym is) (AllSound-push n old run a s)
@@ -56,7 +49,7 @@ pub adds-part : (old now new : List Run) (run part : Run) → Adds old (up_to ru
 adds-part old now new run part so_far is tag low le = λ table e.
     adds-last now new part is table e
     ∙ ap (λ b. b || has table e part) (so_far table e)
-    ∙ sym (or_assoc (list_any (has table e) old) (has table e (up_to run part.first)) (has table e part))
+    ∙ or_assoc (list_any (has table e) old) (has table e (up_to run part.first)) (has table e part)
     ∙ ap (λ b. list_any (has table e) old || b) (sym (whole table e))
   where
     long : max part.first part.end ≡ part.end

@@ -15,7 +15,7 @@ use Rattle.quiet_steps.proofs.Leading.{outcome-started}
 use Rattle.step_reducer.proofs.Covering.{swap-covers}
 use Rattle.step_reducer.proofs.Partings.{takes-length, line-length}
 use Rattle.step_reducer.proofs.Prefixes.{falls-short}
-use Rattle.book_audit.specs.Trails.{IsTrueUntil, AreAlikeTo}
+use Rattle.book_audit.specs.Grounds.{IsTrueUntil, AreAlikeTo}
 
 some-same : {A : Type 0} (a b : A) → Some a ≡ Some b → a ≡ b
 some-same a b e = cc

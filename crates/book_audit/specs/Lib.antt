@@ -1,4 +1,4 @@
 pub mod Audit
-pub mod Trails
+pub mod Grounds
 pub mod Findings
 pub mod Pieces

@@ -6,7 +6,7 @@ ghost use Rattle.outcome_books.specs.Runs.{AllSound, IsSound};
 ghost use Rattle.outcome_books.specs.Books.{Contents};
 ghost use Rattle.outcome_books.specs.Entries.{recorded};
 ghost use Rattle.book_audit.specs.Audit.{IsAudit};
-ghost use Rattle.book_audit.specs.Trails.{IsGround};
+ghost use Rattle.book_audit.specs.Grounds.{IsGround};
 ghost use Rattle.book_audit.specs.Findings.{IsFinding, IsLeast, said, with_said, limit, first_of};
 
 use crate::error::AuditError;

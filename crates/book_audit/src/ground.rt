@@ -3,20 +3,22 @@
 ghost use Rattle.std.specs.Prelude.{◌≡◌, ◌<◌, length, IfOk, OnOk};
 ghost use Rattle.quiet_steps.specs.declared.fact.Fact.TheVariants as fact;
 ghost use Rattle.outcome_books.specs.Runs.{IsNumbered, fact_in};
-ghost use Rattle.book_audit.specs.Trails.{IsAuditor, IsGround, IsTrueUntil};
+ghost use Rattle.step_reducer.specs.Paths.{IsPath};
+ghost use Rattle.book_audit.specs.Grounds.{IsGround, IsTrueUntil};
 ghost use Rattle.book_audit.specs.Findings.{IsFirstFalse};
 
-use crate::auditor::Auditor;
+use crate::testing::{is_ran, swap_until};
 use outcome_books::{Run, Tag};
 use session_machine::{StartError, World};
 use sql_subset::Spec;
 use std::alloc::{AllocError, Global};
+use step_reducer::Path;
 use transcripts::Outcome;
 
 /// What facts of a spec are tested on.
 #[derive(Drop)]
 pub(crate) enum Ground<'a> {
-    Started(Auditor<'a>),
+    Started(Path<'a>),
     /// The spec does not start: nothing is true.
     Refused,
 }
@@ -26,7 +28,7 @@ impl<'a> Ground<'a> {
         ensures { IfOk result (IsGround spec.now) }
     {
         match World::start(alloc, spec) {
-            Ok(world) => Ok(Ground::Started(Auditor::new(alloc, spec, world))),
+            Ok(world) => Ok(Ground::Started(Path::new(alloc, spec, world))),
             Err(StartError::NoMemory) => Err(AllocError),
             Err(
                 StartError::SetupFailed { .. }
@@ -74,9 +76,9 @@ impl<'a> Ground<'a> {
         ensures answer { IfOk result (IsTrueUntil spec.now.run (fact_in outcomes.now tag) rank) }
     {
         match self {
-            Ground::Started(auditor) => match tag {
-                Tag::Ran(number) => ran_until(auditor, &outcomes[number], rank),
-                Tag::Swap(place) => auditor.swap_until(rank, place),
+            Ground::Started(path) => match tag {
+                Tag::Ran(number) => ran_until(path, &outcomes[number], rank),
+                Tag::Swap(place) => swap_until(path, rank, place),
             },
             Ground::Refused => Ok(None),
         }
@@ -85,16 +87,16 @@ impl<'a> Ground<'a> {
 
 /// Behind the rank, if this is its outcome.
 fn ran_until(
-    auditor: &mut Auditor<'_>,
+    path: &mut Path<'_>,
     told: &Outcome,
     rank: u64,
 ) -> Result<Option<u64>, AllocError>
-    requires auditor { IsAuditor auditor.old.spec.now auditor.old }
+    requires path { IsPath path.old.spec.now path.old }
     requires last { rank < u64.MAX }
-    ensures auditor { OnOk result (IsAuditor auditor.old.spec.now auditor.new) }
-    ensures answer { IfOk result (IsTrueUntil auditor.old.spec.now.run (fact.Ran told.now) rank) }
+    ensures path { OnOk result (IsPath path.old.spec.now path.new) }
+    ensures answer { IfOk result (IsTrueUntil path.old.spec.now.run (fact.Ran told.now) rank) }
 {
-    if auditor.is_ran(rank, told)? {
+    if is_ran(path, rank, told)? {
         Ok(Some(rank + 1))
     } else {
         Ok(None)

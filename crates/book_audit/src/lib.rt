@@ -2,14 +2,13 @@
 #![tactic(auto)]
 
 mod auditing;
-mod auditor;
 mod error;
 mod finding;
 mod ground;
 mod pieces;
 mod sharing;
 mod source;
-mod trail;
+mod testing;
 
 pub use auditing::{audit, audit_plain};
 pub use error::AuditError;

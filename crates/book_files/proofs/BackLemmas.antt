@@ -30,7 +30,8 @@ use Rattle.book_files.specs.Laws.{RunFits}
 use Rattle.book_files.specs.Reading.{last, AreOutcomes}
 use Rattle.book_files.specs.ReadingRuns.{span_in, run_of, IsLed, IsPast, IsNextRun, AreRuns}
 use Rattle.book_files.specs.ReadingBooks.{IsBookValue, IsBookFile}
-use Rattle.book_files.proofs.OneForm.{in-at, in-any, sound-in, place-in, true-has}
+use Rattle.outcome_books.proofs.VerdictLemmas.{in-any}
+use Rattle.book_files.proofs.OneForm.{in-at, sound-in, place-in, true-has}
 use Rattle.book_files.proofs.ReadLemmas.{last-push}
 use Rattle.book_files.proofs.TextLemmas.{text-read}
 
@@ -59,7 +60,7 @@ outcomes-back spec before (o ∷ os) after rises may =
 
 -- ---- a run
 
-abbrev span_of : Run → Span
+abbrev pub span_of : Run → Span
 span_of run = record { first = run.first; count = run.end - run.first; tag = run.tag }
 
 -- the number is one of n outcomes, or a byte

@@ -1,5 +1,6 @@
 -- Joining neighbours makes the longest runs.
 use Rattle.std.proofs.Common.{◌≡◌, refl, sym, ap, subst, ◌∙◌, ℕ, zero, suc, ◌+◌, ◌<◌, ◌≤◌, max, Bool, true, false, cond, ltb, eqb, ◌||◌, List, [], ◌∷◌}
+use Rattle.std.proofs.Math.Bool.{or_assoc, or-false}
 use Rattle.std.proofs.Common.{◌++◌, length, get_or, take, inl, inr, ◌⊎◌, arith}
 use Rattle.std.proofs.lemmas.List.{take_more}
 use Rattle.std.proofs.lemmas.Bool.{ltb-true}
@@ -17,16 +18,12 @@ use Rattle.outcome_books.specs.declared.run.Tag.TheVariants.{Ran, Swap}
 use Rattle.outcome_books.specs.Entries.{Entry}
 use Rattle.outcome_books.specs.Runs.{Table, has, IsSound, AllSound}
 use Rattle.outcome_books.specs.Sweep.{IsIn}
+use Rattle.lock_modes.specs.Resource.{both_equal}
 use Rattle.book_files.specs.Forms.{AllAfter, Rises, IsLater, run_cmp, run_total, tag_kind, tag_number}
 use Rattle.book_files.specs.Canonical.{IsTagLe, IsTagSorted, IsPast, IsJoining}
 use Rattle.outcome_books.proofs.RunLemmas.{has-grown, AllSound-push, AllSound-at}
 use Rattle.outcome_books.proofs.VerdictLemmas.{in-push}
-use Rattle.outcome_books.proofs.SweepLemmas.{any-push, take-past}
-
-pub both_equal : (a b : Ordering) → ordering_then a b ≡ Equal → (a ≡ Equal) × (b ≡ Equal)
-both_equal Less b e = cc
-both_equal Equal b e = (refl, e)
-both_equal Greater b e = cc
+use Rattle.outcome_books.proofs.SweepLemmas.{any-push, any-taken, take-past}
 
 pub tag-parts : (a b : Tag) → tag_kind a ≡ tag_kind b → tag_number a ≡ tag_number b → a ≡ b
 tag-parts (Ran m) (Ran n) k n' = ap Ran n'
@@ -76,26 +73,15 @@ sound-last : (n : ℕ) (xs : List Run) (x : Run) → AllSound n (xs ++ x ∷ [])
 sound-last n [] x a = (tt, a.0)
 sound-last n (y ∷ ys) x a = let r = sound-last n ys x a.1 in ((a.0, r.0), r.1)
 
-or_shift : (a b c : Bool) → (a || (b || c)) ≡ ((a || b) || c)
-or_shift true b c = refl
-or_shift false b c = refl
-
 pub joining-start : (runs : List Run) (d : Run) → 0 < length runs → IsTagSorted runs → (current : Run) → current ≡ get_or runs 0 d → IsJoining runs 1 [] current
 joining-start [] d lt sorted current is = absurd (omega (arith, lt))
 joining-start (x ∷ xs) d lt sorted current is = record {
   apart = tt;
   before = λ z i. absurd i;
-  facts = λ t e. ap (has t e) is ∙ sym (or_none (has t e x));
+  facts = λ t e. ap (has t e) is ∙ sym (or-false (has t e x));
   sound = λ n a. (subst (IsSound n) (sym is) a.0, tt);
   rest = λ j c l m. subst (λ r. IsTagLe r (get_or (x ∷ xs) j c)) (sym is) (sorted 0 j c (omega arith) m);
 }
-  where
-    or_none : (b : Bool) → (b || false) ≡ b
-    or_none true = refl
-    or_none false = refl
-
-any-taken : (p : Run → Bool) (xs : List Run) (i : ℕ) (d : Run) → i < length xs → list_any p (take (i + 1) xs) ≡ (list_any p (take i xs) || p (get_or xs i d))
-any-taken p xs i d lt = ap (list_any p) (take_more xs i d lt) ∙ any-push p (take i xs) (get_or xs i d)
 
 pub joining-grow : (runs out : List Run) (i : ℕ) (current run new d : Run) → i < length runs → run ≡ get_or runs i d → IsJoining runs i out current
     → current.tag ≡ run.tag → run.first ≤ current.end
@@ -105,7 +91,7 @@ joining-grow runs out i current run new d lt is k same touch first end tag =
       apart = k.apart;
       before = λ x m. let p = k.before x m in record { kinds = p.kinds; numbers = p.numbers; apart = p.apart };
       facts = λ t e.
-          ap (λ b. list_any (has t e) out || b) (has-grown t e current run same low touch) ∙ or_shift (list_any (has t e) out) (has t e current) (has t e run)
+          ap (λ b. list_any (has t e) out || b) (has-grown t e current run same low touch) ∙ sym (or_assoc (list_any (has t e) out) (has t e current) (has t e run))
           ∙ (λ j. k.facts t e j || has t e (is j)) ∙ sym (any-taken (has t e) runs i d lt);
       sound = λ n a.
           let s = sound-last n out current (k.sound n a) in

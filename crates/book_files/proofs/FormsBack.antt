@@ -22,6 +22,7 @@ use Rattle.outcome_books.proofs.GapLemmas.{same_fact}
 use Rattle.outcome_books.proofs.RunLemmas.{and_true, within-from}
 use Rattle.outcome_books.proofs.SetLemmas.{contains-runs}
 use Rattle.outcome_books.proofs.VerdictLemmas.{in-push}
+use Rattle.book_files.proofs.BackLemmas.{span_of}
 use Rattle.book_files.specs.declared.reading.runs.Span.{Span}
 use Rattle.book_files.specs.declared.pieces.TheConstants.{MAX_FACTS}
 use Rattle.book_files.specs.Forms.{AllAfter, Rises, ComesBefore, IsLater, IsForm}
@@ -68,10 +69,7 @@ after-in x a [] h i = absurd i
 after-in x a (y ∷ ys) h (inl e) = subst (IsLater x) (sym e) h.0
 after-in x a (y ∷ ys) h (inr i) = after-in x a ys h.1 i
 
-abbrev span_with_run : Run → Span
-span_with_run run = record { first = run.first; count = run.end - run.first; tag = run.tag }
-
-span-back : (n : ℕ) (run : Run) → IsTagOf n run.tag → run.first < run.end → span_in n (run_data run) ≡ Some (span_with_run run)
+span-back : (n : ℕ) (run : Run) → IsTagOf n run.tag → run.first < run.end → span_in n (run_data run) ≡ Some (span_of run)
 span-back n run known lt = on run.tag known
   where
     some : ltb 0 (run.end - run.first) ≡ true
@@ -90,12 +88,12 @@ AllEarlier before runs = (x y : Run) → IsIn x before → IsIn y runs → IsLat
 next-back : (spec : Spec) (n : ℕ) (before : List Run) (facts : ℕ) (run : Run) → ((x : Run) → IsIn x before → IsLater x run) → IsLawful spec n run
     → facts + (run.end - run.first) ≤ MAX_FACTS → IsNextRun spec n before facts (run_data run) (Ok run)
 next-back spec n before facts run earlier is few =
-    inl (span_with_run run, span-back n run is.tag is.some, inl (few, inl (below, inl (led, inl (past, ap Ok (sym same))))))
+    inl (span_of run, span-back n run is.tag is.some, inl (few, inl (below, inl (led, inl (past, ap Ok (sym same))))))
   where
     whole : run.first + (run.end - run.first) ≡ run.end
     whole = let some = is.some in omega (arith, some)
 
-    same : run_of (span_with_run run) ≡ run
+    same : run_of (span_of run) ≡ run
     same = λ i. record { first = run.first; end = whole i; tag = run.tag }
 
     below : run.first + (run.end - run.first) ≤ ranks spec
@@ -104,7 +102,7 @@ next-back spec n before facts run earlier is few =
     led : IsLed spec run.first (run.first + (run.end - run.first)) run.tag
     led = subst (λ e. IsLed spec run.first e run.tag) (sym whole) is.led
 
-    past : IsPast before (run_of (span_with_run run))
+    past : IsPast before (run_of (span_of run))
     past = subst (IsPast before) (sym same) (record {
       after = λ l e. (earlier l (last-in before l e)).later;
       apart = EachRun-all _ before (λ x i. (earlier x i).apart);

@@ -29,7 +29,8 @@ use Rattle.book_files.specs.Forms.{Rises, ComesBefore, IsLater, IsNamed, IsForm}
 use Rattle.book_files.specs.Canonical.{SayTheSame, StaySound}
 use Rattle.book_files.specs.Numbering.{IsFlagged, AreFlags, AreFlagged, IsNumber, AreNumbers}
 use Rattle.book_files.proofs.CanonicalLemmas.{rises-at, at-rises}
-use Rattle.book_files.proofs.OneForm.{in-at, any-in, in-any, sound-in, has-true, true-has, tag-one}
+use Rattle.outcome_books.proofs.VerdictLemmas.{any-in, in-any}
+use Rattle.book_files.proofs.OneForm.{in-at, sound-in, has-true, true-has, tag-one}
 
 -- ---- flags
 

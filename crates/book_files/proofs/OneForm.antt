@@ -18,7 +18,8 @@ use Rattle.outcome_books.specs.Books.{Contents}
 use Rattle.outcome_books.specs.Sweep.{IsIn}
 use Rattle.book_files.specs.Forms.{AllAfter, Rises, ComesBefore, run_total, IsLater, IsForm}
 use Rattle.book_files.specs.BookText.{book_text, IsTextOf}
-use Rattle.outcome_books.proofs.RunLemmas.{both_true, and_true, within-true, within-from, or_true_right}
+use Rattle.outcome_books.proofs.RunLemmas.{both_true, and_true, within-true, within-from}
+use Rattle.outcome_books.proofs.VerdictLemmas.{any-in, in-any}
 use Rattle.outcome_books.proofs.SetLemmas.{contains-runs}
 use Rattle.outcome_books.proofs.GapLemmas.{same_fact}
 
@@ -81,20 +82,6 @@ place-in d (x ∷ xs) a (inl e) = (0, omega arith, sym e)
 place-in d (x ∷ xs) a (inr i) = let p = place-in d xs a i in (suc p.0, omega (arith, p.1), p.2)
 
 -- ---- members
-
-pub any-in : {A : Type 0} (p : A → Bool) (xs : List A) → list_any p xs ≡ true → (x : A) × IsIn x xs × (p x ≡ true)
-any-in p [] e = absurd (false≢true e)
-any-in p (x ∷ xs) e = on (p x) refl (any-in p xs) e
-  where
-    on : (b : Bool) → p x ≡ b → (list_any p xs ≡ true → (y : _) × IsIn y xs × (p y ≡ true)) → (b || list_any p xs) ≡ true
-        → (y : _) × IsIn y (x ∷ xs) × (p y ≡ true)
-    on true h rec e = (x, inl refl, h)
-    on false h rec e = let r = rec e in (r.0, inr r.1, r.2)
-
-pub in-any : {A : Type 0} (p : A → Bool) (xs : List A) (a : A) → IsIn a xs → p a ≡ true → list_any p xs ≡ true
-in-any p [] a i h = absurd i
-in-any p (x ∷ xs) a (inl e) h = ap (λ b. b || list_any p xs) (subst (λ z. p z ≡ true) e h)
-in-any p (x ∷ xs) a (inr i) h = or_true_right (p x) _ (in-any p xs a i h)
 
 pub sound-in : (n : ℕ) (runs : List Run) (run : Run) → AllSound n runs → IsIn run runs → IsSound n run
 sound-in n [] run a i = absurd i

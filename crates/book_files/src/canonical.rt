@@ -22,7 +22,7 @@ pub(crate) fn canonical(alloc: Global, runs: &[Run]) -> Result<Vec<Run>, AllocEr
 }
 
 /// 0 for an outcome, 1 for a swap.
-fn kind(tag: Tag) -> u8
+pub(crate) fn kind(tag: Tag) -> u8
     ensures { result ≡ tag_kind tag }
 {
     match tag {

@@ -1,6 +1,7 @@
 //! Book files as they are read: which bytes are a book, and why others are none. The test without memory is to be read under
 //! `rt try --test --fail-alloc` too.
 use crate::asserts::assert_text;
+use crate::walks::DISJOINT;
 use book_files::{BookError, read_book};
 use outcome_books::{Book, missing, report};
 use std::alloc::Global;
@@ -152,16 +153,13 @@ a swap that leads nowhere | [0,6,"ran",0],[5,1,"swap",3]
 a swap that leads nowhere | [0,6,"ran",0],[5,1,"swap",255]
 a rank that the spec does not have | [0,6,"ran",0],[5,2,"swap",0]"#;
 
-const TWO_BY_TWO: &str =
-    "setup { CREATE TABLE t (id int PRIMARY KEY); CREATE TABLE u (id int PRIMARY KEY); } session a step a1 { INSERT INTO t VALUES (2); } step a2 { DELETE FROM t WHERE id = 2; } session b step b1 { INSERT INTO u VALUES (2); } step b2 { DELETE FROM u WHERE id = 2; }";
-
 const SAME_OUTCOME: &str =
     r#"[[["sent",0],["inserted",1],"done",["sent",1],["deleted",1],"done"],[["sent",2],["inserted",1],"done",["sent",3],["deleted",1],"done"]]"#;
 
 fn assert_runs(rt: &impl Abort, alloc: Global, row: &str) -> Result<(), Fail> {
     let (want, facts) = row.split_once(" | ").ok_or("facts")?;
     let text = format!(in alloc;
-        "{{\"facts\":[{facts}],\"format\":2,\"outcomes\":[{SAME_OUTCOME}],\"spec\":\"{TWO_BY_TWO}\"}}"
+        "{{\"facts\":[{facts}],\"format\":2,\"outcomes\":[{SAME_OUTCOME}],\"spec\":\"{DISJOINT}\"}}"
     )?;
     let got = told(alloc, text.as_bytes()).ok_or("memory")?;
     assert_text(rt, &got, want, facts);

@@ -1,6 +1,7 @@
 //! The walker by its calls: the facts of a shard, the steps sent for them, and what is refused. The tests without memory are to be
 //! read under `rt try --test --fail-alloc` too.
 use crate::asserts::assert_text;
+use crate::books::assert_refusal;
 use crate::texts::spec_of;
 use session_machine::RunError;
 use spec_reader::read_spec;
@@ -165,12 +166,6 @@ fn refused_walker(alloc: Global, spec: &Spec, shard: Shard) -> Option<RunError> 
 
 fn refused_shard(alloc: Global, spec: &Spec, shard: Shard) -> Option<RunError> {
     run_shard(alloc, spec, shard, false).err()
-}
-
-fn assert_refusal(rt: &impl Abort, alloc: Global, refusal: RunError, why: &str) -> Option<()> {
-    let told = format!(in alloc; "{refusal}").ok()?;
-    assert_text(rt, &told, why, "a refusal");
-    Some(())
 }
 
 /// A row of the table of refusals.

@@ -16,7 +16,7 @@ use Rattle.quiet_steps.specs.Values.{ran, swap, AllTrue}
 use Rattle.quiet_steps.specs.declared.fact.Fact.{Fact}
 use Rattle.quiet_steps.specs.declared.fact.Fact.TheVariants.{Ran, Swap}
 use Rattle.quiet_steps.proofs.Leading.{leads-down}
-use Rattle.quiet_steps.proofs.TrueFacts.{facts-one}
+use Rattle.quiet_steps.proofs.TrueFacts.{facts-one, of_start}
 use Rattle.step_reducer.specs.declared.walker.Shard.{Shard}
 use Rattle.step_reducer.specs.Walking.{Starts}
 use Rattle.transcripts.specs.declared.counted.Counted.{Counted}
@@ -50,9 +50,6 @@ some-same : {A : Type 0} (a b : A) → Some a ≡ Some b → a ≡ b
 some-same a b e = cc
 
 -- ---- each rank of a spec that starts has a fact
-
-abbrev of_start : Bool → Spec → ℕ → Start → Option Fact
-of_start reduce spec r s = elim s [ Started w ↦ cond (nat_lt r (ranks spec)) (Some (fact_from reduce spec w r)) None | _ ↦ None ]
 
 has-fact : (reduce : Bool) (spec : Spec) (r : ℕ) → Starts spec → r < ranks spec → (fact : Fact) × IsFactOf reduce spec r fact
 has-fact reduce spec r s lt =

@@ -8,7 +8,7 @@ use Rattle.transcripts.specs.declared.counted.Counted.{Counted}
 use Rattle.transcripts.proofs.Writing.{wrote-append, stopped-append, stopped-after}
 use Rattle.machine_model.specs.Outcome.{IsOutcomeOf}
 use Rattle.quiet_steps.specs.Swap.{leads_in}
-use Rattle.quiet_steps.specs.Values.{IsValue, ran, swap, AllTrue, CoverEachRank, TellTheMachine}
+use Rattle.quiet_steps.specs.Values.{AllTrue, CoverEachRank, TellTheMachine}
 use Rattle.quiet_steps.specs.declared.fact.Fact.TheVariants.{Ran}
 use Rattle.quiet_steps.proofs.TrueValues.{tell-the-machine}
 use Rattle.outcome_books.specs.declared.error.ReportError.TheVariants.{Missing, Clash}
@@ -16,17 +16,12 @@ use Rattle.outcome_books.specs.declared.error.TheConstants.{MAX_REPORTED}
 use Rattle.outcome_books.specs.Entries.{Told, FactSet, recorded}
 use Rattle.outcome_books.specs.Books.{Contents, AllRecordable}
 use Rattle.outcome_books.specs.Values.{AreValues, IsNotReported}
-use Rattle.outcome_books.proofs.Recordable.{file-is-bound}
+use Rattle.outcome_books.proofs.Recordable.{file-is-bound, value-own}
 use Rattle.iso_farm.specs.One.{IsAnswer}
 use Rattle.iso_farm.specs.Reporting.{values_text, IsReportText, AllOwn}
 use Rattle.iso_farm.specs.Laws.{AreAnswers, ReportsAreTheMachines, CoveringReports}
 
 -- ---- values are the spec's own
-
-value-own : (spec : Spec) (s : FactSet) (leads : ℕ → ℕ → Option ℕ) → AllRecordable spec s → (r : ℕ) (o : Told) → IsValue (recorded s) leads r o
-    → IsOutcomeOf spec o
-value-own spec s leads all r o (ran h) = (all r (Ran o) h).1
-value-own spec s leads all r o (swap {below = below} h l v) = value-own spec s leads all below o v
 
 pub values-own : (spec : Spec) (s : FactSet) (leads : ℕ → ℕ → Option ℕ) (count : ℕ) (values : List Told) → AllRecordable spec s
     → AreValues s leads count values → AllOwn spec values

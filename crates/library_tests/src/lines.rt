@@ -496,7 +496,7 @@ fn assert_every_value(rt: &impl Abort, alloc: Global, outcome: &Outcome) -> Resu
 }
 
 /// The outcome of a text. Its value is let go here.
-fn outcome_in(alloc: Global, text: &str) -> Result<Outcome, Fail> {
+pub(crate) fn outcome_in(alloc: Global, text: &str) -> Result<Outcome, Fail> {
     let value = Json::from_str(alloc, text)?;
     Ok(outcome_of_value(alloc, &value)?)
 }

@@ -1,8 +1,8 @@
-use serde_json::Value as Json;
+use crate::lines::outcome_in;
 use std::alloc::Global;
 use std::process::Abort;
 use std::test::Fail;
-use transcripts::{Outcome, outcome_of_value};
+use transcripts::Outcome;
 
 /// Compact texts of outcomes in the order of their bytes, one a line.
 const RISING: &str = r#"[["began"]]
@@ -22,12 +22,6 @@ const RISING: &str = r#"[["began"]]
 [[["rows",12]]]
 [[]]
 []"#;
-
-/// The outcome of a text. Its value is let go here.
-fn outcome_in(alloc: Global, text: &str) -> Result<Outcome, Fail> {
-    let value = Json::from_str(alloc, text)?;
-    Ok(outcome_of_value(alloc, &value)?)
-}
 
 fn push_all(alloc: Global, rising: &mut Vec<Outcome>) -> Result<(), Fail> {
     for text in RISING.lines() {

@@ -35,6 +35,10 @@ about-is about file is count shape =
       };
     }
 
+-- files of one text are one
+pub of-one-text : (a b : SpecFile) (t u : List ℕ) → IsFileOf a.text a → IsFileOf b.text b → t ≡ a.text → u ≡ b.text → t ≡ u → a ≡ b
+of-one-text a b t u is_a is_b of_a of_b same = one-file a.text a b is_a (subst (λ w. IsFileOf w b) (sym of_b ∙ sym same ∙ of_a) is_b)
+
 -- the gap between the runs is the least rank that is missing
 pub missing-is : (about : About) (t : Table) (runs : List Run) (gap : ℕ) → IsBook about t runs → gap ≡ first_gap 0 runs → gap < about.ranks
     → IsLeastMissing (facts_in t runs) (ranks (file_of about).run) (Some gap)

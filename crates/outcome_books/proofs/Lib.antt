@@ -4,6 +4,7 @@ pub mod SetLemmas
 pub mod TableLemmas
 pub mod GapLemmas
 pub mod BookLemmas
+pub mod AddLemmas
 pub mod PushLemmas
 pub mod Recordable
 pub mod ShardLemmas

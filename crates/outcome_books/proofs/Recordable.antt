@@ -21,8 +21,9 @@ use Rattle.quiet_steps.specs.Facts.{IsFactOf}
 use Rattle.quiet_steps.specs.declared.fact.Fact.{Fact}
 use Rattle.quiet_steps.specs.declared.fact.Fact.TheVariants.{Ran, Swap}
 use Rattle.quiet_steps.proofs.Leading.{swaps-hold}
-use Rattle.outcome_books.specs.Entries.{Told}
-use Rattle.outcome_books.specs.Books.{IsRecordable}
+use Rattle.quiet_steps.specs.Values.{IsValue, ran, swap}
+use Rattle.outcome_books.specs.Entries.{Told, FactSet, recorded}
+use Rattle.outcome_books.specs.Books.{AllRecordable, IsRecordable}
 use Rattle.outcome_books.specs.Building.{FactFits}
 
 -- ---- a line's steps are steps of the spec
@@ -130,3 +131,9 @@ fact-recordable file reduce r (Ran o) is bound fits h =
 fact-recordable file reduce r (Swap k) is bound fits h =
     let s = swaps-hold file.run r k bound h.1.0 in
     (h.1.0.0, fits, (s.0, s.1))
+
+-- a value of recorded facts is one of the spec's sessions
+pub value-own : (spec : Spec) (s : FactSet) (leads : ℕ → ℕ → Option ℕ) → AllRecordable spec s → (r : ℕ) (o : Told) → IsValue (recorded s) leads r o
+    → IsOutcomeOf spec o
+value-own spec s leads all r o (ran h) = (all r (Ran o) h).1
+value-own spec s leads all r o (swap {below = below} h l v) = value-own spec s leads all below o v

@@ -1,5 +1,6 @@
 -- The laws of joining, and what the set of a list of runs contains.
 use Rattle.std.proofs.Common.{◌≡◌, refl, sym, ap, ◌∙◌, ℕ, zero, suc, ◌+◌, ◌-◌, Bool, true, false, ◌&&◌, ◌||◌, List, [], ◌∷◌, arith, eqb, Ordering, nat_cmp}
+use Rattle.std.proofs.Math.Bool.{or_assoc, or_comm, or_self}
 use Rattle.std.proofs.lemmas.Bool.{eqb-true, eq-eqb}
 use Rattle.std.proofs.lemmas.List.Folds.{list_any-append}
 use Rattle.std.specs.List.{list_any}
@@ -12,20 +13,6 @@ use Rattle.outcome_books.specs.Entries.{Entry, FactSet, entry_cmp, fact_cmp}
 use Rattle.outcome_books.proofs.Orders.{entry_total, entry_same}
 use Rattle.outcome_books.specs.Runs.{Table, fact_in, within, has, repeated, facts_of}
 use Rattle.outcome_books.proofs.RunLemmas.{same_bool, within-true, within-from}
-
-or_comm : (x y : Bool) → (x || y) ≡ (y || x)
-or_comm true true = refl
-or_comm true false = refl
-or_comm false true = refl
-or_comm false false = refl
-
-or_assoc : (x y z : Bool) → ((x || y) || z) ≡ (x || (y || z))
-or_assoc true y z = refl
-or_assoc false y z = refl
-
-or_same : (x : Bool) → (x || x) ≡ x
-or_same true = refl
-or_same false = refl
 
 -- books with the same facts are equal
 pub same_facts : (s t : FactSet) → ((e : Entry) → contains s e ≡ contains t e) → s ≡ t
@@ -43,7 +30,7 @@ union-assoc s t u = same_facts _ _ (λ e.
     ∙ sym (in_union s (union t u) e ∙ ap (λ b. contains s e || b) (in_union t u e)))
 
 pub union-idem : (s : FactSet) → union s s ≡ s
-union-idem s = same_facts _ _ (λ e. in_union s s e ∙ or_same (contains s e))
+union-idem s = same_facts _ _ (λ e. in_union s s e ∙ or_self (contains s e))
 
 -- ---- runs
 

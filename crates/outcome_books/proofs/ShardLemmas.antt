@@ -1,5 +1,5 @@
 -- The facts of a shard, run by run.
-use Rattle.std.proofs.Common.{◌≡◌, refl, sym, ap, subst, ◌∙◌, ℕ, ◌-◌, ◌<◌, ◌≤◌, Bool, true, false, ◌&&◌, ◌||◌, Some, ◌⊎◌, ⊎_elim, arith}
+use Rattle.std.proofs.Common.{◌≡◌, refl, sym, ap, subst, ◌∙◌, ℕ, ◌-◌, ◌<◌, ◌≤◌, Bool, true, false, ◌&&◌, ◌||◌, Option, Some, ◌⊎◌, ⊎_elim, arith}
 use Rattle.std.proofs.lemmas.Bool.{or_cases, or_left, or_right}
 use Rattle.std.specs.Ordering.{eq_by_cmp}
 use Rattle.std.specs.FinSet.{union, from_list, empty, contains-from_list, contains-empty}
@@ -9,7 +9,7 @@ use Rattle.quiet_steps.specs.Facts.{IsFactOf}
 use Rattle.quiet_steps.specs.declared.fact.Fact.{Fact}
 use Rattle.quiet_steps.proofs.TrueFacts.{facts-one}
 use Rattle.step_reducer.specs.Walks.{AllHave}
-use Rattle.step_reducer.specs.Walking.{Walking, IsRun}
+use Rattle.step_reducer.specs.Walking.{Walking, IsRun, GivesRun}
 use Rattle.step_reducer.specs.declared.fact.FactRun.{FactRun}
 use Rattle.outcome_books.specs.Entries.{Entry, FactSet, entry_cmp, fact_cmp, recorded}
 use Rattle.outcome_books.specs.Runs.{within, repeated}
@@ -120,3 +120,10 @@ gathered-more x y z run b is bound g r whole moved fits =
           (subst (λ n. AreFactsOf x.reduce x.file.run x.at n b.facts) (sym first) g.facts));
       recordable = stretch-recordable x.file x.reduce run.first run.end run.fact b.facts is bound fits all g.recordable;
     }
+
+-- the same of what a call gives, and of the facts after it
+pub grown : (x y z : Walking) (o : Option FactRun) (run : FactRun) (b after : Building) → IsFileOf x.file.text x.file → IsBound x.file.run → IsGathering x y b
+    → o ≡ Some run → GivesRun y z o → z.spent ≡ false → FactFits run.fact → after ≡ added b run.first run.end run.fact → IsGathering x z after
+grown x y z o run b after file bound g is gives whole fits now =
+    let r = subst (GivesRun y z) is gives in
+    subst (IsGathering x z) (sym now) (gathered-more x y z run b file bound g r.0 whole r.2 fits)

@@ -1,5 +1,6 @@
 -- The pass over runs gives the values.
 use Rattle.std.proofs.Common.{◌≡◌, refl, sym, ap, subst, ◌∙◌, ℕ, zero, suc, ◌+◌, ◌<◌, ◌≤◌, min, Bool, true, false, ◌&&◌, ◌||◌, List, [], ◌∷◌, ◌++◌, length}
+use Rattle.std.proofs.Math.Bool.{or_assoc, or-false}
 use Rattle.std.proofs.Common.{get_or, take, drop, inl, inr, ◌⊎◌, arith}
 use Rattle.std.proofs.lemmas.List.{drop_more, take_more}
 use Rattle.std.specs.List.{list_any}
@@ -54,88 +55,15 @@ ended-says t e run rank a b = on (within run.first run.end e.0) refl
     on false is = refl
 
 pub any-push : {A : Type 0} (p : A → Bool) (xs : List A) (x : A) → list_any p (xs ++ x ∷ []) ≡ (list_any p xs || p x)
-any-push p [] x = or_none (p x)
+any-push p [] x = or-false (p x)
   where
-    or_none : (b : Bool) → (b || false) ≡ b
-    or_none true = refl
-    or_none false = refl
-any-push p (y ∷ ys) x = ap (λ b. p y || b) (any-push p ys x) ∙ assoc (p y) _ _
-  where
-    assoc : (a b c : Bool) → (a || (b || c)) ≡ ((a || b) || c)
-    assoc true b c = refl
-    assoc false b c = refl
-
--- where all in hand cover the stretch, they say at each of its ranks what they say at all
-covered-states : (t : Table) (active : List Run) (rank until r : ℕ) (f : Fact) → AllCover rank active → AllReach until active → rank ≤ r → r < until
-    → list_any (has t (r, f)) active ≡ list_any (states t f) active
-covered-states t [] rank until r f a b l m = refl
-covered-states t (run ∷ runs) rank until r f a b l m =
-    let first = a.0.0 in
-    let end = b.0 in
-    λ i. (within-from run.first run.end r (omega (arith, first, l)) (omega (arith, end, m)) i && eq_by_cmp fact_cmp f
-    (fact_in t run.tag)) || covered-states t runs rank until r f a.1 b.1 l m i
-
-rising-drop : (runs : List Run) (k : ℕ) (d : Run) → IsRising (firsts runs) → k < length runs → (low : ℕ) → low ≤ (get_or runs k d).first
-    → AllFrom low (firsts (drop k runs))
-rising-drop [] k d p lt low l = absurd (omega (arith, lt))
-rising-drop (x ∷ xs) zero d p lt low l = (l, from-more (firsts xs) p.0)
-  where
-    from-more : (ys : List ℕ) → AllFrom x.first ys → AllFrom low ys
-    from-more [] a = tt
-    from-more (y ∷ ys) a = (let q = a.0 in omega (arith, q, l), from-more ys a.1)
-rising-drop (x ∷ xs) (suc k) d p lt low l = rising-drop xs k d p.1 (omega (arith, lt)) low l
-
-drop-past : (runs : List Run) (k : ℕ) → length runs ≤ k → drop k runs ≡ []
-drop-past [] zero l = refl
-drop-past [] (suc k) l = refl
-drop-past (x ∷ xs) zero l = absurd (omega (arith, l))
-drop-past (x ∷ xs) (suc k) l = drop-past xs k (omega (arith, l))
-
-rest-silent : (t : Table) (runs : List Run) (next until r : ℕ) (f : Fact) → IsRising (firsts runs)
-    → ((d : Run) → next < length runs → until ≤ (get_or runs next d).first) → r < until → list_any (has t (r, f)) (drop next runs) ≡ false
-rest-silent t runs next until r f rises rest lt = on (grind arith)
-  where
-    not-true : (b : Bool) → (b ≡ true → ⊥) → b ≡ false
-    not-true true h = absurd (h refl)
-    not-true false h = refl
-
-    on : (next < length runs) ⊎ (length runs ≤ next) → list_any (has t (r, f)) (drop next runs) ≡ false
-    on (inl l) = not-true _
-        (λ h. none-below (drop next runs) until r (rising-drop runs next some rises l until (rest some l)) lt (has-covered t (drop next runs) r f h))
-      where
-        some : Run
-        some = record { first = 0; end = 0; tag = Ran 0 }
-    on (inr l) = ap (list_any (has t (r, f))) (drop-past runs next l)
-
--- the runs in hand say all of the stretch
-pub is-stretch : (t : Table) (runs active : List Run) (next rank until : ℕ) → IsRising (firsts runs) → AllCover rank active → AllReach until active
-    → ((d : Run) → next < length runs → until ≤ (get_or runs next d).first) → IsSplit t runs active (drop next runs) rank
-    → IsStretch (facts_in t runs) t active rank until
-is-stretch t runs active next rank until rises cover reach rest split r l m f =
-    contains-runs t runs (r, f) ∙ sym (split (r, f) l) ∙ (λ i. list_any (has t (r, f)) active || rest-silent t runs next until r f rises rest m i)
-    ∙ or_none _ ∙ covered-states t active rank until r f cover reach l m
-  where
-    or_none : (b : Bool) → (b || false) ≡ b
-    or_none true = refl
-    or_none false = refl
-
--- ---- the loops' steps
-
-or_none : (b : Bool) → (b || false) ≡ b
-or_none true = refl
-or_none false = refl
-
-or_shift : (a b c : Bool) → ((a || b) || c) ≡ (a || (b || c))
-or_shift true b c = refl
-or_shift false b c = refl
-
-pub take-past : {A : Type 0} (xs : List A) (i : ℕ) → length xs ≤ i → take i xs ≡ xs
+    pub take-past : {A : Type 0} (xs : List A) (i : ℕ) → length xs ≤ i → take i xs ≡ xs
 take-past [] zero l = refl
 take-past [] (suc i) l = refl
 take-past (x ∷ xs) zero l = absurd (omega (arith, l))
 take-past (x ∷ xs) (suc i) l = ap (λ r. x ∷ r) (take-past xs i (omega (arith, l)))
 
-any-taken : (p : Run → Bool) (xs : List Run) (i : ℕ) (d : Run) → i < length xs → list_any p (take (i + 1) xs) ≡ (list_any p (take i xs) || p (get_or xs i d))
+pub any-taken : (p : Run → Bool) (xs : List Run) (i : ℕ) (d : Run) → i < length xs → list_any p (take (i + 1) xs) ≡ (list_any p (take i xs) || p (get_or xs i d))
 any-taken p xs i d lt = ap (list_any p) (take_more xs i d lt) ∙ any-push p (take i xs) (get_or xs i d)
 
 any-dropped : (p : Run → Bool) (xs : List Run) (i : ℕ) (d : Run) → i < length xs → list_any p (drop i xs) ≡ (p (get_or xs i d) || list_any p (drop (i + 1) xs))
@@ -156,7 +84,7 @@ pub keeps-skip : (active now : List Run) (i rank : ℕ) (d : Run) → i < length
 keeps-skip active now i rank d lt k h = record {
   cover = k.cover;
   sound = k.sound;
-  facts = λ t e l. k.facts t e l ∙ sym (or_none _) ∙ ap (λ b. list_any (has t e) (take i active) || b) (sym (ended-says t e (get_or active i d) rank h l))
+  facts = λ t e l. k.facts t e l ∙ sym (or-false _) ∙ ap (λ b. list_any (has t e) (take i active) || b) (sym (ended-says t e (get_or active i d) rank h l))
       ∙ sym (any-taken (has t e) active i d lt);
 }
 
@@ -178,7 +106,7 @@ admits-push active runs now next after rank d lt k f h = record {
   sound = λ n a b. AllSound-push n now (get_or runs after d) (k.sound n a b) (AllSound-at n runs after d lt b);
   facts = λ t all split e l.
       ap (λ b. b || list_any (has t e) (drop (after + 1) runs)) (any-push (has t e) now (get_or runs after d))
-      ∙ or_shift (list_any (has t e) now) _ _ ∙ ap (λ b. list_any (has t e) now || b) (sym (any-dropped (has t e) runs after d lt)) ∙ k.facts t all split e l;
+      ∙ or_assoc (list_any (has t e) now) _ _ ∙ ap (λ b. list_any (has t e) now || b) (sym (any-dropped (has t e) runs after d lt)) ∙ k.facts t all split e l;
 }
 
 pub admits-skip : (active runs now : List Run) (next after rank : ℕ) (d : Run) → after < length runs → IsAdmitting active runs now next after rank

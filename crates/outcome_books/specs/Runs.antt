@@ -76,6 +76,19 @@ KeepsSound old run new = (n : ℕ) → AllSound n old → IsSound n run → AllS
 abbrev pub KeepsAllSound : List Run → List Run → List Run → Type 0
 KeepsAllSound left right new = (n : ℕ) → AllSound n left → AllSound n right → AllSound n new
 
+-- no rank is lower than those of the old runs and of this one
+abbrev pub KeepsFrom : List Run → Run → List Run → Type 0
+KeepsFrom old run new = (low : ℕ) → AllFrom low (firsts old) → low ≤ run.first → AllFrom low (firsts new)
+
+abbrev pub KeepsAllFrom : List Run → List Run → List Run → Type 0
+KeepsAllFrom left right new = (low : ℕ) → AllFrom low (firsts left) → AllFrom low (firsts right) → AllFrom low (firsts new)
+
+-- the new runs rise, and say and keep what both lists do
+pub record AreAdded (old more new : List Run) : Type 0 where
+  pub facts : AddsAll old more new
+  pub rising : IsRising (firsts new)
+  pub sound : KeepsAllSound old more new
+
 -- the left run at i is there, and none of the right ones from j on is before it
 pub record LeftIsNext (left : List Run) (i : ℕ) (right : List Run) (j : ℕ) : Type 0 where
   pub there : i < length left
@@ -104,6 +117,7 @@ pub record IsMerging (left : List Run) (i : ℕ) (right : List Run) (j : ℕ) (o
       → (list_any (has table e) out || (list_any (has table e) (drop i left) || list_any (has table e) (drop j right)))
       ≡ (list_any (has table e) left || list_any (has table e) right)
   pub sound : (n : ℕ) → AllSound n left → AllSound n right → AllSound n out
+  pub low : (n : ℕ) → AllFrom n (firsts left) → AllFrom n (firsts right) → AllFrom n (firsts out)
 
 -- the first rank from `next` on that no run covers, where the runs rise
 abbrev pub first_gap : ℕ → List Run → ℕ

@@ -8,6 +8,7 @@ ghost use Rattle.outcome_books.specs.Sweep.{leads_of, IsLead};
 
 use crate::run::Tag;
 use perm_ranks::{Block, Shape};
+use step_reducer::shared_block;
 
 /// What a tag gives at ranks that follow one another: the outcome with a number, the values of as many ranks from another one on, or
 /// nothing.
@@ -42,18 +43,14 @@ fn swap_lead(shape: &Shape, place: u8, rank: u64, until: u64) -> (Lead, u64)
     ensures some { rank < result.1 }
     ensures few { result.1 ≤ until }
 {
-    let mut block = shape.block();
+    let block = shape.block();
     if rank >= block.end() {
         return (Lead::Nowhere, until);
     }
     if place as u16 + 2 > block.letters_left() as u16 {
         return (Lead::Nowhere, until);
     }
-    for _letter in 0..place {
-        let (_letter, inside) = block.at(rank);
-        block = inside;
-    }
-    pair_lead(&block, rank, until)
+    pair_lead(&shared_block(shape, rank, place), rank, until)
 }
 
 /// Where the exchange of the next two letters of the words of a block leads, of which the rank has one.

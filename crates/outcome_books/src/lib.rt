@@ -2,6 +2,7 @@
 #![tactic(auto)]
 
 mod about;
+mod adding;
 mod book;
 mod boxed;
 mod builder;

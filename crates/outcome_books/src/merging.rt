@@ -1,7 +1,7 @@
 //! The runs of two books as those of one.
 
 ghost use Rattle.std.specs.Prelude.{◌≡◌, IfOk, length, map, ◌≤◌, ◌<◌, true, false};
-ghost use Rattle.outcome_books.specs.Runs.{AddsAll, KeepsAllSound, firsts, IsRising, AllSound, LeftIsNext, RightIsNext, renamed};
+ghost use Rattle.outcome_books.specs.Runs.{AddsAll, KeepsAllSound, KeepsAllFrom, firsts, IsRising, AllSound, LeftIsNext, RightIsNext, renamed};
 
 use crate::run::{Run, Tag, add_run};
 use std::alloc::{AllocError, Global};
@@ -61,6 +61,7 @@ pub(crate) fn merge(
     ensures facts { IfOk result (λ runs. AddsAll left.now right.now runs.items) }
     ensures rising { IfOk result (λ runs. IsRising (firsts runs.items)) }
     ensures sound { IfOk result (λ runs. KeepsAllSound left.now right.now runs.items) }
+    ensures low { IfOk result (λ runs. KeepsAllFrom left.now right.now runs.items) }
 {
     let mut hints = Hints {
         ran: vec![in alloc; usize::MAX; outcomes]?,

@@ -1,7 +1,7 @@
 //! Runs of ranks that have one fact.
 
 ghost use Rattle.std.specs.Prelude.{◌≡◌, ◌↔◌, ℕ, OnOk, OnErr, IsTrue, false};
-ghost use Rattle.outcome_books.specs.Runs.{Adds, KeepsSound, firsts, IsRising, AllTo};
+ghost use Rattle.outcome_books.specs.Runs.{Adds, KeepsSound, KeepsFrom, firsts, IsRising, AllTo};
 
 use std::alloc::AllocError;
 
@@ -51,6 +51,7 @@ pub(crate) fn add_run(runs: &mut Vec<Run>, hint: usize, run: Run) -> Result<usiz
     ensures rising { OnOk result (IsRising (firsts runs.new.items)) }
     ensures low { OnOk result (AllTo run.first (firsts runs.new.items)) }
     ensures sound { OnOk result (KeepsSound runs.old.items run runs.new.items) }
+    ensures from { OnOk result (KeepsFrom runs.old.items run runs.new.items) }
     ensures err { OnErr result (runs.new.items ≡ runs.old.items) }
 {
     if hint < runs.len() {

@@ -110,7 +110,7 @@ in-ranks : (reduce : Bool) (spec : Spec) (r : ℕ) (f : Fact) → IsFactOf reduc
 in-ranks reduce spec r (Ran a) x = x.0.0
 in-ranks reduce spec r (Swap k) x = x.1.0.0
 
-abbrev of_start : Bool → Spec → ℕ → Start → Option Fact
+abbrev pub of_start : Bool → Spec → ℕ → Start → Option Fact
 of_start reduce spec r s = elim s [ Started w ↦ cond (nat_lt r (ranks spec)) (Some (fact_from reduce spec w r)) None | _ ↦ None ]
 
 -- a fact of a rank tells that the spec starts

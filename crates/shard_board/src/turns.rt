@@ -155,12 +155,12 @@ fn hand_in<R: Wait>(
     ensures turned { HasTurned place.old.me place.new.me (entry by (Call.Deliver number book.now.facts result)) }
 {
     let turn = enter(rt, table, place);
-    let Some(held) = table.shared.exchange(place, 0, None) else {
+    let Some(mut held) = table.shared.exchange(place, 0, None) else {
         unreachable!()
     };
-    match join(&held, book) {
-        Ok(joined) => {
-            let _ = table.shared.exchange(place, 0, Some(joined));
+    match held.add(book) {
+        Ok(()) => {
+            let _ = table.shared.exchange(place, 0, Some(held));
             let reply = Some(Receipt { turn, number });
             leave_delivery::<Brand>(table, place, by, number, book, &reply);
             reply

@@ -23,14 +23,9 @@ use Rattle.shard_board.specs.History.{entry}
 use Rattle.shard_board.specs.Shown.{ShownSeat, ShownBoard, has}
 use Rattle.shard_board.specs.Changes.{with_new_claim, with_new_refusal, with_new_turn, IsClaim, IsTurn}
 use Rattle.shard_board.specs.Refused.{IsNotDelivered}
+use Rattle.shard_board.proofs.RowLemmas.{at_end}
 use Rattle.shard_farm.specs.declared.worker.Worker.{Worker}
 use Rattle.shard_farm.specs.Working.{AreFactsAt, HasServed, is_marked, IsReady, IsDelivered, IsTrueCall, Serves, HasWorked}
-
-pub at_end : {A : Type 0} (l : List A) (a b : A) (j : ℕ) → get_elem? (l ++ a ∷ []) j ≡ some b → (get_elem? l j ≡ some b) ⊎ ((j ≡ length l) × (a ≡ b))
-at_end [] a b zero e = inr (refl, some-injective a b e)
-at_end [] a b (suc j) e = absurd (some-ne-none b (sym e))
-at_end (x ∷ xs) a b zero e = inl e
-at_end (x ∷ xs) a b (suc j) e = ⊎_elim (λ t. inl t) (λ (t : (j ≡ length xs) × (a ≡ b)). inr (ap suc t.0, t.1)) (at_end xs a b j e)
 
 pub has-push : (m n : ℕ) (xs : List ℕ) → has m (xs ++ n ∷ []) ≡ true → (has m xs ≡ true) ⊎ (n ≡ m)
 has-push m n [] h = ⊎_elim (λ e. inr (eqb-true n m e)) (λ e. absurd (true≢false (sym e))) (or_cases (n == m) false h)

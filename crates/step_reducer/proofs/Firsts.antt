@@ -15,8 +15,6 @@ use Rattle.step_reducer.specs.declared.word_walk.WordWalk.{WordWalk}
 use Rattle.step_reducer.specs.Walks.{lowest, AreAbove}
 use Rattle.step_reducer.specs.Walking.{IsWords}
 use Rattle.session_machine.specs.Running.{Running}
-use Rattle.step_reducer.specs.declared.line_walk.LineWalk.{LineWalk}
-use Rattle.step_reducer.specs.Lines.{IsTrail, IsLines}
 use Rattle.quiet_steps.proofs.Leading.{outcome-started}
 use Rattle.step_reducer.proofs.Places.{place-first}
 
@@ -66,20 +64,6 @@ words-first file w counts is_counts words started whole is_file block all none b
 
     file_same : w.stack.top.world.file ≡ file
     file_same = is_file
-
--- a walk of lines before its first one
-pub lines-first : (file : SpecFile) (w : LineWalk) → start file.run ≡ Started w.trail.top.world → w.trail.top.spent ≡ false → w.trail.top.file ≡ file
-    → w.spec.now ≡ file → w.trail.below.items ≡ [] → w.line.items ≡ [] → IsLines file w
-lines-first file w started whole is_file of_spec below line = record {
-  file_is = of_spec;
-  starts = started ∙ ap Started (sym world);
-  trail = subst (λ bs. IsTrail file (first_world file.run) w.line.items (bs ++ w.trail.top ∷ [])) (sym below)
-      (subst (λ ks. IsTrail file (first_world file.run) ks (w.trail.top ∷ [])) (sym line)
-      ((λ k. (let r : Running = record { file = is_file k; world = sym world k; spent = whole k } in r)), refl));
-}
-  where
-    world : first_world file.run ≡ w.trail.top.world
-    world = first-is file.run w.trail.top.world started
 
 -- of a spec with lines each fact is the outcome of its line
 pub line-fact : (reduce : Bool) (spec : Spec) (r : ℕ) (line : List ℕ) (o : List (List Event)) → spec.lines ≢ [] → r < ranks spec → line ≡ line_of spec r

@@ -10,8 +10,8 @@ pub mod Quiets
 pub mod FrontLemmas
 pub mod Partings
 pub mod Sendings
-pub mod Trails
 pub mod Firsts
+pub mod Trails
 pub mod Walkings
 pub mod Givings
 pub mod Shards

@@ -1,13 +1,16 @@
 -- Trails of worlds: their fronts, their ends, and one step more.
 use Rattle.std.proofs.Common.{◌≡◌, refl, sym, ap, ◌∙◌, subst, ℕ, suc, false, List, [], ◌∷◌, ◌++◌, length, take, arith, length-append}
 use Rattle.sql_subset.specs.Spec.{SpecFile}
-use Rattle.machine_model.specs.World.{World, send, send_all}
+use Rattle.machine_model.specs.World.{World, send, send_all, outcome_of}
+use Rattle.machine_model.specs.Start.{Started, start}
 use Rattle.session_machine.specs.Running.{Running}
 use Rattle.step_reducer.specs.declared.trail.Trail.{Trail}
 use Rattle.step_reducer.specs.Fronts.{front}
 use Rattle.step_reducer.specs.Reduced.{first_world}
-use Rattle.step_reducer.specs.Lines.{IsTrail, IsTrailOf, HasGoneBack, worlds_of}
+use Rattle.step_reducer.specs.declared.path.Path.{Path}
+use Rattle.step_reducer.specs.Paths.{IsTrail, IsTrailOf, HasGoneBack, IsPath, worlds_of, standing_at}
 use Rattle.step_reducer.proofs.FrontLemmas.{front-same}
+use Rattle.step_reducer.proofs.Firsts.{first-is}
 
 module _ (file : SpecFile) where
   abbrev pub running : World → Running
@@ -58,3 +61,43 @@ trail-below file ks x trail =
 
 pub trail-top : (file : SpecFile) (ks : List ℕ) (x : Trail) → IsTrailOf file ks x → x.top ≡ running file (send_all file.run.steps (first_world file.run) ks)
 trail-top file ks x trail = trail-last file (first_world file.run) ks x.below.items x.top trail
+
+-- how much is shared, of the lines themselves
+pub shares : (shared : ℕ) (a b c d : List ℕ) → shared ≡ front a b → a ≡ c → b ≡ d → shared ≡ front c d
+shares shared a b c d is x y = is ∙ (λ k. front (x k) (y k))
+
+-- the trail of the whole line
+pub gone-on : (file : SpecFile) (g y : Trail) (line shown : List ℕ) → g.top.file ≡ file → shown ≡ line → IsTrailOf g.top.file shown y → IsTrailOf file line y
+gone-on file g y line shown same is trail = subst (λ ks. IsTrailOf file ks y) is (subst (λ (f : SpecFile). IsTrailOf f shown y) same trail)
+
+-- a path without steps
+pub path-first : (file : SpecFile) (p : Path) → start file.run ≡ Started p.trail.top.world → p.trail.top.spent ≡ false → p.trail.top.file ≡ file
+    → p.spec.now ≡ file → p.trail.below.items ≡ [] → p.line.items ≡ [] → IsPath file p
+path-first file p started whole is_file of_spec below line = record {
+  file_is = of_spec;
+  starts = started ∙ ap Started (sym world);
+  trail = subst (λ bs. IsTrail file (first_world file.run) p.line.items (bs ++ p.trail.top ∷ [])) (sym below)
+      (subst (λ ks. IsTrail file (first_world file.run) ks (p.trail.top ∷ [])) (sym line)
+      ((λ k. (let r : Running = record { file = is_file k; world = sym world k; spent = whole k } in r)), refl));
+}
+  where
+    world : first_world file.run ≡ p.trail.top.world
+    world = first-is file.run p.trail.top.world started
+
+-- the world at the end of a path
+pub path-top : (file : SpecFile) (p : Path) → IsPath file p → p.trail.top ≡ standing_at file p.line.items
+path-top file p is = trail-top file p.line.items p.trail is.trail
+
+-- a path of a file is one of its own file
+pub path-own : (file : SpecFile) (p : Path) → IsPath file p → IsPath p.spec.now p
+path-own file p is = subst (λ f. IsPath f p) (sym is.file_is) is
+
+-- what its sessions are told
+pub path-told : (file : SpecFile) (p : Path) → IsPath file p
+    → outcome_of p.spec.now.run.sessions (send_all p.spec.now.run.steps (first_world p.spec.now.run) p.line.items)
+    ≡ outcome_of file.run.sessions (send_all file.run.steps (first_world file.run) p.line.items)
+path-told file p is = ap (λ (f : SpecFile). outcome_of f.run.sessions (send_all f.run.steps (first_world f.run) p.line.items)) is.file_is
+
+-- where it stands
+pub path-stands : (file : SpecFile) (p : Path) → IsPath file p → standing_at p.spec.now p.line.items ≡ standing_at file p.line.items
+path-stands file p is = ap (λ (f : SpecFile). standing_at f p.line.items) is.file_is

@@ -38,13 +38,13 @@ words-walked file reduce first end w given v is gave =
 
 -- the next line is that of the rank, and the steps sent are its new ones
 module _ (file : SpecFile) (first end : ℕ) (w : LineWalk) (given : Given) (v : LineWalk) (is : IsLinesTo file first end w) (ran : HasRun w given v) where
-  line-at : v.line.items ≡ line_of file.run (first + (w.at - first))
+  line-at : v.path.line.items ≡ line_of file.run (first + (w.at - first))
   line-at =
       let from = is.from in
       let here : w.at ≡ first + (w.at - first) = omega (arith, from) in
       ran.line ∙ ap (λ (f : SpecFile). line_of f.run w.at) is.walk.file_is ∙ ap (line_of file.run) here
 
-  line-next : v.line.items ≡ line_before file.run first (v.at - first)
+  line-next : v.path.line.items ≡ line_before file.run first (v.at - first)
   line-next =
       let from = is.from in
       let at = ran.at in
@@ -55,14 +55,14 @@ module _ (file : SpecFile) (first end : ℕ) (w : LineWalk) (given : Given) (v :
   line-sent =
       let sent = ran.sent in
       let len = ap (λ (l : List ℕ). length l) line-at in
-      let shared : front w.line.items v.line.items ≡ front (line_before file.run first (w.at - first)) (line_of file.run (first + (w.at - first))) =
+      let shared : front w.path.line.items v.path.line.items ≡ front (line_before file.run first (w.at - first)) (line_of file.run (first + (w.at - first))) =
       λ k. front (is.line k) (line-at k) in
       omega (arith, sent, len, shared)
 
 pub lines-walked : (file : SpecFile) (reduce : Bool) (first end : ℕ) (w : LineWalk) (given : Given) (v : LineWalk)
     → IsLinesTo file first end w → w.at < end → HasRun w given v → HasWalked file reduce first end (Lines w) given (Lines v)
 lines-walked file reduce first end w given v is some ran =
-    let same : w.spec.now ≡ file = is.walk.file_is in
+    let same : w.path.spec.now ≡ file = is.walk.file_is in
     let from = is.from in
     let begin = ran.first in
     let behind = ran.end in

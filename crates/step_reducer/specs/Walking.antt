@@ -95,7 +95,7 @@ pub record IsWords (file : SpecFile) (reduce : Bool) (first end : ℕ) (w : Word
 pub record IsLinesTo (file : SpecFile) (first end : ℕ) (w : LineWalk) : Type 0 where
   pub walk : IsLines file w
   pub lines : file.run.lines ≢ []
-  pub line : w.line.items ≡ line_before file.run first (w.at - first)
+  pub line : w.path.line.items ≡ line_before file.run first (w.at - first)
   pub from : first ≤ w.at
   pub few : w.at ≤ end
   pub known : end ≤ ranks file.run

@@ -3,7 +3,7 @@
 ghost use Rattle.std.specs.Prelude.{◌≡◌, ℕ, ◌<◌, ◌≤◌, ◌++◌, ◌∷◌, [], List, All, false, length, take, OnOk};
 ghost use Rattle.sql_subset.specs.Spec.{SpecFile};
 ghost use Rattle.machine_model.specs.World.{World};
-ghost use Rattle.step_reducer.specs.Lines.{IsTrail, IsTrailOf, HasGoneBack};
+ghost use Rattle.step_reducer.specs.Paths.{IsTrail, IsTrailOf, HasGoneBack};
 
 use crate::worlds::{forked, send};
 use session_machine::World;

@@ -202,24 +202,6 @@ fn order(a: &Run, b: &Run) -> Ordering
     firsts.then(kinds.then(numbers))
 }
 
-fn kind(tag: Tag) -> u8
-    ensures { result ≡ tag_kind tag }
-{
-    match tag {
-        Tag::Ran(_) => 0,
-        Tag::Swap(_) => 1,
-    }
-}
-
-fn number(tag: Tag) -> usize
-    ensures { result ≡ tag_number tag }
-{
-    match tag {
-        Tag::Ran(n) => n,
-        Tag::Swap(k) => k as usize,
-    }
-}
-
 /// The first rank, the count, the word and the number that a value has.
 fn span_of(value: &Json, outcomes: usize) -> Option<Span>
     ensures { result ≡ span_in outcomes (view value.now) }

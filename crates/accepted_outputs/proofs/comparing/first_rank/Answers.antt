@@ -1,7 +1,8 @@
 use Rattle.std.proofs.Common.{◌≡◌, ◌+◌, ◌<◌, ◌≤◌, sym, ap, ◌∙◌, List, length, true, arith}
 use Rattle.std.proofs.lemmas.Bool.{false≢true}
 use Rattle.outcome_books.specs.Entries.{Told}
-use Rattle.accepted_outputs.proofs.Places.{agree-all, ended-alike, one-more, below-at, many, same-values, apart-values}
+use Rattle.outcome_books.proofs.FillLemmas.{below-at}
+use Rattle.accepted_outputs.proofs.Places.{agree-all, ended-alike, one-more, many, same-values, apart-values}
 use Rattle.accepted_outputs.proofs.comparing.first_rank.Goals as goal
 
 pub is_alike-requires-clause-number : goal.is_alike-requires-clause-number

@@ -1,20 +1,9 @@
-use Rattle.std.proofs.Common.{◌≡◌, sym, ap, ◌∙◌, subst, ℕ, ◌<◌, [], length, get_or, Option, arith}
-use Rattle.sql_subset.specs.Spec.{Spec}
-use Rattle.machine_model.specs.Outcome.{IsOutcomeOf}
+use Rattle.std.proofs.Common.{subst, ◌<◌, [], length, get_or, arith}
 use Rattle.quiet_steps.specs.Swap.{leads_in}
-use Rattle.quiet_steps.specs.Values.{IsValue, ran, swap}
-use Rattle.quiet_steps.specs.declared.fact.Fact.TheVariants.{Ran}
-use Rattle.outcome_books.specs.Entries.{Told, FactSet, recorded}
-use Rattle.outcome_books.specs.Books.{AllRecordable}
-use Rattle.outcome_books.proofs.Recordable.{file-is-ready}
+use Rattle.outcome_books.specs.Entries.{Told}
+use Rattle.outcome_books.proofs.Recordable.{file-is-ready, value-own}
 use Rattle.accepted_outputs.proofs.Places.{whichever}
 use Rattle.accepted_outputs.proofs.judging.reports_have_few_sessions.Goals as goal
-
--- a value of recorded facts is one of the spec's sessions
-value-own : (spec : Spec) (s : FactSet) (leads : ℕ → ℕ → Option ℕ) → AllRecordable spec s → (r : ℕ) (o : Told) → IsValue (recorded s) leads r o
-    → IsOutcomeOf spec o
-value-own spec s leads all r o (ran h) = (all r (Ran o) h).1
-value-own spec s leads all r o (swap {below = below} h l v) = value-own spec s leads all below o v
 
 pub returns : goal.returns
 returns c = λ r d lt.

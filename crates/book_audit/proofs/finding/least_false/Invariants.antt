@@ -1,5 +1,5 @@
 use Rattle.std.proofs.Common.{take}
-use Rattle.book_audit.specs.Trails.{IsGround}
+use Rattle.book_audit.specs.Grounds.{IsGround}
 use Rattle.book_audit.specs.Findings.{said, IsLeast}
 use Rattle.book_audit.proofs.finding.least_false.Given as goal
 

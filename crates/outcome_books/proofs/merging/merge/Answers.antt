@@ -14,8 +14,8 @@ add_run-requires-clause-low c = elim c.if-is_left_next.branch [
 pub runs-preserved : goal.runs-preserved
 runs-preserved c = let a = c.in_ok-at.ensures in elim c.if-is_left_next.branch [
   | then-is_left_next w ↦ rw (w.i-is, w.j-is)
-      (merging-left _ _ _ _ _ _ _ _ c.runs.invariant (w.if-is_left_next.ensures.yes refl) c.requires.left_rising w.run-is a.facts a.rising a.low a.sound)
+      (merging-left _ _ _ _ _ _ _ _ c.runs.invariant (w.if-is_left_next.ensures.yes refl) c.requires.left_rising w.run-is a.facts a.rising a.low a.sound a.from)
   | else-is_left_next+then-j-right w ↦ rw (w.i-is, w.j-is)
       (merging-right _ _ _ _ _ _ _ _ c.runs.invariant
-      (right-next _ _ _ _ (w.if-is_left_next.ensures.no refl) w.if-j-right.true) c.requires.right_rising w.run-is a.facts a.rising a.low a.sound)
+      (right-next _ _ _ _ (w.if-is_left_next.ensures.no refl) w.if-j-right.true) c.requires.right_rising w.run-is a.facts a.rising a.low a.sound a.from)
 ]

@@ -1,7 +1,7 @@
 use Rattle.std.proofs.Common.{ℕ, ◌-◌, ◌<◌, ◌≤◌}
 use Rattle.quiet_steps.specs.Facts.{IsTrueAt}
 use Rattle.outcome_books.specs.Runs.{fact_in}
-use Rattle.book_audit.specs.Trails.{IsGround}
+use Rattle.book_audit.specs.Grounds.{IsGround}
 use Rattle.book_audit.proofs.ground.Ground.first_false.Given as goal
 
 -- what the run says is true at each rank before this one

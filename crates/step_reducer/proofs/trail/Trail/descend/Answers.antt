@@ -1,6 +1,6 @@
 use Rattle.std.proofs.Common.{◌≡◌, sym, ap, ◌∙◌, subst, ◌++◌, ◌∷◌, []}
 use Rattle.step_reducer.specs.Reduced.{first_world}
-use Rattle.step_reducer.specs.Lines.{IsTrail}
+use Rattle.step_reducer.specs.Paths.{IsTrail}
 use Rattle.step_reducer.proofs.Trails.{trail-pushed}
 use Rattle.step_reducer.proofs.trail.Trail.descend.Goals as goal
 

@@ -1,6 +1,6 @@
 use Rattle.std.proofs.Common.{◌≡◌, ◌≤◌, ◌++◌, ◌∷◌, List, length}
 use Rattle.session_machine.specs.Running.{Running}
-use Rattle.step_reducer.specs.Lines.{worlds_of}
+use Rattle.step_reducer.specs.Paths.{worlds_of}
 use Rattle.step_reducer.proofs.trail.Trail.go_back.Given as goal
 
 abbrev pub invariant-later : goal.invariant-later

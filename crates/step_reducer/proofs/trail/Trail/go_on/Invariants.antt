@@ -1,5 +1,5 @@
 use Rattle.std.proofs.Common.{take}
-use Rattle.step_reducer.specs.Lines.{IsTrailOf}
+use Rattle.step_reducer.specs.Paths.{IsTrailOf}
 use Rattle.step_reducer.proofs.trail.Trail.go_on.Given as goal
 
 abbrev pub invariant-loop-place : goal.invariant-loop-place

@@ -1,0 +1,81 @@
+//! Whether facts of a spec that starts are true.
+
+ghost use Rattle.std.specs.Prelude.{◌≡◌, ◌↔◌, ◌+◌, ◌<◌, ◌≤◌, length, IfOk, OnOk, IsTrue};
+ghost use Rattle.sql_subset.specs.Spec.{ranks, line_of};
+ghost use Rattle.quiet_steps.specs.Facts.{IsTrueAt};
+ghost use Rattle.quiet_steps.specs.Swap.{are_quiet_at};
+ghost use Rattle.quiet_steps.specs.declared.fact.Fact.TheVariants as fact;
+ghost use Rattle.step_reducer.specs.Paths.{IsPath};
+ghost use Rattle.step_reducer.specs.Reduced.{first_world};
+ghost use Rattle.perm_ranks.specs.Words.{all_words, total};
+ghost use Rattle.book_audit.specs.Grounds.{IsTrueUntil, AreAlikeTo};
+
+use perm_ranks::{Shape, swapped};
+use std::alloc::AllocError;
+use step_reducer::{Path, quiet, shared_block};
+use transcripts::Outcome;
+
+/// Whether this is the outcome of a rank.
+pub(crate) fn is_ran(path: &mut Path<'_>, rank: u64, told: &Outcome) -> Result<bool, AllocError>
+    requires { IsPath path.old.spec.now path.old }
+    ensures path { OnOk result (IsPath path.old.spec.now path.new) }
+    ensures answer { IfOk result (λ yes. IsTrue yes ↔ IsTrueAt path.old.spec.now.run rank (fact.Ran told.now)) }
+{
+    let Some(line) = path.spec().line(rank) else {
+        return Ok(false);
+    };
+    path.go_to(line)?;
+    let outcome = path.outcome()?;
+    Ok(outcome.is_same(told))
+}
+
+/// Up to which rank the swap at a place is true from this rank on. None where it is not true there.
+pub(crate) fn swap_until(path: &mut Path<'_>, rank: u64, place: u8) -> Result<Option<u64>, AllocError>
+    requires { IsPath path.old.spec.now path.old }
+    ensures path { OnOk result (IsPath path.old.spec.now path.new) }
+    ensures answer { IfOk result (IsTrueUntil path.old.spec.now.run (fact.Swap place) rank) }
+{
+    let spec = path.spec();
+    let Some(shape) = spec.shape() else {
+        return Ok(None);
+    };
+    let Some(word) = shape.unrank(rank) else {
+        return Ok(None);
+    };
+    let falls = swapped(&word, place).is_some();
+    if !falls {
+        return Ok(None);
+    }
+    if !are_quiet(path, rank, place)? {
+        return Ok(None);
+    }
+    Ok(Some(alike_to(shape, rank, place)))
+}
+
+/// Whether the steps at a place of the line of a rank and behind it are quiet in the world before them.
+fn are_quiet(path: &mut Path<'_>, rank: u64, place: u8) -> Result<bool, AllocError>
+    requires path { IsPath path.old.spec.now path.old }
+    requires has { rank < ranks path.old.spec.now.run }
+    requires steps { place + 1 < length (line_of path.old.spec.now.run rank) }
+    ensures path { OnOk result (IsPath path.old.spec.now path.new) }
+    ensures answer { IfOk result (λ yes. yes ≡ are_quiet_at path.old.spec.now.run (first_world path.old.spec.now.run) rank place) }
+{
+    let Some(mut line) = path.spec().line(rank) else {
+        unreachable!()
+    };
+    let place = place as usize;
+    let step = line[place];
+    let next = line[place + 1];
+    line.truncate(place);
+    path.go_to(line)?;
+    Ok(quiet(path.world(), step, next))
+}
+
+/// Behind which ranks the words no longer share the letters up to the one behind a place. Words that share them are exchanged alike.
+fn alike_to(shape: &Shape, rank: u64, place: u8) -> u64
+    requires has { rank < length (all_words shape.now) }
+    requires letters { place + 2 ≤ total shape.now }
+    ensures { AreAlikeTo shape.now rank place result }
+{
+    shared_block(shape, rank, place + 2).end()
+}

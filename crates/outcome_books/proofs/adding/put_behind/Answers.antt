@@ -1,0 +1,1 @@
+use Rattle.outcome_books.proofs.adding.put_behind.Goals as goal

@@ -1,7 +1,0 @@
-use Rattle.std.proofs.Common.{◌≡◌, length}
-use Rattle.perm_ranks.specs.Words.{Word}
-use Rattle.perm_ranks.specs.Blocks.{HasRank, IsBlockOf}
-use Rattle.outcome_books.proofs.leading.swap_lead.Given as goal
-
-abbrev pub invariant-loop-letter : goal.invariant-loop-letter
-invariant-loop-letter l = (shared : Word) × IsBlockOf l.shape shared l.block × (length shared ≡ l._letter) × HasRank l.block l.rank

@@ -1,0 +1,21 @@
+//! Blocks of words that share letters with a word.
+
+ghost use Rattle.std.specs.Prelude.{◌<◌, ◌≤◌, length};
+ghost use Rattle.perm_ranks.specs.Words.{all_words, total};
+ghost use Rattle.step_reducer.specs.Fronts.{IsSharedBlock};
+
+use perm_ranks::{Block, Shape};
+
+/// The block of the words that share so many letters with the word of a rank.
+pub fn shared_block(shape: &Shape, rank: u64, letters: u8) -> Block
+    requires has { rank < length (all_words shape.now) }
+    requires letters { letters ≤ total shape.now }
+    ensures { IsSharedBlock shape.now rank letters result }
+{
+    let mut block = shape.block();
+    for _letter in 0..letters {
+        let (_letter, inside) = block.at(rank);
+        block = inside;
+    }
+    block
+}
