@@ -86,11 +86,7 @@ impl<'a> Ground<'a> {
 }
 
 /// Behind the rank, if this is its outcome.
-fn ran_until(
-    path: &mut Path<'_>,
-    told: &Outcome,
-    rank: u64,
-) -> Result<Option<u64>, AllocError>
+fn ran_until(path: &mut Path<'_>, told: &Outcome, rank: u64) -> Result<Option<u64>, AllocError>
     requires path { IsPath path.old.spec.now path.old }
     requires last { rank < u64.MAX }
     ensures path { OnOk result (IsPath path.old.spec.now path.new) }

@@ -30,7 +30,11 @@ pub(crate) fn is_ran(path: &mut Path<'_>, rank: u64, told: &Outcome) -> Result<b
 }
 
 /// Up to which rank the swap at a place is true from this rank on. None where it is not true there.
-pub(crate) fn swap_until(path: &mut Path<'_>, rank: u64, place: u8) -> Result<Option<u64>, AllocError>
+pub(crate) fn swap_until(
+    path: &mut Path<'_>,
+    rank: u64,
+    place: u8,
+) -> Result<Option<u64>, AllocError>
     requires { IsPath path.old.spec.now path.old }
     ensures path { OnOk result (IsPath path.old.spec.now path.new) }
     ensures answer { IfOk result (IsTrueUntil path.old.spec.now.run (fact.Swap place) rank) }

@@ -45,10 +45,11 @@ rising-front : (old : List Run) (k rank : ℕ) (more new : List Run) → IsRisin
     → IsRising (firsts new) → KeepsAllFrom (drop k old) more new → IsRising (firsts (take k old ++ new))
 rising-front old zero rank more new rises low from rising keeps = rising
 rising-front [] (suc k) rank more new rises low from rising keeps = rising
-rising-front (run ∷ old) (suc k) rank more new rises low from rising keeps =
-    (AllFrom-front run.first k old new rises.0
-    (keeps run.first (AllFrom-drop run.first k old rises.0) (AllFrom-less run.first rank (firsts more) low.0 from)),
-    rising-front old k rank more new rises.1 low.1 from rising keeps)
+rising-front (run ∷ old) (suc k) rank more new rises low from rising keeps = (
+  AllFrom-front run.first k old new rises.0
+      (keeps run.first (AllFrom-drop run.first k old rises.0) (AllFrom-less run.first rank (firsts more) low.0 from)),
+  rising-front old k rank more new rises.1 low.1 from rising keeps,
+)
 
 sound-front : (n k : ℕ) (old more new : List Run) → AllSound n old → AllSound n more → KeepsAllSound (drop k old) more new → AllSound n (take k old ++ new)
 sound-front n zero old more new a b keeps = keeps n a b

@@ -56,8 +56,61 @@ ended-says t e run rank a b = on (within run.first run.end e.0) refl
 
 pub any-push : {A : Type 0} (p : A → Bool) (xs : List A) (x : A) → list_any p (xs ++ x ∷ []) ≡ (list_any p xs || p x)
 any-push p [] x = or-false (p x)
+any-push p (y ∷ ys) x = ap (λ b. p y || b) (any-push p ys x) ∙ sym (or_assoc (p y) _ _)
+
+-- where all in hand cover the stretch, they say at each of its ranks what they say at all
+covered-states : (t : Table) (active : List Run) (rank until r : ℕ) (f : Fact) → AllCover rank active → AllReach until active → rank ≤ r → r < until
+    → list_any (has t (r, f)) active ≡ list_any (states t f) active
+covered-states t [] rank until r f a b l m = refl
+covered-states t (run ∷ runs) rank until r f a b l m =
+    let first = a.0.0 in
+    let end = b.0 in
+    λ i. (within-from run.first run.end r (omega (arith, first, l)) (omega (arith, end, m)) i && eq_by_cmp fact_cmp f
+    (fact_in t run.tag)) || covered-states t runs rank until r f a.1 b.1 l m i
+
+rising-drop : (runs : List Run) (k : ℕ) (d : Run) → IsRising (firsts runs) → k < length runs → (low : ℕ) → low ≤ (get_or runs k d).first
+    → AllFrom low (firsts (drop k runs))
+rising-drop [] k d p lt low l = absurd (omega (arith, lt))
+rising-drop (x ∷ xs) zero d p lt low l = (l, from-more (firsts xs) p.0)
   where
-    pub take-past : {A : Type 0} (xs : List A) (i : ℕ) → length xs ≤ i → take i xs ≡ xs
+    from-more : (ys : List ℕ) → AllFrom x.first ys → AllFrom low ys
+    from-more [] a = tt
+    from-more (y ∷ ys) a = (let q = a.0 in omega (arith, q, l), from-more ys a.1)
+rising-drop (x ∷ xs) (suc k) d p lt low l = rising-drop xs k d p.1 (omega (arith, lt)) low l
+
+drop-past : (runs : List Run) (k : ℕ) → length runs ≤ k → drop k runs ≡ []
+drop-past [] zero l = refl
+drop-past [] (suc k) l = refl
+drop-past (x ∷ xs) zero l = absurd (omega (arith, l))
+drop-past (x ∷ xs) (suc k) l = drop-past xs k (omega (arith, l))
+
+rest-silent : (t : Table) (runs : List Run) (next until r : ℕ) (f : Fact) → IsRising (firsts runs)
+    → ((d : Run) → next < length runs → until ≤ (get_or runs next d).first) → r < until → list_any (has t (r, f)) (drop next runs) ≡ false
+rest-silent t runs next until r f rises rest lt = on (grind arith)
+  where
+    not-true : (b : Bool) → (b ≡ true → ⊥) → b ≡ false
+    not-true true h = absurd (h refl)
+    not-true false h = refl
+
+    on : (next < length runs) ⊎ (length runs ≤ next) → list_any (has t (r, f)) (drop next runs) ≡ false
+    on (inl l) = not-true _
+        (λ h. none-below (drop next runs) until r (rising-drop runs next some rises l until (rest some l)) lt (has-covered t (drop next runs) r f h))
+      where
+        some : Run
+        some = record { first = 0; end = 0; tag = Ran 0 }
+    on (inr l) = ap (list_any (has t (r, f))) (drop-past runs next l)
+
+-- the runs in hand say all of the stretch
+pub is-stretch : (t : Table) (runs active : List Run) (next rank until : ℕ) → IsRising (firsts runs) → AllCover rank active → AllReach until active
+    → ((d : Run) → next < length runs → until ≤ (get_or runs next d).first) → IsSplit t runs active (drop next runs) rank
+    → IsStretch (facts_in t runs) t active rank until
+is-stretch t runs active next rank until rises cover reach rest split r l m f =
+    contains-runs t runs (r, f) ∙ sym (split (r, f) l) ∙ (λ i. list_any (has t (r, f)) active || rest-silent t runs next until r f rises rest m i)
+    ∙ or-false _ ∙ covered-states t active rank until r f cover reach l m
+
+-- ---- the loops' steps
+
+pub take-past : {A : Type 0} (xs : List A) (i : ℕ) → length xs ≤ i → take i xs ≡ xs
 take-past [] zero l = refl
 take-past [] (suc i) l = refl
 take-past (x ∷ xs) zero l = absurd (omega (arith, l))
