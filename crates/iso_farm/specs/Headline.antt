@@ -17,7 +17,7 @@ use Rattle.outcome_books.specs.declared.error.ReportError.TheVariants.{TooMany, 
 use Rattle.outcome_books.specs.declared.job.Job.{Job}
 use Rattle.outcome_books.specs.Entries.{recorded}
 use Rattle.outcome_books.specs.Books.{Contents, joined}
-use Rattle.outcome_books.specs.JobTrees.{told, leaves}
+use Rattle.outcome_books.specs.JobTrees.{folded, leaves}
 use Rattle.outcome_books.specs.Jobs.{InLeaves, IsJobOf, IsNotMade}
 use Rattle.outcome_books.specs.Values.{IsNotReported}
 use Rattle.shard_board.specs.Changes.{IsPlanOf}
@@ -35,7 +35,7 @@ use Rattle.iso_farm.specs.Laws.{AreAnswers}
 
 -- the shards of a job, from left to right
 abbrev pub shards_in : Job → List Shard
-shards_in = told (λ shard reduce. shard ∷ []) (λ a b. a ++ b)
+shards_in = folded (λ shard reduce. shard ∷ []) (λ a b. a ++ b)
 
 -- the job runs the rank in one of its shards, or a plan's workers do. A job of one empty shard leaves all to the plans
 abbrev pub IsRun : Job → List Plan → ℕ → Type 0

@@ -10,25 +10,25 @@ use Rattle.outcome_books.specs.declared.job.Parts.TheVariants.{Shard as OneShard
 abbrev pub join_of : Job → Job → Job
 join_of a b = Join' tt (more_of-Job a end_of-Job) tt (more_of-Job b end_of-Job)
 
--- what is told of a job, by what is told of a shard and of a join
-abbrev pub told : {A : Type 0} → (Shard → Bool → A) → (A → A → A) → Job → A
-told run join (Run shard reduce) = run shard reduce
-told run join (Join' _ (more_of-Job a end_of-Job) _ (more_of-Job b end_of-Job)) = join (told run join a) (told run join b)
+-- a job folded, by what a shard gives and what a join gives of both its parts
+abbrev pub folded : {A : Type 0} → (Shard → Bool → A) → (A → A → A) → Job → A
+folded run join (Run shard reduce) = run shard reduce
+folded run join (Join' _ (more_of-Job a end_of-Job) _ (more_of-Job b end_of-Job)) = join (folded run join a) (folded run join b)
 
 -- the shards from left to right
 abbrev pub leaves : Job → List Leaf
-leaves = told (λ shard reduce. record { shard = shard; reduce = reduce } ∷ []) (λ a b. a ++ b)
+leaves = folded (λ shard reduce. record { shard = shard; reduce = reduce } ∷ []) (λ a b. a ++ b)
 
 abbrev pub levels : Job → ℕ
-levels = told (λ shard reduce. 1) (λ a b. suc (max a b))
+levels = folded (λ shard reduce. 1) (λ a b. suc (max a b))
 
 -- how many shards and joins there are
 abbrev pub parts : Job → ℕ
-parts = told (λ shard reduce. 1) (λ a b. suc (a + b))
+parts = folded (λ shard reduce. 1) (λ a b. suc (a + b))
 
 -- how much is left to let go, where a left part counts twice
 abbrev pub weight : Job → ℕ
-weight = told (λ shard reduce. 1) (λ a b. suc (a + (a + b)))
+weight = folded (λ shard reduce. 1) (λ a b. suc (a + (a + b)))
 
 abbrev pub AreParts : Job → Parts → Type 0
 AreParts job OneShard = weight job ≡ 1
