@@ -58,7 +58,8 @@ one-more xs ys n m is before here k lt = at (eqb k n) refl
 -- ---- reports
 
 -- the value of a rank is the outcome with its number
-pub value-at : (t : List Told) (numbers : List ℕ) (rank : ℕ) → rank < length numbers → slice_get (values_of t numbers) rank ≡ Some (get_or t (get_or numbers rank 0) [])
+pub value-at : (t : List Told) (numbers : List ℕ) (rank : ℕ) → rank < length numbers
+    → slice_get (values_of t numbers) rank ≡ Some (get_or t (get_or numbers rank 0) [])
 value-at t [] rank lt = absurd (omega (arith, lt))
 value-at t (n ∷ numbers) zero lt = refl
 value-at t (n ∷ numbers) (suc rank) lt = value-at t numbers rank (omega (arith, lt))

@@ -84,7 +84,8 @@ module _ (spec : Spec) (table : Table) (run : Run) (facts : Facts) where
 pub least-same : (spec : Spec) (f g : Facts) (least : Option ℕ) → ((r : ℕ) (fact : Fact) → f r fact ≡ g r fact) → IsLeast spec f least → IsLeast spec g least
 least-same spec f g least same = subst (λ facts. IsLeast spec facts least) (λ i r fact. same r fact i)
 
-pub finding-same : (spec : Spec) (f g : Facts) (finding : Finding) → ((r : ℕ) (fact : Fact) → f r fact ≡ g r fact) → IsFinding spec f finding → IsFinding spec g finding
+pub finding-same : (spec : Spec) (f g : Facts) (finding : Finding) → ((r : ℕ) (fact : Fact) → f r fact ≡ g r fact) → IsFinding spec f finding
+    → IsFinding spec g finding
 finding-same spec f g finding same = subst (λ facts. IsFinding spec facts finding) (λ i r fact. same r fact i)
 
 -- the set of runs has what they say

@@ -25,7 +25,8 @@ pub none-true : (spec : Spec) → ((w : World) → start spec ≡ Started w → 
 none-true spec refused r (Ran outcome) is = never (start spec) refl is.1
   where
     never : (s : Start) → start spec ≡ s
-        → (let o : Option (List (List Event)) = elim s [ Started w ↦ Some (outcome_of spec.sessions (send_all spec.steps w (line_of spec r))) | _ ↦ None ] in o) ≡ Some outcome → ⊥
+        → (let o : Option (List (List Event)) = elim s [ Started w ↦ Some (outcome_of spec.sessions (send_all spec.steps w (line_of spec r))) | _ ↦ None ] in
+        o) ≡ Some outcome → ⊥
     never (Started w) e h = refused w e
     never (SetupFailed n) e h = cc
     never (SessionSetupFailed n) e h = cc
@@ -50,7 +51,8 @@ falls-where items (Some x) k word e some = sym (ap (λ p. is_some p) e)
 -- a word that falls at a place has a letter there and behind it
 pub falls-inside : (counts : List ℕ) (r k : ℕ) → r < length (all_words counts) → falls_at k (word_at counts r) ≡ true → k + 2 ≤ total counts
 falls-inside counts r k lt falls =
-    let long = takes-length (total counts) counts (word_at counts r) (each-at (Takes (total counts) counts) (all_words counts) r lt (words-take (total counts) counts)) in
+    let long = takes-length (total counts) counts (word_at counts r)
+    (each-at (Takes (total counts) counts) (all_words counts) r lt (words-take (total counts) counts)) in
     let cases : (k + 2 ≤ total counts) ⊎ (length (word_at counts r) ≤ k + 1) = grind (arith, long) in
     ⊎_elim (λ h. h) (λ h. absurd (let bad : false ≡ true = sym (falls-short k (word_at counts r) h) ∙ falls in cc)) cases
 
@@ -94,6 +96,11 @@ module _ (spec : Spec) (w : World) (starts : start spec ≡ Started w) (r : ℕ)
         omega (arith, ends, to),
         λ s le lt. (
           in-ranks spec s swap.words (omega (arith, inside, ends, lt)),
-          (fact.1.0, fact.1.1, swap-covers spec fact.1.0 alike.shared alike.block alike.is_block r s k (omega (arith, letters)) alike.has (omega (arith, from, le), omega (arith, ends, lt)) swap),
+          (
+            fact.1.0,
+            fact.1.1,
+            swap-covers spec fact.1.0 alike.shared alike.block alike.is_block r s k (omega (arith, letters)) alike.has
+                (omega (arith, from, le), omega (arith, ends, lt)) swap,
+          ),
         ),
       )

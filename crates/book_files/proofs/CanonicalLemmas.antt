@@ -91,7 +91,8 @@ joining-grow runs out i current run new d lt is k same touch first end tag =
       apart = k.apart;
       before = λ x m. let p = k.before x m in record { kinds = p.kinds; numbers = p.numbers; apart = p.apart };
       facts = λ t e.
-          ap (λ b. list_any (has t e) out || b) (has-grown t e current run same low touch) ∙ sym (or_assoc (list_any (has t e) out) (has t e current) (has t e run))
+          ap (λ b. list_any (has t e) out || b) (has-grown t e current run same low touch)
+          ∙ sym (or_assoc (list_any (has t e) out) (has t e current) (has t e run))
           ∙ (λ j. k.facts t e j || has t e (is j)) ∙ sym (any-taken (has t e) runs i d lt);
       sound = λ n a.
           let s = sound-last n out current (k.sound n a) in

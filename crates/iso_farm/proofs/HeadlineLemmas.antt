@@ -82,7 +82,8 @@ job-fact spec (Join' _ (more_of-Job a end_of-Job) _ (more_of-Job b end_of-Job)) 
     ⊎_elim (λ x. let f = job-fact spec a r s lt x in (f.0, in-left spec (leaves a) (leaves b) r f.0 f.1))
     (λ x. let f = job-fact spec b r s lt x in (f.0, in-right spec (leaves a) (leaves b) r f.0 f.1)) (one-append (shards_in a) (shards_in b) r h)
 
-run-fact : (spec : Spec) (job : Job) (plans : List Plan) (r : ℕ) → Starts spec → r < ranks spec → IsRun job plans r → (fact : Fact) × WasRun spec job plans r fact
+run-fact : (spec : Spec) (job : Job) (plans : List Plan) (r : ℕ) → Starts spec → r < ranks spec → IsRun job plans r
+    → (fact : Fact) × WasRun spec job plans r fact
 run-fact spec job plans r s lt (inl h) = let f = job-fact spec job r s lt h in (f.0, inl f.1)
 run-fact spec job plans r s lt (inr (k, (plan, (is, (n, (shard, (at, has))))))) =
     let f = has-fact plan.reduce spec r s lt in (f.0, inr (k, (plan, (is, (n, (shard, (at, (has.0, has.1, f.1))))))))

@@ -121,7 +121,8 @@ AreRunsReported contents old new bytes job plans (Err fault_of.NoMemory) = new �
 
 -- one of the first so many plans has the rank, with that fact under its flag
 abbrev pub HaveFactBelow : Spec → List Plan → ℕ → ℕ → Fact → Type 0
-HaveFactBelow spec plans n r fact = (k : ℕ) × ((plan : Plan) × ((k < n) × ((get_elem? plans k ≡ some plan) × InShards plan.reduce spec plan.shards.items r fact)))
+HaveFactBelow spec plans n r fact = (k : ℕ) × ((plan : Plan)
+    × ((k < n) × ((get_elem? plans k ≡ some plan) × InShards plan.reduce spec plan.shards.items r fact)))
 
 -- the book holds the facts of the job and of the first so many plans
 pub record HoldsTheFirst (file : SpecFile) (job : Job) (plans : List Plan) (n : ℕ) (book : Contents) : Type 0 where
@@ -134,7 +135,8 @@ pub record HoldsTheFirst (file : SpecFile) (job : Job) (plans : List Plan) (n : 
 -- the plan's facts are joined to a book, or it is not run whole, or memory ran out
 abbrev pub IsNextRun : SpecFile → Plan → ℕ → Contents → Result Contents HeadlineFault → Type 0
 IsNextRun file plan place book (Ok all) =
-    (next : Contents) × IsPlanOf file.run plan.shards.items plan.workers × AreShardFacts plan.reduce file.run plan.shards.items next.facts × (book.file ≡ next.file) × (all ≡ joined book next)
+    (next : Contents) × IsPlanOf file.run plan.shards.items plan.workers × AreShardFacts plan.reduce file.run plan.shards.items next.facts
+    × (book.file ≡ next.file) × (all ≡ joined book next)
 IsNextRun file plan place book (Err (fault_of.Plan at error)) = (at ≡ place) × IsNotFarmed plan.reduce file plan.shards.items plan.workers error
 IsNextRun file plan place book (Err fault_of.NoMemory) = Unit {0}
 IsNextRun file plan place book (Err (fault_of.Spec fault)) = ⊥

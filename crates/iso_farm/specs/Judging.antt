@@ -47,7 +47,8 @@ pub record IsVerdictOf (files : Files) (path : List ℕ) (accepted : List (List 
 abbrev pub IsNotAccepted : Files → List (List ℕ) → JudgeFault → Type 0
 IsNotAccepted files paths (Book fault) = ⊥
 IsNotAccepted files paths (Accepted place fault) =
-    (place < length paths) × ((reports : List (List Told)) × AreReports files (take place paths) reports) × IsFileReport (bytes_at files paths place) (Err fault)
+    (place < length paths) × ((reports : List (List Told)) × AreReports files (take place paths) reports) × IsFileReport (bytes_at files paths place)
+    (Err fault)
 IsNotAccepted files paths NoMemory = Unit {0}
 IsNotAccepted files paths (Write fault) = ⊥
 

@@ -10,4 +10,5 @@ use Rattle.iso_farm.specs.declared.spec.SpecFault.TheVariants.{Text, Binding}
 -- why bytes are no spec file: reading refuses them, or binding does, or memory ran out
 abbrev pub IsNoSpec : List ℕ → SpecFault → Type 0
 IsNoSpec bytes (Text error) = Explains bytes error
-IsNoSpec bytes (Binding error) = (tree : SpecTree) × IsSpec bytes tree × ((bound_file bytes tree ≡ Err error) ⊎ (error ≡ record { kind = NoMemory; offset = 0 }))
+IsNoSpec bytes (Binding error) = (tree : SpecTree) × IsSpec bytes tree
+    × ((bound_file bytes tree ≡ Err error) ⊎ (error ≡ record { kind = NoMemory; offset = 0 }))

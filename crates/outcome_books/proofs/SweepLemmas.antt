@@ -116,7 +116,8 @@ take-past [] (suc i) l = refl
 take-past (x ∷ xs) zero l = absurd (omega (arith, l))
 take-past (x ∷ xs) (suc i) l = ap (λ r. x ∷ r) (take-past xs i (omega (arith, l)))
 
-pub any-taken : (p : Run → Bool) (xs : List Run) (i : ℕ) (d : Run) → i < length xs → list_any p (take (i + 1) xs) ≡ (list_any p (take i xs) || p (get_or xs i d))
+pub any-taken : (p : Run → Bool) (xs : List Run) (i : ℕ) (d : Run) → i < length xs
+    → list_any p (take (i + 1) xs) ≡ (list_any p (take i xs) || p (get_or xs i d))
 any-taken p xs i d lt = ap (list_any p) (take_more xs i d lt) ∙ any-push p (take i xs) (get_or xs i d)
 
 any-dropped : (p : Run → Bool) (xs : List Run) (i : ℕ) (d : Run) → i < length xs → list_any p (drop i xs) ≡ (p (get_or xs i d) || list_any p (drop (i + 1) xs))

@@ -51,7 +51,8 @@ CalmEffect (Gives events writes) = AllCalm events
 CalmEffect (Faults f) = Unit {0}
 
 calm-effect : (st : Bound) (rows : Rows') → CalmEffect (effect st rows)
-calm-effect st rows = elim (effect st rows) as (λ f. TellsEffects f → CalmEffect f) [ Gives events writes ↦ all-calm events | Faults f ↦ λ d. tt ] (effect-tells st rows)
+calm-effect st rows = elim (effect st rows) as (λ f. TellsEffects f → CalmEffect f) [ Gives events writes ↦ all-calm events | Faults f ↦ λ d. tt ]
+    (effect-tells st rows)
 
 calm-append : (es fs : List Event) → AllCalm es → AllCalm fs → AllCalm (es ++ fs)
 calm-append [] fs p q = q
@@ -66,7 +67,12 @@ pub record GoesOn (from to : List Event) : Type 0 where
   pub is : to ≡ from ++ events
 
 goes-on-trans : (a b c : List Event) → GoesOn a b → GoesOn b c → GoesOn a c
-goes-on-trans a b c p q = record { events = p.events ++ q.events; calm = calm-append p.events q.events p.calm q.calm; is = q.is ∙ ap (λ x. x ++ q.events) p.is ∙ append_assoc a p.events q.events }
+goes-on-trans a b c p q = record {
+  events = p.events ++ q.events;
+  calm = calm-append p.events q.events p.calm q.calm;
+  is = q.is
+      ∙ ap (λ x. x ++ q.events) p.is ∙ append_assoc a p.events q.events;
+}
 
 by-one : (a : List Event) (e : Event) → is_calm e ≡ true → GoesOn a (a ++ e ∷ [])
 by-one a e c = record { events = e ∷ []; calm = (c, tt); is = refl }
@@ -78,14 +84,16 @@ worked-on : (s : Session) (rows : Rows') (e : Effect) → CalmEffect e → OnGoe
 worked-on s rows (Gives events writes) c = record { events = events; calm = c; is = refl }
 worked-on s rows (Faults f) c = tt
 
-perform_by-on : (status : Status) (k : Kind) (s : Session) (rows : Rows') (st : Bound) → OnGoes (perform_by status k s rows st) (λ s2 rows2. GoesOn s.transcript s2.transcript)
+perform_by-on : (status : Status) (k : Kind) (s : Session) (rows : Rows') (st : Bound)
+    → OnGoes (perform_by status k s rows st) (λ s2 rows2. GoesOn s.transcript s2.transcript)
 perform_by-on Outside Begins s rows st = by-one s.transcript Began refl
 perform_by-on InBlock Begins s rows st = by-two s.transcript (Warned Rattle.transcripts.specs.declared.event.Warning.TheVariants.InBlock) Began refl refl
 perform_by-on Broken Begins s rows st = tt
 perform_by-on Outside Commits s rows st = by-two s.transcript (Warned Rattle.transcripts.specs.declared.event.Warning.TheVariants.NoBlock) Committed refl refl
 perform_by-on InBlock Commits s rows st = by-one s.transcript Committed refl
 perform_by-on Broken Commits s rows st = by-one s.transcript RolledBack refl
-perform_by-on Outside RollsBack s rows st = by-two s.transcript (Warned Rattle.transcripts.specs.declared.event.Warning.TheVariants.NoBlock) RolledBack refl refl
+perform_by-on Outside RollsBack s rows st = by-two s.transcript (Warned Rattle.transcripts.specs.declared.event.Warning.TheVariants.NoBlock)
+    RolledBack refl refl
 perform_by-on InBlock RollsBack s rows st = by-one s.transcript RolledBack refl
 perform_by-on Broken RollsBack s rows st = by-one s.transcript RolledBack refl
 perform_by-on Outside Works s rows st = worked-on s rows _ (calm-effect st _)
@@ -103,10 +111,12 @@ failed-on s rows f = record { events = Failed f ∷ Done ∷ []; calm = (refl, (
 pub solo-on : (s : Session) (rows : Rows') (ts : List Task) → GoesOn s.transcript (solo s rows ts).session.transcript
 solo-on s rows [] = finished-on s.status s rows
 solo-on s rows (Ask r m ∷ ts) =
-    elim (is_broken s.status) as (λ b. GoesOn s.transcript (let x : Stop = elim b [ true ↦ failed s rows Aborted | false ↦ solo (taking s r m) rows ts ] in x.session.transcript)) [ true ↦ failed-on s rows Aborted | false ↦ solo-on (taking s r m) rows ts ]
+    elim (is_broken s.status) as (λ b. GoesOn s.transcript (let x : Stop = elim b [ true ↦ failed s rows Aborted | false ↦ solo (taking s r m) rows ts ] in
+    x.session.transcript)) [ true ↦ failed-on s rows Aborted | false ↦ solo-on (taking s r m) rows ts ]
 solo-on s rows (Do st ∷ ts) = done (perform s rows st) (perform_by-on s.status (kind st) s rows st) (λ s2 rows2. solo-on s2 rows2 ts)
   where
-    done : (d : Performed) → OnGoes d (λ s2 rows2. GoesOn s.transcript s2.transcript) → ((s2 : Session) (rows2 : Rows') → GoesOn s2.transcript (solo s2 rows2 ts).session.transcript)
+    done : (d : Performed) → OnGoes d (λ s2 rows2. GoesOn s.transcript s2.transcript)
+        → ((s2 : Session) (rows2 : Rows') → GoesOn s2.transcript (solo s2 rows2 ts).session.transcript)
         → GoesOn s.transcript (let x : Stop = elim d [ Goes s2 rows2 ↦ solo s2 rows2 ts | Fails f ↦ failed s rows f ] in x.session.transcript)
     done (Goes s2 rows2) g rec = goes-on-trans s.transcript s2.transcript _ g (rec s2 rows2)
     done (Fails f) g rec = failed-on s rows f
@@ -126,10 +136,12 @@ BothCalm steps w k l =
     SentCalmly w both i k × SentCalmly w both j l × (both.waits ≡ w.waits) × ((c : ℕ) → c ≢ i → c ≢ j → session_at both c ≡ session_at w c)
 
 -- in any world whose session has what the one that goes alone leaves
-calmly : (w v : World) (i k : ℕ) (x : Stop) → session_at v i ≡ x.session → GoesOn ((session_at w i).transcript ++ Sent k ∷ []) x.session.transcript → SentCalmly w v i k
+calmly : (w v : World) (i k : ℕ) (x : Stop) → session_at v i ≡ x.session → GoesOn ((session_at w i).transcript ++ Sent k ∷ []) x.session.transcript
+    → SentCalmly w v i k
 calmly w v i k x is g = (g.events, g.calm, ap (λ (y : Session). y.transcript) is ∙ g.is ∙ append_assoc (session_at w i).transcript (Sent k ∷ []) g.events)
 
-first-calm : (steps : List Step) (w : World) (k l : ℕ) → Sound w → (get_or steps k no_step).session < length w.sessions → (get_or steps l no_step).session < length w.sessions → is_quiet w (get_or steps k no_step) (get_or steps l no_step) ≡ true
+first-calm : (steps : List Step) (w : World) (k l : ℕ) → Sound w → (get_or steps k no_step).session < length w.sessions
+    → (get_or steps l no_step).session < length w.sessions → is_quiet w (get_or steps k no_step) (get_or steps l no_step) ≡ true
     → FirstCalm steps w k
 first-calm steps w k l sound lti ltj quiet =
     let s : Step = get_or steps k no_step in
@@ -142,27 +154,40 @@ first-calm steps w k l sound lti ltj quiet =
       λ c ne. ap (λ (v : World). session_at v c) is ∙ look-other w i c x ne,
     )
 
-both-calm : (steps : List Step) (w : World) (k l : ℕ) → Sound w → (get_or steps k no_step).session < length w.sessions → (get_or steps l no_step).session < length w.sessions → is_quiet w (get_or steps k no_step) (get_or steps l no_step) ≡ true
+both-calm : (steps : List Step) (w : World) (k l : ℕ) → Sound w → (get_or steps k no_step).session < length w.sessions
+    → (get_or steps l no_step).session < length w.sessions → is_quiet w (get_or steps k no_step) (get_or steps l no_step) ≡ true
     → BothCalm steps w k l
 both-calm steps w k l sound lti ltj quiet =
     let ss : List Bound = (get_or steps k no_step).statements in
     let ts : List Bound = (get_or steps l no_step).statements in
     let i : ℕ = (get_or steps k no_step).session in
     let j : ℕ = (get_or steps l no_step).session in
-    let a : Apart w i j (session_at w i) (session_at w j) (plans ss) (plans ts) = apart-from w sound (get_or steps k no_step) (get_or steps l no_step) lti ltj quiet in
+    let a : Apart w i j (session_at w i) (session_at w j) (plans ss) (plans ts) =
+    apart-from w sound (get_or steps k no_step) (get_or steps l no_step) lti ltj quiet in
     let s : Session = sent w i k in
     let t : Session = sent w j l in
-    let b : Apart w i j s t (plans ss) (plans ts) = record { differ = a.differ; one = a.one; other = a.other; friends = a.friends; one_under = a.one_under; other_under = a.other_under } in
+    let b : Apart w i j s t (plans ss) (plans ts) = record {
+      differ = a.differ;
+      one = a.one;
+      other = a.other;
+      friends = a.friends;
+      one_under = a.one_under;
+      other_under = a.other_under;
+    } in
     let x : Stop = alone s w.rows ss in
     let v : World = after w i x in
     let y : Stop = alone t x.rows ts in
-    let is : send steps (send steps w k) l ≡ after v j y = ap (λ u. send steps u l) (send-free steps w k i ss refl a.one) ∙ send-second steps w i j s t ss ts l refl b refl in (
-      calmly w (send steps (send steps w k) l) i k x (ap (λ (u : World). session_at u i) is ∙ look-other v j i y a.differ ∙ look-here w i x lti) (solo-on s w.rows _),
-      calmly w (send steps (send steps w k) l) j l y (ap (λ (u : World). session_at u j) is ∙ look-here v j y (subst (λ n. j < n) (sym (length-set w.sessions i x.session)) ltj)) (solo-on t x.rows _),
+    let is : send steps (send steps w k) l ≡ after v j y = ap (λ u. send steps u l) (send-free steps w k i ss refl a.one)
+    ∙ send-second steps w i j s t ss ts l refl b refl in (
+      calmly w (send steps (send steps w k) l) i k x (ap (λ (u : World). session_at u i) is ∙ look-other v j i y a.differ ∙ look-here w i x lti)
+          (solo-on s w.rows _),
+      calmly w (send steps (send steps w k) l) j l y (ap (λ (u : World). session_at u j) is
+          ∙ look-here v j y (subst (λ n. j < n) (sym (length-set w.sessions i x.session)) ltj)) (solo-on t x.rows _),
       ap (λ (u : World). u.waits) is,
       λ c ni nj. ap (λ (u : World). session_at u c) is ∙ look-other v j c y nj ∙ look-other w i c x ni,
     )
 
-pub quiet-calm : (steps : List Step) (w : World) (k l : ℕ) → Sound w → (get_or steps k no_step).session < length w.sessions → (get_or steps l no_step).session < length w.sessions → is_quiet w (get_or steps k no_step) (get_or steps l no_step) ≡ true
+pub quiet-calm : (steps : List Step) (w : World) (k l : ℕ) → Sound w → (get_or steps k no_step).session < length w.sessions
+    → (get_or steps l no_step).session < length w.sessions → is_quiet w (get_or steps k no_step) (get_or steps l no_step) ≡ true
     → FirstCalm steps w k × BothCalm steps w k l
 quiet-calm steps w k l sound lti ltj quiet = (first-calm steps w k l sound lti ltj quiet, both-calm steps w k l sound lti ltj quiet)

@@ -60,11 +60,13 @@ module _ (q : Queues) where
       at None is some = absurd (let f : is_some {T = Word} None ≡ true = sym (ap is_some is) ∙ some in cc)
       at (Some other) is some =
           let taken = each-at (Takes (total (counts_of q)) (counts_of q)) ws r lt (words-take (total (counts_of q)) (counts_of q)) in
-          let x = in-place other ws (takes-in (total (counts_of q)) (counts_of q) other (exchanged-takes k (word_at (counts_of q) r) other (total (counts_of q)) (counts_of q) is taken)) in
+          let x = in-place other ws (takes-in (total (counts_of q)) (counts_of q) other
+          (exchanged-takes k (word_at (counts_of q) r) other (total (counts_of q)) (counts_of q) is taken)) in
           (x.0, ap (placed_at ws) is ∙ x.1)
 
   -- the words are of lines with one world at their ends
-  pub same-end : (steps : List Step) (w : World) → Sound w → Fitting steps w → (r k below : ℕ) → quiet_at steps w q k (word_at (counts_of q) r) ≡ true → leads r k ≡ Some below
+  pub same-end : (steps : List Step) (w : World) → Sound w → Fitting steps w → (r k below : ℕ) → quiet_at steps w q k (word_at (counts_of q) r) ≡ true
+      → leads r k ≡ Some below
       → send_all steps w (line q (word_at (counts_of q) below)) ≡ send_all steps w (line q (word_at (counts_of q) r))
   same-end steps w sound fit r k below quiet e =
       let x = led r k below e in
@@ -101,8 +103,10 @@ leads-down spec r k below e = at spec.lines e
     at (l ∷ ls) f = cc
 
 -- the outcome of a line of a spec that starts
-pub outcome-started : (spec : Spec) (w : World) (ks : List ℕ) → start spec ≡ Started w → outcome_of_line spec ks ≡ Some (outcome_of spec.sessions (send_all spec.steps w ks))
-outcome-started spec w ks e = ap (λ (s : Start). let o : Option (List (List Event)) = elim s [ Started v ↦ Some (outcome_of spec.sessions (send_all spec.steps v ks)) | _ ↦ None ] in o) e
+pub outcome-started : (spec : Spec) (w : World) (ks : List ℕ) → start spec ≡ Started w
+    → outcome_of_line spec ks ≡ Some (outcome_of spec.sessions (send_all spec.steps w ks))
+outcome-started spec w ks e = ap (λ (s : Start). let o : Option (List (List Event)) =
+    elim s [ Started v ↦ Some (outcome_of spec.sessions (send_all spec.steps v ks)) | _ ↦ None ] in o) e
 
 pub swaps-hold : (spec : Spec) (r k : ℕ) → IsBound spec → IsTrueAt spec r (Swap k)
     → (below : ℕ) × (leads_in spec r k ≡ Some below) × (below < r) × (outcome_of_line spec (line_of spec below) ≡ outcome_of_line spec (line_of spec r))
@@ -121,6 +125,7 @@ swaps-hold spec r k bound is =
       leads,
       leads-down spec r k x.0 leads,
       outcome-started spec w (line_of spec x.0) starts
-          ∙ ap (λ v. Some (outcome_of spec.sessions v)) (ap (λ ls. send_all spec.steps w (line_by ls q x.0)) none ∙ ends ∙ sym (ap (λ ls. send_all spec.steps w (line_by ls q r)) none))
+          ∙ ap (λ v. Some (outcome_of spec.sessions v)) (ap (λ ls. send_all spec.steps w (line_by ls q x.0)) none ∙ ends
+          ∙ sym (ap (λ ls. send_all spec.steps w (line_by ls q r)) none))
           ∙ sym (outcome-started spec w (line_of spec r) starts),
     )

@@ -88,7 +88,8 @@ letters-steps steps w q zero (a ∷ b ∷ word) served f = at (get_or q b []) re
     there : get_or (set q a xs) b [] ≡ get_or q b []
     there = get_or-set_other q a b xs [] (λ e. ne (sym e))
 
-    at : (l : List ℕ) → get_or q b [] ≡ l → (not (a == b) && quiet_heads steps w (get_or q a []) (get_or q b [])) ≡ quiet_in_line steps w (line q (a ∷ b ∷ word)) zero
+    at : (l : List ℕ) → get_or q b [] ≡ l → (not (a == b) && quiet_heads steps w (get_or q a []) (get_or q b []))
+        ≡ quiet_in_line steps w (line q (a ∷ b ∷ word)) zero
     at [] h = absurd (let bad : [] ≡ served.1.1.1.0 ∷ served.1.1.1.1.0 = sym h ∙ sym there ∙ served.1.1.1.1.1.0 in cc)
     at (y ∷ ys) h =
         (λ i. not (same i) && quiet_heads steps w (served.1.1.0 i) (h i))
@@ -97,7 +98,8 @@ letters-steps steps w q (suc k) (a ∷ word) served f =
     let x : ℕ = served.0 in
     let xs : List ℕ = served.1.0 in
     let falls : falls_at k word ≡ true = sym (is_some-map (λ v. a ∷ v) (exchanged k word)) ∙ f in
-    ap (λ (l : List ℕ). let b : Bool = elim l [ [] ↦ quiet_at steps w q k word | n ∷ ns ↦ quiet_at steps (send steps w n) (set q a ns) k word ] in b) served.1.1.0
+    ap (λ (l : List ℕ). let b : Bool = elim l [ [] ↦ quiet_at steps w q k word | n ∷ ns ↦ quiet_at steps (send steps w n) (set q a ns) k word ] in
+    b) served.1.1.0
     ∙ letters-steps steps (send steps w x) (set q a xs) k word served.1.1.1 falls
     ∙ sym (ap (λ ks. quiet_in_line steps w ks (suc k)) (line-at q a word (x ∷ xs) served.1.1.0))
 

@@ -29,7 +29,8 @@ same_resource-turned a b e = subst (λ r. same_resource b r ≡ true) (sym (same
 
 fit-turned : (q p : Request) → fit_together q p ≡ fit_together p q
 fit-turned q p =
-    λ i. not (both-ways (same_resource q.resource p.resource) (same_resource p.resource q.resource) (same_resource-turned q.resource p.resource) (same_resource-turned p.resource q.resource) i)
+    λ i. not (both-ways (same_resource q.resource p.resource) (same_resource p.resource q.resource) (same_resource-turned q.resource p.resource)
+    (same_resource-turned p.resource q.resource) i)
     || compatible-comm q.mode p.mode i
 
 together-turned : (qs ps : List Request) → all_fit_together qs ps ≡ true → all_fit_together ps qs ≡ true
@@ -40,7 +41,8 @@ together-turned qs ps e =
     let turned : Each (λ p. Each (λ q. fit_together q p ≡ true) qs) ps = Each-swap (λ q p. fit_together q p ≡ true) qs ps each in
     list_all-Each (λ p. list_all (fit_together p) qs) ps
     (Each-map (λ p. Each (λ q. fit_together q p ≡ true) qs) (λ p. list_all (fit_together p) qs ≡ true)
-    (λ p h. list_all-Each (fit_together p) qs (Each-map (λ q. fit_together q p ≡ true) (λ q. fit_together p q ≡ true) (λ q k. sym (fit-turned q p) ∙ k) qs h)) ps turned)
+    (λ p h. list_all-Each (fit_together p) qs (Each-map (λ q. fit_together q p ≡ true) (λ q. fit_together p q ≡ true) (λ q k. sym (fit-turned q p)
+    ∙ k) qs h)) ps turned)
 
 quiet-turned : (w : World) (s t : Step) → is_quiet w s t ≡ true → is_quiet w t s ≡ true
 quiet-turned w s t quiet =

@@ -21,7 +21,8 @@ pub line-at : (q : Queues) (i : ℕ) (word : Word) (x : List ℕ) → get_or q i
 line-at q i word x e = ap (popped q i word) e
 
 -- two letters in either order take the same two steps
-pub line-two : (q : Queues) (a b : ℕ) (word : Word) (k l : ℕ) (ks ls : List ℕ) → a ≢ b → get_or q a [] ≡ k ∷ ks → get_or q b [] ≡ l ∷ ls → line q (a ∷ b ∷ word) ≡ k ∷ l ∷ line (set (set q a ks) b ls) word
+pub line-two : (q : Queues) (a b : ℕ) (word : Word) (k l : ℕ) (ks ls : List ℕ) → a ≢ b → get_or q a [] ≡ k ∷ ks → get_or q b [] ≡ l ∷ ls
+    → line q (a ∷ b ∷ word) ≡ k ∷ l ∷ line (set (set q a ks) b ls) word
 line-two q a b word k l ks ls ne ea eb =
     line-at q a (b ∷ word) (k ∷ ks) ea
     ∙ ap (λ x. k ∷ x) (line-at (set q a ks) b word (l ∷ ls) (get_or-set_other q a b ks [] (λ e. ne (sym e)) ∙ eb))
@@ -34,11 +35,13 @@ some-map : {A B : Type 0} (f : A → B) (o : Option A) (y : B) → option_map f 
 some-map f None y e = cc
 some-map f (Some x) y e = (x, refl, (let P : Some (f x) ≡ Some y = e in cc))
 
-swap-here : (steps : List Step) (w : World) (q : Queues) (a b : ℕ) (word : Word) → Sound w → Fitting steps w → a ≢ b → quiet_heads steps w (get_or q a []) (get_or q b []) ≡ true
+swap-here : (steps : List Step) (w : World) (q : Queues) (a b : ℕ) (word : Word) → Sound w → Fitting steps w → a ≢ b
+    → quiet_heads steps w (get_or q a []) (get_or q b []) ≡ true
     → send_all steps w (line q (a ∷ b ∷ word)) ≡ send_all steps w (line q (b ∷ a ∷ word))
 swap-here steps w q a b word sound fit ne quiet = at (get_or q a []) (get_or q b []) refl refl quiet
   where
-    at : (x y : List ℕ) → get_or q a [] ≡ x → get_or q b [] ≡ y → quiet_heads steps w x y ≡ true → send_all steps w (line q (a ∷ b ∷ word)) ≡ send_all steps w (line q (b ∷ a ∷ word))
+    at : (x y : List ℕ) → get_or q a [] ≡ x → get_or q b [] ≡ y → quiet_heads steps w x y ≡ true
+        → send_all steps w (line q (a ∷ b ∷ word)) ≡ send_all steps w (line q (b ∷ a ∷ word))
     at [] y ex ey h = cc
     at (k ∷ ks) [] ex ey h = cc
     at (k ∷ ks) (l ∷ ls) ex ey h =
@@ -48,29 +51,37 @@ swap-here steps w q a b word sound fit ne quiet = at (get_or q a []) (get_or q b
         ∙ sym (ap (send_all steps w) (line-two q b a word l k ls ks (λ e. ne (sym e)) ey ex))
 
 -- a true swap leads to a word with the same worlds at its end, and so with the same outcome
-pub swap-same : (steps : List Step) (w : World) (q : Queues) (k : ℕ) (word other : Word) → Sound w → Fitting steps w → exchanged k word ≡ Some other → quiet_at steps w q k word ≡ true
+pub swap-same : (steps : List Step) (w : World) (q : Queues) (k : ℕ) (word other : Word) → Sound w → Fitting steps w → exchanged k word ≡ Some other
+    → quiet_at steps w q k word ≡ true
     → send_all steps w (line q word) ≡ send_all steps w (line q other)
 swap-same steps w q k [] other sound fit e h = cc
 swap-same steps w q zero (a ∷ []) other sound fit e h = cc
 swap-same steps w q zero (a ∷ b ∷ word) other sound fit e h =
     let p = both_true (not (a == b)) _ h in
-    swap-here steps w q a b word sound fit (λ x. not_both _ (eq-eqb a b x) (not_true _ p.0)) p.1 ∙ ap (λ v. send_all steps w (line q v)) (some-cond (nat_lt b a) (b ∷ a ∷ word) other e)
+    swap-here steps w q a b word sound fit (λ x. not_both _ (eq-eqb a b x) (not_true _ p.0)) p.1
+    ∙ ap (λ v. send_all steps w (line q v)) (some-cond (nat_lt b a) (b ∷ a ∷ word) other e)
 swap-same steps w q (suc k) (a ∷ word) other sound fit e h =
     let m = some-map (λ v. a ∷ v) (exchanged k word) other e in
     at m.0 (get_or q a []) refl h (λ w2 q2 s f g. swap-same steps w2 q2 k word m.0 s f m.1 g) ∙ ap (λ v. send_all steps w (line q v)) m.2
   where
-    at : (v : Word) (x : List ℕ) → get_or q a [] ≡ x → (let b : Bool = elim x [ [] ↦ quiet_at steps w q k word | n ∷ ns ↦ quiet_at steps (send steps w n) (set q a ns) k word ] in b) ≡ true
-        → ((w2 : World) (q2 : Queues) → Sound w2 → Fitting steps w2 → quiet_at steps w2 q2 k word ≡ true → send_all steps w2 (line q2 word) ≡ send_all steps w2 (line q2 v))
+    at : (v : Word) (x : List ℕ) → get_or q a [] ≡ x
+        → (let b : Bool = elim x [ [] ↦ quiet_at steps w q k word | n ∷ ns ↦ quiet_at steps (send steps w n) (set q a ns) k word ] in b) ≡ true
+        → ((w2 : World) (q2 : Queues) → Sound w2 → Fitting steps w2 → quiet_at steps w2 q2 k word ≡ true
+        → send_all steps w2 (line q2 word) ≡ send_all steps w2 (line q2 v))
         → send_all steps w (line q (a ∷ word)) ≡ send_all steps w (line q (a ∷ v))
     at v [] is g rec = ap (send_all steps w) (line-at q a word [] is) ∙ rec w q sound fit g ∙ sym (ap (send_all steps w) (line-at q a v [] is))
-    at v (n ∷ ns) is g rec = ap (send_all steps w) (line-at q a word (n ∷ ns) is) ∙ rec (send steps w n) (set q a ns) (send-sound steps w n sound (fit n)) (send-fitting steps w n fit) g ∙ sym (ap (send_all steps w) (line-at q a v (n ∷ ns) is))
+    at v (n ∷ ns) is g rec = ap (send_all steps w) (line-at q a word (n ∷ ns) is)
+        ∙ rec (send steps w n) (set q a ns) (send-sound steps w n sound (fit n)) (send-fitting steps w n fit) g
+        ∙ sym (ap (send_all steps w) (line-at q a v (n ∷ ns) is))
 
 -- ---- chains of swaps end
 
 smaller-exchanged : (a k : ℕ) (word other : Word) → exchanged k word ≡ Some other → smaller_in a other ≡ smaller_in a word
 smaller-exchanged a k [] other e = cc
 smaller-exchanged a zero (x ∷ []) other e = cc
-smaller-exchanged a zero (x ∷ y ∷ word) other e = sym (ap (smaller_in a) (some-cond (nat_lt y x) (y ∷ x ∷ word) other e)) ∙ (let h : cond (nat_lt y a) 1 0 + (cond (nat_lt x a) 1 0 + smaller_in a word) ≡ cond (nat_lt x a) 1 0 + (cond (nat_lt y a) 1 0 + smaller_in a word) = omega arith in h)
+smaller-exchanged a zero (x ∷ y ∷ word) other e = sym (ap (smaller_in a) (some-cond (nat_lt y x) (y ∷ x ∷ word) other e))
+    ∙ (let h : cond (nat_lt y a) 1 0 + (cond (nat_lt x a) 1 0 + smaller_in a word) ≡ cond (nat_lt x a) 1 0 + (cond (nat_lt y a) 1 0 + smaller_in a word) =
+    omega arith in h)
 smaller-exchanged a (suc k) (x ∷ word) other e =
     let m = some-map (λ v. x ∷ v) (exchanged k word) other e in
     sym (ap (smaller_in a) m.2) ∙ ap (λ n. cond (nat_lt x a) 1 0 + n) (smaller-exchanged a k word m.0 m.1)
@@ -90,7 +101,8 @@ fewer-falls zero (x ∷ y ∷ word) other e =
     subst (λ o. falls_in o < falls_in (x ∷ y ∷ word)) same
     (let a : ◌≡◌ {A = ℕ} (cond (nat_lt x y) 1 0) 0 = ap (λ t. cond t 1 0) rises in
     let b : ◌≡◌ {A = ℕ} (cond (nat_lt y x) 1 0) 1 = ap (λ t. cond t 1 0) falls in
-    let goal : (cond (nat_lt x y) 1 0 + smaller_in y word) + (smaller_in x word + falls_in word) < (cond (nat_lt y x) 1 0 + smaller_in x word) + (smaller_in y word + falls_in word) = omega arith in goal)
+    let goal : (cond (nat_lt x y) 1 0 + smaller_in y word) + (smaller_in x word + falls_in word) < (cond (nat_lt y x) 1 0 + smaller_in x word) +
+    (smaller_in y word + falls_in word) = omega arith in goal)
   where
     not_lt : (y x : ℕ) → y < x → nat_lt x y ≡ false
     not_lt y x lt = ⊎_elim (λ h. absurd (let k : x < y = ltb-true x y h in omega arith)) (λ h. h) (known (nat_lt x y))

@@ -29,7 +29,11 @@ least-found test k (suc more) j e = at (test k) refl e (λ f. least-found test (
         record { holds = ap test (sym same) ∙ is; below = λ m le lt. absurd (omega arith) }
     at false is f rec =
         let x = rec f in
-        record { holds = x.holds; below = λ m le lt. (let cases : (k ≡ m) ⊎ (suc k ≤ m) = grind arith in ⊎_elim (λ h. ap test (sym h) ∙ is) (λ h. x.below m h lt) cases) }
+        record {
+          holds = x.holds;
+          below = λ m le lt. (let cases : (k ≡ m) ⊎ (suc k ≤ m) = grind arith in
+              ⊎_elim (λ h. ap test (sym h) ∙ is) (λ h. x.below m h lt) cases);
+        }
 
 least-none : (test : ℕ → Bool) (k more : ℕ) → least_place test k more ≡ None → (m : ℕ) → k ≤ m → m < k + more → test m ≡ false
 least-none test k zero e m le lt = absurd (omega arith)
@@ -84,7 +88,11 @@ module _ (spec : Spec) (w : World) (r : ℕ) (starts : start spec ≡ Started w)
 
   -- what the search for the least swap comes to is the fact when reducing
   found-fact : (o : Option ℕ) → least_swap spec w r ≡ o → IsFactOf true spec r (elim o [ None ↦ Ran ran | Some k ↦ Swap k ])
-  found-fact None is = (ran-true, λ _ k t. not-true k (least-none (is_swap spec w r) 0 (length (word_of spec r)) is k (omega arith) (let h = true-place k t in omega (arith, h))) t)
+  found-fact None is = (
+    ran-true,
+    λ _ k t. not-true k (least-none (is_swap spec w r) 0 (length (word_of spec r)) is k (omega arith) (let h =
+        true-place k t in omega (arith, h))) t,
+  )
   found-fact (Some k) is =
       let x = least-found (is_swap spec w r) 0 (length (word_of spec r)) k is in
       (refl, (swap-true k x.holds, λ m less t. not-true m (x.below m (omega arith) less) t))
@@ -118,7 +126,8 @@ starts-there : (reduce : Bool) (spec : Spec) (r : ℕ) (f : Fact) → IsFactOf r
 starts-there reduce spec r (Ran a) x = at (start spec) refl x.0.1
   where
     at : (s : Start) → start spec ≡ s
-        → (let o : Option (List (List Event)) = elim s [ Started v ↦ Some (outcome_of spec.sessions (send_all spec.steps v (line_of spec r))) | _ ↦ None ] in o) ≡ Some a
+        → (let o : Option (List (List Event)) = elim s [ Started v ↦ Some (outcome_of spec.sessions (send_all spec.steps v (line_of spec r))) | _ ↦ None ] in
+        o) ≡ Some a
         → (w : World) × (start spec ≡ Started w)
     at (Started w) is h = (w, is)
     at (SetupFailed n) is h = cc
@@ -129,8 +138,10 @@ starts-there reduce spec r (Swap k) x = (x.1.0.1.0, x.1.0.1.1)
 computed : (reduce : Bool) (spec : Spec) (r : ℕ) (f : Fact) → fact_of reduce spec r ≡ Some f → IsFactOf reduce spec r f
 computed reduce spec r f e = at (start spec) refl e
   where
-    inside : (w : World) → start spec ≡ Started w → (b : Bool) → nat_lt r (ranks spec) ≡ b → cond b (Some (fact_from reduce spec w r)) None ≡ Some f → IsFactOf reduce spec r f
-    inside w is true lt h = let same : fact_from reduce spec w r ≡ f = cc in subst (IsFactOf reduce spec r) same (from-fact spec w r is (ltb-true r (ranks spec) lt) reduce)
+    inside : (w : World) → start spec ≡ Started w → (b : Bool) → nat_lt r (ranks spec) ≡ b → cond b (Some (fact_from reduce spec w r)) None ≡ Some f
+        → IsFactOf reduce spec r f
+    inside w is true lt h = let same : fact_from reduce spec w r ≡ f = cc in
+        subst (IsFactOf reduce spec r) same (from-fact spec w r is (ltb-true r (ranks spec) lt) reduce)
     inside w is false lt h = cc
 
     at : (s : Start) → start spec ≡ s → of_start reduce spec r s ≡ Some f → IsFactOf reduce spec r f
@@ -149,6 +160,7 @@ found reduce spec r f x =
 pub facts-one : (reduce : Bool) (spec : Spec) (r : ℕ) (f : Fact) → (fact_of reduce spec r ≡ Some f) ↔ IsFactOf reduce spec r f
 facts-one reduce spec r f = (computed reduce spec r f, found reduce spec r f)
 
-pub lines-run : (reduce : Bool) (spec : Spec) (r : ℕ) (f : Fact) → spec.lines ≢ [] → IsFactOf reduce spec r f → (outcome : List (List Event)) × (f ≡ Ran outcome)
+pub lines-run : (reduce : Bool) (spec : Spec) (r : ℕ) (f : Fact) → spec.lines ≢ [] → IsFactOf reduce spec r f
+    → (outcome : List (List Event)) × (f ≡ Ran outcome)
 lines-run reduce spec r (Ran a) ne x = (a, refl)
 lines-run reduce spec r (Swap k) ne x = absurd (ne x.1.0.1.2.words)

@@ -28,7 +28,8 @@ abbrev apart_row : Spec
 apart_row =
     record {
       sessions = 2;
-      steps = step 0 (Insert 0 (Some 0) ((number 2 ∷ []) ∷ [])) ∷ step 0 (Delete 0 (Some (number 2)) (id_is 2)) ∷ step 1 (Insert 1 (Some 0) ((number 2 ∷ []) ∷ [])) ∷ step 1 (Delete 1 (Some (number 2)) (id_is 2)) ∷ [];
+      steps = step 0 (Insert 0 (Some 0) ((number 2 ∷ []) ∷ [])) ∷ step 0 (Delete 0 (Some (number 2)) (id_is 2)) ∷ step 1
+          (Insert 1 (Some 0) ((number 2 ∷ []) ∷ [])) ∷ step 1 (Delete 1 (Some (number 2)) (id_is 2)) ∷ [];
       setups = [];
       lines = [];
       session_setups = [] ∷ [] ∷ [];
@@ -37,7 +38,8 @@ apart_row =
 abbrev two_two : Queues
 two_two = (0 ∷ 1 ∷ []) ∷ (2 ∷ 3 ∷ []) ∷ []
 
-words_row : all_words (counts_of two_two) ≡ (0 ∷ 0 ∷ 1 ∷ 1 ∷ []) ∷ (0 ∷ 1 ∷ 0 ∷ 1 ∷ []) ∷ (0 ∷ 1 ∷ 1 ∷ 0 ∷ []) ∷ (1 ∷ 0 ∷ 0 ∷ 1 ∷ []) ∷ (1 ∷ 0 ∷ 1 ∷ 0 ∷ []) ∷ (1 ∷ 1 ∷ 0 ∷ 0 ∷ []) ∷ []
+words_row : all_words (counts_of two_two) ≡ (0 ∷ 0 ∷ 1 ∷ 1 ∷ []) ∷ (0 ∷ 1 ∷ 0 ∷ 1 ∷ []) ∷ (0 ∷ 1 ∷ 1 ∷ 0 ∷ []) ∷ (1 ∷ 0 ∷ 0 ∷ 1 ∷ []) ∷
+    (1 ∷ 0 ∷ 1 ∷ 0 ∷ []) ∷ (1 ∷ 1 ∷ 0 ∷ 0 ∷ []) ∷ []
 words_row = refl
 
 -- steps on two tables are quiet
@@ -71,13 +73,21 @@ abbrev quiet_places : Spec → Queues → List (ℕ × List ℕ) → List Bool
 quiet_places spec q places = elim (start spec) [ Started w ↦ map (λ (p : ℕ × List ℕ). quiet_at spec.steps w q p.0 p.1) places | _ ↦ [] ]
 
 -- a step that asks beside what the other holds, and steps on a table where somebody waits, are not quiet
-waiters_row_swaps : quiet_places waiters_row ((0 ∷ 1 ∷ []) ∷ (2 ∷ 3 ∷ []) ∷ (4 ∷ []) ∷ []) ((2, 0 ∷ 1 ∷ 2 ∷ 0 ∷ 1 ∷ []) ∷ (2, 0 ∷ 1 ∷ 2 ∷ 1 ∷ 0 ∷ []) ∷ (3, 0 ∷ 1 ∷ 2 ∷ 1 ∷ 0 ∷ []) ∷ []) ≡ false ∷ false ∷ false ∷ []
+waiters_row_swaps : quiet_places waiters_row ((0 ∷ 1 ∷ []) ∷ (2 ∷ 3 ∷ []) ∷ (4 ∷ []) ∷ [])
+    ((2, 0 ∷ 1 ∷ 2 ∷ 0 ∷ 1 ∷ []) ∷ (2, 0 ∷ 1 ∷ 2 ∷ 1 ∷ 0 ∷ []) ∷ (3, 0 ∷ 1 ∷ 2 ∷ 1 ∷ 0 ∷ []) ∷ []) ≡ false ∷ false ∷ false ∷ []
 unfolding get insert keep remove entries empty effect lay
 waiters_row_swaps = refl
 
 -- an insert of a key beside a select of it is not quiet, whichever stands first
 abbrev select_row : Spec
-select_row = record { sessions = 2; steps = step 0 (Insert 0 (Some 0) ((number 3 ∷ number 30 ∷ []) ∷ [])) ∷ step 1 (Select 0 (Some (number 3)) (id_is 3) [] (Columns (1 ∷ []))) ∷ []; setups = two_rows ∷ []; lines = []; session_setups = [] ∷ [] ∷ [] }
+select_row = record {
+  sessions = 2;
+  steps = step 0 (Insert 0 (Some 0) ((number 3 ∷ number 30 ∷ []) ∷ [])) ∷ step 1
+      (Select 0 (Some (number 3)) (id_is 3) [] (Columns (1 ∷ []))) ∷ [];
+  setups = two_rows ∷ [];
+  lines = [];
+  session_setups = [] ∷ [] ∷ [];
+}
 
 select_row_swaps : quiet_places select_row ((0 ∷ []) ∷ (1 ∷ []) ∷ []) ((0, 1 ∷ 0 ∷ []) ∷ []) ≡ false ∷ []
 unfolding get insert keep remove entries empty effect lay
@@ -85,7 +95,14 @@ select_row_swaps = refl
 
 -- a spec that does not start: its main setup adds a row twice
 abbrev refused_row : Spec
-refused_row = record { sessions = 2; steps = record { session = 0; statements = [] } ∷ record { session = 1; statements = [] } ∷ []; setups = (Insert 0 (Some 0) ((number 1 ∷ []) ∷ (number 1 ∷ []) ∷ []) ∷ []) ∷ []; lines = []; session_setups = [] ∷ [] ∷ [] }
+refused_row = record {
+  sessions = 2;
+  steps = record { session = 0; statements = [] } ∷ record { session = 1; statements = [] } ∷ [];
+  setups =
+      (Insert 0 (Some 0) ((number 1 ∷ []) ∷ (number 1 ∷ []) ∷ []) ∷ []) ∷ [];
+  lines = [];
+  session_setups = [] ∷ [] ∷ [];
+}
 
 -- its exchanges lead where they lead in any spec, and no rank has a fact
 refused_row_leads : leads_in refused_row 1 0 ≡ Some 0

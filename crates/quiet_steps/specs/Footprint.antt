@@ -18,8 +18,16 @@ ChangesUnder held a b = (p : RowPlace) → may_write (claims_of held []) p ≡ f
 -- each statement on the way, and a fault that ends the step, changes rows only where what is held at that moment lets it; the last standing is such
 abbrev pub WritesUnder : (Session → Rows' → Type 0) → Session → Rows' → List Task → Type 0
 WritesUnder last s rows [] = last s rows
-WritesUnder last s rows (Ask r m ∷ ts) = elim (is_broken s.status) [ true ↦ ChangesUnder s.held rows (failed s rows Aborted).rows | false ↦ WritesUnder last (taking s r m) rows ts ]
-WritesUnder last s rows (Do st ∷ ts) = elim (perform s rows st) [ Goes u after ↦ ChangesUnder s.held rows after × WritesUnder last u after ts | Fails f ↦ ChangesUnder s.held rows (failed s rows f).rows ]
+WritesUnder last s rows (Ask r m ∷ ts) = elim (is_broken s.status) [
+  | true ↦ ChangesUnder s.held rows (failed s rows Aborted).rows
+  | false ↦ WritesUnder last
+      (taking s r m) rows ts
+]
+WritesUnder last s rows (Do st ∷ ts) = elim (perform s rows st) [
+  | Goes u after ↦ ChangesUnder s.held rows after
+      × WritesUnder last u after ts
+  | Fails f ↦ ChangesUnder s.held rows (failed s rows f).rows
+]
 
 -- the end of a step, outside a block a commit, changes rows under what is held then
 abbrev pub EndsUnder : Session → Rows' → Type 0

@@ -29,7 +29,8 @@ QuietStepsCommute =
 
 abbrev pub SwapKeepsWorlds : Type 0
 SwapKeepsWorlds =
-    (steps : List Step) (w : World) (q : Queues) (k : ℕ) (word other : Word) → Sound w → ((n : ℕ) → IsOf steps w n) → exchanged k word ≡ Some other → quiet_at steps w q k word ≡ true
+    (steps : List Step) (w : World) (q : Queues) (k : ℕ) (word other : Word) → Sound w → ((n : ℕ) → IsOf steps w n) → exchanged k word ≡ Some other
+    → quiet_at steps w q k word ≡ true
     → send_all steps w (line q word) ≡ send_all steps w (line q other)
 
 abbrev pub ChainsEnd : Type 0
@@ -82,7 +83,8 @@ FactsAreOne = (reduce : Bool) (spec : Spec) (r : ℕ) (fact : Fact) → (fact_of
 
 -- of a spec with lines each fact is an outcome
 abbrev pub LinesRun : Type 0
-LinesRun = (reduce : Bool) (spec : Spec) (r : ℕ) (fact : Fact) → spec.lines ≢ [] → IsFactOf reduce spec r fact → (outcome : List (List Event)) × (fact ≡ Ran outcome)
+LinesRun = (reduce : Bool) (spec : Spec) (r : ℕ) (fact : Fact) → spec.lines ≢ [] → IsFactOf reduce spec r fact
+    → (outcome : List (List Event)) × (fact ≡ Ran outcome)
 
 -- the footprint of a step whose requests are all had
 abbrev pub StepsHaveFootprints : Type 0

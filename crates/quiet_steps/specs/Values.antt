@@ -15,7 +15,8 @@ Facts = ℕ → Fact → Bool
 -- the values of a rank: the outcomes recorded there, and the values of each rank to which a recorded swap leads
 pub data IsValue (has : ℕ → Fact → Bool) (leads : ℕ → ℕ → Option ℕ) : ℕ → List (List Event) → Type 0 where
   ran : {r : ℕ} {outcome : List (List Event)} → has r (Ran outcome) ≡ true → IsValue has leads r outcome
-  swap : {r k below : ℕ} {outcome : List (List Event)} → has r (Swap k) ≡ true → leads r k ≡ Some below → IsValue has leads below outcome → IsValue has leads r outcome
+  swap : {r k below : ℕ} {outcome : List (List Event)} → has r (Swap k) ≡ true → leads r k ≡ Some below → IsValue has leads below outcome
+      → IsValue has leads r outcome
 
 abbrev pub AllTrue : Spec → Facts → Type 0
 AllTrue spec has = (r : ℕ) (fact : Fact) → has r fact ≡ true → IsTrueAt spec r fact

@@ -29,7 +29,8 @@ union-empty s = same_facts _ _ (λ (e : Told). in_union s empty e ∙ (ap (λ (b
 
 -- a join with a book without facts is a copy
 pub copy_is : (copy held none : Contents) → copy ≡ joined held none → IsWithoutFacts none → copy ≡ held
-copy_is copy held none is empties = is ∙ (ap (λ (f : FactSet). record { file = held.file; facts = f }) (ap (λ (b : Contents). union held.facts b.facts) empties ∙ union-empty held.facts))
+copy_is copy held none is empties = is ∙ (ap (λ (f : FactSet). record { file = held.file; facts = f })
+    (ap (λ (b : Contents). union held.facts b.facts) empties ∙ union-empty held.facts))
 
 after_includes : (s : FactSet) (c : Call) → Includes (facts_after s c) s
 after_includes s (Deliver n facts (Some r)) k fact h = union_includes s facts k fact h
@@ -46,7 +47,8 @@ prefix_includes xs ys p = subst (λ (l : List Entry). Includes (facts_of l) (fac
 
 legal_last : (k : ℕ) (s : FactSet) (xs : List Entry) (e : Entry) → IsLegalFrom k s (xs ++ e ∷ []) → IsRight (k + length xs) (facts_from s xs) e.call
 legal_last k s [] e l = let z : k + 0 ≡ k = omega arith in subst (λ (n : ℕ). IsRight n s e.call) (sym z) l.0
-legal_last k s (x ∷ xs) e l = let z : k + suc (length xs) ≡ suc k + length xs = omega arith in subst (λ (n : ℕ). IsRight n (facts_from (facts_after s x.call) xs) e.call) (sym z) (legal_last (suc k) (facts_after s x.call) xs e l.1)
+legal_last k s (x ∷ xs) e l = let z : k + suc (length xs) ≡ suc k + length xs = omega arith in
+    subst (λ (n : ℕ). IsRight n (facts_from (facts_after s x.call) xs) e.call) (sym z) (legal_last (suc k) (facts_after s x.call) xs e l.1)
 
 -- a book that was got holds what its seat had seen
 pub latest_holds : (old new : ShownSeat) (facts : FactSet) → IsTurn old new (Latest (Some facts)) → Includes facts (facts_of old.seen)

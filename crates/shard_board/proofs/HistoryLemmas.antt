@@ -12,7 +12,8 @@ pub facts_from-append : (s : FactSet) (xs ys : List Entry) → facts_from s (xs 
 facts_from-append s [] ys = refl
 facts_from-append s (e ∷ es) ys = facts_from-append (facts_after s e.call) es ys
 
-pub legal_more : (k : ℕ) (s : FactSet) (xs : List Entry) (e : Entry) → IsLegalFrom k s xs → IsRight (k + length xs) (facts_from s xs) e.call → IsLegalFrom k s (xs ++ e ∷ [])
+pub legal_more : (k : ℕ) (s : FactSet) (xs : List Entry) (e : Entry) → IsLegalFrom k s xs → IsRight (k + length xs) (facts_from s xs) e.call
+    → IsLegalFrom k s (xs ++ e ∷ [])
 legal_more k s [] e l r = let z : k + 0 ≡ k = omega arith in (subst (λ (n : ℕ). IsRight n s e.call) z r, tt)
 legal_more k s (x ∷ xs) e l r = let z : k + suc (length xs) ≡ suc k + length xs = omega arith in
     (l.0, legal_more (suc k) (facts_after s x.call) xs e l.1 (subst (λ (n : ℕ). IsRight n (facts_from (facts_after s x.call) xs) e.call) z r))
@@ -23,7 +24,8 @@ legal_next xs e l r = let z : length xs ≡ 0 + length xs = omega arith in legal
 pub calls_by-append : (n : ℕ) (xs ys : List Entry) → calls_by n (xs ++ ys) ≡ calls_by n xs ++ calls_by n ys
 calls_by-append n [] ys = refl
 calls_by-append n (x ∷ xs) ys = let r = calls_by-append n xs ys in
-    elim (x.by == n) as (λ (b : Bool). cond b (x ∷ calls_by n (xs ++ ys)) (calls_by n (xs ++ ys)) ≡ cond b (x ∷ calls_by n xs) (calls_by n xs) ++ calls_by n ys) [ true ↦ ap (λ (l : List Entry). x ∷ l) r | false ↦ r ]
+    elim (x.by == n) as (λ (b : Bool). cond b (x ∷ calls_by n (xs ++ ys)) (calls_by n (xs ++ ys)) ≡ cond b (x ∷ calls_by n xs)
+    (calls_by n xs) ++ calls_by n ys) [ true ↦ ap (λ (l : List Entry). x ∷ l) r | false ↦ r ]
 
 pub calls_mine : (n : ℕ) (xs : List Entry) (e : Entry) → e.by ≡ n → calls_by n (xs ++ e ∷ []) ≡ calls_by n xs ++ e ∷ []
 calls_mine n xs e h = calls_by-append n xs (e ∷ []) ∙ ap (λ (b : Bool). calls_by n xs ++ cond b (e ∷ []) []) (eq-eqb e.by n h)

@@ -46,7 +46,8 @@ blank_known k (suc n) (suc i) p e = blank_known (suc k) n i p e
 pub none_made : (k n : ℕ) → total made (blank_parts k n) ≡ 0
 none_made k n = total_nothing made (λ m. refl) k n
 
-pub opens : (plan : Plan) → 0 < plan.seats → plan.seats ≤ MAX_SEATS → plan.shards ≤ MAX_SHARDS → Kept plan (opening (0 ∷ 0 ∷ 0 ∷ []) (Some (book_with plan empty) ∷ []) (first_view plan))
+pub opens : (plan : Plan) → 0 < plan.seats → plan.seats ≤ MAX_SEATS → plan.shards ≤ MAX_SHARDS
+    → Kept plan (opening (0 ∷ 0 ∷ 0 ∷ []) (Some (book_with plan empty) ∷ []) (first_view plan))
 opens plan some_seat few short =
     let rest : List Part = blank_parts 0 (plan.seats - 1) in
     record {
@@ -55,11 +56,13 @@ opens plan some_seat few short =
         few = few;
         short = short;
         counted = let r = total_one 0 (plan.seats - 1) in omega arith;
-        differ = λ x. let r = total_numbered x 0 (plan.seats - 1) in let b = below_more x (plan.seats - 1) in let e : once_below x ((plan.seats - 1) + 1) ≡ once_below x plan.seats = ap (once_below x) (omega arith) in omega arith;
+        differ = λ x. let r = total_numbered x 0 (plan.seats - 1) in let b = below_more x (plan.seats - 1) in
+            let e : once_below x ((plan.seats - 1) + 1) ≡ once_below x plan.seats = ap (once_below x) (omega arith) in omega arith;
         knows = knows;
       };
       claims = record {
-        once = λ x. let r = total_nothing (claimed x) (λ n. refl) 0 (plan.seats - 1) in let z : once_below x (min 0 plan.shards) ≡ 0 = grind (arith, nat_tests) in omega arith;
+        once = λ x. let r = total_nothing (claimed x) (λ n. refl) 0 (plan.seats - 1) in let z : once_below x (min 0 plan.shards) ≡ 0 =
+            grind (arith, nat_tests) in omega arith;
         most = omega arith;
         over = λ h. let r = total_nothing refusals (λ n. refl) 0 (plan.seats - 1) in absurd (omega arith);
       };
@@ -93,7 +96,8 @@ opens plan some_seat few short =
     knows (suc j) v e _ = absurd (some-ne-none v (sym e))
 
 -- the sums stay where a part goes from one view to a new one
-pub numbers_same : (plan : Plan) (views views' : List View) → ((f : Part → ℕ) → total (each f) views' ≡ total (each f) views) → ((j : ℕ) (v : View) → get_elem? views' j ≡ some v → v.live ≡ true → v.plan ≡ plan) → Numbers plan views → Numbers plan views'
+pub numbers_same : (plan : Plan) (views views' : List View) → ((f : Part → ℕ) → total (each f) views' ≡ total (each f) views)
+    → ((j : ℕ) (v : View) → get_elem? views' j ≡ some v → v.live ≡ true → v.plan ≡ plan) → Numbers plan views → Numbers plan views'
 numbers_same plan views views' same knows n = record {
   few = n.few;
   short = n.short;
@@ -102,7 +106,8 @@ numbers_same plan views views' same knows n = record {
   knows = knows;
 }
 
-pub claims_same : (plan : Plan) (next : ℕ) (views views' : List View) → ((f : Part → ℕ) → total (each f) views' ≡ total (each f) views) → Claims plan next views → Claims plan next views'
+pub claims_same : (plan : Plan) (next : ℕ) (views views' : List View) → ((f : Part → ℕ) → total (each f) views' ≡ total (each f) views)
+    → Claims plan next views → Claims plan next views'
 claims_same plan next views views' same c = record {
   once = λ x. same (claimed x) ∙ c.once x;
   most = let s = same refusals in let m = c.most in omega arith;
@@ -110,7 +115,8 @@ claims_same plan next views views' same c = record {
 }
 
 -- one view cut in two
-pub total_cut : (f : View → ℕ) (views : List View) (i : ℕ) (v left right : View) → get_elem? views i ≡ some v → f left + f right ≡ f v → total f (set views i left ++ right ∷ []) ≡ total f views
+pub total_cut : (f : View → ℕ) (views : List View) (i : ℕ) (v left right : View) → get_elem? views i ≡ some v → f left + f right ≡ f v
+    → total f (set views i left ++ right ∷ []) ≡ total f views
 total_cut f views i v left right at e = let s = total_set f views i v left at in let a = total_append f (set views i left) (right ∷ []) in omega arith
 
 each_cut : (f : Part → ℕ) (v : View) (p : Part) (ps : List Part) → v.joined ≡ p ∷ ps → each f (keeps_rest v) + each f (new_seat v) ≡ each f v
@@ -120,7 +126,8 @@ pub out_longer : (views : List View) (w : View) → Out views → Out (views ++ 
 out_longer views w o = (o.0, (o.1.0, (at_longer views (w ∷ []) o.0 o.1.0 o.1.1.0, o.1.1.1)))
 
 -- a seat that has drawn no ticket gives one of its parts to a new seat
-pub gives : (plan : Plan) (id : ℕ) (v : View) (p : Part) (ps : List Part) → v.live ≡ true → v.joined ≡ p ∷ ps → drawn v ≡ 0 → Splits (Kept plan) id v (keeps_rest v) (new_seat v)
+pub gives : (plan : Plan) (id : ℕ) (v : View) (p : Part) (ps : List Part) → v.live ≡ true → v.joined ≡ p ∷ ps → drawn v ≡ 0
+    → Splits (Kept plan) id v (keeps_rest v) (new_seat v)
 gives plan id v p ps live e idle s r at =
     let views' : List View = set s.views id (keeps_rest v) ++ new_seat v ∷ [] in
     let same = λ (f : Part → ℕ). total_cut (each f) s.views id v (keeps_rest v) (new_seat v) at (each_cut f v p ps e) in
@@ -128,13 +135,34 @@ gives plan id v p ps live e idle s r at =
     let t = r.turns in
     let cut : drawn (keeps_rest v) + drawn (new_seat v) ≡ drawn v = (let c = each_cut made v p ps e in omega arith) in
     let y = t.sits id v at in
-    let next : (k : ℕ) → get_elem? (tail_of v.joined) k ≡ get_elem? v.joined (suc k) = λ k. ap (λ (q : List Part). get_elem? (tail_of q) k) e ∙ ap (λ (q : List Part). get_elem? q (suc k)) (sym e) in
-    let here : get_elem? v.joined 0 ≡ some (head_or v.own v.joined) = ap (λ (q : List Part). get_elem? q 0) e ∙ ap (λ (q : List Part). some (head_or v.own q)) (sym e) in
+    let next : (k : ℕ) → get_elem? (tail_of v.joined) k ≡ get_elem? v.joined (suc k) = λ k. ap (λ (q : List Part). get_elem? (tail_of q) k) e
+    ∙ ap (λ (q : List Part). get_elem? q (suc k)) (sym e) in
+    let here : get_elem? v.joined 0 ≡ some (head_or v.own v.joined) = ap (λ (q : List Part). get_elem? q 0) e
+    ∙ ap (λ (q : List Part). some (head_or v.own q)) (sym e) in
     let first = y.others 0 (head_or v.own v.joined) here in
-    let left : Sits t.log (get_or s.words 0 0) (keeps_rest v) = record { seen = y.seen; told = y.told; mine = y.mine; others = λ k q there. y.others (suc k) q (sym (next k) ∙ there); few = omega arith; holds = y.holds } in
-    let right : Sits t.log (get_or s.words 0 0) (new_seat v) = record { seen = first.0; told = (t.log, refl); mine = λ _. first.1; others = λ k q there. absurd (some-ne-none q (sym there)); few = omega arith; holds = λ h. absurd (off h) } in
-    let each_view = λ (P : View → Type 0) (l : P (keeps_rest v)) (n : P (new_seat v)) (o : (j : ℕ) (u : View) → get_elem? s.views j ≡ some u → P u) (j : ℕ) (u : View) (was : get_elem? views' j ≡ some u).
-    ⊎_elim (λ old. views_set P s.views id (keeps_rest v) l (λ k x _. o k x) j u old) (λ (new : new_seat v ≡ u). subst P new n) (at_snoc (set s.views id (keeps_rest v)) (new_seat v) u j was) in record {
+    let left : Sits t.log (get_or s.words 0 0) (keeps_rest v) =
+    record {
+      seen = y.seen;
+      told = y.told;
+      mine = y.mine;
+      others = λ k q there. y.others (suc k) q (sym (next k) ∙ there);
+      few = omega arith;
+      holds =
+          y.holds;
+    } in
+    let right : Sits t.log (get_or s.words 0 0) (new_seat v) =
+    record {
+      seen = first.0;
+      told = (t.log, refl);
+      mine = λ _. first.1;
+      others = λ k q there. absurd (some-ne-none q (sym there));
+      few = omega arith;
+      holds = λ h. absurd (off h);
+    } in
+    let each_view = λ (P : View → Type 0) (l : P (keeps_rest v)) (n : P (new_seat v)) (o : (j : ℕ) (u : View) → get_elem? s.views j ≡ some u → P u) (j : ℕ)
+    (u : View) (was : get_elem? views' j ≡ some u).
+    ⊎_elim (λ old. views_set P s.views id (keeps_rest v) l (λ k x _. o k x) j u old) (λ (new : new_seat v ≡ u). subst P new n)
+    (at_snoc (set s.views id (keeps_rest v)) (new_seat v) u j was) in record {
       wide = r.wide;
       numbers = numbers_same plan s.views views' same (each_view (λ x. x.live ≡ true → x.plan ≡ plan) (λ _. known) (λ _. known) r.numbers.knows) r.numbers;
       claims = claims_same plan (get_or s.words 2 0) s.views views' same r.claims;
@@ -147,9 +175,11 @@ gives plan id v p ps live e idle s r at =
         drew = t.drew ∙ sym (total_cut drawn s.views id v (keeps_rest v) (new_seat v) at cut);
         line = λ x. total_cut (in_line x) s.views id v (keeps_rest v) (new_seat v) at (omega arith) ∙ t.line x;
         sits = each_view (Sits t.log (get_or s.words 0 0)) left right t.sits;
-        slot = ⊎_elim (λ home. inl home) (λ (o : (s.homes ≡ none ∷ []) × Out s.views). inr (o.0, out_longer (set s.views id (keeps_rest v)) (new_seat v) (out_set s.views id v (keeps_rest v) at (λ h. h) o.1))) t.slot;
+        slot = ⊎_elim (λ home. inl home) (λ (o : (s.homes ≡ none ∷ []) × Out s.views). inr
+            (o.0, out_longer (set s.views id (keeps_rest v)) (new_seat v) (out_set s.views id v (keeps_rest v) at (λ h. h) o.1))) t.slot;
       };
     }
 
 pub more_parts : (k n : ℕ) → k < n → blank_parts k (n - k) ≡ blank_part k ∷ blank_parts (k + 1) (n - (k + 1))
-more_parts k n h = let e : n - k ≡ suc (n - (k + 1)) = omega arith in let f : suc k ≡ k + 1 = omega arith in ap (blank_parts k) e ∙ ap (λ (z : ℕ). blank_part k ∷ blank_parts z (n - (k + 1))) f
+more_parts k n h = let e : n - k ≡ suc (n - (k + 1)) = omega arith in let f : suc k ≡ k + 1 = omega arith in ap (blank_parts k) e
+    ∙ ap (λ (z : ℕ). blank_part k ∷ blank_parts z (n - (k + 1))) f

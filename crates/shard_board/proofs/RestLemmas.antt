@@ -32,10 +32,15 @@ pub has-append : (k : ℕ) (xs ys : List ℕ) → has k (xs ++ ys) ≡ (has k xs
 has-append k [] ys = refl
 has-append k (x ∷ xs) ys = ap (λ (b : Bool). (x == k) || b) (has-append k xs ys) ∙ sym (or_assoc (x == k) (has k xs) (has k ys))
 
-pub marks_more : (marks : List Bool) (claims : List ℕ) (n : ℕ) → n < length marks → ((k : ℕ) → get_or marks k false ≡ has k claims) → (k : ℕ) → get_or (set marks n true) k false ≡ has k (claims ++ n ∷ [])
+pub marks_more : (marks : List Bool) (claims : List ℕ) (n : ℕ) → n < length marks → ((k : ℕ) → get_or marks k false ≡ has k claims) → (k : ℕ)
+    → get_or (set marks n true) k false ≡ has k (claims ++ n ∷ [])
 marks_more marks claims n inside before k = dite (ℕ_discrete k n)
-    (λ same. ap (λ (z : ℕ). get_or (set marks n true) z false) same ∙ (get_or-set_same marks n true false inside ∙ sym (has-append k claims (n ∷ []) ∙ (ap (λ (b : Bool). has k claims || (b || false)) (eq-eqb n k (sym same)) ∙ or_true (has k claims)))))
-    (λ other. get_or-set_other marks n k true false other ∙ (before k ∙ sym (has-append k claims (n ∷ []) ∙ (ap (λ (b : Bool). has k claims || (b || false)) (ne_eqb n k (λ e. other (sym e))) ∙ or_false (has k claims)))))
+    (λ same. ap (λ (z : ℕ). get_or (set marks n true) z false) same
+    ∙ (get_or-set_same marks n true false inside
+    ∙ sym (has-append k claims (n ∷ []) ∙ (ap (λ (b : Bool). has k claims || (b || false)) (eq-eqb n k (sym same)) ∙ or_true (has k claims)))))
+    (λ other. get_or-set_other marks n k true false other
+    ∙ (before k ∙ sym (has-append k claims (n ∷ []) ∙ (ap (λ (b : Bool). has k claims || (b || false)) (ne_eqb n k (λ e. other (sym e)))
+    ∙ or_false (has k claims)))))
 
 module _ (number turns : ℕ) (refused : Bool) (marks : List Bool) (m m' : Me Slot View) (r : AtRest number turns refused marks m) (slots : m'.1 ≡ m.1) where
   pub rests_claimed : (n : ℕ) → n < length marks → m'.0 ≡ with_own m.0 (with_claim m.0.own n) → AtRest number turns refused (set marks n true) m'
@@ -73,7 +78,8 @@ module _ (number turns : ℕ) (refused : Bool) (marks : List Bool) (m m' : Me Sl
 pub ready : (number turns : ℕ) (refused : Bool) (marks : List Bool) (m : Me Slot View) → AtRest number turns refused marks m → Ready m
 ready number turns refused marks m r = (r.free, r.live, r.alone, r.no_ticket, r.no_hold)
 
-module _ (number turns : ℕ) (refused : Bool) (marks : List Bool) (m m' : Me Slot View) (by : ℕ) (call : Call) (r : AtRest number turns refused marks m) (h : HasTurned m m' (entry by call)) where
+module _ (number turns : ℕ) (refused : Bool) (marks : List Bool) (m m' : Me Slot View) (by : ℕ) (call : Call) (r : AtRest number turns refused marks m)
+    (h : HasTurned m m' (entry by call)) where
   pub rests_turned : turns < MAX_TURNS → AtRest number (turns + 1) refused marks m'
   rests_turned few = record {
     free = h.free;
@@ -98,7 +104,8 @@ module _ (number turns : ℕ) (refused : Bool) (marks : List Bool) (m m' : Me Sl
         begins = h.begins;
         seat = λ i. shown_seat (same i) ((h.view ∙ ap (λ (x : Entry). ended m.0 h.before x) e) i);
         legal = subst IsLegal (sym (ap (λ (v : View). v.own.seen) h.view)) h.legal;
-        mine = subst (λ (v : View). calls_by v.own.number v.own.seen ≡ v.own.calls) (sym h.view) (calls_mine m.0.own.number h.before (entry by call) mine ∙ ap (λ (l : List Entry). l ++ entry by call ∷ []) h.mine);
+        mine = subst (λ (v : View). calls_by v.own.number v.own.seen ≡ v.own.calls) (sym h.view) (calls_mine m.0.own.number h.before (entry by call) mine
+            ∙ ap (λ (l : List Entry). l ++ entry by call ∷ []) h.mine);
       }
 
   -- and of the seat that it shows
@@ -106,7 +113,16 @@ module _ (number turns : ℕ) (refused : Bool) (marks : List Bool) (m m' : Me Sl
   turn_seen t t' same mine s is = subst (λ (x : ShownSeat). IsTurn x (shown_seat t' m'.0) call) is (is_turn t t' same mine)
 
 -- the view is the same, as far as a seat between two turns goes, but for the history that it has seen
-module _ (number turns : ℕ) (refused : Bool) (marks : List Bool) (m m' m'' : Me Slot View) (r : AtRest number turns refused marks m) (slots : m'.1 ≡ m.1) (told : List Entry) (view : m'.0 ≡ record { live = m.0.live; own = m.0.own; told = told; joined = m.0.joined; ticket = m.0.ticket; holding = m.0.holding; plan = m.0.plan }) (found : ℕ) (l : Looked m' m'' found) where
+module _ (number turns : ℕ) (refused : Bool) (marks : List Bool) (m m' m'' : Me Slot View) (r : AtRest number turns refused marks m) (slots : m'.1 ≡ m.1)
+    (told : List Entry) (view : m'.0 ≡ record {
+      live = m.0.live;
+      own = m.0.own;
+      told = told;
+      joined = m.0.joined;
+      ticket = m.0.ticket;
+      holding = m.0.holding;
+      plan = m.0.plan;
+    }) (found : ℕ) (l : Looked m' m'' found) where
   pub rests_looked : AtRest number turns refused marks m''
   rests_looked = record {
     free = l.slots ∙ (slots ∙ r.free);

@@ -13,7 +13,8 @@ at_end [] a b (suc j) e = absurd (some-ne-none b (sym e))
 at_end (x ∷ xs) a b zero e = inl e
 at_end (x ∷ xs) a b (suc j) e = ⊎_elim (λ t. inl t) (λ (t : (j ≡ length xs) × (a ≡ b)). inr (ap suc t.0, t.1)) (at_end xs a b j e)
 
-pub row_more : (board : ShownBoard) (k : ℕ) (xs : List ShownSeat) (s : ShownSeat) → length xs ≡ k → s ≡ fresh_seat board k → IsRowOf board xs → IsRowOf board (xs ++ s ∷ [])
+pub row_more : (board : ShownBoard) (k : ℕ) (xs : List ShownSeat) (s : ShownSeat) → length xs ≡ k → s ≡ fresh_seat board k → IsRowOf board xs
+    → IsRowOf board (xs ++ s ∷ [])
 row_more board k xs s long is row j b e =
     ⊎_elim (λ old. row j b old) (λ (new : (j ≡ length xs) × (s ≡ b)). sym new.1 ∙ (is ∙ ap (fresh_seat board) (sym (new.0 ∙ long)))) (at_end xs s b j e)
 
@@ -38,4 +39,5 @@ pub all_of_row : (board : ShownBoard) (xs : List ShownSeat) → IsRowOf board xs
 all_of_row board xs row k d h = ap (λ (s : ShownSeat). s.board) (row k (get_or xs k d) (found_at xs k d h))
 
 pub of_board : (board : ShownBoard) (xs : List ShownSeat) → All (λ (s : ShownSeat). s.board ≡ board) xs → OfBoard board.table_id xs
-of_board board xs all k s at = let r = read_at xs k s at in subst (λ (x : ShownSeat). x.board.table_id ≡ board.table_id) r.1 (ap (λ (b : ShownBoard). b.table_id) (all k s r.0))
+of_board board xs all k s at = let r = read_at xs k s at in
+    subst (λ (x : ShownSeat). x.board.table_id ≡ board.table_id) r.1 (ap (λ (b : ShownBoard). b.table_id) (all k s r.0))

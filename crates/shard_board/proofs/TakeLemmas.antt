@@ -22,8 +22,10 @@ set_at (x ∷ xs) zero v w e = refl
 set_at (x ∷ xs) (suc i) v w e = set_at xs i v w e
 
 -- a fact of each view stays where the changed one has it
-pub views_set : (P : View → Type 0) (views : List View) (i : ℕ) (w : View) → P w → ((j : ℕ) (v : View) → j ≢ i → get_elem? views j ≡ some v → P v) → (j : ℕ) (v : View) → get_elem? (set views i w) j ≡ some v → P v
-views_set P views i w mine others j v e = ⊎_elim (λ (t : (j ≡ i) × (w ≡ v)). subst P t.1 mine) (λ (t : (j ≢ i) × (get_elem? views j ≡ some v)). others j v t.0 t.1) (at_set views i j w v e)
+pub views_set : (P : View → Type 0) (views : List View) (i : ℕ) (w : View) → P w → ((j : ℕ) (v : View) → j ≢ i → get_elem? views j ≡ some v → P v)
+    → (j : ℕ) (v : View) → get_elem? (set views i w) j ≡ some v → P v
+views_set P views i w mine others j v e = ⊎_elim (λ (t : (j ≡ i) × (w ≡ v)). subst P t.1 mine)
+    (λ (t : (j ≢ i) × (get_elem? views j ≡ some v)). others j v t.0 t.1) (at_set views i j w v e)
 
 pub same_view : (views : List View) (i j : ℕ) (v u : View) → get_elem? views i ≡ some v → get_elem? views j ≡ some u → j ≡ i → u ≡ v
 same_view views i j v u at there e = some-injective u v (sym there ∙ (ap (get_elem? views) e ∙ at))
@@ -45,8 +47,10 @@ out_set views i v w at keeps o = dite (ℕ_discrete o.0 i)
     (λ other. (o.0, (o.1.0, (set_else views i o.0 w other ∙ o.1.1.0, o.1.1.1))))
 
 -- the view of one seat changes, and nothing that the turns depend on
-pub turns_set : (plan : Plan) (serving ticket : ℕ) (homes : List (Home Slot)) (views : List View) (i : ℕ) (v w : View) → get_elem? views i ≡ some v → drawn w ≡ drawn v → ((x : ℕ) → in_line x w ≡ in_line x v)
-    → (v.holding ≡ true → w.holding ≡ true) → (t : Turns plan serving ticket homes views) → (Sits t.log serving v → Sits t.log serving w) → Turns plan serving ticket homes (set views i w)
+pub turns_set : (plan : Plan) (serving ticket : ℕ) (homes : List (Home Slot)) (views : List View) (i : ℕ) (v w : View) → get_elem? views i ≡ some v
+    → drawn w ≡ drawn v → ((x : ℕ) → in_line x w ≡ in_line x v)
+    → (v.holding ≡ true → w.holding ≡ true) → (t : Turns plan serving ticket homes views) → (Sits t.log serving v → Sits t.log serving w)
+    → Turns plan serving ticket homes (set views i w)
 turns_set plan serving ticket homes views i v w at drew line holding t sits = record {
   log = t.log;
   legal = t.legal;
@@ -63,7 +67,8 @@ pub total_scale : (f : View → ℕ) (k : ℕ) (l : List View) → total (λ v. 
 total_scale f k [] = omega arith
 total_scale f k (x ∷ xs) = let r = total_scale f k xs in grind (arith, r)
 
-pub ticket_few : (plan : Plan) (serving ticket : ℕ) (homes : List (Home Slot)) (views : List View) → Turns plan serving ticket homes views → total (each one) views ≤ 16 → ticket ≤ 1600000
+pub ticket_few : (plan : Plan) (serving ticket : ℕ) (homes : List (Home Slot)) (views : List View) → Turns plan serving ticket homes views
+    → total (each one) views ≤ 16 → ticket ≤ 1600000
 ticket_few plan serving ticket homes views t few =
     let a : total drawn views ≤ total (λ v. 100000 * each one v) views = total_le_at drawn (λ v. 100000 * each one v) views (λ j v at. (t.sits j v at).few) in
     let b : total (λ v. 100000 * each one v) views ≡ 100000 * total (each one) views = total_scale (each one) 100000 views in
@@ -73,7 +78,8 @@ line_more : (x serving ticket : ℕ) → serving ≤ ticket → from_to x servin
 line_more x serving ticket h = grind (arith, nat_tests)
 
 -- the next ticket is drawn
-pub turns_ticket : (plan : Plan) (serving ticket : ℕ) (homes : List (Home Slot)) (views : List View) (i : ℕ) (v : View) → get_elem? views i ≡ some v → v.live ≡ true → v.joined ≡ [] → v.ticket ≡ None → v.holding ≡ false → length v.own.calls < MAX_TURNS
+pub turns_ticket : (plan : Plan) (serving ticket : ℕ) (homes : List (Home Slot)) (views : List View) (i : ℕ) (v : View) → get_elem? views i ≡ some v
+    → v.live ≡ true → v.joined ≡ [] → v.ticket ≡ None → v.holding ≡ false → length v.own.calls < MAX_TURNS
     → Turns plan serving ticket homes views → Turns plan serving (ticket + 1) homes (set views i (with_ticket v ticket))
 turns_ticket plan serving ticket homes views i v at live alone no_ticket no_hold few t =
     let w = with_ticket v ticket in
@@ -86,24 +92,31 @@ turns_ticket plan serving ticket homes views i v at live alone no_ticket no_hold
       given = t.given;
       ahead = let h = t.ahead in omega arith;
       drew = let s = total_set drawn views i v w at in let d = t.drew in omega arith;
-      line = λ x. let s = total_set (in_line x) views i v w at in let l = t.line x in let m = line_more x serving ticket t.ahead in let z : waits_at x v.ticket ≡ 0 = ap (waits_at x) no_ticket in omega arith;
-      sits = views_set (Sits t.log serving) views i w (let y = t.sits i v at in record { seen = y.seen; told = y.told; mine = y.mine; others = y.others; few = omega arith; holds = λ h. absurd (off (sym no_hold ∙ h)) }) (λ j u _. t.sits j u);
+      line = λ x. let s = total_set (in_line x) views i v w at in let l = t.line x in let m = line_more x serving ticket t.ahead in
+          let z : waits_at x v.ticket ≡ 0 = ap (waits_at x) no_ticket in omega arith;
+      sits = views_set (Sits t.log serving) views i w (let y = t.sits i v at in
+          record { seen = y.seen; told = y.told; mine = y.mine; others = y.others; few = omega arith; holds = λ h. absurd (off (sym no_hold ∙ h)) })
+          (λ j u _. t.sits j u);
       slot = ⊎_elim (λ home. inl home) (λ (o : (homes ≡ none ∷ []) × Out views). inr (o.0, out_set views i v w at (λ h. h) o.1)) t.slot;
     }
 
-pub turns_at : (plan : Plan) (a a' b b' : ℕ) (homes : List (Home Slot)) (views : List View) → a ≡ a' → b ≡ b' → Turns plan a b homes views → Turns plan a' b' homes views
+pub turns_at : (plan : Plan) (a a' b b' : ℕ) (homes : List (Home Slot)) (views : List View) → a ≡ a' → b ≡ b' → Turns plan a b homes views
+    → Turns plan a' b' homes views
 turns_at plan a a' b b' homes views p q t = subst (λ (z : ℕ × ℕ). Turns plan z.0 z.1 homes views) (λ i. (p i, q i)) t
 
 pub waits_here : (x : ℕ) (v : View) → v.ticket ≡ Some x → in_line x v ≡ 1
 waits_here x v e = ap (waits_at x) e ∙ tick_same x
 
 -- no two seats have one ticket
-pub one_ticket : (plan : Plan) (serving ticket : ℕ) (homes : List (Home Slot)) (views : List View) (i j : ℕ) (v u : View) (x : ℕ) → Turns plan serving ticket homes views → i ≢ j → get_elem? views i ≡ some v → get_elem? views j ≡ some u → v.ticket ≡ Some x → u.ticket ≡ Some x → ⊥
+pub one_ticket : (plan : Plan) (serving ticket : ℕ) (homes : List (Home Slot)) (views : List View) (i j : ℕ) (v u : View) (x : ℕ)
+    → Turns plan serving ticket homes views → i ≢ j → get_elem? views i ≡ some v → get_elem? views j ≡ some u → v.ticket ≡ Some x → u.ticket ≡ Some x → ⊥
 one_ticket plan serving ticket homes views i j v u x t apart at there mine theirs =
-    let a = total_two (in_line x) views i j v u apart at there in let b = waits_here x v mine in let c = waits_here x u theirs in let l = t.line x in let m : from_to x serving ticket ≤ 1 = tick_le (leb serving x && ltb x ticket) in omega arith
+    let a = total_two (in_line x) views i j v u apart at there in let b = waits_here x v mine in let c = waits_here x u theirs in let l = t.line x in
+    let m : from_to x serving ticket ≤ 1 = tick_le (leb serving x && ltb x ticket) in omega arith
 
 -- the book is home where a seat that has none is served
-pub take_home : (plan : Plan) (serving ticket : ℕ) (homes : List (Home Slot)) (views : List View) (i : ℕ) (v : View) → get_elem? views i ≡ some v → v.ticket ≡ Some serving → v.holding ≡ false → (t : Turns plan serving ticket homes views) → homes ≡ some (Some (book_with plan (facts_of t.log))) ∷ []
+pub take_home : (plan : Plan) (serving ticket : ℕ) (homes : List (Home Slot)) (views : List View) (i : ℕ) (v : View) → get_elem? views i ≡ some v
+    → v.ticket ≡ Some serving → v.holding ≡ false → (t : Turns plan serving ticket homes views) → homes ≡ some (Some (book_with plan (facts_of t.log))) ∷ []
 take_home plan serving ticket homes views i v at served no_hold t =
     ⊎_elim (λ home. home) (λ (o : (homes ≡ none ∷ []) × Out views). let h = (t.sits o.1.0 o.1.1.0 o.1.1.1.0).holds o.1.1.1.1 in
     absurd (dite (ℕ_discrete o.1.0 i)
@@ -111,7 +124,8 @@ take_home plan serving ticket homes views i v at served no_hold t =
     (λ other. one_ticket plan serving ticket homes views i o.1.0 v o.1.1.0 serving t (λ e. other (sym e)) at o.1.1.1.0 served h.0))) t.slot
 
 -- the book is taken by the seat that is served, which has seen the history
-pub turns_take : (plan : Plan) (serving ticket : ℕ) (homes : List (Home Slot)) (views : List View) (i : ℕ) (v : View) → get_elem? views i ≡ some v → v.ticket ≡ Some serving → (t : Turns plan serving ticket homes views) → Turns plan serving ticket (none ∷ []) (set views i (with_hold v t.log))
+pub turns_take : (plan : Plan) (serving ticket : ℕ) (homes : List (Home Slot)) (views : List View) (i : ℕ) (v : View) → get_elem? views i ≡ some v
+    → v.ticket ≡ Some serving → (t : Turns plan serving ticket homes views) → Turns plan serving ticket (none ∷ []) (set views i (with_hold v t.log))
 turns_take plan serving ticket homes views i v at served t = let w = with_hold v t.log in record {
   log = t.log;
   legal = t.legal;
@@ -120,6 +134,7 @@ turns_take plan serving ticket homes views i v at served t = let w = with_hold v
   ahead = t.ahead;
   drew = let s = total_set drawn views i v w at in let d = t.drew in omega arith;
   line = λ x. let s = total_set (in_line x) views i v w at in let l = t.line x in omega arith;
-  sits = views_set (Sits t.log serving) views i w (let y = t.sits i v at in record { seen = prefix_self t.log; told = y.told; mine = y.mine; others = y.others; few = y.few; holds = λ _. (served, refl) }) (λ j u _. t.sits j u);
+  sits = views_set (Sits t.log serving) views i w (let y = t.sits i v at in
+      record { seen = prefix_self t.log; told = y.told; mine = y.mine; others = y.others; few = y.few; holds = λ _. (served, refl) }) (λ j u _. t.sits j u);
   slot = inr (refl, (i, (w, (set_at views i v w at, refl))));
 }

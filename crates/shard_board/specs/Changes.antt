@@ -41,7 +41,15 @@ pub record IsClaim (shards : ℕ) (old new : ShownSeat) (n : ℕ) : Type 0 where
 
 -- a seat that has seen a history and then made a turn
 abbrev pub with_new_turn : ShownSeat → List Entry → Call → ShownSeat
-with_new_turn s before call = record { board = s.board; number = s.number; seen = before ++ entry s.number call ∷ []; calls = s.calls ++ entry s.number call ∷ []; claims = s.claims; refused = s.refused }
+with_new_turn s before call = record {
+  board = s.board;
+  number = s.number;
+  seen = before ++ entry s.number call ∷ [];
+  calls =
+      s.calls ++ entry s.number call ∷ [];
+  claims = s.claims;
+  refused = s.refused;
+}
 
 -- The seen history is legal, begins with the one seen before, and ends with this turn. Of the seat it has the calls that it made before, in their order, and then this one, which are its calls from now on
 pub record IsTurn (old new : ShownSeat) (call : Call) : Type 0 where

@@ -35,7 +35,15 @@ abbrev pub shown_board : TableId → Plan → ShownBoard
 shown_board t plan = record { table_id = t; file = plan.empty.file; shards = plan.shards; seats = plan.seats }
 
 abbrev pub shown_seat : TableId → View → ShownSeat
-shown_seat t v = record { board = shown_board t v.plan; number = v.own.number; seen = v.own.seen; calls = v.own.calls; claims = v.own.claims; refused = v.own.refused }
+shown_seat t v = record {
+  board = shown_board t v.plan;
+  number = v.own.number;
+  seen = v.own.seen;
+  calls = v.own.calls;
+  claims = v.own.claims;
+  refused =
+      v.own.refused;
+}
 
 abbrev pub shown_note : TableId → View → ShownNote
 shown_note t v = record { board = shown_board t v.plan; seen = v.own.seen }

@@ -63,7 +63,8 @@ pub record Turns (plan : Plan) (serving ticket : ℕ) (homes : List (Home Slot))
   pub drew : ticket ≡ total drawn views
   pub line : (x : ℕ) → total (in_line x) views ≡ from_to x serving ticket
   pub sits : (j : ℕ) (v : View) → get_elem? views j ≡ some v → Sits log serving v
-  pub slot : (homes ≡ some (Some (book_with plan (facts_of log))) ∷ []) ⊎ ((homes ≡ none ∷ []) × ((j : ℕ) × ((v : View) × ((get_elem? views j ≡ some v) × (v.holding ≡ true)))))
+  pub slot : (homes ≡ some (Some (book_with plan (facts_of log))) ∷ []) ⊎
+      ((homes ≡ none ∷ []) × ((j : ℕ) × ((v : View) × ((get_elem? views j ≡ some v) × (v.holding ≡ true)))))
 
 abbrev pub with_ticket : View → ℕ → View
 with_ticket v t = record { live = v.live; own = v.own; told = v.told; joined = v.joined; ticket = Some t; holding = v.holding; plan = v.plan }

@@ -54,7 +54,9 @@ all_rest P l x xs is a =
     let all : All P (x ∷ xs) = subst (All P) is a in (all 0 x (omega arith), λ k d within. all (suc k) d (omega arith))
 
 -- the seats of workers that are done are the board's
-pub all_of_board : (board : ShownBoard) (reduce : Bool) (spec : Spec) (shards : List Shard) (ws : List Worker) → All (IsDone board reduce spec shards) ws → All (λ (s : ShownSeat). s.board ≡ board) (map seat_of ws)
+pub all_of_board : (board : ShownBoard) (reduce : Bool) (spec : Spec) (shards : List Shard) (ws : List Worker) → All (IsDone board reduce spec shards) ws
+    → All (λ (s : ShownSeat). s.board ≡ board) (map seat_of ws)
 all_of_board board reduce spec shards [] all k d within = absurd (omega arith)
 all_of_board board reduce spec shards (w ∷ ws) all zero d within = (all 0 w (omega arith)).board_is
-all_of_board board reduce spec shards (w ∷ ws) all (suc k) d within = all_of_board board reduce spec shards ws (λ j e l. all (suc j) e (omega arith)) k d (omega arith)
+all_of_board board reduce spec shards (w ∷ ws) all (suc k) d within = all_of_board board reduce spec shards ws (λ j e l. all (suc j) e (omega arith)) k d
+    (omega arith)

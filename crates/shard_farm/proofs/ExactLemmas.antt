@@ -56,7 +56,8 @@ from_keeps r fact s [] h = h
 from_keeps r fact s (e ∷ es) h = from_keeps r fact (facts_after s e.call) es (after_keeps r fact s e.call h)
 
 -- a fact that an entry brings is in the state behind it
-fact_in : (r : ℕ) (fact : Fact) (s : FactSet) (es : List Entry) (k : ℕ) (e : Entry) → get_elem? es k ≡ some e → Brings r fact e.call → recorded (facts_from s es) r fact ≡ true
+fact_in : (r : ℕ) (fact : Fact) (s : FactSet) (es : List Entry) (k : ℕ) (e : Entry) → get_elem? es k ≡ some e → Brings r fact e.call
+    → recorded (facts_from s es) r fact ≡ true
 fact_in r fact s [] k e at b = absurd (some-ne-none e (sym at))
 fact_in r fact s (d ∷ es) zero e at b =
     from_keeps r fact (facts_after s d.call) es (after_brings r fact s d.call (subst (λ (y : Entry). Brings r fact y.call) (sym (some-injective d e at)) b))
@@ -76,7 +77,8 @@ fact_of r fact s (d ∷ es) h = ⊎_elim
 abbrev At : List Entry → Entry → Type 0
 At es e = (k : ℕ) × (get_elem? es k ≡ some e)
 
-first_call : (d : Entry) (calls log : List Entry) (e : Entry) → ((j : ℕ) → get_elem? calls j ≡ some e → At log e) → (j : ℕ) → get_elem? (d ∷ calls) j ≡ some e → At (d ∷ log) e
+first_call : (d : Entry) (calls log : List Entry) (e : Entry) → ((j : ℕ) → get_elem? calls j ≡ some e → At log e) → (j : ℕ)
+    → get_elem? (d ∷ calls) j ≡ some e → At (d ∷ log) e
 first_call d calls log e r zero here = (0, here)
 first_call d calls log e r (suc j) here = let t = r j here in (suc t.0, t.1)
 
@@ -101,7 +103,8 @@ call_of n (d ∷ log) (suc k) e at by =
 abbrev Weighs : (ShownSeat → ℕ) → List ShownSeat → Type 0
 Weighs f xs = (k : ℕ) × ((s : ShownSeat) × ((get_elem? xs k ≡ some s) × (0 < f s)))
 
-weighs_here : (f : ShownSeat → ℕ) (x : ShownSeat) (xs : List ShownSeat) → 0 < f x + total f xs → (0 < total f xs → Weighs f xs) → (m : ℕ) → f x ≡ m → Weighs f (x ∷ xs)
+weighs_here : (f : ShownSeat → ℕ) (x : ShownSeat) (xs : List ShownSeat) → 0 < f x + total f xs → (0 < total f xs → Weighs f xs) → (m : ℕ) → f x ≡ m
+    → Weighs f (x ∷ xs)
 weighs_here f x xs h r zero z = let t = r (omega arith) in (suc t.0, t.1)
 weighs_here f x xs h r (suc m) z = (0, (x, (refl, omega arith)))
 
@@ -114,7 +117,8 @@ one_weighs f [] k s at = absurd (some-ne-none s (sym at))
 one_weighs f (x ∷ xs) zero s at = let e : f x ≡ f s = ap f (some-injective x s at) in omega arith
 one_weighs f (x ∷ xs) (suc k) s at = let r = one_weighs f xs k s at in omega arith
 
-two_weigh : (f : ShownSeat → ℕ) (xs : List ShownSeat) (i j : ℕ) (v w : ShownSeat) → i ≢ j → get_elem? xs i ≡ some v → get_elem? xs j ≡ some w → f v + f w ≤ total f xs
+two_weigh : (f : ShownSeat → ℕ) (xs : List ShownSeat) (i j : ℕ) (v w : ShownSeat) → i ≢ j → get_elem? xs i ≡ some v → get_elem? xs j ≡ some w
+    → f v + f w ≤ total f xs
 two_weigh f [] i j v w n d e = absurd (some-ne-none v (sym d))
 two_weigh f (x ∷ xs) zero zero v w n d e = absurd (n refl)
 two_weigh f (x ∷ xs) zero (suc j) v w n d e = let s : f x ≡ f v = ap f (some-injective x v d) in let r = one_weighs f xs j w e in omega arith
@@ -136,7 +140,11 @@ times_has n (x ∷ xs) h =
 has_times : (n : ℕ) (xs : List ℕ) → has n xs ≡ true → 0 < times n xs
 has_times n [] h = absurd (true≢false (sym h))
 has_times n (x ∷ xs) h =
-    elim (x == n) as (λ (b : Bool). (b || has n xs) ≡ true → 0 < tick b + times n xs) [ true ↦ λ _. omega arith | false ↦ λ l. let r = has_times n xs l in omega arith ] h
+    elim (x == n) as (λ (b : Bool). (b || has n xs) ≡ true → 0 < tick b + times n xs) [
+      | true ↦ λ _. omega arith
+      | false ↦ λ l. let r = has_times n xs l in
+          omega arith
+    ] h
 
 below_one : (x n : ℕ) → x < n → once_below x n ≡ 1
 below_one x n h = let one : ltb x n ≡ true = grind (arith, nat_tests) in ap tick one
@@ -151,9 +159,11 @@ once_most x n = at_most_one (ltb x n)
 -- the accepted delivery is of a shard that is claimed and has no mark, and the shard has the fact
 abbrev Comes : Bool → Spec → List Shard → ShownSeat → List Bool → ℕ → Fact → Type 0
 Comes reduce spec shards s marks r fact =
-    (n : ℕ) × ((shard : Shard) × ((get_elem? shards n ≡ some shard) × ((has n s.claims ≡ true) × ((is_marked marks n ≡ false) × HasFact reduce spec shard r fact))))
+    (n : ℕ) × ((shard : Shard) × ((get_elem? shards n ≡ some shard)
+    × ((has n s.claims ≡ true) × ((is_marked marks n ≡ false) × HasFact reduce spec shard r fact))))
 
-comes_from : (reduce : Bool) (spec : Spec) (shards : List Shard) (s : ShownSeat) (marks : List Bool) (r : ℕ) (fact : Fact) (c : Call) → IsTrueCall reduce spec shards s.claims marks c → Brings r fact c → Comes reduce spec shards s marks r fact
+comes_from : (reduce : Bool) (spec : Spec) (shards : List Shard) (s : ShownSeat) (marks : List Bool) (r : ℕ) (fact : Fact) (c : Call)
+    → IsTrueCall reduce spec shards s.claims marks c → Brings r fact c → Comes reduce spec shards s marks r fact
 comes_from reduce spec shards s marks r fact (Deliver n facts (Some receipt)) t b =
     (n, (t.1.1.0, (t.1.1.1.0, (t.0, (t.1.0, (t.1.1.1.1 r fact).0 b)))))
 comes_from reduce spec shards s marks r fact (Deliver n facts None) t b = absurd b
@@ -163,16 +173,19 @@ module _ (reduce : Bool) (spec : Spec) (board : ShownBoard) (shards : List Shard
     (c : IsClosed board (map seat_of workers) book claimed turns)
     (done : (k : ℕ) (w : Worker) → get_elem? workers k ≡ some w → HasWorked reduce spec shards w.seat w.missed.items)
     (same : board.shards ≡ length shards) (some_seat : 0 < length workers) where
-  claimed_twice : (n j k : ℕ) (v w : Worker) → get_elem? workers j ≡ some v → get_elem? workers k ≡ some w → has n v.seat.claims ≡ true → has n w.seat.claims ≡ true → j ≢ k → ⊥
+  claimed_twice : (n j k : ℕ) (v w : Worker) → get_elem? workers j ≡ some v → get_elem? workers k ≡ some w → has n v.seat.claims ≡ true
+      → has n w.seat.claims ≡ true → j ≢ k → ⊥
   claimed_twice n j k v w at there one two apart =
       let a = has_times n v.seat.claims one in
       let b = has_times n w.seat.claims two in
-      let t = two_weigh (λ (s : ShownSeat). times n s.claims) (map seat_of workers) j k v.seat w.seat apart (seat_at workers j v at) (seat_at workers k w there) in
+      let t = two_weigh (λ (s : ShownSeat). times n s.claims) (map seat_of workers) j k v.seat w.seat apart (seat_at workers j v at)
+      (seat_at workers k w there) in
       let sum = c.claims n in
       let most = once_most n claimed in absurd (omega arith)
 
   -- what a worker claimed and has no mark for is not missing
-  not_missing : (n count k : ℕ) (w : Worker) → get_elem? workers k ≡ some w → has n w.seat.claims ≡ true → is_marked w.missed.items n ≡ false → has n (numbers_missed workers count) ≡ false
+  not_missing : (n count k : ℕ) (w : Worker) → get_elem? workers k ≡ some w → has n w.seat.claims ≡ true → is_marked w.missed.items n ≡ false
+      → has n (numbers_missed workers count) ≡ false
   not_missing n count k w at claim blank = false_from_ne_true (has n (numbers_missed workers count)) (λ is.
       let m : Marked workers n = missed_by workers n (missing_of workers n count is) in
       let v : Worker = m.1.0 in
@@ -192,11 +205,13 @@ module _ (reduce : Bool) (spec : Spec) (board : ShownBoard) (shards : List Shard
   no_other : (r : ℕ) (fact : Fact) → recorded book.facts r fact ≡ true → InShardsBut reduce spec shards (numbers_missed workers (length shards)) r fact
   no_other r fact h =
       let told : recorded (facts_from empty c.log) r fact ≡ true = subst (λ (f : FactSet). recorded f r fact ≡ true) c.facts h in
-      let brought : Brought r fact c.log = ⊎_elim (λ no. absurd (true≢false (sym no ∙ contains-empty entry_cmp (r, fact)))) (λ (t : Brought r fact c.log). t) (fact_of r fact empty c.log told) in
+      let brought : Brought r fact c.log = ⊎_elim (λ no. absurd (true≢false (sym no ∙ contains-empty entry_cmp (r, fact)))) (λ (t : Brought r fact c.log). t)
+      (fact_of r fact empty c.log told) in
       let e : Entry = brought.1.0 in
       let by = below_one e.by board.seats (c.given brought.0 e brought.1.1.0) in
       let numbers = c.numbers e.by in
-      let owner : Weighs (λ (s : ShownSeat). tick (s.number == e.by)) (map seat_of workers) = some_weighs (λ (s : ShownSeat). tick (s.number == e.by)) (map seat_of workers) (omega arith) in
+      let owner : Weighs (λ (s : ShownSeat). tick (s.number == e.by)) (map seat_of workers) =
+      some_weighs (λ (s : ShownSeat). tick (s.number == e.by)) (map seat_of workers) (omega arith) in
       let s : ShownSeat = owner.1.0 in
       let number : s.number ≡ e.by = eqb-true s.number e.by (tick_true (s.number == e.by) owner.1.1.1) in
       let his : (e.by == s.number) ≡ true = ap (λ (n : ℕ). n == s.number) (sym number) ∙ Rattle.std.proofs.Common.eq-eqb s.number s.number refl in
@@ -216,7 +231,8 @@ module _ (reduce : Bool) (spec : Spec) (board : ShownBoard) (shards : List Shard
       let below : n < length shards = inside shards n shard t.1.1.0 in
       let one = below_one n claimed (subst (λ (m : ℕ). n < m) (sym all_claimed) below) in
       let sum = c.claims n in
-      let owner : Weighs (λ (s : ShownSeat). times n s.claims) (map seat_of workers) = some_weighs (λ (s : ShownSeat). times n s.claims) (map seat_of workers) (omega arith) in
+      let owner : Weighs (λ (s : ShownSeat). times n s.claims) (map seat_of workers) =
+      some_weighs (λ (s : ShownSeat). times n s.claims) (map seat_of workers) (omega arith) in
       let s : ShownSeat = owner.1.0 in
       let worker = worker_at workers owner.0 s owner.1.1.0 in
       let w : Worker = worker.0 in

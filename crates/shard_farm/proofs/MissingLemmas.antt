@@ -44,11 +44,13 @@ passes p n (x ∷ xs) h = passes_one (p x) refl (λ t. passes p n xs t) h
     passes_one false is rest h = rest h
 
 keeps : (p : ℕ → Bool) (n x : ℕ) (xs : List ℕ) → has n (filter p xs) ≡ true → has n (filter p (x ∷ xs)) ≡ true
-keeps p n x xs h = elim (p x) as (λ (b : Bool). has n (cond b (x ∷ filter p xs) (filter p xs)) ≡ true) [ true ↦ or_right (x == n) (has n (filter p xs)) h | false ↦ h ]
+keeps p n x xs h = elim (p x) as (λ (b : Bool). has n (cond b (x ∷ filter p xs) (filter p xs)) ≡ true)
+    [ true ↦ or_right (x == n) (has n (filter p xs)) h | false ↦ h ]
 
 takes : (p : ℕ → Bool) (n x : ℕ) (xs : List ℕ) → x ≡ n → p n ≡ true → has n (filter p (x ∷ xs)) ≡ true
 takes p n x xs same is =
-    subst (λ (b : Bool). has n (cond b (x ∷ filter p xs) (filter p xs)) ≡ true) (sym (ap p same ∙ is)) (or_left (x == n) (has n (filter p xs)) (eq-eqb x n same))
+    subst (λ (b : Bool). has n (cond b (x ∷ filter p xs) (filter p xs)) ≡ true) (sym (ap p same ∙ is))
+    (or_left (x == n) (has n (filter p xs)) (eq-eqb x n same))
 
 -- a number in the range that passes is filtered out
 kept : (p : ℕ → Bool) (n a c : ℕ) → a ≤ n → n < a + c → p n ≡ true → has n (filter p (range_with_len a c)) ≡ true

@@ -30,7 +30,8 @@ use Rattle.shard_farm.specs.Working.{AreFactsAt, HasServed, is_marked, IsReady, 
 pub has-push : (m n : ℕ) (xs : List ℕ) → has m (xs ++ n ∷ []) ≡ true → (has m xs ≡ true) ⊎ (n ≡ m)
 has-push m n [] h = ⊎_elim (λ e. inr (eqb-true n m e)) (λ e. absurd (true≢false (sym e))) (or_cases (n == m) false h)
 has-push m n (x ∷ xs) h =
-    ⊎_elim (λ e. inl (or_left (x == m) (has m xs) e)) (λ e. ⊎_elim (λ t. inl (or_right (x == m) (has m xs) t)) (λ t. inr t) (has-push m n xs e)) (or_cases (x == m) (has m (xs ++ n ∷ [])) h)
+    ⊎_elim (λ e. inl (or_left (x == m) (has m xs) e)) (λ e. ⊎_elim (λ t. inl (or_right (x == m) (has m xs) t)) (λ t. inr t) (has-push m n xs e))
+    (or_cases (x == m) (has m (xs ++ n ∷ [])) h)
 
 pub has_old : (m n : ℕ) (xs : List ℕ) → has m xs ≡ true → has m (xs ++ n ∷ []) ≡ true
 has_old m n [] h = absurd (true≢false (sym h))
@@ -59,7 +60,8 @@ apart_from : (m n : ℕ) (xs : List ℕ) → has m xs ≡ true → has n xs ≡ 
 apart_from m n xs had none e = true≢false (sym had ∙ (ap (λ (k : ℕ). has k xs) e ∙ none))
 
 module _ (reduce : Bool) (spec : Spec) (shards : List Shard) where
-  pub begins : (board : ShownBoard) (worker : Worker) → IsReady board worker → length shards ≡ board.shards → Serves reduce spec shards worker.seat worker.missed.items
+  pub begins : (board : ShownBoard) (worker : Worker) → IsReady board worker → length shards ≡ board.shards
+      → Serves reduce spec shards worker.seat worker.missed.items
   begins board worker r long = record {
     each = λ n had. absurd (true≢false (sym had ∙ ap (has n) r.starting.claims));
     only = λ k e at. absurd (some-ne-none e (sym at ∙ ap (λ (l : List Entry). get_elem? l k) r.starting.calls));
@@ -67,7 +69,8 @@ module _ (reduce : Bool) (spec : Spec) (shards : List Shard) where
     long = ap (λ (l : List Bool). length l) r.blank ∙ (length-replicate board.shards false ∙ sym long);
   }
 
-  true_still : (claims : List ℕ) (marks : List Bool) (n : ℕ) (mark : Bool) (c : Call) → has n claims ≡ false → IsTrueCall reduce spec shards claims marks c → IsTrueCall reduce spec shards (claims ++ n ∷ []) (set marks n mark) c
+  true_still : (claims : List ℕ) (marks : List Bool) (n : ℕ) (mark : Bool) (c : Call) → has n claims ≡ false → IsTrueCall reduce spec shards claims marks c
+      → IsTrueCall reduce spec shards (claims ++ n ∷ []) (set marks n mark) c
   true_still claims marks n mark (Deliver m facts (Some r)) none h =
       (has_old m n claims h.0, (get_or-set_other marks n m mark false (apart_from m n claims h.0 none) ∙ h.1.0, h.1.1))
   true_still claims marks n mark (Deliver m facts None) none h = tt
@@ -77,7 +80,8 @@ module _ (reduce : Bool) (spec : Spec) (shards : List Shard) where
   still_delivered calls e n d = (d.0, (d.1.0, (d.1.1.0, (d.1.1.1.0, (at_longer calls (e ∷ []) d.0 d.1.0 d.1.1.1.1.0, d.1.1.1.1.1)))))
 
   -- one more shard is claimed, and gets a mark
-  marks_one : (s : ShownSeat) (marks : List Bool) (n : ℕ) → n < length shards → has n s.claims ≡ false → Serves reduce spec shards s marks → Serves reduce spec shards (with_new_claim s n) (set marks n true)
+  marks_one : (s : ShownSeat) (marks : List Bool) (n : ℕ) → n < length shards → has n s.claims ≡ false → Serves reduce spec shards s marks
+      → Serves reduce spec shards (with_new_claim s n) (set marks n true)
   marks_one s marks n below none v =
       let inside : n < length marks = let l = v.long in omega arith in record {
         each = λ m had. ⊎_elim
@@ -92,17 +96,22 @@ module _ (reduce : Bool) (spec : Spec) (shards : List Shard) where
       }
 
   -- a turn that was refused memory
-  in_vain : (s : ShownSeat) (marks : List Bool) (before : List Entry) (n : ℕ) (facts : FactSet) → Serves reduce spec shards s marks → Serves reduce spec shards (with_new_turn s before (Deliver n facts None)) marks
+  in_vain : (s : ShownSeat) (marks : List Bool) (before : List Entry) (n : ℕ) (facts : FactSet) → Serves reduce spec shards s marks
+      → Serves reduce spec shards (with_new_turn s before (Deliver n facts None)) marks
   in_vain s marks before n facts v =
       let e : Entry = entry s.number (Deliver n facts None) in record {
         each = λ m had. ⊎_elim (λ is. inl is) (λ d. inr (still_delivered s.calls e m d)) (v.each m had);
-        only = λ k x at. ⊎_elim (λ old. v.only k x old) (λ (new : (k ≡ length s.calls) × (e ≡ x)). subst (λ (y : Entry). IsTrueCall reduce spec shards s.claims marks y.call) new.1 tt) (at_end s.calls e x k at);
+        only = λ k x at. ⊎_elim (λ old. v.only k x old)
+            (λ (new : (k ≡ length s.calls) × (e ≡ x)). subst (λ (y : Entry). IsTrueCall reduce spec shards s.claims marks y.call) new.1 tt)
+            (at_end s.calls e x k at);
         marked = v.marked;
         long = v.long;
       }
 
   -- one more shard is claimed and delivered
-  delivers_one : (s : ShownSeat) (marks : List Bool) (before : List Entry) (n : ℕ) (facts : FactSet) (r : Receipt) → n < length shards → has n s.claims ≡ false → AreFactsAt reduce spec shards n facts → Serves reduce spec shards s marks → Serves reduce spec shards (with_new_turn (with_new_claim s n) before (Deliver n facts (Some r))) (set marks n false)
+  delivers_one : (s : ShownSeat) (marks : List Bool) (before : List Entry) (n : ℕ) (facts : FactSet) (r : Receipt) → n < length shards
+      → has n s.claims ≡ false → AreFactsAt reduce spec shards n facts → Serves reduce spec shards s marks
+      → Serves reduce spec shards (with_new_turn (with_new_claim s n) before (Deliver n facts (Some r))) (set marks n false)
   delivers_one s marks before n facts r below none are v =
       let inside : n < length marks = let l = v.long in omega arith in
       let call : Call = Deliver n facts (Some r) in
@@ -116,7 +125,8 @@ module _ (reduce : Bool) (spec : Spec) (shards : List Shard) where
             (has-push m n s.claims had);
         only = λ k x at. ⊎_elim
             (λ old. true_still s.claims marks n false x.call none (v.only k x old))
-            (λ (new : (k ≡ length s.calls) × (e ≡ x)). subst (λ (y : Entry). IsTrueCall reduce spec shards (s.claims ++ n ∷ []) (set marks n false) y.call) new.1 (has_new n s.claims, (get_or-set_same marks n false false inside, are)))
+            (λ (new : (k ≡ length s.calls) × (e ≡ x)). subst (λ (y : Entry). IsTrueCall reduce spec shards (s.claims ++ n ∷ []) (set marks n false) y.call)
+            new.1 (has_new n s.claims, (get_or-set_same marks n false false inside, are)))
             (at_end s.calls e x k at);
         marked = λ m is. dite (ℕ_discrete m n)
             (λ same. subst (λ (k : ℕ). has k (s.claims ++ n ∷ []) ≡ true) (sym same) (has_new n s.claims))
@@ -125,7 +135,8 @@ module _ (reduce : Bool) (spec : Spec) (shards : List Shard) where
       }
 
   -- one more shard is claimed, and delivered or marked
-  pub goes_on : (count : ℕ) (s s' s'' : ShownSeat) (marks : List Bool) (n : ℕ) (served : Bool) → length shards ≡ count → Serves reduce spec shards s marks → IsClaim count s s' n → HasServed reduce spec shards s' s'' n served → Serves reduce spec shards s'' (set marks n (not served))
+  pub goes_on : (count : ℕ) (s s' s'' : ShownSeat) (marks : List Bool) (n : ℕ) (served : Bool) → length shards ≡ count → Serves reduce spec shards s marks
+      → IsClaim count s s' n → HasServed reduce spec shards s' s'' n served → Serves reduce spec shards s'' (set marks n (not served))
   goes_on count s s' s'' marks n true same v claim h =
       let below : n < length shards = let b = claim.below in omega arith in
       let turn = h.1.1.0 in
@@ -141,7 +152,8 @@ module _ (reduce : Bool) (spec : Spec) (shards : List Shard) where
       (λ (t : (facts : FactSet) × IsTurn s' s'' (Deliver n facts None)).
       let is : s'' ≡ with_new_turn (with_new_claim s n) t.1.before (Deliver n t.0 None) =
       t.1.seat ∙ ap (λ (x : ShownSeat). with_new_turn x t.1.before (Deliver n t.0 None)) claim.seat in
-      subst (λ (x : ShownSeat). Serves reduce spec shards x (set marks n true)) (sym is) (in_vain (with_new_claim s n) (set marks n true) t.1.before n t.0 marked))
+      subst (λ (x : ShownSeat). Serves reduce spec shards x (set marks n true)) (sym is)
+      (in_vain (with_new_claim s n) (set marks n true) t.1.before n t.0 marked))
       h
 
   -- there is no more to claim
@@ -150,7 +162,8 @@ module _ (reduce : Bool) (spec : Spec) (shards : List Shard) where
       record { ended = refl; serves = record { each = v.each; only = v.only; marked = v.marked; long = v.long } }
 
   -- a delivery that was refused changes nothing, or was a turn that was refused memory
-  pub not_served : (kind : DeliverErrorKind) (old new : ShownSeat) (n : ℕ) (book : Contents) → IsNotDelivered kind old new n book → HasServed reduce spec shards old new n false
+  pub not_served : (kind : DeliverErrorKind) (old new : ShownSeat) (n : ℕ) (book : Contents) → IsNotDelivered kind old new n book
+      → HasServed reduce spec shards old new n false
   not_served deliver_error.SpecMismatch old new n book h = inl h.1
   not_served deliver_error.NotClaimed old new n book h = inl h.2
   not_served deliver_error.SeatSpent old new n book h = inl h.2

@@ -42,11 +42,13 @@ pub record IsReady (board : ShownBoard) (worker : Worker) : Type 0 where
 -- one of the calls is an accepted delivery of the shard's facts
 abbrev pub IsDelivered : Bool → Spec → List Shard → List Entry → ℕ → Type 0
 IsDelivered reduce spec shards calls n =
-    (k : ℕ) × ((e : Entry) × ((facts : FactSet) × ((r : Receipt) × ((get_elem? calls k ≡ some e) × ((e.call ≡ Deliver n facts (Some r)) × AreFactsAt reduce spec shards n facts)))))
+    (k : ℕ) × ((e : Entry) × ((facts : FactSet) × ((r : Receipt)
+    × ((get_elem? calls k ≡ some e) × ((e.call ≡ Deliver n facts (Some r)) × AreFactsAt reduce spec shards n facts)))))
 
 -- an accepted delivery is one of a claimed shard that has no mark, and of its facts
 abbrev pub IsTrueCall : Bool → Spec → List Shard → List ℕ → List Bool → Call → Type 0
-IsTrueCall reduce spec shards claims marks (Deliver n facts (Some r)) = (has n claims ≡ true) × ((is_marked marks n ≡ false) × AreFactsAt reduce spec shards n facts)
+IsTrueCall reduce spec shards claims marks (Deliver n facts (Some r)) =
+    (has n claims ≡ true) × ((is_marked marks n ≡ false) × AreFactsAt reduce spec shards n facts)
 IsTrueCall reduce spec shards claims marks (Deliver n facts None) = Unit {0}
 IsTrueCall reduce spec shards claims marks (Latest reply) = Unit {0}
 

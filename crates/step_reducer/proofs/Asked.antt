@@ -29,7 +29,8 @@ module _ (test : Request → Bool) where
   abbrev pub AllSoFar : List Bound → ℕ → Type 0
   AllSoFar ss i = list_all test (plans ss) ≡ list_all test (plans (drop i ss))
 
-  cut : (ss : List Bound) (i : ℕ) (s : Bound) → i < length ss → s ≡ get_or ss i s → list_all test (plans (drop i ss)) ≡ (list_all test (plan s) && list_all test (plans (drop (i + 1) ss)))
+  cut : (ss : List Bound) (i : ℕ) (s : Bound) → i < length ss → s ≡ get_or ss i s
+      → list_all test (plans (drop i ss)) ≡ (list_all test (plan s) && list_all test (plans (drop (i + 1) ss)))
   cut ss i s lt is =
       ap (λ xs. list_all test (plans xs)) (drop-cons ss i s lt)
       ∙ (λ k. list_all test (plans (sym is k ∷ drop (sym (add-one i) k) ss)))
@@ -38,7 +39,8 @@ module _ (test : Request → Bool) where
   pub all-true : (ss : List Bound) (i : ℕ) (s : Bound) → i < length ss → s ≡ get_or ss i s → list_all test (plan s) ≡ true → AllSoFar ss i → AllSoFar ss (i + 1)
   all-true ss i s lt is here so_far = so_far ∙ cut ss i s lt is ∙ ap (λ b. b && list_all test (plans (drop (i + 1) ss))) here
 
-  pub all-false : (ss : List Bound) (i : ℕ) (s : Bound) → i < length ss → s ≡ get_or ss i s → list_all test (plan s) ≡ false → AllSoFar ss i → false ≡ list_all test (plans ss)
+  pub all-false : (ss : List Bound) (i : ℕ) (s : Bound) → i < length ss → s ≡ get_or ss i s → list_all test (plan s) ≡ false → AllSoFar ss i
+      → false ≡ list_all test (plans ss)
   all-false ss i s lt is here so_far = sym (so_far ∙ cut ss i s lt is ∙ ap (λ b. b && list_all test (plans (drop (i + 1) ss))) here)
 
   pub all-end : (ss : List Bound) (i : ℕ) → length ss ≤ i → AllSoFar ss i → true ≡ list_all test (plans ss)

@@ -11,7 +11,8 @@ use Rattle.session_machine.specs.Running.{Running}
 use Rattle.step_reducer.specs.Pairs.{is_quiet_in}
 use Rattle.step_reducer.specs.Reduced.{is_pair}
 
-pub listed-push : (xs : List Bool) (n : ℕ) (r : Bool) (f : ℕ → Bool) → length xs ≡ n → ((b : ℕ) → b < n → get_or xs b false ≡ f b) → r ≡ f n → (b : ℕ) → b < n + 1 → get_or (xs ++ r ∷ []) b false ≡ f b
+pub listed-push : (xs : List Bool) (n : ℕ) (r : Bool) (f : ℕ → Bool) → length xs ≡ n → ((b : ℕ) → b < n → get_or xs b false ≡ f b) → r ≡ f n → (b : ℕ)
+    → b < n + 1 → get_or (xs ++ r ∷ []) b false ≡ f b
 listed-push xs n r f len below here b lt = ⊎_elim first last cases
   where
     cases : (b < n) ⊎ (b ≡ n)
@@ -23,7 +24,8 @@ listed-push xs n r f len below here b lt = ⊎_elim first last cases
     last : b ≡ n → get_or (xs ++ r ∷ []) b false ≡ f b
     last e = (let same : b ≡ length xs = omega arith in ap (λ k. get_or (xs ++ r ∷ []) k false) same ∙ get_or-append_seam xs r [] false ∙ here ∙ ap f (sym e))
 
-pub listed-all : (xs : List Bool) (n : ℕ) (steps : List Step) (w : World) (rest : List (List ℕ)) (letter : ℕ) → length xs ≡ n → letter ≤ n → n ≤ letter → ((b : ℕ) → b < n → get_or xs b false ≡ quiet_heads steps w (get_or rest letter []) (get_or rest b []))
+pub listed-all : (xs : List Bool) (n : ℕ) (steps : List Step) (w : World) (rest : List (List ℕ)) (letter : ℕ) → length xs ≡ n → letter ≤ n → n ≤ letter
+    → ((b : ℕ) → b < n → get_or xs b false ≡ quiet_heads steps w (get_or rest letter []) (get_or rest b []))
     → (b : ℕ) → get_or xs b false ≡ is_pair true steps w rest letter b
 listed-all xs n steps w rest letter len le ge below b = ⊎_elim first last cases
   where
@@ -37,5 +39,10 @@ listed-all xs n steps w rest letter len le ge below b = ⊎_elim first last case
     last h = get_or_past xs b false (omega arith) ∙ sym (ap (λ t. t && quiet_heads steps w (get_or rest letter []) (get_or rest b [])) (le-ltb b letter h))
 
 -- in a world that is not spent
-pub quiet-whole : (r : Running) (a b : ℕ) → r.spent ≡ false → is_quiet_in r a b ≡ is_quiet r.world (get_or r.file.run.steps a no_step) (get_or r.file.run.steps b no_step)
-quiet-whole r a b e = ap (λ s. (let x : Bool = elim s [ true ↦ false | false ↦ is_quiet r.world (get_or r.file.run.steps a no_step) (get_or r.file.run.steps b no_step) ] in x)) e
+pub quiet-whole : (r : Running) (a b : ℕ) → r.spent ≡ false
+    → is_quiet_in r a b ≡ is_quiet r.world (get_or r.file.run.steps a no_step) (get_or r.file.run.steps b no_step)
+quiet-whole r a b e = ap (λ s. (let x : Bool = elim s [
+  | true ↦ false
+  | false ↦ is_quiet r.world (get_or r.file.run.steps a no_step)
+      (get_or r.file.run.steps b no_step)
+] in x)) e

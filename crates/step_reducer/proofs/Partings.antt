@@ -188,7 +188,8 @@ module _ (spec : Spec) (reduce : Bool) (p : Word) (block : Block) (world : World
       let b = begins block.left j (some-total block.left a some) in_s in
       let u = word_at (taken block.left a) i in
       let word_r : word_at counts r ≡ p ++ a ∷ u =
-      ap (word_at counts) (beyond r (narrowed block a).first has_r.0) ∙ child.words i (inside r (narrowed block a).first own has_r.0 has_r.1) ∙ append_assoc p (a ∷ []) u in
+      ap (word_at counts) (beyond r (narrowed block a).first has_r.0) ∙ child.words i (inside r (narrowed block a).first own has_r.0 has_r.1)
+      ∙ append_assoc p (a ∷ []) u in
       let word_s : word_at counts s ≡ p ++ b.letter ∷ b.rest =
       ap (word_at counts) (beyond s block.first has_s.0) ∙ is.ranks.words j in_s ∙ ap (λ w. p ++ w) b.is in
       let ne : a ≢ b.letter =

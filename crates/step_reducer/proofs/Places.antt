@@ -53,7 +53,8 @@ send_all-push steps w (x ∷ xs) k = send_all-push steps (send steps w x) xs k
 
 -- ---- exchanges
 
-pub has-swap-behind : (t : Tour) (p v : Word) (k : ℕ) → has_swap t (past p k) (p ++ v) ≡ (t.reduce && (falls_at k v && quiet_at t.spec.steps (world_after t p) (rest_after (queues_of t.spec) p) k v))
+pub has-swap-behind : (t : Tour) (p v : Word) (k : ℕ)
+    → has_swap t (past p k) (p ++ v) ≡ (t.reduce && (falls_at k v && quiet_at t.spec.steps (world_after t p) (rest_after (queues_of t.spec) p) k v))
 has-swap-behind t p v k = λ i. t.reduce && (falls-behind p v k i && quiet-behind t.spec.steps v k t.world (queues_of t.spec) p i)
 
 not-same : (a b : ℕ) → nat_lt b a ≡ true → not (a == b) ≡ true
@@ -63,15 +64,18 @@ not-same a b lt = at (a == b) refl
     at true e = absurd (let less : b < a = ltb-true b a lt in let same : a ≡ b = eqb-true a b e in omega arith)
     at false e = refl
 
-pair-is : (reduce : Bool) (steps : List Step) (w : World) (q : Queues) (a b : ℕ) (v : Word) → (reduce && (falls_at 0 (a ∷ b ∷ v) && quiet_at steps w q 0 (a ∷ b ∷ v))) ≡ is_pair reduce steps w q a b
+pair-is : (reduce : Bool) (steps : List Step) (w : World) (q : Queues) (a b : ℕ) (v : Word)
+    → (reduce && (falls_at 0 (a ∷ b ∷ v) && quiet_at steps w q 0 (a ∷ b ∷ v))) ≡ is_pair reduce steps w q a b
 pair-is reduce steps w q a b v = at (nat_lt b a) refl
   where
-    at : (x : Bool) → nat_lt b a ≡ x → (reduce && (is_some (cond x (Some (b ∷ a ∷ v)) None) && (not (a == b) && quiet_heads steps w (get_or q a []) (get_or q b [])))) ≡ (reduce && (x && quiet_heads steps w (get_or q a []) (get_or q b [])))
+    at : (x : Bool) → nat_lt b a ≡ x → (reduce && (is_some (cond x (Some (b ∷ a ∷ v)) None) &&
+        (not (a == b) && quiet_heads steps w (get_or q a []) (get_or q b [])))) ≡ (reduce && (x && quiet_heads steps w (get_or q a []) (get_or q b [])))
     at true e = ap (λ y. reduce && (y && quiet_heads steps w (get_or q a []) (get_or q b []))) (not-same a b e)
     at false e = refl
 
 -- the last letter and one more
-pub last-pair : (t : Tour) (p : Word) (a b : ℕ) (v : Word) → has_swap t (length p) ((p ++ a ∷ []) ++ b ∷ v) ≡ is_pair t.reduce t.spec.steps (world_after t p) (rest_after (queues_of t.spec) p) a b
+pub last-pair : (t : Tour) (p : Word) (a b : ℕ) (v : Word) → has_swap t (length p) ((p ++ a ∷ []) ++ b ∷ v) ≡ is_pair t.reduce t.spec.steps (world_after t p)
+    (rest_after (queues_of t.spec) p) a b
 last-pair t p a b v =
     let same : length p ≡ past p 0 = omega (arith, past-is p 0) in
     (λ i. has_swap t (same i) (append_assoc p (a ∷ []) (b ∷ v) i))
@@ -100,7 +104,8 @@ get-taken (x ∷ counts) (suc a) n some = get-taken counts a n some
 left-push : (q : Queues) (counts : List ℕ) (p : Word) (a k : ℕ) (ks : List ℕ) → 0 < get_or counts a 0 → Rests q p a k ks
     → ((b : ℕ) → LeftOf (get_or q b []) (get_or counts b 0) (get_or (rest_after q p) b []))
     → (b : ℕ) → LeftOf (get_or q b []) (get_or (taken counts a) b 0) (get_or (rest_after q (p ++ a ∷ [])) b [])
-left-push q counts p a k ks some rests left b = subst (λ r. LeftOf (get_or q b []) (get_or (taken counts a) b 0) (get_or r b [])) (sym (rest-push q p a k ks rests)) (⊎_elim same other cases)
+left-push q counts p a k ks some rests left b = subst (λ r. LeftOf (get_or q b []) (get_or (taken counts a) b 0) (get_or r b []))
+    (sym (rest-push q p a k ks rests)) (⊎_elim same other cases)
   where
     cases : (a ≡ b) ⊎ (a ≢ b)
     cases = grind arith
@@ -119,7 +124,8 @@ left-push q counts p a k ks some rests left b = subst (λ r. LeftOf (get_or q b 
 
     other : a ≢ b → LeftOf (get_or q b []) (get_or (taken counts a) b 0) (get_or (set (rest_after q p) a ks) b [])
     other ne =
-        subst (λ m. LeftOf (get_or q b []) m (get_or (set (rest_after q p) a ks) b [])) (sym (get_or-set_other counts a b (get_or counts a 0 - 1) 0 (λ e. ne (sym e))))
+        subst (λ m. LeftOf (get_or q b []) m (get_or (set (rest_after q p) a ks) b []))
+        (sym (get_or-set_other counts a b (get_or counts a 0 - 1) 0 (λ e. ne (sym e))))
         (subst (LeftOf (get_or q b []) (get_or counts b 0)) (sym (get_or-set_other (rest_after q p) a b ks [] (λ e. ne (sym e)))) (left b))
 
 -- ---- places
@@ -130,7 +136,8 @@ count-at [] (suc a) = refl
 count-at (ks ∷ q) zero = refl
 count-at (ks ∷ q) (suc a) = count-at q a
 
-pub place-first : (t : Tour) (block : Block) → IsBlockOf (counts_of (queues_of t.spec)) [] block → block.left ≡ counts_of (queues_of t.spec) → IsPlace t [] block t.world []
+pub place-first : (t : Tour) (block : Block) → IsBlockOf (counts_of (queues_of t.spec)) [] block → block.left ≡ counts_of (queues_of t.spec)
+    → IsPlace t [] block t.world []
 place-first t block is all = record {
   ranks = is;
   world_is = refl;
@@ -144,17 +151,20 @@ place-first t block is all = record {
 }
 
 pub place-next : (t : Tour) (p : Word) (block : Block) (world next : World) (swaps more : List Bool) (a k : ℕ) (ks : List ℕ)
-    → IsPlace t p block world swaps → 0 < get_or block.left a 0 → get_or swaps a false ≡ false → Rests (queues_of t.spec) p a k ks → next ≡ send t.spec.steps world k
+    → IsPlace t p block world swaps → 0 < get_or block.left a 0 → get_or swaps a false ≡ false → Rests (queues_of t.spec) p a k ks
+    → next ≡ send t.spec.steps world k
     → ((b : ℕ) → get_or more b false ≡ is_pair t.reduce t.spec.steps world (rest_after (queues_of t.spec) p) a b)
     → IsPlace t (p ++ a ∷ []) (narrowed block a) next more
 place-next t p block world next swaps more a k ks is some unlisted rests sent listed = record {
   ranks = block-narrowed (counts_of q) p block a some is.ranks;
-  world_is = sent ∙ ap (λ w. send t.spec.steps w k) is.world_is ∙ sym (ap (send_all t.spec.steps t.world) (line-push q p a k ks rests) ∙ send_all-push t.spec.steps t.world (line q p) k);
+  world_is = sent ∙ ap (λ w. send t.spec.steps w k) is.world_is
+      ∙ sym (ap (send_all t.spec.steps t.world) (line-push q p a k ks rests) ∙ send_all-push t.spec.steps t.world (line q p) k);
   left = left-push q block.left p a k ks some rests is.left;
   some = λ b e. (let one = length-append p (a ∷ []) in omega (arith, one));
   settled = settled;
   pairs = λ j b rest e. (let one = length-append p (a ∷ []) in let same : j ≡ length p = omega (arith, one) in
-      ap (λ m. has_swap t m ((p ++ a ∷ []) ++ b ∷ rest)) same ∙ last-pair t p a b rest ∙ ap (λ w. is_pair t.reduce t.spec.steps w (rest_after q p) a b) (sym is.world_is) ∙ sym (listed b));
+      ap (λ m. has_swap t m ((p ++ a ∷ []) ++ b ∷ rest)) same ∙ last-pair t p a b rest
+      ∙ ap (λ w. is_pair t.reduce t.spec.steps w (rest_after q p) a b) (sym is.world_is) ∙ sym (listed b));
 }
   where
     q : Queues

@@ -33,8 +33,13 @@ module _ (steps : List Step) (v : Word) (k : ℕ) where
   quiet-behind w q (a ∷ p) = at (get_or q a []) (quiet-behind w q p) (λ n ns. quiet-behind (send steps w n) (set q a ns) p)
     where
       at : (x : List ℕ) → Behind w q p → ((n : ℕ) (ns : List ℕ) → Behind (send steps w n) (set q a ns) p)
-          → (let b : Bool = elim x [ [] ↦ quiet_at steps w q (past p k) (p ++ v) | n ∷ ns ↦ quiet_at steps (send steps w n) (set q a ns) (past p k) (p ++ v) ] in b)
-          ≡ (let l : List ℕ = elim x [ [] ↦ line q p | n ∷ ns ↦ n ∷ line (set q a ns) p ] in let r : Queues = elim x [ [] ↦ rest_after q p | n ∷ ns ↦ rest_after (set q a ns) p ] in quiet_at steps (send_all steps w l) r k v)
+          → (let b : Bool = elim x [
+            | [] ↦ quiet_at steps w q (past p k) (p ++ v)
+            | n ∷ ns ↦ quiet_at steps (send steps w n) (set q a ns) (past p k)
+                (p ++ v)
+          ] in b)
+          ≡ (let l : List ℕ = elim x [ [] ↦ line q p | n ∷ ns ↦ n ∷ line (set q a ns) p ] in let r : Queues =
+          elim x [ [] ↦ rest_after q p | n ∷ ns ↦ rest_after (set q a ns) p ] in quiet_at steps (send_all steps w l) r k v)
       at [] here there = here
       at (n ∷ ns) here there = there n ns
 
@@ -49,16 +54,20 @@ falls-front zero (a ∷ b ∷ p) v u le = at (nat_lt b a)
     at true = refl
     at false = refl
 falls-front (suc k) [] v u le = absurd (omega arith)
-falls-front (suc k) (a ∷ p) v u le = is_some-map (λ x. a ∷ x) (exchanged k (p ++ v)) ∙ falls-front k p v u (omega arith) ∙ sym (is_some-map (λ x. a ∷ x) (exchanged k (p ++ u)))
+falls-front (suc k) (a ∷ p) v u le = is_some-map (λ x. a ∷ x) (exchanged k (p ++ v)) ∙ falls-front k p v u (omega arith)
+    ∙ sym (is_some-map (λ x. a ∷ x) (exchanged k (p ++ u)))
 
-pub quiet-front : (steps : List Step) (w : World) (q : Queues) (k : ℕ) (p v u : Word) → k + 2 ≤ length p → quiet_at steps w q k (p ++ v) ≡ quiet_at steps w q k (p ++ u)
+pub quiet-front : (steps : List Step) (w : World) (q : Queues) (k : ℕ) (p v u : Word) → k + 2 ≤ length p
+    → quiet_at steps w q k (p ++ v) ≡ quiet_at steps w q k (p ++ u)
 quiet-front steps w q zero [] v u le = absurd (omega arith)
 quiet-front steps w q zero (a ∷ []) v u le = absurd (omega arith)
 quiet-front steps w q zero (a ∷ b ∷ p) v u le = refl
 quiet-front steps w q (suc k) [] v u le = absurd (omega arith)
-quiet-front steps w q (suc k) (a ∷ p) v u le = at (get_or q a []) (quiet-front steps w q k p v u (omega arith)) (λ n ns. quiet-front steps (send steps w n) (set q a ns) k p v u (omega arith))
+quiet-front steps w q (suc k) (a ∷ p) v u le = at (get_or q a []) (quiet-front steps w q k p v u (omega arith))
+    (λ n ns. quiet-front steps (send steps w n) (set q a ns) k p v u (omega arith))
   where
-    at : (x : List ℕ) → quiet_at steps w q k (p ++ v) ≡ quiet_at steps w q k (p ++ u) → ((n : ℕ) (ns : List ℕ) → quiet_at steps (send steps w n) (set q a ns) k (p ++ v) ≡ quiet_at steps (send steps w n) (set q a ns) k (p ++ u))
+    at : (x : List ℕ) → quiet_at steps w q k (p ++ v) ≡ quiet_at steps w q k (p ++ u)
+        → ((n : ℕ) (ns : List ℕ) → quiet_at steps (send steps w n) (set q a ns) k (p ++ v) ≡ quiet_at steps (send steps w n) (set q a ns) k (p ++ u))
         → (let b : Bool = elim x [ [] ↦ quiet_at steps w q k (p ++ v) | n ∷ ns ↦ quiet_at steps (send steps w n) (set q a ns) k (p ++ v) ] in b)
         ≡ (let b : Bool = elim x [ [] ↦ quiet_at steps w q k (p ++ u) | n ∷ ns ↦ quiet_at steps (send steps w n) (set q a ns) k (p ++ u) ] in b)
     at [] here there = here

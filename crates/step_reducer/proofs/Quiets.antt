@@ -31,7 +31,8 @@ and-false false = refl
 
 pub below-false : (test : ℕ → Bool) (n k : ℕ) → k < n → test k ≡ false → all_below n test ≡ false
 below-false test zero k lt fails = absurd (omega arith)
-below-false test (suc n) k lt fails = ⊎_elim (λ e. ap (λ b. b && all_below n test) (ap test (sym e) ∙ fails)) (λ h. ap (λ b. test n && b) (below-false test n k h fails) ∙ and-false (test n)) cases
+below-false test (suc n) k lt fails = ⊎_elim (λ e. ap (λ b. b && all_below n test) (ap test (sym e) ∙ fails))
+    (λ h. ap (λ b. test n && b) (below-false test n k h fails) ∙ and-false (test n)) cases
   where
     cases : (k ≡ n) ⊎ (k < n)
     cases = grind arith
@@ -45,13 +46,15 @@ abbrev told : World → Wait → Resource × Mode
 told w v = (v.resource, wanted_by (look_of w) v)
 
 pub wait-whole : (r : Running) (i : ℕ) → r.spent ≡ false → wait_in r i ≡ option_map (told r.world) (find (λ (v : Wait). v.session == i) r.world.waits)
-wait-whole r i e = ap (λ s. (let o : Option (Resource × Mode) = elim s [ true ↦ None | false ↦ option_map (told r.world) (find (λ (v : Wait). v.session == i) r.world.waits) ] in o)) e
+wait-whole r i e = ap (λ s. (let o : Option (Resource × Mode) =
+    elim s [ true ↦ None | false ↦ option_map (told r.world) (find (λ (v : Wait). v.session == i) r.world.waits) ] in o)) e
 
 pub found-any : (p : Wait → Bool) (w : World) (vs : List Wait) → is_some (option_map (told w) (find p vs)) ≡ list_any p vs
 found-any p w [] = refl
 found-any p w (v ∷ vs) = at (p v) (found-any p w vs)
   where
-    at : (b : Bool) → is_some (option_map (told w) (find p vs)) ≡ list_any p vs → is_some (option_map (told w) (cond b (Some v) (find p vs))) ≡ (b || list_any p vs)
+    at : (b : Bool) → is_some (option_map (told w) (find p vs)) ≡ list_any p vs → is_some (option_map (told w) (cond b (Some v) (find p vs)))
+        ≡ (b || list_any p vs)
     at true rest = refl
     at false rest = rest
 
@@ -69,7 +72,8 @@ pub clear-none : (w : World) (i : ℕ) (qs : List Request) (o : Option Wait) →
 unfolding clear_at
 clear-none w i qs o e = ap (clear_at w i qs) e ∙ clear-same w i qs o
 
-pub clear-some : (w : World) (i : ℕ) (qs : List Request) (o : Option Wait) (r : Resource) (m : Mode) → Some (r, m) ≡ option_map (told w) o → (not (is_some (look_of w i r)) && list_all (λ q. not (same_resource r q.resource)) qs) ≡ clear_of w i qs o
+pub clear-some : (w : World) (i : ℕ) (qs : List Request) (o : Option Wait) (r : Resource) (m : Mode) → Some (r, m) ≡ option_map (told w) o
+    → (not (is_some (look_of w i r)) && list_all (λ q. not (same_resource r q.resource)) qs) ≡ clear_of w i qs o
 unfolding clear_at
 clear-some w i qs o r m e = ap (clear_at w i qs) e ∙ clear-same w i qs o
 
@@ -83,7 +87,8 @@ module _ (test : Wait → Bool) where
   waits-false k [] e = cc
   waits-false k (v ∷ vs) e = at (v.session == k) e (λ h. waits-false k vs h)
     where
-      at : (b : Bool) → passes (cond b (Some v) (find (λ (u : Wait). u.session == k) vs)) ≡ false → (passes (find (λ (u : Wait). u.session == k) vs) ≡ false → list_all test vs ≡ false) → (test v && list_all test vs) ≡ false
+      at : (b : Bool) → passes (cond b (Some v) (find (λ (u : Wait). u.session == k) vs)) ≡ false
+          → (passes (find (λ (u : Wait). u.session == k) vs) ≡ false → list_all test vs ≡ false) → (test v && list_all test vs) ≡ false
       at true h rec = ap (λ b. b && list_all test vs) h
       at false h rec = ap (λ b. test v && b) (rec h) ∙ and-false (test v)
 
@@ -95,7 +100,8 @@ module _ (test : Wait → Bool) where
       at true e rest = absurd (d.0 (eqb-true v.session k e))
       at false e rest = rest
 
-  pub waits-true : (n : ℕ) (vs : List Wait) → EachWait (λ v. v.session < n) vs → Distinct vs → ((k : ℕ) → k < n → passes (find (λ (v : Wait). v.session == k) vs) ≡ true) → list_all test vs ≡ true
+  pub waits-true : (n : ℕ) (vs : List Wait) → EachWait (λ v. v.session < n) vs → Distinct vs
+      → ((k : ℕ) → k < n → passes (find (λ (v : Wait). v.session == k) vs) ≡ true) → list_all test vs ≡ true
   waits-true n [] known distinct all = refl
   waits-true n (v ∷ vs) known distinct all = λ j. here j && waits-true n vs known.1 distinct.1 later j
     where
@@ -105,8 +111,10 @@ module _ (test : Wait → Bool) where
       later : (k : ℕ) → k < n → passes (find (λ (u : Wait). u.session == k) vs) ≡ true
       later k lt = at (v.session == k) refl (all k lt)
         where
-          at : (b : Bool) → (v.session == k) ≡ b → passes (cond b (Some v) (find (λ (u : Wait). u.session == k) vs)) ≡ true → passes (find (λ (u : Wait). u.session == k) vs) ≡ true
-          at true e h = (let same = eqb-true v.session k e in ap passes (none-left k vs (Rattle.std.proofs.Common.subst (λ m. EachWait (λ u. u.session ≢ m) vs) same distinct.0)))
+          at : (b : Bool) → (v.session == k) ≡ b → passes (cond b (Some v) (find (λ (u : Wait). u.session == k) vs)) ≡ true
+              → passes (find (λ (u : Wait). u.session == k) vs) ≡ true
+          at true e h = (let same = eqb-true v.session k e in
+              ap passes (none-left k vs (Rattle.std.proofs.Common.subst (λ m. EachWait (λ u. u.session ≢ m) vs) same distinct.0)))
           at false e h = h
 
 -- ---- eight tests in turn
@@ -114,9 +122,11 @@ module _ (test : Wait → Bool) where
 abbrev pub parts : World → ℕ → ℕ → List Bound → List Bound → Bool
 parts w i j ss ts =
     not (i == j) && (not (waits_now w.waits i) && (not (waits_now w.waits j)
-    && (all_fit w i (plans ss) && (all_fit w j (plans ts) && (all_fit_together (plans ss) (plans ts) && (undisturbed w i (plans ss) && undisturbed w j (plans ts)))))))
+    && (all_fit w i (plans ss) && (all_fit w j (plans ts) &&
+    (all_fit_together (plans ss) (plans ts) && (undisturbed w i (plans ss) && undisturbed w j (plans ts)))))))
 
-pub quiet-parts : (w : World) (s t : Step) (i j : ℕ) (ss ts : List Bound) → i ≡ s.session → j ≡ t.session → ss ≡ s.statements → ts ≡ t.statements → is_quiet w s t ≡ parts w i j ss ts
+pub quiet-parts : (w : World) (s t : Step) (i j : ℕ) (ss ts : List Bound) → i ≡ s.session → j ≡ t.session → ss ≡ s.statements → ts ≡ t.statements
+    → is_quiet w s t ≡ parts w i j ss ts
 quiet-parts w s t i j ss ts a b c d = λ k. parts w (sym a k) (sym b k) (sym c k) (sym d k)
 
 module _ (a b c d e f g h : Bool) where
@@ -153,11 +163,14 @@ module _ (a b c d e f g h : Bool) where
 pub quiet-unspent : (r : Running) (k l : ℕ) → is_quiet_in r k l ≡ true → r.spent ≡ false
 quiet-unspent r k l e = at r.spent refl e
   where
-    at : (b : Bool) → r.spent ≡ b → (let x : Bool = elim b [ true ↦ false | false ↦ is_quiet r.world (get_or r.file.run.steps k no_step) (get_or r.file.run.steps l no_step) ] in x) ≡ true → r.spent ≡ false
+    at : (b : Bool) → r.spent ≡ b → (let x : Bool =
+        elim b [ true ↦ false | false ↦ is_quiet r.world (get_or r.file.run.steps k no_step) (get_or r.file.run.steps l no_step) ] in x) ≡ true
+        → r.spent ≡ false
     at true is h = cc
     at false is h = is
 
-module _ (r : Running) (k l : ℕ) (known : IsKnown r) (first : session_of r k < r.file.run.sessions) (second : session_of r l < r.file.run.sessions) (quiet : is_quiet r.world (get_or r.file.run.steps k no_step) (get_or r.file.run.steps l no_step) ≡ true) where
+module _ (r : Running) (k l : ℕ) (known : IsKnown r) (first : session_of r k < r.file.run.sessions) (second : session_of r l < r.file.run.sessions)
+    (quiet : is_quiet r.world (get_or r.file.run.steps k no_step) (get_or r.file.run.steps l no_step) ≡ true) where
   first-of : session_of r k < length r.world.sessions
   first-of = let count = known.sessions in omega (arith, count, first)
 

@@ -26,26 +26,39 @@ module _ (file : SpecFile) where
   -- the last one is the world after all steps
   pub trail-last : (w : World) (ks : List ℕ) (bs : List Running) (t : Running) → IsTrail file w ks (bs ++ t ∷ []) → t ≡ running (send_all file.run.steps w ks)
   trail-last w [] [] t is = is.0
-  trail-last w [] (b ∷ bs) t is = absurd (let none = ap (λ (l : List Running). length l) is.1 in let some = length-append bs (t ∷ []) in omega (arith, none, some))
+  trail-last w [] (b ∷ bs) t is = absurd (let none = ap (λ (l : List Running). length l) is.1 in let some = length-append bs (t ∷ []) in
+      omega (arith, none, some))
   trail-last w (k ∷ ks) [] t is = absurd (let rest = trail-length (send file.run.steps w k) ks [] is.1 in omega (arith, rest))
   trail-last w (k ∷ ks) (b ∷ bs) t is = trail-last (send file.run.steps w k) ks bs t is.1
 
   -- the first worlds of a trail are one of the first steps
-  pub trail-front : (w : World) (ks : List ℕ) (bs : List Running) (t : Running) (rest : List Running) → IsTrail file w ks (bs ++ (t ∷ rest)) → IsTrail file w (take (length bs) ks) (bs ++ t ∷ [])
+  pub trail-front : (w : World) (ks : List ℕ) (bs : List Running) (t : Running) (rest : List Running) → IsTrail file w ks (bs ++ (t ∷ rest))
+      → IsTrail file w (take (length bs) ks) (bs ++ t ∷ [])
   trail-front w [] [] t rest is = (is.0, refl)
-  trail-front w [] (b ∷ bs) t rest is = absurd (let none = ap (λ (l : List Running). length l) is.1 in let some = length-append bs (t ∷ rest) in omega (arith, none, some))
+  trail-front w [] (b ∷ bs) t rest is = absurd (let none = ap (λ (l : List Running). length l) is.1 in let some = length-append bs (t ∷ rest) in
+      omega (arith, none, some))
   trail-front w (k ∷ ks) [] t rest is = (is.0, refl)
   trail-front w (k ∷ ks) (b ∷ bs) t rest is = (is.0, trail-front (send file.run.steps w k) ks bs t rest is.1)
 
   -- one step more
-  pub trail-pushed : (w : World) (ks : List ℕ) (k : ℕ) (bs : List Running) (t u : Running) → IsTrail file w ks (bs ++ t ∷ []) → u ≡ record t { world = send t.file.run.steps t.world k } → IsTrail file w (ks ++ k ∷ []) ((bs ++ t ∷ []) ++ u ∷ [])
-  trail-pushed w [] k [] t u is more = (is.0, (more ∙ ap (λ (r : Running). (let s : Running = record r { world = send r.file.run.steps r.world k } in s)) is.0, refl))
-  trail-pushed w [] k (b ∷ bs) t u is more = absurd (let none = ap (λ (l : List Running). length l) is.1 in let some = length-append bs (t ∷ []) in omega (arith, none, some))
+  pub trail-pushed : (w : World) (ks : List ℕ) (k : ℕ) (bs : List Running) (t u : Running) → IsTrail file w ks (bs ++ t ∷ [])
+      → u ≡ record t { world = send t.file.run.steps t.world k } → IsTrail file w (ks ++ k ∷ []) ((bs ++ t ∷ []) ++ u ∷ [])
+  trail-pushed w [] k [] t u is more = (
+    is.0,
+    (
+      more
+          ∙ ap (λ (r : Running). (let s : Running = record r { world = send r.file.run.steps r.world k } in s)) is.0,
+      refl,
+    ),
+  )
+  trail-pushed w [] k (b ∷ bs) t u is more = absurd (let none = ap (λ (l : List Running). length l) is.1 in let some = length-append bs (t ∷ []) in
+      omega (arith, none, some))
   trail-pushed w (x ∷ ks) k [] t u is more = absurd (let rest = trail-length (send file.run.steps w x) ks [] is.1 in omega (arith, rest))
   trail-pushed w (x ∷ ks) k (b ∷ bs) t u is more = (is.0, trail-pushed (send file.run.steps w x) ks k bs t u is.1 more)
 
 -- the trail of a line, gone back to the front that another line shares, is one of the other line's front
-pub gone-back : (file : SpecFile) (old new : List ℕ) (x g : Trail) (n : ℕ) → n ≡ front old new → IsTrailOf file old x → HasGoneBack n x g → IsTrailOf file (take n new) g
+pub gone-back : (file : SpecFile) (old new : List ℕ) (x g : Trail) (n : ℕ) → n ≡ front old new → IsTrailOf file old x → HasGoneBack n x g
+    → IsTrailOf file (take n new) g
 gone-back file old new x g n is trail back =
     let cut = trail-front file (first_world file.run) old g.below.items g.top back.rest (subst (IsTrail file (first_world file.run) old) back.front_is trail) in
     let same : take (length g.below.items) old ≡ take n new =

@@ -29,11 +29,14 @@ turn-is reduce f rank table u ks is_table left block_is inside first lists = rec
       (sym (ap (λ (t : List (List ℕ)). drop (length (get_or table u.letter []) - get_or f.block.left u.letter 0) (get_or t u.letter [])) is_table) ∙ first);
   next = λ shared stands unlisted. (
       let rests : get_or (rest_after (queues_of run) shared) u.letter [] ≡ u.step ∷ ks =
-      (stands.left u.letter).1 ∙ sym (ap (λ (t : List (List ℕ)). drop (length (get_or t u.letter []) - get_or f.block.left u.letter 0) (get_or t u.letter [])) is_table) ∙ first in
+      (stands.left u.letter).1 ∙ sym (ap (λ (t : List (List ℕ)). drop (length (get_or t u.letter []) - get_or f.block.left u.letter 0)
+      (get_or t u.letter [])) is_table) ∙ first in
       let lefts : (a : ℕ) → LeftOf (get_or table a []) (get_or f.block.left a 0) (get_or (rest_after (queues_of run) shared) a []) =
-      λ a. subst (λ (t : List (List ℕ)). LeftOf (get_or t a []) (get_or f.block.left a 0) (get_or (rest_after (queues_of run) shared) a [])) (sym is_table) (stands.left a) in
+      λ a. subst (λ (t : List (List ℕ)). LeftOf (get_or t a []) (get_or f.block.left a 0) (get_or (rest_after (queues_of run) shared) a [])) (sym is_table)
+      (stands.left a) in
       subst (λ b. IsPlace (tour_of run reduce) (shared ++ u.letter ∷ []) b (send run.steps f.world.world u.step) u.swaps.items) (sym block_is)
-      (place-next (tour_of run reduce) shared f.block f.world.world (send run.steps f.world.world u.step) f.swaps.items u.swaps.items u.letter u.step ks stands left unlisted rests refl
+      (place-next (tour_of run reduce) shared f.block f.world.world (send run.steps f.world.world u.step) f.swaps.items u.swaps.items u.letter u.step ks
+      stands left unlisted rests refl
       (lists (rest_after (queues_of run) shared) ks rests lefts)));
 }
   where
@@ -46,20 +49,24 @@ frame-same reduce file f g same is = record {
   shared = is.shared;
   stands = subst (λ b. IsPlace (tour_of file.run reduce) is.shared b g.world.world g.swaps.items) (sym same.block)
       (subst (λ s. IsPlace (tour_of file.run reduce) is.shared f.block g.world.world s) (sym same.swaps)
-      (subst (λ (w : Rattle.session_machine.specs.Running.Running). IsPlace (tour_of file.run reduce) is.shared f.block w.world f.swaps.items) (sym same.world) is.stands));
+      (subst (λ (w : Rattle.session_machine.specs.Running.Running). IsPlace (tour_of file.run reduce) is.shared f.block w.world f.swaps.items)
+      (sym same.world) is.stands));
   file_is = ap (λ (w : Rattle.session_machine.specs.Running.Running). w.file) same.world ∙ is.file_is;
   whole = ap (λ (w : Rattle.session_machine.specs.Running.Running). w.spent) same.world ∙ is.whole;
 }
 
 -- the words that share the letter too, with the world after its step
-pub turn-place : (reduce : Bool) (file : SpecFile) (f : Frame) (u : Turn) (rank : ℕ) (is : IsFrame reduce file f) → IsTurn reduce f rank u → get_or f.swaps.items u.letter false ≡ false
+pub turn-place : (reduce : Bool) (file : SpecFile) (f : Frame) (u : Turn) (rank : ℕ) (is : IsFrame reduce file f) → IsTurn reduce f rank u
+    → get_or f.swaps.items u.letter false ≡ false
     → IsPlace (tour_of file.run reduce) (is.shared ++ u.letter ∷ []) u.block (send f.world.file.run.steps f.world.world u.step) u.swaps.items
 turn-place reduce file f u rank is turn unlisted =
-    subst (λ (x : SpecFile). IsPlace (tour_of x.run reduce) (is.shared ++ u.letter ∷ []) u.block (send f.world.file.run.steps f.world.world u.step) u.swaps.items) is.file_is
+    subst (λ (x : SpecFile). IsPlace (tour_of x.run reduce) (is.shared ++ u.letter ∷ []) u.block (send f.world.file.run.steps f.world.world u.step)
+    u.swaps.items) is.file_is
     (turn.next is.shared (subst (λ (x : SpecFile). StandsAt reduce x.run is.shared f) (sym is.file_is) is.stands) unlisted)
 
 -- the frame that has gone on stands behind the letter
-pub frame-turned : (reduce : Bool) (file : SpecFile) (f g : Frame) (u : Turn) (rank : ℕ) → IsFrame reduce file f → IsTurn reduce f rank u → get_or f.swaps.items u.letter false ≡ false → HasTurned f u g → IsFrame reduce file g
+pub frame-turned : (reduce : Bool) (file : SpecFile) (f g : Frame) (u : Turn) (rank : ℕ) → IsFrame reduce file f → IsTurn reduce f rank u
+    → get_or f.swaps.items u.letter false ≡ false → HasTurned f u g → IsFrame reduce file g
 frame-turned reduce file f g u rank is turn unlisted done = record {
   shared = is.shared ++ u.letter ∷ [];
   stands = subst (λ b. IsPlace (tour_of file.run reduce) (is.shared ++ u.letter ∷ []) b g.world.world g.swaps.items) (sym done.block)

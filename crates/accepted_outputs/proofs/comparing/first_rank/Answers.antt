@@ -16,7 +16,8 @@ is_alike-requires-clause-name c =
 pub returns-then-not-is_alike : goal.returns-then-not-is_alike
 returns-then-not-is_alike c = record {
   before = c.loop-rank.invariant.before;
-  there = apart-values c.parts.result.0.now c.parts-2.result.0.now c.parts.result.1.now c.parts-2.result.1.now c.args.report.now c.args.other.now c.loop-rank.rank
+  there = apart-values c.parts.result.0.now c.parts-2.result.0.now c.parts.result.1.now c.parts-2.result.1.now c.args.report.now c.args.other.now
+      c.loop-rank.rank
       c.parts.ensures.values c.parts-2.ensures.values
       (omega (arith, c.loop-rank-test.true, c.min-shorter.ensures)) (omega (arith, c.loop-rank-test.true, c.min-shorter.ensures))
       (λ e. false≢true (sym c.if-not-is_alike.true ∙ c.is_alike.ensures.1 e));
@@ -27,7 +28,8 @@ loop-rank-preserved c =
     let same = c.is_alike.ensures.0 c.if-not-is_alike.false in
     record {
       before = one-more c.args.report.now c.args.other.now c.loop-rank.rank (c.loop-rank.rank + 1) (omega arith) c.loop-rank.invariant.before
-          (same-values c.parts.result.0.now c.parts-2.result.0.now c.parts.result.1.now c.parts-2.result.1.now c.args.report.now c.args.other.now c.loop-rank.rank
+          (same-values c.parts.result.0.now c.parts-2.result.0.now c.parts.result.1.now c.parts-2.result.1.now c.args.report.now c.args.other.now
+          c.loop-rank.rank
           c.parts.ensures.values c.parts-2.ensures.values
           (omega (arith, c.loop-rank-test.true, c.min-shorter.ensures)) (omega (arith, c.loop-rank-test.true, c.min-shorter.ensures)) same);
       known = same;

@@ -10,7 +10,8 @@ returns c = λ r d lt.
     let book = c.args.book.now in
     let report = c.args.report.now in
     let count = c.requires.count_is in
-    let own = value-own book.file.run book.facts (leads_in book.file.run) c.known.ensures.facts r (get_or report r []) (c.requires.each r (omega (arith, count, lt))).value in
+    let own = value-own book.file.run book.facts (leads_in book.file.run) c.known.ensures.facts r (get_or report r [])
+    (c.requires.each r (omega (arith, count, lt))).value in
     let each = own.each in
     let few = (file-is-ready book.file.text book.file c.known.ensures.file).few_sessions in
     let short : length (get_or report r []) < 256 = omega (arith, each, few) in

@@ -29,17 +29,20 @@ loop-i-preserved c =
     let i = c.loop-i.i in
     let lt = c.loop-i-test.true in
     record {
-      says = λ table e. c.in_ok-add.ensures.says table e ∙ ap (λ b. b || has table e (get_or runs i d)) (c.loop-i.invariant.says table e) ∙ sym (list_any_more (has table e) runs i d lt);
+      says = λ table e. c.in_ok-add.ensures.says table e ∙ ap (λ b. b || has table e (get_or runs i d)) (c.loop-i.invariant.says table e)
+          ∙ sym (list_any_more (has table e) runs i d lt);
       sound = λ n a. c.in_ok-add.ensures.sound n (c.loop-i.invariant.sound n a) (AllSound-at n runs i d lt a);
     }
 
 pub returns-clause-says : goal.returns-clause-says
 returns-clause-says c = λ table e.
     let all = take_all c.loop-i.i c.args.runs.now (omega (arith, c.loop-i-test.false, c.loop-i.auto.i-end)) in
-    ap (list_any (has table e)) (sym (append-nil (runs_of c.close.new.self.ended.items)) ∙ ap (λ r. runs_of c.close.new.self.ended.items ++ r) (sym c.in_ok-close.ensures.rest) ∙ c.in_ok-close.ensures.same)
+    ap (list_any (has table e)) (sym (append-nil (runs_of c.close.new.self.ended.items))
+    ∙ ap (λ r. runs_of c.close.new.self.ended.items ++ r) (sym c.in_ok-close.ensures.rest) ∙ c.in_ok-close.ensures.same)
     ∙ c.loop-i.invariant.says table e ∙ ap (list_any (has table e)) all
 
 pub returns-clause-sound : goal.returns-clause-sound
 returns-clause-sound c = λ n a.
-    subst (AllSound n) (sym (sym (append-nil (runs_of c.close.new.self.ended.items)) ∙ ap (λ r. runs_of c.close.new.self.ended.items ++ r) (sym c.in_ok-close.ensures.rest) ∙ c.in_ok-close.ensures.same))
+    subst (AllSound n) (sym (sym (append-nil (runs_of c.close.new.self.ended.items))
+    ∙ ap (λ r. runs_of c.close.new.self.ended.items ++ r) (sym c.in_ok-close.ensures.rest) ∙ c.in_ok-close.ensures.same))
     (c.loop-i.invariant.sound n a)

@@ -9,7 +9,8 @@ loop-i-preserved c =
     let findings = c.args.findings.now in
     let i = c.loop-i.i in
     let all = c.loop-i.all in
-    ap (λ f. all_of f (drop (i + 1) findings)) c.both-all.ensures ∙ sym (at_drop_more (all_of all) findings i found.AllTrue c.loop-i-test.true) ∙ c.loop-i.invariant
+    ap (λ f. all_of f (drop (i + 1) findings)) c.both-all.ensures ∙ sym (at_drop_more (all_of all) findings i found.AllTrue c.loop-i-test.true)
+    ∙ c.loop-i.invariant
 
 pub returns : goal.returns
 returns c =

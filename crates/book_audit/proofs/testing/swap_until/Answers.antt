@@ -13,8 +13,10 @@ are_quiet-requires-clause-steps c =
     let rank = c.args.rank in
     let counts = c.in-Some.ensures.counts in
     let lt = c.in-Some-unrank.ensures.some.0 refl in
-    let falls = falls-where _ c.swapped.result c.args.place c.in-Some-unrank.word.items c.swapped.ensures.exchanged (sym c.is_some-falls.ensures ∙ c.if-not-falls.false) in
-    let falls_there : falls_at c.args.place (word_at c.in-Some.shape.now rank) ≡ true = ap (λ u. falls_at c.args.place u) (sym c.in-Some-unrank.ensures.word) ∙ falls in
+    let falls = falls-where _ c.swapped.result c.args.place c.in-Some-unrank.word.items c.swapped.ensures.exchanged (sym c.is_some-falls.ensures
+    ∙ c.if-not-falls.false) in
+    let falls_there : falls_at c.args.place (word_at c.in-Some.shape.now rank) ≡ true = ap (λ u. falls_at c.args.place u) (sym c.in-Some-unrank.ensures.word)
+    ∙ falls in
     let inside : rank < length (all_words (counts_of (queues_of run))) = subst (λ cs. rank < length (all_words cs)) counts lt in
     let falls_here : falls_at c.args.place (word_of run rank) ≡ true = subst (λ cs. falls_at c.args.place (word_at cs rank) ≡ true) counts falls_there in
     let words = c.in-Some.ensures.words.0 refl in
@@ -26,8 +28,10 @@ alike_to-requires-clause-letters c =
     let rank = c.args.rank in
     let counts = c.in-Some.ensures.counts in
     let lt = c.in-Some-unrank.ensures.some.0 refl in
-    let falls = falls-where _ c.swapped.result c.args.place c.in-Some-unrank.word.items c.swapped.ensures.exchanged (sym c.is_some-falls.ensures ∙ c.if-not-falls.false) in
-    let falls_there : falls_at c.args.place (word_at c.in-Some.shape.now rank) ≡ true = ap (λ u. falls_at c.args.place u) (sym c.in-Some-unrank.ensures.word) ∙ falls in
+    let falls = falls-where _ c.swapped.result c.args.place c.in-Some-unrank.word.items c.swapped.ensures.exchanged (sym c.is_some-falls.ensures
+    ∙ c.if-not-falls.false) in
+    let falls_there : falls_at c.args.place (word_at c.in-Some.shape.now rank) ≡ true = ap (λ u. falls_at c.args.place u) (sym c.in-Some-unrank.ensures.word)
+    ∙ falls in
     falls-inside c.in-Some.shape.now rank c.args.place lt falls_there
 
 pub returns-clause-answer : goal.returns-clause-answer
@@ -36,8 +40,10 @@ returns-clause-answer c =
     let rank = c.args.rank in
     let counts = c.in-Some.ensures.counts in
     let lt = c.in-Some-unrank.ensures.some.0 refl in
-    let falls = falls-where _ c.swapped.result c.args.place c.in-Some-unrank.word.items c.swapped.ensures.exchanged (sym c.is_some-falls.ensures ∙ c.if-not-falls.false) in
-    let falls_there : falls_at c.args.place (word_at c.in-Some.shape.now rank) ≡ true = ap (λ u. falls_at c.args.place u) (sym c.in-Some-unrank.ensures.word) ∙ falls in
+    let falls = falls-where _ c.swapped.result c.args.place c.in-Some-unrank.word.items c.swapped.ensures.exchanged (sym c.is_some-falls.ensures
+    ∙ c.if-not-falls.false) in
+    let falls_there : falls_at c.args.place (word_at c.in-Some.shape.now rank) ≡ true = ap (λ u. falls_at c.args.place u) (sym c.in-Some-unrank.ensures.word)
+    ∙ falls in
     let inside : rank < length (all_words (counts_of (queues_of run))) = subst (λ cs. rank < length (all_words cs)) counts lt in
     let falls_here : falls_at c.args.place (word_of run rank) ≡ true = subst (λ cs. falls_at c.args.place (word_at cs rank) ≡ true) counts falls_there in
     let words = c.in-Some.ensures.words.0 refl in

@@ -25,4 +25,8 @@ pub returns : goal.returns
 returns c =
     let runs = c.args.runs.now in
     let all : take c.loop-run.run-index runs ≡ runs = take_all c.loop-run.run-index runs (omega (arith, c.loop-run-test.false)) in
-    record { facts = subst (λ rs. c.loop-run.facts ≡ min (total_of rs) 18446744073709551615) all c.loop-run.invariant.0; fit = subst (All RunFits) all c.loop-run.invariant.1 }
+    record {
+      facts = subst (λ rs. c.loop-run.facts ≡ min (total_of rs) 18446744073709551615) all c.loop-run.invariant.0;
+      fit =
+          subst (All RunFits) all c.loop-run.invariant.1;
+    }

@@ -37,7 +37,8 @@ pub returns : goal.returns
 returns g c =
     let n = c.args.counts in
     let contents = g.W.Write.contents in
-    prints-after contents c.args.out.now c.write_count.new.out c.write_count-3.new.out c.write_count-3.result (sessions n.sessions) (steps n.steps ++ ranks n.ranks)
+    prints-after contents c.args.out.now c.write_count.new.out c.write_count-3.new.out c.write_count-3.result (sessions n.sessions)
+    (steps n.steps ++ ranks n.ranks)
     c.in_ok-write_count.ensures
     (prints-after contents c.write_count.new.out c.write_count-2.new.out c.write_count-3.new.out c.write_count-3.result (steps n.steps) (ranks n.ranks)
     c.in_ok-write_count-2.ensures c.write_count-3.ensures)

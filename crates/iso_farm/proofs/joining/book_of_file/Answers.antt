@@ -6,4 +6,5 @@ use Rattle.iso_farm.proofs.joining.book_of_file.Goals as goal
 -- a reader at the front of a file is asked for a book
 pub returns : goal.returns
 returns g c =
-    of-known g.O.Reader.Read.remaining _ c.in-Some.reader c.new.result (λ bytes. IsReadOf bytes (Err c.in-Err.error)) c.new.ensures.inner c.in-Some.ensures c.in-Err.ensures.book
+    of-known g.O.Reader.Read.remaining _ c.in-Some.reader c.new.result (λ bytes. IsReadOf bytes (Err c.in-Err.error)) c.new.ensures.inner c.in-Some.ensures
+    c.in-Err.ensures.book

@@ -26,4 +26,5 @@ returns g c =
     let count = length-map c.args.paths.now (λ (p : Bor (List ℕ)). p.now) in
     let all : c.loop-place.place ≡ length (map (λ (p : Bor (List ℕ)). p.now) c.args.paths.now) =
     omega (arith, c.requires, c.loop-place-test.false, c.loop-place.auto.place-end, count) in
-    subst (λ n. IsJoinOf (g.O.Opener.bytes c.args.opener.now) (map (λ (p : Bor (List ℕ)). p.now) c.args.paths.now) n c.loop-place.book) all c.loop-place.invariant.1
+    subst (λ n. IsJoinOf (g.O.Opener.bytes c.args.opener.now) (map (λ (p : Bor (List ℕ)). p.now) c.args.paths.now) n c.loop-place.book)
+    all c.loop-place.invariant.1

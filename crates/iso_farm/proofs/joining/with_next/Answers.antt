@@ -7,7 +7,8 @@ use Rattle.iso_farm.proofs.joining.with_next.Goals as goal
 pub returns-in-Ok-join : goal.returns-in-Ok-join
 returns-in-Ok-join g c = (
   c.in-Ok.next,
-  subst (λ p. IsFileBook (g.O.Opener.bytes c.args.opener.now p) (Ok c.in-Ok.next)) (sym (get_or-map (λ (p : Bor (List ℕ)). p.now) c.args.paths.now c.args.place _ _ c.requires)) c.in-Ok.ensures,
+  subst (λ p. IsFileBook (g.O.Opener.bytes c.args.opener.now p) (Ok c.in-Ok.next))
+      (sym (get_or-map (λ (p : Bor (List ℕ)). p.now) c.args.paths.now c.args.place _ _ c.requires)) c.in-Ok.ensures,
   c.in-Ok-join.ensures.same,
   c.in-Ok-join.ensures.union,
 )
@@ -18,7 +19,8 @@ returns-in-Err-SpecMismatch g c = (
   refl,
   (
     c.in-Ok.next,
-    subst (λ p. IsFileBook (g.O.Opener.bytes c.args.opener.now p) (Ok c.in-Ok.next)) (sym (get_or-map (λ (p : Bor (List ℕ)). p.now) c.args.paths.now c.args.place _ _ c.requires)) c.in-Ok.ensures,
+    subst (λ p. IsFileBook (g.O.Opener.bytes c.args.opener.now p) (Ok c.in-Ok.next))
+        (sym (get_or-map (λ (p : Bor (List ℕ)). p.now) c.args.paths.now c.args.place _ _ c.requires)) c.in-Ok.ensures,
     c.in-Err-SpecMismatch.ensures.mismatch.0 (ap Err c.in-Err-SpecMismatch.field-0-is),
   ),
 )

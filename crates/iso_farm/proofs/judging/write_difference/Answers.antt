@@ -34,7 +34,8 @@ pub returns : goal.returns
 returns g c =
     let d = c.args.difference in
     let contents = g.W.Write.contents in
-    prints-after contents c.args.out.now c.write_before.new.out c.write_number.new.out c.write_number.result (front c.args.index) (middle d.0 ++ number_line d.1)
+    prints-after contents c.args.out.now c.write_before.new.out c.write_number.new.out c.write_number.result (front c.args.index)
+    (middle d.0 ++ number_line d.1)
     c.in_ok-write_before.ensures
     (prints-after contents c.write_before.new.out c.write_before-2.new.out c.write_number.new.out c.write_number.result (middle d.0) (number_line d.1)
     c.in_ok-write_before-2.ensures c.write_number.ensures)

@@ -6,5 +6,6 @@ use Rattle.iso_farm.proofs.judging.write_differences.Goals as goal
 pub returns-in_err-write_difference : goal.returns-in_err-write_difference
 returns-in_err-write_difference g c =
     prints-stopped _ _ _ _ _
-    (line-stopped g.W.Write.contents _ _ c.args.differences.now _ c.loop-index.index _ c.loop-index-test.true c.loop-index.invariant c.in_err-write_difference.ensures)
+    (line-stopped g.W.Write.contents _ _ c.args.differences.now _ c.loop-index.index _ c.loop-index-test.true c.loop-index.invariant
+    c.in_err-write_difference.ensures)
     c.from_residual.ensures.0

@@ -11,7 +11,8 @@ pub returns-in_err-write_one : goal.returns-in_err-write_one
 returns-in_err-write_one g c =
     let lt : c.loop-rank.rank < length c.args.values.now = subst (λ n. c.loop-rank.rank < n) c.len-rank-end.ensures c.loop-rank-test.true in
     prints-stopped _ _ _ _ _
-    (value-stopped g.W.Write.contents _ _ c.args.spec.now c.args.values.now _ c.loop-rank.rank _ lt c.in-Some.ensures c.loop-rank.invariant c.in_err-write_one.ensures)
+    (value-stopped g.W.Write.contents _ _ c.args.spec.now c.args.values.now _ c.loop-rank.rank _ lt c.in-Some.ensures c.loop-rank.invariant
+    c.in_err-write_one.ensures)
     c.from_residual.ensures.0
 
 -- one value more: each rank has one
@@ -21,6 +22,7 @@ loop-rank-preserved g c =
     elim c.match-outcome.branch [
       | in-Some+in_ok-write_one w ↦
           subst (λ o. Wrote g.W.Write.contents c.args.out.now o (values_text c.args.spec.now c.args.values.now (c.loop-rank.rank + 1))) (sym w.out-is)
-          (value-written g.W.Write.contents _ _ c.args.spec.now c.args.values.now _ c.loop-rank.rank _ w.in-Some.ensures c.loop-rank.invariant w.in_ok-write_one.ensures)
+          (value-written g.W.Write.contents _ _ c.args.spec.now c.args.values.now _ c.loop-rank.rank _ w.in-Some.ensures c.loop-rank.invariant
+          w.in_ok-write_one.ensures)
       | in_default w ↦ absurd (none-at c.args.values.now c.loop-rank.rank lt w.in_default.ensures)
     ]

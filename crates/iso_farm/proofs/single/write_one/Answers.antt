@@ -30,7 +30,8 @@ returns g c =
     let spec = c.args.spec.now in
     let o = c.args.outcome.now in
     let contents = g.W.Write.contents in
-    subst (λ ss. Prints contents c.args.out.now c.print.new.out c.print.result (rank_text c.args.rank ++ outcome_text ss spec.step_names o)) c.session_names.ensures.are
+    subst (λ ss. Prints contents c.args.out.now c.print.new.out c.print.result (rank_text c.args.rank ++ outcome_text ss spec.step_names o))
+    c.session_names.ensures.are
     (subst (λ ns. Prints contents c.args.out.now c.print.new.out c.print.result (rank_text c.args.rank ++ outcome_text c.session_names.result.now ns o))
     c.step_names.ensures.are
     (prints-after contents c.args.out.now _ c.print.new.out c.print.result (rank_text c.args.rank)

@@ -15,16 +15,19 @@ lower shape first last n below tag lead is from to h =
 
 pub overflow_add-rank : goal.overflow_add-rank
 overflow_add-rank c =
-    let lt = lower c.args.shape.now c.args.first c.args.last (length c.args.done.now) _ c.args.tag _ c.in-From.is c.requires.from c.requires.to c.requires.lead in
+    let lt = lower c.args.shape.now c.args.first c.args.last (length c.args.done.now) _ c.args.tag _ c.in-From.is c.requires.from c.requires.to
+    c.requires.lead in
     search rules
 
 pub offset_bounds-done-rank : goal.offset_bounds-done-rank
 offset_bounds-done-rank c =
-    let lt = lower c.args.shape.now c.args.first c.args.last (length c.args.done.now) _ c.args.tag _ c.in-From.is c.requires.from c.requires.to c.requires.lead in
+    let lt = lower c.args.shape.now c.args.first c.args.last (length c.args.done.now) _ c.args.tag _ c.in-From.is c.requires.from c.requires.to
+    c.requires.lead in
     search rules
 
 pub bounds-done-rank : goal.bounds-done-rank
-bounds-done-rank c = lower c.args.shape.now c.args.first c.args.last (length c.args.done.now) _ c.args.tag _ c.in-From.is c.requires.from c.requires.to c.requires.lead
+bounds-done-rank c = lower c.args.shape.now c.args.first c.args.last (length c.args.done.now) _ c.args.tag _ c.in-From.is c.requires.from c.requires.to
+    c.requires.lead
 
 pub returns-in-From : goal.returns-in-From
 returns-in-From c =

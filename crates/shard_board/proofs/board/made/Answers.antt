@@ -13,6 +13,8 @@ pub new-requires : goal.new-requires
 new-requires c =
     let plan : Plan = record { shards = c.args.shards; seats = c.args.seats; empty = c.in_ok-empty.empty } in
     let few = c.requires.few in
-    let book : c.in_ok-book.book ≡ book_with plan empty = c.in_ok-book.ensures ∙ ap (λ (b : Contents). record { file = b.file; facts = empty }) (sym c.in_ok-empty.ensures) in
-    subst (λ (xs : List Slot). Kept plan (opening (0 ∷ 0 ∷ 0 ∷ []) xs (first_view plan))) (sym (c.in_ok-slots.ensures.items ∙ ap (λ (b : Contents). Some b ∷ []) book))
+    let book : c.in_ok-book.book ≡ book_with plan empty = c.in_ok-book.ensures
+    ∙ ap (λ (b : Contents). record { file = b.file; facts = empty }) (sym c.in_ok-empty.ensures) in
+    subst (λ (xs : List Slot). Kept plan (opening (0 ∷ 0 ∷ 0 ∷ []) xs (first_view plan)))
+    (sym (c.in_ok-slots.ensures.items ∙ ap (λ (b : Contents). Some b ∷ []) book))
     (opens plan (omega arith) (omega arith) (omega arith))

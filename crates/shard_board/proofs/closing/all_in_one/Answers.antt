@@ -15,7 +15,8 @@ loop-seat-init c =
     let p = c.place_of-keeper.ensures in record {
       same = p.0 ∙ b.1;
       board = b.0;
-      parts = subst (λ (all : List ShownSeat). Gathered c.place_of-keeper.result.me rest all) (sym e) (gathers_first c.place_of-keeper.result.me rest c.in-Some.first p.1 p.2);
+      parts = subst (λ (all : List ShownSeat). Gathered c.place_of-keeper.result.me rest all) (sym e)
+          (gathers_first c.place_of-keeper.result.me rest c.in-Some.first p.1 p.2);
     }
 
 pub join_seat-requires : goal.join_seat-requires
@@ -38,5 +39,6 @@ loop-seat-preserved c =
     let j = c.join_seat.ensures in record {
       same = j.0 ∙ i.same;
       board = b.0;
-      parts = gathers_next c.loop-seat.keeper.me c.join_seat.new.seat.me c.place_of-place.result.me.0 rest c.args.seats.items c.in-Some-pop.seat (subst (λ (l : List ShownSeat). Gathered c.loop-seat.keeper.me l c.args.seats.items) e i.parts) p.2 j.2;
+      parts = gathers_next c.loop-seat.keeper.me c.join_seat.new.seat.me c.place_of-place.result.me.0 rest c.args.seats.items c.in-Some-pop.seat
+          (subst (λ (l : List ShownSeat). Gathered c.loop-seat.keeper.me l c.args.seats.items) e i.parts) p.2 j.2;
     }

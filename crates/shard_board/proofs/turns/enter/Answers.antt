@@ -15,12 +15,21 @@ loop-init g c = let e = c.fetch_add-ticket.ensures in let r = c.requires.rests i
     record { table = e.0; id = e.1; me = λ i. (e.2.1 i, (e.2.0 ∙ r.0) i) }
 
 pub load-requires : goal.load-requires
-load-requires g c = let t = c.requires.table in let r = c.requires.rests in let i = c.loop.invariant in
-    (i.table ∙ t.0, omega arith, waits_for _ _ _ _ c.fetch_add-ticket.result (ap (λ (m : Me Slot _). m.0.live) i.me ∙ r.1) (ap (λ (m : Me Slot _). m.0.ticket) i.me) (ap (λ (m : Me Slot _). m.0.holding) i.me ∙ r.4))
+load-requires g c = let t = c.requires.table in let r = c.requires.rests in let i = c.loop.invariant in (
+  i.table ∙ t.0,
+  omega arith,
+  waits_for _ _ _ _ c.fetch_add-ticket.result (ap (λ (m : Me Slot _). m.0.live) i.me ∙ r.1)
+      (ap (λ (m : Me Slot _). m.0.ticket) i.me) (ap (λ (m : Me Slot _). m.0.holding) i.me ∙ r.4),
+)
 
 pub loop-preserved : goal.loop-preserved
 loop-preserved g c = let i = c.loop.invariant in let e = c.load.ensures in
-    record { table = e.0 ∙ i.table; id = e.1 ∙ i.id; me = (e.2 c.fetch_add-ticket.result (ap (λ (m : Me Slot _). m.0.ticket) i.me)).0 c.if-load-ticket.false ∙ i.me }
+    record {
+      table = e.0 ∙ i.table;
+      id = e.1 ∙ i.id;
+      me = (e.2 c.fetch_add-ticket.result (ap (λ (m : Me Slot _). m.0.ticket) i.me)).0 c.if-load-ticket.false
+          ∙ i.me;
+    }
 
 pub returns-then-load-ticket : goal.returns-then-load-ticket
 returns-then-load-ticket g c = let i = c.loop.invariant in let e = c.load.ensures in

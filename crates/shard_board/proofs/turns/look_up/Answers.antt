@@ -18,11 +18,13 @@ pub leave_latest-requires-clause-ready : goal.leave_latest-requires-clause-ready
 leave_latest-requires-clause-ready g c =
     let e = c.enter.ensures in
     let m' : Me Slot View = c.enter.new.place.me in
-    let held : c.in-Some.held ≡ book_with c.args.place.now.me.0.plan (facts_of m'.0.own.seen) = some_is _ _ (sym c.in-Some.is ∙ held_is m' _ _ e.entered.slot c.exchange.ensures.2) in
+    let held : c.in-Some.held ≡ book_with c.args.place.now.me.0.plan (facts_of m'.0.own.seen) =
+    some_is _ _ (sym c.in-Some.is ∙ held_is m' _ _ e.entered.slot c.exchange.ensures.2) in
     let copied : c.in-Ok.copy ≡ c.in-Some.held = copy_is _ _ _ c.in-Ok.ensures.union c.requires.empty in
     let call : Call = Latest (Some c.in-Ok.copy.facts) in
     may_end c.args.place.now.me m' c.exchange-in-Ok.new.seat.me c.enter.result c.args.by call c.in-Some.held c.requires.rests e.entered c.requires.few.1
-    (put_in m' c.exchange.new.seat.me c.exchange-in-Ok.new.seat.me (book_with c.args.place.now.me.0.plan (facts_of m'.0.own.seen)) None (Some c.in-Some.held) e.entered.slot c.exchange.ensures.3 c.exchange-in-Ok.ensures.3)
+    (put_in m' c.exchange.new.seat.me c.exchange-in-Ok.new.seat.me (book_with c.args.place.now.me.0.plan (facts_of m'.0.own.seen)) None
+    (Some c.in-Some.held) e.entered.slot c.exchange.ensures.3 c.exchange-in-Ok.ensures.3)
     (ap (λ (b : Contents). b.facts) (copied ∙ held)) held
 
 pub returns-in-Ok-clause-turned : goal.returns-in-Ok-clause-turned
@@ -31,30 +33,43 @@ returns-in-Ok-clause-turned g c =
     let m' : Me Slot View = c.enter.new.place.me in
     let copied : c.in-Ok.copy ≡ c.in-Some.held = copy_is _ _ _ c.in-Ok.ensures.union c.requires.empty in
     let call : Call = Latest (Some c.in-Ok.copy.facts) in
-    let held : c.in-Some.held ≡ book_with c.args.place.now.me.0.plan (facts_of m'.0.own.seen) = some_is _ _ (sym c.in-Some.is ∙ held_is m' _ _ e.entered.slot c.exchange.ensures.2) in
+    let held : c.in-Some.held ≡ book_with c.args.place.now.me.0.plan (facts_of m'.0.own.seen) =
+    some_is _ _ (sym c.in-Some.is ∙ held_is m' _ _ e.entered.slot c.exchange.ensures.2) in
     has_turned c.args.place.now.me m' c.exchange-in-Ok.new.seat.me c.enter.result c.args.by call c.in-Some.held c.requires.rests e.entered c.requires.few.1
-    (put_in m' c.exchange.new.seat.me c.exchange-in-Ok.new.seat.me (book_with c.args.place.now.me.0.plan (facts_of m'.0.own.seen)) None (Some c.in-Some.held) e.entered.slot c.exchange.ensures.3 c.exchange-in-Ok.ensures.3)
+    (put_in m' c.exchange.new.seat.me c.exchange-in-Ok.new.seat.me (book_with c.args.place.now.me.0.plan (facts_of m'.0.own.seen)) None
+    (Some c.in-Some.held) e.entered.slot c.exchange.ensures.3 c.exchange-in-Ok.ensures.3)
     (ap (λ (b : Contents). b.facts) (copied ∙ held)) c.leave_latest.new.place.me c.leave_latest.ensures.1
 
 pub leave_latest-requires-in-Err-clause-ready : goal.leave_latest-requires-in-Err-clause-ready
 leave_latest-requires-in-Err-clause-ready g c =
     let e = c.enter.ensures in
     let m' : Me Slot View = c.enter.new.place.me in
-    let held : c.in-Some.held ≡ book_with c.args.place.now.me.0.plan (facts_of m'.0.own.seen) = some_is _ _ (sym c.in-Some.is ∙ held_is m' _ _ e.entered.slot c.exchange.ensures.2) in
-    may_end c.args.place.now.me m' c.exchange-in-Err.new.seat.me c.enter.result c.args.by (Latest None) c.in-Some.held c.requires.rests e.entered c.requires.few.1
-    (put_in m' c.exchange.new.seat.me c.exchange-in-Err.new.seat.me (book_with c.args.place.now.me.0.plan (facts_of m'.0.own.seen)) None (Some c.in-Some.held) e.entered.slot c.exchange.ensures.3 c.exchange-in-Err.ensures.3)
+    let held : c.in-Some.held ≡ book_with c.args.place.now.me.0.plan (facts_of m'.0.own.seen) =
+    some_is _ _ (sym c.in-Some.is ∙ held_is m' _ _ e.entered.slot c.exchange.ensures.2) in
+    may_end c.args.place.now.me m' c.exchange-in-Err.new.seat.me c.enter.result c.args.by (Latest None) c.in-Some.held c.requires.rests e.entered
+    c.requires.few.1
+    (put_in m' c.exchange.new.seat.me c.exchange-in-Err.new.seat.me (book_with c.args.place.now.me.0.plan (facts_of m'.0.own.seen)) None
+    (Some c.in-Some.held) e.entered.slot c.exchange.ensures.3 c.exchange-in-Err.ensures.3)
     tt held
 
 pub returns-in-Err-clause-turned : goal.returns-in-Err-clause-turned
 returns-in-Err-clause-turned g c =
     let e = c.enter.ensures in
     let m' : Me Slot View = c.enter.new.place.me in
-    has_turned c.args.place.now.me m' c.exchange-in-Err.new.seat.me c.enter.result c.args.by (Latest None) c.in-Some.held c.requires.rests e.entered c.requires.few.1
-    (put_in m' c.exchange.new.seat.me c.exchange-in-Err.new.seat.me (book_with c.args.place.now.me.0.plan (facts_of m'.0.own.seen)) None (Some c.in-Some.held) e.entered.slot c.exchange.ensures.3 c.exchange-in-Err.ensures.3)
+    has_turned c.args.place.now.me m' c.exchange-in-Err.new.seat.me c.enter.result c.args.by (Latest None) c.in-Some.held c.requires.rests e.entered
+    c.requires.few.1
+    (put_in m' c.exchange.new.seat.me c.exchange-in-Err.new.seat.me (book_with c.args.place.now.me.0.plan (facts_of m'.0.own.seen)) None
+    (Some c.in-Some.held) e.entered.slot c.exchange.ensures.3 c.exchange-in-Err.ensures.3)
     tt c.leave_latest-in-Err.new.place.me c.leave_latest-in-Err.ensures.1
 
 pub exchange-requires-in-Ok : goal.exchange-requires-in-Ok
-exchange-requires-in-Ok g c = (c.exchange.ensures.0 ∙ (c.enter.ensures.same.0 ∙ c.requires.table.0), (None, still_out _ None _ (ap (λ (m : Me Slot View). m.1) c.exchange.ensures.3)))
+exchange-requires-in-Ok g c = (
+  c.exchange.ensures.0 ∙ (c.enter.ensures.same.0 ∙ c.requires.table.0),
+  (None, still_out _ None _ (ap (λ (m : Me Slot View). m.1) c.exchange.ensures.3)),
+)
 
 pub exchange-requires-in-Err : goal.exchange-requires-in-Err
-exchange-requires-in-Err g c = (c.exchange.ensures.0 ∙ (c.enter.ensures.same.0 ∙ c.requires.table.0), (None, still_out _ None _ (ap (λ (m : Me Slot View). m.1) c.exchange.ensures.3)))
+exchange-requires-in-Err g c = (
+  c.exchange.ensures.0 ∙ (c.enter.ensures.same.0 ∙ c.requires.table.0),
+  (None, still_out _ None _ (ap (λ (m : Me Slot View). m.1) c.exchange.ensures.3)),
+)

@@ -21,13 +21,15 @@ returns c =
     let ws = c.args.workers.items in
     let count : ℕ = length plan.shards.now in
     let missing = c.missing_in-missing.ensures ∙ ap (λ (l : List Worker). numbers_missed l count) c.as_slice.ensures.value in
-    let end = subst (λ (l : List ShownSeat). IsClosed c.args.board l c.close-book.result.book c.close-book.result.claimed c.close-book.result.turns) c.seats_of-seats.ensures c.close-book.ensures in
+    let end = subst (λ (l : List ShownSeat). IsClosed c.args.board l c.close-book.result.book c.close-book.result.claimed c.close-book.result.turns)
+    c.seats_of-seats.ensures c.close-book.ensures in
     let many : 0 < length ws = let m = c.requires.many in omega arith in
     record {
       rising = subst IsStrictlyIncreasing (sym missing) (missing_rises ws count);
       below = subst (All (λ n. n < count)) (sym missing) (missing_below ws count);
       of_spec = end.file;
       facts = subst (λ (l : List ℕ). AreFactsBut plan.reduce c.args.board.file.run plan.shards.now l c.close-book.result.book.facts) (sym missing)
-          (exact plan.reduce c.args.board.file.run c.args.board plan.shards.now ws c.close-book.result.book c.close-book.result.claimed c.close-book.result.turns end
+          (exact plan.reduce c.args.board.file.run c.args.board plan.shards.now ws c.close-book.result.book c.close-book.result.claimed
+          c.close-book.result.turns end
           (λ k w at. (all_at (IsDone c.args.board plan.reduce c.args.board.file.run plan.shards.now) ws c.requires.done k w at).worked) c.requires.board many);
     }

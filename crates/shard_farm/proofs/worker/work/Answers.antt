@@ -26,5 +26,6 @@ loop-preserved-then-is_served g c =
 
 pub returns-in_default-clause-worked : goal.returns-in_default-clause-worked
 returns-in_default-clause-worked g c =
-    let claimed = subst (λ (o : Option ℕ). MatchOption o (c.claim.new.seat ≡ with_new_refusal c.loop.worker.seat) (IsClaim c.args.board.now.shards c.loop.worker.seat c.claim.new.seat)) c.in_default.is c.claim.ensures.claimed in
+    let claimed = subst (λ (o : Option ℕ). MatchOption o (c.claim.new.seat ≡ with_new_refusal c.loop.worker.seat)
+    (IsClaim c.args.board.now.shards c.loop.worker.seat c.claim.new.seat)) c.in_default.is c.claim.ensures.claimed in
     ends _ _ _ _ _ _ c.loop.invariant.serves claimed

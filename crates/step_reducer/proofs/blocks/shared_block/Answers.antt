@@ -3,8 +3,13 @@ use Rattle.perm_ranks.specs.Blocks.{Block, HasRank}
 use Rattle.step_reducer.proofs.blocks.shared_block.Goals as goal
 
 pub loop-letter-init : goal.loop-letter-init
-loop-letter-init c =
-    ([], c.block-block.ensures.whole, refl, subst (λ (b : Block). HasRank b c.args.rank) (sym c.block-block.ensures.all) (omega arith, omega (arith, c.requires.has)))
+loop-letter-init c = (
+  [],
+  c.block-block.ensures.whole,
+  refl,
+  subst (λ (b : Block). HasRank b c.args.rank) (sym c.block-block.ensures.all)
+      (omega arith, omega (arith, c.requires.has)),
+)
 
 pub at-letter-requires-clause-some : goal.at-letter-requires-clause-some
 at-letter-requires-clause-some c =

@@ -20,12 +20,14 @@ returns-then-left-gt0 c = λ ks rest left.
     let r = c.args.world.now in
     let s = c.args.smaller in
     let all = get_or c.args.table.now s [] in
-    let first : rest ≡ c.next.result ∷ drop (suc (length all - c.left_of-left.result)) all = left.1 ∙ ap (λ n. drop (length all - n) all) (sym c.left_of-left.ensures) ∙ c.next.ensures in
+    let first : rest ≡ c.next.result ∷ drop (suc (length all - c.left_of-left.result)) all = left.1
+    ∙ ap (λ n. drop (length all - n) all) (sym c.left_of-left.ensures) ∙ c.next.ensures in
     c.quiet.ensures.answer ∙ quiet-whole r c.args.step c.next.result c.requires.whole ∙ sym (ap (quiet_heads r.file.run.steps r.world (c.args.step ∷ ks)) first)
 
 pub returns-else-left-gt0 : goal.returns-else-left-gt0
 returns-else-left-gt0 c = λ ks rest left.
     let r = c.args.world.now in
     let all = get_or c.args.table.now c.args.smaller [] in
-    let none : rest ≡ [] = left.1 ∙ drop_all (length all - get_or c.args.block.now.left c.args.smaller 0) all (omega (arith, c.left_of-left.ensures, c.if-left-gt0.false)) in
+    let none : rest ≡ [] = left.1 ∙ drop_all (length all - get_or c.args.block.now.left c.args.smaller 0) all
+    (omega (arith, c.left_of-left.ensures, c.if-left-gt0.false)) in
     le-ltb 0 c.left_of-left.result c.if-left-gt0.false ∙ sym (ap (quiet_heads r.file.run.steps r.world (c.args.step ∷ ks)) none)

@@ -16,7 +16,8 @@ push-requires c =
 
 pub loop-smaller-preserved : goal.loop-smaller-preserved
 loop-smaller-preserved c = record {
-  made = (let more = ap (λ (xs : List Rattle.std.proofs.Common.Bool). length xs) c.push.ensures.items in omega (arith, more, length-append c.loop-smaller.swaps.items (c.is_quiet_beside.result ∷ []), c.loop-smaller.invariant.made));
+  made = (let more = ap (λ (xs : List Rattle.std.proofs.Common.Bool). length xs) c.push.ensures.items in
+      omega (arith, more, length-append c.loop-smaller.swaps.items (c.is_quiet_beside.result ∷ []), c.loop-smaller.invariant.made));
   listed = λ rest ks lefts b lt. ap (λ xs. get_or xs b false) c.push.ensures.items
       ∙ listed-push c.loop-smaller.swaps.items c.loop-smaller.smaller c.is_quiet_beside.result
       (λ k. quiet_heads c.args.world.now.file.run.steps c.args.world.now.world (c.args.step ∷ ks) (get_or rest k []))
@@ -28,5 +29,6 @@ pub returns : goal.returns
 returns c = λ rest ks at lefts.
     let steps = c.args.world.now.file.run.steps in
     let w = c.args.world.now.world in
-    listed-all c.loop-smaller.swaps.items c.loop-smaller.smaller steps w rest c.args.letter c.loop-smaller.invariant.made (omega (arith, c.loop-smaller-test.false)) (omega (arith, c.loop-smaller.auto))
+    listed-all c.loop-smaller.swaps.items c.loop-smaller.smaller steps w rest c.args.letter c.loop-smaller.invariant.made
+    (omega (arith, c.loop-smaller-test.false)) (omega (arith, c.loop-smaller.auto))
     (λ b lt. c.loop-smaller.invariant.listed rest ks lefts b lt ∙ ap (λ h. quiet_heads steps w h (get_or rest b [])) (sym at))

@@ -6,4 +6,5 @@ use Rattle.step_reducer.proofs.Asked.{AllSoFar}
 use Rattle.step_reducer.proofs.pairs.all_fit.Given as goal
 
 abbrev pub invariant-loop-statement : goal.invariant-loop-statement
-invariant-loop-statement l = AllSoFar (λ (q : Request). fits (length l.world.world.sessions) (look_of l.world.world) l.session q.resource q.mode) l.statements l.statement-index
+invariant-loop-statement l = AllSoFar (λ (q : Request). fits (length l.world.world.sessions) (look_of l.world.world) l.session q.resource q.mode)
+    l.statements l.statement-index

@@ -25,7 +25,8 @@ returns-then-i-j c =
     (c.session_of-j.ensures.is ∙ ap (λ (f : SpecFile). (get_or f.run.steps c.args.second no_step).session) c.spec-spec.ensures)
     (c.statements-asks.ensures.are ∙ ap (λ (f : SpecFile). (get_or f.run.steps c.args.first no_step).statements) c.spec-spec.ensures)
     (c.statements-others.ensures.are ∙ ap (λ (f : SpecFile). (get_or f.run.steps c.args.second no_step).statements) c.spec-spec.ensures) in
-    sym (base ∙ stop1 (not (i == j)) (not (waits_now r.world.waits i)) (not (waits_now r.world.waits j)) (all_fit r.world i (plans ss)) (all_fit r.world j (plans ts)) (all_fit_together (plans ss) (plans ts)) (undisturbed r.world i (plans ss)) (undisturbed r.world j (plans ts))
+    sym (base ∙ stop1 (not (i == j)) (not (waits_now r.world.waits i)) (not (waits_now r.world.waits j)) (all_fit r.world i (plans ss))
+    (all_fit r.world j (plans ts)) (all_fit_together (plans ss) (plans ts)) (undisturbed r.world i (plans ss)) (undisturbed r.world j (plans ts))
     (ap not (eq-eqb i j c.if-i-j.true)))
 
 pub returns-then-waits : goal.returns-then-waits
@@ -45,7 +46,8 @@ returns-then-waits c =
     (c.session_of-j.ensures.is ∙ ap (λ (f : SpecFile). (get_or f.run.steps c.args.second no_step).session) c.spec-spec.ensures)
     (c.statements-asks.ensures.are ∙ ap (λ (f : SpecFile). (get_or f.run.steps c.args.first no_step).statements) c.spec-spec.ensures)
     (c.statements-others.ensures.are ∙ ap (λ (f : SpecFile). (get_or f.run.steps c.args.second no_step).statements) c.spec-spec.ensures) in
-    sym (base ∙ stop2 (not (i == j)) (not (waits_now r.world.waits i)) (not (waits_now r.world.waits j)) (all_fit r.world i (plans ss)) (all_fit r.world j (plans ts)) (all_fit_together (plans ss) (plans ts)) (undisturbed r.world i (plans ss)) (undisturbed r.world j (plans ts))
+    sym (base ∙ stop2 (not (i == j)) (not (waits_now r.world.waits i)) (not (waits_now r.world.waits j)) (all_fit r.world i (plans ss))
+    (all_fit r.world j (plans ts)) (all_fit_together (plans ss) (plans ts)) (undisturbed r.world i (plans ss)) (undisturbed r.world j (plans ts))
     (ap not (ne_eqb i j c.if-i-j.false)) (ap not (sym c.waits.ensures ∙ c.if-waits.true)))
 
 pub returns-then-waits-2 : goal.returns-then-waits-2
@@ -65,7 +67,8 @@ returns-then-waits-2 c =
     (c.session_of-j.ensures.is ∙ ap (λ (f : SpecFile). (get_or f.run.steps c.args.second no_step).session) c.spec-spec.ensures)
     (c.statements-asks.ensures.are ∙ ap (λ (f : SpecFile). (get_or f.run.steps c.args.first no_step).statements) c.spec-spec.ensures)
     (c.statements-others.ensures.are ∙ ap (λ (f : SpecFile). (get_or f.run.steps c.args.second no_step).statements) c.spec-spec.ensures) in
-    sym (base ∙ stop3 (not (i == j)) (not (waits_now r.world.waits i)) (not (waits_now r.world.waits j)) (all_fit r.world i (plans ss)) (all_fit r.world j (plans ts)) (all_fit_together (plans ss) (plans ts)) (undisturbed r.world i (plans ss)) (undisturbed r.world j (plans ts))
+    sym (base ∙ stop3 (not (i == j)) (not (waits_now r.world.waits i)) (not (waits_now r.world.waits j)) (all_fit r.world i (plans ss))
+    (all_fit r.world j (plans ts)) (all_fit_together (plans ss) (plans ts)) (undisturbed r.world i (plans ss)) (undisturbed r.world j (plans ts))
     (ap not (ne_eqb i j c.if-i-j.false)) (ap not (sym c.waits.ensures ∙ c.if-waits.false)) (ap not (sym c.waits-2.ensures ∙ c.if-waits-2.true)))
 
 pub returns-then-not-all_fit : goal.returns-then-not-all_fit
@@ -85,8 +88,10 @@ returns-then-not-all_fit c =
     (c.session_of-j.ensures.is ∙ ap (λ (f : SpecFile). (get_or f.run.steps c.args.second no_step).session) c.spec-spec.ensures)
     (c.statements-asks.ensures.are ∙ ap (λ (f : SpecFile). (get_or f.run.steps c.args.first no_step).statements) c.spec-spec.ensures)
     (c.statements-others.ensures.are ∙ ap (λ (f : SpecFile). (get_or f.run.steps c.args.second no_step).statements) c.spec-spec.ensures) in
-    sym (base ∙ stop4 (not (i == j)) (not (waits_now r.world.waits i)) (not (waits_now r.world.waits j)) (all_fit r.world i (plans ss)) (all_fit r.world j (plans ts)) (all_fit_together (plans ss) (plans ts)) (undisturbed r.world i (plans ss)) (undisturbed r.world j (plans ts))
-    (ap not (ne_eqb i j c.if-i-j.false)) (ap not (sym c.waits.ensures ∙ c.if-waits.false)) (ap not (sym c.waits-2.ensures ∙ c.if-waits-2.false)) ((sym c.all_fit.ensures ∙ c.if-not-all_fit.true)))
+    sym (base ∙ stop4 (not (i == j)) (not (waits_now r.world.waits i)) (not (waits_now r.world.waits j)) (all_fit r.world i (plans ss))
+    (all_fit r.world j (plans ts)) (all_fit_together (plans ss) (plans ts)) (undisturbed r.world i (plans ss)) (undisturbed r.world j (plans ts))
+    (ap not (ne_eqb i j c.if-i-j.false)) (ap not (sym c.waits.ensures ∙ c.if-waits.false)) (ap not (sym c.waits-2.ensures ∙ c.if-waits-2.false))
+    ((sym c.all_fit.ensures ∙ c.if-not-all_fit.true)))
 
 pub returns-then-not-all_fit-2 : goal.returns-then-not-all_fit-2
 returns-then-not-all_fit-2 c =
@@ -105,8 +110,10 @@ returns-then-not-all_fit-2 c =
     (c.session_of-j.ensures.is ∙ ap (λ (f : SpecFile). (get_or f.run.steps c.args.second no_step).session) c.spec-spec.ensures)
     (c.statements-asks.ensures.are ∙ ap (λ (f : SpecFile). (get_or f.run.steps c.args.first no_step).statements) c.spec-spec.ensures)
     (c.statements-others.ensures.are ∙ ap (λ (f : SpecFile). (get_or f.run.steps c.args.second no_step).statements) c.spec-spec.ensures) in
-    sym (base ∙ stop5 (not (i == j)) (not (waits_now r.world.waits i)) (not (waits_now r.world.waits j)) (all_fit r.world i (plans ss)) (all_fit r.world j (plans ts)) (all_fit_together (plans ss) (plans ts)) (undisturbed r.world i (plans ss)) (undisturbed r.world j (plans ts))
-    (ap not (ne_eqb i j c.if-i-j.false)) (ap not (sym c.waits.ensures ∙ c.if-waits.false)) (ap not (sym c.waits-2.ensures ∙ c.if-waits-2.false)) ((sym c.all_fit.ensures ∙ c.if-not-all_fit.false)) ((sym c.all_fit-2.ensures ∙ c.if-not-all_fit-2.true)))
+    sym (base ∙ stop5 (not (i == j)) (not (waits_now r.world.waits i)) (not (waits_now r.world.waits j)) (all_fit r.world i (plans ss))
+    (all_fit r.world j (plans ts)) (all_fit_together (plans ss) (plans ts)) (undisturbed r.world i (plans ss)) (undisturbed r.world j (plans ts))
+    (ap not (ne_eqb i j c.if-i-j.false)) (ap not (sym c.waits.ensures ∙ c.if-waits.false)) (ap not (sym c.waits-2.ensures ∙ c.if-waits-2.false))
+    ((sym c.all_fit.ensures ∙ c.if-not-all_fit.false)) ((sym c.all_fit-2.ensures ∙ c.if-not-all_fit-2.true)))
 
 pub returns-then-not-all_fit_together : goal.returns-then-not-all_fit_together
 returns-then-not-all_fit_together c =
@@ -125,8 +132,11 @@ returns-then-not-all_fit_together c =
     (c.session_of-j.ensures.is ∙ ap (λ (f : SpecFile). (get_or f.run.steps c.args.second no_step).session) c.spec-spec.ensures)
     (c.statements-asks.ensures.are ∙ ap (λ (f : SpecFile). (get_or f.run.steps c.args.first no_step).statements) c.spec-spec.ensures)
     (c.statements-others.ensures.are ∙ ap (λ (f : SpecFile). (get_or f.run.steps c.args.second no_step).statements) c.spec-spec.ensures) in
-    sym (base ∙ stop6 (not (i == j)) (not (waits_now r.world.waits i)) (not (waits_now r.world.waits j)) (all_fit r.world i (plans ss)) (all_fit r.world j (plans ts)) (all_fit_together (plans ss) (plans ts)) (undisturbed r.world i (plans ss)) (undisturbed r.world j (plans ts))
-    (ap not (ne_eqb i j c.if-i-j.false)) (ap not (sym c.waits.ensures ∙ c.if-waits.false)) (ap not (sym c.waits-2.ensures ∙ c.if-waits-2.false)) ((sym c.all_fit.ensures ∙ c.if-not-all_fit.false)) ((sym c.all_fit-2.ensures ∙ c.if-not-all_fit-2.false)) ((sym c.all_fit_together.ensures ∙ c.if-not-all_fit_together.true)))
+    sym (base ∙ stop6 (not (i == j)) (not (waits_now r.world.waits i)) (not (waits_now r.world.waits j)) (all_fit r.world i (plans ss))
+    (all_fit r.world j (plans ts)) (all_fit_together (plans ss) (plans ts)) (undisturbed r.world i (plans ss)) (undisturbed r.world j (plans ts))
+    (ap not (ne_eqb i j c.if-i-j.false)) (ap not (sym c.waits.ensures ∙ c.if-waits.false)) (ap not (sym c.waits-2.ensures ∙ c.if-waits-2.false))
+    ((sym c.all_fit.ensures ∙ c.if-not-all_fit.false)) ((sym c.all_fit-2.ensures ∙ c.if-not-all_fit-2.false))
+    ((sym c.all_fit_together.ensures ∙ c.if-not-all_fit_together.true)))
 
 pub returns-then-not-undisturbed : goal.returns-then-not-undisturbed
 returns-then-not-undisturbed c =
@@ -145,8 +155,11 @@ returns-then-not-undisturbed c =
     (c.session_of-j.ensures.is ∙ ap (λ (f : SpecFile). (get_or f.run.steps c.args.second no_step).session) c.spec-spec.ensures)
     (c.statements-asks.ensures.are ∙ ap (λ (f : SpecFile). (get_or f.run.steps c.args.first no_step).statements) c.spec-spec.ensures)
     (c.statements-others.ensures.are ∙ ap (λ (f : SpecFile). (get_or f.run.steps c.args.second no_step).statements) c.spec-spec.ensures) in
-    sym (base ∙ stop7 (not (i == j)) (not (waits_now r.world.waits i)) (not (waits_now r.world.waits j)) (all_fit r.world i (plans ss)) (all_fit r.world j (plans ts)) (all_fit_together (plans ss) (plans ts)) (undisturbed r.world i (plans ss)) (undisturbed r.world j (plans ts))
-    (ap not (ne_eqb i j c.if-i-j.false)) (ap not (sym c.waits.ensures ∙ c.if-waits.false)) (ap not (sym c.waits-2.ensures ∙ c.if-waits-2.false)) ((sym c.all_fit.ensures ∙ c.if-not-all_fit.false)) ((sym c.all_fit-2.ensures ∙ c.if-not-all_fit-2.false)) ((sym c.all_fit_together.ensures ∙ c.if-not-all_fit_together.false)) ((sym c.undisturbed.ensures ∙ c.if-not-undisturbed.true)))
+    sym (base ∙ stop7 (not (i == j)) (not (waits_now r.world.waits i)) (not (waits_now r.world.waits j)) (all_fit r.world i (plans ss))
+    (all_fit r.world j (plans ts)) (all_fit_together (plans ss) (plans ts)) (undisturbed r.world i (plans ss)) (undisturbed r.world j (plans ts))
+    (ap not (ne_eqb i j c.if-i-j.false)) (ap not (sym c.waits.ensures ∙ c.if-waits.false)) (ap not (sym c.waits-2.ensures ∙ c.if-waits-2.false))
+    ((sym c.all_fit.ensures ∙ c.if-not-all_fit.false)) ((sym c.all_fit-2.ensures ∙ c.if-not-all_fit-2.false))
+    ((sym c.all_fit_together.ensures ∙ c.if-not-all_fit_together.false)) ((sym c.undisturbed.ensures ∙ c.if-not-undisturbed.true)))
 
 pub returns : goal.returns
 returns c =
@@ -165,5 +178,9 @@ returns c =
     (c.session_of-j.ensures.is ∙ ap (λ (f : SpecFile). (get_or f.run.steps c.args.second no_step).session) c.spec-spec.ensures)
     (c.statements-asks.ensures.are ∙ ap (λ (f : SpecFile). (get_or f.run.steps c.args.first no_step).statements) c.spec-spec.ensures)
     (c.statements-others.ensures.are ∙ ap (λ (f : SpecFile). (get_or f.run.steps c.args.second no_step).statements) c.spec-spec.ensures) in
-    c.undisturbed-2.ensures ∙ sym (base ∙ go7 (not (i == j)) (not (waits_now r.world.waits i)) (not (waits_now r.world.waits j)) (all_fit r.world i (plans ss)) (all_fit r.world j (plans ts)) (all_fit_together (plans ss) (plans ts)) (undisturbed r.world i (plans ss)) (undisturbed r.world j (plans ts))
-    (ap not (ne_eqb i j c.if-i-j.false)) (ap not (sym c.waits.ensures ∙ c.if-waits.false)) (ap not (sym c.waits-2.ensures ∙ c.if-waits-2.false)) ((sym c.all_fit.ensures ∙ c.if-not-all_fit.false)) ((sym c.all_fit-2.ensures ∙ c.if-not-all_fit-2.false)) ((sym c.all_fit_together.ensures ∙ c.if-not-all_fit_together.false)) ((sym c.undisturbed.ensures ∙ c.if-not-undisturbed.false)))
+    c.undisturbed-2.ensures ∙ sym (base ∙ go7 (not (i == j)) (not (waits_now r.world.waits i)) (not (waits_now r.world.waits j))
+    (all_fit r.world i (plans ss)) (all_fit r.world j (plans ts)) (all_fit_together (plans ss) (plans ts)) (undisturbed r.world i (plans ss))
+    (undisturbed r.world j (plans ts))
+    (ap not (ne_eqb i j c.if-i-j.false)) (ap not (sym c.waits.ensures ∙ c.if-waits.false)) (ap not (sym c.waits-2.ensures ∙ c.if-waits-2.false))
+    ((sym c.all_fit.ensures ∙ c.if-not-all_fit.false)) ((sym c.all_fit-2.ensures ∙ c.if-not-all_fit-2.false))
+    ((sym c.all_fit_together.ensures ∙ c.if-not-all_fit_together.false)) ((sym c.undisturbed.ensures ∙ c.if-not-undisturbed.false)))

@@ -7,13 +7,18 @@ use Rattle.step_reducer.proofs.pairs.none_asked.Goals as goal
 
 pub loop-statement-preserved : goal.loop-statement-preserved
 loop-statement-preserved c =
-    let yes : list_all (λ (q : Request). not (same_resource (resource_at c.args.there) q.resource)) (plan c.statement-item.result) ≡ true = sym c.none_asked_by.ensures ∙ c.if-not-none_asked_by.false in
-    all-true (λ (q : Request). not (same_resource (resource_at c.args.there) q.resource)) c.args.statements.now c.loop-statement.statement-index c.statement-item.result c.loop-statement-test.true c.statement-item.is yes c.loop-statement.invariant
+    let yes : list_all (λ (q : Request). not (same_resource (resource_at c.args.there) q.resource)) (plan c.statement-item.result) ≡ true =
+    sym c.none_asked_by.ensures ∙ c.if-not-none_asked_by.false in
+    all-true (λ (q : Request). not (same_resource (resource_at c.args.there) q.resource)) c.args.statements.now c.loop-statement.statement-index
+    c.statement-item.result c.loop-statement-test.true c.statement-item.is yes c.loop-statement.invariant
 
 pub returns-then-not-none_asked_by : goal.returns-then-not-none_asked_by
 returns-then-not-none_asked_by c =
-    let no : list_all (λ (q : Request). not (same_resource (resource_at c.args.there) q.resource)) (plan c.statement-item.result) ≡ false = sym c.none_asked_by.ensures ∙ c.if-not-none_asked_by.true in
-    all-false (λ (q : Request). not (same_resource (resource_at c.args.there) q.resource)) c.args.statements.now c.loop-statement.statement-index c.statement-item.result c.loop-statement-test.true c.statement-item.is no c.loop-statement.invariant
+    let no : list_all (λ (q : Request). not (same_resource (resource_at c.args.there) q.resource)) (plan c.statement-item.result) ≡ false =
+    sym c.none_asked_by.ensures ∙ c.if-not-none_asked_by.true in
+    all-false (λ (q : Request). not (same_resource (resource_at c.args.there) q.resource)) c.args.statements.now c.loop-statement.statement-index
+    c.statement-item.result c.loop-statement-test.true c.statement-item.is no c.loop-statement.invariant
 
 pub returns : goal.returns
-returns c = all-end (λ (q : Request). not (same_resource (resource_at c.args.there) q.resource)) c.args.statements.now c.loop-statement.statement-index c.loop-statement-test.false c.loop-statement.invariant
+returns c = all-end (λ (q : Request). not (same_resource (resource_at c.args.there) q.resource)) c.args.statements.now c.loop-statement.statement-index
+    c.loop-statement-test.false c.loop-statement.invariant

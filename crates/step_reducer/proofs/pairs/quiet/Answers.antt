@@ -7,10 +7,22 @@ use Rattle.step_reducer.proofs.Quiets.{quiet-unspent, one-end, calm}
 use Rattle.step_reducer.proofs.pairs.quiet.Goals as goal
 
 own : (c : goal.After-is_quiet) → session_of c.args.world.now c.args.step < c.args.world.now.file.run.sessions
-own c = omega (arith, c.session_of-own.ensures.known, c.session_of-own.ensures.is, ap (λ (f : SpecFile). f.run.sessions) c.spec.ensures, ap (λ (f : SpecFile). (get_or f.run.steps c.args.step no_step).session) c.spec.ensures)
+own c = omega (
+  arith,
+  c.session_of-own.ensures.known,
+  c.session_of-own.ensures.is,
+  ap (λ (f : SpecFile). f.run.sessions) c.spec.ensures,
+  ap (λ (f : SpecFile). (get_or f.run.steps c.args.step no_step).session) c.spec.ensures,
+)
 
 others : (c : goal.After-is_quiet) → session_of c.args.world.now c.args.other < c.args.world.now.file.run.sessions
-others c = omega (arith, c.session_of-other.ensures.known, c.session_of-other.ensures.is, ap (λ (f : SpecFile). f.run.sessions) c.spec-2.ensures, ap (λ (f : SpecFile). (get_or f.run.steps c.args.other no_step).session) c.spec-2.ensures)
+others c = omega (
+  arith,
+  c.session_of-other.ensures.known,
+  c.session_of-other.ensures.is,
+  ap (λ (f : SpecFile). f.run.sessions) c.spec-2.ensures,
+  ap (λ (f : SpecFile). (get_or f.run.steps c.args.other no_step).session) c.spec-2.ensures,
+)
 
 pub returns-clause-orders : goal.returns-clause-orders
 returns-clause-orders c = λ yes.
@@ -27,5 +39,6 @@ returns-clause-calm c = λ yes.
     let known = c.known.ensures.known whole in
     let quiet = sym (quiet-whole r c.args.step c.args.other whole) ∙ here in (
       calm r c.args.step c.args.other known (own c) (others c) quiet,
-      calm r c.args.other c.args.step known (others c) (own c) (quiet-mutual r.world (get_or r.file.run.steps c.args.other no_step) (get_or r.file.run.steps c.args.step no_step) ∙ quiet),
+      calm r c.args.other c.args.step known (others c) (own c)
+          (quiet-mutual r.world (get_or r.file.run.steps c.args.other no_step) (get_or r.file.run.steps c.args.step no_step) ∙ quiet),
     )

@@ -6,4 +6,5 @@ use Rattle.step_reducer.proofs.Asked.{SoFar}
 use Rattle.step_reducer.proofs.pairs.statement_fits.Given as goal
 
 abbrev pub invariant-loop-number : goal.invariant-loop-number
-invariant-loop-number l = SoFar (λ (q : Request). fits (length l.world.world.sessions) (look_of l.world.world) l.session q.resource q.mode) (plan l.statement) l.number
+invariant-loop-number l = SoFar (λ (q : Request). fits (length l.world.world.sessions) (look_of l.world.world) l.session q.resource q.mode)
+    (plan l.statement) l.number

@@ -4,11 +4,13 @@ use Rattle.step_reducer.proofs.path.shared_front.Goals as goal
 
 pub loop-place-preserved : goal.loop-place-preserved
 loop-place-preserved c =
-    alike-more c.args.old.now c.args.new.now c.loop-place.place (omega (arith, c.loop-place-test.true, c.min-most.ensures)) (omega (arith, c.loop-place-test.true, c.min-most.ensures)) c.if-old-place.false c.loop-place.invariant
+    alike-more c.args.old.now c.args.new.now c.loop-place.place (omega (arith, c.loop-place-test.true, c.min-most.ensures))
+    (omega (arith, c.loop-place-test.true, c.min-most.ensures)) c.if-old-place.false c.loop-place.invariant
 
 pub returns-then-old-place : goal.returns-then-old-place
 returns-then-old-place c =
-    alike-ends c.args.old.now c.args.new.now c.loop-place.place (omega (arith, c.loop-place-test.true, c.min-most.ensures)) (omega (arith, c.loop-place-test.true, c.min-most.ensures)) c.if-old-place.true c.loop-place.invariant
+    alike-ends c.args.old.now c.args.new.now c.loop-place.place (omega (arith, c.loop-place-test.true, c.min-most.ensures))
+    (omega (arith, c.loop-place-test.true, c.min-most.ensures)) c.if-old-place.true c.loop-place.invariant
 
 pub returns : goal.returns
 returns c =

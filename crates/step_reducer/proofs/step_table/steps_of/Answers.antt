@@ -15,4 +15,5 @@ loop-step-preserved c =
 pub returns : goal.returns
 returns c =
     let ss = c.args.spec.now.run.steps in
-    c.loop-step.invariant ∙ ap (steps_of c.args.session 0) (take-past ss c.loop-step.step (omega (arith, c.loop-step-test.false, c.steps-step-end.ensures.count)))
+    c.loop-step.invariant ∙ ap (steps_of c.args.session 0)
+    (take-past ss c.loop-step.step (omega (arith, c.loop-step-test.false, c.steps-step-end.ensures.count)))

@@ -34,9 +34,11 @@ returns-then-found-len-clause-claimed c =
     let count = one_count _ _ c.args.self.now _ c.seat.view_is c.requires in record {
       below = omega arith;
       greater = subst (λ (s : ShownSeat). All (λ x. x < n) s.claims) c.seat.view_is f.1;
-      seat = subst (λ (s : ShownSeat). shown_seat c.fetch_add-found.new.seat.table_id c.fetch_add-found.new.seat.me.0 ≡ with_new_claim s n) c.seat.view_is (λ j. shown_seat (e.0 j) (f.0 j));
+      seat = subst (λ (s : ShownSeat). shown_seat c.fetch_add-found.new.seat.table_id c.fetch_add-found.new.seat.me.0 ≡ with_new_claim s n) c.seat.view_is
+          (λ j. shown_seat (e.0 j) (f.0 j));
     }
 
 pub returns-else-found-len-clause-claimed : goal.returns-else-found-len-clause-claimed
 returns-else-found-len-clause-claimed c = let e = c.fetch_add-found.ensures in let i = c.seat.invariant in let l = i.long in let f = e.2.2 (omega arith) in
-    subst (λ (s : ShownSeat). shown_seat c.fetch_add-found.new.seat.table_id c.fetch_add-found.new.seat.me.0 ≡ with_new_refusal s) c.seat.view_is (λ j. shown_seat (e.0 j) (f j))
+    subst (λ (s : ShownSeat). shown_seat c.fetch_add-found.new.seat.table_id c.fetch_add-found.new.seat.me.0 ≡ with_new_refusal s) c.seat.view_is
+    (λ j. shown_seat (e.0 j) (f j))

@@ -24,7 +24,8 @@ unreachable-requires c =
     let same : c.self.inside.plan.seats ≡ c.self.inside.table.shared.key.seats = ap (λ (p : Plan). p.seats) i.key_is in
     let all = c.requires.all in
     let whole : length c.args.seats.items ≡ c.self.inside.table.shared.key.seats = omega arith in
-    let r = home_value f.0.homes _ _ _ (home_at_end c.self.inside.table.shared.key f.0 f.1.0 c.all_in_one-keeper.result.id c.all_in_one-keeper.result.me f.1.1 c.args.seats.items g whole) f.4 c.take.ensures.value in
+    let r = home_value f.0.homes _ _ _ (home_at_end c.self.inside.table.shared.key f.0 f.1.0 c.all_in_one-keeper.result.id c.all_in_one-keeper.result.me
+    f.1.1 c.args.seats.items g whole) f.4 c.take.ensures.value in
     c.in_default.not-Some _ r
 
 pub returns : goal.returns
@@ -39,8 +40,12 @@ returns c =
     let file : plan.empty.file ≡ c.args.self.file = sym (ap (λ (p : Plan). p.empty.file) i.key_is) ∙ ap (λ (h : ShownBoard). h.file) c.self.view_is in
     let all = c.requires.all in
     let whole : length c.args.seats.items ≡ plan.seats = omega arith in
-    let r = home_value f.0.homes _ _ _ (home_at_end plan f.0 f.1.0 c.all_in_one-keeper.result.id c.all_in_one-keeper.result.me f.1.1 c.args.seats.items g whole) f.4 c.take.ensures.value in
+    let r = home_value f.0.homes _ _ _ (home_at_end plan f.0 f.1.0 c.all_in_one-keeper.result.id c.all_in_one-keeper.result.me f.1.1 c.args.seats.items g
+    whole) f.4 c.take.ensures.value in
     let book = some_is _ _ (sym c.in-Some.is ∙ r) in
     let turns : get_or f.0.words 0 0 ≡ c.word-turns.result = ap (λ (ws : List ℕ). get_or ws 0 0) f.2 ∙ word_value _ 0 _ c.word-turns.ensures in
-    let claimed : min (get_or f.0.words 2 0) plan.shards ≡ c.min-claimed.result = ap (λ (n : ℕ). min n plan.shards) (ap (λ (ws : List ℕ). get_or ws 2 0) f.2 ∙ word_value _ 2 _ c.word-next.ensures) ∙ (ap (λ (n : ℕ). min c.word-next.result n) (sym (c.from.ensures ∙ shards)) ∙ sym c.min-claimed.ensures) in
-    closed_as _ _ _ _ _ _ _ claimed turns (closes plan f.0 f.1.0 c.all_in_one-keeper.result.id c.all_in_one-keeper.result.me f.1.1 c.args.seats.items g whole c.args.self c.in-Some.book file (sym shards ∙ ap (λ (h : ShownBoard). h.shards) c.self.view_is) (sym same ∙ seats) book)
+    let claimed : min (get_or f.0.words 2 0) plan.shards ≡ c.min-claimed.result =
+    ap (λ (n : ℕ). min n plan.shards) (ap (λ (ws : List ℕ). get_or ws 2 0) f.2 ∙ word_value _ 2 _ c.word-next.ensures)
+    ∙ (ap (λ (n : ℕ). min c.word-next.result n) (sym (c.from.ensures ∙ shards)) ∙ sym c.min-claimed.ensures) in
+    closed_as _ _ _ _ _ _ _ claimed turns (closes plan f.0 f.1.0 c.all_in_one-keeper.result.id c.all_in_one-keeper.result.me f.1.1 c.args.seats.items g whole
+    c.args.self c.in-Some.book file (sym shards ∙ ap (λ (h : ShownBoard). h.shards) c.self.view_is) (sym same ∙ seats) book)

@@ -13,7 +13,8 @@ returns-clause-turn g c =
     let e = c.hand_in-reply.ensures in
     let n = c.args.number in
     turn_seen _ _ _ _ _ _ c.seat.inside.number (Deliver n c.args.book.facts (Some c.in-Some.receipt)) c.seat.invariant
-    (subst (λ (o : Option Receipt). HasTurned c.seat.inside.place.me c.hand_in-reply.new.place.me (entry c.seat.inside.number (Deliver n c.args.book.facts o))) c.in-Some.is e.turned) _ _ e.same (sym c.seat.invariant.number_is) _ c.seat.view_is
+    (subst (λ (o : Option Receipt). HasTurned c.seat.inside.place.me c.hand_in-reply.new.place.me
+    (entry c.seat.inside.number (Deliver n c.args.book.facts o))) c.in-Some.is e.turned) _ _ e.same (sym c.seat.invariant.number_is) _ c.seat.view_is
 
 pub returns-in_default-clause-refused : goal.returns-in_default-clause-refused
 returns-in_default-clause-refused g c =
@@ -24,5 +25,7 @@ returns-in_default-clause-refused g c =
       record { same = search rules; claimed = search rules },
       subst MayTurn c.seat.view_is few,
       turn_seen _ _ _ _ _ _ c.seat.inside.number (Deliver n c.args.book.facts None) c.seat.invariant
-          (subst (λ (o : Option Receipt). HasTurned c.seat.inside.place.me c.hand_in-reply.new.place.me (entry c.seat.inside.number (Deliver n c.args.book.facts o))) c.in_default.is e.turned) _ _ e.same (sym c.seat.invariant.number_is) _ c.seat.view_is,
+          (subst (λ (o : Option Receipt). HasTurned c.seat.inside.place.me c.hand_in-reply.new.place.me
+          (entry c.seat.inside.number (Deliver n c.args.book.facts o))) c.in_default.is e.turned) _ _ e.same (sym c.seat.invariant.number_is)
+          _ c.seat.view_is,
     )

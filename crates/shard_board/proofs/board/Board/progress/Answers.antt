@@ -15,7 +15,8 @@ invariant_of-seat c = rests_looked _ _ _ _ _ _ _ c.seat.invariant refl _ refl _ 
 pub returns : goal.returns
 returns c =
     let l = c.load.ensures.2 in
-    let more = subst (λ (s : ShownSeat). SeesMore s (shown_seat c.load.new.seat.table_id c.load.new.seat.me.0)) c.seat.view_is (sees_more _ _ _ _ _ _ _ c.seat.invariant refl _ refl _ l _ _ c.load.ensures.0) in record {
+    let more = subst (λ (s : ShownSeat). SeesMore s (shown_seat c.load.new.seat.table_id c.load.new.seat.me.0)) c.seat.view_is
+    (sees_more _ _ _ _ _ _ _ c.seat.invariant refl _ refl _ l _ _ c.load.ensures.0) in record {
       same = ap (λ (s : ShownSeat). s.board) more.seat;
       count = sym l.long;
       seen = more;

@@ -35,7 +35,14 @@ returns c =
       at = refl;
       line = went.line ∙ c.in-Some.ensures.line;
       short = omega (arith, long, c.len-steps.ensures.value, c.len-steps.ensures.fits);
-      sent = omega (arith, long, front-new x.path.line.items line, went.shared, c.len-steps.ensures.value, ap (λ (l : List ℕ). front x.path.line.items l) went.line);
+      sent = omega (
+        arith,
+        long,
+        front-new x.path.line.items line,
+        went.shared,
+        c.len-steps.ensures.value,
+        ap (λ (l : List ℕ). front x.path.line.items l) went.line,
+      );
       most = (let all = ap (λ (l : List ℕ). length l) c.in-Some.ensures.line in omega (arith, c.len-steps.ensures.value, all));
       facts = λ reduce r le lt. (let here : r ≡ x.at = omega (arith, le, lt) in
           subst (λ m. IsFactOf reduce run m (Ran c.in_ok-outcome.outcome)) (sym here)

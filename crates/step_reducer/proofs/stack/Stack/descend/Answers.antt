@@ -25,7 +25,8 @@ returns c = λ reduce file at lt is turn unlisted.
           (ap (λ (s : Stack). s.below.items) w.self-is)
           (let last : (c.args.end ≤ end_of u.block) ⊎ (end_of x.top.block ≤ end_of u.block) =
           elim w.else-behind-end.branch [
-            | else-behind-end-via-then-behind-end+else-behind-end-2 v ↦ inr (omega (arith, v.if-behind-end-2.false, v.end.ensures.end, c.end-behind.ensures.end))
+            | else-behind-end-via-then-behind-end+else-behind-end-2 v ↦ inr
+                (omega (arith, v.if-behind-end-2.false, v.end.ensures.end, c.end-behind.ensures.end))
             | else-behind-end-via-else-behind-end v ↦ inl (omega (arith, v.if-behind-end.false, c.end-behind.ensures.end))
           ] in last)
     ]

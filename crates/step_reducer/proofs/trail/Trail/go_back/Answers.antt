@@ -9,11 +9,16 @@ later-preserved c =
     let more = ap (λ (rs : List Running). length rs) items in
     record {
       enough = omega (arith, more, length-append c.pop.new.self.items (c.in-Some.world ∷ []), c.later-test.true);
-      front = (c.later.self.top ∷ inv.front.0, inv.front.1 ∙ ap (λ rs. rs ++ (c.later.self.top ∷ inv.front.0)) items ∙ append_assoc c.pop.new.self.items (c.in-Some.world ∷ []) (c.later.self.top ∷ inv.front.0));
+      front = (
+        c.later.self.top ∷ inv.front.0,
+        inv.front.1 ∙ ap (λ rs. rs ++ (c.later.self.top ∷ inv.front.0)) items
+            ∙ append_assoc c.pop.new.self.items (c.in-Some.world ∷ []) (c.later.self.top ∷ inv.front.0),
+      );
     }
 
 pub later-smaller : goal.later-smaller
-later-smaller c = (let more = ap (λ (rs : List Running). length rs) c.in-Some.ensures.items in omega (arith, more, length-append c.pop.new.self.items (c.in-Some.world ∷ [])))
+later-smaller c = (let more = ap (λ (rs : List Running). length rs) c.in-Some.ensures.items in
+    omega (arith, more, length-append c.pop.new.self.items (c.in-Some.world ∷ [])))
 
 pub returns-in_default : goal.returns-in_default
 returns-in_default c =

@@ -13,8 +13,10 @@ descend-requires-clause-whole c =
 
 pub descend-requires-clause-known : goal.descend-requires-clause-known
 descend-requires-clause-known c =
-    let file = ap (λ (r : Running). r.file) (trail-top c.args.self.now.top.file (take c.loop-place.place c.args.steps.now) c.loop-place.self c.loop-place.invariant) in
-    subst (λ (f : SpecFile). get_or c.args.steps.now c.loop-place.place 0 < length f.run.steps) (sym file) (c.requires.known c.loop-place.place 0 c.loop-place-test.true)
+    let file = ap (λ (r : Running). r.file) (trail-top c.args.self.now.top.file (take c.loop-place.place c.args.steps.now)
+    c.loop-place.self c.loop-place.invariant) in
+    subst (λ (f : SpecFile). get_or c.args.steps.now c.loop-place.place 0 < length f.run.steps) (sym file)
+    (c.requires.known c.loop-place.place 0 c.loop-place-test.true)
 
 pub loop-place-preserved : goal.loop-place-preserved
 loop-place-preserved c =
@@ -22,4 +24,5 @@ loop-place-preserved c =
     (c.in_ok-descend.ensures c.args.self.now.top.file (take c.loop-place.place c.args.steps.now) c.loop-place.invariant)
 
 pub returns : goal.returns
-returns c = subst (λ ks. IsTrailOf c.args.self.now.top.file ks c.loop-place.self) (take-past c.args.steps.now c.loop-place.place (omega (arith, c.loop-place-test.false))) c.loop-place.invariant
+returns c = subst (λ ks. IsTrailOf c.args.self.now.top.file ks c.loop-place.self)
+    (take-past c.args.steps.now c.loop-place.place (omega (arith, c.loop-place-test.false))) c.loop-place.invariant
