@@ -1,14 +1,18 @@
 -- Runs of which the first ones stay, and the others are merged with more.
-use Rattle.std.proofs.Common.{◌≡◌, refl, sym, ap, ◌∙◌, subst, ℕ, zero, suc, ◌+◌, ◌<◌, ◌≤◌, ◌||◌, List, [], ◌∷◌, ◌++◌, length, get_or, take, drop, arith}
+use Rattle.std.proofs.Common.{◌≡◌, sym, ap, ◌∙◌, subst, ℕ, zero, suc, ◌-◌, ◌<◌, ◌≤◌, ◌||◌, List, [], ◌∷◌, ◌++◌, length, get_or, map, take, drop, Result, Ok, Err, OnOk, OnErr, arith}
 use Rattle.std.proofs.Math.Bool.{or_assoc, or-false}
-use Rattle.std.proofs.lemmas.List.{take-append-drop}
+use Rattle.std.proofs.lemmas.List.{take-append-drop, length-drop}
 use Rattle.std.proofs.lemmas.List.Folds.{list_any-append}
 use Rattle.std.specs.List.{list_any}
 use Rattle.outcome_books.specs.declared.run.Run.{Run}
 use Rattle.outcome_books.specs.declared.about.About.{About}
-use Rattle.outcome_books.specs.Runs.{Table, has, firsts, AllFrom, AllTo, IsRising, AddsAll, AllSound, KeepsAllSound, KeepsAllFrom, AreAdded}
+use Rattle.std.specs.FinSet.{union}
+use Rattle.outcome_books.specs.Tables.{Extends, Names}
+use Rattle.outcome_books.specs.Runs.{Table, has, renamed, firsts, AllFrom, AllTo, IsRising, AddsAll, AllSound, KeepsAllSound, KeepsAllFrom, AreAdded}
 use Rattle.outcome_books.specs.Books.{AllRecordable, IsBook, IsKept, facts_in, file_of}
 use Rattle.outcome_books.proofs.RunLemmas.{AllFrom-at}
+use Rattle.outcome_books.proofs.SweepLemmas.{take-past}
+use Rattle.outcome_books.proofs.TableLemmas.{union-runs, firsts-renamed, sound-renamed, AllSound-more, Extends-length, any-extends, any-renamed}
 
 -- nothing is added
 pub none-added : (old : List Run) → IsRising (firsts old) → AreAdded old [] old
@@ -27,6 +31,15 @@ AllFrom-front : (low k : ℕ) (runs behind : List Run) → AllFrom low (firsts r
 AllFrom-front low zero runs behind a b = b
 AllFrom-front low (suc k) [] behind a b = b
 AllFrom-front low (suc k) (run ∷ runs) behind a b = (a.0, AllFrom-front low k runs behind a.1 b)
+
+-- the slice behind so many runs has all of them
+pub behind-all : (k : ℕ) (runs : List Run) → take (length runs - k) (drop k runs) ≡ drop k runs
+behind-all k runs = take-past (drop k runs) (length runs - k) (let same = length-drop k runs in omega (arith, same))
+
+pub rising-behind : (k : ℕ) (runs : List Run) → IsRising (firsts runs) → IsRising (firsts (drop k runs))
+rising-behind zero runs rising = rising
+rising-behind (suc k) [] rising = tt
+rising-behind (suc k) (run ∷ runs) rising = rising-behind k runs rising.1
 
 -- the first of rising ranks is the least
 pub first-least : (runs : List Run) (d : Run) → IsRising (firsts runs) → AllFrom (get_or runs 0 d).first (firsts runs)
@@ -77,3 +90,28 @@ same-book about t u old new is kept same = record {
   kept = kept;
   recordable = subst (AllRecordable (file_of about).run) (sym same) is.recordable;
 }
+
+-- ---- runs of another table, with the numbers of this one
+
+pub rising-renamed : (ns : List ℕ) (others more : List Run) → more ≡ map (renamed ns) others → IsRising (firsts others) → IsRising (firsts more)
+rising-renamed ns others more is rising =
+    subst (λ rs. IsRising (firsts rs)) (sym is) (subst IsRising (sym (firsts-renamed ns others)) rising)
+
+module _ (new old other : Table) (runs others more : List Run) (ns : List ℕ) (names : Names new ns other) (extends : Extends old new)
+    (kept : IsKept old runs) (others_kept : IsKept other others) (is : more ≡ map (renamed ns) others) where
+  pub kept-added : (after : List Run) → AreAdded runs more after → IsKept new after
+  kept-added after a = record {
+    rising = a.rising;
+    sound = a.sound (length new) (AllSound-more _ _ runs (Extends-length old new extends) kept.sound)
+        (subst (AllSound (length new)) (sym is) (sound-renamed new ns other others names others_kept.sound));
+  }
+
+  pub facts-added : (after : List Run) → AreAdded runs more after → facts_in new after ≡ union (facts_in old runs) (facts_in other others)
+  facts-added after a = union-runs new old other after runs others more a.facts
+      (λ e. any-extends old new runs e extends kept.sound)
+      (λ e. ap (list_any (has new e)) is ∙ any-renamed new ns other others e names others_kept.sound)
+
+-- what holds where a call is well, and where it is refused, holds after it
+pub either : {T E P Q X : Type 0} (r : Result T E) → OnOk r P → OnErr r Q → (P → X) → (Q → X) → X
+either (Ok x) p q f g = f p
+either (Err x) p q f g = g q

@@ -1,9 +1,8 @@
 -- What runs from elsewhere say, and where swaps lead along their ranks.
-use Rattle.std.proofs.Common.{◌≡◌, refl, sym, ap, subst, ◌∙◌, ℕ, ◌+◌, ◌-◌, ◌<◌, ◌≤◌, Bool, true, false, ◌&&◌, ◌||◌, List, [], ◌∷◌, length, Option, Some, None}
+use Rattle.std.proofs.Common.{◌≡◌, sym, subst, ◌∙◌, ℕ, ◌+◌, ◌-◌, ◌<◌, ◌≤◌, true, false, List, [], ◌∷◌, length, Option, Some, None}
 use Rattle.std.proofs.Common.{⊎_elim, ◌⊎◌, arith}
 use Rattle.std.proofs.lemmas.Bool.{or_cases}
 use Rattle.std.specs.List.{list_any}
-use Rattle.std.specs.Ordering.{eq_by_cmp}
 use Rattle.sql_subset.specs.Spec.{Spec, SpecFile}
 use Rattle.quiet_steps.specs.declared.fact.Fact.{Fact}
 use Rattle.quiet_steps.specs.Swap.{leads_in}
@@ -13,7 +12,6 @@ use Rattle.outcome_books.specs.declared.leading.Lead.TheVariants.{Value, From, N
 use Rattle.outcome_books.specs.declared.run.Run.{Run}
 use Rattle.outcome_books.specs.declared.run.Tag.TheVariants.{Ran, Swap}
 use Rattle.outcome_books.specs.About.{IsShapeOf}
-use Rattle.outcome_books.specs.Entries.{fact_cmp}
 use Rattle.outcome_books.specs.Runs.{Table, fact_in, within, has, firsts, IsRising, AllSound}
 use Rattle.outcome_books.specs.Books.{IsRecordable, AllRecordable, facts_in, IsAboutOf, IsBook}
 use Rattle.outcome_books.specs.Values.{Leads}

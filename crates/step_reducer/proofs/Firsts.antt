@@ -1,5 +1,5 @@
 -- A walk at its first rank, and the facts of lines.
-use Rattle.std.proofs.Common.{◌≡◌, ◌≢◌, refl, sym, ap, ◌∙◌, subst, ℕ, ◌-◌, ◌<◌, ◌≤◌, Bool, false, inl, List, [], ◌∷◌, ◌++◌, length, Some, arith}
+use Rattle.std.proofs.Common.{◌≡◌, ◌≢◌, refl, sym, ap, ◌∙◌, subst, ℕ, ◌-◌, ◌<◌, ◌≤◌, Bool, false, inl, List, [], length, Some, arith}
 use Rattle.perm_ranks.specs.Words.{total, all_words}
 use Rattle.perm_ranks.specs.Blocks.{Block, IsBlockOf, end_of}
 use Rattle.sql_subset.specs.Spec.{Spec, SpecFile, ranks, line_of, counts_of, queues_of}
@@ -14,7 +14,6 @@ use Rattle.step_reducer.specs.declared.frame.Frame.{Frame}
 use Rattle.step_reducer.specs.declared.word_walk.WordWalk.{WordWalk}
 use Rattle.step_reducer.specs.Walks.{lowest, AreAbove}
 use Rattle.step_reducer.specs.Walking.{IsWords}
-use Rattle.session_machine.specs.Running.{Running}
 use Rattle.quiet_steps.proofs.Leading.{outcome-started}
 use Rattle.step_reducer.proofs.Places.{place-first}
 

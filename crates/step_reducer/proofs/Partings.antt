@@ -1,5 +1,5 @@
 -- How far the lines of two ranks are alike whose words part behind some letters, and how long a line is.
-use Rattle.std.proofs.Common.{◌≡◌, ◌≢◌, refl, sym, ap, ◌∙◌, ℕ, zero, suc, ◌+◌, ◌-◌, ◌<◌, ◌≤◌, Bool, List, [], ◌∷◌, ◌++◌, length, set, get_or, Option, Some}
+use Rattle.std.proofs.Common.{◌≡◌, ◌≢◌, refl, sym, ap, ◌∙◌, ℕ, suc, ◌+◌, ◌-◌, ◌<◌, ◌≤◌, Bool, List, [], ◌∷◌, ◌++◌, length, set, get_or, Option, Some}
 use Rattle.std.proofs.Common.{None, option_map, arith, append_assoc, length-append}
 use Rattle.perm_ranks.specs.Words.{Word, total, all_words, word_at, place_of}
 use Rattle.perm_ranks.specs.Counting.{taken, words_before}

@@ -1,5 +1,5 @@
 -- A walk of permutation lines.
-use Rattle.std.specs.Prelude.{◌≡◌, ℕ, ◌+◌, ◌≤◌, Bool, length}
+use Rattle.std.specs.Prelude.{◌≡◌, ◌+◌, ◌≤◌, Bool, length}
 use Rattle.spec_reader.specs.declared.TheConstants.{MAX_ITEMS}
 use Rattle.sql_subset.specs.Spec.{SpecFile, line_of}
 use Rattle.step_reducer.specs.Fronts.{front, most_steps}

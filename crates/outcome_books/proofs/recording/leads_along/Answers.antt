@@ -1,7 +1,6 @@
 use Rattle.std.proofs.Common.{refl, sym, ◌∙◌, arith, ◌≡◌, true, false}
-use Rattle.quiet_steps.specs.Swap.{leads_in}
 use Rattle.outcome_books.specs.Sweep.{leads_of}
-use Rattle.outcome_books.specs.Recording.{LeadsAlong, is_from}
+use Rattle.outcome_books.specs.Recording.{is_from}
 use Rattle.outcome_books.proofs.RecordedRuns.{lead-along, lead-not, along-more, along-from, along-same, along-back}
 use Rattle.outcome_books.proofs.recording.leads_along.Goals as goal
 

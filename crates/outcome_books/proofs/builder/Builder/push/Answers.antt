@@ -1,4 +1,4 @@
-use Rattle.std.proofs.Common.{refl, sym, ap, ◌∙◌, subst, length, arith, rules, ◌-◌}
+use Rattle.std.proofs.Common.{refl, sym, ap, ◌∙◌, subst, length, rules, ◌-◌}
 use Rattle.std.specs.FinSet.{union, from_list}
 use Rattle.outcome_books.specs.Runs.{AllTo, firsts, repeated}
 use Rattle.outcome_books.specs.Books.{IsKept, facts_in}

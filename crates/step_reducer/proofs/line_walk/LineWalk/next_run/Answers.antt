@@ -10,7 +10,7 @@ use Rattle.step_reducer.proofs.Firsts.{line-fact, line-ran}
 use Rattle.step_reducer.proofs.line_walk.LineWalk.next_run.Goals as goal
 
 pub outcome-requires : goal.outcome-requires
-outcome-requires c = path-own c.args.self.now.path.spec.now c.go_to-shared.new.self c.in_ok-shared.ensures.path
+outcome-requires c = path-own c.args.self.now.path.spec.now c.go_to.new.self c.in_ok-shared.ensures.path
 
 pub overflow_sub-sent : goal.overflow_sub-sent
 overflow_sub-sent c =
@@ -23,7 +23,7 @@ returns c =
     let file = x.path.spec.now in
     let run = file.run in
     let line = c.in-Some.line.items in
-    let y = c.go_to-shared.new.self in
+    let y = c.go_to.new.self in
     let went = c.in_ok-shared.ensures in
     let long = ap (λ (l : List ℕ). length l) went.line in
     let told : outcome_of run.sessions (send_all run.steps (first_world run) line) ≡ c.in_ok-outcome.outcome =
