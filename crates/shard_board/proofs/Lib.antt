@@ -1,6 +1,6 @@
 mod TotalLemmas
 mod HistoryLemmas
-mod RowLemmas
+pub mod RowLemmas
 mod TakeLemmas
 mod EndLemmas
 mod ClaimLemmas

@@ -4,11 +4,12 @@ ghost use Rattle.std.specs.Prelude.{◌≡◌, ◌≢◌, ◌↔◌, ◌<◌, �
 ghost use Rattle.std.specs.Prelude.{replicate, Some, None};
 ghost use Rattle.serde_json.specs.View.{view, items_view};
 ghost use Rattle.outcome_books.specs.Recording.{EachRun};
-ghost use Rattle.book_files.specs.Forms.{run_cmp, tag_kind, tag_number};
+ghost use Rattle.book_files.specs.Forms.{run_cmp};
 ghost use Rattle.book_files.specs.Reading.{Meets, StandsAfter};
 ghost use Rattle.book_files.specs.ReadingRuns.{AllNamed, AreEnds, AreRunsOf, ComesAhead, IsApart, IsLed, IsNextRun, IsPast, IsTagOf, end_at, span_in};
 ghost use Rattle.book_files.specs.ReadingRuns.{span_in_four, span_in_items, tag_in};
 
+use crate::canonical::{kind, number};
 use crate::error::BookError;
 use crate::pieces::MAX_FACTS;
 use outcome_books::{Run, Tag, leads_along};

@@ -1,5 +1,6 @@
-use Rattle.std.proofs.Common.{refl, ap, ◌∙◌}
+use Rattle.std.proofs.Common.{refl, sym, ap, ◌∙◌, subst, ◌<◌}
 use Rattle.std.proofs.lemmas.Bool.{false≢true}
+use Rattle.sql_subset.specs.Spec.{SpecFile, ranks, line_of}
 use Rattle.machine_model.specs.World.{send_all, outcome_of}
 use Rattle.step_reducer.specs.Reduced.{first_world}
 use Rattle.step_reducer.proofs.Trails.{path-own, path-told}
@@ -10,7 +11,7 @@ use Rattle.book_audit.proofs.testing.is_ran.Goals as goal
 pub returns-in_default-clause-answer : goal.returns-in_default-clause-answer
 returns-in_default-clause-answer c = (
   λ yes. absurd (false≢true yes),
-  λ fact. absurd (false≢true (c.in_default.ensures.some.1 fact.0)),
+  λ fact. absurd (false≢true (c.in_default.ensures.some.1 (subst (λ (f : SpecFile). c.args.rank < ranks f.run) (sym c.spec.ensures) fact.0))),
 )
 
 pub outcome-requires : goal.outcome-requires
@@ -20,8 +21,8 @@ pub returns-clause-answer : goal.returns-clause-answer
 returns-clause-answer c =
     let file = c.args.path.now.spec.now in
     let run = file.run in
-    let line = c.in_ok-go_to.ensures.line ∙ c.in-Some.ensures.line in
+    let line = c.in_ok-go_to.ensures.line ∙ c.in-Some.ensures.line ∙ ap (λ (f : SpecFile). line_of f.run c.args.rank) c.spec.ensures in
     let told = c.in_ok-outcome.ensures ∙ path-told file c.go_to.new.self c.in_ok-go_to.ensures.path
     ∙ ap (λ ks. outcome_of run.sessions (send_all run.steps (first_world run) ks)) line in
     ran-is run (first_world run) c.requires.starts c.args.rank c.in_ok-outcome.outcome c.args.told.now c.is_same.result
-    (c.in-Some.ensures.some.0 refl) told c.is_same.ensures
+    (subst (λ (f : SpecFile). c.args.rank < ranks f.run) c.spec.ensures (c.in-Some.ensures.some.0 refl)) told c.is_same.ensures

@@ -1,6 +1,6 @@
-use Rattle.std.proofs.Common.{◌≡◌, refl, sym, ap, ◌∙◌, subst, ◌<◌, true, length}
+use Rattle.std.proofs.Common.{◌≡◌, refl, sym, ap, ◌∙◌, subst, ◌<◌, true, [], length}
 use Rattle.perm_ranks.specs.Words.{all_words, word_at}
-use Rattle.sql_subset.specs.Spec.{counts_of, queues_of}
+use Rattle.sql_subset.specs.Spec.{SpecFile, counts_of, queues_of}
 use Rattle.quiet_steps.specs.Swap.{falls_at, word_of}
 use Rattle.step_reducer.specs.Reduced.{first_world}
 use Rattle.book_audit.specs.Grounds.{AreAlikeTo}
@@ -11,7 +11,7 @@ pub are_quiet-requires-clause-steps : goal.are_quiet-requires-clause-steps
 are_quiet-requires-clause-steps c =
     let run = c.args.path.now.spec.now.run in
     let rank = c.args.rank in
-    let counts = c.in-Some.ensures.counts in
+    let counts = c.in-Some.ensures.counts ∙ ap (λ (f : SpecFile). counts_of (queues_of f.run)) c.spec-spec.ensures in
     let lt = c.in-Some-unrank.ensures.some.0 refl in
     let falls = falls-where _ c.swapped.result c.args.place c.in-Some-unrank.word.items c.swapped.ensures.exchanged (sym c.is_some-falls.ensures
     ∙ c.if-not-falls.false) in
@@ -19,14 +19,14 @@ are_quiet-requires-clause-steps c =
     ∙ falls in
     let inside : rank < length (all_words (counts_of (queues_of run))) = subst (λ cs. rank < length (all_words cs)) counts lt in
     let falls_here : falls_at c.args.place (word_of run rank) ≡ true = subst (λ cs. falls_at c.args.place (word_at cs rank) ≡ true) counts falls_there in
-    let words = c.in-Some.ensures.words.0 refl in
+    let words = subst (λ (f : SpecFile). f.run.lines ≡ []) c.spec-spec.ensures (c.in-Some.ensures.words.0 refl) in
     line-inside run rank c.args.place words inside falls_here
 
 pub alike_to-requires-clause-letters : goal.alike_to-requires-clause-letters
 alike_to-requires-clause-letters c =
     let run = c.args.path.now.spec.now.run in
     let rank = c.args.rank in
-    let counts = c.in-Some.ensures.counts in
+    let counts = c.in-Some.ensures.counts ∙ ap (λ (f : SpecFile). counts_of (queues_of f.run)) c.spec-spec.ensures in
     let lt = c.in-Some-unrank.ensures.some.0 refl in
     let falls = falls-where _ c.swapped.result c.args.place c.in-Some-unrank.word.items c.swapped.ensures.exchanged (sym c.is_some-falls.ensures
     ∙ c.if-not-falls.false) in
@@ -38,7 +38,7 @@ pub returns-clause-answer : goal.returns-clause-answer
 returns-clause-answer c =
     let run = c.args.path.now.spec.now.run in
     let rank = c.args.rank in
-    let counts = c.in-Some.ensures.counts in
+    let counts = c.in-Some.ensures.counts ∙ ap (λ (f : SpecFile). counts_of (queues_of f.run)) c.spec-spec.ensures in
     let lt = c.in-Some-unrank.ensures.some.0 refl in
     let falls = falls-where _ c.swapped.result c.args.place c.in-Some-unrank.word.items c.swapped.ensures.exchanged (sym c.is_some-falls.ensures
     ∙ c.if-not-falls.false) in
@@ -46,7 +46,7 @@ returns-clause-answer c =
     ∙ falls in
     let inside : rank < length (all_words (counts_of (queues_of run))) = subst (λ cs. rank < length (all_words cs)) counts lt in
     let falls_here : falls_at c.args.place (word_of run rank) ≡ true = subst (λ cs. falls_at c.args.place (word_at cs rank) ≡ true) counts falls_there in
-    let words = c.in-Some.ensures.words.0 refl in
+    let words = subst (λ (f : SpecFile). f.run.lines ≡ []) c.spec-spec.ensures (c.in-Some.ensures.words.0 refl) in
     let starts = c.requires.starts in
     let quiet = sym c.in_ok-are_quiet.ensures.answer ∙ c.if-not-branch.false in
     let fact = swap-from run (first_world run) starts rank c.args.place words (in-ranks run rank words inside) falls_here quiet in
