@@ -1,10 +1,10 @@
 -- Two lists place by place.
-use Rattle.std.proofs.Common.{◌≡◌, ◌≢◌, refl, sym, ap, ◌∙◌, subst, ℕ, zero, suc, ◌<◌, ◌≤◌, min, Bool, true, false, eqb, eqb-true, eq-eqb, List, [], ◌∷◌, ◌++◌, length, take, get_or, Option, Some, None, slice_get, arith}
+use Rattle.std.proofs.Common.{◌≡◌, ◌≢◌, refl, sym, ap, ◌∙◌, subst, ℕ, zero, suc, ◌<◌, min, Bool, true, false, eqb, eqb-true, eq-eqb, List, [], ◌∷◌, ◌++◌, length, take, get_or, Some, slice_get, arith}
 use Rattle.std.proofs.lemmas.Bool.{false≢true}
 use Rattle.std.specs.List.{AllZip}
 use Rattle.outcome_books.specs.Entries.{Told}
-use Rattle.outcome_books.specs.Sweep.{values_of, AllBelow}
-use Rattle.accepted_outputs.specs.Judging.{DifferFirstAt, IsFirstDifference}
+use Rattle.outcome_books.specs.Sweep.{values_of}
+use Rattle.accepted_outputs.specs.Judging.{IsFirstDifference}
 
 some-same : {A : Type 0} (a b : A) → Some a ≡ Some b → a ≡ b
 some-same a b e = cc

@@ -1,31 +1,23 @@
 -- What bytes are as a book: how much of them has to be read, and that no refusal of theirs is a read fault.
-use Rattle.std.proofs.Common.{◌≡◌, ◌≢◌, refl, sym, ap, subst, ◌∙◌, ℕ, ◌+◌, ◌<◌, ◌≤◌, List, [], length, take, Option, Some, None, Result, Ok, Err, ◌⊎◌, ⊎_elim}
+use Rattle.std.proofs.Common.{◌≡◌, ◌≢◌, refl, sym, subst, ◌∙◌, ℕ, ◌+◌, ◌<◌, ◌≤◌, List, [], length, take, Option, Some, None, Ok, Err, ◌⊎◌, ⊎_elim}
 use Rattle.std.proofs.Common.{inl, inr, arith}
 use Rattle.std.proofs.lemmas.List.{take_all, length-take-le}
 use Rattle.std.specs.Prelude.{option_map, IfSome}
 use Rattle.std.specs.Result.{IfErr}
 use Rattle.serde_json.specs.Data.{Data}
-use Rattle.spec_reader.specs.Tree.{SpecTree}
-use Rattle.spec_reader.specs.Text.{IsSpec}
 use Rattle.sql_subset.specs.Spec.{SpecFile}
 use Rattle.sql_subset.specs.Binding.{IsFileOf}
-use Rattle.outcome_books.specs.Books.{Contents, facts_in}
-use Rattle.outcome_books.specs.Runs.{Table}
-use Rattle.outcome_books.specs.declared.run.Run.{Run}
-use Rattle.outcome_books.specs.Entries.{Entry}
-use Rattle.serde_json.specs.Data.{Items}
+use Rattle.outcome_books.specs.Books.{Contents}
 use Rattle.book_files.specs.declared.error.BookError.{BookError}
 use Rattle.book_files.specs.declared.error.BookError.TheVariants.{NotJson, BadField, BadVersion, BadSpec, BadRank, OutOfOrder, BadSwap, TooLarge, NoMemory}
 use Rattle.book_files.specs.declared.error.BookError.TheVariants.{ReadFault}
 use Rattle.book_files.specs.declared.reading.parts.Version.{Version}
 use Rattle.book_files.specs.declared.reading.parts.Version.TheVariants.{Facts, Runs, Other}
 use Rattle.book_files.specs.declared.pieces.TheConstants.{MAX_TEXT}
-use Rattle.book_files.specs.Reading.{Read, Unless, Given, Then, Gives, Meets, AreOutcomes}
-use Rattle.book_files.specs.ReadingRuns.{AreRunsOf}
-use Rattle.book_files.specs.ReadingFacts.{AreEntries}
+use Rattle.book_files.specs.Reading.{Read, Unless, Given, Meets}
 use Rattle.book_files.specs.ReadingBooks.{format_in, version_with, FactParts, RunParts, fact_parts, run_parts, IsFactsOf, IsRunsOf, IsSpecText, IsFactsBook}
 use Rattle.book_files.specs.ReadingBooks.{IsRunsBook, IsBookOf, IsBookValue, IsValueOf, IsBookFile, fault_count, IsReadOf}
-use Rattle.book_files.proofs.ReadLemmas.{IsPlain, meets-map, plain-gives, plain-unless, plain-given, plain-then, plain-refusal, same-error, outcomes-plain}
+use Rattle.book_files.proofs.ReadLemmas.{IsPlain, meets-map, plain-refusal, same-error, outcomes-plain}
 use Rattle.book_files.proofs.RunLaws.{of-plain}
 use Rattle.book_files.proofs.FactLaws.{entries-plain}
 

@@ -2,7 +2,6 @@
 use Rattle.std.proofs.Common.{◌≡◌, refl, sym, ap, subst, ◌∙◌, ℕ, zero, suc, ◌+◌, ◌<◌, ◌≤◌, max, Bool, true, false, cond, ltb, eqb, ◌||◌, List, [], ◌∷◌}
 use Rattle.std.proofs.Math.Bool.{or_assoc, or-false}
 use Rattle.std.proofs.Common.{◌++◌, length, get_or, take, inl, inr, ◌⊎◌, arith}
-use Rattle.std.proofs.lemmas.List.{take_more}
 use Rattle.std.proofs.lemmas.Bool.{ltb-true}
 use Rattle.std.proofs.lemmas.List.Edits.{length-swap, swapped_from_swap, Swapped}
 use Rattle.std.proofs.lemmas.List.Sorted.{IsPermutation-keeps, All-permutation, sorted_far, ranks_by}

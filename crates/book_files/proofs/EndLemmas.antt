@@ -10,7 +10,6 @@ use Rattle.outcome_books.specs.Recording.{EachRun}
 use Rattle.outcome_books.specs.Sweep.{IsIn}
 use Rattle.outcome_books.proofs.VerdictLemmas.{in-push}
 use Rattle.book_files.specs.declared.reading.runs.Ends.{Ends}
-use Rattle.book_files.specs.Forms.{IsNamed}
 use Rattle.book_files.specs.ReadingRuns.{IsApart, AllNamed, IsEnd, AreEnds, end_at, IsTagOf}
 use Rattle.book_files.proofs.RunLaws.{EachRun-push}
 

@@ -1,7 +1,7 @@
 -- What is read as facts one by one: they may stand in a book of the spec, their ranks rise, and runs of one rank each say them.
-use Rattle.std.proofs.Common.{◌≡◌, ◌≢◌, refl, sym, ap, subst, ◌∙◌, ℕ, suc, ◌+◌, ◌-◌, ◌<◌, ◌≤◌, Bool, true, false, cond, ◌||◌, List, [], ◌∷◌, ◌++◌, length}
-use Rattle.std.proofs.Common.{get_or, map, Option, Some, None, Ok, Err, ◌⊎◌, ⊎_elim, inl, inr, arith}
-use Rattle.std.specs.Prelude.{option_and_then, nat_lt, codes}
+use Rattle.std.proofs.Common.{◌≡◌, refl, sym, ap, subst, ◌∙◌, ℕ, ◌+◌, ◌-◌, ◌<◌, ◌≤◌, true, false, ◌||◌, List, [], ◌∷◌, ◌++◌}
+use Rattle.std.proofs.Common.{Option, Some, None, Ok, ⊎_elim, inl, inr, arith}
+use Rattle.std.specs.Prelude.{nat_lt}
 use Rattle.std.proofs.lemmas.Bool.{ltb-true, or_cases}
 use Rattle.std.proofs.lemmas.List.Folds.{list_any-append}
 use Rattle.std.specs.List.{list_any}
@@ -16,18 +16,16 @@ use Rattle.machine_model.specs.Outcome.{IsOutcomeOf}
 use Rattle.sql_subset.specs.Spec.{Spec, ranks}
 use Rattle.quiet_steps.specs.declared.fact.Fact.{Fact}
 use Rattle.quiet_steps.specs.declared.fact.Fact.TheVariants.{Ran, Swap}
-use Rattle.outcome_books.specs.Entries.{Entry, FactSet, entry_cmp, fact_cmp, recorded}
+use Rattle.outcome_books.specs.Entries.{Entry, entry_cmp, fact_cmp}
 use Rattle.outcome_books.specs.Runs.{repeated}
 use Rattle.outcome_books.specs.Books.{IsRecordable, AllRecordable}
-use Rattle.outcome_books.specs.Building.{Building, added}
 use Rattle.outcome_books.proofs.Orders.{entry_total, entry_same}
 use Rattle.outcome_books.proofs.SetLemmas.{same_facts, in_union}
 use Rattle.book_files.specs.declared.error.BookError.TheVariants.{BadField, BadRank, OutOfOrder, BadSwap}
-use Rattle.book_files.specs.declared.reading.facts.RankFact.{RankFact}
-use Rattle.book_files.specs.Reading.{Read, Unless, Given, Then, Gives, last, StandsAfter, IsOutcomeValue, IsOutcome, whole_in}
-use Rattle.book_files.specs.ReadingFacts.{place_in, IsRan, IsSwap, IsFact, EntryParts, entry_parts, IsEntry, IsFactLed, ComesUnder, IsNextEntry, AreEntries}
-use Rattle.book_files.specs.ReadingFacts.{entry_of, entries_of, AllUnder, AreUnder, RanksBelow}
-use Rattle.book_files.proofs.ReadLemmas.{IsPlain, plain-gives, plain-unless, plain-given, plain-then, plain-refusal, same-error, last-push, last-none}
+use Rattle.book_files.specs.Reading.{Gives, last, StandsAfter, IsOutcomeValue, IsOutcome, whole_in}
+use Rattle.book_files.specs.ReadingFacts.{place_in, IsRan, IsSwap, IsFact, IsEntry, IsFactLed, ComesUnder, IsNextEntry, AreEntries}
+use Rattle.book_files.specs.ReadingFacts.{AllUnder, AreUnder, RanksBelow}
+use Rattle.book_files.proofs.ReadLemmas.{IsPlain, plain-gives, plain-given, plain-then, plain-refusal, same-error, last-push, last-none}
 use Rattle.book_files.proofs.RunLaws.{some-bind, some-cond}
 
 -- ---- one fact

@@ -1,21 +1,19 @@
 -- The values of a form are read as the form.
-use Rattle.std.proofs.Common.{◌≡◌, slice_get, refl, sym, ap, subst, ◌∙◌, ℕ, zero, suc, ◌+◌, ◌-◌, ◌<◌, ◌≤◌, Bool, true, false, ltb, List, [], ◌∷◌, ◌++◌}
-use Rattle.std.proofs.Common.{length, get_or, map, All, append_assoc, append-nil, Option, Some, None, Ok, ◌⊎◌, inl, inr, arith}
+use Rattle.std.proofs.Common.{◌≡◌, slice_get, refl, sym, ap, subst, ◌∙◌, ℕ, suc, ◌+◌, ◌-◌, ◌<◌, ◌≤◌, Bool, true, ltb, List, [], ◌∷◌, ◌++◌}
+use Rattle.std.proofs.Common.{length, map, All, append_assoc, append-nil, Some, Ok, ◌⊎◌, inl, inr, arith}
 use Rattle.std.proofs.lemmas.Bool.{lt-ltb, or_left, or_right}
 use Rattle.std.proofs.lemmas.List.{get_or_default}
 use Rattle.std.proofs.lemmas.List.Elements.{All-head, All-tail}
 use Rattle.std.specs.List.{list_any}
-use Rattle.std.specs.Ordering.{eq_by_cmp}
 use Rattle.serde_json.specs.View.{items_of}
 use Rattle.transcripts.specs.Json.{outcome_data}
 use Rattle.sql_subset.specs.Spec.{Spec, ranks}
-use Rattle.quiet_steps.specs.Swap.{leads_in}
 use Rattle.outcome_books.specs.declared.run.Run.{Run}
 use Rattle.outcome_books.specs.declared.run.Tag.{Tag}
 use Rattle.outcome_books.specs.declared.run.Tag.TheVariants.{Ran, Swap}
-use Rattle.outcome_books.specs.Entries.{Entry, Told, FactSet, fact_cmp, recorded}
-use Rattle.outcome_books.specs.Runs.{Table, fact_in, within, has, IsNumbered, IsSound, AllSound}
-use Rattle.outcome_books.specs.Books.{Contents, IsRecordable, AllRecordable, facts_in}
+use Rattle.outcome_books.specs.Entries.{Told, FactSet, recorded}
+use Rattle.outcome_books.specs.Runs.{Table, fact_in, has, IsNumbered, IsSound, AllSound}
+use Rattle.outcome_books.specs.Books.{Contents, IsRecordable, AllRecordable}
 use Rattle.outcome_books.specs.Recording.{EachRun}
 use Rattle.outcome_books.specs.Sweep.{IsIn}
 use Rattle.outcome_books.proofs.GapLemmas.{same_fact}
@@ -23,7 +21,6 @@ use Rattle.outcome_books.proofs.RunLemmas.{and_true, within-from}
 use Rattle.outcome_books.proofs.SetLemmas.{contains-runs}
 use Rattle.outcome_books.proofs.VerdictLemmas.{in-push}
 use Rattle.book_files.proofs.BackLemmas.{span_of}
-use Rattle.book_files.specs.declared.reading.runs.Span.{Span}
 use Rattle.book_files.specs.declared.pieces.TheConstants.{MAX_FACTS}
 use Rattle.book_files.specs.Forms.{AllAfter, Rises, ComesBefore, IsLater, IsForm}
 use Rattle.book_files.specs.BookText.{run_data, total_of}
@@ -32,7 +29,7 @@ use Rattle.book_files.specs.ReadingRuns.{span_in, run_of, IsLed, IsPast, IsNextR
 use Rattle.book_files.specs.ReadingLaws.{FormsReadBack}
 use Rattle.book_files.proofs.ReadLemmas.{IsToldBy, last-push}
 use Rattle.book_files.proofs.RunLaws.{IsLawful}
-use Rattle.book_files.proofs.EndLemmas.{EachRun-in, EachRun-all}
+use Rattle.book_files.proofs.EndLemmas.{EachRun-all}
 
 -- ---- outcomes
 

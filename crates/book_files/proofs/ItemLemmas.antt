@@ -1,9 +1,9 @@
 -- Arrays of so many items, and what is left of the items of a slice.
-use Rattle.std.proofs.Common.{◌≡◌, ◌≢◌, refl, sym, ap, subst, ◌∙◌, ℕ, suc, ◌+◌, ◌<◌, ◌≤◌, List, [], ◌∷◌, length, get_or, drop, map, Option, None}
-use Rattle.std.proofs.Common.{option_and_then, arith}
+use Rattle.std.proofs.Common.{◌≡◌, ◌≢◌, refl, sym, ap, ◌∙◌, ℕ, suc, ◌+◌, ◌<◌, ◌≤◌, List, [], ◌∷◌, length, get_or, drop, map, None}
+use Rattle.std.proofs.Common.{arith}
 use Rattle.std.proofs.lemmas.List.{drop_more, drop_all}
-use Rattle.serde_json.specs.Data.{Data, Items, no_items, item, Members, no_members, member}
-use Rattle.serde_json.specs.View.{view, items_of, items_view, members_of}
+use Rattle.serde_json.specs.Data.{no_items, item}
+use Rattle.serde_json.specs.View.{view, items_view, members_of}
 use Rattle.serde_json.specs.declared.value.Value.{Value as Json}
 use Rattle.std.specs.Prelude.{String}
 use Rattle.std.specs.declared.alloc.Global.{Global}

@@ -1,19 +1,18 @@
 -- First refusals: what passes them on, which are never a read fault, and what is read as outcomes.
-use Rattle.std.proofs.Common.{◌≡◌, ◌≢◌, refl, sym, ap, subst, ◌∙◌, ℕ, ◌-◌, ◌<◌, ◌≤◌, List, [], ◌∷◌, ◌++◌, length, get_or, slice_get, All, Option, Some, None}
-use Rattle.std.proofs.Common.{Result, Ok, Err, ◌⊎◌, ⊎_elim, inl, inr, arith}
+use Rattle.std.proofs.Common.{◌≡◌, ◌≢◌, refl, sym, ap, subst, ◌∙◌, ◌-◌, List, [], ◌∷◌, ◌++◌, length, get_or, slice_get, All, Some, None}
+use Rattle.std.proofs.Common.{Ok, Err, ◌⊎◌, inl, inr, arith}
 use Rattle.std.proofs.lemmas.List.{length_push, get_or_push}
 use Rattle.std.proofs.lemmas.List.Elements.{All-push}
-use Rattle.std.proofs.lemmas.Option.{slice_get_past, slice_get_within, slice_get-get_or}
+use Rattle.std.proofs.lemmas.Option.{slice_get-get_or}
 use Rattle.serde_json.specs.Data.{Data, Items, no_items, item}
-use Rattle.transcripts.specs.Json.{outcome_data, OutcomeFits}
+use Rattle.transcripts.specs.Json.{OutcomeFits}
 use Rattle.machine_model.specs.Outcome.{IsOutcomeOf}
 use Rattle.sql_subset.specs.Spec.{Spec}
 use Rattle.outcome_books.specs.Entries.{Told}
 use Rattle.outcome_books.specs.Runs.{Table}
 use Rattle.book_files.specs.declared.error.BookError.{BookError}
 use Rattle.book_files.specs.declared.error.BookError.TheVariants.{BadField, OutOfOrder, NoMemory, ReadFault}
-use Rattle.book_files.specs.Forms.{ComesBefore}
-use Rattle.book_files.specs.Reading.{Read, Unless, Given, Then, Gives, Meets, last, StandsAfter, IsOutcomeValue, IsNextOutcome, AreOutcomes}
+use Rattle.book_files.specs.Reading.{Read, Unless, Given, Then, Gives, Meets, last, IsNextOutcome, AreOutcomes}
 
 -- ---- refusals that are passed on
 

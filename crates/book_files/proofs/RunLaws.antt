@@ -1,6 +1,6 @@
 -- What is read as runs may stand in a book of the spec, in the order of the first ranks.
-use Rattle.std.proofs.Common.{◌≡◌, refl, sym, ap, subst, ◌∙◌, ℕ, suc, ◌+◌, ◌-◌, ◌<◌, ◌≤◌, Bool, true, false, cond, List, [], ◌∷◌, ◌++◌, length, get_or}
-use Rattle.std.proofs.Common.{slice_get, All, Option, Some, None, Ok, Err, ◌⊎◌, ⊎_elim, inl, inr, arith}
+use Rattle.std.proofs.Common.{◌≡◌, refl, sym, subst, ◌∙◌, ℕ, ◌+◌, ◌-◌, ◌<◌, ◌≤◌, Bool, true, false, cond, List, [], ◌∷◌, ◌++◌, length}
+use Rattle.std.proofs.Common.{All, Option, Some, None, Ok, inl, inr, arith}
 use Rattle.std.specs.Prelude.{option_and_then, nat_lt, bytes_eq, codes}
 use Rattle.std.proofs.lemmas.Bool.{ltb-true}
 use Rattle.std.specs.declared.cmp.Ordering.{Ordering}
@@ -10,22 +10,21 @@ use Rattle.std.specs.Cmp.{ranked}
 use Rattle.serde_json.specs.Data.{Data, null, boolean, number, string, array, object, Items, no_items, item}
 use Rattle.serde_json.specs.Find.{as_str}
 use Rattle.sql_subset.specs.Spec.{Spec, ranks}
-use Rattle.quiet_steps.specs.Swap.{leads_in}
 use Rattle.outcome_books.specs.declared.run.Run.{Run}
 use Rattle.outcome_books.specs.declared.run.Tag.{Tag}
 use Rattle.outcome_books.specs.declared.run.Tag.TheVariants.{Ran, Swap}
-use Rattle.outcome_books.specs.Runs.{Table, fact_in, firsts, AllTo, IsRising, IsNumbered, IsSound, AllSound}
+use Rattle.outcome_books.specs.Runs.{Table, fact_in, firsts, AllTo, IsRising, IsNumbered, AllSound}
 use Rattle.outcome_books.specs.Books.{IsRecordable}
-use Rattle.outcome_books.specs.Recording.{LeadsAlong, EachRun, IsRecordableRun}
+use Rattle.outcome_books.specs.Recording.{EachRun, IsRecordableRun}
 use Rattle.outcome_books.proofs.RunLemmas.{firsts-push, AllTo-push, AllTo-more, IsRising-push}
 use Rattle.book_files.specs.declared.error.BookError.TheVariants.{BadField, BadRank, OutOfOrder, BadSwap, TooLarge}
 use Rattle.book_files.specs.declared.reading.runs.Span.{Span}
 use Rattle.book_files.specs.declared.pieces.TheConstants.{MAX_FACTS}
-use Rattle.book_files.specs.Forms.{run_cmp, tag_kind, tag_number}
-use Rattle.book_files.specs.Reading.{Read, Unless, Given, Then, Gives, whole_in, last, StandsAfter}
+use Rattle.book_files.specs.Forms.{tag_kind, tag_number}
+use Rattle.book_files.specs.Reading.{Unless, Gives, whole_in, last, StandsAfter}
 use Rattle.book_files.specs.ReadingRuns.{tag_in, span_with, span_in_four, span_in_items, span_in, run_of, IsLed, ComesAhead, IsPast, IsNextRun, AreRuns}
 use Rattle.book_files.specs.ReadingRuns.{AllNamed, AreRunsOf, IsTagOf}
-use Rattle.book_files.proofs.ReadLemmas.{IsPlain, plain-gives, plain-unless, plain-given, plain-then, plain-refusal, last-push, last-none, IsToldBy}
+use Rattle.book_files.proofs.ReadLemmas.{IsPlain, plain-gives, plain-unless, plain-then, plain-refusal, last-push, last-none, IsToldBy}
 
 -- ---- a run's value
 

@@ -1,32 +1,29 @@
 -- What each step of reading keeps, and what it tells where something is refused.
-use Rattle.std.proofs.Common.{◌≡◌, ◌≢◌, refl, sym, ap, subst, ◌∙◌, ℕ, zero, suc, ◌+◌, ◌-◌, ◌<◌, ◌≤◌, true, List, [], ◌∷◌, ◌++◌, length, get_or, drop, take}
-use Rattle.std.proofs.Common.{map, slice_get, All, Option, Some, None, Ok, Err, ◌⊎◌, ⊎_elim, inl, inr, arith}
-use Rattle.std.specs.Prelude.{option_map, slice_index}
+use Rattle.std.proofs.Common.{◌≡◌, refl, sym, ap, subst, ◌∙◌, ℕ, zero, suc, ◌+◌, ◌-◌, ◌<◌, ◌≤◌, true, List, [], ◌∷◌, ◌++◌, length, get_or, drop, take}
+use Rattle.std.proofs.Common.{slice_get, Some, Ok, Err, ◌⊎◌, inl, inr, arith}
+use Rattle.std.specs.Prelude.{option_map}
 use Rattle.std.proofs.lemmas.List.{take_more, map-append, length-map}
-use Rattle.std.proofs.lemmas.List.Elements.{All-nil}
 use Rattle.std.proofs.lemmas.Option.{slice_get-map}
 use Rattle.std.specs.FinSet.{from_list}
 use Rattle.std.specs.Ordering.{is_lt}
 use Rattle.std.specs.declared.cmp.Ordering.{Ordering}
 use Rattle.std.specs.declared.cmp.Ordering.TheVariants.{Less, Equal, Greater}
-use Rattle.serde_json.specs.Data.{Data, Items, no_items, item}
+use Rattle.serde_json.specs.Data.{Data}
 use Rattle.serde_json.specs.View.{view, items_view}
 use Rattle.serde_json.specs.declared.value.Value.{Value as Json}
-use Rattle.sql_subset.specs.Spec.{Spec, ranks}
+use Rattle.sql_subset.specs.Spec.{Spec}
 use Rattle.machine_model.specs.Outcome.{IsOutcomeOf}
-use Rattle.transcripts.specs.Json.{outcome_data, OutcomeFits}
+use Rattle.transcripts.specs.Json.{outcome_data}
 use Rattle.outcome_books.specs.declared.run.Run.{Run}
 use Rattle.outcome_books.specs.Entries.{Entry, Told, entry_cmp}
 use Rattle.outcome_books.specs.Runs.{Table, repeated}
 use Rattle.outcome_books.specs.Building.{Building, added}
 use Rattle.book_files.specs.declared.error.BookError.{BookError}
-use Rattle.book_files.specs.declared.error.BookError.TheVariants.{BadField, OutOfOrder, NoMemory}
+use Rattle.book_files.specs.declared.error.BookError.TheVariants.{NoMemory}
 use Rattle.book_files.specs.declared.reading.runs.Ends.{Ends}
-use Rattle.book_files.specs.declared.pieces.TheConstants.{MAX_FACTS}
 use Rattle.book_files.specs.declared.reading.facts.RankFact.{RankFact}
-use Rattle.book_files.specs.Forms.{ComesBefore}
-use Rattle.book_files.specs.Reading.{Read, Unless, Given, Then, Gives, last, StandsAfter, IsOutcomeValue, IsOutcome, IsNextOutcome, AreOutcomes}
-use Rattle.book_files.specs.ReadingRuns.{IsNextRun, AreRuns, AllNamed, AreRunsOf, AreEnds, IsApart, IsReadingRuns}
+use Rattle.book_files.specs.Reading.{Read, last, StandsAfter, IsOutcomeValue, IsOutcome, IsNextOutcome, AreOutcomes}
+use Rattle.book_files.specs.ReadingRuns.{IsNextRun, AreRuns, AreRunsOf, AreEnds, IsApart, IsReadingRuns}
 use Rattle.book_files.specs.ReadingFacts.{ComesUnder, IsNextEntry, AreEntries, entry_of, entries_of, AllUnder, AreUnder, RanksBelow}
 use Rattle.book_files.proofs.ItemLemmas.{items-next, items-end}
 use Rattle.book_files.proofs.OutcomeValues.{told-one}

@@ -1,5 +1,5 @@
 -- What is written of a book is UTF-8, and is read as the book.
-use Rattle.std.proofs.Common.{◌≡◌, refl, sym, subst, ℕ, zero, suc, ◌-◌, ◌<◌, ◌≤◌, ◌⊎◌, ◌^◌, inl, inr, ⊎_elim, true, List, [], ◌∷◌, ◌++◌, length, codes, Ok, arith}
+use Rattle.std.proofs.Common.{refl, sym, subst, ℕ, suc, ◌-◌, ◌<◌, ◌≤◌, ◌⊎◌, ◌^◌, inl, inr, ⊎_elim, List, [], ◌∷◌, codes, Ok, arith}
 use Rattle.std.specs.Prelude.{All, IsUtf8, decimal, flat_map, string_bytes}
 use Rattle.std.specs.List.{join_by}
 use Rattle.std.specs.declared.string.String.{String}

@@ -1,5 +1,5 @@
 -- How a first refusal is told, and what JSON values are as the outcomes of a spec.
-use Rattle.std.specs.Prelude.{◌≡◌, ℕ, ◌-◌, List, [], ◌∷◌, ◌++◌, length, Option, Some, None, option_and_then, slice_get, Result, Ok, Err, ◌⊎◌}
+use Rattle.std.specs.Prelude.{◌≡◌, ℕ, ◌-◌, List, [], ◌∷◌, ◌++◌, length, Option, Some, option_and_then, slice_get, Result, Ok, Err, ◌⊎◌}
 use Rattle.serde_json.specs.Data.{Data, Items, no_items, item}
 use Rattle.serde_json.specs.Find.{as_number, as_u64}
 use Rattle.transcripts.specs.Json.{outcome_data, OutcomeFits}

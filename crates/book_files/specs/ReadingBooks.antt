@@ -1,5 +1,5 @@
 -- What bytes are as a book, or why they are none: the first refusal.
-use Rattle.std.specs.Prelude.{◌≡◌, ℕ, suc, ◌+◌, ◌≤◌, ◌⊎◌, ◌==◌, cond, List, [], ◌∷◌, length, codes, Option, Some, None, option_and_then, option_map, Result}
+use Rattle.std.specs.Prelude.{◌≡◌, ℕ, suc, ◌≤◌, ◌⊎◌, ◌==◌, cond, List, [], length, codes, Option, Some, None, option_and_then, option_map}
 use Rattle.std.specs.Prelude.{Ok, Err, IsUtf8, string_bytes}
 use Rattle.std.specs.FinSet.{from_list}
 use Rattle.serde_json.specs.Data.{Data, Items, Members, no_members, member}

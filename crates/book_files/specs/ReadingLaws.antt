@@ -1,5 +1,5 @@
 -- The laws of reading.
-use Rattle.std.specs.Prelude.{◌≤◌, List, length, map, Ok}
+use Rattle.std.specs.Prelude.{◌≤◌, List, map, Ok}
 use Rattle.serde_json.specs.View.{items_of}
 use Rattle.transcripts.specs.Json.{outcome_data}
 use Rattle.sql_subset.specs.Spec.{SpecFile}

@@ -2,15 +2,14 @@
 use Rattle.std.proofs.Common.{◌≡◌, ◌≢◌, ◌⊎◌, ℕ, zero, suc, ◌+◌, ◌<◌, ◌≤◌, Bool, true, false, true≢false, cond, ◌||◌, List, [], ◌∷◌, ◌++◌, length, map, Some, None, refl, sym, ap, ◌∙◌, subst, inl, inr, ⊎_elim, arith}
 use Rattle.std.proofs.Common.{All}
 use Rattle.std.specs.Prelude.{◌==◌, ltb}
-use Rattle.std.specs.FinSet.{union, empty, contains, contains-empty}
+use Rattle.std.specs.FinSet.{empty, contains-empty}
 use Rattle.std.proofs.lemmas.Bool.{or_cases, or_left, or_right, eqb-true, false_from_ne_true}
 use Rattle.std.proofs.lemmas.Bool.Decides.{nat_tests}
-use Rattle.std.proofs.lemmas.List.{length-map}
 use mathlib.Core.Option.{some, some-ne-none, some-injective}
 use mathlib.Core.Logic.{dite}
 use native.Mathlib.Decide.{ℕ_discrete}
 use lib.ListN.{get_elem?}
-use Rattle.sql_subset.specs.Spec.{Spec, SpecFile}
+use Rattle.sql_subset.specs.Spec.{Spec}
 use Rattle.quiet_steps.specs.declared.fact.Fact.{Fact}
 use Rattle.step_reducer.specs.declared.walker.Shard.{Shard}
 use Rattle.outcome_books.specs.Entries.{FactSet, entry_cmp, recorded}
@@ -26,8 +25,8 @@ use Rattle.shard_board.specs.Shown.{ShownSeat, ShownBoard, has}
 use Rattle.shard_board.specs.Closing.{IsClosed}
 use Rattle.shard_farm.specs.declared.worker.Worker.{Worker}
 use Rattle.shard_farm.specs.Farming.{HasFact, InShardsBut, AreFactsBut}
-use Rattle.shard_farm.specs.Working.{AreFactsAt, is_marked, IsTrueCall, IsDone, HasWorked, numbers_missed, is_missed_by}
-use Rattle.shard_farm.proofs.CrewLemmas.{inside, all_at, found_at, seat_of, seat_at, worker_at, one_worker}
+use Rattle.shard_farm.specs.Working.{AreFactsAt, is_marked, IsTrueCall, HasWorked, numbers_missed}
+use Rattle.shard_farm.proofs.CrewLemmas.{inside, seat_of, seat_at, worker_at, one_worker}
 use Rattle.shard_farm.proofs.MissingLemmas.{Marked, missed_by, missed_at, missing_has, missing_of}
 
 -- an accepted delivery of the fact

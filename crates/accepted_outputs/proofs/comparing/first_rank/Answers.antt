@@ -1,4 +1,4 @@
-use Rattle.std.proofs.Common.{◌≡◌, ◌+◌, ◌<◌, ◌≤◌, sym, ap, ◌∙◌, List, length, true, arith}
+use Rattle.std.proofs.Common.{◌≡◌, ◌+◌, sym, ap, ◌∙◌, List, length, arith}
 use Rattle.std.proofs.lemmas.Bool.{false≢true}
 use Rattle.outcome_books.specs.Entries.{Told}
 use Rattle.outcome_books.proofs.FillLemmas.{below-at}

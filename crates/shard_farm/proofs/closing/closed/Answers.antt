@@ -1,12 +1,11 @@
-use Rattle.std.proofs.Common.{◌≡◌, ℕ, ◌<◌, ◌∙◌, All, List, length, map, sym, ap, subst, arith}
-use Rattle.std.proofs.lemmas.List.{length-map}
+use Rattle.std.proofs.Common.{◌≡◌, ℕ, ◌<◌, ◌∙◌, All, List, length, sym, ap, subst, arith}
 use Rattle.std.specs.List.Sorted.{IsStrictlyIncreasing}
 use Rattle.shard_board.specs.Shown.{ShownSeat}
 use Rattle.shard_board.specs.Closing.{IsClosed}
 use Rattle.shard_farm.specs.declared.worker.Worker.{Worker}
 use Rattle.shard_farm.specs.Farming.{AreFactsBut}
 use Rattle.shard_farm.specs.Working.{IsDone, numbers_missed}
-use Rattle.shard_farm.proofs.CrewLemmas.{all_at, all_of_board, seat_of}
+use Rattle.shard_farm.proofs.CrewLemmas.{all_at, all_of_board}
 use Rattle.shard_farm.proofs.MissingLemmas.{missing_rises, missing_below}
 use Rattle.shard_farm.proofs.ExactLemmas.{exact}
 use Rattle.shard_farm.proofs.closing.closed.Goals as goal

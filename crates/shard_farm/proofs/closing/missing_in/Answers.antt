@@ -1,4 +1,4 @@
-use Rattle.std.proofs.Common.{◌≡◌, ◌++◌, ◌∷◌, [], ℕ, List, ◌∙◌, ap, sym, arith}
+use Rattle.std.proofs.Common.{◌++◌, ◌∷◌, [], ℕ, List, ◌∙◌, ap, sym, arith}
 use Rattle.shard_farm.proofs.MissingLemmas.{missing_more, missing_same}
 use Rattle.shard_farm.proofs.closing.missing_in.Goals as goal
 

@@ -1,4 +1,4 @@
-use Rattle.std.proofs.Common.{◌≡◌, ◌∙◌, ℕ, Option, length, sym, subst}
+use Rattle.std.proofs.Common.{◌≡◌, ◌∙◌, ℕ, Option, subst}
 use Rattle.std.specs.Prelude.{MatchOption}
 use Rattle.shard_board.specs.Changes.{IsClaim, with_new_refusal}
 use Rattle.shard_farm.proofs.WorkLemmas.{begins, goes_on, ends}

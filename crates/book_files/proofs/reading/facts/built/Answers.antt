@@ -1,4 +1,4 @@
-use Rattle.std.proofs.Common.{◌≡◌, ◌<◌, ap, subst, arith}
+use Rattle.std.proofs.Common.{ap, arith}
 use Rattle.book_files.specs.declared.reading.facts.RankFact.{RankFact}
 use Rattle.book_files.proofs.Steps.{below-at, built-more}
 use Rattle.book_files.proofs.reading.facts.built.Goals as goal

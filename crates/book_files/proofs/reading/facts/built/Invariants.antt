@@ -1,4 +1,4 @@
-use Rattle.std.proofs.Common.{◌≡◌, ℕ, ◌<◌, ◌≤◌, take, get_or, length}
+use Rattle.std.proofs.Common.{◌≡◌, ◌<◌, ◌≤◌, take, get_or, length}
 use Rattle.std.specs.FinSet.{from_list}
 use Rattle.book_files.specs.declared.reading.facts.RankFact.{RankFact}
 use Rattle.book_files.specs.ReadingFacts.{entries_of}

@@ -1,6 +1,6 @@
-use Rattle.std.proofs.Common.{◌≡◌, refl, sym, ap, subst, ◌∙◌, Some}
+use Rattle.std.proofs.Common.{sym, ap, ◌∙◌}
 use Rattle.std.specs.Prelude.{option_map}
-use Rattle.book_files.specs.ReadingFacts.{ComesUnder, entry_of, entries_of}
+use Rattle.book_files.specs.ReadingFacts.{entry_of, entries_of}
 use Rattle.book_files.proofs.Steps.{last-entries, last-under, under-last}
 use Rattle.book_files.proofs.reading.facts.stands_after.Goals as goal
 

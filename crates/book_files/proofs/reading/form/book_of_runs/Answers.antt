@@ -1,4 +1,4 @@
-use Rattle.std.proofs.Common.{◌≡◌, refl, subst, inl, inr, ◌⊎◌, ⊎_elim, Ok, Err, [], length, arith}
+use Rattle.std.proofs.Common.{◌≡◌, refl, subst, inl, inr, ⊎_elim, Ok, Err, [], length, arith}
 use Rattle.std.proofs.lemmas.List.Elements.{All-nil}
 use Rattle.serde_json.specs.View.{items_view}
 use Rattle.book_files.specs.ReadingRuns.{AreRunsOf}

@@ -1,4 +1,4 @@
-use Rattle.std.proofs.Common.{◌≡◌, ◌<◌, refl, sym, subst, ◌∙◌, true, false, length, All, [], arith}
+use Rattle.std.proofs.Common.{◌≡◌, ◌<◌, sym, subst, ◌∙◌, true, false, length, All, [], arith}
 use Rattle.machine_model.specs.Outcome.{IsToldOf}
 use Rattle.book_files.proofs.Steps.{same-at}
 use Rattle.book_files.proofs.reading.outcomes.is_outcome_of.Goals as goal

@@ -1,4 +1,3 @@
-use Rattle.book_files.specs.ReadingRuns.{IsPast}
 use Rattle.book_files.proofs.EndLemmas.{apart-told, apart-tells}
 use Rattle.book_files.proofs.reading.runs.is_past.Goals as goal
 

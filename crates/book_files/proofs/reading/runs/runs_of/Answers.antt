@@ -1,4 +1,4 @@
-use Rattle.std.proofs.Common.{◌≡◌, refl, sym, ◌∙◌, true, false, inl, inr, arith, Ok, Err}
+use Rattle.std.proofs.Common.{◌≡◌, refl, sym, ◌∙◌, true, false, inl, inr}
 use Rattle.book_files.proofs.EndLemmas.{named-told, named-tells}
 use Rattle.book_files.proofs.Steps.{run-refused, run-more, runs-read}
 use Rattle.book_files.proofs.reading.runs.runs_of.Goals as goal

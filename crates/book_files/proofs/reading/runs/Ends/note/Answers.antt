@@ -1,4 +1,4 @@
-use Rattle.std.proofs.Common.{◌≡◌, ◌<◌, refl, subst, length, arith}
+use Rattle.std.proofs.Common.{◌<◌, refl, subst, length, arith}
 use Rattle.book_files.specs.ReadingRuns.{IsTagOf}
 use Rattle.book_files.proofs.EndLemmas.{noted-ran, noted-swap}
 use Rattle.book_files.proofs.reading.runs.Ends.note.Goals as goal
