@@ -209,7 +209,12 @@ fn refusal_of(alloc: Global, spec: &Spec, job: &str) -> Option<RunError> {
     make(alloc, spec, &job).err()
 }
 
-pub(crate) fn assert_refusal(rt: &impl Abort, alloc: Global, refusal: RunError, why: &str) -> Option<()> {
+pub(crate) fn assert_refusal(
+    rt: &impl Abort,
+    alloc: Global,
+    refusal: RunError,
+    why: &str,
+) -> Option<()> {
     let told = format!(in alloc; "{refusal}").ok()?;
     assert_text(rt, &told, why, "a refusal");
     Some(())
