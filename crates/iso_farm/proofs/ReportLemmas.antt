@@ -6,10 +6,8 @@ use Rattle.transcripts.specs.Counted.{Wrote, Stopped}
 use Rattle.transcripts.specs.Text.{rank_text, outcome_text}
 use Rattle.transcripts.specs.declared.counted.Counted.{Counted}
 use Rattle.transcripts.proofs.Writing.{wrote-append, stopped-append, stopped-after}
-use Rattle.machine_model.specs.Outcome.{IsOutcomeOf}
 use Rattle.quiet_steps.specs.Swap.{leads_in}
 use Rattle.quiet_steps.specs.Values.{AllTrue, CoverEachRank, TellTheMachine}
-use Rattle.quiet_steps.specs.declared.fact.Fact.TheVariants.{Ran}
 use Rattle.quiet_steps.proofs.TrueValues.{tell-the-machine}
 use Rattle.outcome_books.specs.declared.error.ReportError.TheVariants.{Missing, Clash}
 use Rattle.outcome_books.specs.declared.error.TheConstants.{MAX_REPORTED}
