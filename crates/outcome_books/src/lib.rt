@@ -8,6 +8,7 @@ mod boxed;
 mod builder;
 mod error;
 mod filling;
+mod fingerprint;
 mod gaps;
 mod job;
 mod joining;

@@ -3,18 +3,19 @@
 ghost use Rattle.std.specs.Prelude.{◌≡◌, ◌<◌, IfOk, IfSome, length, slice_index_or, []};
 ghost use Rattle.outcome_books.specs.Tables.{Extends, Names};
 
+use crate::fingerprint::fingerprint;
 use finite_maps::Fork;
 use std::alloc::{AllocError, Global};
 use std::collections::BTreeMap;
 use std::marker::Model;
 use transcripts::Outcome;
 
-/// Outcomes in the order of their numbers, seen by contracts as their list. What the index tells is looked up and compared, so
-/// that nothing but the table's size depends on it.
+/// Outcomes in the order of their numbers, seen by contracts as their list. The index has a number for a fingerprint. What it tells is
+/// looked up and compared, so that nothing but the table's size depends on it.
 #[derive(Drop)]
 pub(crate) struct Table {
     outcomes: Vec<Outcome>,
-    index: BTreeMap<Outcome, usize>,
+    index: BTreeMap<u64, usize>,
 }
 
 impl Model for Table {
@@ -53,12 +54,12 @@ impl Table {
         self.outcomes.as_slice()
     }
 
-    /// The number of an outcome, if the index knows it.
-    fn find(&self, outcome: &Outcome) -> Option<usize>
+    /// The number of an outcome with this fingerprint, if the index knows it.
+    fn find(&self, print: u64, outcome: &Outcome) -> Option<usize>
         ensures bound { IfSome result (λ n. n < length self.now) }
         ensures at { IfSome result (λ n. slice_index_or self.now n [] ≡ outcome.now) }
     {
-        let n = *self.index.get(outcome)?;
+        let n = *self.index.get(&print)?;
         if n < self.outcomes.len() && self.outcomes[n].is_same(outcome) {
             return Some(n);
         }
@@ -71,11 +72,12 @@ impl Table {
         ensures at { IfOk result (λ n. slice_index_or self.new n [] ≡ outcome.now) }
         ensures extends { Extends self.old self.new }
     {
-        if let Some(n) = self.find(outcome) {
+        let print = fingerprint(outcome);
+        if let Some(n) = self.find(print, outcome) {
             return Ok(n);
         }
         let n = self.outcomes.len();
-        self.index.insert(outcome.fork()?, n)?;
+        self.index.insert(print, n)?;
         self.outcomes.push(outcome.fork()?)?;
         Ok(n)
     }
@@ -103,7 +105,7 @@ impl Table {
         let outcomes = forked(alloc, self.outcomes.as_slice())?;
         let mut index = BTreeMap::new(alloc);
         for (n, outcome) in self.outcomes.iter().enumerate() {
-            index.insert(outcome.fork()?, n)?;
+            index.insert(fingerprint(outcome), n)?;
         }
         Ok(Table { outcomes, index })
     }

@@ -8,7 +8,7 @@ use Rattle.std.proofs.lemmas.Bool.Decides.{nat_tests}
 use Rattle.json.specs.Print.{escape_byte, quoted}
 use Rattle.transcripts.specs.Compact.{bytes_cmp, array_json, first_written}
 use Rattle.transcripts.specs.EventParts.{end_at}
-use Rattle.transcripts.proofs.Codes.{above, below, tied, IsCode, end_before, items_cmp, items-cons, items-none, items-ended, items-longer, array-cmp}
+use Rattle.transcripts.proofs.Codes.{above, below, tied, then-equal, IsCode, end_before, items_cmp, items-cons, items-none, items-ended, items-longer, array-cmp}
 use Rattle.transcripts.proofs.Escapes.{texts_cmp, quoted-cmp}
 
 -- what decides, decides at once
@@ -22,6 +22,21 @@ pub passed : (o : Ordering) → is_ne o ≡ false → o ≡ Equal
 passed Less e = cc
 passed Equal e = refl
 passed Greater e = cc
+
+-- of three orderings in turn the first decides, or else the second, or else the third
+pub first-decides : (f n r o : Ordering) → o ≡ ordering_then (ordering_then f n) r → is_ne f ≡ true → o ≡ f
+first-decides f n r o e h = e ∙ ap (λ p. ordering_then p r) (found f n h) ∙ found f r h
+
+pub second-decides : (f n r o : Ordering) → o ≡ ordering_then (ordering_then f n) r → is_ne f ≡ false → is_ne n ≡ true → o ≡ n
+second-decides f n r o e g h = e ∙ ap (λ p. ordering_then (ordering_then p n) r) (passed f g) ∙ found n r h
+
+pub third-decides : (f n r o : Ordering) → o ≡ ordering_then (ordering_then f n) r → is_ne f ≡ false → is_ne n ≡ false → o ≡ r
+third-decides f n r o e g h = e ∙ ap (λ p. ordering_then (ordering_then p n) r) (passed f g) ∙ ap (λ p. ordering_then p r) (passed n h)
+
+-- the byte behind decides where the text before it is one
+pub same-front : (xs : List ℕ) (p q : ℕ) → bytes_cmp (xs ++ p ∷ []) (xs ++ q ∷ []) ≡ nat_cmp p q
+same-front [] p q = then-equal (nat_cmp p q)
+same-front (x ∷ xs) p q = ap (λ o. ordering_then o (bytes_cmp (xs ++ p ∷ []) (xs ++ q ∷ []))) (tied x) ∙ same-front xs p q
 
 -- the item at a place, and those behind it
 pub drop-next : {X : Type 0} (xs : List X) (i : ℕ) (x : X) → i < length xs → x ≡ get_or xs i x → drop i xs ≡ x ∷ drop (i + 1) xs

@@ -54,7 +54,7 @@ impl Log {
     pub fn to_transcript(&self) -> Result<Transcript, AllocError>
         ensures { IfOk result (λ transcript. transcript ≡ self.now) }
     {
-        let mut transcript = Transcript::new(self.alloc);
+        let mut transcript = Transcript::with_room(self.alloc, self.events.len())?;
         for (_place, event) in self.events.iter() {
             transcript.push(event.fork()?)?;
         }

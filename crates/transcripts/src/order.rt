@@ -75,8 +75,14 @@ fn event_order(a: &Event, b: &Event) -> Ordering
     ensures { result ≡ bytes_cmp (event_json a.now) (event_json b.now) }
 {
     let fronts = front(a).cmp(front(b));
+    if fronts.is_ne() {
+        return fronts;
+    }
     let numbers = number_order(number(a), number(b));
-    fronts.then(numbers).then(row_order(values(a), values(b)))
+    if numbers.is_ne() {
+        return numbers;
+    }
+    row_order(values(a), values(b))
 }
 
 /// What the text of an event begins with, up to a number or a row.
@@ -167,10 +173,13 @@ fn cell_order(a: &Value, after_a: u8, b: &Value, after_b: u8) -> Ordering
     }
 }
 
-/// The order of two integers' texts, each with the byte behind it.
+/// The order of two integers' texts, each with the byte behind it. Equal ones have no text made of them.
 fn integer_order(a: i64, after_a: u8, b: i64, after_b: u8) -> Ordering
     ensures { result ≡ bytes_cmp (cell_json (Value.Int a) ++ after_a ∷ []) (cell_json (Value.Int b) ++ after_b ∷ []) }
 {
+    if a == b {
+        return after_a.cmp(&after_b);
+    }
     let mut digits = Buffer::new();
     let mut others = Buffer::new();
     let a = digits.format(a).as_bytes();
@@ -178,10 +187,13 @@ fn integer_order(a: i64, after_a: u8, b: i64, after_b: u8) -> Ordering
     ended_order(a, after_a, b, after_b)
 }
 
-/// The order of two numbers' digits, each with a closing bracket behind it.
+/// The order of two numbers' digits, each with a closing bracket behind it. Equal ones have no text made of them.
 fn number_order(a: u64, b: u64) -> Ordering
     ensures { result ≡ bytes_cmp (whole_json a ++ 93 ∷ []) (whole_json b ++ 93 ∷ []) }
 {
+    if a == b {
+        return Ordering::Equal;
+    }
     let mut digits = Buffer::new();
     let mut others = Buffer::new();
     let a = digits.format(a).as_bytes();

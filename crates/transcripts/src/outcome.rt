@@ -40,6 +40,15 @@ impl Transcript {
         }
     }
 
+    /// A transcript without events that has room for so many.
+    pub(crate) fn with_room(alloc: Global, room: usize) -> Result<Transcript, AllocError>
+        ensures { IfOk result (λ transcript. transcript ≡ []) }
+    {
+        Ok(Transcript {
+            events: Vec::with_capacity(alloc, room)?,
+        })
+    }
+
     /// Adds an event at the end. It fails for want of memory alone.
     pub fn push(&mut self, event: Event) -> Result<(), AllocError>
         ensures ok { OnOk result (self.new ≡ self.old ++ event ∷ []) }
@@ -59,7 +68,7 @@ impl Transcript {
 
 impl Fork for Transcript {
     fn fork(&self) -> Result<Transcript, AllocError> {
-        let mut events = Vec::new(*self.events.allocator());
+        let mut events = Vec::with_capacity(*self.events.allocator(), self.events.len())?;
         for event in &self.events {
             events.push(event.fork()?)?;
         }

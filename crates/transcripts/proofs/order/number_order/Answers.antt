@@ -1,7 +1,13 @@
 use Rattle.std.proofs.Common.{sym, ◌∙◌, ◌∷◌, [], ◌++◌}
-use Rattle.transcripts.specs.Compact.{bytes_cmp}
+use Rattle.transcripts.specs.Compact.{bytes_cmp, whole_json}
+use Rattle.transcripts.proofs.Codes.{bytes_tied}
 use Rattle.transcripts.proofs.Digits.{whole-decimal}
 use Rattle.transcripts.proofs.order.number_order.Goals as goal
+
+-- one number has one text
+pub returns-then-a-b : goal.returns-then-a-b
+returns-then-a-b c = sym (bytes_tied (whole_json c.args.a ++ 93 ∷ []))
+    ∙ (λ i. bytes_cmp (whole_json c.args.a ++ 93 ∷ []) (whole_json (c.if-a-b.true i) ++ 93 ∷ []))
 
 pub returns : goal.returns
 returns c =
