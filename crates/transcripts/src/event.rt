@@ -63,6 +63,13 @@ pub enum Event {
     NotSent(u8),
 }
 
+impl Event {
+    /// Whether a session is told nothing more until it is sent a step, or goes on.
+    pub(crate) fn ends_turn(&self) -> bool {
+        matches!(self, Event::Done | Event::Waiting | Event::NotSent(_))
+    }
+}
+
 impl Fork for Event {
     fn fork(&self) -> Result<Event, AllocError> {
         Ok(match self {

@@ -11,6 +11,7 @@ mod order;
 mod outcome;
 mod printing;
 mod to_value;
+mod turn;
 
 pub use counted::{Counted, ReadError, ReadFault, WriteFault};
 pub use error::ValueError;

@@ -4,30 +4,35 @@ ghost use Rattle.std.specs.Prelude.{◌≡◌, [], ◌∷◌, ◌++◌, IfOk, On
 
 use crate::event::Event;
 use crate::outcome::Transcript;
+use crate::turn::{Turn, copied};
 use finite_maps::Fork;
 use std::alloc::{AllocError, Global};
 use std::marker::Model;
 use version_tree::VMap;
 
 /// What one session has been told so far, seen by contracts as the list of its events in order. A fork shares the events
-/// and copies none, and each goes on alone.
+/// of turns that have ended, and copies those of the turn that goes on. Each goes on alone.
 #[derive(Drop)]
 pub struct Log {
-    /// Each event at its place, from 0.
-    events: VMap<usize, Event>,
+    /// The turns that have ended, each at its place, from 0.
+    turns: VMap<usize, Turn>,
+    /// What was told since.
+    current: Vec<Event>,
+    /// How many events a transcript has to have room for.
+    room: usize,
     alloc: Global,
 }
 
 impl Model for Log {
-    ghost use Rattle.std.specs.Prelude.{List};
+    ghost use Rattle.std.specs.Prelude.{List, ◌++◌};
     ghost use Rattle.transcripts.specs.declared.event.Event.{Event as Told};
     ghost use Rattle.transcripts.specs.Log.{told, ArePlaces};
 
     ghost Value = { List Told };
 
-    ghost view = { λ log. told log.events };
+    ghost view = { λ log. told log.turns ++ log.current.items };
 
-    ghost invariant = { λ log. ArePlaces 0 log.events };
+    ghost invariant = { λ log. ArePlaces 0 log.turns };
 }
 
 impl Log {
@@ -36,7 +41,9 @@ impl Log {
         ensures { result ≡ [] }
     {
         Log {
-            events: VMap::new(alloc),
+            turns: VMap::new(alloc),
+            current: Vec::new(alloc),
+            room: 0,
             alloc,
         }
     }
@@ -46,18 +53,37 @@ impl Log {
         ensures ok { OnOk result (self.new ≡ self.old ++ event ∷ []) }
         ensures err { OnErr result (self.new ≡ self.old) }
     {
-        self.events = self.events.put(self.events.len(), event)?;
+        let is_last = event.ends_turn();
+        self.current.push(event)?;
+        self.room = self.room.saturating_add(1);
+        if is_last {
+            self.end_turn();
+        }
         Ok(())
+    }
+
+    /// Puts what is told in the current turn among the turns that have ended. Where there is no memory for that, it stays where it is.
+    fn end_turn(&mut self)
+        ensures { self.new ≡ self.old }
+    {
+        let Ok(turn) = Turn::of(self.alloc, self.current.as_slice()) else {
+            return;
+        };
+        if let Ok(turns) = self.turns.put(self.turns.len(), turn) {
+            self.turns = turns;
+            self.current.clear();
+        }
     }
 
     /// A transcript of the events so far. It fails for want of memory alone.
     pub fn to_transcript(&self) -> Result<Transcript, AllocError>
         ensures { IfOk result (λ transcript. transcript ≡ self.now) }
     {
-        let mut transcript = Transcript::with_room(self.alloc, self.events.len())?;
-        for (_place, event) in self.events.iter() {
-            transcript.push(event.fork()?)?;
+        let mut transcript = Transcript::with_room(self.alloc, self.room)?;
+        for (_place, turn) in self.turns.iter() {
+            transcript.extend(turn.events())?;
         }
+        transcript.extend(self.current.as_slice())?;
         Ok(transcript)
     }
 }
@@ -65,7 +91,9 @@ impl Log {
 impl Fork for Log {
     fn fork(&self) -> Result<Log, AllocError> {
         Ok(Log {
-            events: self.events.fork()?,
+            turns: self.turns.fork()?,
+            current: copied(self.alloc, self.current.as_slice())?,
+            room: self.room,
             alloc: self.alloc,
         })
     }

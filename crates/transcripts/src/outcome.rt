@@ -8,6 +8,7 @@ ghost use Rattle.transcripts.specs.Json.{CellFits, EventFits, OutcomeFits};
 
 use crate::event::Event;
 use crate::order::outcome_order;
+use crate::turn::copied;
 use finite_maps::Fork;
 use lock_modes::Value;
 use std::alloc::{AllocError, Global};
@@ -58,6 +59,16 @@ impl Transcript {
         Ok(())
     }
 
+    /// Adds copies of events at the end.
+    pub(crate) fn extend(&mut self, events: &[Event]) -> Result<(), AllocError>
+        ensures { OnOk result (self.new ≡ self.old ++ events.now) }
+    {
+        for event in events {
+            self.events.push(event.fork()?)?;
+        }
+        Ok(())
+    }
+
     /// The events in order.
     pub fn events(&self) -> &[Event]
         ensures { result.now ≡ self.now }
@@ -68,11 +79,10 @@ impl Transcript {
 
 impl Fork for Transcript {
     fn fork(&self) -> Result<Transcript, AllocError> {
-        let mut events = Vec::with_capacity(*self.events.allocator(), self.events.len())?;
-        for event in &self.events {
-            events.push(event.fork()?)?;
-        }
-        Ok(Transcript { events })
+        let alloc = *self.events.allocator();
+        Ok(Transcript {
+            events: copied(alloc, self.events.as_slice())?,
+        })
     }
 }
 

@@ -2,6 +2,6 @@ use Rattle.std.proofs.Common.{◌≡◌, ◌++◌}
 use Rattle.transcripts.specs.Log.{told}
 use Rattle.transcripts.proofs.log.Log.to_transcript.Given as goal
 
--- the events so far, and those that are left, are all
+-- the events so far, and those of the turns that are left, are those of all turns
 abbrev pub invariant-loop-place : goal.invariant-loop-place
-invariant-loop-place l = l.transcript ++ told l._place-iterator ≡ l.self
+invariant-loop-place l = l.transcript ++ told l._place-iterator ≡ told l.self-inside.turns
