@@ -12,7 +12,6 @@ use crate::matching::matching;
 use crate::select::selected;
 use crate::update::{deleted, updated};
 use crate::write::Writes;
-use finite_maps::Fork;
 use row_tables::Store;
 use sql_statements::Bound;
 use std::alloc::{AllocError, Global};
@@ -70,17 +69,15 @@ fn given(alloc: Global, statement: &Bound, session: u8, store: &Store) -> Result
     }
 }
 
-/// Leaves these in the store. Another store is written and takes its place at the end.
+/// Leaves these in the store. Where memory runs out, some of them may be left there.
 fn write_each(store: &mut Store, session: u8, writes: Writes) -> Result<(), AllocError>
     requires { WritesAlone session writes store.old }
     ensures { OnOk result (store.new ≡ wrote_each session writes store.old) }
 {
-    let mut own = store.fork()?;
     for write in writes.into_vec() {
         let (table, key, left) = write.into_parts();
-        own.write(session, table, key, left)?;
+        store.write(session, table, key, left)?;
     }
-    *store = own;
     Ok(())
 }
 
