@@ -5,7 +5,7 @@ use Rattle.std.proofs.lemmas.Bool.{and_from, and_parts, cases_eq, false_from_ne_
 use Rattle.lock_modes.specs.Mode.{cover}
 use Rattle.lock_modes.specs.declared.mode.Mode.{Mode}
 use Rattle.lock_modes.specs.declared.resource.Resource.{Resource}
-use Rattle.finite_maps.specs.Map.{get, insert, get-insert, same_map, same_key, same_key-true}
+use Rattle.finite_maps.specs.Map.{get, insert, same_key, same_key-true}
 use Rattle.lock_queues.specs.Locks.{Wait, Spot, Look, all_below, fits, fits_with, wanted, wanted_by, may_have, closes_ring, answered, is_ripe, first_ripe, spots_from, waits_for, waits_now}
 use Rattle.lock_queues.specs.LockTable.{Locks, Holding, holding_cmp, holding_order, Asked, ask, look_in, queued, taken, Fits}
 use Rattle.lock_queues.specs.Sound.{Way, EachWait, edges, IsSound}
@@ -13,6 +13,7 @@ use Rattle.lock_queues.specs.Rules.{MayHave, IsInRing, IsAnswer, after, IsSpot, 
 use Rattle.lock_queues.specs.Laws.{IsBelow, TestsDecide}
 use Rattle.lock_queues.specs.declared.answer.Answer.{Answer}
 use Rattle.lock_queues.specs.declared.answer.Answer.TheVariants.{Granted, Waits, Ring}
+use Rattle.lock_queues.proofs.HeldLemmas.{held-same}
 use Rattle.lock_queues.proofs.Rings.{way-found, way-is-found}
 use Rattle.lock_queues.proofs.Spots.{edge-waits}
 use Rattle.lock_queues.proofs.Waiters.{waiter-reaches}
@@ -176,12 +177,5 @@ covered-had l i r m held s e k = (((λ c ne. fit c ne (look_in l c r) refl), or_
     fit c ne None n = ap (fits_with (wanted (look_in l i r) m)) n
     fit c ne (Some other) n = (λ j. fits_with (mode j) (n j)) ∙ s.together i c r held other (λ q. ne (sym q)) e n
 
-    entry : (q : Holding) → get (insert l.held (i, r) (wanted (look_in l i r) m)) q ≡ get l.held q
-    entry q = get-insert l.held (i, r) (wanted (look_in l i r) m) q ∙ at (same_key holding_order q (i, r)) refl
-      where
-        at : (b : Bool) → same_key holding_order q (i, r) ≡ b → cond b (Some (wanted (look_in l i r) m)) (get l.held q) ≡ get l.held q
-        at true t = ap Some mode ∙ sym e ∙ ap (get l.held) (sym (same_key-true holding_order q (i, r) t))
-        at false t = refl
-
     same : taken l i r m ≡ l
-    same = λ j. record { held = same_map (insert l.held (i, r) (wanted (look_in l i r) m)) l.held entry j; waits = l.waits }
+    same = λ j. record { held = (ap (insert l.held (i, r)) mode ∙ held-same l.held (i, r) held e) j; waits = l.waits }

@@ -43,6 +43,14 @@ get-held sessions h = get-tabulate holding_order (held_by sessions) (holdings_of
 pub held-empty : held_map [] ≡ empty
 held-empty = same_map _ _ (λ q. get-held [] q ∙ sym (get-empty holding_order Mode q))
 
+-- a mode that is held already is no change
+pub held-same : (held : Map holding_order Mode) (h : Holding) (m : Mode) → get held h ≡ Some m → insert held h m ≡ held
+held-same held h m e = same_map (insert held h m) held (λ q. get-insert held h m q ∙ at q (same_key holding_order q h) refl)
+  where
+    at : (q : Holding) (b : Bool) → same_key holding_order q h ≡ b → cond b (Some m) (get held q) ≡ get held q
+    at q true t = sym e ∙ ap (get held) (sym (same_key-true holding_order q h t))
+    at q false t = refl
+
 pub held-put : (i : ℕ) (r : Resource) (m : Mode) (sessions : Sessions) → held_map (put nat_cmp i (insert (known_modes (find nat_cmp i sessions)) r m) sessions) ≡ insert (held_map sessions) (i, r) m
 held-put i r m sessions = same_map _ _ (λ q.
     get-held (put nat_cmp i more sessions) q ∙ at q.0 q.1

@@ -1,4 +1,4 @@
-ghost use Rattle.std.specs.Prelude.{◌≡◌, ◌==◌, ◌↔◌, ℕ, not, IfOk, IsTrue};
+ghost use Rattle.std.specs.Prelude.{◌≡◌, ◌==◌, ◌↔◌, ℕ, Some, not, true, IfOk, IsTrue};
 ghost use Rattle.std.specs.Option.{option_copied};
 ghost use Rattle.finite_maps.specs.Map.{get, insert, keep, empty};
 ghost use Rattle.lock_modes.specs.Resource.{resource_at};
@@ -69,6 +69,9 @@ impl Held {
     pub fn with(&self, session: u8, place: Place<'_>, mode: Mode) -> Result<Held, AllocError>
         ensures { IfOk result (λ held. held ≡ insert self.now (session, resource_at place.entry) mode) }
     {
+        if is_mode(self.mode_of(session, place), mode) {
+            return self.fork();
+        }
         let modes = put_mode(self.alloc, self.sessions.get(&session), place, mode)?;
         Ok(Held {
             alloc: self.alloc,
@@ -93,6 +96,16 @@ impl Fork for Held {
             alloc: self.alloc,
             sessions: self.sessions.fork()?,
         })
+    }
+}
+
+/// Whether what is held is this mode.
+fn is_mode(held: Option<Mode>, mode: Mode) -> bool
+    ensures { result ≡ true → held ≡ Some mode }
+{
+    match held {
+        None => false,
+        Some(held) => held == mode,
     }
 }
 
