@@ -1,1 +1,2 @@
 mod OwnedLemmas
+mod RunLemmas
