@@ -407,7 +407,7 @@ fn asked_again(rt: &impl Abort, alloc: Global, spec: &Spec) -> Option<bool> {
 
 #[test]
 fn books_are_whole_unless_memory_runs_out(rt: HostRuntime) {
-    if let Some(spec) = bound(rt.alloc(), crate::walks::DISJOINT) {
+    if let Some(spec) = bound(rt.alloc(), crate::texts::DISJOINT) {
         if let Some(alike) = asked_again(&rt, rt.alloc(), &spec) {
             assert!(rt; alike, "each rank has its outcome");
         }

@@ -19,4 +19,4 @@ mod worlds;
 #[cfg(test)]
 mod written_books;
 
-pub use texts::{TABLE, spec_of};
+pub use texts::{DISJOINT, SAME_OUTCOME, TABLE, spec_of, words_of};

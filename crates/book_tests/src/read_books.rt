@@ -1,7 +1,7 @@
 //! Book files as they are read: which bytes are a book, and why others are none. The test without memory is to be read under
 //! `rt try --test --fail-alloc` too.
 use crate::asserts::assert_text;
-use crate::walks::DISJOINT;
+use crate::texts::{DISJOINT, SAME_OUTCOME};
 use book_files::{BookError, read_book};
 use outcome_books::{Book, missing, report};
 use std::alloc::Global;
@@ -152,9 +152,6 @@ a swap that leads nowhere | [0,6,"ran",0],[2,4,"swap",0]
 a swap that leads nowhere | [0,6,"ran",0],[5,1,"swap",3]
 a swap that leads nowhere | [0,6,"ran",0],[5,1,"swap",255]
 a rank that the spec does not have | [0,6,"ran",0],[5,2,"swap",0]"#;
-
-const SAME_OUTCOME: &str =
-    r#"[[["sent",0],["inserted",1],"done",["sent",1],["deleted",1],"done"],[["sent",2],["inserted",1],"done",["sent",3],["deleted",1],"done"]]"#;
 
 fn assert_runs(rt: &impl Abort, alloc: Global, row: &str) -> Result<(), Fail> {
     let (want, facts) = row.split_once(" | ").ok_or("facts")?;

@@ -2,7 +2,7 @@
 //! read under `rt try --test --fail-alloc` too.
 use crate::asserts::assert_text;
 use crate::books::assert_refusal;
-use crate::texts::spec_of;
+use crate::texts::{DISJOINT, spec_of};
 use session_machine::RunError;
 use spec_reader::read_spec;
 use sql_subset::{Spec, bind};
@@ -405,9 +405,6 @@ fn facts_in_parts(rt: &impl Abort, alloc: Global, spec: &Spec, shard: Shard) -> 
         Err(_) => None,
     }
 }
-
-pub(crate) const DISJOINT: &str =
-    "setup { CREATE TABLE t (id int PRIMARY KEY); CREATE TABLE u (id int PRIMARY KEY); } session a step a1 { INSERT INTO t VALUES (2); } step a2 { DELETE FROM t WHERE id = 2; } session b step b1 { INSERT INTO u VALUES (2); } step b2 { DELETE FROM u WHERE id = 2; }";
 
 #[test]
 fn a_new_walker_gives_the_rest_where_memory_ran_out(rt: HostRuntime) {

@@ -2,7 +2,8 @@
 ghost use Rattle.std.specs.Prelude.{◌≡◌, All, vec_len, IfSome, IfOk};
 
 use crate::farms::SHARDS;
-use crate::texts::{DISJOINT, SIX, assert_same, assert_text, made, spec_of};
+use crate::texts::{SIX, assert_same, assert_text, made, spec_of};
+use book_tests::DISJOINT;
 use outcome_books::Book;
 use shard_board::{
     Board, BoardError, DeliverError, DeliverErrorKind, LatestError, MAX_TURNS, Receipt, Seat,

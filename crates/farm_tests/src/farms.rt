@@ -1,6 +1,7 @@
 //! Farms by their calls: the book of a plan by few and many workers, workers that go on while others are held, and what is refused.
 use crate::gates::{Hold, Holding};
-use crate::texts::{DISJOINT, SIX, assert_same, assert_text, made, spec_of};
+use crate::texts::{SIX, assert_same, assert_text, made, spec_of};
+use book_tests::DISJOINT;
 use session_machine::StartError;
 use shard_farm::{FarmError, Gate, OpenGate, farm_run};
 use sql_subset::Spec;

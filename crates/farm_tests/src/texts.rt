@@ -8,10 +8,6 @@ use std::process::Abort;
 use step_reducer::Shard;
 use transcripts::Counted;
 
-/// Two sessions, each with two steps on a table of its own: six ranks with one outcome.
-pub(crate) const DISJOINT: &str =
-    "setup { CREATE TABLE t (id int PRIMARY KEY); CREATE TABLE u (id int PRIMARY KEY); } session a step a1 { INSERT INTO t VALUES (2); } step a2 { DELETE FROM t WHERE id = 2; } session b step b1 { INSERT INTO u VALUES (2); } step b2 { DELETE FROM u WHERE id = 2; }";
-
 /// The text of the book of all its six ranks, reduced.
 pub(crate) const SIX: &str =
     "{\"facts\":[[0,1,\"ran\",0],[1,1,\"swap\",1],[2,1,\"swap\",2],[3,2,\"swap\",0],[5,1,\"swap\",1]],\"format\":2,\"outcomes\":[[[[\"sent\",0],[\"inserted\",1],\"done\",[\"sent\",1],[\"deleted\",1],\"done\"],[[\"sent\",2],[\"inserted\",1],\"done\",[\"sent\",3],[\"deleted\",1],\"done\"]]],\"spec\":\"setup { CREATE TABLE t (id int PRIMARY KEY); CREATE TABLE u (id int PRIMARY KEY); } session a step a1 { INSERT INTO t VALUES (2); } step a2 { DELETE FROM t WHERE id = 2; } session b step b1 { INSERT INTO u VALUES (2); } step b2 { DELETE FROM u WHERE id = 2; }\"}\n";

@@ -1,5 +1,6 @@
 //! The words of the command line: what each writes, and with which status.
-use crate::disks::{Disk, assert_tells, assert_text, holding, tell, words_of};
+use crate::disks::{Disk, assert_tells, assert_text, holding, tell};
+use book_tests::words_of;
 use iso_farm::{Opener, run, tell_words_fault};
 use std::alloc::{AllocError, Global};
 use std::io::{self, Write};

@@ -1,4 +1,5 @@
 //! What the program tells, run over a disk with one file.
+use book_tests::words_of;
 use iso_farm::{Opener, run};
 use std::alloc::{AllocError, Global};
 use std::io::{self, Read};
@@ -61,14 +62,6 @@ pub fn holding<'a>(text: &'a [u8]) -> Disk<'a> {
         text,
         calls_left: None,
     }
-}
-
-pub fn words_of(alloc: Global, line: &str) -> Result<Vec<String>, AllocError> {
-    let mut words = Vec::new(alloc);
-    for word in line.split(' ') {
-        words.push(String::from_str(alloc, word)?)?;
-    }
-    Ok(words)
 }
 
 /// What a run told: its status, and what it wrote.

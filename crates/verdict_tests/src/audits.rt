@@ -2,6 +2,7 @@
 //! too.
 use book_audit::{AuditError, audit, audit_plain};
 use book_files::{BookError, read_book};
+use book_tests::{DISJOINT, SAME_OUTCOME};
 use outcome_books::{Book, report};
 use std::alloc::Global;
 use std::process::Abort;
@@ -74,12 +75,6 @@ const FACTS: &str =
 true | [0,4,"ran",0],[4,1,"swap",2],[5,1,"ran",0]
 true | [0,6,"ran",0],[1,1,"swap",1],[4,1,"swap",0],[4,1,"swap",2]"#;
 
-const TWO_BY_TWO: &str =
-    "setup { CREATE TABLE t (id int PRIMARY KEY); CREATE TABLE u (id int PRIMARY KEY); } session a step a1 { INSERT INTO t VALUES (2); } step a2 { DELETE FROM t WHERE id = 2; } session b step b1 { INSERT INTO u VALUES (2); } step b2 { DELETE FROM u WHERE id = 2; }";
-
-const SAME_OUTCOME: &str =
-    r#"[[["sent",0],["inserted",1],"done",["sent",1],["deleted",1],"done"],[["sent",2],["inserted",1],"done",["sent",3],["deleted",1],"done"]]"#;
-
 /// Facts of a spec whose first session puts a row that the second one looks for, and whose other two do nothing: 2,520 orders. Those
 /// whose rank is below 280 begin with the first session, the 280 after them with the second.
 const LONG_FACTS: &str = r#"true | [0,280,"ran",0],[280,280,"ran",1]
@@ -138,7 +133,7 @@ fn assert_table<R: Abort + Threads + Sync>(
 
 #[test]
 fn a_swap_is_true_where_it_may_be_made(rt: HostRuntime) -> Result<(), Fail> {
-    let (spec, outcomes, rows) = (TWO_BY_TWO, SAME_OUTCOME, FACTS);
+    let (spec, outcomes, rows) = (DISJOINT, SAME_OUTCOME, FACTS);
     assert_table(
         &rt,
         rt.alloc(),

@@ -1,4 +1,5 @@
 //! A disk of held files, and what the program tells over it.
+use book_tests::words_of;
 use iso_farm::{Opener, run};
 use std::alloc::{AllocError, Global};
 use std::io::{self, Read, Write};
@@ -71,14 +72,6 @@ impl Opener for Shelf {
             rest: text.as_bytes(),
         })
     }
-}
-
-pub fn words_of(alloc: Global, line: &str) -> Result<Vec<String>, AllocError> {
-    let mut words = Vec::new(alloc);
-    for word in line.split(' ') {
-        words.push(String::from_str(alloc, word)?)?;
-    }
-    Ok(words)
 }
 
 // Takes a byte a call, and fails at the call behind so many.
