@@ -12,6 +12,7 @@ mod books;
 #[cfg(test)]
 mod read_books;
 mod texts;
+mod told;
 #[cfg(test)]
 mod walks;
 #[cfg(test)]
@@ -20,3 +21,4 @@ mod worlds;
 mod written_books;
 
 pub use texts::{DISJOINT, SAME_OUTCOME, TABLE, spec_of, words_of};
+pub use told::Told;

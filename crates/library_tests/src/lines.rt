@@ -250,7 +250,7 @@ impl Write for FailingWriter {
             return if self.takes_nothing {
                 Ok(0)
             } else {
-                Err(io::Error::from(io::ErrorKind::BrokenPipe))
+                Err(broken_pipe())
             };
         }
         self.calls_left -= 1;
@@ -259,8 +259,12 @@ impl Write for FailingWriter {
     }
 
     fn flush(&mut self) -> io::Result<()> {
-        Err(io::Error::from(io::ErrorKind::BrokenPipe))
+        Err(broken_pipe())
     }
+}
+
+fn broken_pipe() -> io::Error {
+    io::Error::from(io::ErrorKind::BrokenPipe)
 }
 
 fn failing(alloc: Global, calls_left: usize, takes_nothing: bool) -> Counted<FailingWriter>

@@ -1,10 +1,10 @@
 //! The commands that count and run ranks and that join and report books, over a disk with some files. The test without memory is to
 //! be read under `rt try --test --fail-alloc` too.
 use crate::commands::{BrokenPipe, FIRST, FullDevice, assert_no_command, assert_write_fault};
-use crate::disks::{Disk, FileReader, Told, assert_tells, assert_told, told_by};
+use crate::disks::{Disk, FileReader, assert_tells, assert_told, told_by};
 use crate::memory::assert_front;
 use crate::runs::lines_of;
-use book_tests::words_of;
+use book_tests::{Told, words_of};
 use iso_farm::Opener;
 use std::alloc::{AllocError, Global};
 use std::process::Abort;

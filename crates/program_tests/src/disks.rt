@@ -1,5 +1,5 @@
 //! What the program tells, run over a disk with one file.
-use book_tests::words_of;
+use book_tests::{Told, words_of};
 use iso_farm::{Opener, run};
 use std::alloc::{AllocError, Global};
 use std::io::{self, Read};
@@ -64,14 +64,6 @@ pub fn holding<'a>(text: &'a [u8]) -> Disk<'a> {
     }
 }
 
-/// What a run told: its status, and what it wrote.
-#[derive(Drop)]
-pub struct Told {
-    pub status: u8,
-    pub out: Vec<u8>,
-    pub err: Vec<u8>,
-}
-
 /// What the words tell over a disk.
 pub fn told_by<O: Opener>(
     rt: &(impl Threads + Wait + Clock + Sync),
@@ -105,10 +97,7 @@ pub fn assert_text(rt: &impl Abort, bytes: &[u8], want: &str, name: &str) {
 }
 
 pub fn assert_told(rt: &impl Abort, told: &Told, want: (u8, &str, &str), name: &str) {
-    let (status, out, err) = want;
-    assert_text(rt, &told.err, err, name);
-    assert_text(rt, &told.out, out, name);
-    assert_eq!(rt; told.status, status, "{name}");
+    assert_eq!(rt; told.texts(), Some(want), "{name}");
 }
 
 /// Asserts the status, and what is written to the two outputs, of a line of words over a disk.

@@ -1,7 +1,7 @@
 //! What a run tells while it goes on, by a clock that the tests set.
 use crate::commands::BrokenPipe;
-use crate::disks::{Told, assert_text, holding, told_by};
-use book_tests::words_of;
+use crate::disks::{assert_text, holding, told_by};
+use book_tests::{Told, words_of};
 use iso_farm::run;
 use std::alloc::{AllocError, Global};
 use std::io;

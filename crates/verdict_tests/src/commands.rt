@@ -1,6 +1,7 @@
 //! The commands that audit and judge books, over a disk with some files. The test without memory is to be read under
 //! `rt try --test --fail-alloc` too.
-use crate::shelf::{Told, assert_told, tell};
+use crate::shelf::tell;
+use book_tests::Told;
 use std::alloc::{AllocError, Global};
 use std::process::Abort;
 use std::sync::Wait;
@@ -39,6 +40,11 @@ fn lines_of(alloc: Global, told: &str) -> Result<String, AllocError> {
     Ok(text)
 }
 
+/// What was told of a row has its status, and these texts on the two outputs.
+fn assert_row(rt: &impl Abort, told: &Told, row: Row<'_>, out: &str, err: &str) {
+    assert_eq!(rt; told.texts(), Some((row.status, out, err)), "{}", row.line);
+}
+
 /// A row of a table: what the line tells is found, and stands on standard output.
 fn assert_found<R: Abort + Threads + Wait + Clock + Sync>(
     rt: &R,
@@ -48,7 +54,7 @@ fn assert_found<R: Abort + Threads + Wait + Clock + Sync>(
     let row = row_of(row).ok_or("a finding")?;
     let want = lines_of(alloc, row.told)?;
     let told = tell(rt, alloc, row.line, ALL)?;
-    assert_told(rt, &told, (row.status, want.as_str(), ""), row.line);
+    assert_row(rt, &told, row, want.as_str(), "");
     Ok(())
 }
 
@@ -110,7 +116,7 @@ fn assert_refused<R: Abort + Threads + Wait + Clock + Sync>(
     let row = row_of(row).ok_or("a refusal")?;
     let want = format!(in alloc; "isofarm: {}\n", row.told)?;
     let told = tell(rt, alloc, row.line, ALL)?;
-    assert_told(rt, &told, (row.status, "", want.as_str()), row.line);
+    assert_row(rt, &told, row, "", want.as_str());
     Ok(())
 }
 

@@ -1,9 +1,8 @@
 //! A disk of held files, and what the program tells over it.
-use book_tests::words_of;
+use book_tests::{Told, words_of};
 use iso_farm::{Opener, run};
 use std::alloc::{AllocError, Global};
 use std::io::{self, Read, Write};
-use std::process::Abort;
 use std::sync::Wait;
 use std::thread::Threads;
 use std::time::Clock;
@@ -99,14 +98,6 @@ impl Write for ByteWriter {
     }
 }
 
-/// What a run told: its status, and what it wrote.
-#[derive(Drop)]
-pub struct Told {
-    pub status: u8,
-    pub out: Vec<u8>,
-    pub err: Vec<u8>,
-}
-
 /// What the words tell over the files, where the output takes so many bytes.
 fn told_by<R: Threads + Wait + Clock + Sync>(
     rt: &R,
@@ -133,20 +124,4 @@ pub fn tell<R: Threads + Wait + Clock + Sync>(
 ) -> Result<Told, AllocError> {
     let words = words_of(alloc, line)?;
     Ok(told_by(rt, alloc, &words, bytes))
-}
-
-/// Whether bytes are the text; else they are shown.
-fn assert_text(rt: &impl Abort, bytes: &[u8], want: &str, name: &str) {
-    match str::from_utf8(bytes) {
-        Ok(text) => assert_eq!(rt; text, want, "{name}"),
-        Err(_) => assert!(rt; false, "{name} is no UTF-8"),
-    }
-}
-
-/// What was told is this: a status, and what is written to the two outputs.
-pub fn assert_told(rt: &impl Abort, told: &Told, want: (u8, &str, &str), name: &str) {
-    let (status, out, err) = want;
-    assert_text(rt, &told.err, err, name);
-    assert_text(rt, &told.out, out, name);
-    assert_eq!(rt; told.status, status, "{name}");
 }
