@@ -23,13 +23,18 @@ past_name b e = elim (cases_lt b 128) [ inl lt ↦ lt | inr le ↦ let in_name =
 
 -- the byte behind a run is ASCII
 pub behind_run : (P : ℕ → Bool) → ((b : ℕ) → P b ≡ false → b < 128) → (bs : List ℕ) → IsCharBoundary bs (prefix_len P bs)
-behind_run P ascii bs = (prefix_len-le-length P bs, λ lt big. let here : get_or bs (prefix_len P bs) 0 < 128 = ascii _ (prefix_len_stops P bs 0 lt) in absurd (omega arith))
+behind_run P ascii bs = (
+  prefix_len-le-length P bs,
+  λ lt big. let here : get_or bs (prefix_len P bs) 0 < 128 = ascii _ (prefix_len_stops P bs 0 lt)
+      in absurd (omega arith),
+)
 
 -- the last byte of a run is ASCII
 pub within_run : (P : ℕ → Bool) → ((b : ℕ) → P b ≡ true → b < 128) → (bs : List ℕ) → IsUtf8 bs → (n : ℕ) → prefix_len P bs ≡ n → IsCharBoundary bs n
 within_run P ascii bs utf8 zero e = IsCharBoundary-start bs utf8
 within_run P ascii bs utf8 (suc n) e =
-    subst (IsCharBoundary bs) (add-one n) (IsCharBoundary-after_ascii bs n utf8 (omega (arith, prefix_len-le-length P bs)) (ascii _ (prefix_len_passes P bs n 0 (omega arith))))
+    subst (IsCharBoundary bs) (add-one n) (IsCharBoundary-after_ascii bs n utf8 (omega (arith, prefix_len-le-length P bs))
+    (ascii _ (prefix_len_passes P bs n 0 (omega arith))))
 
 pub not_is : (b c : ℕ) → c < 128 → not (b == c) ≡ false → b < 128
 not_is b c lt e = grind arith

@@ -10,7 +10,8 @@ abbrev white : ℕ → ℕ
 white b = cond (b == 9) 9 32
 
 pub blank-append : (front more : List ℕ) → blank (front ++ more) ≡ blank front ++ blank more
-blank-append front more = ap (λ (bs : List ℕ). map white bs) (filter-append is_start front more) ∙ map-append white (filter is_start front) (filter is_start more)
+blank-append front more = ap (λ (bs : List ℕ). map white bs) (filter-append is_start front more)
+    ∙ map-append white (filter is_start front) (filter is_start more)
 
 blank-by : (b : ℕ) (starts : Bool) → is_start b ≡ starts → blank (b ∷ []) ≡ cond starts (white b ∷ []) []
 blank-by b true is = ap (λ (t : Bool). map white (cond t (b ∷ []) [])) is

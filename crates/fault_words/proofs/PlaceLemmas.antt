@@ -52,7 +52,8 @@ front-ends before f b is e =
     let line : f.line ≡ count is_line_end before + 1 = ap (λ (g : Front). g.line) e in
     let lines : count is_line_end (before ++ b ∷ []) ≡ suc (count is_line_end before) = count-yes is_line_end before b is in
     let empty : [] ≡ last_line (before ++ b ∷ []) = sym (last-ends before b is) in
-    told-by (before ++ b ∷ []) (f.line + 1) 1 0 (omega (arith, line, lines)) (ap (λ (bs : List ℕ). count is_start bs + 1) empty) (ap (λ (bs : List ℕ). length bs) empty)
+    told-by (before ++ b ∷ []) (f.line + 1) 1 0 (omega (arith, line, lines)) (ap (λ (bs : List ℕ). count is_start bs + 1) empty)
+    (ap (λ (bs : List ℕ). length bs) empty)
 
 pub front-starts : (before : List ℕ) (f : Front) (b : ℕ) → is_line_end b ≡ false → is_start b ≡ true → f ≡ front before
     → ◌≡◌ {A = Front} record { line = f.line; column = f.column + 1; bytes = f.bytes + 1 } (front (before ++ b ∷ []))

@@ -1,5 +1,6 @@
 -- All runs of a spec: their facts, and what is told of them.
-use Rattle.std.proofs.Common.{◌≡◌, ◌↔◌, ◌⊎◌, inl, inr, ⊎_elim, refl, sym, ap, subst, ◌∙◌, ℕ, zero, suc, ◌+◌, ◌<◌, ◌≤◌, Bool, true, false, cond, List, [], ◌∷◌, ◌++◌, length, Option, Some, None, Result, Ok, Err, IsErrAnd, arith, lt-ltb}
+use Rattle.std.proofs.Common.{◌≡◌, ◌↔◌, ◌⊎◌, inl, inr, ⊎_elim, refl, sym, ap, subst, ◌∙◌, ℕ, zero, suc, ◌+◌, ◌<◌, ◌≤◌, Bool, true, false, cond, List, [], ◌∷◌}
+use Rattle.std.proofs.Common.{◌++◌, length, Option, Some, None, Result, Ok, Err, IsErrAnd, arith, lt-ltb}
 use Rattle.std.proofs.lemmas.Bool.{or_cases, or_left, or_right}
 use Rattle.std.specs.FinSet.{union}
 use mathlib.Core.Option.{some, some-ne-none, some-injective}
@@ -42,7 +43,8 @@ use Rattle.iso_farm.specs.declared.reporting.ReportFault.TheVariants.{Report, Wr
 use Rattle.iso_farm.specs.Reporting.{IsReportText, IsReported}
 use Rattle.iso_farm.specs.Cutting.{IsInOne}
 use Rattle.iso_farm.specs.Laws.{AreAnswers}
-use Rattle.iso_farm.specs.Headline.{shards_in, IsRun, HaveFact, WasRun, ArePlansOf, HoldsTheRuns, AreSerial, IsReportOfRuns, MayRefuse, RunsDecide, HaveFactBelow, HoldsTheFirst, AreRun, IsNotRun, IsNextRun, IsJoinedWith, AreRunsReported}
+use Rattle.iso_farm.specs.Headline.{shards_in, IsRun, HaveFact, WasRun, ArePlansOf, HoldsTheRuns, AreSerial, IsReportOfRuns, MayRefuse, RunsDecide}
+use Rattle.iso_farm.specs.Headline.{HaveFactBelow, HoldsTheFirst, AreRun, IsNotRun, IsNextRun, IsJoinedWith, AreRunsReported}
 use Rattle.iso_farm.proofs.RangeLemmas.{fact-true}
 use Rattle.iso_farm.proofs.ReportLemmas.{report-answers, none-clash}
 

@@ -34,11 +34,13 @@ undone-owned session l = dropped-owned session l (undone session l) (overlay_of-
 pub kept-owned : (session : ℕ) (l : Layers) → HasOwners l → HasOwners (kept session l)
 kept-owned session l = dropped-owned session l (kept session l) (overlay_of-kept session l)
 
-pub wrote-owned : (session table : ℕ) (key : Value) (left : Option Tuple) (l : Layers) → session ≡ owner table → HasOwners l → HasOwners (wrote session (table, key) left l)
+pub wrote-owned : (session table : ℕ) (key : Value) (left : Option Tuple) (l : Layers) → session ≡ owner table → HasOwners l
+    → HasOwners (wrote session (table, key) left l)
 wrote-owned session table key left l own owned = record {
   each = λ u j other ne.
       ap (λ (o : Overlay). get o (u, j)) (overlay_of-wrote session (table, key) left l other)
-      ∙ elim (same_session other session) as (λ b. same_session other session ≡ b → get (cond b (insert (overlay_of session l) (table, key) left) (overlay_of other l)) (u, j) ≡ None) [
+      ∙ elim (same_session other session) as (λ b. same_session other session ≡ b
+      → get (cond b (insert (overlay_of session l) (table, key) left) (overlay_of other l)) (u, j) ≡ None) [
         | true ↦ λ is. theirs u j other ne is (same_place (u, j) (table, key)) refl
         | false ↦ λ is. owned.each u j other ne
       ] refl;
@@ -46,7 +48,8 @@ wrote-owned session table key left l own owned = record {
   where
     theirs : (u : ℕ) (j : Value) (other : ℕ) → other ≢ owner u → same_session other session ≡ true → (b : Bool)
         → same_place (u, j) (table, key) ≡ b → get (insert (overlay_of session l) (table, key) left) (u, j) ≡ None
-    theirs u j other ne is true here = absurd (ne (same_key-true session_order other session is ∙ own ∙ ap (λ (p : RowPlace). owner p.0) (sym (same_key-true place_order (u, j) (table, key) here))))
+    theirs u j other ne is true here = absurd (ne (same_key-true session_order other session is ∙ own
+        ∙ ap (λ (p : RowPlace). owner p.0) (sym (same_key-true place_order (u, j) (table, key) here))))
     theirs u j other ne is false there =
         get-insert (overlay_of session l) (table, key) left (u, j)
         ∙ ap (λ b. cond b (Some left) (get (overlay_of session l) (u, j))) there

@@ -1,5 +1,6 @@
 -- Lists, tests and look-ups.
-use Rattle.std.proofs.Common.{◌≡◌, ◌≢◌, refl, sym, ◌∙◌, ℕ, arith, Bool, true, false, cond, not, ◌&&◌, ◌||◌, List, [], ◌∷◌, ◌++◌, filter, ◌⊎◌, inl, inr, true≢false}
+use Rattle.std.proofs.Common.{◌≡◌, ◌≢◌, refl, sym, ◌∙◌, ℕ, arith, Bool, true, false, cond, not, ◌&&◌, ◌||◌, List, [], ◌∷◌, ◌++◌, filter, ◌⊎◌, inl, inr}
+use Rattle.std.proofs.Common.{true≢false}
 use Rattle.std.specs.List.{list_any, list_all}
 use Rattle.statement_effects.proofs.ListLemmas.{Each, Each-map}
 
@@ -62,7 +63,10 @@ filter_same f g (x ∷ xs) p = λ i. cond (p.0 i) (x ∷ filter_same f g xs p.1 
 -- the two ways round
 pub Each-swap : {A B : Type 0} (R : A → B → Type 0) (xs : List A) (ys : List B) → Each (λ x. Each (R x) ys) xs → Each (λ y. Each (λ x. R x y) xs) ys
 Each-swap R xs [] h = tt
-Each-swap R xs (y ∷ ys) h = (Each-map (λ x. Each (R x) (y ∷ ys)) (λ x. R x y) (λ x p. p.0) xs h, Each-swap R xs ys (Each-map (λ x. Each (R x) (y ∷ ys)) (λ x. Each (R x) ys) (λ x p. p.1) xs h))
+Each-swap R xs (y ∷ ys) h = (
+  Each-map (λ x. Each (R x) (y ∷ ys)) (λ x. R x y) (λ x p. p.0) xs h,
+  Each-swap R xs ys (Each-map (λ x. Each (R x) (y ∷ ys)) (λ x. Each (R x) ys) (λ x p. p.1) xs h),
+)
 
 pub cases-eq : (a b : ℕ) → (a ≡ b) ⊎ (a ≢ b)
 cases-eq a b = grind arith

@@ -28,18 +28,22 @@ asked-any : (qs : List Request) → Each (λ q. list_any (λ p. same_resource p.
 asked-any [] = tt
 asked-any (q ∷ qs) = (
   or_true_left _ _ (and_true _ _ (same_key-refl resource_order q.resource) (same_mode-refl q.mode)),
-  Each-map (λ x. list_any (λ p. same_resource p.resource x.resource && same_mode p.mode x.mode) qs ≡ true) (λ x. list_any (λ p. same_resource p.resource x.resource && same_mode p.mode x.mode) (q ∷ qs) ≡ true) (λ x e. or_true_right (same_resource q.resource x.resource && same_mode q.mode x.mode) _ e) qs (asked-any qs),
+  Each-map (λ x. list_any (λ p. same_resource p.resource x.resource && same_mode p.mode x.mode) qs
+      ≡ true) (λ x. list_any (λ p. same_resource p.resource x.resource && same_mode p.mode x.mode) (q ∷ qs)
+      ≡ true) (λ x e. or_true_right (same_resource q.resource x.resource && same_mode q.mode x.mode) _ e) qs (asked-any qs),
 )
 
 pub claims-asked : (h : Held) (qs : List Request) → Claimed (claims_of h qs) qs
-claims-asked h qs = Each-map (λ q. list_any (λ p. same_resource p.resource q.resource && same_mode p.mode q.mode) qs ≡ true) (λ q. claims_of h qs q.resource q.mode ≡ true) (λ q e. or_true_right (is_mode (get h q.resource) q.mode) _ e) qs (asked-any qs)
+claims-asked h qs = Each-map (λ q. list_any (λ p. same_resource p.resource q.resource && same_mode p.mode q.mode) qs
+    ≡ true) (λ q. claims_of h qs q.resource q.mode ≡ true) (λ q e. or_true_right (is_mode (get h q.resource) q.mode) _ e) qs (asked-any qs)
 
 is_mode-true : (o : Option Mode) (m : Mode) → is_mode o m ≡ true → o ≡ Some m
 is_mode-true None m e = cc
 is_mode-true (Some n) m e = ap Some (same_mode-true n m e)
 
 -- what is claimed is held, or is asked
-pub claims-cases : (P : Request → Type 0) (h : Held) (qs : List Request) (r : Resource) (m : Mode) → Each P qs → claims_of h qs r m ≡ true → (get h r ≡ Some m) ⊎ ((q : Request) × P q × (q.resource ≡ r) × (q.mode ≡ m))
+pub claims-cases : (P : Request → Type 0) (h : Held) (qs : List Request) (r : Resource) (m : Mode) → Each P qs → claims_of h qs r m ≡ true → (get h r ≡ Some m)
+    ⊎ ((q : Request) × P q × (q.resource ≡ r) × (q.mode ≡ m))
 claims-cases P h qs r m each e =
     ⊎_elim (λ x. inl (is_mode-true (get h r) m x))
     (λ x.
@@ -57,7 +61,8 @@ may_write-more a b h p e =
     or_implies (a (Table p.0) Exclusive) _ (b (Table p.0) Exclusive) _ (h (Table p.0) Exclusive)
     (λ x.
     let c = both_true (a (RowOf p.0 p.1) Exclusive) _ x in
-    and_true _ _ (h (RowOf p.0 p.1) Exclusive c.0) (or_implies (a (Table p.0) IntentExclusive) _ (b (Table p.0) IntentExclusive) _ (h (Table p.0) IntentExclusive) (h (Table p.0) ShareIntent) c.1))
+    and_true _ _ (h (RowOf p.0 p.1) Exclusive c.0) (or_implies (a (Table p.0) IntentExclusive) _ (b (Table p.0) IntentExclusive) _
+    (h (Table p.0) IntentExclusive) (h (Table p.0) ShareIntent) c.1))
     e
 
 pub held-more : (h : Held) (qs : List Request) (r : Resource) (m : Mode) → claims_of h [] r m ≡ true → claims_of h qs r m ≡ true

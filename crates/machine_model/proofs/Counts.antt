@@ -1,5 +1,6 @@
 -- The sessions of a world stay so many, and each step is of one of them.
-use Rattle.std.proofs.Common.{◌≡◌, refl, sym, ◌∙◌, subst, ℕ, zero, suc, ◌<◌, Bool, true, false, List, [], ◌∷◌, length, get_or, Option, Some, None, arith, length-set}
+use Rattle.std.proofs.Common.{◌≡◌, refl, sym, ◌∙◌, subst, ℕ, zero, suc, ◌<◌, Bool, true, false, List, [], ◌∷◌, length, get_or, Option, Some, None, arith}
+use Rattle.std.proofs.Common.{length-set}
 use Rattle.lock_queues.specs.Locks.{Spot, next_grant, waits_now}
 use Rattle.machine_model.specs.World.{World, session_at, look_of, noted, goes, granted, settle, settle_for, left_to_do, send, send_all}
 use Rattle.sql_subset.specs.Spec.{Step, no_step, Spec, EachStep, IsBound}
@@ -14,7 +15,8 @@ settle_for-count : (n : ℕ) (w : World) → length (settle_for n w).sessions �
 settle_for-count zero w = refl
 settle_for-count (suc n) w = at (next_grant (length w.sessions) (look_of w) w.waits) (λ spot. settle_for-count n (granted w spot))
   where
-    at : (o : Option Spot) → ((spot : Spot) → length (settle_for n (granted w spot)).sessions ≡ length (granted w spot).sessions) → length (let x : World = elim o [ None ↦ w | Some spot ↦ settle_for n (granted w spot) ] in x.sessions) ≡ length w.sessions
+    at : (o : Option Spot) → ((spot : Spot) → length (settle_for n (granted w spot)).sessions ≡ length (granted w spot).sessions)
+        → length (let x : World = elim o [ None ↦ w | Some spot ↦ settle_for n (granted w spot) ] in x.sessions) ≡ length w.sessions
     at None rec = refl
     at (Some spot) rec = rec spot ∙ length-set w.sessions spot.wait.session _
 
@@ -24,9 +26,12 @@ send-count steps w k = at (waits_now w.waits i)
     i : ℕ
     i = (get_or steps k no_step).session
 
-    at : (b : Bool) → length (let x : World = elim b [ true ↦ noted w i (NotSent k) | false ↦ settle (goes w i (note (session_at w i) (Sent k)) (tasks_of (get_or steps k no_step).statements)) ] in x.sessions) ≡ length w.sessions
+    at : (b : Bool) → length (let x : World =
+        elim b [ true ↦ noted w i (NotSent k) | false ↦ settle (goes w i (note (session_at w i) (Sent k)) (tasks_of (get_or steps k no_step).statements)) ]
+        in x.sessions) ≡ length w.sessions
     at true = length-set w.sessions i _
-    at false = settle_for-count (left_to_do (goes w i (note (session_at w i) (Sent k)) (tasks_of (get_or steps k no_step).statements))) (goes w i (note (session_at w i) (Sent k)) (tasks_of (get_or steps k no_step).statements)) ∙ length-set w.sessions i _
+    at false = settle_for-count (left_to_do (goes w i (note (session_at w i) (Sent k)) (tasks_of (get_or steps k no_step).statements)))
+        (goes w i (note (session_at w i) (Sent k)) (tasks_of (get_or steps k no_step).statements)) ∙ length-set w.sessions i _
 
 -- each step is one of a session of the world
 abbrev pub Fitting : List Step → World → Type 0
@@ -41,7 +46,8 @@ each-fits n (s ∷ ss) each zero = (let lt : s.session < n = each.0 in omega ari
 each-fits n (s ∷ ss) each (suc k) = each-fits n ss each.1 k
 
 pub bound-fits : (spec : Spec) (w : World) → IsBound spec → start spec ≡ Started w → Fitting spec.steps w
-bound-fits spec w bound e k = subst (λ n. (get_or spec.steps k no_step).session < n) (sym (start-count spec w bound.session_setups e)) (each-fits spec.sessions spec.steps bound.steps k)
+bound-fits spec w bound e k = subst (λ n. (get_or spec.steps k no_step).session < n) (sym (start-count spec w bound.session_setups e))
+    (each-fits spec.sessions spec.steps bound.steps k)
 
 pub line-count : (steps : List Step) (w : World) (ks : List ℕ) → length (send_all steps w ks).sessions ≡ length w.sessions
 line-count steps w [] = refl

@@ -25,7 +25,8 @@ use Rattle.machine_model.proofs.Looks.{looked-opened, writable}
 use Rattle.machine_model.proofs.Footprint.{ReadsOff, WritesUnder}
 use Rattle.statement_effects.proofs.WriteLemmas.{OnGives, each-kept, each-any, each-placed, each-numbered, on-or_fault, on-selected, updated-each, deleted-each}
 
-asks_on-map : (P : Request → Type 0) (f g : Mode → Bool) → ((q : Request) → P q → f q.mode ≡ true → g q.mode ≡ true) → (qs : List Request) (r : Resource) → Each P qs → asks_on qs r f ≡ true → asks_on qs r g ≡ true
+asks_on-map : (P : Request → Type 0) (f g : Mode → Bool) → ((q : Request) → P q → f q.mode ≡ true → g q.mode ≡ true) → (qs : List Request) (r : Resource)
+    → Each P qs → asks_on qs r f ≡ true → asks_on qs r g ≡ true
 asks_on-map P f g imp [] r each e = e
 asks_on-map P f g imp (q ∷ qs) r each e =
     elim (either_true (same_resource q.resource r && f q.mode) _ e) [
@@ -70,27 +71,33 @@ opened-writable qs p each e =
 
 -- ---- what an effect writes
 
-asks_on-new : (t k : ℕ) (new : List Tuple) → Each (λ row. asks_on (map (λ row. request (RowOf t (key_at k row)) Exclusive) new) (RowOf t (key_at k row)) is_exclusive ≡ true) new
+asks_on-new : (t k : ℕ) (new : List Tuple)
+    → Each (λ row. asks_on (map (λ row. request (RowOf t (key_at k row)) Exclusive) new) (RowOf t (key_at k row)) is_exclusive ≡ true) new
 asks_on-new t k [] = tt
 asks_on-new t k (row ∷ more) = (
   or_true_left _ _ (and_true _ _ (same_key-refl resource_order (RowOf t (key_at k row))) refl),
-  Each-map (λ x. asks_on (map (λ row. request (RowOf t (key_at k row)) Exclusive) more) (RowOf t (key_at k x)) is_exclusive ≡ true) (λ x. asks_on (map (λ row. request (RowOf t (key_at k row)) Exclusive) (row ∷ more)) (RowOf t (key_at k x)) is_exclusive ≡ true)
+  Each-map (λ x. asks_on (map (λ row. request (RowOf t (key_at k row)) Exclusive) more) (RowOf t (key_at k x)) is_exclusive
+      ≡ true) (λ x. asks_on (map (λ row. request (RowOf t (key_at k row)) Exclusive) (row ∷ more)) (RowOf t (key_at k x)) is_exclusive ≡ true)
       (λ x e. or_true_right (same_resource (RowOf t (key_at k row)) (RowOf t (key_at k x)) && true) _ e) more (asks_on-new t k more),
 )
 
 writable-new : (t k : ℕ) (new : List Tuple) → Each (λ row. writable (plan (Insert t (Some k) new)) (t, key_at k row) ≡ true) new
 writable-new t k new =
-    Each-map (λ row. asks_on (map (λ row. request (RowOf t (key_at k row)) Exclusive) new) (RowOf t (key_at k row)) is_exclusive ≡ true) (λ row. writable (plan (Insert t (Some k) new)) (t, key_at k row) ≡ true)
+    Each-map (λ row. asks_on (map (λ row. request (RowOf t (key_at k row)) Exclusive) new) (RowOf t (key_at k row)) is_exclusive
+    ≡ true) (λ row. writable (plan (Insert t (Some k) new)) (t, key_at k row) ≡ true)
     (λ row e. or_true_right (asks_on (plan (Insert t (Some k) new)) (Table t) is_exclusive) _
-    (and_true _ _ (or_true_right (same_resource (Table t) (RowOf t (key_at k row)) && false) _ e) (or_true_left _ _ (and_true _ _ (same_key-refl resource_order (Table t)) refl))))
+    (and_true _ _ (or_true_right (same_resource (Table t) (RowOf t (key_at k row)) && false) _ e)
+    (or_true_left _ _ (and_true _ _ (same_key-refl resource_order (Table t)) refl))))
     new (asks_on-new t k new)
 
 writable-table : (t : ℕ) (v : Value) → writable (request (Table t) Exclusive ∷ []) (t, v) ≡ true
 writable-table t v = or_true_left _ _ (or_true_left _ _ (and_true _ _ (same_key-refl resource_order (Table t)) refl))
 
 -- a statement whose plan has such requests alone
-seen-writable : (st : Bound) (rows : Rows') → Each (λ q. is_writing q.mode ≡ true) (plan st) → Each (λ (e : RowPlace × Tuple). writable (plan st) e.0 ≡ true) (entries (visible st rows))
-seen-writable st rows each = Each-map (λ (e : RowPlace × Tuple). looks_at st e.0 ≡ true) (λ (e : RowPlace × Tuple). writable (plan st) e.0 ≡ true) (λ e h. opened-writable (plan st) e.0 each (looked-opened st e.0 h)) (entries (visible st rows)) (each-kept (looks_at st) rows)
+seen-writable : (st : Bound) (rows : Rows') → Each (λ q. is_writing q.mode ≡ true) (plan st)
+    → Each (λ (e : RowPlace × Tuple). writable (plan st) e.0 ≡ true) (entries (visible st rows))
+seen-writable st rows each = Each-map (λ (e : RowPlace × Tuple). looks_at st e.0 ≡ true) (λ (e : RowPlace × Tuple). writable (plan st) e.0
+    ≡ true) (λ e h. opened-writable (plan st) e.0 each (looked-opened st e.0 h)) (entries (visible st rows)) (each-kept (looks_at st) rows)
 
 updated-under : (st : Bound) (sets : List Assignment) (c : Condition) (rows : Rows') → Each (λ q. is_writing q.mode ≡ true) (plan st)
     → OnGives (elim (matching c (entries (visible st rows))) [ None ↦ Faults OutOfRange | Some es ↦ or_fault OutOfRange (all_assigned sets es) Updated ])
@@ -142,13 +149,15 @@ exclusive-is ShareIntent e = cc
 exclusive-is Exclusive e = refl
 
 -- a claimed mode on the resource that passes
-claimed : (claims : Claims) (qs : List Request) (r : Resource) (test : Mode → Bool) → Claimed claims qs → asks_on qs r test ≡ true → (m : Mode) × (claims r m ≡ true) × (test m ≡ true)
+claimed : (claims : Claims) (qs : List Request) (r : Resource) (test : Mode → Bool) → Claimed claims qs → asks_on qs r test ≡ true → (m : Mode)
+    × (claims r m ≡ true) × (test m ≡ true)
 claimed claims qs r test each e =
     let x = some_passes (λ q. claims q.resource q.mode ≡ true) (λ q. same_resource q.resource r && test q.mode) qs each e in
     let b = both_true (same_resource x.0.resource r) _ x.2 in
     (x.0.mode, subst (λ k. claims k x.0.mode ≡ true) (same-resource x.0.resource r b.0) x.1, b.1)
 
-intent-claim : (claims : Claims) (r : Resource) (m : Mode) → claims r m ≡ true → writes_in m ≡ true → (claims r Exclusive ≡ true) ⊎ ((claims r IntentExclusive || claims r ShareIntent) ≡ true)
+intent-claim : (claims : Claims) (r : Resource) (m : Mode) → claims r m ≡ true → writes_in m ≡ true → (claims r Exclusive ≡ true)
+    ⊎ ((claims r IntentExclusive || claims r ShareIntent) ≡ true)
 intent-claim claims r IntentShare c w = cc
 intent-claim claims r IntentExclusive c w = inr (or_true_left _ _ c)
 intent-claim claims r Share c w = cc
@@ -158,12 +167,14 @@ intent-claim claims r Exclusive c w = inl c
 writable-claimed : (claims : Claims) (qs : List Request) (p : RowPlace) → Claimed claims qs → writable qs p ≡ true → may_write claims p ≡ true
 writable-claimed claims qs p each e =
     elim (either_true (asks_on qs (Table p.0) is_exclusive) _ e) [
-      | inl h ↦ let x = claimed claims qs (Table p.0) is_exclusive each h in or_true_left _ _ (subst (λ m. claims (Table p.0) m ≡ true) (exclusive-is x.0 x.2) x.1)
+      | inl h ↦ let x = claimed claims qs (Table p.0) is_exclusive each h
+          in or_true_left _ _ (subst (λ m. claims (Table p.0) m ≡ true) (exclusive-is x.0 x.2) x.1)
       | inr h ↦
           let b = both_true (asks_on qs (RowOf p.0 p.1) is_exclusive) _ h in
           let x = claimed claims qs (RowOf p.0 p.1) is_exclusive each b.0 in
           let y = claimed claims qs (Table p.0) writes_in each b.1 in
-          ⊎_elim (λ t. or_true_left _ _ t) (λ t. or_true_right (claims (Table p.0) Exclusive) _ (and_true _ _ (subst (λ m. claims (RowOf p.0 p.1) m ≡ true) (exclusive-is x.0 x.2) x.1) t)) (intent-claim claims (Table p.0) y.0 y.1 y.2)
+          ⊎_elim (λ t. or_true_left _ _ t) (λ t. or_true_right (claims (Table p.0) Exclusive) _
+          (and_true _ _ (subst (λ m. claims (RowOf p.0 p.1) m ≡ true) (exclusive-is x.0 x.2) x.1) t)) (intent-claim claims (Table p.0) y.0 y.1 y.2)
     ]
 
 pub on-gives-map : (P Q : Write → Type 0) → ((w : Write) → P w → Q w) → (e : Effect) → OnGives e (Each P) → OnGives e (Each Q)
@@ -172,7 +183,10 @@ on-gives-map P Q f (Faults fault) h = tt
 
 -- a statement whose requests are claimed writes where the claims allow it
 pub writes-under : (claims : Claims) (st : Bound) → Claimed claims (plan st) → WritesUnder claims st
-writes-under claims st each = record { each = λ rows. on-gives-map (λ w. writable (plan st) w.place ≡ true) (λ w. may_write claims w.place ≡ true) (λ w e. writable-claimed claims (plan st) w.place each e) (effect st rows) (effect-writable st rows) }
+writes-under claims st each = record {
+  each = λ rows. on-gives-map (λ w. writable (plan st) w.place ≡ true) (λ w. may_write claims w.place
+      ≡ true) (λ w e. writable-claimed claims (plan st) w.place each e) (effect st rows) (effect-writable st rows);
+}
 
 -- ---- two sides whose claims fit together
 
@@ -214,14 +228,18 @@ module _ (ours theirs : Claims) (friends : Friends ours theirs) (p : RowPlace) w
   against-row : (m : Mode) → ours (RowOf p.0 p.1) m ≡ true → theirs (RowOf p.0 p.1) Exclusive ≡ true → ⊥
   against-row m o t = not_both _ (friends.fit (RowOf p.0 p.1) m Exclusive o t) (no-exclusive m)
 
-  against-intent : (m : Mode) → ours (Table p.0) m ≡ true → reads_table m ≡ true → (theirs (Table p.0) IntentExclusive || theirs (Table p.0) ShareIntent) ≡ true → ⊥
-  against-intent m o r t = ⊎_elim (λ h. not_both _ (friends.fit (Table p.0) m IntentExclusive o h) (reads-no-intent m IntentExclusive r refl)) (λ h. not_both _ (friends.fit (Table p.0) m ShareIntent o h) (reads-no-intent m ShareIntent r refl)) (either_true (theirs (Table p.0) IntentExclusive) _ t)
+  against-intent : (m : Mode) → ours (Table p.0) m ≡ true → reads_table m ≡ true → (theirs (Table p.0) IntentExclusive || theirs (Table p.0) ShareIntent) ≡ true
+      → ⊥
+  against-intent m o r t = ⊎_elim (λ h. not_both _ (friends.fit (Table p.0) m IntentExclusive o h) (reads-no-intent m IntentExclusive r refl)) (λ h.
+      not_both _ (friends.fit (Table p.0) m ShareIntent o h) (reads-no-intent m ShareIntent r refl)) (either_true (theirs (Table p.0) IntentExclusive) _ t)
 
   pub reading-table : (m : Mode) → ours (Table p.0) m ≡ true → reads_table m ≡ true → may_write theirs p ≡ true → ⊥
-  reading-table m o r w = ⊎_elim (against-table m o) (λ h. against-intent m o r (both_true (theirs (RowOf p.0 p.1) Exclusive) _ h).1) (either_true (theirs (Table p.0) Exclusive) _ w)
+  reading-table m o r w = ⊎_elim (against-table m o) (λ h. against-intent m o r (both_true (theirs (RowOf p.0 p.1) Exclusive) _ h).1)
+      (either_true (theirs (Table p.0) Exclusive) _ w)
 
   pub reading-row : (m n : Mode) → ours (RowOf p.0 p.1) m ≡ true → ours (Table p.0) n ≡ true → may_write theirs p ≡ true → ⊥
-  reading-row m n o t w = ⊎_elim (against-table n t) (λ h. against-row m o (both_true (theirs (RowOf p.0 p.1) Exclusive) _ h).0) (either_true (theirs (Table p.0) Exclusive) _ w)
+  reading-row m n o t w = ⊎_elim (against-table n t) (λ h. against-row m o (both_true (theirs (RowOf p.0 p.1) Exclusive) _ h).0)
+      (either_true (theirs (Table p.0) Exclusive) _ w)
 
   -- no row may be written by both
   pub not_both_write : may_write ours p ≡ true → may_write theirs p ≡ true → ⊥
@@ -229,7 +247,8 @@ module _ (ours theirs : Claims) (friends : Friends ours theirs) (p : RowPlace) w
       ⊎_elim (λ h. reading-table Exclusive h refl w)
       (λ h.
       let b = both_true (ours (RowOf p.0 p.1) Exclusive) _ h in
-      ⊎_elim (λ t. reading-row Exclusive IntentExclusive b.0 t w) (λ t. reading-row Exclusive ShareIntent b.0 t w) (either_true (ours (Table p.0) IntentExclusive) _ b.1))
+      ⊎_elim (λ t. reading-row Exclusive IntentExclusive b.0 t w) (λ t. reading-row Exclusive ShareIntent b.0 t w)
+      (either_true (ours (Table p.0) IntentExclusive) _ b.1))
       (either_true (ours (Table p.0) Exclusive) _ o)
 
   read-apart : (qs : List Request) → Claimed ours qs → opened qs p ≡ true → may_write theirs p ≡ true → ⊥
@@ -244,4 +263,7 @@ module _ (ours theirs : Claims) (friends : Friends ours theirs) (p : RowPlace) w
 
 -- a statement whose requests are ours reads nothing that they may write
 pub reads-off : (ours theirs : Claims) → Friends ours theirs → (st : Bound) → Claimed ours (plan st) → ReadsOff theirs st
-reads-off ours theirs friends st each = record { each = λ p e. ⊎_elim (λ h. absurd (read-apart ours theirs friends p (plan st) each e h)) (λ h. h) (known (may_write theirs p)) }
+reads-off ours theirs friends st each = record {
+  each = λ p e.
+      ⊎_elim (λ h. absurd (read-apart ours theirs friends p (plan st) each e h)) (λ h. h) (known (may_write theirs p));
+}

@@ -1,5 +1,6 @@
 -- What fits beside what others hold.
-use Rattle.std.proofs.Common.{◌≡◌, ◌≢◌, refl, sym, ap, ◌∙◌, ℕ, zero, suc, ◌<◌, Bool, true, ◌||◌, ◌==◌, length, Option, Some, None, ◌⊎◌, ⊎_elim, arith, eq-eqb, eqb-true}
+use Rattle.std.proofs.Common.{◌≡◌, ◌≢◌, refl, sym, ap, ◌∙◌, ℕ, zero, suc, ◌<◌, Bool, true, ◌||◌, ◌==◌, length, Option, Some, None, ◌⊎◌, ⊎_elim, arith, eq-eqb}
+use Rattle.std.proofs.Common.{eqb-true}
 use Rattle.finite_maps.specs.Map.{get}
 use Rattle.lock_modes.specs.Mode.{compatible}
 use Rattle.lock_queues.specs.Locks.{Look, fits, fits_with, all_below}
@@ -33,4 +34,5 @@ together-fits w together i = record { each = λ r m e. all_below-true (length w.
     beside m (Some n) f = f n refl
 
     at : (r : Resource) (m : Mode) → get (session_at w i).held r ≡ Some m → (c : ℕ) → ((c == i) || fits_with m (look_of w c r)) ≡ true
-    at r m e c = ⊎_elim (λ k. or_true_left (c == i) _ k) (λ k. or_true_right (c == i) _ (beside m (look_of w c r) (λ n is. together i c r m n (λ x. not_both _ (eq-eqb c i (sym x)) k) e is))) (known (c == i))
+    at r m e c = ⊎_elim (λ k. or_true_left (c == i) _ k) (λ k.
+        or_true_right (c == i) _ (beside m (look_of w c r) (λ n is. together i c r m n (λ x. not_both _ (eq-eqb c i (sym x)) k) e is))) (known (c == i))

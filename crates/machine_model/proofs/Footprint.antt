@@ -6,7 +6,8 @@ use Rattle.sql_statements.specs.Plan.{Tuple, plan, opened, looks_at}
 use Rattle.row_tables.specs.Overlay.{Rows', Write, Overlay, lay, written}
 use Rattle.statement_effects.specs.Effect.{visible, Effect, Gives, Faults, effect, effect_on}
 use Rattle.row_tables.proofs.OverlayLemmas.{over, get-lay}
-use Rattle.machine_model.specs.Session.{Task, Ask, Do, Session, Performed, Goes, Fails, Kind, Begins, Commits, RollsBack, Works, kind, perform, perform_by, worked}
+use Rattle.machine_model.specs.Session.{Task, Ask, Do, Session, Performed, Goes, Fails, Kind, Begins, Commits, RollsBack, Works, kind, perform, perform_by}
+use Rattle.machine_model.specs.Session.{worked}
 use Rattle.machine_model.specs.Go.{Stop, taking, solo, failed, finished_by, is_broken}
 use Rattle.machine_model.specs.Footprint.{AgreeBut, ReadsBut, SameChanges, EndsSame, EachDo}
 use Rattle.machine_model.specs.Claims.{Claims, may_write}
@@ -78,10 +79,12 @@ worked-same s a b (Faults f) = both_fail
 works-same : (hidden : RowPlace → Bool) (s : Session) (a b : Rows') (st : Bound) → ReadsBut hidden st → AgreeBut hidden a b
     → SameWay a b (worked s a (effect st (lay s.overlay a))) (worked s b (effect st (lay s.overlay b)))
 works-same hidden s a b st off h =
-    let e : effect st (lay s.overlay a) ≡ effect st (lay s.overlay b) = effect-same st _ _ (λ p o. (AgreeBut-lay hidden a b s.overlay h).each p (off.each p o)) in
+    let e : effect st (lay s.overlay a) ≡ effect st (lay s.overlay b) = effect-same st _ _ (λ p o. (AgreeBut-lay hidden a b s.overlay h).each p (off.each p o))
+    in
     subst (λ x. SameWay a b (worked s a (effect st (lay s.overlay a))) (worked s b x)) e (worked-same s a b _)
 
-pub perform_by-same : (hidden : RowPlace → Bool) (status : Status) (k : Kind) (s : Session) (a b : Rows') (st : Bound) → ReadsBut hidden st → AgreeBut hidden a b
+pub perform_by-same : (hidden : RowPlace → Bool) (status : Status) (k : Kind) (s : Session) (a b : Rows') (st : Bound) → ReadsBut hidden st
+    → AgreeBut hidden a b
     → SameWay a b (perform_by status k s a st) (perform_by status k s b st)
 perform_by-same hidden Outside Begins s a b st off h = both_go (changes-none a b)
 perform_by-same hidden InBlock Begins s a b st off h = both_go (changes-none a b)
@@ -102,15 +105,18 @@ finished-same InBlock s a b = record { session = refl; changes = changes-none a 
 finished-same Broken s a b = record { session = refl; changes = changes-none a b }
 
 -- the session ends the same over rows that agree where it reads
-pub solo-same-but : (hidden : RowPlace → Bool) (s : Session) (a b : Rows') (ts : List Task) → EachDo (ReadsBut hidden) ts → AgreeBut hidden a b → EndsSame a b (solo s a ts) (solo s b ts)
+pub solo-same-but : (hidden : RowPlace → Bool) (s : Session) (a b : Rows') (ts : List Task) → EachDo (ReadsBut hidden) ts → AgreeBut hidden a b
+    → EndsSame a b (solo s a ts) (solo s b ts)
 solo-same-but hidden s a b [] off h = finished-same s.status s a b
 solo-same-but hidden s a b (Ask r m ∷ ts) off h = asked (is_broken s.status) (solo-same-but hidden (taking s r m) a b ts off h)
   where
     asked : (t : Bool) → EndsSame a b (solo (taking s r m) a ts) (solo (taking s r m) b ts)
-        → EndsSame a b (elim t [ true ↦ failed s a Aborted | false ↦ solo (taking s r m) a ts ]) (elim t [ true ↦ failed s b Aborted | false ↦ solo (taking s r m) b ts ])
+        → EndsSame a b (elim t [ true ↦ failed s a Aborted | false ↦ solo (taking s r m) a ts ])
+        (elim t [ true ↦ failed s b Aborted | false ↦ solo (taking s r m) b ts ])
     asked true rec = record { session = refl; changes = changes-none a b }
     asked false rec = rec
-solo-same-but hidden s a b (Do st ∷ ts) off h = done (perform s a st) (perform s b st) (perform_by-same hidden s.status (kind st) s a b st off.0 h) (λ s2 a2 b2 h2. solo-same-but hidden s2 a2 b2 ts off.1 h2)
+solo-same-but hidden s a b (Do st ∷ ts) off h = done (perform s a st) (perform s b st) (perform_by-same hidden s.status (kind st) s a b st off.0 h)
+    (λ s2 a2 b2 h2. solo-same-but hidden s2 a2 b2 ts off.1 h2)
   where
     done : (x y : Performed) → SameWay a b x y → ((s2 : Session) (a2 b2 : Rows') → AgreeBut hidden a2 b2 → EndsSame a2 b2 (solo s2 a2 ts) (solo s2 b2 ts))
         → EndsSame a b (elim x [ Goes s2 a2 ↦ solo s2 a2 ts | Fails f ↦ failed s a f ]) (elim y [ Goes s2 b2 ↦ solo s2 b2 ts | Fails f ↦ failed s b f ])
@@ -135,7 +141,8 @@ pub record SameStop (claims : Claims) (x y : Stop) : Type 0 where
 pub AgreeOff-lay : (claims : Claims) (a b : Rows') (o : Overlay) → AgreeOff claims a b → AgreeOff claims (lay o a) (lay o b)
 AgreeOff-lay claims a b o h = AgreeBut-lay (may_write claims) a b o h
 
-pub solo-same : (claims : Claims) (s : Session) (a b : Rows') (ts : List Task) → EachDo (ReadsOff claims) ts → AgreeOff claims a b → SameStop claims (solo s a ts) (solo s b ts)
+pub solo-same : (claims : Claims) (s : Session) (a b : Rows') (ts : List Task) → EachDo (ReadsOff claims) ts → AgreeOff claims a b
+    → SameStop claims (solo s a ts) (solo s b ts)
 solo-same claims s a b ts off h =
     let same = solo-same-but (may_write claims) s a b ts off h in
     record { session = same.session; rows = agree-changed (may_write claims) a (solo s a ts).rows b (solo s b ts).rows h same.changes }
@@ -151,14 +158,17 @@ pub record WritesUnder (claims : Claims) (st : Bound) : Type 0 where
 pub OverlayUnder-empty : (claims : Claims) → OverlayUnder claims empty
 OverlayUnder-empty claims = record { each = λ p x is. absurd (let e = sym (get-empty place_order (Option Tuple) p) ∙ is in cc) }
 
-OverlayUnder-insert : (claims : Claims) (o : Overlay) (k : RowPlace) (y : Option Tuple) → may_write claims k ≡ true → OverlayUnder claims o → OverlayUnder claims (insert o k y)
+OverlayUnder-insert : (claims : Claims) (o : Overlay) (k : RowPlace) (y : Option Tuple) → may_write claims k ≡ true → OverlayUnder claims o
+    → OverlayUnder claims (insert o k y)
 OverlayUnder-insert claims o k y may h = record { each = λ p x is. at p x (same_key place_order p k) refl (sym (get-insert o k y p) ∙ is) }
   where
-    at : (p : RowPlace) (x : Option Tuple) (b : Bool) → same_key place_order p k ≡ b → cond (same_key place_order p k) (Some y) (get o p) ≡ Some x → may_write claims p ≡ true
+    at : (p : RowPlace) (x : Option Tuple) (b : Bool) → same_key place_order p k ≡ b → cond (same_key place_order p k) (Some y) (get o p) ≡ Some x
+        → may_write claims p ≡ true
     at p x true same is = subst (λ q. may_write claims q ≡ true) (sym (same_key-true place_order p k same)) may
     at p x false same is = h.each p x (ap (λ b. cond b (Some y) (get o p)) (sym same) ∙ is)
 
-pub OverlayUnder-written : (claims : Claims) (ws : List Write) (o : Overlay) → Each (λ w. may_write claims w.place ≡ true) ws → OverlayUnder claims o → OverlayUnder claims (written ws o)
+pub OverlayUnder-written : (claims : Claims) (ws : List Write) (o : Overlay) → Each (λ w. may_write claims w.place ≡ true) ws → OverlayUnder claims o
+    → OverlayUnder claims (written ws o)
 OverlayUnder-written claims [] o each h = h
 OverlayUnder-written claims (w ∷ ws) o each h = OverlayUnder-written claims ws _ each.1 (OverlayUnder-insert claims o w.place w.left each.0 h)
 
@@ -177,11 +187,16 @@ pub record Within (claims : Claims) (rows : Rows') (s2 : Session) (rows2 : Rows'
   pub overlay : OverlayUnder claims s2.overlay
   pub changed : AgreeOff claims rows2 rows
 
-worked-within : (claims : Claims) (s : Session) (rows : Rows') (e : Effect) → OnGives e (Each (λ w. may_write claims w.place ≡ true)) → OverlayUnder claims s.overlay → OnGoes (worked s rows e) (Within claims rows)
-worked-within claims s rows (Gives events writes) each h = record { overlay = OverlayUnder-written claims writes s.overlay each h; changed = AgreeOff-refl claims rows }
+worked-within : (claims : Claims) (s : Session) (rows : Rows') (e : Effect) → OnGives e (Each (λ w. may_write claims w.place ≡ true))
+    → OverlayUnder claims s.overlay → OnGoes (worked s rows e) (Within claims rows)
+worked-within claims s rows (Gives events writes) each h = record {
+  overlay = OverlayUnder-written claims writes s.overlay each h;
+  changed = AgreeOff-refl claims rows;
+}
 worked-within claims s rows (Faults f) each h = tt
 
-perform_by-within : (claims : Claims) (status : Status) (k : Kind) (s : Session) (rows : Rows') (st : Bound) → WritesUnder claims st → OverlayUnder claims s.overlay → OnGoes (perform_by status k s rows st) (Within claims rows)
+perform_by-within : (claims : Claims) (status : Status) (k : Kind) (s : Session) (rows : Rows') (st : Bound) → WritesUnder claims st
+    → OverlayUnder claims s.overlay → OnGoes (perform_by status k s rows st) (Within claims rows)
 perform_by-within claims Outside Begins s rows st under h = record { overlay = h; changed = AgreeOff-refl claims rows }
 perform_by-within claims InBlock Begins s rows st under h = record { overlay = h; changed = AgreeOff-refl claims rows }
 perform_by-within claims Broken Begins s rows st under h = tt
@@ -198,22 +213,27 @@ perform_by-within claims Broken Works s rows st under h = tt
 AgreeOff-trans : (claims : Claims) (a b c : Rows') → AgreeOff claims a b → AgreeOff claims b c → AgreeOff claims a c
 AgreeOff-trans claims a b c p q = record { each = λ x off. p.each x off ∙ q.each x off }
 
-finished-within : (claims : Claims) (status : Status) (s : Session) (rows : Rows') → OverlayUnder claims s.overlay → AgreeOff claims (finished_by status s rows).rows rows
+finished-within : (claims : Claims) (status : Status) (s : Session) (rows : Rows') → OverlayUnder claims s.overlay
+    → AgreeOff claims (finished_by status s rows).rows rows
 finished-within claims Outside s rows h = AgreeOff-laid claims s.overlay rows h
 finished-within claims InBlock s rows h = AgreeOff-refl claims rows
 finished-within claims Broken s rows h = AgreeOff-refl claims rows
 
 -- the session changes committed rows only where it may
-pub solo-within : (claims : Claims) (s : Session) (rows : Rows') (ts : List Task) → EachDo (WritesUnder claims) ts → OverlayUnder claims s.overlay → AgreeOff claims (solo s rows ts).rows rows
+pub solo-within : (claims : Claims) (s : Session) (rows : Rows') (ts : List Task) → EachDo (WritesUnder claims) ts → OverlayUnder claims s.overlay
+    → AgreeOff claims (solo s rows ts).rows rows
 solo-within claims s rows [] under h = finished-within claims s.status s rows h
 solo-within claims s rows (Ask r m ∷ ts) under h = asked (is_broken s.status) (solo-within claims (taking s r m) rows ts under h)
   where
-    asked : (t : Bool) → AgreeOff claims (solo (taking s r m) rows ts).rows rows → AgreeOff claims (let x : Stop = elim t [ true ↦ failed s rows Aborted | false ↦ solo (taking s r m) rows ts ] in x.rows) rows
+    asked : (t : Bool) → AgreeOff claims (solo (taking s r m) rows ts).rows rows
+        → AgreeOff claims (let x : Stop = elim t [ true ↦ failed s rows Aborted | false ↦ solo (taking s r m) rows ts ] in x.rows) rows
     asked true rec = AgreeOff-refl claims rows
     asked false rec = rec
-solo-within claims s rows (Do st ∷ ts) under h = done (perform s rows st) (perform_by-within claims s.status (kind st) s rows st under.0 h) (λ s2 rows2 h2. solo-within claims s2 rows2 ts under.1 h2)
+solo-within claims s rows (Do st ∷ ts) under h = done (perform s rows st) (perform_by-within claims s.status (kind st) s rows st under.0 h) (λ s2 rows2 h2.
+    solo-within claims s2 rows2 ts under.1 h2)
   where
-    done : (d : Performed) → OnGoes d (Within claims rows) → ((s2 : Session) (rows2 : Rows') → OverlayUnder claims s2.overlay → AgreeOff claims (solo s2 rows2 ts).rows rows2)
+    done : (d : Performed) → OnGoes d (Within claims rows) → ((s2 : Session) (rows2 : Rows') → OverlayUnder claims s2.overlay
+        → AgreeOff claims (solo s2 rows2 ts).rows rows2)
         → AgreeOff claims (let x : Stop = elim d [ Goes s2 rows2 ↦ solo s2 rows2 ts | Fails f ↦ failed s rows f ] in x.rows) rows
     done (Goes s2 rows2) w rec = AgreeOff-trans claims _ _ _ (rec s2 rows2 w.overlay) w.changed
     done (Fails f) w rec = AgreeOff-refl claims rows

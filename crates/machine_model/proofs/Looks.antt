@@ -29,15 +29,18 @@ table-opens : (t : ℕ) (m : Mode) (qs : List Request) (p : RowPlace) → reads_
 table-opens t m qs p r e = or_true_left _ _ (or_true_left _ _ (and_true _ _ (this-table t p e) r))
 
 -- some request opens the row, below a mode on the table
-row-opens : (t : ℕ) (m : Mode) (qs : List Request) (p : RowPlace) → (p.0 == t) ≡ true → asks_on qs (RowOf p.0 p.1) reads_table ≡ true → opened (request (Table t) m ∷ qs) p ≡ true
+row-opens : (t : ℕ) (m : Mode) (qs : List Request) (p : RowPlace) → (p.0 == t) ≡ true → asks_on qs (RowOf p.0 p.1) reads_table ≡ true
+    → opened (request (Table t) m ∷ qs) p ≡ true
 row-opens t m qs p e h =
     or_true_right (asks_on (request (Table t) m ∷ qs) (Table p.0) reads_table) _
     (and_true _ _ (or_true_right (same_resource (Table t) (RowOf p.0 p.1) && reads_table m) _ h) (or_true_left _ _ (and_true _ _ (this-table t p e) refl)))
 
-one-row : (t : ℕ) (k : Value) (m : Mode) (p : RowPlace) → reads_table m ≡ true → (p.0 == t) ≡ true → at_key (Some k) p.1 ≡ true → asks_on (request (RowOf t k) m ∷ []) (RowOf p.0 p.1) reads_table ≡ true
+one-row : (t : ℕ) (k : Value) (m : Mode) (p : RowPlace) → reads_table m ≡ true → (p.0 == t) ≡ true → at_key (Some k) p.1 ≡ true
+    → asks_on (request (RowOf t k) m ∷ []) (RowOf p.0 p.1) reads_table ≡ true
 one-row t k m p r e h = or_true_left _ _ (and_true _ _ (this-row t k p e h) r)
 
-new-rows : (t k : ℕ) (rows : List Tuple) (p : RowPlace) → (p.0 == t) ≡ true → list_any (λ row. at_key (Some (key_at k row)) p.1) rows ≡ true → asks_on (map (λ row. request (RowOf t (key_at k row)) Exclusive) rows) (RowOf p.0 p.1) reads_table ≡ true
+new-rows : (t k : ℕ) (rows : List Tuple) (p : RowPlace) → (p.0 == t) ≡ true → list_any (λ row. at_key (Some (key_at k row)) p.1) rows ≡ true
+    → asks_on (map (λ row. request (RowOf t (key_at k row)) Exclusive) rows) (RowOf p.0 p.1) reads_table ≡ true
 new-rows t k [] p e h = h
 new-rows t k (row ∷ rows) p e h =
     elim (either_true (at_key (Some (key_at k row)) p.1) _ h) [
@@ -46,13 +49,17 @@ new-rows t k (row ∷ rows) p e h =
     ]
 
 pub looked-opened : (s : Bound) (p : RowPlace) → looks_at s p ≡ true → opened (plan s) p ≡ true
-looked-opened (Select t (Some key) c by out) p h = let b = both_true (p.0 == t) _ h in row-opens t IntentShare (request (RowOf t key) Share ∷ []) p b.0 (one-row t key Share p refl b.0 b.1)
+looked-opened (Select t (Some key) c by out) p h = let b = both_true (p.0 == t) _ h
+    in row-opens t IntentShare (request (RowOf t key) Share ∷ []) p b.0 (one-row t key Share p refl b.0 b.1)
 looked-opened (Select t None c by out) p h = table-opens t Share [] p refl (both_true (p.0 == t) _ h).0
-looked-opened (Insert t (Some k) rows) p h = let b = both_true (p.0 == t) _ h in row-opens t IntentExclusive (map (λ row. request (RowOf t (key_at k row)) Exclusive) rows) p b.0 (new-rows t k rows p b.0 b.1)
+looked-opened (Insert t (Some k) rows) p h = let b = both_true (p.0 == t) _ h
+    in row-opens t IntentExclusive (map (λ row. request (RowOf t (key_at k row)) Exclusive) rows) p b.0 (new-rows t k rows p b.0 b.1)
 looked-opened (Insert t None rows) p h = table-opens t Exclusive [] p refl h
-looked-opened (Update t (Some key) sets c) p h = let b = both_true (p.0 == t) _ h in row-opens t IntentExclusive (request (RowOf t key) Exclusive ∷ []) p b.0 (one-row t key Exclusive p refl b.0 b.1)
+looked-opened (Update t (Some key) sets c) p h = let b = both_true (p.0 == t) _ h
+    in row-opens t IntentExclusive (request (RowOf t key) Exclusive ∷ []) p b.0 (one-row t key Exclusive p refl b.0 b.1)
 looked-opened (Update t None sets c) p h = table-opens t Exclusive [] p refl (both_true (p.0 == t) _ h).0
-looked-opened (Delete t (Some key) c) p h = let b = both_true (p.0 == t) _ h in row-opens t IntentExclusive (request (RowOf t key) Exclusive ∷ []) p b.0 (one-row t key Exclusive p refl b.0 b.1)
+looked-opened (Delete t (Some key) c) p h = let b = both_true (p.0 == t) _ h
+    in row-opens t IntentExclusive (request (RowOf t key) Exclusive ∷ []) p b.0 (one-row t key Exclusive p refl b.0 b.1)
 looked-opened (Delete t None c) p h = table-opens t Exclusive [] p refl (both_true (p.0 == t) _ h).0
 looked-opened (Lock t m) p h = cc
 looked-opened Begin p h = cc

@@ -2,7 +2,8 @@
 use Rattle.std.specs.List.{All}
 use Rattle.std.proofs.lemmas.List.Elements.{All-nil, All-cons, All-append, All-push}
 use Rattle.std.proofs.lemmas.List.{get_or_past, get_or_default}
-use Rattle.std.proofs.Common.{◌≡◌, ◌≢◌, refl, sym, ap, ◌∙◌, subst, ℕ, zero, suc, ◌<◌, ◌≤◌, Bool, true, false, List, [], ◌∷◌, ◌++◌, length, map, take, set, get_or, Option, Some, None, ◌⊎◌, ⊎_elim, arith, inl, inr, length-set, get_or-set_same, get_or-set_other, not, ◌||◌}
+use Rattle.std.proofs.Common.{◌≡◌, ◌≢◌, refl, sym, ap, ◌∙◌, subst, ℕ, zero, suc, ◌<◌, ◌≤◌, Bool, true, false, List, [], ◌∷◌, ◌++◌, length, map, take, set}
+use Rattle.std.proofs.Common.{get_or, Option, Some, None, ◌⊎◌, ⊎_elim, arith, inl, inr, length-set, get_or-set_same, get_or-set_other, not, ◌||◌}
 use Rattle.lock_queues.specs.declared.answer.Answer.{Answer}
 use Rattle.lock_queues.specs.declared.answer.Answer.TheVariants.{Granted, Waits, Ring}
 use Rattle.lock_queues.specs.Locks.{Spot, next_grant, waits_now}
@@ -10,7 +11,8 @@ use Rattle.sql_statements.specs.declared.statement.Bound.{Bound}
 use Rattle.sql_subset.specs.Spec.{Spec, Step, no_step, IsBound}
 use Rattle.transcripts.specs.Outcome.{HasStep}
 use Rattle.transcripts.specs.declared.event.Event.{Event}
-use Rattle.transcripts.specs.declared.event.Event.TheVariants.{Sent, Row as RowEvent, Rows, Inserted, Updated, Deleted, Began, Committed, RolledBack, Locked, Set, Warned, Failed, Waiting, Resumed, Done, NotSent}
+use Rattle.transcripts.specs.declared.event.Event.TheVariants.{Sent, Row as RowEvent, Rows, Inserted, Updated, Deleted, Began, Committed, RolledBack, Locked}
+use Rattle.transcripts.specs.declared.event.Event.TheVariants.{Set, Warned, Failed, Waiting, Resumed, Done, NotSent}
 use Rattle.transcripts.specs.declared.event.Fault.{Fault}
 use Rattle.transcripts.specs.declared.event.Fault.TheVariants.{Deadlock, Aborted}
 use Rattle.transcripts.specs.declared.event.Warning.TheVariants.{InBlock as AlreadyInBlock, NoBlock}
@@ -19,10 +21,13 @@ use Rattle.statement_effects.specs.Effect.{Effect, Gives, Faults, effect}
 use Rattle.machine_model.specs.declared.status.Status.{Status}
 use Rattle.machine_model.specs.declared.status.Status.TheVariants.{Outside, InBlock, Broken}
 use Rattle.machine_model.specs.Events.{is_effect}
-use Rattle.machine_model.specs.Session.{Task, Ask, Do, Session, Kind, Begins, Commits, RollsBack, Works, kind, note, tasks_of, Performed, Goes, Fails, worked, perform_by, perform}
+use Rattle.machine_model.specs.Session.{Task, Ask, Do, Session, Kind, Begins, Commits, RollsBack, Works, kind, note, tasks_of, Performed, Goes, Fails, worked}
+use Rattle.machine_model.specs.Session.{perform_by, perform}
 use Rattle.machine_model.specs.Go.{Scene, Run, go, taking, is_broken, answer_in, finished_by, stopped, failed, held_up}
-use Rattle.machine_model.specs.World.{World, fresh, session_at, look_of, scene_of, noted, goes, granted, settle_for, settle, left_to_do, send, send_all, outcome_of}
-use Rattle.machine_model.specs.Start.{Start, Started, SetupFailed, SessionSetupFailed, SessionSetupWaits, start, set_up, started_then, main_setups, session_setups, after_setup, forgotten, has_failed, is_outside}
+use Rattle.machine_model.specs.World.{World, fresh, session_at, look_of, scene_of, noted, goes, granted, settle_for, settle, left_to_do, send, send_all}
+use Rattle.machine_model.specs.World.{outcome_of}
+use Rattle.machine_model.specs.Start.{Start, Started, SetupFailed, SessionSetupFailed, SessionSetupWaits, start, set_up, started_then, main_setups}
+use Rattle.machine_model.specs.Start.{session_setups, after_setup, forgotten, has_failed, is_outside}
 use Rattle.machine_model.specs.Sound.{Sound}
 use Rattle.machine_model.specs.Outcome.{IsToldOf, IsOutcomeOf, TellsOwn}
 use Rattle.machine_model.proofs.Basics.{cases-eq}
@@ -126,32 +131,38 @@ module _ (steps : List Step) (o : ℕ) where
 -- where a session that was told of its own steps takes its place, all are told so
 set-own : (steps : List Step) (ss : List Session) (i : ℕ) (s : Session) → All (IsToldOf steps i) s.transcript
     → ((c : ℕ) → All (IsToldOf steps c) (get_or ss c fresh).transcript) → (c : ℕ) → All (IsToldOf steps c) (get_or (set ss i s) c fresh).transcript
-set-own steps ss i s own all c = ⊎_elim there (λ ne. subst (λ (x : Session). All (IsToldOf steps c) x.transcript) (sym (get_or-set_other ss i c s fresh ne)) (all c)) (cases-eq c i)
+set-own steps ss i s own all c = ⊎_elim there (λ ne. subst (λ (x : Session). All (IsToldOf steps c) x.transcript) (sym (get_or-set_other ss i c s fresh ne))
+    (all c)) (cases-eq c i)
   where
     within : c ≡ i → (i < length ss) ⊎ (length ss ≤ i) → All (IsToldOf steps i) (get_or (set ss i s) i fresh).transcript
     within is cases =
         ⊎_elim (λ lt. subst (λ (x : Session). All (IsToldOf steps i) x.transcript) (sym (get_or-set_same ss i s fresh lt)) own)
-        (λ le. subst (λ (x : Session). All (IsToldOf steps i) x.transcript) (sym (get_or_past (set ss i s) i fresh (subst (λ n. n ≤ i) (sym (length-set ss i s)) le)))
+        (λ le. subst (λ (x : Session). All (IsToldOf steps i) x.transcript)
+        (sym (get_or_past (set ss i s) i fresh (subst (λ n. n ≤ i) (sym (length-set ss i s)) le)))
         (All-nil (IsToldOf steps i))) cases
 
     there : c ≡ i → All (IsToldOf steps c) (get_or (set ss i s) c fresh).transcript
     there is = subst (λ d. All (IsToldOf steps d) (get_or (set ss i s) d fresh).transcript) (sym is) (within is (grind arith))
 
-goes-own : (steps : List Step) (w : World) (i : ℕ) (s : Session) (ts : List Task) → TellsOwn steps w → All (IsToldOf steps i) s.transcript → TellsOwn steps (goes w i s ts)
+goes-own : (steps : List Step) (w : World) (i : ℕ) (s : Session) (ts : List Task) → TellsOwn steps w → All (IsToldOf steps i) s.transcript
+    → TellsOwn steps (goes w i s ts)
 goes-own steps w i s ts all own = set-own steps w.sessions i (go (scene_of w) i s w.rows ts).session (go-own steps i (scene_of w) i s w.rows ts own) all
 
 granted-own : (steps : List Step) (w : World) (spot : Spot) → TellsOwn steps w → TellsOwn steps (granted w spot)
 granted-own steps w spot all =
     let i = spot.wait.session in
     let s = session_at w i in
-    goes-own steps (record w { waits = spot.before ++ spot.after }) i (note (record (taking s spot.wait.resource spot.wait.mode) { rest = [] }) Resumed) s.rest all
+    goes-own steps (record w { waits = spot.before ++ spot.after }) i (note (record (taking s spot.wait.resource spot.wait.mode) { rest = [] }) Resumed) s.rest
+    all
     (push steps i s.transcript Resumed tt (all i))
 
 settle_for-own : (steps : List Step) (k : ℕ) (w : World) → TellsOwn steps w → TellsOwn steps (settle_for k w)
 settle_for-own steps zero w all = all
-settle_for-own steps (suc k) w all = at (next_grant (length w.sessions) (look_of w) w.waits) (λ spot. settle_for-own steps k (granted w spot) (granted-own steps w spot all))
+settle_for-own steps (suc k) w all = at (next_grant (length w.sessions) (look_of w) w.waits) (λ spot.
+    settle_for-own steps k (granted w spot) (granted-own steps w spot all))
   where
-    at : (o : Option Spot) → ((spot : Spot) → TellsOwn steps (settle_for k (granted w spot))) → TellsOwn steps (elim o [ None ↦ w | Some spot ↦ settle_for k (granted w spot) ])
+    at : (o : Option Spot) → ((spot : Spot) → TellsOwn steps (settle_for k (granted w spot)))
+        → TellsOwn steps (elim o [ None ↦ w | Some spot ↦ settle_for k (granted w spot) ])
     at None rec = all
     at (Some spot) rec = rec spot
 
@@ -165,15 +176,21 @@ send-own steps w k lt all = at (waits_now w.waits i)
     s : Session
     s = session_at w i
 
-    at : (b : Bool) → TellsOwn steps (elim b [ true ↦ noted w i (NotSent k) | false ↦ settle (goes w i (note s (Sent k)) (tasks_of (get_or steps k no_step).statements)) ])
+    at : (b : Bool) → TellsOwn steps (elim b [
+      | true ↦ noted w i (NotSent k)
+      | false ↦ settle
+          (goes w i (note s (Sent k)) (tasks_of (get_or steps k no_step).statements))
+    ])
     at true = set-own steps w.sessions i (note s (NotSent k)) (push steps i s.transcript (NotSent k) (lt, refl) (all i)) all
     at false =
         let v = goes w i (note s (Sent k)) (tasks_of (get_or steps k no_step).statements) in
-        settle_for-own steps (left_to_do v) v (goes-own steps w i (note s (Sent k)) (tasks_of (get_or steps k no_step).statements) all (push steps i s.transcript (Sent k) (lt, refl) (all i)))
+        settle_for-own steps (left_to_do v) v (goes-own steps w i (note s (Sent k)) (tasks_of (get_or steps k no_step).statements) all
+        (push steps i s.transcript (Sent k) (lt, refl) (all i)))
 
 -- ---- outcomes
 
-transcript-at : (n i : ℕ) (ss : List Session) → (P : List Event → Type 0) → P [] → P (get_or ss i fresh).transcript → P (get_or (map (λ (s : Session). s.transcript) (take n ss)) i [])
+transcript-at : (n i : ℕ) (ss : List Session) → (P : List Event → Type 0) → P [] → P (get_or ss i fresh).transcript
+    → P (get_or (map (λ (s : Session). s.transcript) (take n ss)) i [])
 transcript-at zero i ss P none some = none
 transcript-at (suc n) i [] P none some = none
 transcript-at (suc n) zero (s ∷ ss) P none some = some
@@ -236,7 +253,8 @@ setup-silent w i block all c = ⊎_elim there other (cases-eq c i)
       where
         within : (i < length v.sessions) ⊎ (length v.sessions ≤ i) → (get_or (set v.sessions i s) i fresh).transcript ≡ []
         within (inl lt) = ap (λ (x : Session). x.transcript) (get_or-set_same v.sessions i s fresh lt)
-        within (inr le) = ap (λ (x : Session). x.transcript) (get_or_past (set v.sessions i s) i fresh (subst (λ n. n ≤ i) (sym (length-set v.sessions i s)) le))
+        within (inr le) = ap (λ (x : Session). x.transcript) (get_or_past (set v.sessions i s) i fresh
+            (subst (λ n. n ≤ i) (sym (length-set v.sessions i s)) le))
 
     other : c ≢ i → (session_at (forgotten v i) c).transcript ≡ []
     other ne =
@@ -265,7 +283,8 @@ own-silent i w (block ∷ blocks) all =
     rest : Start
     rest = session_setups (suc i) (forgotten (after_setup w i block) i) blocks
 
-    at : (b d : Bool) → OnStarted rest Silent → OnStarted (elim b [ true ↦ SessionSetupFailed i | false ↦ elim d [ true ↦ SessionSetupWaits i | false ↦ rest ] ]) Silent
+    at : (b d : Bool) → OnStarted rest Silent
+        → OnStarted (elim b [ true ↦ SessionSetupFailed i | false ↦ elim d [ true ↦ SessionSetupWaits i | false ↦ rest ] ]) Silent
     at true d rec = tt
     at false true rec = tt
     at false false rec = rec
@@ -281,19 +300,22 @@ pub start-silent : (spec : Spec) (w : World) → start spec ≡ Started w → Si
 start-silent spec w e =
     subst (λ s. OnStarted s Silent) e
     (then-silent (set_up spec) (λ v. session_setups 0 v spec.session_setups)
-    (main-silent spec.sessions 0 (first_world spec.sessions) spec.setups (λ c. ap (λ (s : Session). s.transcript) (get_or-replicate (suc spec.sessions) c fresh)))
+    (main-silent spec.sessions 0 (first_world spec.sessions) spec.setups (λ c.
+    ap (λ (s : Session). s.transcript) (get_or-replicate (suc spec.sessions) c fresh)))
     (λ v h. own-silent 0 v spec.session_setups h))
 
 line-own : (steps : List Step) (w : World) (ks : List ℕ) → All (λ k. k < length steps) ks → TellsOwn steps w → TellsOwn steps (send_all steps w ks)
 line-own steps w [] known all = all
-line-own steps w (k ∷ ks) known all = line-own steps (send steps w k) ks (λ i d lt. known (suc i) d (omega arith)) (send-own steps w k (known 0 0 (omega arith)) all)
+line-own steps w (k ∷ ks) known all = line-own steps (send steps w k) ks (λ i d lt. known (suc i) d (omega arith))
+    (send-own steps w k (known 0 0 (omega arith)) all)
 
 -- in each world of a line, what is told is an outcome of the spec
 pub lines-own : (spec : Spec) (w : World) (ks : List ℕ) → IsBound spec → start spec ≡ Started w → All (λ k. k < length spec.steps) ks
     → IsOutcomeOf spec (outcome_of spec.sessions (send_all spec.steps w ks))
 lines-own spec w ks bound e known =
     outcome-own spec (send_all spec.steps w ks) (line-count spec.steps w ks ∙ start-count spec w bound.session_setups e)
-    (line-own spec.steps w ks known (λ i. subst (λ (es : List Event). All (IsToldOf spec.steps i) es) (sym (start-silent spec w e i)) (All-nil (IsToldOf spec.steps i))))
+    (line-own spec.steps w ks known (λ i. subst (λ (es : List Event). All (IsToldOf spec.steps i) es) (sym (start-silent spec w e i))
+    (All-nil (IsToldOf spec.steps i))))
 
 -- every world of a line is sound, with a part for each session and the control session
 pub lines-sound : (spec : Spec) (w : World) (ks : List ℕ) → IsBound spec → start spec ≡ Started w

@@ -8,7 +8,8 @@ use Rattle.machine_model.proofs.Settles.{Grant, next-grant, none-left, granted-s
 -- where nothing is ripe, settling changes nothing
 pub settled-at : (n : ℕ) (w : World) → next_grant (length w.sessions) (look_of w) w.waits ≡ None → settle_for n w ≡ w
 settled-at zero w e = refl
-settled-at (suc n) w e = let P : Option Spot → Type 0 = λ o. (let x : World = elim o [ None ↦ w | Some spot ↦ settle_for n (Rattle.machine_model.specs.World.granted w spot) ] in x) ≡ w in subst P (sym e) refl
+settled-at (suc n) w e = let P : Option Spot → Type 0 =
+    λ o. (let x : World = elim o [ None ↦ w | Some spot ↦ settle_for n (Rattle.machine_model.specs.World.granted w spot) ] in x) ≡ w in subst P (sym e) refl
 
 -- the next grant of a world
 abbrev pub next_in : World → Option Spot
@@ -18,10 +19,14 @@ next_in w = next_grant (length w.sessions) (look_of w) w.waits
 settle-fuel : (n m : ℕ) (w : World) → Steady w → left_to_do w ≤ n → left_to_do w ≤ m → settle_for n w ≡ settle_for m w
 settle-fuel zero m w st a b = sym (settled-at m w (none-left w a))
 settle-fuel (suc n) zero w st a b = settled-at (suc n) w (none-left w b)
-settle-fuel (suc n) (suc m) w st a b = at (next_in w) refl (λ spot g. settle-fuel n m (granted w spot) (granted-steady w spot st g) (let h = granted-left w spot st g in omega arith) (let h = granted-left w spot st g in omega arith))
+settle-fuel (suc n) (suc m) w st a b = at (next_in w) refl (λ spot g.
+    settle-fuel n m (granted w spot) (granted-steady w spot st g) (let h = granted-left w spot st g in omega arith) (let h = granted-left w spot st g
+    in omega arith))
   where
-    at : (o : Option Spot) → next_in w ≡ o → ((spot : Spot) → Grant (length w.sessions) (look_of w) w.waits spot → settle_for n (granted w spot) ≡ settle_for m (granted w spot))
-        → (let x : World = elim o [ None ↦ w | Some spot ↦ settle_for n (granted w spot) ] in x) ≡ elim o [ None ↦ w | Some spot ↦ settle_for m (granted w spot) ]
+    at : (o : Option Spot) → next_in w ≡ o → ((spot : Spot) → Grant (length w.sessions) (look_of w) w.waits spot → settle_for n (granted w spot)
+        ≡ settle_for m (granted w spot))
+        → (let x : World = elim o [ None ↦ w | Some spot ↦ settle_for n (granted w spot) ] in x)
+        ≡ elim o [ None ↦ w | Some spot ↦ settle_for m (granted w spot) ]
     at None is rec = refl
     at (Some spot) is rec = rec spot (next-grant (length w.sessions) (look_of w) w.waits spot is)
 

@@ -1,5 +1,6 @@
 -- A spec that starts, starts in a sound world.
-use Rattle.std.proofs.Common.{◌≡◌, ◌≢◌, refl, sym, ap, ◌∙◌, subst, ℕ, zero, suc, ◌+◌, ◌<◌, ◌≤◌, Bool, true, false, not, ◌||◌, ◌==◌, List, [], ◌∷◌, ◌++◌, length, get_or, replicate, None, ◌⊎◌, inl, inr, ⊎_elim, arith, length-set, get_or-set_other, eq-eqb}
+use Rattle.std.proofs.Common.{◌≡◌, ◌≢◌, refl, sym, ap, ◌∙◌, subst, ℕ, zero, suc, ◌+◌, ◌<◌, ◌≤◌, Bool, true, false, not, ◌||◌, ◌==◌, List, [], ◌∷◌, ◌++◌, length}
+use Rattle.std.proofs.Common.{get_or, replicate, None, ◌⊎◌, inl, inr, ⊎_elim, arith, length-set, get_or-set_other, eq-eqb}
 use Rattle.finite_maps.specs.Map.{get, empty, get-empty}
 use Rattle.lock_modes.specs.Resource.{resource_order}
 use Rattle.lock_queues.specs.declared.wait.Wait.{Wait}
@@ -8,7 +9,8 @@ use Rattle.machine_model.specs.Session.{Task, Ask, Do, Session, tasks_of}
 use Rattle.machine_model.specs.Go.{Scene, Run, solo, stopped, go}
 use Rattle.machine_model.specs.World.{World, fresh, session_at, look_of, scene_of}
 use Rattle.sql_subset.specs.Spec.{Spec}
-use Rattle.machine_model.specs.Start.{Start, Started, SetupFailed, SessionSetupFailed, SessionSetupWaits, start, started_then, main_setups, session_setups, after_setup, forgotten, has_failed, is_outside, IsAlone, IsIdle}
+use Rattle.machine_model.specs.Start.{Start, Started, SetupFailed, SessionSetupFailed, SessionSetupWaits, start, started_then, main_setups, session_setups}
+use Rattle.machine_model.specs.Start.{after_setup, forgotten, has_failed, is_outside, IsAlone, IsIdle}
 use Rattle.machine_model.specs.Sound.{Way, one, more, Steady, Sound, UnderLocks}
 use Rattle.lock_modes.specs.declared.mode.Mode.{Mode}
 use Rattle.lock_modes.specs.declared.resource.Resource.{Resource}
@@ -53,8 +55,14 @@ first-steady n =
 
 pub all-free : (e : Scene) (i : ℕ) → ((c : ℕ) (r : Resource) → c ≢ i → e.look c r ≡ None) → e.waits ≡ [] → (ts : List Task) → EachAsk (IsFree e i) ts
 all-free e i none idle [] = tt
-all-free e i none idle (Ask r m ∷ ts) =
-    ((all_below-true e.count _ (λ c. ⊎_elim (λ k. or_true_left (c == i) _ (eq-eqb c i k)) (λ k. or_true_right (c == i) _ (ap (fits_with m) (none c r k))) (cases-eq c i)), ap (λ ws. nobody_waits ws r) idle), all-free e i none idle ts)
+all-free e i none idle (Ask r m ∷ ts) = (
+  (
+    all_below-true e.count _ (λ c. ⊎_elim (λ k. or_true_left (c == i) _ (eq-eqb c i k)) (λ k. or_true_right (c == i) _ (ap (fits_with m) (none c r k)))
+        (cases-eq c i)),
+    ap (λ ws. nobody_waits ws r) idle,
+  ),
+  all-free e i none idle ts,
+)
 all-free e i none idle (Do st ∷ ts) = all-free e i none idle ts
 
 pub idle-now : (w : World) (i : ℕ) → w.waits ≡ [] → waits_now w.waits i ≡ false
@@ -63,9 +71,12 @@ idle-now w i e = ap (λ ws. waits_now ws i) e
 pub alone-goes : (control n : ℕ) (w : World) (block : List Bound) → control < n → IsAlone control n w → IsAlone control n (after_setup w control block)
 alone-goes control n w block lt a =
     let s = session_at w control in
-    let en : Entering w control s (tasks_of block) = entering w control s block a.steady (subst (λ k. control < k) (sym a.count) lt) (idle-now w control a.idle) refl refl in
-    let free = all-free (scene_of w) control (λ c r ne. ap (λ (x : Session). get x.held r) (a.others c ne) ∙ get-empty resource_order Mode r) a.idle (tasks_of block) in
-    let gone : go (scene_of w) control s w.rows (tasks_of block) ≡ stopped (scene_of w) (solo s w.rows (tasks_of block)) = go-solo (scene_of w) control s w.rows (tasks_of block) free (together-fits w a.steady.together control) in
+    let en : Entering w control s (tasks_of block) = entering w control s block a.steady (subst (λ k. control < k) (sym a.count) lt) (idle-now w control a.idle)
+    refl refl in
+    let free = all-free (scene_of w) control (λ c r ne. ap (λ (x : Session). get x.held r) (a.others c ne)
+    ∙ get-empty resource_order Mode r) a.idle (tasks_of block) in
+    let gone : go (scene_of w) control s w.rows (tasks_of block) ≡ stopped (scene_of w) (solo s w.rows (tasks_of block)) =
+    go-solo (scene_of w) control s w.rows (tasks_of block) free (together-fits w a.steady.together control) in
     record {
       steady = goes-steady w control s (tasks_of block) en;
       idle = ap (λ (r : Run). r.waits) gone ∙ a.idle;
@@ -90,20 +101,24 @@ OnStarted (SetupFailed n) P = Unit {0}
 OnStarted (SessionSetupFailed n) P = Unit {0}
 OnStarted (SessionSetupWaits n) P = Unit {0}
 
-main-alone : (control n k : ℕ) (w : World) (blocks : List (List Bound)) → control < n → IsAlone control n w → OnStarted (main_setups control k w blocks) (IsAlone control n)
+main-alone : (control n k : ℕ) (w : World) (blocks : List (List Bound)) → control < n → IsAlone control n w
+    → OnStarted (main_setups control k w blocks) (IsAlone control n)
 main-alone control n k w [] lt a = a
 main-alone control n k w (block ∷ blocks) lt a =
     at (has_failed (session_at (after_setup w control block) control) || not (is_outside (session_at (after_setup w control block) control).status))
-    (main-alone control n (suc k) (forgotten (after_setup w control block) control) blocks lt (alone-forgets control n (after_setup w control block) (alone-goes control n w block lt a)))
+    (main-alone control n (suc k) (forgotten (after_setup w control block) control) blocks lt
+    (alone-forgets control n (after_setup w control block) (alone-goes control n w block lt a)))
   where
     at : (b : Bool) → OnStarted (main_setups control (suc k) (forgotten (after_setup w control block) control) blocks) (IsAlone control n)
-        → OnStarted (elim b [ true ↦ SetupFailed k | false ↦ main_setups control (suc k) (forgotten (after_setup w control block) control) blocks ]) (IsAlone control n)
+        → OnStarted (elim b [ true ↦ SetupFailed k | false ↦ main_setups control (suc k) (forgotten (after_setup w control block) control) blocks ])
+        (IsAlone control n)
     at true rec = tt
     at false rec = rec
 
 -- ---- session setups: none waits
 
-pub idle-goes : (n i : ℕ) (w : World) (block : List Bound) → i < n → IsIdle n w → waits_now (after_setup w i block).waits i ≡ false → IsIdle n (forgotten (after_setup w i block) i)
+pub idle-goes : (n i : ℕ) (w : World) (block : List Bound) → i < n → IsIdle n w → waits_now (after_setup w i block).waits i ≡ false
+    → IsIdle n (forgotten (after_setup w i block) i)
 idle-goes n i w block lt a still =
     let s = session_at w i in
     let en : Entering w i s (tasks_of block) = entering w i s block a.steady (subst (λ k. i < k) (sym a.count) lt) (idle-now w i a.idle) refl refl in
@@ -115,7 +130,9 @@ idle-goes n i w block lt a still =
       count = length-set w2.sessions i s2 ∙ goes-count w i s (tasks_of block) en ∙ a.count;
     }
   where
-    none : ((go (scene_of w) i (session_at w i) w.rows (tasks_of block)).waits ≡ w.waits) ⊎ Pending (scene_of w) i (length (tasks_of block)) (go (scene_of w) i (session_at w i) w.rows (tasks_of block)) → (go (scene_of w) i (session_at w i) w.rows (tasks_of block)).waits ≡ []
+    none : ((go (scene_of w) i (session_at w i) w.rows (tasks_of block)).waits ≡ w.waits)
+        ⊎ Pending (scene_of w) i (length (tasks_of block)) (go (scene_of w) i (session_at w i) w.rows (tasks_of block))
+        → (go (scene_of w) i (session_at w i) w.rows (tasks_of block)).waits ≡ []
     none (inl e) = e ∙ a.idle
     none (inr p) =
         let v : Wait = record { session = i; resource = p.resource; mode = p.mode } in
@@ -129,19 +146,31 @@ sessions-idle n i w (block ∷ blocks) le a =
     at (has_failed (session_at (after_setup w i block) i)) (waits_now (after_setup w i block).waits i) refl
     (λ still. sessions-idle n (suc i) (forgotten (after_setup w i block) i) blocks (omega arith) (idle-goes n i w block (omega arith) a still))
   where
-    at : (b c : Bool) → waits_now (after_setup w i block).waits i ≡ c → (waits_now (after_setup w i block).waits i ≡ false → OnStarted (session_setups (suc i) (forgotten (after_setup w i block) i) blocks) (IsIdle n))
-        → OnStarted (elim b [ true ↦ SessionSetupFailed i | false ↦ elim c [ true ↦ SessionSetupWaits i | false ↦ session_setups (suc i) (forgotten (after_setup w i block) i) blocks ] ]) (IsIdle n)
+    at : (b c : Bool) → waits_now (after_setup w i block).waits i ≡ c
+        → (waits_now (after_setup w i block).waits i ≡ false → OnStarted (session_setups (suc i) (forgotten (after_setup w i block) i) blocks) (IsIdle n))
+        → OnStarted (elim b [
+          | true ↦ SessionSetupFailed i
+          | false ↦ elim c
+              [ true ↦ SessionSetupWaits i | false ↦ session_setups (suc i) (forgotten (after_setup w i block) i) blocks ]
+        ]) (IsIdle n)
     at true c is rec = tt
     at false true is rec = tt
     at false false is rec = rec is
 
 start-idle : (spec : Spec) → length spec.session_setups ≤ spec.sessions → OnStarted (start spec) (IsIdle (suc spec.sessions))
-start-idle spec le = then' (main_setups spec.sessions 0 (first_world spec.sessions) spec.setups) (main-alone spec.sessions (suc spec.sessions) 0 (first_world spec.sessions) spec.setups (omega arith) first)
+start-idle spec le = then' (main_setups spec.sessions 0 (first_world spec.sessions) spec.setups)
+    (main-alone spec.sessions (suc spec.sessions) 0 (first_world spec.sessions) spec.setups (omega arith) first)
   where
     first : IsAlone spec.sessions (suc spec.sessions) (first_world spec.sessions)
-    first = record { steady = first-steady spec.sessions; idle = refl; others = λ c ne. get_or-replicate (suc spec.sessions) c fresh; count = length_replicate (suc spec.sessions) fresh }
+    first = record {
+      steady = first-steady spec.sessions;
+      idle = refl;
+      others = λ c ne. get_or-replicate (suc spec.sessions) c fresh;
+      count = length_replicate (suc spec.sessions) fresh;
+    }
 
-    then' : (s : Start) → OnStarted s (IsAlone spec.sessions (suc spec.sessions)) → OnStarted (started_then s (λ w. session_setups 0 w spec.session_setups)) (IsIdle (suc spec.sessions))
+    then' : (s : Start) → OnStarted s (IsAlone spec.sessions (suc spec.sessions))
+        → OnStarted (started_then s (λ w. session_setups 0 w spec.session_setups)) (IsIdle (suc spec.sessions))
     then' (Started w) a = sessions-idle (suc spec.sessions) 0 w spec.session_setups (omega arith) (record { steady = a.steady; idle = a.idle; count = a.count })
     then' (SetupFailed n) a = tt
     then' (SessionSetupFailed n) a = tt

@@ -44,14 +44,16 @@ may-can h p e =
     let b = both_true (claims_of h [] (RowOf p.0 p.1) Exclusive) _ x in
     inr (
       has-claim h (RowOf p.0 p.1) Exclusive is_exclusive refl b.0,
-      ⊎_elim (λ y. has-claim h (Table p.0) IntentExclusive writes_in refl y) (λ y. has-claim h (Table p.0) ShareIntent writes_in refl y) (either_true (claims_of h [] (Table p.0) IntentExclusive) _ b.1),
+      ⊎_elim (λ y. has-claim h (Table p.0) IntentExclusive writes_in refl y) (λ y. has-claim h (Table p.0) ShareIntent writes_in refl y)
+          (either_true (claims_of h [] (Table p.0) IntentExclusive) _ b.1),
     ))
     (either_true (claims_of h [] (Table p.0) Exclusive) _ e)
 
 exclusive-claim : (h : Held) (r : Resource) → HasMode h r is_exclusive → claims_of h [] r Exclusive ≡ true
 exclusive-claim h r x = claims-held h [] r Exclusive (x.is ∙ ap Some (exclusive-is x.mode x.passes))
 
-intent-cases : (h : Held) (r : Resource) (m : Mode) → get h r ≡ Some m → writes_in m ≡ true → (claims_of h [] r Exclusive ≡ true) ⊎ ((claims_of h [] r IntentExclusive || claims_of h [] r ShareIntent) ≡ true)
+intent-cases : (h : Held) (r : Resource) (m : Mode) → get h r ≡ Some m → writes_in m ≡ true → (claims_of h [] r Exclusive ≡ true)
+    ⊎ ((claims_of h [] r IntentExclusive || claims_of h [] r ShareIntent) ≡ true)
 intent-cases h r IntentShare is e = cc
 intent-cases h r IntentExclusive is e = inr (or_true_left _ _ (claims-held h [] r IntentExclusive is))
 intent-cases h r Share is e = cc
@@ -77,13 +79,15 @@ covers-wanted (Some x) n m e = (cover x m, refl, cover-more x n m (subst (λ y. 
 pub stronger-taking : (h : Held) (r : Resource) (m : Mode) → Stronger h (insert h r (wanted (get h r) m))
 stronger-taking h r m = record { each = λ q n e. subst (λ o. Covers o n) (sym (get-insert h r _ q)) (at q n e (same_key resource_order q r) refl) }
   where
-    at : (q : Resource) (n : Mode) → get h q ≡ Some n → (b : Bool) → same_key resource_order q r ≡ b → Covers (cond (same_key resource_order q r) (Some (wanted (get h r) m)) (get h q)) n
+    at : (q : Resource) (n : Mode) → get h q ≡ Some n → (b : Bool) → same_key resource_order q r ≡ b
+        → Covers (cond (same_key resource_order q r) (Some (wanted (get h r) m)) (get h q)) n
     at q n e true same =
         let k : q ≡ r = same_key-true resource_order q r same in
         subst (λ b. Covers (cond b (Some (wanted (get h r) m)) (get h q)) n) (sym same) (covers-wanted (get h r) n m (sym (ap (get h) k) ∙ e))
     at q n e false same = subst (λ b. Covers (cond b (Some (wanted (get h r) m)) (get h q)) n) (sym same) (n, e, at-least-refl n)
 
-pub has-stronger : (h k : Held) → Stronger h k → (r : Resource) (test : Mode → Bool) → ((n m : Mode) → AtLeast n m → test m ≡ true → test n ≡ true) → HasMode h r test → HasMode k r test
+pub has-stronger : (h k : Held) → Stronger h k → (r : Resource) (test : Mode → Bool) → ((n m : Mode) → AtLeast n m → test m ≡ true → test n ≡ true)
+    → HasMode h r test → HasMode k r test
 has-stronger h k s r test up x = let c = s.each r x.mode x.is in record { mode = c.0; is = c.1; passes = up c.0 x.mode c.2 x.passes }
 
 pub can-stronger : (h k : Held) → Stronger h k → (p : RowPlace) → CanWrite h p → CanWrite k p
@@ -107,7 +111,8 @@ covers-new (Some n) m = (cover n m, refl, cover-right n m)
 
 pub covers-taking : (h : Held) (r : Resource) (m : Mode) → Covers (get (insert h r (wanted (get h r) m)) r) m
 covers-taking h r m =
-    let e : get (insert h r (wanted (get h r) m)) r ≡ Some (wanted (get h r) m) = get-insert h r _ r ∙ ap (λ b. cond b (Some (wanted (get h r) m)) (get h r)) (same_key-refl resource_order r) in
+    let e : get (insert h r (wanted (get h r) m)) r ≡ Some (wanted (get h r) m) = get-insert h r _ r
+    ∙ ap (λ b. cond b (Some (wanted (get h r) m)) (get h r)) (same_key-refl resource_order r) in
     subst (λ o. Covers o m) (sym e) (covers-new (get h r) m)
 
 -- ---- what the requests that are had let be written
@@ -120,7 +125,8 @@ pub holds-plan : (h : Held) (have qs : List Request) → HoldsAll h have → All
 holds-plan h have [] x a = tt
 holds-plan h have (q ∷ qs) x a = (holds-in h have q x a.0, holds-plan h have qs x a.1)
 
-pub asks-has : (h : Held) (qs : List Request) (r : Resource) (test : Mode → Bool) → ((n m : Mode) → AtLeast n m → test m ≡ true → test n ≡ true) → HoldsAll h qs → asks_on qs r test ≡ true → HasMode h r test
+pub asks-has : (h : Held) (qs : List Request) (r : Resource) (test : Mode → Bool) → ((n m : Mode) → AtLeast n m → test m ≡ true → test n ≡ true) → HoldsAll h qs
+    → asks_on qs r test ≡ true → HasMode h r test
 asks-has h [] r test up x e = cc
 asks-has h (q ∷ qs) r test up x e =
     ⊎_elim (λ y.
@@ -131,5 +137,6 @@ asks-has h (q ∷ qs) r test up x e =
 pub writable-can : (h : Held) (qs : List Request) (p : RowPlace) → HoldsAll h qs → writable qs p ≡ true → CanWrite h p
 writable-can h qs p x e =
     ⊎_elim (λ y. inl (asks-has h qs (Table p.0) is_exclusive exclusive-up x y))
-    (λ y. let b = both_true (asks_on qs (RowOf p.0 p.1) is_exclusive) _ y in inr (asks-has h qs (RowOf p.0 p.1) is_exclusive exclusive-up x b.0, asks-has h qs (Table p.0) writes_in writes-up x b.1))
+    (λ y. let b = both_true (asks_on qs (RowOf p.0 p.1) is_exclusive) _ y
+    in inr (asks-has h qs (RowOf p.0 p.1) is_exclusive exclusive-up x b.0, asks-has h qs (Table p.0) writes_in writes-up x b.1))
     (either_true (asks_on qs (Table p.0) is_exclusive) _ e)

@@ -4,7 +4,8 @@ use Rattle.finite_maps.specs.Map.{entries}
 use Rattle.lock_modes.specs.RowPlace.{RowPlace}
 use Rattle.sql_statements.specs.Plan.{Tuple}
 use Rattle.row_tables.specs.Overlay.{Rows', Write}
-use Rattle.statement_effects.specs.Effect.{Effect, Gives, Faults, effect, visible, matching, sorted_by, shown, projected, all_aggregated, all_assigned, placed, or_fault, counted}
+use Rattle.statement_effects.specs.Effect.{Effect, Gives, Faults, effect, visible, matching, sorted_by, shown, projected, all_aggregated, all_assigned, placed}
+use Rattle.statement_effects.specs.Effect.{or_fault, counted}
 use Rattle.machine_model.specs.Events.{is_effect}
 use Rattle.transcripts.specs.declared.event.Event.{Event}
 use Rattle.transcripts.specs.declared.event.Event.TheVariants.{Row as RowEvent, Rows, Inserted, Updated, Deleted}
@@ -33,7 +34,8 @@ told-rows columns [] = tt
 told-rows columns (e ∷ es) = (refl, told-rows columns es)
 
 told-shown : (out : Output) (es : List (RowPlace × Tuple)) → TellsEffects (shown out es)
-told-shown (Columns columns) es = told-append (map (λ (e : RowPlace × Tuple). RowEvent (projected columns e.1)) es) (Rows (length es) ∷ []) (told-rows columns es) (refl, tt)
+told-shown (Columns columns) es = told-append (map (λ (e : RowPlace × Tuple). RowEvent (projected columns e.1)) es) (Rows (length es) ∷ [])
+    (told-rows columns es) (refl, tt)
 told-shown (Aggregates each) es = on (all_aggregated each es)
   where
     on : (o : Option (List Value)) → TellsEffects (elim o [ None ↦ Faults OutOfRange | Some vs ↦ Gives (RowEvent vs ∷ Rows 1 ∷ []) [] ])
@@ -44,18 +46,22 @@ told-or_fault : (f : Fault) (o : Option (List Write)) (event : ℕ → Event) �
 told-or_fault f None event h = tt
 told-or_fault f (Some ws) event h = (h (length ws), tt)
 
-told-matched : (o : Option (List (RowPlace × Tuple))) (then' : List (RowPlace × Tuple) → Effect) → ((es : List (RowPlace × Tuple)) → TellsEffects (then' es)) → TellsEffects (elim o [ None ↦ Faults OutOfRange | Some es ↦ then' es ])
+told-matched : (o : Option (List (RowPlace × Tuple))) (then' : List (RowPlace × Tuple) → Effect) → ((es : List (RowPlace × Tuple)) → TellsEffects (then' es))
+    → TellsEffects (elim o [ None ↦ Faults OutOfRange | Some es ↦ then' es ])
 told-matched None then' h = tt
 told-matched (Some es) then' h = h es
 
 -- each event of an effect comes from one
 pub effect-tells : (st : Bound) (rows : Rows') → TellsEffects (effect st rows)
 unfolding effect
-effect-tells (Select t key c by out) rows = told-matched (matching c (entries (visible (Select t key c by out) rows))) (λ es. shown out (sorted_by by es)) (λ es. told-shown out (sorted_by by es))
+effect-tells (Select t key c by out) rows = told-matched (matching c (entries (visible (Select t key c by out) rows))) (λ es. shown out (sorted_by by es))
+    (λ es. told-shown out (sorted_by by es))
 effect-tells (Insert t (Some k) new) rows = told-or_fault Duplicate (placed t k new (visible (Insert t (Some k) new) rows)) Inserted (λ n. refl)
 effect-tells (Insert t None new) rows = (refl, tt)
-effect-tells (Update t key sets c) rows = told-matched (matching c (entries (visible (Update t key sets c) rows))) (λ es. or_fault OutOfRange (all_assigned sets es) Updated) (λ es. told-or_fault OutOfRange (all_assigned sets es) Updated (λ n. refl))
-effect-tells (Delete t key c) rows = told-matched (matching c (entries (visible (Delete t key c) rows))) (λ es. counted Deleted (map (λ (e : RowPlace × Tuple). record { place = e.0; left = None }) es)) (λ es. (refl, tt))
+effect-tells (Update t key sets c) rows = told-matched (matching c (entries (visible (Update t key sets c) rows))) (λ es.
+    or_fault OutOfRange (all_assigned sets es) Updated) (λ es. told-or_fault OutOfRange (all_assigned sets es) Updated (λ n. refl))
+effect-tells (Delete t key c) rows = told-matched (matching c (entries (visible (Delete t key c) rows))) (λ es.
+    counted Deleted (map (λ (e : RowPlace × Tuple). record { place = e.0; left = None }) es)) (λ es. (refl, tt))
 effect-tells (Lock t m) rows = (refl, tt)
 effect-tells SetVariable rows = (refl, tt)
 effect-tells Begin rows = tt

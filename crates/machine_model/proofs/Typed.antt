@@ -1,5 +1,6 @@
 -- The rows of a run fit their tables.
-use Rattle.std.proofs.Common.{◌≡◌, ◌≢◌, refl, sym, ap, ◌∙◌, subst, ℕ, zero, suc, ◌<◌, ◌≤◌, arith, Bool, true, false, not, ◌||◌, List, [], ◌∷◌, ◌++◌, length, get_or, set, Option, Some, None, All, ◌⊎◌, ⊎_elim, length-set, get_or-set_same, get_or-set_other}
+use Rattle.std.proofs.Common.{◌≡◌, ◌≢◌, refl, sym, ap, ◌∙◌, subst, ℕ, zero, suc, ◌<◌, ◌≤◌, arith, Bool, true, false, not, ◌||◌, List, [], ◌∷◌, ◌++◌, length}
+use Rattle.std.proofs.Common.{get_or, set, Option, Some, None, All, ◌⊎◌, ⊎_elim, length-set, get_or-set_same, get_or-set_other}
 use Rattle.std.specs.Prelude.{⊤}
 use Rattle.std.proofs.lemmas.List.{get_or_past}
 use Rattle.std.proofs.lemmas.List.Elements.{All-head, All-tail}
@@ -22,10 +23,12 @@ use Rattle.statement_effects.proofs.ListLemmas.{Each}
 use Rattle.statement_effects.proofs.WriteLemmas.{OnGives}
 use Rattle.machine_model.specs.declared.status.Status.{Status}
 use Rattle.machine_model.specs.declared.status.Status.TheVariants.{Outside, InBlock, Broken}
-use Rattle.machine_model.specs.Session.{Task, Ask, Do, Session, Kind, Begins, Commits, RollsBack, Works, kind, note, asks, tasks_of, Performed, Goes, Fails, worked, perform_by, perform}
+use Rattle.machine_model.specs.Session.{Task, Ask, Do, Session, Kind, Begins, Commits, RollsBack, Works, kind, note, asks, tasks_of, Performed, Goes, Fails}
+use Rattle.machine_model.specs.Session.{worked, perform_by, perform}
 use Rattle.machine_model.specs.Go.{Scene, Run, go, taking, is_broken, answer_in, finished_by, stopped, failed, held_up}
 use Rattle.machine_model.specs.World.{World, fresh, session_at, look_of, scene_of, noted, goes, granted, settle_for, settle, left_to_do, send, send_all}
-use Rattle.machine_model.specs.Start.{Start, Started, SetupFailed, SessionSetupFailed, SessionSetupWaits, start, set_up, started_then, main_setups, session_setups, after_setup, forgotten, has_failed, is_outside}
+use Rattle.machine_model.specs.Start.{Start, Started, SetupFailed, SessionSetupFailed, SessionSetupWaits, start, set_up, started_then, main_setups}
+use Rattle.machine_model.specs.Start.{session_setups, after_setup, forgotten, has_failed, is_outside}
 use Rattle.machine_model.specs.Typed.{RowsFit, seen_by, LeftFits, TaskFits, SessionFits, WorldFits, SeeFit, EntryFits}
 use Rattle.machine_model.proofs.Basics.{cases-eq}
 use Rattle.machine_model.proofs.Starts.{OnStarted, first_world, get_or-replicate}
@@ -34,7 +37,8 @@ use Rattle.lock_modes.specs.RowPlace.{RowPlace}
 use Rattle.finite_maps.specs.Map.{entries}
 
 -- what holds of a session that takes its place holds of all, where it does of the others
-set-each : (P : Session → Type 0) → P fresh → (ss : List Session) (i : ℕ) (s : Session) → P s → ((c : ℕ) → P (get_or ss c fresh)) → (c : ℕ) → P (get_or (set ss i s) c fresh)
+set-each : (P : Session → Type 0) → P fresh → (ss : List Session) (i : ℕ) (s : Session) → P s → ((c : ℕ) → P (get_or ss c fresh)) → (c : ℕ)
+    → P (get_or (set ss i s) c fresh)
 set-each P none ss i s own all c = ⊎_elim there (λ ne. subst P (sym (get_or-set_other ss i c s fresh ne)) (all c)) (cases-eq c i)
   where
     within : (i < length ss) ⊎ (length ss ≤ i) → P (get_or (set ss i s) i fresh)
@@ -82,7 +86,8 @@ module _ (tables : List Table) where
   PerformedFits (Goes s rows) = EachSession s × EachFits tables rows
   PerformedFits (Fails f) = ⊤
 
-  worked-fits : (s : Session) (rows : Rows') (f : Effect) → OnGives f (Each (WriteFits tables)) → EachSession s → EachFits tables rows → PerformedFits (worked s rows f)
+  worked-fits : (s : Session) (rows : Rows') (f : Effect) → OnGives f (Each (WriteFits tables)) → EachSession s → EachFits tables rows
+      → PerformedFits (worked s rows f)
   worked-fits s rows (Gives events writes) d h all = (record { overlay = written-fits tables writes s.overlay d h.overlay; rest = h.rest }, all)
   worked-fits s rows (Faults f) d h all = tt
 
@@ -107,11 +112,15 @@ module _ (tables : List Table) where
   failed-fits e s rows f all = record { session = record { overlay = no-overlay; rest = tt }; rows = all }
 
   finished-fits : (e : Scene) (b : Status) (s : Session) (rows : Rows') → EachSession s → EachFits tables rows → RunFits (stopped e (finished_by b s rows))
-  finished-fits e Outside s rows h all = record { session = record { overlay = no-overlay; rest = h.rest }; rows = lay-fits tables s.overlay rows h.overlay all }
+  finished-fits e Outside s rows h all = record {
+    session = record { overlay = no-overlay; rest = h.rest };
+    rows = lay-fits tables s.overlay rows h.overlay all;
+  }
   finished-fits e InBlock s rows h all = record { session = record { overlay = h.overlay; rest = h.rest }; rows = all }
   finished-fits e Broken s rows h all = record { session = record { overlay = h.overlay; rest = h.rest }; rows = all }
 
-  go-fits : (e : Scene) (i : ℕ) (s : Session) (rows : Rows') (ts : List Task) → EachSession s → EachFits tables rows → Each (TaskFits tables) ts → RunFits (go e i s rows ts)
+  go-fits : (e : Scene) (i : ℕ) (s : Session) (rows : Rows') (ts : List Task) → EachSession s → EachFits tables rows → Each (TaskFits tables) ts
+      → RunFits (go e i s rows ts)
   go-fits e i s rows [] h all fits = finished-fits e s.status s rows h all
   go-fits e i s rows (Ask r m ∷ ts) h all fits =
       at (is_broken s.status) (answer_in e i s r m) (go-fits e i (taking s r m) rows ts (record { overlay = h.overlay; rest = h.rest }) all fits.1)
@@ -158,7 +167,8 @@ module _ (tables : List Table) where
   settle_for-fits zero w h = h
   settle_for-fits (suc k) w h = at (next_grant (length w.sessions) (look_of w) w.waits) (λ spot. settle_for-fits k (granted w spot) (granted-fits w spot h))
     where
-      at : (o : Option Spot) → ((spot : Spot) → EachWorld (settle_for k (granted w spot))) → EachWorld (elim o [ None ↦ w | Some spot ↦ settle_for k (granted w spot) ])
+      at : (o : Option Spot) → ((spot : Spot) → EachWorld (settle_for k (granted w spot)))
+          → EachWorld (elim o [ None ↦ w | Some spot ↦ settle_for k (granted w spot) ])
       at None rec = h
       at (Some spot) rec = rec spot
 
@@ -174,7 +184,11 @@ module _ (tables : List Table) where
       s : Session
       s = session_at w i
 
-      at : (b : Bool) → EachWorld (elim b [ true ↦ noted w i (NotSent k) | false ↦ settle (goes w i (note s (Sent k)) (tasks_of (get_or steps k no_step).statements)) ])
+      at : (b : Bool) → EachWorld (elim b [
+        | true ↦ noted w i (NotSent k)
+        | false ↦ settle
+            (goes w i (note s (Sent k)) (tasks_of (get_or steps k no_step).statements))
+      ])
       at true = put-fits w i (note s (NotSent k)) h (record { overlay = (h.sessions i).overlay; rest = (h.sessions i).rest })
       at false =
           let v = goes w i (note s (Sent k)) (tasks_of (get_or steps k no_step).statements) in
@@ -190,7 +204,8 @@ module _ (tables : List Table) where
       let gone = goes-fits w i (session_at w i) (tasks_of block) h (h.sessions i) (tasks-fit block fits) in
       put-fits v i (record (session_at v i) { transcript = [] }) gone (record { overlay = (gone.sessions i).overlay; rest = (gone.sessions i).rest })
 
-  main-fits : (control k : ℕ) (w : World) (blocks : List (List Bound)) → All (All (Fits tables)) blocks → EachWorld w → OnStarted (main_setups control k w blocks) EachWorld
+  main-fits : (control k : ℕ) (w : World) (blocks : List (List Bound)) → All (All (Fits tables)) blocks → EachWorld w
+      → OnStarted (main_setups control k w blocks) EachWorld
   main-fits control k w [] fits h = h
   main-fits control k w (block ∷ blocks) fits h =
       at (has_failed (session_at (after_setup w control block) control) || not (is_outside (session_at (after_setup w control block) control).status))
@@ -214,12 +229,14 @@ module _ (tables : List Table) where
       rest : Start
       rest = session_setups (suc i) (forgotten (after_setup w i block) i) blocks
 
-      at : (b d : Bool) → OnStarted rest EachWorld → OnStarted (elim b [ true ↦ SessionSetupFailed i | false ↦ elim d [ true ↦ SessionSetupWaits i | false ↦ rest ] ]) EachWorld
+      at : (b d : Bool) → OnStarted rest EachWorld
+          → OnStarted (elim b [ true ↦ SessionSetupFailed i | false ↦ elim d [ true ↦ SessionSetupWaits i | false ↦ rest ] ]) EachWorld
       at true d rec = tt
       at false true rec = tt
       at false false rec = rec
 
-  then-fits : (s : Start) (f : World → Start) → OnStarted s EachWorld → ((w : World) → EachWorld w → OnStarted (f w) EachWorld) → OnStarted (started_then s f) EachWorld
+  then-fits : (s : Start) (f : World → Start) → OnStarted s EachWorld → ((w : World) → EachWorld w → OnStarted (f w) EachWorld)
+      → OnStarted (started_then s f) EachWorld
   then-fits (Started w) f h rec = rec w h
   then-fits (SetupFailed n) f h rec = tt
   then-fits (SessionSetupFailed n) f h rec = tt
@@ -231,7 +248,8 @@ module _ (tables : List Table) where
   start-fits : (spec : Spec) (w : World) → SpecFits tables spec → start spec ≡ Started w → EachWorld w
   start-fits spec w fits e =
       subst (λ s. OnStarted s EachWorld) e
-      (then-fits (set_up spec) (λ v. session_setups 0 v spec.session_setups) (main-fits spec.sessions 0 (first_world spec.sessions) spec.setups fits.setups (first-fits spec.sessions))
+      (then-fits (set_up spec) (λ v. session_setups 0 v spec.session_setups)
+      (main-fits spec.sessions 0 (first_world spec.sessions) spec.setups fits.setups (first-fits spec.sessions))
       (λ v h. own-fits 0 v spec.session_setups fits.session_setups h))
 
   step-fits : (steps : List Step) → All (λ (s : Step). All (Fits tables) s.statements) steps → (k : ℕ) → All (Fits tables) (get_or steps k no_step).statements
@@ -239,7 +257,8 @@ module _ (tables : List Table) where
   step-fits (s ∷ ss) h zero = All-head (λ (s : Step). All (Fits tables) s.statements) s ss h
   step-fits (s ∷ ss) h (suc k) = step-fits ss (All-tail (λ (s : Step). All (Fits tables) s.statements) s ss h) k
 
-  line-fits : (steps : List Step) (w : World) (ks : List ℕ) → All (λ (s : Step). All (Fits tables) s.statements) steps → EachWorld w → EachWorld (send_all steps w ks)
+  line-fits : (steps : List Step) (w : World) (ks : List ℕ) → All (λ (s : Step). All (Fits tables) s.statements) steps → EachWorld w
+      → EachWorld (send_all steps w ks)
   line-fits steps w [] fits h = h
   line-fits steps w (k ∷ ks) fits h = line-fits steps (send steps w k) ks fits (send-fits steps w k (step-fits steps fits k) h)
 
@@ -276,7 +295,8 @@ module _ (tables : List Table) where
       at (Goes s2 rows2) d rec = rec s2 rows2 d.0 d.1
       at (Fails f) d rec = tt
 
-pub going-keeps : (tables : List Table) (w : World) (i : ℕ) (s : Session) (ts : List Task) → WorldFits tables w → SessionFits tables s → All (TaskFits tables) ts
+pub going-keeps : (tables : List Table) (w : World) (i : ℕ) (s : Session) (ts : List Task) → WorldFits tables w → SessionFits tables s
+    → All (TaskFits tables) ts
     → SeeFit tables s w.rows ts × WorldFits tables (goes w i s ts)
 going-keeps tables w i s ts h own fits =
     let world = read-world tables w h in
@@ -286,7 +306,8 @@ going-keeps tables w i s ts h own fits =
 
 pub worlds-fit : (tables : List Table) (spec : Spec) (w : World) (ks : List ℕ) → SpecFits tables spec → start spec ≡ Started w
     → WorldFits tables (send_all spec.steps w ks)
-worlds-fit tables spec w ks fits e = told-world tables (send_all spec.steps w ks) (line-fits tables spec.steps w ks fits.steps (start-fits tables spec w fits e))
+worlds-fit tables spec w ks fits e = told-world tables (send_all spec.steps w ks)
+    (line-fits tables spec.steps w ks fits.steps (start-fits tables spec w fits e))
 
 -- in every world of a line of a spec whose statements fit the tables, the rows that a session sees fit
 pub rows-seen : (tables : List Table) (spec : Spec) (w : World) (ks : List ℕ) (c : ℕ) → SpecFits tables spec → start spec ≡ Started w

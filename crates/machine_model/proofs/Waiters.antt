@@ -9,5 +9,7 @@ known-waits : (w : World) (vs : List Wait) → EachWait (Ready w) vs → EachWai
 known-waits w [] r = tt
 known-waits w (v ∷ vs) r = (r.0.known, known-waits w vs r.1)
 
-pub waiter-reaches : (w : World) → Sound w → (a : ℕ) → waits_now w.waits a ≡ true → (b : ℕ) × Way (waits_for (look_of w) w.waits) a b × (waits_now w.waits b ≡ false)
-waiter-reaches w sound = Rattle.lock_queues.proofs.Waiters.waiter-reaches (look_of w) w.waits (length w.sessions) sound.steady.distinct sound.steady.no_ring sound.unripe (known-waits w w.waits sound.steady.ready)
+pub waiter-reaches : (w : World) → Sound w → (a : ℕ) → waits_now w.waits a ≡ true → (b : ℕ) × Way (waits_for (look_of w) w.waits) a b
+    × (waits_now w.waits b ≡ false)
+waiter-reaches w sound = Rattle.lock_queues.proofs.Waiters.waiter-reaches (look_of w) w.waits (length w.sessions) sound.steady.distinct sound.steady.no_ring
+    sound.unripe (known-waits w w.waits sound.steady.ready)

@@ -10,7 +10,8 @@ use Rattle.lock_modes.specs.declared.mode.Mode.TheVariants.{Share, Exclusive}
 use Rattle.lock_modes.specs.declared.value.Value.{Value}
 use Rattle.lock_modes.specs.declared.value.Value.TheVariants.{Int}
 use Rattle.transcripts.specs.declared.event.Event.{Event}
-use Rattle.transcripts.specs.declared.event.Event.TheVariants.{Sent, Row as RowEvent, Rows, Inserted, Updated, Deleted, Committed, RolledBack, Locked, Warned, Failed, Waiting, Resumed, Done, NotSent}
+use Rattle.transcripts.specs.declared.event.Event.TheVariants.{Sent, Row as RowEvent, Rows, Inserted, Updated, Deleted, Committed, RolledBack, Locked, Warned}
+use Rattle.transcripts.specs.declared.event.Event.TheVariants.{Failed, Waiting, Resumed, Done, NotSent}
 use Rattle.transcripts.specs.declared.event.Warning.TheVariants.{NoBlock}
 use Rattle.transcripts.specs.declared.event.Fault.TheVariants.{Duplicate, OutOfRange, Deadlock, Aborted}
 use Rattle.sql_statements.specs.declared.expression.Operand.{Operand}
@@ -95,14 +96,16 @@ waiters_row =
 
 -- a reader that comes after the waiting writer but holds the table already passes it
 waiters_row_first : transcripts waiters_row (0 ∷ 2 ∷ 4 ∷ 1 ∷ 3 ∷ [])
-    ≡ (Sent 0 ∷ RowEvent (number 10 ∷ []) ∷ Rows 1 ∷ Done ∷ Sent 1 ∷ RowEvent (number 1 ∷ number 10 ∷ []) ∷ RowEvent (number 2 ∷ number 20 ∷ []) ∷ Rows 2 ∷ Done ∷ [])
+    ≡ (Sent 0 ∷ RowEvent (number 10 ∷ []) ∷ Rows 1 ∷ Done ∷ Sent 1 ∷ RowEvent (number 1 ∷ number 10 ∷ []) ∷ RowEvent (number 2 ∷ number 20 ∷ []) ∷ Rows 2 ∷ Done
+    ∷ [])
     ∷ (Sent 2 ∷ RowEvent (number 1 ∷ number 10 ∷ []) ∷ RowEvent (number 2 ∷ number 20 ∷ []) ∷ Rows 2 ∷ Done ∷ Sent 3 ∷ Committed ∷ Done ∷ [])
     ∷ (Sent 4 ∷ Waiting ∷ []) ∷ []
 unfolding get insert keep remove entries empty effect lay
 waiters_row_first = refl
 
 waiters_row_second : transcripts waiters_row (0 ∷ 2 ∷ 4 ∷ 3 ∷ 1 ∷ [])
-    ≡ (Sent 0 ∷ RowEvent (number 10 ∷ []) ∷ Rows 1 ∷ Done ∷ Sent 1 ∷ RowEvent (number 1 ∷ number 10 ∷ []) ∷ RowEvent (number 2 ∷ number 5 ∷ []) ∷ Rows 2 ∷ Done ∷ [])
+    ≡ (Sent 0 ∷ RowEvent (number 10 ∷ []) ∷ Rows 1 ∷ Done ∷ Sent 1 ∷ RowEvent (number 1 ∷ number 10 ∷ []) ∷ RowEvent (number 2 ∷ number 5 ∷ []) ∷ Rows 2 ∷ Done
+    ∷ [])
     ∷ (Sent 2 ∷ RowEvent (number 1 ∷ number 10 ∷ []) ∷ RowEvent (number 2 ∷ number 20 ∷ []) ∷ Rows 2 ∷ Done ∷ Sent 3 ∷ Committed ∷ Done ∷ [])
     ∷ (Sent 4 ∷ Waiting ∷ Resumed ∷ Updated 1 ∷ Done ∷ []) ∷ []
 unfolding get insert keep remove entries empty effect lay
@@ -130,11 +133,18 @@ delete_rolls_back = refl
 
 abbrev pub deletes_and_reads : Spec
 deletes_and_reads =
-    record (deletes Commit) { steps = step 0 (Delete 0 (Some (number 1)) (id_is 1)) ∷ record { session = 0; statements = Commit ∷ Select 0 (Some (number 1)) (id_is 1) [] (Columns (1 ∷ [])) ∷ [] } ∷ step 1 (Insert 0 (Some 0) ((number 1 ∷ number 7 ∷ []) ∷ [])) ∷ [] }
+    record (deletes Commit) {
+      steps = step 0 (Delete 0 (Some (number 1)) (id_is 1)) ∷ record {
+        session = 0;
+        statements = Commit ∷ Select 0 (Some (number 1)) (id_is 1) [] (Columns (1 ∷ [])) ∷ [];
+      } ∷ step 1 (Insert 0 (Some 0) ((number 1 ∷ number 7 ∷ []) ∷ [])) ∷
+          [];
+    }
 
 -- no wait is granted while another session's step still runs
 delete_and_read : transcripts deletes_and_reads (0 ∷ 2 ∷ 1 ∷ [])
-    ≡ (Sent 0 ∷ Deleted 1 ∷ Done ∷ Sent 1 ∷ Committed ∷ Waiting ∷ Resumed ∷ RowEvent (number 7 ∷ []) ∷ Rows 1 ∷ Done ∷ []) ∷ (Sent 2 ∷ Waiting ∷ Resumed ∷ Inserted 1 ∷ Done ∷ []) ∷ []
+    ≡ (Sent 0 ∷ Deleted 1 ∷ Done ∷ Sent 1 ∷ Committed ∷ Waiting ∷ Resumed ∷ RowEvent (number 7 ∷ []) ∷ Rows 1 ∷ Done ∷ []) ∷
+    (Sent 2 ∷ Waiting ∷ Resumed ∷ Inserted 1 ∷ Done ∷ []) ∷ []
 unfolding get insert keep remove entries empty effect lay
 delete_and_read = refl
 
@@ -142,7 +152,11 @@ abbrev pub duplicate_row : Spec
 duplicate_row =
     record {
       sessions = 1;
-      steps = record { session = 0; statements = Insert 0 (Some 0) ((number 3 ∷ number 0 ∷ []) ∷ []) ∷ Insert 0 (Some 0) ((number 3 ∷ number 1 ∷ []) ∷ []) ∷ all_rows ∷ [] }
+      steps = record {
+        session = 0;
+        statements = Insert 0 (Some 0) ((number 3 ∷ number 0 ∷ []) ∷ []) ∷ Insert 0 (Some 0) ((number 3 ∷ number 1 ∷ []) ∷ []) ∷
+            all_rows ∷ [];
+      }
           ∷ step 0 (Select 0 None Always [] (Aggregates (Count ∷ Sum 1 ∷ []))) ∷ [];
       setups = two_rows ∷ [];
       lines = [];
@@ -159,14 +173,16 @@ abbrev pub ordered_row : Spec
 ordered_row =
     record {
       sessions = 1;
-      steps = step 0 (Insert 0 (Some 0) ((number 3 ∷ number 20 ∷ []) ∷ [])) ∷ step 0 (Select 0 None Always (record { column = 1; order = Falls } ∷ []) (Columns (0 ∷ 1 ∷ []))) ∷ [];
+      steps = step 0 (Insert 0 (Some 0) ((number 3 ∷ number 20 ∷ []) ∷ [])) ∷ step 0
+          (Select 0 None Always (record { column = 1; order = Falls } ∷ []) (Columns (0 ∷ 1 ∷ []))) ∷ [];
       setups = two_rows ∷ [];
       lines = [];
       session_setups = [] ∷ [];
     }
 
 ordered_row_is : transcripts ordered_row (0 ∷ 1 ∷ [])
-    ≡ (Sent 0 ∷ Inserted 1 ∷ Done ∷ Sent 1 ∷ RowEvent (number 2 ∷ number 20 ∷ []) ∷ RowEvent (number 3 ∷ number 20 ∷ []) ∷ RowEvent (number 1 ∷ number 10 ∷ []) ∷ Rows 3 ∷ Done ∷ []) ∷ []
+    ≡ (Sent 0 ∷ Inserted 1 ∷ Done ∷ Sent 1 ∷ RowEvent (number 2 ∷ number 20 ∷ []) ∷ RowEvent (number 3 ∷ number 20 ∷ []) ∷ RowEvent (number 1 ∷ number 10 ∷ [])
+    ∷ Rows 3 ∷ Done ∷ []) ∷ []
 unfolding get insert keep remove entries empty effect lay
 ordered_row_is = refl
 
@@ -174,7 +190,8 @@ abbrev pub range_row : Spec
 range_row =
     record {
       sessions = 1;
-      steps = step 0 (Update 0 None (record { column = 1; value = plus (Literal (number 9223372036854775807)) (Column 1) } ∷ []) Always) ∷ step 0 all_rows ∷ step 0 Commit ∷ step 0 Commit ∷ [];
+      steps = step 0 (Update 0 None (record { column = 1; value = plus (Literal (number 9223372036854775807)) (Column 1) } ∷ []) Always) ∷ step 0 all_rows ∷
+          step 0 Commit ∷ step 0 Commit ∷ [];
       setups = two_rows ∷ [];
       lines = [];
       session_setups = (Begin ∷ []) ∷ [];

@@ -1,5 +1,6 @@
 -- The words of a block that go on with a letter are a block.
-use Rattle.std.proofs.Common.{◌≡◌, refl, sym, ap, ◌∙◌, subst, ℕ, zero, suc, ◌+◌, ◌-◌, ◌<◌, ◌≤◌, ◌^◌, List, [], ◌∷◌, ◌++◌, length, get_or, arith, append_assoc, length-append}
+use Rattle.std.proofs.Common.{◌≡◌, refl, sym, ap, ◌∙◌, subst, ℕ, zero, suc, ◌+◌, ◌-◌, ◌<◌, ◌≤◌, ◌^◌, List, [], ◌∷◌, ◌++◌, length, get_or, arith, append_assoc}
+use Rattle.std.proofs.Common.{length-append}
 use Rattle.perm_ranks.specs.Words.{Word, total, all_words, word_at}
 use Rattle.perm_ranks.specs.Counting.{taken, words_starting, words_before}
 use Rattle.perm_ranks.specs.Blocks.{Block, end_of, narrowed, IsBlockOf}
@@ -17,7 +18,8 @@ narrowed-le b letter some =
     let len = length-taken b.left letter some in
     omega (arith, part, len)
 
-pub narrowed-words : (counts : List ℕ) (shared : Word) (b : Block) (letter : ℕ) → 0 < get_or b.left letter 0 → IsBlockOf counts shared b → (i : ℕ) → i < length (all_words (taken b.left letter))
+pub narrowed-words : (counts : List ℕ) (shared : Word) (b : Block) (letter : ℕ) → 0 < get_or b.left letter 0 → IsBlockOf counts shared b → (i : ℕ)
+    → i < length (all_words (taken b.left letter))
     → word_at counts ((narrowed b letter).first + i) ≡ (shared ++ letter ∷ []) ++ word_at (taken b.left letter) i
 narrowed-words counts shared b letter some is i lt =
     let before = length (words_before b.left letter) in
@@ -31,7 +33,8 @@ narrowed-words counts shared b letter some is i lt =
     ∙ ap (λ v. shared ++ v) (word_at-taken b.left letter (before + i) i (some-total b.left letter some) (left-within b.left letter some) refl in_block)
     ∙ sym (append_assoc shared (letter ∷ []) (word_at (taken b.left letter) i))
 
-pub block-narrowed : (counts : List ℕ) (shared : Word) (b : Block) (letter : ℕ) → 0 < get_or b.left letter 0 → IsBlockOf counts shared b → IsBlockOf counts (shared ++ letter ∷ []) (narrowed b letter)
+pub block-narrowed : (counts : List ℕ) (shared : Word) (b : Block) (letter : ℕ) → 0 < get_or b.left letter 0 → IsBlockOf counts shared b
+    → IsBlockOf counts (shared ++ letter ∷ []) (narrowed b letter)
 block-narrowed counts shared b letter some is = record {
   inside = (let le = narrowed-le b letter some in let all = is.inside in omega (arith, le, all));
   letters = (let one = total-taken b.left letter some in let all = is.letters in omega (arith, one, all, length-append shared (letter ∷ [])));

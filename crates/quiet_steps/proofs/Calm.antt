@@ -2,7 +2,8 @@
 use Rattle.std.proofs.Common.{◌≡◌, ◌≢◌, refl, sym, ap, subst, ◌∙◌, ℕ, ◌<◌, true, false, List, [], ◌∷◌, ◌++◌, length, get_or, append_assoc, length-set}
 use Rattle.row_tables.specs.Overlay.{Rows'}
 use Rattle.statement_effects.specs.Effect.{Effect, Gives, Faults, effect}
-use Rattle.machine_model.specs.Session.{Task, Ask, Do, Session, Performed, Goes, Fails, Kind, Begins, Commits, RollsBack, Works, kind, perform, perform_by, worked}
+use Rattle.machine_model.specs.Session.{Task, Ask, Do, Session, Performed, Goes, Fails, Kind, Begins, Commits, RollsBack, Works, kind, perform, perform_by}
+use Rattle.machine_model.specs.Session.{worked}
 use Rattle.machine_model.specs.Go.{Stop, taking, solo, failed, finished_by, is_broken}
 use Rattle.machine_model.specs.World.{World, session_at, send}
 use Rattle.sql_subset.specs.Spec.{Step, no_step}
@@ -11,7 +12,8 @@ use Rattle.machine_model.specs.Claims.{plans}
 use Rattle.machine_model.specs.Sound.{Sound}
 use Rattle.machine_model.specs.Events.{is_effect}
 use Rattle.transcripts.specs.declared.event.Event.{Event}
-use Rattle.transcripts.specs.declared.event.Event.TheVariants.{Sent, Row as RowEvent, Rows, Inserted, Updated, Deleted, Began, Committed, RolledBack, Locked, Set, Warned, Failed, Waiting, Resumed, Done, NotSent}
+use Rattle.transcripts.specs.declared.event.Event.TheVariants.{Sent, Row as RowEvent, Rows, Inserted, Updated, Deleted, Began, Committed, RolledBack, Locked}
+use Rattle.transcripts.specs.declared.event.Event.TheVariants.{Set, Warned, Failed, Waiting, Resumed, Done, NotSent}
 use Rattle.transcripts.specs.declared.event.Fault.{Fault}
 use Rattle.transcripts.specs.declared.event.Fault.TheVariants.{Aborted}
 use Rattle.machine_model.specs.declared.status.Status.{Status}

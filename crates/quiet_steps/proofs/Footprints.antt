@@ -11,14 +11,16 @@ use Rattle.statement_effects.specs.Effect.{Effect, Gives, Faults, effect}
 use Rattle.transcripts.specs.declared.event.Fault.TheVariants.{Deadlock, Aborted}
 use Rattle.machine_model.specs.declared.status.Status.{Status}
 use Rattle.machine_model.specs.declared.status.Status.TheVariants.{Outside, InBlock, Broken}
-use Rattle.machine_model.specs.Session.{Task, Ask, Do, Session, Held, Kind, Begins, Commits, RollsBack, Works, kind, Performed, Goes, Fails, perform, perform_by, worked, tasks_of}
+use Rattle.machine_model.specs.Session.{Task, Ask, Do, Session, Held, Kind, Begins, Commits, RollsBack, Works, kind, Performed, Goes, Fails, perform}
+use Rattle.machine_model.specs.Session.{perform_by, worked, tasks_of}
 use Rattle.machine_model.specs.Go.{Scene, Run, taking, go, solo, stopped, failed, finished_by, is_broken, held_up, look_with, waiting_with}
 use Rattle.machine_model.specs.World.{World, session_at, scene_of}
 use Rattle.machine_model.specs.Claims.{claims_of}
 use Rattle.machine_model.specs.Sound.{Sound, UnderLocks, HoldsAll, Backed}
 use Rattle.machine_model.specs.Footprint.{AllHad, EachDo, ReadsBut, AgreeBut, SameChanges}
 use Rattle.machine_model.proofs.Solo.{OnGoes}
-use Rattle.machine_model.proofs.Footprint.{SameWay, both_go, both_fail, AgreeOff-laid, perform_by-same, solo-same-but, changes-none, changes-then, agree-changed}
+use Rattle.machine_model.proofs.Footprint.{SameWay, both_go, both_fail, AgreeOff-laid, perform_by-same, solo-same-but, changes-none, changes-then}
+use Rattle.machine_model.proofs.Footprint.{agree-changed}
 use Rattle.machine_model.proofs.Stronger.{stronger-taking, under-stronger, holds-stronger, covers-taking, holds-plan}
 use Rattle.machine_model.proofs.Kept.{perform_by-under}
 use Rattle.machine_model.proofs.Settles.{backed-tasks}

@@ -1,5 +1,6 @@
 -- What quiet steps in a sound world give.
-use Rattle.std.proofs.Common.{◌≡◌, ◌≢◌, refl, sym, ap, ◌∙◌, ℕ, ◌<◌, true, false, not, ◌&&◌, ◌==◌, List, [], ◌∷◌, length, get_or, Option, Some, None, is_some, ⊎_elim, eq-eqb}
+use Rattle.std.proofs.Common.{◌≡◌, ◌≢◌, refl, sym, ap, ◌∙◌, ℕ, ◌<◌, true, false, not, ◌&&◌, ◌==◌, List, [], ◌∷◌, length, get_or, Option, Some, None, is_some}
+use Rattle.std.proofs.Common.{⊎_elim, eq-eqb}
 use Rattle.std.specs.List.{list_all}
 use Rattle.finite_maps.specs.Map.{same_key-refl, get}
 use Rattle.lock_modes.specs.Resource.{resource_order, same_resource}

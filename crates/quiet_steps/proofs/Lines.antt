@@ -1,5 +1,6 @@
 -- The letters of a word and the steps of its line.
-use Rattle.std.proofs.Common.{◌≡◌, ◌≢◌, refl, sym, ap, ◌∙◌, ℕ, zero, suc, ◌<◌, Bool, true, false, not, ◌&&◌, ◌==◌, nat_lt, List, [], ◌∷◌, length, take, set, get_or, Option, Some, None, option_map, is_some, cond, ◌≤◌, ◌⊎◌, arith, eqb-true, ltb-true, ⊎_elim, get_or-set_other}
+use Rattle.std.proofs.Common.{◌≡◌, ◌≢◌, refl, sym, ap, ◌∙◌, ℕ, zero, suc, ◌<◌, Bool, true, false, not, ◌&&◌, ◌==◌, nat_lt, List, [], ◌∷◌, length, take, set}
+use Rattle.std.proofs.Common.{get_or, Option, Some, None, option_map, is_some, cond, ◌≤◌, ◌⊎◌, arith, eqb-true, ltb-true, ⊎_elim, get_or-set_other}
 use Rattle.std.proofs.lemmas.List.{get_or_past}
 use Rattle.perm_ranks.specs.Words.{Word, all_words, total, word_at}
 use Rattle.perm_ranks.specs.Swapped.{exchanged}

@@ -1,5 +1,6 @@
 -- A swap of quiet steps changes no outcome.
-use Rattle.std.proofs.Common.{◌≡◌, ◌≢◌, refl, sym, ap, ◌∙◌, subst, ℕ, zero, suc, ◌+◌, ◌<◌, Bool, true, false, cond, not, ◌==◌, nat_lt, List, [], ◌∷◌, set, get_or, Option, Some, None, option_map, ⊎_elim, arith, get_or-set_other, eq-eqb, ltb-true}
+use Rattle.std.proofs.Common.{◌≡◌, ◌≢◌, refl, sym, ap, ◌∙◌, subst, ℕ, zero, suc, ◌+◌, ◌<◌, Bool, true, false, cond, not, ◌==◌, nat_lt, List, [], ◌∷◌, set}
+use Rattle.std.proofs.Common.{get_or, Option, Some, None, option_map, ⊎_elim, arith, get_or-set_other, eq-eqb, ltb-true}
 use Rattle.std.proofs.lemmas.List.{set_comm}
 use Rattle.machine_model.specs.World.{World, send, send_all}
 use Rattle.sql_subset.specs.Spec.{Step, Queues, line}

@@ -1,5 +1,6 @@
 -- The fact of a rank, computed and as what is true.
-use Rattle.std.proofs.Common.{◌≡◌, ◌≢◌, refl, sym, ap, ◌∙◌, subst, ℕ, zero, suc, ◌+◌, ◌<◌, ◌≤◌, Bool, true, false, cond, nat_lt, List, [], ◌∷◌, length, Option, Some, None, is_some, ◌↔◌, ◌⊎◌, ⊎_elim, arith, ltb-true, lt-ltb}
+use Rattle.std.proofs.Common.{◌≡◌, ◌≢◌, refl, sym, ap, ◌∙◌, subst, ℕ, zero, suc, ◌+◌, ◌<◌, ◌≤◌, Bool, true, false, cond, nat_lt, List, [], ◌∷◌, length, Option}
+use Rattle.std.proofs.Common.{Some, None, is_some, ◌↔◌, ◌⊎◌, ⊎_elim, arith, ltb-true, lt-ltb}
 use Rattle.perm_ranks.proofs.SwapLemmas.{exchanged-short}
 use Rattle.sql_subset.specs.Spec.{Spec, line_of, ranks}
 use Rattle.transcripts.specs.declared.event.Event.{Event}

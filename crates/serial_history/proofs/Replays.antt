@@ -7,11 +7,13 @@ use Rattle.lock_queues.specs.Locks.{may_have, closes_ring, answered}
 use Rattle.row_tables.specs.Overlay.{Rows', Write, Overlay, lay, written}
 use Rattle.statement_effects.specs.Effect.{Effect, Gives, Faults, effect}
 use Rattle.sql_statements.specs.Plan.{Request, request, plan, opened, asks_on, reads_table}
-use Rattle.machine_model.specs.Session.{Task, Ask, Do, Session, Held, Performed, Goes, Fails, Kind, Begins, Commits, RollsBack, Works, kind, perform, perform_by, worked}
+use Rattle.machine_model.specs.Session.{Task, Ask, Do, Session, Held, Performed, Goes, Fails, Kind, Begins, Commits, RollsBack, Works, kind, perform}
+use Rattle.machine_model.specs.Session.{perform_by, worked}
 use Rattle.machine_model.specs.Go.{Scene, Run, taking, go, stopped, failed, finished_by, is_broken, held_up, look_with, waiting_with}
 use Rattle.machine_model.specs.Claims.{Claims, may_write, claims_of}
 use Rattle.machine_model.specs.Sound.{HoldsAll, Backed, UnderLocks}
-use Rattle.serial_history.specs.Serial.{Transaction, Did, is_work, commit_of, Tally, ended_well, dropped, did, tally_by, tally_end, go_tally, Replay, SerialRun, WorkHeld, Repeats}
+use Rattle.serial_history.specs.Serial.{Transaction, Did, is_work, commit_of, Tally, ended_well, dropped, did, tally_by, tally_end, go_tally, Replay, SerialRun}
+use Rattle.serial_history.specs.Serial.{WorkHeld, Repeats}
 use Rattle.lock_queues.specs.declared.answer.Answer.TheVariants.{Granted, Waits, Ring}
 use Rattle.transcripts.specs.declared.event.Fault.TheVariants.{Aborted, Deadlock}
 use Rattle.lock_modes.specs.declared.mode.Mode.{Mode}

@@ -1,5 +1,6 @@
 -- Every line is a serial run of its commits: the worlds.
-use Rattle.std.proofs.Common.{◌≡◌, ◌≢◌, refl, sym, ◌∙◌, subst, ℕ, zero, suc, ◌<◌, Bool, true, false, List, [], ◌∷◌, ◌++◌, length, set, get_or, Option, Some, None, ⊎_elim, length-set, get_or-set_same, get_or-set_other}
+use Rattle.std.proofs.Common.{◌≡◌, ◌≢◌, refl, sym, ◌∙◌, subst, ℕ, zero, suc, ◌<◌, Bool, true, false, List, [], ◌∷◌, ◌++◌, length, set, get_or, Option, Some}
+use Rattle.std.proofs.Common.{None, ⊎_elim, length-set, get_or-set_same, get_or-set_other}
 use Rattle.finite_maps.specs.Map.{empty}
 use Rattle.lock_queues.specs.declared.wait.Wait.{Wait}
 use Rattle.lock_queues.specs.Locks.{Spot, next_grant, waits_now}
@@ -9,13 +10,15 @@ use Rattle.machine_model.specs.Go.{Run, go, taking}
 use Rattle.machine_model.specs.World.{World, session_at, look_of, scene_of, goes, granted, settle, settle_for, left_to_do, send, send_all, noted}
 use Rattle.sql_subset.specs.Spec.{Step, no_step}
 use Rattle.machine_model.specs.Sound.{Steady, Sound, UnderLocks}
-use Rattle.serial_history.specs.Serial.{Tally, go_tally, History, tally_of, goes_told, granted_told, settle_told, send_told, send_all_told, Repeats, Told, Replay, WorkHeld}
+use Rattle.serial_history.specs.Serial.{Tally, go_tally, History, tally_of, goes_told, granted_told, settle_told, send_told, send_all_told, Repeats, Told}
+use Rattle.serial_history.specs.Serial.{Replay, WorkHeld}
 use Rattle.transcripts.specs.declared.event.Event.TheVariants.{Sent, NotSent, Resumed}
 use Rattle.sql_statements.specs.declared.statement.Bound.{Bound}
 use Rattle.machine_model.proofs.Basics.{cases-eq}
 use Rattle.machine_model.specs.Footprint.{HeldFits}
 use Rattle.machine_model.proofs.Fitting.{fits-at}
-use Rattle.machine_model.proofs.Settles.{Entering, Grant, next-grant, session-known, session-there, session-other, goes-steady, granted-steady, entering-granted, entering, steady-of, send-sound, touched, touched-same}
+use Rattle.machine_model.proofs.Settles.{Entering, Grant, next-grant, session-known, session-there, session-other, goes-steady, granted-steady}
+use Rattle.machine_model.proofs.Settles.{entering-granted, entering, steady-of, send-sound, touched, touched-same}
 use Rattle.machine_model.proofs.Counts.{send-fitting}
 use Rattle.serial_history.proofs.Replays.{repeats-other, Telling, go-tells, work-taking}
 use Rattle.lock_modes.proofs.ModeLaws.{compatible-comm}

@@ -1,16 +1,20 @@
 -- A history tells what the transcripts show.
-use Rattle.std.proofs.Common.{◌≡◌, ◌≢◌, refl, sym, ap, ◌∙◌, subst, ℕ, zero, suc, ◌<◌, Bool, true, false, cond, ◌==◌, List, [], ◌∷◌, ◌++◌, length, set, get_or, Option, Some, None, ⊎_elim, append_assoc, append-nil, eqb-true, eq-eqb, length-set, get_or-set_same, get_or-set_other}
+use Rattle.std.proofs.Common.{◌≡◌, ◌≢◌, refl, sym, ap, ◌∙◌, subst, ℕ, zero, suc, ◌<◌, Bool, true, false, cond, ◌==◌, List, [], ◌∷◌, ◌++◌, length, set, get_or}
+use Rattle.std.proofs.Common.{Option, Some, None, ⊎_elim, append_assoc, append-nil, eqb-true, eq-eqb, length-set, get_or-set_same, get_or-set_other}
 use Rattle.finite_maps.specs.Map.{get}
 use Rattle.lock_queues.specs.Locks.{Spot, may_have, closes_ring, answered, next_grant, waits_now}
 use Rattle.row_tables.specs.Overlay.{Rows', lay}
 use Rattle.statement_effects.specs.Effect.{Effect, Gives, Faults, effect}
-use Rattle.machine_model.specs.Session.{Task, Ask, Do, Session, Performed, Goes, Fails, Kind, Begins, Commits, RollsBack, Works, kind, perform, perform_by, worked, note, tasks_of}
+use Rattle.machine_model.specs.Session.{Task, Ask, Do, Session, Performed, Goes, Fails, Kind, Begins, Commits, RollsBack, Works, kind, perform, perform_by}
+use Rattle.machine_model.specs.Session.{worked, note, tasks_of}
 use Rattle.machine_model.specs.Go.{Scene, Run, taking, is_broken, failed, finished_by, stopped, go, held_up, look_with, waiting_with}
 use Rattle.machine_model.specs.World.{World, session_at, look_of, scene_of, goes, granted, settle, settle_for, left_to_do, send, send_all, noted}
 use Rattle.sql_subset.specs.Spec.{Step, no_step}
 use Rattle.machine_model.specs.Sound.{Steady, Sound}
 use Rattle.serial_history.specs.Reading.{Reading, ends, step_ends, read}
-use Rattle.serial_history.specs.Serial.{Did, Transaction, is_work, ended_with, commit_of, Ended, Tally, ended_well, dropped, did, tally_by, tally_end, go_tally, History, tally_of, goes_told, granted_told, settle_told, send_told, send_all_told, reading_of, AllTell, EndedTell, commits_of, committed_in, Shown}
+use Rattle.serial_history.specs.Serial.{Did, Transaction, is_work, ended_with, commit_of, Ended, Tally, ended_well, dropped, did, tally_by, tally_end, go_tally}
+use Rattle.serial_history.specs.Serial.{History, tally_of, goes_told, granted_told, settle_told, send_told, send_all_told, reading_of, AllTell, EndedTell}
+use Rattle.serial_history.specs.Serial.{commits_of, committed_in, Shown}
 use Rattle.lock_queues.specs.declared.answer.Answer.TheVariants.{Granted, Waits, Ring}
 use Rattle.transcripts.specs.declared.event.Event.{Event}
 use Rattle.transcripts.specs.declared.event.Event.TheVariants.{Sent, Began, Committed, RolledBack, Warned, Failed, Waiting, Resumed, Done, NotSent}
@@ -22,7 +26,8 @@ use Rattle.machine_model.specs.declared.status.Status.TheVariants.{Outside, InBl
 use Rattle.sql_statements.specs.declared.statement.Bound.{Bound}
 use Rattle.machine_model.proofs.Basics.{known, cases-eq}
 use Rattle.machine_model.proofs.Solo.{OnGoes}
-use Rattle.machine_model.proofs.Settles.{Grant, next-grant, session-there, session-other, goes-steady, granted-steady, entering-granted, entering, steady-of, send-sound, touched-same}
+use Rattle.machine_model.proofs.Settles.{Grant, next-grant, session-there, session-other, goes-steady, granted-steady, entering-granted, entering, steady-of}
+use Rattle.machine_model.proofs.Settles.{send-sound, touched-same}
 use Rattle.machine_model.proofs.Counts.{send-fitting}
 use Rattle.serial_history.proofs.WorkTold.{TellsWork, effect-work}
 use Rattle.serial_history.proofs.Readings.{read-more, failed-reads, ended-reads, did-reads, did-tells}

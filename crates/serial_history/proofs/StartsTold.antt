@@ -1,5 +1,6 @@
 -- The history of a line from the start of its spec.
-use Rattle.std.proofs.Common.{◌≡◌, refl, sym, ap, ◌∙◌, subst, ℕ, suc, ◌+◌, ◌<◌, ◌≤◌, Bool, true, false, not, ◌||◌, List, [], ◌∷◌, length, get_or, ⊎_elim, arith, length-set, get_or-set_same, get_or-set_other}
+use Rattle.std.proofs.Common.{◌≡◌, refl, sym, ap, ◌∙◌, subst, ℕ, suc, ◌+◌, ◌<◌, ◌≤◌, Bool, true, false, not, ◌||◌, List, [], ◌∷◌, length, get_or, ⊎_elim, arith}
+use Rattle.std.proofs.Common.{length-set, get_or-set_same, get_or-set_other}
 use Rattle.finite_maps.specs.Map.{get, empty, get-empty}
 use Rattle.lock_modes.specs.Resource.{resource_order}
 use Rattle.lock_queues.specs.Locks.{waits_now}
@@ -8,8 +9,10 @@ use Rattle.machine_model.specs.Session.{Task, Ask, Do, Session, Performed, Goes,
 use Rattle.machine_model.specs.Go.{Run, Stop, taking, is_broken, solo, failed, finished_by, stopped, go}
 use Rattle.machine_model.specs.World.{World, fresh, session_at, scene_of, send_all}
 use Rattle.sql_subset.specs.Spec.{Spec, no_step, IsBound}
-use Rattle.machine_model.specs.Start.{Start, Started, SetupFailed, SessionSetupFailed, SessionSetupWaits, start, set_up, started_then, main_setups, session_setups, after_setup, forgotten, has_failed, is_outside, IsAlone, IsIdle}
-use Rattle.serial_history.specs.Serial.{Shown, reading_in, reading_of, session_setups_said, after_setups, AllTell, EndedTell, commits_of, committed_in, Repeats, Told, History, no_history, goes_told, session_setups_told, first_rows, start_told, send_all_told}
+use Rattle.machine_model.specs.Start.{Start, Started, SetupFailed, SessionSetupFailed, SessionSetupWaits, start, set_up, started_then, main_setups}
+use Rattle.machine_model.specs.Start.{session_setups, after_setup, forgotten, has_failed, is_outside, IsAlone, IsIdle}
+use Rattle.serial_history.specs.Serial.{Shown, reading_in, reading_of, session_setups_said, after_setups, AllTell, EndedTell, commits_of, committed_in, Repeats}
+use Rattle.serial_history.specs.Serial.{Told, History, no_history, goes_told, session_setups_told, first_rows, start_told, send_all_told}
 use Rattle.serial_history.specs.Reading.{Reading, nothing_read, read}
 use Rattle.transcripts.specs.declared.event.Fault.TheVariants.{Aborted}
 use Rattle.lock_modes.specs.declared.mode.Mode.{Mode}
@@ -20,7 +23,8 @@ use Rattle.machine_model.proofs.Solo.{go-solo}
 use Rattle.machine_model.proofs.Basics.{cases-eq}
 use Rattle.machine_model.proofs.Fitting.{together-fits}
 use Rattle.machine_model.proofs.Settles.{entering, session-there, session-other, touched-same}
-use Rattle.machine_model.proofs.Starts.{OnStarted, first_world, first-steady, get_or-replicate, length_replicate, all-free, alone-goes, alone-forgets, idle-goes, idle-now, start-sound}
+use Rattle.machine_model.proofs.Starts.{OnStarted, first_world, first-steady, get_or-replicate, length_replicate, all-free, alone-goes, alone-forgets}
+use Rattle.machine_model.proofs.Starts.{idle-goes, idle-now, start-sound}
 use Rattle.serial_history.proofs.Readings.{read-append}
 use Rattle.serial_history.proofs.Shown.{goes-shown, line-shown}
 use Rattle.serial_history.proofs.SerialLine.{goes-tells, told-touched, line-tells}

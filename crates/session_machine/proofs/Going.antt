@@ -1,5 +1,6 @@
 -- What a session that goes is answered and may read, by the store and the lock table.
-use Rattle.std.proofs.Common.{◌≡◌, ◌≢◌, refl, sym, ap, ◌∙◌, subst, ℕ, zero, suc, Bool, true, false, cond, ◌&&◌, ◌||◌, ◌==◌, List, [], ◌∷◌, ◌++◌, Option, Some, None, is_some, ◌⊎◌, inl, inr, ⊎_elim, eqb-true, eq-eqb}
+use Rattle.std.proofs.Common.{◌≡◌, ◌≢◌, refl, sym, ap, ◌∙◌, subst, ℕ, zero, suc, Bool, true, false, cond, ◌&&◌, ◌||◌, ◌==◌, List, [], ◌∷◌, ◌++◌, Option, Some}
+use Rattle.std.proofs.Common.{None, is_some, ◌⊎◌, inl, inr, ⊎_elim, eqb-true, eq-eqb}
 use Rattle.finite_maps.specs.Map.{get}
 use Rattle.lock_modes.specs.Mode.{compatible, AtLeast}
 use Rattle.lock_modes.specs.declared.mode.Mode.{Mode}
@@ -36,7 +37,8 @@ all_below-same (suc n) f g h = λ k. h n k && all_below-same n f g h k
 
 -- whether a mode fits is up to the others
 pub fits-others : (n : ℕ) (a b : Look) (i : ℕ) (r : Resource) (m : Mode) → ((c : ℕ) → c ≢ i → a c r ≡ b c r) → fits n a i r m ≡ fits n b i r m
-fits-others n a b i r m same = all_below-same n _ _ (λ c. ⊎_elim (λ e. or_true_left (c == i) _ (eq-eqb c i e) ∙ sym (or_true_left (c == i) _ (eq-eqb c i e))) (λ ne. ap (λ o. (c == i) || fits_with m o) (same c ne)) (cases-eq c i))
+fits-others n a b i r m same = all_below-same n _ _ (λ c. ⊎_elim (λ e. or_true_left (c == i) _ (eq-eqb c i e)
+    ∙ sym (or_true_left (c == i) _ (eq-eqb c i e))) (λ ne. ap (λ o. (c == i) || fits_with m o) (same c ne)) (cases-eq c i))
 
 module _ (e : Scene) (i : ℕ) (t : Locks) (s : Session) (held : s.held ≡ slice i t.held) (scene : IsScene e i t) where
   own : (r : Resource) → get s.held r ≡ look_in t i r
@@ -52,22 +54,51 @@ module _ (e : Scene) (i : ℕ) (t : Locks) (s : Session) (held : s.held ≡ slic
   may-is : (r : Resource) (m : Mode) → may_have e.count e.look e.waits i (get s.held r) r m ≡ may_have e.count (look_in t) t.waits i (look_in t i r) r m
   may-is r m =
       ap (λ o. may_have e.count e.look e.waits i o r m) (own r)
-      ∙ ap (λ b. b && (is_some (look_in t i r) || nobody_waits e.waits r)) (fits-others e.count e.look (look_in t) i r (wanted (look_in t i r) m) (λ c ne. sym (scene.others c r ne)))
+      ∙ ap (λ b. b && (is_some (look_in t i r) || nobody_waits e.waits r))
+      (fits-others e.count e.look (look_in t) i r (wanted (look_in t i r) m) (λ c ne. sym (scene.others c r ne)))
       ∙ ap (λ ws. fits e.count (look_in t) i r (wanted (look_in t i r) m) && (is_some (look_in t i r) || nobody_waits ws r)) (sym scene.waits)
 
-  ring-is : (r : Resource) (m : Mode) → closes_ring e.count (look_with e i s.held) (waiting_with e i r m) i ≡ closes_ring e.count (look_in t) (queued t i r m).waits i
+  ring-is : (r : Resource) (m : Mode) → closes_ring e.count (look_with e i s.held) (waiting_with e i r m) i
+      ≡ closes_ring e.count (look_in t) (queued t i r m).waits i
   ring-is r m = λ k. closes_ring e.count (look-now k) (sym scene.waits k ++ record { session = i; resource = r; mode = m } ∷ []) i
 
-  asked-is : (r : Resource) (m : Mode) (x : Answer) → answered (may_have e.count (look_in t) t.waits i (look_in t i r) r m) (closes_ring e.count (look_in t) (queued t i r m).waits i) ≡ x → (ask e.count t i r m).answer ≡ x
-  asked-is r m Granted is = ap (λ (a : Answer). let y : Asked = elim a [ Granted ↦ record { answer = Granted; locks = Rattle.lock_queues.specs.LockTable.taken t i r m } | Waits ↦ record { answer = Waits; locks = queued t i r m } | Ring ↦ record { answer = Ring; locks = t } ] in y.answer) is
-  asked-is r m Waits is = ap (λ (a : Answer). let y : Asked = elim a [ Granted ↦ record { answer = Granted; locks = Rattle.lock_queues.specs.LockTable.taken t i r m } | Waits ↦ record { answer = Waits; locks = queued t i r m } | Ring ↦ record { answer = Ring; locks = t } ] in y.answer) is
-  asked-is r m Ring is = ap (λ (a : Answer). let y : Asked = elim a [ Granted ↦ record { answer = Granted; locks = Rattle.lock_queues.specs.LockTable.taken t i r m } | Waits ↦ record { answer = Waits; locks = queued t i r m } | Ring ↦ record { answer = Ring; locks = t } ] in y.answer) is
+  asked-is : (r : Resource) (m : Mode) (x : Answer)
+      → answered (may_have e.count (look_in t) t.waits i (look_in t i r) r m) (closes_ring e.count (look_in t) (queued t i r m).waits i) ≡ x
+      → (ask e.count t i r m).answer ≡ x
+  asked-is r m Granted is = ap (λ (a : Answer). let y : Asked =
+      elim a [
+        | Granted ↦ record { answer = Granted; locks = Rattle.lock_queues.specs.LockTable.taken t i r m }
+        | Waits ↦ record {
+          answer = Waits;
+          locks = queued t i r m;
+        }
+        | Ring ↦ record { answer = Ring; locks = t }
+      ] in y.answer) is
+  asked-is r m Waits is = ap (λ (a : Answer). let y : Asked =
+      elim a [
+        | Granted ↦ record { answer = Granted; locks = Rattle.lock_queues.specs.LockTable.taken t i r m }
+        | Waits ↦ record {
+          answer = Waits;
+          locks = queued t i r m;
+        }
+        | Ring ↦ record { answer = Ring; locks = t }
+      ] in y.answer) is
+  asked-is r m Ring is = ap (λ (a : Answer). let y : Asked =
+      elim a [
+        | Granted ↦ record { answer = Granted; locks = Rattle.lock_queues.specs.LockTable.taken t i r m }
+        | Waits ↦ record {
+          answer = Waits;
+          locks = queued t i r m;
+        }
+        | Ring ↦ record { answer = Ring; locks = t }
+      ] in y.answer) is
 
   -- what the table answers is what the machine answers
   pub answer-is : (r : Resource) (m : Mode) (a : Answer) → IsAnswer t i r m a → answer_in e i s r m ≡ a
   answer-is r m a is =
       (λ k. answered (may-is r m k) (ring-is r m k))
-      ∙ sym (asked-is r m (answered (may_have e.count (look_in t) t.waits i (look_in t i r) r m) (closes_ring e.count (look_in t) (queued t i r m).waits i)) refl)
+      ∙ sym (asked-is r m (answered (may_have e.count (look_in t) t.waits i (look_in t i r) r m) (closes_ring e.count (look_in t) (queued t i r m).waits i))
+      refl)
       ∙ ap (λ (x : Asked). x.answer) ((tests-decide e.count t scene.below).asked i r m a scene.known is)
 
 -- ---- a statement
@@ -82,10 +113,16 @@ held-asked h [] holds = tt
 held-asked h (q ∷ qs) holds = (holds.0, held-asked h qs holds.1)
 
 -- what a session holds and asks for stands beside what another holds
-friends-held : (look : Look) (i c : ℕ) (h k : Held) (qs : List Request) → HeldTogether look → i ≢ c → ((r : Resource) → get h r ≡ look i r) → ((r : Resource) → get k r ≡ look c r) → HoldsAll h qs → Friends (claims_of h qs) (claims_of k [])
-friends-held look i c h k qs together ne ours theirs holds = record { fit = λ r m n x y. at r m n (sym (theirs r) ∙ held-claim k r n y) (claims-cases (λ q. Rattle.machine_model.specs.Sound.Covers (get h q.resource) q.mode) h qs r m (held-asked h qs holds) x) }
+friends-held : (look : Look) (i c : ℕ) (h k : Held) (qs : List Request) → HeldTogether look → i ≢ c → ((r : Resource) → get h r ≡ look i r)
+    → ((r : Resource) → get k r ≡ look c r) → HoldsAll h qs → Friends (claims_of h qs) (claims_of k [])
+friends-held look i c h k qs together ne ours theirs holds =
+    record {
+      fit = λ r m n x y. at r m n (sym (theirs r) ∙ held-claim k r n y)
+          (claims-cases (λ q. Rattle.machine_model.specs.Sound.Covers (get h q.resource) q.mode) h qs r m (held-asked h qs holds) x);
+    }
   where
-    at : (r : Resource) (m n : Mode) → look c r ≡ Some n → (get h r ≡ Some m) ⊎ ((q : Request) × Rattle.machine_model.specs.Sound.Covers (get h q.resource) q.mode × (q.resource ≡ r) × (q.mode ≡ m)) → compatible m n ≡ true
+    at : (r : Resource) (m n : Mode) → look c r ≡ Some n → (get h r ≡ Some m)
+        ⊎ ((q : Request) × Rattle.machine_model.specs.Sound.Covers (get h q.resource) q.mode × (q.resource ≡ r) × (q.mode ≡ m)) → compatible m n ≡ true
     at r m n held (inl is) = together i c r m n ne (sym (ours r) ∙ is) held
     at r m n held (inr q) =
         let covers : get h r ≡ Some q.1.0 = ap (get h) (sym q.2) ∙ q.1.1 in
@@ -96,8 +133,11 @@ none-there None f = refl
 none-there (Some x) f = absurd (f x refl)
 
 -- a session that holds what a statement asks for sees alone what the statement looks at
-pub sees-alone : (i : ℕ) (st : Bound) (l : Layers) (t : Locks) → HeldTogether (look_in t) → ((c : ℕ) → c ≢ i → UnderLocks (overlay_of c l) (slice c t.held)) → HoldsAll (slice i t.held) (plan st) → SeesAlone i st l
+pub sees-alone : (i : ℕ) (st : Bound) (l : Layers) (t : Locks) → HeldTogether (look_in t) → ((c : ℕ) → c ≢ i → UnderLocks (overlay_of c l) (slice c t.held))
+    → HoldsAll (slice i t.held) (plan st) → SeesAlone i st l
 sees-alone i st l t together under holds = λ p looks c ne.
-    let friends = friends-held (look_in t) i c (slice i t.held) (slice c t.held) (plan st) together (λ e. ne (sym e)) (get-slice i t.held) (get-slice c t.held) holds in
-    let off = (reads-off (claims_of (slice i t.held) (plan st)) (claims_of (slice c t.held) []) friends st (claims-asked (slice i t.held) (plan st))).each p (looked-opened st p looks) in
+    let friends = friends-held (look_in t) i c (slice i t.held) (slice c t.held) (plan st) together (λ e. ne (sym e)) (get-slice i t.held) (get-slice c t.held)
+    holds in
+    let off = (reads-off (claims_of (slice i t.held) (plan st)) (claims_of (slice c t.held) []) friends st (claims-asked (slice i t.held) (plan st))).each p
+    (looked-opened st p looks) in
     none-there (get (overlay_of c l) p) (λ x is. not_both _ (under c ne p x is) off)

@@ -23,11 +23,14 @@ use Rattle.row_tables.specs.Layers.{Layers, sight, undone, kept}
 use Rattle.session_machine.specs.declared.session.SessionState.{SessionState}
 use Rattle.machine_model.specs.declared.status.Status.{Status}
 use Rattle.machine_model.specs.declared.status.Status.TheVariants.{Outside, InBlock, Broken}
-use Rattle.machine_model.specs.Session.{Task, Ask, Do, Session, released, Begins, Commits, RollsBack, Works, kind, Performed, Goes, Fails, perform, perform_by, worked}
+use Rattle.machine_model.specs.Session.{Task, Ask, Do, Session, released, Begins, Commits, RollsBack, Works, kind, Performed, Goes, Fails, perform, perform_by}
+use Rattle.machine_model.specs.Session.{worked}
 use Rattle.machine_model.specs.Go.{Scene, Run, go, stopped, failed, finished_by, is_broken, answer_in, held_up, taking}
 use Rattle.session_machine.specs.State.{Own, session_of, SameOthers}
-use Rattle.session_machine.specs.Going.{Standing, session_in, run_in, IsScene, GoesOnTo, StopsIn, waiting_in, told, committed, failed_in, finished_by_status, finished_in, standing, ended_by, commits_by, commits_in, rolls_back_in, Does}
-use Rattle.session_machine.proofs.States.{same-refl, same-trans, session-taken, same-taken, held-let_go, same-let_go, waits-let_go, overlay-undone, overlay-kept, same-undone, same-kept, overlay-wrote_each, same-left_by, committed-left_by}
+use Rattle.session_machine.specs.Going.{Standing, session_in, run_in, IsScene, GoesOnTo, StopsIn, waiting_in, told, committed, failed_in, finished_by_status}
+use Rattle.session_machine.specs.Going.{finished_in, standing, ended_by, commits_by, commits_in, rolls_back_in, Does}
+use Rattle.session_machine.proofs.States.{same-refl, same-trans, session-taken, same-taken, held-let_go, same-let_go, waits-let_go, overlay-undone}
+use Rattle.session_machine.proofs.States.{overlay-kept, same-undone, same-kept, overlay-wrote_each, same-left_by, committed-left_by}
 use Rattle.session_machine.proofs.Going.{answer-is}
 
 -- ---- moves in turn
@@ -63,17 +66,27 @@ goes-on-stops i x y z ts us p q = record {
 -- ---- a transaction that ends
 
 -- the session without its overlay and its locks
-released-undone : (i : ℕ) (x : Standing) (own : Own) → session_of (undone i x.layers) (let_go x.locks i) i own ≡ record (released (session_in i x)) { status = own.status; rest = own.rest; transcript = own.transcript }
-released-undone i x own = λ k. record { overlay = overlay-undone i x.layers k; held = held-let_go x.locks i k; status = own.status; rest = own.rest; transcript = own.transcript }
+released-undone : (i : ℕ) (x : Standing) (own : Own) → session_of (undone i x.layers) (let_go x.locks i) i own
+    ≡ record (released (session_in i x)) { status = own.status; rest = own.rest; transcript = own.transcript }
+released-undone i x own = λ k. record {
+  overlay = overlay-undone i x.layers k;
+  held = held-let_go x.locks i k;
+  status = own.status;
+  rest = own.rest;
+  transcript = own.transcript;
+}
 
 others-undone : (i : ℕ) (x : Standing) → SameOthers i x.layers (undone i x.layers) x.locks (let_go x.locks i)
-others-undone i x = same-trans i x.layers (undone i x.layers) (undone i x.layers) x.locks x.locks (let_go x.locks i) (same-undone i x.layers x.locks) (same-let_go (undone i x.layers) x.locks i)
+others-undone i x = same-trans i x.layers (undone i x.layers) (undone i x.layers) x.locks x.locks (let_go x.locks i) (same-undone i x.layers x.locks)
+    (same-let_go (undone i x.layers) x.locks i)
 
 others-kept : (i : ℕ) (x : Standing) → SameOthers i x.layers (kept i x.layers) x.locks (let_go x.locks i)
-others-kept i x = same-trans i x.layers (kept i x.layers) (kept i x.layers) x.locks x.locks (let_go x.locks i) (same-kept i x.layers x.locks) (same-let_go (kept i x.layers) x.locks i)
+others-kept i x = same-trans i x.layers (kept i x.layers) (kept i x.layers) x.locks x.locks (let_go x.locks i) (same-kept i x.layers x.locks)
+    (same-let_go (kept i x.layers) x.locks i)
 
 -- a fault ends the step, and the transaction
-fails-to : (e : Scene) (i : ℕ) (x : Standing) (f : Fault) → waits_now x.locks.waits i ≡ false → IsScene e i x.locks → stopped e (failed (session_in i x) x.layers.committed f) ≡ run_in i (failed_in i x f)
+fails-to : (e : Scene) (i : ℕ) (x : Standing) (f : Fault) → waits_now x.locks.waits i ≡ false → IsScene e i x.locks
+    → stopped e (failed (session_in i x) x.layers.committed f) ≡ run_in i (failed_in i x f)
 fails-to e i x f idle scene = λ k. record {
   session = sym (released-undone i x (failed_in i x f).own) k;
   rows = x.layers.committed;
@@ -91,10 +104,13 @@ asked e i s rows r m ts b a =
     ]
 
 module _ (i : ℕ) (x : Standing) (r : Resource) (m : Mode) (ts : List Task) where
-  answered-so : (e : Scene) → IsScene e i x.locks → (a : Answer) → is_broken x.own.status ≡ false → IsAnswer x.locks i r m a → go e i (session_in i x) x.layers.committed (Ask r m ∷ ts) ≡ asked e i (session_in i x) x.layers.committed r m ts false a
-  answered-so e scene a whole is = λ k. asked e i (session_in i x) x.layers.committed r m ts (whole k) (answer-is e i x.locks (session_in i x) refl scene r m a is k)
+  answered-so : (e : Scene) → IsScene e i x.locks → (a : Answer) → is_broken x.own.status ≡ false → IsAnswer x.locks i r m a
+      → go e i (session_in i x) x.layers.committed (Ask r m ∷ ts) ≡ asked e i (session_in i x) x.layers.committed r m ts false a
+  answered-so e scene a whole is = λ k. asked e i (session_in i x) x.layers.committed r m ts (whole k)
+      (answer-is e i x.locks (session_in i x) refl scene r m a is k)
 
-  pub had : is_broken x.own.status ≡ false → IsAnswer x.locks i r m Granted → GoesOnTo i x (Ask r m ∷ ts) (record { layers = x.layers; locks = taken x.locks i r m; own = x.own }) ts
+  pub had : is_broken x.own.status ≡ false → IsAnswer x.locks i r m Granted
+      → GoesOnTo i x (Ask r m ∷ ts) (record { layers = x.layers; locks = taken x.locks i r m; own = x.own }) ts
   had whole is = record {
     goes = λ e scene. answered-so e scene Granted whole is ∙ ap (λ s. go e i s x.layers.committed ts) (sym (session-taken x.layers x.locks i r m x.own));
     others = same-taken x.layers x.locks i r m;
@@ -103,16 +119,24 @@ module _ (i : ℕ) (x : Standing) (r : Resource) (m : Mode) (ts : List Task) whe
 
   pub waits-there : is_broken x.own.status ≡ false → IsAnswer x.locks i r m Waits → StopsIn i x (Ask r m ∷ ts) (waiting_in i x r m ts)
   waits-there whole is = record {
-    goes = λ e scene. answered-so e scene Waits whole is ∙ (λ k. record { session = session_in i (waiting_in i x r m ts); rows = x.layers.committed; waits = sym scene.waits k ++ record { session = i; resource = r; mode = m } ∷ [] });
+    goes = λ e scene. answered-so e scene Waits whole is
+        ∙ (λ k. record {
+          session = session_in i (waiting_in i x r m ts);
+          rows = x.layers.committed;
+          waits = sym scene.waits k
+              ++ record { session = i; resource = r; mode = m } ∷ [];
+        });
     others = record { overlays = λ c ne. refl; held = λ c ne. refl };
   }
 
-  pub closes-ring : is_broken x.own.status ≡ false → waits_now x.locks.waits i ≡ false → IsAnswer x.locks i r m Ring → StopsIn i x (Ask r m ∷ ts) (failed_in i x Deadlock)
+  pub closes-ring : is_broken x.own.status ≡ false → waits_now x.locks.waits i ≡ false → IsAnswer x.locks i r m Ring
+      → StopsIn i x (Ask r m ∷ ts) (failed_in i x Deadlock)
   closes-ring whole idle is = record { goes = λ e scene. answered-so e scene Ring whole is ∙ fails-to e i x Deadlock idle scene; others = others-undone i x }
 
   pub asks-broken : is_broken x.own.status ≡ true → waits_now x.locks.waits i ≡ false → StopsIn i x (Ask r m ∷ ts) (failed_in i x Aborted)
   asks-broken broken idle = record {
-    goes = λ e scene. ap (λ b. asked e i (session_in i x) x.layers.committed r m ts b (answer_in e i (session_in i x) r m)) broken ∙ fails-to e i x Aborted idle scene;
+    goes = λ e scene. ap (λ b. asked e i (session_in i x) x.layers.committed r m ts b (answer_in e i (session_in i x) r m)) broken
+        ∙ fails-to e i x Aborted idle scene;
     others = others-undone i x;
   }
 
@@ -123,39 +147,60 @@ abbrev done_by : Scene → ℕ → Session → Rows' → List Task → Performed
 done_by e i s rows ts d = elim d [ Goes s2 rows2 ↦ go e i s2 rows2 ts | Fails f ↦ stopped e (failed s rows f) ]
 
 -- a statement that leaves the session there
-goes-there : (i : ℕ) (x y : Standing) (st : Bound) (ts : List Task) → perform (session_in i x) x.layers.committed st ≡ Goes (session_in i y) y.layers.committed → SameOthers i x.layers y.layers x.locks y.locks → y.locks.waits ≡ x.locks.waits
+goes-there : (i : ℕ) (x y : Standing) (st : Bound) (ts : List Task) → perform (session_in i x) x.layers.committed st ≡ Goes (session_in i y) y.layers.committed
+    → SameOthers i x.layers y.layers x.locks y.locks → y.locks.waits ≡ x.locks.waits
     → GoesOnTo i x (Do st ∷ ts) y ts
 goes-there i x y st ts is others waits = record { goes = λ e scene. ap (done_by e i (session_in i x) x.layers.committed ts) is; others = others; waits = waits }
 
-pub fails-there : (i : ℕ) (x : Standing) (st : Bound) (ts : List Task) (f : Fault) → waits_now x.locks.waits i ≡ false → perform (session_in i x) x.layers.committed st ≡ Fails f → StopsIn i x (Do st ∷ ts) (failed_in i x f)
-fails-there i x st ts f idle is = record { goes = λ e scene. ap (done_by e i (session_in i x) x.layers.committed ts) is ∙ fails-to e i x f idle scene; others = others-undone i x }
+pub fails-there : (i : ℕ) (x : Standing) (st : Bound) (ts : List Task) (f : Fault) → waits_now x.locks.waits i ≡ false
+    → perform (session_in i x) x.layers.committed st ≡ Fails f → StopsIn i x (Do st ∷ ts) (failed_in i x f)
+fails-there i x st ts f idle is = record {
+  goes = λ e scene. ap (done_by e i (session_in i x) x.layers.committed ts) is ∙ fails-to e i x f idle scene;
+  others = others-undone i x;
+}
 
 -- a statement that works, in a session that is whole
 abbrev pub works_in : ℕ → Standing → Effect → Standing
-works_in i x e = record { layers = left_by i e x.layers; locks = x.locks; own = record { status = x.own.status; rest = x.own.rest; transcript = x.own.transcript ++ events_of e } }
+works_in i x e = record {
+  layers = left_by i e x.layers;
+  locks = x.locks;
+  own = record { status = x.own.status; rest = x.own.rest; transcript = x.own.transcript ++ events_of e };
+}
 
-perform-work : (i : ℕ) (x : Standing) (st : Bound) → kind st ≡ Works → is_broken x.own.status ≡ false → perform (session_in i x) x.layers.committed st ≡ worked (session_in i x) x.layers.committed (effect st (sight i x.layers))
+perform-work : (i : ℕ) (x : Standing) (st : Bound) → kind st ≡ Works → is_broken x.own.status ≡ false → perform (session_in i x) x.layers.committed st
+    ≡ worked (session_in i x) x.layers.committed (effect st (sight i x.layers))
 perform-work i x st is whole = ap (λ k. perform_by x.own.status k (session_in i x) x.layers.committed st) is ∙ at x.own.status whole
   where
-    at : (status : Status) → is_broken status ≡ false → perform_by status Works (session_in i x) x.layers.committed st ≡ worked (session_in i x) x.layers.committed (effect st (sight i x.layers))
+    at : (status : Status) → is_broken status ≡ false → perform_by status Works (session_in i x) x.layers.committed st
+        ≡ worked (session_in i x) x.layers.committed (effect st (sight i x.layers))
     at Outside h = refl
     at InBlock h = refl
     at Broken h = cc
 
-worked-there : (i : ℕ) (x : Standing) (e : Effect) → fault_of e ≡ None → worked (session_in i x) x.layers.committed e ≡ Goes (session_in i (works_in i x e)) (works_in i x e).layers.committed
-worked-there i x (Gives events writes) is = λ k. Goes (record { overlay = sym (overlay-wrote_each i writes x.layers) k; held = slice i x.locks.held; status = x.own.status; rest = x.own.rest; transcript = x.own.transcript ++ events }) (sym (committed-left_by i (Gives events writes) x.layers) k)
+worked-there : (i : ℕ) (x : Standing) (e : Effect) → fault_of e ≡ None → worked (session_in i x) x.layers.committed e
+    ≡ Goes (session_in i (works_in i x e)) (works_in i x e).layers.committed
+worked-there i x (Gives events writes) is = λ k.
+    Goes (record {
+      overlay = sym (overlay-wrote_each i writes x.layers) k;
+      held = slice i x.locks.held;
+      status = x.own.status;
+      rest = x.own.rest;
+      transcript = x.own.transcript ++ events;
+    }) (sym (committed-left_by i (Gives events writes) x.layers) k)
 worked-there i x (Faults f) is = cc
 
 worked-fails : (s : Session) (rows : Rows') (e : Effect) (f : Fault) → fault_of e ≡ Some f → worked s rows e ≡ Fails f
 worked-fails s rows (Gives events writes) f is = cc
 worked-fails s rows (Faults g) f is = let same : g ≡ f = cc in ap Fails same
 
-pub works-there : (i : ℕ) (x : Standing) (st : Bound) (ts : List Task) → kind st ≡ Works → is_broken x.own.status ≡ false → fault_of (effect st (sight i x.layers)) ≡ None → GoesOnTo i x (Do st ∷ ts) (works_in i x (effect st (sight i x.layers))) ts
+pub works-there : (i : ℕ) (x : Standing) (st : Bound) (ts : List Task) → kind st ≡ Works → is_broken x.own.status ≡ false
+    → fault_of (effect st (sight i x.layers)) ≡ None → GoesOnTo i x (Do st ∷ ts) (works_in i x (effect st (sight i x.layers))) ts
 works-there i x st ts is whole none =
     let e = effect st (sight i x.layers) in
     goes-there i x (works_in i x e) st ts (perform-work i x st is whole ∙ worked-there i x e none) (same-left_by i e x.layers x.locks) refl
 
-pub works-fails : (i : ℕ) (x : Standing) (st : Bound) (ts : List Task) (f : Fault) → kind st ≡ Works → is_broken x.own.status ≡ false → waits_now x.locks.waits i ≡ false → fault_of (effect st (sight i x.layers)) ≡ Some f
+pub works-fails : (i : ℕ) (x : Standing) (st : Bound) (ts : List Task) (f : Fault) → kind st ≡ Works → is_broken x.own.status ≡ false
+    → waits_now x.locks.waits i ≡ false → fault_of (effect st (sight i x.layers)) ≡ Some f
     → StopsIn i x (Do st ∷ ts) (failed_in i x f)
 works-fails i x st ts f is whole idle fails =
     let e = effect st (sight i x.layers) in
@@ -167,7 +212,17 @@ pub ends-outside : (i : ℕ) (x : Standing) → x.own.status ≡ Outside → wai
 ends-outside i x is idle = record {
   goes = λ e scene.
       ap (λ status. stopped e (finished_by status (session_in i x) x.layers.committed)) is
-      ∙ (λ k. record { session = record { overlay = sym (overlay-kept i x.layers) k; held = sym (held-let_go x.locks i) k; status = is k; rest = x.own.rest; transcript = x.own.transcript ++ Done ∷ [] }; rows = sight i x.layers; waits = (sym scene.waits ∙ sym (waits-let_go x.locks i idle)) k });
+      ∙ (λ k. record {
+        session = record {
+          overlay = sym (overlay-kept i x.layers) k;
+          held = sym (held-let_go x.locks i) k;
+          status = is k;
+          rest = x.own.rest;
+          transcript = x.own.transcript ++ Done ∷ [];
+        };
+        rows = sight i x.layers;
+        waits = (sym scene.waits ∙ sym (waits-let_go x.locks i idle)) k;
+      });
   others = others-kept i x;
 }
 
@@ -177,7 +232,8 @@ ends-inside i x inside = record {
   others = same-refl i x.layers x.locks;
 }
   where
-    at : (e : Scene) (status : Status) → (status ≡ Outside → ⊥) → stopped e (finished_by status (session_in i x) x.layers.committed) ≡ record { session = session_in i (told x Done); rows = x.layers.committed; waits = e.waits }
+    at : (e : Scene) (status : Status) → (status ≡ Outside → ⊥) → stopped e (finished_by status (session_in i x) x.layers.committed)
+        ≡ record { session = session_in i (told x Done); rows = x.layers.committed; waits = e.waits }
     at e Outside h = absurd (h refl)
     at e InBlock h = refl
     at e Broken h = refl
@@ -186,34 +242,56 @@ ends-inside i x inside = record {
 
 module _ (i : ℕ) (l : Layers) (t : Locks) (s : SessionState) (st : Bound) (ts : List Task) where
   -- the session without its overlay and its locks
-  dropped-in : (own : Own) → record { overlay = empty; held = empty; status = own.status; rest = own.rest; transcript = own.transcript } ≡ session_of (undone i l) (let_go t i) i own
-  dropped-in own = λ k. record { overlay = sym (overlay-undone i l) k; held = sym (held-let_go t i) k; status = own.status; rest = own.rest; transcript = own.transcript }
+  dropped-in : (own : Own) → record { overlay = empty; held = empty; status = own.status; rest = own.rest; transcript = own.transcript }
+      ≡ session_of (undone i l) (let_go t i) i own
+  dropped-in own = λ k. record {
+    overlay = sym (overlay-undone i l) k;
+    held = sym (held-let_go t i) k;
+    status = own.status;
+    rest = own.rest;
+    transcript = own.transcript;
+  }
 
-  kept-in : (own : Own) → record { overlay = empty; held = empty; status = own.status; rest = own.rest; transcript = own.transcript } ≡ session_of (kept i l) (let_go t i) i own
-  kept-in own = λ k. record { overlay = sym (overlay-kept i l) k; held = sym (held-let_go t i) k; status = own.status; rest = own.rest; transcript = own.transcript }
+  kept-in : (own : Own) → record { overlay = empty; held = empty; status = own.status; rest = own.rest; transcript = own.transcript }
+      ≡ session_of (kept i l) (let_go t i) i own
+  kept-in own = λ k. record {
+    overlay = sym (overlay-kept i l) k;
+    held = sym (held-let_go t i) k;
+    status = own.status;
+    rest = own.rest;
+    transcript = own.transcript;
+  }
 
   pub rolls-back-there : kind st ≡ RollsBack → waits_now t.waits i ≡ false → GoesOnTo i (standing l t s) (Do st ∷ ts) (rolls_back_in i (standing l t s)) ts
   rolls-back-there is idle =
-      goes-there i (standing l t s) (rolls_back_in i (standing l t s)) st ts (ap (λ k. perform_by s.status k (session_in i (standing l t s)) l.committed st) is ∙ at s.status s.transcript)
+      goes-there i (standing l t s) (rolls_back_in i (standing l t s)) st ts (ap (λ k. perform_by s.status k (session_in i (standing l t s)) l.committed st) is
+      ∙ at s.status s.transcript)
       (others-undone i (standing l t s)) (waits-let_go t i idle)
     where
-      at : (status : Status) (tr : List Event) → perform_by status RollsBack (session_of l t i (record { status = status; rest = []; transcript = tr })) l.committed st ≡ Goes (session_in i (standing (undone i l) (let_go t i) (ended_by status tr RolledBack))) l.committed
-      at Outside tr = ap (λ x. Goes x l.committed) (dropped-in (record { status = Outside; rest = []; transcript = (tr ++ Warned NoBlock ∷ []) ++ RolledBack ∷ [] }))
+      at : (status : Status) (tr : List Event) → perform_by status RollsBack (session_of l t i (record { status = status; rest = []; transcript = tr }))
+          l.committed st ≡ Goes (session_in i (standing (undone i l) (let_go t i) (ended_by status tr RolledBack))) l.committed
+      at Outside tr = ap (λ x. Goes x l.committed)
+          (dropped-in (record { status = Outside; rest = []; transcript = (tr ++ Warned NoBlock ∷ []) ++ RolledBack ∷ [] }))
       at InBlock tr = ap (λ x. Goes x l.committed) (dropped-in (record { status = Outside; rest = []; transcript = tr ++ RolledBack ∷ [] }))
       at Broken tr = ap (λ x. Goes x l.committed) (dropped-in (record { status = Outside; rest = []; transcript = tr ++ RolledBack ∷ [] }))
 
   pub commits-there : kind st ≡ Commits → waits_now t.waits i ≡ false → GoesOnTo i (standing l t s) (Do st ∷ ts) (commits_in i (standing l t s)) ts
   commits-there is idle =
-      goes-there i (standing l t s) (commits_in i (standing l t s)) st ts (ap (λ k. perform_by s.status k (session_in i (standing l t s)) l.committed st) is ∙ at s.status s.transcript)
+      goes-there i (standing l t s) (commits_in i (standing l t s)) st ts (ap (λ k. perform_by s.status k (session_in i (standing l t s)) l.committed st) is
+      ∙ at s.status s.transcript)
       (others s.status s.transcript) (waits s.status s.transcript)
     where
-      at : (status : Status) (tr : List Event) → perform_by status Commits (session_of l t i (record { status = status; rest = []; transcript = tr })) l.committed st
-          ≡ Goes (session_in i (commits_by status i (standing l t (record { status = status; transcript = tr })))) (commits_by status i (standing l t (record { status = status; transcript = tr }))).layers.committed
-      at Outside tr = ap (λ x. Goes x (sight i l)) (kept-in (record { status = Outside; rest = []; transcript = (tr ++ Warned NoBlock ∷ []) ++ Committed ∷ [] }))
+      at : (status : Status) (tr : List Event) → perform_by status Commits (session_of l t i (record { status = status; rest = []; transcript = tr }))
+          l.committed st
+          ≡ Goes (session_in i (commits_by status i (standing l t (record { status = status; transcript = tr }))))
+          (commits_by status i (standing l t (record { status = status; transcript = tr }))).layers.committed
+      at Outside tr = ap (λ x. Goes x (sight i l))
+          (kept-in (record { status = Outside; rest = []; transcript = (tr ++ Warned NoBlock ∷ []) ++ Committed ∷ [] }))
       at InBlock tr = ap (λ x. Goes x (sight i l)) (kept-in (record { status = Outside; rest = []; transcript = tr ++ Committed ∷ [] }))
       at Broken tr = ap (λ x. Goes x l.committed) (dropped-in (record { status = Outside; rest = []; transcript = tr ++ RolledBack ∷ [] }))
 
-      others : (status : Status) (tr : List Event) → let y = commits_by status i (standing l t (record { status = status; transcript = tr })) in SameOthers i l y.layers t y.locks
+      others : (status : Status) (tr : List Event) → let y = commits_by status i (standing l t (record { status = status; transcript = tr }))
+          in SameOthers i l y.layers t y.locks
       others Outside tr = others-kept i (standing l t s)
       others InBlock tr = others-kept i (standing l t s)
       others Broken tr = others-undone i (standing l t s)
@@ -224,14 +302,17 @@ module _ (i : ℕ) (l : Layers) (t : Locks) (s : SessionState) (st : Bound) (ts 
       waits Broken tr = waits-let_go t i idle
 
   -- in a block that has failed only its end has an effect
-  pub broken-fails : is_broken s.status ≡ true → waits_now t.waits i ≡ false → (kind st ≡ Begins) ⊎ (kind st ≡ Works) → StopsIn i (standing l t s) (Do st ∷ ts) (failed_in i (standing l t s) Aborted)
-  broken-fails broken idle (inl is) = fails-there i (standing l t s) st ts Aborted idle (ap (λ k. perform_by s.status k (session_in i (standing l t s)) l.committed st) is ∙ at s.status broken)
+  pub broken-fails : is_broken s.status ≡ true → waits_now t.waits i ≡ false → (kind st ≡ Begins) ⊎ (kind st ≡ Works)
+      → StopsIn i (standing l t s) (Do st ∷ ts) (failed_in i (standing l t s) Aborted)
+  broken-fails broken idle (inl is) = fails-there i (standing l t s) st ts Aborted idle
+      (ap (λ k. perform_by s.status k (session_in i (standing l t s)) l.committed st) is ∙ at s.status broken)
     where
       at : (status : Status) → is_broken status ≡ true → perform_by status Begins (session_in i (standing l t s)) l.committed st ≡ Fails Aborted
       at Outside h = cc
       at InBlock h = cc
       at Broken h = refl
-  broken-fails broken idle (inr is) = fails-there i (standing l t s) st ts Aborted idle (ap (λ k. perform_by s.status k (session_in i (standing l t s)) l.committed st) is ∙ at s.status broken)
+  broken-fails broken idle (inr is) = fails-there i (standing l t s) st ts Aborted idle
+      (ap (λ k. perform_by s.status k (session_in i (standing l t s)) l.committed st) is ∙ at s.status broken)
     where
       at : (status : Status) → is_broken status ≡ true → perform_by status Works (session_in i (standing l t s)) l.committed st ≡ Fails Aborted
       at Outside h = cc
@@ -255,14 +336,23 @@ faults-nothing i (Gives events writes) f l is = absurd (let no : None ≡ Some f
 faults-nothing i (Faults g) f l is = (refl, refl)
 
 -- a statement that works does what its effect is
-pub does-work : (i : ℕ) (l m : Layers) (t : Locks) (s : SessionState) (st : Bound) (tr : List Event) (fault : Option Fault) → kind st ≡ Works → is_broken s.status ≡ false → waits_now t.waits i ≡ false
+pub does-work : (i : ℕ) (l m : Layers) (t : Locks) (s : SessionState) (st : Bound) (tr : List Event) (fault : Option Fault) → kind st ≡ Works
+    → is_broken s.status ≡ false → waits_now t.waits i ≡ false
     → fault ≡ fault_of (effect st (sight i l)) → m ≡ left_by i (effect st (sight i l)) l → tr ≡ s.transcript ++ events_of (effect st (sight i l))
     → Does i (standing l t s) st (standing m t (record { status = s.status; transcript = tr })) fault
 does-work i l m t s st tr None is whole idle fault left told = λ ts.
-    subst (λ y. GoesOnTo i (standing l t s) (Do st ∷ ts) y ts) (λ k. record { layers = sym left k; locks = t; own = record { status = s.status; rest = []; transcript = sym told k } })
+    subst (λ y. GoesOnTo i (standing l t s) (Do st ∷ ts) y ts) (λ k. record {
+      layers = sym left k;
+      locks = t;
+      own = record { status = s.status; rest = []; transcript = sym told k };
+    })
     (works-there i (standing l t s) st ts is whole (sym fault))
 does-work i l m t s st tr (Some f) is whole idle fault left told = λ ts.
     let nothing = faults-nothing i (effect st (sight i l)) f l (sym fault) in
     subst (λ y. StopsIn i (standing l t s) (Do st ∷ ts) (failed_in i y f))
-    (λ k. record { layers = (sym nothing.0 ∙ sym left) k; locks = t; own = record { status = s.status; rest = []; transcript = (sym (append-nil s.transcript) ∙ ap (λ es. s.transcript ++ es) (sym nothing.1) ∙ sym told) k } })
+    (λ k. record {
+      layers = (sym nothing.0 ∙ sym left) k;
+      locks = t;
+      own = record { status = s.status; rest = []; transcript = (sym (append-nil s.transcript) ∙ ap (λ es. s.transcript ++ es) (sym nothing.1) ∙ sym told) k };
+    })
     (works-fails i (standing l t s) st ts f is whole idle (sym fault))

@@ -2,7 +2,8 @@
 use Rattle.std.specs.List.{All, list_any}
 use Rattle.std.proofs.lemmas.List.Elements.{All-get_or, All-set, All-nil, All-cons}
 use Rattle.std.proofs.lemmas.List.{length-map, length-replicate}
-use Rattle.std.proofs.Common.{◌≡◌, refl, sym, ap, ◌∙◌, subst, ℕ, zero, suc, ◌<◌, Bool, true, false, List, [], ◌∷◌, length, drop, map, set, get_or, replicate, Option, Some, None, is_some, arith, length-set, get_or-set_same, not, ◌||◌}
+use Rattle.std.proofs.Common.{◌≡◌, refl, sym, ap, ◌∙◌, subst, ℕ, zero, suc, ◌<◌, Bool, true, false, List, [], ◌∷◌, length, drop, map, set, get_or, replicate}
+use Rattle.std.proofs.Common.{Option, Some, None, is_some, arith, length-set, get_or-set_same, not, ◌||◌}
 use Rattle.finite_maps.specs.Map.{empty, get-empty}
 use Rattle.lock_modes.specs.Resource.{resource_order}
 use Rattle.lock_modes.specs.declared.mode.Mode.{Mode}
@@ -21,7 +22,8 @@ use Rattle.machine_model.specs.Session.{Session, tasks_of}
 use Rattle.session_machine.specs.State.{Own, no_own, session_of, sessions_from, world_of, SameOthers}
 use Rattle.session_machine.specs.Going.{Standing, standing, tasks_from, IsToGo, StopsIn, WaitsIf, GoesUntil, paused}
 use Rattle.machine_model.specs.World.{World, fresh, session_at, goes, look_of}
-use Rattle.machine_model.specs.Start.{has_failed, is_failure, is_outside, after_setup, forgotten, IsAlone, Start, Started, SetupFailed, SessionSetupFailed, SessionSetupWaits, main_setups, session_setups, started_then, start, IsIdle}
+use Rattle.machine_model.specs.Start.{has_failed, is_failure, is_outside, after_setup, forgotten, IsAlone, Start, Started, SetupFailed, SessionSetupFailed}
+use Rattle.machine_model.specs.Start.{SessionSetupWaits, main_setups, session_setups, started_then, start, IsIdle}
 use Rattle.machine_model.specs.Sound.{Steady}
 use Rattle.sql_subset.specs.Spec.{Step, Spec}
 use Rattle.session_machine.specs.Stage.{no_member, rest_of, own_of, world_in, member_at, IsWithin, RestIsOf, IsStage, IsBlank, IsSilent, IsSettled}
@@ -36,7 +38,8 @@ use Rattle.session_machine.proofs.Worlds.{goes-is, to-go}
 use Rattle.transcripts.specs.declared.event.Event.{Event}
 use Rattle.machine_model.specs.Outcome.{IsToldOf, TellsOwn}
 use Rattle.session_machine.specs.declared.error.StartError.{StartError}
-use Rattle.session_machine.specs.declared.error.StartError.TheVariants.{SetupFailed as SetupFailedAt, SessionSetupFailed as SessionSetupFailedAt, SessionSetupWaits as SessionSetupWaitsAt, NoMemory}
+use Rattle.session_machine.specs.declared.error.StartError.TheVariants.{SetupFailed as SetupFailedAt, SessionSetupFailed as SessionSetupFailedAt}
+use Rattle.session_machine.specs.declared.error.StartError.TheVariants.{SessionSetupWaits as SessionSetupWaitsAt, NoMemory}
 use Rattle.session_machine.specs.Running.{IsRefusedBy}
 
 -- before the first step is sent no session has a rest
@@ -72,7 +75,8 @@ module _ (x : Stage) (i : ℕ) (block : List Bound) (stage : IsStage [] x) (lt :
   set-up-idle = sym (stage.resting i lt) ∙ ap is_some (no-rest x i stage lt)
 
   own-is : get_or owns i no_own ≡ (standing x.store x.locks m.state).own
-  own-is = get_or-owns [] x.members.items i ∙ ap (λ o. record { status = m.state.status; rest = rest_of [] o; transcript = m.state.transcript }) (no-rest x i stage lt)
+  own-is = get_or-owns [] x.members.items i ∙ ap (λ o. record { status = m.state.status; rest = rest_of [] o; transcript = m.state.transcript })
+      (no-rest x i stage lt)
 
   at-is : session_at (world_in [] x) i ≡ session_of x.store x.locks i (standing x.store x.locks m.state).own
   at-is = session_at-is x.store x.locks owns i inside ∙ ap (session_of x.store x.locks i) own-is
@@ -85,20 +89,23 @@ module _ (x : Stage) (i : ℕ) (block : List Bound) (stage : IsStage [] x) (lt :
 
   pub set-up-to-go : IsToGo i x.store x.locks block 0 0
   set-up-to-go = to-go x.store x.locks owns i x.locks (standing x.store x.locks m.state).own block 0 0 within (same-refl i x.store x.locks) refl
-      (subst (λ s. Entering (world_in [] x) i s (tasks_from (drop 0 block) 0)) at-is (subst (Entering (world_in [] x) i (session_at (world_in [] x) i)) (sym (tasks_from-start block)) enters))
+      (subst (λ s. Entering (world_in [] x) i s (tasks_from (drop 0 block) 0)) at-is
+      (subst (Entering (world_in [] x) i (session_at (world_in [] x) i)) (sym (tasks_from-start block)) enters))
 
   module _ (z : Standing) (stops : StopsIn i (standing x.store x.locks m.state) (tasks_from (drop 0 block) 0) z) where
     goes-there : after ≡ world_of z.layers z.locks (set owns i z.own)
     goes-there =
         ap (λ s. goes (world_in [] x) i s (tasks_of block)) at-is
-        ∙ goes-is x.store x.locks owns i x.locks (standing x.store x.locks m.state).own (tasks_of block) z within.below inside (same-refl i x.store x.locks) refl
+        ∙ goes-is x.store x.locks owns i x.locks (standing x.store x.locks m.state).own (tasks_of block) z within.below inside (same-refl i x.store x.locks)
+        refl
         (subst (λ ts. StopsIn i (standing x.store x.locks m.state) ts z) (tasks_from-start block) stops)
 
     set-inside : i < length (set owns i z.own)
     set-inside = subst (λ n. i < n) (sym (length-set owns i z.own)) inside
 
     session-is : session_at after i ≡ session_of z.layers z.locks i z.own
-    session-is = ap (λ w. session_at w i) goes-there ∙ session_at-is z.layers z.locks (set owns i z.own) i set-inside ∙ ap (session_of z.layers z.locks i) (get_or-set_same owns i z.own no_own inside)
+    session-is = ap (λ w. session_at w i) goes-there ∙ session_at-is z.layers z.locks (set owns i z.own) i set-inside
+        ∙ ap (session_of z.layers z.locks i) (get_or-set_same owns i z.own no_own inside)
 
     pub failed-is : has_failed (session_at after i) ≡ list_any is_failure z.own.transcript
     failed-is = ap has_failed session-is
@@ -114,15 +121,26 @@ module _ (x : Stage) (i : ℕ) (block : List Bound) (stage : IsStage [] x) (lt :
 
     forgotten-there : forgotten after i ≡ world_of z.layers z.locks (set owns i quiet_own)
     forgotten-there =
-        (λ k. record { rows = (goes-there k).rows; sessions = set (goes-there k).sessions i (record (session-is k) { transcript = [] }); waits = (goes-there k).waits })
-        ∙ (λ k. record { rows = z.layers.committed; sessions = sym (sessions-set z.layers z.layers z.locks z.locks i quiet_own (set owns i z.own) (same-refl i z.layers z.locks)) k; waits = z.locks.waits })
+        (λ k. record {
+          rows = (goes-there k).rows;
+          sessions = set (goes-there k).sessions i (record (session-is k) { transcript = [] });
+          waits = (goes-there k).waits;
+        })
+        ∙ (λ k. record {
+          rows = z.layers.committed;
+          sessions =
+              sym (sessions-set z.layers z.layers z.locks z.locks i quiet_own (set owns i z.own) (same-refl i z.layers z.locks)) k;
+          waits = z.locks.waits;
+        })
         ∙ ap (world_of z.layers z.locks) (set-set owns i z.own quiet_own)
 
     steady-there : Steady (forgotten after i)
-    steady-there = touched-steady after i (record (session_at after i) { transcript = [] }) (record { overlay = refl; held = refl; rest = refl }) (goes-steady (world_in [] x) i (session_at (world_in [] x) i) (tasks_of block) enters)
+    steady-there = touched-steady after i (record (session_at after i) { transcript = [] }) (record { overlay = refl; held = refl; rest = refl })
+        (goes-steady (world_in [] x) i (session_at (world_in [] x) i) (tasks_of block) enters)
 
     -- the stage with its part changed, and what it told forgotten
-    module _ (y : Stage) (n : Member) (store : y.store ≡ z.layers) (locks : y.locks ≡ z.locks) (members : y.members.items ≡ set x.members.items i n) (own : own_of [] n ≡ quiet_own) (none : n.rest ≡ None) (waits : WaitsIf i x.locks z.locks false) where
+    module _ (y : Stage) (n : Member) (store : y.store ≡ z.layers) (locks : y.locks ≡ z.locks) (members : y.members.items
+        ≡ set x.members.items i n) (own : own_of [] n ≡ quiet_own) (none : n.rest ≡ None) (waits : WaitsIf i x.locks z.locks false) where
       pub forgot : world_in [] y ≡ forgotten after i
       forgot = world-set [] y x.members.items i n members ∙ (λ k. world_of (store k) (locks k) (set owns i (own k))) ∙ sym forgotten-there
 
@@ -140,14 +158,21 @@ map-blank zero = refl
 map-blank (suc n) = ap (λ os. no_own ∷ os) (map-blank n)
 
 slice-none : (i : ℕ) → slice i no_locks.held ≡ empty
-slice-none i = Rattle.finite_maps.specs.Map.same_map _ _ (λ r. Rattle.lock_queues.proofs.Slices.get-slice i no_locks.held r ∙ get-empty holding_order Mode (i, r) ∙ sym (get-empty resource_order Mode r))
+slice-none i = Rattle.finite_maps.specs.Map.same_map _ _ (λ r. Rattle.lock_queues.proofs.Slices.get-slice i no_locks.held r
+    ∙ get-empty holding_order Mode (i, r) ∙ sym (get-empty resource_order Mode r))
 
 overlay-none : (i : ℕ) → overlay_of i no_rows ≡ empty
 overlay-none i = ap (λ o. Rattle.std.specs.Option.unwrap_or o empty) (get-empty session_order Overlay i)
 
 sessions-blank : (i n : ℕ) → sessions_from no_rows no_locks i (replicate n no_own) ≡ replicate n fresh
 sessions-blank i zero = refl
-sessions-blank i (suc n) = λ k. record { overlay = overlay-none i k; held = slice-none i k; status = Outside; rest = []; transcript = [] } ∷ sessions-blank (suc i) n k
+sessions-blank i (suc n) = λ k. record {
+  overlay = overlay-none i k;
+  held = slice-none i k;
+  status = Outside;
+  rest = [];
+  transcript = [];
+} ∷ sessions-blank (suc i) n k
 
 pub blank-world : (n : ℕ) (x : Stage) → IsBlank (suc n) x → world_in [] x ≡ first_world n
 blank-world n x blank =
@@ -159,16 +184,21 @@ blank-stage : (n : ℕ) (x : Stage) → IsBlank (suc n) x → IsStage [] x
 blank-stage n x blank = record {
   within = record {
     overlays = λ c le. ap (overlay_of c) blank.store ∙ overlay-none c;
-    below = record { holders = λ c r le. ap (λ t. Rattle.lock_queues.specs.LockTable.look_in t c r) blank.locks ∙ get-empty holding_order Mode (c, r); waiters = subst (λ t. Rattle.lock_queues.specs.Sound.EachWait (λ w. w.session < length x.members.items) t.waits) (sym blank.locks) tt };
+    below = record {
+      holders = λ c r le. ap (λ t. Rattle.lock_queues.specs.LockTable.look_in t c r) blank.locks ∙ get-empty holding_order Mode (c, r);
+      waiters = subst (λ t. Rattle.lock_queues.specs.Sound.EachWait (λ w. w.session < length x.members.items) t.waits) (sym blank.locks) tt;
+    };
   };
   steady = subst Steady (sym (blank-world n x blank)) (first-steady n);
-  resting = λ c lt. ap (λ (q : Member). is_some q.rest) (ap (λ ms. get_or ms c no_member) blank.members ∙ get_or-replicate (suc n) c no_member) ∙ sym (ap (λ t. waits_now t.waits c) blank.locks);
+  resting = λ c lt. ap (λ (q : Member). is_some q.rest) (ap (λ ms. get_or ms c no_member) blank.members ∙ get_or-replicate (suc n) c no_member)
+      ∙ sym (ap (λ t. waits_now t.waits c) blank.locks);
   known = subst (All (RestIsOf 0)) (sym blank.members) (each-blank (suc n));
 }
   where
     each-blank : (k : ℕ) → All (RestIsOf 0) (replicate k no_member)
     each-blank zero = Rattle.std.proofs.lemmas.List.Elements.All-nil (RestIsOf 0)
-    each-blank (suc k) = Rattle.std.proofs.lemmas.List.Elements.All-cons (RestIsOf 0) no_member (replicate k no_member) (λ r is. let no : None ≡ Some r = is in cc) (each-blank k)
+    each-blank (suc k) = Rattle.std.proofs.lemmas.List.Elements.All-cons (RestIsOf 0) no_member (replicate k no_member) (λ r is. let no : None ≡ Some r = is
+        in cc) (each-blank k)
 
 get_or-replicate-any : (n c : ℕ) (d : Member) → c < length (replicate n no_member) → get_or (replicate n no_member) c d ≡ no_member
 get_or-replicate-any zero c d lt = absurd (omega arith)
@@ -194,7 +224,8 @@ own-kept steps (m ∷ ms) all = λ k. here k ∷ own-kept steps ms (λ j d lt. a
     here = at m.rest refl
       where
         at : (o : Option Rest) → m.rest ≡ o → own_of steps m ≡ own_of [] m
-        at None is = ap (λ o. record { status = m.state.status; rest = rest_of steps o; transcript = m.state.transcript }) is ∙ sym (ap (λ o. record { status = m.state.status; rest = rest_of [] o; transcript = m.state.transcript }) is)
+        at None is = ap (λ o. record { status = m.state.status; rest = rest_of steps o; transcript = m.state.transcript }) is
+            ∙ sym (ap (λ o. record { status = m.state.status; rest = rest_of [] o; transcript = m.state.transcript }) is)
         at (Some r) is = let below : r.step < 0 = all 0 m (omega arith) r is in absurd (omega arith)
 
 -- whichever steps are to be sent
@@ -211,7 +242,8 @@ any-stage steps x stage = record {
 
 -- ---- how a setup ends
 
-module _ (x : Stage) (i : ℕ) (block : List Bound) (stage : IsStage [] x) (lt : i < length x.members.items) (l : Layers) (t : Locks) (s : SessionState) (y : Stage) (store : y.store ≡ l) (locks : y.locks ≡ t)
+module _ (x : Stage) (i : ℕ) (block : List Bound) (stage : IsStage [] x) (lt : i < length x.members.items) (l : Layers) (t : Locks) (s : SessionState)
+    (y : Stage) (store : y.store ≡ l) (locks : y.locks ≡ t)
     (members : y.members.items ≡ set x.members.items i (record { state = record { status = s.status; transcript = [] }; rest = (member_at x i).rest })) where
   abbrev origin : Point
   origin = record { statement = 0; request = 0 }
@@ -219,14 +251,16 @@ module _ (x : Stage) (i : ℕ) (block : List Bound) (stage : IsStage [] x) (lt :
   abbrev here : Standing
   here = standing x.store x.locks (member_at x i).state
 
-  ended-whole : GoesUntil i here block origin l t s None → WaitsIf i x.locks t false → (failed outside : Bool) → list_any is_failure s.transcript ≡ failed → is_outside s.status ≡ outside → HasEnded (end_of failed false outside) i block x y
+  ended-whole : GoesUntil i here block origin l t s None → WaitsIf i x.locks t false → (failed outside : Bool) → list_any is_failure s.transcript ≡ failed
+      → is_outside s.status ≡ outside → HasEnded (end_of failed false outside) i block x y
   ended-whole goes waits failed outside f o = at failed outside f o
     where
       set-up : list_any is_failure s.transcript ≡ false → IsSetUp i block x y
       set-up f =
           let n : Member = record { state = record { status = s.status; transcript = [] }; rest = (member_at x i).rest } in
           let none = no-rest x i stage lt in
-          let own : own_of [] n ≡ record { status = s.status; rest = []; transcript = [] } = ap (λ r. record { status = s.status; rest = rest_of [] r; transcript = [] }) none in
+          let own : own_of [] n ≡ record { status = s.status; rest = []; transcript = [] } =
+          ap (λ r. record { status = s.status; rest = rest_of [] r; transcript = [] }) none in
           record {
             whole = failed-is x i block stage lt (standing l t s) goes ∙ f;
             idle = waits-is x i block stage lt (standing l t s) goes ∙ waits.own;
@@ -236,16 +270,23 @@ module _ (x : Stage) (i : ℕ) (block : List Bound) (stage : IsStage [] x) (lt :
             count = ap length members ∙ length-set x.members.items i n;
           }
 
-      at : (failed outside : Bool) → list_any is_failure s.transcript ≡ failed → is_outside s.status ≡ outside → HasEnded (end_of failed false outside) i block x y
+      at : (failed outside : Bool) → list_any is_failure s.transcript ≡ failed → is_outside s.status ≡ outside
+          → HasEnded (end_of failed false outside) i block x y
       at true outside f o = failed-is x i block stage lt (standing l t s) goes ∙ f
       at false true f o = (set-up f, outside-is x i block stage lt (standing l t s) goes ∙ o)
       at false false f o = (set-up f, outside-is x i block stage lt (standing l t s) goes ∙ o)
 
-  ended-waiting : (p : Point) → GoesUntil i here block origin l t s (Some p) → WaitsIf i x.locks t true → (failed : Bool) → list_any is_failure s.transcript ≡ failed → HasEnded (end_of failed true (is_outside s.status)) i block x y
+  ended-waiting : (p : Point) → GoesUntil i here block origin l t s (Some p) → WaitsIf i x.locks t true → (failed : Bool) → list_any is_failure s.transcript
+      ≡ failed → HasEnded (end_of failed true (is_outside s.status)) i block x y
   ended-waiting p goes waits true f = failed-is x i block stage lt (paused l t s block p) goes ∙ f
-  ended-waiting p goes waits false f = (failed-is x i block stage lt (paused l t s block p) goes ∙ f, waits-is x i block stage lt (paused l t s block p) goes ∙ waits.own)
+  ended-waiting p goes waits false f = (
+    failed-is x i block stage lt (paused l t s block p) goes ∙ f,
+    waits-is x i block stage lt (paused l t s block p) goes
+        ∙ waits.own,
+  )
 
-  pub ended : (stopped : Option Point) → GoesUntil i here block origin l t s stopped → WaitsIf i x.locks t (is_some stopped) → HasEnded (end_of (list_any is_failure s.transcript) (is_some stopped) (is_outside s.status)) i block x y
+  pub ended : (stopped : Option Point) → GoesUntil i here block origin l t s stopped → WaitsIf i x.locks t (is_some stopped)
+      → HasEnded (end_of (list_any is_failure s.transcript) (is_some stopped) (is_outside s.status)) i block x y
   ended None goes waits = ended-whole goes waits (list_any is_failure s.transcript) (is_outside s.status) refl refl
   ended (Some p) goes waits = ended-waiting p goes waits (list_any is_failure s.transcript) refl
 
@@ -258,12 +299,14 @@ module _ (control n : ℕ) (w : World) (block : List Bound) (blocks : List (List
   by : Bool → Start
   by b = elim b [ true ↦ SetupFailed n | false ↦ main_setups control (suc n) (forgotten gone control) blocks ]
 
-  pub main-goes : has_failed (session_at gone control) ≡ false → is_outside (session_at gone control).status ≡ true → main_setups control n w (block ∷ blocks) ≡ main_setups control (suc n) (forgotten gone control) blocks
+  pub main-goes : has_failed (session_at gone control) ≡ false → is_outside (session_at gone control).status ≡ true → main_setups control n w (block ∷ blocks)
+      ≡ main_setups control (suc n) (forgotten gone control) blocks
   unfolding by
   main-goes whole outside = λ k. by (whole k || not (outside k))
 
 -- the control session never waits
-pub main-idle : (control : ℕ) (x : Stage) (block : List Bound) → IsReadyForMains control x → waits_now (after_setup (world_in [] x) control block).waits control ≡ false
+pub main-idle : (control : ℕ) (x : Stage) (block : List Bound) → IsReadyForMains control x → waits_now (after_setup (world_in [] x) control block).waits control
+    ≡ false
 main-idle control x block ready =
     let gone = alone-goes control (suc control) (world_in [] x) block (omega arith) ready.world in
     ap (λ ws. waits_now ws control) gone.idle
@@ -287,7 +330,8 @@ module _ (i : ℕ) (w : World) (block : List Bound) (blocks : List (List Bound))
   so : Bool → Bool → Start
   so a b = elim a [ true ↦ SessionSetupFailed i | false ↦ elim b [ true ↦ SessionSetupWaits i | false ↦ session_setups (suc i) (forgotten later i) blocks ] ]
 
-  pub session-goes : has_failed (session_at later i) ≡ false → waits_now later.waits i ≡ false → session_setups i w (block ∷ blocks) ≡ session_setups (suc i) (forgotten later i) blocks
+  pub session-goes : has_failed (session_at later i) ≡ false → waits_now later.waits i ≡ false → session_setups i w (block ∷ blocks)
+      ≡ session_setups (suc i) (forgotten later i) blocks
   unfolding so
   session-goes whole idle = λ k. so (whole k) (idle k)
 
@@ -305,18 +349,21 @@ abbrev then_sessions : Spec → World → Start
 then_sessions spec w = session_setups 0 w spec.session_setups
 
 -- what the setups come to from a stage on which nothing is done is the start
-pub start-from : (spec : Spec) (x : Stage) → IsBlank (suc spec.sessions) x → start spec ≡ started_then (main_setups spec.sessions 0 (world_in [] x) spec.setups) (then_sessions spec)
+pub start-from : (spec : Spec) (x : Stage) → IsBlank (suc spec.sessions) x → start spec
+    ≡ started_then (main_setups spec.sessions 0 (world_in [] x) spec.setups) (then_sessions spec)
 start-from spec x blank = ap (λ w. started_then (main_setups spec.sessions 0 w spec.setups) (then_sessions spec)) (sym (blank-world spec.sessions x blank))
 
 -- main setups that are refused refuse the start
-pub refused-mains : (spec : Spec) (x : Stage) (e : StartError) → IsBlank (suc spec.sessions) x → IsRefusedBy e (main_setups spec.sessions 0 (world_in [] x) spec.setups) → IsRefusedBy e (start spec)
+pub refused-mains : (spec : Spec) (x : Stage) (e : StartError) → IsBlank (suc spec.sessions) x
+    → IsRefusedBy e (main_setups spec.sessions 0 (world_in [] x) spec.setups) → IsRefusedBy e (start spec)
 refused-mains spec x (SetupFailedAt n) blank is = start-from spec x blank ∙ ap (λ s. started_then s (then_sessions spec)) is
 refused-mains spec x (SessionSetupFailedAt i) blank is = start-from spec x blank ∙ ap (λ s. started_then s (then_sessions spec)) is
 refused-mains spec x (SessionSetupWaitsAt i) blank is = start-from spec x blank ∙ ap (λ s. started_then s (then_sessions spec)) is
 refused-mains spec x NoMemory blank is = tt
 
 -- where they are done the session setups decide
-pub start-sessions : (spec : Spec) (x y : Stage) → IsBlank (suc spec.sessions) x → main_setups spec.sessions 0 (world_in [] x) spec.setups ≡ Started (world_in [] y) → start spec ≡ session_setups 0 (world_in [] y) spec.session_setups
+pub start-sessions : (spec : Spec) (x y : Stage) → IsBlank (suc spec.sessions) x → main_setups spec.sessions 0 (world_in [] x) spec.setups
+    ≡ Started (world_in [] y) → start spec ≡ session_setups 0 (world_in [] y) spec.session_setups
 start-sessions spec x y blank is = start-from spec x blank ∙ ap (λ s. started_then s (then_sessions spec)) is
 
 pub refused-sessions : (spec : Spec) (s : Start) (e : StartError) → start spec ≡ s → IsRefusedBy e s → IsRefusedBy e (start spec)
@@ -339,6 +386,7 @@ settled-first sessions steps x ready =
     record {
       count = ready.each;
       stage = any-stage steps x ready.stage;
-      unripe = ap (λ (w : World). next_grant (length w.sessions) (look_of w) w.waits) here ∙ ap (next_grant (length (world_in [] x).sessions) (look_of (world_in [] x))) ready.world.idle;
+      unripe = ap (λ (w : World). next_grant (length w.sessions) (look_of w) w.waits) here
+          ∙ ap (next_grant (length (world_in [] x).sessions) (look_of (world_in [] x))) ready.world.idle;
       own = own-silent steps x ready.silent;
     }

@@ -2,7 +2,8 @@
 use Rattle.std.specs.List.{All}
 use Rattle.std.proofs.lemmas.List.Elements.{All-set}
 use Rattle.std.proofs.lemmas.List.{length-map, map-set}
-use Rattle.std.proofs.Common.{◌≡◌, ◌≢◌, refl, sym, ap, ◌∙◌, subst, ℕ, zero, suc, ◌<◌, Bool, true, false, ◌||◌, ◌==◌, List, [], ◌∷◌, ◌++◌, length, drop, map, set, get_or, Option, Some, None, is_some, ⊎_elim, arith, length-set, get_or-set_other, get_or-set_same, eqb-true, eq-eqb}
+use Rattle.std.proofs.Common.{◌≡◌, ◌≢◌, refl, sym, ap, ◌∙◌, subst, ℕ, zero, suc, ◌<◌, Bool, true, false, ◌||◌, ◌==◌, List, [], ◌∷◌, ◌++◌, length, drop, map}
+use Rattle.std.proofs.Common.{set, get_or, Option, Some, None, is_some, ⊎_elim, arith, length-set, get_or-set_other, get_or-set_same, eqb-true, eq-eqb}
 use Rattle.lock_queues.specs.declared.wait.Wait.{Wait}
 use Rattle.lock_queues.specs.Locks.{Spot, waits_now}
 use Rattle.lock_queues.specs.LockTable.{Locks, grant}
@@ -20,7 +21,8 @@ use Rattle.session_machine.specs.State.{Own, no_own, session_of, world_of, SameO
 use Rattle.session_machine.specs.Going.{standing, tasks_from, IsToGo, StopsIn, WaitsIf}
 use Rattle.machine_model.specs.World.{look_of, goes, granted, settle, left_to_do, send}
 use Rattle.machine_model.specs.Sound.{Steady, Ready}
-use Rattle.session_machine.specs.Stage.{no_member, statements_of, rest_of, own_of, world_in, member_at, part_of, IsWithin, RestIsOf, IsStage, note_member, HasTold, HasGone, HasResumed}
+use Rattle.session_machine.specs.Stage.{no_member, statements_of, rest_of, own_of, world_in, member_at, part_of, IsWithin, RestIsOf, IsStage, note_member}
+use Rattle.session_machine.specs.Stage.{HasTold, HasGone, HasResumed}
 use Rattle.machine_model.proofs.Basics.{cases-eq}
 use Rattle.session_machine.proofs.Steps.{tasks_from-start}
 use Rattle.session_machine.proofs.States.{length-sessions_from, next-is, same-refl, same-trans, same-taken}
@@ -49,13 +51,16 @@ get_or-any (x ∷ xs) zero d e lt = refl
 get_or-any (x ∷ xs) (suc i) d e lt = get_or-any xs i d e (omega arith)
 
 -- the world where one session is changed
-pub world-set : (steps : List Step) (y : Stage) (ms : List Member) (i : ℕ) (m : Member) → y.members.items ≡ set ms i m → world_in steps y ≡ world_of y.store y.locks (set (map (own_of steps) ms) i (own_of steps m))
+pub world-set : (steps : List Step) (y : Stage) (ms : List Member) (i : ℕ) (m : Member) → y.members.items ≡ set ms i m → world_in steps y
+    ≡ world_of y.store y.locks (set (map (own_of steps) ms) i (own_of steps m))
 world-set steps y ms i m is = ap (λ xs. world_of y.store y.locks (map (own_of steps) xs)) is ∙ ap (world_of y.store y.locks) (map-set (own_of steps) ms i m)
 
 -- ---- what holds of the stage where one session has gone
 
-module _ (steps : List Step) (i : ℕ) (x y : Stage) (t : Locks) (m : Member) (lt : i < length x.members.items) (stage : IsStage steps x) (before : SameOthers i x.store x.store x.locks t) (waits : (c : ℕ) → c ≢ i → waits_now t.waits c ≡ waits_now x.locks.waits c)
-    (members : y.members.items ≡ set x.members.items i m) (after : SameOthers i x.store y.store t y.locks) (now : WaitsIf i t y.locks (is_some m.rest)) (rest : RestIsOf (length steps) m) (steady : Steady (world_in steps y)) where
+module _ (steps : List Step) (i : ℕ) (x y : Stage) (t : Locks) (m : Member) (lt : i < length x.members.items) (stage : IsStage steps x)
+    (before : SameOthers i x.store x.store x.locks t) (waits : (c : ℕ) → c ≢ i → waits_now t.waits c ≡ waits_now x.locks.waits c)
+    (members : y.members.items ≡ set x.members.items i m) (after : SameOthers i x.store y.store t y.locks) (now : WaitsIf i t y.locks (is_some m.rest))
+    (rest : RestIsOf (length steps) m) (steady : Steady (world_in steps y)) where
   abbrev n : ℕ
   n = length x.members.items
 
@@ -73,13 +78,16 @@ module _ (steps : List Step) (i : ℕ) (x y : Stage) (t : Locks) (m : Member) (l
 
   resting : (c : ℕ) → c < n → is_some (member_at y c).rest ≡ waits_now y.locks.waits c
   resting c lt' = ⊎_elim
-      (λ e. subst (λ d. is_some (member_at y d).rest ≡ waits_now y.locks.waits d) (sym e) (ap (λ (q : Member). is_some q.rest) (member i ∙ get_or-set_same x.members.items i m no_member lt) ∙ sym now.own))
-      (λ ne. ap (λ (q : Member). is_some q.rest) (member c ∙ get_or-set_other x.members.items i c m no_member ne) ∙ stage.resting c lt' ∙ sym (waits c ne) ∙ sym (now.others c ne))
+      (λ e. subst (λ d. is_some (member_at y d).rest ≡ waits_now y.locks.waits d) (sym e)
+      (ap (λ (q : Member). is_some q.rest) (member i ∙ get_or-set_same x.members.items i m no_member lt) ∙ sym now.own))
+      (λ ne. ap (λ (q : Member). is_some q.rest) (member c ∙ get_or-set_other x.members.items i c m no_member ne) ∙ stage.resting c lt' ∙ sym (waits c ne)
+      ∙ sym (now.others c ne))
       (cases-eq c i)
 
   pub stage-gone : IsStage steps y
   stage-gone = record {
-    within = subst (λ k. IsWithin k y.store y.locks) (sym count) (within-still n i x.store y.store x.locks y.locks lt (same-trans i x.store x.store y.store x.locks t y.locks before after) known stage.within);
+    within = subst (λ k. IsWithin k y.store y.locks) (sym count)
+        (within-still n i x.store y.store x.locks y.locks lt (same-trans i x.store x.store y.store x.locks t y.locks before after) known stage.within);
     steady = steady;
     resting = λ c lt'. resting c (subst (λ k. c < k) count lt');
     known = subst (All (RestIsOf (length steps))) (sym members) (All-set (RestIsOf (length steps)) x.members.items i m rest stage.known);
@@ -94,10 +102,12 @@ pub record Gone (steps : List Step) (i : ℕ) (ts : List Task) (x : Stage) (t : 
   pub waits : WaitsIf i t y.locks (is_some (member_at y i).rest)
   pub known : RestIsOf (length steps) (member_at y i)
 
-pub gone-told : (steps : List Step) (i : ℕ) (ts : List Task) (x told y : Stage) (t : Locks) (e : Event) → i < length x.members.items → told.store ≡ x.store → told.locks ≡ t → told.members.items ≡ set x.members.items i (note_member (member_at x i) e)
+pub gone-told : (steps : List Step) (i : ℕ) (ts : List Task) (x told y : Stage) (t : Locks) (e : Event) → i < length x.members.items → told.store ≡ x.store
+    → told.locks ≡ t → told.members.items ≡ set x.members.items i (note_member (member_at x i) e)
     → HasGone steps i ts told y → Gone steps i ts x t e y
 gone-told steps i ts x told y t e lt store locks members gone =
-    let there : member_at told i ≡ note_member (member_at x i) e = ap (λ ms. get_or ms i no_member) members ∙ get_or-set_same x.members.items i (note_member (member_at x i) e) no_member lt in
+    let there : member_at told i ≡ note_member (member_at x i) e = ap (λ ms. get_or ms i no_member) members
+    ∙ get_or-set_same x.members.items i (note_member (member_at x i) e) no_member lt in
     record {
       members = gone.members ∙ ap (λ ms. set ms i (member_at y i)) members ∙ set-set x.members.items i (note_member (member_at x i) e) (member_at y i);
       stops = subst (λ z. StopsIn i z ts (part_of steps y i)) (λ k. standing (store k) (locks k) (there k).state) gone.stops;
@@ -142,28 +152,38 @@ module _ (steps : List Step) (x : Stage) (s : Spot) (stage : IsStage steps x) (n
   pub rests : is_some (member_at x i).rest ≡ true
   rests = stage.resting i session-known ∙ ap (λ ws. waits_now ws i) (sym next.there) ∙ waits-there s.before s.wait s.after
 
-  rest-is : (r : Rest) → (member_at x i).rest ≡ Some r → (get_or owns i no_own).rest ≡ tasks_from (drop r.point.statement (statements_of steps r.step)) r.point.request
+  rest-is : (r : Rest) → (member_at x i).rest ≡ Some r → (get_or owns i no_own).rest
+      ≡ tasks_from (drop r.point.statement (statements_of steps r.step)) r.point.request
   rest-is r is = ap (λ (o : Own). o.rest) (get_or-owns steps x.members.items i) ∙ ap (rest_of steps) is
 
   -- it is to go on with it
-  pub resumed-to-go : (r : Rest) → (member_at x i).rest ≡ Some r → IsToGo i x.store (grant x.locks s) (statements_of steps r.step) r.point.statement r.point.request
-  resumed-to-go r is = granted-to-go x.store x.locks owns s (statements_of steps r.step) r.point.statement r.point.request within stage.steady next inside (rest-is r is)
+  pub resumed-to-go : (r : Rest) → (member_at x i).rest ≡ Some r
+      → IsToGo i x.store (grant x.locks s) (statements_of steps r.step) r.point.statement r.point.request
+  resumed-to-go r is = granted-to-go x.store x.locks owns s (statements_of steps r.step) r.point.statement r.point.request within stage.steady next inside
+      (rest-is r is)
 
   next-now : next_in (world_in steps x) ≡ Some s
   next-now = next-is x.store x.locks owns within.below ∙ (tests-decide (length owns) x.locks within.below).next s next
 
-  module _ (r : Rest) (is : (member_at x i).rest ≡ Some r) (y : Stage) (gone : Gone steps i (tasks_from (drop r.point.statement (statements_of steps r.step)) r.point.request) x (grant x.locks s) Resumed y) where
-    stops : StopsIn i (record { layers = x.store; locks = grant x.locks s; own = resumed_own (get_or owns i no_own) }) (get_or owns i no_own).rest (part_of steps y i)
-    stops = subst (λ ts. StopsIn i (record { layers = x.store; locks = grant x.locks s; own = resumed_own (get_or owns i no_own) }) ts (part_of steps y i)) (sym (rest-is r is))
-        (subst (λ o. StopsIn i (record { layers = x.store; locks = grant x.locks s; own = resumed_own o }) (tasks_from (drop r.point.statement (statements_of steps r.step)) r.point.request) (part_of steps y i)) (sym (get_or-owns steps x.members.items i)) gone.stops)
+  module _ (r : Rest) (is : (member_at x i).rest ≡ Some r) (y : Stage)
+      (gone : Gone steps i (tasks_from (drop r.point.statement (statements_of steps r.step)) r.point.request) x (grant x.locks s) Resumed y) where
+    stops : StopsIn i (record { layers = x.store; locks = grant x.locks s; own = resumed_own (get_or owns i no_own) }) (get_or owns i no_own).rest
+        (part_of steps y i)
+    stops = subst (λ ts. StopsIn i (record { layers = x.store; locks = grant x.locks s; own = resumed_own (get_or owns i no_own) }) ts (part_of steps y i))
+        (sym (rest-is r is))
+        (subst (λ o. StopsIn i (record { layers = x.store; locks = grant x.locks s; own = resumed_own o })
+        (tasks_from (drop r.point.statement (statements_of steps r.step)) r.point.request) (part_of steps y i)) (sym (get_or-owns steps x.members.items i))
+        gone.stops)
 
-    left-out : (us : List Wait) (v : Wait) (vs : List Wait) → EachWait (λ w. w.session < length owns) (us ++ v ∷ vs) → EachWait (λ w. w.session < length owns) (us ++ vs)
+    left-out : (us : List Wait) (v : Wait) (vs : List Wait) → EachWait (λ w. w.session < length owns) (us ++ v ∷ vs)
+        → EachWait (λ w. w.session < length owns) (us ++ vs)
     left-out [] v vs p = p.1
     left-out (u ∷ us) v vs p = (p.0, left-out us v vs p.1)
 
     granted-now : granted (world_in steps x) s ≡ world_in steps y
     granted-now =
-        granted-is x.store x.locks owns s (part_of steps y i) within.below inside (left-out s.before s.wait s.after (subst (EachWait (λ w. w.session < length owns)) (sym next.there) within.below.waiters)) stops
+        granted-is x.store x.locks owns s (part_of steps y i) within.below inside
+        (left-out s.before s.wait s.after (subst (EachWait (λ w. w.session < length owns)) (sym next.there) within.below.waiters)) stops
         ∙ sym (world-set steps y x.members.items i (member_at y i) gone.members)
 
     its-grant : Grant (length (world_in steps x).sessions) (look_of (world_in steps x)) (world_in steps x).waits s
@@ -179,7 +199,8 @@ module _ (steps : List Step) (x : Stage) (s : Spot) (stage : IsStage steps x) (n
       settles = settle-grant (world_in steps x) s stage.steady next-now ∙ ap settle granted-now;
       less = subst (λ w. left_to_do w < left_to_do (world_in steps x)) granted-now (granted-left (world_in steps x) s stage.steady its-grant);
       stage = stage-gone steps i x y (grant x.locks s) (member_at y i) session-known stage same-grant
-          (λ c ne. waits-without s.before s.wait s.after c ne ∙ ap (λ ws. waits_now ws c) next.there) gone.members gone.stops.others gone.waits gone.known (subst Steady granted-now (granted-steady (world_in steps x) s stage.steady its-grant));
+          (λ c ne. waits-without s.before s.wait s.after c ne ∙ ap (λ ws. waits_now ws c) next.there) gone.members gone.stops.others gone.waits gone.known
+          (subst Steady granted-now (granted-steady (world_in steps x) s stage.steady its-grant));
       count = ap length gone.members ∙ length-set x.members.items i (member_at y i);
     }
 
@@ -218,7 +239,8 @@ module _ (steps : List Step) (x : Stage) (k i : ℕ) (stage : IsStage steps x) (
   not-sent-stage y told steady =
       let m = note_member (member_at x i) (NotSent k) in
       stage-gone steps i x y x.locks m lt stage (same-refl i x.store x.locks) (λ c ne. refl) told.members
-      (subst (λ l. SameOthers i x.store l x.locks y.locks) (sym told.store) (subst (λ t. SameOthers i x.store x.store x.locks t) (sym told.locks) (same-refl i x.store x.locks)))
+      (subst (λ l. SameOthers i x.store l x.locks y.locks) (sym told.store)
+      (subst (λ t. SameOthers i x.store x.store x.locks t) (sym told.locks) (same-refl i x.store x.locks)))
       (subst (λ t. WaitsIf i x.locks t (is_some m.rest)) (sym told.locks) (record { own = sym (stage.resting i lt); others = λ c ne. refl }))
       (λ r e. Rattle.std.proofs.lemmas.List.Elements.All-get_or (RestIsOf (length steps)) x.members.items i no_member lt stage.known r e) steady
 
@@ -230,32 +252,56 @@ module _ (steps : List Step) (x : Stage) (k i : ℕ) (stage : IsStage steps x) (
     sender-idle = sender-is (λ c. waits_now x.locks.waits c ≡ false) idle
 
     pub sent-to-go-now : IsToGo i x.store x.locks (statements_of steps k) 0 0
-    sent-to-go-now = subst (λ c. IsToGo c x.store x.locks (statements_of steps k) 0 0) (sym is) (sent-to-go steps x.store x.locks own_list k in-within stage.steady in-owns sender-idle)
+    sent-to-go-now = subst (λ c. IsToGo c x.store x.locks (statements_of steps k) 0 0) (sym is)
+        (sent-to-go steps x.store x.locks own_list k in-within stage.steady in-owns sender-idle)
 
     module _ (y : Stage) (gone : Gone steps i (tasks_from (drop 0 (statements_of steps k)) 0) x x.locks (Sent k) y) where
-      own-is : own_told (get_or own_list i no_own) (Sent k) ≡ record { status = (member_at x i).state.status; rest = []; transcript = (note_member (member_at x i) (Sent k)).state.transcript }
-      own-is = ap (λ o. own_told o (Sent k)) (get_or-owns steps x.members.items i) ∙ ap (λ o. record { status = (member_at x i).state.status; rest = rest_of steps o; transcript = (note_member (member_at x i) (Sent k)).state.transcript }) at-rest
+      own-is : own_told (get_or own_list i no_own) (Sent k) ≡ record {
+        status = (member_at x i).state.status;
+        rest = [];
+        transcript = (note_member (member_at x i) (Sent k)).state.transcript;
+      }
+      own-is = ap (λ o. own_told o (Sent k)) (get_or-owns steps x.members.items i)
+          ∙ ap (λ o. record {
+            status = (member_at x i).state.status;
+            rest = rest_of steps o;
+            transcript = (note_member (member_at x i) (Sent k)).state.transcript;
+          }) at-rest
 
-      stops-here : StopsIn i (record { layers = x.store; locks = x.locks; own = own_told (get_or own_list i no_own) (Sent k) }) (tasks_of (statements_of steps k)) (part_of steps y i)
-      stops-here = subst (λ o. StopsIn i (record { layers = x.store; locks = x.locks; own = o }) (tasks_of (statements_of steps k)) (part_of steps y i)) (sym own-is)
-          (subst (λ ts. StopsIn i (standing x.store x.locks (note_member (member_at x i) (Sent k)).state) ts (part_of steps y i)) (tasks_from-start (statements_of steps k)) gone.stops)
+      stops-here : StopsIn i (record { layers = x.store; locks = x.locks; own = own_told (get_or own_list i no_own) (Sent k) })
+          (tasks_of (statements_of steps k)) (part_of steps y i)
+      stops-here = subst (λ o. StopsIn i (record { layers = x.store; locks = x.locks; own = o }) (tasks_of (statements_of steps k)) (part_of steps y i))
+          (sym own-is)
+          (subst (λ ts. StopsIn i (standing x.store x.locks (note_member (member_at x i) (Sent k)).state) ts (part_of steps y i))
+          (tasks_from-start (statements_of steps k)) gone.stops)
 
-      sender-stops : StopsIn (get_or steps k no_step).session (record { layers = x.store; locks = x.locks; own = own_told (get_or own_list (get_or steps k no_step).session no_own) (Sent k) }) (tasks_of (statements_of steps k)) (part_of steps y i)
-      sender-stops = subst (λ c. StopsIn c (record { layers = x.store; locks = x.locks; own = own_told (get_or own_list c no_own) (Sent k) }) (tasks_of (statements_of steps k)) (part_of steps y i)) is stops-here
+      sender-stops : StopsIn (get_or steps k no_step).session (record {
+        layers = x.store;
+        locks = x.locks;
+        own = own_told (get_or own_list (get_or steps k no_step).session no_own) (Sent k);
+      }) (tasks_of (statements_of steps k)) (part_of steps y i)
+      sender-stops = subst (λ c. StopsIn c (record { layers = x.store; locks = x.locks; own = own_told (get_or own_list c no_own) (Sent k) })
+          (tasks_of (statements_of steps k)) (part_of steps y i)) is stops-here
 
       there : world_of y.store y.locks (set own_list (get_or steps k no_step).session (own_of steps (member_at y i))) ≡ world_in steps y
-      there = ap (λ c. world_of y.store y.locks (set own_list c (own_of steps (member_at y i)))) (sym is) ∙ sym (world-set steps y x.members.items i (member_at y i) gone.members)
+      there = ap (λ c. world_of y.store y.locks (set own_list c (own_of steps (member_at y i)))) (sym is)
+          ∙ sym (world-set steps y x.members.items i (member_at y i) gone.members)
 
       pub has-sent : send steps (world_in steps x) k ≡ settle (world_in steps y)
       has-sent = sent-goes steps x.store x.locks own_list k (part_of steps y i) in-within.below in-owns sender-idle sender-stops ∙ ap settle there
 
-      gone-there : goes (world_in steps x) (get_or steps k no_step).session (session_of x.store x.locks (get_or steps k no_step).session (own_told (get_or own_list (get_or steps k no_step).session no_own) (Sent k))) (tasks_of (statements_of steps k)) ≡ world_in steps y
+      gone-there : goes (world_in steps x) (get_or steps k no_step).session
+          (session_of x.store x.locks (get_or steps k no_step).session (own_told (get_or own_list (get_or steps k no_step).session no_own) (Sent k)))
+          (tasks_of (statements_of steps k)) ≡ world_in steps y
       gone-there =
           let c = (get_or steps k no_step).session in
-          goes-is x.store x.locks own_list c x.locks (own_told (get_or own_list c no_own) (Sent k)) (tasks_of (statements_of steps k)) (part_of steps y i) in-within.below in-owns (same-refl c x.store x.locks) refl sender-stops ∙ there
+          goes-is x.store x.locks own_list c x.locks (own_told (get_or own_list c no_own) (Sent k)) (tasks_of (statements_of steps k)) (part_of steps y i)
+          in-within.below in-owns (same-refl c x.store x.locks) refl sender-stops ∙ there
 
       pub sent-stage : IsStage steps y
       sent-stage =
           let c = (get_or steps k no_step).session in
-          stage-gone steps i x y x.locks (member_at y i) lt stage (same-refl i x.store x.locks) (λ d ne. refl) gone.members gone.stops.others gone.waits gone.known
-          (subst Steady gone-there (goes-steady (world_in steps x) c (session_of x.store x.locks c (own_told (get_or own_list c no_own) (Sent k))) (tasks_of (statements_of steps k)) (sent-enters steps x.store x.locks own_list k stage.steady in-owns sender-idle)))
+          stage-gone steps i x y x.locks (member_at y i) lt stage (same-refl i x.store x.locks) (λ d ne. refl) gone.members gone.stops.others gone.waits
+          gone.known
+          (subst Steady gone-there (goes-steady (world_in steps x) c (session_of x.store x.locks c (own_told (get_or own_list c no_own) (Sent k)))
+          (tasks_of (statements_of steps k)) (sent-enters steps x.store x.locks own_list k stage.steady in-owns sender-idle)))

@@ -22,7 +22,8 @@ use Rattle.session_machine.proofs.Worlds.{settled-is}
 
 -- what the table tells is what the world tells
 pub look-now : (steps : List Step) (s : Stage) → IsStage steps s → look_of (world_in steps s) ≡ look_in s.locks
-look-now steps s stage = look-is s.store s.locks (map (own_of steps) s.members.items) (subst (λ n. IsWithin n s.store s.locks) (sym (length-map s.members.items (own_of steps))) stage.within).below
+look-now steps s stage = look-is s.store s.locks (map (own_of steps) s.members.items)
+    (subst (λ n. IsWithin n s.store s.locks) (sym (length-map s.members.items (own_of steps))) stage.within).below
 
 pub length-world : (steps : List Step) (s : Stage) → length (world_in steps s).sessions ≡ length s.members.items
 length-world steps s = length-sessions_from s.store s.locks 0 (map (own_of steps) s.members.items) ∙ length-map s.members.items (own_of steps)
@@ -33,14 +34,19 @@ sound-now sessions steps s settled = sound-from (world_in steps s) settled.stage
 
 -- where nothing is ripe the world is settled
 pub settled-now : (steps : List Step) (s : Stage) → IsStage steps s → NothingRipe s.locks → settle (world_in steps s) ≡ world_in steps s
-settled-now steps s stage never = settled-is s.store s.locks (map (own_of steps) s.members.items) (subst (λ n. IsWithin n s.store s.locks) (sym (length-map s.members.items (own_of steps))) stage.within).below never
+settled-now steps s stage never = settled-is s.store s.locks (map (own_of steps) s.members.items)
+    (subst (λ n. IsWithin n s.store s.locks) (sym (length-map s.members.items (own_of steps))) stage.within).below never
 
 -- a step that is sent leaves the world sound
-pub sound-after : (sessions : ℕ) (steps : List Step) (s : Stage) (k : ℕ) → IsSettled sessions steps s → (get_or steps k no_step).session < suc sessions → Sound (send steps (world_in steps s) k)
-sound-after sessions steps s k settled known = send-sound steps (world_in steps s) k (sound-now sessions steps s settled) (subst (λ n. (get_or steps k no_step).session < n) (sym (length-world steps s ∙ settled.count)) known)
+pub sound-after : (sessions : ℕ) (steps : List Step) (s : Stage) (k : ℕ) → IsSettled sessions steps s → (get_or steps k no_step).session < suc sessions
+    → Sound (send steps (world_in steps s) k)
+sound-after sessions steps s k settled known = send-sound steps (world_in steps s) k (sound-now sessions steps s settled)
+    (subst (λ n. (get_or steps k no_step).session < n) (sym (length-world steps s ∙ settled.count)) known)
 
 -- the step that was sent leaves the stage settled
-pub settled-after : (sessions : ℕ) (steps : List Step) (x y : Stage) (k : ℕ) → IsSettled sessions steps x → k < length steps → (get_or steps k no_step).session < suc sessions → world_in steps y ≡ send steps (world_in steps x) k → IsStage steps y → length y.members.items ≡ length x.members.items
+pub settled-after : (sessions : ℕ) (steps : List Step) (x y : Stage) (k : ℕ) → IsSettled sessions steps x → k < length steps
+    → (get_or steps k no_step).session < suc sessions → world_in steps y ≡ send steps (world_in steps x) k → IsStage steps y → length y.members.items
+    ≡ length x.members.items
     → IsSettled sessions steps y
 settled-after sessions steps x y k settled lt known sent stage count =
     let sound : Sound (world_in steps y) = subst Sound (sym sent) (sound-after sessions steps x k settled known) in
@@ -57,9 +63,12 @@ same-world steps x y same = λ k. world_of (same.store k) (same.locks k) (map (o
 
 same-stage : (steps : List Step) (x y : Stage) → HasSameParts x y → IsStage steps x → IsStage steps y
 same-stage steps x y same stage = record {
-  within = subst (λ (ms : List Member). IsWithin (length ms) y.store y.locks) (sym same.members) (subst (λ t. IsWithin (length x.members.items) y.store t) (sym same.locks) (subst (λ l. IsWithin (length x.members.items) l x.locks) (sym same.store) stage.within));
+  within = subst (λ (ms : List Member). IsWithin (length ms) y.store y.locks) (sym same.members)
+      (subst (λ t. IsWithin (length x.members.items) y.store t) (sym same.locks)
+      (subst (λ l. IsWithin (length x.members.items) l x.locks) (sym same.store) stage.within));
   steady = subst Steady (sym (same-world steps x y same)) stage.steady;
-  resting = λ c lt. ap (λ (ms : List Member). is_some (get_or ms c no_member).rest) same.members ∙ stage.resting c (subst (λ (ms : List Member). c < length ms) same.members lt) ∙ ap (λ (t : Locks). waits_now t.waits c) (sym same.locks);
+  resting = λ c lt. ap (λ (ms : List Member). is_some (get_or ms c no_member).rest) same.members
+      ∙ stage.resting c (subst (λ (ms : List Member). c < length ms) same.members lt) ∙ ap (λ (t : Locks). waits_now t.waits c) (sym same.locks);
   known = subst (All (RestIsOf (length steps))) (sym same.members) stage.known;
 }
 
@@ -73,7 +82,8 @@ same-settled sessions steps x y same settled = record {
 
 -- ---- what the sessions were told
 
-outcome-from : (l : Layers) (t : Locks) (steps : List Step) (i n : ℕ) (ms : List Member) → map (λ (s : Session). s.transcript) (take n (sessions_from l t i (map (own_of steps) ms))) ≡ transcripts_of (take n ms)
+outcome-from : (l : Layers) (t : Locks) (steps : List Step) (i n : ℕ) (ms : List Member)
+    → map (λ (s : Session). s.transcript) (take n (sessions_from l t i (map (own_of steps) ms))) ≡ transcripts_of (take n ms)
 outcome-from l t steps i zero ms = refl
 outcome-from l t steps i (suc n) [] = refl
 outcome-from l t steps i (suc n) (m ∷ ms) = ap (λ ts. m.state.transcript ∷ ts) (outcome-from l t steps (suc i) n ms)

@@ -1,5 +1,6 @@
 -- A world in a store and a lock table: its sessions, and what one session's steps change of it.
-use Rattle.std.proofs.Common.{◌≡◌, ◌≢◌, refl, sym, ap, ◌∙◌, subst, ℕ, zero, suc, ◌+◌, ◌<◌, ◌≤◌, false, cond, List, [], ◌∷◌, length, set, get_or, ◌⊎◌, ⊎_elim, arith}
+use Rattle.std.proofs.Common.{◌≡◌, ◌≢◌, refl, sym, ap, ◌∙◌, subst, ℕ, zero, suc, ◌+◌, ◌<◌, ◌≤◌, false, cond, List, [], ◌∷◌, length, set, get_or, ◌⊎◌, ⊎_elim}
+use Rattle.std.proofs.Common.{arith}
 use Rattle.std.proofs.lemmas.List.{get_or_past}
 use Rattle.finite_maps.specs.Map.{same_key, same_key-true, same_key-refl, get, insert, empty, get-empty}
 use Rattle.lock_modes.specs.Resource.{resource_order}
@@ -26,19 +27,23 @@ pub length-sessions_from : (l : Layers) (t : Locks) (i : ℕ) (owns : List Own) 
 length-sessions_from l t i [] = refl
 length-sessions_from l t i (own ∷ owns) = ap suc (length-sessions_from l t (suc i) owns)
 
-get_or-sessions_from : (l : Layers) (t : Locks) (i c : ℕ) (owns : List Own) → c < length owns → get_or (sessions_from l t i owns) c fresh ≡ session_of l t (i + c) (get_or owns c no_own)
+get_or-sessions_from : (l : Layers) (t : Locks) (i c : ℕ) (owns : List Own) → c < length owns → get_or (sessions_from l t i owns) c fresh
+    ≡ session_of l t (i + c) (get_or owns c no_own)
 get_or-sessions_from l t i c [] lt = absurd (omega arith)
 get_or-sessions_from l t i zero (own ∷ owns) lt = ap (λ n. session_of l t n own) (let e : i ≡ i + 0 = omega arith in e)
-get_or-sessions_from l t i (suc c) (own ∷ owns) lt = get_or-sessions_from l t (suc i) c owns (omega arith) ∙ ap (λ n. session_of l t n (get_or owns c no_own)) (let e : suc i + c ≡ i + suc c = omega arith in e)
+get_or-sessions_from l t i (suc c) (own ∷ owns) lt = get_or-sessions_from l t (suc i) c owns (omega arith)
+    ∙ ap (λ n. session_of l t n (get_or owns c no_own)) (let e : suc i + c ≡ i + suc c = omega arith in e)
 
-pub session_at-is : (l : Layers) (t : Locks) (owns : List Own) (c : ℕ) → c < length owns → session_at (world_of l t owns) c ≡ session_of l t c (get_or owns c no_own)
+pub session_at-is : (l : Layers) (t : Locks) (owns : List Own) (c : ℕ) → c < length owns → session_at (world_of l t owns) c
+    ≡ session_of l t c (get_or owns c no_own)
 session_at-is l t owns c lt = get_or-sessions_from l t 0 c owns lt ∙ ap (λ n. session_of l t n (get_or owns c no_own)) (let e : 0 + c ≡ c = omega arith in e)
 
 pub session_at-past : (l : Layers) (t : Locks) (owns : List Own) (c : ℕ) → length owns ≤ c → session_at (world_of l t owns) c ≡ fresh
 session_at-past l t owns c le = get_or_past (sessions_from l t 0 owns) c fresh (let e = length-sessions_from l t 0 owns in omega arith)
 
 -- a session is changed, and with it its part of the store and of the table
-set-sessions_from : (l m : Layers) (t u : Locks) (k j : ℕ) (own : Own) (owns : List Own) → SameOthers (k + j) l m t u → sessions_from m u k (set owns j own) ≡ set (sessions_from l t k owns) j (session_of m u (k + j) own)
+set-sessions_from : (l m : Layers) (t u : Locks) (k j : ℕ) (own : Own) (owns : List Own) → SameOthers (k + j) l m t u → sessions_from m u k (set owns j own)
+    ≡ set (sessions_from l t k owns) j (session_of m u (k + j) own)
 set-sessions_from l m t u k j own [] same = refl
 set-sessions_from l m t u k zero own (o ∷ owns) same =
     let here : k ≡ k + 0 = omega arith in
@@ -48,17 +53,26 @@ set-sessions_from l m t u k zero own (o ∷ owns) same =
     rest-same n [] off = refl
     rest-same n (p ∷ os) off =
         let apart : n ≢ k + 0 = λ e. off n (omega arith) e in
-        λ x. record { overlay = same.overlays n apart x; held = same.held n apart x; status = p.status; rest = p.rest; transcript = p.transcript } ∷ rest-same (suc n) os (λ c le e. off c (omega arith) e) x
+        λ x. record {
+          overlay = same.overlays n apart x;
+          held = same.held n apart x;
+          status = p.status;
+          rest = p.rest;
+          transcript = p.transcript;
+        } ∷ rest-same (suc n) os (λ c le e. off c (omega arith) e) x
 set-sessions_from l m t u k (suc j) own (o ∷ owns) same =
     let apart : k ≢ k + suc j = λ e. omega arith in
     let next : suc k + j ≡ k + suc j = omega arith in
     (λ x. record { overlay = same.overlays k apart x; held = same.held k apart x; status = o.status; rest = o.rest; transcript = o.transcript }
-    ∷ (set-sessions_from l m t u (suc k) j own owns (subst (λ n. SameOthers n l m t u) (sym next) same) ∙ ap (λ n. set (sessions_from l t (suc k) owns) j (session_of m u n own)) next) x)
+    ∷ (set-sessions_from l m t u (suc k) j own owns (subst (λ n. SameOthers n l m t u) (sym next) same)
+    ∙ ap (λ n. set (sessions_from l t (suc k) owns) j (session_of m u n own)) next) x)
 
-pub sessions-set : (l m : Layers) (t u : Locks) (i : ℕ) (own : Own) (owns : List Own) → SameOthers i l m t u → sessions_from m u 0 (set owns i own) ≡ set (sessions_from l t 0 owns) i (session_of m u i own)
+pub sessions-set : (l m : Layers) (t u : Locks) (i : ℕ) (own : Own) (owns : List Own) → SameOthers i l m t u → sessions_from m u 0 (set owns i own)
+    ≡ set (sessions_from l t 0 owns) i (session_of m u i own)
 sessions-set l m t u i own owns same =
     let e : 0 + i ≡ i = omega arith in
-    set-sessions_from l m t u 0 i own owns (subst (λ n. SameOthers n l m t u) (sym e) same) ∙ ap (λ n. set (sessions_from l t 0 owns) i (session_of m u n own)) e
+    set-sessions_from l m t u 0 i own owns (subst (λ n. SameOthers n l m t u) (sym e) same)
+    ∙ ap (λ n. set (sessions_from l t 0 owns) i (session_of m u n own)) e
 
 -- ---- look-ups
 
@@ -73,7 +87,8 @@ look-is l t owns below = λ k c r. at c r k
         (λ le. ap (λ (s : Session). get s.held r) (session_at-past l t owns c le) ∙ get-empty resource_order Mode r ∙ sym (below.holders c r le)) cases
 
 -- the next grant of the world is that of the table
-pub next-is : (l : Layers) (t : Locks) (owns : List Own) → IsBelow (length owns) t → next_grant (length (world_of l t owns).sessions) (look_of (world_of l t owns)) t.waits ≡ to_grant (length owns) t
+pub next-is : (l : Layers) (t : Locks) (owns : List Own) → IsBelow (length owns) t
+    → next_grant (length (world_of l t owns).sessions) (look_of (world_of l t owns)) t.waits ≡ to_grant (length owns) t
 next-is l t owns below = λ k. next_grant (length-sessions_from l t 0 owns k) (look-is l t owns below k) t.waits
 
 -- ---- who else is changed
@@ -90,8 +105,15 @@ same-trans i l m n t u v p q = record { overlays = λ c ne. q.overlays c ne ∙ 
 pub held-taken : (t : Locks) (i : ℕ) (r : Resource) (m : Mode) → slice i (taken t i r m).held ≡ insert (slice i t.held) r (wanted (get (slice i t.held) r) m)
 held-taken t i r m = slice-insert t.held i r (wanted (look_in t i r) m) ∙ ap (λ o. insert (slice i t.held) r (wanted o m)) (sym (get-slice i t.held r))
 
-pub session-taken : (l : Layers) (t : Locks) (i : ℕ) (r : Resource) (m : Mode) (own : Own) → session_of l (taken t i r m) i own ≡ taking (session_of l t i own) r m
-session-taken l t i r m own = λ k. record { overlay = overlay_of i l; held = held-taken t i r m k; status = own.status; rest = own.rest; transcript = own.transcript }
+pub session-taken : (l : Layers) (t : Locks) (i : ℕ) (r : Resource) (m : Mode) (own : Own) → session_of l (taken t i r m) i own
+    ≡ taking (session_of l t i own) r m
+session-taken l t i r m own = λ k. record {
+  overlay = overlay_of i l;
+  held = held-taken t i r m k;
+  status = own.status;
+  rest = own.rest;
+  transcript = own.transcript;
+}
 
 pub same-taken : (l : Layers) (t : Locks) (i : ℕ) (r : Resource) (m : Mode) → SameOthers i l l t (taken t i r m)
 same-taken l t i r m = record { overlays = λ c ne. refl; held = λ c ne. slice-insert_other t.held i c r (wanted (look_in t i r) m) ne }
@@ -110,7 +132,8 @@ waits-let_go t i idle = sym (Rattle.lock_queues.proofs.Keeping.absent-others i t
 -- ---- the store
 
 overlay-wrote : (i : ℕ) (w : Write) (l : Layers) → overlay_of i (wrote i w.place w.left l) ≡ insert (overlay_of i l) w.place w.left
-overlay-wrote i w l = overlay_of-wrote i w.place w.left l i ∙ ap (λ b. cond b (insert (overlay_of i l) w.place w.left) (overlay_of i l)) (same_key-refl session_order i)
+overlay-wrote i w l = overlay_of-wrote i w.place w.left l i
+    ∙ ap (λ b. cond b (insert (overlay_of i l) w.place w.left) (overlay_of i l)) (same_key-refl session_order i)
 
 -- what a session writes is its own
 pub overlay-wrote_each : (i : ℕ) (ws : List Write) (l : Layers) → overlay_of i (wrote_each i ws l) ≡ written ws (overlay_of i l)
@@ -121,11 +144,16 @@ apart : (c i : ℕ) → c ≢ i → same_key session_order c i ≡ false
 apart c i ne = ⊎_elim (λ h. absurd (ne (same_key-true session_order c i h))) (λ h. h) (known (same_key session_order c i))
 
 pub same-wrote : (i : ℕ) (w : Write) (l : Layers) (t : Locks) → SameOthers i l (wrote i w.place w.left l) t t
-same-wrote i w l t = record { overlays = λ c ne. overlay_of-wrote i w.place w.left l c ∙ ap (λ b. cond b (insert (overlay_of i l) w.place w.left) (overlay_of c l)) (apart c i ne); held = λ c ne. refl }
+same-wrote i w l t = record {
+  overlays = λ c ne. overlay_of-wrote i w.place w.left l c
+      ∙ ap (λ b. cond b (insert (overlay_of i l) w.place w.left) (overlay_of c l)) (apart c i ne);
+  held = λ c ne. refl;
+}
 
 same-wrote_each : (i : ℕ) (ws : List Write) (l : Layers) (t : Locks) → SameOthers i l (wrote_each i ws l) t t
 same-wrote_each i [] l t = same-refl i l t
-same-wrote_each i (w ∷ ws) l t = same-trans i l (wrote i w.place w.left l) (wrote_each i (w ∷ ws) l) t t t (same-wrote i w l t) (same-wrote_each i ws (wrote i w.place w.left l) t)
+same-wrote_each i (w ∷ ws) l t = same-trans i l (wrote i w.place w.left l) (wrote_each i (w ∷ ws) l) t t t (same-wrote i w l t)
+    (same-wrote_each i ws (wrote i w.place w.left l) t)
 
 pub same-left_by : (i : ℕ) (e : Effect) (l : Layers) (t : Locks) → SameOthers i l (left_by i e l) t t
 same-left_by i (Gives events writes) l t = same-wrote_each i writes l t

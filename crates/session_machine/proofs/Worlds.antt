@@ -1,6 +1,7 @@
 -- A session of a world goes: the world afterwards, from the store, the lock table and what is kept of each session.
 use Rattle.transcripts.specs.declared.event.Event.{Event}
-use Rattle.std.proofs.Common.{◌≡◌, ◌≢◌, refl, sym, ap, ◌∙◌, subst, ℕ, ◌<◌, ◌≤◌, false, List, [], ◌∷◌, ◌++◌, length, drop, set, get_or, ◌==◌, eqb-true, ◌⊎◌, ⊎_elim, arith, true, Some}
+use Rattle.std.proofs.Common.{◌≡◌, ◌≢◌, refl, sym, ap, ◌∙◌, subst, ℕ, ◌<◌, ◌≤◌, false, List, [], ◌∷◌, ◌++◌, length, drop, set, get_or, ◌==◌, eqb-true, ◌⊎◌}
+use Rattle.std.proofs.Common.{⊎_elim, arith, true, Some}
 use Rattle.finite_maps.specs.Map.{get}
 use Rattle.lock_modes.specs.declared.resource.Resource.{Resource}
 use Rattle.lock_queues.specs.declared.wait.Wait.{Wait}
@@ -33,25 +34,32 @@ look-same : (i : ℕ) (l m : Layers) (t u : Locks) → SameOthers i l m t u → 
 look-same i l m t u same c r ne = sym (get-slice c u.held r) ∙ ap (λ h. get h r) (same.held c ne) ∙ get-slice c t.held r
 
 -- what one session does leaves the others past these as they were
-pub within-still : (n i : ℕ) (l m : Layers) (t u : Locks) → i < n → SameOthers i l m t u → EachWait (λ w. w.session < n) u.waits → IsWithin n l t → IsWithin n m u
+pub within-still : (n i : ℕ) (l m : Layers) (t u : Locks) → i < n → SameOthers i l m t u → EachWait (λ w. w.session < n) u.waits → IsWithin n l t
+    → IsWithin n m u
 within-still n i l m t u lt same waiters within = record {
   overlays = λ c le. same.overlays c (λ e. absurd (omega arith)) ∙ within.overlays c le;
   below = record { holders = λ c r le. look-same i l m t u same c r (λ e. absurd (omega arith)) ∙ within.below.holders c r le; waiters = waiters };
 }
 
 -- the scene of a world, when one session has begun to change what it holds
-pub scene-is : (l : Layers) (t u : Locks) (owns : List Own) (i : ℕ) → IsBelow (length owns) t → i < length owns → SameOthers i l l t u → u.waits ≡ t.waits → IsScene (scene_of (world_of l t owns)) i u
+pub scene-is : (l : Layers) (t u : Locks) (owns : List Own) (i : ℕ) → IsBelow (length owns) t → i < length owns → SameOthers i l l t u → u.waits ≡ t.waits
+    → IsScene (scene_of (world_of l t owns)) i u
 scene-is l t u owns i below lt same waits = record {
   others = λ c r ne. look-same i l l t u same c r ne ∙ sym (ap (λ look. look c r) (look-is l t owns below));
   waits = waits;
   below = subst (λ n. IsBelow n u) (sym (length-sessions_from l t 0 owns))
-      (record { holders = λ c r le. look-same i l l t u same c r (λ e. absurd (omega arith)) ∙ below.holders c r le; waiters = subst (EachWait (λ w. w.session < length owns)) (sym waits) below.waiters });
+      (record {
+        holders = λ c r le. look-same i l l t u same c r (λ e. absurd (omega arith)) ∙ below.holders c r le;
+        waiters = subst (EachWait (λ w. w.session < length owns)) (sym waits) below.waiters;
+      });
   known = subst (λ n. i < n) (sym (length-sessions_from l t 0 owns)) lt;
 }
 
 -- a session goes from there to here: the world has its part changed
-pub goes-is : (l : Layers) (t : Locks) (owns : List Own) (i : ℕ) (u : Locks) (own : Own) (ts : List Task) (y : Standing) → IsBelow (length owns) t → i < length owns → SameOthers i l l t u → u.waits ≡ t.waits
-    → StopsIn i (record { layers = l; locks = u; own = own }) ts y → goes (world_of l t owns) i (session_of l u i own) ts ≡ world_of y.layers y.locks (set owns i y.own)
+pub goes-is : (l : Layers) (t : Locks) (owns : List Own) (i : ℕ) (u : Locks) (own : Own) (ts : List Task) (y : Standing) → IsBelow (length owns) t
+    → i < length owns → SameOthers i l l t u → u.waits ≡ t.waits
+    → StopsIn i (record { layers = l; locks = u; own = own }) ts y → goes (world_of l t owns) i (session_of l u i own) ts
+    ≡ world_of y.layers y.locks (set owns i y.own)
 goes-is l t owns i u own ts y below lt same waits stops =
     let w = world_of l t owns in
     let others = Rattle.session_machine.proofs.States.same-trans i l l y.layers t u y.locks same stops.others in
@@ -72,8 +80,10 @@ without_wait t s = record { held = t.held; waits = s.before ++ s.after }
 abbrev pub resumed_own : Own → Own
 resumed_own own = record { status = own.status; rest = []; transcript = own.transcript ++ Resumed ∷ [] }
 
-pub granted-is : (l : Layers) (t : Locks) (owns : List Own) (s : Spot) (y : Standing) → IsBelow (length owns) t → s.wait.session < length owns → EachWait (λ w. w.session < length owns) (s.before ++ s.after)
-    → StopsIn s.wait.session (record { layers = l; locks = grant t s; own = resumed_own (get_or owns s.wait.session no_own) }) (get_or owns s.wait.session no_own).rest y
+pub granted-is : (l : Layers) (t : Locks) (owns : List Own) (s : Spot) (y : Standing) → IsBelow (length owns) t → s.wait.session < length owns
+    → EachWait (λ w. w.session < length owns) (s.before ++ s.after)
+    → StopsIn s.wait.session (record { layers = l; locks = grant t s; own = resumed_own (get_or owns s.wait.session no_own) })
+    (get_or owns s.wait.session no_own).rest y
     → granted (world_of l t owns) s ≡ world_of y.layers y.locks (set owns s.wait.session y.own)
 granted-is l t owns s y below lt waiters stops =
     let i = s.wait.session in
@@ -81,7 +91,8 @@ granted-is l t owns s y below lt waiters stops =
     let m = s.wait.mode in
     let own = get_or owns i no_own in
     let t1 = without_wait t s in
-    let session : note (record (taking (session_of l t i own) r m) { rest = [] }) Resumed ≡ session_of l (grant t s) i (resumed_own own) = sym (ap (λ (x : Session). note (record x { rest = [] }) Resumed) (session-taken l t1 i r m own)) in
+    let session : note (record (taking (session_of l t i own) r m) { rest = [] }) Resumed
+    ≡ session_of l (grant t s) i (resumed_own own) = sym (ap (λ (x : Session). note (record x { rest = [] }) Resumed) (session-taken l t1 i r m own)) in
     ap (λ (x : Session). goes (world_of l t1 owns) i (note (record (taking x r m) { rest = [] }) Resumed) x.rest) (session_at-is l t owns i lt)
     ∙ ap (λ x. goes (world_of l t1 owns) i x own.rest) session
     ∙ goes-is l t1 owns i (grant t s) (resumed_own own) own.rest y (record { holders = below.holders; waiters = waiters }) lt (same-taken l t1 i r m) refl stops
@@ -89,7 +100,8 @@ granted-is l t owns s y below lt waiters stops =
 -- ---- what lets a session go on
 
 -- every other session writes under its locks
-others-under : (l : Layers) (t : Locks) (owns : List Own) → IsWithin (length owns) l t → Steady (world_of l t owns) → (c : ℕ) → UnderLocks (overlay_of c l) (slice c t.held)
+others-under : (l : Layers) (t : Locks) (owns : List Own) → IsWithin (length owns) l t → Steady (world_of l t owns) → (c : ℕ)
+    → UnderLocks (overlay_of c l) (slice c t.held)
 others-under l t owns within steady c =
     let cases : (c < length owns) ⊎ (length owns ≤ c) = grind arith in
     ⊎_elim (λ lt. subst (λ (x : Session). UnderLocks x.overlay x.held) (session_at-is l t owns c lt) (steady.under c))
@@ -97,10 +109,12 @@ others-under l t owns within steady c =
 
 idle-now : (i : ℕ) (ws : List Wait) → EachWait (λ w. w.session ≢ i) ws → waits_now ws i ≡ false
 idle-now i [] each = refl
-idle-now i (w ∷ ws) each = Rattle.std.proofs.lemmas.Bool.false_from_ne_true _ (λ e. ⊎_elim (λ h. each.0 (eqb-true w.session i h)) (λ h. not_both _ h (idle-now i ws each.1)) (either_true (w.session == i) _ e))
+idle-now i (w ∷ ws) each = Rattle.std.proofs.lemmas.Bool.false_from_ne_true _ (λ e.
+    ⊎_elim (λ h. each.0 (eqb-true w.session i h)) (λ h. not_both _ h (idle-now i ws each.1)) (either_true (w.session == i) _ e))
 
 -- a session that enters a world with these tasks is to go on with the statements that they are of
-pub to-go : (l : Layers) (t : Locks) (owns : List Own) (i : ℕ) (u : Locks) (own : Own) (sts : List Bound) (k n : ℕ) → IsWithin (length owns) l t → SameOthers i l l t u → u.waits ≡ t.waits
+pub to-go : (l : Layers) (t : Locks) (owns : List Own) (i : ℕ) (u : Locks) (own : Own) (sts : List Bound) (k n : ℕ) → IsWithin (length owns) l t
+    → SameOthers i l l t u → u.waits ≡ t.waits
     → Entering (world_of l t owns) i (session_of l u i own) (tasks_from (drop k sts) n) → IsToGo i l u sts k n
 to-go l t owns i u own sts k n within same waits en = record {
   idle = ap (λ ws. waits_now ws i) waits ∙ idle-now i t.waits en.idle;
@@ -123,11 +137,21 @@ module _ (steps : List Step) (l : Layers) (t : Locks) (owns : List Own) (k : ℕ
   its_own = get_or owns sender no_own
 
   -- a session that waits is not sent the step
-  pub not-sent : sender < length owns → waits_now t.waits sender ≡ true → send steps (world_of l t owns) k ≡ world_of l t (set owns sender (own_told its_own (NotSent k)))
+  pub not-sent : sender < length owns → waits_now t.waits sender ≡ true → send steps (world_of l t owns) k
+      ≡ world_of l t (set owns sender (own_told its_own (NotSent k)))
   not-sent lt now =
-      ap (λ b. let x : World = elim b [ true ↦ noted (world_of l t owns) sender (NotSent k) | false ↦ settle (goes (world_of l t owns) sender (note (session_at (world_of l t owns) sender) (Sent k)) (tasks_of (get_or steps k no_step).statements)) ] in x) now
-      ∙ ap (λ (s : Session). record { rows = l.committed; sessions = set (sessions_from l t 0 owns) sender (note s (NotSent k)); waits = t.waits }) (session_at-is l t owns sender lt)
-      ∙ (λ j. record { rows = l.committed; sessions = sym (sessions-set l l t t sender (own_told its_own (NotSent k)) owns (same-refl sender l t)) j; waits = t.waits })
+      ap (λ b. let x : World = elim b [
+        | true ↦ noted (world_of l t owns) sender (NotSent k)
+        | false ↦ settle
+            (goes (world_of l t owns) sender (note (session_at (world_of l t owns) sender) (Sent k)) (tasks_of (get_or steps k no_step).statements))
+      ] in x) now
+      ∙ ap (λ (s : Session). record { rows = l.committed; sessions = set (sessions_from l t 0 owns) sender (note s (NotSent k)); waits = t.waits })
+      (session_at-is l t owns sender lt)
+      ∙ (λ j. record {
+        rows = l.committed;
+        sessions = sym (sessions-set l l t t sender (own_told its_own (NotSent k)) owns (same-refl sender l t)) j;
+        waits = t.waits;
+      })
 
   -- another goes, and the world settles from there
   pub sent-goes : (y : Standing) → IsBelow (length owns) t → sender < length owns → waits_now t.waits sender ≡ false
@@ -135,7 +159,11 @@ module _ (steps : List Step) (l : Layers) (t : Locks) (owns : List Own) (k : ℕ
       → send steps (world_of l t owns) k ≡ settle (world_of y.layers y.locks (set owns sender y.own))
   sent-goes y below lt idle stops =
       let ts = tasks_of (get_or steps k no_step).statements in
-      ap (λ b. let x : World = elim b [ true ↦ noted (world_of l t owns) sender (NotSent k) | false ↦ settle (goes (world_of l t owns) sender (note (session_at (world_of l t owns) sender) (Sent k)) ts) ] in x) idle
+      ap (λ b. let x : World = elim b [
+        | true ↦ noted (world_of l t owns) sender (NotSent k)
+        | false ↦ settle
+            (goes (world_of l t owns) sender (note (session_at (world_of l t owns) sender) (Sent k)) ts)
+      ] in x) idle
       ∙ ap (λ (s : Session). settle (goes (world_of l t owns) sender (note s (Sent k)) ts)) (session_at-is l t owns sender lt)
       ∙ ap settle (goes-is l t owns sender t (own_told its_own (Sent k)) ts y below lt (same-refl sender l t) refl stops)
 
@@ -147,10 +175,12 @@ module _ (steps : List Step) (l : Layers) (t : Locks) (owns : List Own) (k : ℕ
       let w = world_of l t owns in
       let at : session_at w sender ≡ session_of l t sender its_own = session_at-is l t owns sender lt in
       let known' : sender < length w.sessions = subst (λ n. sender < n) (sym (length-sessions_from l t 0 owns)) lt in
-      entering w sender (session_of l t sender own) (get_or steps k no_step).statements steady known' idle (sym (ap (λ (s : Session). s.held) at)) (sym (ap (λ (s : Session). s.overlay) at))
+      entering w sender (session_of l t sender own) (get_or steps k no_step).statements steady known' idle (sym (ap (λ (s : Session). s.held) at))
+      (sym (ap (λ (s : Session). s.overlay) at))
 
   -- it is to go on with the statements of the step
-  pub sent-to-go : IsWithin (length owns) l t → Steady (world_of l t owns) → sender < length owns → waits_now t.waits sender ≡ false → IsToGo sender l t (get_or steps k no_step).statements 0 0
+  pub sent-to-go : IsWithin (length owns) l t → Steady (world_of l t owns) → sender < length owns → waits_now t.waits sender ≡ false
+      → IsToGo sender l t (get_or steps k no_step).statements 0 0
   sent-to-go within steady lt idle =
       let sts = (get_or steps k no_step).statements in
       let own = own_told its_own (Sent k) in
@@ -158,7 +188,8 @@ module _ (steps : List Step) (l : Layers) (t : Locks) (owns : List Own) (k : ℕ
       (subst (Entering (world_of l t owns) sender (session_of l t sender own)) (sym (tasks_from-start sts)) (sent-enters steady lt idle))
 
 -- a session whose wait is granted is to go on with what is left of its step
-pub granted-to-go : (l : Layers) (t : Locks) (owns : List Own) (s : Spot) (sts : List Bound) (k n : ℕ) → IsWithin (length owns) l t → Steady (world_of l t owns) → IsNext t s → s.wait.session < length owns
+pub granted-to-go : (l : Layers) (t : Locks) (owns : List Own) (s : Spot) (sts : List Bound) (k n : ℕ) → IsWithin (length owns) l t → Steady (world_of l t owns)
+    → IsNext t s → s.wait.session < length owns
     → (get_or owns s.wait.session no_own).rest ≡ tasks_from (drop k sts) n → IsToGo s.wait.session l (grant t s) sts k n
 granted-to-go l t owns s sts k n within steady next lt rest =
     let i = s.wait.session in
@@ -170,13 +201,19 @@ granted-to-go l t owns s sts k n within steady next lt rest =
     let t1 = without_wait t s in
     let there : session_at w i ≡ session_of l t i own = session_at-is l t owns i lt in
     let resumed' : note (record (taking (session_at w i) s.wait.resource s.wait.mode) { rest = [] }) Resumed ≡ session_of l (grant t s) i (resumed_own own) =
-    ap (λ (x : Session). note (record (taking x s.wait.resource s.wait.mode) { rest = [] }) Resumed) there ∙ sym (ap (λ (x : Session). note (record x { rest = [] }) Resumed) (session-taken l t1 i s.wait.resource s.wait.mode own)) in
+    ap (λ (x : Session). note (record (taking x s.wait.resource s.wait.mode) { rest = [] }) Resumed) there
+    ∙ sym (ap (λ (x : Session). note (record x { rest = [] }) Resumed) (session-taken l t1 i s.wait.resource s.wait.mode own)) in
     let tasks : (session_at w i).rest ≡ tasks_from (drop k sts) n = ap (λ (x : Session). x.rest) there ∙ rest in
     let waiters = subst (EachWait (λ v. v.session < length owns)) (sym next.there) within.below.waiters in
-    to-go l t1 owns i (grant t s) (resumed_own own) sts k n (record { overlays = within.overlays; below = record { holders = within.below.holders; waiters = left-out s.before s.wait s.after waiters } }) (same-taken l t1 i s.wait.resource s.wait.mode) refl
+    to-go l t1 owns i (grant t s) (resumed_own own) sts k n (record {
+      overlays = within.overlays;
+      below = record { holders = within.below.holders; waiters = left-out s.before s.wait s.after waiters };
+    }) (same-taken l t1 i s.wait.resource s.wait.mode)
+    refl
     (subst (λ ts. Entering (world_of l t1 owns) i (session_of l (grant t s) i (resumed_own own)) ts) tasks
     (subst (λ x. Entering (world_of l t1 owns) i x (session_at w i).rest) resumed' en))
   where
-    left-out : (us : List Wait) (v : Wait) (vs : List Wait) → EachWait (λ w. w.session < length owns) (us ++ v ∷ vs) → EachWait (λ w. w.session < length owns) (us ++ vs)
+    left-out : (us : List Wait) (v : Wait) (vs : List Wait) → EachWait (λ w. w.session < length owns) (us ++ v ∷ vs)
+        → EachWait (λ w. w.session < length owns) (us ++ vs)
     left-out [] v vs p = p.1
     left-out (u ∷ us) v vs p = (p.0, left-out us v vs p.1)

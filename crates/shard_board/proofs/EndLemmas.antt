@@ -1,5 +1,6 @@
 -- A turn ends.
-use Rattle.std.proofs.Common.{◌≡◌, ◌≢◌, ℕ, ◌+◌, ◌<◌, ◌≤◌, true, cond, List, [], ◌∷◌, ◌++◌, length, set, Some, refl, sym, ap, ◌∙◌, subst, inl, ⊎_elim, arith, length-append}
+use Rattle.std.proofs.Common.{◌≡◌, ◌≢◌, ℕ, ◌+◌, ◌<◌, ◌≤◌, true, cond, List, [], ◌∷◌, ◌++◌, length, set, Some, refl, sym, ap, ◌∙◌, subst, inl, ⊎_elim, arith}
+use Rattle.std.proofs.Common.{length-append}
 use Rattle.std.specs.FinSet.{empty}
 use Rattle.outcome_books.specs.Books.{Contents}
 use Rattle.std.specs.Prelude.{◌==◌, ltb}

@@ -1,5 +1,6 @@
 -- A new table meets the rule, and so it does while its seats are split from the first.
-use Rattle.std.proofs.Common.{◌≡◌, ℕ, zero, suc, ◌+◌, ◌-◌, ◌<◌, ◌≤◌, true, List, [], ◌∷◌, ◌++◌, set, get_or, Some, refl, sym, ap, ◌∙◌, subst, ⊎_elim, inl, inr, arith}
+use Rattle.std.proofs.Common.{◌≡◌, ℕ, zero, suc, ◌+◌, ◌-◌, ◌<◌, ◌≤◌, true, List, [], ◌∷◌, ◌++◌, set, get_or, Some, refl, sym, ap, ◌∙◌, subst, ⊎_elim, inl, inr}
+use Rattle.std.proofs.Common.{arith}
 use Rattle.std.specs.FinSet.{empty}
 use Rattle.shard_board.specs.declared.error.TheConstants.{MAX_SHARDS, MAX_SEATS}
 use Rattle.std.specs.Prelude.{◌==◌, ◌&&◌, min, ltb, leb}
@@ -12,7 +13,8 @@ use Rattle.shard_board.specs.declared.rule.Part.{Part}
 use Rattle.shard_board.specs.declared.rule.View.{View}
 use Rattle.shard_board.specs.declared.rule.Plan.{Plan}
 use Rattle.shard_board.specs.Sums.{tick, total, each, one}
-use Rattle.shard_board.specs.Claiming.{numbered, refusals, claimed, once_below, blank_part, blank_parts, first_view, Numbers, Claims, Kept, tail_of, head_or, keeps_rest, new_seat}
+use Rattle.shard_board.specs.Claiming.{numbered, refusals, claimed, once_below, blank_part, blank_parts, first_view, Numbers, Claims, Kept, tail_of, head_or}
+use Rattle.shard_board.specs.Claiming.{keeps_rest, new_seat}
 use Rattle.shard_board.proofs.TotalLemmas.{total_set, total_append}
 use Rattle.shard_board.specs.Turning.{book_with, from_to, made, drawn, in_line, Knows, Sits}
 use Rattle.shard_board.proofs.TakeLemmas.{views_set, off, out_set, Out}

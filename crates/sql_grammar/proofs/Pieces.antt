@@ -1,5 +1,6 @@
 -- One piece of a text after another.
-use Rattle.std.proofs.Common.{◌≡◌, ℕ, zero, suc, ◌+◌, ◌-◌, ◌<◌, ◌≤◌, Bool, true, false, cond, get_or, IsUtf8, List, [], ◌∷◌, ◌++◌, length, drop, refl, sym, ap, ◌∙◌, append_assoc, arith, add-one, Option, Some, None, option_map, drop-cons, ◌*◌, ◌^◌, min}
+use Rattle.std.proofs.Common.{◌≡◌, ℕ, zero, suc, ◌+◌, ◌-◌, ◌<◌, ◌≤◌, Bool, true, false, cond, get_or, IsUtf8, List, [], ◌∷◌, ◌++◌, length, drop, refl, sym, ap}
+use Rattle.std.proofs.Common.{◌∙◌, append_assoc, arith, add-one, Option, Some, None, option_map, drop-cons, ◌*◌, ◌^◌, min}
 use Rattle.std.specs.Prelude.{not, ◌==◌, ◌&&◌, ⊤}
 use Rattle.std.specs.Char.{is_ascii_digit}
 use Rattle.std.proofs.lemmas.Bool.{eqb-true}
@@ -89,8 +90,14 @@ pub piece_fits : (b : ℕ) (bs : List ℕ) → IsUtf8 (b ∷ bs) → FitsIn (b �
 unfolding piece_of
 piece_fits b bs utf8 =
     cond_fits (b ∷ bs) (is_white b) _ _ (λ e. one_fits b bs utf8 (white_is_ascii b e))
-    (cond_fits (b ∷ bs) (begins_comment (b ∷ bs)) _ _ (λ e. record { some = run_begins (in_class class.Comment) b bs (comment_begins b bs e); at_char = run_boundary class.Comment (b ∷ bs) utf8 })
-    (cond_fits (b ∷ bs) (begins_word b) _ _ (λ e. record { some = run_begins (in_class class.Word) b bs (word_begins b e); at_char = run_boundary class.Word (b ∷ bs) utf8 })
+    (cond_fits (b ∷ bs) (begins_comment (b ∷ bs)) _ _ (λ e. record {
+      some = run_begins (in_class class.Comment) b bs (comment_begins b bs e);
+      at_char = run_boundary class.Comment (b ∷ bs) utf8;
+    })
+    (cond_fits (b ∷ bs) (begins_word b) _ _ (λ e. record {
+      some = run_begins (in_class class.Word) b bs (word_begins b e);
+      at_char = run_boundary class.Word (b ∷ bs) utf8;
+    })
     (cond_fits (b ∷ bs) (is_ascii_digit b) _ _ (λ e. record { some = run_begins is_ascii_digit b bs e; at_char = run_boundary class.Digit (b ∷ bs) utf8 })
     (cond_fits (b ∷ bs) (b == 39) _ _ (λ e. text_fits b bs (quoted false bs) utf8 (ends_in_quote false bs))
     (sign_fits b bs utf8)))))
@@ -119,20 +126,25 @@ byte_len : (n b : ℕ) (o : Option (List ℕ × ℕ)) → option_map (λ (m : �
 byte_len n b None = refl
 byte_len n b (Some x) = one_more n x.1
 
-outside_len : (n b : ℕ) (bs : List ℕ) (c : Bool) → option_map (λ (m : ℕ). n + m) (len_of (elim c [ true ↦ with_quote (quoted true bs) | false ↦ with_byte b (quoted false bs) ])) ≡ len_after (n + 1) (c && true) bs
+outside_len : (n b : ℕ) (bs : List ℕ) (c : Bool)
+    → option_map (λ (m : ℕ). n + m) (len_of (elim c [ true ↦ with_quote (quoted true bs) | false ↦ with_byte b (quoted false bs) ]))
+    ≡ len_after (n + 1) (c && true) bs
 outside_len n b bs true = quote_len n (quoted true bs)
 outside_len n b bs false = byte_len n b (quoted false bs)
 
-doubled_len : (n b : ℕ) (bs : List ℕ) (c : Bool) → not c ≡ false → option_map (λ (m : ℕ). n + m) (len_of (elim c [ true ↦ with_byte b (quoted false bs) | false ↦ Some ([], 0) ])) ≡ len_after (n + 1) (c && false) bs
+doubled_len : (n b : ℕ) (bs : List ℕ) (c : Bool) → not c ≡ false
+    → option_map (λ (m : ℕ). n + m) (len_of (elim c [ true ↦ with_byte b (quoted false bs) | false ↦ Some ([], 0) ])) ≡ len_after (n + 1) (c && false) bs
 doubled_len n b bs true e = byte_len n b (quoted false bs)
 doubled_len n b bs false e = absurd cc
 
 -- the byte goes on with the text
-pub len-step : (n : ℕ) (after : Bool) (b : ℕ) (bs : List ℕ) → (after && not (b == 39)) ≡ false → len_after n after (b ∷ bs) ≡ len_after (n + 1) ((b == 39) && not after) bs
+pub len-step : (n : ℕ) (after : Bool) (b : ℕ) (bs : List ℕ) → (after && not (b == 39)) ≡ false → len_after n after (b ∷ bs)
+    ≡ len_after (n + 1) ((b == 39) && not after) bs
 len-step n false b bs e = outside_len n b bs (b == 39)
 len-step n true b bs e = doubled_len n b bs (b == 39) e
 
-stop_len : (n b : ℕ) (bs : List ℕ) (c : Bool) → c ≡ false → option_map (λ (m : ℕ). n + m) (len_of (elim c [ true ↦ with_byte b (quoted false bs) | false ↦ Some ([], 0) ])) ≡ Some n
+stop_len : (n b : ℕ) (bs : List ℕ) (c : Bool) → c ≡ false
+    → option_map (λ (m : ℕ). n + m) (len_of (elim c [ true ↦ with_byte b (quoted false bs) | false ↦ Some ([], 0) ])) ≡ Some n
 stop_len n b bs true e = absurd cc
 stop_len n b bs false e = let none : n + 0 ≡ n = omega arith in ap (λ (k : ℕ). Some k) none
 
@@ -141,7 +153,8 @@ pub len-stop : (n b : ℕ) (bs : List ℕ) → (b == 39) ≡ false → len_after
 len-stop n b bs e = stop_len n b bs (b == 39) e
 
 -- a loop over the bytes: what is left of a text is as long as before, less one
-pub len-goes_on : (n : ℕ) (after after' : Bool) (bs : List ℕ) (whole : Option ℕ) → n < length bs → (after && not (get_or bs n 0 == 39)) ≡ false → after' ≡ ((get_or bs n 0 == 39) && not after)
+pub len-goes_on : (n : ℕ) (after after' : Bool) (bs : List ℕ) (whole : Option ℕ) → n < length bs → (after && not (get_or bs n 0 == 39)) ≡ false → after'
+    ≡ ((get_or bs n 0 == 39) && not after)
     → len_after n after (drop n bs) ≡ whole → len_after (n + 1) after' (drop (n + 1) bs) ≡ whole
 len-goes_on n after after' bs whole h e f so_far =
     (λ i. len_after (n + 1) (f i) (drop (add-one n i) bs))

@@ -1,5 +1,6 @@
 -- One part after another is bound, with the tables that are declared so far.
-use Rattle.std.proofs.Common.{◌≡◌, refl, sym, ap, ◌∙◌, ℕ, suc, ◌+◌, ◌<◌, List, [], ◌∷◌, ◌++◌, length, map, get_or, drop, Ok, Err, drop-cons, add-one, append_assoc}
+use Rattle.std.proofs.Common.{◌≡◌, refl, sym, ap, ◌∙◌, ℕ, suc, ◌+◌, ◌<◌, List, [], ◌∷◌, ◌++◌, length, map, get_or, drop, Ok, Err, drop-cons, add-one}
+use Rattle.std.proofs.Common.{append_assoc}
 use Rattle.sql_binding.specs.declared.tables.Table.{Table}
 use Rattle.sql_binding.specs.Refusals.{Bind, ◌>>=◌}
 use Rattle.sql_subset.specs.Binding.{then_more, declared}
@@ -19,7 +20,8 @@ module _ {A X : Type 0} (f : List Table → A → Bind (List Table × List X)) w
       more_twice xs y.1 (declared f y.0 as') ∙ (λ i. then_more (both.1 i) (declared f (both.0 i) as'))
   step_by xs (Err e) as' tables ys h = absurd (cc h)
 
-  pub declared-goes_on : (tables : List Table) (xs : List X) (as' : List A) (k : ℕ) (d : A) (new : List Table) (ys : List X) → k < length as' → then_more xs (f tables (get_or as' k d)) ≡ Ok (new, ys)
+  pub declared-goes_on : (tables : List Table) (xs : List X) (as' : List A) (k : ℕ) (d : A) (new : List Table) (ys : List X) → k < length as'
+      → then_more xs (f tables (get_or as' k d)) ≡ Ok (new, ys)
       → then_more xs (declared f tables (drop k as')) ≡ then_more ys (declared f new (drop (k + 1) as'))
   declared-goes_on tables xs as' k d new ys h e =
       ap (λ bs. then_more xs (declared f tables bs)) (drop-cons as' k d h)
@@ -33,10 +35,12 @@ module _ {A X : Type 0} (f : List Table → A → Bind (List Table × List X)) w
       none_more (Ok y) = refl
       none_more (Err e) = refl
 
-more_map : {X : Type 0} (r : Bind (List Table × List X)) (f g : List Table → Bind (List Table × List X)) → ((t : List Table) → f t ≡ g t) → (r >>= λ x. then_more x.1 (f x.0)) ≡ (r >>= λ x. then_more x.1 (g x.0))
+more_map : {X : Type 0} (r : Bind (List Table × List X)) (f g : List Table → Bind (List Table × List X)) → ((t : List Table) → f t ≡ g t)
+    → (r >>= λ x. then_more x.1 (f x.0)) ≡ (r >>= λ x. then_more x.1 (g x.0))
 more_map (Ok x) f g h = ap (then_more x.1) (h x.0)
 more_map (Err e) f g h = refl
 
-pub declared-map : {A B X : Type 0} (g : A → B) (f : List Table → B → Bind (List Table × List X)) (as' : List A) (tables : List Table) → declared f tables (map g as') ≡ declared (λ t a. f t (g a)) tables as'
+pub declared-map : {A B X : Type 0} (g : A → B) (f : List Table → B → Bind (List Table × List X)) (as' : List A) (tables : List Table)
+    → declared f tables (map g as') ≡ declared (λ t a. f t (g a)) tables as'
 declared-map g f [] tables = refl
 declared-map g f (a ∷ as') tables = more_map (f tables (g a)) (λ t. declared f t (map g as')) (λ t. declared (λ t a. f t (g a)) t as') (declared-map g f as')

@@ -1,5 +1,6 @@
 -- A file that is bound is ready to run.
-use Rattle.std.proofs.Common.{◌≡◌, refl, sym, ap, subst, ◌∙◌, ℕ, suc, ◌+◌, ◌<◌, ◌≤◌, ◌≢◌, Bool, true, false, cond, List, [], ◌∷◌, ◌++◌, length, map, All, get_or, Option, Some, None, Ok, Err, arith, length-append, append_assoc, drop, drop-cons, add-one}
+use Rattle.std.proofs.Common.{◌≡◌, refl, sym, ap, subst, ◌∙◌, ℕ, suc, ◌+◌, ◌<◌, ◌≤◌, ◌≢◌, Bool, true, false, cond, List, [], ◌∷◌, ◌++◌, length, map, All}
+use Rattle.std.proofs.Common.{get_or, Option, Some, None, Ok, Err, arith, length-append, append_assoc, drop, drop-cons, add-one}
 use Rattle.std.specs.Prelude.{◌==◌, ◌&&◌, ◌||◌, nat_le, nat_lt, is_ok, bytes_eq}
 use Rattle.std.proofs.lemmas.List.{length-map, append-nil}
 use Rattle.std.proofs.lemmas.List.Elements.{All-nil, All-cons, All-append, All-map, All-head, All-tail}
@@ -19,7 +20,8 @@ use Rattle.sql_statements.specs.Plan.{HasKeys, IsShort}
 use Rattle.sql_statements.specs.declared.statement.Bound.{Bound}
 use Rattle.sql_subset.specs.declared.TheConstants.{MAX_LINED_STEPS}
 use Rattle.sql_binding.specs.declared.tables.Table.{Table}
-use Rattle.sql_subset.specs.Spec.{Step, Spec, SpecFile, counts_of, steps_of, queues_from, queues_of, step_limit, IsLine, IsStep, IsReady, AllHaveKeys, AllAreShort}
+use Rattle.sql_subset.specs.Spec.{Step, Spec, SpecFile, counts_of, steps_of, queues_from, queues_of, step_limit, IsLine, IsStep, IsReady, AllHaveKeys}
+use Rattle.sql_subset.specs.Spec.{AllAreShort}
 use Rattle.sql_subset.specs.Binding.{BoundSession, session, declared, main_setup, numbered, all_steps, made_file, shaped, bound_file, IsFileOf}
 use Rattle.sql_subset.specs.Lines.{counts_in, step_names, then_some, all_some, step_number, numbered_line, lines_by, orders_of}
 use Rattle.sql_binding.specs.Refusals.{Bind, ◌>>=◌, each}
@@ -127,16 +129,28 @@ own-later i j (s ∷ ss) h =
     let other : i ≢ j = omega arith in
     omega (arith, own-append j (numbered i s.steps) (all_steps (suc i) ss), own-other i j s.steps other, own-later (suc i) j ss (omega arith))
 
-queue_counts : (i : ℕ) (front : List Step) (ss : List BoundSession) → ((j : ℕ) → i ≤ j → own j front ≡ 0) → counts_of (queues_from i (length ss) (front ++ all_steps i ss)) ≡ lens ss
+queue_counts : (i : ℕ) (front : List Step) (ss : List BoundSession) → ((j : ℕ) → i ≤ j → own j front ≡ 0)
+    → counts_of (queues_from i (length ss) (front ++ all_steps i ss)) ≡ lens ss
 queue_counts i front [] h = refl
 queue_counts i front (s ∷ ss) h =
     let steps = front ++ (numbered i s.steps ++ all_steps (suc i) ss) in
     let here : length (steps_of i 0 steps) ≡ length s.steps =
-    omega (arith, length-steps_of i 0 steps, own-append i front (numbered i s.steps ++ all_steps (suc i) ss), own-append i (numbered i s.steps) (all_steps (suc i) ss), h i (omega arith), own-same i s.steps, own-later (suc i) i ss (omega arith)) in
-    let none : (j : ℕ) → suc i ≤ j → own j (front ++ numbered i s.steps) ≡ 0 = λ j lt. let other : i ≢ j = omega arith in omega (arith, own-append j front (numbered i s.steps), h j (omega arith), own-other i j s.steps other) in
-    λ t. here t ∷ (ap (λ us. counts_of (queues_from (suc i) (length ss) us)) (sym (append_assoc front (numbered i s.steps) (all_steps (suc i) ss))) ∙ queue_counts (suc i) (front ++ numbered i s.steps) ss none) t
+    omega (
+      arith,
+      length-steps_of i 0 steps,
+      own-append i front (numbered i s.steps ++ all_steps (suc i) ss),
+      own-append i (numbered i s.steps) (all_steps (suc i) ss),
+      h i (omega arith),
+      own-same i s.steps,
+      own-later (suc i) i ss (omega arith),
+    ) in
+    let none : (j : ℕ) → suc i ≤ j → own j (front ++ numbered i s.steps) ≡ 0 = λ j lt. let other : i ≢ j = omega arith
+    in omega (arith, own-append j front (numbered i s.steps), h j (omega arith), own-other i j s.steps other) in
+    λ t. here t ∷ (ap (λ us. counts_of (queues_from (suc i) (length ss) us)) (sym (append_assoc front (numbered i s.steps) (all_steps (suc i) ss)))
+    ∙ queue_counts (suc i) (front ++ numbered i s.steps) ss none) t
 
-pub counts-made : (text : List ℕ) (tree : SpecTree) (lines : List (List ℕ)) (setups : List (List Bound)) (ss : List BoundSession) → lens ss ≡ counts_in tree.sessions → length ss ≡ length tree.sessions
+pub counts-made : (text : List ℕ) (tree : SpecTree) (lines : List (List ℕ)) (setups : List (List Bound)) (ss : List BoundSession) → lens ss
+    ≡ counts_in tree.sessions → length ss ≡ length tree.sessions
     → counts_in tree.sessions ≡ counts_of (queues_of (made_file text tree lines setups ss).run)
 counts-made text tree lines setups ss e f = sym (ap (λ n. counts_of (queues_from 0 n (all_steps 0 ss))) (sym f) ∙ queue_counts 0 [] ss (λ j h. refl) ∙ e)
 
@@ -151,12 +165,14 @@ some_if : {X : Type 0} (b : Bool) (o : Option X) (x : X) → cond b o None ≡ S
 some_if true o x e = (refl, e)
 some_if false o x e = absurd (cc e)
 
-then_ok : {X : Type 0} (o : Option X) (r : Option (List X)) (ys : List X) → then_some o r ≡ Some ys → (x : X) × ((o ≡ Some x) × ((xs : List X) × ((r ≡ Some xs) × (x ∷ xs ≡ ys))))
+then_ok : {X : Type 0} (o : Option X) (r : Option (List X)) (ys : List X) → then_some o r ≡ Some ys → (x : X)
+    × ((o ≡ Some x) × ((xs : List X) × ((r ≡ Some xs) × (x ∷ xs ≡ ys))))
 then_ok None r ys e = absurd (cc e)
 then_ok (Some x) None ys e = absurd (cc e)
 then_ok (Some x) (Some xs) ys e = (x, (refl, (xs, (refl, cc))))
 
-some-All : {A X : Type 0} (P : X → Type 0) (f : A → Option X) → ((a : A) (x : X) → f a ≡ Some x → P x) → (as' : List A) (xs : List X) → all_some f as' ≡ Some xs → (All P xs) × (length xs ≡ length as')
+some-All : {A X : Type 0} (P : X → Type 0) (f : A → Option X) → ((a : A) (x : X) → f a ≡ Some x → P x) → (as' : List A) (xs : List X) → all_some f as' ≡ Some xs
+    → (All P xs) × (length xs ≡ length as')
 some-All P f h [] xs e = let nil : [] ≡ xs = cc in (subst (All P) nil (All-nil P), ap length (sym nil))
 some-All P f h (a ∷ as') xs e =
     let b = then_ok (f a) (all_some f as') xs e in
@@ -167,7 +183,8 @@ line-is : (names : List (List ℕ)) (items : LineTree) (line : List ℕ) → num
 line-is names items line e =
     let a = some_if (nat_le 1 (length items) && nat_le (length items) MAX_ITEMS) (all_some (step_number names) items) line e in
     let few = then_true (nat_le 1 (length items)) (nat_le (length items) MAX_ITEMS) a.0 in
-    let all = some-All (λ k. k < length names) (step_number names) (λ i k h. (let below : k < 0 + length names = position-below (λ n. bytes_eq i.name n) 0 names k h in omega arith)) items line a.1 in
+    let all = some-All (λ k. k < length names) (step_number names)
+    (λ i k h. (let below : k < 0 + length names = position-below (λ n. bytes_eq i.name n) 0 names k h in omega arith)) items line a.1 in
     record {
       some = omega (arith, leb-true 1 (length items) few.0, all.1);
       few = omega (arith, leb-true (length items) MAX_ITEMS few.1, all.1);
@@ -187,7 +204,8 @@ shape_if false false true x y z counts e = absurd (cc e)
 shape_if false false false x y z counts e = refl
 
 shape-few : (counts : List ℕ) → is_ok (shape_of counts) ≡ true → total counts ≤ MAX_STEPS
-shape-few counts e = ltb-false MAX_STEPS (total counts) (shape_if (length counts == 0 || has_idle counts) (nat_lt MAX_SESSIONS (length counts)) (nat_lt MAX_STEPS (total counts)) Empty TooManySessions TooManySteps counts e)
+shape-few counts e = ltb-false MAX_STEPS (total counts) (shape_if (length counts == 0
+    || has_idle counts) (nat_lt MAX_SESSIONS (length counts)) (nat_lt MAX_STEPS (total counts)) Empty TooManySessions TooManySteps counts e)
 
 limit_of : (ls : List (List ℕ)) (n m : ℕ) → length ls ≡ suc n → m ≤ MAX_LINED_STEPS → m ≤ step_limit ls
 limit_of [] n m e h = absurd (omega arith)
@@ -199,9 +217,11 @@ by_lines ss [] lines e =
     let none : [] ≡ lines = cc (a.1) in
     subst (IsOrdered ss) none (record { few_steps = shape-few (counts_in ss) a.0; few_lines = omega arith; known = All-nil (IsLine (length (step_names ss))) })
 by_lines ss (l ∷ ls) lines e =
-    let a = some_if (nat_le (total (counts_in ss)) MAX_LINED_STEPS && nat_le (length (l ∷ ls)) MAX_LINES) (all_some (numbered_line (step_names ss)) (l ∷ ls)) lines e in
+    let a = some_if (nat_le (total (counts_in ss)) MAX_LINED_STEPS && nat_le (length (l ∷ ls)) MAX_LINES) (all_some (numbered_line (step_names ss)) (l ∷ ls))
+    lines e in
     let few = then_true (nat_le (total (counts_in ss)) MAX_LINED_STEPS) (nat_le (length (l ∷ ls)) MAX_LINES) a.0 in
-    let all = some-All (IsLine (length (step_names ss))) (numbered_line (step_names ss)) (λ items line h. line-is (step_names ss) items line h) (l ∷ ls) lines a.1 in
+    let all = some-All (IsLine (length (step_names ss))) (numbered_line (step_names ss)) (λ items line h. line-is (step_names ss) items line h) (l ∷ ls) lines
+    a.1 in
     record {
       few_steps = limit_of lines (length ls) (total (counts_in ss)) all.1 (leb-true (total (counts_in ss)) MAX_LINED_STEPS few.0);
       few_lines = omega (arith, leb-true (length (l ∷ ls)) MAX_LINES few.1, all.1);
@@ -216,7 +236,8 @@ ordered tree lines e =
 pub some-length : {A X : Type 0} (f : A → Option X) (as' : List A) (xs : List X) → all_some f as' ≡ Some xs → length xs ≡ length as'
 some-length f as' xs e = (some-All (λ x. Unit {0}) f (λ a x h. tt) as' xs e).1
 
-pub lines-some : {X : Type 0} (items : X → List ℕ) (lines : List X) (names : List (List ℕ)) (texts : List LineTree) → Some (map items lines) ≡ all_some (numbered_line names) texts → 0 < length texts → lines ≡ [] → ⊥
+pub lines-some : {X : Type 0} (items : X → List ℕ) (lines : List X) (names : List (List ℕ)) (texts : List LineTree) → Some (map items lines)
+    ≡ all_some (numbered_line names) texts → 0 < length texts → lines ≡ [] → ⊥
 lines-some items lines names texts e h none =
     let many : length lines ≡ length texts = sym (length-map lines items) ∙ some-length (numbered_line names) texts (map items lines) (sym e) in
     let zero : length lines ≡ 0 = ap length none in
@@ -230,18 +251,22 @@ all_steps-push i (r ∷ ss) s =
     ∙ sym (append_assoc (numbered i r.steps) (all_steps (suc i) ss) (numbered (i + suc (length ss)) s.steps))
 
 pub names-next : (names : List (List ℕ)) (ss : List Session) (k : ℕ) (d : Session) → k < length ss
-    → names ++ step_names (map session_tree (drop k ss)) ≡ (names ++ map (λ (t : StepTree). t.name) (map step_tree (get_or ss k d).steps.items)) ++ step_names (map session_tree (drop (k + 1) ss))
+    → names ++ step_names (map session_tree (drop k ss)) ≡ (names ++ map (λ (t : StepTree). t.name) (map step_tree (get_or ss k d).steps.items))
+    ++ step_names (map session_tree (drop (k + 1) ss))
 names-next names ss k d h =
     ap (λ us. names ++ step_names (map session_tree us)) (drop-cons ss k d h)
     ∙ sym (append_assoc names (map (λ (t : StepTree). t.name) (map step_tree (get_or ss k d).steps.items)) (step_names (map session_tree (drop (suc k) ss))))
-    ∙ ap (λ n. (names ++ map (λ (t : StepTree). t.name) (map step_tree (get_or ss k d).steps.items)) ++ step_names (map session_tree (drop n ss))) (sym (add-one k))
+    ∙ ap (λ n. (names ++ map (λ (t : StepTree). t.name) (map step_tree (get_or ss k d).steps.items))
+    ++ step_names (map session_tree (drop n ss))) (sym (add-one k))
 
 -- ---- the whole file
 
 pub sessions-told : (tables : List Table) (texts : List SessionTree) (ss : List BoundSession) → each (session tables) texts ≡ Ok ss → lens ss ≡ counts_in texts
-sessions-told tables texts ss e = each-told (λ (s : BoundSession). length s.steps) (λ (t : SessionTree). length t.steps) (session tables) (λ t s h. (session-sent tables t s h).count) texts ss e
+sessions-told tables texts ss e = each-told (λ (s : BoundSession). length s.steps) (λ (t : SessionTree). length t.steps) (session tables)
+    (λ t s h. (session-sent tables t s h).count) texts ss e
 
-pub file-ready : (text : List ℕ) (tree : SpecTree) (lines : List (List ℕ)) (main : List Table × List (List Bound)) (ss : List BoundSession) → orders_of tree ≡ Some lines → declared main_setup [] tree.front.setups ≡ Ok main
+pub file-ready : (text : List ℕ) (tree : SpecTree) (lines : List (List ℕ)) (main : List Table × List (List Bound)) (ss : List BoundSession) → orders_of tree
+    ≡ Some lines → declared main_setup [] tree.front.setups ≡ Ok main
     → each (session main.0) tree.sessions ≡ Ok ss → IsReady (made_file text tree lines main.1 ss)
 file-ready text tree lines main ss o m e =
     let order = ordered tree lines o in
@@ -249,8 +274,10 @@ file-ready text tree lines main ss o m e =
     let many = each-length (session main.0) tree.sessions ss e in
     let steps : length (all_steps 0 ss) ≡ total (counts_in tree.sessions) = length-all_steps 0 ss ∙ ap total count in
     let named : length (step_names tree.sessions) ≡ length (all_steps 0 ss) = length-step_names tree.sessions ∙ sym steps in
-    let setup_sent : All (λ (s : BoundSession). All IsSent s.setup) ss = each-All (λ (s : BoundSession). All IsSent s.setup) (session main.0) (λ t s h. (session-sent main.0 t s h).setup) tree.sessions ss e in
-    let steps_sent : All (λ (s : BoundSession). AllSent s.steps) ss = each-All (λ (s : BoundSession). AllSent s.steps) (session main.0) (λ t s h. (session-sent main.0 t s h).steps) tree.sessions ss e in
+    let setup_sent : All (λ (s : BoundSession). All IsSent s.setup) ss =
+    each-All (λ (s : BoundSession). All IsSent s.setup) (session main.0) (λ t s h. (session-sent main.0 t s h).setup) tree.sessions ss e in
+    let steps_sent : All (λ (s : BoundSession). AllSent s.steps) ss =
+    each-All (λ (s : BoundSession). AllSent s.steps) (session main.0) (λ t s h. (session-sent main.0 t s h).steps) tree.sessions ss e in
     record {
       few_sessions = order.0;
       few_steps = omega (arith, steps, order.1.few_steps);
@@ -276,26 +303,37 @@ order_of : (o : Orders) (run : Spec) (counts : List ℕ) → FitsCounts counts o
 order_of (Words shape) run counts h e = h ∙ e
 order_of (Lines lines) run counts h e = h
 
-pub few-sessions : (tree : SpecTree) (lines : List (List ℕ)) (tables : List Table) (ss : List BoundSession) → shaped (orders_of tree) ≡ Ok lines → each (session tables) tree.sessions ≡ Ok ss → length ss ≤ MAX_SESSIONS
-few-sessions tree lines tables ss o e = omega (arith, (ordered tree lines (some_of (orders_of tree) lines o)).0, each-length (session tables) tree.sessions ss e)
+pub few-sessions : (tree : SpecTree) (lines : List (List ℕ)) (tables : List Table) (ss : List BoundSession) → shaped (orders_of tree) ≡ Ok lines
+    → each (session tables) tree.sessions ≡ Ok ss → length ss ≤ MAX_SESSIONS
+few-sessions tree lines tables ss o e = omega (
+  arith,
+  (ordered tree lines (some_of (orders_of tree) lines o)).0,
+  each-length (session tables) tree.sessions ss e,
+)
 
 -- a file is bound where its orders, its main setups and its sessions are
 bound-made : (text : List ℕ) (tree : SpecTree) (lines : List (List ℕ)) (main : List Table × List (List Bound)) (ss : List BoundSession)
     → shaped (orders_of tree) ≡ Ok lines → declared main_setup [] tree.front.setups ≡ Ok main → each (session main.0) tree.sessions ≡ Ok ss
     → bound_file text tree ≡ Ok (made_file text tree lines main.1 ss)
 bound-made text tree lines main ss o m e =
-    ap (λ (r : Bind (List (List ℕ))). r >>= λ ls. (declared main_setup [] tree.front.setups >>= λ x. (each (session x.0) tree.sessions >>= λ us. Ok (made_file text tree ls x.1 us)))) o
+    ap (λ (r : Bind (List (List ℕ))). r >>= λ ls. (declared main_setup [] tree.front.setups >>= λ x. (each (session x.0) tree.sessions >>= λ us.
+    Ok (made_file text tree ls x.1 us)))) o
     ∙ ap (λ (r : Bind (List Table × List (List Bound))). r >>= λ x. (each (session x.0) tree.sessions >>= λ us. Ok (made_file text tree lines x.1 us))) m
     ∙ ap (λ (r : Bind (List BoundSession)). r >>= λ us. Ok (made_file text tree lines main.1 us)) e
 
-pub kept : (parts : Parts) (text : List ℕ) (tree : SpecTree) → IsSpec text tree → (lines : List (List ℕ)) (main : List Table × List (List Bound)) (ss : List BoundSession)
+pub kept : (parts : Parts) (text : List ℕ) (tree : SpecTree) → IsSpec text tree
+    → (lines : List (List ℕ)) (main : List Table × List (List Bound)) (ss : List BoundSession)
     → file_of parts ≡ made_file text tree lines main.1 ss
     → shaped (orders_of tree) ≡ Ok lines → declared main_setup [] tree.front.setups ≡ Ok main → each (session main.0) tree.sessions ≡ Ok ss
     → FitsCounts (counts_in tree.sessions) parts.orders → IsKept parts
 kept parts text tree is_spec lines main ss made o m e fits =
     let counts = counts-made text tree lines main.1 ss (sessions-told main.0 tree.sessions ss e) (each-length (session main.0) tree.sessions ss e) in
     let file = file_of parts in
-    let bound : IsFileOf text (made_file text tree lines main.1 ss) = record { tree = tree; is_spec = is_spec; is_bound = bound-made text tree lines main ss o m e } in
+    let bound : IsFileOf text (made_file text tree lines main.1 ss) = record {
+      tree = tree;
+      is_spec = is_spec;
+      is_bound = bound-made text tree lines main ss o m e;
+    } in
     record {
       is_file = subst (λ (f : SpecFile). IsFileOf f.text f) (sym made) bound;
       ready = subst IsReady (sym made) (file-ready text tree lines main ss (some_of (orders_of tree) lines o) m e);

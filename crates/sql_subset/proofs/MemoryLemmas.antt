@@ -26,11 +26,13 @@ use Rattle.sql_binding.specs.declared.error.BindErrorKind.{BindErrorKind}
 use Rattle.sql_binding.specs.declared.error.BindErrorKind.TheVariants.{Sql, UnknownTable, UnknownColumn, TypeMismatch, KeyChanged, DuplicateTable, WrongCount}
 use Rattle.sql_binding.specs.declared.joining.Joint.TheVariants.{All}
 use Rattle.sql_binding.specs.declared.tables.Table.{Table}
-use Rattle.sql_subset.specs.Binding.{offset_in, read_text, read_at, read_block, statement_at, bind_block, session_setup, step, session, then_more, declared, sent, main_statement, main_at, main_setup, shaped, bound_file}
+use Rattle.sql_subset.specs.Binding.{offset_in, read_text, read_at, read_block, statement_at, bind_block, session_setup, step, session, then_more, declared}
+use Rattle.sql_subset.specs.Binding.{sent, main_statement, main_at, main_setup, shaped, bound_file}
 use Rattle.sql_subset.specs.Lines.{orders_of}
 use Rattle.sql_binding.specs.Names.{Name, head, tail, list_of, repeats}
 use Rattle.sql_binding.specs.Refusals.{Bind, ◌>>=◌, refuse, unless, with_front, each, IsNamed}
-use Rattle.sql_binding.specs.Statements.{places, at_places, rows_miscount, set_columns, sets_key, row_columns, row_values, insert, aggregate, output, sort_key, sort_keys, select, assignment, update, delete, statement}
+use Rattle.sql_binding.specs.Statements.{places, at_places, rows_miscount, set_columns, sets_key, row_columns, row_values, insert, aggregate, output, sort_key}
+use Rattle.sql_binding.specs.Statements.{sort_keys, select, assignment, update, delete, statement}
 use Rattle.sql_binding.specs.Tables.{create, key_column, column_number, column, no_table, table_number, table}
 use Rattle.sql_binding.specs.Translation.{value, operand, product, signed, sum_head, sum_tail, expression, joined, alternatives, parts, atom, where_of}
 use Rattle.sql_binding.specs.Types.{condition_mixes, assignment_mixes, output_mixes, row_mixes}
@@ -187,7 +189,8 @@ update-named t at n as' c =
 
 delete-named : (t : Table) (at n : ℕ) (c : Option tree.Condition) → Named (delete t at n c)
 delete-named t at n c =
-    then-named (where_of t at c) _ (where-named t at c) (λ d. unless-named (condition_mixes t d) at TypeMismatch (Ok (Delete n (key_of (key_column t) d) d)) tt tt)
+    then-named (where_of t at c) _ (where-named t at c) (λ d.
+    unless-named (condition_mixes t d) at TypeMismatch (Ok (Delete n (key_of (key_column t) d) d)) tt tt)
 
 statement-named : (tables : List Table) (at : ℕ) (s : tree.Statement) → Named (statement tables at s)
 statement-named tables at (tree.CreateTable n ps) = not_here

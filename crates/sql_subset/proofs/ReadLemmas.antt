@@ -19,7 +19,8 @@ pub read-is : (text : List ℕ) (ss : List StatementAt) → IsSpelled text ss �
 read-is text ss h = read-complete text ss h
 
 -- a text that has a first fault spells nothing
-pub read-refused : (text : List ℕ) (e : SqlError) → Explains text e → e.kind ≢ kind.NoMemory → ((ss : List StatementAt) → IsSpelled text ss → e.kind ≡ kind.NoMemory) → read_text text ≡ Err (fault_of_error e)
+pub read-refused : (text : List ℕ) (e : SqlError) → Explains text e → e.kind ≢ kind.NoMemory
+    → ((ss : List StatementAt) → IsSpelled text ss → e.kind ≡ kind.NoMemory) → read_text text ≡ Err (fault_of_error e)
 read-refused text e h n only = go (read_text text) refl h
   where
     go : (r : Result (List StatementAt) Fault) → read_text text ≡ r → Explains text e → r ≡ Err (fault_of_error e)

@@ -1,5 +1,6 @@
 -- What is bound has its keys and is short.
-use Rattle.std.proofs.Common.{◌≡◌, refl, sym, ap, subst, ◌∙◌, ℕ, zero, suc, ◌+◌, ◌<◌, ◌≤◌, Bool, true, false, cond, List, [], ◌∷◌, ◌++◌, length, map, All, get_or, Option, Some, None, Ok, Err, arith}
+use Rattle.std.proofs.Common.{◌≡◌, refl, sym, ap, subst, ◌∙◌, ℕ, zero, suc, ◌+◌, ◌<◌, ◌≤◌, Bool, true, false, cond, List, [], ◌∷◌, ◌++◌, length, map, All}
+use Rattle.std.proofs.Common.{get_or, Option, Some, None, Ok, Err, arith}
 use Rattle.std.specs.Prelude.{nat_lt, ◌||◌}
 use Rattle.std.specs.List.{position_from, list_any}
 use Rattle.std.proofs.lemmas.Bool.{ltb-true}
@@ -24,9 +25,11 @@ use Rattle.sql_binding.specs.declared.error.BindErrorKind.{BindErrorKind}
 use Rattle.sql_binding.specs.declared.error.BindErrorKind.TheVariants.{TypeMismatch, KeyChanged, WrongCount}
 use Rattle.sql_binding.specs.Types.{row_mixes, assignment_mixes, condition_mixes, output_mixes}
 use Rattle.sql_binding.specs.declared.tables.Table.{Table}
-use Rattle.sql_subset.specs.Binding.{read_block, statement_at, bind_block, session_setup, step, BoundSession, session, then_more, declared, sent, main_statement, main_at, main_setup, offset_in}
+use Rattle.sql_subset.specs.Binding.{read_block, statement_at, bind_block, session_setup, step, BoundSession, session, then_more, declared, sent}
+use Rattle.sql_subset.specs.Binding.{main_statement, main_at, main_setup, offset_in}
 use Rattle.sql_binding.specs.Refusals.{Bind, ◌>>=◌, unless, with_front, each}
-use Rattle.sql_binding.specs.Statements.{numbers_from, places, at_places, rows_miscount, set_columns, sets_key, row_columns, row_values, insert, output, sort_keys, select, assignment, update, delete, end_of, statement}
+use Rattle.sql_binding.specs.Statements.{numbers_from, places, at_places, rows_miscount, set_columns, sets_key, row_columns, row_values, insert, output}
+use Rattle.sql_binding.specs.Statements.{sort_keys, select, assignment, update, delete, end_of, statement}
 use Rattle.sql_binding.specs.Translation.{where_of}
 use Rattle.sql_binding.specs.KeyParts.{key_of}
 use Rattle.sql_binding.specs.Names.{list_of, repeats}
@@ -119,7 +122,8 @@ length-numbers k (suc n) = ap suc (length-numbers (suc k) n)
 pub length-places : (t : Table) (columns : List ℕ) (row : List Value) → length (at_places (places t columns) row) ≡ width t
 length-places t columns row = length-map (places t columns) _ ∙ length-map (numbers_from 0 (width t)) _ ∙ length-numbers 0 (width t)
 
-rows-have : (n w : ℕ) (o : Option ℕ) (rows : List (List Value)) → ((k : ℕ) → o ≡ Some k → k < w) → All (λ (row : List Value). length row ≡ w) rows → HasKeys (Insert n o rows)
+rows-have : (n w : ℕ) (o : Option ℕ) (rows : List (List Value)) → ((k : ℕ) → o ≡ Some k → k < w) → All (λ (row : List Value). length row ≡ w) rows
+    → HasKeys (Insert n o rows)
 rows-have n w None rows h each = tt
 rows-have n w (Some k) rows h each = λ i d lt. (let len : length (get_or rows i d) ≡ w = each i d lt in omega (arith, h k refl, len))
 
@@ -131,10 +135,12 @@ rows-short : (n : ℕ) (key : Option ℕ) (rows : List (List Value)) → length 
 rows-short n None rows few = omega arith
 rows-short n (Some k) rows few = omega (arith, few, length-map rows (key_lock n k))
 
-insert-sent : (t : Table) (n : ℕ) (columns : List ℕ) (rows : List (List Value)) → length rows ≤ MAX_ROWS → IsSent (Insert n (key_column t) (map (at_places (places t columns)) rows))
+insert-sent : (t : Table) (n : ℕ) (columns : List ℕ) (rows : List (List Value)) → length rows ≤ MAX_ROWS
+    → IsSent (Insert n (key_column t) (map (at_places (places t columns)) rows))
 insert-sent t n columns rows few =
     let new = map (at_places (places t columns)) rows in (
-      rows-have n (width t) (key_column t) new (key-below t) (All-map (λ (row : List Value). length row ≡ width t) (at_places (places t columns)) rows (λ i d lt. length-places t columns (get_or rows i d))),
+      rows-have n (width t) (key_column t) new (key-below t) (All-map (λ (row : List Value). length row
+          ≡ width t) (at_places (places t columns)) rows (λ i d lt. length-places t columns (get_or rows i d))),
       rows-short n (key_column t) new (omega (arith, few, length-map rows (at_places (places t columns)))),
     )
 
@@ -148,9 +154,11 @@ length-list_of : {A : Type 0} (c : Chain A) → length (list_of c) ≡ count c
 length-list_of (Last x) = refl
 length-list_of (More x c) = ap suc (length-list_of c)
 
-insert-bound : (t : Table) (at n : ℕ) (names : Option (Chain (List ℕ))) (rows : Chain (Chain Literal)) → count rows ≤ MAX_ROWS → IfBound IsSent (insert t at n names rows)
+insert-bound : (t : Table) (at n : ℕ) (names : Option (Chain (List ℕ))) (rows : Chain (Chain Literal)) → count rows ≤ MAX_ROWS
+    → IfBound IsSent (insert t at n names rows)
 insert-bound t at n names rows few =
-    then-bound IsSent (row_columns t at names) _ (λ (columns : List ℕ). then-known IsSent (each (row_values at) (list_of rows)) _ (λ (values : List (List Value)) read.
+    then-bound IsSent (row_columns t at names) _ (λ (columns : List ℕ).
+    then-known IsSent (each (row_values at) (list_of rows)) _ (λ (values : List (List Value)) read.
     let many : length values ≤ MAX_ROWS = omega (arith, few, length-list_of rows, each-length (row_values at) (list_of rows) values read) in
     let made : Bind Bound = Ok (Insert n (key_column t) (map (at_places (places t columns)) values)) in
     unless-bound IsSent (list_any (row_mixes t columns) values) at TypeMismatch (unless (rows_miscount t columns values) at WrongCount made)
@@ -159,18 +167,27 @@ insert-bound t at n names rows few =
 select-bound : (t : Table) (at n : ℕ) (s : tree.Select) → IfBound IsSent (select t at n s)
 select-bound t at n s =
     then-bound IsSent (output t at s.items) _ (λ out. then-bound IsSent (sort_keys t at s.order) _ (λ by. then-bound IsSent (where_of t at s.where') _ (λ c.
-    unless-bound IsSent (output_mixes t out || condition_mixes t c) at TypeMismatch (Ok (Select n (key_of (key_column t) c) c by out)) (tt, row-short n (key_of (key_column t) c) IntentShare Share))))
+    unless-bound IsSent (output_mixes t out || condition_mixes t c) at TypeMismatch (Ok (Select n (key_of (key_column t) c) c by out)) (
+      tt,
+      row-short n (key_of (key_column t) c) IntentShare Share,
+    ))))
 
 update-bound : (t : Table) (at n : ℕ) (as' : Chain tree.Assignment) (c : Option tree.Condition) → IfBound IsSent (update t at n as' c)
 update-bound t at n as' c =
     then-bound IsSent (each (assignment t at) (list_of as')) _ (λ sets. then-bound IsSent (where_of t at c) _ (λ d.
     let made : Bind Bound = Ok (Update n (key_of (key_column t) d) sets d) in
     let counted = unless (repeats [] (set_columns sets)) at WrongCount made in
-    unless-bound IsSent (list_any (assignment_mixes t) sets || condition_mixes t d) at TypeMismatch (unless (sets_key (key_column t) sets) at KeyChanged counted)
-    (unless-bound IsSent (sets_key (key_column t) sets) at KeyChanged counted (unless-bound IsSent (repeats [] (set_columns sets)) at WrongCount made (tt, row-short n (key_of (key_column t) d) IntentExclusive Exclusive)))))
+    unless-bound IsSent (list_any (assignment_mixes t) sets || condition_mixes t d) at TypeMismatch
+    (unless (sets_key (key_column t) sets) at KeyChanged counted)
+    (unless-bound IsSent (sets_key (key_column t) sets) at KeyChanged counted
+    (unless-bound IsSent (repeats [] (set_columns sets)) at WrongCount made (tt, row-short n (key_of (key_column t) d) IntentExclusive Exclusive)))))
 
 delete-bound : (t : Table) (at n : ℕ) (c : Option tree.Condition) → IfBound IsSent (delete t at n c)
-delete-bound t at n c = then-bound IsSent (where_of t at c) _ (λ d. unless-bound IsSent (condition_mixes t d) at TypeMismatch (Ok (Delete n (key_of (key_column t) d) d)) (tt, row-short n (key_of (key_column t) d) IntentExclusive Exclusive))
+delete-bound t at n c = then-bound IsSent (where_of t at c) _ (λ d.
+    unless-bound IsSent (condition_mixes t d) at TypeMismatch (Ok (Delete n (key_of (key_column t) d) d)) (
+      tt,
+      row-short n (key_of (key_column t) d) IntentExclusive Exclusive,
+    ))
 
 pub statement-sent : (tables : List Table) (at : ℕ) (s : tree.Statement) → HasFewRows s → IfBound IsSent (statement tables at s)
 statement-sent tables at (tree.CreateTable n ps) few = tt
@@ -192,11 +209,14 @@ sent-more tables (Err e) h = tt
 
 main-sent : (tables : List Table) (at : ℕ) (s : tree.Statement) → HasFewRows s → IfBound SentMore (main_statement tables at s)
 main-sent tables at (tree.CreateTable n ps) few = then-bound SentMore (create tables at n ps) (λ more. Ok (more, [])) (λ more. All-nil IsSent)
-main-sent tables at (tree.Insert n names rows) few = sent-more tables (statement tables at (tree.Insert n names rows)) (statement-sent tables at (tree.Insert n names rows) few)
+main-sent tables at (tree.Insert n names rows) few = sent-more tables (statement tables at (tree.Insert n names rows))
+    (statement-sent tables at (tree.Insert n names rows) few)
 main-sent tables at (tree.Selects s) few = sent-more tables (statement tables at (tree.Selects s)) (statement-sent tables at (tree.Selects s) few)
-main-sent tables at (tree.Update n as' c) few = sent-more tables (statement tables at (tree.Update n as' c)) (statement-sent tables at (tree.Update n as' c) few)
+main-sent tables at (tree.Update n as' c) few = sent-more tables (statement tables at (tree.Update n as' c))
+    (statement-sent tables at (tree.Update n as' c) few)
 main-sent tables at (tree.Delete n c) few = sent-more tables (statement tables at (tree.Delete n c)) (statement-sent tables at (tree.Delete n c) few)
-main-sent tables at (tree.Begin start level) few = sent-more tables (statement tables at (tree.Begin start level)) (statement-sent tables at (tree.Begin start level) few)
+main-sent tables at (tree.Begin start level) few = sent-more tables (statement tables at (tree.Begin start level))
+    (statement-sent tables at (tree.Begin start level) few)
 main-sent tables at (tree.Ends w noise) few = sent-more tables (statement tables at (tree.Ends w noise)) (statement-sent tables at (tree.Ends w noise) few)
 main-sent tables at (tree.Lock w n mode) few = sent-more tables (statement tables at (tree.Lock w n mode)) (statement-sent tables at (tree.Lock w n mode) few)
 main-sent tables at (tree.Set setting) few = sent-more tables (statement tables at (tree.Set setting)) (statement-sent tables at (tree.Set setting) few)
@@ -204,18 +224,21 @@ main-sent tables at (tree.Set setting) few = sent-more tables (statement tables 
 -- ---- one after another
 
 -- what holds of each part that is bound, where it is known of what is bound
-each-All-if : {A X : Type 0} (Q : A → Type 0) (P : X → Type 0) (f : A → Bind X) → ((a : A) (x : X) → Q a → f a ≡ Ok x → P x) → (as' : List A) (xs : List X) → All Q as' → each f as' ≡ Ok xs → All P xs
+each-All-if : {A X : Type 0} (Q : A → Type 0) (P : X → Type 0) (f : A → Bind X) → ((a : A) (x : X) → Q a → f a ≡ Ok x → P x) → (as' : List A) (xs : List X)
+    → All Q as' → each f as' ≡ Ok xs → All P xs
 each-All-if Q P f h [] xs q e = let same : [] ≡ xs = cc in subst (All P) same (All-nil P)
 each-All-if Q P f h (a ∷ as') xs q e =
     let b = bind (f a) (λ x. with_front (x ∷ []) (each f as')) xs e in
     let c = front_ok (b.0 ∷ []) (each f as') xs b.1.1 in
     subst (All P) c.1.1 (All-cons P b.0 c.0 (h a b.0 (All-head Q a as' q) b.1.0) (each-All-if Q P f h as' c.0 (All-tail Q a as' q) c.1.0))
 
-pub each-All : {A X : Type 0} (P : X → Type 0) (f : A → Bind X) → ((a : A) (x : X) → f a ≡ Ok x → P x) → (as' : List A) (xs : List X) → each f as' ≡ Ok xs → All P xs
+pub each-All : {A X : Type 0} (P : X → Type 0) (f : A → Bind X) → ((a : A) (x : X) → f a ≡ Ok x → P x) → (as' : List A) (xs : List X) → each f as' ≡ Ok xs
+    → All P xs
 each-All P f h as' xs e = each-All-if (λ a. Unit {0}) P f (λ a x u r. h a x r) as' xs (λ i d lt. tt) e
 
 -- what is told of each part is told of what it is bound to
-pub each-told : {A X C : Type 0} (g : X → C) (h : A → C) (f : A → Bind X) → ((a : A) (x : X) → f a ≡ Ok x → g x ≡ h a) → (as' : List A) (xs : List X) → each f as' ≡ Ok xs → map g xs ≡ map h as'
+pub each-told : {A X C : Type 0} (g : X → C) (h : A → C) (f : A → Bind X) → ((a : A) (x : X) → f a ≡ Ok x → g x ≡ h a) → (as' : List A) (xs : List X)
+    → each f as' ≡ Ok xs → map g xs ≡ map h as'
 each-told g h f t [] xs e = let same : [] ≡ xs = cc in ap (map g) (sym same)
 each-told g h f t (a ∷ as') xs e =
     let b = bind (f a) (λ x. with_front (x ∷ []) (each f as')) xs e in
@@ -225,19 +248,23 @@ each-told g h f t (a ∷ as') xs e =
 second : {X : Type 0} (p q : List Table × List X) → ◌≡◌ {A = Bind (List Table × List X)} (Ok p) (Ok q) → p.1 ≡ q.1
 second p q e = let same : p ≡ q = cc in ap (λ x. x.1) same
 
-more_ok : {X : Type 0} (xs : List X) (r : Bind (List Table × List X)) (y : List Table × List X) → then_more xs r ≡ Ok y → (z : List Table × List X) × ((r ≡ Ok z) × (xs ++ z.1 ≡ y.1))
+more_ok : {X : Type 0} (xs : List X) (r : Bind (List Table × List X)) (y : List Table × List X) → then_more xs r ≡ Ok y → (z : List Table × List X)
+    × ((r ≡ Ok z) × (xs ++ z.1 ≡ y.1))
 more_ok xs (Ok z) y e = (z, (refl, second (z.0, xs ++ z.1) y e))
 more_ok xs (Err e') y e = absurd (cc e)
 
-declared-All-if : {A X : Type 0} (Q : A → Type 0) (P : X → Type 0) (f : List Table → A → Bind (List Table × List X)) → ((t : List Table) (a : A) (x : List Table × List X) → Q a → f t a ≡ Ok x → All P x.1)
+declared-All-if : {A X : Type 0} (Q : A → Type 0) (P : X → Type 0) (f : List Table → A → Bind (List Table × List X))
+    → ((t : List Table) (a : A) (x : List Table × List X) → Q a → f t a ≡ Ok x → All P x.1)
     → (as' : List A) (tables : List Table) (y : List Table × List X) → All Q as' → declared f tables as' ≡ Ok y → All P y.1
 declared-All-if Q P f h [] tables y q e = subst (All P) (second (tables, []) y e) (All-nil P)
 declared-All-if Q P f h (a ∷ as') tables y q e =
     let b = bind (f tables a) (λ x. then_more x.1 (declared f x.0 as')) y e in
     let c = more_ok b.0.1 (declared f b.0.0 as') y b.1.1 in
-    subst (All P) c.1.1 (All-append P b.0.1 c.0.1 (h tables a b.0 (All-head Q a as' q) b.1.0) (declared-All-if Q P f h as' b.0.0 c.0 (All-tail Q a as' q) c.1.0))
+    subst (All P) c.1.1 (All-append P b.0.1 c.0.1 (h tables a b.0 (All-head Q a as' q) b.1.0)
+    (declared-All-if Q P f h as' b.0.0 c.0 (All-tail Q a as' q) c.1.0))
 
-declared-All : {A X : Type 0} (P : X → Type 0) (f : List Table → A → Bind (List Table × List X)) → ((t : List Table) (a : A) (x : List Table × List X) → f t a ≡ Ok x → All P x.1)
+declared-All : {A X : Type 0} (P : X → Type 0) (f : List Table → A → Bind (List Table × List X))
+    → ((t : List Table) (a : A) (x : List Table × List X) → f t a ≡ Ok x → All P x.1)
     → (as' : List A) (tables : List Table) (y : List Table × List X) → declared f tables as' ≡ Ok y → All P y.1
 declared-All P f h as' tables y e = declared-All-if (λ a. Unit {0}) P f (λ t a x u r. h t a x r) as' tables y (λ i d lt. tt) e
 
@@ -246,7 +273,8 @@ declared-All P f h as' tables y e = declared-All-if (λ a. Unit {0}) P f (λ t a
 pub block-sent : (tables : List Table) (b : BlockTree) (xs : List Bound) → bind_block tables b ≡ Ok xs → All IsSent xs
 block-sent tables b xs e =
     let a = bind (read_block b) (each (statement_at tables b.at)) xs e in
-    each-All-if (λ (s : StatementAt). HasFewRows s.1) IsSent (statement_at tables b.at) (λ s x few h. bound-is IsSent (statement_at tables b.at s) x (statement-sent tables (offset_in b.at s.0) s.1 few) h) a.0 xs
+    each-All-if (λ (s : StatementAt). HasFewRows s.1) IsSent (statement_at tables b.at) (λ s x few h.
+    bound-is IsSent (statement_at tables b.at s) x (statement-sent tables (offset_in b.at s.0) s.1 few) h) a.0 xs
     (read-few b.text b.at a.0 a.1.0) a.1.1
 
 setup-sent : (tables : List Table) (o : Option BlockTree) (xs : List Bound) → session_setup tables o ≡ Ok xs → All IsSent xs
@@ -279,7 +307,8 @@ main_block-sent tables b x e =
     let P : Bind (List Table × List (List Bound)) → Type 0 = λ r. elim r [ Ok y ↦ AllSent y.1 | Err e ↦ Unit {0} ] in
     subst P c.1.1
     (All-cons (All IsSent) c.0.1 []
-    (declared-All-if (λ (s : StatementAt). HasFewRows s.1) IsSent (main_at b.at) (λ t s y few h. bound-is SentMore (main_at b.at t s) y (main-sent t (offset_in b.at s.0) s.1 few) h) a.0 tables c.0
+    (declared-All-if (λ (s : StatementAt). HasFewRows s.1) IsSent (main_at b.at) (λ t s y few h.
+    bound-is SentMore (main_at b.at t s) y (main-sent t (offset_in b.at s.0) s.1 few) h) a.0 tables c.0
     (read-few b.text b.at a.0 a.1.0) c.1.0)
     (All-nil (All IsSent)))
 

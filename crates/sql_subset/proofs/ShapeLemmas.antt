@@ -1,5 +1,6 @@
 -- Counts of steps, and lines of step numbers, one after another.
-use Rattle.std.proofs.Common.{◌≡◌, refl, sym, ap, ◌∙◌, ℕ, zero, suc, ◌+◌, ◌<◌, ◌≤◌, List, [], ◌∷◌, ◌++◌, length, map, get_or, drop, Option, Some, None, option_map, drop-cons, add-one, append_assoc, arith}
+use Rattle.std.proofs.Common.{◌≡◌, refl, sym, ap, ◌∙◌, ℕ, zero, suc, ◌+◌, ◌<◌, ◌≤◌, List, [], ◌∷◌, ◌++◌, length, map, get_or, drop, Option, Some, None}
+use Rattle.std.proofs.Common.{option_map, drop-cons, add-one, append_assoc, arith}
 use Rattle.std.proofs.lemmas.List.{length-map}
 use Rattle.spec_reader.specs.declared.tree.Session.{Session}
 use Rattle.spec_reader.specs.Views.{session_tree, step_tree}

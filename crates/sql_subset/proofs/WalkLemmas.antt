@@ -1,5 +1,6 @@
 -- Queues by the step number from which on each session's steps are still to be sent.
-use Rattle.std.proofs.Common.{◌≡◌, refl, append_assoc, add-one, ◌++◌, sym, ap, ◌∙◌, ℕ, zero, suc, ◌+◌, ◌<◌, ◌≤◌, ◌≢◌, List, [], ◌∷◌, length, get_or, set, drop, arith, drop-cons, get_or-set_other, get_or-set_same}
+use Rattle.std.proofs.Common.{◌≡◌, refl, append_assoc, add-one, ◌++◌, sym, ap, ◌∙◌, ℕ, zero, suc, ◌+◌, ◌<◌, ◌≤◌, ◌≢◌, List, [], ◌∷◌, length, get_or, set, drop}
+use Rattle.std.proofs.Common.{arith, drop-cons, get_or-set_other, get_or-set_same}
 use Rattle.std.proofs.lemmas.List.{get_or_past}
 use Rattle.perm_ranks.specs.Words.{Word}
 use Rattle.sql_subset.specs.Spec.{Step, Queues, line, queues_from}
@@ -35,7 +36,8 @@ module _ (steps : List Step) where
       λ t. steps_from j (same t) steps ∷ queues_at-other (suc j) n m k next (omega arith) t
 
   -- a session's steps from another number on
-  pub queues_at-set : (j n i m k : ℕ) (next : List ℕ) → i < n → j + i ≡ m → m < length next → queues_at j n (set next m k) steps ≡ set (queues_at j n next steps) i (steps_from m k steps)
+  pub queues_at-set : (j n i m k : ℕ) (next : List ℕ) → i < n → j + i ≡ m → m < length next → queues_at j n (set next m k) steps
+      ≡ set (queues_at j n next steps) i (steps_from m k steps)
   queues_at-set j zero i m k next h e fits = absurd (omega arith)
   queues_at-set j (suc n) zero m k next h e fits =
       let same : j ≡ m = omega arith in
@@ -56,7 +58,8 @@ module _ (steps : List Step) where
   line-no_session n i next word h = line-skips (queues_at 0 n next steps) i word (get_or-queues_at-past n i next h)
 
   -- nor does one of a session that has sent all its steps
-  pub line-none_left : (n i : ℕ) (next : List ℕ) (word : Word) → i < n → steps_from i (get_or next i 0) steps ≡ [] → line (queues_at 0 n next steps) (i ∷ word) ≡ line (queues_at 0 n next steps) word
+  pub line-none_left : (n i : ℕ) (next : List ℕ) (word : Word) → i < n → steps_from i (get_or next i 0) steps ≡ [] → line (queues_at 0 n next steps) (i ∷ word)
+      ≡ line (queues_at 0 n next steps) word
   line-none_left n i next word h e = line-skips (queues_at 0 n next steps) i word (get_or-queues_at 0 n i i next h (omega arith) ∙ e)
 
   -- a letter takes its session's next step
@@ -76,13 +79,15 @@ six-zeros (suc (suc (suc (suc (suc zero))))) = refl
 six-zeros (suc (suc (suc (suc (suc (suc i)))))) = refl
 
 -- the next letter, where it takes a step
-pub walk-takes : (front whole : List ℕ) (q q' : Queues) (word : Word) (i k : ℕ) → i < length word → ((rest : Word) → line q (get_or word i 0 ∷ rest) ≡ k ∷ line q' rest)
+pub walk-takes : (front whole : List ℕ) (q q' : Queues) (word : Word) (i k : ℕ) → i < length word
+    → ((rest : Word) → line q (get_or word i 0 ∷ rest) ≡ k ∷ line q' rest)
     → front ++ line q (drop i word) ≡ whole → (front ++ k ∷ []) ++ line q' (drop (i + 1) word) ≡ whole
 walk-takes front whole q q' word i k h step so_far =
     rw (append_assoc, add-one, ← (step (drop (suc i) word)), ← (drop-cons word i 0 h)) so_far
 
 -- and where it takes none
-pub walk-skips : (front whole : List ℕ) (q q' : Queues) (word : Word) (i : ℕ) → i < length word → ((rest : Word) → line q (get_or word i 0 ∷ rest) ≡ line q' rest)
+pub walk-skips : (front whole : List ℕ) (q q' : Queues) (word : Word) (i : ℕ) → i < length word
+    → ((rest : Word) → line q (get_or word i 0 ∷ rest) ≡ line q' rest)
     → front ++ line q (drop i word) ≡ whole → front ++ line q' (drop (i + 1) word) ≡ whole
 walk-skips front whole q q' word i h step so_far =
     rw (add-one, ← (step (drop (suc i) word)), ← (drop-cons word i 0 h)) so_far

@@ -11,25 +11,36 @@ use Rattle.statement_effects.specs.Run.{WritesAlone, SeesAlone, wrote_each, left
 use Rattle.statement_effects.specs.Alone.{IsAlone}
 
 -- a write of a session is none of another's
-overlay-kept : (session : ℕ) (place : RowPlace) (left : Option Tuple) (l : Layers) (other : ℕ) → other ≢ session → overlay_of other (wrote session place left l) ≡ overlay_of other l
+overlay-kept : (session : ℕ) (place : RowPlace) (left : Option Tuple) (l : Layers) (other : ℕ) → other ≢ session → overlay_of other (wrote session place left l)
+    ≡ overlay_of other l
 overlay-kept session place left l other ne =
-    ap (λ o. unwrap_or o empty) (get-insert l.overlays session (insert (overlay_of session l) place left) other ∙ at (same_key session_order other session) refl)
+    ap (λ o. unwrap_or o empty) (get-insert l.overlays session (insert (overlay_of session l) place left) other
+    ∙ at (same_key session_order other session) refl)
   where
-    at : (b : Bool) → same_key session_order other session ≡ b → cond (same_key session_order other session) (Some (insert (overlay_of session l) place left)) (get l.overlays other) ≡ get l.overlays other
+    at : (b : Bool) → same_key session_order other session ≡ b
+        → cond (same_key session_order other session) (Some (insert (overlay_of session l) place left)) (get l.overlays other) ≡ get l.overlays other
     at true is = absurd (ne (same_key-true session_order other session is))
     at false is = ap (λ b. cond b (Some (insert (overlay_of session l) place left)) (get l.overlays other)) is
 
-pub IsOnlyWriterAt-wrote : (session : ℕ) (place : RowPlace) (left : Option Tuple) (l : Layers) (p : RowPlace) → IsOnlyWriterAt session p l → IsOnlyWriterAt session p (wrote session place left l)
+pub IsOnlyWriterAt-wrote : (session : ℕ) (place : RowPlace) (left : Option Tuple) (l : Layers) (p : RowPlace) → IsOnlyWriterAt session p l
+    → IsOnlyWriterAt session p (wrote session place left l)
 IsOnlyWriterAt-wrote session place left l p alone = λ other ne. ap (λ (o : Overlay). get o p) (overlay-kept session place left l other ne) ∙ alone other ne
 
-pub WritesAlone-wrote : (session : ℕ) (place : RowPlace) (left : Option Tuple) (ws : List Write) (l : Layers) → WritesAlone session ws l → WritesAlone session ws (wrote session place left l)
+pub WritesAlone-wrote : (session : ℕ) (place : RowPlace) (left : Option Tuple) (ws : List Write) (l : Layers) → WritesAlone session ws l
+    → WritesAlone session ws (wrote session place left l)
 WritesAlone-wrote session place left [] l alone = alone
-WritesAlone-wrote session place left (w ∷ ws) l alone = (IsOnlyWriterAt-wrote session place left l w.place alone.0, WritesAlone-wrote session place left ws l alone.1)
+WritesAlone-wrote session place left (w ∷ ws) l alone = (
+  IsOnlyWriterAt-wrote session place left l w.place alone.0,
+  WritesAlone-wrote session place left ws l alone.1,
+)
 
 -- ---- stores that session 0 alone has written
 
 pub no_rows-alone : IsAlone no_rows
-no_rows-alone = record { each = λ p other ne. ap (λ (o : Option Overlay). get (unwrap_or o empty) p) (get-empty session_order Overlay other) ∙ get-empty place_order (Option Tuple) p }
+no_rows-alone = record {
+  each = λ p other ne. ap (λ (o : Option Overlay). get (unwrap_or o empty) p) (get-empty session_order Overlay other)
+      ∙ get-empty place_order (Option Tuple) p;
+}
 
 pub sees-alone : (s : Bound) (l : Layers) → IsAlone l → SeesAlone 0 s l
 sees-alone s l alone = λ p h. alone.each p

@@ -14,21 +14,26 @@ use Rattle.sql_statements.specs.declared.statement.Output.{Output}
 use Rattle.sql_statements.specs.declared.statement.Bound.TheVariants.{Select, Insert, Update, Delete, Begin, Commit, Rollback, Lock, SetVariable}
 use Rattle.row_tables.specs.Overlay.{Tuple, Rows'}
 use Rattle.row_tables.specs.Layers.{Layers, IsOnlyWriterAt}
-use Rattle.statement_effects.specs.Effect.{Effect, Gives, Faults, effect, matching, shown, sorted_by, all_assigned, placed, numbered, next_number, or_fault, counted}
+use Rattle.statement_effects.specs.Effect.{Effect, Gives, Faults, effect, matching, shown, sorted_by, all_assigned, placed, numbered, next_number, or_fault}
+use Rattle.statement_effects.specs.Effect.{counted}
 use Rattle.statement_effects.specs.Run.{SeesAlone}
 use Rattle.statement_effects.specs.Seen.{named, selected, updated, deleted, KeysAlone}
 use Rattle.statement_effects.proofs.ListLemmas.{Each-at, Each-map}
 use Rattle.statement_effects.proofs.PlaceLemmas.{placed-visible, looks-each}
 
-matched-selected : (by : List SortKey) (out : Output) (o : Option (List (RowPlace × Tuple))) → (let f : Effect = elim o [ None ↦ Faults OutOfRange | Some es ↦ shown out (sorted_by by es) ] in f) ≡ selected by out o
+matched-selected : (by : List SortKey) (out : Output) (o : Option (List (RowPlace × Tuple)))
+    → (let f : Effect = elim o [ None ↦ Faults OutOfRange | Some es ↦ shown out (sorted_by by es) ] in f) ≡ selected by out o
 matched-selected by out None = refl
 matched-selected by out (Some es) = refl
 
-matched-updated : (sets : List Assignment) (o : Option (List (RowPlace × Tuple))) → (let f : Effect = elim o [ None ↦ Faults OutOfRange | Some es ↦ or_fault OutOfRange (all_assigned sets es) Updated ] in f) ≡ updated sets o
+matched-updated : (sets : List Assignment) (o : Option (List (RowPlace × Tuple)))
+    → (let f : Effect = elim o [ None ↦ Faults OutOfRange | Some es ↦ or_fault OutOfRange (all_assigned sets es) Updated ] in f) ≡ updated sets o
 matched-updated sets None = refl
 matched-updated sets (Some es) = refl
 
-matched-deleted : (o : Option (List (RowPlace × Tuple))) → (let f : Effect = elim o [ None ↦ Faults OutOfRange | Some es ↦ counted Deleted (map (λ (e : RowPlace × Tuple). record { place = e.0; left = None }) es) ] in f) ≡ deleted o
+matched-deleted : (o : Option (List (RowPlace × Tuple)))
+    → (let f : Effect = elim o [ None ↦ Faults OutOfRange | Some es ↦ counted Deleted (map (λ (e : RowPlace × Tuple). record { place = e.0; left = None }) es) ]
+    in f) ≡ deleted o
 matched-deleted None = refl
 matched-deleted (Some es) = refl
 
@@ -37,11 +42,13 @@ and-true true = refl
 and-true false = refl
 
 module _ (rows : Rows') where
-  pub effect-select : (t : ℕ) (key : Option Value) (c : Condition) (by : List SortKey) (out : Output) → effect (Select t key c by out) rows ≡ selected by out (matching c (named t key rows))
+  pub effect-select : (t : ℕ) (key : Option Value) (c : Condition) (by : List SortKey) (out : Output) → effect (Select t key c by out) rows
+      ≡ selected by out (matching c (named t key rows))
   unfolding effect
   effect-select t key c by out = matched-selected by out (matching c (named t key rows))
 
-  pub effect-update : (t : ℕ) (key : Option Value) (sets : List Assignment) (c : Condition) → effect (Update t key sets c) rows ≡ updated sets (matching c (named t key rows))
+  pub effect-update : (t : ℕ) (key : Option Value) (sets : List Assignment) (c : Condition) → effect (Update t key sets c) rows
+      ≡ updated sets (matching c (named t key rows))
   unfolding effect
   effect-update t key sets c = matched-updated sets (matching c (named t key rows))
 
@@ -53,7 +60,8 @@ module _ (rows : Rows') where
   unfolding effect
   effect-placed t k new = ap (λ o. or_fault Duplicate o Inserted) (placed-visible t k new rows)
 
-  pub effect-numbered : (t : ℕ) (new : List Tuple) → effect (Insert t None new) rows ≡ or_fault Duplicate (Some (numbered t (next_number 1 (named t None rows)) new)) Inserted
+  pub effect-numbered : (t : ℕ) (new : List Tuple) → effect (Insert t None new) rows
+      ≡ or_fault Duplicate (Some (numbered t (next_number 1 (named t None rows)) new)) Inserted
   unfolding effect
   effect-numbered t new = λ i. counted Inserted (numbered t (next_number 1 (entries (keep (λ p. and-true (p.0 == t) i) rows))) new)
 
@@ -81,4 +89,5 @@ module _ (rows : Rows') where
 pub keys-alone : (session t k : ℕ) (new : List Tuple) (l : Layers) → SeesAlone session (Insert t (Some k) new) l → KeysAlone session t k new l
 keys-alone session t k new l sees =
     let P : Tuple → Type 0 = λ row. IsOnlyWriterAt session (t, key_at k row) l in
-    λ i row h. Each-at P new (Each-map (λ row. looks_at (Insert t (Some k) new) (t, key_at k row) ≡ true) P (λ row h. sees (t, key_at k row) h) new (looks-each t k new)) i row h
+    λ i row h. Each-at P new (Each-map (λ row. looks_at (Insert t (Some k) new) (t, key_at k row)
+    ≡ true) P (λ row h. sees (t, key_at k row) h) new (looks-each t k new)) i row h

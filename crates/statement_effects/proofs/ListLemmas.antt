@@ -1,6 +1,7 @@
 -- Lists of what has been computed so far, with what is left.
 pub use Rattle.perm_ranks.proofs.TruthLemmas.{Each, Each-map}
-use Rattle.std.proofs.Common.{◌≡◌, refl, sym, ap, ℕ, zero, suc, ◌<◌, length, get_or, arith, Bool, true, false, cond, List, [], ◌∷◌, ◌++◌, Option, Some, None, append_assoc}
+use Rattle.std.proofs.Common.{◌≡◌, refl, sym, ap, ℕ, zero, suc, ◌<◌, length, get_or, arith, Bool, true, false, cond, List, [], ◌∷◌, ◌++◌, Option, Some, None}
+use Rattle.std.proofs.Common.{append_assoc}
 use Rattle.lock_modes.specs.RowPlace.{RowPlace}
 use Rattle.row_tables.specs.Overlay.{Tuple, Write}
 use Rattle.statement_effects.specs.Effect.{consed, passed, consed_write}
@@ -29,7 +30,8 @@ pub onto-passed : {A : Type 0} (xs : List A) (x : A) (b : Bool) (o : Option (Lis
 onto-passed xs x true o = onto-consed xs x o
 onto-passed xs x false o = ap (λ ys. onto ys o) (sym (append-[] xs))
 
-pub onto-write : (xs : List Write) (p : RowPlace) (row : Tuple) (o : Option (List Write)) → onto xs (consed_write p (Some row) o) ≡ onto (xs ++ record { place = p; left = Some row } ∷ []) o
+pub onto-write : (xs : List Write) (p : RowPlace) (row : Tuple) (o : Option (List Write)) → onto xs (consed_write p (Some row) o)
+    ≡ onto (xs ++ record { place = p; left = Some row } ∷ []) o
 onto-write xs p row None = refl
 onto-write xs p row (Some ws) = ap Some (one-more xs _ ws)
 

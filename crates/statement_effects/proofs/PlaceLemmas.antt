@@ -43,7 +43,8 @@ module _ (t k : ℕ) (rows : Rows') (new : List Tuple) (row : Tuple) (more : Lis
   same_place-value v w = sym (tied_then (nat_cmp t t) (value_cmp v w)) ∙ ap (λ b. b && same_key value_order v w) (same_key-refl session_order t)
 
   -- a row goes in at its key
-  pub placing-goes : (n : ℕ) → Placing t k rows new (row ∷ more) writes keys → (is_some (get rows (t, key_at k row)) || is_some (find value_cmp (key_at k row) keys)) ≡ false
+  pub placing-goes : (n : ℕ) → Placing t k rows new (row ∷ more) writes keys
+      → (is_some (get rows (t, key_at k row)) || is_some (find value_cmp (key_at k row) keys)) ≡ false
       → Placing t k rows new more (writes ++ record { place = (t, key_at k row); left = Some row } ∷ []) (put value_cmp (key_at k row) n keys)
   placing-goes n p is = record {
     so_far = insert p.so_far (t, key_at k row) row;
@@ -55,7 +56,8 @@ module _ (t k : ℕ) (rows : Rows') (new : List Tuple) (row : Tuple) (more : Lis
         ∙ sym (ap (λ o. is_some (get rows (t, v)) || is_some o) (find-put value_cmp value_total v (key_at k row) n keys));
   }
     where
-      at : (v : Value) (b : Bool) → is_some (cond b (Some row) (get p.so_far (t, v))) ≡ (is_some (get rows (t, v)) || is_some (cond b (Some n) (find value_cmp v keys)))
+      at : (v : Value) (b : Bool) → is_some (cond b (Some row) (get p.so_far (t, v)))
+          ≡ (is_some (get rows (t, v)) || is_some (cond b (Some n) (find value_cmp v keys)))
       at v true = or-true (is_some (get rows (t, v)))
       at v false = p.taken v
 
@@ -63,29 +65,37 @@ module _ (t k : ℕ) (rows : Rows') (new : List Tuple) (row : Tuple) (more : Lis
 
 each-among : {A : Type 0} (R : A → A → Bool) → ((x : A) → R x x ≡ true) → (xs : List A) → Each (λ y. list_any (λ x. R x y) xs ≡ true) xs
 each-among R same [] = tt
-each-among R same (x ∷ xs) =
-    (or_left (R x x) _ (same x), Each-map (λ y. list_any (λ x. R x y) xs ≡ true) (λ y. list_any (λ z. R z y) (x ∷ xs) ≡ true) (λ y h. or_right (R x y) _ h) xs (each-among R same xs))
+each-among R same (x ∷ xs) = (
+  or_left (R x x) _ (same x),
+  Each-map (λ y. list_any (λ x. R x y) xs ≡ true) (λ y. list_any (λ z. R z y) (x ∷ xs)
+      ≡ true) (λ y h. or_right (R x y) _ h) xs (each-among R same xs),
+)
 
 abbrev pub insert_at : ℕ → ℕ → List Tuple → Bound
 insert_at t k new = Insert t (Some k) new
 
 pub looks-each : (t k : ℕ) (new : List Tuple) → Each (λ row. looks_at (insert_at t k new) (t, key_at k row) ≡ true) new
 looks-each t k new =
-    Each-map (λ row. list_any (λ x. at_key (Some (key_at k x)) (key_at k row)) new ≡ true) (λ row. looks_at (insert_at t k new) (t, key_at k row) ≡ true) (λ row h. and_from (t == t) _ (eq-eqb t t refl) h) new
+    Each-map (λ row. list_any (λ x. at_key (Some (key_at k x)) (key_at k row)) new ≡ true) (λ row. looks_at (insert_at t k new) (t, key_at k row)
+    ≡ true) (λ row h. and_from (t == t) _ (eq-eqb t t refl) h) new
     (each-among (λ x row. at_key (Some (key_at k x)) (key_at k row)) (λ x. same_key-refl value_order (key_at k x)) new)
 
 -- ---- rows are placed alike in what is kept
 
 keep-insert : (p : RowPlace → Bool) (rows : Rows') (q : RowPlace) (row : Tuple) → p q ≡ true → insert (keep p rows) q row ≡ keep p (insert rows q row)
-keep-insert p rows q row h = same_map _ _ (λ x. get-insert (keep p rows) q row x ∙ ap (cond (same_key place_order x q) (Some row)) (get-keep p rows x) ∙ at x (same_key place_order x q) refl ∙ sym (get-keep p (insert rows q row) x ∙ ap (λ o. cond (p x) o None) (get-insert rows q row x)))
+keep-insert p rows q row h = same_map _ _ (λ x. get-insert (keep p rows) q row x ∙ ap (cond (same_key place_order x q) (Some row)) (get-keep p rows x)
+    ∙ at x (same_key place_order x q) refl ∙ sym (get-keep p (insert rows q row) x ∙ ap (λ o. cond (p x) o None) (get-insert rows q row x)))
   where
-    at : (x : RowPlace) (b : Bool) → same_key place_order x q ≡ b → cond (same_key place_order x q) (Some row) (cond (p x) (get rows x) None) ≡ cond (p x) (cond (same_key place_order x q) (Some row) (get rows x)) None
+    at : (x : RowPlace) (b : Bool) → same_key place_order x q ≡ b → cond (same_key place_order x q) (Some row) (cond (p x) (get rows x) None)
+        ≡ cond (p x) (cond (same_key place_order x q) (Some row) (get rows x)) None
     at x true is =
         let here : p x ≡ true = ap p (same_key-true place_order x q is) ∙ h in
-        ap (λ b. cond b (Some row) (cond (p x) (get rows x) None)) is ∙ sym (ap (λ b. cond b (cond (same_key place_order x q) (Some row) (get rows x)) None) here ∙ ap (λ b. cond b (Some row) (get rows x)) is)
+        ap (λ b. cond b (Some row) (cond (p x) (get rows x) None)) is
+        ∙ sym (ap (λ b. cond b (cond (same_key place_order x q) (Some row) (get rows x)) None) here ∙ ap (λ b. cond b (Some row) (get rows x)) is)
     at x false is = ap (λ b. cond b (Some row) (cond (p x) (get rows x) None)) is ∙ sym (ap (λ b. cond (p x) (cond b (Some row) (get rows x)) None) is)
 
-placed-kept : (p : RowPlace → Bool) (t k : ℕ) (new : List Tuple) (rows : Rows') → Each (λ row. p (t, key_at k row) ≡ true) new → placed t k new (keep p rows) ≡ placed t k new rows
+placed-kept : (p : RowPlace → Bool) (t k : ℕ) (new : List Tuple) (rows : Rows') → Each (λ row. p (t, key_at k row) ≡ true) new → placed t k new (keep p rows)
+    ≡ placed t k new rows
 placed-kept p t k [] rows each = refl
 placed-kept p t k (row ∷ more) rows each =
     let q : RowPlace = (t, key_at k row) in

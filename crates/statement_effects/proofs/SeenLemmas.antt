@@ -36,16 +36,21 @@ module _ (t : ℕ) (key : Value) (rows : Rows') where
       at p false is = ap (λ b. cond b (get rows p) None) is
 
   one-kept : (row : Tuple) → get rows (t, key) ≡ Some row → keep (is_named t (Some key)) rows ≡ insert empty (t, key) row
-  one-kept row some = same_map _ _ (λ p. get-keep (is_named t (Some key)) rows p ∙ at p (is_named t (Some key) p) refl ∙ sym (get-insert empty (t, key) row p ∙ ap (cond (same_key place_order p (t, key)) (Some row)) (get-empty place_order Tuple p)))
+  one-kept row some = same_map _ _ (λ p. get-keep (is_named t (Some key)) rows p ∙ at p (is_named t (Some key) p) refl
+      ∙ sym (get-insert empty (t, key) row p ∙ ap (cond (same_key place_order p (t, key)) (Some row)) (get-empty place_order Tuple p)))
     where
-      at : (p : RowPlace) (b : Bool) → is_named t (Some key) p ≡ b → cond (is_named t (Some key) p) (get rows p) None ≡ cond (same_key place_order p (t, key)) (Some row) None
+      at : (p : RowPlace) (b : Bool) → is_named t (Some key) p ≡ b → cond (is_named t (Some key) p) (get rows p) None
+          ≡ cond (same_key place_order p (t, key)) (Some row) None
       at p true is =
-          let same : same_key place_order p (t, key) ≡ true = ap (λ q. same_key place_order q (t, key)) (here t key p is) ∙ same_key-refl place_order (t, key) in
+          let same : same_key place_order p (t, key) ≡ true = ap (λ q. same_key place_order q (t, key)) (here t key p is) ∙ same_key-refl place_order (t, key)
+          in
           ap (λ b. cond b (get rows p) None) is ∙ ap (get rows) (here t key p is) ∙ some ∙ sym (ap (λ b. cond b (Some row) None) same)
       at p false is = ap (λ b. cond b (get rows p) None) is ∙ sym (other p (same_key place_order p (t, key)) refl is)
         where
-          other : (p : RowPlace) (b : Bool) → same_key place_order p (t, key) ≡ b → is_named t (Some key) p ≡ false → cond (same_key place_order p (t, key)) (Some row) None ≡ None
-          other p true same is = absurd (let e : true ≡ false = sym (there t key) ∙ ap (is_named t (Some key)) (sym (same_key-true place_order p (t, key) same)) ∙ is in cc)
+          other : (p : RowPlace) (b : Bool) → same_key place_order p (t, key) ≡ b → is_named t (Some key) p ≡ false
+              → cond (same_key place_order p (t, key)) (Some row) None ≡ None
+          other p true same is = absurd (let e : true ≡ false = sym (there t key) ∙ ap (is_named t (Some key)) (sym (same_key-true place_order p (t, key) same))
+              ∙ is in cc)
           other p false same is = ap (λ b. cond b (Some row) None) same
 
 entries-one : (p : RowPlace) (row : Tuple) → entries (insert (empty {X = Tuple} {o = place_order}) p row) ≡ (p, row) ∷ []
@@ -75,7 +80,8 @@ table-entries t [] = refl
 table-entries t (e ∷ es) = at (e.0.0 == t) refl (table-entries t es)
   where
     at : (b : Bool) → (e.0.0 == t) ≡ b → where_key place_cmp (is_named t None) es ≡ in_table t (rows_in t es)
-        → cond (b && true) (e ∷ where_key place_cmp (is_named t None) es) (where_key place_cmp (is_named t None) es) ≡ in_table t (cond (eq_by_cmp nat_cmp t e.0.0) ((e.0.1, e.1) ∷ rows_in t es) (rows_in t es))
+        → cond (b && true) (e ∷ where_key place_cmp (is_named t None) es) (where_key place_cmp (is_named t None) es)
+        ≡ in_table t (cond (eq_by_cmp nat_cmp t e.0.0) ((e.0.1, e.1) ∷ rows_in t es) (rows_in t es))
     at true is more =
         (λ i. ((eqb-true e.0.0 t is i, e.0.1), e.1) ∷ more i)
         ∙ sym (ap (λ (b : Bool). in_table t (cond b ((e.0.1, e.1) ∷ rows_in t es) (rows_in t es))) (table-test t e.0.0 ∙ is))
@@ -91,13 +97,15 @@ module _ (t : ℕ) (key : Value) (rows : Rows') (c : Condition) where
   pub matching-absent : get rows (t, key) ≡ None → matching c (named t (Some key) rows) ≡ Some []
   matching-absent e = ap (matching c) (named-none t key rows e)
 
-  pub matching-one : (row : Tuple) → get rows (t, key) ≡ Some row → matching c (named t (Some key) rows) ≡ passed {A = RowPlace × Tuple} ((t, key), row) (holds row c) (Some [])
+  pub matching-one : (row : Tuple) → get rows (t, key) ≡ Some row → matching c (named t (Some key) rows)
+      ≡ passed {A = RowPlace × Tuple} ((t, key), row) (holds row c) (Some [])
   matching-one row e = ap (matching c) (named-one t key rows row e)
 
   pub matching-fault : (row : Tuple) → get rows (t, key) ≡ Some row → holds row c ≡ None → matching c (named t (Some key) rows) ≡ None
   matching-fault row e f = matching-one row e ∙ ap (λ o. passed {A = RowPlace × Tuple} ((t, key), row) o (Some [])) f
 
-  pub matching-tested : (row : Tuple) (b : Bool) → get rows (t, key) ≡ Some row → holds row c ≡ Some b → matching c (named t (Some key) rows) ≡ Some ([] ++ cond b (((t, key), row) ∷ []) [])
+  pub matching-tested : (row : Tuple) (b : Bool) → get rows (t, key) ≡ Some row → holds row c ≡ Some b → matching c (named t (Some key) rows)
+      ≡ Some ([] ++ cond b (((t, key), row) ∷ []) [])
   matching-tested row b e f = matching-one row e ∙ ap (λ o. passed {A = RowPlace × Tuple} ((t, key), row) o (Some [])) f ∙ at b
     where
       at : (b : Bool) → passed {A = RowPlace × Tuple} ((t, key), row) (Some b) (Some []) ≡ Some ([] ++ cond b (((t, key), row) ∷ []) [])

@@ -19,7 +19,8 @@ use Rattle.row_tables.specs.Overlay.{Tuple}
 use Rattle.statement_effects.specs.Effect.{in_order, sort_cmp, put_in, sorted_by}
 
 -- an entry that passes goes before others, in either order where not both pass
-swapped : {X : Type 0} (s t : Bool) (x e : X) (f : List X) → (s ≡ true → t ≡ true → ⊥) → cond s (x ∷ cond t (e ∷ f) f) (cond t (e ∷ f) f) ≡ cond t (e ∷ cond s (x ∷ f) f) (cond s (x ∷ f) f)
+swapped : {X : Type 0} (s t : Bool) (x e : X) (f : List X) → (s ≡ true → t ≡ true → ⊥) → cond s (x ∷ cond t (e ∷ f) f) (cond t (e ∷ f) f)
+    ≡ cond t (e ∷ cond s (x ∷ f) f) (cond s (x ∷ f) f)
 swapped true true x e f clash = absurd (clash refl refl)
 swapped true false x e f clash = refl
 swapped false true x e f clash = refl
@@ -69,16 +70,19 @@ module _ {X : Type 0} (lt : X → X → Bool) (o : IsStrictWeakOrder lt) where
       at : (t : Bool) → lt b a ≡ t → lt b a ≡ false
       at true low =
           absurd (let none : [] ≡ b ∷ filter (ties lt b) zs =
-          sym (nothing-ties a b (a ∷ ys) low (self a, h)) ∙ e ∙ ap (λ t. cond t (b ∷ filter (ties lt b) zs) (filter (ties lt b) zs)) (tied b b (self b) (self b)) in cc)
+          sym (nothing-ties a b (a ∷ ys) low (self a, h)) ∙ e
+          ∙ ap (λ t. cond t (b ∷ filter (ties lt b) zs) (filter (ties lt b) zs)) (tied b b (self b) (self b)) in cc)
       at false is = is
 
   -- two lists that climb and have the same ties are one
   pub same-climb : (ys zs : List X) → Climbs ys → Climbs zs → ((x : X) → filter (ties lt x) ys ≡ filter (ties lt x) zs) → ys ≡ zs
   same-climb [] [] p q h = refl
   same-climb [] (b ∷ zs) p q h =
-      absurd (let none : [] ≡ b ∷ filter (ties lt b) zs = h b ∙ ap (λ t. cond t (b ∷ filter (ties lt b) zs) (filter (ties lt b) zs)) (tied b b (self b) (self b)) in cc)
+      absurd (let none : [] ≡ b ∷ filter (ties lt b) zs = h b
+      ∙ ap (λ t. cond t (b ∷ filter (ties lt b) zs) (filter (ties lt b) zs)) (tied b b (self b) (self b)) in cc)
   same-climb (a ∷ ys) [] p q h =
-      absurd (let none : [] ≡ a ∷ filter (ties lt a) ys = sym (h a) ∙ ap (λ t. cond t (a ∷ filter (ties lt a) ys) (filter (ties lt a) ys)) (tied a a (self a) (self a)) in cc)
+      absurd (let none : [] ≡ a ∷ filter (ties lt a) ys = sym (h a)
+      ∙ ap (λ t. cond t (a ∷ filter (ties lt a) ys) (filter (ties lt a) ys)) (tied a a (self a) (self a)) in cc)
   same-climb (a ∷ ys) (b ∷ zs) p q h =
       let ba : lt b a ≡ false = not-below a b ys zs p.0 (h b) in
       let ab : lt a b ≡ false = not-below b a zs ys q.0 (sym (h a)) in
@@ -97,7 +101,10 @@ module _ {X : Type 0} (lt : X → X → Bool) (o : IsStrictWeakOrder lt) where
 
   climbs-at : (xs : List X) → ((i j : ℕ) (d : X) → i ≤ j → j < length xs → lt (get_or xs j d) (get_or xs i d) ≡ false) → Climbs xs
   climbs-at [] h = tt
-  climbs-at (x ∷ xs) h = (none-at x xs (λ j p. h 0 (suc j) x (omega arith) (omega arith)), climbs-at xs (λ i j d p q. h (suc i) (suc j) d (omega arith) (omega arith)))
+  climbs-at (x ∷ xs) h = (
+    none-at x xs (λ j p. h 0 (suc j) x (omega arith) (omega arith)),
+    climbs-at xs (λ i j d p q. h (suc i) (suc j) d (omega arith) (omega arith)),
+  )
 
   pub climbs-sorted : (xs : List X) → IsSortedBy lt xs → Climbs xs
   climbs-sorted xs up = climbs-at xs (sorted_far lt o xs up)
@@ -154,7 +161,8 @@ module _ (ks : List SortKey) where
   none-chain x e [] p h = tt
   none-chain x e (y ∷ ys) p h = (is-order.chain y x e h.0 p, none-chain x e ys p h.1)
 
-  none-put : (x e : Entry) (ys : List Entry) → stands_before e x ≡ false → NoneBelow stands_before is-order x ys → NoneBelow stands_before is-order x (put_in ks e ys)
+  none-put : (x e : Entry) (ys : List Entry) → stands_before e x ≡ false → NoneBelow stands_before is-order x ys
+      → NoneBelow stands_before is-order x (put_in ks e ys)
   none-put x e [] p h = (p, tt)
   none-put x e (y ∷ ys) p h = at (is_gt (sort_cmp ks e.1 y.1)) (none-put x e ys p h.1)
     where
@@ -166,7 +174,8 @@ module _ (ks : List SortKey) where
   climbs-put e [] h = (tt, tt)
   climbs-put e (y ∷ ys) h = at (is_gt (sort_cmp ks e.1 y.1)) refl (climbs-put e ys h.1)
     where
-      at : (b : Bool) → is_gt (sort_cmp ks e.1 y.1) ≡ b → Climbs stands_before is-order (put_in ks e ys) → Climbs stands_before is-order (cond b (y ∷ put_in ks e ys) (e ∷ y ∷ ys))
+      at : (b : Bool) → is_gt (sort_cmp ks e.1 y.1) ≡ b → Climbs stands_before is-order (put_in ks e ys)
+          → Climbs stands_before is-order (cond b (y ∷ put_in ks e ys) (e ∷ y ∷ ys))
       at true is rest = (none-put y e ys (is-order.one_way y e (sym (after-is e y) ∙ is)) h.0, rest)
       at false is rest = let level : stands_before y e ≡ false = sym (after-is e y) ∙ is in ((level, none-chain y e ys level h.0), h)
 
@@ -195,4 +204,5 @@ module _ (ks : List SortKey) where
   -- what a stable sort leaves
   pub sorted-is : (xs ys : List Entry) → IsSortedBy stands_before ys → IsStableBy stands_before xs ys → ys ≡ sorted_by ks xs
   sorted-is xs ys up stable =
-      same-climb stands_before is-order ys (sorted_by ks xs) (climbs-sorted stands_before is-order ys up) (climbs-sorted_by xs) (λ z. stable z ∙ sym (filter-sorted_by z xs))
+      same-climb stands_before is-order ys (sorted_by ks xs) (climbs-sorted stands_before is-order ys up) (climbs-sorted_by xs) (λ z. stable z
+      ∙ sym (filter-sorted_by z xs))

@@ -20,7 +20,8 @@ use Rattle.sql_statements.specs.declared.statement.Bound.TheVariants.{Select, In
 use Rattle.row_tables.specs.Overlay.{Tuple, Rows', Write}
 use Rattle.row_tables.specs.Layers.{Layers, IsOnlyWriterAt}
 use Rattle.statement_effects.specs.Evaluate.{holds}
-use Rattle.statement_effects.specs.Effect.{Effect, Gives, Faults, effect, visible, matching, passed, consed, consed_write, sorted_by, shown, all_aggregated, assigned, all_assigned, placed, numbered, or_fault, counted}
+use Rattle.statement_effects.specs.Effect.{Effect, Gives, Faults, effect, visible, matching, passed, consed, consed_write, sorted_by, shown, all_aggregated}
+use Rattle.statement_effects.specs.Effect.{assigned, all_assigned, placed, numbered, or_fault, counted}
 use Rattle.statement_effects.specs.Run.{SeesAlone, WritesAlone}
 use Rattle.statement_effects.proofs.ListLemmas.{Each, Each-map}
 use Rattle.statement_effects.proofs.PlaceLemmas.{looks-each}
@@ -42,7 +43,9 @@ each-kept test rows = filtered rows.list
   where
     filtered : (es : List (RowPlace × Tuple)) → Each (λ (e : RowPlace × Tuple). test e.0 ≡ true) (filter (λ e. test e.0) es)
     filtered [] = tt
-    filtered (e ∷ es) = elim (test e.0) as (λ b. test e.0 ≡ b → Each (λ (x : RowPlace × Tuple). test x.0 ≡ true) (cond b (e ∷ filter (λ e. test e.0) es) (filter (λ e. test e.0) es))) [ true ↦ λ is. (is, filtered es) | false ↦ λ is. filtered es ] refl
+    filtered (e ∷ es) = elim (test e.0) as (λ b. test e.0 ≡ b
+        → Each (λ (x : RowPlace × Tuple). test x.0 ≡ true) (cond b (e ∷ filter (λ e. test e.0) es) (filter (λ e. test e.0) es)))
+        [ true ↦ λ is. (is, filtered es) | false ↦ λ is. filtered es ] refl
 
 pub any-some : {A : Type 0} (o : Option A) (T : Type 0) → T → OnSome o (λ _. T)
 any-some None T t = tt
@@ -73,7 +76,8 @@ leaves p row = record { place = p; left = Some row }
 
 -- what holds of each thing that is written holds of the writes of an effect
 module _ (R : Write → Type 0) where
-  each-consed_write : (p : RowPlace) (r : Option Tuple) (o : Option (List Write)) → OnSome r (λ row. R (leaves p row)) → OnSome o (Each R) → OnSome (consed_write p r o) (Each R)
+  each-consed_write : (p : RowPlace) (r : Option Tuple) (o : Option (List Write)) → OnSome r (λ row. R (leaves p row)) → OnSome o (Each R)
+      → OnSome (consed_write p r o) (Each R)
   each-consed_write p None o here h = tt
   each-consed_write p (Some row) None here h = tt
   each-consed_write p (Some row) (Some ws) here h = (here, h)
@@ -137,11 +141,16 @@ module _ (P : RowPlace → Type 0) where
       → OnGives (elim (matching c es) [ None ↦ Faults OutOfRange | Some es ↦ or_fault OutOfRange (all_assigned sets es) Updated ]) (Each At)
   updated-each sets c es h =
       on-matched At Stands (matching c es) (λ es. or_fault OutOfRange (all_assigned sets es) Updated)
-      (λ es k. on-or_fault At OutOfRange (all_assigned sets es) Updated (each-all_assigned At Stands sets (λ e p. any-some (assigned e.1 sets e.1) (P e.0) p) es k))
+      (λ es k. on-or_fault At OutOfRange (all_assigned sets es) Updated
+      (each-all_assigned At Stands sets (λ e p. any-some (assigned e.1 sets e.1) (P e.0) p) es k))
       (each-matching Stands c es h)
 
   pub deleted-each : (c : Condition) (es : List (RowPlace × Tuple)) → Each Stands es
-      → OnGives (elim (matching c es) [ None ↦ Faults OutOfRange | Some es ↦ counted Deleted (map (λ (e : RowPlace × Tuple). record { place = e.0; left = None }) es) ]) (Each At)
+      → OnGives (elim (matching c es) [
+        | None ↦ Faults OutOfRange
+        | Some es ↦ counted Deleted
+            (map (λ (e : RowPlace × Tuple). record { place = e.0; left = None }) es)
+      ]) (Each At)
   deleted-each c es h =
       on-matched At Stands (matching c es) (λ es. counted Deleted (map (λ (e : RowPlace × Tuple). record { place = e.0; left = None }) es))
       (λ es k. each-deleted At es k) (each-matching Stands c es h)
@@ -149,15 +158,18 @@ module _ (P : RowPlace → Type 0) where
 -- what holds where a statement looks holds where it writes
 module _ (P : RowPlace → Type 0) where
   seen-each : (st : Bound) (rows : Rows') → ((p : RowPlace) → looks_at st p ≡ true → P p) → Each (λ (e : RowPlace × Tuple). P e.0) (entries (visible st rows))
-  seen-each st rows sees = Each-map (λ (e : RowPlace × Tuple). looks_at st e.0 ≡ true) (λ (e : RowPlace × Tuple). P e.0) (λ e h. sees e.0 h) (entries (visible st rows)) (each-kept (looks_at st) rows)
+  seen-each st rows sees = Each-map (λ (e : RowPlace × Tuple). looks_at st e.0 ≡ true) (λ (e : RowPlace × Tuple). P e.0) (λ e h. sees e.0 h)
+      (entries (visible st rows)) (each-kept (looks_at st) rows)
 
   effect-each : (st : Bound) (rows : Rows') → ((p : RowPlace) → looks_at st p ≡ true → P p) → OnGives (effect st rows) (Each (λ (w : Write). P w.place))
   unfolding effect
   effect-each (Select t key c by out) rows sees = on-selected (λ w. P w.place) by out (matching c (entries (visible (Select t key c by out) rows)))
   effect-each (Insert t (Some k) new) rows sees =
       on-or_fault (λ w. P w.place) Duplicate (placed t k new (visible (Insert t (Some k) new) rows)) Inserted
-      (each-placed (λ w. P w.place) t k new _ (Each-map (λ row. looks_at (Insert t (Some k) new) (t, key_at k row) ≡ true) (λ row. P (t, key_at k row)) (λ row h. sees (t, key_at k row) h) new (looks-each t k new)))
-  effect-each (Insert t None new) rows sees = each-numbered (λ w. P w.place) t _ new (each-any (λ row. (v : Value) → P (t, v)) (λ row v. sees (t, v) (eq-eqb t t refl)) new)
+      (each-placed (λ w. P w.place) t k new _ (Each-map (λ row. looks_at (Insert t (Some k) new) (t, key_at k row)
+      ≡ true) (λ row. P (t, key_at k row)) (λ row h. sees (t, key_at k row) h) new (looks-each t k new)))
+  effect-each (Insert t None new) rows sees = each-numbered (λ w. P w.place) t _ new
+      (each-any (λ row. (v : Value) → P (t, v)) (λ row v. sees (t, v) (eq-eqb t t refl)) new)
   effect-each (Update t key sets c) rows sees = updated-each P sets c (entries (visible (Update t key sets c) rows)) (seen-each (Update t key sets c) rows sees)
   effect-each (Delete t key c) rows sees = deleted-each P c (entries (visible (Delete t key c) rows)) (seen-each (Delete t key c) rows sees)
   effect-each (Lock t m) rows sees = tt
@@ -174,6 +186,8 @@ on_gives : (e : Effect) (P : List Write → Type 0) (events : List Event) (ws : 
 on_gives e P events ws is h = subst (λ (f : Effect). OnGives f P) (sym is) h
 
 -- no other session has written where a statement writes
-pub writes-alone : (session : ℕ) (st : Bound) (l : Layers) (rows : Rows') (events : List Event) (ws : List Write) → SeesAlone session st l → Gives events ws ≡ effect st rows → WritesAlone session ws l
+pub writes-alone : (session : ℕ) (st : Bound) (l : Layers) (rows : Rows') (events : List Event) (ws : List Write) → SeesAlone session st l → Gives events ws
+    ≡ effect st rows → WritesAlone session ws l
 writes-alone session st l rows events ws sees is =
-    each-alone session l ws (on_gives (effect st rows) (Each (λ (w : Write). IsOnlyWriterAt session w.place l)) events ws is (effect-each (λ p. IsOnlyWriterAt session p l) st rows sees))
+    each-alone session l ws (on_gives (effect st rows) (Each (λ (w : Write). IsOnlyWriterAt session w.place l)) events ws is
+    (effect-each (λ p. IsOnlyWriterAt session p l) st rows sees))

@@ -1,5 +1,7 @@
 -- From the words that share some letters to those that share one more.
-use Rattle.std.proofs.Common.{◌≡◌, ◌≢◌, refl, sym, ap, ◌∙◌, subst, ℕ, zero, suc, ◌+◌, ◌-◌, ◌<◌, ◌≤◌, Bool, true, false, cond, not, ◌&&◌, ◌==◌, nat_lt, List, [], ◌∷◌, ◌++◌, length, drop, set, get_or, Some, None, is_some, ◌⊎◌, ⊎_elim, arith, append_assoc, length-append, get_or-set_other, eqb-true, ltb-true}
+use Rattle.std.proofs.Common.{◌≡◌, ◌≢◌, refl, sym, ap, ◌∙◌, subst, ℕ, zero, suc, ◌+◌, ◌-◌, ◌<◌, ◌≤◌, Bool, true, false, cond, not, ◌&&◌, ◌==◌, nat_lt, List, []}
+use Rattle.std.proofs.Common.{◌∷◌, ◌++◌, length, drop, set, get_or, Some, None, is_some, ◌⊎◌, ⊎_elim, arith, append_assoc, length-append, get_or-set_other}
+use Rattle.std.proofs.Common.{eqb-true, ltb-true}
 use Rattle.perm_ranks.specs.Words.{Word}
 use Rattle.perm_ranks.specs.Counting.{taken}
 use Rattle.perm_ranks.specs.Blocks.{Block, narrowed, IsBlockOf}

@@ -1,5 +1,6 @@
 -- Whether the letters at a place may be exchanged depends on them and on those before them alone.
-use Rattle.std.proofs.Common.{◌≡◌, refl, sym, ◌∙◌, ℕ, zero, suc, ◌+◌, ◌≤◌, Bool, true, false, cond, nat_lt, List, [], ◌∷◌, ◌++◌, length, set, get_or, Some, None, is_some, arith}
+use Rattle.std.proofs.Common.{◌≡◌, refl, sym, ◌∙◌, ℕ, zero, suc, ◌+◌, ◌≤◌, Bool, true, false, cond, nat_lt, List, [], ◌∷◌, ◌++◌, length, set, get_or, Some}
+use Rattle.std.proofs.Common.{None, is_some, arith}
 use Rattle.perm_ranks.specs.Words.{Word}
 use Rattle.perm_ranks.specs.Swapped.{exchanged}
 use Rattle.sql_subset.specs.Spec.{Step, Queues, line}

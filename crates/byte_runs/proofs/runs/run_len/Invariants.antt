@@ -4,7 +4,11 @@ use Rattle.byte_runs.specs.Bytes.{in_class}
 use Rattle.byte_runs.proofs.runs.run_len.Given as goal
 
 abbrev pub invariant-loop-n : goal.invariant-loop-n
-invariant-loop-n l = record { within : l.n ≤ length l.bytes; so_far : l.n + prefix_len (in_class l.class) (drop l.n l.bytes) ≡ prefix_len (in_class l.class) l.bytes }
+invariant-loop-n l = record {
+  within : l.n ≤ length l.bytes;
+  so_far : l.n + prefix_len (in_class l.class) (drop l.n l.bytes)
+      ≡ prefix_len (in_class l.class) l.bytes;
+}
 
 abbrev pub decreases-loop-n : goal.decreases-loop-n
 decreases-loop-n l = length l.bytes - l.n

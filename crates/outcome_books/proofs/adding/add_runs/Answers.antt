@@ -26,4 +26,5 @@ returns-clause-ok c =
     let added = added-behind old more behind k rank c.requires.rising low (first-least more none c.requires.more_rising)
     (subst (λ rs. AddsAll rs more behind) all m.facts) m.rising
     (subst (λ rs. KeepsAllFrom rs more behind) all m.low) (subst (λ rs. KeepsAllSound rs more behind) all m.sound) in
-    on_ok_weaker c.put_behind.result (λ is. subst (AreAdded old more) (sym (is ∙ ap (λ rs. take k old ++ rs) c.as_slice-2.ensures.value)) added) c.put_behind.ensures.ok
+    on_ok_weaker c.put_behind.result (λ is. subst (AreAdded old more) (sym (is ∙ ap (λ rs. take k old ++ rs) c.as_slice-2.ensures.value)) added)
+    c.put_behind.ensures.ok

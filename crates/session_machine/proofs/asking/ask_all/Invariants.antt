@@ -8,6 +8,7 @@ use Rattle.session_machine.proofs.asking.ask_all.Given as goal
 -- the requests so far are had
 abbrev pub invariant-loop-number : goal.invariant-loop-number
 invariant-loop-number l = record {
-  had : (layers : Layers) (ts : List Task) → GoesOnTo l.session (standing layers l.initial.locks l.state) (asks (drop l.first (plan l.statement)) ts) (standing layers l.locks l.state) (asks (drop l.number (plan l.statement)) ts);
+  had : (layers : Layers) (ts : List Task) → GoesOnTo l.session (standing layers l.initial.locks l.state) (asks (drop l.first (plan l.statement)) ts)
+      (standing layers l.locks l.state) (asks (drop l.number (plan l.statement)) ts);
   ready : IsToAsk l.session l.locks l.statement l.number;
 }

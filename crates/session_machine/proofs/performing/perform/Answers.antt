@@ -24,4 +24,5 @@ returns-in_ok-roll_back-in-Rollback-clause-does c = λ ts.
 pub returns-in_ok-roll_back-in-Rollback-clause-waits : goal.returns-in_ok-roll_back-in-Rollback-clause-waits
 returns-in_ok-roll_back-in-Rollback-clause-waits c =
     ap (λ (y : Standing). y.locks.waits) c.in_ok-roll_back-in-Rollback.ensures
-    ∙ (rolls-back-there c.args.session c.args.store.now c.args.locks.now c.args.state.now c.args.statement.now [] (ap kind c.in-Rollback.is) c.requires.idle).waits
+    ∙ (rolls-back-there c.args.session c.args.store.now c.args.locks.now c.args.state.now c.args.statement.now [] (ap kind c.in-Rollback.is)
+    c.requires.idle).waits

@@ -23,10 +23,12 @@ loop-number-preserved c =
     let x = c.loop-number.own in
     let y = c.set_up.new.self in
     let block = c.index-blocks-number.result in
-    let here : drop n blocks ≡ block ∷ drop (n + 1) blocks = drop-cons blocks n block c.loop-number-test.true ∙ (λ j. sym c.index-blocks-number.is j ∷ drop (sym (add-one n) j) blocks) in
+    let here : drop n blocks ≡ block ∷ drop (n + 1) blocks = drop-cons blocks n block c.loop-number-test.true
+    ∙ (λ j. sym c.index-blocks-number.is j ∷ drop (sym (add-one n) j) blocks) in
     let closed = subst (λ e. HasEnded e control block x y) c.in-Closed.is c.in_ok-set_up.ensures in
     record {
       ready = main-ready control x y block c.loop-number.invariant.ready closed.0;
-      ran = c.loop-number.invariant.ran ∙ ap (main_setups control n (world_in [] x)) here ∙ main-goes control n (world_in [] x) block (drop (n + 1) blocks) closed.0.whole closed.1
+      ran = c.loop-number.invariant.ran ∙ ap (main_setups control n (world_in [] x)) here
+          ∙ main-goes control n (world_in [] x) block (drop (n + 1) blocks) closed.0.whole closed.1
           ∙ (λ j. main_setups control (sym (add-one n) j) (sym closed.0.world j) (drop (n + 1) blocks));
     }

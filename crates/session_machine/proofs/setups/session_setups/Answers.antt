@@ -14,12 +14,14 @@ loop-number-preserved c =
     let x = c.loop-number.own in
     let y = c.set_up.new.self in
     let block = c.index-blocks-number.result in
-    let here : drop i blocks ≡ block ∷ drop (i + 1) blocks = drop-cons blocks i block c.loop-number-test.true ∙ (λ j. sym c.index-blocks-number.is j ∷ drop (sym (add-one i) j) blocks) in
+    let here : drop i blocks ≡ block ∷ drop (i + 1) blocks = drop-cons blocks i block c.loop-number-test.true
+    ∙ (λ j. sym c.index-blocks-number.is j ∷ drop (sym (add-one i) j) blocks) in
     let set-up : IsSetUp i block x y = ⊎_elim
     (λ e. let closed : HasEnded Closed i block x y = subst (λ e. HasEnded e i block x y) e c.in_ok-set_up.ensures in closed.0)
     (λ e. let open' : HasEnded Open i block x y = subst (λ e. HasEnded e i block x y) e c.in_ok-set_up.ensures in open'.0) c.in-Closed.is in
     record {
       ready = session-ready (suc (length blocks)) i x y block (omega (arith, c.loop-number-test.true)) c.loop-number.invariant.ready set-up;
-      ran = c.loop-number.invariant.ran ∙ ap (session_setups i (world_in [] x)) here ∙ session-goes i (world_in [] x) block (drop (i + 1) blocks) set-up.whole set-up.idle
+      ran = c.loop-number.invariant.ran ∙ ap (session_setups i (world_in [] x)) here
+          ∙ session-goes i (world_in [] x) block (drop (i + 1) blocks) set-up.whole set-up.idle
           ∙ (λ j. session_setups (sym (add-one i) j) (sym set-up.world j) (drop (i + 1) blocks));
     }

@@ -22,7 +22,8 @@ ask_all-requires-clause-ready c =
     let t = c.loop-number.locks in
     let s = c.loop-number.state in
     let st = c.index-statements-number.result in
-    let here : drop k sts ≡ st ∷ drop (k + 1) sts = drop-cons sts k st c.loop-number-test.true ∙ (λ j. sym c.index-statements-number.is j ∷ drop (sym (add-one k) j) sts) in
+    let here : drop k sts ≡ st ∷ drop (k + 1) sts = drop-cons sts k st c.loop-number-test.true
+    ∙ (λ j. sym c.index-statements-number.is j ∷ drop (sym (add-one k) j) sts) in
     to-ask i l t sts k n st here c.loop-number.invariant.ready
 
 pub perform-requires-clause-idle : goal.perform-requires-clause-idle
@@ -35,7 +36,8 @@ perform-requires-clause-idle c =
     let t = c.loop-number.locks in
     let s = c.loop-number.state in
     let st = c.index-statements-number.result in
-    let here : drop k sts ≡ st ∷ drop (k + 1) sts = drop-cons sts k st c.loop-number-test.true ∙ (λ j. sym c.index-statements-number.is j ∷ drop (sym (add-one k) j) sts) in
+    let here : drop k sts ≡ st ∷ drop (k + 1) sts = drop-cons sts k st c.loop-number-test.true
+    ∙ (λ j. sym c.index-statements-number.is j ∷ drop (sym (add-one k) j) sts) in
     let u = c.ask_all.new.locks in
     let had = subst (Asks i t s st n u) c.in-Had.is c.in_ok-ask_all.ensures.asks in
     ap (λ ws. waits_now ws i) (had l []).waits ∙ c.loop-number.invariant.ready.idle
@@ -51,7 +53,8 @@ perform-requires-clause-alone c =
     let t = c.loop-number.locks in
     let s = c.loop-number.state in
     let st = c.index-statements-number.result in
-    let here : drop k sts ≡ st ∷ drop (k + 1) sts = drop-cons sts k st c.loop-number-test.true ∙ (λ j. sym c.index-statements-number.is j ∷ drop (sym (add-one k) j) sts) in
+    let here : drop k sts ≡ st ∷ drop (k + 1) sts = drop-cons sts k st c.loop-number-test.true
+    ∙ (λ j. sym c.index-statements-number.is j ∷ drop (sym (add-one k) j) sts) in
     let u = c.ask_all.new.locks in
     let had = subst (Asks i t s st n u) c.in-Had.is c.in_ok-ask_all.ensures.asks in
     let holds = subst (HasAll i u st) c.in-Had.is c.in_ok-ask_all.ensures.holds in
@@ -68,7 +71,8 @@ loop-number-preserved c =
     let t = c.loop-number.locks in
     let s = c.loop-number.state in
     let st = c.index-statements-number.result in
-    let here : drop k sts ≡ st ∷ drop (k + 1) sts = drop-cons sts k st c.loop-number-test.true ∙ (λ j. sym c.index-statements-number.is j ∷ drop (sym (add-one k) j) sts) in
+    let here : drop k sts ≡ st ∷ drop (k + 1) sts = drop-cons sts k st c.loop-number-test.true
+    ∙ (λ j. sym c.index-statements-number.is j ∷ drop (sym (add-one k) j) sts) in
     let x = standing c.args.store.now c.args.locks.now c.args.state.now in
     let first = tasks_from (drop c.args.from.statement sts) c.args.from.request in
     let u = c.ask_all.new.locks in
@@ -78,7 +82,9 @@ loop-number-preserved c =
     let does = subst (Does i z st w) c.in_default.is c.in_ok-fault.ensures.does in
     record {
       came = done-then i x (standing l t s) first sts k n st here c.loop-number.invariant.came z w (had l) does;
-      ready = next-to-go i l c.perform.new.store t c.perform.new.locks sts k n (same-trans i l l c.perform.new.store t u c.perform.new.locks (had l []).others (does []).others) ((does []).waits ∙ (had l []).waits) c.loop-number.invariant.ready;
+      ready = next-to-go i l c.perform.new.store t c.perform.new.locks sts k n
+          (same-trans i l l c.perform.new.store t u c.perform.new.locks (had l []).others (does []).others) ((does []).waits
+          ∙ (had l []).waits) c.loop-number.invariant.ready;
     }
 
 -- the statement fails
@@ -92,7 +98,8 @@ returns-in-Some-clause-goes c =
     let t = c.loop-number.locks in
     let s = c.loop-number.state in
     let st = c.index-statements-number.result in
-    let here : drop k sts ≡ st ∷ drop (k + 1) sts = drop-cons sts k st c.loop-number-test.true ∙ (λ j. sym c.index-statements-number.is j ∷ drop (sym (add-one k) j) sts) in
+    let here : drop k sts ≡ st ∷ drop (k + 1) sts = drop-cons sts k st c.loop-number-test.true
+    ∙ (λ j. sym c.index-statements-number.is j ∷ drop (sym (add-one k) j) sts) in
     let x = standing c.args.store.now c.args.locks.now c.args.state.now in
     let first = tasks_from (drop c.args.from.statement sts) c.args.from.request in
     let u = c.ask_all.new.locks in
@@ -113,12 +120,14 @@ returns-in-Refused-clause-goes c =
     let t = c.loop-number.locks in
     let s = c.loop-number.state in
     let st = c.index-statements-number.result in
-    let here : drop k sts ≡ st ∷ drop (k + 1) sts = drop-cons sts k st c.loop-number-test.true ∙ (λ j. sym c.index-statements-number.is j ∷ drop (sym (add-one k) j) sts) in
+    let here : drop k sts ≡ st ∷ drop (k + 1) sts = drop-cons sts k st c.loop-number-test.true
+    ∙ (λ j. sym c.index-statements-number.is j ∷ drop (sym (add-one k) j) sts) in
     let x = standing c.args.store.now c.args.locks.now c.args.state.now in
     let first = tasks_from (drop c.args.from.statement sts) c.args.from.request in
     let u = c.ask_all.new.locks in
     let refused = subst (Asks i t s st n u) c.in-Refused.is c.in_ok-ask_all.ensures.asks in
-    subst (StopsIn i x first) (sym c.in_ok-fail-in-Refused.ensures) (refused-then i x (standing l t s) first sts k n st here c.loop-number.invariant.came _ (refused l))
+    subst (StopsIn i x first) (sym c.in_ok-fail-in-Refused.ensures)
+    (refused-then i x (standing l t s) first sts k n st here c.loop-number.invariant.came _ (refused l))
 
 -- a request waits
 pub returns-in-Waits-clause-goes : goal.returns-in-Waits-clause-goes
@@ -131,13 +140,18 @@ returns-in-Waits-clause-goes c =
     let t = c.loop-number.locks in
     let s = c.loop-number.state in
     let st = c.index-statements-number.result in
-    let here : drop k sts ≡ st ∷ drop (k + 1) sts = drop-cons sts k st c.loop-number-test.true ∙ (λ j. sym c.index-statements-number.is j ∷ drop (sym (add-one k) j) sts) in
+    let here : drop k sts ≡ st ∷ drop (k + 1) sts = drop-cons sts k st c.loop-number-test.true
+    ∙ (λ j. sym c.index-statements-number.is j ∷ drop (sym (add-one k) j) sts) in
     let x = standing c.args.store.now c.args.locks.now c.args.state.now in
     let first = tasks_from (drop c.args.from.statement sts) c.args.from.request in
     let u = c.ask_all.new.locks in
     let waits = subst (Asks i t s st n u) c.in-Waits.is c.in_ok-ask_all.ensures.asks in
     let p : Point = record { statement = k; request = c.in-Waits.request + 1 } in
-    let there : List Task → Standing = λ rest. record { layers = l; locks = u; own = record { status = s.status; rest = rest; transcript = s.transcript ++ Waiting ∷ [] } } in
+    let there : List Task → Standing = λ rest. record {
+      layers = l;
+      locks = u;
+      own = record { status = s.status; rest = rest; transcript = s.transcript ++ Waiting ∷ [] };
+    } in
     subst (λ tr. StopsIn i x first (paused l u (record { status = s.status; transcript = tr }) sts p)) (sym c.in_ok-push-in-Waits.ensures.ok)
     (waits-then i x (standing l t s) first sts k n st here c.loop-number.invariant.came there c.in-Waits.request (waits l))
 
@@ -150,8 +164,10 @@ returns-clause-goes c =
     let y = standing c.loop-number.store c.loop-number.locks c.loop-number.state in
     let x = standing c.args.store.now c.args.locks.now c.args.state.now in
     let first = tasks_from (drop c.args.from.statement sts) c.args.from.request in
-    let came = subst (λ ss. GoesOnTo i x first y (tasks_from ss c.loop-number.request)) (drop_all k sts c.loop-number-test.false) c.loop-number.invariant.came in
-    subst (StopsIn i x first) (sym c.in_ok-finish.ensures) (goes-on-stops i x y (finished_in i y) first [] came (ends-there i y c.loop-number.invariant.ready.idle))
+    let came = subst (λ ss. GoesOnTo i x first y (tasks_from ss c.loop-number.request)) (drop_all k sts c.loop-number-test.false) c.loop-number.invariant.came
+    in
+    subst (StopsIn i x first) (sym c.in_ok-finish.ensures) (goes-on-stops i x y (finished_in i y) first [] came
+    (ends-there i y c.loop-number.invariant.ready.idle))
 
 -- ---- who waits
 

@@ -5,6 +5,7 @@ use Rattle.session_machine.proofs.stepping.go_on.Given as goal
 -- the statements so far are done
 abbrev pub invariant-loop-number : goal.invariant-loop-number
 invariant-loop-number l = record {
-  came : GoesOnTo l.session (standing l.initial.store l.initial.locks l.initial.state) (tasks_from (drop l.fn.from.statement l.statements) l.fn.from.request) (standing l.store l.locks l.state) (tasks_from (drop l.number l.statements) l.request);
+  came : GoesOnTo l.session (standing l.initial.store l.initial.locks l.initial.state) (tasks_from (drop l.fn.from.statement l.statements) l.fn.from.request)
+      (standing l.store l.locks l.state) (tasks_from (drop l.number l.statements) l.request);
   ready : IsToGo l.session l.store l.locks l.statements l.number l.request;
 }

@@ -15,7 +15,8 @@ loop-session-preserved c =
       steps =
           c.in_ok-push_steps.ensures
           ∙ (λ i. c.loop-session.invariant.steps i ++ numbered (number i) s.steps)
-          ∙ sym (all_steps-push 0 so_far s ∙ (let zero : length so_far ≡ 0 + length so_far = omega arith in ap (λ k. all_steps 0 so_far ++ numbered k s.steps) (sym zero)))
+          ∙ sym (all_steps-push 0 so_far s ∙ (let zero : length so_far ≡ 0 + length so_far = omega arith
+          in ap (λ k. all_steps 0 so_far ++ numbered k s.steps) (sym zero)))
           ∙ ap (all_steps 0) (sym pushed);
       setups =
           c.in_ok-push.ensures.items

@@ -11,4 +11,5 @@ pub returns-in_default : goal.returns-in_default
 returns-in_default c =
     let why = read-refused c.deref.result.now c.in-Err.error c.in-Err.ensures.refused c.in_default.not-NoMemory c.in-Err.ensures.complete in
     rw c.refused.ensures
-    (ap (read_at c.args.block.now.at) (ap read_text (sym c.deref.ensures) ∙ why) ∙ (λ i. Err (record { kind = Sql c.in-Err.error.kind; offset = sym c.offset_in.ensures i })))
+    (ap (read_at c.args.block.now.at) (ap read_text (sym c.deref.ensures) ∙ why)
+    ∙ (λ i. Err (record { kind = Sql c.in-Err.error.kind; offset = sym c.offset_in.ensures i })))

@@ -7,4 +7,5 @@ use Rattle.sql_subset.proofs.blocks.sessions.Given as goal
 
 abbrev pub invariant-loop-text : goal.invariant-loop-text
 invariant-loop-text l =
-    with_front (map bound_session l.all.items) (each (λ t. session l.tables (session_tree t)) (drop l.text-index l.texts)) ≡ each (session l.tables) (map session_tree l.texts)
+    with_front (map bound_session l.all.items) (each (λ t. session l.tables (session_tree t)) (drop l.text-index l.texts))
+    ≡ each (session l.tables) (map session_tree l.texts)

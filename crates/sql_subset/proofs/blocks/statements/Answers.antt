@@ -16,4 +16,5 @@ pub loop-text-preserved : goal.loop-text-preserved
 loop-text-preserved c =
     let found = ap (λ s. statement_at c.args.tables.now c.args.block (place s)) (sym c.text-item.is) ∙ c.in_ok-statement_at.ensures in
     rw c.in_ok-push.ensures.items
-    (sym (each-goes_on (λ s. statement_at c.args.tables.now c.args.block (place s)) c.loop-text.all.items c.args.texts.now c.loop-text.text-index c.text-item.result c.in_ok-statement_at.field-0 c.loop-text-test.true found) ∙ c.loop-text.invariant)
+    (sym (each-goes_on (λ s. statement_at c.args.tables.now c.args.block (place s)) c.loop-text.all.items c.args.texts.now c.loop-text.text-index
+    c.text-item.result c.in_ok-statement_at.field-0 c.loop-text-test.true found) ∙ c.loop-text.invariant)

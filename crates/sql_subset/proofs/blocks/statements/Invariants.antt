@@ -7,4 +7,5 @@ use Rattle.sql_subset.proofs.blocks.statements.Given as goal
 
 abbrev pub invariant-loop-text : goal.invariant-loop-text
 invariant-loop-text l =
-    with_front l.all.items (each (λ s. statement_at l.tables l.block (s.at, view_form s.form)) (drop l.text-index l.texts)) ≡ each (statement_at l.tables l.block) (seen l.texts)
+    with_front l.all.items (each (λ s. statement_at l.tables l.block (s.at, view_form s.form)) (drop l.text-index l.texts))
+    ≡ each (statement_at l.tables l.block) (seen l.texts)

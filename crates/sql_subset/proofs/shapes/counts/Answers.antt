@@ -5,5 +5,10 @@ use Rattle.sql_subset.proofs.shapes.counts.Goals as goal
 pub overflow_cast-len : goal.overflow_cast-len
 overflow_cast-len c =
     let few : c.len.result < 256 =
-    omega (arith, item-le-total c.args.sessions.now c.loop-session.session-index c.session-item.result c.loop-session-test.true, ap (λ s. length s.steps.items) c.session-item.is, c.session-item.result.steps.ok.0) in
+    omega (
+      arith,
+      item-le-total c.args.sessions.now c.loop-session.session-index c.session-item.result c.loop-session-test.true,
+      ap (λ s. length s.steps.items) c.session-item.is,
+      c.session-item.result.steps.ok.0,
+    ) in
     grind (arith, few)

@@ -25,14 +25,16 @@ loop-letter-preserved c = elim c.match-take_step.branch [
       rw w.line-is
       (rw w.push.ensures.items
       (record {
-        so_far = walk-takes c.loop-letter.line.items _ _ _ c.args.word.now c.loop-letter.letter-index w.in-Some.step c.loop-letter-test.true w.in-Some.ensures.line c.loop-letter.invariant.so_far;
+        so_far = walk-takes c.loop-letter.line.items _ _ _ c.args.word.now c.loop-letter.letter-index w.in-Some.step c.loop-letter-test.true
+            w.in-Some.ensures.line c.loop-letter.invariant.so_far;
         short = omega (arith, length-append c.loop-letter.line.items (w.in-Some.step ∷ []));
         known = All-push (λ k. k < length c.args.steps.now) c.loop-letter.line.items w.in-Some.step c.loop-letter.invariant.known w.in-Some.ensures.known;
       }))
   | in_default w ↦
       rw w.line-is
       (record {
-        so_far = walk-skips c.loop-letter.line.items _ _ _ c.args.word.now c.loop-letter.letter-index c.loop-letter-test.true w.in_default.ensures.line c.loop-letter.invariant.so_far;
+        so_far = walk-skips c.loop-letter.line.items _ _ _ c.args.word.now c.loop-letter.letter-index c.loop-letter-test.true w.in_default.ensures.line
+            c.loop-letter.invariant.so_far;
         short = omega arith;
         known = c.loop-letter.invariant.known;
       })
@@ -41,7 +43,8 @@ loop-letter-preserved c = elim c.match-take_step.branch [
 pub returns-clause-line : goal.returns-clause-line
 returns-clause-line c =
     sym (append-nil c.loop-letter.line.items)
-    ∙ ap (λ rest. c.loop-letter.line.items ++ line (queues_at 0 c.args.sessions c.loop-letter.next c.args.steps.now) rest) (sym (drop_all c.loop-letter.letter-index c.args.word.now c.loop-letter-test.false))
+    ∙ ap (λ rest. c.loop-letter.line.items ++ line (queues_at 0 c.args.sessions c.loop-letter.next c.args.steps.now) rest)
+    (sym (drop_all c.loop-letter.letter-index c.args.word.now c.loop-letter-test.false))
     ∙ c.loop-letter.invariant.so_far
 
 pub returns-clause-known : goal.returns-clause-known

@@ -23,7 +23,8 @@ pub returns-in-Some : goal.returns-in-Some
 returns-in-Some c =
     let rows = sight c.args.session c.args.store.now in
     if_ok c.placed.result
-    (λ writes e. ap (λ o. or_fault Duplicate o Inserted) e ∙ sym (effect-placed rows c.args.table c.in-Some.key_column c.args.new.now) ∙ ap (λ o. effect (Insert c.args.table o c.args.new.now) rows) (sym c.in-Some.is))
+    (λ writes e. ap (λ o. or_fault Duplicate o Inserted) e ∙ sym (effect-placed rows c.args.table c.in-Some.key_column c.args.new.now)
+    ∙ ap (λ o. effect (Insert c.args.table o c.args.new.now) rows) (sym c.in-Some.is))
     c.placed.ensures
 
 pub returns-in_ok-numbered-in-None : goal.returns-in_ok-numbered-in-None

@@ -14,7 +14,8 @@ loop-row-init c =
     let rows = sight c.args.session c.args.store.now in
     let new = c.args.new.now in
     subst (λ (ws : List Write). Placing c.args.table c.args.key_column rows new new ws c.new-keys.result) (sym c.new-writes.ensures)
-    (subst (λ (ks : List (Value × ℕ)). Placing c.args.table c.args.key_column rows new new [] ks) (sym c.new-keys.ensures) (placing-starts c.args.table c.args.key_column rows new))
+    (subst (λ (ks : List (Value × ℕ)). Placing c.args.table c.args.key_column rows new new [] ks) (sym c.new-keys.ensures)
+    (placing-starts c.args.table c.args.key_column rows new))
 
 -- the row goes in at its key, where none was
 pub loop-row-preserved : goal.loop-row-preserved
@@ -33,10 +34,13 @@ loop-row-preserved c =
     let key : c.in_ok-key.key ≡ key_at k row = c.in_ok-key.ensures ∙ c.in_column.ensures in
     let free : (is_some (get rows (t, key_at k row)) || is_some (find value_cmp (key_at k row) keys)) ≡ false =
     ap (λ (v : Value). is_some (get rows (t, v)) || is_some (find value_cmp v keys)) (sym key) ∙ sym c.is_taken.ensures ∙ c.if-is_taken.false in
-    let before : Placing t k rows new (row ∷ more) writes keys = subst (λ (left : List Tuple). Placing t k rows new left writes keys) here c.loop-row.invariant in
-    let after : Placing t k rows new more (writes ++ record { place = (t, key_at k row); left = Some row } ∷ []) (put value_cmp (key_at k row) 0 keys) = placing-goes t k rows new row more writes keys 0 before free in
+    let before : Placing t k rows new (row ∷ more) writes keys = subst (λ (left : List Tuple). Placing t k rows new left writes keys) here c.loop-row.invariant
+    in
+    let after : Placing t k rows new more (writes ++ record { place = (t, key_at k row); left = Some row } ∷ []) (put value_cmp (key_at k row) 0 keys) =
+    placing-goes t k rows new row more writes keys 0 before free in
     let written : c.push.new.self ≡ writes ++ record { place = (t, key_at k row); left = Some row } ∷ [] =
-    c.in_ok-push.ensures ∙ ap (λ (w : Write). writes ++ w ∷ []) (c.new.ensures ∙ λ j. record { place = (t, (c.in_ok-fork.ensures ∙ key) j); left = Some (c.in_ok-fork-2.ensures j) }) in
+    c.in_ok-push.ensures ∙ ap (λ (w : Write). writes ++ w ∷ []) (c.new.ensures
+    ∙ λ j. record { place = (t, (c.in_ok-fork.ensures ∙ key) j); left = Some (c.in_ok-fork-2.ensures j) }) in
     let put_in : c.in_ok-keys.keys ≡ put value_cmp (key_at k row) 0 keys = c.in_ok-keys.ensures ∙ ap (λ (v : Value). put value_cmp v 0 keys) key in
     subst (λ (ws : List Write). Placing t k rows new more ws c.in_ok-keys.keys) (sym written)
     (subst (λ (ks : List (Value × ℕ)). Placing t k rows new more (writes ++ record { place = (t, key_at k row); left = Some row } ∷ []) ks) (sym put_in) after)

@@ -7,4 +7,5 @@ use Rattle.statement_effects.proofs.matching.in_table.Given as goal
 
 -- with those that are left they are all that match
 abbrev pub invariant-loop-key : goal.invariant-loop-key
-invariant-loop-key l = onto l.found (matching l.condition (in_table l.table l.key-iterator)) ≡ matching l.condition (in_table l.table (rows_of l.table (sight l.session l.store)))
+invariant-loop-key l = onto l.found (matching l.condition (in_table l.table l.key-iterator))
+    ≡ matching l.condition (in_table l.table (rows_of l.table (sight l.session l.store)))

@@ -11,7 +11,8 @@ use Rattle.statement_effects.proofs.matching.matching.Goals as goal
 
 pub at_key-requires : goal.at_key-requires
 at_key-requires c =
-    c.requires (c.args.table, c.in-Some.key.now) (ap (λ o. is_named c.args.table (option_copied o) (c.args.table, c.in-Some.key.now)) c.in-Some.is ∙ there c.args.table c.in-Some.key.now)
+    c.requires (c.args.table, c.in-Some.key.now) (ap (λ o. is_named c.args.table (option_copied o) (c.args.table, c.in-Some.key.now)) c.in-Some.is
+    ∙ there c.args.table c.in-Some.key.now)
 
 pub returns-in-None : goal.returns-in-None
 returns-in-None c =

@@ -15,7 +15,8 @@ loop-write-preserved c =
     let own = c.loop-write.store in
     let all : into_iter_items c.loop-write.write-iterator ≡ w ∷ rest = c.in-Some.ensures.steps.0 in
     let alone : WritesAlone session (w ∷ rest) own = subst (λ (ws : List Write). WritesAlone session ws own) all c.loop-write.invariant.0 in
-    let after : c.write.new.self ≡ wrote session w.place w.left own = c.in_ok-write.ensures.ok ∙ λ i. wrote session (c.into_parts-table.ensures.place i) (c.into_parts-table.ensures.left i) own in (
+    let after : c.write.new.self ≡ wrote session w.place w.left own = c.in_ok-write.ensures.ok
+    ∙ λ i. wrote session (c.into_parts-table.ensures.place i) (c.into_parts-table.ensures.left i) own in (
       subst (λ (l : Layers). WritesAlone session rest l) (sym after) (WritesAlone-wrote session w.place w.left rest own alone.1),
       ap (wrote_each session rest) after ∙ ap (λ ws. wrote_each session ws own) (sym all) ∙ c.loop-write.invariant.1,
     )

@@ -5,4 +5,5 @@ use Rattle.statement_effects.proofs.run.write_each.Given as goal
 
 -- those that are left may be written, and with them all are
 abbrev pub invariant-loop-write : goal.invariant-loop-write
-invariant-loop-write l = WritesAlone l.session (into_iter_items l.write-iterator) l.store × (wrote_each l.session (into_iter_items l.write-iterator) l.store ≡ wrote_each l.session l.fn.writes l.initial.store)
+invariant-loop-write l = WritesAlone l.session (into_iter_items l.write-iterator) l.store
+    × (wrote_each l.session (into_iter_items l.write-iterator) l.store ≡ wrote_each l.session l.fn.writes l.initial.store)

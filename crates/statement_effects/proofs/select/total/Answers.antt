@@ -8,7 +8,8 @@ use Rattle.std.proofs.lemmas.Int.{ints}
 use Rattle.statement_effects.specs.Effect.{total_of, number_in}
 use Rattle.statement_effects.proofs.select.total.Goals as goal
 
-first : (column : ℕ) (found : List (RowPlace × Tuple)) (i : ℕ) (e : RowPlace × Tuple) (x : ℤ) → i < length found → e ≡ get_or found i e → x ≡ number_in column e.1
+first : (column : ℕ) (found : List (RowPlace × Tuple)) (i : ℕ) (e : RowPlace × Tuple) (x : ℤ) → i < length found → e ≡ get_or found i e → x
+    ≡ number_in column e.1
     → total_of column (drop i found) ≡ x +ℤ total_of column (drop (i + 1) found)
 first column found i e x inside is number =
     ap (total_of column) (drop-cons found i e inside ∙ (λ j. sym is j ∷ drop (sym (add-one i) j) found))
@@ -36,7 +37,8 @@ loop-entry-preserved c =
     let fits : SFits w64 x = record { sfits = c.number_in.type_inv } in
     let low : neg_ℤ (pos (9223372036854775808 * (i + 1))) ≤ℤ (t +ℤ x) = above t x i c.loop-entry.invariant.1 fits in
     let high : (t +ℤ x) ≤ℤ pos (9223372036854775808 * (i + 1)) = below t x i c.loop-entry.invariant.2 fits in
-    let sum : to_z w128 (of_z w128 (to_z w128 c.loop-entry.total-bits +ℤ to_z w128 (of_z w128 (to_z w64 (of_z w64 x))))) ≡ t +ℤ x = omega (arith, ints, c.loop-entry.total-is) in (
+    let sum : to_z w128 (of_z w128 (to_z w128 c.loop-entry.total-bits +ℤ to_z w128 (of_z w128 (to_z w64 (of_z w64 x)))))
+    ≡ t +ℤ x = omega (arith, ints, c.loop-entry.total-is) in (
       ap (λ z. z +ℤ rest) sum ∙ regroup t x (total_of c.args.column (drop i found)) rest (total_of c.args.column found) c.loop-entry.invariant.0 left,
       subst (λ z. neg_ℤ (pos (9223372036854775808 * (i + 1))) ≤ℤ z) (sym sum) low,
       subst (λ z. z ≤ℤ pos (9223372036854775808 * (i + 1))) (sym sum) high,

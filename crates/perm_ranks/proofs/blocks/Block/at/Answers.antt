@@ -22,6 +22,9 @@ returns-clause-block c = λ counts shared is.
     let inside = ap (λ (x : Block). x.first) c.self.view_is in
     let from = c.requires.inside.0 in
     let left : taken c.self.inside.left letter ≡ c.take.new.self = sym (c.take.ensures ∙ ap (λ counts. taken counts letter) c.copy-left.ensures.same) in
-    let first : c.self.inside.first + length (words_before c.self.inside.left letter) ≡ c.args.rank - c.letter_at-letter.result.1 = omega (arith, c.letter_at-letter.ensures.before, inside, from) in
-    let same : narrowed b letter ≡ record { left = c.take.new.self; first = c.args.rank - c.letter_at-letter.result.1 } = λ i. record { left = left i; first = first i } in
-    subst (IsBlockOf counts _) same (block-narrowed counts shared b letter c.letter_at-letter.ensures.left (subst (IsBlockOf counts shared) (sym c.self.view_is) is))
+    let first : c.self.inside.first + length (words_before c.self.inside.left letter)
+    ≡ c.args.rank - c.letter_at-letter.result.1 = omega (arith, c.letter_at-letter.ensures.before, inside, from) in
+    let same : narrowed b letter ≡ record { left = c.take.new.self; first = c.args.rank - c.letter_at-letter.result.1 } = λ i.
+    record { left = left i; first = first i } in
+    subst (IsBlockOf counts _) same (block-narrowed counts shared b letter c.letter_at-letter.ensures.left
+    (subst (IsBlockOf counts shared) (sym c.self.view_is) is))

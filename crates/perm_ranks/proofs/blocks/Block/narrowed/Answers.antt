@@ -25,7 +25,8 @@ pub returns-clause-block : goal.returns-clause-block
 returns-clause-block c = λ counts shared is.
     let b : Block = record { left = c.self.inside.left; first = c.self.inside.first } in
     let some : 0 < get_or b.left c.args.letter 0 = subst (λ (x : Block). 0 < get_or x.left c.args.letter 0) (sym c.self.view_is) c.requires in
-    let left : taken c.self.inside.left c.args.letter ≡ c.take.new.self = sym (c.take.ensures ∙ ap (λ counts. taken counts c.args.letter) c.copy-left.ensures.same) in
+    let left : taken c.self.inside.left c.args.letter ≡ c.take.new.self =
+    sym (c.take.ensures ∙ ap (λ counts. taken counts c.args.letter) c.copy-left.ensures.same) in
     let same : narrowed b c.args.letter ≡ record { left = c.take.new.self; first = c.self.inside.first + c.words_before.result } =
     λ i. record { left = left i; first = c.self.inside.first + sym c.words_before.ensures i } in
     subst (IsBlockOf counts _) same (block-narrowed counts shared b c.args.letter some (subst (IsBlockOf counts shared) (sym c.self.view_is) is))

@@ -16,7 +16,8 @@ unreachable-requires c =
     let x = c.args.self.now in
     let i = c.args.session in
     let inside = c.requires.inside in
-    let some : is_some (member_at x i).rest ≡ true = subst (λ i. is_some (member_at x i).rest ≡ true) c.requires.next.2 (rests steps x c.requires.next.0 c.requires.stage c.requires.next.1) in
+    let some : is_some (member_at x i).rest ≡ true = subst (λ i. is_some (member_at x i).rest
+    ≡ true) c.requires.next.2 (rests steps x c.requires.next.0 c.requires.stage c.requires.next.1) in
     let here : c.index.result.now ≡ member_at x i = c.index.ensures ∙ get_or-any x.members.items i c.index.result.now no_member inside in
     let none : false ≡ true = sym (ap is_some c.in_default.is) ∙ ap (λ (m : Member). is_some m.rest) here ∙ some in
     cc
@@ -28,7 +29,8 @@ go-requires-clause-known c =
     let i = c.args.session in
     let inside = c.requires.inside in
     let here : c.index.result.now ≡ member_at x i = c.index.ensures ∙ get_or-any x.members.items i c.index.result.now no_member inside in
-    All-get_or (RestIsOf (length steps)) x.members.items i no_member inside c.requires.stage.known c.in-Some.rest (sym (ap (λ (m : Member). m.rest) here) ∙ c.in-Some.is)
+    All-get_or (RestIsOf (length steps)) x.members.items i no_member inside c.requires.stage.known c.in-Some.rest (sym (ap (λ (m : Member). m.rest) here)
+    ∙ c.in-Some.is)
 
 pub go-requires-clause-inside : goal.go-requires-clause-inside
 go-requires-clause-inside c =
@@ -50,8 +52,10 @@ go-requires-clause-ready c =
     let here : c.index.result.now ≡ member_at x i = c.index.ensures ∙ get_or-any x.members.items i c.index.result.now no_member inside in
     let is : (member_at x i).rest ≡ Some r = sym (ap (λ (m : Member). m.rest) here) ∙ c.in-Some.is in
     let go : IsToGo i x.store (grant x.locks s) (statements_of steps r.step) r.point.statement r.point.request =
-    subst (λ j. (member_at x j).rest ≡ Some r → IsToGo j x.store (grant x.locks s) (statements_of steps r.step) r.point.statement r.point.request) c.requires.next.2 (resumed-to-go steps x s c.requires.stage next r) is in
-    subst (λ t. IsToGo i told.store t (statements_of steps r.step) r.point.statement r.point.request) (sym (c.in_ok-tell.ensures.locks ∙ c.in_ok-grant.ensures.granted s next))
+    subst (λ j. (member_at x j).rest ≡ Some r → IsToGo j x.store (grant x.locks s) (statements_of steps r.step) r.point.statement r.point.request)
+    c.requires.next.2 (resumed-to-go steps x s c.requires.stage next r) is in
+    subst (λ t. IsToGo i told.store t (statements_of steps r.step) r.point.statement r.point.request)
+    (sym (c.in_ok-tell.ensures.locks ∙ c.in_ok-grant.ensures.granted s next))
     (subst (λ l. IsToGo i l (grant x.locks s) (statements_of steps r.step) r.point.statement r.point.request) (sym c.in_ok-tell.ensures.store) go)
 
 pub returns : goal.returns
@@ -69,5 +73,7 @@ returns c =
     let is : (member_at x i).rest ≡ Some r = sym (ap (λ (m : Member). m.rest) here) ∙ c.in-Some.is in
     let tasks = tasks_from (drop r.point.statement (statements_of steps r.step)) r.point.request in
     on_ok c.go.result (HasGone steps i tasks told y) (HasResumed steps x y) c.go.ensures (λ gone.
-    let whole = gone-told steps i tasks x told y (grant x.locks s) Resumed inside c.in_ok-tell.ensures.store (c.in_ok-tell.ensures.locks ∙ c.in_ok-grant.ensures.granted s next) c.in_ok-tell.ensures.members gone in
-    subst (λ j. (member_at x j).rest ≡ Some r → Rattle.session_machine.proofs.Stages.Gone steps j tasks x (grant x.locks s) Resumed y → HasResumed steps x y) c.requires.next.2 (λ e g. has-resumed steps x s c.requires.stage next r e y g) is whole)
+    let whole = gone-told steps i tasks x told y (grant x.locks s) Resumed inside c.in_ok-tell.ensures.store (c.in_ok-tell.ensures.locks
+    ∙ c.in_ok-grant.ensures.granted s next) c.in_ok-tell.ensures.members gone in
+    subst (λ j. (member_at x j).rest ≡ Some r → Rattle.session_machine.proofs.Stages.Gone steps j tasks x (grant x.locks s) Resumed y
+    → HasResumed steps x y) c.requires.next.2 (λ e g. has-resumed steps x s c.requires.stage next r e y g) is whole)

@@ -22,7 +22,8 @@ returns-then-waits-clause-sent c =
     let stage = c.requires.settled.stage in
     let is = c.session_of-session.ensures.is in
     let lt : i < length x.members.items = omega (arith, c.session_of-session.ensures.known, c.requires.settled.count) in
-    on_ok c.tell.result (HasTold i (NotSent k) x c.tell.new.self) (world_in steps c.tell.new.self ≡ send steps (world_in steps x) k) c.tell.ensures (λ told. not-sent-now steps x k i stage is lt c.tell.new.self told (sym c.if-waits.ensures))
+    on_ok c.tell.result (HasTold i (NotSent k) x c.tell.new.self) (world_in steps c.tell.new.self
+    ≡ send steps (world_in steps x) k) c.tell.ensures (λ told. not-sent-now steps x k i stage is lt c.tell.new.self told (sym c.if-waits.ensures))
 
 pub returns-then-waits-clause-settled : goal.returns-then-waits-clause-settled
 returns-then-waits-clause-settled c =
@@ -55,7 +56,8 @@ go-requires-clause-ready c =
     let told = c.tell-2.new.self in
     let go : IsToGo i x.store x.locks (statements_of steps k) 0 0 = sent-to-go-now steps x k i stage is lt (sym c.if-waits.ensures) in
     subst (λ (p : Point). IsToGo i told.store told.locks (statements_of steps k) p.statement p.request) (sym c.start.ensures)
-    (subst (λ t. IsToGo i told.store t (statements_of steps k) 0 0) (sym c.in_ok-tell.ensures.locks) (subst (λ l. IsToGo i l x.locks (statements_of steps k) 0 0) (sym c.in_ok-tell.ensures.store) go))
+    (subst (λ t. IsToGo i told.store t (statements_of steps k) 0 0) (sym c.in_ok-tell.ensures.locks)
+    (subst (λ l. IsToGo i l x.locks (statements_of steps k) 0 0) (sym c.in_ok-tell.ensures.store) go))
 
 pub settle-requires : goal.settle-requires
 settle-requires c =
@@ -69,8 +71,10 @@ settle-requires c =
     let told = c.tell-2.new.self in
     let idle : waits_now x.locks.waits i ≡ false = sym c.if-waits.ensures in
     let y = c.go.new.self in
-    let went : HasGone steps i (tasks_from (drop 0 (statements_of steps k)) 0) told y = subst (λ (p : Point). HasGone steps i (tasks_from (drop p.statement (statements_of steps k)) p.request) told y) c.start.ensures c.in_ok-go.ensures in
-    let gone = gone-told steps i (tasks_from (drop 0 (statements_of steps k)) 0) x told y x.locks (Sent k) lt c.in_ok-tell.ensures.store c.in_ok-tell.ensures.locks c.in_ok-tell.ensures.members went in
+    let went : HasGone steps i (tasks_from (drop 0 (statements_of steps k)) 0) told y =
+    subst (λ (p : Point). HasGone steps i (tasks_from (drop p.statement (statements_of steps k)) p.request) told y) c.start.ensures c.in_ok-go.ensures in
+    let gone = gone-told steps i (tasks_from (drop 0 (statements_of steps k)) 0) x told y x.locks (Sent k) lt c.in_ok-tell.ensures.store
+    c.in_ok-tell.ensures.locks c.in_ok-tell.ensures.members went in
     sent-stage steps x k i stage is lt idle y gone
 
 -- and the world settles
@@ -86,10 +90,13 @@ returns-clause-sent c =
     let told = c.tell-2.new.self in
     let idle : waits_now x.locks.waits i ≡ false = sym c.if-waits.ensures in
     let y = c.go.new.self in
-    let went : HasGone steps i (tasks_from (drop 0 (statements_of steps k)) 0) told y = subst (λ (p : Point). HasGone steps i (tasks_from (drop p.statement (statements_of steps k)) p.request) told y) c.start.ensures c.in_ok-go.ensures in
-    let gone = gone-told steps i (tasks_from (drop 0 (statements_of steps k)) 0) x told y x.locks (Sent k) lt c.in_ok-tell.ensures.store c.in_ok-tell.ensures.locks c.in_ok-tell.ensures.members went in
+    let went : HasGone steps i (tasks_from (drop 0 (statements_of steps k)) 0) told y =
+    subst (λ (p : Point). HasGone steps i (tasks_from (drop p.statement (statements_of steps k)) p.request) told y) c.start.ensures c.in_ok-go.ensures in
+    let gone = gone-told steps i (tasks_from (drop 0 (statements_of steps k)) 0) x told y x.locks (Sent k) lt c.in_ok-tell.ensures.store
+    c.in_ok-tell.ensures.locks c.in_ok-tell.ensures.members went in
     let z = c.settle.new.self in
-    on_ok c.settle.result (world_in steps z ≡ settle (world_in steps y)) (world_in steps z ≡ send steps (world_in steps x) k) c.settle.ensures.settled (λ settled. settled ∙ sym (has-sent steps x k i stage is lt idle y gone))
+    on_ok c.settle.result (world_in steps z ≡ settle (world_in steps y)) (world_in steps z
+    ≡ send steps (world_in steps x) k) c.settle.ensures.settled (λ settled. settled ∙ sym (has-sent steps x k i stage is lt idle y gone))
 
 pub returns-clause-settled : goal.returns-clause-settled
 returns-clause-settled c =
@@ -105,9 +112,12 @@ returns-clause-settled c =
     let told = c.tell-2.new.self in
     let idle : waits_now x.locks.waits i ≡ false = sym c.if-waits.ensures in
     let y = c.go.new.self in
-    let went : HasGone steps i (tasks_from (drop 0 (statements_of steps k)) 0) told y = subst (λ (p : Point). HasGone steps i (tasks_from (drop p.statement (statements_of steps k)) p.request) told y) c.start.ensures c.in_ok-go.ensures in
-    let gone = gone-told steps i (tasks_from (drop 0 (statements_of steps k)) 0) x told y x.locks (Sent k) lt c.in_ok-tell.ensures.store c.in_ok-tell.ensures.locks c.in_ok-tell.ensures.members went in
+    let went : HasGone steps i (tasks_from (drop 0 (statements_of steps k)) 0) told y =
+    subst (λ (p : Point). HasGone steps i (tasks_from (drop p.statement (statements_of steps k)) p.request) told y) c.start.ensures c.in_ok-go.ensures in
+    let gone = gone-told steps i (tasks_from (drop 0 (statements_of steps k)) 0) x told y x.locks (Sent k) lt c.in_ok-tell.ensures.store
+    c.in_ok-tell.ensures.locks c.in_ok-tell.ensures.members went in
     let z = c.settle.new.self in
-    on_all c.settle.result (world_in steps z ≡ settle (world_in steps y)) (IsStage steps z) (length z.members.items ≡ length y.members.items) (IsSettled sessions steps z) c.settle.ensures.settled c.settle.ensures.stage c.settle.ensures.count (λ settled stands count.
+    on_all c.settle.result (world_in steps z ≡ settle (world_in steps y)) (IsStage steps z) (length z.members.items
+    ≡ length y.members.items) (IsSettled sessions steps z) c.settle.ensures.settled c.settle.ensures.stage c.settle.ensures.count (λ settled stands count.
     settled-after sessions steps x z k c.requires.settled c.requires.known known (settled ∙ sym (has-sent steps x k i stage is lt idle y gone)) stands
     (count ∙ ap length gone.members ∙ length-set x.members.items i (member_at y i)))

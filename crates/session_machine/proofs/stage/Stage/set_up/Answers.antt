@@ -14,7 +14,8 @@ go_on-requires-clause-ready c =
     let x = c.args.self.now in
     let i = c.args.session in
     subst (λ b. IsToGo i x.store x.locks b c.start.result.statement c.start.result.request) (sym c.statements.ensures)
-    (subst (λ (p : Point). IsToGo i x.store x.locks c.args.block.now p.statement p.request) (sym c.start.ensures) (set-up-to-go x i c.args.block.now c.requires.stage c.requires.inside))
+    (subst (λ (p : Point). IsToGo i x.store x.locks c.args.block.now p.statement p.request) (sym c.start.ensures)
+    (set-up-to-go x i c.args.block.now c.requires.stage c.requires.inside))
 
 pub returns : goal.returns
 returns c =
@@ -29,7 +30,15 @@ returns c =
     let goes : GoesUntil i (standing x.store x.locks (member_at x i).state) block (record { statement = 0; request = 0 }) l t s c.in_ok-stopped.stopped =
     subst (λ (q : Member). GoesUntil i (standing x.store x.locks q.state) block (record { statement = 0; request = 0 }) l t s c.in_ok-stopped.stopped) here
     (subst (λ b. GoesUntil i (standing x.store x.locks was.state) b (record { statement = 0; request = 0 }) l t s c.in_ok-stopped.stopped) c.statements.ensures
-    (subst (λ p. GoesUntil i (standing x.store x.locks was.state) c.statements.result.now p l t s c.in_ok-stopped.stopped) c.start.ensures c.in_ok-stopped.ensures.goes)) in
-    let y : Stage = record { store = l; locks = t; members = Rattle.std.specs.Vec.with_item x.members i (record { state = record { status = s.status; transcript = c.new.result }; rest = was.rest }) } in
+    (subst (λ p. GoesUntil i (standing x.store x.locks was.state) c.statements.result.now p l t s c.in_ok-stopped.stopped) c.start.ensures
+    c.in_ok-stopped.ensures.goes)) in
+    let y : Stage = record {
+      store = l;
+      locks = t;
+      members = Rattle.std.specs.Vec.with_item x.members i
+          (record { state = record { status = s.status; transcript = c.new.result }; rest = was.rest });
+    } in
     subst (λ e. HasEnded e i block x y) (sym c.in_ok-end.ensures)
-    (ended x i block c.requires.stage c.requires.inside l t s y refl refl (λ k. set x.members.items i (record { state = record { status = s.status; transcript = c.new.ensures k }; rest = (here k).rest })) c.in_ok-stopped.stopped goes c.in_ok-stopped.ensures.waits)
+    (ended x i block c.requires.stage c.requires.inside l t s y refl refl (λ k.
+    set x.members.items i (record { state = record { status = s.status; transcript = c.new.ensures k }; rest = (here k).rest })) c.in_ok-stopped.stopped
+    goes c.in_ok-stopped.ensures.waits)

@@ -12,7 +12,8 @@ returns-clause-told c =
     let stage = c.self.inside.stage in
     let n = c.self.inside.spec.now.run.sessions in
     let count : c.sessions-sessions.result ≡ n = c.sessions-sessions.ensures.count in
-    c.in_ok-new.ensures ∙ c.in_ok-transcripts.ensures ∙ ap (λ ms. transcripts_of (take c.sessions-sessions.result ms)) c.deref.ensures.value ∙ ap (λ k. transcripts_of (take k stage.members.items)) count
+    c.in_ok-new.ensures ∙ c.in_ok-transcripts.ensures ∙ ap (λ ms. transcripts_of (take c.sessions-sessions.result ms)) c.deref.ensures.value
+    ∙ ap (λ k. transcripts_of (take k stage.members.items)) count
     ∙ sym (outcome-now steps n stage) ∙ ap (λ (v : Running). outcome_of v.file.run.sessions v.world) c.self.view_is
 
 pub returns-clause-own : goal.returns-clause-own

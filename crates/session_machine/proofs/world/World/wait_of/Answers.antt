@@ -13,6 +13,7 @@ returns c =
     let steps = c.self.inside.spec.now.run.steps in
     let stage = c.self.inside.stage in
     c.wait_of.ensures
-    ∙ sym (ap (λ look. option_map (λ (v : Wait). (v.resource, wanted_by look v)) (find (λ (v : Wait). v.session == c.args.session) stage.locks.waits)) (look-now steps stage (c.self.invariant c.if-self.false).stage))
+    ∙ sym (ap (λ look. option_map (λ (v : Wait). (v.resource, wanted_by look v)) (find (λ (v : Wait). v.session == c.args.session) stage.locks.waits))
+    (look-now steps stage (c.self.invariant c.if-self.false).stage))
     ∙ sym (ap (λ b. wait_in (record { file = c.self.inside.spec.now; world = world_in steps stage; spent = b }) c.args.session) c.if-self.false)
     ∙ ap (λ v. wait_in v c.args.session) c.self.view_is

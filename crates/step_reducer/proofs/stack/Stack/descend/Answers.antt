@@ -6,7 +6,8 @@ use Rattle.step_reducer.specs.declared.stack.Stack.{Stack}
 use Rattle.step_reducer.specs.Walks.{HasTurned}
 use Rattle.step_reducer.proofs.Stacks.{gone-alone, gone-kept}
 use Rattle.step_reducer.proofs.stack.Stack.descend.Goals as goal
-use Rattle.step_reducer.proofs.stack.Stack.descend.Goals.{then-behind-end+then-behind-end-2+in_ok-kept+in_ok-keep, else-behind-end, else-behind-end-via-then-behind-end+else-behind-end-2, else-behind-end-via-else-behind-end}
+use Rattle.step_reducer.proofs.stack.Stack.descend.Goals.{then-behind-end+then-behind-end-2+in_ok-kept+in_ok-keep, else-behind-end}
+use Rattle.step_reducer.proofs.stack.Stack.descend.Goals.{else-behind-end-via-then-behind-end+else-behind-end-2, else-behind-end-via-else-behind-end}
 
 pub returns : goal.returns
 returns c = λ reduce file at lt is turn unlisted.
