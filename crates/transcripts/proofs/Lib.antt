@@ -1,7 +1,6 @@
 pub mod Walking
 pub mod Writing
 pub mod JsonLaws
-pub mod Places
 pub mod Codes
 pub mod Digits
 pub mod Tables

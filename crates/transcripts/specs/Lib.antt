@@ -4,5 +4,6 @@ pub mod Text
 pub mod Json
 pub mod JsonReading
 pub mod Log
+pub mod Turned
 pub mod Compact
 pub mod EventParts

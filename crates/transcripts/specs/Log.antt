@@ -1,13 +1,11 @@
--- Events by turns, and these by their places.
-use Rattle.std.specs.Prelude.{◌≡◌, ℕ, suc, List, [], ◌∷◌, ◌++◌, ⊤}
-use Rattle.transcripts.specs.declared.event.Event.{Event}
+-- Turns that have ended.
+use Rattle.std.specs.Prelude.{suc, [], ◌++◌, Option, Some, None}
+use Rattle.std.specs.declared.rc.Rc.{Rc}
+use Rattle.std.specs.declared.alloc.Global.{Global}
+use Rattle.transcripts.specs.Turned.{Turned}
+use Rattle.transcripts.specs.declared.turn.Turn.{Turn}
 
--- the places go up by one from the first
-abbrev pub ArePlaces : ℕ → List (ℕ × List Event) → Type 0
-ArePlaces n [] = ⊤
-ArePlaces n (t ∷ ts) = (t.0 ≡ n) × ArePlaces (suc n) ts
-
--- the events of the turns in the order of their places
-abbrev pub told : List (ℕ × List Event) → List Event
-told [] = []
-told (t ∷ ts) = t.1 ++ told ts
+-- no turns, or those before the last one and then that one
+abbrev pub turned : Option (Rc Turn Global) → Turned
+turned None = record { told = []; count = 0 }
+turned (Some last) = record { told = last.value.before.told ++ last.value.events.items; count = suc last.value.before.count }

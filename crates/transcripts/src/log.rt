@@ -4,18 +4,18 @@ ghost use Rattle.std.specs.Prelude.{◌≡◌, [], ◌∷◌, ◌++◌, IfOk, On
 
 use crate::event::Event;
 use crate::outcome::Transcript;
-use crate::turn::{Turn, copied};
+use crate::turn::{Turns, copied};
 use finite_maps::Fork;
 use std::alloc::{AllocError, Global};
 use std::marker::Model;
-use version_tree::VMap;
+use std::mem;
 
 /// What one session has been told so far, seen by contracts as the list of its events in order. A fork shares the events
 /// of turns that have ended, and copies those of the turn that goes on. Each goes on alone.
 #[derive(Drop)]
 pub struct Log {
-    /// The turns that have ended, each at its place, from 0.
-    turns: VMap<usize, Turn>,
+    /// The turns that have ended.
+    turns: Turns,
     /// What was told since.
     current: Vec<Event>,
     /// How many events a transcript has to have room for.
@@ -26,13 +26,10 @@ pub struct Log {
 impl Model for Log {
     ghost use Rattle.std.specs.Prelude.{List, ◌++◌};
     ghost use Rattle.transcripts.specs.declared.event.Event.{Event as Told};
-    ghost use Rattle.transcripts.specs.Log.{told, ArePlaces};
 
     ghost Value = { List Told };
 
-    ghost view = { λ log. told log.turns ++ log.current.items };
-
-    ghost invariant = { λ log. ArePlaces 0 log.turns };
+    ghost view = { λ log. log.turns.told ++ log.current.items };
 }
 
 impl Log {
@@ -41,7 +38,7 @@ impl Log {
         ensures { result ≡ [] }
     {
         Log {
-            turns: VMap::new(alloc),
+            turns: Turns::new(),
             current: Vec::new(alloc),
             room: 0,
             alloc,
@@ -66,13 +63,8 @@ impl Log {
     fn end_turn(&mut self)
         ensures { self.new ≡ self.old }
     {
-        let Ok(turn) = Turn::of(self.alloc, self.current.as_slice()) else {
-            return;
-        };
-        if let Ok(turns) = self.turns.put(self.turns.len(), turn) {
-            self.turns = turns;
-            self.current.clear();
-        }
+        let events = mem::replace(&mut self.current, Vec::new(self.alloc));
+        self.current = self.turns.add(self.alloc, events);
     }
 
     /// A transcript of the events so far. It fails for want of memory alone.
@@ -80,9 +72,7 @@ impl Log {
         ensures { IfOk result (λ transcript. transcript ≡ self.now) }
     {
         let mut transcript = Transcript::with_room(self.alloc, self.room)?;
-        for (_place, turn) in self.turns.iter() {
-            transcript.extend(turn.events())?;
-        }
+        self.turns.tell(&mut transcript)?;
         transcript.extend(self.current.as_slice())?;
         Ok(transcript)
     }

@@ -1,51 +1,96 @@
-//! What was told in one turn.
+//! What was told in turns that have ended.
 
-ghost use Rattle.std.specs.Prelude.{◌≡◌, IfOk};
+ghost use Rattle.std.specs.Prelude.{◌≡◌, ◌++◌, [], IfOk, OnOk};
 
 use crate::event::Event;
+use crate::outcome::Transcript;
 use finite_maps::Fork;
 use std::alloc::{AllocError, Global};
 use std::marker::Model;
 use std::rc::Rc;
 
-/// The events of a turn that has ended, seen by contracts as their list. A fork shares them.
+/// Turns that have ended, seen by contracts as what was told in them. A fork shares them all.
+#[cycle(turns)]
+#[derive(Drop)]
+pub(crate) struct Turns {
+    last: Option<Rc<Turn>>,
+}
+
+/// A turn behind those that ended before it.
+#[cycle(turns)]
 #[derive(Drop)]
 pub(crate) struct Turn {
-    events: Rc<Vec<Event>>,
+    before: Turns,
+    events: Vec<Event>,
 }
 
-impl Model for Turn {
-    ghost use Rattle.std.specs.Prelude.{List};
-    ghost use Rattle.transcripts.specs.declared.event.Event.{Event as Told};
+impl Model for Turns {
+    ghost use Rattle.transcripts.specs.Turned.{Turned};
 
-    ghost Value = { List Told };
+    ghost Value = { Turned };
 
-    ghost view = { λ turn. turn.events.value.items };
+    ghost use Rattle.transcripts.specs.Log.{turned};
+
+    ghost view = { λ turns. turned turns.last };
+
+    ghost size = { λ turns. turns.count };
+
+    ghost use Rattle.std.proofs.Common.{arith};
+
+    ghost size_decreases = { λ a h. Prim.grind (arith) };
 }
 
-impl Turn {
-    /// The turn of these events, each of which is copied.
-    pub(crate) fn of(alloc: Global, events: &[Event]) -> Result<Turn, AllocError>
-        ensures { IfOk result (λ turn. turn ≡ events.now) }
+impl Turns {
+    /// No turns.
+    pub(crate) fn new() -> Turns
+        ensures { result.told ≡ [] }
     {
-        Ok(Turn {
-            events: Rc::new(alloc, copied(alloc, events)?)?,
-        })
+        Turns { last: None }
     }
 
-    /// The events in order.
-    pub(crate) fn events(&self) -> &[Event]
-        ensures { result.now ≡ self.now }
+    /// Puts a turn of these events behind the others. Where there is no memory for that they come back, and else none.
+    pub(crate) fn add(&mut self, alloc: Global, events: Vec<Event>) -> Vec<Event>
+        ensures { self.new.told ++ result.items ≡ self.old.told ++ events.items }
     {
-        self.events.as_slice()
+        let turn = Turn {
+            before: Turns {
+                last: self.last.take(),
+            },
+            events,
+        };
+        match Rc::new(alloc, turn) {
+            Ok(last) => {
+                self.last = Some(last);
+                Vec::new(alloc)
+            }
+            Err(refused) => {
+                let Turn { before, events } = refused.value;
+                self.last = before.last;
+                events
+            }
+        }
+    }
+
+    /// Adds a copy of each event to a transcript.
+    pub(crate) fn tell(&self, transcript: &mut Transcript) -> Result<(), AllocError>
+        ensures { OnOk result (transcript.new ≡ transcript.old ++ self.now.told) }
+    {
+        let Some(turn) = &self.last else {
+            return Ok(());
+        };
+        turn.before.tell(transcript)?;
+        transcript.extend(turn.events.as_slice())
     }
 }
 
-impl Fork for Turn {
-    fn fork(&self) -> Result<Turn, AllocError> {
-        Ok(Turn {
-            events: self.events.clone()?,
-        })
+impl Fork for Turns {
+    fn fork(&self) -> Result<Turns, AllocError> {
+        match &self.last {
+            None => Ok(Turns { last: None }),
+            Some(turn) => Ok(Turns {
+                last: Some(turn.clone()?),
+            }),
+        }
     }
 }
 
