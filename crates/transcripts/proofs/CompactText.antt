@@ -11,7 +11,8 @@ use Rattle.lock_modes.specs.declared.value.Value.TheVariants.{Int, Text}
 use Rattle.transcripts.specs.declared.event.Fault.TheVariants.{Duplicate, OutOfRange, Deadlock, Aborted}
 use Rattle.transcripts.specs.declared.event.Warning.TheVariants.{InBlock, NoBlock}
 use Rattle.transcripts.specs.declared.event.Event.{Event}
-use Rattle.transcripts.specs.declared.event.Event.TheVariants.{Sent, Row, Rows, Inserted, Updated, Deleted, Began, Committed, RolledBack, Locked, Set, Warned, Failed, Waiting, Resumed, Done, NotSent}
+use Rattle.transcripts.specs.declared.event.Event.TheVariants.{Sent, Row, Rows, Inserted, Updated, Deleted, Began, Committed, RolledBack, Locked, Set, Warned}
+use Rattle.transcripts.specs.declared.event.Event.TheVariants.{Failed, Waiting, Resumed, Done, NotSent}
 use Rattle.transcripts.specs.Json.{list, cell_data, event_data, session_data, outcome_data, CellFits, EventFits, OutcomeFits}
 use Rattle.transcripts.specs.Compact.{others_json, array_json, cell_json, event_json, session_json, outcome_json}
 use Rattle.transcripts.proofs.Codes.{others-nil, others-cons}

@@ -1,5 +1,6 @@
 -- Events and their texts: each is told by its kind, its number and its row, and so by its text.
-use Rattle.std.specs.Prelude.{◌≡◌, refl, ℕ, suc, ◌<◌, ◌==◌, ◌&&◌, ◌||◌, nat_lt, not, Bool, true, false, cond, List, [], ◌∷◌, ◌++◌, length, bytes_eq, ℤ, pos, negsuc}
+use Rattle.std.specs.Prelude.{◌≡◌, refl, ℕ, suc, ◌<◌, ◌==◌, ◌&&◌, ◌||◌, nat_lt, not, Bool, true, false, cond, List, [], ◌∷◌, ◌++◌, length, bytes_eq, ℤ, pos}
+use Rattle.std.specs.Prelude.{negsuc}
 use Rattle.std.proofs.Common.{sym, ap, ◌∙◌, append-nil, arith, lit<}
 use Rattle.std.specs.declared.cmp.Ordering.TheVariants.{Less, Equal, Greater}
 use Rattle.std.specs.Ordering.{ordering_then, ordering_reverse}
@@ -17,7 +18,8 @@ use Rattle.transcripts.specs.declared.event.Warning.TheVariants.{InBlock, NoBloc
 use Rattle.transcripts.specs.declared.event.Fault.{Fault}
 use Rattle.transcripts.specs.declared.event.Fault.TheVariants.{Duplicate, OutOfRange, Deadlock, Aborted}
 use Rattle.transcripts.specs.declared.event.Event.{Event}
-use Rattle.transcripts.specs.declared.event.Event.TheVariants.{Sent, Row, Rows, Inserted, Updated, Deleted, Began, Committed, RolledBack, Locked, Set, Warned, Failed, Waiting, Resumed, Done, NotSent}
+use Rattle.transcripts.specs.declared.event.Event.TheVariants.{Sent, Row, Rows, Inserted, Updated, Deleted, Began, Committed, RolledBack, Locked, Set, Warned}
+use Rattle.transcripts.specs.declared.event.Event.TheVariants.{Failed, Waiting, Resumed, Done, NotSent}
 use Rattle.transcripts.specs.Compact.{whole_json, cell_json, array_json, event_json, bytes_cmp}
 use Rattle.transcripts.specs.EventParts.{kind_of, number_of, values_of, front_by}
 use Rattle.transcripts.proofs.Tables.{all_below, passes_both}

@@ -8,7 +8,8 @@ use Rattle.std.proofs.lemmas.Bool.Decides.{nat_tests}
 use Rattle.json.specs.Print.{escape_byte, quoted}
 use Rattle.transcripts.specs.Compact.{bytes_cmp, array_json, first_written}
 use Rattle.transcripts.specs.EventParts.{end_at}
-use Rattle.transcripts.proofs.Codes.{above, below, tied, then-equal, IsCode, end_before, items_cmp, items-cons, items-none, items-ended, items-longer, array-cmp}
+use Rattle.transcripts.proofs.Codes.{above, below, tied, then-equal, IsCode, end_before, items_cmp, items-cons, items-none, items-ended, items-longer}
+use Rattle.transcripts.proofs.Codes.{array-cmp}
 use Rattle.transcripts.proofs.Escapes.{texts_cmp, quoted-cmp}
 
 -- what decides, decides at once

@@ -26,7 +26,8 @@ unfolding others_json
 no_events = refl
 
 -- a row with a number below 0, and a text with a quote, a line feed and a control character
-shown : outcome_json ((Row (Int (negsuc 6) ∷ Text (codes "a\"\n\u{1f}") ∷ []) ∷ Failed Deadlock ∷ []) ∷ []) ≡ codes "[[[\"row\",[-7,\"a\\\"\\n\\u001f\"]],[\"failed\",3]]]"
+shown : outcome_json ((Row (Int (negsuc 6) ∷ Text (codes "a\"\n\u{1f}") ∷ []) ∷ Failed Deadlock ∷ []) ∷ [])
+    ≡ codes "[[[\"row\",[-7,\"a\\\"\\n\\u001f\"]],[\"failed\",3]]]"
 unfolding digits_in others_json escape_byte
 shown = refl
 

@@ -43,17 +43,23 @@ module _
       let below : n < length t = q.front.1 in
       let cut : s ++ take n t ≡ take (length s + n) (s ++ t) = sym (take-append-add s t n) in
       record {
-        front = (length s + n, omega (arith, length-append s t), subst (λ h. Appends (written contents a) (written contents c) h) cut (Appends-trans _ _ _ s (take n t) p.whole q.front.2));
+        front = (
+          length s + n,
+          omega (arith, length-append s t),
+          subst (λ h. Appends (written contents a) (written contents c) h) cut (Appends-trans _ _ _ s (take n t) p.whole q.front.2),
+        );
         failures = q.failures ∙ ap (λ k. k + 1) p.failures;
       }
 
   -- a call that prints after a text is written
-  pub prints-after : {X E : Type 0} (a b c : Counted W) (result : Result X E) (s t : List ℕ) → Wrote contents a b s → Prints contents b c result t → Prints contents a c result (s ++ t)
+  pub prints-after : {X E : Type 0} (a b c : Counted W) (result : Result X E) (s t : List ℕ) → Wrote contents a b s → Prints contents b c result t
+      → Prints contents a c result (s ++ t)
   prints-after a b c (Ok x) s t p q = wrote-append a b c s t p q
   prints-after a b c (Err e) s t p q = stopped-after a b c s t p q
 
   -- an answer that is a fault
-  pub prints-stopped : {X E : Type 0} (a b : Counted W) (result : Result X E) (t : List ℕ) → Stopped contents a b t → IsErr result → Prints contents a b result t
+  pub prints-stopped : {X E : Type 0} (a b : Counted W) (result : Result X E) (t : List ℕ) → Stopped contents a b t → IsErr result
+      → Prints contents a b result t
   prints-stopped a b (Ok x) t p e = cc
   prints-stopped a b (Err d) t p e = p
 
@@ -79,7 +85,8 @@ module _
       → Wrote contents a b (s ++ flat_map f (take i xs)) → Stopped contents b c (f x) → Stopped contents a c (s ++ flat_map f xs)
   stopped-next_of f a b c s xs i x d lt e p q =
       let front = s ++ flat_map f (take i xs) in
-      let both : Stopped contents a c ((front ++ f x) ++ flat_map f (drop (i + 1) xs)) = stopped-append a c (front ++ f x) _ (stopped-after a b c front (f x) p q) in
+      let both : Stopped contents a c ((front ++ f x) ++ flat_map f (drop (i + 1) xs)) =
+      stopped-append a c (front ++ f x) _ (stopped-after a b c front (f x) p q) in
       let whole : (front ++ f x) ++ flat_map f (drop (i + 1) xs) ≡ s ++ flat_map f xs =
       ap (λ h. h ++ flat_map f (drop (i + 1) xs)) (next-of f s xs i x d lt e)
       ∙ append_assoc s (flat_map f (take (i + 1) xs)) (flat_map f (drop (i + 1) xs))

@@ -59,7 +59,7 @@ impl Log {
         Ok(())
     }
 
-    /// Puts what is told in the current turn among the turns that have ended. Where there is no memory for that, it stays where it is.
+    /// Puts what is told in the current turn among the turns that have ended. Where there is no room or no memory for that, it stays where it is.
     fn end_turn(&mut self)
         ensures { self.new ≡ self.old }
     {

@@ -9,11 +9,16 @@ use std::alloc::{AllocError, Global};
 use std::marker::Model;
 use std::rc::Rc;
 
+/// No more turns than these stand behind one another, since letting go of them goes as deep. A session that sends 24 steps, each of which waits
+/// three times, has half as many.
+const MAX_TURNS: u8 = 200;
+
 /// Turns that have ended, seen by contracts as what was told in them. A fork shares them all.
 #[cycle(turns)]
 #[derive(Drop)]
 pub(crate) struct Turns {
     last: Option<Rc<Turn>>,
+    len: u8,
 }
 
 /// A turn behind those that ended before it.
@@ -45,22 +50,27 @@ impl Turns {
     pub(crate) fn new() -> Turns
         ensures { result.told ≡ [] }
     {
-        Turns { last: None }
+        Turns { last: None, len: 0 }
     }
 
-    /// Puts a turn of these events behind the others. Where there is no memory for that they come back, and else none.
+    /// Puts a turn of these events behind the others. Where there is no room or no memory for that they come back, and else none.
     pub(crate) fn add(&mut self, alloc: Global, events: Vec<Event>) -> Vec<Event>
         ensures { self.new.told ++ result.items ≡ self.old.told ++ events.items }
     {
+        if self.len >= MAX_TURNS {
+            return events;
+        }
         let turn = Turn {
             before: Turns {
                 last: self.last.take(),
+                len: self.len,
             },
             events,
         };
         match Rc::new(alloc, turn) {
             Ok(last) => {
                 self.last = Some(last);
+                self.len += 1;
                 Vec::new(alloc)
             }
             Err(refused) => {
@@ -86,9 +96,10 @@ impl Turns {
 impl Fork for Turns {
     fn fork(&self) -> Result<Turns, AllocError> {
         match &self.last {
-            None => Ok(Turns { last: None }),
+            None => Ok(Turns { last: None, len: 0 }),
             Some(turn) => Ok(Turns {
                 last: Some(turn.clone()?),
+                len: self.len,
             }),
         }
     }

@@ -40,7 +40,8 @@ module _ {K X : Type 0} (R : K → K → Ordering) (o : IsTotalOrder R) where
       ] is
 
   -- an entry more in front changes nothing
-  from_later : (e : K × X) (es : List (K × X)) (next : Option (K × X)) → ((f : K × X) → next ≡ Some f → R e.0 f.0 ≡ Less) → from R (e ∷ es) next ≡ from R es next
+  from_later : (e : K × X) (es : List (K × X)) (next : Option (K × X)) → ((f : K × X) → next ≡ Some f → R e.0 f.0 ≡ Less) → from R (e ∷ es) next
+      ≡ from R es next
   from_later e es None later = refl
   from_later e es (Some f) later = rw (not_below o e.0 f.0 (later f refl)) refl
 

@@ -36,4 +36,5 @@ pub returns : goal.returns
 returns c =
     let stop : (length c.args.a.now ≤ c.loop-place.place) ⊎ (length c.args.b.now ≤ c.loop-place.place) =
     elim c.loop-place-test.branch [ then-loop-place-test+else-place-b w ↦ inr (omega arith) | else-loop-place-test w ↦ inl (omega arith) ] in
-    c.cmp-2.ensures ∙ items-ends session_json session_code _ _ c.loop-place.place c.loop-place.invariant.0 c.loop-place.invariant.1 stop c.loop-place.invariant.2
+    c.cmp-2.ensures ∙ items-ends session_json session_code _ _ c.loop-place.place c.loop-place.invariant.0 c.loop-place.invariant.1 stop
+    c.loop-place.invariant.2

@@ -15,4 +15,5 @@ returns-in_err-print_words g c =
 pub returns : goal.returns
 returns g c =
     let words = event_text c.args.steps.now c.args.event.now in
-    prints-after _ _ _ _ _ (codes "  " ++ words) (codes "\n") (wrote-append _ _ _ _ (codes "  ") words c.in_ok-write_str.ensures c.in_ok-print_words.ensures) c.write_str-2.ensures
+    prints-after _ _ _ _ _ (codes "  " ++ words) (codes "\n") (wrote-append _ _ _ _ (codes "  ") words c.in_ok-write_str.ensures c.in_ok-print_words.ensures)
+    c.write_str-2.ensures

@@ -10,7 +10,8 @@ returns-in_err-print_byte g c =
     rw (← c.as_bytes-byte-items.ensures.value)
     (prints-stopped _ _ _ _ _
     (stopped-append _ _ _ (codes "'" ++ flat_map doubled c.as_bytes-byte-items.result.now) (codes "'")
-    (stopped-next_of _ doubled _ _ _ (codes "'") c.as_bytes-byte-items.result.now c.loop-byte.byte-index _ 0 c.loop-byte-test.true refl c.loop-byte.invariant c.in_err-print_byte.ensures))
+    (stopped-next_of _ doubled _ _ _ (codes "'") c.as_bytes-byte-items.result.now c.loop-byte.byte-index _ 0 c.loop-byte-test.true refl c.loop-byte.invariant
+    c.in_err-print_byte.ensures))
     c.from_residual-in_err-print_byte.ensures.0)
 
 -- the closing quote

@@ -29,5 +29,6 @@ returns-in_err-print_event g c =
     let title = codes "session " ++ c.args.name.now ++ codes "\n" in
     rw (← c.events-event-items.ensures)
     (prints-stopped _ _ _ _ _
-    (stopped-next_of _ (event_line c.args.steps.now) _ _ _ title _ _ _ _ c.loop-event-test.true c.event-item.is c.loop-event.invariant c.in_err-print_event.ensures)
+    (stopped-next_of _ (event_line c.args.steps.now) _ _ _ title _ _ _ _ c.loop-event-test.true c.event-item.is c.loop-event.invariant
+    c.in_err-print_event.ensures)
     c.from_residual-in_err-print_event.ensures.0)
