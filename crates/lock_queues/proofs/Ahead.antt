@@ -1,5 +1,6 @@
 -- What stands ahead of a wait, one other wait at a time.
-use Rattle.std.proofs.Common.{◌≡◌, refl, sym, ap, ◌∙◌, subst, ℕ, Bool, true, false, cond, not, ◌&&◌, ◌||◌, ◌==◌, List, [], ◌∷◌, ◌++◌, filter, ◌⊎◌, inl, inr, ⊎_elim, eqb-true}
+use Rattle.std.proofs.Common.{◌≡◌, refl, sym, ap, ◌∙◌, subst, ℕ, Bool, true, false, cond, not, ◌&&◌, ◌||◌, ◌==◌, List, [], ◌∷◌, ◌++◌, filter, ◌⊎◌, inl}
+use Rattle.std.proofs.Common.{inr, ⊎_elim, eqb-true}
 use Rattle.std.specs.List.{list_any}
 use Rattle.std.proofs.lemmas.Bool.{and_from, and_parts, both_ways, not-true, or_cases, or_left, or_right}
 use Rattle.lock_modes.specs.Resource.{same_resource}
@@ -35,14 +36,16 @@ and-one true = refl
 and-one false = refl
 
 -- nothing is ahead where no other wait is
-pub first-is : (look : Look) (s : Spot) → (not (list_any (is_ahead look s.wait true) s.before) && not (list_any (is_ahead look s.wait false) s.after)) ≡ is_empty (ahead look s)
+pub first-is : (look : Look) (s : Spot) → (not (list_any (is_ahead look s.wait true) s.before) && not (list_any (is_ahead look s.wait false) s.after))
+    ≡ is_empty (ahead look s)
 first-is look s = at (converts look s.wait)
   where
     at : (c : Bool)
         → (not (list_any (λ (v : Wait). same_resource v.resource s.wait.resource && cond c (true && converts look v) (true || converts look v)) s.before)
         && not (list_any (λ (v : Wait). same_resource v.resource s.wait.resource && cond c (false && converts look v) (false || converts look v)) s.after))
         ≡ is_empty (cond c (filter (λ (v : Wait). same_resource v.resource s.wait.resource && converts look v) s.before)
-        (filter (λ (v : Wait). same_resource v.resource s.wait.resource) s.before ++ filter (λ (v : Wait). same_resource v.resource s.wait.resource && converts look v) s.after))
+        (filter (λ (v : Wait). same_resource v.resource s.wait.resource) s.before
+        ++ filter (λ (v : Wait). same_resource v.resource s.wait.resource && converts look v) s.after))
     at true =
         ap (λ b. not (list_any (λ (v : Wait). same_resource v.resource s.wait.resource && converts look v) s.before) && not b)
         (any-none (λ (v : Wait). same_resource v.resource s.wait.resource && false) (λ v. and-false (same_resource v.resource s.wait.resource)) s.after)
@@ -53,7 +56,8 @@ first-is look s = at (converts look s.wait)
         (λ (v : Wait). same_resource v.resource s.wait.resource) (λ v. and-one (same_resource v.resource s.wait.resource)) s.before)
         ∙ (λ i. sym (empty-filter (λ (v : Wait). same_resource v.resource s.wait.resource) s.before) i
         && sym (empty-filter (λ (v : Wait). same_resource v.resource s.wait.resource && converts look v) s.after) i)
-        ∙ sym (empty-append (filter (λ (v : Wait). same_resource v.resource s.wait.resource) s.before) (filter (λ (v : Wait). same_resource v.resource s.wait.resource && converts look v) s.after))
+        ∙ sym (empty-append (filter (λ (v : Wait). same_resource v.resource s.wait.resource) s.before)
+        (filter (λ (v : Wait). same_resource v.resource s.wait.resource && converts look v) s.after))
 
 -- ---- whom a wait waits for, among the sessions that wait
 
@@ -61,7 +65,8 @@ any-filter : (f g : Wait → Bool) (ws : List Wait) → list_any g (filter f ws)
 any-filter f g [] = refl
 any-filter f g (w ∷ ws) = at (f w) (any-filter f g ws)
   where
-    at : (b : Bool) → list_any g (filter f ws) ≡ list_any (λ w. g w && f w) ws → list_any g (cond b (w ∷ filter f ws) (filter f ws)) ≡ ((g w && b) || list_any (λ w. g w && f w) ws)
+    at : (b : Bool) → list_any g (filter f ws) ≡ list_any (λ w. g w && f w) ws → list_any g (cond b (w ∷ filter f ws) (filter f ws))
+        ≡ ((g w && b) || list_any (λ w. g w && f w) ws)
     at true e = λ i. sym (and-one (g w)) i || e i
     at false e = e ∙ ap (λ b. b || list_any (λ w. g w && f w) ws) (sym (and-false (g w)))
 
@@ -86,14 +91,18 @@ module _ (look : Look) (b : ℕ) where
   one-ahead w earlier v = (v.session == b) && is_ahead look w earlier v
 
   -- a session's wait is ahead where it is so before or after
-  ahead-any : (s : Spot) → list_any (λ (w : Wait). w.session == b) (ahead look s) ≡ (list_any (one-ahead s.wait true) s.before || list_any (one-ahead s.wait false) s.after)
+  ahead-any : (s : Spot) → list_any (λ (w : Wait). w.session == b) (ahead look s)
+      ≡ (list_any (one-ahead s.wait true) s.before || list_any (one-ahead s.wait false) s.after)
   ahead-any s = at (converts look s.wait)
     where
       at : (c : Bool)
           → list_any (λ (w : Wait). w.session == b) (cond c (filter (λ (v : Wait). same_resource v.resource s.wait.resource && converts look v) s.before)
-          (filter (λ (v : Wait). same_resource v.resource s.wait.resource) s.before ++ filter (λ (v : Wait). same_resource v.resource s.wait.resource && converts look v) s.after))
-          ≡ (list_any (λ (v : Wait). (v.session == b) && (same_resource v.resource s.wait.resource && cond c (true && converts look v) (true || converts look v))) s.before
-          || list_any (λ (v : Wait). (v.session == b) && (same_resource v.resource s.wait.resource && cond c (false && converts look v) (false || converts look v))) s.after)
+          (filter (λ (v : Wait). same_resource v.resource s.wait.resource) s.before
+          ++ filter (λ (v : Wait). same_resource v.resource s.wait.resource && converts look v) s.after))
+          ≡ (list_any (λ (v : Wait). (v.session == b) &&
+          (same_resource v.resource s.wait.resource && cond c (true && converts look v) (true || converts look v))) s.before
+          || list_any (λ (v : Wait). (v.session == b) &&
+          (same_resource v.resource s.wait.resource && cond c (false && converts look v) (false || converts look v))) s.after)
       at true =
           any-filter (λ (v : Wait). same_resource v.resource s.wait.resource && converts look v) (λ (w : Wait). w.session == b) s.before ∙ sym (or-false _)
           ∙ ap (λ t. list_any (λ (v : Wait). (v.session == b) && (same_resource v.resource s.wait.resource && converts look v)) s.before || t)
@@ -119,7 +128,8 @@ module _ (look : Look) (b : ℕ) where
       (λ k. let r = side-sound w earlier vs k in (r.0, ⊎_elim inl (λ h. inr (or_right (one-ahead w earlier v) _ h)) r.1))
       (or_cases ((v.session == b) && is_held_up_by look w earlier v) _ e)
     where
-      here : ((v.session == b) && is_held_up_by look w earlier v) ≡ true → (not (w.session == b) ≡ true) × ((conflicts w ≡ true) ⊎ (list_any (one-ahead w earlier) (v ∷ vs) ≡ true))
+      here : ((v.session == b) && is_held_up_by look w earlier v) ≡ true → (not (w.session == b) ≡ true)
+          × ((conflicts w ≡ true) ⊎ (list_any (one-ahead w earlier) (v ∷ vs) ≡ true))
       here h =
           let p = and_parts (v.session == b) _ h in
           let same : v.session ≡ b = eqb-true v.session b p.0 in
@@ -129,39 +139,46 @@ module _ (look : Look) (b : ℕ) where
                 (or_cases (not (fits_with (wanted_by look w) (look v.session w.resource))) _ q.1),
           )
 
-  side-held : (w : Wait) (earlier : Bool) (others : List Wait) → not (w.session == b) ≡ true → conflicts w ≡ true → waits_now others b ≡ true → some_holds_up look w earlier others b ≡ true
+  side-held : (w : Wait) (earlier : Bool) (others : List Wait) → not (w.session == b) ≡ true → conflicts w ≡ true → waits_now others b ≡ true
+      → some_holds_up look w earlier others b ≡ true
   side-held w earlier others n c = any-more (λ (v : Wait). v.session == b) (λ (v : Wait). (v.session == b) && is_held_up_by look w earlier v)
       (λ v h. let same : b ≡ v.session = sym (eqb-true v.session b h) in and_from _ _ h
       (and_from _ _ (subst (λ x. not (w.session == x) ≡ true) same n)
       (or_left _ _ (subst (λ x. not (fits_with (wanted_by look w) (look x w.resource)) ≡ true) same c)))) others
 
-  side-ahead : (w : Wait) (earlier : Bool) (others : List Wait) → not (w.session == b) ≡ true → list_any (one-ahead w earlier) others ≡ true → some_holds_up look w earlier others b ≡ true
+  side-ahead : (w : Wait) (earlier : Bool) (others : List Wait) → not (w.session == b) ≡ true → list_any (one-ahead w earlier) others ≡ true
+      → some_holds_up look w earlier others b ≡ true
   side-ahead w earlier others n = any-more (one-ahead w earlier) (λ (v : Wait). (v.session == b) && is_held_up_by look w earlier v)
       (λ v h. let p = and_parts (v.session == b) _ h in let same : b ≡ v.session = sym (eqb-true v.session b p.0) in
-      and_from _ _ p.0 (and_from _ _ (subst (λ x. not (w.session == x) ≡ true) same n) (or_right (not (fits_with (wanted_by look w) (look v.session w.resource))) _ p.1))) others
+      and_from _ _ p.0 (and_from _ _ (subst (λ x. not (w.session == x)
+      ≡ true) same n) (or_right (not (fits_with (wanted_by look w) (look v.session w.resource))) _ p.1))) others
 
   -- who is marked holds the wait up
   pub marks-sound : (s : Spot) (a : ℕ) → spot_marks look s a b ≡ true → ((s.wait.session == a) && holds_up look s b) ≡ true
   marks-sound s a e =
       let p = and_parts (s.wait.session == a) _ e in
-      and_from _ _ p.0 (⊎_elim (λ k. let r = side-sound s.wait true s.before k in and_from _ _ r.0 (⊎_elim (λ h. or_left _ _ h) (λ h. or_right (conflicts s.wait) _ (ahead-any s ∙ or_left _ _ h)) r.1))
+      and_from _ _ p.0 (⊎_elim (λ k. let r = side-sound s.wait true s.before k in
+      and_from _ _ r.0 (⊎_elim (λ h. or_left _ _ h) (λ h. or_right (conflicts s.wait) _ (ahead-any s ∙ or_left _ _ h)) r.1))
       (λ k. let r = side-sound s.wait false s.after k in and_from _ _ r.0
       (⊎_elim (λ h. or_left _ _ h) (λ h. or_right (conflicts s.wait) _ (ahead-any s ∙ or_right (list_any (one-ahead s.wait true) s.before) _ h)) r.1))
       (or_cases (some_holds_up look s.wait true s.before b) _ p.1))
 
   -- and each session that waits and holds it up is marked
-  pub marks-all : (s : Spot) (a : ℕ) → waits_now (s.before ++ s.wait ∷ s.after) b ≡ true → ((s.wait.session == a) && holds_up look s b) ≡ true → spot_marks look s a b ≡ true
+  pub marks-all : (s : Spot) (a : ℕ) → waits_now (s.before ++ s.wait ∷ s.after) b ≡ true → ((s.wait.session == a) && holds_up look s b) ≡ true
+      → spot_marks look s a b ≡ true
   marks-all s a now e =
       let p = and_parts (s.wait.session == a) _ e in
       let q = and_parts (not (s.wait.session == b)) _ p.1 in
-      and_from _ _ p.0 (⊎_elim (held q.0) (λ h. aheads q.0 (or_cases (list_any (one-ahead s.wait true) s.before) _ (sym (ahead-any s) ∙ h))) (or_cases (conflicts s.wait) _ q.1))
+      and_from _ _ p.0 (⊎_elim (held q.0) (λ h. aheads q.0 (or_cases (list_any (one-ahead s.wait true) s.before) _ (sym (ahead-any s)
+      ∙ h))) (or_cases (conflicts s.wait) _ q.1))
     where
       aheads : not (s.wait.session == b) ≡ true → (list_any (one-ahead s.wait true) s.before ≡ true) ⊎ (list_any (one-ahead s.wait false) s.after ≡ true)
           → (some_holds_up look s.wait true s.before b || some_holds_up look s.wait false s.after b) ≡ true
       aheads n (inl h) = or_left _ _ (side-ahead s.wait true s.before n h)
       aheads n (inr h) = or_right (some_holds_up look s.wait true s.before b) _ (side-ahead s.wait false s.after n h)
 
-      held : not (s.wait.session == b) ≡ true → conflicts s.wait ≡ true → (some_holds_up look s.wait true s.before b || some_holds_up look s.wait false s.after b) ≡ true
+      held : not (s.wait.session == b) ≡ true → conflicts s.wait ≡ true
+          → (some_holds_up look s.wait true s.before b || some_holds_up look s.wait false s.after b) ≡ true
       held n c =
           ⊎_elim (λ h. or_left _ _ (side-held s.wait true s.before n c h))
           (λ h. ⊎_elim (λ k. absurd (both_ways (s.wait.session == b) (not-true _ n) k))

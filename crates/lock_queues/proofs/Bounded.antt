@@ -1,12 +1,14 @@
 -- The tests up to a number of sessions are the rules over all, where all sessions are below it.
-use Rattle.std.proofs.Common.{◌≡◌, ◌≢◌, refl, sym, ap, ◌∙◌, subst, ℕ, zero, suc, ◌+◌, ◌<◌, ◌≤◌, Bool, true, false, cond, ◌||◌, ◌==◌, List, [], ◌∷◌, ◌++◌, length, Option, Some, None, is_some, ◌⊎◌, ⊎_elim, arith, append_assoc, append-nil, eqb-true, eq-eqb, length-append}
+use Rattle.std.proofs.Common.{◌≡◌, ◌≢◌, refl, sym, ap, ◌∙◌, subst, ℕ, zero, suc, ◌+◌, ◌<◌, ◌≤◌, Bool, true, false, cond, ◌||◌, ◌==◌, List, [], ◌∷◌, ◌++◌}
+use Rattle.std.proofs.Common.{length, Option, Some, None, is_some, ◌⊎◌, ⊎_elim, arith, append_assoc, append-nil, eqb-true, eq-eqb, length-append}
 use Rattle.std.specs.FinMap.Entries.{find}
 use Rattle.std.proofs.lemmas.Bool.{and_from, and_parts, cases_eq, false_from_ne_true, or_cases, or_left, or_right}
 use Rattle.lock_modes.specs.Mode.{cover}
 use Rattle.lock_modes.specs.declared.mode.Mode.{Mode}
 use Rattle.lock_modes.specs.declared.resource.Resource.{Resource}
 use Rattle.finite_maps.specs.Map.{get, insert, same_key, same_key-true}
-use Rattle.lock_queues.specs.Locks.{Wait, Spot, Look, all_below, fits, fits_with, wanted, wanted_by, may_have, closes_ring, answered, is_ripe, first_ripe, spots_from, waits_for, waits_now}
+use Rattle.lock_queues.specs.Locks.{Wait, Spot, Look, all_below, fits, fits_with, wanted, wanted_by, may_have, closes_ring, answered, is_ripe, first_ripe}
+use Rattle.lock_queues.specs.Locks.{spots_from, waits_for, waits_now}
 use Rattle.lock_queues.specs.LockTable.{Locks, Holding, holding_cmp, holding_order, Asked, ask, look_in, queued, taken, Fits}
 use Rattle.lock_queues.specs.Sound.{Way, EachWait, edges, IsSound}
 use Rattle.lock_queues.specs.Rules.{MayHave, IsInRing, IsAnswer, after, IsSpot, IsRipe, NothingRipe}
@@ -43,40 +45,53 @@ module _ (count : ℕ) (look : Look) (none : (c : ℕ) (r : Resource) → count 
   ripe-is s r = and_from _ _ (all-fits s.wait.session s.wait.resource (wanted_by look s.wait) r.0) r.1
 
   is-ripe : (s : Spot) → is_ripe count look s ≡ true → IsRipe look s
-  is-ripe s e = let p = and_parts (fits count look s.wait.session s.wait.resource (wanted_by look s.wait)) _ e in (fits-all s.wait.session s.wait.resource (wanted_by look s.wait) p.0, p.1)
+  is-ripe s e = let p = and_parts (fits count look s.wait.session s.wait.resource (wanted_by look s.wait)) _ e in
+      (fits-all s.wait.session s.wait.resource (wanted_by look s.wait) p.0, p.1)
 
   -- the first ripe wait, where none before it is ripe
-  first-is : (waits before mid : List Wait) (w : Wait) (rest : List Wait) → before ++ (mid ++ w ∷ rest) ≡ waits → IsRipe look (record { before = before ++ mid; wait = w; after = rest })
+  first-is : (waits before mid : List Wait) (w : Wait) (rest : List Wait) → before ++ (mid ++ w ∷ rest) ≡ waits
+      → IsRipe look (record { before = before ++ mid; wait = w; after = rest })
       → ((t : Spot) → IsSpot waits t → IsRipe look t → length (before ++ mid) ≤ length t.before)
       → first_ripe count look (spots_from before (mid ++ w ∷ rest)) ≡ Some (record { before = before ++ mid; wait = w; after = rest })
   first-is waits before [] w rest there ripe earliest =
       let here : Spot = record { before = before; wait = w; after = rest } in
-      let same : ◌≡◌ {A = Spot} (record { before = before ++ []; wait = w; after = rest }) here = (λ k. record { before = append-nil before k; wait = w; after = rest }) in
-      ap (λ b. cond b (Some here) (first_ripe count look (spots_from (before ++ w ∷ []) rest))) (ripe-is here (subst (IsRipe look) same ripe)) ∙ ap Some (sym same)
+      let same : ◌≡◌ {A = Spot} (record { before = before ++ []; wait = w; after = rest }) here =
+      (λ k. record { before = append-nil before k; wait = w; after = rest }) in
+      ap (λ b. cond b (Some here) (first_ripe count look (spots_from (before ++ w ∷ []) rest))) (ripe-is here (subst (IsRipe look) same ripe))
+      ∙ ap Some (sym same)
   first-is waits before (v ∷ mid) w rest there ripe earliest =
       let here : Spot = record { before = before; wait = v; after = mid ++ w ∷ rest } in
       let grouped : (before ++ v ∷ []) ++ mid ≡ before ++ v ∷ mid = append_assoc before (v ∷ []) mid in
       let unripe : is_ripe count look here ≡ false = false_from_ne_true _ (λ e. later (earliest here there (is-ripe here e))) in
       ap (λ b. cond b (Some here) (first_ripe count look (spots_from (before ++ v ∷ []) (mid ++ w ∷ rest)))) unripe
       ∙ first-is waits (before ++ v ∷ []) mid w rest (append_assoc before (v ∷ []) (mid ++ w ∷ rest) ∙ there)
-      (subst (λ b. IsRipe look (record { before = b; wait = w; after = rest })) (sym grouped) ripe) (λ t p r. subst (λ b. length b ≤ length t.before) (sym grouped) (earliest t p r))
+      (subst (λ b. IsRipe look (record {
+        before = b;
+        wait = w;
+        after =
+            rest;
+      })) (sym grouped) ripe) (λ t p r. subst (λ b. length b ≤ length t.before) (sym grouped) (earliest t p r))
       ∙ (λ k. Some (record { before = grouped k; wait = w; after = rest }))
     where
       later : length (before ++ v ∷ mid) ≤ length before → ⊥
       later le = absurd (omega (arith, length-append before (v ∷ mid)))
 
-  none-first : (waits before rest : List Wait) → before ++ rest ≡ waits → ((t : Spot) → IsSpot waits t → IsRipe look t → ⊥) → first_ripe count look (spots_from before rest) ≡ None
+  none-first : (waits before rest : List Wait) → before ++ rest ≡ waits → ((t : Spot) → IsSpot waits t → IsRipe look t → ⊥)
+      → first_ripe count look (spots_from before rest) ≡ None
   none-first waits before [] there never = refl
   none-first waits before (w ∷ rest) there never =
       let here : Spot = record { before = before; wait = w; after = rest } in
-      ap (λ b. cond b (Some here) (first_ripe count look (spots_from (before ++ w ∷ []) rest))) (false_from_ne_true (is_ripe count look here) (λ e. never here there (is-ripe here e)))
+      ap (λ b. cond b (Some here) (first_ripe count look (spots_from (before
+      ++ w ∷ []) rest))) (false_from_ne_true (is_ripe count look here) (λ e. never here there (is-ripe here e)))
       ∙ none-first waits (before ++ w ∷ []) rest (append_assoc before (w ∷ []) rest ∙ there) never
 
 below-waits : (count : ℕ) (ws : List Wait) → EachWait (λ w. w.session < count) ws → (a : ℕ) → waits_now ws a ≡ true → a < count
 below-waits count [] p a e = cc
-below-waits count (v ∷ vs) p a e = ⊎_elim (λ k. subst (λ x. x < count) (eqb-true v.session a k) p.0) (λ k. below-waits count vs p.1 a k) (or_cases (v.session == a) _ e)
+below-waits count (v ∷ vs) p a e =
+    ⊎_elim (λ k. subst (λ x. x < count) (eqb-true v.session a k) p.0) (λ k. below-waits count vs p.1 a k) (or_cases (v.session == a) _ e)
 
-below-push : (count : ℕ) (ws : List Wait) (w : Wait) → EachWait (λ w. w.session < count) ws → w.session < count → EachWait (λ w. w.session < count) (ws ++ w ∷ [])
+below-push : (count : ℕ) (ws : List Wait) (w : Wait) → EachWait (λ w. w.session < count) ws → w.session < count
+    → EachWait (λ w. w.session < count) (ws ++ w ∷ [])
 below-push count [] w p lt = (lt, tt)
 below-push count (v ∷ vs) w p lt = (p.0, below-push count vs w p.1 lt)
 
@@ -105,7 +120,8 @@ module _ (count : ℕ) (l : Locks) (below : IsBelow count l) where
     | Ring ↦ record { answer = Ring; locks = l }
   ]
 
-  asked-is : (i : ℕ) (r : Resource) (m : Mode) (a : Answer) → i < count → IsAnswer l i r m a → ask count l i r m ≡ record { answer = a; locks = after l i r m a }
+  asked-is : (i : ℕ) (r : Resource) (m : Mode) (a : Answer) → i < count → IsAnswer l i r m a → ask count l i r m
+      ≡ record { answer = a; locks = after l i r m a }
   asked-is i r m Granted lt h = ap (λ b. step i r m b (closes_ring count (look_in l) (queued l i r m).waits i)) (had i r m h)
   asked-is i r m Ring lt h = (λ k. step i r m (had-not i r m h.0 k) (ring-is i r m lt h.1 k))
   asked-is i r m Waits lt h = (λ k. step i r m (had-not i r m h.0 k) (ring-not i r m h.1 k))
@@ -113,7 +129,8 @@ module _ (count : ℕ) (l : Locks) (below : IsBelow count l) where
   pub tests-decide : TestsDecide count l
   tests-decide = record {
     asked = asked-is;
-    next = λ s n. ap (λ ws. first_ripe count (look_in l) (spots_from [] ws)) (sym n.there) ∙ first-is count (look_in l) below.holders l.waits [] s.before s.wait s.after n.there n.ripe n.earliest;
+    next = λ s n. ap (λ ws. first_ripe count (look_in l) (spots_from [] ws)) (sym n.there)
+        ∙ first-is count (look_in l) below.holders l.waits [] s.before s.wait s.after n.there n.ripe n.earliest;
     none = λ never. none-first count (look_in l) below.holders l.waits [] l.waits refl never;
   }
 
@@ -167,7 +184,8 @@ waiters-reach l s never a h =
     waiter-reaches (look_in l) l.waits n.0 s.distinct s.no_ring ((tests-decide n.0 l n.1).none never) n.1.waiters a h
 
 -- a mode that is covered is had
-pub covered-had : (l : Locks) (i : ℕ) (r : Resource) (m held : Mode) → IsSound l → look_in l i r ≡ Some held → cover held m ≡ held → MayHave l i r m × (taken l i r m ≡ l)
+pub covered-had : (l : Locks) (i : ℕ) (r : Resource) (m held : Mode) → IsSound l → look_in l i r ≡ Some held → cover held m ≡ held → MayHave l i r m
+    × (taken l i r m ≡ l)
 covered-had l i r m held s e k = (((λ c ne. fit c ne (look_in l c r) refl), or_left _ _ (ap is_some e)), same)
   where
     mode : wanted (look_in l i r) m ≡ held

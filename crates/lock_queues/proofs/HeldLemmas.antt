@@ -21,19 +21,23 @@ use Rattle.finite_maps.specs.Numbers.{nat_order}
 use Rattle.lock_queues.proofs.Known.{any-left, any-right, known-through}
 use Rattle.lock_queues.proofs.ModesLemmas.{then-both}
 
-modes-known : (c : ℕ) (r : Resource) (m : Map resource_order Mode) → is_some (get m r) ≡ true → list_any (same_key holding_order (c, r)) (map (λ (e : Resource × Mode). (c, e.0)) (entries m)) ≡ true
+modes-known : (c : ℕ) (r : Resource) (m : Map resource_order Mode) → is_some (get m r) ≡ true
+    → list_any (same_key holding_order (c, r)) (map (λ (e : Resource × Mode). (c, e.0)) (entries m)) ≡ true
 unfolding get entries
 modes-known c r m e = known-through resource_order holding_order (λ s. (c, s)) r m.list e
 
-holding-known : (c : ℕ) (r : Resource) (sessions : Sessions) → is_some (mode_of (find nat_cmp c sessions) r) ≡ true → list_any (same_key holding_order (c, r)) (holdings_of sessions) ≡ true
+holding-known : (c : ℕ) (r : Resource) (sessions : Sessions) → is_some (mode_of (find nat_cmp c sessions) r) ≡ true
+    → list_any (same_key holding_order (c, r)) (holdings_of sessions) ≡ true
 holding-known c r [] e = cc
 holding-known c r (x ∷ es) e = at (holding-known c r es) (same_key nat_order c x.0) refl e
   where
-    at : (is_some (mode_of (find nat_cmp c es) r) ≡ true → list_any (same_key holding_order (c, r)) (holdings_of es) ≡ true) → (b : Bool) → same_key nat_order c x.0 ≡ b → is_some (mode_of (cond b (Some x.1) (find nat_cmp c es)) r) ≡ true
+    at : (is_some (mode_of (find nat_cmp c es) r) ≡ true → list_any (same_key holding_order (c, r)) (holdings_of es) ≡ true) → (b : Bool)
+        → same_key nat_order c x.0 ≡ b → is_some (mode_of (cond b (Some x.1) (find nat_cmp c es)) r) ≡ true
         → list_any (same_key holding_order (c, r)) (holdings_of (x ∷ es)) ≡ true
     at rest true s h =
         any-left (same_key holding_order (c, r)) (map (λ (e : Resource × Mode). (x.0, e.0)) (entries x.1)) (holdings_of es)
-        (subst (λ u. list_any (same_key holding_order (c, r)) (map (λ (e : Resource × Mode). (u, e.0)) (entries x.1)) ≡ true) (same_key-true nat_order c x.0 s) (modes-known c r x.1 h))
+        (subst (λ u. list_any (same_key holding_order (c, r)) (map (λ (e : Resource × Mode). (u, e.0)) (entries x.1))
+        ≡ true) (same_key-true nat_order c x.0 s) (modes-known c r x.1 h))
     at rest false s h = any-right (same_key holding_order (c, r)) (map (λ (e : Resource × Mode). (x.0, e.0)) (entries x.1)) (holdings_of es) (rest h)
 
 -- a look-up by session and resource is one in the map
@@ -51,7 +55,8 @@ held-same held h m e = same_map (insert held h m) held (λ q. get-insert held h 
     at q true t = sym e ∙ ap (get held) (sym (same_key-true holding_order q h t))
     at q false t = refl
 
-pub held-put : (i : ℕ) (r : Resource) (m : Mode) (sessions : Sessions) → held_map (put nat_cmp i (insert (known_modes (find nat_cmp i sessions)) r m) sessions) ≡ insert (held_map sessions) (i, r) m
+pub held-put : (i : ℕ) (r : Resource) (m : Mode) (sessions : Sessions)
+    → held_map (put nat_cmp i (insert (known_modes (find nat_cmp i sessions)) r m) sessions) ≡ insert (held_map sessions) (i, r) m
 held-put i r m sessions = same_map _ _ (λ q.
     get-held (put nat_cmp i more sessions) q ∙ at q.0 q.1
     ∙ ap (cond (same_key holding_order q (i, r)) (Some m)) (sym (get-held sessions q)) ∙ sym (get-insert (held_map sessions) (i, r) m q))
@@ -83,7 +88,8 @@ both-ways false true f g = g refl
 both-ways false false f g = refl
 
 tie-is : (i c : ℕ) → eq_by_cmp nat_cmp i c ≡ (c == i)
-tie-is i c = both-ways _ _ (λ e. eq-eqb c i (sym (same_key-true nat_order i c e))) (λ e. subst (λ x. same_key nat_order i x ≡ true) (sym (eqb-true c i e)) (same_key-refl nat_order i))
+tie-is i c = both-ways _ _ (λ e. eq-eqb c i (sym (same_key-true nat_order i c e))) (λ e. subst (λ x. same_key nat_order i x
+    ≡ true) (sym (eqb-true c i e)) (same_key-refl nat_order i))
 
 pub held-without : (i : ℕ) (sessions : Sessions) → held_map (without nat_cmp i sessions) ≡ keep (λ (h : Holding). not (h.0 == i)) (held_map sessions)
 held-without i sessions = same_map _ _ (λ q.
@@ -96,7 +102,8 @@ held-without i sessions = same_map _ _ (λ q.
 
     at : (c : ℕ) (s : Resource) → held_by (without nat_cmp i sessions) (c, s) ≡ cond (not (c == i)) (held_by sessions (c, s)) None
     at c s =
-        ap (λ o. mode_of o s) (find-where_key nat_cmp (λ x. not (eq_by_cmp nat_cmp i x)) c (λ x e. ap (λ y. not (eq_by_cmp nat_cmp i y)) (sym (nat_order.same c x e))) sessions)
+        ap (λ o. mode_of o s)
+        (find-where_key nat_cmp (λ x. not (eq_by_cmp nat_cmp i x)) c (λ x e. ap (λ y. not (eq_by_cmp nat_cmp i y)) (sym (nat_order.same c x e))) sessions)
         ∙ out (not (eq_by_cmp nat_cmp i c)) (find nat_cmp c sessions) s
         ∙ ap (λ b. cond (not b) (mode_of (find nat_cmp c sessions) s) None) (tie-is i c)
 
@@ -110,7 +117,8 @@ module _ (i : ℕ) (r : Resource) (m : Mode) where
   each-fits [] e c ne = refl
   each-fits (x ∷ xs) e c ne = let p = and_parts ((x.0 == i) || fits_with m (get x.1 r)) _ e in at p.0 (each-fits xs p.1 c ne) (same_key nat_order c x.0) refl
     where
-      at : ((x.0 == i) || fits_with m (get x.1 r)) ≡ true → fits_with m (mode_of (find nat_cmp c xs) r) ≡ true → (b : Bool) → same_key nat_order c x.0 ≡ b → fits_with m (mode_of (cond b (Some x.1) (find nat_cmp c xs)) r) ≡ true
+      at : ((x.0 == i) || fits_with m (get x.1 r)) ≡ true → fits_with m (mode_of (find nat_cmp c xs) r) ≡ true → (b : Bool) → same_key nat_order c x.0 ≡ b
+          → fits_with m (mode_of (cond b (Some x.1) (find nat_cmp c xs)) r) ≡ true
       at here rest true s = ⊎_elim (λ h. absurd (ne (same_key-true nat_order c x.0 s ∙ eqb-true x.0 i h))) (λ h. h) (or_cases (x.0 == i) _ here)
       at here rest false s = rest
 
@@ -126,10 +134,13 @@ module _ (i : ℕ) (r : Resource) (m : Mode) where
       itself = ap (λ b. cond b (Some x.1) (find nat_cmp x.0 xs)) (same_key-refl nat_order x.0)
 
       here : ((x.0 == i) ≡ true) ⊎ ((x.0 == i) ≡ false) → ((x.0 == i) || fits_with m (get x.1 r)) ≡ true
-      here u = ⊎_elim (λ h. or_left _ _ h) (λ h. or_right (x.0 == i) _ (subst (λ o. fits_with m (mode_of o r) ≡ true) itself (f x.0 (λ k. both_ways _ h (eq-eqb x.0 i k))))) u
+      here u = ⊎_elim (λ h. or_left _ _ h) (λ h. or_right (x.0 == i) _ (subst (λ o. fits_with m (mode_of o r)
+          ≡ true) itself (f x.0 (λ k. both_ways _ h (eq-eqb x.0 i k))))) u
 
-      rest : (c : ℕ) → c ≢ i → (b : Bool) → same_key nat_order c x.0 ≡ b → fits_with m (mode_of (cond b (Some x.1) (find nat_cmp c xs)) r) ≡ true → fits_with m (mode_of (find nat_cmp c xs) r) ≡ true
-      rest c ne true e h = let absent : find nat_cmp c xs ≡ None = ap (λ k. find nat_cmp k xs) (same_key-true nat_order c x.0 e) ∙ none-below x.0 xs (front _ _ s) in ap (λ o. fits_with m (mode_of o r)) absent
+      rest : (c : ℕ) → c ≢ i → (b : Bool) → same_key nat_order c x.0 ≡ b → fits_with m (mode_of (cond b (Some x.1) (find nat_cmp c xs)) r) ≡ true
+          → fits_with m (mode_of (find nat_cmp c xs) r) ≡ true
+      rest c ne true e h = let absent : find nat_cmp c xs ≡ None = ap (λ k. find nat_cmp k xs) (same_key-true nat_order c x.0 e)
+          ∙ none-below x.0 xs (front _ _ s) in ap (λ o. fits_with m (mode_of o r)) absent
       rest c ne false e h = h
 
   pub fits-is : (sessions : Sessions) → T (is_sorted nat_cmp sessions) → (all_fit sessions i r m ≡ true) ↔ Fits (look_at (held_map sessions)) i r m

@@ -1,5 +1,6 @@
 -- What a request, a grant and letting go do to a sound table leaves it sound.
-use Rattle.std.proofs.Common.{◌≡◌, ◌≢◌, refl, sym, ap, ◌∙◌, subst, ℕ, zero, suc, ◌<◌, ◌≤◌, length, get_or, nat_lt, arith, Bool, true, false, cond, not, ◌==◌, List, [], ◌∷◌, ◌++◌, filter, Option, Some, None, ⊎_elim, append_assoc, append-nil, eqb-true, eq-eqb}
+use Rattle.std.proofs.Common.{◌≡◌, ◌≢◌, refl, sym, ap, ◌∙◌, subst, ℕ, zero, suc, ◌<◌, ◌≤◌, length, get_or, nat_lt, arith, Bool, true, false, cond, not}
+use Rattle.std.proofs.Common.{◌==◌, List, [], ◌∷◌, ◌++◌, filter, Option, Some, None, ⊎_elim, append_assoc, append-nil, eqb-true, eq-eqb}
 use Rattle.std.specs.List.{list_any, find, remove, position, position_or_len}
 use Rattle.std.proofs.lemmas.List.Quantifiers.{position-Some}
 use Rattle.std.proofs.lemmas.List.Folds.{list_any_none}
@@ -33,11 +34,20 @@ others i ws = filter (λ (w : Wait). not (w.session == i)) ws
 
 each-others : (P : Wait → Type 0) (i : ℕ) (ws : List Wait) → EachWait P ws → EachWait P (others i ws)
 each-others P i [] p = tt
-each-others P i (w ∷ ws) p = elim (w.session == i) as (λ b. EachWait P (cond (not b) (w ∷ others i ws) (others i ws))) [ true ↦ each-others P i ws p.1 | false ↦ (p.0, each-others P i ws p.1) ]
+each-others P i (w ∷ ws) p =
+    elim (w.session == i) as (λ b. EachWait P (cond (not b) (w ∷ others i ws) (others i ws))) [
+      | true ↦ each-others P i ws p.1
+      | false ↦ (
+        p.0,
+        each-others P i ws p.1,
+      )
+    ]
 
 distinct-others : (i : ℕ) (ws : List Wait) → Distinct ws → Distinct (others i ws)
 distinct-others i [] d = tt
-distinct-others i (w ∷ ws) d = elim (w.session == i) as (λ b. Distinct (cond (not b) (w ∷ others i ws) (others i ws))) [ true ↦ distinct-others i ws d.1 | false ↦ (each-others (Not w.session) i ws d.0, distinct-others i ws d.1) ]
+distinct-others i (w ∷ ws) d =
+    elim (w.session == i) as (λ b. Distinct (cond (not b) (w ∷ others i ws) (others i ws)))
+    [ true ↦ distinct-others i ws d.1 | false ↦ (each-others (Not w.session) i ws d.0, distinct-others i ws d.1) ]
 
 not-others : (i : ℕ) (ws : List Wait) → EachWait (Not i) (others i ws)
 not-others i [] = tt
@@ -56,7 +66,8 @@ all-others i (w ∷ ws) n = at (w.session == i) refl (all-others i ws n.1)
     at false e rest = ap (λ ws. w ∷ ws) rest
 
 -- where no session waits twice, without the wait of one there are those before it and after it
-pub others-spot : (before : List Wait) (w : Wait) (after : List Wait) → Distinct (before ++ w ∷ after) → others w.session (before ++ w ∷ after) ≡ before ++ after
+pub others-spot : (before : List Wait) (w : Wait) (after : List Wait) → Distinct (before ++ w ∷ after) → others w.session (before ++ w ∷ after) ≡ before
+    ++ after
 others-spot [] w after d = at (w.session == w.session) (eq-eqb w.session w.session refl) (all-others w.session after d.0)
   where
     at : (b : Bool) → b ≡ true → others w.session after ≡ after → cond (not b) (w ∷ others w.session after) (others w.session after) ≡ after
@@ -74,7 +85,8 @@ others-spot (v ∷ before) w after d = at (v.session == w.session) refl (others-
     at false e rest = ap (λ ws. v ∷ ws) rest
 
 -- and its wait is found
-pub find-spot : (before : List Wait) (w : Wait) (after : List Wait) → Distinct (before ++ w ∷ after) → find (λ (v : Wait). v.session == w.session) (before ++ w ∷ after) ≡ Some w
+pub find-spot : (before : List Wait) (w : Wait) (after : List Wait) → Distinct (before ++ w ∷ after)
+    → find (λ (v : Wait). v.session == w.session) (before ++ w ∷ after) ≡ Some w
 find-spot [] w after d = ap (λ b. cond b (Some w) (find (λ (v : Wait). v.session == w.session) after)) (eq-eqb w.session w.session refl)
 find-spot (v ∷ before) w after d = at (v.session == w.session) refl (find-spot before w after d.1)
   where
@@ -82,7 +94,8 @@ find-spot (v ∷ before) w after d = at (v.session == w.session) refl (find-spot
     one-of [] vs p = p.0
     one-of (u ∷ us) vs p = one-of us vs p.1
 
-    at : (b : Bool) → (v.session == w.session) ≡ b → find (λ (v : Wait). v.session == w.session) (before ++ w ∷ after) ≡ Some w → cond b (Some v) (find (λ (v : Wait). v.session == w.session) (before ++ w ∷ after)) ≡ Some w
+    at : (b : Bool) → (v.session == w.session) ≡ b → find (λ (v : Wait). v.session == w.session) (before ++ w ∷ after) ≡ Some w
+        → cond b (Some v) (find (λ (v : Wait). v.session == w.session) (before ++ w ∷ after)) ≡ Some w
     at true e rest = absurd (one-of before after d.0 (sym (eqb-true v.session w.session e)))
     at false e rest = rest
 
@@ -110,13 +123,16 @@ pub absent-others : (i : ℕ) (ws : List Wait) → list_any (λ (w : Wait). w.se
 absent-others i ws e = sym (all-others i ws (none-waits i ws e))
 
 -- a place that is found is of the session, and where none is, it does not wait
-pub found-place : (i : ℕ) (ws : List Wait) (k : ℕ) (d : Wait) → position (λ (w : Wait). w.session == i) ws ≡ Some k → (k < length ws) × ((get_or ws k d).session ≡ i)
+pub found-place : (i : ℕ) (ws : List Wait) (k : ℕ) (d : Wait) → position (λ (w : Wait). w.session == i) ws ≡ Some k → (k < length ws)
+    × ((get_or ws k d).session ≡ i)
 found-place i ws k d e = let r = position-Some (λ (w : Wait). w.session == i) ws k d e in (r.0, eqb-true _ i r.1)
 
 pub absent-place : (p : Wait → Bool) (ws : List Wait) → position p ws ≡ None → list_any p ws ≡ false
-absent-place p ws e = list_any_none p ws (λ k d lt. let past = at (nat_lt (position_or_len p ws) (length ws)) refl e in fails_before_first p ws k d (omega arith))
+absent-place p ws e =
+    list_any_none p ws (λ k d lt. let past = at (nat_lt (position_or_len p ws) (length ws)) refl e in fails_before_first p ws k d (omega arith))
   where
-    at : (b : Bool) → nat_lt (position_or_len p ws) (length ws) ≡ b → ◌≡◌ {A = Option ℕ} (cond b (Some (position_or_len p ws)) None) None → length ws ≤ position_or_len p ws
+    at : (b : Bool) → nat_lt (position_or_len p ws) (length ws) ≡ b → ◌≡◌ {A = Option ℕ} (cond b (Some (position_or_len p ws)) None) None
+        → length ws ≤ position_or_len p ws
     at true q h = cc
     at false q h = ltb-false _ _ q
 
@@ -130,10 +146,12 @@ edge-others look i a b na nb us (v ∷ vs) = at (v.session == i) refl (edge-othe
     apart : (c : ℕ) → c ≢ i → v.session ≡ i → (v.session == c) ≡ false
     apart c ne e = ⊎_elim (λ h. absurd (ne (sym (eqb-true v.session c h) ∙ e))) (λ h. h) (cases_Bool (v.session == c))
 
-    at : (t : Bool) → (v.session == i) ≡ t → waits_for look (us ++ others i vs) a b ≡ waits_for look (us ++ vs) a b → waits_for look ((us ++ v ∷ []) ++ others i vs) a b ≡ waits_for look ((us ++ v ∷ []) ++ vs) a b
+    at : (t : Bool) → (v.session == i) ≡ t → waits_for look (us ++ others i vs) a b ≡ waits_for look (us ++ vs) a b
+        → waits_for look ((us ++ v ∷ []) ++ others i vs) a b ≡ waits_for look ((us ++ v ∷ []) ++ vs) a b
         → waits_for look (us ++ cond (not t) (v ∷ others i vs) (others i vs)) a b ≡ waits_for look (us ++ v ∷ vs) a b
     at true e here past = let same : v.session ≡ i = eqb-true v.session i e in here ∙ sym (edge-put look a b v (apart a na same) (apart b nb same) us vs)
-    at false e here past = sym (ap (λ ws. waits_for look ws a b) (append_assoc us (v ∷ []) (others i vs))) ∙ past ∙ ap (λ ws. waits_for look ws a b) (append_assoc us (v ∷ []) vs)
+    at false e here past = sym (ap (λ ws. waits_for look ws a b) (append_assoc us (v ∷ []) (others i vs))) ∙ past
+        ∙ ap (λ ws. waits_for look ws a b) (append_assoc us (v ∷ []) vs)
 
 -- a ring comes by no change that touches one session alone, which does not wait
 no-ring-with : (old new : Look) (was now : List Wait) (i : ℕ) → ((c : ℕ) (r : Resource) → c ≢ i → new c r ≡ old c r) → EachWait (Not i) now
@@ -155,13 +173,17 @@ module _ (held : Map holding_order Mode) (i : ℕ) (r : Resource) (m : Mode) whe
 
   -- a mode that fits keeps modes of different sessions compatible
   together-insert : HeldTogether (look_at held) → Fits (look_at held) i r m → HeldTogether (look_at (insert held (i, r) m))
-  together-insert t f c d q x y ne p e = at (same_key holding_order (c, q) (i, r)) refl (same_key holding_order (d, q) (i, r)) refl (sym (get-insert held (i, r) m (c, q)) ∙ p) (sym (get-insert held (i, r) m (d, q)) ∙ e)
+  together-insert t f c d q x y ne p e =
+      at (same_key holding_order (c, q) (i, r)) refl (same_key holding_order (d, q) (i, r)) refl (sym (get-insert held (i, r) m (c, q))
+      ∙ p) (sym (get-insert held (i, r) m (d, q)) ∙ e)
     where
       fits-other : (k : ℕ) (z : Mode) → k ≢ i → get held (k, r) ≡ Some z → compatible m z ≡ true
       fits-other k z nk h = subst (λ o. fits_with m o ≡ true) h (f k nk)
 
-      at : (a : Bool) → same_key holding_order (c, q) (i, r) ≡ a → (b : Bool) → same_key holding_order (d, q) (i, r) ≡ b → cond a (Some m) (get held (c, q)) ≡ Some x → cond b (Some m) (get held (d, q)) ≡ Some y → compatible x y ≡ true
-      at true ka true kb g h = absurd (ne (ap (λ (h : Holding). h.0) (same_key-true holding_order (c, q) (i, r) ka ∙ sym (same_key-true holding_order (d, q) (i, r) kb))))
+      at : (a : Bool) → same_key holding_order (c, q) (i, r) ≡ a → (b : Bool) → same_key holding_order (d, q) (i, r) ≡ b
+          → cond a (Some m) (get held (c, q)) ≡ Some x → cond b (Some m) (get held (d, q)) ≡ Some y → compatible x y ≡ true
+      at true ka true kb g h =
+          absurd (ne (ap (λ (h : Holding). h.0) (same_key-true holding_order (c, q) (i, r) ka ∙ sym (same_key-true holding_order (d, q) (i, r) kb))))
       at true ka false kb g h =
           let here = same_key-true holding_order (c, q) (i, r) ka in
           let ci : c ≡ i = ap (λ (h : Holding). h.0) here in
@@ -177,7 +199,8 @@ module _ (held : Map holding_order Mode) (i : ℕ) (r : Resource) (m : Mode) whe
       at false ka false kb g h = t c d q x y ne g h
 
 look-kept : (held : Map holding_order Mode) (i c : ℕ) (q : Resource) → c ≢ i → look_at (keep (λ (h : Holding). not (h.0 == i)) held) c q ≡ look_at held c q
-look-kept held i c q ne = get-keep (λ (h : Holding). not (h.0 == i)) held (c, q) ∙ ap (λ b. cond (not b) (get held (c, q)) None) (⊎_elim (λ h. absurd (ne (eqb-true c i h))) (λ h. h) (cases_Bool (c == i)))
+look-kept held i c q ne = get-keep (λ (h : Holding). not (h.0 == i)) held (c, q)
+    ∙ ap (λ b. cond (not b) (get held (c, q)) None) (⊎_elim (λ h. absurd (ne (eqb-true c i h))) (λ h. h) (cases_Bool (c == i)))
 
 together-keep : (held : Map holding_order Mode) (i : ℕ) → HeldTogether (look_at held) → HeldTogether (look_at (keep (λ (h : Holding). not (h.0 == i)) held))
 together-keep held i t c d q x y ne p e = t c d q x y ne (was c x p) (was d y e)
@@ -202,10 +225,12 @@ pub taken-sound : (l : Locks) (i : ℕ) (r : Resource) (m : Mode) → IsSound l 
 taken-sound l i r m s free had = record {
   together = together-insert l.held i r (wanted (look_in l i r) m) s.together had.0;
   distinct = s.distinct;
-  no_ring = no-ring-with (look_in l) (look_in (taken l i r m)) l.waits l.waits i (look-other l.held i r (wanted (look_in l i r) m)) (none-waits i l.waits free) (λ a b na nb. refl) s.no_ring;
+  no_ring = no-ring-with (look_in l) (look_in (taken l i r m)) l.waits l.waits i (look-other l.held i r (wanted (look_in l i r) m))
+      (none-waits i l.waits free) (λ a b na nb. refl) s.no_ring;
 }
 
-pub queued-sound : (l : Locks) (i : ℕ) (r : Resource) (m : Mode) → IsSound l → waits_now l.waits i ≡ false → ¬ (IsInRing (queued l i r m) i) → IsSound (queued l i r m)
+pub queued-sound : (l : Locks) (i : ℕ) (r : Resource) (m : Mode) → IsSound l → waits_now l.waits i ≡ false → ¬ (IsInRing (queued l i r m) i)
+    → IsSound (queued l i r m)
 queued-sound l i r m s free none = record {
   together = s.together;
   distinct = distinct-push l.waits v s.distinct (none-waits i l.waits free);
@@ -221,7 +246,8 @@ queued-sound l i r m s free none = record {
     same : (a b : ℕ) → a ≢ i → b ≢ i → waits_for (look_in l) (l.waits ++ v ∷ []) a b ≡ waits_for (look_in l) l.waits a b
     same a b na nb = edge-put (look_in l) a b v (apart a na) (apart b nb) l.waits [] ∙ ap (λ ws. waits_for (look_in l) ws a b) (append-nil l.waits)
 
-pub ask-sound : (l : Locks) (i : ℕ) (r : Resource) (m : Mode) (a : Answer) → IsSound l → waits_now l.waits i ≡ false → IsAnswer l i r m a → IsSound (after l i r m a)
+pub ask-sound : (l : Locks) (i : ℕ) (r : Resource) (m : Mode) (a : Answer) → IsSound l → waits_now l.waits i ≡ false → IsAnswer l i r m a
+    → IsSound (after l i r m a)
 ask-sound l i r m Granted s free is = taken-sound l i r m s free is
 ask-sound l i r m Ring s free is = s
 ask-sound l i r m Waits s free is = queued-sound l i r m s free is.1
@@ -230,7 +256,8 @@ pub let_go-sound : (l : Locks) (i : ℕ) → IsSound l → IsSound (let_go l i)
 let_go-sound l i s = record {
   together = together-keep l.held i s.together;
   distinct = distinct-others i l.waits s.distinct;
-  no_ring = no-ring-with (look_in l) (look_in (let_go l i)) l.waits (others i l.waits) i (look-kept l.held i) (not-others i l.waits) (λ a b na nb. edge-others (look_in l) i a b na nb [] l.waits) s.no_ring;
+  no_ring = no-ring-with (look_in l) (look_in (let_go l i)) l.waits (others i l.waits) i (look-kept l.held i) (not-others i l.waits)
+      (λ a b na nb. edge-others (look_in l) i a b na nb [] l.waits) s.no_ring;
 }
 
 -- a wait that is ripe is granted, by the session that it is of
@@ -239,7 +266,11 @@ pub granted-sound : (l : Locks) (s : Spot) → IsSound l → IsSpot l.waits s �
 granted-sound l s sound there ripe = record {
   together = together-insert l.held i s.wait.resource (wanted_by (look_in l) s.wait) sound.together ripe.0;
   distinct = distinct-others i l.waits sound.distinct;
-  no_ring = no-ring-with (look_in l) (look_at (insert l.held (i, s.wait.resource) (wanted_by (look_in l) s.wait))) l.waits (others i l.waits) i (look-other l.held i s.wait.resource (wanted_by (look_in l) s.wait)) (not-others i l.waits)
+  no_ring = no-ring-with (look_in l) (look_at (insert l.held (
+    i,
+    s.wait.resource,
+  ) (wanted_by (look_in l) s.wait))) l.waits (others i l.waits) i (look-other l.held i s.wait.resource (wanted_by (look_in l) s.wait))
+      (not-others i l.waits)
       (λ a b na nb. edge-others (look_in l) i a b na nb [] l.waits) sound.no_ring;
 }
   where
@@ -248,9 +279,14 @@ granted-sound l s sound there ripe = record {
 
 -- which is what the grant is
 pub granted-is : (l : Locks) (s : Spot) → Distinct l.waits → IsSpot l.waits s
-    → ◌≡◌ {A = Locks} (record { held = insert l.held (s.wait.session, s.wait.resource) (wanted_by (look_in l) s.wait); waits = others s.wait.session l.waits }) (grant l s)
+    → ◌≡◌ {A = Locks} (record {
+      held = insert l.held (s.wait.session, s.wait.resource) (wanted_by (look_in l) s.wait);
+      waits =
+          others s.wait.session l.waits;
+    }) (grant l s)
 granted-is l s d there =
-    let e : others s.wait.session l.waits ≡ s.before ++ s.after = sym (ap (others s.wait.session) there) ∙ others-spot s.before s.wait s.after (subst Distinct (sym there) d) in
+    let e : others s.wait.session l.waits ≡ s.before ++ s.after = sym (ap (others s.wait.session) there)
+    ∙ others-spot s.before s.wait s.after (subst Distinct (sym there) d) in
     λ k. record { held = insert l.held (s.wait.session, s.wait.resource) (wanted_by (look_in l) s.wait); waits = e k }
 
 pub grant-sound : (l : Locks) (s : Spot) → IsSound l → IsNext l s → IsSound (grant l s)
@@ -267,7 +303,8 @@ next-one l s t p q =
     same-spot l.waits s t p.there q.there (omega arith)
 
 -- what is granted to the session that is found is granted to the next wait
-pub granted-next : (l : Locks) (i : ℕ) (w : Wait) (s t : Spot) → IsSound l → IsNext l s → s.wait.session ≡ i → IsNext l t → Some w ≡ find (λ (v : Wait). v.session == i) l.waits
+pub granted-next : (l : Locks) (i : ℕ) (w : Wait) (s t : Spot) → IsSound l → IsNext l s → s.wait.session ≡ i → IsNext l t → Some w
+    ≡ find (λ (v : Wait). v.session == i) l.waits
     → ◌≡◌ {A = Locks} (record { held = insert l.held (i, w.resource) (wanted_by (look_in l) w); waits = others i l.waits }) (grant l t)
 granted-next l i w s t sound next same other found =
     let first : s ≡ t = next-one l s t next other in

@@ -22,10 +22,12 @@ any-right f [] ys e = e
 any-right f (x ∷ xs) ys e = or_right (f x) _ (any-right f xs ys e)
 
 -- a key that is found, under a name that it has in another order
-pub known-through : {K L X : Type 0} (o : Order K) (p : Order L) (f : K → L) (q : K) (es : List (K × X)) → is_some (find o.cmp q es) ≡ true → list_any (same_key p (f q)) (map (λ e. f e.0) es) ≡ true
+pub known-through : {K L X : Type 0} (o : Order K) (p : Order L) (f : K → L) (q : K) (es : List (K × X)) → is_some (find o.cmp q es) ≡ true
+    → list_any (same_key p (f q)) (map (λ e. f e.0) es) ≡ true
 known-through o p f q [] e = cc
 known-through {X = X} o p f q (x ∷ es) e = at (known-through o p f q es) (same_key o q x.0) refl e
   where
-    at : (is_some (find o.cmp q es) ≡ true → list_any (same_key p (f q)) (map (λ e. f e.0) es) ≡ true) → (b : Bool) → same_key o q x.0 ≡ b → is_some (cond b (Some x.1) (find o.cmp q es)) ≡ true → list_any (same_key p (f q)) (map (λ e. f e.0) (x ∷ es)) ≡ true
+    at : (is_some (find o.cmp q es) ≡ true → list_any (same_key p (f q)) (map (λ e. f e.0) es) ≡ true) → (b : Bool) → same_key o q x.0 ≡ b
+        → is_some (cond b (Some x.1) (find o.cmp q es)) ≡ true → list_any (same_key p (f q)) (map (λ e. f e.0) (x ∷ es)) ≡ true
     at rest true s h = or_left _ _ (subst (λ k. same_key p (f q) (f k) ≡ true) (same_key-true o q x.0 s) (same_key-refl p (f q)))
     at rest false s h = or_right (same_key p (f q) (f x.0)) _ (rest h)

@@ -23,15 +23,20 @@ row-known : (t : ℕ) (k : Value) (keys : Keys) → is_some (mode_at_key (find n
 row-known t k [] e = cc
 row-known t k (x ∷ es) e = at (row-known t k es) (same_key nat_order t x.0) refl e
   where
-    at : (is_some (mode_at_key (find nat_cmp t es) k) ≡ true → list_any (same_resource (Row t k)) (rows_of es) ≡ true) → (b : Bool) → same_key nat_order t x.0 ≡ b → is_some (mode_at_key (cond b (Some x.1) (find nat_cmp t es)) k) ≡ true → list_any (same_resource (Row t k)) (rows_of (x ∷ es)) ≡ true
+    at : (is_some (mode_at_key (find nat_cmp t es) k) ≡ true → list_any (same_resource (Row t k)) (rows_of es) ≡ true) → (b : Bool)
+        → same_key nat_order t x.0 ≡ b → is_some (mode_at_key (cond b (Some x.1) (find nat_cmp t es)) k) ≡ true
+        → list_any (same_resource (Row t k)) (rows_of (x ∷ es)) ≡ true
     at rest true s h =
-        let here : list_any (same_resource (Row t k)) (map (λ (e : Value × Mode). Row t e.0) x.1) ≡ true = known-through value_order resource_order (Row t) k x.1 h in
+        let here : list_any (same_resource (Row t k)) (map (λ (e : Value × Mode). Row t e.0) x.1) ≡ true =
+        known-through value_order resource_order (Row t) k x.1 h in
         any-left (same_resource (Row t k)) (map (λ (e : Value × Mode). Row x.0 e.0) x.1) (rows_of es)
         (subst (λ u. list_any (same_resource (Row t k)) (map (λ (e : Value × Mode). Row u e.0) x.1) ≡ true) (same_key-true nat_order t x.0 s) here)
     at rest false s h = any-right (same_resource (Row t k)) (map (λ (e : Value × Mode). Row x.0 e.0) x.1) (rows_of es) (rest h)
 
-mode-known : (tables : Tables) (keys : Keys) (r : Resource) → is_some (mode_at tables keys r) ≡ true → list_any (same_resource r) (resources_of tables keys) ≡ true
-mode-known tables keys (Table t) e = any-left (same_resource (Table t)) (map (λ (x : ℕ × Mode). Table x.0) tables) (rows_of keys) (known-through nat_order resource_order Table t tables e)
+mode-known : (tables : Tables) (keys : Keys) (r : Resource) → is_some (mode_at tables keys r) ≡ true
+    → list_any (same_resource r) (resources_of tables keys) ≡ true
+mode-known tables keys (Table t) e =
+    any-left (same_resource (Table t)) (map (λ (x : ℕ × Mode). Table x.0) tables) (rows_of keys) (known-through nat_order resource_order Table t tables e)
 mode-known tables keys (Row t k) e = any-right (same_resource (Row t k)) (map (λ (x : ℕ × Mode). Table x.0) tables) (rows_of keys) (row-known t k keys e)
 
 -- a look-up by table and key is one in the map
@@ -39,7 +44,8 @@ pub get-modes : (tables : Tables) (keys : Keys) (r : Resource) → get (modes_ma
 get-modes tables keys r = get-tabulate resource_order (mode_at tables keys) (resources_of tables keys) r (mode-known tables keys r)
 
 -- a look-up in the keys of the table
-pub get-row : (tables : Tables) (keys : Keys) (t : ℕ) (k : Value) (found : Option (List (Value × Mode))) → found ≡ find nat_cmp t keys → mode_at_key found k ≡ get (modes_map tables keys) (Row t k)
+pub get-row : (tables : Tables) (keys : Keys) (t : ℕ) (k : Value) (found : Option (List (Value × Mode))) → found ≡ find nat_cmp t keys
+    → mode_at_key found k ≡ get (modes_map tables keys) (Row t k)
 get-row tables keys t k found e = ap (λ o. mode_at_key o k) e ∙ sym (get-modes tables keys (Row t k))
 
 pub modes-empty : modes_map [] [] ≡ empty
@@ -80,7 +86,8 @@ modes-put_table t m tables keys = same_map _ _ (λ q.
     at (Table u) = find-put nat_cmp nat_cmp_total u t m tables ∙ ap (λ b. cond b (Some m) (find nat_cmp u tables)) (sym (then-equal (nat_cmp u t)))
     at (Row u k) = ap (λ b. cond b (Some m) (mode_at_key (find nat_cmp u keys) k)) (sym (then-greater (nat_cmp u t)))
 
-pub modes-put_row : (t : ℕ) (k : Value) (m : Mode) (tables : Tables) (keys : Keys) → modes_map tables (put nat_cmp t (put value_cmp k m (known_keys (find nat_cmp t keys))) keys) ≡ insert (modes_map tables keys) (Row t k) m
+pub modes-put_row : (t : ℕ) (k : Value) (m : Mode) (tables : Tables) (keys : Keys)
+    → modes_map tables (put nat_cmp t (put value_cmp k m (known_keys (find nat_cmp t keys))) keys) ≡ insert (modes_map tables keys) (Row t k) m
 modes-put_row t k m tables keys = same_map _ _ (λ q.
     get-modes tables (put nat_cmp t more keys) q ∙ at q
     ∙ ap (cond (same_resource q (Row t k)) (Some m)) (sym (get-modes tables keys q)) ∙ sym (get-insert (modes_map tables keys) (Row t k) m q))

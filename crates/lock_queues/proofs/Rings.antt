@@ -1,5 +1,6 @@
 -- Rings: the test finds each, and what does not touch a session leaves the ways past it.
-use Rattle.std.proofs.Common.{◌≡◌, ◌≢◌, refl, sym, ap, ◌∙◌, subst, ℕ, zero, suc, ◌<◌, Bool, true, false, cond, not, ◌&&◌, ◌||◌, ◌==◌, List, [], ◌∷◌, ◌++◌, filter, is_some, ◌⊎◌, inl, inr, ⊎_elim, arith, append_assoc, append-nil, eqb-true}
+use Rattle.std.proofs.Common.{◌≡◌, ◌≢◌, refl, sym, ap, ◌∙◌, subst, ℕ, zero, suc, ◌<◌, Bool, true, false, cond, not, ◌&&◌, ◌||◌, ◌==◌, List, [], ◌∷◌, ◌++◌}
+use Rattle.std.proofs.Common.{filter, is_some, ◌⊎◌, inl, inr, ⊎_elim, arith, append_assoc, append-nil, eqb-true}
 use Rattle.std.specs.List.{list_any}
 use Rattle.std.proofs.lemmas.Bool.{and_from, and_parts, both_ways, cases_Bool, cases_eq, or_cases, or_left, or_right}
 use Rattle.lock_queues.specs.Locks.{Wait, Spot, Look, fits_with, wanted, wanted_by, converts, ahead, spots_from, holds_up, waits_for, way_below}
@@ -16,7 +17,8 @@ way-join edge a c b (more e u) v = more e (way-join edge _ c b u v)
 pub way-found : (edge : ℕ → ℕ → Bool) (n a b : ℕ) → way_below edge n a b ≡ true → Way edge a b
 way-found edge zero a b e = one e
 way-found edge (suc n) a b e =
-    ⊎_elim (λ h. way-found edge n a b h) (λ h. let p = and_parts (way_below edge n a n) _ h in way-join edge a n b (way-found edge n a n p.0) (way-found edge n n b p.1)) (or_cases (way_below edge n a b) _ e)
+    ⊎_elim (λ h. way-found edge n a b h) (λ h. let p = and_parts (way_below edge n a n) _ h in
+    way-join edge a n b (way-found edge n a n p.0) (way-found edge n n b p.1)) (or_cases (way_below edge n a b) _ e)
 
 -- ways that meet below n join
 pub way-meets : (edge : ℕ → ℕ → Bool) (n a c b : ℕ) → c < n → way_below edge n a c ≡ true → way_below edge n c b ≡ true → way_below edge n a b ≡ true
@@ -54,7 +56,8 @@ way-is-found edge n low a b (more {c = c} e v) = way-meets edge n a c b (starts 
 -- ---- edges that do not touch a session
 
 -- a way either keeps to the old edges or passes i
-way-past : (edge new : ℕ → ℕ → Bool) (i : ℕ) → ((a b : ℕ) → a ≢ i → b ≢ i → new a b ≡ true → edge a b ≡ true) → (a b : ℕ) → a ≢ i → b ≢ i → Way new a b → Way edge a b ⊎ (Way new a i × Way new i b)
+way-past : (edge new : ℕ → ℕ → Bool) (i : ℕ) → ((a b : ℕ) → a ≢ i → b ≢ i → new a b ≡ true → edge a b ≡ true) → (a b : ℕ) → a ≢ i → b ≢ i → Way new a b
+    → Way edge a b ⊎ (Way new a i × Way new i b)
 way-past edge new i same a b na nb (one e) = inl (one (same a b na nb e))
 way-past edge new i same a b na nb (more {c = c} e v) = at (cases_eq c i) (λ nc. way-past edge new i same c b nc nb v)
   where
@@ -63,7 +66,8 @@ way-past edge new i same a b na nb (more {c = c} e v) = at (cases_eq c i) (λ nc
     at (inr nc) rec = ⊎_elim (λ u. inl (more (same a c na nc e) u)) (λ p. inr (more e p.0, p.1)) (rec nc)
 
 -- no ring comes where none passes i, and the other edges are old
-pub no-ring-past : (edge new : ℕ → ℕ → Bool) (i : ℕ) → ((a b : ℕ) → a ≢ i → b ≢ i → new a b ≡ true → edge a b ≡ true) → (Way new i i → ⊥) → NoRing edge → NoRing new
+pub no-ring-past : (edge new : ℕ → ℕ → Bool) (i : ℕ) → ((a b : ℕ) → a ≢ i → b ≢ i → new a b ≡ true → edge a b ≡ true) → (Way new i i → ⊥) → NoRing edge
+    → NoRing new
 no-ring-past edge new i same not_i none c v =
     ⊎_elim (λ k. not_i (subst (λ x. Way new x x) k v))
     (λ nc. ⊎_elim (λ u. none c u) (λ p. not_i (way-join new i c i p.1 p.0)) (way-past edge new i same c c nc nc v)) (cases_eq c i)
@@ -84,7 +88,8 @@ any-filter-put g p v [] ys e = at (p v)
     at false = refl
 any-filter-put g p v (x ∷ xs) ys e = at (p x) (any-filter-put g p v xs ys e)
   where
-    at : (b : Bool) → list_any g (filter p (xs ++ v ∷ ys)) ≡ list_any g (filter p (xs ++ ys)) → list_any g (cond b (x ∷ filter p (xs ++ v ∷ ys)) (filter p (xs ++ v ∷ ys))) ≡ list_any g (cond b (x ∷ filter p (xs ++ ys)) (filter p (xs ++ ys)))
+    at : (b : Bool) → list_any g (filter p (xs ++ v ∷ ys)) ≡ list_any g (filter p (xs ++ ys))
+        → list_any g (cond b (x ∷ filter p (xs ++ v ∷ ys)) (filter p (xs ++ v ∷ ys))) ≡ list_any g (cond b (x ∷ filter p (xs ++ ys)) (filter p (xs ++ ys)))
     at true h = ap (λ b. g x || b) h
     at false h = h
 
@@ -93,38 +98,51 @@ abbrev ahead-any : Look → ℕ → Wait → List Wait → List Wait → Bool �
 ahead-any look b w before after converting =
     cond converting
     (list_any (λ x. x.session == b) (filter (λ x. same_resource x.resource w.resource && converts look x) before))
-    (list_any (λ x. x.session == b) (filter (λ x. same_resource x.resource w.resource) before) || list_any (λ x. x.session == b) (filter (λ x. same_resource x.resource w.resource && converts look x) after))
+    (list_any (λ x. x.session == b) (filter (λ x. same_resource x.resource w.resource) before) || list_any (λ x. x.session == b)
+    (filter (λ x. same_resource x.resource w.resource && converts look x) after))
 
-ahead-is : (look : Look) (b : ℕ) (w : Wait) (before after : List Wait) → list_any (λ x. x.session == b) (ahead look (record { before = before; wait = w; after = after })) ≡ ahead-any look b w before after (converts look w)
+ahead-is : (look : Look) (b : ℕ) (w : Wait) (before after : List Wait)
+    → list_any (λ x. x.session == b) (ahead look (record { before = before; wait = w; after = after })) ≡ ahead-any look b w before after (converts look w)
 ahead-is look b w before after = at (converts look w)
   where
-    at : (c : Bool) → list_any (λ (x : Wait). x.session == b) (cond c (filter (λ x. same_resource x.resource w.resource && converts look x) before) (filter (λ x. same_resource x.resource w.resource) before ++ filter (λ x. same_resource x.resource w.resource && converts look x) after)) ≡ ahead-any look b w before after c
+    at : (c : Bool) → list_any (λ (x : Wait). x.session == b)
+        (cond c (filter (λ x. same_resource x.resource w.resource && converts look x) before) (filter (λ x. same_resource x.resource w.resource) before
+        ++ filter (λ x. same_resource x.resource w.resource && converts look x) after)) ≡ ahead-any look b w before after c
     at true = refl
-    at false = any-append (λ (x : Wait). x.session == b) (filter (λ x. same_resource x.resource w.resource) before) (filter (λ x. same_resource x.resource w.resource && converts look x) after)
+    at false = any-append (λ (x : Wait). x.session == b) (filter (λ x. same_resource x.resource w.resource) before)
+        (filter (λ x. same_resource x.resource w.resource && converts look x) after)
 
 module _ (look : Look) (a b : ℕ) (v : Wait) (not_a : (v.session == a) ≡ false) (not_b : (v.session == b) ≡ false) where
   abbrev edge-at : Spot → Bool
   edge-at s = (s.wait.session == a) && holds_up look s b
 
-  put-before : (w : Wait) (xs ys after : List Wait) → edge-at (record { before = xs ++ v ∷ ys; wait = w; after = after }) ≡ edge-at (record { before = xs ++ ys; wait = w; after = after })
+  put-before : (w : Wait) (xs ys after : List Wait) → edge-at (record { before = xs ++ v ∷ ys; wait = w; after = after })
+      ≡ edge-at (record { before = xs ++ ys; wait = w; after = after })
   put-before w xs ys after =
       let h : ahead-any look b w (xs ++ v ∷ ys) after (converts look w) ≡ ahead-any look b w (xs ++ ys) after (converts look w) =
       (λ i. cond (converts look w) (any-filter-put (λ x. x.session == b) (λ x. same_resource x.resource w.resource && converts look x) v xs ys not_b i)
-      (any-filter-put (λ x. x.session == b) (λ x. same_resource x.resource w.resource) v xs ys not_b i || list_any (λ (x : Wait). x.session == b) (filter (λ x. same_resource x.resource w.resource && converts look x) after))) in
-      ap (λ t. (w.session == a) && (not (w.session == b) && (not (fits_with (wanted_by look w) (look b w.resource)) || t))) (ahead-is look b w (xs ++ v ∷ ys) after ∙ h ∙ sym (ahead-is look b w (xs ++ ys) after))
+      (any-filter-put (λ x. x.session == b) (λ x. same_resource x.resource w.resource) v xs ys not_b i || list_any (λ (x : Wait). x.session == b)
+      (filter (λ x. same_resource x.resource w.resource && converts look x) after))) in
+      ap (λ t. (w.session == a) && (not (w.session == b) && (not (fits_with (wanted_by look w) (look b w.resource)) || t))) (ahead-is look b w (xs
+      ++ v ∷ ys) after ∙ h ∙ sym (ahead-is look b w (xs ++ ys) after))
 
-  put-after : (w : Wait) (before xs ys : List Wait) → edge-at (record { before = before; wait = w; after = xs ++ v ∷ ys }) ≡ edge-at (record { before = before; wait = w; after = xs ++ ys })
+  put-after : (w : Wait) (before xs ys : List Wait) → edge-at (record { before = before; wait = w; after = xs ++ v ∷ ys })
+      ≡ edge-at (record { before = before; wait = w; after = xs ++ ys })
   put-after w before xs ys =
       let h : ahead-any look b w before (xs ++ v ∷ ys) (converts look w) ≡ ahead-any look b w before (xs ++ ys) (converts look w) =
       (λ i. cond (converts look w) (list_any (λ (x : Wait). x.session == b) (filter (λ x. same_resource x.resource w.resource && converts look x) before))
-      (list_any (λ (x : Wait). x.session == b) (filter (λ x. same_resource x.resource w.resource) before) || any-filter-put (λ x. x.session == b) (λ x. same_resource x.resource w.resource && converts look x) v xs ys not_b i)) in
-      ap (λ t. (w.session == a) && (not (w.session == b) && (not (fits_with (wanted_by look w) (look b w.resource)) || t))) (ahead-is look b w before (xs ++ v ∷ ys) ∙ h ∙ sym (ahead-is look b w before (xs ++ ys)))
+      (list_any (λ (x : Wait). x.session == b) (filter (λ x. same_resource x.resource w.resource) before) || any-filter-put (λ x. x.session == b)
+      (λ x. same_resource x.resource w.resource && converts look x) v xs ys not_b i)) in
+      ap (λ t. (w.session == a) && (not (w.session == b) && (not (fits_with (wanted_by look w) (look b w.resource)) || t))) (ahead-is look b w before (xs
+      ++ v ∷ ys) ∙ h ∙ sym (ahead-is look b w before (xs ++ ys)))
 
   spots-before : (xs ys after : List Wait) → list_any edge-at (spots_from (xs ++ v ∷ ys) after) ≡ list_any edge-at (spots_from (xs ++ ys) after)
   spots-before xs ys [] = refl
   spots-before xs ys (w ∷ after) =
-      let l : list_any edge-at (spots_from ((xs ++ v ∷ ys) ++ w ∷ []) after) ≡ list_any edge-at (spots_from (xs ++ v ∷ (ys ++ w ∷ [])) after) = ap (λ p. list_any edge-at (spots_from p after)) (append_assoc xs (v ∷ ys) (w ∷ [])) in
-      let r : list_any edge-at (spots_from ((xs ++ ys) ++ w ∷ []) after) ≡ list_any edge-at (spots_from (xs ++ (ys ++ w ∷ [])) after) = ap (λ p. list_any edge-at (spots_from p after)) (append_assoc xs ys (w ∷ [])) in
+      let l : list_any edge-at (spots_from ((xs ++ v ∷ ys) ++ w ∷ []) after) ≡ list_any edge-at (spots_from (xs ++ v ∷ (ys ++ w ∷ [])) after) =
+      ap (λ p. list_any edge-at (spots_from p after)) (append_assoc xs (v ∷ ys) (w ∷ [])) in
+      let r : list_any edge-at (spots_from ((xs ++ ys) ++ w ∷ []) after) ≡ list_any edge-at (spots_from (xs ++ (ys ++ w ∷ [])) after) =
+      ap (λ p. list_any edge-at (spots_from p after)) (append_assoc xs ys (w ∷ [])) in
       let t = l ∙ spots-before xs (ys ++ w ∷ []) after ∙ sym r in
       λ i. put-before w xs ys after i || t i
 
@@ -139,7 +157,8 @@ module _ (look : Look) (a b : ℕ) (v : Wait) (not_a : (v.session == a) ≡ fals
   edge-put us vs = spots-put [] us vs
 
 -- who has an edge waits
-pub edge-from : (look : Look) (P : Wait → Type 0) (a b : ℕ) (before after : List Wait) → EachWait P after → list_any (λ (s : Spot). (s.wait.session == a) && holds_up look s b) (spots_from before after) ≡ true → (v : Wait) × P v × (v.session ≡ a)
+pub edge-from : (look : Look) (P : Wait → Type 0) (a b : ℕ) (before after : List Wait) → EachWait P after
+    → list_any (λ (s : Spot). (s.wait.session == a) && holds_up look s b) (spots_from before after) ≡ true → (v : Wait) × P v × (v.session ≡ a)
 edge-from look P a b before [] p e = cc
 edge-from look P a b before (w ∷ after) p e =
     elim (or_cases ((w.session == a) && holds_up look (record { before = before; wait = w; after = after }) b) _ e) [
@@ -159,21 +178,27 @@ module _ (old new : Look) (i a b : ℕ) (off : (c : ℕ) (r : Resource) → c �
   converts-off : (w : Wait) → w.session ≢ i → converts new w ≡ converts old w
   converts-off w n = ap is_some (off w.session w.resource n)
 
-  filter-off : (r : Resource) (ws : List Wait) → EachWait Not-i ws → filter (λ w. same_resource w.resource r && converts new w) ws ≡ filter (λ w. same_resource w.resource r && converts old w) ws
+  filter-off : (r : Resource) (ws : List Wait) → EachWait Not-i ws → filter (λ w. same_resource w.resource r && converts new w) ws
+      ≡ filter (λ w. same_resource w.resource r && converts old w) ws
   filter-off r [] n = refl
   filter-off r (w ∷ ws) n = λ k. cond (same_resource w.resource r && converts-off w n.0 k) (w ∷ filter-off r ws n.1 k) (filter-off r ws n.1 k)
 
   spot-off : (before : List Wait) (w : Wait) (after : List Wait) → EachWait Not-i before → w.session ≢ i → EachWait Not-i after
-      → (let s : Spot = record { before = before; wait = w; after = after } in ((s.wait.session == a) && holds_up new s b) ≡ ((s.wait.session == a) && holds_up old s b))
+      → (let s : Spot = record { before = before; wait = w; after = after } in ((s.wait.session == a) && holds_up new s b)
+      ≡ ((s.wait.session == a) && holds_up old s b))
   spot-off before w after p n q =
       λ k. (w.session == a) && (not (w.session == b) && (not (fits_with (wanted (off w.session w.resource n k) w.mode) (off b w.resource nb k))
-      || list_any (λ (x : Wait). x.session == b) (cond (converts-off w n k) (filter-off w.resource before p k) (filter (λ x. same_resource x.resource w.resource) before ++ filter-off w.resource after q k))))
+      || list_any (λ (x : Wait). x.session == b)
+      (cond (converts-off w n k) (filter-off w.resource before p k) (filter (λ x. same_resource x.resource w.resource) before
+      ++ filter-off w.resource after q k))))
 
   each-push : (ws : List Wait) (w : Wait) → EachWait Not-i ws → w.session ≢ i → EachWait Not-i (ws ++ w ∷ [])
   each-push [] w p n = (n, tt)
   each-push (x ∷ xs) w p n = (p.0, each-push xs w p.1 n)
 
-  spots-off : (before after : List Wait) → EachWait Not-i before → EachWait Not-i after → list_any (λ (s : Spot). (s.wait.session == a) && holds_up new s b) (spots_from before after) ≡ list_any (λ (s : Spot). (s.wait.session == a) && holds_up old s b) (spots_from before after)
+  spots-off : (before after : List Wait) → EachWait Not-i before → EachWait Not-i after
+      → list_any (λ (s : Spot). (s.wait.session == a) && holds_up new s b) (spots_from before after)
+      ≡ list_any (λ (s : Spot). (s.wait.session == a) && holds_up old s b) (spots_from before after)
   spots-off before [] p q = refl
   spots-off before (w ∷ after) p q = λ k. spot-off before w after p q.0 q.1 k || spots-off (before ++ w ∷ []) after (each-push before w p q.0) q.1 k
 

@@ -55,22 +55,28 @@ module _ (look : Look) (waits : List Wait) (i : ℕ) where
   abbrev edge : ℕ → ℕ → Bool
   edge = waits_for look waits
 
-  pub searched-first : (n : ℕ) (reached : ℕ → Bool) → i < n → Marks look waits i (marks (replicate n false)) reached → Searched edge waits i reached (marks (set (replicate n false) i true))
+  pub searched-first : (n : ℕ) (reached : ℕ → Bool) → i < n → Marks look waits i (marks (replicate n false)) reached
+      → Searched edge waits i reached (marks (set (replicate n false) i true))
   searched-first n reached lt m = record {
     sound = λ b e. ⊎_elim (λ h. absurd (both_ways _ (marks-blank n b) h)) one (m.sound b e);
     started = marks-set (replicate n false) i (subst (λ k. i < k) (sym (length-replicate n false)) lt);
-    closed = λ a e b now f. ⊎_elim (λ same. m.marked b now (subst (λ x. edge x b ≡ true) same f)) (λ ne. absurd (both_ways _ (marks-other (replicate n false) i a ne ∙ marks-blank n a) e)) (cases_eq a i);
+    closed = λ a e b now f. ⊎_elim (λ same. m.marked b now (subst (λ x. edge x b
+        ≡ true) same f)) (λ ne. absurd (both_ways _ (marks-other (replicate n false) i a ne ∙ marks-blank n a) e)) (cases_eq a i);
   }
 
-  pub searched-more : (flags : List Bool) (c : ℕ) (reached new : ℕ → Bool) → c < length flags → Searched edge waits i reached (marks flags) → IsOpen reached (marks flags) c → Marks look waits c reached new
+  pub searched-more : (flags : List Bool) (c : ℕ) (reached new : ℕ → Bool) → c < length flags → Searched edge waits i reached (marks flags)
+      → IsOpen reached (marks flags) c → Marks look waits c reached new
       → Searched edge waits i new (marks (set flags c true))
   searched-more flags c reached new lt s next m = record {
     sound = λ b e. ⊎_elim (s.sound b) (way-on edge i c b (s.sound c next.is_reached)) (m.sound b e);
-    started = ⊎_elim (λ e. subst (λ x. marks (set flags c true) x ≡ true) (sym e) (marks-set flags c lt)) (λ ne. marks-other flags c i ne ∙ s.started) (cases_eq i c);
-    closed = λ a e b now f. ⊎_elim (λ same. m.marked b now (subst (λ x. edge x b ≡ true) same f)) (λ ne. m.kept b (s.closed a (sym (marks-other flags c a ne) ∙ e) b now f)) (cases_eq a c);
+    started = ⊎_elim (λ e. subst (λ x. marks (set flags c true) x ≡ true) (sym e) (marks-set flags c lt)) (λ ne. marks-other flags c i ne
+        ∙ s.started) (cases_eq i c);
+    closed = λ a e b now f. ⊎_elim (λ same. m.marked b now (subst (λ x. edge x b
+        ≡ true) same f)) (λ ne. m.kept b (s.closed a (sym (marks-other flags c a ne) ∙ e) b now f)) (cases_eq a c);
   }
 
-  reaches : (reached passed : ℕ → Bool) → Searched edge waits i reached passed → AllPassed waits reached passed → (a b : ℕ) → passed a ≡ true → waits_now waits b ≡ true → Way edge a b → reached b ≡ true
+  reaches : (reached passed : ℕ → Bool) → Searched edge waits i reached passed → AllPassed waits reached passed → (a b : ℕ) → passed a ≡ true
+      → waits_now waits b ≡ true → Way edge a b → reached b ≡ true
   reaches reached passed s all a b p now (one e) = s.closed a p b now e
   reaches reached passed s all a b p now (more {c = c} e v) =
       let waits_c = starts c b v in

@@ -17,14 +17,18 @@ same-holding i c r q = at (c == i) refl (same_key resource_order r q) refl
         let e : c ≡ i = eqb-true c i ic in
         let f : r ≡ q = same_key-true resource_order r q rq in
         (λ k. same_key holding_order (sym e k, f k) (c, q)) ∙ same_key-refl holding_order (c, q)
-    at true ic false rq = false_from_ne_true _ (λ h. both_ways _ rq (ap (λ (x : Holding). same_key resource_order r x.1) (sym (same_key-true holding_order (i, r) (c, q) h)) ∙ same_key-refl resource_order r))
+    at true ic false rq =
+        false_from_ne_true _ (λ h. both_ways _ rq (ap (λ (x : Holding). same_key resource_order r x.1) (sym (same_key-true holding_order (i, r) (c, q) h))
+        ∙ same_key-refl resource_order r))
     at false ic y rq = false_from_ne_true _ (λ h. both_ways _ ic (eq-eqb c i (sym (ap (λ (x : Holding). x.0) (same_key-true holding_order (i, r) (c, q) h)))))
 
 get-slice_of : (i : ℕ) (es : List (Holding × Mode)) (r : Resource) → get (slice_of i es) r ≡ find holding_cmp (i, r) es
 get-slice_of i [] r = get-empty resource_order Mode r
-get-slice_of i (e ∷ es) r = at (e.0.0 == i) (get-slice_of i es r) ∙ ap (λ b. cond b (Some e.1) (find holding_cmp (i, r) es)) (sym (same-holding i e.0.0 r e.0.1))
+get-slice_of i (e ∷ es) r = at (e.0.0 == i) (get-slice_of i es r)
+    ∙ ap (λ b. cond b (Some e.1) (find holding_cmp (i, r) es)) (sym (same-holding i e.0.0 r e.0.1))
   where
-    at : (b : Bool) → get (slice_of i es) r ≡ find holding_cmp (i, r) es → get (cond b (insert (slice_of i es) e.0.1 e.1) (slice_of i es)) r ≡ cond (b && same_key resource_order r e.0.1) (Some e.1) (find holding_cmp (i, r) es)
+    at : (b : Bool) → get (slice_of i es) r ≡ find holding_cmp (i, r) es → get (cond b (insert (slice_of i es) e.0.1 e.1) (slice_of i es)) r
+        ≡ cond (b && same_key resource_order r e.0.1) (Some e.1) (find holding_cmp (i, r) es)
     at true rest = get-insert (slice_of i es) e.0.1 e.1 r ∙ ap (cond (same_key resource_order r e.0.1) (Some e.1)) rest
     at false rest = rest
 
@@ -44,7 +48,8 @@ slice-insert m i r x = same_map _ _ (λ q.
 pub slice-insert_other : (m : Map holding_order Mode) (i j : ℕ) (r : Resource) (x : Mode) → j ≢ i → slice j (insert m (i, r) x) ≡ slice j m
 slice-insert_other m i j r x ne = same_map _ _ (λ q.
     get-slice j (insert m (i, r) x) q ∙ get-insert m (i, r) x (j, q)
-    ∙ ap (λ b. cond b (Some x) (get m (j, q))) (same-holding j i q r ∙ ap (λ b. b && same_key resource_order q r) (false_from_ne_true _ (λ h. ne (sym (eqb-true i j h)))))
+    ∙ ap (λ b. cond b (Some x) (get m (j, q))) (same-holding j i q r
+    ∙ ap (λ b. b && same_key resource_order q r) (false_from_ne_true _ (λ h. ne (sym (eqb-true i j h)))))
     ∙ sym (get-slice j m q))
 
 -- who lets go holds nothing

@@ -1,5 +1,6 @@
 -- The waits of a list, each with those before it and after it.
-use Rattle.std.proofs.Common.{◌≡◌, refl, sym, ◌∙◌, subst, ℕ, ◌<◌, Bool, true, ◌&&◌, ◌==◌, List, [], ◌∷◌, ◌++◌, length, ⊎_elim, arith, append_assoc, append-nil, length-append}
+use Rattle.std.proofs.Common.{◌≡◌, refl, sym, ◌∙◌, subst, ℕ, ◌<◌, Bool, true, ◌&&◌, ◌==◌, List, [], ◌∷◌, ◌++◌, length, ⊎_elim, arith, append_assoc}
+use Rattle.std.proofs.Common.{append-nil, length-append}
 use Rattle.std.specs.List.{list_any}
 use Rattle.std.proofs.lemmas.Bool.{and_parts, or_cases, or_left, or_right}
 use Rattle.lock_queues.specs.Locks.{Wait, Spot, Look, spots_from, spots, holds_up, waits_for, waits_now}
@@ -7,7 +8,8 @@ use Rattle.lock_queues.specs.Rules.{IsSpot}
 use Rattle.lock_queues.proofs.Ahead.{any-append}
 
 -- what passes at some spot
-pub any-spot : (f : Spot → Bool) (before after : List Wait) → list_any f (spots_from before after) ≡ true → (s : Spot) × (IsSpot (before ++ after) s × (f s ≡ true))
+pub any-spot : (f : Spot → Bool) (before after : List Wait) → list_any f (spots_from before after) ≡ true → (s : Spot)
+    × (IsSpot (before ++ after) s × (f s ≡ true))
 any-spot f before [] e = cc
 any-spot f before (w ∷ after) e =
     ⊎_elim (λ h. (record { before = before; wait = w; after = after }, (refl, h)))
@@ -15,11 +17,13 @@ any-spot f before (w ∷ after) e =
     (or_cases (f (record { before = before; wait = w; after = after })) _ e)
 
 -- and what passes at one passes at some
-pub spot-any : (f : Spot → Bool) (before mid : List Wait) (w : Wait) (after : List Wait) → f (record { before = before ++ mid; wait = w; after = after }) ≡ true → list_any f (spots_from before (mid ++ w ∷ after)) ≡ true
+pub spot-any : (f : Spot → Bool) (before mid : List Wait) (w : Wait) (after : List Wait) → f (record { before = before ++ mid; wait = w; after = after })
+    ≡ true → list_any f (spots_from before (mid ++ w ∷ after)) ≡ true
 spot-any f before [] w after e = or_left _ _ (subst (λ b. f (record { before = b; wait = w; after = after }) ≡ true) (append-nil before) e)
 spot-any f before (v ∷ mid) w after e =
     or_right (f (record { before = before; wait = v; after = mid ++ w ∷ after })) _
-    (spot-any f (before ++ v ∷ []) mid w after (subst (λ b. f (record { before = b; wait = w; after = after }) ≡ true) (sym (append_assoc before (v ∷ []) mid)) e))
+    (spot-any f (before ++ v ∷ []) mid w after (subst (λ b. f (record { before = b; wait = w; after = after })
+    ≡ true) (sym (append_assoc before (v ∷ []) mid)) e))
 
 pub passes-at : (f : Spot → Bool) (waits : List Wait) (s : Spot) → IsSpot waits s → f s ≡ true → list_any f (spots waits) ≡ true
 passes-at f waits s there e = subst (λ ws. list_any f (spots ws) ≡ true) there (spot-any f [] s.before s.wait s.after e)

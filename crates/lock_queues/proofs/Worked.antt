@@ -31,7 +31,8 @@ abbrev session_of : Option Spot → Option ℕ
 session_of o = option_map (λ s. s.wait.session) o
 
 -- a conversion to the cover, a wait, a grant once the holder has let go
-covers_row : (answers : List Answer) → answers ≡ first.answer ∷ second.answer ∷ third.answer ∷ fourth.answer ∷ [] → answers ≡ Granted ∷ Granted ∷ Granted ∷ Waits ∷ []
+covers_row : (answers : List Answer) → answers ≡ first.answer ∷ second.answer ∷ third.answer ∷ fourth.answer ∷ [] → answers
+    ≡ Granted ∷ Granted ∷ Granted ∷ Waits ∷ []
 unfolding get insert keep empty
 covers_row answers e = e
 

@@ -16,8 +16,10 @@ dropped true p = refl
 dropped false p = refl
 
 -- a write changes one entry of the writer's overlay
-pub overlay_of-wrote : (session : ℕ) (place : RowPlace) (left : Option Tuple) (l : Layers) (c : ℕ) → overlay_of c (wrote session place left l) ≡ cond (same_session c session) (insert (overlay_of session l) place left) (overlay_of c l)
-overlay_of-wrote session place left l c = ap (λ o. unwrap_or o empty) (get-insert l.overlays session (insert (overlay_of session l) place left) c) ∙ chosen (same_session c session) _ (get l.overlays c)
+pub overlay_of-wrote : (session : ℕ) (place : RowPlace) (left : Option Tuple) (l : Layers) (c : ℕ) → overlay_of c (wrote session place left l)
+    ≡ cond (same_session c session) (insert (overlay_of session l) place left) (overlay_of c l)
+overlay_of-wrote session place left l c = ap (λ o. unwrap_or o empty) (get-insert l.overlays session (insert (overlay_of session l) place left) c)
+    ∙ chosen (same_session c session) _ (get l.overlays c)
 
 -- an undo drops one overlay
 pub overlay_of-undone : (session : ℕ) (l : Layers) (c : ℕ) → overlay_of c (undone session l) ≡ cond (same_session c session) empty (overlay_of c l)

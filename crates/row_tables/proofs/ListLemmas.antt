@@ -22,16 +22,22 @@ pub get-lists : (es : List (ℕ × Overlay)) (c : ℕ) → lookup (is_at (nat_cm
 get-lists es c = lookup-find es c ∙ sym (get-of_entries session_order es c)
 
 -- a tree map that has something else at one session
-updated : (es fs : List (ℕ × Overlay)) (session : ℕ) (w : Option Overlay) → ((c : ℕ) → lookup (is_at (nat_cmp c)) fs ≡ cond (is_at (nat_cmp session) c) w (lookup (is_at (nat_cmp c)) es)) → (c : ℕ) → get (of_entries session_order fs) c ≡ cond (same_key session_order c session) w (get (of_entries session_order es) c)
+updated : (es fs : List (ℕ × Overlay)) (session : ℕ) (w : Option Overlay)
+    → ((c : ℕ) → lookup (is_at (nat_cmp c)) fs ≡ cond (is_at (nat_cmp session) c) w (lookup (is_at (nat_cmp c)) es)) → (c : ℕ)
+    → get (of_entries session_order fs) c ≡ cond (same_key session_order c session) w (get (of_entries session_order es) c)
 updated es fs session w h c =
     sym (get-lists fs c) ∙ h c
     ∙ ap (λ b. cond b w (lookup (is_at (nat_cmp c)) es)) ((eq_by_cmp_equiv nat_cmp_total).symm session c)
     ∙ ap (cond (same_key session_order c session) w) (get-lists es c)
 
-pub put-lists : (es fs : List (ℕ × Overlay)) (session : ℕ) (list : Overlay) → ((c : ℕ) → lookup (is_at (nat_cmp c)) fs ≡ cond (is_at (nat_cmp session) c) (Some list) (lookup (is_at (nat_cmp c)) es)) → of_entries session_order fs ≡ insert (of_entries session_order es) session list
+pub put-lists : (es fs : List (ℕ × Overlay)) (session : ℕ) (list : Overlay)
+    → ((c : ℕ) → lookup (is_at (nat_cmp c)) fs ≡ cond (is_at (nat_cmp session) c) (Some list) (lookup (is_at (nat_cmp c)) es))
+    → of_entries session_order fs ≡ insert (of_entries session_order es) session list
 put-lists es fs session list h = same_map _ _ (λ c. updated es fs session (Some list) h c ∙ sym (get-insert (of_entries session_order es) session list c))
 
-pub remove-lists : (es fs : List (ℕ × Overlay)) (session : ℕ) → ((c : ℕ) → lookup (is_at (nat_cmp c)) fs ≡ cond (is_at (nat_cmp session) c) None (lookup (is_at (nat_cmp c)) es)) → of_entries session_order fs ≡ Map.remove (of_entries session_order es) session
+pub remove-lists : (es fs : List (ℕ × Overlay)) (session : ℕ)
+    → ((c : ℕ) → lookup (is_at (nat_cmp c)) fs ≡ cond (is_at (nat_cmp session) c) None (lookup (is_at (nat_cmp c)) es)) → of_entries session_order fs
+    ≡ Map.remove (of_entries session_order es) session
 remove-lists es fs session h = same_map _ _ (λ c. updated es fs session None h c ∙ sym (get-remove (of_entries session_order es) session c))
 
 -- ---- a copy made entry by entry
@@ -41,7 +47,8 @@ all_at P [] k v rest h = h.0
 all_at P (e ∷ es) k v rest h = all_at P es k v rest h.1
 
 -- an entry whose key comes after all others is inserted at the end
-insert-last : (es : List (ℕ × Overlay)) (k : ℕ) (v : Overlay) (rest : List (ℕ × Overlay)) → IsStrictlySortedBy nat_cmp (keys_of (es ++ (k, v) ∷ rest)) → insert_entry nat_cmp es k v ≡ es ++ (k, v) ∷ []
+insert-last : (es : List (ℕ × Overlay)) (k : ℕ) (v : Overlay) (rest : List (ℕ × Overlay)) → IsStrictlySortedBy nat_cmp (keys_of (es ++ (k, v) ∷ rest))
+    → insert_entry nat_cmp es k v ≡ es ++ (k, v) ∷ []
 unfolding IsStrictlySortedBy
 insert-last [] k v rest h = refl
 insert-last (e ∷ es) k v rest h =
@@ -49,7 +56,8 @@ insert-last (e ∷ es) k v rest h =
     ap (λ o. match_ordering o ((k, v) ∷ e ∷ es) ((e.0, v) ∷ es) (e ∷ insert_entry nat_cmp es k v)) later ∙ ap (λ t. e ∷ t) (insert-last es k v rest h.1)
 
 -- with the next of those left a copy has one more
-pub copied-more : (all es new : List (ℕ × Overlay)) (k : ℕ) (v : Overlay) (rest : List (ℕ × Overlay)) → IsStrictlySortedBy nat_cmp (keys_of all) → es ++ (k, v) ∷ rest ≡ all → new ≡ insert_entry nat_cmp es k v → new ++ rest ≡ all
+pub copied-more : (all es new : List (ℕ × Overlay)) (k : ℕ) (v : Overlay) (rest : List (ℕ × Overlay)) → IsStrictlySortedBy nat_cmp (keys_of all) → es
+    ++ (k, v) ∷ rest ≡ all → new ≡ insert_entry nat_cmp es k v → new ++ rest ≡ all
 copied-more all es new k v rest sorted so_far inserted =
     ap (λ t. t ++ rest) (inserted ∙ insert-last es k v rest (subst (λ (t : List (ℕ × Overlay)). IsStrictlySortedBy nat_cmp (keys_of t)) (sym so_far) sorted))
     ∙ append_assoc es ((k, v) ∷ []) rest

@@ -13,7 +13,8 @@ abbrev pub over : Option (Option Tuple) → Option Tuple → Option Tuple
 over None row = row
 over (Some left) row = left
 
-pub get-laid : (place : RowPlace) (left : Option Tuple) (rows : Rows') (q : RowPlace) → get (laid place left rows) q ≡ cond (same_key place_order q place) left (get rows q)
+pub get-laid : (place : RowPlace) (left : Option Tuple) (rows : Rows') (q : RowPlace) → get (laid place left rows) q
+    ≡ cond (same_key place_order q place) left (get rows q)
 get-laid place None rows q = get-remove rows place q
 get-laid place (Some row) rows q = get-insert rows place row q
 
@@ -23,7 +24,8 @@ over-cond false x o y = refl
 
 get-lay_entries : (es : List (RowPlace × Option Tuple)) (rows : Rows') (q : RowPlace) → get (lay_entries es rows) q ≡ over (find place_cmp q es) (get rows q)
 get-lay_entries [] rows q = refl
-get-lay_entries (e ∷ es) rows q = get-laid e.0 e.1 (lay_entries es rows) q ∙ ap (cond (same_key place_order q e.0) e.1) (get-lay_entries es rows q) ∙ over-cond (same_key place_order q e.0) e.1 (find place_cmp q es) (get rows q)
+get-lay_entries (e ∷ es) rows q = get-laid e.0 e.1 (lay_entries es rows) q ∙ ap (cond (same_key place_order q e.0) e.1) (get-lay_entries es rows q)
+    ∙ over-cond (same_key place_order q e.0) e.1 (find place_cmp q es) (get rows q)
 
 pub get-lay : (o : Overlay) (rows : Rows') (q : RowPlace) → get (lay o rows) q ≡ over (get o q) (get rows q)
 unfolding lay get entries

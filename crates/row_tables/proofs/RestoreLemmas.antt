@@ -15,13 +15,16 @@ abbrev pub put_back : List (RowPlace × Option Tuple) → Rows' → Rows'
 put_back [] rows = rows
 put_back (e ∷ es) rows = put_back es (laid e.0 e.1 rows)
 
-get-put_back : (es : List (RowPlace × Option Tuple)) (rows : Rows') (q : RowPlace) → T (is_sorted place_cmp es) → get (put_back es rows) q ≡ over (find place_cmp q es) (get rows q)
+get-put_back : (es : List (RowPlace × Option Tuple)) (rows : Rows') (q : RowPlace) → T (is_sorted place_cmp es) → get (put_back es rows) q
+    ≡ over (find place_cmp q es) (get rows q)
 get-put_back [] rows q s = refl
 get-put_back (e ∷ es) rows q s =
     get-put_back es (laid e.0 e.1 rows) q (back _ _ s)
     ∙ ap (over (find place_cmp q es)) (get-laid e.0 e.1 rows q)
-    ∙ elim (same_key place_order q e.0) as (λ b. same_key place_order q e.0 ≡ b → over (find place_cmp q es) (cond b e.1 (get rows q)) ≡ over (cond b (Some e.1) (find place_cmp q es)) (get rows q)) [
-      | true ↦ λ is. ap (λ o. over o e.1) (ap (λ (p : RowPlace). find place_cmp p es) (same_key-true place_order q e.0 is) ∙ find_below place_cmp e.0 es (front _ _ s))
+    ∙ elim (same_key place_order q e.0) as (λ b. same_key place_order q e.0 ≡ b → over (find place_cmp q es) (cond b e.1 (get rows q))
+    ≡ over (cond b (Some e.1) (find place_cmp q es)) (get rows q)) [
+      | true ↦ λ is. ap (λ o. over o e.1) (ap (λ (p : RowPlace). find place_cmp p es) (same_key-true place_order q e.0 is)
+          ∙ find_below place_cmp e.0 es (front _ _ s))
       | false ↦ λ is. refl
     ] refl
 

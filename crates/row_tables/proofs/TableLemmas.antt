@@ -53,12 +53,14 @@ cond-same : (b : Bool) (x : Option Tuple) → x ≡ cond b (option_or None x) x
 cond-same true x = refl
 cond-same false x = refl
 
-get-with_rows : (t : ℕ) (es : Table) (rows : Rows') (q : RowPlace) → get (with_rows t es rows) q ≡ cond (same_table q.0 t) (option_or (find value_cmp q.1 es) (get rows q)) (get rows q)
+get-with_rows : (t : ℕ) (es : Table) (rows : Rows') (q : RowPlace) → get (with_rows t es rows) q
+    ≡ cond (same_table q.0 t) (option_or (find value_cmp q.1 es) (get rows q)) (get rows q)
 get-with_rows t [] rows q = cond-same (same_table q.0 t) (get rows q)
 get-with_rows t (e ∷ es) rows q =
     get-insert (with_rows t es rows) (t, e.0) e.1 q
     ∙ ap (cond (same_key place_order q (t, e.0)) (Some e.1)) (get-with_rows t es rows q)
-    ∙ ap (λ b. cond b (Some e.1) (cond (same_table q.0 t) (option_or (find value_cmp q.1 es) (get rows q)) (get rows q))) (is_eq-then (nat_cmp q.0 t) (value_cmp q.1 e.0))
+    ∙ ap (λ b. cond b (Some e.1) (cond (same_table q.0 t) (option_or (find value_cmp q.1 es) (get rows q)) (get rows q)))
+    (is_eq-then (nat_cmp q.0 t) (value_cmp q.1 e.0))
     ∙ chosen (same_table q.0 t) (same_value q.1 e.0) e.1 (find value_cmp q.1 es) (get rows q)
 
 option_or-None : (x : Option Tuple) → option_or x None ≡ x
@@ -69,13 +71,15 @@ in_its_place : (b : Bool) (f g : Option Tuple) → cond b (option_or f (cond (no
 in_its_place true f g = option_or-None f
 in_its_place false f g = refl
 
-pub get-put_rows : (t : ℕ) (es : Table) (rows : Rows') (q : RowPlace) → get (put_rows t es rows) q ≡ cond (same_table q.0 t) (find value_cmp q.1 es) (get rows q)
+pub get-put_rows : (t : ℕ) (es : Table) (rows : Rows') (q : RowPlace) → get (put_rows t es rows) q
+    ≡ cond (same_table q.0 t) (find value_cmp q.1 es) (get rows q)
 get-put_rows t es rows q =
     get-with_rows t es (keep (λ place. not (same_table place.0 t)) rows) q
     ∙ ap (λ g. cond (same_table q.0 t) (option_or (find value_cmp q.1 es) g) g) (get-keep (λ place. not (same_table place.0 t)) rows q)
     ∙ in_its_place (same_table q.0 t) (find value_cmp q.1 es) (get rows q)
 
-found : (b : Bool) (k : Value) (t : Table) (o : Option Table) → cond b (find value_cmp k t) (find value_cmp k (unwrap_or o [])) ≡ find value_cmp k (unwrap_or (cond b (Some t) o) [])
+found : (b : Bool) (k : Value) (t : Table) (o : Option Table) → cond b (find value_cmp k t) (find value_cmp k (unwrap_or o []))
+    ≡ find value_cmp k (unwrap_or (cond b (Some t) o) [])
 found true k t o = refl
 found false k t o = refl
 
@@ -99,7 +103,8 @@ put-tables ts t es =
 
 -- ---- the rows of one table
 
-find-cond : (b : Bool) (k : Value) (e : Value × Tuple) (es : Table) → find value_cmp k (cond b (e ∷ es) es) ≡ cond (b && same_value k e.0) (Some e.1) (find value_cmp k es)
+find-cond : (b : Bool) (k : Value) (e : Value × Tuple) (es : Table) → find value_cmp k (cond b (e ∷ es) es)
+    ≡ cond (b && same_value k e.0) (Some e.1) (find value_cmp k es)
 find-cond true k e es = refl
 find-cond false k e es = refl
 
@@ -129,7 +134,10 @@ sorted-rows_in t [] h = tt
 sorted-rows_in t (e ∷ es) h =
     let rest : T (is_sorted value_cmp (rows_in t es)) = sorted-rows_in t es (back _ _ h) in
     elim (same_table t e.0.0) as (λ b. same_table t e.0.0 ≡ b → T (is_sorted value_cmp (cond b ((e.0.1, e.1) ∷ rows_in t es) (rows_in t es)))) [
-      | true ↦ λ is. both _ _ (below-rows_in t e.0.1 es (subst (λ (u : ℕ). T (below_all place_cmp (u, e.0.1) es)) (sym (same_table-true t e.0.0 is)) (front _ _ h))) rest
+      | true ↦ λ is. both _ _ (below-rows_in t e.0.1 es (subst (λ (u : ℕ). T (below_all place_cmp (
+        u,
+        e.0.1,
+      ) es)) (sym (same_table-true t e.0.0 is)) (front _ _ h))) rest
       | false ↦ λ is. rest
     ] refl
 
@@ -143,13 +151,15 @@ pub is_rows_of : (t : ℕ) (rows : Rows') (es : Table) → T (is_sorted value_cm
 is_rows_of t rows es s h = same_entries value_cmp value_total value_same es (rows_of t rows) s (sorted-rows_of t rows) (λ k. h k ∙ sym (find-rows_of t k rows))
 
 -- the rows that are kept for a table are its rows
-pub table-rows : (ts : List (ℕ × Table)) (t : ℕ) (es : Table) → T (is_sorted value_cmp es) → unwrap_or (find nat_cmp t ts) [] ≡ es → es ≡ rows_of t (rows_of_tables ts)
+pub table-rows : (ts : List (ℕ × Table)) (t : ℕ) (es : Table) → T (is_sorted value_cmp es) → unwrap_or (find nat_cmp t ts) [] ≡ es → es
+    ≡ rows_of t (rows_of_tables ts)
 table-rows ts t es s is = is_rows_of t (rows_of_tables ts) es s (λ k. ap (find value_cmp k) (sym is) ∙ sym (get-rows_of_tables ts (t, k)))
 
 -- ---- a table with another row, or without one
 
 -- rows put for a table that differ from its own by what is left at one key
-replaced : (t : ℕ) (k : Value) (left : Option Tuple) (es : Table) (rows : Rows') → ((j : Value) → find value_cmp j es ≡ cond (same_value j k) left (get rows (t, j))) → put_rows t es rows ≡ laid (t, k) left rows
+replaced : (t : ℕ) (k : Value) (left : Option Tuple) (es : Table) (rows : Rows')
+    → ((j : Value) → find value_cmp j es ≡ cond (same_value j k) left (get rows (t, j))) → put_rows t es rows ≡ laid (t, k) left rows
 replaced t k left es rows h =
     same_map _ _ (λ q.
     get-put_rows t es rows q

@@ -15,7 +15,8 @@ use Rattle.spec_reader.specs.declared.tree.Session.{Session}
 use Rattle.spec_reader.specs.Names.{is_among, names_in, step_names, session_names, HaveSame}
 use Rattle.spec_reader.specs.Views.{step_tree, session_tree}
 
-pub has_text : {Y : Type 0} (n : List ℕ) (ks : List (String Y)) → list_any (is_at (λ k. slice_cmp nat_cmp n (string_bytes k))) ks ≡ is_among n (map string_bytes ks)
+pub has_text : {Y : Type 0} (n : List ℕ) (ks : List (String Y)) → list_any (is_at (λ k. slice_cmp nat_cmp n (string_bytes k))) ks
+    ≡ is_among n (map string_bytes ks)
 has_text n [] = refl
 has_text n (k ∷ ks) =
     ap (λ (b : Bool). b || list_any (is_at (λ k. slice_cmp nat_cmp n (string_bytes k))) ks) (is_eq-slice_cmp n (string_bytes k))
@@ -30,7 +31,8 @@ either true false = refl
 either false true = refl
 either false false = refl
 
-pub added : {Y : Type 0} (k : String Y) (s n : BTreeSet (String Y)) → Updates string_cmp s n k true → HaveSame (map string_bytes s.keys ++ string_bytes k ∷ []) (map string_bytes n.keys)
+pub added : {Y : Type 0} (k : String Y) (s n : BTreeSet (String Y)) → Updates string_cmp s n k true
+    → HaveSame (map string_bytes s.keys ++ string_bytes k ∷ []) (map string_bytes n.keys)
 added k s n u = λ name.
     list_any-append (bytes_eq name) (map string_bytes s.keys) (string_bytes k ∷ [])
     ∙ either (is_among name (map string_bytes s.keys)) (bytes_eq name (string_bytes k))
@@ -47,13 +49,15 @@ more_behind a p s n had more = λ name.
     ∙ sym (list_any-append (bytes_eq name) s p)
     ∙ more name
 
-step_names_behind : (ss : List Session) (s : Session) → step_names (map session_tree (ss ++ s ∷ [])) ≡ step_names (map session_tree ss) ++ names_in (map step_tree s.steps.items)
+step_names_behind : (ss : List Session) (s : Session) → step_names (map session_tree (ss ++ s ∷ [])) ≡ step_names (map session_tree ss)
+    ++ names_in (map step_tree s.steps.items)
 step_names_behind [] s = append-nil (names_in (map step_tree s.steps.items))
 step_names_behind (t ∷ ss) s =
     ap (λ (names : List (List ℕ)). names_in (map step_tree t.steps.items) ++ names) (step_names_behind ss s)
     ∙ sym (append_assoc (names_in (map step_tree t.steps.items)) (step_names (map session_tree ss)) (names_in (map step_tree s.steps.items)))
 
-session_names_behind : (ss : List Session) (s : Session) → session_names (map session_tree (ss ++ s ∷ [])) ≡ session_names (map session_tree ss) ++ string_bytes s.head.name ∷ []
+session_names_behind : (ss : List Session) (s : Session) → session_names (map session_tree (ss ++ s ∷ [])) ≡ session_names (map session_tree ss)
+    ++ string_bytes s.head.name ∷ []
 session_names_behind [] s = refl
 session_names_behind (t ∷ ss) s = ap (λ (names : List (List ℕ)). string_bytes t.head.name ∷ names) (session_names_behind ss s)
 
@@ -63,6 +67,8 @@ pub one_session_more : (ss all : List Session) (s : Session) (names more steps m
     → HaveSame (names ++ string_bytes s.head.name ∷ []) more → HaveSame (steps ++ names_in (map step_tree s.steps.items)) more_steps
     → HaveSame (session_names (map session_tree all)) more × HaveSame (step_names (map session_tree all)) more_steps
 one_session_more ss all s names more steps more_steps e had m ms = (
-  (λ n. ap (λ (xs : List Session). is_among n (session_names (map session_tree xs))) e ∙ ap (is_among n) (session_names_behind ss s) ∙ more_behind _ _ names more had.0 m n),
-  (λ n. ap (λ (xs : List Session). is_among n (step_names (map session_tree xs))) e ∙ ap (is_among n) (step_names_behind ss s) ∙ more_behind _ _ steps more_steps had.1 ms n),
+  (λ n. ap (λ (xs : List Session). is_among n (session_names (map session_tree xs))) e ∙ ap (is_among n) (session_names_behind ss s)
+      ∙ more_behind _ _ names more had.0 m n),
+  (λ n. ap (λ (xs : List Session). is_among n (step_names (map session_tree xs))) e ∙ ap (is_among n) (step_names_behind ss s)
+      ∙ more_behind _ _ steps more_steps had.1 ms n),
 )

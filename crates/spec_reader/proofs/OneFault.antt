@@ -36,7 +36,8 @@ cut xs x zs ys e b =
     record {
       rest = tokens zs ++ b.rest;
       tree = b.tree;
-      whole = append_assoc (tokens xs) (x.token ∷ []) (tokens zs ++ b.rest) ∙ sym (append_assoc (tokens xs) (x.token ∷ tokens zs) b.rest) ∙ ap (λ (l : List Token). l ++ b.rest) (sym cut_at) ∙ b.whole;
+      whole = append_assoc (tokens xs) (x.token ∷ []) (tokens zs ++ b.rest) ∙ sym (append_assoc (tokens xs) (x.token ∷ tokens zs) b.rest)
+          ∙ ap (λ (l : List Token). l ++ b.rest) (sym cut_at) ∙ b.whole;
       keeps = b.keeps;
     }
 
@@ -44,7 +45,8 @@ cut xs x zs ys e b =
 leads : (before : List Token) → Begins All before → (q : State) × Here before q
 leads before b = go (runs All Start before) refl (sym (runs-append All Start before b.rest) ∙ ap (runs All Start) b.whole ∙ complete All b.tree b.keeps)
   where
-    go : (o : Result State Kind) → runs All Start before ≡ o → and_then (runs All Start before) (λ q. runs All q b.rest) ≡ Ok (Whole b.tree) → (q : State) × Here before q
+    go : (o : Result State Kind) → runs All Start before ≡ o → and_then (runs All Start before) (λ q. runs All q b.rest) ≡ Ok (Whole b.tree) → (q : State)
+        × Here before q
     go (Ok q) e h =
         let w = runs_weaker Start before q e in
         let form = reached Form Start before q tt w.0 in

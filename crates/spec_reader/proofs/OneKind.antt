@@ -2,10 +2,13 @@
 use Rattle.std.proofs.Common.{◌≡◌, Bool, true, false, cond, List, Some, None, Result, Ok, Err, refl, sym, inl, inr, ◌⊎◌}
 use Rattle.std.specs.Prelude.{not, ◌&&◌, ◌||◌, is_ok}
 use Rattle.spec_reader.specs.declared.error.Kind.{Kind}
-use Rattle.spec_reader.specs.declared.error.Kind.TheVariants.{NotUtf8, BadToken, Unclosed, Misplaced, NoStep, DuplicateStep, DuplicateSession, UnknownStep, TooLarge, NoMemory}
+use Rattle.spec_reader.specs.declared.error.Kind.TheVariants.{NotUtf8, BadToken, Unclosed, Misplaced, NoStep, DuplicateStep, DuplicateSession, UnknownStep}
+use Rattle.spec_reader.specs.declared.error.Kind.TheVariants.{TooLarge, NoMemory}
 use Rattle.spec_reader.specs.Tokens.{Token, SessionWord, StepWord, PermutationWord, End, NoToken, NotClosed}
 use Rattle.spec_reader.specs.Fault.{Form, Limits, MayCome, IsMissing, IsNoToken, EndsSteps, EndsSessions, IsKind, name_fault}
-use Rattle.spec_reader.specs.Reading.{State, Head, HeadSetup, HeadTeardown, SessionBegun, Headed, HeadedSetup, HeadedTeardown, StepBegun, StepNamed, Stepped, LastTeardown, Sessioned, LineBegun, ItemNamed, MarkerBegun, MarkerNamed, Noticed, Marked, ItemDone, Whole, next}
+use Rattle.spec_reader.specs.Reading.{State, Head, HeadSetup, HeadTeardown, SessionBegun, Headed, HeadedSetup, HeadedTeardown, StepBegun, StepNamed}
+use Rattle.spec_reader.specs.Reading.{Stepped, LastTeardown, Sessioned, LineBegun, ItemNamed, MarkerBegun, MarkerNamed, Noticed, Marked, ItemDone, Whole}
+use Rattle.spec_reader.specs.Reading.{next}
 use Rattle.spec_reader.proofs.Faults.{never, can, Here}
 use Rattle.byte_runs.proofs.RunLemmas.{or_true}
 
@@ -41,7 +44,8 @@ is_missing q t = missing (ends_sessions t) (ends_steps t) (takes q SessionWord) 
 
 -- the kind, by these tests in their order
 abbrev pub kind_by : Bool → Bool → Bool → Bool → Bool → Kind → Kind
-kind_by no_token not_closed lacks form limits named = cond no_token BadToken (cond not_closed Unclosed (cond lacks NoStep (cond form (cond limits named TooLarge) Misplaced)))
+kind_by no_token not_closed lacks form limits named =
+    cond no_token BadToken (cond not_closed Unclosed (cond lacks NoStep (cond form (cond limits named TooLarge) Misplaced)))
 
 -- a token that may come lacks nothing
 takes_all : (q : State) (t : Token) → takes q t ≡ true → is_missing q t ≡ false
@@ -305,7 +309,8 @@ module _ (before : List Token) (q : State) (h : Here before q) where
 
   named : (t : Token) (k : Kind) → MayCome Limits before t → name_fault before ≡ k → k ≡ the_kind t
   named t k l e =
-      let form : MayCome Form before t = record { rest = l.rest; tree = l.tree; whole = l.whole; keeps = record { parts = l.keeps.parts; limits = tt; names = tt } } in
+      let form : MayCome Form before t =
+      record { rest = l.rest; tree = l.tree; whole = l.whole; keeps = record { parts = l.keeps.parts; limits = tt; names = tt } } in
       let may = takes_it t form in
       let token = is_token q t may in
       rw (token.0, token.1, takes_all q t may, may, within_it t l) (sym e)

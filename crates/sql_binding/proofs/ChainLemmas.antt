@@ -64,10 +64,12 @@ pub assignments-listed : (table : Table) (at : ℕ) (texts : Written AssignmentT
     → each (assignment table at) (list_of (chain_by view_assignment texts)) ≡ each (λ a. assignment table at (view_assignment a)) (texts.first ∷ texts.more)
 assignments-listed table at texts = each-listed view_assignment (assignment table at) texts
 
-pub each-summed : {X : Type 0} (g : _ → Bind X) (t : Chain Factor) (ss : List SignedTerm) → each g (sum_tail (summed t ss)) ≡ each (λ s. g (s.sign, chain_of s.term)) ss
+pub each-summed : {X : Type 0} (g : _ → Bind X) (t : Chain Factor) (ss : List SignedTerm) → each g (sum_tail (summed t ss))
+    ≡ each (λ s. g (s.sign, chain_of s.term)) ss
 each-summed g t ss = ap (each g) (sum_tail-summed t ss) ∙ each-map (λ s. (s.sign, chain_of s.term)) g ss
 
-pub bound-both : {A B X : Type 0} (r : Bind A) (s : Bind B) (f : A → B → X) (a : A) (b : B) → r ≡ Ok a → s ≡ Ok b → (r >>= λ p. (s >>= λ q. Ok (f p q))) ≡ Ok (f a b)
+pub bound-both : {A B X : Type 0} (r : Bind A) (s : Bind B) (f : A → B → X) (a : A) (b : B) → r ≡ Ok a → s ≡ Ok b → (r >>= λ p. (s >>= λ q. Ok (f p q)))
+    ≡ Ok (f a b)
 bound-both r s f a b e g = (λ i. e i >>= λ p. (g i >>= λ q. Ok (f p q)))
 
 pub then-both : {A B X : Type 0} (r : Bind A) (s : Bind B) (f : A → B → Bind X) (a : A) (b : B) → r ≡ Ok a → s ≡ Ok b → (r >>= λ p. (s >>= λ q. f p q)) ≡ f a b

@@ -1,5 +1,6 @@
 -- One part after another is bound.
-use Rattle.std.proofs.Common.{◌≡◌, refl, sym, ap, ◌∙◌, ℕ, suc, ◌+◌, ◌<◌, List, [], ◌∷◌, ◌++◌, length, map, get_or, drop, Ok, Err, drop-cons, add-one, append_assoc}
+use Rattle.std.proofs.Common.{◌≡◌, refl, sym, ap, ◌∙◌, ℕ, suc, ◌+◌, ◌<◌, List, [], ◌∷◌, ◌++◌, length, map, get_or, drop, Ok, Err, drop-cons, add-one}
+use Rattle.std.proofs.Common.{append_assoc}
 use Rattle.sql_binding.specs.Refusals.{Bind, ◌>>=◌, with_front, each}
 
 front_twice : {X : Type 0} (xs ys : List X) (r : Bind (List X)) → with_front xs (with_front ys r) ≡ with_front (xs ++ ys) r

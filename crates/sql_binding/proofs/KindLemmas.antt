@@ -424,7 +424,8 @@ Least f (Ok b) = NoneOf f
 Least f (Err e) = IsLeast f e.kind
 
 create_if : (a b c d : Bool) (at : ℕ) (made : List Table)
-    → Least (of_table a b c d) (elim (cond a (Some (Sql sql.TooLarge)) (cond b (Some UnknownColumn) (cond c (Some DuplicateTable) (cond d (Some WrongCount) None))))
+    → Least (of_table a b c d)
+    (elim (cond a (Some (Sql sql.TooLarge)) (cond b (Some UnknownColumn) (cond c (Some DuplicateTable) (cond d (Some WrongCount) None))))
     [ Some k ↦ refuse at k | None ↦ Ok made ])
 create_if true b c d at made = (
   refl,

@@ -1,5 +1,6 @@
 -- Elements past the end of a list, and numbers one after another.
-use Rattle.std.proofs.Common.{◌≡◌, refl, sym, ap, ◌∙◌, ℕ, suc, ◌+◌, ◌-◌, ◌<◌, ◌≤◌, Bool, false, List, [], ◌∷◌, ◌++◌, length, get_or, drop, Some, None, slice_get, inl, inr, arith, add-one, append_assoc}
+use Rattle.std.proofs.Common.{◌≡◌, refl, sym, ap, ◌∙◌, ℕ, suc, ◌+◌, ◌-◌, ◌<◌, ◌≤◌, Bool, false, List, [], ◌∷◌, ◌++◌, length, get_or, drop, Some, None}
+use Rattle.std.proofs.Common.{slice_get, inl, inr, arith, add-one, append_assoc}
 use Rattle.std.proofs.Math.ListN.{get_or-eq_default}
 use Rattle.std.proofs.lemmas.List.{drop_all}
 use Rattle.std.proofs.lemmas.Option.{slice_get_cases}
@@ -19,10 +20,12 @@ row_mixes-none t [] = refl
 row_mixes-none t (c ∷ cs) = refl
 
 -- behind the last value nothing mixes
-pub row_mixes-past : (t : Table) (cs : List ℕ) (row : List Value) (n : ℕ) (whole : Bool) → length row ≤ n → row_mixes t (drop n cs) (drop n row) ≡ whole → false ≡ whole
+pub row_mixes-past : (t : Table) (cs : List ℕ) (row : List Value) (n : ℕ) (whole : Bool) → length row ≤ n → row_mixes t (drop n cs) (drop n row) ≡ whole
+    → false ≡ whole
 row_mixes-past t cs row n whole e h = sym (row_mixes-none t (drop n cs)) ∙ ap (row_mixes t (drop n cs)) (sym (drop_all n row e)) ∙ h
 
-pub numbers-next : (all whole : List ℕ) (k w : ℕ) → k < w → all ++ numbers_from k (w - k) ≡ whole → (all ++ k ∷ []) ++ numbers_from (k + 1) (w - (k + 1)) ≡ whole
+pub numbers-next : (all whole : List ℕ) (k w : ℕ) → k < w → all ++ numbers_from k (w - k) ≡ whole → (all ++ k ∷ []) ++ numbers_from (k + 1) (w - (k + 1))
+    ≡ whole
 numbers-next all whole k w h e =
     let more : w - k ≡ suc (w - (k + 1)) = omega arith in
     append_assoc all (k ∷ []) (numbers_from (k + 1) (w - (k + 1)))

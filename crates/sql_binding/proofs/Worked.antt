@@ -23,7 +23,12 @@ use Rattle.sql_binding.specs.Statements.{statement}
 
 -- CREATE TABLE t (id int PRIMARY KEY, v int)
 tables : List Table
-tables = record { name = codes "t"; columns = record { name = codes "id"; kind = Number } ∷ record { name = codes "v"; kind = Number } ∷ []; key = Some (codes "id") } ∷ []
+tables = record {
+  name = codes "t";
+  columns = record { name = codes "id"; kind = Number } ∷ record { name = codes "v"; kind = Number } ∷ [];
+  key =
+      Some (codes "id");
+} ∷ []
 
 column : List ℕ → tree.Sum
 column name = Only (Last (Column name))

@@ -1,14 +1,17 @@
 -- The reading of a block answers what the grammar says.
-use Rattle.std.proofs.Common.{◌≡◌, ℕ, zero, suc, ◌<◌, Bool, true, false, List, [], ◌∷◌, ◌++◌, length, Option, Some, None, Result, Ok, Err, refl, sym, ap, subst, ◌∙◌, append_assoc, inl, inr, ◌⊎◌, arith, cond, drop, ◌≤◌}
+use Rattle.std.proofs.Common.{◌≡◌, ℕ, zero, suc, ◌<◌, Bool, true, false, List, [], ◌∷◌, ◌++◌, length, Option, Some, None, Result, Ok, Err, refl, sym, ap}
+use Rattle.std.proofs.Common.{subst, ◌∙◌, append_assoc, inl, inr, ◌⊎◌, arith, cond, drop, ◌≤◌}
 use Rattle.std.specs.Prelude.{codes, if◌then◌else◌}
 use Rattle.std.proofs.lemmas.List.{append-nil, append_cancel_left, length-append, length-map}
 use Rattle.sql_grammar.specs.declared.error.Limit.{Limit}
 use Rattle.sql_grammar.specs.declared.error.SqlErrorKind.{SqlErrorKind as Kind}
 use Rattle.sql_grammar.specs.Tokens.{Token, Key, Word, Sign, Number, Text, End, NoToken, NotClosed, Placed, is, is_last}
 use Rattle.sql_grammar.specs.Tree.{Last, More, Statement, Block}
-use Rattle.sql_grammar.specs.Grammar.{Marked, mark, plain, good, spelling, statements, Begins, MayCome, IsWord, IsToken, AtStatement, OnlyOver, CannotCome, IsKind, bad_token, unclosed, unsupported, syntax, over, kind_of_limit, Fault, FirstFault}
+use Rattle.sql_grammar.specs.Grammar.{Marked, mark, plain, good, spelling, statements, Begins, MayCome, IsWord, IsToken, AtStatement, OnlyOver, CannotCome}
+use Rattle.sql_grammar.specs.Grammar.{IsKind, bad_token, unclosed, unsupported, syntax, over, kind_of_limit, Fault, FirstFault}
 use Rattle.sql_grammar.specs.Grammar as grammar
-use Rattle.sql_grammar.specs.Reading.{Stop, Read, ◌>>=◌, first, rest, at, told, fault_of, kind_of, refused, no_form, and_then, inside, form, begins_form, statement, maybe_statement, block_of, block}
+use Rattle.sql_grammar.specs.Reading.{Stop, Read, ◌>>=◌, first, rest, at, told, fault_of, kind_of, refused, no_form, and_then, inside, form, begins_form}
+use Rattle.sql_grammar.specs.Reading.{statement, maybe_statement, block_of, block}
 use Rattle.sql_reader.proofs.Laws.{Stops, HasEnd, Takes, Halts, Agrees, IsOver, Heads, same_token, same_rest, heads-append, good-append}
 use Rattle.sql_reader.proofs.TokenLaws.{is_same}
 use Rattle.sql_reader.proofs.ListLaws.{maybe, at_end}
@@ -43,13 +46,22 @@ record Parts (c : Block) : Type 0 where
 
 parts_of : (c : Block) → Parts c
 parts_of (Last o) = record { item = o; more = plain End ∷ []; whole = refl; stops = refl }
-parts_of (More o c) = record { item = o; more = plain (Sign (codes ";")) ∷ (statements c ++ (plain End ∷ [])); whole = append_assoc (sp o) (plain (Sign (codes ";")) ∷ statements c) (plain End ∷ []); stops = refl }
+parts_of (More o c) =
+    record {
+      item = o;
+      more = plain (Sign (codes ";")) ∷ (statements c ++ (plain End ∷ []));
+      whole =
+          append_assoc (sp o) (plain (Sign (codes ";")) ∷ statements c) (plain End ∷ []);
+      stops = refl;
+    }
 
 -- no semicolon stands at the end of a front within a statement
-not_after : (front : List Placed) (o : Option Statement) (tail : List Marked) → sp o ≡ good front ++ tail → (before : List Placed) (n : ℕ) → front ≡ before ++ (record { at = n; token = Sign (codes ";") } ∷ []) → ⊥
+not_after : (front : List Placed) (o : Option Statement) (tail : List Marked) → sp o ≡ good front ++ tail → (before : List Placed) (n : ℕ) → front
+    ≡ before ++ (record { at = n; token = Sign (codes ";") } ∷ []) → ⊥
 not_after front o tail e before n f =
     let g : good front ≡ good before ++ (plain (Sign (codes ";")) ∷ []) = ap good f ∙ good-append before (record { at = n; token = Sign (codes ";") } ∷ []) in
-    let whole : sp o ≡ good before ++ (plain (Sign (codes ";")) ∷ tail) = e ∙ ap (λ (ms : List Marked). ms ++ tail) g ∙ append_assoc (good before) (plain (Sign (codes ";")) ∷ []) tail in
+    let whole : sp o ≡ good before ++ (plain (Sign (codes ";")) ∷ tail) = e ∙ ap (λ (ms : List Marked). ms ++ tail) g
+    ∙ append_assoc (good before) (plain (Sign (codes ";")) ∷ []) tail in
     go (good before) (subst Inside whole (inside_sp o))
   where
     go : (xs : List Marked) → Inside (xs ++ (plain (Sign (codes ";")) ∷ tail)) → ⊥
@@ -93,7 +105,12 @@ in_form ts s known h = record {
   here = s.here;
   after = h.after;
   parts = h.parts;
-  good = record { tree = Last h.index; rest = h.tail ++ (plain End ∷ []); whole = ap (λ (ms : List Marked). ms ++ (plain End ∷ [])) h.opens ∙ append_assoc (good h.front) h.tail (plain End ∷ []) };
+  good = record {
+    tree = Last h.index;
+    rest = h.tail ++ (plain End ∷ []);
+    whole = ap (λ (ms : List Marked). ms ++ (plain End ∷ [])) h.opens
+        ∙ append_assoc (good h.front) h.tail (plain End ∷ []);
+  };
   bad = λ m. never None m;
   kind = kind_is s.why refl;
   at = refl;
@@ -114,7 +131,8 @@ in_form ts s known h = record {
         elim known [
           | inl k ↦
               let b = starts s.here.token (sym (ap begins_form same) ∙ k) in
-              h.never (Some b.0) (plain End ∷ []) None (b.1 ++ (plain End ∷ [])) refl (ap (λ (ms : List Marked). ms ++ (plain End ∷ [])) b.2 ∙ ap (λ (us : List Placed). good us ++ (plain s.here.token ∷ (b.1 ++ (plain End ∷ [])))) (sym (e ∙ none)))
+              h.never (Some b.0) (plain End ∷ []) None (b.1 ++ (plain End ∷ [])) refl (ap (λ (ms : List Marked). ms ++ (plain End ∷ [])) b.2
+              ∙ ap (λ (us : List Placed). good us ++ (plain s.here.token ∷ (b.1 ++ (plain End ∷ [])))) (sym (e ∙ none)))
           | inr k ↦ not_inside_word s.here.token w (sym (ap inside same) ∙ k)
         ]
 
@@ -123,9 +141,18 @@ in_form ts s known h = record {
     not_here w (inr b) = not_after h.front h.index h.tail h.opens b.0 b.1 b.2
 
     kind_is : (why : Why) → s.why ≡ why → IsKind h.front s.here.token (fault_of s).kind
-    kind_is CannotStand e = subst (λ (y : Why). IsKind h.front s.here.token (kind_of y s.here.token)) (sym e) (is_token_kind h.front s.here.token not_here (cannot e))
+    kind_is CannotStand e =
+        subst (λ (y : Why). IsKind h.front s.here.token (kind_of y s.here.token)) (sym e) (is_token_kind h.front s.here.token not_here (cannot e))
     kind_is (Passes l) e = subst (λ (y : Why). IsKind h.front s.here.token (kind_of y s.here.token)) (sym e)
-        (over l (let x = h.may l e in (record { tree = Last x.0; rest = x.1 ++ (plain End ∷ []); whole = ap (λ (ms : List Marked). ms ++ (plain End ∷ [])) x.2 ∙ append_assoc (good h.front) (mark s.here.token (Some l) ∷ x.1) (plain End ∷ []) }, λ m. never None m)))
+        (over l (let x = h.may l e in (
+          record {
+            tree = Last x.0;
+            rest = x.1 ++ (plain End ∷ []);
+            whole = ap (λ (ms : List Marked). ms ++ (plain End ∷ [])) x.2
+                ∙ append_assoc (good h.front) (mark s.here.token (Some l) ∷ x.1) (plain End ∷ []);
+          },
+          λ m. never None m,
+        )))
 
 -- ---- blocks
 
@@ -154,9 +181,11 @@ ends_so (x ∷ xs) ys [] y z e = absurd (none (xs ++ (y ∷ ys)) refl)
     none (u ∷ us) k = let wrong : x ∷ (u ∷ us) ≡ z ∷ [] = ap (λ (vs : List Placed). x ∷ vs) (sym k) ∙ e in cc
 ends_so (x ∷ xs) ys (b ∷ before) y z e = let more : xs ++ (y ∷ ys) ≡ before ++ (z ∷ []) = cc in ends_so xs ys before y z more
 
-module _ (ts : List Placed) (x : Option Statement) (t : Placed) (after : List Placed) (h : Takes {I = Option Statement} (λ o. o) sp inside ts x (t ∷ after)) where
+module _ (ts : List Placed) (x : Option Statement) (t : Placed) (after : List Placed)
+    (h : Takes {I = Option Statement} (λ o. o) sp inside ts x (t ∷ after)) where
   -- the item of any block that goes on so is the one that was read
-  item_is : (c : Block) (m : Option Limit) (w : List Marked) → spelling c ≡ good h.front ++ (mark t.token m ∷ w) → ((parts_of c).item ≡ h.index) × ((parts_of c).more ≡ mark t.token m ∷ w)
+  item_is : (c : Block) (m : Option Limit) (w : List Marked) → spelling c ≡ good h.front ++ (mark t.token m ∷ w) → ((parts_of c).item ≡ h.index)
+      × ((parts_of c).more ≡ mark t.token m ∷ w)
   item_is c m w e =
       let p = parts_of c in
       let eq : sp p.item ++ p.more ≡ good h.front ++ (mark t.token m ∷ w) = sym p.whole ∙ e in
@@ -181,7 +210,9 @@ module _ (ts : List Placed) (x : Option Statement) (t : Placed) (after : List Pl
 
     strip : (front : List Placed) (u : Token) (o : Option Limit) → MayCome (h.front ++ (t ∷ front)) u o → MayCome front u o
     strip front u o m =
-        let e : spelling m.tree ≡ good h.front ++ (plain t.token ∷ (good front ++ (mark u o ∷ m.rest))) = m.whole ∙ ap (λ (ms : List Marked). ms ++ (mark u o ∷ m.rest)) (good-append h.front (t ∷ front)) ∙ append_assoc (good h.front) (plain t.token ∷ good front) (mark u o ∷ m.rest) in
+        let e : spelling m.tree ≡ good h.front ++ (plain t.token ∷ (good front ++ (mark u o ∷ m.rest))) = m.whole
+        ∙ ap (λ (ms : List Marked). ms ++ (mark u o ∷ m.rest)) (good-append h.front (t ∷ front))
+        ∙ append_assoc (good h.front) (plain t.token ∷ good front) (mark u o ∷ m.rest) in
         let r = rest_is m.tree (good front ++ (mark u o ∷ m.rest)) e in
         record { tree = r.0; rest = m.rest; whole = r.2 }
 
@@ -189,7 +220,9 @@ module _ (ts : List Placed) (x : Option Statement) (t : Placed) (after : List Pl
     extend front u o m = record {
       tree = More h.index m.tree;
       rest = m.rest;
-      whole = whole_is m.tree (good front ++ (mark u o ∷ m.rest)) m.whole ∙ sym (ap (λ (ms : List Marked). ms ++ (mark u o ∷ m.rest)) (good-append h.front (t ∷ front)) ∙ append_assoc (good h.front) (plain t.token ∷ good front) (mark u o ∷ m.rest));
+      whole = whole_is m.tree (good front ++ (mark u o ∷ m.rest)) m.whole
+          ∙ sym (ap (λ (ms : List Marked). ms ++ (mark u o ∷ m.rest)) (good-append h.front (t ∷ front))
+          ∙ append_assoc (good h.front) (plain t.token ∷ good front) (mark u o ∷ m.rest));
     }
 
     this : t ≡ record { at = t.at; token = semicolon }
@@ -197,7 +230,13 @@ module _ (ts : List Placed) (x : Option Statement) (t : Placed) (after : List Pl
 
     lift : (front : List Placed) → AtStatement front → AtStatement (h.front ++ (t ∷ front))
     lift front (inl e) = inr (h.front, t.at, rw (e, ← this) refl)
-    lift front (inr b) = inr (h.front ++ (t ∷ b.0), b.1, ap (λ (us : List Placed). h.front ++ (t ∷ us)) b.2 ∙ sym (append_assoc h.front (t ∷ b.0) (record { at = b.1; token = semicolon } ∷ [])))
+    lift front (inr b) =
+        inr (
+          h.front ++ (t ∷ b.0),
+          b.1,
+          ap (λ (us : List Placed). h.front ++ (t ∷ us)) b.2
+              ∙ sym (append_assoc h.front (t ∷ b.0) (record { at = b.1; token = semicolon } ∷ [])),
+        )
 
     lower : (front : List Placed) → AtStatement (h.front ++ (t ∷ front)) → AtStatement front
     lower [] a = inl refl
@@ -221,7 +260,8 @@ module _ (ts : List Placed) (x : Option Statement) (t : Placed) (after : List Pl
     after_semicolon : (r : Result Block Fault) → BlockAgrees after r → BlockAgrees ts (and_then r (λ b. Ok (More x b)))
     after_semicolon (Ok b) q = record {
       spelled = ap (λ (o : Option Statement). spelling (More o b)) h.is ∙ whole_is b (good after) q.spelled ∙ sym good_ts;
-      only = λ c e. let r = rest_is c (good after) (e ∙ good_ts) in let same : r.0 ≡ b = q.only r.0 r.2 in r.1 ∙ ap (λ (d : Block). More h.index d) same ∙ ap (λ (o : Option Statement). More o b) (sym h.is);
+      only = λ c e. let r = rest_is c (good after) (e ∙ good_ts) in let same : r.0 ≡ b = q.only r.0 r.2 in r.1 ∙ ap (λ (d : Block). More h.index d) same
+          ∙ ap (λ (o : Option Statement). More o b) (sym h.is);
     }
     after_semicolon (Err f) q = record {
       front = h.front ++ (t ∷ q.front);
@@ -231,7 +271,9 @@ module _ (ts : List Placed) (x : Option Statement) (t : Placed) (after : List Pl
       good = record {
         tree = More h.index q.good.tree;
         rest = q.good.rest;
-        whole = whole_is q.good.tree (good q.front ++ q.good.rest) q.good.whole ∙ sym (ap (λ (ms : List Marked). ms ++ q.good.rest) (good-append h.front (t ∷ q.front)) ∙ append_assoc (good h.front) (plain t.token ∷ good q.front) q.good.rest);
+        whole = whole_is q.good.tree (good q.front ++ q.good.rest) q.good.whole
+            ∙ sym (ap (λ (ms : List Marked). ms ++ q.good.rest) (good-append h.front (t ∷ q.front))
+            ∙ append_assoc (good h.front) (plain t.token ∷ good q.front) q.good.rest);
       };
       bad = λ m. q.bad (strip q.front q.here.token None m);
       kind = same_kind q.front q.here.token f.kind q.kind;
@@ -281,7 +323,8 @@ module _ (ts : List Placed) (x : Option Statement) (t : Placed) (after : List Pl
             | inl k ↦
                 let b = starts t.token (sym (ap begins_form same) ∙ k) in
                 let i : Some b.0 ≡ h.index = h.only t after refl (Some b.0) (plain End ∷ []) None (b.1 ++ (plain End ∷ [])) refl
-                (ap (λ (ms : List Marked). ms ++ (plain End ∷ [])) b.2 ∙ ap (λ (us : List Placed). good us ++ (plain t.token ∷ (b.1 ++ (plain End ∷ [])))) (sym none)) in
+                (ap (λ (ms : List Marked). ms ++ (plain End ∷ [])) b.2
+                ∙ ap (λ (us : List Placed). good us ++ (plain t.token ∷ (b.1 ++ (plain End ∷ [])))) (sym none)) in
                 let wrong : plain t.token ∷ b.1 ≡ [] = sym b.2 ∙ ap sp i ∙ h.spelled ∙ ap good none in cc
             | inr k ↦ is_inside (sym (ap inside same) ∙ k)
           ]
@@ -294,7 +337,8 @@ go_on n s =
     else (if at End s.1 then Ok (Last s.0)
     else Err (record { kind = refused (first s.1).token; at = (first s.1).at }))
 
-told_wrapped : {A B : Type 0} (f : A → B) (r : Read A) → and_then {B = B × List Placed} (told r) (λ (s : A × List Placed). Ok (f s.0, s.1)) ≡ told (◌>>=◌ {B = B × List Placed} r (λ s. Ok (f s.0, s.1)))
+told_wrapped : {A B : Type 0} (f : A → B) (r : Read A) → and_then {B = B × List Placed} (told r) (λ (s : A × List Placed). Ok (f s.0, s.1))
+    ≡ told (◌>>=◌ {B = B × List Placed} r (λ s. Ok (f s.0, s.1)))
 told_wrapped f (Ok x) = refl
 told_wrapped f (Err s) = refl
 
@@ -304,12 +348,14 @@ unfolding maybe_form
 same_maybe ts (inr k) = rw k refl
 same_maybe ts (inl k) = go (inside (first ts).token)
   where
-    go : (i : Bool) → cond i (and_then {B = Option Statement × List Placed} (statement ts) (λ s. Ok (Some s.0, s.1))) (Ok (None, ts)) ≡ told (cond i (◌>>=◌ {B = Option Statement × List Placed} (form ts) (λ s. Ok (Some s.0, s.1))) (Ok (None, ts)))
+    go : (i : Bool) → cond i (and_then {B = Option Statement × List Placed} (statement ts) (λ s. Ok (Some s.0, s.1))) (Ok (None, ts))
+        ≡ told (cond i (◌>>=◌ {B = Option Statement × List Placed} (form ts) (λ s. Ok (Some s.0, s.1))) (Ok (None, ts)))
     go false = refl
     go true = rw k (told_wrapped (λ (s : Statement). Some s) (form ts))
 
 -- a first token that begins no form where a statement stands
-unknown : (ts : List Placed) → HasEnd ts → inside (first ts).token ≡ true → begins_form (first ts).token ≡ false → FirstFault ts (record { kind = no_form (first ts).token; at = (first ts).at })
+unknown : (ts : List Placed) → HasEnd ts → inside (first ts).token ≡ true → begins_form (first ts).token ≡ false
+    → FirstFault ts (record { kind = no_form (first ts).token; at = (first ts).at })
 unknown [] ends i b = absurd ends
 unknown (t ∷ ts) ends i b = record {
   front = [];
@@ -324,7 +370,8 @@ unknown (t ∷ ts) ends i b = record {
   where
     none : (o : Option Statement) (more : List Marked) (m : Option Limit) (w : List Marked) → Stops inside more → sp o ++ more ≡ mark t.token m ∷ w → ⊥
     none None more m w stop e = let f : inside t.token ≡ false = subst (Stops inside) e stop in cc
-    none (Some s) more m w stop e = let f : begins_form t.token ≡ true = subst (Heads begins_form true) e (heads-append begins_form true (grammar.statement s) more (heads_form s)) in cc
+    none (Some s) more m w stop e = let f : begins_form t.token ≡ true =
+        subst (Heads begins_form true) e (heads-append begins_form true (grammar.statement s) more (heads_form s)) in cc
 
     cannot : CannotCome [] t.token
     cannot o m = let p = parts_of m.tree in none p.item p.more o m.rest p.stops (sym p.whole ∙ m.whole)
@@ -332,25 +379,29 @@ unknown (t ∷ ts) ends i b = record {
 is_known : (ts : List Placed) → Known ts ⊎ ((inside (first ts).token ≡ true) × (begins_form (first ts).token ≡ false))
 is_known ts = go (inside (first ts).token) (begins_form (first ts).token) refl refl
   where
-    go : (i b : Bool) → inside (first ts).token ≡ i → begins_form (first ts).token ≡ b → Known ts ⊎ ((inside (first ts).token ≡ true) × (begins_form (first ts).token ≡ false))
+    go : (i b : Bool) → inside (first ts).token ≡ i → begins_form (first ts).token ≡ b → Known ts
+        ⊎ ((inside (first ts).token ≡ true) × (begins_form (first ts).token ≡ false))
     go false b e f = inl (inr e)
     go true true e f = inl (inl f)
     go true false e f = inr (e, f)
 
-shorter : (ts : List Placed) (x : Option Statement) (t : Placed) (after : List Placed) → Takes {I = Option Statement} (λ o. o) sp inside ts x (t ∷ after) → length after < length ts
+shorter : (ts : List Placed) (x : Option Statement) (t : Placed) (after : List Placed) → Takes {I = Option Statement} (λ o. o) sp inside ts x (t ∷ after)
+    → length after < length ts
 shorter ts x t after h = omega (arith, ap length h.parts ∙ length-append h.front (t ∷ after))
 
 still : (t : Placed) (after : List Placed) → t.token ≡ semicolon → HasEnd (t ∷ after) → HasEnd after
 still t after e h = subst (λ (b : Bool). cond b (after ≡ []) (HasEnd after)) (ap is_last e) h
 
 -- after an item: a semicolon and a block, the end, or a fault
-item_read : (n : ℕ) (ts : List Placed) (x : Option Statement) (left : List Placed) → Known ts → Takes {I = Option Statement} (λ o. o) sp inside ts x left → ((us : List Placed) → HasEnd us → length us < length ts → BlockAgrees us (block_of n us)) → BlockAgrees ts (go_on n (x, left))
+item_read : (n : ℕ) (ts : List Placed) (x : Option Statement) (left : List Placed) → Known ts → Takes {I = Option Statement} (λ o. o) sp inside ts x left
+    → ((us : List Placed) → HasEnd us → length us < length ts → BlockAgrees us (block_of n us)) → BlockAgrees ts (go_on n (x, left))
 item_read n ts x [] known h ih = absurd h.ended
 item_read n ts x (t ∷ after) known h ih = go (is semicolon t.token) (is End t.token) refl refl
   where
     go : (s e : Bool) → is semicolon t.token ≡ s → is End t.token ≡ e
         → BlockAgrees ts (cond s (and_then (block_of n after) (λ b. Ok (More x b))) (cond e (Ok (Last x)) (Err (record { kind = refused t.token; at = t.at }))))
-    go true e p q = let semi = is_same semicolon t.token p in after_semicolon ts x t after h semi (block_of n after) (ih after (still t after semi h.ended) (shorter ts x t after h))
+    go true e p q = let semi = is_same semicolon t.token p in
+        after_semicolon ts x t after h semi (block_of n after) (ih after (still t after semi h.ended) (shorter ts x t after h))
     go false true p q = at_the_end ts x t after h (is_same End t.token q)
     go false false p q = behind ts x t after h known p q
 
@@ -358,10 +409,15 @@ block_law : (n : ℕ) (ts : List Placed) → HasEnd ts → length ts < n → Blo
 block_law zero ts ends lt = absurd (omega arith)
 block_law (suc n) ts ends lt = go (is_known ts) (maybe_form ts) refl (maybe_law ts ends) (λ us e l. block_law n us e (omega arith))
   where
-    go : Known ts ⊎ ((inside (first ts).token ≡ true) × (begins_form (first ts).token ≡ false)) → (r : Read (Option Statement)) → maybe_form ts ≡ r → Agrees {I = Option Statement} (λ o. o) sp inside ts r
+    go : Known ts ⊎ ((inside (first ts).token ≡ true) × (begins_form (first ts).token ≡ false)) → (r : Read (Option Statement)) → maybe_form ts ≡ r
+        → Agrees {I = Option Statement} (λ o. o) sp inside ts r
         → ((us : List Placed) → HasEnd us → length us < length ts → BlockAgrees us (block_of n us)) → BlockAgrees ts (and_then (maybe_statement ts) (go_on n))
-    go (inl known) (Ok x) e a ih = subst (λ (r : Result (Option Statement × List Placed) Fault). BlockAgrees ts (and_then r (go_on n))) (sym (same_maybe ts known ∙ ap (λ (r : Read (Option Statement)). told r) e)) (item_read n ts x.0 x.1 known a ih)
-    go (inl known) (Err s) e a ih = subst (λ (r : Result (Option Statement × List Placed) Fault). BlockAgrees ts (and_then r (go_on n))) (sym (same_maybe ts known ∙ ap (λ (r : Read (Option Statement)). told r) e)) (in_form ts s known a)
+    go (inl known) (Ok x) e a ih =
+        subst (λ (r : Result (Option Statement × List Placed) Fault). BlockAgrees ts (and_then r (go_on n))) (sym (same_maybe ts known
+        ∙ ap (λ (r : Read (Option Statement)). told r) e)) (item_read n ts x.0 x.1 known a ih)
+    go (inl known) (Err s) e a ih =
+        subst (λ (r : Result (Option Statement × List Placed) Fault). BlockAgrees ts (and_then r (go_on n))) (sym (same_maybe ts known
+        ∙ ap (λ (r : Read (Option Statement)). told r) e)) (in_form ts s known a)
     go (inr u) r e a ih = rw (u.0, u.1) (unknown ts ends u.0 u.1)
 
 -- ---- the agreement
@@ -410,7 +466,10 @@ pub maybe_left : (ts : List Placed) (o : Option Statement) (left : List Placed) 
 maybe_left ts o left ends e = go (is_known ts)
   where
     go : Known ts ⊎ ((inside (first ts).token ≡ true) × (begins_form (first ts).token ≡ false)) → Left ts o left
-    go (inl known) = takes-left ts o left (subst (Agrees {I = Option Statement} (λ o. o) sp inside ts) (told_ok (maybe_form ts) (o, left) (sym (same_maybe ts known) ∙ e)) (maybe_law ts ends))
+    go (inl known) = takes-left ts o left (subst (Agrees {I = Option Statement} (λ o. o) sp inside ts) (told_ok (maybe_form ts) (
+      o,
+      left,
+    ) (sym (same_maybe ts known) ∙ e)) (maybe_law ts ends))
     go (inr u) = absurd (none u.0 u.1)
       where
         none : inside (first ts).token ≡ true → begins_form (first ts).token ≡ false → ⊥

@@ -5,7 +5,8 @@ use Rattle.sql_grammar.specs.Tokens.{Token, Word, Sign, Number, Text, Placed, is
 use Rattle.sql_grammar.specs.Tree.{Name, Last, More, Term, Sum, Only, Then}
 use Rattle.sql_grammar.specs.Grammar.{Marked, mark, plain}
 use Rattle.sql_grammar.specs.Grammar as grammar
-use Rattle.sql_grammar.specs.Reading.{◌>>=◌, first, taken, the, skip, number_of, text_of, over_i64, is_text, is_name, whole, literal, factor, term, add_sign, sum}
+use Rattle.sql_grammar.specs.Reading.{◌>>=◌, first, taken, the, skip, number_of, text_of, over_i64, is_text, is_name, whole, literal, factor, term}
+use Rattle.sql_grammar.specs.Reading.{add_sign, sum}
 use Rattle.sql_reader.proofs.Laws.{HasEnd, Agrees, Heads, closed, one, one_within, then, mapped, choice, both, also, IsChain, in_chain, or-false, heads-append}
 use Rattle.sql_reader.proofs.TokenLaws.{skips, names, the-back, the-none, which-back}
 use Rattle.sql_grammar.specs.declared.expression.Literal.{Literal}
@@ -28,19 +29,23 @@ text-back t b e = absurd cc
 abbrev sp_number : Bool → ℕ → List Marked
 sp_number negative n = mark (Number n) (over_i64 negative n) ∷ []
 
-whole_law : (negative : Bool) (on : Token → Bool) (ts : List Placed) → HasEnd ts → Agrees {I = ℕ} (λ n. Whole negative n) (sp_number negative) on ts (whole negative ts)
+whole_law : (negative : Bool) (on : Token → Bool) (ts : List Placed) → HasEnd ts
+    → Agrees {I = ℕ} (λ n. Whole negative n) (sp_number negative) on ts (whole negative ts)
 whole_law negative on ts ends = mapped (λ (n : ℕ). Whole negative n) (λ n. n) (sp_number negative) on ts _
     (one_within number_of Number (over_i64 negative) on 0 number-back (λ n. refl) (λ n. refl) ts ends)
 
 abbrev sp_negative : Unit {0} × ℕ → List Marked
 sp_negative p = plain (Sign (codes "-")) ∷ sp_number true p.1
 
-negative_law : (on : Token → Bool) (ts : List Placed) → HasEnd ts → Agrees {I = Unit {0} × ℕ} (λ p. Whole true p.1) sp_negative on ts (skip (Sign (codes "-")) ts >>= λ m. whole true m.1)
+negative_law : (on : Token → Bool) (ts : List Placed) → HasEnd ts
+    → Agrees {I = Unit {0} × ℕ} (λ p. Whole true p.1) sp_negative on ts (skip (Sign (codes "-")) ts >>= λ m. whole true m.1)
 negative_law on ts ends = then (λ u n. Whole true n) (λ u. plain (Sign (codes "-")) ∷ []) (sp_number true) closed on ts _ _ 0 (λ j more stop. refl)
     (skips (Sign (codes "-")) refl refl closed ts ends) (λ x h. whole_law true on x.1 h.ended)
 
-quoted_law : (on : Token → Bool) (ts : List Placed) → HasEnd ts → Agrees {I = List ℕ} (λ b. Quoted b) (λ b. plain (Text b) ∷ []) on ts (taken (text_of (first ts).token) ts >>= λ b. Ok (Quoted b.0, b.1))
-quoted_law on ts ends = mapped (λ (b : List ℕ). Quoted b) (λ b. b) (λ b. plain (Text b) ∷ []) on ts _ (one text_of Text on [] text-back (λ b. refl) (λ b. refl) ts ends)
+quoted_law : (on : Token → Bool) (ts : List Placed) → HasEnd ts
+    → Agrees {I = List ℕ} (λ b. Quoted b) (λ b. plain (Text b) ∷ []) on ts (taken (text_of (first ts).token) ts >>= λ b. Ok (Quoted b.0, b.1))
+quoted_law on ts ends =
+    mapped (λ (b : List ℕ). Quoted b) (λ b. b) (λ b. plain (Text b) ∷ []) on ts _ (one text_of Text on [] text-back (λ b. refl) (λ b. refl) ts ends)
 
 abbrev Numbers : Type 0
 Numbers = (Unit {0} × ℕ) ⊎ ℕ
@@ -79,14 +84,18 @@ literal_back (Quoted b) = (refl, refl)
 pub literal_law : (on : Token → Bool) (ts : List Placed) → HasEnd ts → Agrees {I = Literal} (λ l. l) grammar.literal on ts (literal ts)
 literal_law on ts ends =
     also tree_literal sp_literal (λ l. l) grammar.literal on ts _ tree_literal of_literal literal_to literal_back
-    (choice (λ (b : List ℕ). Quoted b) tree_number (λ (b : List ℕ). plain (Text b) ∷ []) sp_numbers on is_text ts _ _ (λ b more stop. refl) (λ n more stop. heads_number n more)
+    (choice (λ (b : List ℕ). Quoted b) tree_number (λ (b : List ℕ). plain (Text b) ∷ []) sp_numbers on is_text ts _ _ (λ b more stop. refl)
+    (λ n more stop. heads_number n more)
     (λ e. quoted_law on ts ends)
-    (λ e. choice (λ (p : Unit {0} × ℕ). Whole true p.1) (λ (n : ℕ). Whole false n) sp_negative (sp_number false) on (is (Sign (codes "-"))) ts _ _ (λ p more stop. refl) (λ n more stop. refl)
+    (λ e. choice (λ (p : Unit {0}
+    × ℕ). Whole true p.1) (λ (n : ℕ). Whole false n) sp_negative (sp_number false) on (is (Sign (codes "-"))) ts _ _ (λ p more stop. refl)
+    (λ n more stop. refl)
     (λ e'. negative_law on ts ends) (λ e'. whole_law false on ts ends)))
 
 -- ---- what a literal, a factor, a term and a sum begin with
 
-module _ (test : Token → Bool) (b : Bool) (of_word : (n : Name) → test (Word n) ≡ b) (of_text : (c : List ℕ) → test (Text c) ≡ b) (of_number : (n : ℕ) → test (Number n) ≡ b) (of_minus : test (Sign (codes "-")) ≡ b) where
+module _ (test : Token → Bool) (b : Bool) (of_word : (n : Name) → test (Word n) ≡ b) (of_text : (c : List ℕ) → test (Text c) ≡ b) (of_number : (n : ℕ)
+    → test (Number n) ≡ b) (of_minus : test (Sign (codes "-")) ≡ b) where
   pub heads_literal : (l : Literal) → Heads test b (grammar.literal l)
   heads_literal (Whole true n) = of_minus
   heads_literal (Whole false n) = of_number n
@@ -132,7 +141,8 @@ factor_back (Value l) = (refl, refl)
 pub factor_law : (on : Token → Bool) (ts : List Placed) → HasEnd ts → Agrees {I = Factor} (λ f. f) grammar.factor on ts (factor ts)
 factor_law on ts ends =
     also tree_factor sp_factor (λ f. f) grammar.factor on ts _ tree_factor of_factor factor_to factor_back
-    (choice (λ (n : Name). Column n) (λ (l : Literal). Value l) (λ (n : Name). plain (Word n) ∷ []) grammar.literal on is_name ts _ _ (λ n more stop. refl) (λ l more stop. literal_no_name l more)
+    (choice (λ (n : Name). Column n) (λ (l : Literal). Value l) (λ (n : Name). plain (Word n) ∷ []) grammar.literal on is_name ts _ _
+    (λ n more stop. refl) (λ l more stop. literal_no_name l more)
     (λ e. mapped (λ (n : Name). Column n) (λ n. n) (λ n. plain (Word n) ∷ []) on ts _ (names on ts ends))
     (λ e. mapped (λ (l : Literal). Value l) (λ l. l) grammar.literal on ts _ (literal_law on ts ends)))
 
@@ -169,7 +179,8 @@ term_chain = record {
 }
 
 pub term_law : (ts : List Placed) → HasEnd ts → Agrees {I = Term} (λ t. t) grammar.term on_term ts (term ts)
-term_law ts ends = in_chain Last (λ f u t. More f t) (the (Sign (codes "*"))) (λ u. Sign (codes "*")) (λ k. grammar.factor) (λ k. grammar.term) closed on_term term_chain (λ k. factor) some_factor tt
+term_law ts ends = in_chain Last (λ f u t. More f t) (the (Sign (codes "*"))) (λ u. Sign (codes "*")) (λ k. grammar.factor) (λ k. grammar.term) closed
+    on_term term_chain (λ k. factor) some_factor tt
     (λ k us e. factor_law closed us e) (suc (length ts)) 0 ts ends (omega arith)
 
 -- ---- sums

@@ -31,7 +31,8 @@ use Rattle.sql_grammar.specs.Tokens.{Token, Key, Word, Sign, Number, Text, End, 
 use Rattle.sql_grammar.specs.Tree as tree
 use Rattle.sql_grammar.specs.Tree.{Chain, Last, More}
 use Rattle.sql_grammar.specs.Grammar as grammar
-use Rattle.sql_grammar.specs.Grammar.{Marked, mark, plain, passes_if, good, Begins, MayCome, IsWord, IsToken, AtStatement, CannotCome, OnlyOver, IsKind, bad_token, unclosed, unsupported, syntax, over, kind_of_limit, Fault, FirstFault}
+use Rattle.sql_grammar.specs.Grammar.{Marked, mark, plain, passes_if, good, Begins, MayCome, IsWord, IsToken, AtStatement, CannotCome, OnlyOver, IsKind}
+use Rattle.sql_grammar.specs.Grammar.{bad_token, unclosed, unsupported, syntax, over, kind_of_limit, Fault, FirstFault}
 use Rattle.sql_reader.proofs.Laws.{good-append}
 
 -- ---- which tokens pass which limit
@@ -113,8 +114,10 @@ abbrev mutual
   atom_right : (a : tree.Atom) (n : ℕ) → AllRight (grammar.atom a n)
   atom_right (tree.Compares a c b) n = both (grammar.sum a) (grammar.sign (grammar.comparison c) ∷ grammar.sum b) (sum_right a) (tt, sum_right b)
   atom_right (tree.Not a) n = (right_if (nat_le 32 n) TooLarge (Key (codes "not")) tt, atom_right a (suc n))
-  atom_right (tree.Group c) n =
-      (right_if (nat_le 32 n) TooLarge (Sign (codes "(")) tt, both (grammar.condition c (suc n)) (grammar.sign (codes ")") ∷ []) (condition_right c (suc n)) (tt, tt))
+  atom_right (tree.Group c) n = (
+    right_if (nat_le 32 n) TooLarge (Sign (codes "(")) tt,
+    both (grammar.condition c (suc n)) (grammar.sign (codes ")") ∷ []) (condition_right c (suc n)) (tt, tt),
+  )
 
 where_right : (c : tree.Condition) → AllRight (grammar.where_part c)
 where_right c = (tt, condition_right c 0)
@@ -134,7 +137,10 @@ closed_right : (ms : List Marked) → AllRight ms → AllRight (ms ++ (grammar.s
 closed_right ms h = both ms (grammar.sign (codes ")") ∷ []) h (tt, tt)
 
 row_right : (k : ℕ) (r : Chain Literal) → AllRight (grammar.row k r)
-row_right k r = (right_if (nat_le 100 k) TooLarge (Sign (codes "(")) tt, closed_right (grammar.chain grammar.literal r) (chain_right grammar.literal literal_right r))
+row_right k r = (
+  right_if (nat_le 100 k) TooLarge (Sign (codes "(")) tt,
+  closed_right (grammar.chain grammar.literal r) (chain_right grammar.literal literal_right r),
+)
 
 rows_right : (k : ℕ) (rs : Chain (Chain Literal)) → AllRight (grammar.rows k rs)
 rows_right k (Last r) = row_right k r
@@ -192,33 +198,68 @@ scope_right scopes.Local = (tt, tt)
 scope_right scopes.Session = (tt, tt)
 
 setting_right : (s : _) → AllRight (grammar.setting s)
-setting_right s = both (grammar.optional grammar.scope s.scope) (grammar.word s.name ∷ plain (grammar.set_sign s.sign) ∷ grammar.factor s.value) (maybe_right grammar.scope scope_right s.scope) (tt, (tt, factor_right s.value))
+setting_right s = both (grammar.optional grammar.scope s.scope) (grammar.word s.name ∷ plain (grammar.set_sign s.sign) ∷ grammar.factor s.value)
+    (maybe_right grammar.scope scope_right s.scope) (tt, (tt, factor_right s.value))
 
 select_right : (s : tree.Select) → AllRight (grammar.select s)
 select_right s =
-    both (grammar.items s.items) (grammar.key (codes "from") ∷ grammar.word s.table ∷ (grammar.optional grammar.where_part s.where' ++ grammar.optional grammar.order_part s.order)) (items_right s.items)
-    (tt, (tt, both (grammar.optional grammar.where_part s.where') (grammar.optional grammar.order_part s.order) (maybe_right grammar.where_part where_right s.where') (maybe_right grammar.order_part order_right s.order)))
+    both (grammar.items s.items) (grammar.key (codes "from") ∷ grammar.word s.table ∷ (grammar.optional grammar.where_part s.where'
+    ++ grammar.optional grammar.order_part s.order)) (items_right s.items) (
+      tt,
+      (
+        tt,
+        both (grammar.optional grammar.where_part s.where') (grammar.optional grammar.order_part s.order)
+            (maybe_right grammar.where_part where_right s.where') (maybe_right grammar.order_part order_right s.order),
+      ),
+    )
 
 names_part_right : (ns : Chain tree.Name) → AllRight (grammar.names_part ns)
 names_part_right ns = (tt, closed_right (grammar.chain grammar.name ns) (names_right ns))
 
 statement_right : (s : tree.Statement) → AllRight (grammar.statement s)
-statement_right (tree.CreateTable n ps) = (tt, (tt, (tt, (tt, closed_right (grammar.chain grammar.table_part ps) (chain_right grammar.table_part part_of_right ps)))))
-statement_right (tree.Insert n cs rs) =
-    (tt, (tt, (tt, both (grammar.optional grammar.names_part cs) (grammar.key (codes "values") ∷ grammar.rows 0 rs) (maybe_right grammar.names_part names_part_right cs) (tt, rows_right 0 rs))))
+statement_right (tree.CreateTable n ps) =
+    (tt, (tt, (tt, (tt, closed_right (grammar.chain grammar.table_part ps) (chain_right grammar.table_part part_of_right ps)))))
+statement_right (tree.Insert n cs rs) = (
+  tt,
+  (
+    tt,
+    (
+      tt,
+      both (grammar.optional grammar.names_part cs) (grammar.key (codes "values") ∷ grammar.rows 0 rs)
+          (maybe_right grammar.names_part names_part_right cs) (tt, rows_right 0 rs),
+    ),
+  ),
+)
 statement_right (tree.Selects s) = (tt, select_right s)
-statement_right (tree.Update n as' c) =
-    (tt, (tt, (tt, both (grammar.chain grammar.assignment as') (grammar.optional grammar.where_part c) (chain_right grammar.assignment assignment_right as') (maybe_right grammar.where_part where_right c))))
+statement_right (tree.Update n as' c) = (
+  tt,
+  (
+    tt,
+    (
+      tt,
+      both (grammar.chain grammar.assignment as') (grammar.optional grammar.where_part c)
+          (chain_right grammar.assignment assignment_right as') (maybe_right grammar.where_part where_right c),
+    ),
+  ),
+)
 statement_right (tree.Delete n c) = (tt, (tt, (tt, maybe_right grammar.where_part where_right c)))
-statement_right (tree.Begin s l) = both (grammar.start s) (grammar.optional grammar.level_part l) (start_right s) (maybe_right grammar.level_part level_part_right l)
+statement_right (tree.Begin s l) =
+    both (grammar.start s) (grammar.optional grammar.level_part l) (start_right s) (maybe_right grammar.level_part level_part_right l)
 statement_right (tree.Ends w n) = (tt, maybe_right grammar.noise noise_right n)
-statement_right (tree.Lock t n m) =
-    (tt, both (cond t (grammar.key (codes "table") ∷ []) []) (grammar.word n ∷ grammar.optional grammar.mode_part m) (if_right t (grammar.key (codes "table") ∷ []) [] (tt, tt) tt) (tt, maybe_right grammar.mode_part mode_part_right m))
+statement_right (tree.Lock t n m) = (
+  tt,
+  both (cond t (grammar.key (codes "table") ∷ []) []) (grammar.word n ∷ grammar.optional grammar.mode_part m)
+      (if_right t (grammar.key (codes "table") ∷ []) [] (tt, tt) tt) (tt, maybe_right grammar.mode_part mode_part_right m),
+)
 statement_right (tree.Set s) = (tt, setting_right s)
 
 statements_right : (b : tree.Block) → AllRight (grammar.statements b)
 statements_right (Last s) = maybe_right grammar.statement statement_right s
-statements_right (More s b) = both (grammar.optional grammar.statement s) (grammar.sign (codes ";") ∷ grammar.statements b) (maybe_right grammar.statement statement_right s) (tt, statements_right b)
+statements_right (More s b) =
+    both (grammar.optional grammar.statement s) (grammar.sign (codes ";") ∷ grammar.statements b) (maybe_right grammar.statement statement_right s) (
+      tt,
+      statements_right b,
+    )
 
 spelled_right : (b : tree.Block) → AllRight (grammar.spelling b)
 spelled_right b = both (grammar.statements b) (plain End ∷ []) (statements_right b) (tt, tt)
@@ -298,7 +339,8 @@ apart : (f : List Placed) (h : Placed) (a : List Placed) (g : List Placed) (i : 
 apart [] h a [] i b e = same refl (let e' : h ∷ a ≡ i ∷ b = e in cc)
 apart [] h a (q ∷ g) i b e = shorter g (let first : h ≡ q = cc in λ j. sym first j ∷ g)
 apart (p ∷ f) h a [] i b e = longer f (let first : p ≡ i = cc in λ j. first j ∷ f)
-apart (p ∷ f) h a (q ∷ g) i b e = apart_next p q f h g i (let first : p ≡ q = cc in first) (apart f h a g i b (let rest : f ++ (h ∷ a) ≡ g ++ (i ∷ b) = cc in rest))
+apart (p ∷ f) h a (q ∷ g) i b e =
+    apart_next p q f h g i (let first : p ≡ q = cc in first) (apart f h a g i b (let rest : f ++ (h ∷ a) ≡ g ++ (i ∷ b) = cc in rest))
 
 -- a token within a front may come
 within : (f : List Placed) (h : Placed) (x g : List Placed) → g ≡ f ++ (h ∷ x) → Begins g → MayCome f h.token None

@@ -9,7 +9,8 @@ use Rattle.sql_grammar.specs.Grammar as grammar
 use Rattle.sql_grammar.specs.Reading.{first, inside}
 use Rattle.sql_grammar.specs.Reading as reading
 use Rattle.sql_reader.proofs.Laws.{Stops, HasEnd, Agrees, Heads, choice, both, also}
-use Rattle.sql_reader.proofs.StatementLaws.{CreateIndex, create_law, InsertIndex, insert_law, SelectIndex, tree_select, select_law, UpdateIndex, update_law, DeleteIndex, delete_law, BeginIndex, begin_law, EndIndex, ends_law, LockIndex, lock_law}
+use Rattle.sql_reader.proofs.StatementLaws.{CreateIndex, create_law, InsertIndex, insert_law, SelectIndex, tree_select, select_law, UpdateIndex}
+use Rattle.sql_reader.proofs.StatementLaws.{update_law, DeleteIndex, delete_law, BeginIndex, begin_law, EndIndex, ends_law, LockIndex, lock_law}
 use Rattle.sql_reader.proofs.SettingLaws.{set_law}
 use Rattle.sql_grammar.specs.declared.statement.SortKey.{SortKey}
 use Rattle.sql_grammar.specs.declared.statement.Setting.{Setting}
@@ -98,7 +99,8 @@ tree0 = both (λ (p : CreateIndex). CreateTable p.0 p.1) tree1
 abbrev sp0 : Forms0 → List Marked
 sp0 = both (λ (p : CreateIndex). grammar.statement (CreateTable p.0 p.1)) sp1
 
-begins0 : (p : CreateIndex) (more : List Marked) → Stops inside more → Heads (is (Word (codes "create"))) true (grammar.statement ((λ (p : CreateIndex). CreateTable p.0 p.1) p) ++ more)
+begins0 : (p : CreateIndex) (more : List Marked) → Stops inside more
+    → Heads (is (Word (codes "create"))) true (grammar.statement ((λ (p : CreateIndex). CreateTable p.0 p.1) p) ++ more)
 begins0 p more stop = refl
 
 other0 : (b : Forms1) (more : List Marked) → Stops inside more → Heads (is (Word (codes "create"))) false (sp1 b ++ more)
@@ -115,7 +117,8 @@ other0 (inr (inr (inr (inr (inr (inl (end_words.Abort, n))))))) more stop = refl
 other0 (inr (inr (inr (inr (inr (inr (inl p))))))) more stop = refl
 other0 (inr (inr (inr (inr (inr (inr (inr p))))))) more stop = refl
 
-begins1 : (p : InsertIndex) (more : List Marked) → Stops inside more → Heads (is (Word (codes "insert"))) true (grammar.statement ((λ (p : InsertIndex). Insert p.0 p.1.0 p.1.1) p) ++ more)
+begins1 : (p : InsertIndex) (more : List Marked) → Stops inside more
+    → Heads (is (Word (codes "insert"))) true (grammar.statement ((λ (p : InsertIndex). Insert p.0 p.1.0 p.1.1) p) ++ more)
 begins1 p more stop = refl
 
 other1 : (b : Forms2) (more : List Marked) → Stops inside more → Heads (is (Word (codes "insert"))) false (sp2 b ++ more)
@@ -131,7 +134,8 @@ other1 (inr (inr (inr (inr (inl (end_words.Abort, n)))))) more stop = refl
 other1 (inr (inr (inr (inr (inr (inl p)))))) more stop = refl
 other1 (inr (inr (inr (inr (inr (inr p)))))) more stop = refl
 
-begins2 : (p : SelectIndex) (more : List Marked) → Stops inside more → Heads (is (Key (codes "select"))) true (grammar.statement ((λ (p : SelectIndex). tree_select p.0 p.1) p) ++ more)
+begins2 : (p : SelectIndex) (more : List Marked) → Stops inside more
+    → Heads (is (Key (codes "select"))) true (grammar.statement ((λ (p : SelectIndex). tree_select p.0 p.1) p) ++ more)
 begins2 p more stop = refl
 
 other2 : (b : Forms3) (more : List Marked) → Stops inside more → Heads (is (Key (codes "select"))) false (sp3 b ++ more)
@@ -146,7 +150,8 @@ other2 (inr (inr (inr (inl (end_words.Abort, n))))) more stop = refl
 other2 (inr (inr (inr (inr (inl p))))) more stop = refl
 other2 (inr (inr (inr (inr (inr p))))) more stop = refl
 
-begins3 : (p : UpdateIndex) (more : List Marked) → Stops inside more → Heads (is (Word (codes "update"))) true (grammar.statement ((λ (p : UpdateIndex). Update p.0 p.1.0 p.1.1) p) ++ more)
+begins3 : (p : UpdateIndex) (more : List Marked) → Stops inside more
+    → Heads (is (Word (codes "update"))) true (grammar.statement ((λ (p : UpdateIndex). Update p.0 p.1.0 p.1.1) p) ++ more)
 begins3 p more stop = refl
 
 other3 : (b : Forms4) (more : List Marked) → Stops inside more → Heads (is (Word (codes "update"))) false (sp4 b ++ more)
@@ -160,7 +165,8 @@ other3 (inr (inr (inl (end_words.Abort, n)))) more stop = refl
 other3 (inr (inr (inr (inl p)))) more stop = refl
 other3 (inr (inr (inr (inr p)))) more stop = refl
 
-begins4 : (p : DeleteIndex) (more : List Marked) → Stops inside more → Heads (is (Word (codes "delete"))) true (grammar.statement ((λ (p : DeleteIndex). Delete p.0 p.1) p) ++ more)
+begins4 : (p : DeleteIndex) (more : List Marked) → Stops inside more
+    → Heads (is (Word (codes "delete"))) true (grammar.statement ((λ (p : DeleteIndex). Delete p.0 p.1) p) ++ more)
 begins4 p more stop = refl
 
 other4 : (b : Forms5) (more : List Marked) → Stops inside more → Heads (is (Word (codes "delete"))) false (sp5 b ++ more)
@@ -173,7 +179,8 @@ other4 (inr (inl (end_words.Abort, n))) more stop = refl
 other4 (inr (inr (inl p))) more stop = refl
 other4 (inr (inr (inr p))) more stop = refl
 
-begins5 : (p : BeginIndex) (more : List Marked) → Stops inside more → Heads reading.begins_begin true (grammar.statement ((λ (p : BeginIndex). Begin p.0 p.1) p) ++ more)
+begins5 : (p : BeginIndex) (more : List Marked) → Stops inside more
+    → Heads reading.begins_begin true (grammar.statement ((λ (p : BeginIndex). Begin p.0 p.1) p) ++ more)
 begins5 (BeginWord o, l) more stop = refl
 begins5 (StartWords, l) more stop = refl
 
@@ -185,7 +192,8 @@ other5 (inl (end_words.Abort, n)) more stop = refl
 other5 (inr (inl p)) more stop = refl
 other5 (inr (inr p)) more stop = refl
 
-begins6 : (p : EndIndex) (more : List Marked) → Stops inside more → Heads reading.begins_end true (grammar.statement ((λ (p : EndIndex). Ends p.0 p.1) p) ++ more)
+begins6 : (p : EndIndex) (more : List Marked) → Stops inside more
+    → Heads reading.begins_end true (grammar.statement ((λ (p : EndIndex). Ends p.0 p.1) p) ++ more)
 begins6 (end_words.Commit, n) more stop = refl
 begins6 (end_words.End, n) more stop = refl
 begins6 (end_words.Rollback, n) more stop = refl
@@ -195,7 +203,8 @@ other6 : (b : Forms7) (more : List Marked) → Stops inside more → Heads readi
 other6 (inl p) more stop = refl
 other6 (inr p) more stop = refl
 
-begins7 : (p : LockIndex) (more : List Marked) → Stops inside more → Heads (is (Word (codes "lock"))) true (grammar.statement ((λ (p : LockIndex). Lock p.0 p.1.0 p.1.1) p) ++ more)
+begins7 : (p : LockIndex) (more : List Marked) → Stops inside more
+    → Heads (is (Word (codes "lock"))) true (grammar.statement ((λ (p : LockIndex). Lock p.0 p.1.0 p.1.1) p) ++ more)
 begins7 p more stop = refl
 
 other7 : (b : Forms8) (more : List Marked) → Stops inside more → Heads (is (Word (codes "lock"))) false (sp8 b ++ more)
@@ -238,12 +247,20 @@ pub form_law : (ts : List Placed) → HasEnd ts → Agrees {I = Statement} (λ s
 unfolding reading.form reading.other_form
 form_law ts ends =
     also tree0 sp0 (λ s. s) grammar.statement inside ts _ tree0 of_statement form_to form_back
-    (choice (λ (p : CreateIndex). CreateTable p.0 p.1) tree1 (λ (p : CreateIndex). grammar.statement (CreateTable p.0 p.1)) sp1 inside (is (Word (codes "create"))) ts _ _ begins0 other0 (λ e. create_law ts ends)
-    (λ e. choice (λ (p : InsertIndex). Insert p.0 p.1.0 p.1.1) tree2 (λ (p : InsertIndex). grammar.statement (Insert p.0 p.1.0 p.1.1)) sp2 inside (is (Word (codes "insert"))) ts _ _ begins1 other1 (λ e. insert_law ts ends)
-    (λ e. choice (λ (p : SelectIndex). tree_select p.0 p.1) tree3 (λ (p : SelectIndex). grammar.statement (tree_select p.0 p.1)) sp3 inside (is (Key (codes "select"))) ts _ _ begins2 other2 (λ e. select_law ts ends)
-    (λ e. choice (λ (p : UpdateIndex). Update p.0 p.1.0 p.1.1) tree4 (λ (p : UpdateIndex). grammar.statement (Update p.0 p.1.0 p.1.1)) sp4 inside (is (Word (codes "update"))) ts _ _ begins3 other3 (λ e. update_law ts ends)
-    (λ e. choice (λ (p : DeleteIndex). Delete p.0 p.1) tree5 (λ (p : DeleteIndex). grammar.statement (Delete p.0 p.1)) sp5 inside (is (Word (codes "delete"))) ts _ _ begins4 other4 (λ e. delete_law ts ends)
-    (λ e. choice (λ (p : BeginIndex). Begin p.0 p.1) tree6 (λ (p : BeginIndex). grammar.statement (Begin p.0 p.1)) sp6 inside reading.begins_begin ts _ _ begins5 other5 (λ e. begin_law ts ends)
-    (λ e. choice (λ (p : EndIndex). Ends p.0 p.1) tree7 (λ (p : EndIndex). grammar.statement (Ends p.0 p.1)) sp7 inside reading.begins_end ts _ _ begins6 other6 (λ e. ends_law ts ends)
-    (λ e. choice (λ (p : LockIndex). Lock p.0 p.1.0 p.1.1) tree8 (λ (p : LockIndex). grammar.statement (Lock p.0 p.1.0 p.1.1)) sp8 inside (is (Word (codes "lock"))) ts _ _ begins7 other7 (λ e. lock_law ts ends)
+    (choice (λ (p : CreateIndex). CreateTable p.0 p.1) tree1 (λ (p : CreateIndex). grammar.statement (CreateTable p.0 p.1)) sp1 inside
+    (is (Word (codes "create"))) ts _ _ begins0 other0 (λ e. create_law ts ends)
+    (λ e. choice (λ (p : InsertIndex). Insert p.0 p.1.0 p.1.1) tree2 (λ (p : InsertIndex). grammar.statement (Insert p.0 p.1.0 p.1.1)) sp2 inside
+    (is (Word (codes "insert"))) ts _ _ begins1 other1 (λ e. insert_law ts ends)
+    (λ e. choice (λ (p : SelectIndex). tree_select p.0 p.1) tree3 (λ (p : SelectIndex). grammar.statement (tree_select p.0 p.1)) sp3 inside
+    (is (Key (codes "select"))) ts _ _ begins2 other2 (λ e. select_law ts ends)
+    (λ e. choice (λ (p : UpdateIndex). Update p.0 p.1.0 p.1.1) tree4 (λ (p : UpdateIndex). grammar.statement (Update p.0 p.1.0 p.1.1)) sp4 inside
+    (is (Word (codes "update"))) ts _ _ begins3 other3 (λ e. update_law ts ends)
+    (λ e. choice (λ (p : DeleteIndex). Delete p.0 p.1) tree5 (λ (p : DeleteIndex). grammar.statement (Delete p.0 p.1)) sp5 inside
+    (is (Word (codes "delete"))) ts _ _ begins4 other4 (λ e. delete_law ts ends)
+    (λ e. choice (λ (p : BeginIndex). Begin p.0 p.1) tree6 (λ (p : BeginIndex). grammar.statement (Begin p.0 p.1)) sp6 inside reading.begins_begin ts _ _
+    begins5 other5 (λ e. begin_law ts ends)
+    (λ e. choice (λ (p : EndIndex). Ends p.0 p.1) tree7 (λ (p : EndIndex). grammar.statement (Ends p.0 p.1)) sp7 inside reading.begins_end ts _ _ begins6
+    other6 (λ e. ends_law ts ends)
+    (λ e. choice (λ (p : LockIndex). Lock p.0 p.1.0 p.1.1) tree8 (λ (p : LockIndex). grammar.statement (Lock p.0 p.1.0 p.1.1)) sp8 inside
+    (is (Word (codes "lock"))) ts _ _ begins7 other7 (λ e. lock_law ts ends)
     (λ e. set_law ts ends)))))))))

@@ -189,16 +189,38 @@ of_set_sign EqualSign = refl
 of_set_sign ToWord = refl
 
 pub of_statement : (s : Statement) → Inside (grammar.statement s)
-of_statement (CreateTable n ps) = (refl, (refl, (refl, (refl, and (grammar.chain grammar.table_part ps) _ (of_chain grammar.table_part of_table_part ps) (refl, tt)))))
-of_statement (Insert n cs rs) = (refl, (refl, (refl, and (grammar.optional grammar.names_part cs) _ (of_optional grammar.names_part of_names cs) (refl, of_rows 0 rs))))
-of_statement (Selects s) = (refl, and (grammar.items s.items) _ (of_items s.items) (refl, (refl, and (grammar.optional grammar.where_part s.where') _ (of_optional grammar.where_part of_where s.where') (of_optional grammar.order_part of_order s.order))))
-of_statement (Update n as' w) = (refl, (refl, (refl, and (grammar.chain grammar.assignment as') _ (of_chain grammar.assignment of_assignment as') (of_optional grammar.where_part of_where w))))
+of_statement (CreateTable n ps) =
+    (refl, (refl, (refl, (refl, and (grammar.chain grammar.table_part ps) _ (of_chain grammar.table_part of_table_part ps) (refl, tt)))))
+of_statement (Insert n cs rs) =
+    (refl, (refl, (refl, and (grammar.optional grammar.names_part cs) _ (of_optional grammar.names_part of_names cs) (refl, of_rows 0 rs))))
+of_statement (Selects s) = (
+  refl,
+  and (grammar.items s.items) _ (of_items s.items) (
+    refl,
+    (
+      refl,
+      and (grammar.optional grammar.where_part s.where') _ (of_optional grammar.where_part of_where s.where')
+          (of_optional grammar.order_part of_order s.order),
+    ),
+  ),
+)
+of_statement (Update n as' w) = (
+  refl,
+  (
+    refl,
+    (
+      refl,
+      and (grammar.chain grammar.assignment as') _ (of_chain grammar.assignment of_assignment as') (of_optional grammar.where_part of_where w),
+    ),
+  ),
+)
 of_statement (Delete n w) = (refl, (refl, (refl, of_optional grammar.where_part of_where w)))
 of_statement (Begin s l) = and (grammar.start s) _ (of_start s) (of_optional grammar.level_part of_level l)
 of_statement (Ends w n) = (refl, of_optional grammar.noise of_noise n)
 of_statement (Lock true n m) = (refl, (refl, (refl, of_optional grammar.mode_part of_mode_part m)))
 of_statement (Lock false n m) = (refl, (refl, of_optional grammar.mode_part of_mode_part m))
-of_statement (Set s) = (refl, and (grammar.optional grammar.scope s.scope) _ (of_optional grammar.scope of_scope s.scope) (refl, (of_set_sign s.sign, of_factor s.value)))
+of_statement (Set s) =
+    (refl, and (grammar.optional grammar.scope s.scope) _ (of_optional grammar.scope of_scope s.scope) (refl, (of_set_sign s.sign, of_factor s.value)))
 
 -- ---- the first word
 
@@ -257,7 +279,13 @@ begun_end t e = go (end_word t) refl e
     go : (o : Option EndWord) → end_word t ≡ o → is_some o ≡ true → Begun t
     go None h k = absurd cc
     go (Some w) h k = begun t (Word (grammar.end_word w)) (Ends w None) [] refl
-        (which-back (λ w. Word (grammar.end_word w)) ((Word (codes "commit"), end_words.Commit) ∷ (Word (codes "end"), end_words.End) ∷ (Word (codes "rollback"), end_words.Rollback) ∷ (Word (codes "abort"), end_words.Abort) ∷ []) (refl, (refl, (refl, (refl, tt)))) t w h)
+        (which-back (λ w. Word (grammar.end_word w)) ((Word (codes "commit"), end_words.Commit) ∷ (
+          Word (codes "end"),
+          end_words.End,
+        ) ∷ (Word (codes "rollback"), end_words.Rollback) ∷ (Word (codes "abort"), end_words.Abort) ∷ []) (
+          refl,
+          (refl, (refl, (refl, tt))),
+        ) t w h)
 
 pub starts : (t : Token) → begins_form t ≡ true → Begun t
 starts t e = elim (split (is (Word (codes "create")) t) _ e) [

@@ -3,7 +3,8 @@ use Rattle.std.proofs.Common.{◌≡◌, refl, ap, List, [], ◌∷◌, map}
 use Rattle.sql_grammar.specs.Tree.{Atom, Part, Single, And, Alone, Or}
 use Rattle.sql_grammar.specs.Views.{joined, part_by, condition_by}
 
-joined-map : {A S L X : Type 0} (last : A → L) (more : A → S → L → L) (s : S) (see : X → A) (a : A) (xs : List X) → joined last more (λ x. s) (λ x. x) a (map see xs) ≡ joined last more (λ x. s) see a xs
+joined-map : {A S L X : Type 0} (last : A → L) (more : A → S → L → L) (s : S) (see : X → A) (a : A) (xs : List X)
+    → joined last more (λ x. s) (λ x. x) a (map see xs) ≡ joined last more (λ x. s) see a xs
 joined-map last more s see a [] = refl
 joined-map last more s see a (x ∷ xs) = ap (more a s) (joined-map last more s see (see x) xs)
 

@@ -1,5 +1,6 @@
 -- When a reading agrees with a spelling, and how the readings of parts make that of a whole.
-use Rattle.std.proofs.Common.{◌≡◌, ℕ, zero, suc, ◌+◌, ◌<◌, ◌≤◌, Bool, true, false, List, [], ◌∷◌, ◌++◌, length, Option, Some, None, Ok, Err, refl, sym, ap, subst, ◌∙◌, append_assoc, inl, inr, ◌⊎◌, arith, cond}
+use Rattle.std.proofs.Common.{◌≡◌, ℕ, zero, suc, ◌+◌, ◌<◌, ◌≤◌, Bool, true, false, List, [], ◌∷◌, ◌++◌, length, Option, Some, None, Ok, Err, refl, sym, ap}
+use Rattle.std.proofs.Common.{subst, ◌∙◌, append_assoc, inl, inr, ◌⊎◌, arith, cond}
 use Rattle.std.specs.Prelude.{is_some, ◌||◌}
 use Rattle.std.proofs.lemmas.List.{append-nil, append_cancel_left, length-append}
 use Rattle.sql_grammar.specs.declared.error.Limit.{Limit}
@@ -36,7 +37,8 @@ module _ {I T : Type 0} (tree : I → T) (sp : I → List Marked) (on : Token �
     pub parts : ts ≡ front ++ left
     pub spelled : sp index ≡ good front
     pub ended : HasEnd left
-    pub only : (t : Placed) (after : List Placed) → left ≡ t ∷ after → (j : I) (more : List Marked) (m : Option Limit) (w : List Marked) → Stops on more → sp j ++ more ≡ good front ++ (mark t.token m ∷ w) → tree j ≡ tree index
+    pub only : (t : Placed) (after : List Placed) → left ≡ t ∷ after → (j : I) (more : List Marked) (m : Option Limit) (w : List Marked) → Stops on more
+        → sp j ++ more ≡ good front ++ (mark t.token m ∷ w) → tree j ≡ tree index
 
   -- Some spelling begins with the tokens before the stop, and none goes on with that token, but over the limit.
   pub record Halts (s : Stop) : Type 0 where
@@ -46,7 +48,8 @@ module _ {I T : Type 0} (tree : I → T) (sp : I → List Marked) (on : Token �
     pub index : I
     pub tail : List Marked
     pub opens : sp index ≡ good front ++ tail
-    pub never : (j : I) (more : List Marked) (m : Option Limit) (w : List Marked) → Stops on more → sp j ++ more ≡ good front ++ (mark s.here.token m ∷ w) → IsOver m s.why
+    pub never : (j : I) (more : List Marked) (m : Option Limit) (w : List Marked) → Stops on more → sp j ++ more ≡ good front ++ (mark s.here.token m ∷ w)
+        → IsOver m s.why
     pub may : (l : Limit) → s.why ≡ Passes l → (j : I) × (w : List Marked) × (sp j ≡ good front ++ (mark s.here.token (Some l) ∷ w))
 
   abbrev pub Agrees : Read T → Type 0
@@ -75,9 +78,11 @@ pub record Head (left : List Placed) (ms : List Marked) : Type 0 where
   pub tail : List Marked
   pub same : ms ≡ mark here.token over ∷ tail
 
-pub head_of : (front left : List Placed) (t : Placed) (after : List Placed) (m : Option Limit) (w : List Marked) → left ≡ front ++ (t ∷ after) → Head left (good front ++ (mark t.token m ∷ w))
+pub head_of : (front left : List Placed) (t : Placed) (after : List Placed) (m : Option Limit) (w : List Marked) → left ≡ front ++ (t ∷ after)
+    → Head left (good front ++ (mark t.token m ∷ w))
 head_of [] left t after m w e = record { here = t; after = after; is = e; over = m; tail = w; same = refl }
-head_of (p ∷ front) left t after m w e = record { here = p; after = front ++ (t ∷ after); is = e; over = None; tail = good front ++ (mark t.token m ∷ w); same = refl }
+head_of (p ∷ front) left t after m w e =
+    record { here = p; after = front ++ (t ∷ after); is = e; over = None; tail = good front ++ (mark t.token m ∷ w); same = refl }
 
 heads_first : (test : Token → Bool) (b : Bool) (ms : List Marked) (left : List Placed) → Head left ms → Heads test b ms → test (first left).token ≡ b
 heads_first test b ms left h e = let s = h.same in rw (h.is) (subst (Heads test b) s e)
@@ -146,7 +151,8 @@ one {A} what token_of on some back forth inside (t ∷ ts) ends = go (what t.tok
 
 -- ---- one part and then another
 
-pub then : {A J T : Type 0} (tree : A → J → T) (spA : A → List Marked) (spJ : J → List Marked) (onA on : Token → Bool) (ts : List Placed) (r : Read A) (k : A × List Placed → Read T)
+pub then : {A J T : Type 0} (tree : A → J → T) (spA : A → List Marked) (spJ : J → List Marked) (onA on : Token
+    → Bool) (ts : List Placed) (r : Read A) (k : A × List Placed → Read T)
     → J → ((j : J) (more : List Marked) → Stops on more → Stops onA (spJ j ++ more))
     → Agrees {I = A} (λ x. x) spA onA ts r
     → ((x : A × List Placed) → Takes {I = A} (λ a. a) spA onA ts x.0 x.1 → Agrees (tree x.0) spJ on x.1 (k x))
@@ -168,14 +174,19 @@ then {A} {J} {T} tree spA spJ onA on ts (Ok (a, left)) k some follow h g = go (k
     here = ap spA h.is ∙ h.spelled
 
     -- the first part is a, and the second one goes on
-    goes : (front : List Placed) (t : Placed) (after : List Placed) → left ≡ front ++ (t ∷ after) → (j : A × J) (more : List Marked) (m : Option Limit) (w : List Marked) → Stops on more
+    goes : (front : List Placed) (t : Placed) (after : List Placed) → left ≡ front ++ (t ∷ after)
+        → (j : A × J) (more : List Marked) (m : Option Limit) (w : List Marked) → Stops on more
         → (spA j.0 ++ spJ j.1) ++ more ≡ good (h.front ++ front) ++ (mark t.token m ∷ w) → (j.0 ≡ a) × (spJ j.1 ++ more ≡ good front ++ (mark t.token m ∷ w))
     goes front t after e j more m w stop eq =
         let ms : List Marked = good front ++ (mark t.token m ∷ w) in
-        let eq' : spA j.0 ++ (spJ j.1 ++ more) ≡ good h.front ++ ms = sym (append_assoc (spA j.0) (spJ j.1) more) ∙ eq ∙ regroup h.front front (mark t.token m ∷ w) in
+        let eq' : spA j.0 ++ (spJ j.1 ++ more) ≡ good h.front ++ ms = sym (append_assoc (spA j.0) (spJ j.1) more) ∙ eq
+        ∙ regroup h.front front (mark t.token m ∷ w) in
         let hd = head_of front left t after m w e in
-        let same : j.0 ≡ a = h.only hd.here hd.after hd.is j.0 (spJ j.1 ++ more) hd.over hd.tail (follow j.1 more stop) (eq' ∙ ap (λ (xs : List Marked). good h.front ++ xs) hd.same) ∙ sym h.is in
-        let eq'' : good h.front ++ (spJ j.1 ++ more) ≡ good h.front ++ ms = ap (λ (xs : List Marked). xs ++ (spJ j.1 ++ more)) (sym (ap spA same ∙ here)) ∙ eq' in
+        let same : j.0 ≡ a =
+        h.only hd.here hd.after hd.is j.0 (spJ j.1 ++ more) hd.over hd.tail (follow j.1 more stop) (eq'
+        ∙ ap (λ (xs : List Marked). good h.front ++ xs) hd.same) ∙ sym h.is in
+        let eq'' : good h.front ++ (spJ j.1 ++ more) ≡ good h.front ++ ms = ap (λ (xs : List Marked). xs ++ (spJ j.1 ++ more)) (sym (ap spA same ∙ here))
+        ∙ eq' in
         (same, append_cancel_left (good h.front) (spJ j.1 ++ more) ms eq'')
 
     go : (o : Read T) → Agrees (tree a) spJ on left o → Agrees {I = A × J} (λ p. tree p.0 p.1) (λ p. spA p.0 ++ spJ p.1) on ts o
@@ -198,8 +209,12 @@ then {A} {J} {T} tree spA spJ onA on ts (Ok (a, left)) k some follow h g = go (k
       tail = q.tail;
       opens = ap (λ (ms : List Marked). ms ++ spJ q.index) here ∙ ap (λ (ms : List Marked). good h.front ++ ms) q.opens ∙ sym (regroup h.front q.front q.tail);
       never = λ j more m w stop eq. let x = goes q.front s.here q.after q.parts j more m w stop eq in q.never j.1 more m w stop x.1;
-      may = λ l why. let x = q.may l why in
-          ((a, x.0), x.1, ap (λ (ms : List Marked). ms ++ spJ x.0) here ∙ ap (λ (ms : List Marked). good h.front ++ ms) x.2 ∙ sym (regroup h.front q.front (mark s.here.token (Some l) ∷ x.1)));
+      may = λ l why. let x = q.may l why in (
+        (a, x.0),
+        x.1,
+        ap (λ (ms : List Marked). ms ++ spJ x.0) here ∙ ap (λ (ms : List Marked). good h.front ++ ms) x.2
+            ∙ sym (regroup h.front q.front (mark s.here.token (Some l) ∷ x.1)),
+      );
     }
 
 -- ---- the trees by a function
@@ -215,7 +230,8 @@ mapped f tree sp on ts (Ok x) h = record {
   ended = h.ended;
   only = λ t after l j more m w stop eq. ap f (h.only t after l j more m w stop eq);
 }
-mapped f tree sp on ts (Err s) h = record { front = h.front; after = h.after; parts = h.parts; index = h.index; tail = h.tail; opens = h.opens; never = h.never; may = h.may }
+mapped f tree sp on ts (Err s) h =
+    record { front = h.front; after = h.after; parts = h.parts; index = h.index; tail = h.tail; opens = h.opens; never = h.never; may = h.may }
 
 -- ---- one of two, told by the first token
 
@@ -223,15 +239,19 @@ abbrev pub both : {A B C : Type 0} → (A → C) → (B → C) → A ⊎ B → C
 both f g (inl a) = f a
 both f g (inr b) = g b
 
-pub choice : {A B T : Type 0} (treeA : A → T) (treeB : B → T) (spA : A → List Marked) (spB : B → List Marked) (on test : Token → Bool) (ts : List Placed) (r q : Read T)
-    → ((a : A) (more : List Marked) → Stops on more → Heads test true (spA a ++ more)) → ((b : B) (more : List Marked) → Stops on more → Heads test false (spB b ++ more))
+pub choice : {A B T : Type 0} (treeA : A → T) (treeB : B → T) (spA : A → List Marked) (spB : B → List Marked) (on test : Token
+    → Bool) (ts : List Placed) (r q : Read T)
+    → ((a : A) (more : List Marked) → Stops on more → Heads test true (spA a ++ more))
+    → ((b : B) (more : List Marked) → Stops on more → Heads test false (spB b ++ more))
     → (test (first ts).token ≡ true → Agrees treeA spA on ts r) → (test (first ts).token ≡ false → Agrees treeB spB on ts q)
     → Agrees {I = A ⊎ B} (both treeA treeB) (both spA spB) on ts (cond (test (first ts).token) r q)
 choice {A} {B} {T} treeA treeB spA spB on test ts r q begins other f g = go (test (first ts).token) refl
   where
     -- the test of the first token is that of any spelling that goes on so
-    told : (b : Bool) (ms : List Marked) (front : List Placed) (t : Placed) (after : List Placed) (m : Option Limit) (w : List Marked) → ts ≡ front ++ (t ∷ after) → ms ≡ good front ++ (mark t.token m ∷ w) → Heads test b ms → test (first ts).token ≡ b
-    told b ms front t after m w e eq h = heads_first test b (good front ++ (mark t.token m ∷ w)) ts (head_of front ts t after m w e) (heads_same test b ms _ eq h)
+    told : (b : Bool) (ms : List Marked) (front : List Placed) (t : Placed) (after : List Placed) (m : Option Limit) (w : List Marked) → ts ≡ front
+        ++ (t ∷ after) → ms ≡ good front ++ (mark t.token m ∷ w) → Heads test b ms → test (first ts).token ≡ b
+    told b ms front t after m w e eq h =
+        heads_first test b (good front ++ (mark t.token m ∷ w)) ts (head_of front ts t after m w e) (heads_same test b ms _ eq h)
 
     is_yes : (p : Read T) → test (first ts).token ≡ true → Agrees treeA spA on ts p → Agrees {I = A ⊎ B} (both treeA treeB) (both spA spB) on ts p
     is_yes (Ok x) e h = record {
@@ -241,10 +261,12 @@ choice {A} {B} {T} treeA treeB spA spB on test ts r q begins other f g = go (tes
       parts = h.parts;
       spelled = h.spelled;
       ended = h.ended;
-      only = λ t after l j more m w stop eq. elim j as (λ j. both spA spB j ++ more ≡ good h.front ++ (mark t.token m ∷ w) → both treeA treeB j ≡ treeA h.index) [
-        | inl a ↦ λ eq. h.only t after l a more m w stop eq
-        | inr b ↦ λ eq. let wrong = told false _ h.front t after m w (h.parts ∙ ap (λ (us : List Placed). h.front ++ us) l) eq (other b more stop) in absurd cc
-      ] eq;
+      only = λ t after l j more m w stop eq. elim j as (λ j. both spA spB j ++ more ≡ good h.front ++ (mark t.token m ∷ w) → both treeA treeB j
+          ≡ treeA h.index) [
+            | inl a ↦ λ eq. h.only t after l a more m w stop eq
+            | inr b ↦ λ eq. let wrong = told false _ h.front t after m w (h.parts ∙ ap (λ (us : List Placed). h.front ++ us) l) eq (other b more stop) in
+                absurd cc
+          ] eq;
     }
     is_yes (Err s) e h = record {
       front = h.front;
@@ -268,10 +290,12 @@ choice {A} {B} {T} treeA treeB spA spB on test ts r q begins other f g = go (tes
       parts = h.parts;
       spelled = h.spelled;
       ended = h.ended;
-      only = λ t after l j more m w stop eq. elim j as (λ j. both spA spB j ++ more ≡ good h.front ++ (mark t.token m ∷ w) → both treeA treeB j ≡ treeB h.index) [
-        | inr b ↦ λ eq. h.only t after l b more m w stop eq
-        | inl a ↦ λ eq. let wrong = told true _ h.front t after m w (h.parts ∙ ap (λ (us : List Placed). h.front ++ us) l) eq (begins a more stop) in absurd cc
-      ] eq;
+      only = λ t after l j more m w stop eq. elim j as (λ j. both spA spB j ++ more ≡ good h.front ++ (mark t.token m ∷ w) → both treeA treeB j
+          ≡ treeB h.index) [
+            | inr b ↦ λ eq. h.only t after l b more m w stop eq
+            | inl a ↦ λ eq. let wrong = told true _ h.front t after m w (h.parts ∙ ap (λ (us : List Placed). h.front ++ us) l) eq (begins a more stop) in
+                absurd cc
+          ] eq;
     }
     is_no (Err s) e h = record {
       front = h.front;
@@ -293,7 +317,8 @@ choice {A} {B} {T} treeA treeB spA spB on test ts r q begins other f g = go (tes
 
 -- ---- the same trees and spellings, by another index
 
-pub also : {I J T : Type 0} (tree : I → T) (sp : I → List Marked) (tree' : J → T) (sp' : J → List Marked) (on : Token → Bool) (ts : List Placed) (r : Read T) (to : I → J) (back : J → I)
+pub also : {I J T : Type 0} (tree : I → T) (sp : I → List Marked) (tree' : J → T) (sp' : J → List Marked) (on : Token
+    → Bool) (ts : List Placed) (r : Read T) (to : I → J) (back : J → I)
     → ((i : I) → (tree' (to i) ≡ tree i) × (sp' (to i) ≡ sp i)) → ((j : J) → (tree (back j) ≡ tree' j) × (sp (back j) ≡ sp' j))
     → Agrees tree sp on ts r → Agrees tree' sp' on ts r
 also tree sp tree' sp' on ts (Ok x) to back f g h = record {
@@ -334,7 +359,8 @@ stops_weaker on on' f (m ∷ ms) h = f m.token h
 
 -- ---- items and separators
 
-pub record IsChain {A S L : Type 0} (last : A → L) (more : A → S → L → L) (sep : Token → Option S) (spS : S → Token) (spA : ℕ → A → List Marked) (spL : ℕ → L → List Marked) (onA on : Token → Bool) : Type 0 where
+pub record IsChain {A S L : Type 0} (last : A → L) (more : A → S → L → L) (sep : Token → Option S) (spS : S → Token) (spA : ℕ → A → List Marked) (spL : ℕ
+    → L → List Marked) (onA on : Token → Bool) : Type 0 where
   pub cases : (l : L) → ((a : A) × (s : S) × (l' : L) × (l ≡ more a s l')) ⊎ ((a : A) × (l ≡ last a))
   pub of_last : (k : ℕ) (a : A) → spL k (last a) ≡ spA k a
   pub of_more : (k : ℕ) (a : A) (s : S) (l : L) → spL k (more a s l) ≡ spA k a ++ (plain (spS s) ∷ spL (suc k) l)
@@ -346,7 +372,8 @@ pub record IsChain {A S L : Type 0} (last : A → L) (more : A → S → L → L
   pub weaker : (t : Token) → on t ≡ false → onA t ≡ false
   pub no_sep : (t : Token) → on t ≡ false → sep t ≡ None
 
-module _ {A S L : Type 0} (last : A → L) (more : A → S → L → L) (sep : Token → Option S) (spS : S → Token) (spA : ℕ → A → List Marked) (spL : ℕ → L → List Marked) (onA on : Token → Bool) (is : IsChain last more sep spS spA spL onA on)
+module _ {A S L : Type 0} (last : A → L) (more : A → S → L → L) (sep : Token → Option S) (spS : S → Token) (spA : ℕ → A → List Marked) (spL : ℕ → L
+    → List Marked) (onA on : Token → Bool) (is : IsChain last more sep spS spA spL onA on)
     (item : ℕ → List Placed → Read A) (some : A) (some_sep : S) where
   abbrev tail_of : A → (S × L) ⊎ Unit {0} → L
   tail_of a = both (λ (p : S × L). more a p.0 p.1) (λ (x : Unit {0}). last a)
@@ -362,7 +389,8 @@ module _ {A S L : Type 0} (last : A → L) (more : A → S → L → L) (sep : T
   to_is k (a, inl p) = (refl, is.of_more k a p.0 p.1)
   to_is k (a, inr x) = (refl, is.of_last k a ∙ sym (append-nil (spA k a)))
 
-  back_is : (k : ℕ) (l : L) (c : ((a : A) × (s : S) × (l' : L) × (l ≡ more a s l')) ⊎ ((a : A) × (l ≡ last a))) → (tail_of (back_of l c).0 (back_of l c).1 ≡ l) × (spA k (back_of l c).0 ++ tail_sp k (back_of l c).1 ≡ spL k l)
+  back_is : (k : ℕ) (l : L) (c : ((a : A) × (s : S) × (l' : L) × (l ≡ more a s l')) ⊎ ((a : A) × (l ≡ last a)))
+      → (tail_of (back_of l c).0 (back_of l c).1 ≡ l) × (spA k (back_of l c).0 ++ tail_sp k (back_of l c).1 ≡ spL k l)
   back_is k l (inl x) = (sym x.3, sym (ap (spL k) x.3 ∙ is.of_more k x.0 x.1 x.2))
   back_is k l (inr x) = (sym x.1, append-nil (spA k x.0) ∙ sym (ap (spL k) x.1 ∙ is.of_last k x.0))
 
@@ -405,13 +433,18 @@ module _ {A S L : Type 0} (last : A → L) (more : A → S → L → L) (sep : T
       (λ p. tail_of p.0 p.1) (λ l. back_of l (is.cases l)) (to_is k) (λ l. back_is k l (is.cases l))
       (then tail_of (spA k) (tail_sp k) onA on ts (item k ts) _ (inr tt) (follows k) (law k ts ends) (go_on (λ us e l. in_chain law n (suc k) us e l)))
     where
-      go_on : ((us : List Placed) → HasEnd us → length us < n → Agrees {I = L} (λ l. l) (spL (suc k)) on us (chain last more sep item n (suc k) us)) → (x : A × List Placed) → Takes {I = A} (λ a. a) (spA k) onA ts x.0 x.1 → Agrees (tail_of x.0) (tail_sp k) on x.1 (step n k x.0 x.1 (sep (first x.1).token))
+      go_on : ((us : List Placed) → HasEnd us → length us < n → Agrees {I = L} (λ l. l) (spL (suc k)) on us (chain last more sep item n (suc k) us))
+          → (x : A × List Placed) → Takes {I = A} (λ a. a) (spA k) onA ts x.0 x.1
+          → Agrees (tail_of x.0) (tail_sp k) on x.1 (step n k x.0 x.1 (sep (first x.1).token))
       go_on ih x h =
           subst (Agrees (tail_of x.0) (tail_sp k) on x.1) (by_sep n k x.0 x.1 (sep (first x.1).token))
-          (choice (λ (p : S × L). more x.0 p.0 p.1) (λ (u : Unit {0}). last x.0) (λ (p : S × L). plain (spS p.0) ∷ spL (suc k) p.1) (λ (u : Unit {0}). []) on (λ t. is_some (sep t)) x.1 _ _ (begins k) (other k)
-          (λ e. then (λ s l. more x.0 s l) (λ s. plain (spS s) ∷ []) (spL (suc k)) closed on x.1 (taken (sep (first x.1).token) x.1) (further n k x.0) (last some) (λ l ms st. stops_closed on (spL (suc k) l) ms st)
+          (choice (λ (p : S × L). more x.0 p.0 p.1) (λ (u : Unit {0}). last x.0) (λ (p : S
+          × L). plain (spS p.0) ∷ spL (suc k) p.1) (λ (u : Unit {0}). []) on (λ t. is_some (sep t)) x.1 _ _ (begins k) (other k)
+          (λ e. then (λ s l. more x.0 s l) (λ s. plain (spS s) ∷ []) (spL (suc k)) closed on x.1 (taken (sep (first x.1).token) x.1) (further n k x.0)
+          (last some) (λ l ms st. stops_closed on (spL (suc k) l) ms st)
           (one sep spS closed some_sep is.back is.forth is.inside x.1 h.ended)
-          (λ y g. mapped (λ l. more x.0 y.0 l) (λ l. l) (spL (suc k)) on y.1 _ (ih y.1 g.ended (let a = not_longer x.1 y.1 g.front g.parts in let b = shorter k ts x.0 x.1 h in omega arith))))
+          (λ y g. mapped (λ l. more x.0 y.0 l) (λ l. l) (spL (suc k)) on y.1 _ (ih y.1 g.ended (let a = not_longer x.1 y.1 g.front g.parts in let b =
+          shorter k ts x.0 x.1 h in omega arith))))
           (λ e. nothing (last x.0) on x.1 h.ended))
 
 -- ---- one token that may pass a limit
@@ -425,7 +458,8 @@ one_within {A} what token_of over on some back forth inside (t ∷ ts) ends = go
     same_index : (x j : A) → what t.token ≡ Some x → token_of j ≡ t.token → j ≡ x
     same_index x j e agree = let again : Some j ≡ Some x = sym (forth j) ∙ ap what agree ∙ e in cc
 
-    at_limit : (x : A) (o : Option Limit) → what t.token ≡ Some x → over x ≡ o → Agrees {I = A} (λ x. x) (λ x. mark (token_of x) (over x) ∷ []) on (t ∷ ts) (elim o [ None ↦ Ok (x, ts) | Some l ↦ halt (Passes l) (t ∷ ts) ])
+    at_limit : (x : A) (o : Option Limit) → what t.token ≡ Some x → over x ≡ o
+        → Agrees {I = A} (λ x. x) (λ x. mark (token_of x) (over x) ∷ []) on (t ∷ ts) (elim o [ None ↦ Ok (x, ts) | Some l ↦ halt (Passes l) (t ∷ ts) ])
     at_limit x None e none =
         let same : t.token ≡ token_of x = back t.token x e in
         let still : is_last t.token ≡ false = ap is_last same ∙ inside x in

@@ -40,13 +40,15 @@ passes-not false l e = refl
 rows-few : (k : ℕ) (rows : Chain (Chain Literal)) → AllWithin (grammar.rows k rows) → k + count rows ≤ MAX_ROWS
 rows-few k (Last r) h = let here : k < MAX_ROWS = leb-false MAX_ROWS k (passes-not (nat_le MAX_ROWS k) TooLarge h.0) in omega (arith, here)
 rows-few k (More r rows) h =
-    let more : suc k + count rows ≤ MAX_ROWS = rows-few (suc k) rows (back-within (grammar.row k r) (grammar.sign (codes ",") ∷ grammar.rows (suc k) rows) h).1 in
+    let more : suc k + count rows ≤ MAX_ROWS =
+    rows-few (suc k) rows (back-within (grammar.row k r) (grammar.sign (codes ",") ∷ grammar.rows (suc k) rows) h).1 in
     omega (arith, more)
 
 statement-few : (s : Statement) → AllWithin (grammar.statement s) → HasFewRows s
 statement-few (tree.CreateTable n ps) h = tt
 statement-few (tree.Insert n names rows) h =
-    let few : 0 + count rows ≤ MAX_ROWS = rows-few 0 rows (back-within (grammar.optional grammar.names_part names) (grammar.key (codes "values") ∷ grammar.rows 0 rows) h.1.1.1).1 in
+    let few : 0 + count rows ≤ MAX_ROWS =
+    rows-few 0 rows (back-within (grammar.optional grammar.names_part names) (grammar.key (codes "values") ∷ grammar.rows 0 rows) h.1.1.1).1 in
     omega (arith, few)
 statement-few (tree.Selects s) h = tt
 statement-few (tree.Update n as' c) h = tt

@@ -1,12 +1,14 @@
 -- The statements of a text are those that it spells.
-use Rattle.std.proofs.Common.{◌≡◌, refl, sym, ap, subst, ◌∙◌, ℕ, zero, suc, ◌<◌, Bool, true, false, List, [], ◌∷◌, ◌++◌, length, drop, Option, Some, None, Result, Ok, Err, arith, cond, append_assoc}
+use Rattle.std.proofs.Common.{◌≡◌, refl, sym, ap, subst, ◌∙◌, ℕ, zero, suc, ◌<◌, Bool, true, false, List, [], ◌∷◌, ◌++◌, length, drop, Option, Some, None}
+use Rattle.std.proofs.Common.{Result, Ok, Err, arith, cond, append_assoc}
 use Rattle.std.specs.Prelude.{codes}
 use Rattle.sql_grammar.specs.Tokens.{Sign, End, Placed, is, is_last}
 use Rattle.sql_grammar.specs.Lexing.{token_list}
 use Rattle.sql_grammar.specs.Tree.{Last, More, Statement, Block}
 use Rattle.sql_grammar.specs.Grammar.{Fault, FirstFault, optional, statement}
 use Rattle.sql_grammar.specs.Reading.{first, rest, at, and_then, maybe_statement, block_of}
-use Rattle.sql_grammar.specs.Text.{StatementAt, at_offset, placed, IsSpelled, read_text, fault_at, ended_by, next_statement, with_front, then_more, statements_from, pushed}
+use Rattle.sql_grammar.specs.Text.{StatementAt, at_offset, placed, IsSpelled, read_text, fault_at, ended_by, next_statement, with_front, then_more}
+use Rattle.sql_grammar.specs.Text.{statements_from, pushed}
 use Rattle.sql_reader.proofs.Laws.{HasEnd}
 use Rattle.sql_reader.proofs.TokenLaws.{is_same}
 use Rattle.sql_reader.proofs.BlockLaws.{Left, maybe_left}
@@ -30,7 +32,8 @@ abbrev Located : ℕ → List Placed → Type 0
 Located n ts = statements_from n ts ≡ and_then (block_of n ts) (λ b. Ok (placed b ts))
 
 -- a block behind a semicolon
-more_is : (n : ℕ) (ts left : List Placed) (o : Option Statement) → left ≡ drop (length (optional statement o)) ts → (r : Result Block Fault) → statements_from n (rest left) ≡ and_then r (λ b. Ok (placed b (rest left)))
+more_is : (n : ℕ) (ts left : List Placed) (o : Option Statement) → left ≡ drop (length (optional statement o)) ts → (r : Result Block Fault)
+    → statements_from n (rest left) ≡ and_then r (λ b. Ok (placed b (rest left)))
     → with_front (at_offset (first ts).at o) (statements_from n (rest left)) ≡ and_then (and_then r (λ b. Ok (More o b))) (λ b. Ok (placed b ts))
 more_is n ts left o e (Ok b) h =
     ap (with_front (at_offset (first ts).at o)) h
@@ -43,7 +46,8 @@ left_of n ts o left s e = cond s (and_then (block_of n (rest left)) (λ b. Ok (M
 abbrev ended_as : List StatementAt → List Placed → Bool → Bool → Result (List StatementAt × Option (List Placed)) Fault
 ended_as ss left s e = cond s (Ok (ss, Some (rest left))) (cond e (Ok (ss, None)) (Err (fault_at left)))
 
-item : (n : ℕ) (ts left : List Placed) (o : Option Statement) → Left ts o left → (HasEnd (rest left) → Located n (rest left)) → (s e : Bool) → is (Sign (codes ";")) (first left).token ≡ s
+item : (n : ℕ) (ts left : List Placed) (o : Option Statement) → Left ts o left → (HasEnd (rest left) → Located n (rest left)) → (s e : Bool)
+    → is (Sign (codes ";")) (first left).token ≡ s
     → then_more (ended_as (at_offset (first ts).at o) left s e) (statements_from n) ≡ and_then (left_of n ts o left s e) (λ b. Ok (placed b ts))
 item n ts left o h ih true e p = more_is n ts left o h.is (block_of n (rest left)) (ih (still left h.ended p))
 item n ts left o h ih false true p = refl
@@ -67,7 +71,8 @@ located (suc n) ts h lt = go (maybe_statement ts) refl (λ us e l. located n us 
 abbrev pub Reads : List ℕ → Result (List StatementAt) Fault → Type 0
 Reads text r = statements_from (suc (length (token_list text))) (token_list text) ≡ r
 
-text_located : (text : List ℕ) → statements_from (suc (length (token_list text))) (token_list text) ≡ and_then (read_text text) (λ b. Ok (placed b (token_list text)))
+text_located : (text : List ℕ) → statements_from (suc (length (token_list text))) (token_list text)
+    ≡ and_then (read_text text) (λ b. Ok (placed b (token_list text)))
 text_located text = located (suc (length (token_list text))) (token_list text) (ends text) (omega arith)
 
 pub read-sound : (text : List ℕ) (ss : List StatementAt) → Reads text (Ok ss) → IsSpelled text ss
@@ -75,10 +80,12 @@ read-sound text ss e = go (read_text text) refl
   where
     go : (r : Result Block Fault) → read_text text ≡ r → IsSpelled text ss
     go (Ok b) f =
-        let h : ◌≡◌ {A = Result (List StatementAt) Fault} (Ok (placed b (token_list text))) (Ok ss) = sym (text_located text ∙ ap (λ (r : Result Block Fault). and_then r (λ b. Ok (placed b (token_list text)))) f) ∙ e in
+        let h : ◌≡◌ {A = Result (List StatementAt) Fault} (Ok (placed b (token_list text))) (Ok ss) =
+        sym (text_located text ∙ ap (λ (r : Result Block Fault). and_then r (λ b. Ok (placed b (token_list text)))) f) ∙ e in
         record { tree = b; spelled = text_is_spelled text b f; statements = cc }
     go (Err g) f =
-        let h : ◌≡◌ {A = Result (List StatementAt) Fault} (Err g) (Ok ss) = sym (text_located text ∙ ap (λ (r : Result Block Fault). and_then r (λ b. Ok (placed b (token_list text)))) f) ∙ e in
+        let h : ◌≡◌ {A = Result (List StatementAt) Fault} (Err g) (Ok ss) =
+        sym (text_located text ∙ ap (λ (r : Result Block Fault). and_then r (λ b. Ok (placed b (token_list text)))) f) ∙ e in
         absurd cc
 
 pub read-complete : (text : List ℕ) (ss : List StatementAt) → IsSpelled text ss → Reads text (Ok ss)
@@ -92,10 +99,12 @@ read-fault text f e = go (read_text text) refl
   where
     go : (r : Result Block Fault) → read_text text ≡ r → FirstFault (token_list text) f
     go (Ok b) g =
-        let h : ◌≡◌ {A = Result (List StatementAt) Fault} (Ok (placed b (token_list text))) (Err f) = sym (text_located text ∙ ap (λ (r : Result Block Fault). and_then r (λ b. Ok (placed b (token_list text)))) g) ∙ e in
+        let h : ◌≡◌ {A = Result (List StatementAt) Fault} (Ok (placed b (token_list text))) (Err f) =
+        sym (text_located text ∙ ap (λ (r : Result Block Fault). and_then r (λ b. Ok (placed b (token_list text)))) g) ∙ e in
         absurd cc
     go (Err k) g =
-        let h : ◌≡◌ {A = Result (List StatementAt) Fault} (Err k) (Err f) = sym (text_located text ∙ ap (λ (r : Result Block Fault). and_then r (λ b. Ok (placed b (token_list text)))) g) ∙ e in
+        let h : ◌≡◌ {A = Result (List StatementAt) Fault} (Err k) (Err f) =
+        sym (text_located text ∙ ap (λ (r : Result Block Fault). and_then r (λ b. Ok (placed b (token_list text)))) g) ∙ e in
         let same : k ≡ f = cc in
         subst (FirstFault (token_list text)) same (text_fault_is_first text k g)
 
@@ -140,5 +149,7 @@ next_ok xs n (Ok (zs, Some us)) ys more e =
 abbrev pub SoFar : ℕ → List StatementAt → List Placed → Result (List StatementAt) Fault → Type 0
 SoFar n xs ts whole = with_front xs (statements_from n ts) ≡ whole
 
-pub goes_on : (n m : ℕ) (xs ys : List StatementAt) (ts more : List Placed) (whole : Result (List StatementAt) Fault) → n ≡ suc m → SoFar n xs ts whole → pushed xs (next_statement ts) ≡ Ok (ys, Some more) → SoFar m ys more whole
-goes_on n m xs ys ts more whole k so_far e = sym (next_ok xs m (next_statement ts) ys more e) ∙ ap (λ (i : ℕ). with_front xs (statements_from i ts)) (sym k) ∙ so_far
+pub goes_on : (n m : ℕ) (xs ys : List StatementAt) (ts more : List Placed) (whole : Result (List StatementAt) Fault) → n ≡ suc m → SoFar n xs ts whole
+    → pushed xs (next_statement ts) ≡ Ok (ys, Some more) → SoFar m ys more whole
+goes_on n m xs ys ts more whole k so_far e = sym (next_ok xs m (next_statement ts) ys more e)
+    ∙ ap (λ (i : ℕ). with_front xs (statements_from i ts)) (sym k) ∙ so_far

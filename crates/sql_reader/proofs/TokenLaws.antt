@@ -23,7 +23,8 @@ the-back w t x e = go (is w t) refl e
     go false other h = absurd cc
 
 -- a word or a sign
-pub skips : (w : Token) → the w w ≡ Some tt → is_last w ≡ false → (on : Token → Bool) (ts : List Placed) → HasEnd ts → Agrees {I = Unit {0}} (λ x. x) (λ x. plain w ∷ []) on ts (skip w ts)
+pub skips : (w : Token) → the w w ≡ Some tt → is_last w ≡ false → (on : Token → Bool) (ts : List Placed) → HasEnd ts
+    → Agrees {I = Unit {0}} (λ x. x) (λ x. plain w ∷ []) on ts (skip w ts)
 skips w again inside on ts ends = one (the w) (λ x. w) on tt (the-back w) (λ x. again) (λ x. inside) ts ends
 
 name-back : (t : Token) (n : Name) → name_of t ≡ Some n → t ≡ Word n
@@ -34,7 +35,8 @@ pub names : (on : Token → Bool) (ts : List Placed) → HasEnd ts → Agrees {I
 names on ts ends = one name_of Word on [] name-back (λ n. refl) (λ n. refl) ts ends
 
 -- one of several words or signs
-pub which-back : {A : Type 0} (token_of : A → Token) (table : List (Token × A)) → AllByRecursion (λ (e : Token × A). e.0 ≡ token_of e.1) table → (t : Token) (x : A) → which table t ≡ Some x → t ≡ token_of x
+pub which-back : {A : Type 0} (token_of : A → Token) (table : List (Token × A)) → AllByRecursion (λ (e : Token × A). e.0 ≡ token_of e.1) table
+    → (t : Token) (x : A) → which table t ≡ Some x → t ≡ token_of x
 which-back token_of [] ok t x e = absurd cc
 which-back {A} token_of (e ∷ es) ok t x h = go (is e.0 t) refl h (which-back token_of es ok.1 t x)
   where
@@ -42,8 +44,10 @@ which-back {A} token_of (e ∷ es) ok t x h = go (is e.0 t) refl h (which-back t
     go true same h ih = let i : e.1 ≡ x = cc in is_same e.0 t same ∙ ok.0 ∙ ap token_of i
     go false other h ih = ih h
 
-pub one_of : {A : Type 0} (token_of : A → Token) (table : List (Token × A)) (some : A) → AllByRecursion (λ (e : Token × A). e.0 ≡ token_of e.1) table → ((x : A) → which table (token_of x) ≡ Some x) → ((x : A) → is_last (token_of x) ≡ false)
-    → (on : Token → Bool) (ts : List Placed) → HasEnd ts → Agrees {I = A} (λ x. x) (λ x. plain (token_of x) ∷ []) on ts (taken (which table (first ts).token) ts)
+pub one_of : {A : Type 0} (token_of : A → Token) (table : List (Token × A)) (some : A) → AllByRecursion (λ (e : Token × A). e.0 ≡ token_of e.1) table
+    → ((x : A) → which table (token_of x) ≡ Some x) → ((x : A) → is_last (token_of x) ≡ false)
+    → (on : Token → Bool) (ts : List Placed) → HasEnd ts
+    → Agrees {I = A} (λ x. x) (λ x. plain (token_of x) ∷ []) on ts (taken (which table (first ts).token) ts)
 one_of token_of table some ok again inside on ts ends = one (which table) token_of on some (which-back token_of table ok) again inside ts ends
 
 pub the-none : (w t : Token) → is w t ≡ false → the w t ≡ None

@@ -11,5 +11,6 @@ use Rattle.lock_queues.proofs.held.all_fit.Goals as goal
 
 pub returns : goal.returns
 returns c =
-    all_from_yields_List (λ (e : ℕ × Map resource_order Mode). (e.0 == c.args.session) || fits_with c.args.mode (get e.1 (resource_at c.args.place))) c.all.new.self _ _ c.all.ensures.ran
+    all_from_yields_List (λ (e : ℕ
+    × Map resource_order Mode). (e.0 == c.args.session) || fits_with c.args.mode (get e.1 (resource_at c.args.place))) c.all.new.self _ _ c.all.ensures.ran
     (YieldsList-from_first deref_pair (λ items. items) {s = c.iter.result} c.args.sessions.now c.iter.ensures) (λ x b q k. search (rules, tests))

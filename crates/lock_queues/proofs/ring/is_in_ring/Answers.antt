@@ -29,7 +29,8 @@ loop-next-preserved c =
     let i = c.args.session in
     let passed = c.loop-next.passed in (
       subst (λ n. Searched (waits_for look waits) waits i (marks c.mark-in-Some.new.reached) (marks (set passed n true))) (sym c.from-in-Some.ensures)
-          (searched-more look waits i passed c.in-Some.next (marks c.loop-next.reached) (marks c.mark-in-Some.new.reached) (omega arith) c.loop-next.invariant.0 c.in-Some.ensures c.mark-in-Some.ensures),
+          (searched-more look waits i passed c.in-Some.next (marks c.loop-next.reached) (marks c.mark-in-Some.new.reached) (omega arith)
+          c.loop-next.invariant.0 c.in-Some.ensures c.mark-in-Some.ensures),
       omega (arith, length-set passed c.from-in-Some.result true),
     )
 

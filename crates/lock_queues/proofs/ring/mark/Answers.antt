@@ -6,7 +6,8 @@ use Rattle.lock_queues.proofs.ring.mark.Goals as goal
 
 pub loop-index-preserved : goal.loop-index-preserved
 loop-index-preserved c =
-    marked-more (look_at c.args.held.now) c.args.waits.now c.args.session c.loop-index.index (marks c.args.reached.now) (marks c.loop-index.reached) (marks c.mark_from.new.reached)
+    marked-more (look_at c.args.held.now) c.args.waits.now c.args.session c.loop-index.index (marks c.args.reached.now) (marks c.loop-index.reached)
+    (marks c.mark_from.new.reached)
     c.at.result c.loop-index.invariant c.at.ensures.there c.at.ensures.place c.mark_from.ensures
 
 pub returns : goal.returns

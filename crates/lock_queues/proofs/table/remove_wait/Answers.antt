@@ -9,7 +9,8 @@ returns-in-Some c =
     let ws = c.args.waits.now.items in
     let i = c.args.session in
     let k = c.in-Some.at in
-    let place : position (λ (w : locks.Wait). w.session == i) ws ≡ Some k = sym (c.in-Some.ensures ∙ ap (position (λ (w : locks.Wait). w.session == i)) c.deref.ensures.value) in
+    let place : position (λ (w : locks.Wait). w.session == i) ws ≡ Some k =
+    sym (c.in-Some.ensures ∙ ap (position (λ (w : locks.Wait). w.session == i)) c.deref.ensures.value) in
     let here = found-place i ws k c.remove.result place in
     c.remove.ensures.items ∙ remove-others i ws k c.remove.result here.0 c.requires here.1
 
@@ -17,5 +18,6 @@ pub returns-in_default : goal.returns-in_default
 returns-in_default c =
     let ws = c.args.waits.now.items in
     let i = c.args.session in
-    let place : position (λ (w : locks.Wait). w.session == i) ws ≡ None = sym (c.in_default.ensures ∙ ap (position (λ (w : locks.Wait). w.session == i)) c.deref.ensures.value) in
+    let place : position (λ (w : locks.Wait). w.session == i) ws ≡ None =
+    sym (c.in_default.ensures ∙ ap (position (λ (w : locks.Wait). w.session == i)) c.deref.ensures.value) in
     absent-others i ws (absent-place (λ (w : locks.Wait). w.session == i) ws place)

@@ -8,7 +8,8 @@ use Rattle.spec_reader.proofs.lines.line_of.Given as goal
 abbrev pub invariant-items : goal.invariant-items
 invariant-items l = record {
   shorter : length l.rest < length l.tokens;
-  so_far : (f : FrontTree) (ls : List LineTree) → reads (LineBegun f l.sessions ls) (views l.tokens) ≡ reads (ItemDone f l.sessions ls (map item_tree l.items.items)) (view l.next ∷ views l.rest);
+  so_far : (f : FrontTree) (ls : List LineTree) → reads (LineBegun f l.sessions ls) (views l.tokens)
+      ≡ reads (ItemDone f l.sessions ls (map item_tree l.items.items)) (view l.next ∷ views l.rest);
 }
 
 abbrev pub decreases-items : goal.decreases-items

@@ -6,7 +6,8 @@ use Rattle.spec_reader.specs.Views.{line_tree}
 use Rattle.spec_reader.proofs.lines.lines_of.Given as goal
 
 abbrev pub invariant-lines : goal.invariant-lines
-invariant-lines l = (f : FrontTree) → reads (Sessioned f l.sessions) (view l.fn.token ∷ views l.fn.tokens) ≡ reads_lined f l.sessions (map line_tree l.lines.items) (view l.next) (views l.rest)
+invariant-lines l = (f : FrontTree) → reads (Sessioned f l.sessions) (view l.fn.token ∷ views l.fn.tokens)
+    ≡ reads_lined f l.sessions (map line_tree l.lines.items) (view l.next) (views l.rest)
 
 abbrev pub decreases-lines : goal.decreases-lines
 decreases-lines l = length l.rest

@@ -8,7 +8,8 @@ use Rattle.spec_reader.proofs.lines.markers_of.Given as goal
 abbrev pub invariant-markers : goal.invariant-markers
 invariant-markers l = record {
   shorter : length l.rest < length l.tokens;
-  so_far : (f : FrontTree) (ls : List LineTree) (is : List ItemTree) (n : List ℕ) → reads (MarkerBegun f l.sessions ls is n []) (views l.tokens) ≡ reads_listed f l.sessions ls is n (map marker_tree l.markers.items) (view l.next) (views l.rest);
+  so_far : (f : FrontTree) (ls : List LineTree) (is : List ItemTree) (n : List ℕ) → reads (MarkerBegun f l.sessions ls is n []) (views l.tokens)
+      ≡ reads_listed f l.sessions ls is n (map marker_tree l.markers.items) (view l.next) (views l.rest);
 }
 
 abbrev pub decreases-markers : goal.decreases-markers

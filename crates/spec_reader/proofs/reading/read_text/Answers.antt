@@ -40,12 +40,14 @@ returns-in-Ok-parts_of-clause-complete c =
 pub returns-in-Err-Fault-clause-complete : goal.returns-in-Err-Fault-clause-complete
 returns-in-Err-Fault-clause-complete c =
     let all : views c.deref.result.now ≡ token_list c.args.text.now = ap views c.deref.ensures.value ∙ c.in-Ok-tokens_of.ensures in
-    λ tree h. absurd (no_fault c.args.text.now (fault_of c.in-Err-Fault.error) tree (ap (reads Start) (sym all) ∙ rw c.in-Err-Fault.field-0-is at c.in-Err-Fault.ensures) h)
+    λ tree h. absurd (no_fault c.args.text.now (fault_of c.in-Err-Fault.error) tree (ap (reads Start) (sym all)
+    ∙ rw c.in-Err-Fault.field-0-is at c.in-Err-Fault.ensures) h)
 
 pub returns-in-Err-Fault-clause-fault : goal.returns-in-Err-Fault-clause-fault
 returns-in-Err-Fault-clause-fault c =
     let all : views c.deref.result.now ≡ token_list c.args.text.now = ap views c.deref.ensures.value ∙ c.in-Ok-tokens_of.ensures in
-    is_fault c.args.text.now c.in-Err-Fault.error (omega arith) c.utf8.text (ap (reads Start) (sym all) ∙ rw c.in-Err-Fault.field-0-is at c.in-Err-Fault.ensures)
+    is_fault c.args.text.now c.in-Err-Fault.error (omega arith) c.utf8.text (ap (reads Start) (sym all)
+    ∙ rw c.in-Err-Fault.field-0-is at c.in-Err-Fault.ensures)
 
 pub unreachable-requires : goal.unreachable-requires
 unreachable-requires c =

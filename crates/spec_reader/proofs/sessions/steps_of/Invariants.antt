@@ -7,7 +7,8 @@ use Rattle.spec_reader.proofs.sessions.steps_of.Given as goal
 abbrev pub invariant-steps : goal.invariant-steps
 invariant-steps l = record {
   shorter : length l.rest < length l.tokens;
-  so_far : (f : FrontTree) (h : HeadTree) → reads (StepBegun f l.sessions h []) (views l.tokens) ≡ reads (Stepped f l.sessions h l.steps) (view l.next ∷ views l.rest);
+  so_far : (f : FrontTree) (h : HeadTree) → reads (StepBegun f l.sessions h []) (views l.tokens)
+      ≡ reads (Stepped f l.sessions h l.steps) (view l.next ∷ views l.rest);
 }
 
 abbrev pub decreases-steps : goal.decreases-steps

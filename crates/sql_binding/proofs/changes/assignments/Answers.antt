@@ -13,4 +13,8 @@ loop-text-preserved c =
     let f : Written → Bind Assignment = λ a. assignment c.args.table.now c.args.at (view_assignment a) in
     let found = ap (λ xs. f (get_or xs c.loop-text.text-index c.text-item.result)) (sym items) ∙ ap f (sym c.text-item.is) ∙ c.in_ok-assignment-2.ensures in
     rw c.in_ok-push-2.ensures.items
-    (sym (each-goes_on f c.loop-text.all.items c.args.texts.now.more c.loop-text.text-index c.text-item.result c.in_ok-assignment-2.field-0 (omega (arith, c.loop-text-test.true, ap length items)) found) ∙ c.loop-text.invariant)
+    (sym (each-goes_on f c.loop-text.all.items c.args.texts.now.more c.loop-text.text-index c.text-item.result c.in_ok-assignment-2.field-0 (omega (
+      arith,
+      c.loop-text-test.true,
+      ap length items,
+    )) found) ∙ c.loop-text.invariant)

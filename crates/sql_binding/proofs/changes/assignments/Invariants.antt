@@ -6,4 +6,5 @@ use Rattle.sql_binding.proofs.changes.assignments.Given as goal
 
 abbrev pub invariant-loop-text : goal.invariant-loop-text
 invariant-loop-text l =
-    with_front l.all.items (each (λ a. assignment l.table l.at (view_assignment a)) (drop l.text-index l.texts.more)) ≡ each (λ a. assignment l.table l.at (view_assignment a)) (l.texts.first ∷ l.texts.more)
+    with_front l.all.items (each (λ a. assignment l.table l.at (view_assignment a)) (drop l.text-index l.texts.more))
+    ≡ each (λ a. assignment l.table l.at (view_assignment a)) (l.texts.first ∷ l.texts.more)

@@ -11,4 +11,5 @@ invariant-part-ands l =
 
 abbrev pub invariant-condition-ors : goal.invariant-condition-ors
 invariant-condition-ors l =
-    with_front l.all.items (each (λ p. part (view_part p) l.table l.at) (drop l.next-index (out-Condition l.text).more)) ≡ alternatives (view_condition l.text) l.table l.at
+    with_front l.all.items (each (λ p. part (view_part p) l.table l.at) (drop l.next-index (out-Condition l.text).more))
+    ≡ alternatives (view_condition l.text) l.table l.at

@@ -6,4 +6,5 @@ use Rattle.sql_binding.proofs.expressions.signed_terms.Given as goal
 
 abbrev pub invariant-loop-term : goal.invariant-loop-term
 invariant-loop-term l =
-    with_front l.all.items (each (λ term. signed l.table l.at (term.sign, chain_of term.term)) (drop l.term-index l.terms)) ≡ each (λ term. signed l.table l.at (term.sign, chain_of term.term)) l.terms
+    with_front l.all.items (each (λ term. signed l.table l.at (term.sign, chain_of term.term)) (drop l.term-index l.terms))
+    ≡ each (λ term. signed l.table l.at (term.sign, chain_of term.term)) l.terms

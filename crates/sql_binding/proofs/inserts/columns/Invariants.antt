@@ -6,4 +6,5 @@ use Rattle.sql_binding.specs.Tables.{column}
 use Rattle.sql_binding.proofs.inserts.columns.Given as goal
 
 abbrev pub invariant-loop-name : goal.invariant-loop-name
-invariant-loop-name l = with_front l.all.items (each (column l.table l.at) (drop l.name-index l.names.more)) ≡ each (column l.table l.at) (list_of (chain_of l.names))
+invariant-loop-name l = with_front l.all.items (each (column l.table l.at) (drop l.name-index l.names.more))
+    ≡ each (column l.table l.at) (list_of (chain_of l.names))

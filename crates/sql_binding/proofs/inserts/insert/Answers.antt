@@ -12,6 +12,7 @@ returns-in_err-rows c =
 pub returns : goal.returns
 returns c =
     let listed = each-listed chain_of (row_values c.args.at) c.args.statement.now.rows in
-    let same = then-both _ _ (insert_rows c.args.table.now c.args.at c.args.number) c.in_ok-columns.columns.items c.in_ok-rows.rows.items c.in_ok-columns.ensures (listed ∙ c.in_ok-rows.ensures) in
+    let same = then-both _ _ (insert_rows c.args.table.now c.args.at c.args.number) c.in_ok-columns.columns.items c.in_ok-rows.rows.items
+    c.in_ok-columns.ensures (listed ∙ c.in_ok-rows.ensures) in
     let told = rw (c.deref.ensures.value, c.deref-2.ensures.value) at c.insert_rows.ensures in
     rw same told

@@ -6,4 +6,5 @@ use Rattle.sql_binding.specs.Statements.{aggregate}
 use Rattle.sql_binding.proofs.queries.aggregates.Given as goal
 
 abbrev pub invariant-loop-text : goal.invariant-loop-text
-invariant-loop-text l = with_front l.all.items (each (aggregate l.table l.at) (drop l.text-index l.texts.more)) ≡ each (aggregate l.table l.at) (list_of (chain_of l.texts))
+invariant-loop-text l = with_front l.all.items (each (aggregate l.table l.at) (drop l.text-index l.texts.more))
+    ≡ each (aggregate l.table l.at) (list_of (chain_of l.texts))

@@ -6,4 +6,5 @@ use Rattle.sql_binding.specs.Statements.{sort_key}
 use Rattle.sql_binding.proofs.queries.keys.Given as goal
 
 abbrev pub invariant-loop-text : goal.invariant-loop-text
-invariant-loop-text l = with_front l.all.items (each (sort_key l.table l.at) (drop l.text-index l.texts.more)) ≡ each (sort_key l.table l.at) (list_of (chain_of l.texts))
+invariant-loop-text l = with_front l.all.items (each (sort_key l.table l.at) (drop l.text-index l.texts.more))
+    ≡ each (sort_key l.table l.at) (list_of (chain_of l.texts))

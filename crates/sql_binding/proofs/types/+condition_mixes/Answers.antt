@@ -11,7 +11,12 @@ returns-else-condition_mixes t c =
     let a = c.in-And.a in
     let b = c.in-And.b in
     let whole : condition_mixes table c.args.condition.now ≡ (condition_mixes table a || condition_mixes table b) =
-    elim c.in-And.is [ inl e ↦ ap (condition_mixes table) e ∙ told-and (level_mixes table) a b | inr e ↦ ap (condition_mixes table) e ∙ told-or (level_mixes table) a b ] in
-    let first : condition_mixes table a ≡ false = sym (c.condition_mixes-in-And.ensures ∙ ap (condition_mixes table) c.get-in-And.ensures) ∙ c.if-condition_mixes.false in
+    elim c.in-And.is [
+      | inl e ↦ ap (condition_mixes table) e ∙ told-and (level_mixes table) a b
+      | inr e ↦ ap (condition_mixes table) e
+          ∙ told-or (level_mixes table) a b
+    ] in
+    let first : condition_mixes table a ≡ false = sym (c.condition_mixes-in-And.ensures ∙ ap (condition_mixes table) c.get-in-And.ensures)
+    ∙ c.if-condition_mixes.false in
     let second = c.condition_mixes-else-condition_mixes.ensures ∙ ap (condition_mixes table) c.get-else-condition_mixes.ensures in
     second ∙ sym (whole ∙ ap (λ o. o || condition_mixes table b) first)

@@ -5,4 +5,5 @@ use Rattle.sql_binding.proofs.types.row_mixes.Goals as goal
 
 pub returns-in-None : goal.returns-in-None
 returns-in-None c =
-    row_mixes-past c.args.table.now c.args.columns.now c.args.row.now c.loop-n.n _ (ltb-false c.loop-n.n (length c.args.row.now) (sym c.in-None.ensures.lookup.0)) c.loop-n.invariant
+    row_mixes-past c.args.table.now c.args.columns.now c.args.row.now c.loop-n.n _
+    (ltb-false c.loop-n.n (length c.args.row.now) (sym c.in-None.ensures.lookup.0)) c.loop-n.invariant

@@ -9,7 +9,8 @@ use Rattle.sql_reader.proofs.changes.assignments.Given as goal
 
 abbrev pub invariant-commas : goal.invariant-commas
 invariant-commas l = record {
-  so_far : SoFar Last (λ a u l. More a l) (the (Sign (codes ","))) (λ k. assignment) (λ x. tt {0}) view_assignment (length (views l.fn.tokens)) (view_assignment l.first) l.more.items (views l.rest) (with_commas (λ k. assignment) (views l.fn.tokens));
+  so_far : SoFar Last (λ a u l. More a l) (the (Sign (codes ","))) (λ k. assignment) (λ x. tt {0}) view_assignment (length (views l.fn.tokens))
+      (view_assignment l.first) l.more.items (views l.rest) (with_commas (λ k. assignment) (views l.fn.tokens));
   shorter : length l.rest + length l.more.items ≤ length l.fn.tokens;
 }
 

@@ -24,7 +24,8 @@ decreases-group l = 4 * l.levels + 3
 
 abbrev pub invariant-part_of-ands : goal.invariant-part_of-ands
 invariant-part_of-ands l = record {
-  so_far : SoFar Single (λ a u p. And a p) (the (Key (codes "and"))) (λ k. atom l.fn.levels) (λ x. tt {0}) view_atom (length (views l.fn.tokens)) (view_atom l.first) l.more.items (views l.rest) (part_of (atom l.fn.levels) (views l.fn.tokens));
+  so_far : SoFar Single (λ a u p. And a p) (the (Key (codes "and"))) (λ k. atom l.fn.levels) (λ x. tt {0}) view_atom (length (views l.fn.tokens))
+      (view_atom l.first) l.more.items (views l.rest) (part_of (atom l.fn.levels) (views l.fn.tokens));
   shorter : length l.rest + length l.more.items ≤ length l.fn.tokens;
 }
 
@@ -33,7 +34,8 @@ decreases-part_of-ands l = length l.rest
 
 abbrev pub invariant-condition_of-ors : goal.invariant-condition_of-ors
 invariant-condition_of-ors l = record {
-  so_far : SoFar Alone (λ p u c. Or p c) (the (Key (codes "or"))) (λ k. part_of (atom l.fn.levels)) (λ x. tt {0}) view_part (length (views l.fn.tokens)) (view_part l.first) l.more.items (views l.rest) (condition_of (atom l.fn.levels) (views l.fn.tokens));
+  so_far : SoFar Alone (λ p u c. Or p c) (the (Key (codes "or"))) (λ k. part_of (atom l.fn.levels)) (λ x. tt {0}) view_part (length (views l.fn.tokens))
+      (view_part l.first) l.more.items (views l.rest) (condition_of (atom l.fn.levels) (views l.fn.tokens));
   shorter : length l.rest + length l.more.items ≤ length l.fn.tokens;
 }
 

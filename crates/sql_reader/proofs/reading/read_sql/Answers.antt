@@ -16,18 +16,21 @@ returns-in_default-clause-one_fault c = fault-one (token_list c.args.text.now)
 pub returns-in-Ok-statements_of-clause-sound : goal.returns-in-Ok-statements_of-clause-sound
 returns-in-Ok-statements_of-clause-sound c =
     let same : views c.deref.result.now ≡ token_list c.args.text.now = ap views c.deref.ensures.value ∙ c.in-Ok.ensures in
-    read-sound c.args.text.now (seen c.in-Ok-statements_of.all.items) (ap (λ (ts : List Placed). statements_from (suc (length ts)) ts) (sym same) ∙ c.in-Ok-statements_of.ensures)
+    read-sound c.args.text.now (seen c.in-Ok-statements_of.all.items) (ap (λ (ts : List Placed). statements_from (suc (length ts)) ts) (sym same)
+    ∙ c.in-Ok-statements_of.ensures)
 
 pub returns-in-Ok-statements_of-clause-few_rows : goal.returns-in-Ok-statements_of-clause-few_rows
 returns-in-Ok-statements_of-clause-few_rows c =
     let same : views c.deref.result.now ≡ token_list c.args.text.now = ap views c.deref.ensures.value ∙ c.in-Ok.ensures in
     spelled-few c.args.text.now (seen c.in-Ok-statements_of.all.items)
-    (read-sound c.args.text.now (seen c.in-Ok-statements_of.all.items) (ap (λ (ts : List Placed). statements_from (suc (length ts)) ts) (sym same) ∙ c.in-Ok-statements_of.ensures))
+    (read-sound c.args.text.now (seen c.in-Ok-statements_of.all.items) (ap (λ (ts : List Placed). statements_from (suc (length ts)) ts) (sym same)
+    ∙ c.in-Ok-statements_of.ensures))
 
 pub returns-in-Ok-statements_of-clause-complete : goal.returns-in-Ok-statements_of-clause-complete
 returns-in-Ok-statements_of-clause-complete c =
     let same : views c.deref.result.now ≡ token_list c.args.text.now = ap views c.deref.ensures.value ∙ c.in-Ok.ensures in
-    λ all h. read-only c.args.text.now (seen c.in-Ok-statements_of.all.items) all (ap (λ (ts : List Placed). statements_from (suc (length ts)) ts) (sym same) ∙ c.in-Ok-statements_of.ensures) h
+    λ all h. read-only c.args.text.now (seen c.in-Ok-statements_of.all.items) all
+    (ap (λ (ts : List Placed). statements_from (suc (length ts)) ts) (sym same) ∙ c.in-Ok-statements_of.ensures) h
 
 pub returns-in-Ok-statements_of-clause-one : goal.returns-in-Ok-statements_of-clause-one
 returns-in-Ok-statements_of-clause-one c = spelled-one c.args.text.now
@@ -45,7 +48,8 @@ pub returns-clause-complete : goal.returns-clause-complete
 returns-clause-complete c =
     let same : views c.deref.result.now ≡ token_list c.args.text.now = ap views c.deref.ensures.value ∙ c.in-Ok.ensures in
     let refused = rw c.in-Err-Refused.field-0-is at c.in-Err-Refused.ensures in
-    λ all h. absurd (read-nothing c.args.text.now (fault_of_error c.in-Err-Refused.e) all (ap (λ (ts : List Placed). statements_from (suc (length ts)) ts) (sym same) ∙ refused) h)
+    λ all h. absurd (read-nothing c.args.text.now (fault_of_error c.in-Err-Refused.e) all
+    (ap (λ (ts : List Placed). statements_from (suc (length ts)) ts) (sym same) ∙ refused) h)
 
 pub returns-clause-refused : goal.returns-clause-refused
 returns-clause-refused c =

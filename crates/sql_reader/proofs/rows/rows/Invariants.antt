@@ -9,7 +9,8 @@ use Rattle.sql_reader.proofs.rows.rows.Given as goal
 
 abbrev pub invariant-commas : goal.invariant-commas
 invariant-commas l = record {
-  so_far : SoFar Last (λ a u l. More a l) (the (Sign (codes ","))) row (λ x. tt {0}) chain_of (length (views l.fn.tokens)) (chain_of l.first) l.more.items (views l.rest) (with_commas row (views l.fn.tokens));
+  so_far : SoFar Last (λ a u l. More a l) (the (Sign (codes ","))) row (λ x. tt {0}) chain_of (length (views l.fn.tokens)) (chain_of l.first) l.more.items
+      (views l.rest) (with_commas row (views l.fn.tokens));
   shorter : length l.rest + length l.more.items ≤ length l.fn.tokens;
 }
 

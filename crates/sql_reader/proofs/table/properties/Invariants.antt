@@ -6,7 +6,8 @@ use Rattle.sql_reader.proofs.table.properties.Given as goal
 
 abbrev pub invariant-all : goal.invariant-all
 invariant-all l = record {
-  so_far : ManySoFar begins_property property (length (views l.fn.tokens)) l.properties.items (views l.rest) (many begins_property property (suc (length (views l.fn.tokens))) (views l.fn.tokens));
+  so_far : ManySoFar begins_property property (length (views l.fn.tokens)) l.properties.items (views l.rest)
+      (many begins_property property (suc (length (views l.fn.tokens))) (views l.fn.tokens));
   shorter : length l.rest + length l.properties.items ≤ length l.fn.tokens;
 }
 

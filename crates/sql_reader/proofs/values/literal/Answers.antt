@@ -6,5 +6,6 @@ use Rattle.sql_reader.proofs.values.literal.Goals as goal
 
 pub returns-in-Text-clause-reads : goal.returns-in-Text-clause-reads
 returns-in-Text-clause-reads c =
-    rw (text-literal (views c.args.tokens.now) (quoted false c.in-Text.field-0.now) (ap (λ (p : Placed). p.token) (sym c.first.ensures) ∙ ap view_token c.in-Text.is))
+    rw (text-literal (views c.args.tokens.now) (quoted false c.in-Text.field-0.now) (ap (λ (p : Placed). p.token) (sym c.first.ensures)
+    ∙ ap view_token c.in-Text.is))
     c.quoted_text.ensures.reads

@@ -14,4 +14,5 @@ returns-in-None c =
 pub returns-in-Some : goal.returns-in-Some
 returns-in-Some c =
     let h : Holding = (c.args.session, resource_at c.args.place) in
-    c.get-in-Some.ensures ∙ ap (λ o. mode_of o (resource_at c.args.place)) c.in-Some.ensures ∙ sym (get-held c.self.inside.sessions h) ∙ ap (λ m. get m h) c.self.view_is
+    c.get-in-Some.ensures ∙ ap (λ o. mode_of o (resource_at c.args.place)) c.in-Some.ensures ∙ sym (get-held c.self.inside.sessions h)
+    ∙ ap (λ m. get m h) c.self.view_is

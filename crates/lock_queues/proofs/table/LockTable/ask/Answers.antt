@@ -15,7 +15,8 @@ invariant_of-self c =
     let i = c.args.session in
     let r = resource_at c.args.place in
     let free = subst (λ (t : Locks). locks.waits_now t.waits i ≡ false) (sym c.self.view_is) c.requires in
-    let had : MayHave l i r c.args.mode = subst (λ ws. MayHave (record { held = l.held; waits = ws }) i r c.args.mode) c.deref.ensures.value (c.may_have.ensures.0 c.if-may_have.true) in
+    let had : MayHave l i r c.args.mode =
+    subst (λ ws. MayHave (record { held = l.held; waits = ws }) i r c.args.mode) c.deref.ensures.value (c.may_have.ensures.0 c.if-may_have.true) in
     let mode = c.wanted_mode-wanted.ensures ∙ ap (λ o. locks.wanted o c.args.mode) c.mode_of.ensures in
     let held = c.in_ok-self-inside.ensures ∙ ap (λ m. insert l.held (i, r) m) mode in
     let e : ◌≡◌ {A = Locks} (taken l i r c.args.mode) (record { held = c.in_ok-self-inside.field-0; waits = c.self.inside.waits.items }) =
@@ -30,7 +31,12 @@ invariant_of-self-else-is_in_ring c =
     let free = subst (λ (t : Locks). locks.waits_now t.waits i ≡ false) (sym c.self.view_is) c.requires in
     let queue : c.push.new.self.items ≡ (queued l i r c.args.mode).waits =
     c.in_ok-push.ensures.items ∙ ap (λ q. l.waits ++ record { session = i; resource = q; mode = c.args.mode } ∷ []) c.in_ok-resource.ensures in
-    let none : IsInRing (queued l i r c.args.mode) i → ⊥ = (λ ring. both_ways c.is_in_ring.result c.if-is_in_ring.false (c.is_in_ring.ensures.1 (subst (λ ws. IsInRing (record { held = l.held; waits = ws }) i) (sym queue ∙ sym c.deref-2.ensures.value) ring))) in
+    let none : IsInRing (queued l i r c.args.mode) i → ⊥ =
+    (λ ring. both_ways c.is_in_ring.result c.if-is_in_ring.false (c.is_in_ring.ensures.1 (subst (λ ws. IsInRing (record {
+      held = l.held;
+      waits =
+          ws;
+    }) i) (sym queue ∙ sym c.deref-2.ensures.value) ring))) in
     let e : ◌≡◌ {A = Locks} (queued l i r c.args.mode) (record { held = c.self.inside.held; waits = c.push.new.self.items }) =
     (λ k. record { held = l.held; waits = sym queue k }) in
     subst IsSound e (queued-sound l i r c.args.mode c.self.invariant free none)

@@ -12,7 +12,8 @@ pub unreachable-requires : goal.unreachable-requires
 unreachable-requires c =
     let l : Locks = record { held = c.self.inside.held; waits = c.self.inside.waits.items } in
     let next = subst (λ (t : Locks). IsNextOf t c.args.session) (sym c.self.view_is) c.requires in
-    let found : None ≡ find (λ (w : locks.Wait). w.session == c.args.session) l.waits = c.in_default.ensures ∙ ap (find (λ (w : locks.Wait). w.session == c.args.session)) c.deref.ensures.value in
+    let found : None ≡ find (λ (w : locks.Wait). w.session == c.args.session) l.waits = c.in_default.ensures
+    ∙ ap (find (λ (w : locks.Wait). w.session == c.args.session)) c.deref.ensures.value in
     next-found l c.args.session next.0 c.self.invariant next.1 next.2 found
 
 pub remove_wait-requires : goal.remove_wait-requires
@@ -26,7 +27,8 @@ invariant_of-self c =
     let found = c.in-Some.ensures ∙ ap (find (λ (w : locks.Wait). w.session == i)) c.deref.ensures.value in
     let held = c.in_ok-self-inside.ensures ∙ (λ k. insert l.held (i, c.place.ensures k) (c.wanted-mode.ensures k)) in
     let e : ◌≡◌ {A = Locks} (record { held = c.in_ok-self-inside.field-0; waits = c.remove_wait.new.waits.items }) (grant l next.0) =
-    (λ k. record { held = held k; waits = c.remove_wait.ensures k }) ∙ granted-next l i c.in-Some.wait.now next.0 next.0 c.self.invariant next.1 next.2 next.1 found in
+    (λ k. record { held = held k; waits = c.remove_wait.ensures k })
+    ∙ granted-next l i c.in-Some.wait.now next.0 next.0 c.self.invariant next.1 next.2 next.1 found in
     subst IsSound (sym e) (grant-sound l next.0 c.self.invariant next.1)
 
 pub returns-clause-granted : goal.returns-clause-granted
@@ -37,4 +39,5 @@ returns-clause-granted c = λ t other.
     let found = c.in-Some.ensures ∙ ap (find (λ (w : locks.Wait). w.session == i)) c.deref.ensures.value in
     let held = c.in_ok-self-inside.ensures ∙ (λ k. insert l.held (i, c.place.ensures k) (c.wanted-mode.ensures k)) in
     let same = subst (λ (u : Locks). IsNext u t) (sym c.self.view_is) other in
-    (λ k. record { held = held k; waits = c.remove_wait.ensures k }) ∙ granted-next l i c.in-Some.wait.now next.0 t c.self.invariant next.1 next.2 same found ∙ ap (λ u. grant u t) c.self.view_is
+    (λ k. record { held = held k; waits = c.remove_wait.ensures k })
+    ∙ granted-next l i c.in-Some.wait.now next.0 t c.self.invariant next.1 next.2 same found ∙ ap (λ u. grant u t) c.self.view_is

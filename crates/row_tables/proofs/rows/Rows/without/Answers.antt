@@ -13,5 +13,6 @@ pub returns : goal.returns
 returns c =
     let rows = c.args.self.now in
     let is : put_rows c.args.table c.in_ok-rows.rows rows ≡ Map.remove rows (c.args.table, c.args.key.now) =
-    ap (λ es. put_rows c.args.table es rows) (c.in_ok-rows.ensures ∙ ap (without value_cmp c.args.key.now) c.table.ensures.rows) ∙ put_rows-without c.args.table c.args.key.now rows in
+    ap (λ es. put_rows c.args.table es rows) (c.in_ok-rows.ensures ∙ ap (without value_cmp c.args.key.now) c.table.ensures.rows)
+    ∙ put_rows-without c.args.table c.args.key.now rows in
     subst (λ (new : Rows'). IfOk c.with_table.result (λ rows. rows ≡ new)) is c.with_table.ensures

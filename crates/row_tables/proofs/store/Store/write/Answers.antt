@@ -16,9 +16,12 @@ invariant_of-self-2 c =
     let rows = c.self.inside.rows in
     let undo = c.self.inside.undo in
     let place : RowPlace = (c.args.table, c.args.key) in
-    let alone : (other : ℕ) → other ≢ c.args.session → before undo other place ≡ None = only-before rows undo c.args.session place (subst (IsOnlyWriterAt c.args.session place) (sym c.self.view_is) c.requires) in
+    let alone : (other : ℕ) → other ≢ c.args.session → before undo other place ≡ None =
+    only-before rows undo c.args.session place (subst (IsOnlyWriterAt c.args.session place) (sym c.self.view_is) c.requires) in
     let lists : c.put.new.self ≡ insert undo c.args.session (noted place rows (unwrap_or (get undo c.args.session) empty)) =
-    c.in_ok-put.ensures.ok ∙ ap (insert undo c.args.session) (c.in_ok-rows.ensures.list ∙ ap (λ (p : RowPlace). noted p rows (unwrap_or (get undo c.args.session) empty)) c.new-place.ensures) in
+    c.in_ok-put.ensures.ok
+    ∙ ap (insert undo c.args.session) (c.in_ok-rows.ensures.list
+    ∙ ap (λ (p : RowPlace). noted p rows (unwrap_or (get undo c.args.session) empty)) c.new-place.ensures) in
     subst AreApart (sym lists) (new-apart rows undo c.args.session place c.args.row c.self.invariant alone)
 
 -- no list is put, so the layers are those before
@@ -31,9 +34,12 @@ returns-clause-ok c =
     let rows = c.self.inside.rows in
     let undo = c.self.inside.undo in
     let place : RowPlace = (c.args.table, c.args.key) in
-    let alone : (other : ℕ) → other ≢ c.args.session → before undo other place ≡ None = only-before rows undo c.args.session place (subst (IsOnlyWriterAt c.args.session place) (sym c.self.view_is) c.requires) in
+    let alone : (other : ℕ) → other ≢ c.args.session → before undo other place ≡ None =
+    only-before rows undo c.args.session place (subst (IsOnlyWriterAt c.args.session place) (sym c.self.view_is) c.requires) in
     let lists : c.put.new.self ≡ insert undo c.args.session (noted place rows (unwrap_or (get undo c.args.session) empty)) =
-    c.in_ok-put.ensures.ok ∙ ap (insert undo c.args.session) (c.in_ok-rows.ensures.list ∙ ap (λ (p : RowPlace). noted p rows (unwrap_or (get undo c.args.session) empty)) c.new-place.ensures) in
+    c.in_ok-put.ensures.ok
+    ∙ ap (insert undo c.args.session) (c.in_ok-rows.ensures.list
+    ∙ ap (λ (p : RowPlace). noted p rows (unwrap_or (get undo c.args.session) empty)) c.new-place.ensures) in
     let in_place : c.in_ok-rows.rows ≡ laid place c.args.row rows = c.in_ok-rows.ensures.rows ∙ λ i. laid (c.new-place.ensures i) (c.new.ensures i) rows in
     (λ i. layers (in_place i) (lists i))
     ∙ wrote-layers rows undo c.args.session place c.args.row c.self.invariant alone

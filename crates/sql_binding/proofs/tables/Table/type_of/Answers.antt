@@ -4,4 +4,5 @@ use Rattle.sql_binding.proofs.OptionLemmas.{get_or-none}
 use Rattle.sql_binding.proofs.tables.Table.type_of.Goals as goal
 
 pub returns-in-None : goal.returns-in-None
-returns-in-None c = ap (λ column. column.kind) (sym (get_or-none c.args.self.now.columns c.args.column no_column (let e : slice_get c.args.self.now.columns c.args.column ≡ None = search rules in e)))
+returns-in-None c = ap (λ column. column.kind)
+    (sym (get_or-none c.args.self.now.columns c.args.column no_column (let e : slice_get c.args.self.now.columns c.args.column ≡ None = search rules in e)))
