@@ -63,8 +63,9 @@ impl Transcript {
     pub(crate) fn extend(&mut self, events: &[Event]) -> Result<(), AllocError>
         ensures { OnOk result (self.new ≡ self.old ++ events.now) }
     {
+        self.events.reserve(events.len())?;
         for event in events {
-            self.events.push(event.fork()?)?;
+            self.events.push_reserved(event.fork()?);
         }
         Ok(())
     }

@@ -111,7 +111,7 @@ pub(crate) fn copied(alloc: Global, events: &[Event]) -> Result<Vec<Event>, Allo
 {
     let mut copy = Vec::with_capacity(alloc, events.len())?;
     for event in events {
-        copy.push(event.fork()?)?;
+        copy.push_reserved(event.fork()?);
     }
     Ok(copy)
 }
