@@ -1,7 +1,7 @@
 //! The words of the command line: what each writes, and with which status.
 use crate::disks::{Disk, assert_tells, assert_text, holding, tell};
 use book_tests::words_of;
-use iso_farm::{Opener, run, tell_words_fault};
+use iso_farm::{MAX_SPEC_READ, Opener, run, tell_words_fault};
 use std::alloc::{AllocError, Global};
 use std::io::{self, Write};
 use std::process::Abort;
@@ -158,6 +158,20 @@ fn a_file_of_a_byte_too_many_is_refused_by_its_length(rt: HostRuntime) -> Result
         &long,
         "spec error 9 at 65536",
     )?;
+    Ok(())
+}
+
+/// The disk fails behind the byte by which a file is seen to be too long, which nobody reads.
+#[test]
+fn a_file_is_read_no_further_than_one_byte_too_many(rt: HostRuntime) -> Result<(), Fail> {
+    let long = vec![in rt.alloc(); b' '; MAX_SPEC_READ + 1]?;
+    let disk = Disk {
+        path: "first.spec",
+        text: &long,
+        calls_left: Some(MAX_SPEC_READ),
+    };
+    let refused = (3, "", "isofarm: first.spec: spec error 9 at 65536\n");
+    assert_tells(&rt, rt.alloc(), "isofarm one first.spec 0", &disk, refused)?;
     Ok(())
 }
 
