@@ -14,6 +14,7 @@ const RISING: &str = r#"[["began"]]
 [[["row",["a\"b"]]]]
 [[["row",["a\n"]]]]
 [[["row",["a\u0001"]]]]
+[[["row",["a\u0002"]]]]
 [[["row",["ä"]]]]
 [[["row",[-7]]]]
 [[["row",[12,5]]]]
@@ -47,7 +48,7 @@ fn assert_order(rt: &impl Abort, rising: &[Outcome], place: usize, outcome: &Out
 }
 
 fn assert_rise(rt: &impl Abort, rising: &[Outcome]) {
-    assert!(rt; rising.len() == 17, "all outcomes");
+    assert!(rt; rising.len() == 18, "all outcomes");
     for (place, outcome) in rising.iter().enumerate() {
         assert_order(rt, rising, place, outcome);
     }
