@@ -1,6 +1,5 @@
 -- What is kept by session, table and key stands for one map.
-use Rattle.std.specs.Prelude.{ℕ, Bool, ◌||◌, ◌==◌, List, [], ◌∷◌, ◌++◌, map, Option, Some, None}
-use Rattle.std.specs.List.{list_all}
+use Rattle.std.specs.Prelude.{◌≡◌, ◌≢◌, ℕ, suc, true, List, [], ◌∷◌, ◌++◌, map, get_or, Option, Some, None}
 use Rattle.std.specs.Ordering.{nat_cmp}
 use Rattle.std.specs.FinMap.Entries.{find}
 use Rattle.finite_maps.specs.Map.{Map, get, entries, empty}
@@ -44,29 +43,21 @@ resources_of tables keys = map (λ (e : ℕ × Mode). Table e.0) tables ++ rows_
 abbrev pub modes_map : Tables → Keys → Map resource_order Mode
 modes_map tables keys = tabulate resource_order (mode_at tables keys) (resources_of tables keys)
 
--- ---- the modes of all sessions
+-- ---- the modes of all sessions, by their numbers
 
 abbrev pub Sessions : Type 0
-Sessions = List (ℕ × Map resource_order Mode)
-
-abbrev pub mode_of : Option (Map resource_order Mode) → Resource → Option Mode
-mode_of None r = None
-mode_of (Some modes) r = get modes r
-
-abbrev pub known_modes : Option (Map resource_order Mode) → Map resource_order Mode
-known_modes None = empty
-known_modes (Some modes) = modes
+Sessions = List (Map resource_order Mode)
 
 abbrev pub held_by : Sessions → Holding → Option Mode
-held_by sessions h = mode_of (find nat_cmp h.0 sessions) h.1
+held_by sessions h = get (get_or sessions h.0 empty) h.1
 
-abbrev pub holdings_of : Sessions → List Holding
-holdings_of [] = []
-holdings_of (e ∷ es) = map (λ (m : Resource × Mode). (e.0, m.0)) (entries e.1) ++ holdings_of es
+abbrev pub holdings_from : ℕ → Sessions → List Holding
+holdings_from i [] = []
+holdings_from i (m ∷ ms) = map (λ (e : Resource × Mode). (i, e.0)) (entries m) ++ holdings_from (suc i) ms
 
 abbrev pub held_map : Sessions → Map holding_order Mode
-held_map sessions = tabulate holding_order (held_by sessions) (holdings_of sessions)
+held_map sessions = tabulate holding_order (held_by sessions) (holdings_from 0 sessions)
 
 -- the mode is compatible with what every other session holds there
-abbrev pub all_fit : Sessions → ℕ → Resource → Mode → Bool
-all_fit sessions i r m = list_all (λ (e : ℕ × Map resource_order Mode). (e.0 == i) || fits_with m (get e.1 r)) sessions
+abbrev pub AllFit : Sessions → ℕ → Resource → Mode → Type 0
+AllFit sessions i r m = (c : ℕ) → c ≢ i → fits_with m (held_by sessions (c, r)) ≡ true

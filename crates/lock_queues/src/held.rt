@@ -1,5 +1,4 @@
-ghost use Rattle.std.specs.Prelude.{◌≡◌, ◌==◌, ◌↔◌, ℕ, Some, not, true, IfOk, IsTrue};
-ghost use Rattle.std.specs.Option.{option_copied};
+ghost use Rattle.std.specs.Prelude.{◌≡◌, ◌==◌, ◌↔◌, ◌<◌, Some, not, set, length, true, OnOk, OnErr, IsTrue};
 ghost use Rattle.finite_maps.specs.Map.{get, insert, keep, empty};
 ghost use Rattle.lock_modes.specs.Resource.{resource_at};
 ghost use Rattle.lock_queues.specs.Locks as locks;
@@ -11,13 +10,12 @@ use finite_maps::Fork;
 use lock_modes::{Mode, Place, compatible};
 use std::alloc::{AllocError, Global};
 use std::marker::Model;
-use version_tree::VMap;
 
-/// The modes that sessions hold. A session that holds none has no entry.
+/// The modes that sessions hold, by the number of the session. Sessions behind the last one hold none.
 #[derive(Drop)]
 pub struct Held {
     alloc: Global,
-    sessions: VMap<u8, Modes>,
+    sessions: Vec<Modes>,
 }
 
 impl Model for Held {
@@ -33,7 +31,7 @@ impl Model for Held {
 
     ghost coded = { Prim.hlevel (codes, map_code, resource.the_row.coded) };
 
-    ghost view = { λ h. held_map h.sessions };
+    ghost view = { λ h. held_map h.sessions.items };
 }
 
 impl Held {
@@ -43,7 +41,7 @@ impl Held {
     {
         Held {
             alloc,
-            sessions: VMap::new(alloc),
+            sessions: Vec::new(alloc),
         }
     }
 
@@ -51,9 +49,11 @@ impl Held {
     pub fn mode_of(&self, session: u8, place: Place<'_>) -> Option<Mode>
         ensures { result ≡ get self.now (session, resource_at place.entry) }
     {
-        match self.sessions.get(&session) {
-            None => None,
-            Some(modes) => modes.get(place),
+        let session = session as usize;
+        if session < self.sessions.len() {
+            self.sessions[session].get(place)
+        } else {
+            None
         }
     }
 
@@ -61,40 +61,44 @@ impl Held {
     pub fn fits(&self, session: u8, place: Place<'_>, mode: Mode) -> bool
         ensures { IsTrue result ↔ Fits (look_at self.now) session (resource_at place.entry) mode }
     {
-        // The length also tells that the entries are in order, so that each is the one a look-up finds.
-        self.sessions.len() == 0 || all_fit(&self.sessions, session, place, mode)
+        all_fit(self.sessions.as_slice(), session, place, mode)
     }
 
-    /// What is held once the session has the mode at a place.
-    pub fn with(&self, session: u8, place: Place<'_>, mode: Mode) -> Result<Held, AllocError>
-        ensures { IfOk result (λ held. held ≡ insert self.now (session, resource_at place.entry) mode) }
+    /// Gives a session the mode at a place. Without memory everything is held as it was.
+    pub fn give(&mut self, session: u8, place: Place<'_>, mode: Mode) -> Result<(), AllocError>
+        ensures given { OnOk result (self.new ≡ insert self.old (session, resource_at place.entry) mode) }
+        ensures kept { OnErr result (self.new ≡ self.old) }
     {
         if is_mode(self.mode_of(session, place), mode) {
-            return self.fork();
+            return Ok(());
         }
-        let modes = put_mode(self.alloc, self.sessions.get(&session), place, mode)?;
-        Ok(Held {
-            alloc: self.alloc,
-            sessions: self.sessions.put(session, modes)?,
-        })
+        reach(self.alloc, &mut self.sessions, session)?;
+        let session = session as usize;
+        let modes = self.sessions[session].put(self.alloc, place, mode)?;
+        put(&mut self.sessions, session, modes);
+        Ok(())
     }
 
-    /// What is held once the session has let go of everything.
-    pub fn without(&self, session: u8) -> Result<Held, AllocError>
-        ensures { IfOk result (λ held. held ≡ keep (λ (h : Holding). not (h.0 == session)) self.now) }
+    /// Takes everything away from a session.
+    pub fn take(&mut self, session: u8)
+        ensures { self.new ≡ keep (λ (h : Holding). not (h.0 == session)) self.old }
     {
-        Ok(Held {
-            alloc: self.alloc,
-            sessions: self.sessions.without(&session)?,
-        })
+        let session = session as usize;
+        if session < self.sessions.len() {
+            put(&mut self.sessions, session, Modes::new(self.alloc));
+        }
     }
 }
 
 impl Fork for Held {
     fn fork(&self) -> Result<Held, AllocError> {
+        let mut sessions = Vec::with_capacity(self.alloc, self.sessions.len())?;
+        for modes in &self.sessions {
+            sessions.push(modes.fork()?)?;
+        }
         Ok(Held {
             alloc: self.alloc,
-            sessions: self.sessions.fork()?,
+            sessions,
         })
     }
 }
@@ -119,23 +123,33 @@ pub fn fits_with(mode: Mode, held: Option<Mode>) -> bool
     }
 }
 
-/// The modes of a session, none for no session, with one more or another one.
-fn put_mode(
-    alloc: Global,
-    modes: Option<&Modes>,
-    place: Place<'_>,
-    mode: Mode,
-) -> Result<Modes, AllocError>
-    ensures { IfOk result (λ more. more ≡ insert (records.known_modes (option_copied modes.entry)) (resource_at place.entry) mode) }
+/// Makes room for the modes of a session. Nobody holds more or less for that, also where memory runs out.
+fn reach(alloc: Global, sessions: &mut Vec<Modes>, session: u8) -> Result<(), AllocError>
+    ensures same { records.held_map sessions.new.items ≡ records.held_map sessions.old.items }
+    ensures inside { OnOk result (session < length sessions.new.items) }
 {
-    match modes {
-        Some(modes) => modes.put(alloc, place, mode),
-        None => Modes::new(alloc).put(alloc, place, mode),
+    for _more in sessions.len()..session as usize + 1 {
+        sessions.push(Modes::new(alloc))?;
     }
+    Ok(())
 }
 
-fn all_fit(sessions: &VMap<u8, Modes>, session: u8, place: Place<'_>, mode: Mode) -> bool
-    ensures { result ≡ records.all_fit sessions.now session (resource_at place.entry) mode }
+/// Puts the modes of a session in the place of those that it had.
+fn put(sessions: &mut Vec<Modes>, session: usize, modes: Modes)
+    requires { session < length sessions.old.items }
+    ensures { sessions.new.items ≡ set sessions.old.items session modes }
 {
-    sessions.iter().all(|(other, modes)| *other == session || fits_with(mode, modes.get(place)))
+    sessions[session] = modes;
+}
+
+/// Whether the mode goes with what each session but this one holds at a place.
+fn all_fit(sessions: &[Modes], session: u8, place: Place<'_>, mode: Mode) -> bool
+    ensures { IsTrue result ↔ records.AllFit sessions.now session (resource_at place.entry) mode }
+{
+    for other in 0..sessions.len() {
+        if other != session as usize && !fits_with(mode, sessions[other].get(place)) {
+            return false;
+        }
+    }
+    true
 }

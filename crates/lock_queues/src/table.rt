@@ -66,7 +66,7 @@ impl LockTable {
     {
         if may_have(&self.held, &self.waits, session, place, mode) {
             let wanted = wanted_mode(self.held.mode_of(session, place), mode);
-            self.held = self.held.with(session, place, wanted)?;
+            self.held.give(session, place, wanted)?;
             return Ok(Answer::Granted);
         }
         let resource = place.to_resource()?;
@@ -87,7 +87,7 @@ impl LockTable {
         ensures gone { OnOk result (self.new ≡ spec.let_go self.old session) }
         ensures kept { OnErr result (self.new ≡ self.old) }
     {
-        self.held = self.held.without(session)?;
+        self.held.take(session);
         remove_wait(&mut self.waits, session);
         Ok(())
     }
@@ -110,7 +110,7 @@ impl LockTable {
             unreachable!()
         };
         let mode = wanted(&self.held, wait);
-        self.held = self.held.with(session, wait.resource.place(), mode)?;
+        self.held.give(session, wait.resource.place(), mode)?;
         remove_wait(&mut self.waits, session);
         Ok(())
     }

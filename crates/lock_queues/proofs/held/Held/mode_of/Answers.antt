@@ -1,18 +1,19 @@
-use Rattle.std.proofs.Common.{sym, ap, ◌∙◌}
-use Rattle.finite_maps.specs.Map.{get}
+use Rattle.std.proofs.Common.{◌≡◌, sym, ap, ◌∙◌, get_or, arith}
+use Rattle.std.proofs.lemmas.List.{get_or_read}
+use Rattle.finite_maps.specs.Map.{get, empty}
 use Rattle.lock_modes.specs.Resource.{resource_at}
-use Rattle.lock_queues.specs.LockTable.{Holding}
-use Rattle.lock_queues.specs.Records.{mode_of}
-use Rattle.lock_queues.proofs.HeldLemmas.{get-held}
+use Rattle.lock_queues.proofs.HeldLemmas.{get-held, held-none}
 use Rattle.lock_queues.proofs.held.Held.mode_of.Goals as goal
 
-pub returns-in-None : goal.returns-in-None
-returns-in-None c =
-    let h : Holding = (c.args.session, resource_at c.args.place) in
-    ap (λ o. mode_of o (resource_at c.args.place)) c.in-None.ensures ∙ sym (get-held c.self.inside.sessions h) ∙ ap (λ m. get m h) c.self.view_is
+pub returns-then-session-len : goal.returns-then-session-len
+returns-then-session-len c =
+    let r = resource_at c.args.place in
+    let sessions = c.self.inside.sessions.items in
+    let at : c.index.result.now ≡ get_or sessions c.args.session empty =
+    get_or_read sessions c.args.session c.index.result.now (omega arith) c.index.ensures empty in
+    c.get.ensures ∙ ap (λ m. get m r) at ∙ sym (get-held sessions (c.args.session, r)) ∙ ap (λ m. get m (c.args.session, r)) c.self.view_is
 
-pub returns-in-Some : goal.returns-in-Some
-returns-in-Some c =
-    let h : Holding = (c.args.session, resource_at c.args.place) in
-    c.get-in-Some.ensures ∙ ap (λ o. mode_of o (resource_at c.args.place)) c.in-Some.ensures ∙ sym (get-held c.self.inside.sessions h)
-    ∙ ap (λ m. get m h) c.self.view_is
+pub returns-else-session-len : goal.returns-else-session-len
+returns-else-session-len c =
+    let r = resource_at c.args.place in
+    sym (held-none c.self.inside.sessions.items c.args.session r (omega arith)) ∙ ap (λ m. get m (c.args.session, r)) c.self.view_is

@@ -4,4 +4,4 @@ use Rattle.lock_queues.proofs.HeldLemmas.{held-empty}
 use Rattle.lock_queues.proofs.held.Held.new.Goals as goal
 
 pub returns : goal.returns
-returns c = ap held_map c.new.ensures ∙ held-empty
+returns c = ap held_map c.new.ensures.items ∙ held-empty

@@ -9,8 +9,16 @@ use Rattle.lock_queues.specs.Rules.{MayHave, IsInRing}
 use Rattle.lock_queues.proofs.Keeping.{taken-sound, queued-sound}
 use Rattle.lock_queues.proofs.table.LockTable.ask.Goals as goal
 
+-- without memory all is as it was
 pub invariant_of-self : goal.invariant_of-self
 invariant_of-self c =
+    let l : Locks = record { held = c.self.inside.held; waits = c.self.inside.waits.items } in
+    let e : ◌≡◌ {A = Locks} l (record { held = c.give.new.self; waits = c.self.inside.waits.items }) =
+    (λ k. record { held = sym c.in_err-give.ensures.kept k; waits = l.waits }) in
+    subst IsSound e c.self.invariant
+
+pub invariant_of-self-then-may_have : goal.invariant_of-self-then-may_have
+invariant_of-self-then-may_have c =
     let l : Locks = record { held = c.self.inside.held; waits = c.self.inside.waits.items } in
     let i = c.args.session in
     let r = resource_at c.args.place in
@@ -18,8 +26,8 @@ invariant_of-self c =
     let had : MayHave l i r c.args.mode =
     subst (λ ws. MayHave (record { held = l.held; waits = ws }) i r c.args.mode) c.deref.ensures.value (c.may_have.ensures.0 c.if-may_have.true) in
     let mode = c.wanted_mode-wanted.ensures ∙ ap (λ o. locks.wanted o c.args.mode) c.mode_of.ensures in
-    let held = c.in_ok-self-inside.ensures ∙ ap (λ m. insert l.held (i, r) m) mode in
-    let e : ◌≡◌ {A = Locks} (taken l i r c.args.mode) (record { held = c.in_ok-self-inside.field-0; waits = c.self.inside.waits.items }) =
+    let held = c.in_ok-give.ensures.given ∙ ap (λ m. insert l.held (i, r) m) mode in
+    let e : ◌≡◌ {A = Locks} (taken l i r c.args.mode) (record { held = c.give.new.self; waits = c.self.inside.waits.items }) =
     (λ k. record { held = sym held k; waits = l.waits }) in
     subst IsSound e (taken-sound l i r c.args.mode c.self.invariant free had)
 

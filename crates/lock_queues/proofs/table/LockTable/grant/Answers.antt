@@ -19,14 +19,22 @@ unreachable-requires c =
 pub remove_wait-requires : goal.remove_wait-requires
 remove_wait-requires c = c.self.invariant.distinct
 
+-- without memory all is as it was
 pub invariant_of-self : goal.invariant_of-self
 invariant_of-self c =
+    let l : Locks = record { held = c.self.inside.held; waits = c.self.inside.waits.items } in
+    let e : ◌≡◌ {A = Locks} l (record { held = c.give.new.self; waits = c.self.inside.waits.items }) =
+    (λ k. record { held = sym c.in_err-give.ensures.kept k; waits = l.waits }) in
+    subst IsSound e c.self.invariant
+
+pub invariant_of-self-2 : goal.invariant_of-self-2
+invariant_of-self-2 c =
     let l : Locks = record { held = c.self.inside.held; waits = c.self.inside.waits.items } in
     let i = c.args.session in
     let next = subst (λ (t : Locks). IsNextOf t i) (sym c.self.view_is) c.requires in
     let found = c.in-Some.ensures ∙ ap (find (λ (w : locks.Wait). w.session == i)) c.deref.ensures.value in
-    let held = c.in_ok-self-inside.ensures ∙ (λ k. insert l.held (i, c.place.ensures k) (c.wanted-mode.ensures k)) in
-    let e : ◌≡◌ {A = Locks} (record { held = c.in_ok-self-inside.field-0; waits = c.remove_wait.new.waits.items }) (grant l next.0) =
+    let held = c.in_ok-give.ensures.given ∙ (λ k. insert l.held (i, c.place.ensures k) (c.wanted-mode.ensures k)) in
+    let e : ◌≡◌ {A = Locks} (record { held = c.give.new.self; waits = c.remove_wait.new.waits.items }) (grant l next.0) =
     (λ k. record { held = held k; waits = c.remove_wait.ensures k })
     ∙ granted-next l i c.in-Some.wait.now next.0 next.0 c.self.invariant next.1 next.2 next.1 found in
     subst IsSound (sym e) (grant-sound l next.0 c.self.invariant next.1)
@@ -37,7 +45,7 @@ returns-clause-granted c = λ t other.
     let i = c.args.session in
     let next = subst (λ (t : Locks). IsNextOf t i) (sym c.self.view_is) c.requires in
     let found = c.in-Some.ensures ∙ ap (find (λ (w : locks.Wait). w.session == i)) c.deref.ensures.value in
-    let held = c.in_ok-self-inside.ensures ∙ (λ k. insert l.held (i, c.place.ensures k) (c.wanted-mode.ensures k)) in
+    let held = c.in_ok-give.ensures.given ∙ (λ k. insert l.held (i, c.place.ensures k) (c.wanted-mode.ensures k)) in
     let same = subst (λ (u : Locks). IsNext u t) (sym c.self.view_is) other in
     (λ k. record { held = held k; waits = c.remove_wait.ensures k })
     ∙ granted-next l i c.in-Some.wait.now next.0 t c.self.invariant next.1 next.2 same found ∙ ap (λ u. grant u t) c.self.view_is

@@ -10,6 +10,6 @@ remove_wait-requires c = c.self.invariant.distinct
 pub invariant_of-self : goal.invariant_of-self
 invariant_of-self c =
     let l : Locks = record { held = c.self.inside.held; waits = c.self.inside.waits.items } in
-    let e : ◌≡◌ {A = Locks} (let_go l c.args.session) (record { held = c.in_ok-self-inside.field-0; waits = c.remove_wait.new.waits.items }) =
-    (λ i. record { held = sym c.in_ok-self-inside.ensures i; waits = sym c.remove_wait.ensures i }) in
+    let e : ◌≡◌ {A = Locks} (let_go l c.args.session) (record { held = c.take.new.self; waits = c.remove_wait.new.waits.items }) =
+    (λ i. record { held = sym c.take.ensures i; waits = sym c.remove_wait.ensures i }) in
     subst IsSound e (let_go-sound l c.args.session c.self.invariant)
