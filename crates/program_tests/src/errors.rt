@@ -1,4 +1,5 @@
 //! The words of the libraries' errors, which are those of the fault lines.
+use iso_farm::ProgramFault;
 use outcome_books::{JoinError, ReportError};
 use std::alloc::Global;
 use std::fmt::Display;
@@ -43,4 +44,10 @@ fn a_spent_walker_is_told_from_want_of_memory(rt: HostRuntime) -> Result<(), Fai
     let alloc = rt.alloc();
     assert_words(&rt, alloc, &WalkError::NoMemory, "no memory")?;
     assert_words(&rt, alloc, &WalkError::Spent, "the walker is spent")
+}
+
+#[test]
+fn want_of_memory_ends_with_four(rt: HostRuntime) {
+    let fault = ProgramFault::NoMemory;
+    assert!(rt; fault.status() == 4, "want of memory");
 }
