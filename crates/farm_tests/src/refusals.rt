@@ -8,6 +8,7 @@ use crate::gates::{HOLDS_NONE, Hold, bit};
 use crate::texts::{SIX, assert_text, made, spec_of};
 use book_tests::DISJOINT;
 use outcome_books::{Book, join};
+use session_machine::StartError;
 use shard_board::{Board, DeliverError, DeliverErrorKind, Receipt, Seat};
 use shard_farm::{FarmError, Gate, OpenGate, ShardNumbers, Unfinished, farm_run};
 use sql_subset::Spec;
@@ -201,4 +202,25 @@ fn a_farm_is_whole_or_names_what_is_missing(rt: HostRuntime) -> Result<(), Fail>
         }
     }
     Ok(())
+}
+
+/// Asserts the words of an error.
+fn assert_words(rt: &impl Abort, alloc: Global, error: &FarmError, want: &str) -> Result<(), Fail> {
+    let words = format!(in alloc; "{error}")?;
+    assert!(rt; words.as_str() == want, "{want}");
+    Ok(())
+}
+
+#[test]
+fn why_a_plan_is_not_run_is_told(rt: HostRuntime) -> Result<(), Fail> {
+    let alloc = rt.alloc();
+    assert_words(&rt, alloc, &FarmError::BadPlan, "the plan is not lawful")?;
+    assert_words(
+        &rt,
+        alloc,
+        &FarmError::NotStarted,
+        "no memory before the first shard",
+    )?;
+    let start = FarmError::Start(StartError::SetupFailed { block: 2 });
+    assert_words(&rt, alloc, &start, "setup block 2 fails")
 }
