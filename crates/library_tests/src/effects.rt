@@ -36,7 +36,7 @@ fn row(alloc: Global, cells: &[Cell]) -> Result<Row, AllocError> {
     for cell in cells {
         values.push(value(alloc, *cell)?)?;
     }
-    Ok(Row::from_values(values))
+    Row::from_values(values)
 }
 
 fn insert(alloc: Global, key: Option<u16>, rows: &[&[Cell]]) -> Result<Bound, AllocError> {

@@ -26,7 +26,7 @@ fn texts(alloc: Global, names: &[&str]) -> Result<Vec<Text>, AllocError> {
 fn row(alloc: Global, number: i64, text: &str) -> Result<Event, AllocError> {
     let text = Text::from_str(alloc, text)?;
     let values = vec![in alloc; Value::Int(number), Value::Text(text)]?;
-    Ok(Event::Row(Row::from_values(values)))
+    Ok(Event::Row(Row::from_values(values)?))
 }
 
 fn push_counts(alloc: Global, transcript: &mut Transcript) -> Result<(), AllocError> {

@@ -149,7 +149,7 @@ fn is_seven(value: Option<&Value>) -> bool {
 
 fn seven(alloc: Global) -> Result<Row, AllocError> {
     let name = text(alloc, "seven")?;
-    Ok(Row::from_values(vec![in alloc; Value::Int(7), name]?))
+    Row::from_values(vec![in alloc; Value::Int(7), name]?)
 }
 
 #[test]
@@ -179,7 +179,7 @@ fn a_fork_of_a_resource_is_equal(rt: HostRuntime) -> Result<(), Fail> {
 fn a_row(alloc: Global) -> Result<Row, AllocError> {
     let name = text(alloc, "seven")?;
     let empty = text(alloc, "")?;
-    Ok(Row::from_values(vec![in alloc; Value::Int(7), name, empty]?))
+    Row::from_values(vec![in alloc; Value::Int(7), name, empty]?)
 }
 
 fn is_a_row(row: &Row) -> bool {

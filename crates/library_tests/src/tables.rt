@@ -57,7 +57,7 @@ fn put(alloc: Global, store: &mut Store, table: u16, key: Key, value: i64) -> Re
     requires { HasOwners store.old }
     ensures { HasOwners store.new }
 {
-    let row = Row::from_values(vec![in alloc; Value::Int(value)]?);
+    let row = Row::from_values(vec![in alloc; Value::Int(value)]?)?;
     write(store, table, to_value(alloc, key)?, Some(row))
 }
 

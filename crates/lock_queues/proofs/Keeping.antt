@@ -246,6 +246,10 @@ queued-sound l i r m s free none = record {
     same : (a b : ℕ) → a ≢ i → b ≢ i → waits_for (look_in l) (l.waits ++ v ∷ []) a b ≡ waits_for (look_in l) l.waits a b
     same a b na nb = edge-put (look_in l) a b v (apart a na) (apart b nb) l.waits [] ∙ ap (λ ws. waits_for (look_in l) ws a b) (append-nil l.waits)
 
+-- what is held stays what it was, and the table sound
+pub kept-sound : (l : Locks) (held : Map holding_order Mode) → held ≡ l.held → IsSound l → IsSound (record { held = held; waits = l.waits })
+kept-sound l held kept sound = subst IsSound (λ k. record { held = sym kept k; waits = l.waits }) sound
+
 pub ask-sound : (l : Locks) (i : ℕ) (r : Resource) (m : Mode) (a : Answer) → IsSound l → waits_now l.waits i ≡ false → IsAnswer l i r m a
     → IsSound (after l i r m a)
 ask-sound l i r m Granted s free is = taken-sound l i r m s free is

@@ -74,7 +74,7 @@ fn row_values(alloc: Global, at: usize, row: &Chain<Literal>) -> Result<Row, Bin
     for literal in row.more.as_slice() {
         values.push(value(alloc, at, literal)?)?;
     }
-    Ok(Row::from_values(values))
+    Ok(Row::from_values(values)?)
 }
 
 fn rows_values(alloc: Global, at: usize, rows: &Chain<Chain<Literal>>) -> Result<Vec<Row>, BindStop>
@@ -149,7 +149,7 @@ fn at_places(alloc: Global, places: &[usize], row: &[Value]) -> Result<Row, Allo
     for place in places {
         values.push(value_at(row, *place)?)?;
     }
-    Ok(Row::from_values(values))
+    Ok(Row::from_values(values)?)
 }
 
 fn rows_at_places(alloc: Global, places: &[usize], rows: &[Row]) -> Result<Items<Row>, AllocError>

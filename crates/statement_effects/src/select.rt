@@ -72,7 +72,7 @@ fn projection(alloc: Global, columns: &[u16], row: &Row) -> Result<Row, AllocErr
     for column in columns {
         values.push(ValueRef::in_column(row, *column).to_value()?)?;
     }
-    Ok(Row::from_values(values))
+    Ok(Row::from_values(values)?)
 }
 
 /// One row of these numbers, or none where one leaves the range of 64 bits.
@@ -90,7 +90,7 @@ fn aggregates(
         };
         values.push(value)?;
     }
-    Ok(Some(Row::from_values(values)))
+    Ok(Some(Row::from_values(values)?))
 }
 
 fn aggregated(aggregate: Aggregate, found: &[Entry<'_>]) -> Option<Value>

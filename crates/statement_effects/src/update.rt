@@ -76,7 +76,7 @@ fn assigned(alloc: Global, sets: &[Assignment], old: &Row) -> Result<Option<Row>
         };
         put(&mut values, assignment.column, value.to_value()?);
     }
-    Ok(Some(Row::from_values(values)))
+    Ok(Some(Row::from_values(values)?))
 }
 
 fn copied(alloc: Global, row: &Row) -> Result<Vec<Value>, AllocError>

@@ -172,7 +172,7 @@ fn row(alloc: Global, value: &Json) -> Result<Row, ValueError>
     for cell in items(value)? {
         values.push(cell_of(alloc, cell)?)?;
     }
-    Ok(Row::from_values(values))
+    Ok(Row::from_values(values)?)
 }
 
 fn cell_of(alloc: Global, value: &Json) -> Result<Value, ValueError>

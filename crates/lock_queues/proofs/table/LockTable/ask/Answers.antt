@@ -6,16 +6,12 @@ use Rattle.lock_queues.specs.Locks as locks
 use Rattle.lock_queues.specs.LockTable.{Locks, taken, queued}
 use Rattle.lock_queues.specs.Sound.{IsSound}
 use Rattle.lock_queues.specs.Rules.{MayHave, IsInRing}
-use Rattle.lock_queues.proofs.Keeping.{taken-sound, queued-sound}
+use Rattle.lock_queues.proofs.Keeping.{kept-sound, taken-sound, queued-sound}
 use Rattle.lock_queues.proofs.table.LockTable.ask.Goals as goal
 
 -- without memory all is as it was
 pub invariant_of-self : goal.invariant_of-self
-invariant_of-self c =
-    let l : Locks = record { held = c.self.inside.held; waits = c.self.inside.waits.items } in
-    let e : ◌≡◌ {A = Locks} l (record { held = c.give.new.self; waits = c.self.inside.waits.items }) =
-    (λ k. record { held = sym c.in_err-give.ensures.kept k; waits = l.waits }) in
-    subst IsSound e c.self.invariant
+invariant_of-self c = kept-sound _ _ c.in_err-give.ensures.kept c.self.invariant
 
 pub invariant_of-self-then-may_have : goal.invariant_of-self-then-may_have
 invariant_of-self-then-may_have c =

@@ -5,7 +5,7 @@ use Rattle.lock_queues.specs.Locks as locks
 use Rattle.lock_queues.specs.LockTable.{Locks, grant}
 use Rattle.lock_queues.specs.Sound.{IsSound}
 use Rattle.lock_queues.specs.Rules.{IsNext, IsNextOf}
-use Rattle.lock_queues.proofs.Keeping.{granted-next, grant-sound, next-found}
+use Rattle.lock_queues.proofs.Keeping.{kept-sound, granted-next, grant-sound, next-found}
 use Rattle.lock_queues.proofs.table.LockTable.grant.Goals as goal
 
 pub unreachable-requires : goal.unreachable-requires
@@ -21,11 +21,7 @@ remove_wait-requires c = c.self.invariant.distinct
 
 -- without memory all is as it was
 pub invariant_of-self : goal.invariant_of-self
-invariant_of-self c =
-    let l : Locks = record { held = c.self.inside.held; waits = c.self.inside.waits.items } in
-    let e : ◌≡◌ {A = Locks} l (record { held = c.give.new.self; waits = c.self.inside.waits.items }) =
-    (λ k. record { held = sym c.in_err-give.ensures.kept k; waits = l.waits }) in
-    subst IsSound e c.self.invariant
+invariant_of-self c = kept-sound _ _ c.in_err-give.ensures.kept c.self.invariant
 
 pub invariant_of-self-2 : goal.invariant_of-self-2
 invariant_of-self-2 c =
