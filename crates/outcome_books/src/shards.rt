@@ -1,11 +1,12 @@
 //! The book of a shard.
 
-ghost use Rattle.std.specs.Prelude.{◌≡◌, ◌<◌, false, IfOk, IfErr, OnOk};
+ghost use Rattle.std.specs.Prelude.{◌≡◌, ◌<◌, ◌≤◌, false, IfOk, IfErr, OnOk};
+ghost use Rattle.std.specs.FinSet.{empty};
 ghost use Rattle.sql_subset.specs.Spec.{IsBound};
 ghost use Rattle.sql_subset.specs.Binding.{IsFileOf};
 ghost use Rattle.step_reducer.specs.Walking.{IsNotWalked, IsShardOf, Starts};
 ghost use Rattle.outcome_books.specs.Books.{AllRecordable, file_of, IsAbout};
-ghost use Rattle.outcome_books.specs.Building.{AreFactsOf, FactFits};
+ghost use Rattle.outcome_books.specs.Building.{added, AreFactsOf, FactFits};
 
 use crate::about::About;
 use crate::book::Book;
@@ -15,7 +16,7 @@ use session_machine::RunError;
 use sql_subset::Spec;
 use std::alloc::{AllocError, Global};
 use std::sync::Arc;
-use step_reducer::{Shard, Walker};
+use step_reducer::{FactRun, Shard, Walker};
 
 impl Book {
     /// The facts of the ranks of a shard, each with its own: when reducing the least swap where the rank has one, and else the
@@ -41,7 +42,7 @@ impl Book {
     }
 }
 
-/// The facts of the ranks that a walker has before it.
+/// The facts of the ranks that a walker has before it, with which it ends.
 fn gathered(alloc: Global, mut walker: Walker<'_>) -> Result<Builder, AllocError>
     requires whole { walker.spent ≡ false }
     requires bound { IsBound walker.file.run }
@@ -49,16 +50,50 @@ fn gathered(alloc: Global, mut walker: Walker<'_>) -> Result<Builder, AllocError
     ensures facts { IfOk result (λ builder. AreFactsOf walker.entry.reduce walker.entry.file.run walker.entry.at walker.entry.end builder.facts) }
     ensures recordable { IfOk result (λ builder. AllRecordable walker.entry.file.run builder.facts) }
 {
+    facts_before(alloc, &mut walker)
+}
+
+/// The facts of the ranks that a walker has before it.
+fn facts_before(alloc: Global, walker: &mut Walker<'_>) -> Result<Builder, AllocError>
+    requires whole { walker.old.spent ≡ false }
+    requires bound { IsBound walker.old.file.run }
+    requires file { IsFileOf walker.old.file.text walker.old.file }
+    ensures facts { IfOk result (λ builder. AreFactsOf walker.old.reduce walker.old.file.run walker.old.at walker.old.end builder.facts) }
+    ensures recordable { IfOk result (λ builder. AllRecordable walker.old.file.run builder.facts) }
+{
     let mut builder = Builder::new(alloc);
+    gather(walker, &mut builder)?;
+    Ok(builder)
+}
+
+/// Adds the facts of the ranks that a walker has before it to a builder that has none.
+fn gather(walker: &mut Walker<'_>, builder: &mut Builder) -> Result<(), AllocError>
+    requires whole { walker.old.spent ≡ false }
+    requires bound { IsBound walker.old.file.run }
+    requires file { IsFileOf walker.old.file.text walker.old.file }
+    requires none { builder.old.facts ≡ empty }
+    requires first { builder.old.next ≡ 0 }
+    ensures facts { OnOk result (AreFactsOf walker.old.reduce walker.old.file.run walker.old.at walker.old.end builder.new.facts) }
+    ensures recordable { OnOk result (AllRecordable walker.old.file.run builder.new.facts) }
+{
     'runs: loop {
-        let run = match walker.next_run() {
-            Ok(Some(run)) => run,
-            Ok(None) => return Ok(builder),
+        match walker.next_run() {
+            Ok(Some(run)) => push(builder, run)?,
+            Ok(None) => return Ok(()),
             Err(_) => return Err(AllocError),
-        };
-        known_fact(&run.fact);
-        builder.push(run.first, run.end, &run.fact)?;
+        }
     }
+}
+
+/// Adds the facts of a run behind those of smaller ranks.
+fn push(builder: &mut Builder, run: FactRun) -> Result<(), AllocError>
+    requires some { run.first < run.end }
+    requires order { builder.old.next ≤ run.first }
+    ensures fits { FactFits run.fact }
+    ensures added { OnOk result (builder.new ≡ added builder.old run.first run.end run.fact) }
+{
+    known_fact(&run.fact);
+    builder.push(run.first, run.end, &run.fact)
 }
 
 /// What holds of every fact: its numbers have the widths of their types.

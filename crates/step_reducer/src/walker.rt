@@ -196,8 +196,23 @@ pub fn run_shard(
     ensures started { OnOk result (Starts spec.now.run) }
     ensures facts { IfOk result (λ facts. AreFacts reduce spec.now.run shard.first (shard.end - shard.first) facts.items) }
 {
-    let mut walker = Walker::new(alloc, spec, shard, reduce)?;
-    Ok(facts_of(alloc, &mut walker, shard)?)
+    let walker = Walker::new(alloc, spec, shard, reduce)?;
+    Ok(all_facts(alloc, walker, shard)?)
+}
+
+/// The facts of all ranks that a walker has before it, with which it ends.
+fn all_facts(
+    alloc: Global,
+    mut walker: Walker<'_>,
+    shard: Shard,
+) -> Result<Vec<(u64, Fact)>, AllocError>
+    requires whole { walker.spent ≡ false }
+    requires first { walker.at ≡ shard.first }
+    requires end { walker.end ≡ shard.end }
+    requires order { shard.first ≤ shard.end }
+    ensures { IfOk result (λ facts. AreFacts walker.entry.reduce walker.entry.file.run shard.first (shard.end - shard.first) facts.items) }
+{
+    facts_of(alloc, &mut walker, shard)
 }
 
 /// The facts of all ranks that a walker has before it.

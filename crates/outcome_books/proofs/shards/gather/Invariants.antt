@@ -1,6 +1,6 @@
 use Rattle.std.proofs.Common.{◌-◌}
 use Rattle.outcome_books.specs.Building.{IsGathering}
-use Rattle.outcome_books.proofs.shards.gathered.Given as goal
+use Rattle.outcome_books.proofs.shards.gather.Given as goal
 
 abbrev pub invariant-runs : goal.invariant-runs
 invariant-runs l = IsGathering l.initial.walker l.walker l.builder
