@@ -2,10 +2,14 @@
 #![tactic(auto)]
 
 use iso_farm::{Opener, run, tell_words_fault};
+use std::alloc::Global;
 use std::env;
 use std::fs::File;
-use std::io::{self, BufWriter};
+use std::io::{self, BufWriter, Write};
 use std::process::ExitCode;
+use std::sync::Wait;
+use std::thread::Threads;
+use std::time::Clock;
 use transcripts::Counted;
 
 /// The files of the machine.
@@ -22,28 +26,41 @@ impl Opener for Disk<'_> {
     }
 }
 
+fn main(rt: HostRuntime) -> ExitCode {
+    let mut err = Counted::new(rt.stderr());
+    let out = BufWriter::new(rt.alloc(), rt.stdout());
+    let status = match words_of(&rt) {
+        Ok(words) => status_of(&rt, rt.alloc(), &words, &Disk { rt: &rt }, out, &mut err),
+        Err(error) => tell_words_fault(&error, &mut err),
+    };
+    ExitCode::from(status)
+}
+
 fn words_of(rt: &HostRuntime) -> io::Result<Vec<String>> {
     Ok(env::args(rt)?.collect(rt.alloc())?)
 }
 
-fn main(rt: HostRuntime) -> ExitCode {
-    let mut err = Counted::new(rt.stderr());
-    let words = match words_of(&rt) {
-        Ok(words) => words,
-        Err(error) => return ExitCode::from(tell_words_fault(&error, &mut err)),
-    };
-    let out = match BufWriter::new(rt.alloc(), rt.stdout()) {
-        Ok(out) => out,
-        Err(error) => return ExitCode::from(tell_words_fault(&error, &mut err)),
-    };
-    let mut out = Counted::new(out);
-    let status = run(
-        &rt,
-        rt.alloc(),
-        &words,
-        &Disk { rt: &rt },
-        &mut out,
-        &mut err,
-    );
-    ExitCode::from(status)
+fn status_of<R: Threads + Wait + Clock + Sync, W: Write + Drop, E: Write + Send>(
+    rt: &R,
+    alloc: Global,
+    words: &[String],
+    disk: &Disk<'_>,
+    out: io::Result<BufWriter<W>>,
+    err: &mut Counted<E>,
+) -> u8 {
+    match out {
+        Ok(out) => done(rt, alloc, words, disk, out, err),
+        Err(error) => tell_words_fault(&error, err),
+    }
+}
+
+fn done<R: Threads + Wait + Clock + Sync, W: Write + Drop, E: Write + Send>(
+    rt: &R,
+    alloc: Global,
+    words: &[String],
+    disk: &Disk<'_>,
+    out: BufWriter<W>,
+    err: &mut Counted<E>,
+) -> u8 {
+    run(rt, alloc, words, disk, &mut Counted::new(out), err)
 }

@@ -12,13 +12,15 @@ use Rattle.lock_queues.specs.Rules.{MayHave, IsAnswer, after, IsNext, NothingRip
 -- modes of different sessions stay compatible, no session waits twice, and no ring comes, whatever is asked, granted and let go
 pub record StaysSound : Type 0 where
   pub empty : IsSound no_locks
-  pub asked : (l : Locks) (i : ℕ) (r : Resource) (m : Mode) (a : Answer) → IsSound l → waits_now l.waits i ≡ false → IsAnswer l i r m a → IsSound (after l i r m a)
+  pub asked : (l : Locks) (i : ℕ) (r : Resource) (m : Mode) (a : Answer)
+      → IsSound l → waits_now l.waits i ≡ false → IsAnswer l i r m a → IsSound (after l i r m a)
   pub granted : (l : Locks) (s : Spot) → IsSound l → IsNext l s → IsSound (grant l s)
   pub gone : (l : Locks) (i : ℕ) → IsSound l → IsSound (let_go l i)
 
 -- a mode that the held one covers is granted, and nothing changes
 abbrev pub CoveredIsHad : Type 0
-CoveredIsHad = (l : Locks) (i : ℕ) (r : Resource) (m held : Mode) → IsSound l → look_in l i r ≡ Some held → cover held m ≡ held → MayHave l i r m × (taken l i r m ≡ l)
+CoveredIsHad = (l : Locks) (i : ℕ) (r : Resource) (m held : Mode)
+    → IsSound l → look_in l i r ≡ Some held → cover held m ≡ held → MayHave l i r m × (taken l i r m ≡ l)
 
 -- where every ripe wait has been granted, each session that waits waits for one that does not, by way of others or at once
 abbrev pub WaitersReach : Type 0
@@ -31,7 +33,8 @@ pub record IsBelow (count : ℕ) (l : Locks) : Type 0 where
 
 -- where all sessions are below a number, the rules are what their tests up to it compute
 pub record TestsDecide (count : ℕ) (l : Locks) : Type 0 where
-  pub asked : (i : ℕ) (r : Resource) (m : Mode) (a : Answer) → i < count → IsAnswer l i r m a → ask count l i r m ≡ record { answer = a; locks = after l i r m a }
+  pub asked : (i : ℕ) (r : Resource) (m : Mode) (a : Answer)
+      → i < count → IsAnswer l i r m a → ask count l i r m ≡ record { answer = a; locks = after l i r m a }
   pub next : (s : Spot) → IsNext l s → to_grant count l ≡ Some s
   pub none : NothingRipe l → to_grant count l ≡ None
 

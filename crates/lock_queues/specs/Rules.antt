@@ -10,7 +10,8 @@ use Rattle.lock_queues.specs.Locks.{Wait, Spot, Look, wanted, wanted_by, nobody_
 use Rattle.lock_queues.specs.LockTable.{Locks, look_in, queued, taken, Fits}
 use Rattle.lock_queues.specs.Sound.{Way, edges}
 
--- the session may have the mode at once: the wanted mode is compatible with every other session's there, and it holds the resource already or nobody waits there
+-- the session may have the mode at once: the wanted mode is compatible with every other session's there, and it holds the resource already or nobody
+-- waits there
 abbrev pub MayHave : Locks → ℕ → Resource → Mode → Type 0
 MayHave l i r m = Fits (look_in l) i r (wanted (look_in l i r) m) × ((is_some (look_in l i r) || nobody_waits l.waits r) ≡ true)
 

@@ -26,7 +26,8 @@ module _ {K X : Type 0} (o : Order K) where
       same : same_key o q k ≡ true → f q ≡ f k
       same e = ap f (same_key-true o q k e)
 
-      at : (b : Bool) → same_key o q k ≡ b → (v : Option X) → f k ≡ v → get (tabulate f ks) q ≡ cond (list_any (same_key o q) ks) (f q) None → get (with_entry (tabulate f ks) k v) q ≡ cond (b || list_any (same_key o q) ks) (f q) None
+      at : (b : Bool) → same_key o q k ≡ b → (v : Option X) → f k ≡ v → get (tabulate f ks) q ≡ cond (list_any (same_key o q) ks) (f q) None
+          → get (with_entry (tabulate f ks) k v) q ≡ cond (b || list_any (same_key o q) ks) (f q) None
       at true e None n rest = let e' = same e ∙ n in rest ∙ none _ (f q) e' ∙ sym e'
       at false e None n rest = rest
       at true e (Some v) n rest = get-insert (tabulate f ks) k v q ∙ ap (λ b. cond b (Some v) (get (tabulate f ks) q)) e ∙ sym (same e ∙ n)

@@ -49,5 +49,6 @@ pub record EndsSame (a b : Rows') (x y : Stop) : Type 0 where
 -- each request is had when it is asked
 abbrev pub AllHad : Scene → ℕ → Session → Rows' → List Task → Type 0
 AllHad e i s rows [] = Unit {0}
-AllHad e i s rows (Ask r m ∷ ts) = elim (is_broken s.status) [ true ↦ Unit {0} | false ↦ (may_have e.count e.look e.waits i (get s.held r) r m ≡ true) × AllHad e i (taking s r m) rows ts ]
+AllHad e i s rows (Ask r m ∷ ts) = elim (is_broken s.status)
+    [ true ↦ Unit {0} | false ↦ (may_have e.count e.look e.waits i (get s.held r) r m ≡ true) × AllHad e i (taking s r m) rows ts ]
 AllHad e i s rows (Do st ∷ ts) = elim (perform s rows st) [ Goes s2 rows2 ↦ AllHad e i s2 rows2 ts | Fails f ↦ Unit {0} ]

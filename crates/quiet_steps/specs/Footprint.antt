@@ -39,7 +39,8 @@ Leads s rows [] t last = (s ≡ t) × (rows ≡ last)
 Leads s rows (Ask r m ∷ ts) t last = (is_broken s.status ≡ false) × Leads (taking s r m) rows ts t last
 Leads s rows (Do st ∷ ts) t last = (u : Session) × ((after : Rows') × ((perform s rows st ≡ Goes u after) × Leads u after ts t last))
 
--- a session whose requests are all had goes as if alone; over rows that agree where its plans let it read it ends the same and changes the same; and it changes rows only where it then holds the locks to write
+-- a session whose requests are all had goes as if alone; over rows that agree where its plans let it read it ends the same and changes the same; and it
+-- changes rows only where it then holds the locks to write
 pub record Footprint (w : World) (i : ℕ) (ss : List Bound) : Type 0 where
   pub alone : go (scene_of w) i (session_at w i) w.rows (tasks_of ss) ≡ stopped (scene_of w) (solo (session_at w i) w.rows (tasks_of ss))
   pub reads : (hidden : RowPlace → Bool) (b : Rows') → EachDo (ReadsBut hidden) (tasks_of ss) → AgreeBut hidden w.rows b

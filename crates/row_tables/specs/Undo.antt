@@ -22,7 +22,8 @@ noted place rows list = elim (get list place) [ None ↦ insert list place (get 
 
 -- no two sessions wrote at one place
 pub record AreApart (lists : Lists) : Type 0 where
-  pub each : (session other : ℕ) (place : RowPlace) (left : Option Tuple) → other ≢ session → before lists session place ≡ Some left → before lists other place ≡ None
+  pub each : (session other : ℕ) (place : RowPlace) (left : Option Tuple)
+      → other ≢ session → before lists session place ≡ Some left → before lists other place ≡ None
 
 -- the places of an undo list, each with what stands there now
 unfoldable pub in_place : Rows' → Overlay → Overlay

@@ -63,18 +63,30 @@ pub record StopsIn (i : ℕ) (x : Standing) (ts : List Task) (y : Standing) : Ty
 
 -- it waits for a request, with these tasks left
 abbrev pub waiting_in : ℕ → Standing → Resource → Mode → List Task → Standing
-waiting_in i x r m ts = record { layers = x.layers; locks = queued x.locks i r m; own = record { status = x.own.status; rest = ts; transcript = x.own.transcript ++ Waiting ∷ [] } }
+waiting_in i x r m ts = record {
+  layers = x.layers;
+  locks = queued x.locks i r m;
+  own = record { status = x.own.status; rest = ts; transcript = x.own.transcript ++ Waiting ∷ [] };
+}
 
 abbrev pub told : Standing → Event → Standing
 told x e = record { layers = x.layers; locks = x.locks; own = record { status = x.own.status; rest = x.own.rest; transcript = x.own.transcript ++ e ∷ [] } }
 
 -- its writes are kept, and its locks go
 abbrev pub committed : ℕ → Standing → Status → Standing
-committed i x status = record { layers = kept i x.layers; locks = let_go x.locks i; own = record { status = status; rest = x.own.rest; transcript = x.own.transcript } }
+committed i x status = record {
+  layers = kept i x.layers;
+  locks = let_go x.locks i;
+  own = record { status = status; rest = x.own.rest; transcript = x.own.transcript };
+}
 
 -- a fault ends its step
 abbrev pub failed_in : ℕ → Standing → Fault → Standing
-failed_in i x f = record { layers = undone i x.layers; locks = let_go x.locks i; own = record { status = after_fault x.own.status; rest = []; transcript = x.own.transcript ++ Failed f ∷ Done ∷ [] } }
+failed_in i x f = record {
+  layers = undone i x.layers;
+  locks = let_go x.locks i;
+  own = record { status = after_fault x.own.status; rest = []; transcript = x.own.transcript ++ Failed f ∷ Done ∷ [] };
+}
 
 -- the session ends its step
 abbrev pub finished_by_status : Status → ℕ → Standing → Standing
@@ -147,7 +159,11 @@ pub record IsToAsk (i : ℕ) (t : Locks) (st : Bound) (n : ℕ) : Type 0 where
 
 -- where it stands that waits for the request with this number, before tasks that come behind the statement's
 abbrev pub waits_at : Layers → Locks → SessionState → Bound → ℕ → List Task → Standing
-waits_at l t s st n ts = record { layers = l; locks = t; own = record { status = s.status; rest = asks (drop (n + 1) (plan st)) ts; transcript = s.transcript ++ Waiting ∷ [] } }
+waits_at l t s st n ts = record {
+  layers = l;
+  locks = t;
+  own = record { status = s.status; rest = asks (drop (n + 1) (plan st)) ts; transcript = s.transcript ++ Waiting ∷ [] };
+}
 
 -- all requests from that number on are had, or one waits, or is refused
 abbrev pub Asks : ℕ → Locks → SessionState → Bound → ℕ → Locks → Asked → Type 0
@@ -179,7 +195,11 @@ pub record IsToGo (i : ℕ) (l : Layers) (t : Locks) (sts : List Bound) (k n : �
 
 -- where it stands that is to go on from a request of one of the statements
 abbrev pub paused : Layers → Locks → SessionState → List Bound → Point → Standing
-paused l t s sts p = record { layers = l; locks = t; own = record { status = s.status; rest = tasks_from (drop p.statement sts) p.request; transcript = s.transcript } }
+paused l t s sts p = record {
+  layers = l;
+  locks = t;
+  own = record { status = s.status; rest = tasks_from (drop p.statement sts) p.request; transcript = s.transcript };
+}
 
 -- the step ends there, or a request of it waits, behind which it is to go on
 abbrev pub GoesUntil : ℕ → Standing → List Bound → Point → Layers → Locks → SessionState → Option Point → Type 0

@@ -22,7 +22,8 @@ pub record Running : Type 0 where
   pub world : World
   pub spent : Bool
 
--- what holds of a world of a spec: it is sound, with a part for each session and one for the control session behind them, and tells of each session's own steps alone
+-- what holds of a world of a spec: it is sound, with a part for each session and one for the control session behind them, and tells of each session's own
+-- steps alone
 pub record IsKnown (r : Running) : Type 0 where
   pub sound : Sound r.world
   pub sessions : length r.world.sessions ≡ suc r.file.run.sessions
@@ -34,7 +35,11 @@ held_in r i at = elim r.spent [ true ↦ None | false ↦ look_of r.world i at ]
 
 -- what a session waits for, with the mode that it is to get there; of a world that is spent nothing is told
 abbrev pub wait_in : Running → ℕ → Option (Resource × Mode)
-wait_in r i = elim r.spent [ true ↦ None | false ↦ option_map (λ (v : Wait). (v.resource, wanted_by (look_of r.world) v)) (find (λ (v : Wait). v.session == i) r.world.waits) ]
+wait_in r i = elim r.spent [
+  | true ↦ None
+  | false ↦
+      option_map (λ (v : Wait). (v.resource, wanted_by (look_of r.world) v)) (find (λ (v : Wait). v.session == i) r.world.waits)
+]
 
 -- the spec does not start for that reason, unless memory ran out
 abbrev pub IsRefusedBy : StartError → Start → Type 0

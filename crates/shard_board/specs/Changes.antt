@@ -51,7 +51,8 @@ with_new_turn s before call = record {
   refused = s.refused;
 }
 
--- The seen history is legal, begins with the one seen before, and ends with this turn. Of the seat it has the calls that it made before, in their order, and then this one, which are its calls from now on
+-- The seen history is legal, begins with the one seen before, and ends with this turn. Of the seat it has the calls that it made before, in their order,
+-- and then this one, which are its calls from now on
 pub record IsTurn (old new : ShownSeat) (call : Call) : Type 0 where
   pub before : List Entry
   pub begins : IsPrefix old.seen before

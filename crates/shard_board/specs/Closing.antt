@@ -18,7 +18,8 @@ use Rattle.shard_board.specs.Shown.{ShownSeat, ShownBoard}
 abbrev pub OfBoard : TableId → List ShownSeat → Type 0
 OfBoard t seats = (k : ℕ) (s : ShownSeat) → get_elem? seats k ≡ some s → s.board.table_id ≡ t
 
--- There is one legal history of all turns. Each seat saw a beginning of it and has its own calls of it, and it has no others. The claims are the numbers below `claimed`, each once
+-- There is one legal history of all turns. Each seat saw a beginning of it and has its own calls of it, and it has no others. The claims are the numbers
+-- below `claimed`, each once
 pub record IsClosed (board : ShownBoard) (seats : List ShownSeat) (book : Contents) (claimed turns : ℕ) : Type 0 where
   pub log : List Entry
   pub legal : IsLegal log

@@ -53,7 +53,8 @@ pub record Sits (log : List Entry) (serving : ℕ) (v : View) : Type 0 where
   pub few : drawn v ≤ MAX_TURNS * each one v
   pub holds : v.holding ≡ true → (v.ticket ≡ Some serving) × (v.own.seen ≡ log)
 
--- There is one legal history. The tickets that are out are the numbers from `serving` up to but not `ticket`, each once. The slot's book is the history's, and is out with the seat whose ticket is served
+-- There is one legal history. The tickets that are out are the numbers from `serving` up to but not `ticket`, each once. The slot's book is the history's,
+-- and is out with the seat whose ticket is served
 pub record Turns (plan : Plan) (serving ticket : ℕ) (homes : List (Home Slot)) (views : List View) : Type 0 where
   pub log : List Entry
   pub legal : IsLegal log

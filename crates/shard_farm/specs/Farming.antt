@@ -46,7 +46,8 @@ pub record HasAllBut (reduce : Bool) (file : SpecFile) (shards : List Shard) (le
   pub of_spec : left.book.file ≡ file
   pub facts : AreFactsBut reduce file.run shards left.missing left.book.facts
 
--- why a plan is not run whole: the first of these that fits, but for want of memory. Before the first shard that may come in place of a refused start; behind it some shard is missing
+-- why a plan is not run whole: the first of these that fits, but for want of memory. Before the first shard that may come in place of a refused start;
+-- behind it some shard is missing
 abbrev pub IsNotFarmed : Bool → SpecFile → List Shard → ℕ → FarmError → Type 0
 IsNotFarmed reduce file shards workers farm_error.BadPlan = IsPlanOf file.run shards workers → ⊥
 IsNotFarmed reduce file shards workers (farm_error.Start error) = IsPlanOf file.run shards workers × IsNotRunBy (run_error.Start error) (start file.run)

@@ -370,7 +370,8 @@ read_word t = which ((Word (codes "committed"), Committed) ∷ (Word (codes "unc
 abbrev pub level : List Placed → Read Level
 level ts =
     if at (Word (codes "serializable")) ts then (skip (Word (codes "serializable")) ts >>= λ x. Ok (Serializable, x.1))
-    else (if at (Word (codes "repeatable")) ts then (skip (Word (codes "repeatable")) ts >>= λ x. skip (Word (codes "read")) x.1 >>= λ y. Ok (RepeatableRead, y.1))
+    else (if at (Word (codes "repeatable")) ts
+    then (skip (Word (codes "repeatable")) ts >>= λ x. skip (Word (codes "read")) x.1 >>= λ y. Ok (RepeatableRead, y.1))
     else (skip (Word (codes "read")) ts >>= λ x. taken (read_word (first x.1).token) x.1 >>= λ w. Ok (tree.Read w.0, w.1)))
 
 abbrev pub level_part : List Placed → Read Level
@@ -388,7 +389,8 @@ begin ts = do
   Ok (Begin s.0 l.0, l.1)
 
 abbrev pub end_word : Token → Option EndWord
-end_word t = which ((Word (codes "commit"), tree.Commit) ∷ (Word (codes "end"), tree.End) ∷ (Word (codes "rollback"), tree.Rollback) ∷ (Word (codes "abort"), tree.Abort) ∷ []) t
+end_word t = which ((Word (codes "commit"), tree.Commit) ∷ (Word (codes "end"), tree.End)
+    ∷ (Word (codes "rollback"), tree.Rollback) ∷ (Word (codes "abort"), tree.Abort) ∷ []) t
 
 abbrev pub ends : List Placed → Read Statement
 ends ts = do
@@ -494,7 +496,8 @@ form ts =
     else other_form ts))))
 
 abbrev pub begins_form : Token → Bool
-begins_form t = is (Word (codes "create")) t || (is (Word (codes "insert")) t || (is (Key (codes "select")) t || (is (Word (codes "update")) t || (is (Word (codes "delete")) t
+begins_form t = is (Word (codes "create")) t || (is (Word (codes "insert")) t || (is (Key (codes "select")) t
+    || (is (Word (codes "update")) t || (is (Word (codes "delete")) t
     || (begins_begin t || (begins_end t || (is (Word (codes "lock")) t || is (Key (codes "set")) t)))))))
 
 abbrev pub refused : Token → Kind

@@ -68,7 +68,8 @@ abbrev pub with_front : List StatementAt → Result (List StatementAt) Fault →
 with_front ss (Ok more) = Ok (ss ++ more)
 with_front ss (Err f) = Err f
 
-abbrev pub then_more : Result (List StatementAt × Option (List Placed)) Fault → (List Placed → Result (List StatementAt) Fault) → Result (List StatementAt) Fault
+abbrev pub then_more : Result (List StatementAt × Option (List Placed)) Fault
+    → (List Placed → Result (List StatementAt) Fault) → Result (List StatementAt) Fault
 then_more (Err f) more = Err f
 then_more (Ok (ss, None)) more = Ok ss
 then_more (Ok (ss, Some ts)) more = with_front ss (more ts)

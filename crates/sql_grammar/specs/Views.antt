@@ -91,7 +91,8 @@ abbrev pub view_insert : WrittenInsert → Statement
 view_insert i = Insert i.table (option_by chain_of i.columns) (chain_by chain_of i.rows)
 
 abbrev pub view_select : WrittenSelect → Statement
-view_select s = Selects (record { items = view_selected s.items; table = s.table; where' = option_by view_condition s.condition; order = option_by chain_of s.order })
+view_select s = Selects
+    (record { items = view_selected s.items; table = s.table; where' = option_by view_condition s.condition; order = option_by chain_of s.order })
 
 abbrev pub view_update : WrittenUpdate → Statement
 view_update u = Update u.table (chain_by view_assignment u.assignments) (option_by view_condition u.condition)

@@ -39,7 +39,8 @@ numbered_line names items = if nat_le 1 (length items) && nat_le (length items) 
 abbrev pub lines_by : List SessionTree → List LineTree → Option (List (List ℕ))
 lines_by sessions [] = if is_ok (shape_of (counts_in sessions)) then Some [] else None
 lines_by sessions (l ∷ ls) =
-    if nat_le (total (counts_in sessions)) MAX_LINED_STEPS && nat_le (length (l ∷ ls)) MAX_LINES then all_some (numbered_line (step_names sessions)) (l ∷ ls) else None
+    if nat_le (total (counts_in sessions)) MAX_LINED_STEPS && nat_le (length (l ∷ ls)) MAX_LINES
+    then all_some (numbered_line (step_names sessions)) (l ∷ ls) else None
 
 -- none where the file is outside the limits
 abbrev pub orders_of : SpecTree → Option (List (List ℕ))
