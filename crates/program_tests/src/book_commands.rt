@@ -19,6 +19,7 @@ const FILES: &str = r#"e.spec | session a step s {}
 first.spec | setup { CREATE TABLE t (id int PRIMARY KEY, v int); INSERT INTO t VALUES (1, 10), (2, 20); } session a step a1 { INSERT INTO t VALUES (3, 30); } session b step b1 { SELECT v FROM t WHERE id = 3; }
 two.spec | setup { CREATE TABLE t (id int PRIMARY KEY); CREATE TABLE u (id int PRIMARY KEY); } session a step a1 { INSERT INTO t VALUES (2); } step a2 { DELETE FROM t WHERE id = 2; } session b step b1 { INSERT INTO u VALUES (2); } step b2 { DELETE FROM u WHERE id = 2; }
 lines.spec | setup { CREATE TABLE t (id int PRIMARY KEY, v int); INSERT INTO t VALUES (1, 10), (2, 20); } session a step a1 { SELECT v FROM t WHERE id = 1; } step a2 { COMMIT; } session b step b1 { UPDATE t SET v = v + 1 WHERE id = 1; } permutation a1(*) b1(a1 notices 1) a1
+fronts.spec | setup { CREATE TABLE t (id int PRIMARY KEY, v int); INSERT INTO t VALUES (1, 10), (2, 20); } session a step a1 { UPDATE t SET v = v + 1 WHERE id = 1; } step a2 { SELECT v FROM t WHERE id = 1; } session b step b1 { UPDATE t SET v = v * 2 WHERE id = 1; } permutation a1 a2 b1 permutation a1 b1 a2
 three.spec | setup { CREATE TABLE t (id int PRIMARY KEY, v int); INSERT INTO t VALUES (1, 10), (2, 20); } session a setup { BEGIN; } step a1 { SELECT v FROM t WHERE id = 1; } step a2 { SELECT * FROM t; } session b setup { BEGIN; } step b1 { SELECT * FROM t; } step b2 { COMMIT; } session c step c1 { UPDATE t SET v = 5 WHERE id = 2; }
 late.spec | setup { CREATE TABLE t (id int PRIMARY KEY, v int); INSERT INTO t VALUES (1, 10), (2, 20); } setup { INSERT INTO t VALUES (1, 0); } session a step s {}
 large.spec | session a step a1 {} step a2 {} step a3 {} step a4 {} session b step b1 {} step b2 {} step b3 {} step b4 {} session c step c1 {} step c2 {} step c3 {} step c4 {} session d step d1 {} step d2 {} step d3 {} step d4 {} session e step e1 {} step e2 {} step e3 {} step e4 {} session f step f1 {} step f2 {} step f3 {} step f4 {}
@@ -37,6 +38,7 @@ front.book | {"facts":[[0,1,"ran",0]],"format":2,"outcomes":[[[["sent",0],["inse
 back.book | {"facts":[[1,1,"ran",0]],"format":2,"outcomes":[[[["sent",0],["inserted",1],"done"],[["sent",1],["rows",0],"done"]]],"spec":"setup { CREATE TABLE t (id int PRIMARY KEY, v int); INSERT INTO t VALUES (1, 10), (2, 20); } session a step a1 { INSERT INTO t VALUES (3, 30); } session b step b1 { SELECT v FROM t WHERE id = 3; }"}
 old_front.book | {"facts":[[0,"ran",[[["sent",0],["inserted",1],"done"],[["sent",1],["row",[30]],["rows",1],"done"]]]],"format":1,"spec":"setup { CREATE TABLE t (id int PRIMARY KEY, v int); INSERT INTO t VALUES (1, 10), (2, 20); } session a step a1 { INSERT INTO t VALUES (3, 30); } session b step b1 { SELECT v FROM t WHERE id = 3; }"}
 lines.book | {"facts":[[0,1,"ran",0]],"format":2,"outcomes":[[[["sent",0],["row",[10]],["rows",1],"done",["sent",0],["row",[11]],["rows",1],"done"],[["sent",2],["updated",1],"done"]]],"spec":"setup { CREATE TABLE t (id int PRIMARY KEY, v int); INSERT INTO t VALUES (1, 10), (2, 20); } session a step a1 { SELECT v FROM t WHERE id = 1; } step a2 { COMMIT; } session b step b1 { UPDATE t SET v = v + 1 WHERE id = 1; } permutation a1(*) b1(a1 notices 1) a1"}
+fronts.book | {"facts":[[0,1,"ran",0],[1,1,"ran",1]],"format":2,"outcomes":[[[["sent",0],["updated",1],"done",["sent",1],["row",[11]],["rows",1],"done"],[["sent",2],["updated",1],"done"]],[[["sent",0],["updated",1],"done",["sent",1],["row",[22]],["rows",1],"done"],[["sent",2],["updated",1],"done"]]],"spec":"setup { CREATE TABLE t (id int PRIMARY KEY, v int); INSERT INTO t VALUES (1, 10), (2, 20); } session a step a1 { UPDATE t SET v = v + 1 WHERE id = 1; } step a2 { SELECT v FROM t WHERE id = 1; } session b step b1 { UPDATE t SET v = v * 2 WHERE id = 1; } permutation a1 a2 b1 permutation a1 b1 a2"}
 reduced.book | {"facts":[[0,1,"ran",0],[1,1,"swap",1],[2,1,"swap",2],[3,2,"swap",0],[5,1,"swap",1]],"format":2,"outcomes":[[[["sent",0],["inserted",1],"done",["sent",1],["deleted",1],"done"],[["sent",2],["inserted",1],"done",["sent",3],["deleted",1],"done"]]],"spec":"setup { CREATE TABLE t (id int PRIMARY KEY); CREATE TABLE u (id int PRIMARY KEY); } session a step a1 { INSERT INTO t VALUES (2); } step a2 { DELETE FROM t WHERE id = 2; } session b step b1 { INSERT INTO u VALUES (2); } step b2 { DELETE FROM u WHERE id = 2; }"}
 lower.book | {"facts":[[0,1,"ran",0],[1,1,"swap",1],[2,1,"swap",2]],"format":2,"outcomes":[[[["sent",0],["inserted",1],"done",["sent",1],["deleted",1],"done"],[["sent",2],["inserted",1],"done",["sent",3],["deleted",1],"done"]]],"spec":"setup { CREATE TABLE t (id int PRIMARY KEY); CREATE TABLE u (id int PRIMARY KEY); } session a step a1 { INSERT INTO t VALUES (2); } step a2 { DELETE FROM t WHERE id = 2; } session b step b1 { INSERT INTO u VALUES (2); } step b2 { DELETE FROM u WHERE id = 2; }"}
 upper.book | {"facts":[[3,2,"swap",0],[5,1,"swap",1]],"format":2,"outcomes":[],"spec":"setup { CREATE TABLE t (id int PRIMARY KEY); CREATE TABLE u (id int PRIMARY KEY); } session a step a1 { INSERT INTO t VALUES (2); } step a2 { DELETE FROM t WHERE id = 2; } session b step b1 { INSERT INTO u VALUES (2); } step b2 { DELETE FROM u WHERE id = 2; }"}
@@ -118,6 +120,7 @@ const COUNTS: &str = "isofarm count e.spec | 1
 isofarm count first.spec | 2
 isofarm count two.spec | 6
 isofarm count lines.spec | 1
+isofarm count fronts.spec | 2
 isofarm count three.spec | 30
 isofarm count large.spec | 3246670537110000
 isofarm count late.spec | 1";
@@ -163,6 +166,7 @@ isofarm run first.spec 0 2 | first.book
 isofarm run first.spec 0 1 | front.book
 isofarm run first.spec 1 2 | back.book
 isofarm run lines.spec 0 1 | lines.book
+isofarm run fronts.spec 0 2 | fronts.book
 isofarm run two.spec 0 6 | reduced.book
 isofarm run two.spec 0 3 | lower.book
 isofarm run two.spec 3 6 | upper.book
@@ -177,6 +181,7 @@ fn a_range_gives_the_book_of_its_ranks(rt: HostRuntime) -> Result<(), Fail> {
 const EVERY: &str = "isofarm run e.spec 0 1 --every | e.book
 isofarm run first.spec 0 2 --every | first.book
 isofarm run lines.spec 0 1 --every | lines.book
+isofarm run fronts.spec 0 2 --every | fronts.book
 isofarm run two.spec 0 6 --every | every.book
 isofarm run --every two.spec 2 6 | right.book";
 
