@@ -74,7 +74,7 @@ fn end_at(place: usize, count: usize) -> u8
 fn event_order(a: &Event, b: &Event) -> Ordering
     ensures { result ≡ bytes_cmp (event_json a.now) (event_json b.now) }
 {
-    let fronts = front(a).cmp(front(b));
+    let fronts = front_order(a, b);
     if fronts.is_ne() {
         return fronts;
     }
@@ -83,6 +83,41 @@ fn event_order(a: &Event, b: &Event) -> Ordering
         return numbers;
     }
     row_order(values(a), values(b))
+}
+
+/// The order of what two events' texts begin with. Where both are of one kind, no texts are compared.
+fn front_order(a: &Event, b: &Event) -> Ordering
+    ensures { result ≡ bytes_cmp (front_by (kind_of a.now)) (front_by (kind_of b.now)) }
+{
+    if kind(a) == kind(b) {
+        return Ordering::Equal;
+    }
+    front(a).cmp(front(b))
+}
+
+/// The place of an event in the table of the format.
+fn kind(event: &Event) -> u8
+    ensures { result ≡ kind_of event.now }
+{
+    match event {
+        Event::Sent(_) => 0,
+        Event::Row(_) => 1,
+        Event::Rows(_) => 2,
+        Event::Inserted(_) => 3,
+        Event::Updated(_) => 4,
+        Event::Deleted(_) => 5,
+        Event::Began => 6,
+        Event::Committed => 7,
+        Event::RolledBack => 8,
+        Event::Locked => 9,
+        Event::Set => 10,
+        Event::Warned(_) => 11,
+        Event::Failed(_) => 12,
+        Event::Waiting => 13,
+        Event::Resumed => 14,
+        Event::Done => 15,
+        Event::NotSent(_) => 16,
+    }
 }
 
 /// What the text of an event begins with, up to a number or a row.
