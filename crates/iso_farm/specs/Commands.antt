@@ -8,8 +8,8 @@ use Rattle.iso_farm.specs.declared.fault.ProgramFault.{ProgramFault}
 use Rattle.iso_farm.specs.declared.fault.ProgramFault.TheVariants.{Write}
 use Rattle.iso_farm.specs.declared.finding.Finding.{Finding}
 use Rattle.iso_farm.specs.declared.finding.Finding.TheVariants.{Good}
-use Rattle.iso_farm.specs.declared.words.Asked.{Asked}
-use Rattle.iso_farm.specs.declared.words.Asked.TheVariants.{Check, One, Count, Run, Join, Report, Audit, Judge}
+use Rattle.command_words.specs.declared.words.Asked.{Asked}
+use Rattle.command_words.specs.declared.words.Asked.TheVariants.{Check, One, Count, Run, Join, Report, Audit, Judge}
 use Rattle.iso_farm.specs.Status.{status_of, finding_status, one_status, count_status, range_status, join_status, report_status, audit_status, judge_status}
 use Rattle.iso_farm.specs.One.{IsOneRun}
 use Rattle.iso_farm.specs.Counting.{IsChecked, IsCounted}

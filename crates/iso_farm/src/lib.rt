@@ -20,8 +20,6 @@ mod reporting;
 mod single;
 mod spec;
 mod telling;
-mod words;
-mod workers;
 
 pub use auditing::{AuditFault, audit_file};
 pub use commands::{answer, run, tell_words_fault};
@@ -40,5 +38,3 @@ pub use ranges::{MAX_RANGE, RangeFault, book_of_range, run_range};
 pub use reporting::{ReportFault, ReportFileFault, report_file, write_report};
 pub use single::{OneFault, one, one_of};
 pub use spec::{SpecFault, spec_of};
-pub use words::{Asked, parse_words};
-pub use workers::Workers;

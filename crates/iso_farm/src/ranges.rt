@@ -9,8 +9,8 @@ ghost use Rattle.iso_farm.specs.Ranges.{IsRangeOf, IsOutsideRange, IsNoRange, Is
 use crate::cutting::shards_of;
 use crate::progress::Progress;
 use crate::spec::{SpecFault, spec_of};
-use crate::workers::Workers;
 use book_files::{WriteError, write_book};
+use command_words::Workers;
 use outcome_books::Book;
 use session_machine::RunError;
 use shard_farm::{FarmError, Gate, OpenGate, farm_run};

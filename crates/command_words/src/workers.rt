@@ -36,7 +36,7 @@ impl Workers {
     }
 
     /// How many they are.
-    pub(crate) fn number(&self) -> u8
+    pub fn number(&self) -> u8
         ensures number { result ≡ self.now }
         ensures few { (1 ≤ result) × (result ≤ MAX_SEATS) }
     {

@@ -71,18 +71,29 @@ fn no_command(alloc: Global) -> Result<Error, AllocError> {
 
 /// The commands and their words.
 fn command<'a>(alloc: Global) -> Result<Command<'a>, AllocError> {
-    Command::new(alloc, "isofarm")
+    let command = Command::new(alloc, "isofarm")
         .about("Runs the steps of SQL sessions in their orders, under two-phase locking")
         .version(VERSION)
-        .subcommand_required(true)
-        .subcommand(check_command(alloc)?)?
-        .subcommand(one_command(alloc)?)?
-        .subcommand(count_command(alloc)?)?
-        .subcommand(run_command(alloc)?)?
-        .subcommand(join_command(alloc)?)?
-        .subcommand(report_command(alloc)?)?
-        .subcommand(audit_command(alloc)?)?
-        .subcommand(judge_command(alloc)?)
+        .subcommand_required(true);
+    let command = with(command, check_command(alloc))?;
+    let command = with(command, one_command(alloc))?;
+    let command = with(command, count_command(alloc))?;
+    let command = with(command, run_command(alloc))?;
+    let command = with(command, join_command(alloc))?;
+    let command = with(command, report_command(alloc))?;
+    let command = with(command, audit_command(alloc))?;
+    with(command, judge_command(alloc))
+}
+
+/// The command with one more below it.
+fn with<'a>(
+    command: Command<'a>,
+    below: Result<Command<'a>, AllocError>,
+) -> Result<Command<'a>, AllocError> {
+    match below {
+        Ok(below) => command.subcommand(below),
+        Err(error) => Err(error),
+    }
 }
 
 fn check_command<'a>(alloc: Global) -> Result<Command<'a>, AllocError> {
@@ -105,21 +116,6 @@ fn count_command<'a>(alloc: Global) -> Result<Command<'a>, AllocError> {
 }
 
 fn run_command<'a>(alloc: Global) -> Result<Command<'a>, AllocError> {
-    let every = Arg::new(alloc, "every")
-        .long("every")
-        .action(ArgAction::SetTrue)
-        .help("Runs every permutation, and skips none that a smaller one covers");
-    let workers = Arg::new(alloc, "workers")
-        .long("workers")
-        .value_name("N")
-        .action(ArgAction::Set)
-        .value_parser(value_parser!(u8).range(1..=16))
-        .default_value("4")
-        .help("How many workers run it, from 1 to 16");
-    let progress = Arg::new(alloc, "progress")
-        .long("progress")
-        .action(ArgAction::SetTrue)
-        .help("Tells on standard error how far it is");
     Command::new(alloc, "run")
         .about("Runs a range of permutations and prints the book of what they show")
         .arg(spec_word(alloc))?
@@ -129,9 +125,33 @@ fn run_command<'a>(alloc: Global) -> Result<Command<'a>, AllocError> {
             "END",
             "The number behind that of the last permutation",
         ))?
-        .arg(every)?
-        .arg(workers)?
-        .arg(progress)
+        .arg(every_word(alloc))?
+        .arg(workers_word(alloc))?
+        .arg(progress_word(alloc))
+}
+
+fn every_word<'a>(alloc: Global) -> Arg<'a> {
+    Arg::new(alloc, "every")
+        .long("every")
+        .action(ArgAction::SetTrue)
+        .help("Runs every permutation, and skips none that a smaller one covers")
+}
+
+fn workers_word<'a>(alloc: Global) -> Arg<'a> {
+    Arg::new(alloc, "workers")
+        .long("workers")
+        .value_name("N")
+        .action(ArgAction::Set)
+        .value_parser(value_parser!(u8).range(1..=16))
+        .default_value("4")
+        .help("How many workers run it, from 1 to 16")
+}
+
+fn progress_word<'a>(alloc: Global) -> Arg<'a> {
+    Arg::new(alloc, "progress")
+        .long("progress")
+        .action(ArgAction::SetTrue)
+        .help("Tells on standard error how far it is")
 }
 
 fn join_command<'a>(alloc: Global) -> Result<Command<'a>, AllocError> {
