@@ -12,7 +12,7 @@ use Rattle.outcome_books.specs.Entries.{FactSet, recorded}
 use Rattle.outcome_books.specs.Runs.{Table, firsts, AllTo, repeated}
 use Rattle.outcome_books.specs.Books.{facts_in, IsKept, AllRecordable}
 
--- facts of ranks up to the next
+-- facts of runs that begin up to the next
 pub record Building : Type 0 where
   pub facts : FactSet
   pub next : ℕ

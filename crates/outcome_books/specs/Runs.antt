@@ -89,7 +89,7 @@ pub record AreAdded (old more new : List Run) : Type 0 where
   pub rising : IsRising (firsts new)
   pub sound : KeepsAllSound old more new
 
--- the left run at i is there, and none of the right ones from j on is before it
+-- the left run at i is there, and the right one at j, if there is one, is not before it
 pub record LeftIsNext (left : List Run) (i : ℕ) (right : List Run) (j : ℕ) : Type 0 where
   pub there : i < length left
   pub low : (c d : Run) → j < length right → (slice_index_or left i c).first ≤ (slice_index_or right j d).first

@@ -68,8 +68,8 @@ abbrev pub lowest : List Frame → Frame → Frame
 lowest [] top = top
 lowest (f ∷ fs) top = f
 
--- of two blocks, one below the other: the ranks of the upper one are some of those with one letter more, which begin at this rank or before it
--- and, up to the end, go no further
+-- of two blocks, one below the other: those of the lower one's words that have one letter more begin at this rank or before it, and the upper block ends
+-- no later than they do and, up to the end, no sooner
 pub record IsAbove (at end : ℕ) (lower upper : Block) : Type 0 where
   pub letter : ℕ
   pub left : 0 < get_or lower.left letter 0
@@ -112,7 +112,7 @@ pub record IsFresh (spec : Spec) (end : ℕ) (s : Stack) : Type 0 where
   pub all : total s.top.block.left ≡ total (counts_of (queues_of spec))
   pub to : end ≤ end_of s.top.block
 
--- the topmost frame has the word of the rank alone
+-- the topmost frame has the word of the rank, and none behind it
 pub record IsBehind (rank : ℕ) (s : Stack) : Type 0 where
   pub has : HasRank s.top.block rank
   pub alone : end_of s.top.block ≤ rank + 1
