@@ -1,7 +1,6 @@
 -- The shards of a range, one by one, and their facts.
-use Rattle.std.proofs.Common.{◌≡◌, ◌⊎◌, ⊎_elim, refl, ℕ, ◌<◌, ◌≤◌, Bool, true, List, [], ◌∷◌, ◌++◌, length, arith}
+use Rattle.std.proofs.Common.{◌≡◌, ◌⊎◌, ⊎_elim, refl, subst, ℕ, ◌<◌, ◌≤◌, Bool, true, List, [], ◌∷◌, ◌++◌, length, arith}
 use Rattle.std.proofs.lemmas.List.{length-append}
-use Rattle.std.proofs.lemmas.List.Elements.{All-push}
 use Rattle.atomic_table.proofs.Lists.{at_longer, at_last}
 use Rattle.sql_subset.specs.Spec.{Spec}
 use Rattle.quiet_steps.specs.Facts.{IsFactOf}
@@ -9,7 +8,7 @@ use Rattle.step_reducer.specs.declared.walker.Shard.{Shard}
 use Rattle.outcome_books.specs.Entries.{FactSet, recorded}
 use Rattle.outcome_books.specs.Building.{AreFactsOf}
 use Rattle.shard_farm.specs.Farming.{AreShardFacts}
-use Rattle.shard_farm.proofs.CrewLemmas.{all_at}
+use Rattle.shard_board.proofs.RowLemmas.{at_end}
 use Rattle.iso_farm.specs.Cutting.{AreCut, IsCut, IsCutAt, IsInOne}
 
 in-longer : (shards : List Shard) (one : Shard) (r : ℕ) → IsInOne shards r → IsInOne (shards ++ one ∷ []) r
@@ -29,13 +28,25 @@ cut-more first at next end shards c a =
     record {
       from = omega arith;
       to = inside;
-      parts = All-push (IsCut first end) shards one a.parts (record { from = from; order = omega arith; to = inside; few = few });
+      parts = λ n s is. ⊎_elim (λ old. a.parts n s old) (λ (new : (n ≡ length shards) × (one ≡ s)). last n s new.0 new.1) (at_end shards one s n is);
       whole = λ r low high.
           let cases : (r < at) ⊎ (at ≤ r) = grind arith in
           ⊎_elim (λ lt. in-longer shards one r (a.whole r low lt)) (λ ge. (length shards, (one, (at_last shards one (length shards) refl, (ge, high))))) cases;
       full = λ lt. let e = c.full lt in omega arith;
       many = omega arith;
     }
+  where
+    last : (n : ℕ) (s : Shard) → n ≡ length shards → record { first = at; end = next } ≡ s → IsCut first end n s
+    last n s number is =
+        subst (IsCut first end n) is (
+        let full = a.full (omega (arith, c.more, c.inside)) in
+        record {
+          from = omega (arith, full, number);
+          order = c.more;
+          to = c.inside;
+          few = c.few;
+          whole = c.full;
+        })
 
 -- their facts are those of the range's ranks
 pub cut-facts : (reduce : Bool) (spec : Spec) (first end : ℕ) (shards : List Shard) (facts : FactSet) → AreCut first end end shards
@@ -45,7 +56,7 @@ cut-facts reduce spec first end shards facts c has r fact = (there, back)
     there : recorded facts r fact ≡ true → (first ≤ r) × (r < end) × IsFactOf reduce spec r fact
     there h =
         let x = (has r fact).0 h in
-        let p = all_at (IsCut first end) shards c.parts x.0 x.1.0 x.1.1.0 in
+        let p = c.parts x.0 x.1.0 x.1.1.0 in
         let from = p.from in
         let to = p.to in
         let low = x.1.1.1.0 in

@@ -43,7 +43,7 @@ use Rattle.iso_farm.specs.declared.reporting.ReportFault.TheVariants.{Report, Wr
 use Rattle.iso_farm.specs.Reporting.{IsReportText, IsReported}
 use Rattle.iso_farm.specs.Cutting.{IsInOne}
 use Rattle.iso_farm.specs.Laws.{AreAnswers}
-use Rattle.iso_farm.specs.Headline.{shards_in, IsRun, HaveFact, WasRun, ArePlansOf, HoldsTheRuns, AreSerial, IsReportOfRuns, MayRefuse, RunsDecide}
+use Rattle.iso_farm.specs.Headline.{shards_in, IsRun, HaveFact, WasRun, ArePlansOf, HoldsTheRuns, AreSerial, IsReportOfRuns, MayRefuse, RunsDecide, RunsHold, JoinsHold, HoldsAllRuns, WasRunByOne}
 use Rattle.iso_farm.specs.Headline.{HaveFactBelow, HoldsTheFirst, AreRun, IsNotRun, IsNextRun, IsJoinedWith, AreRunsReported}
 use Rattle.iso_farm.proofs.RangeLemmas.{fact-true}
 use Rattle.iso_farm.proofs.ReportLemmas.{report-answers, none-clash}
@@ -275,8 +275,38 @@ one-bool true y f g = sym (f refl)
 one-bool false true f g = g refl
 one-bool false false f g = refl
 
+pub runs-hold : RunsHold
+runs-hold file job plans book h = record {
+  file_is = h.file_is;
+  facts = λ r fact. (λ e. inl ((h.facts r fact).0 e), ⊎_elim (λ w. (h.facts r fact).1 w) (λ n. absurd n));
+}
+
+-- what the one or the other runs
+by-both : (spec : Spec) (xs ys : List (Job × List Plan)) (r : ℕ) (fact : Fact)
+    → WasRunByOne spec (xs ++ ys) r fact ↔ (WasRunByOne spec xs r fact ⊎ WasRunByOne spec ys r fact)
+by-both spec [] ys r fact = (λ y. inr y, ⊎_elim (λ n. absurd n) (λ y. y))
+by-both spec (x ∷ xs) ys r fact =
+    let more = by-both spec xs ys r fact in (
+      ⊎_elim (λ w. inl (inl w)) (λ m. ⊎_elim (λ l. inl (inr l)) (λ y. inr y) (more.0 m)),
+      ⊎_elim (⊎_elim (λ w. inl w) (λ l. inr (more.1 (inl l)))) (λ y. inr (more.1 (inr y))),
+    )
+
+pub joins-hold : JoinsHold
+joins-hold file xs ys a b h k = record { file_is = h.file_is; facts = λ r fact. (there r fact, back r fact) }
+  where
+    there : (r : ℕ) (fact : Fact) → recorded (union a.facts b.facts) r fact ≡ true → WasRunByOne file.run (xs ++ ys) r fact
+    there r fact e =
+        (by-both file.run xs ys r fact).1 (⊎_elim (λ t. inl ((h.facts r fact).0 t)) (λ t. inr ((k.facts r fact).0 t))
+        (or_cases (recorded a.facts r fact) (recorded b.facts r fact) (sym (in_union a.facts b.facts (r, fact)) ∙ e)))
+
+    back : (r : ℕ) (fact : Fact) → WasRunByOne file.run (xs ++ ys) r fact → recorded (union a.facts b.facts) r fact ≡ true
+    back r fact w =
+        in_union a.facts b.facts (r, fact)
+        ∙ ⊎_elim (λ l. or_left (recorded a.facts r fact) (recorded b.facts r fact) ((h.facts r fact).1 l))
+        (λ l. or_right (recorded a.facts r fact) (recorded b.facts r fact) ((k.facts r fact).1 l)) ((by-both file.run xs ys r fact).0 w)
+
 pub runs-decide : RunsDecide
-runs-decide file job other plans others a b h k same = λ i. record { file = (h.file_is ∙ sym k.file_is) i; facts = facts i }
+runs-decide file xs ys a b h k same = λ i. record { file = (h.file_is ∙ sym k.file_is) i; facts = facts i }
   where
     facts : a.facts ≡ b.facts
     facts = same_facts a.facts b.facts (λ e. one-bool (recorded a.facts e.0 e.1) (recorded b.facts e.0 e.1)

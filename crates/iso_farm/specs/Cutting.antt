@@ -1,26 +1,27 @@
 -- Ranges of ranks cut into shards.
-use Rattle.std.specs.Prelude.{◌≡◌, ℕ, ◌+◌, ◌*◌, ◌<◌, ◌≤◌, List, length, All}
+use Rattle.std.specs.Prelude.{◌≡◌, ℕ, ◌+◌, ◌*◌, ◌<◌, ◌≤◌, List, length}
 use mathlib.Core.Option.{some}
 use lib.ListN.{get_elem?}
 use Rattle.step_reducer.specs.declared.walker.Shard.{Shard}
 use Rattle.iso_farm.specs.declared.cutting.TheConstants.{SHARD_RANKS}
 
--- the shard is a part of the range, and not too long
-pub record IsCut (first end : ℕ) (shard : Shard) : Type 0 where
-  pub from : first ≤ shard.first
-  pub order : shard.first ≤ shard.end
+-- the shard of a range with this number, from 0: it begins behind as many whole ones, and is whole, unless it is the last
+pub record IsCut (first end number : ℕ) (shard : Shard) : Type 0 where
+  pub from : shard.first ≡ first + SHARD_RANKS * number
+  pub order : shard.first < shard.end
   pub to : shard.end ≤ end
   pub few : shard.end ≤ shard.first + SHARD_RANKS
+  pub whole : shard.end < end → shard.end ≡ shard.first + SHARD_RANKS
 
 -- one of the shards has the rank
 abbrev pub IsInOne : List Shard → ℕ → Type 0
 IsInOne shards r = (n : ℕ) × ((shard : Shard) × ((get_elem? shards n ≡ some shard) × ((shard.first ≤ r) × (r < shard.end))))
 
--- the shards are parts of the range, each rank up to here is in one of them, and there are no more than that takes
+-- the shards are those of the range up to here: each is the one with its number, each rank is in one of them, and there are no more than that takes
 pub record AreCut (first at end : ℕ) (shards : List Shard) : Type 0 where
   pub from : first ≤ at
   pub to : at ≤ end
-  pub parts : All (IsCut first end) shards
+  pub parts : (number : ℕ) (shard : Shard) → get_elem? shards number ≡ some shard → IsCut first end number shard
   pub whole : (r : ℕ) → first ≤ r → r < at → IsInOne shards r
   pub full : at < end → first + SHARD_RANKS * length shards ≡ at
   pub many : first + SHARD_RANKS * length shards < at + SHARD_RANKS

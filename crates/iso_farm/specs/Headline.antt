@@ -148,10 +148,29 @@ abbrev pub IsJoinedWith : Contents → Contents → Result Contents HeadlineFaul
 IsJoinedWith book next (Ok all) = (book.file ≡ next.file) × (all ≡ joined book next)
 IsJoinedWith book next (Err fault) = fault ≡ fault_of.NoMemory
 
--- ---- the law
+-- ---- the laws
 
--- what was run decides the book: neither order, grouping and repeats nor workers do
+-- one of these jobs, each with its plans, has the rank with that fact
+abbrev pub WasRunByOne : Spec → List (Job × List Plan) → ℕ → Fact → Type 0
+WasRunByOne spec [] r fact = ⊥
+WasRunByOne spec (x ∷ xs) r fact = WasRun spec x.0 x.1 r fact ⊎ WasRunByOne spec xs r fact
+
+-- the book holds exactly the facts of the ranks that all these run
+pub record HoldsAllRuns (file : SpecFile) (runs : List (Job × List Plan)) (book : Contents) : Type 0 where
+  pub file_is : book.file ≡ file
+  pub facts : (r : ℕ) (fact : Fact) → (recorded book.facts r fact ≡ true) ↔ WasRunByOne file.run runs r fact
+
+-- a book of one job and its plans holds what they run
+abbrev pub RunsHold : Type 0
+RunsHold = (file : SpecFile) (job : Job) (plans : List Plan) (book : Contents) → HoldsTheRuns file job plans book → HoldsAllRuns file ((job, plans) ∷ []) book
+
+-- the join of two books holds what both hold, and so does any tree of joins
+abbrev pub JoinsHold : Type 0
+JoinsHold = (file : SpecFile) (xs ys : List (Job × List Plan)) (a b : Contents)
+    → HoldsAllRuns file xs a → HoldsAllRuns file ys b → HoldsAllRuns file (xs ++ ys) (joined a b)
+
+-- what was run decides the book: neither order, grouping and repeats of shards and of joins nor workers do
 abbrev pub RunsDecide : Type 0
 RunsDecide =
-    (file : SpecFile) (job other : Job) (plans others : List Plan) (a b : Contents) → HoldsTheRuns file job plans a → HoldsTheRuns file other others b
-    → ((r : ℕ) (fact : Fact) → WasRun file.run job plans r fact ↔ WasRun file.run other others r fact) → a ≡ b
+    (file : SpecFile) (xs ys : List (Job × List Plan)) (a b : Contents) → HoldsAllRuns file xs a → HoldsAllRuns file ys b
+    → ((r : ℕ) (fact : Fact) → WasRunByOne file.run xs r fact ↔ WasRunByOne file.run ys r fact) → a ≡ b

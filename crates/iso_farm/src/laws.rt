@@ -1,6 +1,6 @@
 //! The laws of what is run, joined and reported, each the contract of a function that does nothing.
 
-ghost use Rattle.iso_farm.specs.Headline.{RunsDecide};
+ghost use Rattle.iso_farm.specs.Headline.{RunsHold, JoinsHold, RunsDecide};
 ghost use Rattle.iso_farm.specs.Laws.{RangesAreTrue, JoinsStayTrue, ReportsAreTheMachines, CoveringReports};
 
 /// Whatever ranges are run, whichever way they cover or overlap each other, and however their books are joined: what is reported is
@@ -12,7 +12,10 @@ pub fn reports_are_the_machines()
     ensures covering { CoveringReports }
 {}
 
-/// What was run decides the book, and so its report: neither the order, the grouping and the number of its shards nor the workers do.
+/// What was run decides the book, and so its report: neither the order, the grouping and the number of shards and of joins nor the workers do. Books of
+/// jobs and plans may be joined in any tree.
 pub fn runs_decide()
-    ensures { RunsDecide }
+    ensures alone { RunsHold }
+    ensures joins { JoinsHold }
+    ensures decide { RunsDecide }
 {}
