@@ -43,7 +43,8 @@ use Rattle.iso_farm.specs.declared.reporting.ReportFault.TheVariants.{Report, Wr
 use Rattle.iso_farm.specs.Reporting.{IsReportText, IsReported}
 use Rattle.iso_farm.specs.Cutting.{IsInOne}
 use Rattle.iso_farm.specs.Laws.{AreAnswers}
-use Rattle.iso_farm.specs.Headline.{shards_in, IsRun, HaveFact, WasRun, ArePlansOf, HoldsTheRuns, AreSerial, IsReportOfRuns, MayRefuse, RunsDecide, RunsHold, JoinsHold, HoldsAllRuns, WasRunByOne}
+use Rattle.iso_farm.specs.Headline.{shards_in, IsRun, HaveFact, WasRun, ArePlansOf, HoldsTheRuns, AreSerial, IsReportOfRuns, MayRefuse}
+use Rattle.iso_farm.specs.Headline.{WasRunByOne, RunsHold, JoinsHold, RunsDecide}
 use Rattle.iso_farm.specs.Headline.{HaveFactBelow, HoldsTheFirst, AreRun, IsNotRun, IsNextRun, IsJoinedWith, AreRunsReported}
 use Rattle.iso_farm.proofs.RangeLemmas.{fact-true}
 use Rattle.iso_farm.proofs.ReportLemmas.{report-answers, none-clash}
