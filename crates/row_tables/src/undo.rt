@@ -6,7 +6,7 @@ ghost use Rattle.std.specs.Ordering.{nat_cmp};
 ghost use Rattle.std.specs.BTreeMap.{insert_entry};
 ghost use Rattle.finite_maps.specs.Map as map;
 ghost use Rattle.lock_modes.specs.RowPlace.{place_cmp};
-ghost use Rattle.row_tables.specs.Overlay.{lay};
+ghost use Rattle.row_tables.specs.Overlay.{lay, laid};
 ghost use Rattle.row_tables.specs.Undo.{noted, AreApart};
 
 use crate::left::Left;
@@ -77,10 +77,19 @@ impl UndoList {
     {
         let mut restored = rows.fork()?;
         for (place, before) in self.iter() {
-            restored = restored.replaced(place.fork()?, before.fork()?)?;
+            restored = put_back(&restored, place, before)?;
         }
         Ok(restored)
     }
+}
+
+/// The rows as they stood before one of the writes.
+fn put_back(rows: &Rows, place: &RowPlace, before: &Left) -> Result<Rows, AllocError>
+    ensures { IfOk result (λ restored. restored ≡ laid place.now before.now rows.now) }
+{
+    let place = place.fork()?;
+    let before = before.fork()?;
+    rows.replaced(place, before)
 }
 
 impl Fork for UndoList {

@@ -1,7 +1,8 @@
 //! Binds UPDATE and DELETE.
 
-ghost use Rattle.std.specs.Prelude.{◌≡◌, ◌∷◌, IfOk};
+ghost use Rattle.std.specs.Prelude.{◌≡◌, ℕ, ◌∷◌, IfOk};
 ghost use Rattle.std.specs.List.{list_any};
+ghost use Rattle.sql_statements.specs.declared.statement.Bound.TheVariants as variants;
 ghost use Rattle.sql_grammar.specs.Views.{chain_by, option_by, view_assignment, view_condition};
 ghost use Rattle.sql_binding.specs.Refusals.{Binds, each};
 ghost use Rattle.sql_binding.specs.Statements as spec;
@@ -14,6 +15,7 @@ use crate::inserts::repeats;
 use crate::keys::key_of;
 use crate::tables::Table;
 use crate::types::{assignment_mixes, condition_mixes};
+use lock_modes::Value;
 use sql_grammar::{Assignment as AssignmentText, Chain, Delete, Update};
 use sql_statements::{Assignment, Bound, Condition};
 use sqlite_items::Items;
@@ -80,6 +82,28 @@ fn sets_mix(table: &Table, sets: &[Assignment]) -> bool
     sets.iter().any(|set| assignment_mixes(table, set))
 }
 
+/// The key that an UPDATE names, where it is not refused.
+fn updated_key(
+    alloc: Global,
+    table: &Table,
+    at: usize,
+    sets: &[Assignment],
+    condition: &Condition,
+) -> Result<Option<Value>, BindStop>
+    ensures { (number : ℕ) → Binds (λ key. variants.Update number key sets.now condition.now) result (spec.update_rows table.now at number sets.now condition.now) }
+{
+    if sets_mix(table, sets) || condition_mixes(table, condition) {
+        return Err(refused(at, BindErrorKind::TypeMismatch));
+    }
+    if sets_key(table.key(), sets) {
+        return Err(refused(at, BindErrorKind::KeyChanged));
+    }
+    if repeats(&set_columns(alloc, sets)?) {
+        return Err(refused(at, BindErrorKind::WrongCount));
+    }
+    Ok(key_of(table.key(), condition)?)
+}
+
 fn update_rows(
     alloc: Global,
     table: &Table,
@@ -90,16 +114,7 @@ fn update_rows(
 ) -> Result<Bound, BindStop>
     ensures { Binds (λ bound. bound) result (spec.update_rows table.now at number sets.items condition) }
 {
-    if sets_mix(table, &sets) || condition_mixes(table, &condition) {
-        return Err(refused(at, BindErrorKind::TypeMismatch));
-    }
-    if sets_key(table.key(), &sets) {
-        return Err(refused(at, BindErrorKind::KeyChanged));
-    }
-    if repeats(&set_columns(alloc, &sets)?) {
-        return Err(refused(at, BindErrorKind::WrongCount));
-    }
-    let key = key_of(table.key(), &condition)?;
+    let key = updated_key(alloc, table, at, &sets, &condition)?;
     Ok(Bound::Update(number, key, Items::from_vec(sets), condition))
 }
 
@@ -120,6 +135,16 @@ pub(crate) fn update(
     update_rows(alloc, table, at, number, sets, condition)
 }
 
+/// The key that a DELETE names, where it is not refused.
+fn deleted_key(table: &Table, at: usize, condition: &Condition) -> Result<Option<Value>, BindStop>
+    ensures { (number : ℕ) → Binds (λ key. variants.Delete number key condition.now) result (spec.delete_rows table.now at number condition.now) }
+{
+    if condition_mixes(table, condition) {
+        return Err(refused(at, BindErrorKind::TypeMismatch));
+    }
+    Ok(key_of(table.key(), condition)?)
+}
+
 fn delete_rows(
     table: &Table,
     at: usize,
@@ -128,10 +153,7 @@ fn delete_rows(
 ) -> Result<Bound, BindStop>
     ensures { Binds (λ bound. bound) result (spec.delete_rows table.now at number condition) }
 {
-    if condition_mixes(table, &condition) {
-        return Err(refused(at, BindErrorKind::TypeMismatch));
-    }
-    let key = key_of(table.key(), &condition)?;
+    let key = deleted_key(table, at, &condition)?;
     Ok(Bound::Delete(number, key, condition))
 }
 

@@ -1,6 +1,8 @@
 //! Binds SELECT.
 
-ghost use Rattle.std.specs.Prelude.{◌≡◌};
+ghost use Rattle.std.specs.Prelude.{◌≡◌, ℕ, List};
+ghost use Rattle.sql_statements.specs.declared.statement.Bound.TheVariants as variants;
+ghost use Rattle.sql_statements.specs.declared.statement.SortKey.{SortKey as Sorted};
 ghost use Rattle.sql_grammar.specs.Views.{chain_of, option_by, view_selected, view_condition};
 ghost use Rattle.sql_binding.specs.Names.{list_of};
 ghost use Rattle.sql_binding.specs.Refusals.{Binds, each};
@@ -12,6 +14,7 @@ use crate::inserts::{all_columns, columns};
 use crate::keys::key_of;
 use crate::tables::Table;
 use crate::types::{condition_mixes, output_mixes};
+use lock_modes::Value;
 use sql_grammar::{
     Aggregate as AggregateText, Chain, Direction, Select, Selected, SortKey as SortKeyText,
 };
@@ -109,6 +112,22 @@ fn sort_keys(
     }
 }
 
+/// The key that a SELECT names, where it is not refused.
+fn selected_key(
+    table: &Table,
+    at: usize,
+    output: &Output,
+    condition: &Condition,
+) -> Result<Option<Value>, BindStop>
+    ensures { (number : ℕ) → (order : List Sorted) →
+        Binds (λ key. variants.Select number key condition.now order output.now) result (spec.select_rows table.now at number output.now order condition.now) }
+{
+    if output_mixes(table, output) || condition_mixes(table, condition) {
+        return Err(refused(at, BindErrorKind::TypeMismatch));
+    }
+    Ok(key_of(table.key(), condition)?)
+}
+
 fn select_rows(
     table: &Table,
     at: usize,
@@ -119,10 +138,7 @@ fn select_rows(
 ) -> Result<Bound, BindStop>
     ensures { Binds (λ bound. bound) result (spec.select_rows table.now at number output order condition) }
 {
-    if output_mixes(table, &output) || condition_mixes(table, &condition) {
-        return Err(refused(at, BindErrorKind::TypeMismatch));
-    }
-    let key = key_of(table.key(), &condition)?;
+    let key = selected_key(table, at, &output, &condition)?;
     Ok(Bound::Select(number, key, condition, order, output))
 }
 

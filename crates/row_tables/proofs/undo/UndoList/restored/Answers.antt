@@ -1,6 +1,5 @@
 use Rattle.std.proofs.Common.{sym, ap, ◌∙◌}
 use Rattle.finite_maps.specs.Map.{entries}
-use Rattle.row_tables.specs.Overlay.{laid}
 use Rattle.row_tables.proofs.RestoreLemmas.{put_back, put_back-lay}
 use Rattle.row_tables.proofs.undo.UndoList.restored.Goals as goal
 
@@ -13,6 +12,6 @@ loop-place-init c =
 -- the entry that is put back was the first of those left
 pub loop-place-preserved : goal.loop-place-preserved
 loop-place-preserved c =
-    ap (put_back c.next.new.self) (c.in_ok-restored-2.ensures ∙ λ i. laid (c.in_ok-fork.ensures i) (c.in_ok-fork-2.ensures i) c.loop-place.restored)
+    ap (put_back c.next.new.self) c.in_ok-restored-2.ensures
     ∙ ap (λ es. put_back es c.loop-place.restored) (sym c.in-Some.ensures.steps)
     ∙ c.loop-place.invariant
