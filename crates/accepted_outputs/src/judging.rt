@@ -2,7 +2,7 @@
 
 ghost use Rattle.std.specs.Prelude.{◌≡◌, All, IfOk};
 ghost use Rattle.quiet_steps.specs.Swap.{leads_in};
-ghost use Rattle.sql_subset.specs.Spec.{ranks};
+ghost use Rattle.bound_specs.specs.Spec.{ranks};
 ghost use Rattle.outcome_books.specs.Values.{AreValues};
 ghost use Rattle.accepted_outputs.specs.Judging.{HasFewSessions, IsVerdict};
 

@@ -2,10 +2,10 @@
 
 use crate::facts::{number, refuse};
 use crate::walks::text_of;
+use bound_specs::Spec;
 use iso_farm::{OneFault, spec_of};
 use outcome_books::{Book, Boxed, Job, Report, ReportError, make, missing, report};
 use session_machine::RunError;
-use sql_subset::Spec;
 use std::alloc::Global;
 use std::io;
 use std::process::ExitCode;

@@ -1,9 +1,9 @@
 //! Prints the facts of a range of ranks, one a line, for a second implementation that they are compared with.
 
 use crate::walks::text_of;
+use bound_specs::Spec;
 use iso_farm::{OneFault, fault_at, spec_of};
 use session_machine::RunError;
-use sql_subset::Spec;
 use std::io;
 use std::process::ExitCode;
 use step_reducer::{Fact, Shard, Walker};

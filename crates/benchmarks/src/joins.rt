@@ -1,8 +1,8 @@
 //! How long books of a spec take to make, to join and to report, and how much memory the program holds with them.
 
 use crate::walks::{refused, spec_of, text_of};
+use bound_specs::Spec;
 use outcome_books::{Book, Boxed, Job, join, make, report};
-use sql_subset::Spec;
 use std::alloc::Global;
 use std::io;
 use std::time::{Duration, Instant};

@@ -2,9 +2,10 @@
 
 ghost use Rattle.std.specs.Prelude.{◌<◌, All, length};
 
+use bound_specs::{Line, Spec};
 use session_machine::{World, run_one};
 use spec_reader::read_spec;
-use sql_subset::{Line, Spec, bind};
+use sql_subset::bind;
 use std::alloc::Global;
 use std::io;
 use std::time::{Duration, Instant};

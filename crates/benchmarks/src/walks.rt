@@ -1,6 +1,6 @@
 //! How fast a walker gives the facts of the ranks of a spec.
 
-use sql_subset::Spec;
+use bound_specs::Spec;
 use std::alloc::Global;
 use std::fs::File;
 use std::io::{self, Read};

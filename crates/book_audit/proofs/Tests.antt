@@ -4,7 +4,7 @@ use Rattle.std.proofs.Common.{option_map, ◌⊎◌, ⊎_elim, arith}
 use Rattle.perm_ranks.specs.Words.{Word, total, all_words, word_at}
 use Rattle.perm_ranks.specs.Swapped.{exchanged}
 use Rattle.perm_ranks.proofs.WordLemmas.{Takes, words-take, each-at}
-use Rattle.sql_subset.specs.Spec.{Spec, ranks, ranks_by, line_of, counts_of, queues_of}
+use Rattle.bound_specs.specs.Spec.{Spec, ranks, ranks_by, line_of, counts_of, queues_of}
 use Rattle.transcripts.specs.declared.event.Event.{Event}
 use Rattle.machine_model.specs.World.{World, send_all, outcome_of}
 use Rattle.machine_model.specs.Start.{Start, Started, SetupFailed, SessionSetupFailed, SessionSetupWaits, start}

@@ -1,6 +1,6 @@
 -- What an audit of a book tells: that each of its facts is true, or the least rank with one that is not.
 use Rattle.std.specs.Prelude.{◌≡◌, ℕ, ◌<◌, true, Result, Ok, Err, ⊤}
-use Rattle.sql_subset.specs.Spec.{Spec}
+use Rattle.bound_specs.specs.Spec.{Spec}
 use Rattle.quiet_steps.specs.Facts.{IsTrueAt}
 use Rattle.quiet_steps.specs.Values.{Facts, AllTrue}
 use Rattle.quiet_steps.specs.declared.fact.Fact.{Fact}

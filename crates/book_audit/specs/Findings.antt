@@ -1,7 +1,7 @@
 -- The facts that runs say, and the least rank at which one of them is not true.
 use Rattle.std.specs.Prelude.{◌≡◌, ℕ, ◌<◌, ◌≤◌, min, true, ◌||◌, List, Option, Some, None}
 use Rattle.std.specs.List.{list_any}
-use Rattle.sql_subset.specs.Spec.{Spec}
+use Rattle.bound_specs.specs.Spec.{Spec}
 use Rattle.quiet_steps.specs.Facts.{IsTrueAt}
 use Rattle.quiet_steps.specs.Values.{Facts, AllTrue}
 use Rattle.quiet_steps.specs.declared.fact.Fact.{Fact}

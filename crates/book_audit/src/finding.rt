@@ -11,8 +11,8 @@ ghost use Rattle.book_audit.specs.Findings.{IsFinding, IsLeast, said, with_said,
 
 use crate::error::AuditError;
 use crate::ground::Ground;
+use bound_specs::Spec;
 use outcome_books::Run;
-use sql_subset::Spec;
 use std::alloc::{AllocError, Global};
 use transcripts::Outcome;
 

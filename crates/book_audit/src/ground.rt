@@ -8,9 +8,9 @@ ghost use Rattle.book_audit.specs.Grounds.{IsGround, IsTrueUntil};
 ghost use Rattle.book_audit.specs.Findings.{IsFirstFalse};
 
 use crate::testing::{is_ran, swap_until};
+use bound_specs::Spec;
 use outcome_books::{Run, Tag};
 use session_machine::{StartError, World};
-use sql_subset::Spec;
 use std::alloc::{AllocError, Global};
 use step_reducer::Path;
 use transcripts::Outcome;

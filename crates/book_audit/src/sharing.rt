@@ -2,8 +2,8 @@
 
 ghost use Rattle.std.specs.Prelude.{◌≡◌, All, IfOk, length};
 ghost use Rattle.std.specs.List.{AllZip};
-ghost use Rattle.sql_subset.specs.Spec.{SpecFile};
-ghost use Rattle.sql_subset.specs.Binding.{IsFileOf};
+ghost use Rattle.bound_specs.specs.Spec.{SpecFile};
+ghost use Rattle.bound_specs.specs.Binding.{IsFileOf};
 ghost use Rattle.outcome_books.specs.Runs.{AllSound};
 ghost use Rattle.book_audit.specs.Findings.{IsFinding, said};
 ghost use Rattle.book_audit.specs.Pieces.{both, all_of};

@@ -1,12 +1,13 @@
 //! The spec of a book.
 
 ghost use Rattle.std.specs.Prelude.{◌≡◌, IfOk};
-ghost use Rattle.sql_subset.specs.Spec.{SpecFile};
-ghost use Rattle.sql_subset.specs.Binding.{IsFileOf};
+ghost use Rattle.bound_specs.specs.Spec.{SpecFile};
+ghost use Rattle.bound_specs.specs.Binding.{IsFileOf};
 
+use bound_specs::Spec;
 use outcome_books::Book;
 use spec_reader::read_spec;
-use sql_subset::{Spec, bind};
+use sql_subset::bind;
 use std::alloc::{AllocError, Global};
 
 /// The spec of a book.

@@ -1,7 +1,7 @@
 //! Whether facts of a spec that starts are true.
 
 ghost use Rattle.std.specs.Prelude.{◌≡◌, ◌↔◌, ◌+◌, ◌<◌, ◌≤◌, length, IfOk, OnOk, IsTrue};
-ghost use Rattle.sql_subset.specs.Spec.{ranks, line_of};
+ghost use Rattle.bound_specs.specs.Spec.{ranks, line_of};
 ghost use Rattle.quiet_steps.specs.Facts.{IsTrueAt};
 ghost use Rattle.quiet_steps.specs.Swap.{are_quiet_at};
 ghost use Rattle.quiet_steps.specs.declared.fact.Fact.TheVariants as fact;

@@ -10,8 +10,8 @@ use Rattle.serde_json.proofs.OnLiterals.{serde_json_on_literals}
 use Rattle.transcripts.specs.Json.{outcome_data, OutcomeFits}
 use Rattle.machine_model.specs.Outcome.{IsOutcomeOf}
 use Rattle.quiet_steps.specs.declared.fact.Fact.TheVariants.{Ran as RanFact}
-use Rattle.sql_subset.specs.Spec.{Spec, ranks}
-use Rattle.sql_subset.specs.Binding.{IsFileOf}
+use Rattle.bound_specs.specs.Spec.{Spec, ranks}
+use Rattle.bound_specs.specs.Binding.{IsFileOf}
 use Rattle.outcome_books.specs.declared.run.Run.{Run}
 use Rattle.outcome_books.specs.declared.run.Tag.{Tag}
 use Rattle.outcome_books.specs.declared.run.Tag.TheVariants.{Ran, Swap}

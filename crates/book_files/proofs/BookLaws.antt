@@ -5,8 +5,8 @@ use Rattle.std.proofs.lemmas.List.{take_all, length-take-le}
 use Rattle.std.specs.Prelude.{option_map, IfSome}
 use Rattle.std.specs.Result.{IfErr}
 use Rattle.serde_json.specs.Data.{Data}
-use Rattle.sql_subset.specs.Spec.{SpecFile}
-use Rattle.sql_subset.specs.Binding.{IsFileOf}
+use Rattle.bound_specs.specs.Spec.{SpecFile}
+use Rattle.bound_specs.specs.Binding.{IsFileOf}
 use Rattle.outcome_books.specs.Books.{Contents}
 use Rattle.book_files.specs.declared.error.BookError.{BookError}
 use Rattle.book_files.specs.declared.error.BookError.TheVariants.{NotJson, BadField, BadVersion, BadSpec, BadRank, OutOfOrder, BadSwap, TooLarge, NoMemory}

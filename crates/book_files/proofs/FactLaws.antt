@@ -13,7 +13,7 @@ use Rattle.std.specs.FinSet.{contains, union, from_list, empty, contains-from_li
 use Rattle.serde_json.specs.Data.{Data, Items, no_items, item}
 use Rattle.transcripts.specs.Json.{OutcomeFits}
 use Rattle.machine_model.specs.Outcome.{IsOutcomeOf}
-use Rattle.sql_subset.specs.Spec.{Spec, ranks}
+use Rattle.bound_specs.specs.Spec.{Spec, ranks}
 use Rattle.quiet_steps.specs.declared.fact.Fact.{Fact}
 use Rattle.quiet_steps.specs.declared.fact.Fact.TheVariants.{Ran, Swap}
 use Rattle.outcome_books.specs.Entries.{Entry, entry_cmp, fact_cmp}

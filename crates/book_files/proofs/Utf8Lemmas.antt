@@ -6,7 +6,7 @@ use Rattle.std.specs.declared.string.String.{String}
 use Rattle.std.proofs.lemmas.Str.{IsUtf8-append, IsUtf8-nil, IsUtf8-from_ascii, IsUtf8-string_bytes}
 use Rattle.std.proofs.lemmas.Fmt.{IsAscii-decimal}
 use Rattle.json.proofs.Printed.Utf8.{IsUtf8-are_ascii}
-use Rattle.sql_subset.specs.Binding.{IsFileOf}
+use Rattle.bound_specs.specs.Binding.{IsFileOf}
 use Rattle.outcome_books.specs.declared.run.Run.{Run}
 use Rattle.outcome_books.specs.declared.run.Tag.{Tag}
 use Rattle.outcome_books.specs.declared.run.Tag.TheVariants.{Ran, Swap}

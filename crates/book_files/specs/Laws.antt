@@ -4,7 +4,7 @@ use Rattle.serde_json.specs.Read.{read}
 use Rattle.transcripts.specs.Json.{OutcomeFits}
 use Rattle.outcome_books.specs.declared.run.Run.{Run}
 use Rattle.outcome_books.specs.Runs.{Table}
-use Rattle.sql_subset.specs.Binding.{IsFileOf}
+use Rattle.bound_specs.specs.Binding.{IsFileOf}
 use Rattle.outcome_books.specs.Books.{Contents, AllRecordable}
 use Rattle.book_files.specs.Forms.{tag_number}
 use Rattle.book_files.specs.declared.pieces.TheConstants.{MAX_TEXT, MAX_FACTS}

@@ -4,7 +4,7 @@ use Rattle.serde_json.specs.Data.{Data, Items, no_items, item}
 use Rattle.serde_json.specs.Find.{as_number, as_u64}
 use Rattle.transcripts.specs.Json.{outcome_data, OutcomeFits}
 use Rattle.machine_model.specs.Outcome.{IsOutcomeOf}
-use Rattle.sql_subset.specs.Spec.{Spec}
+use Rattle.bound_specs.specs.Spec.{Spec}
 use Rattle.outcome_books.specs.Entries.{Told}
 use Rattle.outcome_books.specs.Runs.{Table}
 use Rattle.book_files.specs.declared.error.BookError.{BookError}

@@ -5,10 +5,10 @@ use Rattle.std.specs.FinSet.{from_list}
 use Rattle.serde_json.specs.Data.{Data, Items, Members, no_members, member}
 use Rattle.serde_json.specs.Find.{get, as_array, as_object, as_str}
 use Rattle.serde_json.specs.Read.{read}
-use Rattle.sql_subset.specs.Spec.{SpecFile}
+use Rattle.bound_specs.specs.Spec.{SpecFile}
 use Rattle.spec_reader.specs.declared.tree.SpecText.{SpecText}
 use Rattle.spec_reader.specs.Whole.{spec_tree}
-use Rattle.sql_subset.specs.Binding.{IsFileOf, bound_file}
+use Rattle.bound_specs.specs.Binding.{IsFileOf, bound_file}
 use Rattle.outcome_books.specs.Books.{Contents, facts_in}
 use Rattle.book_files.specs.declared.error.BookError.{BookError}
 use Rattle.book_files.specs.declared.error.BookError.TheVariants.{NotJson, BadField, BadVersion, BadSpec, BadRank, OutOfOrder, BadSwap, TooLarge, NoMemory}

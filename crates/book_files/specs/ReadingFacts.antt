@@ -4,7 +4,7 @@ use Rattle.std.specs.Prelude.{Err}
 use Rattle.std.specs.declared.cmp.Ordering.TheVariants.{Less}
 use Rattle.serde_json.specs.Data.{Data, null, boolean, number, string, array, object, Items, no_items, item}
 use Rattle.serde_json.specs.Find.{as_str}
-use Rattle.sql_subset.specs.Spec.{Spec, ranks}
+use Rattle.bound_specs.specs.Spec.{Spec, ranks}
 use Rattle.quiet_steps.specs.Swap.{leads_in}
 use Rattle.quiet_steps.specs.declared.fact.Fact.{Fact}
 use Rattle.quiet_steps.specs.declared.fact.Fact.TheVariants.{Ran, Swap}

@@ -2,7 +2,7 @@
 use Rattle.std.specs.Prelude.{◌≤◌, List, map, Ok}
 use Rattle.serde_json.specs.View.{items_of}
 use Rattle.transcripts.specs.Json.{outcome_data}
-use Rattle.sql_subset.specs.Spec.{SpecFile}
+use Rattle.bound_specs.specs.Spec.{SpecFile}
 use Rattle.outcome_books.specs.declared.run.Run.{Run}
 use Rattle.outcome_books.specs.Entries.{FactSet}
 use Rattle.outcome_books.specs.Runs.{Table}

@@ -2,11 +2,11 @@
 //! under `rt try --test --fail-alloc` too.
 use crate::asserts::assert_text;
 use crate::walks::bound;
+use bound_specs::Spec;
 use outcome_books::{
     Book, Boxed, Job, JoinError, Report, ReportError, join, make, missing, report,
 };
 use session_machine::{RunError, run_one};
-use sql_subset::Spec;
 use std::alloc::Global;
 use std::process::Abort;
 use std::test::Fail;

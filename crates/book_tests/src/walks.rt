@@ -3,9 +3,10 @@
 use crate::asserts::assert_text;
 use crate::books::assert_refusal;
 use crate::texts::{DISJOINT, spec_of};
+use bound_specs::Spec;
 use session_machine::RunError;
 use spec_reader::read_spec;
-use sql_subset::{Spec, bind};
+use sql_subset::bind;
 use std::alloc::{AllocError, Global};
 use std::process::Abort;
 use std::test::Fail;

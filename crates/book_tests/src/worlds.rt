@@ -2,10 +2,11 @@
 //! to be read under `rt try --test --fail-alloc` too.
 use crate::asserts::assert_text;
 use crate::texts::TABLE;
+use bound_specs::Spec;
 use lock_modes::{Mode, Place, Value};
 use session_machine::{RunError, SendError, StartError, World, run_one};
 use spec_reader::read_spec;
-use sql_subset::{Spec, bind};
+use sql_subset::bind;
 use std::alloc::Global;
 use std::process::Abort;
 use transcripts::{Counted, Names, Outcome, print};

@@ -4,11 +4,11 @@ ghost use Rattle.std.specs.Prelude.{◌≡◌, All, vec_len, IfSome, IfOk};
 use crate::farms::SHARDS;
 use crate::texts::{SIX, assert_same, assert_text, made, spec_of};
 use book_tests::DISJOINT;
+use bound_specs::Spec;
 use outcome_books::Book;
 use shard_board::{
     Board, BoardError, DeliverError, DeliverErrorKind, LatestError, MAX_TURNS, Receipt, Seat,
 };
-use sql_subset::Spec;
 use std::alloc::Global;
 use std::process::Abort;
 use std::sync::Wait;

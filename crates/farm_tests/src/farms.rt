@@ -2,9 +2,9 @@
 use crate::gates::{Hold, Holding};
 use crate::texts::{SIX, assert_same, assert_text, made, spec_of};
 use book_tests::DISJOINT;
+use bound_specs::Spec;
 use session_machine::StartError;
 use shard_farm::{FarmError, Gate, OpenGate, farm_run};
-use sql_subset::Spec;
 use std::alloc::Global;
 use std::process::Abort;
 use std::sync::Wait;

@@ -1,8 +1,9 @@
 //! Specs, and books by their texts.
 use book_files::write_book;
+use bound_specs::Spec;
 use outcome_books::{Book, Job, make};
 use spec_reader::read_spec;
-use sql_subset::{Spec, bind};
+use sql_subset::bind;
 use std::alloc::Global;
 use std::process::Abort;
 use step_reducer::Shard;

@@ -5,8 +5,8 @@ use Rattle.std.proofs.lemmas.Bool.{or_cases, or_left, or_right}
 use Rattle.std.specs.FinSet.{union}
 use mathlib.Core.Option.{some, some-ne-none, some-injective}
 use lib.ListN.{get_elem?}
-use Rattle.sql_subset.specs.Spec.{Spec, SpecFile, ranks, line_of, IsBound}
-use Rattle.sql_subset.specs.Binding.{IsFileOf}
+use Rattle.bound_specs.specs.Spec.{Spec, SpecFile, ranks, line_of, IsBound}
+use Rattle.bound_specs.specs.Binding.{IsFileOf}
 use Rattle.machine_model.specs.Start.{Start, Started, SetupFailed, SessionSetupFailed, SessionSetupWaits, start}
 use Rattle.machine_model.specs.World.{send_all, outcome_of}
 use Rattle.serial_history.specs.Serial.{IsSerial}

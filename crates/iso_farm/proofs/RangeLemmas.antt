@@ -1,7 +1,7 @@
 -- The facts of ranges are true.
 use Rattle.std.proofs.Common.{sym, ◌∙◌, ℕ, Bool, ⊎_elim}
 use Rattle.std.proofs.lemmas.Bool.{or_cases}
-use Rattle.sql_subset.specs.Spec.{Spec}
+use Rattle.bound_specs.specs.Spec.{Spec}
 use Rattle.quiet_steps.specs.Facts.{IsFactOf, IsTrueAt}
 use Rattle.quiet_steps.specs.declared.fact.Fact.{Fact}
 use Rattle.quiet_steps.specs.declared.fact.Fact.TheVariants.{Ran, Swap}

@@ -1,8 +1,8 @@
 -- What is reported, value by value.
 use Rattle.std.proofs.Common.{◌≡◌, refl, sym, subst, ◌∙◌, ℕ, zero, suc, ◌+◌, ◌-◌, ◌<◌, ◌≤◌, ◌++◌, List, [], ◌∷◌, length, get_or, Option, Some, None, slice_get}
 use Rattle.std.proofs.Common.{arith}
-use Rattle.sql_subset.specs.Spec.{Spec, SpecFile, ranks}
-use Rattle.sql_subset.specs.Binding.{IsFileOf}
+use Rattle.bound_specs.specs.Spec.{Spec, SpecFile, ranks}
+use Rattle.bound_specs.specs.Binding.{IsFileOf}
 use Rattle.transcripts.specs.Counted.{Wrote, Stopped}
 use Rattle.transcripts.specs.Text.{rank_text, outcome_text}
 use Rattle.transcripts.specs.declared.counted.Counted.{Counted}

@@ -1,7 +1,7 @@
 -- What the program writes for how much a spec has.
 use Rattle.std.specs.Prelude.{◌≡◌, ℕ, ◌++◌, List, length, codes, decimal, Option, Result, Ok, Err, ⊤}
-use Rattle.sql_subset.specs.Spec.{SpecFile, ranks}
-use Rattle.sql_subset.specs.Binding.{IsFileOf}
+use Rattle.bound_specs.specs.Spec.{SpecFile, ranks}
+use Rattle.bound_specs.specs.Binding.{IsFileOf}
 use Rattle.transcripts.specs.Counted.{Wrote, Stopped}
 use Rattle.transcripts.specs.declared.counted.Counted.{Counted}
 use Rattle.iso_farm.specs.declared.counting.CountFault.{CountFault}

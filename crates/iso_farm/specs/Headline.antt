@@ -2,8 +2,8 @@
 use Rattle.std.specs.Prelude.{◌≡◌, ◌↔◌, ℕ, ◌<◌, ◌⊎◌, true, List, [], ◌∷◌, ◌++◌, length, Option, Some, Result, Ok, Err, ⊤}
 use mathlib.Core.Option.{some}
 use lib.ListN.{get_elem?}
-use Rattle.sql_subset.specs.Spec.{Spec, SpecFile, ranks, line_of}
-use Rattle.sql_subset.specs.Binding.{IsFileOf}
+use Rattle.bound_specs.specs.Spec.{Spec, SpecFile, ranks, line_of}
+use Rattle.bound_specs.specs.Binding.{IsFileOf}
 use Rattle.machine_model.specs.Outcome.{outcome_of_line}
 use Rattle.quiet_steps.specs.declared.fact.Fact.{Fact}
 use Rattle.serial_history.specs.Serial.{IsSerial}

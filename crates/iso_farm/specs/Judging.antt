@@ -1,7 +1,7 @@
 -- What the program writes for a report that is judged by accepted ones.
 use Rattle.std.specs.Prelude.{◌≡◌, ℕ, zero, suc, ◌<◌, ◌≤◌, ◌++◌, List, [], length, codes, decimal, take, Option, Result, Ok, Err, slice_index_or}
 use Rattle.std.specs.List.{AllZip}
-use Rattle.sql_subset.specs.Spec.{ranks}
+use Rattle.bound_specs.specs.Spec.{ranks}
 use Rattle.transcripts.specs.Counted.{Wrote, Stopped}
 use Rattle.transcripts.specs.declared.counted.Counted.{Counted}
 use Rattle.quiet_steps.specs.Swap.{leads_in}

@@ -1,8 +1,8 @@
 -- The laws of what is run, joined and reported.
 use Rattle.std.specs.Prelude.{◌≡◌, ℕ, zero, suc, ◌++◌, Bool, List, []}
 use Rattle.std.specs.FinSet.{union}
-use Rattle.sql_subset.specs.Spec.{Spec, SpecFile, ranks}
-use Rattle.sql_subset.specs.Binding.{IsFileOf}
+use Rattle.bound_specs.specs.Spec.{Spec, SpecFile, ranks}
+use Rattle.bound_specs.specs.Binding.{IsFileOf}
 use Rattle.quiet_steps.specs.Values.{AllTrue, CoverEachRank}
 use Rattle.outcome_books.specs.declared.error.ReportError.TheVariants.{Missing, Clash}
 use Rattle.outcome_books.specs.Entries.{FactSet, recorded}

@@ -1,7 +1,7 @@
 -- What the program writes for one permutation.
 use Rattle.std.specs.Prelude.{◌≡◌, ℕ, ◌<◌, ◌≤◌, ◌++◌, List, Option, Some, Result, Ok, Err, ⊤}
-use Rattle.sql_subset.specs.Spec.{SpecFile, ranks, line_of}
-use Rattle.sql_subset.specs.Binding.{IsFileOf}
+use Rattle.bound_specs.specs.Spec.{SpecFile, ranks, line_of}
+use Rattle.bound_specs.specs.Binding.{IsFileOf}
 use Rattle.transcripts.specs.Counted.{Wrote, Stopped}
 use Rattle.transcripts.specs.Text.{rank_text, outcome_text}
 use Rattle.transcripts.specs.declared.counted.Counted.{Counted}

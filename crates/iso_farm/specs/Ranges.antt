@@ -1,7 +1,7 @@
 -- Ranges of ranks, and what the program writes for one.
 use Rattle.std.specs.Prelude.{◌≡◌, ℕ, ◌+◌, ◌<◌, ◌≤◌, ◌⊎◌, Bool, List, Option, Result, Ok, Err, ⊤}
-use Rattle.sql_subset.specs.Spec.{Spec, SpecFile, ranks}
-use Rattle.sql_subset.specs.Binding.{IsFileOf}
+use Rattle.bound_specs.specs.Spec.{Spec, SpecFile, ranks}
+use Rattle.bound_specs.specs.Binding.{IsFileOf}
 use Rattle.machine_model.specs.Start.{start}
 use Rattle.session_machine.specs.Running.{IsNotRunBy}
 use Rattle.session_machine.specs.declared.error.RunError.{RunError}

@@ -1,6 +1,6 @@
 -- What the program writes for the report of a book.
 use Rattle.std.specs.Prelude.{◌≡◌, ℕ, zero, suc, ◌<◌, ◌≤◌, ◌++◌, List, [], length, Option, Result, Ok, Err, ⊤, slice_index_or}
-use Rattle.sql_subset.specs.Spec.{Spec, SpecFile, ranks}
+use Rattle.bound_specs.specs.Spec.{Spec, SpecFile, ranks}
 use Rattle.transcripts.specs.Counted.{Wrote, Stopped}
 use Rattle.transcripts.specs.Text.{rank_text, outcome_text}
 use Rattle.transcripts.specs.declared.counted.Counted.{Counted}

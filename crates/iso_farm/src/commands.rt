@@ -228,7 +228,8 @@ fn join_of_files<'a, O: Opener, W: Write>(
     out: &mut Counted<W>,
 ) -> Result<Finding, ProgramFault<'a>>
     requires { failures_of out.old ≡ 0 }
-    ensures done { ((paths.now ≡ []) × (out.new ≡ out.old) × (result ≡ Ok Good)) ⊎ IsTold (IsJoinRun (O.bytes opener.now) (map (λ p. p.now) paths.now) W.contents out.old out.new) join_status result }
+    ensures done { ((paths.now ≡ []) × (out.new ≡ out.old) × (result ≡ Ok Good))
+        ⊎ IsTold (IsJoinRun (O.bytes opener.now) (map (λ p. p.now) paths.now) W.contents out.old out.new) join_status result }
     ensures failures { OnOk result (failures_of out.new ≡ 0) }
 {
     if paths.is_empty() {

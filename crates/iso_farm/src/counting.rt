@@ -1,13 +1,13 @@
 //! How much a spec has, from its bytes to the text.
 
 ghost use Rattle.std.specs.Prelude.{◌≡◌, ◌<◌, ◌++◌, length};
-ghost use Rattle.sql_subset.specs.Spec.{ranks};
+ghost use Rattle.bound_specs.specs.Spec.{ranks};
 ghost use Rattle.transcripts.specs.Counted.{Prints, failures_of};
 ghost use Rattle.iso_farm.specs.Counting.{IsChecked, IsCounted, counts_lines, number_line};
 
 use crate::spec::{SpecFault, spec_of};
+use bound_specs::Spec;
 use itoa::Buffer;
-use sql_subset::Spec;
 use std::alloc::Global;
 use std::io::Write;
 use transcripts::{Counted, WriteFault};

@@ -7,8 +7,8 @@ ghost use Rattle.transcripts.specs.Text.{rank_text, outcome_text};
 ghost use Rattle.iso_farm.specs.One.{IsAnswer, IsAnswerOf, IsRefused, IsRefusedOf, Leaves, faults_of};
 
 use crate::spec::{SpecFault, spec_of};
+use bound_specs::Spec;
 use session_machine::{RunError, run_one};
-use sql_subset::Spec;
 use std::alloc::Global;
 use std::io::Write;
 use transcripts::{Counted, Names, Outcome, WriteFault, print, print_rank};

@@ -1,11 +1,12 @@
 //! A spec from the bytes of its file.
 
 ghost use Rattle.std.specs.Prelude.{IfErr, IfOk};
-ghost use Rattle.sql_subset.specs.Binding.{IsFileOf};
+ghost use Rattle.bound_specs.specs.Binding.{IsFileOf};
 ghost use Rattle.iso_farm.specs.SpecFiles.{IsNoSpec};
 
+use bound_specs::Spec;
 use spec_reader::{SpecError, read_spec};
-use sql_subset::{BindError, Spec, bind};
+use sql_subset::{BindError, bind};
 use std::alloc::Global;
 
 /// Why bytes are no spec file. The first is tried before the second, but for want of memory.

@@ -3,7 +3,7 @@ use Rattle.std.proofs.Common.{◌≡◌, refl, sym, ◌∙◌, subst, ℕ, zero,
 use Rattle.std.proofs.Common.{length-set}
 use Rattle.lock_queues.specs.Locks.{Spot, next_grant, waits_now}
 use Rattle.machine_model.specs.World.{World, session_at, look_of, noted, goes, granted, settle, settle_for, left_to_do, send, send_all}
-use Rattle.sql_subset.specs.Spec.{Step, no_step, Spec, EachStep, IsBound}
+use Rattle.bound_specs.specs.Spec.{Step, no_step, Spec, EachStep, IsBound}
 use Rattle.machine_model.specs.Session.{note, tasks_of}
 use Rattle.transcripts.specs.declared.event.Event.TheVariants.{Sent, NotSent}
 use Rattle.machine_model.specs.Start.{Started, start}

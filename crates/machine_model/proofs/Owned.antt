@@ -8,7 +8,7 @@ use Rattle.lock_queues.specs.declared.answer.Answer.{Answer}
 use Rattle.lock_queues.specs.declared.answer.Answer.TheVariants.{Granted, Waits, Ring}
 use Rattle.lock_queues.specs.Locks.{Spot, next_grant, waits_now}
 use Rattle.sql_statements.specs.declared.statement.Bound.{Bound}
-use Rattle.sql_subset.specs.Spec.{Spec, Step, no_step, IsBound}
+use Rattle.bound_specs.specs.Spec.{Spec, Step, no_step, IsBound}
 use Rattle.transcripts.specs.Outcome.{HasStep}
 use Rattle.transcripts.specs.declared.event.Event.{Event}
 use Rattle.transcripts.specs.declared.event.Event.TheVariants.{Sent, Row as RowEvent, Rows, Inserted, Updated, Deleted, Began, Committed, RolledBack, Locked}

@@ -15,7 +15,7 @@ use Rattle.row_tables.proofs.UndoLemmas.{front, back}
 use Rattle.sql_statements.specs.declared.statement.Bound.{Bound}
 use Rattle.sql_statements.specs.declared.statement.Bound.TheVariants.{Insert}
 use Rattle.sql_binding.specs.declared.tables.Table.{Table}
-use Rattle.sql_subset.specs.Fits.{Fits}
+use Rattle.bound_specs.specs.Fits.{Fits}
 use Rattle.sql_binding.specs.Tables.{no_table, key_column}
 use Rattle.statement_effects.specs.Effect.{visible, next_number}
 use Rattle.statement_effects.proofs.ListLemmas.{Each, Each-map}

@@ -16,7 +16,7 @@ use Rattle.machine_model.specs.Session.{Task, Do, asks, tasks_of, Session, note}
 use Rattle.machine_model.specs.Go.{Run, look_with, taking, go}
 use Rattle.machine_model.specs.World.{World, fresh, session_at, look_of, scene_of, placed_back, goes, granted, settle, settle_for, left_of, left_to_do, noted}
 use Rattle.machine_model.specs.World.{send}
-use Rattle.sql_subset.specs.Spec.{Step, no_step}
+use Rattle.bound_specs.specs.Spec.{Step, no_step}
 use Rattle.machine_model.specs.Sound.{HeldTogether, NoRing, HoldsAll, IsIn, here, there, AllIn, Backed, UnderLocks, Ready, EachWait, Distinct, Steady, Sound}
 use Rattle.lock_modes.specs.declared.mode.Mode.{Mode}
 use Rattle.transcripts.specs.declared.event.Event.TheVariants.{Sent, NotSent, Resumed}

@@ -8,7 +8,7 @@ use Rattle.lock_queues.specs.Locks.{Look, fits_with, nobody_waits, waits_now, ne
 use Rattle.machine_model.specs.Session.{Task, Ask, Do, Session, tasks_of}
 use Rattle.machine_model.specs.Go.{Scene, Run, solo, stopped, go}
 use Rattle.machine_model.specs.World.{World, fresh, session_at, look_of, scene_of}
-use Rattle.sql_subset.specs.Spec.{Spec}
+use Rattle.bound_specs.specs.Spec.{Spec}
 use Rattle.machine_model.specs.Start.{Start, Started, SetupFailed, SessionSetupFailed, SessionSetupWaits, start, started_then, main_setups, session_setups}
 use Rattle.machine_model.specs.Start.{after_setup, forgotten, has_failed, is_outside, IsAlone, IsIdle}
 use Rattle.machine_model.specs.Sound.{Way, one, more, Steady, Sound, UnderLocks}

@@ -34,9 +34,9 @@ use Rattle.sql_statements.specs.declared.statement.SortKey.{SortKey}
 use Rattle.sql_binding.specs.declared.tables.ColumnType.{ColumnType}
 use Rattle.sql_binding.specs.declared.tables.ColumnType.TheVariants.{Number}
 use Rattle.sql_binding.specs.declared.tables.Table.{Table}
-use Rattle.sql_subset.specs.Fits.{IsThere, OperandIs, FactorsAre, ProductIs, TermsAre, ExpressionIs, ComparisonFits, ConditionFits, AggregateFits, OutputFits}
-use Rattle.sql_subset.specs.Fits.{SortKeyFits}
-use Rattle.sql_subset.specs.Fits.{AssignmentFits, Takes, IsColumn, ColumnOf, ValueIn, RowFits, OfTable, Fits}
+use Rattle.bound_specs.specs.Fits.{IsThere, OperandIs, FactorsAre, ProductIs, TermsAre, ExpressionIs, ComparisonFits, ConditionFits, AggregateFits, OutputFits}
+use Rattle.bound_specs.specs.Fits.{SortKeyFits}
+use Rattle.bound_specs.specs.Fits.{AssignmentFits, Takes, IsColumn, ColumnOf, ValueIn, RowFits, OfTable, Fits}
 use Rattle.sql_binding.specs.Statements.{sets_column, sets_key}
 use Rattle.sql_binding.specs.Tables.{no_table, key_column, type_of, width}
 use Rattle.sql_binding.specs.Types.{value_type}

@@ -13,8 +13,8 @@ use Rattle.row_tables.specs.Overlay.{Tuple, Rows', lay}
 use Rattle.sql_statements.specs.Plan.{Request, plan}
 use Rattle.sql_statements.specs.declared.statement.Bound.{Bound}
 use Rattle.sql_binding.specs.declared.tables.Table.{Table}
-use Rattle.sql_subset.specs.Fits.{Fits, SpecFits}
-use Rattle.sql_subset.specs.Spec.{Spec, Step, no_step}
+use Rattle.bound_specs.specs.Fits.{Fits, SpecFits}
+use Rattle.bound_specs.specs.Spec.{Spec, Step, no_step}
 use Rattle.transcripts.specs.declared.event.Fault.{Fault}
 use Rattle.transcripts.specs.declared.event.Fault.TheVariants.{Deadlock, Aborted}
 use Rattle.transcripts.specs.declared.event.Event.TheVariants.{Sent, Resumed, NotSent}

@@ -3,7 +3,7 @@ use Rattle.std.proofs.Common.{◌≡◌, refl, ℕ, List, [], ◌∷◌, Some, N
 use Rattle.finite_maps.specs.Map.{get, insert, keep, remove, entries, empty}
 use Rattle.statement_effects.specs.Effect.{effect}
 use Rattle.row_tables.specs.Overlay.{lay}
-use Rattle.sql_subset.specs.Spec.{Step, Spec}
+use Rattle.bound_specs.specs.Spec.{Step, Spec}
 use Rattle.machine_model.specs.Start.{Started, start}
 use Rattle.machine_model.specs.World.{send_all, outcome_of}
 use Rattle.lock_modes.specs.declared.mode.Mode.TheVariants.{Share, Exclusive}

@@ -1,7 +1,7 @@
 -- The laws of the machine.
 use Rattle.std.specs.Prelude.{◌≡◌, ℕ, ◌<◌, ◌≤◌, Bool, true, false, ◌↔◌, List, length, get_or, suc, All}
 use Rattle.lock_queues.specs.Locks.{way_below, waits_for, waits_now}
-use Rattle.sql_subset.specs.Spec.{Spec, Step, no_step, IsBound}
+use Rattle.bound_specs.specs.Spec.{Spec, Step, no_step, IsBound}
 use Rattle.machine_model.specs.Start.{Started, start}
 use Rattle.machine_model.specs.World.{World, send, send_all, outcome_of, look_of}
 use Rattle.machine_model.specs.Outcome.{IsOutcomeOf}

@@ -9,7 +9,7 @@ use Rattle.machine_model.specs.declared.status.Status.{Status}
 use Rattle.machine_model.specs.declared.status.Status.TheVariants.{Outside, InBlock, Broken}
 use Rattle.sql_statements.specs.declared.statement.Bound.{Bound}
 use Rattle.machine_model.specs.Session.{Session, tasks_of}
-use Rattle.sql_subset.specs.Spec.{Spec}
+use Rattle.bound_specs.specs.Spec.{Spec}
 use Rattle.machine_model.specs.World.{World, fresh, goes, session_at}
 use Rattle.machine_model.specs.Sound.{Steady}
 

@@ -10,8 +10,8 @@ use Rattle.sql_statements.specs.Plan.{key_at}
 use Rattle.sql_statements.specs.declared.statement.Bound.{Bound}
 use Rattle.sql_statements.specs.declared.statement.Bound.TheVariants.{Insert}
 use Rattle.sql_binding.specs.declared.tables.Table.{Table}
-use Rattle.sql_subset.specs.Fits.{OfTable, RowFits, ValueIn, Takes, Fits, SpecFits}
-use Rattle.sql_subset.specs.Spec.{Spec}
+use Rattle.bound_specs.specs.Fits.{OfTable, RowFits, ValueIn, Takes, Fits, SpecFits}
+use Rattle.bound_specs.specs.Spec.{Spec}
 use Rattle.sql_binding.specs.Tables.{key_column}
 use Rattle.statement_effects.specs.Effect.{visible, next_number}
 use Rattle.machine_model.specs.Start.{Started, start}

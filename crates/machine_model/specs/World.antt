@@ -9,7 +9,7 @@ use Rattle.transcripts.specs.declared.event.Event.TheVariants.{Sent, Resumed, No
 use Rattle.machine_model.specs.declared.status.Status.TheVariants.{Outside}
 use Rattle.machine_model.specs.Go.{Run, Scene, go, taking}
 use Rattle.machine_model.specs.Session.{Session, Task, note, tasks_of}
-use Rattle.sql_subset.specs.Spec.{Step, no_step}
+use Rattle.bound_specs.specs.Spec.{Step, no_step}
 
 pub record World : Type 0 where
   pub rows : Rows'

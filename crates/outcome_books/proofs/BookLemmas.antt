@@ -5,9 +5,9 @@ use Rattle.std.proofs.Math.Logic.{∥∥₁_elim}
 use Rattle.std.specs.Prelude.{string_bytes}
 use Rattle.std.specs.Coded.{Coded-set}
 use Rattle.std.specs.FinSet.{union}
-use Rattle.sql_subset.specs.Spec.{Spec, SpecFile, ranks}
-use Rattle.sql_subset.specs.Binding.{IsFileOf}
-use Rattle.sql_subset.specs.contracts.spec.Spec as file_row
+use Rattle.bound_specs.specs.Spec.{Spec, SpecFile, ranks}
+use Rattle.bound_specs.specs.Binding.{IsFileOf}
+use Rattle.bound_specs.specs.contracts.spec.Spec as file_row
 use Rattle.sql_subset.proofs.FileLemmas.{one-file}
 use Rattle.outcome_books.specs.declared.about.About.{About}
 use Rattle.outcome_books.specs.declared.run.Run.{Run}

@@ -4,7 +4,7 @@ use Rattle.std.proofs.Common.{length, get_or, take, drop, inl, inr, ◌⊎◌, �
 use Rattle.std.proofs.lemmas.Bool.{or_cases, or_left, or_right}
 use Rattle.std.proofs.lemmas.List.{take_more, take-append-drop}
 use Rattle.std.specs.FinSet.{union, empty, contains-empty}
-use Rattle.sql_subset.specs.Spec.{Spec}
+use Rattle.bound_specs.specs.Spec.{Spec}
 use Rattle.machine_model.specs.Start.{start}
 use Rattle.quiet_steps.specs.declared.fact.Fact.{Fact}
 use Rattle.session_machine.specs.Running.{IsNotRunBy}

@@ -6,7 +6,7 @@ use Rattle.std.specs.List.{list_any}
 use Rattle.std.specs.Ordering.{eq_by_cmp, is_eq}
 use Rattle.std.specs.Cmp.{tied_itself}
 use Rattle.std.specs.FinSet.{items, contains-items}
-use Rattle.sql_subset.specs.Spec.{Spec, ranks, counts_of, queues_of}
+use Rattle.bound_specs.specs.Spec.{Spec, ranks, counts_of, queues_of}
 use Rattle.transcripts.specs.Compact.{outcome_cmp, outcome_total}
 use Rattle.transcripts.proofs.OutcomeOrder.{outcome_same}
 use Rattle.quiet_steps.specs.Swap.{leads_by, leads_in}

@@ -4,11 +4,11 @@ use Rattle.std.proofs.Common.{get_or, All, Option, Some, None, Ok, ◌⊎◌, �
 use Rattle.std.proofs.lemmas.Bool.{eq-eqb}
 use Rattle.std.proofs.lemmas.List.{get_or_past}
 use Rattle.std.proofs.lemmas.List.Elements.{All-nil, All-cons, All-head, All-tail}
-use Rattle.sql_subset.specs.Spec.{Step, Spec, SpecFile, Queues, line, line_by, line_of, counts_of, steps_of, queues_from, queues_of, ranks, ranks_by, IsBound}
-use Rattle.sql_subset.specs.Spec.{EachStep, IsLine, IsStep, IsReady}
-use Rattle.sql_subset.specs.Binding.{IsFileOf, main_setup, session, shaped, made_file}
-use Rattle.sql_subset.specs.Binding.{declared as declared_by}
-use Rattle.sql_subset.specs.Lines.{orders_of}
+use Rattle.bound_specs.specs.Spec.{Step, Spec, SpecFile, Queues, line, line_by, line_of, counts_of, steps_of, queues_from, queues_of, ranks, ranks_by, IsBound}
+use Rattle.bound_specs.specs.Spec.{EachStep, IsLine, IsStep, IsReady}
+use Rattle.bound_specs.specs.Binding.{IsFileOf, main_setup, session, shaped, made_file}
+use Rattle.bound_specs.specs.Binding.{declared as declared_by}
+use Rattle.bound_specs.specs.Lines.{orders_of}
 use Rattle.sql_binding.specs.Refusals.{each}
 use Rattle.sql_subset.proofs.SentLemmas.{bind}
 use Rattle.sql_subset.proofs.FileLemmas.{file-ready}

@@ -3,7 +3,7 @@ use Rattle.std.proofs.Common.{◌≡◌, sym, subst, ◌∙◌, ℕ, ◌+◌, �
 use Rattle.std.proofs.Common.{⊎_elim, ◌⊎◌, arith}
 use Rattle.std.proofs.lemmas.Bool.{or_cases}
 use Rattle.std.specs.List.{list_any}
-use Rattle.sql_subset.specs.Spec.{Spec, SpecFile}
+use Rattle.bound_specs.specs.Spec.{Spec, SpecFile}
 use Rattle.quiet_steps.specs.declared.fact.Fact.{Fact}
 use Rattle.quiet_steps.specs.Swap.{leads_in}
 use Rattle.outcome_books.specs.declared.about.About.{About}

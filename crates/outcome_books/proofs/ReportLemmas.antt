@@ -2,7 +2,7 @@
 use Rattle.std.proofs.Common.{◌≡◌, ◌≢◌, refl, sym, ap, subst, ◌∙◌, ℕ, zero, suc, ◌<◌, ◌≤◌, List, [], ◌∷◌, length, get_or, Option, Some, None, Result, Ok, Err}
 use Rattle.std.proofs.Common.{slice_get, ◌⊎◌, ⊎_elim, arith}
 use Rattle.std.specs.Result.{IfOk, IfErr}
-use Rattle.sql_subset.specs.Spec.{Spec, ranks, queues_of, IsBound}
+use Rattle.bound_specs.specs.Spec.{Spec, ranks, queues_of, IsBound}
 use Rattle.quiet_steps.specs.Swap.{leads_by, leads_in}
 use Rattle.quiet_steps.specs.Values.{AllTrue, TellTheMachine}
 use Rattle.quiet_steps.proofs.TrueValues.{tell-the-machine}

@@ -3,9 +3,9 @@ use Rattle.std.specs.Prelude.{◌≡◌, ◌≢◌, ℕ, List, [], Option, Some,
 use Rattle.std.specs.Coded.{Coded-set}
 use Rattle.std.proofs.Math.Logic.{∥∥₁_elim, ∥∥₁_prop}
 use mathlib.Core.HLevel.{Σ_prop_path}
-use Rattle.sql_subset.specs.Spec.{Spec, SpecFile, counts_of, queues_of}
-use Rattle.sql_subset.specs.Binding.{IsFileOf}
-use Rattle.sql_subset.specs.contracts.spec.Spec as file_row
+use Rattle.bound_specs.specs.Spec.{Spec, SpecFile, counts_of, queues_of}
+use Rattle.bound_specs.specs.Binding.{IsFileOf}
+use Rattle.bound_specs.specs.contracts.spec.Spec as file_row
 use Rattle.sql_subset.proofs.FileLemmas.{one-file}
 
 -- a file that the text is

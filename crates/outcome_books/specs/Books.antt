@@ -1,8 +1,8 @@
 -- Books: a spec with its text and a finite set of facts; what is joined, and the least rank without a fact.
 use Rattle.std.specs.Prelude.{◌≡◌, ℕ, ◌<◌, List, length, Option, Some, None, true, string_bytes}
 use Rattle.std.specs.FinSet.{union, from_list, empty}
-use Rattle.sql_subset.specs.Spec.{Spec, SpecFile, ranks}
-use Rattle.sql_subset.specs.Binding.{IsFileOf}
+use Rattle.bound_specs.specs.Spec.{Spec, SpecFile, ranks}
+use Rattle.bound_specs.specs.Binding.{IsFileOf}
 use Rattle.transcripts.specs.Json.{OutcomeFits}
 use Rattle.machine_model.specs.Outcome.{IsOutcomeOf}
 use Rattle.quiet_steps.specs.Swap.{leads_in}

@@ -2,7 +2,7 @@
 use Rattle.std.specs.Prelude.{◌≡◌, ◌↔◌, ℕ, ◌-◌, ◌<◌, ◌≤◌, Bool, true, false, List}
 use Rattle.std.specs.FinSet.{union, from_list}
 use Rattle.transcripts.specs.Json.{OutcomeFits}
-use Rattle.sql_subset.specs.Spec.{Spec}
+use Rattle.bound_specs.specs.Spec.{Spec}
 use Rattle.quiet_steps.specs.Facts.{IsFactOf}
 use Rattle.quiet_steps.specs.declared.fact.Fact.{Fact}
 use Rattle.quiet_steps.specs.declared.fact.Fact.TheVariants.{Ran, Swap}

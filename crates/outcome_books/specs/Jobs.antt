@@ -1,6 +1,6 @@
 -- What a job makes, and why it is refused.
 use Rattle.std.specs.Prelude.{◌≡◌, ◌↔◌, ℕ, ◌+◌, ◌<◌, ◌≤◌, true, List, [], ◌∷◌, ◌++◌, ◌⊎◌}
-use Rattle.sql_subset.specs.Spec.{Spec, ranks}
+use Rattle.bound_specs.specs.Spec.{Spec, ranks}
 use Rattle.machine_model.specs.Start.{start}
 use Rattle.quiet_steps.specs.Facts.{IsFactOf}
 use Rattle.quiet_steps.specs.declared.fact.Fact.{Fact}

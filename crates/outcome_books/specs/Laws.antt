@@ -1,6 +1,6 @@
 -- The laws of books.
 use Rattle.std.specs.Prelude.{◌≡◌, ◌≢◌, List, [], ◌∷◌, ◌⊎◌, Result, Err}
-use Rattle.sql_subset.specs.Spec.{Spec}
+use Rattle.bound_specs.specs.Spec.{Spec}
 use Rattle.outcome_books.specs.declared.job.Job.{Job}
 use Rattle.outcome_books.specs.declared.leaves.Leaf.{Leaf}
 use Rattle.outcome_books.specs.declared.error.ReportError.{ReportError}

@@ -1,6 +1,6 @@
 -- Runs that come from elsewhere: what they need to stand in a book.
 use Rattle.std.specs.Prelude.{◌≡◌, ℕ, ◌<◌, ◌≤◌, Bool, true, false, List, [], ◌∷◌, Some}
-use Rattle.sql_subset.specs.Spec.{Spec}
+use Rattle.bound_specs.specs.Spec.{Spec}
 use Rattle.outcome_books.specs.declared.leading.Lead.{Lead}
 use Rattle.outcome_books.specs.declared.leading.Lead.TheVariants.{Value, From, Nowhere}
 use Rattle.outcome_books.specs.declared.run.Run.{Run}

@@ -3,7 +3,7 @@ use Rattle.std.specs.Prelude.{ℕ, zero, suc, ◌≤◌, ◌==◌, ◌&&◌, ◌
 use Rattle.std.specs.Prelude.{Result, Ok, Err, length}
 use Rattle.std.specs.Ordering.{eq_by_cmp}
 use Rattle.std.specs.FinSet.{items}
-use Rattle.sql_subset.specs.Spec.{ranks}
+use Rattle.bound_specs.specs.Spec.{ranks}
 use Rattle.transcripts.specs.Compact.{outcome_cmp}
 use Rattle.quiet_steps.specs.Swap.{leads_in}
 use Rattle.outcome_books.specs.declared.error.ReportError.{ReportError}

@@ -1,6 +1,6 @@
 -- What a set of facts reports: the one value of each rank, or the least rank that has none or several.
 use Rattle.std.specs.Prelude.{◌≡◌, ℕ, ◌<◌, ◌≤◌, List, [], Option, Some, Result, Ok, Err, length, slice_index_or}
-use Rattle.sql_subset.specs.Spec.{line_of, ranks}
+use Rattle.bound_specs.specs.Spec.{line_of, ranks}
 use Rattle.machine_model.specs.Outcome.{outcome_of_line}
 use Rattle.quiet_steps.specs.Swap.{leads_in}
 use Rattle.quiet_steps.specs.Values.{IsValue}

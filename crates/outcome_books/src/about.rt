@@ -3,8 +3,8 @@
 ghost use Rattle.std.specs.Prelude.{◌≡◌, IfOk, string_bytes};
 ghost use Rattle.outcome_books.specs.About.{FileOf, one_file_of, IsShapeOf};
 
+use bound_specs::Spec;
 use perm_ranks::Shape;
-use sql_subset::Spec;
 use std::alloc::{AllocError, Global};
 
 /// The spec's text, how many ranks it has, and their shape where they are words. Contracts see the file that the text is, too.

@@ -1,13 +1,13 @@
 //! Books.
 
 ghost use Rattle.std.specs.Prelude.{◌≡◌, IfOk};
-ghost use Rattle.sql_subset.specs.Binding.{IsFileOf};
+ghost use Rattle.bound_specs.specs.Binding.{IsFileOf};
 ghost use Rattle.outcome_books.specs.Books.{empty_book, AllRecordable};
 
 use crate::about::About;
 use crate::run::Run;
 use crate::table::Table;
-use sql_subset::Spec;
+use bound_specs::Spec;
 use std::alloc::{AllocError, Global};
 use std::marker::Model;
 use std::sync::Arc;
@@ -24,7 +24,7 @@ pub struct Book {
 impl Model for Book {
     ghost use Rattle.std.specs.Coded.{codes};
     ghost use Rattle.std.specs.FinSet as set;
-    ghost use Rattle.sql_subset.specs.contracts.spec.Spec as file;
+    ghost use Rattle.bound_specs.specs.contracts.spec.Spec as file;
     ghost use Rattle.quiet_steps.specs.contracts.fact.Fact as fact;
     ghost use Rattle.outcome_books.specs.Books.{Contents, contents_of, IsBook};
 

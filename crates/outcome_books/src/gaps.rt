@@ -1,7 +1,7 @@
 //! Ranks without a fact.
 
 ghost use Rattle.std.specs.Prelude.{◌≡◌};
-ghost use Rattle.sql_subset.specs.Spec.{ranks};
+ghost use Rattle.bound_specs.specs.Spec.{ranks};
 ghost use Rattle.outcome_books.specs.Runs.{first_gap as gap_of};
 ghost use Rattle.outcome_books.specs.Books.{IsLeastMissing};
 

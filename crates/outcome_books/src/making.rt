@@ -10,8 +10,8 @@ use crate::book::Book;
 use crate::job::Job;
 use crate::joining::union;
 use crate::leaves::{Leaf, leaves_of};
+use bound_specs::Spec;
 use session_machine::RunError;
-use sql_subset::Spec;
 use std::alloc::Global;
 use step_reducer::{MAX_RANKS, Shard};
 

@@ -13,7 +13,7 @@ use crate::leading::{Lead, lead_of};
 use crate::run::{Run, Tag};
 use crate::shards::book_of;
 use crate::table::Table;
-use sql_subset::Spec;
+use bound_specs::Spec;
 use std::alloc::{AllocError, Global};
 use std::sync::Arc;
 use transcripts::Outcome;

@@ -3,7 +3,7 @@
 ghost use Rattle.std.specs.Prelude.{◌≡◌, ◌≤◌, IfOk, IfErr, OnOk};
 ghost use Rattle.quiet_steps.specs.Swap.{leads_in};
 ghost use Rattle.quiet_steps.specs.Values.{AllTrue};
-ghost use Rattle.sql_subset.specs.Spec.{ranks};
+ghost use Rattle.bound_specs.specs.Spec.{ranks};
 ghost use Rattle.outcome_books.specs.Entries.{recorded};
 ghost use Rattle.outcome_books.specs.Books.{IsKept, facts_in};
 ghost use Rattle.outcome_books.specs.Values.{AreValues, IsNotReported, IsCovering};

@@ -2,8 +2,8 @@
 
 ghost use Rattle.std.specs.Prelude.{◌≡◌, ◌<◌, ◌≤◌, false, IfOk, IfErr, OnOk};
 ghost use Rattle.std.specs.FinSet.{empty};
-ghost use Rattle.sql_subset.specs.Spec.{IsBound};
-ghost use Rattle.sql_subset.specs.Binding.{IsFileOf};
+ghost use Rattle.bound_specs.specs.Spec.{IsBound};
+ghost use Rattle.bound_specs.specs.Binding.{IsFileOf};
 ghost use Rattle.step_reducer.specs.Walking.{IsNotWalked, IsShardOf, Starts};
 ghost use Rattle.outcome_books.specs.Books.{AllRecordable, file_of, IsAbout};
 ghost use Rattle.outcome_books.specs.Building.{added, AreFactsOf, FactFits};
@@ -11,9 +11,9 @@ ghost use Rattle.outcome_books.specs.Building.{added, AreFactsOf, FactFits};
 use crate::about::About;
 use crate::book::Book;
 use crate::builder::Builder;
+use bound_specs::Spec;
 use quiet_steps::Fact;
 use session_machine::RunError;
-use sql_subset::Spec;
 use std::alloc::{AllocError, Global};
 use std::sync::Arc;
 use step_reducer::{FactRun, Shard, Walker};

@@ -3,9 +3,10 @@ ghost use Rattle.std.specs.Prelude.{All};
 ghost use Rattle.sql_statements.specs.Plan.{HasKeys};
 
 use crate::disks::{assert_tells, assert_text, holding, tell};
+use bound_specs::Spec;
 use lock_modes::{Mode, Place, Value};
 use spec_reader::read_spec;
-use sql_subset::{BindError, Bound, Spec, bind, lock_plan};
+use sql_subset::{BindError, Bound, bind, lock_plan};
 use std::alloc::{AllocError, Global};
 use std::process::Abort;
 use std::sync::Wait;

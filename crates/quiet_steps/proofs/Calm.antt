@@ -6,7 +6,7 @@ use Rattle.machine_model.specs.Session.{Task, Ask, Do, Session, Performed, Goes,
 use Rattle.machine_model.specs.Session.{worked}
 use Rattle.machine_model.specs.Go.{Stop, taking, solo, failed, finished_by, is_broken}
 use Rattle.machine_model.specs.World.{World, session_at, send}
-use Rattle.sql_subset.specs.Spec.{Step, no_step}
+use Rattle.bound_specs.specs.Spec.{Step, no_step}
 use Rattle.quiet_steps.specs.Quiet.{is_calm, AllCalm, SentCalmly, is_quiet}
 use Rattle.machine_model.specs.Claims.{plans}
 use Rattle.machine_model.specs.Sound.{Sound}

@@ -14,7 +14,7 @@ use Rattle.sql_statements.specs.Plan.{Request, plan}
 use Rattle.machine_model.specs.Session.{Task, Do, Session, Held, tasks_of, asks, note}
 use Rattle.machine_model.specs.Go.{Stop, solo}
 use Rattle.machine_model.specs.World.{World, fresh, session_at, look_of, scene_of, placed_back, goes, settle, left_to_do, send}
-use Rattle.sql_subset.specs.Spec.{Step, no_step}
+use Rattle.bound_specs.specs.Spec.{Step, no_step}
 use Rattle.machine_model.specs.Claims.{Claims, may_write, claims_of, plans}
 use Rattle.lock_modes.specs.declared.mode.Mode.{Mode}
 use Rattle.transcripts.specs.declared.event.Event.TheVariants.{Sent, NotSent}

@@ -9,7 +9,7 @@ use Rattle.lock_queues.specs.declared.wait.Wait.{Wait}
 use Rattle.lock_queues.specs.Locks.{fits, waits_now}
 use Rattle.sql_statements.specs.Plan.{Request}
 use Rattle.machine_model.specs.World.{World, session_at, look_of, scene_of, send}
-use Rattle.sql_subset.specs.Spec.{Step, no_step}
+use Rattle.bound_specs.specs.Spec.{Step, no_step}
 use Rattle.machine_model.specs.Claims.{claims_of, plans}
 use Rattle.quiet_steps.specs.Quiet.{all_fit, fit_together, all_fit_together, undisturbed, is_quiet}
 use Rattle.machine_model.specs.Sound.{Sound}

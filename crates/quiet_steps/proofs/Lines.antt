@@ -5,7 +5,7 @@ use Rattle.std.proofs.lemmas.List.{get_or_past}
 use Rattle.perm_ranks.specs.Words.{Word, all_words, total, word_at}
 use Rattle.perm_ranks.specs.Swapped.{exchanged}
 use Rattle.perm_ranks.proofs.WordLemmas.{Takes, done, takes, words-take, each-at}
-use Rattle.sql_subset.specs.Spec.{Step, no_step, Spec, Queues, line, line_by, counts_of, queues_of}
+use Rattle.bound_specs.specs.Spec.{Step, no_step, Spec, Queues, line, line_by, counts_of, queues_of}
 use Rattle.machine_model.specs.World.{World, send, send_all}
 use Rattle.machine_model.proofs.Basics.{known}
 use Rattle.quiet_steps.specs.Quiet.{is_quiet}

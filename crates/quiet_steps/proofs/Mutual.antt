@@ -6,7 +6,7 @@ use Rattle.lock_modes.specs.Resource.{resource_order, same_resource}
 use Rattle.lock_modes.specs.declared.resource.Resource.{Resource}
 use Rattle.lock_queues.specs.Locks.{waits_now}
 use Rattle.sql_statements.specs.Plan.{Request}
-use Rattle.sql_subset.specs.Spec.{Step}
+use Rattle.bound_specs.specs.Spec.{Step}
 use Rattle.machine_model.specs.World.{World}
 use Rattle.machine_model.specs.Claims.{plans}
 use Rattle.machine_model.proofs.Basics.{Each-swap, Each-list_all, list_all-Each, both_true, and_true}

@@ -3,7 +3,7 @@ use Rattle.std.proofs.Common.{◌≡◌, ◌≢◌, refl, sym, ap, ◌∙◌, su
 use Rattle.std.proofs.Common.{get_or, Option, Some, None, option_map, ⊎_elim, arith, get_or-set_other, eq-eqb, ltb-true}
 use Rattle.std.proofs.lemmas.List.{set_comm}
 use Rattle.machine_model.specs.World.{World, send, send_all}
-use Rattle.sql_subset.specs.Spec.{Step, Queues, line}
+use Rattle.bound_specs.specs.Spec.{Step, Queues, line}
 use Rattle.machine_model.specs.Sound.{Sound}
 use Rattle.perm_ranks.specs.Words.{Word}
 use Rattle.perm_ranks.specs.Swapped.{exchanged}

@@ -2,7 +2,7 @@
 use Rattle.std.proofs.Common.{◌≡◌, ◌≢◌, refl, sym, ap, ◌∙◌, subst, ℕ, zero, suc, ◌+◌, ◌<◌, ◌≤◌, Bool, true, false, cond, nat_lt, List, [], ◌∷◌, length, Option}
 use Rattle.std.proofs.Common.{Some, None, is_some, ◌↔◌, ◌⊎◌, ⊎_elim, arith, ltb-true, lt-ltb}
 use Rattle.perm_ranks.proofs.SwapLemmas.{exchanged-short}
-use Rattle.sql_subset.specs.Spec.{Spec, line_of, ranks}
+use Rattle.bound_specs.specs.Spec.{Spec, line_of, ranks}
 use Rattle.transcripts.specs.declared.event.Event.{Event}
 use Rattle.machine_model.specs.World.{World, send_all, outcome_of}
 use Rattle.machine_model.specs.Start.{Start, Started, SetupFailed, SessionSetupFailed, SessionSetupWaits, start}

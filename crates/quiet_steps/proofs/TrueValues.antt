@@ -1,6 +1,6 @@
 -- What sets of true facts tell.
 use Rattle.std.proofs.Common.{◌≡◌, sym, ap, ◌∙◌, ℕ, zero, suc, ◌<◌, true, List, Some, arith}
-use Rattle.sql_subset.specs.Spec.{Spec, line_of, ranks, IsBound}
+use Rattle.bound_specs.specs.Spec.{Spec, line_of, ranks, IsBound}
 use Rattle.transcripts.specs.declared.event.Event.{Event}
 use Rattle.machine_model.specs.Outcome.{outcome_of_line}
 use Rattle.quiet_steps.specs.Swap.{leads_in}

@@ -3,7 +3,7 @@ use Rattle.std.proofs.Common.{zero, suc, Bool, Option, ◌≡◌, refl, ℕ, Lis
 use Rattle.finite_maps.specs.Map.{get, insert, keep, remove, entries, empty}
 use Rattle.statement_effects.specs.Effect.{effect}
 use Rattle.row_tables.specs.Overlay.{lay}
-use Rattle.sql_subset.specs.Spec.{Spec, Queues, queues_of, ranks, line_of, counts_of}
+use Rattle.bound_specs.specs.Spec.{Spec, Queues, queues_of, ranks, line_of, counts_of}
 use Rattle.machine_model.specs.Start.{Started, start}
 use Rattle.machine_model.specs.World.{World}
 use Rattle.perm_ranks.specs.Words.{all_words}

@@ -1,6 +1,6 @@
 -- What is true of the ranks of a spec, and the fact of a rank.
 use Rattle.std.specs.Prelude.{◌≡◌, ℕ, zero, suc, ◌<◌, Bool, true, false, cond, ◌&&◌, nat_lt, List, [], ◌∷◌, length, Option, Some, None}
-use Rattle.sql_subset.specs.Spec.{Spec, line_of, ranks}
+use Rattle.bound_specs.specs.Spec.{Spec, line_of, ranks}
 use Rattle.machine_model.specs.World.{World, send_all, outcome_of}
 use Rattle.machine_model.specs.Start.{Started, start}
 use Rattle.machine_model.specs.Outcome.{outcome_of_line}

@@ -1,6 +1,6 @@
 -- The laws of quiet steps, of swaps and of what is true of ranks.
 use Rattle.std.specs.Prelude.{◌≡◌, ◌≢◌, ◌↔◌, ℕ, ◌<◌, Bool, true, ◌++◌, List, [], get_or, Some}
-use Rattle.sql_subset.specs.Spec.{Spec, Step, no_step, Queues, queues_of, line, line_of, ranks, IsBound}
+use Rattle.bound_specs.specs.Spec.{Spec, Step, no_step, Queues, queues_of, line, line_of, ranks, IsBound}
 use Rattle.machine_model.specs.World.{World, send, send_all, session_at, scene_of}
 use Rattle.machine_model.specs.Session.{Session, Task, tasks_of}
 use Rattle.lock_modes.specs.RowPlace.{RowPlace}

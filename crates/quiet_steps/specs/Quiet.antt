@@ -6,7 +6,7 @@ use Rattle.lock_queues.specs.Locks.{fits, waits_now}
 use Rattle.lock_modes.specs.Resource.{same_resource}
 use Rattle.sql_statements.specs.Plan.{Request}
 use Rattle.machine_model.specs.World.{World, session_at, look_of}
-use Rattle.sql_subset.specs.Spec.{Step}
+use Rattle.bound_specs.specs.Spec.{Step}
 use Rattle.transcripts.specs.declared.event.Event.{Event}
 use Rattle.transcripts.specs.declared.event.Event.TheVariants.{Sent, Row as RowEvent, Rows, Inserted, Updated, Deleted, Began, Committed, RolledBack, Locked, Set, Warned, Failed, Waiting, Resumed, Done, NotSent}
 use Rattle.machine_model.specs.Claims.{plans}

@@ -1,7 +1,7 @@
 -- Swaps of two neighbouring steps of a line: where they are true, and to which rank they lead.
 use Rattle.std.specs.Prelude.{◌≡◌, ℕ, zero, suc, ◌+◌, Bool, true, false, cond, not, ◌&&◌, ◌==◌, nat_lt, List, [], ◌∷◌, set, take, get_or, Option, Some, None, is_some}
 use Rattle.machine_model.specs.World.{World, send, send_all}
-use Rattle.sql_subset.specs.Spec.{Step, no_step, Spec, counts_of, Queues, line_of, queues_of}
+use Rattle.bound_specs.specs.Spec.{Step, no_step, Spec, counts_of, Queues, line_of, queues_of}
 use Rattle.quiet_steps.specs.Quiet.{is_quiet}
 use Rattle.perm_ranks.specs.Words.{Word, all_words, place_of, word_at}
 use Rattle.perm_ranks.specs.Swapped.{exchanged}

@@ -1,6 +1,6 @@
 -- The values that a set of facts gives to ranks.
 use Rattle.std.specs.Prelude.{◌≡◌, ℕ, ◌<◌, Bool, true, List, Option, Some}
-use Rattle.sql_subset.specs.Spec.{Spec, line_of, ranks}
+use Rattle.bound_specs.specs.Spec.{Spec, line_of, ranks}
 use Rattle.transcripts.specs.declared.event.Event.{Event}
 use Rattle.machine_model.specs.Outcome.{outcome_of_line}
 use Rattle.quiet_steps.specs.Swap.{leads_in}

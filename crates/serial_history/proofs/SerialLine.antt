@@ -8,7 +8,7 @@ use Rattle.row_tables.specs.Overlay.{Rows', Overlay, lay}
 use Rattle.machine_model.specs.Session.{Task, Session, Held, note, tasks_of}
 use Rattle.machine_model.specs.Go.{Run, go, taking}
 use Rattle.machine_model.specs.World.{World, session_at, look_of, scene_of, goes, granted, settle, settle_for, left_to_do, send, send_all, noted}
-use Rattle.sql_subset.specs.Spec.{Step, no_step}
+use Rattle.bound_specs.specs.Spec.{Step, no_step}
 use Rattle.machine_model.specs.Sound.{Steady, Sound, UnderLocks}
 use Rattle.serial_history.specs.Serial.{Tally, go_tally, History, tally_of, goes_told, granted_told, settle_told, send_told, send_all_told, Repeats, Told}
 use Rattle.serial_history.specs.Serial.{Replay, WorkHeld}

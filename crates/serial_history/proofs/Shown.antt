@@ -9,7 +9,7 @@ use Rattle.machine_model.specs.Session.{Task, Ask, Do, Session, Performed, Goes,
 use Rattle.machine_model.specs.Session.{worked, note, tasks_of}
 use Rattle.machine_model.specs.Go.{Scene, Run, taking, is_broken, failed, finished_by, stopped, go, held_up, look_with, waiting_with}
 use Rattle.machine_model.specs.World.{World, session_at, look_of, scene_of, goes, granted, settle, settle_for, left_to_do, send, send_all, noted}
-use Rattle.sql_subset.specs.Spec.{Step, no_step}
+use Rattle.bound_specs.specs.Spec.{Step, no_step}
 use Rattle.machine_model.specs.Sound.{Steady, Sound}
 use Rattle.serial_history.specs.Reading.{Reading, ends, step_ends, read}
 use Rattle.serial_history.specs.Serial.{Did, Transaction, is_work, ended_with, commit_of, Ended, Tally, ended_well, dropped, did, tally_by, tally_end, go_tally}

@@ -8,7 +8,7 @@ use Rattle.row_tables.specs.Overlay.{Rows'}
 use Rattle.machine_model.specs.Session.{Task, Ask, Do, Session, Performed, Goes, Fails, perform, tasks_of}
 use Rattle.machine_model.specs.Go.{Run, Stop, taking, is_broken, solo, failed, finished_by, stopped, go}
 use Rattle.machine_model.specs.World.{World, fresh, session_at, scene_of, send_all}
-use Rattle.sql_subset.specs.Spec.{Spec, no_step, IsBound}
+use Rattle.bound_specs.specs.Spec.{Spec, no_step, IsBound}
 use Rattle.machine_model.specs.Start.{Start, Started, SetupFailed, SessionSetupFailed, SessionSetupWaits, start, set_up, started_then, main_setups}
 use Rattle.machine_model.specs.Start.{session_setups, after_setup, forgotten, has_failed, is_outside, IsAlone, IsIdle}
 use Rattle.serial_history.specs.Serial.{Shown, reading_in, reading_of, session_setups_said, after_setups, AllTell, EndedTell, commits_of, committed_in, Repeats}

@@ -3,7 +3,7 @@ use Rattle.std.proofs.Common.{◌≡◌, refl, ℕ, true, false, List, [], ◌�
 use Rattle.finite_maps.specs.Map.{get, insert, keep, remove, entries, empty}
 use Rattle.statement_effects.specs.Effect.{effect}
 use Rattle.row_tables.specs.Overlay.{lay}
-use Rattle.sql_subset.specs.Spec.{Spec}
+use Rattle.bound_specs.specs.Spec.{Spec}
 use Rattle.machine_model.specs.Start.{Started, start}
 use Rattle.machine_model.specs.World.{send_all, session_at}
 use Rattle.transcripts.specs.declared.event.Event.TheVariants.{Row as RowEvent, Rows, Updated}

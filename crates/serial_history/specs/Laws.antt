@@ -1,6 +1,6 @@
 -- The laws of histories.
 use Rattle.std.specs.Prelude.{◌≡◌, ℕ, List, ◌++◌}
-use Rattle.sql_subset.specs.Spec.{Spec, Step, IsBound}
+use Rattle.bound_specs.specs.Spec.{Spec, Step, IsBound}
 use Rattle.machine_model.specs.Start.{Started, start}
 use Rattle.machine_model.specs.World.{World, send_all}
 use Rattle.machine_model.specs.Sound.{Sound}

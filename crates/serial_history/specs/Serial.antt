@@ -10,7 +10,7 @@ use Rattle.statement_effects.specs.Effect.{Effect, Gives, Faults, effect}
 use Rattle.machine_model.specs.Session.{Task, Ask, Do, Session, Held, Goes, Fails, Kind, Begins, Commits, RollsBack, Works, kind, perform, tasks_of, note, ended}
 use Rattle.machine_model.specs.Go.{Scene, taking, is_broken, answer_in}
 use Rattle.machine_model.specs.World.{World, session_at, look_of, scene_of, granted, goes, left_to_do, send, send_all, outcome_of}
-use Rattle.sql_subset.specs.Spec.{Step, no_step, Spec}
+use Rattle.bound_specs.specs.Spec.{Step, no_step, Spec}
 use Rattle.machine_model.specs.Start.{Started, set_up, start, after_setup, forgotten}
 use Rattle.lock_queues.specs.declared.answer.Answer.TheVariants.{Granted, Waits, Ring}
 use Rattle.transcripts.specs.declared.event.Event.{Event}

@@ -25,7 +25,7 @@ use Rattle.machine_model.specs.World.{World, fresh, session_at, goes, look_of}
 use Rattle.machine_model.specs.Start.{has_failed, is_failure, is_outside, after_setup, forgotten, IsAlone, Start, Started, SetupFailed, SessionSetupFailed}
 use Rattle.machine_model.specs.Start.{SessionSetupWaits, main_setups, session_setups, started_then, start, IsIdle}
 use Rattle.machine_model.specs.Sound.{Steady}
-use Rattle.sql_subset.specs.Spec.{Step, Spec}
+use Rattle.bound_specs.specs.Spec.{Step, Spec}
 use Rattle.session_machine.specs.Stage.{no_member, rest_of, own_of, world_in, member_at, IsWithin, RestIsOf, IsStage, IsBlank, IsSilent, IsSettled}
 use Rattle.session_machine.specs.SetUp.{IsSetUp, HasEnded, end_of}
 use Rattle.session_machine.specs.SetUp.{IsReadyForMains, IsReadyForSessions}
@@ -334,6 +334,14 @@ module _ (i : ℕ) (w : World) (block : List Bound) (blocks : List (List Bound))
       ≡ session_setups (suc i) (forgotten later i) blocks
   unfolding so
   session-goes whole idle = λ k. so (whole k) (idle k)
+
+  pub session-fails : has_failed (session_at later i) ≡ true → session_setups i w (block ∷ blocks) ≡ SessionSetupFailed i
+  unfolding so
+  session-fails failed = λ k. so (failed k) (waits_now later.waits i)
+
+  pub session-waits : has_failed (session_at later i) ≡ false → waits_now later.waits i ≡ true → session_setups i w (block ∷ blocks) ≡ SessionSetupWaits i
+  unfolding so
+  session-waits whole waits = λ k. so (whole k) (waits k)
 
 pub session-ready : (count i : ℕ) (x y : Stage) (block : List Bound) → i < count → IsReadyForSessions count x → IsSetUp i block x y → IsReadyForSessions count y
 session-ready count i x y block lt ready set-up = record {

@@ -12,7 +12,7 @@ use Rattle.lock_queues.specs.Sound.{EachWait}
 use Rattle.lock_queues.proofs.Bounded.{tests-decide}
 use Rattle.transcripts.specs.declared.event.Event.{Event}
 use Rattle.transcripts.specs.declared.event.Event.TheVariants.{Sent, Resumed, NotSent}
-use Rattle.sql_subset.specs.Spec.{Step, no_step}
+use Rattle.bound_specs.specs.Spec.{Step, no_step}
 use Rattle.session_machine.specs.declared.member.Rest.{Rest}
 use Rattle.session_machine.specs.declared.member.Member.{Member}
 use Rattle.session_machine.specs.declared.stage.Stage.{Stage}

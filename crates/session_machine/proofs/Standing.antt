@@ -6,7 +6,7 @@ use Rattle.lock_queues.specs.Locks.{next_grant, waits_now}
 use Rattle.lock_queues.specs.Rules.{NothingRipe}
 use Rattle.lock_queues.specs.LockTable.{Locks, look_in}
 use Rattle.row_tables.specs.Layers.{Layers}
-use Rattle.sql_subset.specs.Spec.{Spec, Step, no_step}
+use Rattle.bound_specs.specs.Spec.{Spec, Step, no_step}
 use Rattle.session_machine.specs.declared.member.Member.{Member}
 use Rattle.session_machine.specs.declared.stage.Stage.{Stage}
 use Rattle.machine_model.specs.Session.{Session}

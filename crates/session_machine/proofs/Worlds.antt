@@ -18,7 +18,7 @@ use Rattle.transcripts.specs.declared.event.Event.TheVariants.{Sent, Resumed, No
 use Rattle.machine_model.specs.Session.{Task, Session, note, tasks_of}
 use Rattle.machine_model.specs.Go.{Run, taking}
 use Rattle.machine_model.specs.World.{scene_of, placed_back, goes, granted, settle, noted, send, look_of, session_at, World}
-use Rattle.sql_subset.specs.Spec.{Step, no_step}
+use Rattle.bound_specs.specs.Spec.{Step, no_step}
 use Rattle.machine_model.specs.Sound.{Steady, UnderLocks}
 use Rattle.session_machine.specs.Stage.{IsWithin}
 use Rattle.session_machine.specs.State.{Own, no_own, session_of, sessions_from, world_of, SameOthers}

@@ -2,7 +2,7 @@
 use Rattle.std.specs.Prelude.{◌≡◌, ℕ, suc, Bool, true, false, ◌==◌, length, Option, None}
 use Rattle.std.specs.Option.{option_map}
 use Rattle.std.specs.List.{find}
-use Rattle.sql_subset.specs.Spec.{SpecFile}
+use Rattle.bound_specs.specs.Spec.{SpecFile}
 use Rattle.lock_modes.specs.declared.mode.Mode.{Mode}
 use Rattle.lock_modes.specs.declared.resource.Resource.{Resource}
 use Rattle.lock_queues.specs.declared.wait.Wait.{Wait}

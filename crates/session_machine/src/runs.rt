@@ -1,7 +1,8 @@
 //! Whole runs of a spec.
 
 ghost use Rattle.std.specs.Prelude.{◌≡◌, ◌<◌, ℕ, Some, false, All, IfOk, IfErr, OnOk, length};
-ghost use Rattle.machine_model.specs.Start.{Start, start};
+ghost use Rattle.bound_specs.specs.Spec.{IsBound};
+ghost use Rattle.machine_model.specs.Start.{Start, Started, start};
 ghost use Rattle.machine_model.specs.World.{send_all};
 ghost use Rattle.machine_model.specs.Outcome.{IsOutcomeOf, outcome_of_line};
 ghost use Rattle.serial_history.specs.Serial.{IsSerial};
@@ -9,7 +10,7 @@ ghost use Rattle.session_machine.specs.Running.{IsRefusedBy, IsNotRunBy};
 
 use crate::error::{RunError, SendError, StartError};
 use crate::world::World;
-use sql_subset::{Line, Spec};
+use bound_specs::{Line, Spec};
 use std::alloc::Global;
 use transcripts::Outcome;
 
@@ -22,11 +23,24 @@ pub fn run_one(alloc: Global, spec: &Spec, line: &Line) -> Result<Outcome, RunEr
     ensures own { IfOk result (IsOutcomeOf spec.now.run) }
     ensures refused { IfErr result (λ error. IsNotRunBy error (start spec.now.run)) }
 {
-    let mut world = match World::start(alloc, spec) {
-        Ok(world) => world,
-        Err(error) => return Err(not_started(error)),
-    };
-    send_line(&mut world, line.as_slice())?;
+    match World::start(alloc, spec) {
+        Ok(mut world) => run_line(&mut world, line.as_slice()),
+        Err(error) => Err(not_started(error)),
+    }
+}
+
+/// Sends the steps of a line in turn to a world as it starts, and gives what its sessions were told.
+fn run_line(world: &mut World<'_>, line: &[u8]) -> Result<Outcome, RunError>
+    requires known { All (λ k. k < length world.old.file.run.steps) line.now }
+    requires whole { world.old.spent ≡ false }
+    requires started { start world.old.file.run ≡ Started world.old.world }
+    requires bound { IsBound world.old.file.run }
+    ensures ran { IfOk result (λ outcome. outcome_of_line world.old.file.run line.now ≡ Some outcome) }
+    ensures serial { IfOk result (IsSerial world.old.file.run line.now) }
+    ensures own { IfOk result (IsOutcomeOf world.old.file.run) }
+    ensures refused { IfErr result (λ error. IsNotRunBy error (start world.old.file.run)) }
+{
+    send_line(world, line)?;
     match world.outcome() {
         Ok(outcome) => Ok(outcome),
         Err(SendError::NoMemory) => Err(RunError::NoMemory),

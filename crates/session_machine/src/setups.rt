@@ -3,7 +3,7 @@
 ghost use Rattle.std.specs.Prelude.{◌≡◌, ◌<◌, ◌≤◌, ◌+◌, [], length, suc, All, is_some, IfOk, IfErr};
 ghost use Rattle.std.specs.List.{list_any};
 ghost use Rattle.sql_statements.specs.Plan.{HasKeys, IsShort};
-ghost use Rattle.sql_subset.specs.Spec.{AllHaveKeys, AllAreShort};
+ghost use Rattle.bound_specs.specs.Spec.{AllHaveKeys, AllAreShort};
 ghost use Rattle.machine_model.specs.Start.{Started, is_failure, is_outside, main_setups, session_setups};
 ghost use Rattle.session_machine.specs.Running.{IsRefusedBy};
 ghost use Rattle.session_machine.specs.Stage.{world_in, IsStage};
@@ -14,7 +14,7 @@ use crate::error::StartError;
 use crate::session::SessionState;
 use crate::stage::Stage;
 use crate::stepping::{Point, go_on};
-use sql_subset::Block;
+use bound_specs::Block;
 use std::alloc::{AllocError, Global};
 use transcripts::{Event, Log};
 

@@ -10,10 +10,10 @@ ghost use Rattle.session_machine.specs.Stage.{statements_of, world_in, IsStage, 
 
 use crate::member::{Member, Rest};
 use crate::stepping::{Point, go_on};
+use bound_specs::Spec;
 use finite_maps::Fork;
 use lock_queues::LockTable;
 use row_tables::Store;
-use sql_subset::Spec;
 use std::alloc::{AllocError, Global};
 use transcripts::Event;
 

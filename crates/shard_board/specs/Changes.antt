@@ -3,7 +3,7 @@ use Rattle.std.specs.Prelude.{◌≡◌, ℕ, ◌<◌, ◌≤◌, true, false, L
 use mathlib.Core.Option.{some}
 use mathlib.Core.List.{IsPrefix}
 use lib.ListN.{get_elem?}
-use Rattle.sql_subset.specs.Spec.{Spec}
+use Rattle.bound_specs.specs.Spec.{Spec}
 use Rattle.step_reducer.specs.declared.walker.Shard.{Shard}
 use Rattle.step_reducer.specs.Walking.{IsShardOf}
 use Rattle.shard_board.specs.declared.error.TheConstants.{MAX_SHARDS, MAX_SEATS, MAX_TURNS}

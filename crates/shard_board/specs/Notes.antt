@@ -2,7 +2,7 @@
 use Rattle.std.specs.Prelude.{◌≡◌, ℕ, false, List, [], ◌∷◌, ◌++◌, length, None}
 use mathlib.Core.List.{IsPrefix}
 use Rattle.atomic_table.specs.Table.{Me, Step}
-use Rattle.sql_subset.specs.Spec.{Spec, SpecFile}
+use Rattle.bound_specs.specs.Spec.{Spec, SpecFile}
 use Rattle.outcome_books.specs.Books.{empty_book}
 use Rattle.shard_board.specs.declared.history.Entry.{Entry}
 use Rattle.shard_board.specs.declared.rule.Part.{Part}

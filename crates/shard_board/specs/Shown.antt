@@ -2,7 +2,7 @@
 use Rattle.std.specs.Prelude.{◌≡◌, ℕ, ◌<◌, ◌≤◌, ◌==◌, ◌||◌, Bool, true, false, List, [], ◌∷◌, length, slice_index_or, None}
 use Rattle.atomic_table.specs.Table.{Me}
 use Rattle.atomic_table.specs.Seated.{TableId}
-use Rattle.sql_subset.specs.Spec.{SpecFile}
+use Rattle.bound_specs.specs.Spec.{SpecFile}
 use Rattle.shard_board.specs.declared.error.TheConstants.{MAX_SHARDS, MAX_TURNS}
 use Rattle.shard_board.specs.declared.history.Entry.{Entry}
 use Rattle.shard_board.specs.declared.rule.Plan.{Plan}

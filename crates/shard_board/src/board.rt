@@ -9,8 +9,8 @@ use crate::error::{BoardError, MAX_SEATS, MAX_SHARDS};
 use crate::rule::{Plan, Words};
 use crate::seat::Seat;
 use crate::seating::place_all;
+use bound_specs::Spec;
 use outcome_books::Book;
-use sql_subset::Spec;
 use std::alloc::{AllocError, Global};
 use std::marker::Model;
 use step_reducer::{MAX_RANKS, Shard};
@@ -25,7 +25,7 @@ pub struct Board {
 
 impl Model for Board {
     ghost use Rattle.std.specs.Coded.{codes};
-    ghost use Rattle.sql_subset.specs.contracts.spec.Spec as file;
+    ghost use Rattle.bound_specs.specs.contracts.spec.Spec as file;
     ghost use Rattle.shard_board.specs.Shown.{ShownBoard, shown_board, IsBoard};
 
     ghost Value = { ShownBoard };

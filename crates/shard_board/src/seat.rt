@@ -16,7 +16,7 @@ pub struct Seat {
 
 impl Model for Seat {
     ghost use Rattle.std.specs.Coded.{codes};
-    ghost use Rattle.sql_subset.specs.contracts.spec.Spec as file;
+    ghost use Rattle.bound_specs.specs.contracts.spec.Spec as file;
     ghost use Rattle.shard_board.specs.contracts.history.Facts as facts;
     ghost use Rattle.shard_board.specs.Shown.{ShownSeat, shown_seat, AtRest};
 
@@ -37,7 +37,7 @@ pub struct Note {
 
 impl Model for Note {
     ghost use Rattle.std.specs.Coded.{codes};
-    ghost use Rattle.sql_subset.specs.contracts.spec.Spec as file;
+    ghost use Rattle.bound_specs.specs.contracts.spec.Spec as file;
     ghost use Rattle.shard_board.specs.contracts.history.Facts as facts;
     ghost use Rattle.shard_board.specs.Shown.{ShownNote, shown_note};
     ghost use Rattle.shard_board.specs.Notes.{IsNote};

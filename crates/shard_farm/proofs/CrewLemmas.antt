@@ -3,7 +3,7 @@ use Rattle.std.proofs.Common.{◌≡◌, ℕ, zero, suc, ◌<◌, Bool, List, []
 use Rattle.std.proofs.Common.{All}
 use mathlib.Core.Option.{some, some-ne-none, some-injective}
 use lib.ListN.{get_elem?}
-use Rattle.sql_subset.specs.Spec.{Spec}
+use Rattle.bound_specs.specs.Spec.{Spec}
 use Rattle.step_reducer.specs.declared.walker.Shard.{Shard}
 use Rattle.shard_board.specs.Shown.{ShownBoard, ShownSeat}
 use Rattle.shard_board.specs.Changes.{IsRowOf}

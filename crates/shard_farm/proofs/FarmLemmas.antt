@@ -1,6 +1,6 @@
 -- From what was left out to the whole.
 use Rattle.std.proofs.Common.{◌≡◌, Bool, ℕ, List, [], ap}
-use Rattle.sql_subset.specs.Spec.{Spec}
+use Rattle.bound_specs.specs.Spec.{Spec}
 use Rattle.step_reducer.specs.declared.walker.Shard.{Shard}
 use Rattle.outcome_books.specs.Entries.{FactSet}
 use Rattle.shard_board.specs.Shown.{has}

@@ -10,7 +10,7 @@ use mathlib.Core.Logic.{dite}
 use native.Mathlib.Decide.{ℕ_discrete}
 use lib.ListN.{get_elem?}
 use Rattle.atomic_table.proofs.Lists.{at_longer, at_last}
-use Rattle.sql_subset.specs.Spec.{Spec}
+use Rattle.bound_specs.specs.Spec.{Spec}
 use Rattle.step_reducer.specs.declared.walker.Shard.{Shard}
 use Rattle.outcome_books.specs.Entries.{FactSet}
 use Rattle.outcome_books.specs.Books.{Contents}

@@ -3,7 +3,7 @@ use Rattle.std.specs.Prelude.{◌≡◌, ◌≢◌, ◌↔◌, ℕ, ◌<◌, ◌
 use Rattle.std.specs.List.Sorted.{IsStrictlyIncreasing}
 use mathlib.Core.Option.{some}
 use lib.ListN.{get_elem?}
-use Rattle.sql_subset.specs.Spec.{Spec, SpecFile}
+use Rattle.bound_specs.specs.Spec.{Spec, SpecFile}
 use Rattle.machine_model.specs.Start.{start}
 use Rattle.quiet_steps.specs.Facts.{IsFactOf}
 use Rattle.quiet_steps.specs.declared.fact.Fact.{Fact}

@@ -2,7 +2,7 @@
 
 ghost use Rattle.std.specs.Prelude.{◌≡◌, ◌≤◌, All, vec_len, vec_capacity, length, IfOk};
 ghost use Rattle.std.specs.Thread.{IsSync};
-ghost use Rattle.sql_subset.specs.Binding.{IsFileOf};
+ghost use Rattle.bound_specs.specs.Binding.{IsFileOf};
 ghost use Rattle.shard_farm.specs.Working.{IsReady, IsStarting, IsDone};
 
 use crate::gate::Gate;

@@ -1,16 +1,17 @@
 //! One worker.
 
 ghost use Rattle.std.specs.Prelude.{◌≡◌, ◌<◌, length, IfSome};
-ghost use Rattle.sql_subset.specs.Spec.{SpecFile};
-ghost use Rattle.sql_subset.specs.Binding.{IsFileOf};
+ghost use Rattle.bound_specs.specs.Spec.{SpecFile};
+ghost use Rattle.bound_specs.specs.Binding.{IsFileOf};
 ghost use Rattle.shard_farm.specs.Working.{is_marked, AreFactsAt, HasServed, IsReady, HasWorked};
 
 use crate::gate::Gate;
 use crate::plan::Plan;
+use bound_specs::Spec;
 use outcome_books::Book;
 use shard_board::{Board, Seat};
 use spec_reader::read_spec;
-use sql_subset::{Spec, bind};
+use sql_subset::bind;
 use std::alloc::Global;
 use std::sync::Wait;
 

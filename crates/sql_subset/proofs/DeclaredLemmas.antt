@@ -3,7 +3,7 @@ use Rattle.std.proofs.Common.{◌≡◌, refl, sym, ap, ◌∙◌, ℕ, suc, ◌
 use Rattle.std.proofs.Common.{append_assoc}
 use Rattle.sql_binding.specs.declared.tables.Table.{Table}
 use Rattle.sql_binding.specs.Refusals.{Bind, ◌>>=◌}
-use Rattle.sql_subset.specs.Binding.{then_more, declared}
+use Rattle.bound_specs.specs.Binding.{then_more, declared}
 
 more_twice : {X : Type 0} (xs ys : List X) (r : Bind (List Table × List X)) → then_more xs (then_more ys r) ≡ then_more (xs ++ ys) r
 more_twice xs ys (Ok z) = ap (λ zs. Ok (z.0, zs)) (sym (append_assoc xs ys z.1))

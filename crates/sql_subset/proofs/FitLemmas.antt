@@ -38,9 +38,9 @@ use Rattle.sql_binding.specs.declared.joining.Joint.TheVariants.{All as AllOf, A
 use Rattle.sql_binding.specs.declared.tables.ColumnType.{ColumnType}
 use Rattle.sql_binding.specs.declared.tables.ColumnType.TheVariants.{Number, Text}
 use Rattle.sql_binding.specs.declared.tables.Table.{Table}
-use Rattle.sql_subset.specs.Fits.{IsColumn, IsThere, ColumnOf, OperandIs, FactorsAre, ProductIs, TermsAre, ExpressionIs, EachComparison, ComparisonFits}
-use Rattle.sql_subset.specs.Fits.{ConditionFits}
-use Rattle.sql_subset.specs.Fits.{AggregateFits, OutputFits, SortKeyFits, AssignmentFits, RowFits, OfTable, Fits}
+use Rattle.bound_specs.specs.Fits.{IsColumn, IsThere, ColumnOf, OperandIs, FactorsAre, ProductIs, TermsAre, ExpressionIs, EachComparison, ComparisonFits}
+use Rattle.bound_specs.specs.Fits.{ConditionFits}
+use Rattle.bound_specs.specs.Fits.{AggregateFits, OutputFits, SortKeyFits, AssignmentFits, RowFits, OfTable, Fits}
 use Rattle.sql_binding.specs.KeyParts.{key_of}
 use Rattle.sql_binding.specs.Names.{Name, head, tail, list_of, repeats}
 use Rattle.sql_binding.specs.Refusals.{Bind, ◌>>=◌, refuse, unless, with_front, each}

@@ -1,6 +1,4 @@
-pub mod OrderLemmas
 pub mod ShapeLemmas
-pub mod WalkLemmas
 pub mod DeclaredLemmas
 pub mod ReadLemmas
 pub mod RowLemmas

@@ -26,9 +26,9 @@ use Rattle.sql_binding.specs.declared.error.BindErrorKind.{BindErrorKind}
 use Rattle.sql_binding.specs.declared.error.BindErrorKind.TheVariants.{Sql, UnknownTable, UnknownColumn, TypeMismatch, KeyChanged, DuplicateTable, WrongCount}
 use Rattle.sql_binding.specs.declared.joining.Joint.TheVariants.{All}
 use Rattle.sql_binding.specs.declared.tables.Table.{Table}
-use Rattle.sql_subset.specs.Binding.{offset_in, read_text, read_at, read_block, statement_at, bind_block, session_setup, step, session, then_more, declared}
-use Rattle.sql_subset.specs.Binding.{sent, main_statement, main_at, main_setup, shaped, bound_file}
-use Rattle.sql_subset.specs.Lines.{orders_of}
+use Rattle.bound_specs.specs.Binding.{offset_in, read_text, read_at, read_block, statement_at, bind_block, session_setup, step, session, then_more, declared}
+use Rattle.bound_specs.specs.Binding.{sent, main_statement, main_at, main_setup, shaped, bound_file}
+use Rattle.bound_specs.specs.Lines.{orders_of}
 use Rattle.sql_binding.specs.Names.{Name, head, tail, list_of, repeats}
 use Rattle.sql_binding.specs.Refusals.{Bind, ◌>>=◌, refuse, unless, with_front, each, IsNamed}
 use Rattle.sql_binding.specs.Statements.{places, at_places, rows_miscount, set_columns, sets_key, row_columns, row_values, insert, aggregate, output, sort_key}

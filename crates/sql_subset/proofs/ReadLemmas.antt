@@ -13,7 +13,7 @@ use Rattle.sql_reader.proofs.FaultLemmas.{fault-one}
 use Rattle.sql_reader.proofs.Laws.{good-append}
 use Rattle.sql_reader.proofs.RowLemmas.{spelled-few}
 use Rattle.sql_reader.proofs.TextLemmas.{read-complete, read-sound, read-fault}
-use Rattle.sql_subset.specs.Binding.{read_at, read_text}
+use Rattle.bound_specs.specs.Binding.{read_at, read_text}
 
 pub read-is : (text : List ℕ) (ss : List StatementAt) → IsSpelled text ss → read_text text ≡ Ok ss
 read-is text ss h = read-complete text ss h

@@ -25,8 +25,8 @@ use Rattle.sql_binding.specs.declared.error.BindErrorKind.{BindErrorKind}
 use Rattle.sql_binding.specs.declared.error.BindErrorKind.TheVariants.{TypeMismatch, KeyChanged, WrongCount}
 use Rattle.sql_binding.specs.Types.{row_mixes, assignment_mixes, condition_mixes, output_mixes}
 use Rattle.sql_binding.specs.declared.tables.Table.{Table}
-use Rattle.sql_subset.specs.Binding.{read_block, statement_at, bind_block, session_setup, step, BoundSession, session, then_more, declared, sent}
-use Rattle.sql_subset.specs.Binding.{main_statement, main_at, main_setup, offset_in}
+use Rattle.bound_specs.specs.Binding.{read_block, statement_at, bind_block, session_setup, step, BoundSession, session, then_more, declared, sent}
+use Rattle.bound_specs.specs.Binding.{main_statement, main_at, main_setup, offset_in}
 use Rattle.sql_binding.specs.Refusals.{Bind, ◌>>=◌, unless, with_front, each}
 use Rattle.sql_binding.specs.Statements.{numbers_from, places, at_places, rows_miscount, set_columns, sets_key, row_columns, row_values, insert, output}
 use Rattle.sql_binding.specs.Statements.{sort_keys, select, assignment, update, delete, end_of, statement}

@@ -5,7 +5,7 @@ use Rattle.std.proofs.lemmas.List.{length-map}
 use Rattle.spec_reader.specs.declared.tree.Session.{Session}
 use Rattle.spec_reader.specs.Views.{session_tree, step_tree}
 use Rattle.perm_ranks.specs.Words.{total}
-use Rattle.sql_subset.specs.Lines.{counts_in, then_some, all_some}
+use Rattle.bound_specs.specs.Lines.{counts_in, then_some, all_some}
 
 -- ---- counts of steps
 

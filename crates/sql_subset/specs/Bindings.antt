@@ -1,9 +1,9 @@
 -- What the code has of bound sessions and orders.
 use Rattle.std.specs.Prelude.{◌≡◌, ◌≢◌, ℕ, List, []}
 use Rattle.sql_subset.specs.declared.blocks.BoundSession.{BoundSession as Written}
-use Rattle.sql_subset.specs.declared.orders.Orders.{Orders}
-use Rattle.sql_subset.specs.declared.orders.Orders.TheVariants.{Words, Lines}
-use Rattle.sql_subset.specs.Binding.{BoundSession}
+use Rattle.bound_specs.specs.declared.orders.Orders.{Orders}
+use Rattle.bound_specs.specs.declared.orders.Orders.TheVariants.{Words, Lines}
+use Rattle.bound_specs.specs.Binding.{BoundSession}
 
 abbrev pub bound_session : Written → BoundSession
 bound_session s = record { setup = s.setup; steps = s.steps.items }

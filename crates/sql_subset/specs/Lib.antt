@@ -1,8 +1,1 @@
-pub mod Binding
 pub mod Bindings
-pub mod Fits
-pub mod Lines
-pub mod Orders
-pub mod Spec
-pub mod Views
-pub mod Walking

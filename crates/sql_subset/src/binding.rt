@@ -2,22 +2,19 @@
 
 ghost use Rattle.std.specs.Prelude.{◌≡◌, ◌≢◌, ◌<◌, ◌≤◌, ◌++◌, ◌⊎◌, [], map, length, string_bytes, IfOk, IfErr, Ok, Err};
 ghost use Rattle.perm_ranks.specs.declared.TheConstants.{MAX_SESSIONS};
-ghost use Rattle.sql_subset.specs.declared.TheConstants.{MAX_LINED_STEPS};
+ghost use Rattle.bound_specs.specs.declared.TheConstants.{MAX_LINED_STEPS};
 ghost use Rattle.spec_reader.specs.Views.{session_tree, step_tree, line_tree};
 ghost use Rattle.spec_reader.specs.Whole.{spec_tree};
 ghost use Rattle.sql_grammar.specs.declared.error.SqlErrorKind.TheVariants as sql;
-ghost use Rattle.sql_subset.specs.Orders.{lines_of};
+ghost use Rattle.bound_specs.specs.Orders.{lines_of};
 ghost use Rattle.sql_subset.specs.Bindings.{bound_session, FitsCounts};
-ghost use Rattle.sql_subset.specs.Lines.{all_some, numbered_line, counts_in, step_names, session_names, lines_by, orders_of};
-ghost use Rattle.sql_subset.specs.Binding.{numbered, all_steps, shaped, bound_file};
+ghost use Rattle.bound_specs.specs.Lines.{all_some, numbered_line, counts_in, step_names, session_names, lines_by, orders_of};
+ghost use Rattle.bound_specs.specs.Binding.{numbered, all_steps, shaped, bound_file};
 ghost use Rattle.sql_binding.specs.Refusals.{Binds};
 
-use crate::MAX_LINED_STEPS;
-use crate::block::{Block, Step};
 use crate::blocks::{BoundSession, sessions, setups};
-use crate::orders::{Line, Orders};
 use crate::shapes::{lines, shape, total_steps};
-use crate::spec::{Parts, Spec};
+use bound_specs::{Block, Line, MAX_LINED_STEPS, Orders, Parts, Spec, Step};
 use lock_modes::Text;
 use perm_ranks::{MAX_SESSIONS, MAX_STEPS};
 use spec_reader::{

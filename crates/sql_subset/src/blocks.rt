@@ -4,11 +4,11 @@ ghost use Rattle.std.specs.Prelude.{◌≡◌, map};
 ghost use Rattle.spec_reader.specs.Views.{block_tree, step_tree, option_tree, session_tree};
 ghost use Rattle.sql_grammar.specs.Text.{seen};
 ghost use Rattle.sql_grammar.specs.Views.{view_form};
-ghost use Rattle.sql_subset.specs.Binding.{offset_in, read_block, statement_at, bind_block, session_setup, step, session, main_statement, main_at, main_setup, then_more, declared};
+ghost use Rattle.bound_specs.specs.Binding.{offset_in, read_block, statement_at, bind_block, session_setup, step, session, main_statement, main_at, main_setup, then_more, declared};
 ghost use Rattle.sql_subset.specs.Bindings.{bound_session};
 ghost use Rattle.sql_binding.specs.Refusals.{Binds, each};
 
-use crate::block::Block;
+use bound_specs::Block;
 use spec_reader::{Block as BlockText, Session as SessionText, Step as StepText};
 use sql_binding::{BindErrorKind, BindStop, Table, create, refused, statement};
 use sql_grammar::{Form, SqlErrorKind, Statement};

@@ -9,12 +9,12 @@ ghost use Rattle.spec_reader.specs.Tree.{SpecTree};
 ghost use Rattle.sql_grammar.specs.Tree.{Statement};
 ghost use Rattle.sql_statements.specs.declared.statement.Bound.{Bound};
 ghost use Rattle.sql_binding.specs.declared.tables.Table.{Table};
-ghost use Rattle.sql_subset.specs.Fits.{Fits, SpecFits};
+ghost use Rattle.bound_specs.specs.Fits.{Fits, SpecFits};
 ghost use Rattle.sql_binding.specs.Statements.{statement};
 ghost use Rattle.sql_binding.specs.declared.error.BindError.{BindError};
 ghost use Rattle.sql_binding.specs.Refusals.{IsNamed};
-ghost use Rattle.sql_subset.specs.Spec.{SpecFile};
-ghost use Rattle.sql_subset.specs.Binding.{IsFileOf, read_text, bound_file, declared, main_setup};
+ghost use Rattle.bound_specs.specs.Spec.{SpecFile};
+ghost use Rattle.bound_specs.specs.Binding.{IsFileOf, read_text, bound_file, declared, main_setup};
 
 /// A text is that of one file at most.
 pub fn one_file()

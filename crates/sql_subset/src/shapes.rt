@@ -5,11 +5,11 @@ ghost use Rattle.spec_reader.specs.Views.{session_tree, item_tree, line_tree};
 ghost use Rattle.perm_ranks.specs.declared.TheConstants.{MAX_SESSIONS};
 ghost use Rattle.perm_ranks.specs.Shape.{shape_of};
 ghost use Rattle.perm_ranks.specs.Words.{total};
-ghost use Rattle.sql_subset.specs.declared.TheConstants.{MAX_LINED_STEPS};
-ghost use Rattle.sql_subset.specs.Lines.{counts_in, all_some, numbered_line};
+ghost use Rattle.bound_specs.specs.declared.TheConstants.{MAX_LINED_STEPS};
+ghost use Rattle.bound_specs.specs.Lines.{counts_in, all_some, numbered_line};
 
-use crate::orders::Line;
 use arrayvec::ArrayVec;
+use bound_specs::Line;
 use lock_modes::Text;
 use perm_ranks::{MAX_SESSIONS, Shape};
 use spec_reader::{Item as ItemText, Line as LineText, MAX_ITEMS, Session as SessionText};

@@ -2,7 +2,7 @@
 use Rattle.std.proofs.Common.{◌≡◌, sym, ap, ◌∙◌, ℕ, ◌+◌, ◌-◌, ◌≤◌, true, ◌++◌, length, arith}
 use Rattle.perm_ranks.specs.Words.{Word, word_at}
 use Rattle.perm_ranks.specs.Blocks.{Block, HasRank, IsBlockOf}
-use Rattle.sql_subset.specs.Spec.{Spec, Queues, counts_of, queues_of}
+use Rattle.bound_specs.specs.Spec.{Spec, Queues, counts_of, queues_of}
 use Rattle.machine_model.specs.World.{World}
 use Rattle.quiet_steps.specs.Swap.{IsSwap, quiet_at, falls_at, word_of}
 use Rattle.quiet_steps.proofs.Lines.{spec-letters}

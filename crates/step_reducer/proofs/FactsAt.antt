@@ -10,7 +10,7 @@ use Rattle.perm_ranks.proofs.EntryLemmas.{word_at-taken}
 use Rattle.perm_ranks.proofs.SomeLemmas.{some-words}
 use Rattle.perm_ranks.proofs.BlockLemmas.{some-total}
 use Rattle.perm_ranks.proofs.WordLemmas.{Takes, done, takes, words-take, each-at}
-use Rattle.sql_subset.specs.Spec.{line, line_by, line_of, ranks, ranks_by, counts_of, queues_of}
+use Rattle.bound_specs.specs.Spec.{line, line_by, line_of, ranks, ranks_by, counts_of, queues_of}
 use Rattle.machine_model.specs.World.{World, outcome_of}
 use Rattle.machine_model.specs.Start.{Started}
 use Rattle.machine_model.specs.Outcome.{outcome_of_line}

@@ -2,7 +2,7 @@
 use Rattle.std.proofs.Common.{◌≡◌, ◌≢◌, refl, sym, ap, ◌∙◌, subst, ℕ, ◌-◌, ◌<◌, ◌≤◌, Bool, false, inl, List, [], length, Some, arith}
 use Rattle.perm_ranks.specs.Words.{total, all_words}
 use Rattle.perm_ranks.specs.Blocks.{Block, IsBlockOf, end_of}
-use Rattle.sql_subset.specs.Spec.{Spec, SpecFile, ranks, line_of, counts_of, queues_of}
+use Rattle.bound_specs.specs.Spec.{Spec, SpecFile, ranks, line_of, counts_of, queues_of}
 use Rattle.machine_model.specs.World.{World, blank, send_all, outcome_of}
 use Rattle.machine_model.specs.Start.{Started, start}
 use Rattle.machine_model.specs.Outcome.{outcome_of_line}

@@ -1,6 +1,6 @@
 -- What a walker gives, and where it stands then.
 use Rattle.std.proofs.Common.{◌≡◌, ◌≢◌, refl, sym, ap, ◌∙◌, subst, ℕ, suc, ◌+◌, ◌-◌, ◌*◌, ◌≤◌, Bool, true, false, Option, Some, None, arith}
-use Rattle.sql_subset.specs.Spec.{Spec, SpecFile}
+use Rattle.bound_specs.specs.Spec.{Spec, SpecFile}
 use Rattle.quiet_steps.specs.Facts.{IsFactOf}
 use Rattle.quiet_steps.specs.declared.fact.Fact.{Fact}
 use Rattle.spec_reader.specs.declared.TheConstants.{MAX_ITEMS}

@@ -4,7 +4,7 @@ use Rattle.std.proofs.Common.{le-ltb}
 use Rattle.std.proofs.Math.ListN.{get_or-append}
 use Rattle.std.proofs.Math.Seq.{get_or-append_seam}
 use Rattle.std.proofs.lemmas.List.{get_or_past}
-use Rattle.sql_subset.specs.Spec.{Step, no_step}
+use Rattle.bound_specs.specs.Spec.{Step, no_step}
 use Rattle.machine_model.specs.World.{World}
 use Rattle.quiet_steps.specs.Quiet.{is_quiet}
 use Rattle.quiet_steps.specs.Swap.{quiet_heads}

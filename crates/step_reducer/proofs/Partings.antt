@@ -7,7 +7,7 @@ use Rattle.perm_ranks.specs.Blocks.{Block, HasRank, end_of, narrowed}
 use Rattle.perm_ranks.proofs.BlockLemmas.{block-narrowed, some-total}
 use Rattle.perm_ranks.proofs.PlaceLemmas.{place_of-taken}
 use Rattle.perm_ranks.proofs.WordLemmas.{Takes, done, takes, words-take, each-at, entry-place, place-is, all_words-rise}
-use Rattle.sql_subset.specs.Spec.{no_step, Spec, Queues, line, line_by, line_of, counts_of, queues_of}
+use Rattle.bound_specs.specs.Spec.{no_step, Spec, Queues, line, line_by, line_of, counts_of, queues_of}
 use Rattle.machine_model.specs.World.{World}
 use Rattle.quiet_steps.proofs.Lines.{counts-set}
 use Rattle.quiet_steps.proofs.Swaps.{line-at}

@@ -3,7 +3,7 @@ use Rattle.std.proofs.Common.{◌≡◌, refl, sym, ◌∙◌, ℕ, zero, suc, �
 use Rattle.std.proofs.Common.{None, is_some, arith}
 use Rattle.perm_ranks.specs.Words.{Word}
 use Rattle.perm_ranks.specs.Swapped.{exchanged}
-use Rattle.sql_subset.specs.Spec.{Step, Queues, line}
+use Rattle.bound_specs.specs.Spec.{Step, Queues, line}
 use Rattle.machine_model.specs.World.{World, send, send_all}
 use Rattle.quiet_steps.specs.Swap.{quiet_at, falls_at}
 use Rattle.quiet_steps.proofs.Lines.{is_some-map}

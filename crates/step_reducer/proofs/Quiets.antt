@@ -10,13 +10,13 @@ use Rattle.lock_queues.specs.Locks.{all_below, wanted_by, waits_now}
 use Rattle.lock_queues.specs.Sound.{EachWait, Distinct}
 use Rattle.sql_statements.specs.Plan.{Request}
 use Rattle.sql_statements.specs.declared.statement.Bound.{Bound}
-use Rattle.sql_subset.specs.Spec.{Step}
+use Rattle.bound_specs.specs.Spec.{Step}
 use Rattle.machine_model.specs.World.{World, look_of}
 use Rattle.session_machine.specs.Running.{Running, held_in, wait_in}
 use Rattle.quiet_steps.specs.Quiet.{is_quiet, all_fit, all_fit_together, undisturbed}
 use Rattle.machine_model.specs.Claims.{plans}
 use Rattle.session_machine.specs.Running.{IsKnown}
-use Rattle.sql_subset.specs.Spec.{no_step}
+use Rattle.bound_specs.specs.Spec.{no_step}
 use Rattle.quiet_steps.proofs.FromQuiet.{quiet-commute}
 use Rattle.quiet_steps.proofs.Calm.{quiet-calm}
 use Rattle.step_reducer.specs.Pairs.{clear_of, is_quiet_in, session_of, HaveOneEnd, AreCalm}

@@ -9,7 +9,7 @@ use Rattle.perm_ranks.specs.Counting.{taken}
 use Rattle.perm_ranks.specs.Blocks.{Block, HasRank, end_of, narrowed}
 use Rattle.perm_ranks.proofs.BlockLemmas.{narrowed-le}
 use Rattle.perm_ranks.proofs.CountLemmas.{total-taken}
-use Rattle.sql_subset.specs.Spec.{SpecFile}
+use Rattle.bound_specs.specs.Spec.{SpecFile}
 use Rattle.step_reducer.specs.declared.frame.Frame.{Frame}
 use Rattle.step_reducer.specs.declared.frame.Turn.{Turn}
 use Rattle.step_reducer.specs.declared.stack.Stack.{Stack}

@@ -2,7 +2,7 @@
 use Rattle.std.proofs.Common.{◌≡◌, refl, sym, ap, ◌∙◌, ℕ, zero, suc, ◌+◌, ◌<◌, ◌≤◌, Bool, true, false, cond, ◌==◌, List, [], ◌∷◌, ◌++◌, length, map, drop, take}
 use Rattle.std.proofs.Common.{get_or, ◌⊎◌, ⊎_elim, arith, eqb-true}
 use Rattle.std.proofs.lemmas.List.{take_more}
-use Rattle.sql_subset.specs.Spec.{Step, Spec, no_step, steps_of, queues_from, queues_of}
+use Rattle.bound_specs.specs.Spec.{Step, Spec, no_step, steps_of, queues_from, queues_of}
 
 -- the list that a table has there
 pub table-at : {A : Type 0} (f : A → List ℕ) (xs : List A) (i : ℕ) (d : A) → i < length xs → get_or (map f xs) i [] ≡ f (get_or xs i d)

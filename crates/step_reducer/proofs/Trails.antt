@@ -1,6 +1,6 @@
 -- Trails of worlds: their fronts, their ends, and one step more.
 use Rattle.std.proofs.Common.{◌≡◌, refl, sym, ap, ◌∙◌, subst, ℕ, suc, false, List, [], ◌∷◌, ◌++◌, length, take, arith, length-append}
-use Rattle.sql_subset.specs.Spec.{SpecFile}
+use Rattle.bound_specs.specs.Spec.{SpecFile}
 use Rattle.machine_model.specs.World.{World, send, send_all, outcome_of}
 use Rattle.machine_model.specs.Start.{Started, start}
 use Rattle.session_machine.specs.Running.{Running}

@@ -1,7 +1,7 @@
 -- Where a frame goes on with a letter.
 use Rattle.std.proofs.Common.{◌≡◌, refl, sym, ap, ◌∙◌, subst, ℕ, ◌-◌, ◌<◌, Bool, false, List, [], ◌∷◌, ◌++◌, length, drop, get_or}
 use Rattle.perm_ranks.specs.Blocks.{HasRank, narrowed}
-use Rattle.sql_subset.specs.Spec.{Spec, SpecFile, queues_of}
+use Rattle.bound_specs.specs.Spec.{Spec, SpecFile, queues_of}
 use Rattle.machine_model.specs.World.{send}
 use Rattle.step_reducer.specs.Reduced.{tour_of, rest_after, is_pair, LeftOf, IsPlace}
 use Rattle.step_reducer.specs.declared.frame.Frame.{Frame}

@@ -1,6 +1,6 @@
 -- A walk of words or of lines has gone on.
 use Rattle.std.proofs.Common.{◌≡◌, sym, ap, ◌∙◌, subst, ℕ, suc, ◌+◌, ◌-◌, ◌<◌, ◌≤◌, Bool, List, length, arith}
-use Rattle.sql_subset.specs.Spec.{SpecFile, line_of}
+use Rattle.bound_specs.specs.Spec.{SpecFile, line_of}
 use Rattle.step_reducer.specs.declared.fact.Given.{Given}
 use Rattle.step_reducer.specs.declared.word_walk.WordWalk.{WordWalk}
 use Rattle.step_reducer.specs.declared.line_walk.LineWalk.{LineWalk}

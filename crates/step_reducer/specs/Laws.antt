@@ -2,7 +2,7 @@
 use Rattle.std.specs.Prelude.{ℕ, ◌+◌, ◌≤◌, length}
 use Rattle.perm_ranks.specs.Words.{Word}
 use Rattle.perm_ranks.specs.Blocks.{Block, HasRank, IsBlockOf}
-use Rattle.sql_subset.specs.Spec.{Spec, counts_of, queues_of}
+use Rattle.bound_specs.specs.Spec.{Spec, counts_of, queues_of}
 use Rattle.machine_model.specs.World.{World}
 use Rattle.quiet_steps.specs.Swap.{IsSwap}
 

@@ -1,7 +1,7 @@
 -- A walk of permutation lines.
 use Rattle.std.specs.Prelude.{◌≡◌, ◌+◌, ◌≤◌, Bool, length}
 use Rattle.spec_reader.specs.declared.TheConstants.{MAX_ITEMS}
-use Rattle.sql_subset.specs.Spec.{SpecFile, line_of}
+use Rattle.bound_specs.specs.Spec.{SpecFile, line_of}
 use Rattle.step_reducer.specs.Fronts.{front, most_steps}
 use Rattle.step_reducer.specs.Paths.{IsPath}
 use Rattle.step_reducer.specs.Walks.{AllHave}

@@ -7,7 +7,7 @@ use Rattle.sql_statements.specs.Plan.{Request}
 use Rattle.machine_model.specs.World.{World, look_of, send, session_at}
 use Rattle.sql_statements.specs.Plan.{HasKeys, IsShort}
 use Rattle.sql_statements.specs.declared.statement.Bound.{Bound}
-use Rattle.sql_subset.specs.Spec.{no_step}
+use Rattle.bound_specs.specs.Spec.{no_step}
 use Rattle.quiet_steps.specs.Quiet.{is_quiet, SentCalmly}
 use Rattle.session_machine.specs.Running.{Running, IsKnown}
 

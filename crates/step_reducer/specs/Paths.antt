@@ -1,6 +1,6 @@
 -- The worlds along the steps that were sent last.
 use Rattle.std.specs.Prelude.{◌≡◌, ℕ, false, List, [], ◌∷◌, ◌++◌, length}
-use Rattle.sql_subset.specs.Spec.{SpecFile}
+use Rattle.bound_specs.specs.Spec.{SpecFile}
 use Rattle.machine_model.specs.World.{World, send, send_all}
 use Rattle.machine_model.specs.Start.{Started, start}
 use Rattle.session_machine.specs.Running.{Running}

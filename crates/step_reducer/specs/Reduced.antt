@@ -2,7 +2,7 @@
 use Rattle.std.specs.Prelude.{◌≡◌, ℕ, suc, ◌+◌, ◌-◌, ◌<◌, ◌≤◌, Bool, true, false, ◌&&◌, nat_lt, List, [], ◌∷◌, ◌++◌, length, drop, set, get_or}
 use Rattle.perm_ranks.specs.Words.{Word}
 use Rattle.perm_ranks.specs.Blocks.{Block, IsBlockOf}
-use Rattle.sql_subset.specs.Spec.{Step, Spec, Queues, line, counts_of, queues_of}
+use Rattle.bound_specs.specs.Spec.{Step, Spec, Queues, line, counts_of, queues_of}
 use Rattle.machine_model.specs.World.{World, blank, send_all}
 use Rattle.machine_model.specs.Start.{Started, start}
 use Rattle.quiet_steps.specs.Swap.{quiet_heads, quiet_at, falls_at}

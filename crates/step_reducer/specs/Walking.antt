@@ -2,7 +2,7 @@
 use Rattle.std.specs.Prelude.{◌≡◌, ◌≢◌, ℕ, ◌+◌, ◌-◌, ◌*◌, [], ◌<◌, ◌≤◌, Bool, true, false, ◌&&◌, Option, Some, None, List, length, get_or, ◌⊎◌}
 use Rattle.step_reducer.specs.declared.walker.TheConstants.{MAX_RANKS}
 use Rattle.spec_reader.specs.declared.TheConstants.{MAX_ITEMS}
-use Rattle.sql_subset.specs.Spec.{Spec, SpecFile, ranks}
+use Rattle.bound_specs.specs.Spec.{Spec, SpecFile, ranks}
 use Rattle.machine_model.specs.World.{World}
 use Rattle.machine_model.specs.Start.{Started, start}
 use Rattle.quiet_steps.specs.Facts.{IsFactOf, has_no_lines}

@@ -3,7 +3,7 @@ use Rattle.std.specs.Prelude.{◌≡◌, ℕ, ◌+◌, ◌-◌, ◌<◌, ◌≤�
 use Rattle.perm_ranks.specs.Words.{Word, total}
 use Rattle.perm_ranks.specs.Blocks.{Block, HasRank, end_of, narrowed}
 use Rattle.spec_reader.specs.declared.TheConstants.{MAX_ITEMS}
-use Rattle.sql_subset.specs.Spec.{Spec, SpecFile, counts_of, queues_of}
+use Rattle.bound_specs.specs.Spec.{Spec, SpecFile, counts_of, queues_of}
 use Rattle.machine_model.specs.World.{send}
 use Rattle.quiet_steps.specs.Facts.{IsFactOf}
 use Rattle.quiet_steps.specs.declared.fact.Fact.{Fact}

@@ -1,15 +1,15 @@
 //! The facts of ranks of a spec with permutation lines: each is run.
 
 ghost use Rattle.std.specs.Prelude.{◌≡◌, ◌≢◌, ◌<◌, [], false, IfOk};
-ghost use Rattle.sql_subset.specs.Spec.{ranks};
+ghost use Rattle.bound_specs.specs.Spec.{ranks};
 ghost use Rattle.machine_model.specs.Start.{Started, start};
 ghost use Rattle.step_reducer.specs.Lines.{IsLines, HasRun};
 
 use crate::fact::{FactRun, Given};
 use crate::path::Path;
+use bound_specs::Spec;
 use quiet_steps::Fact;
 use session_machine::World;
-use sql_subset::Spec;
 use std::alloc::{AllocError, Global};
 
 /// Stands before a line, with the worlds of the line before it.

@@ -9,8 +9,8 @@ ghost use Rattle.step_reducer.specs.Paths.{IsPath, standing_at};
 
 use crate::trail::Trail;
 use crate::worlds::outcome;
+use bound_specs::{Line, Spec};
 use session_machine::World;
-use sql_subset::{Line, Spec};
 use std::alloc::{AllocError, Global};
 use transcripts::Outcome;
 

@@ -1,7 +1,7 @@
 //! Frames of prefixes that later words share.
 
 ghost use Rattle.std.specs.Prelude.{◌≡◌, ℕ, ◌<◌, ◌≤◌, Bool, OnOk, false, length, get_or, ◌++◌, ◌∷◌, [], ◌⊎◌};
-ghost use Rattle.sql_subset.specs.Spec.{SpecFile};
+ghost use Rattle.bound_specs.specs.Spec.{SpecFile};
 ghost use Rattle.step_reducer.specs.Walks.{IsStack, IsAt, IsTurn, HasGone, HasParted};
 
 use crate::frame::{Frame, Turn};

@@ -1,7 +1,7 @@
 //! The worlds along a line.
 
 ghost use Rattle.std.specs.Prelude.{◌≡◌, ℕ, ◌<◌, ◌≤◌, ◌++◌, ◌∷◌, [], List, All, false, length, take, OnOk};
-ghost use Rattle.sql_subset.specs.Spec.{SpecFile};
+ghost use Rattle.bound_specs.specs.Spec.{SpecFile};
 ghost use Rattle.machine_model.specs.World.{World};
 ghost use Rattle.step_reducer.specs.Paths.{IsTrail, IsTrailOf, HasGoneBack};
 

@@ -6,7 +6,7 @@ ghost use Rattle.step_reducer.specs.Walking.{walk_at, IsWalkOf, HasWalked};
 use crate::fact::Given;
 use crate::line_walk::LineWalk;
 use crate::word_walk::WordWalk;
-use sql_subset::Spec;
+use bound_specs::Spec;
 use std::alloc::AllocError;
 
 /// How the ranks are walked.

@@ -9,10 +9,10 @@ use crate::fact::FactRun;
 use crate::line_walk::LineWalk;
 use crate::walk::Walk;
 use crate::word_walk::WordWalk;
+use bound_specs::Spec;
 use finite_maps::Fork;
 use quiet_steps::Fact;
 use session_machine::{RunError, World, not_started};
-use sql_subset::Spec;
 use std::alloc::{AllocError, Global};
 use std::marker::Model;
 

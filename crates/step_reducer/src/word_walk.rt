@@ -2,7 +2,7 @@
 
 ghost use Rattle.std.specs.Prelude.{◌≡◌, ◌<◌, ◌≤◌, [], length, OnOk, IfOk, false};
 ghost use Rattle.perm_ranks.specs.Words.{total, all_words};
-ghost use Rattle.sql_subset.specs.Spec.{counts_of, queues_of};
+ghost use Rattle.bound_specs.specs.Spec.{counts_of, queues_of};
 ghost use Rattle.machine_model.specs.Start.{Started, start};
 ghost use Rattle.step_reducer.specs.Walking.{IsWords};
 ghost use Rattle.step_reducer.specs.Reduced.{tour_of, IsTour};
@@ -13,10 +13,10 @@ use crate::frame::{Frame, Swaps};
 use crate::stack::Stack;
 use crate::step_table::StepTable;
 use crate::worlds::outcome;
+use bound_specs::Spec;
 use perm_ranks::Shape;
 use quiet_steps::Fact;
 use session_machine::World;
-use sql_subset::Spec;
 use std::alloc::{AllocError, Global};
 
 /// Stands before a rank, with worlds of prefixes of its word that later words share.

@@ -12,10 +12,10 @@ ghost use Rattle.book_files.specs.ReadingBooks.{IsFactsBook, IsFactsOf, fact_par
 use super::outcomes::outcome_of;
 use super::parts::{items_at, members_in, spec_of_text, text_at};
 use crate::error::BookError;
+use bound_specs::Spec;
 use outcome_books::{Book, Builder, leads_along};
 use quiet_steps::Fact;
 use serde_json::Value as Json;
-use sql_subset::Spec;
 use std::alloc::{AllocError, Global};
 use std::cmp::Ordering;
 use transcripts::Outcome;

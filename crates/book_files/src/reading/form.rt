@@ -9,9 +9,9 @@ use super::outcomes::outcomes_of;
 use super::parts::{items_at, members_in, spec_of_text, text_at};
 use super::runs::runs_of;
 use crate::error::BookError;
+use bound_specs::Spec;
 use outcome_books::Book;
 use serde_json::Value as Json;
-use sql_subset::Spec;
 use std::alloc::Global;
 
 /// What a book of runs has besides its format.

@@ -2,14 +2,14 @@
 
 ghost use Rattle.std.specs.Prelude.{◌≡◌, ◌↔◌, ◌<◌, IsTrue, All, [], length, get_or};
 ghost use Rattle.serde_json.specs.View.{view, items_view};
-ghost use Rattle.sql_subset.specs.Spec.{IsBound};
+ghost use Rattle.bound_specs.specs.Spec.{IsBound};
 ghost use Rattle.machine_model.specs.Outcome.{IsOutcomeOf, IsOwnStep, IsToldOf};
 ghost use Rattle.book_files.specs.Forms.{ComesBefore};
 ghost use Rattle.book_files.specs.Reading.{AreOutcomes, IsNextOutcome, IsOutcome, Meets, StandsAfter};
 
 use crate::error::BookError;
+use bound_specs::Spec;
 use serde_json::Value as Json;
-use sql_subset::Spec;
 use std::alloc::Global;
 use transcripts::{Event, Outcome, Transcript, ValueError, outcome_of_value};
 

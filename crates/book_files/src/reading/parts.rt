@@ -9,9 +9,10 @@ ghost use Rattle.book_files.specs.Reading.{Given, Gives, Meets};
 ghost use Rattle.book_files.specs.ReadingBooks.{IsBoundTo, IsSpecText, format_in, items_at, members_in, text_at, version_with};
 
 use crate::error::BookError;
+use bound_specs::Spec;
 use serde_json::Value as Json;
 use spec_reader::{SpecErrorKind, SpecText, read_spec};
-use sql_subset::{BindErrorKind, Spec, bind};
+use sql_subset::{BindErrorKind, bind};
 use std::alloc::Global;
 
 /// The format of a book.

@@ -12,9 +12,9 @@ ghost use Rattle.book_files.specs.ReadingRuns.{span_in_four, span_in_items, tag_
 use crate::canonical::{kind, number};
 use crate::error::BookError;
 use crate::pieces::MAX_FACTS;
+use bound_specs::Spec;
 use outcome_books::{Run, Tag, leads_along};
 use serde_json::Value as Json;
-use sql_subset::Spec;
 use std::alloc::{AllocError, Global};
 use std::cmp::Ordering;
 

@@ -1,7 +1,7 @@
 use Rattle.std.proofs.Common.{sym, ap, ◌∙◌, subst, length, All}
 use denote.Param.Send.{sendable}
 use Rattle.std.specs.List.{AllZip}
-use Rattle.sql_subset.specs.Binding.{IsFileOf}
+use Rattle.bound_specs.specs.Binding.{IsFileOf}
 use Rattle.outcome_books.specs.Runs.{AllSound}
 use Rattle.outcome_books.specs.Entries.{recorded}
 use Rattle.book_audit.specs.Findings.{said, IsFinding}

@@ -1,5 +1,5 @@
 use Rattle.std.proofs.Common.{subst}
-use Rattle.sql_subset.specs.Spec.{SpecFile}
+use Rattle.bound_specs.specs.Spec.{SpecFile}
 use Rattle.outcome_books.specs.Entries.{recorded}
 use Rattle.book_audit.specs.Findings.{said, IsFinding}
 use Rattle.book_audit.proofs.Least.{finding-same, said-recorded}

@@ -1,5 +1,5 @@
 use Rattle.std.proofs.Common.{subst}
-use Rattle.sql_subset.specs.Spec.{SpecFile}
+use Rattle.bound_specs.specs.Spec.{SpecFile}
 use Rattle.book_audit.specs.Findings.{IsFinding, said}
 use Rattle.book_audit.proofs.sharing.finding_in.Goals as goal
 

@@ -1,5 +1,5 @@
 use Rattle.std.proofs.Common.{sym, subst}
-use Rattle.sql_subset.specs.Binding.{IsFileOf}
+use Rattle.bound_specs.specs.Binding.{IsFileOf}
 use Rattle.book_audit.proofs.source.spec_of.Goals as goal
 
 pub returns : goal.returns

@@ -1,5 +1,5 @@
 use Rattle.std.proofs.Common.{◌≡◌, sym, ap, ◌∙◌, subst, ℕ, suc, ◌+◌, ◌<◌, List, length, take, get_or, arith, add-one}
-use Rattle.sql_subset.specs.Spec.{SpecFile, no_step, line_of}
+use Rattle.bound_specs.specs.Spec.{SpecFile, no_step, line_of}
 use Rattle.machine_model.specs.World.{send_all}
 use Rattle.quiet_steps.specs.Quiet.{is_quiet}
 use Rattle.session_machine.specs.Running.{Running}

@@ -1,6 +1,6 @@
 use Rattle.std.proofs.Common.{refl, sym, ap, ◌∙◌, subst, ◌<◌}
 use Rattle.std.proofs.lemmas.Bool.{false≢true}
-use Rattle.sql_subset.specs.Spec.{SpecFile, ranks, line_of}
+use Rattle.bound_specs.specs.Spec.{SpecFile, ranks, line_of}
 use Rattle.machine_model.specs.World.{send_all, outcome_of}
 use Rattle.step_reducer.specs.Reduced.{first_world}
 use Rattle.step_reducer.proofs.Trails.{path-own, path-told}

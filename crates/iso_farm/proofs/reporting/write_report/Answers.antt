@@ -1,5 +1,5 @@
 use Rattle.std.proofs.Common.{◌≡◌, ◌∙◌, subst}
-use Rattle.sql_subset.specs.Binding.{IsFileOf}
+use Rattle.bound_specs.specs.Binding.{IsFileOf}
 use Rattle.sql_subset.proofs.FileLemmas.{one-file}
 use Rattle.transcripts.specs.Counted.{Wrote, Stopped}
 use Rattle.iso_farm.specs.Reporting.{AllOwn}

@@ -1,5 +1,5 @@
 use Rattle.std.proofs.Common.{ap, ◌∙◌, subst, arith, Some, None}
-use Rattle.sql_subset.specs.Spec.{ranks}
+use Rattle.bound_specs.specs.Spec.{ranks}
 use Rattle.outcome_books.specs.Runs.{first_gap}
 use Rattle.outcome_books.specs.declared.about.About.{About}
 use Rattle.outcome_books.specs.Books.{Contents, IsLeastMissing}

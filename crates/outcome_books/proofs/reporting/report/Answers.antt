@@ -1,6 +1,6 @@
 use Rattle.std.proofs.Common.{ap, subst, arith}
 use Rattle.std.specs.Result.{IfOk, IfErr}
-use Rattle.sql_subset.specs.Spec.{ranks}
+use Rattle.bound_specs.specs.Spec.{ranks}
 use Rattle.quiet_steps.specs.Swap.{leads_in}
 use Rattle.quiet_steps.specs.Values.{AllTrue}
 use Rattle.outcome_books.specs.declared.about.About.{About}

@@ -1,22 +1,32 @@
-use Rattle.std.proofs.Common.{ap, ◌∙◌, subst}
-use Rattle.sql_subset.specs.Spec.{SpecFile, IsBound}
-use Rattle.machine_model.specs.World.{send_all, outcome_of}
-use Rattle.session_machine.specs.Running.{Running}
-use Rattle.serial_history.proofs.StartsTold.{bound-serial, bound-shown}
+use Rattle.std.proofs.Common.{◌≡◌, ℕ, List, Some, IfOk, IfErr, subst}
+use Rattle.bound_specs.specs.Spec.{SpecFile}
+use Rattle.machine_model.specs.Start.{start}
+use Rattle.machine_model.specs.Outcome.{IsOutcomeOf, outcome_of_line}
+use Rattle.serial_history.specs.Serial.{IsSerial}
+use Rattle.session_machine.specs.Running.{IsNotRunBy}
 use Rattle.session_machine.proofs.runs.run_one.Goals as goal
 
--- by the laws of the serial order
-pub returns-in-Ok-outcome-clause-serial : goal.returns-in-Ok-outcome-clause-serial
-returns-in-Ok-outcome-clause-serial c =
-    let spec = c.args.spec.now.run in
-    let line = c.args.line.now.items in
-    let w = c.in-Ok.world.world in
-    let bound : IsBound spec = subst (λ (f : SpecFile). IsBound f.run) c.in-Ok.ensures.of_spec c.in-Ok.ensures.bound in
-    record {
-      world = w;
-      starts = c.in-Ok.ensures.started;
-      told = bound-serial spec w line bound c.in-Ok.ensures.started;
-      shown = bound-shown spec w line bound c.in-Ok.ensures.started;
-      outcome_is = c.in-Ok-outcome.ensures.told ∙ ap (λ (v : Running). outcome_of v.file.run.sessions v.world) c.in_ok-send_line.ensures.sent
-          ∙ (λ k. outcome_of (c.in-Ok.ensures.of_spec k).run.sessions (send_all (c.in-Ok.ensures.of_spec k).run.steps w (c.as_slice.ensures.value k)));
-    }
+-- the world is of the spec, and the steps are the line's
+
+pub run_line-requires-clause-known : goal.run_line-requires-clause-known
+run_line-requires-clause-known c = rw (c.as_slice.ensures.value, c.in-Ok.ensures.of_spec) c.requires
+
+pub run_line-requires-clause-started : goal.run_line-requires-clause-started
+run_line-requires-clause-started c = rw c.in-Ok.ensures.of_spec c.in-Ok.ensures.started
+
+pub returns-in-Ok-clause-ran : goal.returns-in-Ok-clause-ran
+returns-in-Ok-clause-ran c = subst (λ (f : SpecFile). IfOk c.run_line.result (λ outcome. outcome_of_line f.run c.args.line.now.items ≡ Some outcome))
+    c.in-Ok.ensures.of_spec
+    (subst (λ (ks : List ℕ). IfOk c.run_line.result (λ outcome. outcome_of_line c.in-Ok.world.file.run ks ≡ Some outcome)) c.as_slice.ensures.value
+    c.run_line.ensures.ran)
+
+pub returns-in-Ok-clause-serial : goal.returns-in-Ok-clause-serial
+returns-in-Ok-clause-serial c = subst (λ (f : SpecFile). IfOk c.run_line.result (IsSerial f.run c.args.line.now.items)) c.in-Ok.ensures.of_spec
+    (subst (λ (ks : List ℕ). IfOk c.run_line.result (IsSerial c.in-Ok.world.file.run ks)) c.as_slice.ensures.value c.run_line.ensures.serial)
+
+pub returns-in-Ok-clause-own : goal.returns-in-Ok-clause-own
+returns-in-Ok-clause-own c = subst (λ (f : SpecFile). IfOk c.run_line.result (IsOutcomeOf f.run)) c.in-Ok.ensures.of_spec c.run_line.ensures.own
+
+pub returns-in-Ok-clause-refused : goal.returns-in-Ok-clause-refused
+returns-in-Ok-clause-refused c = subst (λ (f : SpecFile). IfErr c.run_line.result (λ error. IsNotRunBy error (start f.run))) c.in-Ok.ensures.of_spec
+    c.run_line.ensures.refused

@@ -1,5 +1,5 @@
 use Rattle.std.proofs.Common.{subst}
-use Rattle.sql_subset.specs.Spec.{SpecFile}
+use Rattle.bound_specs.specs.Spec.{SpecFile}
 use Rattle.sql_subset.proofs.FileLemmas.{one-file}
 use Rattle.shard_farm.specs.Working.{AreFactsAt}
 use Rattle.shard_farm.proofs.CrewLemmas.{found_at}

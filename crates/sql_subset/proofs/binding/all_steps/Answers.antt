@@ -1,7 +1,7 @@
 use Rattle.std.proofs.Common.{◌≡◌, ap, sym, ◌∙◌, ◌+◌, ◌++◌, ◌∷◌, [], map, arith, length, length-append}
 use Rattle.std.proofs.lemmas.List.{map_push, length-map}
 use Rattle.sql_subset.specs.Bindings.{bound_session}
-use Rattle.sql_subset.specs.Binding.{BoundSession, all_steps, numbered}
+use Rattle.bound_specs.specs.Binding.{BoundSession, all_steps, numbered}
 use Rattle.sql_subset.proofs.FileLemmas.{all_steps-push}
 use Rattle.sql_subset.proofs.binding.all_steps.Goals as goal
 

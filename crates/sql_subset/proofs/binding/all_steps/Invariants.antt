@@ -1,5 +1,5 @@
 use Rattle.std.proofs.Common.{◌≡◌, length, map}
-use Rattle.sql_subset.specs.Binding.{all_steps}
+use Rattle.bound_specs.specs.Binding.{all_steps}
 use Rattle.sql_subset.specs.Bindings.{bound_session}
 use Rattle.sql_subset.proofs.binding.all_steps.Given as goal
 

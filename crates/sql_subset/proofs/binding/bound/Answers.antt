@@ -4,9 +4,9 @@ use Rattle.std.proofs.lemmas.List.{length-map}
 use Rattle.spec_reader.specs.Views.{session_tree, block_tree}
 use Rattle.spec_reader.specs.Whole.{spec_tree}
 use Rattle.sql_subset.specs.Bindings.{bound_session}
-use Rattle.sql_subset.specs.Orders.{lines_of}
-use Rattle.sql_subset.specs.Binding.{session, declared, main_setup}
-use Rattle.sql_subset.specs.Lines.{session_names, step_names}
+use Rattle.bound_specs.specs.Orders.{lines_of}
+use Rattle.bound_specs.specs.Binding.{session, declared, main_setup}
+use Rattle.bound_specs.specs.Lines.{session_names, step_names}
 use Rattle.sql_binding.specs.Refusals.{each}
 use Rattle.sql_subset.proofs.FileLemmas.{few-sessions, kept}
 use Rattle.sql_subset.proofs.binding.bound.Goals as goal

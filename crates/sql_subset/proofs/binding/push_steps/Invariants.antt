@@ -1,5 +1,5 @@
 use Rattle.std.proofs.Common.{◌≡◌, ◌++◌}
-use Rattle.sql_subset.specs.Binding.{numbered}
+use Rattle.bound_specs.specs.Binding.{numbered}
 use Rattle.sql_subset.proofs.binding.push_steps.Given as goal
 
 abbrev pub invariant-loop-block : goal.invariant-loop-block

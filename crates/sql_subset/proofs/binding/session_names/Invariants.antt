@@ -1,6 +1,6 @@
 use Rattle.std.proofs.Common.{◌≡◌, take, map}
 use Rattle.spec_reader.specs.Views.{session_tree}
-use Rattle.sql_subset.specs.Lines.{session_names}
+use Rattle.bound_specs.specs.Lines.{session_names}
 use Rattle.sql_subset.proofs.binding.session_names.Given as goal
 
 abbrev pub invariant-loop-session : goal.invariant-loop-session

@@ -1,6 +1,6 @@
 use Rattle.std.proofs.Common.{◌≡◌, ◌++◌, drop, map}
 use Rattle.spec_reader.specs.Views.{session_tree}
-use Rattle.sql_subset.specs.Lines.{step_names}
+use Rattle.bound_specs.specs.Lines.{step_names}
 use Rattle.sql_subset.proofs.binding.step_names.Given as goal
 
 abbrev pub invariant-loop-session : goal.invariant-loop-session

@@ -1,6 +1,6 @@
 use Rattle.std.proofs.Common.{sym, ap, ◌∙◌}
 use Rattle.spec_reader.specs.Views.{block_tree}
-use Rattle.sql_subset.specs.Binding.{then_more, main_setup}
+use Rattle.bound_specs.specs.Binding.{then_more, main_setup}
 use Rattle.sql_subset.proofs.DeclaredLemmas.{declared-goes_on, declared-starts}
 use Rattle.sql_subset.proofs.blocks.each_setup.Goals as goal
 

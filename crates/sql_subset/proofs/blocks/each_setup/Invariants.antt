@@ -1,6 +1,6 @@
 use Rattle.std.proofs.Common.{◌≡◌, drop}
 use Rattle.spec_reader.specs.Views.{block_tree}
-use Rattle.sql_subset.specs.Binding.{then_more, declared, main_setup}
+use Rattle.bound_specs.specs.Binding.{then_more, declared, main_setup}
 use Rattle.sql_subset.proofs.blocks.each_setup.Given as goal
 
 abbrev pub invariant-loop-block : goal.invariant-loop-block

@@ -2,7 +2,7 @@ use Rattle.std.proofs.Common.{sym, ap, ◌∙◌}
 use Rattle.sql_grammar.specs.Text.{StatementAt}
 use Rattle.sql_grammar.specs.Views.{view_form}
 use Rattle.sql_grammar.specs.declared.statement.Statement.{Statement}
-use Rattle.sql_subset.specs.Binding.{then_more, main_at}
+use Rattle.bound_specs.specs.Binding.{then_more, main_at}
 use Rattle.sql_subset.proofs.DeclaredLemmas.{declared-goes_on, declared-starts, declared-map}
 use Rattle.sql_subset.proofs.blocks.main_statements.Goals as goal
 

@@ -1,7 +1,7 @@
 use Rattle.std.proofs.Common.{◌≡◌, drop}
 use Rattle.sql_grammar.specs.Text.{seen}
 use Rattle.sql_grammar.specs.Views.{view_form}
-use Rattle.sql_subset.specs.Binding.{then_more, declared, main_at}
+use Rattle.bound_specs.specs.Binding.{then_more, declared, main_at}
 use Rattle.sql_subset.proofs.blocks.main_statements.Given as goal
 
 abbrev pub invariant-loop-text : goal.invariant-loop-text

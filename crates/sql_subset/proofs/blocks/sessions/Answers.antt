@@ -1,5 +1,5 @@
 use Rattle.spec_reader.specs.Views.{session_tree}
-use Rattle.sql_subset.specs.Binding.{session}
+use Rattle.bound_specs.specs.Binding.{session}
 use Rattle.sql_binding.proofs.EachLemmas.{each-starts}
 use Rattle.sql_subset.proofs.blocks.sessions.Goals as goal
 

@@ -1,5 +1,5 @@
 use Rattle.spec_reader.specs.Views.{block_tree}
-use Rattle.sql_subset.specs.Binding.{main_setup}
+use Rattle.bound_specs.specs.Binding.{main_setup}
 use Rattle.sql_subset.proofs.DeclaredLemmas.{declared-map}
 use Rattle.sql_subset.proofs.blocks.setups.Goals as goal
 

@@ -2,7 +2,7 @@ use Rattle.std.proofs.Common.{ap, sym, ◌∙◌}
 use Rattle.sql_grammar.specs.Text.{StatementAt}
 use Rattle.sql_grammar.specs.Views.{view_form}
 use Rattle.sql_grammar.specs.declared.statement.Statement.{Statement}
-use Rattle.sql_subset.specs.Binding.{statement_at}
+use Rattle.bound_specs.specs.Binding.{statement_at}
 use Rattle.sql_binding.proofs.EachLemmas.{each-starts, each-goes_on}
 use Rattle.sql_subset.proofs.blocks.statements.Goals as goal
 

@@ -1,5 +1,5 @@
 use Rattle.spec_reader.specs.Views.{step_tree}
-use Rattle.sql_subset.specs.Binding.{step}
+use Rattle.bound_specs.specs.Binding.{step}
 use Rattle.sql_binding.proofs.EachLemmas.{each-starts}
 use Rattle.sql_subset.proofs.blocks.steps.Goals as goal
 

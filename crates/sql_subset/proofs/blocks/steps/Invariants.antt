@@ -1,7 +1,7 @@
 use Rattle.std.proofs.Common.{◌≡◌, drop, map}
 use Rattle.spec_reader.specs.Views.{step_tree}
 use Rattle.sql_binding.specs.Refusals.{with_front, each}
-use Rattle.sql_subset.specs.Binding.{step}
+use Rattle.bound_specs.specs.Binding.{step}
 use Rattle.sql_subset.proofs.blocks.steps.Given as goal
 
 abbrev pub invariant-loop-text : goal.invariant-loop-text

@@ -1,6 +1,6 @@
 use Rattle.std.proofs.Common.{◌≡◌, ◌≤◌, length, drop, map}
 use Rattle.spec_reader.specs.Views.{item_tree}
-use Rattle.sql_subset.specs.Lines.{all_some, step_number}
+use Rattle.bound_specs.specs.Lines.{all_some, step_number}
 use Rattle.sql_subset.proofs.ShapeLemmas.{front_some}
 use Rattle.sql_subset.proofs.shapes.line.Given as goal
 

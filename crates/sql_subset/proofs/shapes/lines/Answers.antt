@@ -1,5 +1,5 @@
 use Rattle.spec_reader.specs.Views.{line_tree}
-use Rattle.sql_subset.specs.Lines.{numbered_line}
+use Rattle.bound_specs.specs.Lines.{numbered_line}
 use Rattle.sql_subset.proofs.ShapeLemmas.{some-starts}
 use Rattle.sql_subset.proofs.shapes.lines.Goals as goal
 

@@ -1,6 +1,6 @@
 use Rattle.std.proofs.Common.{◌≡◌, drop, map}
 use Rattle.spec_reader.specs.Views.{line_tree}
-use Rattle.sql_subset.specs.Lines.{all_some, numbered_line}
+use Rattle.bound_specs.specs.Lines.{all_some, numbered_line}
 use Rattle.sql_subset.proofs.ShapeLemmas.{front_some}
 use Rattle.sql_subset.proofs.shapes.lines.Given as goal
 

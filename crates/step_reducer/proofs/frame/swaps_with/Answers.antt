@@ -1,5 +1,5 @@
 use Rattle.std.proofs.Common.{◌≡◌, sym, ap, ◌∙◌, subst, ℕ, suc, ◌+◌, ◌<◌, ◌≤◌, List, [], ◌∷◌, ◌++◌, length, get_or, arith, length-append, false}
-use Rattle.sql_subset.specs.Spec.{SpecFile}
+use Rattle.bound_specs.specs.Spec.{SpecFile}
 use Rattle.quiet_steps.specs.Swap.{quiet_heads}
 use Rattle.step_reducer.proofs.Listed.{listed-push, listed-all}
 use Rattle.step_reducer.proofs.Tables.{session-known}

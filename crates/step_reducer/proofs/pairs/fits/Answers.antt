@@ -1,7 +1,7 @@
 use Rattle.std.proofs.Common.{◌≡◌, refl, sym, ap, ◌∙◌, subst, ℕ, Bool, true, false, ◌||◌, ◌==◌, length, arith, eq-eqb, ne_eqb}
 use Rattle.lock_modes.specs.Resource.{resource_at}
 use Rattle.lock_queues.specs.Locks.{all_below, fits_with}
-use Rattle.sql_subset.specs.Spec.{SpecFile}
+use Rattle.bound_specs.specs.Spec.{SpecFile}
 use Rattle.machine_model.specs.World.{look_of}
 use Rattle.step_reducer.proofs.Quiets.{below-more, below-false, held-whole}
 use Rattle.step_reducer.proofs.pairs.fits.Goals as goal

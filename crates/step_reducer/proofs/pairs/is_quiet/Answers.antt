@@ -1,6 +1,6 @@
 use Rattle.std.proofs.Common.{◌≡◌, sym, ap, ◌∙◌, false, not, ◌==◌, get_or, eq-eqb, ne_eqb}
 use Rattle.lock_queues.specs.Locks.{waits_now}
-use Rattle.sql_subset.specs.Spec.{SpecFile, no_step}
+use Rattle.bound_specs.specs.Spec.{SpecFile, no_step}
 use Rattle.machine_model.specs.Claims.{plans}
 use Rattle.quiet_steps.specs.Quiet.{all_fit, all_fit_together, undisturbed}
 use Rattle.step_reducer.specs.Pairs.{is_quiet_in}

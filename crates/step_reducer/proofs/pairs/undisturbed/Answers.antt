@@ -3,7 +3,7 @@ use Rattle.std.specs.List.{find, list_all}
 use Rattle.lock_modes.specs.Resource.{same_resource}
 use Rattle.lock_queues.specs.declared.wait.Wait.{Wait}
 use Rattle.sql_statements.specs.Plan.{Request}
-use Rattle.sql_subset.specs.Spec.{SpecFile}
+use Rattle.bound_specs.specs.Spec.{SpecFile}
 use Rattle.machine_model.specs.World.{look_of}
 use Rattle.machine_model.specs.Claims.{plans}
 use Rattle.step_reducer.specs.Pairs.{clear_of}

@@ -1,5 +1,5 @@
 use Rattle.std.proofs.Common.{sym, ap, ◌∙◌, ◌++◌, ◌==◌, cond, [], ◌∷◌, arith}
-use Rattle.sql_subset.specs.Spec.{steps_of}
+use Rattle.bound_specs.specs.Spec.{steps_of}
 use Rattle.step_reducer.proofs.Tables.{steps-next, take-past}
 use Rattle.step_reducer.proofs.step_table.steps_of.Goals as goal
 

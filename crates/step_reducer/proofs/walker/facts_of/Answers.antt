@@ -1,5 +1,5 @@
 use Rattle.std.proofs.Common.{◌≡◌, sym, ap, ◌∙◌, subst, ◌+◌, ◌-◌, ◌≤◌, ◌++◌, ◌∷◌, [], arith}
-use Rattle.sql_subset.specs.Spec.{SpecFile}
+use Rattle.bound_specs.specs.Spec.{SpecFile}
 use Rattle.quiet_steps.specs.Facts.{IsFactOf}
 use Rattle.step_reducer.specs.Walking.{Walking, GivesFact, AreFacts}
 use Rattle.step_reducer.proofs.Shards.{facts-push}

@@ -2,7 +2,7 @@ use Rattle.std.proofs.Common.{◌≡◌, refl, sym, ap, ◌∙◌, subst, ℕ, s
 use Rattle.perm_ranks.specs.Words.{total, all_words}
 use Rattle.perm_ranks.specs.Blocks.{HasRank, end_of}
 use Rattle.perm_ranks.proofs.CountLemmas.{length-all_words}
-use Rattle.sql_subset.specs.Spec.{Spec, SpecFile}
+use Rattle.bound_specs.specs.Spec.{Spec, SpecFile}
 use Rattle.machine_model.specs.World.{send, outcome_of}
 use Rattle.quiet_steps.specs.Facts.{IsFactOf}
 use Rattle.quiet_steps.specs.declared.fact.Fact.TheVariants.{Ran, Swap}

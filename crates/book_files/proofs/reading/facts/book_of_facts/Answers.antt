@@ -1,6 +1,6 @@
 use Rattle.std.proofs.Common.{sym, ap, subst, ◌∙◌, inl, Ok}
 use Rattle.std.specs.FinSet.{from_list}
-use Rattle.sql_subset.specs.Spec.{ranks}
+use Rattle.bound_specs.specs.Spec.{ranks}
 use Rattle.serde_json.specs.View.{items_view}
 use Rattle.outcome_books.specs.Books.{AllRecordable}
 use Rattle.book_files.specs.ReadingFacts.{AreUnder, RanksBelow, entries_of}

@@ -1,5 +1,5 @@
 use Rattle.std.proofs.Common.{◌≡◌, ◌<◌, refl, sym, ◌∙◌, true, false, inl, inr, arith}
-use Rattle.sql_subset.specs.Spec.{ranks}
+use Rattle.bound_specs.specs.Spec.{ranks}
 use Rattle.book_files.specs.ReadingFacts.{entry_of}
 use Rattle.book_files.proofs.reading.facts.next_fact.Goals as goal
 

@@ -1,5 +1,5 @@
 use Rattle.std.proofs.Common.{◌≡◌, ◌+◌, ◌≤◌, refl, sym, ◌∙◌, true, false, inl, inr, arith}
-use Rattle.sql_subset.specs.Spec.{ranks}
+use Rattle.bound_specs.specs.Spec.{ranks}
 use Rattle.book_files.specs.declared.pieces.TheConstants.{MAX_FACTS}
 use Rattle.book_files.proofs.reading.runs.next_run.Goals as goal
 

@@ -1,5 +1,5 @@
 use Rattle.std.proofs.Common.{sym, ◌∙◌, subst}
-use Rattle.sql_subset.specs.Binding.{IsFileOf}
+use Rattle.bound_specs.specs.Binding.{IsFileOf}
 use Rattle.outcome_books.proofs.BookLemmas.{about-is}
 use Rattle.outcome_books.proofs.about.About.of.Goals as goal
 

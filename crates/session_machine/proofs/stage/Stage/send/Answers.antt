@@ -1,7 +1,7 @@
 use Rattle.std.proofs.Common.{◌≡◌, sym, ap, ◌∙◌, subst, suc, ◌<◌, false, length, drop, get_or, arith, length-set}
 use Rattle.lock_queues.specs.Locks.{waits_now}
 use Rattle.transcripts.specs.declared.event.Event.TheVariants.{Sent, NotSent}
-use Rattle.sql_subset.specs.Spec.{no_step}
+use Rattle.bound_specs.specs.Spec.{no_step}
 use Rattle.session_machine.specs.declared.stepping.Point.{Point}
 use Rattle.machine_model.specs.World.{send, settle}
 use Rattle.machine_model.specs.Sound.{Steady}

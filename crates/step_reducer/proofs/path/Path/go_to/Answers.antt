@@ -1,5 +1,5 @@
 use Rattle.std.proofs.Common.{refl, sym, ap, subst, ℕ, ◌<◌, List, All, length, take, arith}
-use Rattle.sql_subset.specs.Spec.{SpecFile}
+use Rattle.bound_specs.specs.Spec.{SpecFile}
 use Rattle.session_machine.specs.Running.{Running}
 use Rattle.step_reducer.proofs.FrontLemmas.{front-old, front-new}
 use Rattle.step_reducer.specs.Paths.{IsTrailOf}

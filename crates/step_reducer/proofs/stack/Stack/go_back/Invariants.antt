@@ -1,5 +1,5 @@
 use Rattle.std.proofs.Common.{◌≡◌, Bool, ℕ, ◌<◌, ◌⊎◌, length}
-use Rattle.sql_subset.specs.Spec.{SpecFile}
+use Rattle.bound_specs.specs.Spec.{SpecFile}
 use Rattle.step_reducer.specs.Walks.{IsStack, HasParted}
 use Rattle.step_reducer.proofs.stack.Stack.go_back.Given as goal
 

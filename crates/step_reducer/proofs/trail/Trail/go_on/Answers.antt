@@ -1,7 +1,7 @@
 use Rattle.std.proofs.Common.{sym, ap, subst, ◌<◌, length, take, get_or, arith}
 use Rattle.std.proofs.lemmas.List.{take_more}
 use Rattle.session_machine.specs.Running.{Running}
-use Rattle.sql_subset.specs.Spec.{SpecFile}
+use Rattle.bound_specs.specs.Spec.{SpecFile}
 use Rattle.step_reducer.specs.Paths.{IsTrailOf}
 use Rattle.step_reducer.proofs.Tables.{take-past}
 use Rattle.step_reducer.proofs.Trails.{trail-top}

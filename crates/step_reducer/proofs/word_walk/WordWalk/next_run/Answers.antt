@@ -2,7 +2,7 @@ use Rattle.std.proofs.Common.{◌≡◌, refl, sym, ap, ◌∙◌, subst, ℕ, �
 use Rattle.perm_ranks.specs.Words.{total}
 use Rattle.perm_ranks.specs.Blocks.{HasRank}
 use Rattle.perm_ranks.proofs.CountLemmas.{length-all_words}
-use Rattle.sql_subset.specs.Spec.{SpecFile, counts_of, queues_of}
+use Rattle.bound_specs.specs.Spec.{SpecFile, counts_of, queues_of}
 use Rattle.step_reducer.specs.Reduced.{tour_of, IsTour}
 use Rattle.step_reducer.specs.declared.stack.Stack.{Stack}
 use Rattle.step_reducer.specs.declared.word_walk.WordWalk.{WordWalk}

@@ -23,7 +23,8 @@ impl Model for Block {
 }
 
 impl Block {
-    pub(crate) fn from_statements(statements: Vec<Bound>) -> Block
+    /// The block of these statements.
+    pub fn from_statements(statements: Vec<Bound>) -> Block
         ensures { result ≡ statements.items }
     {
         Block { statements }
@@ -36,16 +37,16 @@ impl Block {
     }
 }
 
-/// A step of the file.
+/// A step of the file: the number of the session that sends it, and what it sends.
 #[derive(Drop)]
-pub(crate) struct Step {
+pub struct Step {
     session: u8,
     block: Block,
 }
 
 impl Model for Step {
     ghost use Rattle.std.specs.Coded.{codes};
-    ghost use Rattle.sql_subset.specs.Spec.{Step as OfSpec};
+    ghost use Rattle.bound_specs.specs.Spec.{Step as OfSpec};
     ghost use Rattle.sql_statements.specs.contracts.statement.Bound as bound;
 
     ghost Value = { OfSpec };
@@ -56,7 +57,8 @@ impl Model for Step {
 }
 
 impl Step {
-    pub(crate) fn new(session: u8, block: Block) -> Step
+    /// The step of a session that sends a block.
+    pub fn new(session: u8, block: Block) -> Step
         ensures { result ≡ record { session = session; statements = block } }
     {
         Step { session, block }

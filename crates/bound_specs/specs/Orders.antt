@@ -1,8 +1,8 @@
 -- In which orders the steps of a spec are sent.
 use Rattle.std.specs.Prelude.{ℕ, List, [], map, ◌≡◌, ◌≢◌}
-use Rattle.sql_subset.specs.declared.orders.Orders.{Orders}
-use Rattle.sql_subset.specs.declared.orders.Orders.TheVariants.{Words, Lines}
-use Rattle.sql_subset.specs.Spec.{Spec, counts_of, queues_of}
+use Rattle.bound_specs.specs.declared.orders.Orders.{Orders}
+use Rattle.bound_specs.specs.declared.orders.Orders.TheVariants.{Words, Lines}
+use Rattle.bound_specs.specs.Spec.{Spec, counts_of, queues_of}
 
 -- the lines that the file gives
 abbrev pub lines_of : Orders → List (List ℕ)

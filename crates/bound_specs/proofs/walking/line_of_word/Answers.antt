@@ -1,11 +1,11 @@
 use Rattle.std.proofs.Common.{ap, sym, ◌∙◌, arith, ◌<◌, ◌++◌, ◌∷◌, [], length, length-append}
 use Rattle.std.proofs.lemmas.List.{drop_all, append-nil}
 use Rattle.std.proofs.lemmas.List.Elements.{All-nil, All-push}
-use Rattle.sql_subset.specs.Spec.{line}
-use Rattle.sql_subset.specs.Walking.{queues_at}
-use Rattle.sql_subset.proofs.WalkLemmas.{six-zeros, queues_at-start, walk-takes, walk-skips}
-use Rattle.sql_subset.proofs.walking.line_of_word.Goals as goal
-use Rattle.sql_subset.proofs.walking.line_of_word.Goals.{in-Some, in_default}
+use Rattle.bound_specs.specs.Spec.{line}
+use Rattle.bound_specs.specs.Walking.{queues_at}
+use Rattle.bound_specs.proofs.WalkLemmas.{six-zeros, queues_at-start, walk-takes, walk-skips}
+use Rattle.bound_specs.proofs.walking.line_of_word.Goals as goal
+use Rattle.bound_specs.proofs.walking.line_of_word.Goals.{in-Some, in_default}
 
 pub loop-letter-init : goal.loop-letter-init
 loop-letter-init c =

@@ -20,7 +20,7 @@ use Rattle.sql_statements.specs.declared.statement.SortKey.{SortKey}
 use Rattle.sql_binding.specs.declared.tables.ColumnType.{ColumnType}
 use Rattle.sql_binding.specs.declared.tables.ColumnType.TheVariants.{Number}
 use Rattle.sql_binding.specs.declared.tables.Table.{Table}
-use Rattle.sql_subset.specs.Spec.{Spec, Step}
+use Rattle.bound_specs.specs.Spec.{Spec, Step}
 use Rattle.sql_binding.specs.Statements.{sets_key}
 use Rattle.sql_binding.specs.Tables.{no_table, key_column, type_of, width}
 use Rattle.sql_binding.specs.Types.{value_type}

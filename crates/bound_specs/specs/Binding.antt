@@ -9,9 +9,9 @@ use Rattle.sql_grammar.specs.Text.{StatementAt, statements_from}
 use Rattle.sql_statements.specs.declared.statement.Bound.{Bound}
 use Rattle.sql_binding.specs.declared.error.BindErrorKind.TheVariants.{Sql, Shape}
 use Rattle.sql_binding.specs.declared.tables.Table.{Table}
-use Rattle.sql_subset.specs.Lines.{step_names, session_names, orders_of}
+use Rattle.bound_specs.specs.Lines.{step_names, session_names, orders_of}
 use Rattle.sql_binding.specs.Refusals.{Bind, ◌>>=◌, refuse, each}
-use Rattle.sql_subset.specs.Spec.{Step, SpecFile}
+use Rattle.bound_specs.specs.Spec.{Step, SpecFile}
 use Rattle.sql_binding.specs.Statements.{statement}
 use Rattle.sql_binding.specs.Tables.{create}
 

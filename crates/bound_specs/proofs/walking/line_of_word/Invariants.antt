@@ -1,7 +1,7 @@
 use Rattle.std.proofs.Common.{◌≡◌, ◌++◌, ◌≤◌, ◌<◌, length, drop, All}
-use Rattle.sql_subset.specs.Spec.{line, queues_from}
-use Rattle.sql_subset.specs.Walking.{queues_at}
-use Rattle.sql_subset.proofs.walking.line_of_word.Given as goal
+use Rattle.bound_specs.specs.Spec.{line, queues_from}
+use Rattle.bound_specs.specs.Walking.{queues_at}
+use Rattle.bound_specs.proofs.walking.line_of_word.Given as goal
 
 abbrev pub invariant-loop-letter : goal.invariant-loop-letter
 invariant-loop-letter l = record {

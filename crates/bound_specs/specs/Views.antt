@@ -1,9 +1,9 @@
 -- What contracts see of a spec, and what it keeps.
 use Rattle.std.specs.Prelude.{string_bytes}
-use Rattle.sql_subset.specs.declared.spec.Parts.{Parts}
-use Rattle.sql_subset.specs.Binding.{IsFileOf}
-use Rattle.sql_subset.specs.Orders.{lines_of, IsOrderOf}
-use Rattle.sql_subset.specs.Spec.{SpecFile, IsReady}
+use Rattle.bound_specs.specs.declared.spec.Parts.{Parts}
+use Rattle.bound_specs.specs.Binding.{IsFileOf}
+use Rattle.bound_specs.specs.Orders.{lines_of, IsOrderOf}
+use Rattle.bound_specs.specs.Spec.{SpecFile, IsReady}
 
 abbrev pub file_of : Parts → SpecFile
 file_of s = record {

@@ -9,7 +9,7 @@ pub type Line = ArrayVec<u8, MAX_SENT>;
 
 /// In which orders the steps are sent: by all words of the shape, or by the lines of the file.
 #[derive(Drop)]
-pub(crate) enum Orders {
+pub enum Orders {
     Words(Shape),
     Lines(Vec<Line>),
 }

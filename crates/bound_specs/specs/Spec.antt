@@ -5,7 +5,7 @@ use Rattle.perm_ranks.specs.Words.{Word, all_words, word_at}
 use Rattle.spec_reader.specs.declared.TheConstants.{MAX_ITEMS, MAX_LINES}
 use Rattle.sql_statements.specs.declared.statement.Bound.{Bound}
 use Rattle.sql_statements.specs.Plan.{HasKeys, IsShort}
-use Rattle.sql_subset.specs.declared.TheConstants.{MAX_LINED_STEPS}
+use Rattle.bound_specs.specs.declared.TheConstants.{MAX_LINED_STEPS}
 
 -- a step of the file
 pub record Step : Type 0 where

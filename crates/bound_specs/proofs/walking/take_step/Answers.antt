@@ -1,6 +1,6 @@
 use Rattle.std.proofs.Common.{arith}
-use Rattle.sql_subset.proofs.WalkLemmas.{line-no_session, line-none_left, line-next}
-use Rattle.sql_subset.proofs.walking.take_step.Goals as goal
+use Rattle.bound_specs.proofs.WalkLemmas.{line-no_session, line-none_left, line-next}
+use Rattle.bound_specs.proofs.walking.take_step.Goals as goal
 
 pub returns-then-letter-sessions-clause-line : goal.returns-then-letter-sessions-clause-line
 returns-then-letter-sessions-clause-line c = λ word. line-no_session c.args.steps.now c.args.sessions c.args.letter c.args.next.now word

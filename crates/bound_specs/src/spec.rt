@@ -1,9 +1,9 @@
 ghost use Rattle.std.specs.Prelude.{◌≡◌, ◌≢◌, ◌<◌, ◌≤◌, ◌↔◌, [], length, get_or, All, IsTrue, IsSome, IfSome};
 ghost use Rattle.perm_ranks.specs.declared.TheConstants.{MAX_SESSIONS};
-ghost use Rattle.sql_subset.specs.Spec.{no_step, counts_of, queues_of, ranks, line_of, AllHaveKeys, AllAreShort, IsBound};
+ghost use Rattle.bound_specs.specs.Spec.{no_step, counts_of, queues_of, ranks, line_of, AllHaveKeys, AllAreShort, IsBound};
 ghost use Rattle.sql_statements.specs.Plan.{HasKeys, IsShort};
-ghost use Rattle.sql_subset.specs.Binding.{IsFileOf};
-ghost use Rattle.sql_subset.specs.Views.{file_of as file_of_parts, IsKept as IsKeptBy};
+ghost use Rattle.bound_specs.specs.Binding.{IsFileOf};
+ghost use Rattle.bound_specs.specs.Views.{file_of as file_of_parts, IsKept as IsKeptBy};
 
 use crate::block::{Block, Step};
 use crate::orders::{Line, Orders, copied};
@@ -13,17 +13,17 @@ use perm_ranks::Shape;
 use sql_statements::Bound;
 use std::marker::Model;
 
-/// What a spec is made of.
+/// What a spec is made of: its text, its names, how many sessions it has, and what they send in which orders.
 #[derive(Drop)]
-pub(crate) struct Parts {
-    pub(crate) text: String,
-    pub(crate) session_names: Vec<Text>,
-    pub(crate) step_names: Vec<Text>,
-    pub(crate) sessions: u8,
-    pub(crate) steps: Vec<Step>,
-    pub(crate) setups: Vec<Block>,
-    pub(crate) session_setups: Vec<Block>,
-    pub(crate) orders: Orders,
+pub struct Parts {
+    pub text: String,
+    pub session_names: Vec<Text>,
+    pub step_names: Vec<Text>,
+    pub sessions: u8,
+    pub steps: Vec<Step>,
+    pub setups: Vec<Block>,
+    pub session_setups: Vec<Block>,
+    pub orders: Orders,
 }
 
 /// A spec: its text, its names, what its setups and steps send, and in which orders.
@@ -34,14 +34,14 @@ pub struct Spec {
 
 impl Model for Spec {
     ghost use Rattle.std.specs.Coded.{codes};
-    ghost use Rattle.sql_subset.specs.Spec.{SpecFile};
+    ghost use Rattle.bound_specs.specs.Spec.{SpecFile};
     ghost use Rattle.sql_statements.specs.contracts.statement.Bound as bound;
 
     ghost Value = { SpecFile };
 
     ghost coded = { Prim.hlevel (codes, bound.the_row.coded) };
 
-    ghost use Rattle.sql_subset.specs.Views.{file_of, IsKept};
+    ghost use Rattle.bound_specs.specs.Views.{file_of, IsKept};
 
     ghost view = { λ s. file_of s.parts };
 
@@ -49,7 +49,8 @@ impl Model for Spec {
 }
 
 impl Spec {
-    pub(crate) fn from_parts(parts: Parts) -> Spec
+    /// The spec of these parts, of which it is known that the text binds to them.
+    pub fn from_parts(parts: Parts) -> Spec
         requires { IsKeptBy parts }
         ensures { result ≡ file_of_parts parts }
     {

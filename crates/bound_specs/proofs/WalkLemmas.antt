@@ -3,8 +3,8 @@ use Rattle.std.proofs.Common.{◌≡◌, refl, append_assoc, add-one, ◌++◌, 
 use Rattle.std.proofs.Common.{arith, drop-cons, get_or-set_other, get_or-set_same}
 use Rattle.std.proofs.lemmas.List.{get_or_past}
 use Rattle.perm_ranks.specs.Words.{Word}
-use Rattle.sql_subset.specs.Spec.{Step, Queues, line, queues_from}
-use Rattle.sql_subset.specs.Walking.{steps_from, queues_at}
+use Rattle.bound_specs.specs.Spec.{Step, Queues, line, queues_from}
+use Rattle.bound_specs.specs.Walking.{steps_from, queues_at}
 
 -- a letter takes the head of its queue
 pub line-takes : (q : Queues) (i k : ℕ) (ks : List ℕ) (word : Word) → get_or q i [] ≡ k ∷ ks → line q (i ∷ word) ≡ k ∷ line (set q i ks) word

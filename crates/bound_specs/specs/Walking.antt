@@ -1,6 +1,6 @@
 -- What is still to be sent, by the step number from which on each session's steps are.
 use Rattle.std.specs.Prelude.{ℕ, zero, suc, List, [], ◌∷◌, drop, get_or}
-use Rattle.sql_subset.specs.Spec.{Step, Queues, steps_of}
+use Rattle.bound_specs.specs.Spec.{Step, Queues, steps_of}
 
 -- the numbers of the session's steps from one on
 abbrev pub steps_from : ℕ → ℕ → List Step → List ℕ

@@ -2,7 +2,7 @@
 use Rattle.std.proofs.Common.{◌≡◌, sym, subst, ◌∙◌, ℕ, ◌<◌, List, [], length, get_or, map, All, arith}
 use Rattle.std.proofs.lemmas.List.{length-map}
 use Rattle.std.proofs.lemmas.List.{get_or-map}
-use Rattle.sql_subset.specs.Spec.{IsLine}
+use Rattle.bound_specs.specs.Spec.{IsLine}
 
 -- the steps of a line are known where each line is one
 pub known-line : {X : Type 0} (items : X → List ℕ) (lines : List X) (n m rank : ℕ) (d : X) (line : List ℕ) → All (IsLine n) (map items lines) → n ≡ m

@@ -2,10 +2,10 @@
 
 ghost use Rattle.std.specs.Prelude.{◌≡◌, ℕ, ◌<◌, ◌≤◌, ◌+◌, [], ◌∷◌, List, length, All, MatchOption};
 ghost use Rattle.perm_ranks.specs.declared.TheConstants.{MAX_SESSIONS, MAX_STEPS};
-ghost use Rattle.sql_subset.specs.declared.TheConstants.{MAX_LINED_STEPS};
+ghost use Rattle.bound_specs.specs.declared.TheConstants.{MAX_LINED_STEPS};
 ghost use Rattle.perm_ranks.specs.Words.{Word};
-ghost use Rattle.sql_subset.specs.Spec.{line, queues_from};
-ghost use Rattle.sql_subset.specs.Walking.{steps_from, queues_at};
+ghost use Rattle.bound_specs.specs.Spec.{line, queues_from};
+ghost use Rattle.bound_specs.specs.Walking.{steps_from, queues_at};
 
 use crate::block::Step;
 use crate::orders::Line;

@@ -1,6 +1,6 @@
 use Rattle.std.proofs.Common.{ap, ◌∙◌, length, arith}
-use Rattle.sql_subset.proofs.OrderLemmas.{known-line}
-use Rattle.sql_subset.proofs.spec.Spec.line.Goals as goal
+use Rattle.bound_specs.proofs.OrderLemmas.{known-line}
+use Rattle.bound_specs.proofs.spec.Spec.line.Goals as goal
 
 pub returns-else-rank-len-clause-known : goal.returns-else-rank-len-clause-known
 returns-else-rank-len-clause-known c =
