@@ -6,7 +6,7 @@ use std::marker::Model;
 
 /// For each accepted report in order the first rank at which it differs from the judged one, and there the first session that does,
 /// seen by contracts as their list.
-#[derive(Debug, Drop)]
+#[derive(Drop)]
 pub struct Differences {
     places: Vec<(u64, u8)>,
 }
@@ -43,7 +43,7 @@ impl Differences {
 }
 
 /// What a report is judged to be by accepted reports, which are numbered from 0.
-#[derive(Debug, Drop)]
+#[derive(Drop)]
 pub enum Verdict {
     /// The accepted report with this number is equal to it, and none before that one is.
     Matches(usize),

@@ -37,7 +37,7 @@ step b6 { COMMIT; }
 ";
 
 /// What is measured: how many there were, and in which time.
-#[derive(Clone, Copy, Debug)]
+#[derive(Clone, Copy)]
 struct Measure {
     count: u64,
     nanos: u128,

@@ -17,7 +17,7 @@ use std::alloc::{AllocError, Global};
 use transcripts::Outcome;
 
 /// What is found of the facts of some runs.
-#[derive(Clone, Copy, Debug, Drop)]
+#[derive(Clone, Copy, Drop)]
 pub(crate) enum Finding {
     /// Each is true.
     AllTrue,

@@ -1,7 +1,7 @@
 //! What stands at the front of a text, whatever its tokens are.
 
 /// What stands at the front of a text.
-#[derive(Clone, Copy, Debug)]
+#[derive(Clone, Copy)]
 pub enum Piece<T> {
     /// White space or a comment, and its length.
     Blank(usize),
@@ -12,7 +12,7 @@ pub enum Piece<T> {
 }
 
 /// A token and its offset.
-#[derive(Clone, Copy, Debug)]
+#[derive(Clone, Copy)]
 pub struct Placed<T> {
     pub at: usize,
     pub token: T,

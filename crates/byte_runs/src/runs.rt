@@ -3,7 +3,7 @@ ghost use Rattle.std.specs.List.{prefix_len};
 ghost use Rattle.byte_runs.specs.Bytes.{in_class};
 
 /// A set of bytes.
-#[derive(Clone, Copy, Debug, PartialEq, Eq)]
+#[derive(Clone, Copy, PartialEq, Eq)]
 pub enum Class {
     /// What a name of a spec file goes on with: letters, digits, `_`, `$` and bytes past ASCII.
     Name,

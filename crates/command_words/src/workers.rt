@@ -7,7 +7,7 @@ use shard_board::MAX_SEATS;
 use std::marker::Model;
 
 /// A number of workers, from 1 to 16, seen by contracts as that number.
-#[derive(Debug, Drop)]
+#[derive(Drop)]
 pub struct Workers {
     number: u8,
 }

@@ -6,7 +6,7 @@ ghost use Rattle.fault_words.specs.Places.{first_line, front, is_start, place};
 use byte_runs::{Class, run_len};
 
 /// Where a byte of a text stands. A line ends with a line feed, which is no part of it.
-#[derive(Clone, Copy, Debug, PartialEq, Eq)]
+#[derive(Clone, Copy, PartialEq, Eq)]
 pub struct Place {
     /// The number of the line, from 1.
     pub line: usize,
@@ -21,7 +21,7 @@ pub struct Place {
 }
 
 /// What the bytes in front of a place tell of it.
-#[derive(Clone, Copy, Debug, PartialEq, Eq)]
+#[derive(Clone, Copy, PartialEq, Eq)]
 struct Front {
     /// The number of the line that they end in.
     line: usize,

@@ -17,7 +17,7 @@ use std::thread::Threads;
 use transcripts::{Counted, WriteFault};
 
 /// Why what an audit tells was not written. Each is tried before those below it, but for want of memory.
-#[derive(Clone, Copy, Debug, PartialEq, Eq)]
+#[derive(Clone, Copy, PartialEq, Eq)]
 pub enum AuditFault {
     /// The file gives no book.
     File(FileFault),

@@ -13,7 +13,7 @@ use std::io::Write;
 use transcripts::{Counted, WriteFault};
 
 /// Why it was not written how much a spec has. The first is tried before the second.
-#[derive(Clone, Copy, Debug, PartialEq, Eq)]
+#[derive(Clone, Copy, PartialEq, Eq)]
 pub enum CountFault {
     /// The bytes are no spec file.
     Spec(SpecFault),
@@ -52,7 +52,7 @@ pub fn check<W: Write>(alloc: Global, bytes: &[u8], out: &mut Counted<W>) -> Res
 }
 
 /// How many sessions, steps and permutations a spec has.
-#[derive(Clone, Copy, Debug)]
+#[derive(Clone, Copy)]
 pub(crate) struct Counts {
     sessions: u64,
     steps: u64,

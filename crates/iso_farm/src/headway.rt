@@ -9,7 +9,7 @@ use std::alloc::{AllocError, Global};
 use std::time::Duration;
 
 /// How far a run is, by its shards, by its ranks and by the time that it took.
-#[derive(Clone, Copy, Debug)]
+#[derive(Clone, Copy)]
 pub(crate) struct Headway {
     pub(crate) shards: u64,
     pub(crate) all_shards: u64,

@@ -12,7 +12,7 @@ use std::io::Write;
 use transcripts::Counted;
 
 /// Why the file at a path gives no book.
-#[derive(Clone, Copy, Debug, PartialEq, Eq)]
+#[derive(Clone, Copy, PartialEq, Eq)]
 pub enum FileFault {
     /// It can't be opened.
     Unopened,
@@ -21,7 +21,7 @@ pub enum FileFault {
 }
 
 /// Why the join of the books at some paths was not written. Files are opened in order, and each is read and joined before the next.
-#[derive(Clone, Copy, Debug, PartialEq, Eq)]
+#[derive(Clone, Copy, PartialEq, Eq)]
 pub enum JoinFault {
     /// The file at this place, from 0, gives no book.
     File { place: usize, fault: FileFault },

@@ -17,7 +17,7 @@ use std::io::Write;
 use transcripts::{Counted, WriteFault};
 
 /// Why the file at a path gives no report. The first is tried before the second.
-#[derive(Clone, Copy, Debug, PartialEq, Eq)]
+#[derive(Clone, Copy, PartialEq, Eq)]
 pub enum NoReport {
     /// The file gives no book.
     File(FileFault),
@@ -26,7 +26,7 @@ pub enum NoReport {
 }
 
 /// Why a verdict was not written. Files are opened in order, and each is read and reported before the next.
-#[derive(Clone, Copy, Debug, PartialEq, Eq)]
+#[derive(Clone, Copy, PartialEq, Eq)]
 pub enum JudgeFault {
     /// The file of the judged book gives no report.
     Book(NoReport),

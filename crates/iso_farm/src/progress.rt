@@ -20,7 +20,7 @@ use transcripts::Counted;
 const GAP_NANOS: u64 = 125_000_000;
 
 /// When a line was told last, from the run's beginning on.
-#[derive(Clone, Copy, Debug)]
+#[derive(Clone, Copy)]
 struct Pace {
     told: Duration,
 }

@@ -26,7 +26,7 @@ use transcripts::Counted;
 pub const MAX_RANGE: u64 = 4_096_000;
 
 /// Why the book of a range was not written. Each is tried before those below it, but for want of memory.
-#[derive(Clone, Copy, Debug, PartialEq, Eq)]
+#[derive(Clone, Copy, PartialEq, Eq)]
 pub enum RangeFault {
     /// The bytes are no spec file.
     Spec(SpecFault),

@@ -15,7 +15,7 @@ use std::io::Write;
 use transcripts::{Counted, WriteFault};
 
 /// Why a report was not written. The first is tried before the second.
-#[derive(Clone, Copy, Debug, PartialEq, Eq)]
+#[derive(Clone, Copy, PartialEq, Eq)]
 pub enum ReportFault {
     /// The book has no report, or memory ran out.
     Report(ReportError),
@@ -24,7 +24,7 @@ pub enum ReportFault {
 }
 
 /// Why the report of the book at a path was not written. The first is tried before the second.
-#[derive(Clone, Copy, Debug, PartialEq, Eq)]
+#[derive(Clone, Copy, PartialEq, Eq)]
 pub enum ReportFileFault {
     /// The file gives no book.
     File(FileFault),

@@ -14,7 +14,7 @@ use std::io::Write;
 use transcripts::{Counted, Names, Outcome, WriteFault, print, print_rank};
 
 /// Why one permutation was not written. Each is tried before those below it, but for want of memory.
-#[derive(Clone, Copy, Debug, PartialEq, Eq)]
+#[derive(Clone, Copy, PartialEq, Eq)]
 pub enum OneFault {
     /// The bytes are no spec file.
     Spec(SpecFault),

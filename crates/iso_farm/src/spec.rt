@@ -10,7 +10,7 @@ use sql_subset::{BindError, bind};
 use std::alloc::Global;
 
 /// Why bytes are no spec file. The first is tried before the second, but for want of memory.
-#[derive(Clone, Copy, Debug, PartialEq, Eq)]
+#[derive(Clone, Copy, PartialEq, Eq)]
 pub enum SpecFault {
     /// The bytes are no spec.
     Text(SpecError),

@@ -6,6 +6,7 @@ use finite_maps::Fork;
 use lock_modes::{Row, Text, Value};
 use serde_json::Value as Json;
 use std::alloc::{AllocError, Global};
+use std::cmp::Ordering;
 use std::io;
 use std::io::{Read, Write};
 use std::process::Abort;
@@ -188,22 +189,6 @@ fn a_rank_has_a_line_of_its_own(rt: HostRuntime) -> Result<(), Fail> {
     Ok(())
 }
 
-fn shown(alloc: Global, event: &Event) -> Result<String, AllocError> {
-    format!(in alloc; "{event:?}")
-}
-
-fn assert_equal(
-    rt: &impl Abort,
-    alloc: Global,
-    event: &Event,
-    other: &Event,
-) -> Result<(), AllocError> {
-    let told = shown(alloc, event)?;
-    let other = shown(alloc, other)?;
-    assert_text(rt, &told, &other);
-    Ok(())
-}
-
 /// A fork of the transcript with one event more.
 fn longer_fork(transcript: &Transcript) -> Result<Transcript, AllocError> {
     let mut other = transcript.fork()?;
@@ -211,25 +196,25 @@ fn longer_fork(transcript: &Transcript) -> Result<Transcript, AllocError> {
     Ok(other)
 }
 
-/// The transcript of each event, and a fork of it with one more.
-fn assert_apart(
-    rt: &impl Abort,
-    alloc: Global,
-    events: &[Event],
-    longer: &[Event],
-) -> Result<(), AllocError> {
-    assert!(rt; events.len() == 22 && longer.len() == 23, "one event more");
-    for (event, copy) in events.iter().zip(longer) {
-        assert_equal(rt, alloc, event, copy)?;
-    }
-    Ok(())
+/// An outcome of one session.
+fn alone(alloc: Global, transcript: Transcript) -> Result<Outcome, AllocError> {
+    Outcome::new(alloc, vec![in alloc; transcript]?)
 }
 
 #[test]
 fn a_fork_is_equal_and_apart(rt: HostRuntime) -> Result<(), Fail> {
     let first = every_line(rt.alloc())?;
     let other = longer_fork(&first)?;
-    assert_apart(&rt, rt.alloc(), first.events(), other.events())?;
+    assert!(rt;
+        first.events().len() == 22 && other.events().len() == 23,
+        "one event more"
+    );
+    let fork = alone(rt.alloc(), first.fork()?)?;
+    let first = alone(rt.alloc(), every_line(rt.alloc())?)?;
+    assert!(rt;
+        fork.order(&first) == Ordering::Equal,
+        "a fork has the same events"
+    );
     Ok(())
 }
 

@@ -1,5 +1,5 @@
 /// What a request for a lock gets.
-#[derive(Clone, Copy, Debug, PartialEq, Eq)]
+#[derive(Clone, Copy, PartialEq, Eq)]
 pub enum Answer {
     /// The mode is had.
     Granted,

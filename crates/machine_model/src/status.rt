@@ -3,7 +3,7 @@ ghost use Rattle.machine_model.specs.Go.{is_broken};
 ghost use Rattle.machine_model.specs.Start.{is_outside};
 
 /// Where a session stands with its transaction block.
-#[derive(Clone, Copy, Debug, PartialEq, Eq)]
+#[derive(Clone, Copy, PartialEq, Eq)]
 pub enum Status {
     Outside,
     InBlock,

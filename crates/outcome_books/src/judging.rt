@@ -12,7 +12,7 @@ use perm_ranks::Shape;
 use transcripts::Outcome;
 
 /// What the facts of a rank give.
-#[derive(Clone, Copy, Debug, Drop)]
+#[derive(Clone, Copy, Drop)]
 pub(crate) enum Verdict {
     /// No value.
     Nothing,

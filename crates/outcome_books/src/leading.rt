@@ -12,7 +12,7 @@ use step_reducer::shared_block;
 
 /// What a tag gives at ranks that follow one another: the outcome with a number, the values of as many ranks from another one on, or
 /// nothing.
-#[derive(Clone, Copy, Debug, Drop)]
+#[derive(Clone, Copy, Drop)]
 pub(crate) enum Lead {
     Value(usize),
     From(u64),

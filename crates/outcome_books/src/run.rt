@@ -6,7 +6,7 @@ ghost use Rattle.outcome_books.specs.Runs.{Adds, KeepsSound, KeepsFrom, firsts, 
 use std::alloc::AllocError;
 
 /// What a run says of each of its ranks: the outcome with this number in a table, or a swap at this place.
-#[derive(Clone, Copy, Debug, Drop)]
+#[derive(Clone, Copy, Drop)]
 pub enum Tag {
     Ran(usize),
     Swap(u8),
@@ -35,7 +35,7 @@ impl Tag {
 }
 
 /// The same of each rank from `first` up to but not `end`.
-#[derive(Clone, Copy, Debug, Drop)]
+#[derive(Clone, Copy, Drop)]
 pub struct Run {
     pub first: u64,
     pub end: u64,

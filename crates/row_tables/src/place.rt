@@ -11,7 +11,7 @@ use std::cmp::Ordering;
 use std::marker::Model;
 
 /// Where a row lies, seen by contracts as its table and its key.
-#[derive(Debug, Drop)]
+#[derive(Drop)]
 pub(crate) struct RowPlace {
     table: u16,
     key: Value,

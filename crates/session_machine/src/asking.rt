@@ -11,7 +11,7 @@ use std::alloc::AllocError;
 use transcripts::Fault;
 
 /// What asking for the locks of a statement came to.
-#[derive(Clone, Copy, Debug, PartialEq, Eq)]
+#[derive(Clone, Copy, PartialEq, Eq)]
 pub(crate) enum Asked {
     /// All of them are had.
     Had,

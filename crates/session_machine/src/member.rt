@@ -9,7 +9,7 @@ use finite_maps::Fork;
 use std::alloc::{AllocError, Global};
 
 /// What is left of a step: the session goes on there when its request is had.
-#[derive(Clone, Copy, Debug, PartialEq, Eq)]
+#[derive(Clone, Copy, PartialEq, Eq)]
 pub(crate) struct Rest {
     pub(crate) step: u8,
     pub(crate) point: Point,

@@ -19,7 +19,7 @@ use std::alloc::{AllocError, Global};
 use transcripts::{Event, Log};
 
 /// How a setup ended.
-#[derive(Clone, Copy, Debug, PartialEq, Eq)]
+#[derive(Clone, Copy, PartialEq, Eq)]
 pub(crate) enum SetUp {
     /// A statement of it failed.
     Failed,

@@ -15,7 +15,7 @@ use std::alloc::{AllocError, Global};
 use transcripts::Event;
 
 /// A place in a step: the number of a statement, and of a request of it.
-#[derive(Clone, Copy, Debug, PartialEq, Eq)]
+#[derive(Clone, Copy, PartialEq, Eq)]
 pub(crate) struct Point {
     pub(crate) statement: usize,
     pub(crate) request: u8,

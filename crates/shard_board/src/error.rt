@@ -17,7 +17,7 @@ pub const MAX_SEATS: u8 = 16;
 pub const MAX_TURNS: u32 = 100_000;
 
 /// Why no board is made. Each refusal is tried before those below it.
-#[derive(Clone, Copy, Debug, PartialEq, Eq)]
+#[derive(Clone, Copy, PartialEq, Eq)]
 pub enum BoardError {
     /// A shard is none of the spec, there are over 4,096 shards, or the seats are not 1 to 16.
     BadPlan,
@@ -74,7 +74,7 @@ pub struct DeliverError {
 }
 
 /// Why no book is given. Only want of memory takes a turn.
-#[derive(Clone, Copy, Debug, PartialEq, Eq)]
+#[derive(Clone, Copy, PartialEq, Eq)]
 pub enum LatestError {
     /// The seat has had 100,000 turns.
     SeatSpent,

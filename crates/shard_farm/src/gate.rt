@@ -9,7 +9,7 @@ pub trait Gate {
 }
 
 /// A gate that holds nobody and notes nothing, for callers that need none.
-#[derive(Clone, Copy, Debug)]
+#[derive(Clone, Copy)]
 pub struct OpenGate;
 
 impl Gate for OpenGate {

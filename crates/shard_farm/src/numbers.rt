@@ -5,7 +5,7 @@ ghost use Rattle.std.specs.Prelude.{◌≡◌, ◌↔◌, true, []};
 use std::marker::Model;
 
 /// Numbers of shards, seen by contracts as their list.
-#[derive(Debug, Drop)]
+#[derive(Drop)]
 pub struct ShardNumbers {
     items: Vec<u32>,
 }

@@ -10,7 +10,7 @@ use std::alloc::{AllocError, Global};
 use std::marker::Model;
 
 /// The steps of a session so far, seen by contracts as their list.
-#[derive(Debug, Drop)]
+#[derive(Drop)]
 pub struct KnownSteps {
     each: Vec<Step>,
     names: NameSet,
@@ -67,7 +67,7 @@ impl KnownSteps {
 }
 
 /// The sessions so far, seen by contracts as their list.
-#[derive(Debug, Drop)]
+#[derive(Drop)]
 pub struct KnownSessions {
     each: Vec<Session>,
     names: NameSet,

@@ -8,7 +8,7 @@ use std::collections::BTreeSet;
 use std::marker::Model;
 
 /// A set of names, seen by contracts as their list in the order of their bytes.
-#[derive(Debug, Drop)]
+#[derive(Drop)]
 pub struct NameSet {
     names: BTreeSet<String>,
 }

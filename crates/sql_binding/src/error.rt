@@ -94,7 +94,7 @@ impl fmt::Display for BindError {
 impl Error for BindError {}
 
 /// Why binding stopped.
-#[derive(Debug, Drop)]
+#[derive(Drop)]
 pub enum BindStop {
     Memory,
     Refused(BindError),

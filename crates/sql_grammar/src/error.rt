@@ -84,7 +84,7 @@ impl fmt::Display for SqlError {
 impl Error for SqlError {}
 
 /// A limit of the subset.
-#[derive(Clone, Copy, Debug, PartialEq, Eq)]
+#[derive(Clone, Copy, PartialEq, Eq)]
 pub enum Limit {
     /// A number outside i64.
     NumberTooLarge,
@@ -93,7 +93,7 @@ pub enum Limit {
 }
 
 /// Why a token stops the reading of a part.
-#[derive(Clone, Copy, Debug, PartialEq, Eq)]
+#[derive(Clone, Copy, PartialEq, Eq)]
 pub enum Why {
     /// It cannot stand here.
     CannotStand,
@@ -102,7 +102,7 @@ pub enum Why {
 }
 
 /// Why reading stopped.
-#[derive(Debug, Drop)]
+#[derive(Drop)]
 pub enum Stop<'a> {
     Memory,
     /// At this token.

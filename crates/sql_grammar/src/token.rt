@@ -5,7 +5,7 @@ ghost use Rattle.sql_grammar.specs.Tokens.{Sign, End, is};
 ghost use Rattle.sql_grammar.specs.Lexing.{view_token, key_of, other_of};
 
 /// A token as it is written.
-#[derive(Clone, Copy, Debug)]
+#[derive(Clone, Copy)]
 pub enum Token<'a> {
     /// A reserved word, in any case.
     Key(&'a str),

@@ -4,7 +4,7 @@ use crate::expression::Expression;
 use sqlite_items::Boxed;
 
 /// How two values are compared.
-#[derive(Clone, Copy, Debug, PartialEq, Eq)]
+#[derive(Clone, Copy, PartialEq, Eq)]
 pub enum Comparison {
     Same,
     Differs,
@@ -15,7 +15,7 @@ pub enum Comparison {
 }
 
 /// A condition over the columns of a row.
-#[derive(Debug, Drop)]
+#[derive(Drop)]
 pub enum Condition {
     /// Every row meets it: the condition of a statement without WHERE.
     Always,

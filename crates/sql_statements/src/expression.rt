@@ -4,7 +4,7 @@ use lock_modes::Value;
 use sqlite_items::Items;
 
 /// A value, or a column of the row.
-#[derive(Debug, Drop)]
+#[derive(Drop)]
 pub enum Operand {
     Literal(Value),
     /// The column's number, from 0.
@@ -12,7 +12,7 @@ pub enum Operand {
 }
 
 /// One or more operands, which are multiplied from the left.
-#[derive(Debug, Drop)]
+#[derive(Drop)]
 pub struct Product {
     pub first: Operand,
     /// Those behind the first, in their order.
@@ -20,21 +20,21 @@ pub struct Product {
 }
 
 /// What stands between two products.
-#[derive(Clone, Copy, Debug, PartialEq, Eq)]
+#[derive(Clone, Copy, PartialEq, Eq)]
 pub enum AddSign {
     Plus,
     Minus,
 }
 
 /// A product behind its sign.
-#[derive(Debug, Drop)]
+#[derive(Drop)]
 pub struct SignedProduct {
     pub sign: AddSign,
     pub product: Product,
 }
 
 /// One or more products, which are added and subtracted from the left.
-#[derive(Debug, Drop)]
+#[derive(Drop)]
 pub struct Expression {
     pub first: Product,
     /// Those behind the first, in their order.

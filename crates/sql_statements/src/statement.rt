@@ -6,7 +6,7 @@ use lock_modes::{Mode, Row, Value};
 use sqlite_items::Items;
 
 /// A number over the rows that match.
-#[derive(Clone, Copy, Debug, PartialEq, Eq)]
+#[derive(Clone, Copy, PartialEq, Eq)]
 pub enum Aggregate {
     Count,
     /// The exact total of a column.
@@ -14,7 +14,7 @@ pub enum Aggregate {
 }
 
 /// What a select shows.
-#[derive(Debug, Drop)]
+#[derive(Drop)]
 pub enum Output {
     /// These columns of each row, in this order.
     Columns(Items<u16>),
@@ -23,21 +23,21 @@ pub enum Output {
 }
 
 /// How the rows stand that a column sorts.
-#[derive(Clone, Copy, Debug, PartialEq, Eq)]
+#[derive(Clone, Copy, PartialEq, Eq)]
 pub enum Order {
     Rises,
     Falls,
 }
 
 /// A column that a select sorts by.
-#[derive(Clone, Copy, Debug, PartialEq, Eq)]
+#[derive(Clone, Copy, PartialEq, Eq)]
 pub struct SortKey {
     pub column: u16,
     pub order: Order,
 }
 
 /// A column that an update sets.
-#[derive(Debug, Drop)]
+#[derive(Drop)]
 pub struct Assignment {
     pub column: u16,
     pub value: Expression,
@@ -45,7 +45,7 @@ pub struct Assignment {
 
 /// A statement whose tables and columns are numbers, which stand for their places among the declared tables and among the
 /// columns of a table. `Option<Value>` is the key of the row that the statement names: the literal of its first key part.
-#[derive(Debug, Drop)]
+#[derive(Drop)]
 pub enum Bound {
     Select(u16, Option<Value>, Condition, Items<SortKey>, Output),
     /// New rows, with all columns in their order, and which of them is the table's key, if it has one.

@@ -10,15 +10,15 @@ use std::io;
 const CHUNK_LEN: usize = 4096;
 
 /// A writer did not take what it was given.
-#[derive(Clone, Copy, Debug, PartialEq, Eq)]
+#[derive(Clone, Copy, PartialEq, Eq)]
 pub struct WriteFault;
 
 /// A reader failed.
-#[derive(Clone, Copy, Debug, PartialEq, Eq)]
+#[derive(Clone, Copy, PartialEq, Eq)]
 pub struct ReadFault;
 
 /// Why an input was not read.
-#[derive(Clone, Copy, Debug, PartialEq, Eq)]
+#[derive(Clone, Copy, PartialEq, Eq)]
 pub enum ReadError {
     /// The reader failed.
     Fault,
@@ -51,7 +51,7 @@ impl From<AllocError> for ReadError {
 ///
 /// Each fault is one more failed call, so a caller that finds the number unchanged knows that
 /// there was none. The number has to be below `u64::MAX` before a call.
-#[derive(Debug, Drop)]
+#[derive(Drop)]
 pub struct Counted<T> {
     inner: T,
     failures: u64,

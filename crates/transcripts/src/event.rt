@@ -3,7 +3,7 @@ use lock_modes::Row;
 use std::alloc::AllocError;
 
 /// Why a statement failed.
-#[derive(Clone, Copy, Debug, PartialEq, Eq)]
+#[derive(Clone, Copy, PartialEq, Eq)]
 pub enum Fault {
     /// A new row has a key that is there already.
     Duplicate,
@@ -16,7 +16,7 @@ pub enum Fault {
 }
 
 /// What a session is warned of.
-#[derive(Clone, Copy, Debug, PartialEq, Eq)]
+#[derive(Clone, Copy, PartialEq, Eq)]
 pub enum Warning {
     /// A block begins inside a block.
     InBlock,
@@ -25,7 +25,7 @@ pub enum Warning {
 }
 
 /// One line of a transcript.
-#[derive(Debug, Drop)]
+#[derive(Drop)]
 pub enum Event {
     /// The step with this number begins.
     Sent(u8),

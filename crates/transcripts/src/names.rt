@@ -6,7 +6,7 @@ use crate::outcome::{Outcome, Transcript};
 use lock_modes::Text;
 
 /// The names that an outcome is printed with.
-#[derive(Clone, Copy, Debug)]
+#[derive(Clone, Copy)]
 pub struct Names<'a> {
     /// The name of each session at its number, from 0.
     pub sessions: &'a [Text],

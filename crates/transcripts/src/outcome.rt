@@ -17,7 +17,7 @@ use std::marker::Model;
 use std::sync::Arc;
 
 /// What one session is told, seen by contracts as the list of its events in order.
-#[derive(Debug, Drop)]
+#[derive(Drop)]
 pub struct Transcript {
     events: Vec<Event>,
 }

@@ -16,7 +16,7 @@ use sql_subset::{BindErrorKind, bind};
 use std::alloc::Global;
 
 /// The format of a book.
-#[derive(Clone, Copy, Debug, Drop)]
+#[derive(Clone, Copy, Drop)]
 pub(crate) enum Version {
     /// Facts one by one, each with its outcome.
     Facts,

@@ -19,7 +19,7 @@ use std::alloc::{AllocError, Global};
 use std::cmp::Ordering;
 
 /// A run as a file has it.
-#[derive(Clone, Copy, Debug, Drop)]
+#[derive(Clone, Copy, Drop)]
 pub(crate) struct Span {
     pub(crate) first: u64,
     pub(crate) count: u64,
@@ -27,7 +27,7 @@ pub(crate) struct Span {
 }
 
 /// For each outcome and each place the end of the last run that names it, 0 where none does.
-#[derive(Debug, Drop)]
+#[derive(Drop)]
 pub(crate) struct Ends {
     pub(crate) ran: Vec<u64>,
     pub(crate) swap: Vec<u64>,
