@@ -1,11 +1,11 @@
 -- What the program does for what is asked.
 use Rattle.std.specs.Prelude.{◌≡◌, ℕ, ◌+◌, ◌⊎◌, Bool, false, not, List, [], map, take, Option, Result, Ok, Err, IfSome, ⊤}
 use Rattle.std.specs.Io.KnownBytes.{Keeps}
-use Rattle.transcripts.specs.Counted.{Wrote, written, failures_of}
+use Rattle.transcripts.specs.Counted.{Wrote, Stopped, written, failures_of}
 use Rattle.transcripts.specs.declared.counted.Counted.{Counted}
 use Rattle.iso_farm.specs.declared.files.TheConstants.{MAX_SPEC_READ}
 use Rattle.iso_farm.specs.declared.fault.ProgramFault.{ProgramFault}
-use Rattle.iso_farm.specs.declared.fault.ProgramFault.TheVariants.{Write}
+use Rattle.iso_farm.specs.declared.fault.ProgramFault.TheVariants.{NoMemory, Read, Write}
 use Rattle.iso_farm.specs.declared.finding.Finding.{Finding}
 use Rattle.iso_farm.specs.declared.finding.Finding.TheVariants.{Good}
 use Rattle.command_words.specs.declared.words.Asked.{Asked}
@@ -33,19 +33,25 @@ IsTold {E} Runs status (Err fault) = (error : E) × Runs (Err error) × (status_
 abbrev pub IsCalled : {E : Type 0} → Option (List ℕ) → (List ℕ → Result ⊤ E → Type 0) → (E → ℕ) → Result Finding ProgramFault → Type 0
 IsCalled known Runs status result = (bytes : List ℕ) × IfSome known (λ all. bytes ≡ take MAX_SPEC_READ all) × IsTold (Runs bytes) status result
 
--- a file that is not read is told as want of memory or as a read fault, and nothing is written
-abbrev pub IsUnread : {W : Type 0} → Counted W → Counted W → Result Finding ProgramFault → Type 0
-IsUnread old new (Ok finding) = ⊥
-IsUnread old new (Err fault) = (new ≡ old) × ((status_of fault ≡ 4) ⊎ (status_of fault ≡ 5))
+-- memory ran out, or the file at the path was not opened or not read
+abbrev pub IsReadFault : List ℕ → ProgramFault → Type 0
+IsReadFault path NoMemory = Unit {0}
+IsReadFault path (Read told) = told.now ≡ path
+IsReadFault path fault = ⊥
+
+-- a file that is not read is told so, and nothing is written
+abbrev pub IsUnread : {W : Type 0} → List ℕ → Counted W → Counted W → Result Finding ProgramFault → Type 0
+IsUnread path old new (Ok finding) = ⊥
+IsUnread path old new (Err fault) = (new ≡ old) × IsReadFault path fault
 
 -- what is asked for is done
 abbrev pub IsDone : Files → {W : Type 0} → (W → Option (List ℕ)) → Counted W → Counted W → Asked → Result Finding ProgramFault → Type 0
 IsDone files contents old new (One path rank) result =
-    IsUnread old new result ⊎ IsCalled (files path.now) (λ bytes. IsOneRun contents old new bytes rank) one_status result
-IsDone files contents old new (Check path) result = IsUnread old new result ⊎ IsCalled (files path.now) (IsChecked contents old new) count_status result
-IsDone files contents old new (Count path) result = IsUnread old new result ⊎ IsCalled (files path.now) (IsCounted contents old new) count_status result
+    IsUnread path.now old new result ⊎ IsCalled (files path.now) (λ bytes. IsOneRun contents old new bytes rank) one_status result
+IsDone files contents old new (Check path) result = IsUnread path.now old new result ⊎ IsCalled (files path.now) (IsChecked contents old new) count_status result
+IsDone files contents old new (Count path) result = IsUnread path.now old new result ⊎ IsCalled (files path.now) (IsCounted contents old new) count_status result
 IsDone files contents old new (Run path first end every workers progress) result =
-    IsUnread old new result ⊎ IsCalled (files path.now) (λ bytes. IsRangeRun contents old new bytes first end (not every)) range_status result
+    IsUnread path.now old new result ⊎ IsCalled (files path.now) (λ bytes. IsRangeRun contents old new bytes first end (not every)) range_status result
 IsDone files contents old new (Join paths) result =
     ((paths.items ≡ []) × (new ≡ old) × (result ≡ Ok Good)) ⊎ IsTold (IsJoinRun files (map (λ p. p.now) paths.items) contents old new) join_status result
 IsDone files contents old new (Report path) result = IsTold (IsFileReported (files path.now) contents old new) report_status result
@@ -53,18 +59,18 @@ IsDone files contents old new (Audit path) result = IsFound (IsAuditRun (files p
 IsDone files contents old new (Judge path accepted) result =
     IsFound (IsJudgeRun files path.now (map (λ p. p.now) accepted.items) contents old new) judge_status result
 
--- what is held back is passed on, and no call fails
+-- a flush that does not fail: the bytes that are known to be written stay so, and no call has failed; what a device has got of them is not known
 abbrev pub IsFlushed : {W : Type 0} → (W → Option (List ℕ)) → Counted W → Counted W → Type 0
 IsFlushed contents old new = Keeps (written contents old) (written contents new) × (failures_of new ≡ failures_of old)
 
--- what is held back is passed on where the work is done, and the answer stays; a fault of that is a write fault
+-- where the work is done there is a flush, and the answer stays; a fault of the flush is a write fault, and a fault of the work is passed on as it is
 abbrev pub IsPassedOn : {W X : Type 0} → (W → Option (List ℕ)) → Counted W → Counted W → Result X ProgramFault → Result X ProgramFault → Type 0
 IsPassedOn contents old new (Err fault) result = (new ≡ old) × (result ≡ Err fault)
 IsPassedOn contents old new (Ok answer) (Ok given) = (given ≡ answer) × IsFlushed contents old new
 IsPassedOn contents old new (Ok answer) (Err fault) =
     Keeps (written contents old) (written contents new) × (failures_of new ≡ failures_of old + 1) × (fault ≡ Write)
 
--- what is asked for is done, and nothing of it is held back
+-- what is asked for is done, and where that is no fault, a flush follows
 abbrev pub IsAnswered : Files → {W : Type 0} → (W → Option (List ℕ)) → Counted W → Counted W → Asked → Result Finding ProgramFault → Type 0
 IsAnswered files {W} contents old new asked result =
     (work : Result Finding ProgramFault) × (between : Counted W) × IsDone files contents old between asked work × IsPassedOn contents between new work result
@@ -86,13 +92,20 @@ abbrev pub IsEnd : {E : Type 0} → Asked → Counted E → Counted E → Result
 IsEnd asked old new (Ok finding) status = (tells_progress asked ≡ false → new ≡ old) × (status ≡ finding_status finding)
 IsEnd asked old new (Err fault) status = (status ≡ status_of fault) ⊎ (status ≡ 4)
 
--- words that ask for nothing: help is written and passed on, or nothing is and the words' fault is told, or memory ran out, or a write failed
+-- a text is written in part, or it is written whole and the flush fails
+abbrev pub IsCut : {W : Type 0} → (W → Option (List ℕ)) → Counted W → Counted W → List ℕ → Type 0
+IsCut {W} contents old new text =
+    Stopped contents old new text
+    ⊎ ((between : Counted W) × Wrote contents old between text × IsPassedOn {X = ⊤} contents between new (Ok tt) (Err Write))
+
+-- words that ask for nothing: help is written and flushed; or nothing is written, and the words' fault is told, or that memory ran out; or help is cut
+-- by a write fault, which is told, or that there is no memory to tell it
 abbrev pub IsUsage : {W : Type 0} → (W → Option (List ℕ)) → Counted W → Counted W → ℕ → Type 0
 IsUsage {W} contents old new status =
     ((status ≡ 0) × ((text : List ℕ) × (between : Counted W) × Wrote contents old between text × IsFlushed contents between new))
-    ⊎ (((status ≡ 2) × (new ≡ old)) ⊎ ((status ≡ 4) ⊎ (status ≡ 5)))
+    ⊎ (((new ≡ old) × ((status ≡ 2) ⊎ (status ≡ 4))) ⊎ (((text : List ℕ) × IsCut contents old new text) × ((status ≡ 5) ⊎ (status ≡ 4))))
 
--- what the program does for its words: what they ask, or else their usage
+-- what the program does for some words: what these ask, or else their usage. What words ask has no definition
 abbrev pub IsRun : Files → {W E : Type 0} → (W → Option (List ℕ)) → Counted W → Counted W → Counted E → Counted E → ℕ → Type 0
 IsRun files contents old new told now status =
     ((asked : Asked) × (result : Result Finding ProgramFault) × IsAnswered files contents old new asked result × IsEnd asked told now result status)

@@ -1,7 +1,8 @@
 -- Books from files, and what the program writes for their join.
 use Rattle.std.specs.Prelude.{◌≡◌, ◌≢◌, ℕ, zero, suc, ◌<◌, List, [], length, get_or, Option, Result, Ok, Err, IfSome, ⊤}
 use Rattle.transcripts.specs.declared.counted.Counted.{Counted}
-use Rattle.outcome_books.specs.Books.{Contents, joined}
+use Rattle.bound_specs.specs.Binding.{IsFileOf}
+use Rattle.outcome_books.specs.Books.{Contents, joined, AllRecordable}
 use Rattle.book_files.specs.ReadingBooks.{IsReadOf}
 use Rattle.book_files.specs.Writing.{IsWritten}
 use Rattle.iso_farm.specs.declared.joining.FileFault.{FileFault}
@@ -13,9 +14,11 @@ use Rattle.iso_farm.specs.declared.joining.JoinFault.TheVariants.{File, OtherSpe
 abbrev pub Files : Type 0
 Files = List ℕ → Option (List ℕ)
 
--- the answer is what the file's bytes are as a book, where they are known
+-- a book is one of the spec that its text binds to, with facts that may stand in its books; and the answer is what the file's bytes are as a book,
+-- where they are known
 abbrev pub IsFileBook : Option (List ℕ) → Result Contents FileFault → Type 0
-IsFileBook bytes (Ok book) = IfSome bytes (λ known. IsReadOf known (Ok book))
+IsFileBook bytes (Ok book) =
+    IsFileOf book.file.text book.file × AllRecordable book.file.run book.facts × IfSome bytes (λ known. IsReadOf known (Ok book))
 IsFileBook bytes (Err (Book error)) = IfSome bytes (λ known. IsReadOf known (Err error))
 IsFileBook bytes (Err Unopened) = Unit {0}
 

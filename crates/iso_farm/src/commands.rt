@@ -11,8 +11,9 @@ ghost use Rattle.iso_farm.specs.Joining.{IsJoinRun};
 ghost use Rattle.iso_farm.specs.Reporting.{IsFileReported};
 ghost use Rattle.iso_farm.specs.Auditing.{IsAuditRun};
 ghost use Rattle.iso_farm.specs.Judging.{IsJudgeRun};
+ghost use Rattle.iso_farm.specs.declared.fault.ProgramFault.TheVariants.{Write as WriteFault};
 ghost use Rattle.iso_farm.specs.declared.finding.Finding.TheVariants.{Good};
-ghost use Rattle.iso_farm.specs.Commands.{IsAnswered, IsDone, IsCalled, IsFlushed, IsFound, IsPassedOn, IsRun, IsTold, IsUnread, IsUsage, tells_progress};
+ghost use Rattle.iso_farm.specs.Commands.{IsAnswered, IsCut, IsDone, IsCalled, IsFlushed, IsFound, IsPassedOn, IsRun, IsTold, IsUnread, IsUsage, tells_progress};
 
 use crate::auditing::audit_file;
 use crate::counting::{CountFault, check, count};
@@ -127,7 +128,7 @@ fn one_of_file<'a, O: Opener, W: Write>(
     out: &mut Counted<W>,
 ) -> Result<Finding, ProgramFault<'a>>
     requires { failures_of out.old ≡ 0 }
-    ensures done { IsUnread out.old out.new result ⊎ IsCalled (O.bytes opener.now path.now) (λ bytes. IsOneRun W.contents out.old out.new bytes rank) one_status result }
+    ensures done { IsUnread path.now out.old out.new result ⊎ IsCalled (O.bytes opener.now path.now) (λ bytes. IsOneRun W.contents out.old out.new bytes rank) one_status result }
     ensures failures { OnOk result (failures_of out.new ≡ 0) }
 {
     let bytes = match read_spec_file(alloc, opener, path) {
@@ -147,7 +148,7 @@ fn check_of_file<'a, O: Opener, W: Write>(
     out: &mut Counted<W>,
 ) -> Result<Finding, ProgramFault<'a>>
     requires { failures_of out.old ≡ 0 }
-    ensures done { IsUnread out.old out.new result ⊎ IsCalled (O.bytes opener.now path.now) (IsChecked W.contents out.old out.new) count_status result }
+    ensures done { IsUnread path.now out.old out.new result ⊎ IsCalled (O.bytes opener.now path.now) (IsChecked W.contents out.old out.new) count_status result }
     ensures failures { OnOk result (failures_of out.new ≡ 0) }
 {
     let bytes = match read_spec_file(alloc, opener, path) {
@@ -168,7 +169,7 @@ fn count_of_file<'a, O: Opener, W: Write>(
     out: &mut Counted<W>,
 ) -> Result<Finding, ProgramFault<'a>>
     requires { failures_of out.old ≡ 0 }
-    ensures done { IsUnread out.old out.new result ⊎ IsCalled (O.bytes opener.now path.now) (IsCounted W.contents out.old out.new) count_status result }
+    ensures done { IsUnread path.now out.old out.new result ⊎ IsCalled (O.bytes opener.now path.now) (IsCounted W.contents out.old out.new) count_status result }
     ensures failures { OnOk result (failures_of out.new ≡ 0) }
 {
     let bytes = match read_spec_file(alloc, opener, path) {
@@ -195,7 +196,7 @@ fn range_of_file<'a, R: Threads + Wait + Clock + Sync, O: Opener, W: Write, E: W
     err: &mut Counted<E>,
 ) -> Result<Finding, ProgramFault<'a>>
     requires { failures_of out.old ≡ 0 }
-    ensures done { IsUnread out.old out.new result ⊎ IsCalled (O.bytes opener.now path.now) (λ bytes. IsRangeRun W.contents out.old out.new bytes first end reduce) range_status result }
+    ensures done { IsUnread path.now out.old out.new result ⊎ IsCalled (O.bytes opener.now path.now) (λ bytes. IsRangeRun W.contents out.old out.new bytes first end reduce) range_status result }
     ensures failures { OnOk result (failures_of out.new ≡ 0) }
     ensures quiet { is_told ≡ false → err.new ≡ err.old }
 {
@@ -295,7 +296,7 @@ fn judge_of_files<'a, O: Opener, W: Write>(
 fn written<'a, W: Write>(text: &str, out: &mut Counted<W>) -> Result<(), ProgramFault<'a>>
     requires { failures_of out.old ≡ 0 }
     ensures whole { OnOk result ((between : Counted W) × Wrote W.contents out.old between text.now × IsFlushed W.contents between out.new) }
-    ensures fault { IfErr result (λ fault. status_of fault ≡ 5) }
+    ensures fault { IfErr result (λ fault. (fault ≡ WriteFault) × IsCut W.contents out.old out.new text.now) }
 {
     match out.write_str(text) {
         Ok(()) => flushed((), out),

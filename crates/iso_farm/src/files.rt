@@ -1,7 +1,7 @@
 //! Where the program reads from.
 
-ghost use Rattle.std.specs.Prelude.{◌≡◌, ◌≤◌, ◌⊎◌, ℕ, List, Option, Some, None, IfOk, IfErr, IfSome, take, vec_len};
-ghost use Rattle.iso_farm.specs.Status.{status_of};
+ghost use Rattle.std.specs.Prelude.{◌≡◌, ◌≤◌, ℕ, List, Option, Some, None, IfOk, IfErr, IfSome, take, vec_len};
+ghost use Rattle.iso_farm.specs.Commands.{IsReadFault};
 
 use crate::fault::ProgramFault;
 use spec_reader::MAX_BYTES;
@@ -32,7 +32,7 @@ pub(crate) fn read_spec_file<'a, O: Opener>(
 ) -> Result<Vec<u8>, ProgramFault<'a>>
     ensures short { IfOk result (λ bytes. vec_len bytes ≤ MAX_SPEC_READ) }
     ensures read { IfOk result (λ bytes. IfSome (O.bytes opener.now path.now) (λ known. bytes.items ≡ take MAX_SPEC_READ known)) }
-    ensures unread { IfErr result (λ fault. (status_of fault ≡ 4) ⊎ (status_of fault ≡ 5)) }
+    ensures unread { IfErr result (IsReadFault path.now) }
 {
     let Some(reader) = opener.open(path) else {
         return Err(ProgramFault::Read { path });

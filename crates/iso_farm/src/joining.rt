@@ -103,7 +103,10 @@ pub(crate) fn book_of_file<O: Opener>(
         return Err(FileFault::Unopened);
     };
     match read_book(alloc, &mut Counted::new(reader)) {
-        Ok(book) => Ok(book),
+        Ok(book) => {
+            book.known();
+            Ok(book)
+        }
         Err(error) => Err(FileFault::Book(error)),
     }
 }

@@ -52,7 +52,7 @@ pub record Numbers (plan : Plan) (views : List View) : Type 0 where
   pub differ : (x : ℕ) → total (each (numbered x)) views ≡ once_below x plan.seats
   pub knows : (j : ℕ) (v : View) → get_elem? views j ≡ some v → v.live ≡ true → v.plan ≡ plan
 
--- The claims are the shard numbers below `next`, each once. A seat was refused only where `next` is over the shards
+-- The claims are the shard numbers below `next`, each once. A seat was refused only where all shards are claimed
 pub record Claims (plan : Plan) (next : ℕ) (views : List View) : Type 0 where
   pub once : (x : ℕ) → total (each (claimed x)) views ≡ once_below x (min next plan.shards)
   pub most : next ≤ plan.shards + total (each refusals) views

@@ -14,7 +14,7 @@ use Rattle.shard_board.specs.Claiming.{times, once_below}
 use Rattle.shard_board.specs.History.{IsLegal, facts_of, calls_by}
 use Rattle.shard_board.specs.Shown.{ShownSeat, ShownBoard}
 
--- all of them are seats of this board
+-- each of them is a seat of this board
 abbrev pub OfBoard : TableId → List ShownSeat → Type 0
 OfBoard t seats = (k : ℕ) (s : ShownSeat) → get_elem? seats k ≡ some s → s.board.table_id ≡ t
 

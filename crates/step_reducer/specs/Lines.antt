@@ -8,7 +8,7 @@ use Rattle.step_reducer.specs.Walks.{AllHave}
 use Rattle.step_reducer.specs.declared.line_walk.LineWalk.{LineWalk}
 use Rattle.step_reducer.specs.declared.fact.Given.{Given}
 
--- a walk of the spec's lines
+-- the walk stands on a path of the spec
 abbrev pub IsLines : SpecFile → LineWalk → Type 0
 IsLines file w = IsPath file w.path
 

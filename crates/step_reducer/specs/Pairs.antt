@@ -41,12 +41,12 @@ abbrev pub clear_of : World → ℕ → List Request → Option Wait → Bool
 clear_of w i qs None = true
 clear_of w i qs (Some v) = not (is_some (look_of w i v.resource)) && list_all (λ q. not (same_resource v.resource q.resource)) qs
 
--- the world is not spent
+-- the world is not spent, and has what every world has
 pub record IsWhole (r : Running) : Type 0 where
   pub whole : r.spent ≡ false
   pub known : IsKnown r
 
--- statements of a spec
+-- statements that have their keys and plans that are short, as those of a spec have
 pub record AreBound (statements : List Bound) : Type 0 where
   pub keys : All HasKeys statements
   pub short : All IsShort statements

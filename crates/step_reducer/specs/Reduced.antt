@@ -7,7 +7,7 @@ use Rattle.machine_model.specs.World.{World, blank, send_all}
 use Rattle.machine_model.specs.Start.{Started, start}
 use Rattle.quiet_steps.specs.Swap.{quiet_heads, quiet_at, falls_at}
 
--- a spec that starts in the world, whose ranks are those of all words, reduced or not
+-- a spec, a world, and whether the ranks are reduced
 pub record Tour : Type 0 where
   pub spec : Spec
   pub world : World

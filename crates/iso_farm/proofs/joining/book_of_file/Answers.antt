@@ -1,4 +1,4 @@
-use Rattle.std.proofs.Common.{Err}
+use Rattle.std.proofs.Common.{Ok, Err}
 use Rattle.book_files.specs.ReadingBooks.{IsReadOf}
 use Rattle.iso_farm.proofs.FileLemmas.{of-known}
 use Rattle.iso_farm.proofs.joining.book_of_file.Goals as goal
@@ -8,3 +8,12 @@ pub returns : goal.returns
 returns g c =
     of-known g.O.Reader.Read.remaining _ c.in-Some.reader c.new.result (λ bytes. IsReadOf bytes (Err c.in-Err.error)) c.new.ensures.inner c.in-Some.ensures
     c.in-Err.ensures.book
+
+-- and what every book keeps holds of it
+pub returns-in-Ok : goal.returns-in-Ok
+returns-in-Ok g c = (
+  c.known.ensures.file,
+  c.known.ensures.facts,
+  of-known g.O.Reader.Read.remaining _ c.in-Some.reader c.new.result (λ bytes. IsReadOf bytes (Ok c.in-Ok.book)) c.new.ensures.inner c.in-Some.ensures
+      c.in-Ok.ensures.book,
+)
