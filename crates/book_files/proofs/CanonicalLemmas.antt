@@ -68,7 +68,7 @@ rises-push R (x ∷ xs) y p h = (after xs p.0, rises-push R xs y p.1 (λ z i. h 
     after [] a = (h x (inl refl), tt)
     after (z ∷ zs) a = (a.0, after zs a.1)
 
-sound-last : (n : ℕ) (xs : List Run) (x : Run) → AllSound n (xs ++ x ∷ []) → AllSound n xs × IsSound n x
+pub sound-last : (n : ℕ) (xs : List Run) (x : Run) → AllSound n (xs ++ x ∷ []) → AllSound n xs × IsSound n x
 sound-last n [] x a = (tt, a.0)
 sound-last n (y ∷ ys) x a = let r = sound-last n ys x a.1 in ((a.0, r.0), r.1)
 

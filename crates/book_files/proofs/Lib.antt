@@ -1,4 +1,5 @@
 pub mod CanonicalLemmas
+pub mod InTurnLemmas
 pub mod TagLemmas
 pub mod OneForm
 pub mod DataLemmas

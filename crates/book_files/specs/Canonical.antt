@@ -1,5 +1,5 @@
 -- Making the longest runs: runs in the order of what they say, and those that overlap or touch as one.
-use Rattle.std.specs.Prelude.{◌≡◌, ℕ, Bool, true, false, ◌<◌, ◌≤◌, ◌||◌, List, [], ◌∷◌, ◌++◌, length, take, slice_index_or}
+use Rattle.std.specs.Prelude.{◌≡◌, ℕ, ◌+◌, Bool, true, false, ◌<◌, ◌≤◌, ◌||◌, List, [], ◌∷◌, ◌++◌, length, take, slice_index_or}
 use Rattle.std.proofs.Common.{Ordering, nat_cmp}
 use Rattle.std.specs.Ordering.{on, then_cmp}
 use Rattle.std.specs.Cmp.{IsTotalOrder, nat_cmp_total, on_total, then_total}
@@ -58,3 +58,24 @@ pub record IsJoining (runs : List Run) (i : ℕ) (out : List Run) (current : Run
 pub record IsTouching (current run : Run) (answer : Bool) : Type 0 where
   pub yes : answer ≡ true → (current.tag ≡ run.tag) × (run.first ≤ current.end)
   pub no : answer ≡ false → current.tag ≡ run.tag → current.end < run.first
+
+-- ---- runs that come one behind the other
+
+-- each run begins where the one before ends, or behind it
+abbrev pub AreInTurn : List Run → Type 0
+AreInTurn runs = (i : ℕ) (d : Run) → i + 1 < length runs → (slice_index_or runs i d).end ≤ (slice_index_or runs (i + 1) d).first
+
+-- the run is over where the other begins, and where they say the same they do not touch
+pub record IsBefore (run other : Run) : Type 0 where
+  pub firsts : run.first < other.first
+  pub ends : run.end ≤ other.first
+  pub apart : run.tag ≡ other.tag → run.end < other.first
+
+-- the first i runs are joined: those that are done, and one that may still grow and ends where the last of them does
+pub record IsJoiningInTurn (runs : List Run) (i : ℕ) (out : List Run) (current : Run) : Type 0 where
+  pub some : 1 ≤ i
+  pub apart : Rises IsBefore out
+  pub before : (x : Run) → IsIn x out → IsBefore x current
+  pub facts : (t : Table) (e : Entry) → (list_any (has t e) out || has t e current) ≡ list_any (has t e) (take i runs)
+  pub sound : (n : ℕ) → AllSound n runs → AllSound n (out ++ current ∷ [])
+  pub last : (k : ℕ) (d : Run) → k + 1 ≡ i → current.end ≡ (slice_index_or runs k d).end

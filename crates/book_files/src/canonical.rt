@@ -1,16 +1,31 @@
 //! The longest runs of a set of facts, in order.
 
-ghost use Rattle.std.specs.Prelude.{◌≡◌, IfOk, max};
+ghost use Rattle.std.specs.Prelude.{◌≡◌, IfOk, IsTrue, max};
 ghost use Rattle.std.specs.List.Sorted.{IsPermutation};
 ghost use Rattle.book_files.specs.Forms.{Rises, IsLater, run_cmp, tag_kind, tag_number};
-ghost use Rattle.book_files.specs.Canonical.{IsTagSorted, IsPast, IsTouching, AreSound, StaySound, SayTheSame, tag_cmp};
+ghost use Rattle.book_files.specs.Canonical.{AreInTurn, IsTagSorted, IsPast, IsTouching, AreSound, StaySound, SayTheSame, tag_cmp};
 
 use outcome_books::{Run, Tag};
 use std::alloc::{AllocError, Global};
 use std::cmp::Ordering;
 
-/// The one list of runs that says the same: the longest ones, in order. It has at most as many.
+/// The one list of runs that says the same: the longest ones, in order. It has at most as many. Runs that come one behind the other, as
+/// those of one range do, are gone over once; others are sorted twice.
 pub(crate) fn canonical(alloc: Global, runs: &[Run]) -> Result<Vec<Run>, AllocError>
+    requires { AreSound runs.now }
+    ensures rises { IfOk result (λ out. Rises IsLater out.items) }
+    ensures facts { IfOk result (λ out. SayTheSame out.items runs.now) }
+    ensures sound { IfOk result (λ out. StaySound runs.now out.items) }
+{
+    if are_in_turn(runs) {
+        longest_in_turn(alloc, runs)
+    } else {
+        sorted_and_joined(alloc, runs)
+    }
+}
+
+/// The longest runs of any runs, in order.
+fn sorted_and_joined(alloc: Global, runs: &[Run]) -> Result<Vec<Run>, AllocError>
     requires { AreSound runs.now }
     ensures rises { IfOk result (λ out. Rises IsLater out.items) }
     ensures facts { IfOk result (λ out. SayTheSame out.items runs.now) }
@@ -19,6 +34,44 @@ pub(crate) fn canonical(alloc: Global, runs: &[Run]) -> Result<Vec<Run>, AllocEr
     let sorted = by_tag(alloc, runs)?;
     let joined = longest(alloc, sorted.as_slice())?;
     Ok(in_order(joined))
+}
+
+/// Whether each run begins where the one before ends, or behind it.
+fn are_in_turn(runs: &[Run]) -> bool
+    ensures { IsTrue result → AreInTurn runs.now }
+{
+    for i in 1..runs.len() {
+        if runs[i].first < runs[i - 1].end {
+            return false;
+        }
+    }
+    true
+}
+
+/// The longest runs, of runs that come one behind the other.
+fn longest_in_turn(alloc: Global, runs: &[Run]) -> Result<Vec<Run>, AllocError>
+    requires in_turn { AreInTurn runs.now }
+    requires sound { AreSound runs.now }
+    ensures rises { IfOk result (λ out. Rises IsLater out.items) }
+    ensures facts { IfOk result (λ out. SayTheSame out.items runs.now) }
+    ensures sound { IfOk result (λ out. StaySound runs.now out.items) }
+{
+    let mut out = Vec::new(alloc);
+    if runs.is_empty() {
+        return Ok(out);
+    }
+    let mut current = runs[0];
+    for i in 1..runs.len() {
+        let run = runs[i];
+        if touches(current, run) {
+            current = grown(current, run);
+        } else {
+            out.push(current)?;
+            current = run;
+        }
+    }
+    out.push(current)?;
+    Ok(out)
 }
 
 /// 0 for an outcome, 1 for a swap.

@@ -4,7 +4,7 @@ use Rattle.std.specs.List.{list_any}
 use Rattle.outcome_books.specs.Runs.{has, AllSound}
 use Rattle.book_files.specs.Canonical.{IsTagSorted}
 use Rattle.book_files.proofs.CanonicalLemmas.{sound-moved}
-use Rattle.book_files.proofs.canonical.canonical.Goals as goal
+use Rattle.book_files.proofs.canonical.sorted_and_joined.Goals as goal
 
 pub longest-requires-clause-sorted : goal.longest-requires-clause-sorted
 longest-requires-clause-sorted c = subst IsTagSorted (sym c.as_slice.ensures.value) c.in_ok-sorted.ensures.sorted
