@@ -2,9 +2,10 @@
 
 use crate::facts::{number, refuse};
 use crate::walks::text_of;
+use book_jobs::{Boxed, Job, make};
 use bound_specs::Spec;
 use iso_farm::{OneFault, spec_of};
-use outcome_books::{Book, Boxed, Job, Report, ReportError, make, missing, report};
+use outcome_books::{Book, Report, ReportError, missing, report};
 use session_machine::RunError;
 use std::alloc::Global;
 use std::io;

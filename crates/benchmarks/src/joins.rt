@@ -1,8 +1,9 @@
 //! How long books of a spec take to make, to join and to report, and how much memory the program holds with them.
 
 use crate::walks::{refused, spec_of, text_of};
+use book_jobs::{Boxed, Job, make};
 use bound_specs::Spec;
-use outcome_books::{Book, Boxed, Job, join, make, report};
+use outcome_books::{Book, join, report};
 use std::alloc::Global;
 use std::io;
 use std::time::{Duration, Instant};

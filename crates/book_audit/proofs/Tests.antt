@@ -3,7 +3,7 @@ use Rattle.std.proofs.Common.{◌≡◌, ◌↔◌, refl, sym, ap, ◌∙◌, su
 use Rattle.std.proofs.Common.{option_map, ◌⊎◌, ⊎_elim, arith}
 use Rattle.perm_ranks.specs.Words.{Word, total, all_words, word_at}
 use Rattle.perm_ranks.specs.Swapped.{exchanged}
-use Rattle.perm_ranks.proofs.WordLemmas.{Takes, words-take, each-at}
+use Rattle.perm_ranks.proofs.WordLemmas.{Takes, takes-length, words-take, each-at}
 use Rattle.bound_specs.specs.Spec.{Spec, ranks, ranks_by, line_of, counts_of, queues_of}
 use Rattle.transcripts.specs.declared.event.Event.{Event}
 use Rattle.machine_model.specs.World.{World, send_all, outcome_of}
@@ -14,7 +14,7 @@ use Rattle.quiet_steps.specs.declared.fact.Fact.{Fact}
 use Rattle.quiet_steps.specs.declared.fact.Fact.TheVariants.{Ran, Swap}
 use Rattle.quiet_steps.proofs.Leading.{outcome-started}
 use Rattle.step_reducer.proofs.Covering.{swap-covers}
-use Rattle.step_reducer.proofs.Partings.{takes-length, line-length}
+use Rattle.step_reducer.proofs.Partings.{line-length}
 use Rattle.step_reducer.proofs.Prefixes.{falls-short}
 use Rattle.book_audit.specs.Grounds.{IsTrueUntil, AreAlikeTo}
 

@@ -1,6 +1,6 @@
 ghost use Rattle.std.specs.Prelude.{◌≡◌, ◌≢◌, ◌<◌, ◌≤◌, ◌↔◌, [], length, get_or, All, IsTrue, IsSome, IfSome};
 ghost use Rattle.perm_ranks.specs.declared.TheConstants.{MAX_SESSIONS};
-ghost use Rattle.bound_specs.specs.Spec.{no_step, counts_of, queues_of, ranks, line_of, AllHaveKeys, AllAreShort, IsBound};
+ghost use Rattle.bound_specs.specs.Spec.{no_step, counts_of, queues_of, ranks, line_of, AllHaveKeys, AllAreShort, IsBound, IsReady};
 ghost use Rattle.sql_statements.specs.Plan.{HasKeys, IsShort};
 ghost use Rattle.bound_specs.specs.Binding.{IsFileOf};
 ghost use Rattle.bound_specs.specs.Views.{file_of as file_of_parts, IsKept as IsKeptBy};
@@ -60,6 +60,13 @@ impl Spec {
     /// What every spec keeps: it is what its text binds to.
     pub fn known(&self)
         ensures { IsFileOf self.now.text self.now }
+    {
+        let _text = &self.parts.text;
+    }
+
+    /// What every spec keeps: it is ready to be run.
+    pub fn ready(&self)
+        ensures { IsReady self.now }
     {
         let _text = &self.parts.text;
     }

@@ -1,7 +1,8 @@
 //! Specs, and books by their texts.
 use book_files::write_book;
+use book_jobs::{Job, make};
 use bound_specs::Spec;
-use outcome_books::{Book, Job, make};
+use outcome_books::Book;
 use spec_reader::read_spec;
 use sql_subset::bind;
 use std::alloc::Global;

@@ -4,7 +4,7 @@ use Rattle.std.proofs.lemmas.List.{length-append}
 use Rattle.atomic_table.proofs.Lists.{at_longer, at_last}
 use Rattle.bound_specs.specs.Spec.{Spec}
 use Rattle.quiet_steps.specs.Facts.{IsFactOf}
-use Rattle.step_reducer.specs.declared.walker.Shard.{Shard}
+use Rattle.quiet_steps.specs.declared.shard.Shard.{Shard}
 use Rattle.outcome_books.specs.Entries.{FactSet, recorded}
 use Rattle.outcome_books.specs.Building.{AreFactsOf}
 use Rattle.shard_farm.specs.Farming.{AreShardFacts}

@@ -18,20 +18,20 @@ use Rattle.quiet_steps.specs.declared.fact.Fact.{Fact}
 use Rattle.quiet_steps.specs.declared.fact.Fact.TheVariants.{Ran, Swap}
 use Rattle.quiet_steps.proofs.Leading.{leads-down}
 use Rattle.quiet_steps.proofs.TrueFacts.{facts-one, of_start}
-use Rattle.step_reducer.specs.declared.walker.Shard.{Shard}
+use Rattle.quiet_steps.specs.declared.shard.Shard.{Shard}
 use Rattle.step_reducer.specs.Walking.{Starts}
 use Rattle.transcripts.specs.declared.counted.Counted.{Counted}
 use Rattle.transcripts.specs.declared.event.Event.{Event}
 use Rattle.outcome_books.specs.declared.error.ReportError.{ReportError}
 use Rattle.outcome_books.specs.declared.error.ReportError.TheVariants.{TooMany, Missing, Clash, NoMemory}
-use Rattle.outcome_books.specs.declared.job.Job.{Job, more_of-Job, end_of-Job, Run, Join'}
+use Rattle.book_jobs.specs.declared.job.Job.{Job, more_of-Job, end_of-Job, Run, Join'}
 use Rattle.outcome_books.specs.Entries.{FactSet, recorded}
 use Rattle.outcome_books.specs.Books.{Contents, joined, AllRecordable}
-use Rattle.outcome_books.specs.JobTrees.{leaves}
-use Rattle.outcome_books.specs.Jobs.{InLeaves, AreJobFacts, IsJobOf}
+use Rattle.book_jobs.specs.JobTrees.{leaves}
+use Rattle.book_jobs.specs.Jobs.{InLeaves, AreJobFacts, IsJobOf}
 use Rattle.outcome_books.specs.Values.{IsMissing, IsNotReported}
 use Rattle.outcome_books.proofs.SetLemmas.{in_union, same_facts}
-use Rattle.outcome_books.proofs.Recordable.{file-is-bound}
+use Rattle.bound_specs.proofs.FileLemmas.{file-is-bound}
 use Rattle.shard_board.specs.Changes.{IsPlanOf}
 use Rattle.shard_farm.specs.Farming.{InShards, AreShardFacts}
 use Rattle.shard_farm.proofs.CrewLemmas.{inside}

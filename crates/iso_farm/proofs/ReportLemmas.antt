@@ -15,7 +15,8 @@ use Rattle.outcome_books.specs.declared.error.TheConstants.{MAX_REPORTED}
 use Rattle.outcome_books.specs.Entries.{Told, FactSet, recorded}
 use Rattle.outcome_books.specs.Books.{Contents, AllRecordable}
 use Rattle.outcome_books.specs.Values.{AreValues, IsNotReported}
-use Rattle.outcome_books.proofs.Recordable.{file-is-bound, value-own}
+use Rattle.bound_specs.proofs.FileLemmas.{file-is-bound}
+use Rattle.outcome_books.proofs.Recordable.{value-own}
 use Rattle.iso_farm.specs.One.{IsAnswer}
 use Rattle.iso_farm.specs.Reporting.{values_text, IsReportText, AllOwn}
 use Rattle.iso_farm.specs.Laws.{AreAnswers, ReportsAreTheMachines, CoveringReports}

@@ -7,18 +7,18 @@ use Rattle.bound_specs.specs.Binding.{IsFileOf}
 use Rattle.machine_model.specs.Outcome.{outcome_of_line}
 use Rattle.quiet_steps.specs.declared.fact.Fact.{Fact}
 use Rattle.serial_history.specs.Serial.{IsSerial}
-use Rattle.step_reducer.specs.declared.walker.Shard.{Shard}
+use Rattle.quiet_steps.specs.declared.shard.Shard.{Shard}
 use Rattle.step_reducer.specs.Walking.{Starts}
 use Rattle.transcripts.specs.Counted.{Wrote, Stopped}
 use Rattle.transcripts.specs.declared.counted.Counted.{Counted}
 use Rattle.transcripts.specs.declared.event.Event.{Event}
 use Rattle.outcome_books.specs.declared.error.ReportError.{ReportError}
 use Rattle.outcome_books.specs.declared.error.ReportError.TheVariants.{TooMany, Missing, Clash, NoMemory}
-use Rattle.outcome_books.specs.declared.job.Job.{Job}
+use Rattle.book_jobs.specs.declared.job.Job.{Job}
 use Rattle.outcome_books.specs.Entries.{recorded}
 use Rattle.outcome_books.specs.Books.{Contents, joined}
-use Rattle.outcome_books.specs.JobTrees.{folded, leaves}
-use Rattle.outcome_books.specs.Jobs.{InLeaves, IsJobOf, IsNotMade}
+use Rattle.book_jobs.specs.JobTrees.{folded, leaves}
+use Rattle.book_jobs.specs.Jobs.{InLeaves, IsJobOf, IsNotMade}
 use Rattle.outcome_books.specs.Values.{IsNotReported}
 use Rattle.shard_board.specs.Changes.{IsPlanOf}
 use Rattle.shard_farm.specs.Farming.{InShards, AreShardFacts, IsNotFarmed}

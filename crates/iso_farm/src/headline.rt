@@ -7,8 +7,9 @@ ghost use Rattle.iso_farm.specs.Headline.{AreRunsReported, AreRun, IsNextRun, Is
 
 use crate::reporting::{ReportFault, write_report};
 use crate::spec::{SpecFault, spec_of};
+use book_jobs::{Job, make};
 use bound_specs::Spec;
-use outcome_books::{Book, Job, JoinError, join, joins_are_unions, make};
+use outcome_books::{Book, JoinError, join, joins_are_unions};
 use session_machine::RunError;
 use shard_farm::{FarmError, Gate, farm_run};
 use std::alloc::Global;

@@ -8,9 +8,8 @@ use Rattle.perm_ranks.specs.Swapped.{exchanged}
 use Rattle.perm_ranks.specs.Counting.{taken}
 use Rattle.perm_ranks.specs.Blocks.{Block, end_of, HasRank, narrowed, IsBlockOf}
 use Rattle.perm_ranks.proofs.SwapLemmas.{exchanged-less, exchanged-short}
-use Rattle.perm_ranks.proofs.WordLemmas.{Takes, each-at, words-take, stands-before, place-is, entry-place, all_words-rise}
+use Rattle.perm_ranks.proofs.WordLemmas.{Takes, takes-length, each-at, words-take, stands-before, place-is, entry-place, all_words-rise}
 use Rattle.quiet_steps.specs.Swap.{placed_at}
-use Rattle.step_reducer.proofs.Partings.{takes-length}
 use Rattle.outcome_books.specs.declared.run.Tag.TheVariants.{Swap}
 use Rattle.outcome_books.specs.declared.leading.Lead.TheVariants.{From, Nowhere}
 use Rattle.outcome_books.specs.Sweep.{leads_of, LeadsDown, IsLead}

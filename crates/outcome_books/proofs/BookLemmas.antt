@@ -8,7 +8,7 @@ use Rattle.std.specs.FinSet.{union}
 use Rattle.bound_specs.specs.Spec.{Spec, SpecFile, ranks}
 use Rattle.bound_specs.specs.Binding.{IsFileOf}
 use Rattle.bound_specs.specs.contracts.spec.Spec as file_row
-use Rattle.sql_subset.proofs.FileLemmas.{one-file}
+use Rattle.bound_specs.proofs.FileLemmas.{one-file}
 use Rattle.outcome_books.specs.declared.about.About.{About}
 use Rattle.outcome_books.specs.declared.run.Run.{Run}
 use Rattle.outcome_books.specs.About.{FileOf, IsShapeOf}

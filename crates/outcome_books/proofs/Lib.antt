@@ -7,7 +7,6 @@ pub mod BookLemmas
 pub mod AddLemmas
 pub mod PushLemmas
 pub mod Recordable
-pub mod ShardLemmas
 pub mod ValueLemmas
 pub mod VerdictLemmas
 pub mod FillLemmas
@@ -15,6 +14,4 @@ pub mod SweepLemmas
 pub mod BlockLeads
 pub mod ReportLemmas
 pub mod RecordedRuns
-pub mod JobLemmas
-pub mod JobViews
 pub mod OneReport

@@ -18,7 +18,7 @@ use Rattle.outcome_books.specs.Books.{contents_of, HasFact, facts_in, file_of, I
 use Rattle.outcome_books.specs.Values.{AreValues, IsMissing, IsNotReported, IsCovering}
 use Rattle.outcome_books.specs.Sweep.{leads_of, IsStop, values_of}
 use Rattle.outcome_books.proofs.GapLemmas.{has-below, none-at}
-use Rattle.outcome_books.proofs.Recordable.{file-is-bound}
+use Rattle.bound_specs.proofs.FileLemmas.{file-is-bound}
 
 -- a shape leads where its spec does
 pub same-leads : (run : Spec) (shape : Option (List ℕ)) → IsShapeOf run shape → (r k : ℕ) → leads_of shape r k ≡ leads_in run r k

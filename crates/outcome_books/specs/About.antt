@@ -6,7 +6,7 @@ use mathlib.Core.HLevel.{Σ_prop_path}
 use Rattle.bound_specs.specs.Spec.{Spec, SpecFile, counts_of, queues_of}
 use Rattle.bound_specs.specs.Binding.{IsFileOf}
 use Rattle.bound_specs.specs.contracts.spec.Spec as file_row
-use Rattle.sql_subset.proofs.FileLemmas.{one-file}
+use Rattle.bound_specs.proofs.FileLemmas.{one-file}
 
 -- a file that the text is
 abbrev pub FileOf : List ℕ → Type 0

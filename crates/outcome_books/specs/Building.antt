@@ -1,16 +1,15 @@
 -- A set of facts that is built up in the order of ranks, and the facts of a shard.
-use Rattle.std.specs.Prelude.{◌≡◌, ◌↔◌, ℕ, ◌-◌, ◌<◌, ◌≤◌, Bool, true, false, List}
+use Rattle.std.specs.Prelude.{◌≡◌, ◌↔◌, ℕ, ◌-◌, ◌<◌, ◌≤◌, Bool, true, List}
 use Rattle.std.specs.FinSet.{union, from_list}
 use Rattle.transcripts.specs.Json.{OutcomeFits}
 use Rattle.bound_specs.specs.Spec.{Spec}
 use Rattle.quiet_steps.specs.Facts.{IsFactOf}
 use Rattle.quiet_steps.specs.declared.fact.Fact.{Fact}
 use Rattle.quiet_steps.specs.declared.fact.Fact.TheVariants.{Ran, Swap}
-use Rattle.step_reducer.specs.Walking.{Walking}
 use Rattle.outcome_books.specs.declared.run.Run.{Run}
 use Rattle.outcome_books.specs.Entries.{FactSet, recorded}
 use Rattle.outcome_books.specs.Runs.{Table, firsts, AllTo, repeated}
-use Rattle.outcome_books.specs.Books.{facts_in, IsKept, AllRecordable}
+use Rattle.outcome_books.specs.Books.{facts_in, IsKept}
 
 -- facts of runs that begin up to the next
 pub record Building : Type 0 where
@@ -37,14 +36,3 @@ AreFactsOf reduce spec first end facts = (r : ℕ) (fact : Fact) → (recorded f
 abbrev pub FactFits : Fact → Type 0
 FactFits (Ran outcome) = OutcomeFits outcome
 FactFits (Swap k) = k < 256
-
--- the facts of the ranks that the walker has passed are gathered
-pub record IsGathering (begun walker : Walking) (b : Building) : Type 0 where
-  pub file : walker.file ≡ begun.file
-  pub reduce : walker.reduce ≡ begun.reduce
-  pub end : walker.end ≡ begun.end
-  pub whole : walker.spent ≡ false
-  pub from : begun.at ≤ walker.at
-  pub next : b.next ≤ walker.at
-  pub facts : AreFactsOf begun.reduce begun.file.run begun.at walker.at b.facts
-  pub recordable : AllRecordable begun.file.run b.facts

@@ -1,14 +1,9 @@
 -- The laws of books.
-use Rattle.std.specs.Prelude.{◌≡◌, ◌≢◌, List, [], ◌∷◌, ◌⊎◌, Result, Err}
-use Rattle.bound_specs.specs.Spec.{Spec}
-use Rattle.outcome_books.specs.declared.job.Job.{Job}
-use Rattle.outcome_books.specs.declared.leaves.Leaf.{Leaf}
+use Rattle.std.specs.Prelude.{◌≡◌, ◌≢◌, List, Result, Err}
 use Rattle.outcome_books.specs.declared.error.ReportError.{ReportError}
 use Rattle.outcome_books.specs.declared.error.ReportError.TheVariants.{NoMemory}
-use Rattle.outcome_books.specs.Entries.{Told, FactSet}
+use Rattle.outcome_books.specs.Entries.{Told}
 use Rattle.outcome_books.specs.Books.{Contents, joined}
-use Rattle.outcome_books.specs.JobTrees.{leaves}
-use Rattle.outcome_books.specs.Jobs.{AreJobFacts}
 use Rattle.outcome_books.specs.Reports.{IsReportOf, report_of}
 
 -- books of one spec may be joined in any order
@@ -22,16 +17,6 @@ JoinsAssociate = (a b c : Contents) → joined (joined a b) c ≡ joined a (join
 -- a book joined with itself stays as it is
 abbrev pub JoinsRepeat : Type 0
 JoinsRepeat = (a : Contents) → joined a a ≡ a
-
-abbrev pub IsOneOf : Leaf → List Leaf → Type 0
-IsOneOf leaf [] = ⊥
-IsOneOf leaf (l ∷ ls) = (leaf ≡ l) ⊎ IsOneOf leaf ls
-
--- jobs that run the same shards make the same facts, however often, in which order and in what grouping
-abbrev pub SameLeavesMakeSameFacts : Type 0
-SameLeavesMakeSameFacts =
-    (spec : Spec) (a b : Job) (s t : FactSet) → AreJobFacts spec a s → AreJobFacts spec b t
-    → ((leaf : Leaf) → IsOneOf leaf (leaves a) → IsOneOf leaf (leaves b)) → ((leaf : Leaf) → IsOneOf leaf (leaves b) → IsOneOf leaf (leaves a)) → s ≡ t
 
 -- a book has one report, unless memory runs out
 abbrev pub OneReport : Type 0

@@ -1,4 +1,3 @@
-pub mod formers
 pub mod Entries
 pub mod Runs
 pub mod Tables
@@ -8,7 +7,5 @@ pub mod Building
 pub mod Recording
 pub mod Values
 pub mod Sweep
-pub mod JobTrees
-pub mod Jobs
 pub mod Reports
 pub mod Laws

@@ -31,7 +31,7 @@ pub fn join(a: &Book, b: &Book) -> Result<Book, JoinError>
 }
 
 /// The facts of both books of one spec.
-pub(crate) fn union(a: &Book, b: &Book) -> Result<Book, AllocError>
+pub fn union(a: &Book, b: &Book) -> Result<Book, AllocError>
     requires { a.now.file ≡ b.now.file }
     ensures { IfOk result (λ book. book ≡ joined a.now b.now) }
 {

@@ -7,8 +7,7 @@ ghost use Rattle.outcome_books.specs.declared.run.Tag.TheVariants as tag;
 ghost use Rattle.outcome_books.specs.Sweep.{leads_of, IsLead};
 
 use crate::run::Tag;
-use perm_ranks::{Block, Shape};
-use step_reducer::shared_block;
+use perm_ranks::{Block, Shape, shared_block};
 
 /// What a tag gives at ranks that follow one another: the outcome with a number, the values of as many ranks from another one on, or
 /// nothing.

@@ -3,7 +3,7 @@
 ghost use Rattle.std.specs.Prelude.{◌≡◌, ◌↔◌, IfOk, IsTrue, length};
 ghost use Rattle.quiet_steps.specs.Swap.{leads_in};
 ghost use Rattle.outcome_books.specs.Runs.{AllSound, IsRising, firsts};
-ghost use Rattle.outcome_books.specs.Books.{AllRecordable, facts_in};
+ghost use Rattle.outcome_books.specs.Books.{AllRecordable, IsAbout, facts_in, file_of};
 ghost use Rattle.outcome_books.specs.Recording.{EachRun, IsRecordableRun, LeadsAlong, is_from};
 
 use crate::about::{About, shape_of};
@@ -11,7 +11,6 @@ use crate::book::Book;
 use crate::builder::Builder;
 use crate::leading::{Lead, lead_of};
 use crate::run::{Run, Tag};
-use crate::shards::book_of;
 use crate::table::Table;
 use bound_specs::Spec;
 use std::alloc::{AllocError, Global};
@@ -49,6 +48,21 @@ impl Book {
         let about = About::of(alloc, spec)?;
         book_of(alloc, about, facts)
     }
+}
+
+/// The book of a spec with the facts of a builder.
+fn book_of(alloc: Global, about: About, builder: Builder) -> Result<Book, AllocError>
+    requires about { IsAbout about }
+    requires recordable { AllRecordable (file_of about).run builder.facts }
+    ensures file { IfOk result (λ book. book.file ≡ file_of about) }
+    ensures facts { IfOk result (λ book. book.facts ≡ builder.facts) }
+{
+    let (table, runs) = builder.into_parts();
+    Ok(Book {
+        about: Arc::new(alloc, about)?,
+        table,
+        runs,
+    })
 }
 
 /// Whether the exchange at a place leads to a rank from each of these ranks. Ranks whose words share the letters up to the one behind

@@ -24,3 +24,10 @@ pub record IsBlockOf (counts : List ℕ) (shared : Word) (b : Block) : Type 0 wh
   pub inside : end_of b ≤ length (all_words counts)
   pub letters : length shared + total b.left ≡ total counts
   pub words : (i : ℕ) → i < length (all_words b.left) → word_at counts (b.first + i) ≡ shared ++ word_at b.left i
+
+-- the block of the words that share so many letters with the rank's
+pub record IsSharedBlock (counts : List ℕ) (rank letters : ℕ) (block : Block) : Type 0 where
+  pub shared : Word
+  pub is_block : IsBlockOf counts shared block
+  pub long : length shared ≡ letters
+  pub has : HasRank block rank

@@ -3,4 +3,5 @@ pub mod Footprint
 pub mod Swap
 pub mod Facts
 pub mod Values
+pub mod Shards
 pub mod Laws

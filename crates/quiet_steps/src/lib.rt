@@ -3,6 +3,7 @@
 
 mod fact;
 mod laws;
+mod shard;
 
 pub use fact::Fact;
 pub use laws::{
@@ -10,3 +11,4 @@ pub use laws::{
     plans_open, quiet_is_mutual, quiet_steps_are_calm, quiet_steps_commute, steps_have_footprints,
     steps_have_footprints_until, swap_keeps_worlds, swaps_hold, swaps_lead_down,
 };
+pub use shard::{MAX_RANKS, Shard};

@@ -1,7 +1,7 @@
 -- When a call is refused, and what stands then.
 use Rattle.std.specs.Prelude.{◌≡◌, ◌≢◌, ℕ, true, false, List, length, None}
 use Rattle.bound_specs.specs.Spec.{Spec}
-use Rattle.step_reducer.specs.declared.walker.Shard.{Shard}
+use Rattle.quiet_steps.specs.declared.shard.Shard.{Shard}
 use Rattle.outcome_books.specs.Books.{Contents}
 use Rattle.shard_board.specs.declared.error.TheConstants.{MAX_TURNS}
 use Rattle.shard_board.specs.declared.error.BoardError.{BoardError}

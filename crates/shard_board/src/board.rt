@@ -1,7 +1,7 @@
 //! Boards.
 
 ghost use Rattle.std.specs.Prelude.{◌≡◌, ◌↔◌, ◌≤◌, true, All, vec_len, length, IfOk, IfErr, OnOk};
-ghost use Rattle.step_reducer.specs.Walking.{IsShardOf};
+ghost use Rattle.quiet_steps.specs.Shards.{IsShardOf};
 ghost use Rattle.shard_board.specs.Changes.{IsPlanOf, IsRowOf};
 ghost use Rattle.shard_board.specs.Refused.{IsNoBoard};
 
@@ -11,9 +11,9 @@ use crate::seat::Seat;
 use crate::seating::place_all;
 use bound_specs::Spec;
 use outcome_books::Book;
+use quiet_steps::{MAX_RANKS, Shard};
 use std::alloc::{AllocError, Global};
 use std::marker::Model;
-use step_reducer::{MAX_RANKS, Shard};
 
 /// A board of one spec. Threads share it by reference, and each calls it with a seat of its own. Contracts see which board it is, the
 /// spec, and how many shards and seats it has.

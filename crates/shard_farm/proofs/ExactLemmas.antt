@@ -12,7 +12,7 @@ use native.Mathlib.Decide.{ℕ_discrete}
 use lib.ListN.{get_elem?}
 use Rattle.bound_specs.specs.Spec.{Spec}
 use Rattle.quiet_steps.specs.declared.fact.Fact.{Fact}
-use Rattle.step_reducer.specs.declared.walker.Shard.{Shard}
+use Rattle.quiet_steps.specs.declared.shard.Shard.{Shard}
 use Rattle.outcome_books.specs.Entries.{FactSet, entry_cmp, recorded}
 use Rattle.outcome_books.specs.Books.{Contents}
 use Rattle.outcome_books.proofs.SetLemmas.{in_union}

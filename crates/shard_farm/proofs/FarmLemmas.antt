@@ -1,7 +1,7 @@
 -- From what was left out to the whole.
 use Rattle.std.proofs.Common.{◌≡◌, Bool, ℕ, List, [], ap}
 use Rattle.bound_specs.specs.Spec.{Spec}
-use Rattle.step_reducer.specs.declared.walker.Shard.{Shard}
+use Rattle.quiet_steps.specs.declared.shard.Shard.{Shard}
 use Rattle.outcome_books.specs.Entries.{FactSet}
 use Rattle.shard_board.specs.Shown.{has}
 use Rattle.shard_farm.specs.Farming.{AreShardFacts, AreFactsBut}

@@ -11,7 +11,7 @@ use native.Mathlib.Decide.{ℕ_discrete}
 use lib.ListN.{get_elem?}
 use Rattle.atomic_table.proofs.Lists.{at_longer, at_last}
 use Rattle.bound_specs.specs.Spec.{Spec}
-use Rattle.step_reducer.specs.declared.walker.Shard.{Shard}
+use Rattle.quiet_steps.specs.declared.shard.Shard.{Shard}
 use Rattle.outcome_books.specs.Entries.{FactSet}
 use Rattle.outcome_books.specs.Books.{Contents}
 use Rattle.shard_board.specs.declared.error.DeliverErrorKind.{DeliverErrorKind}

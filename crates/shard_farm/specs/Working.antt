@@ -4,7 +4,7 @@ use Rattle.std.specs.List.{range_with_len, list_any}
 use mathlib.Core.Option.{some}
 use lib.ListN.{get_elem?}
 use Rattle.bound_specs.specs.Spec.{Spec}
-use Rattle.step_reducer.specs.declared.walker.Shard.{Shard}
+use Rattle.quiet_steps.specs.declared.shard.Shard.{Shard}
 use Rattle.outcome_books.specs.Entries.{FactSet}
 use Rattle.outcome_books.specs.Building.{AreFactsOf}
 use Rattle.shard_board.specs.declared.history.Receipt.{Receipt}

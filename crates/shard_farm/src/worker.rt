@@ -10,6 +10,7 @@ use crate::plan::Plan;
 use bound_specs::Spec;
 use outcome_books::Book;
 use shard_board::{Board, Seat};
+use shard_books::of_shard;
 use spec_reader::read_spec;
 use sql_subset::bind;
 use std::alloc::Global;
@@ -52,7 +53,7 @@ fn book_of(alloc: Global, plan: Plan<'_>, number: u32) -> Option<Book>
 {
     let shard = plan.shards[number as usize];
     let spec = spec_of(alloc, plan.text)?;
-    let Ok(book) = Book::of_shard(alloc, &spec, shard, plan.reduce) else {
+    let Ok(book) = of_shard(alloc, &spec, shard, plan.reduce) else {
         return None;
     };
     Some(book)

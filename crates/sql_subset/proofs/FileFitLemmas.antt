@@ -24,7 +24,8 @@ use Rattle.bound_specs.specs.Spec.{Step, Spec, SpecFile}
 use Rattle.sql_binding.specs.Statements.{sets_key, statement}
 use Rattle.sql_binding.specs.Tables.{no_table, key_column, create, create_with, refusal, joined, part_columns, part_keys, declared}
 use Rattle.sql_subset.proofs.FitLemmas.{then-both, each-bound, statement-fits}
-use Rattle.sql_subset.proofs.SentLemmas.{IfBound, then-bound, bound-is, bind}
+use Rattle.bound_specs.proofs.FileLemmas.{bind}
+use Rattle.sql_subset.proofs.SentLemmas.{IfBound, then-bound, bound-is}
 
 -- ---- more tables
 

@@ -14,7 +14,6 @@ use Rattle.spec_reader.specs.declared.TheConstants.{MAX_ITEMS, MAX_LINES}
 use Rattle.spec_reader.specs.declared.tree.Session.{Session}
 use Rattle.spec_reader.specs.Views.{session_tree, step_tree}
 use Rattle.spec_reader.specs.Text.{IsSpec}
-use Rattle.spec_reader.proofs.Verdict.{one_tree}
 use Rattle.spec_reader.specs.Tree.{StepTree, SessionTree, LineTree, SpecTree}
 use Rattle.sql_statements.specs.Plan.{HasKeys, IsShort}
 use Rattle.sql_statements.specs.declared.statement.Bound.{Bound}
@@ -30,8 +29,9 @@ use Rattle.bound_specs.specs.declared.orders.Orders.TheVariants.{Words, Lines}
 use Rattle.bound_specs.specs.declared.spec.Parts.{Parts}
 use Rattle.bound_specs.specs.Orders.{IsOrderOf}
 use Rattle.bound_specs.specs.Views.{file_of, IsKept}
+use Rattle.bound_specs.proofs.FileLemmas.{bind, each-length}
 use Rattle.sql_subset.specs.Bindings.{FitsCounts}
-use Rattle.sql_subset.proofs.SentLemmas.{IsSent, AllSent, position-below, each-length, each-All, each-told, session-sent, setups-sent}
+use Rattle.sql_subset.proofs.SentLemmas.{IsSent, AllSent, position-below, each-All, each-told, session-sent, setups-sent}
 
 all-keys : (bs : List Bound) → All IsSent bs → All HasKeys bs
 all-keys bs h = λ i d lt. (h i d lt).0
@@ -340,10 +340,13 @@ kept parts text tree is_spec lines main ss made o m e fits =
       orders = order_of parts.orders file.run (counts_in tree.sessions) fits (counts ∙ ap (λ (f : SpecFile). counts_of (queues_of f.run)) (sym made));
     }
 
--- a text has one file at most, since it has one tree
-pub one-file : (text : List ℕ) (f g : SpecFile) → IsFileOf text f → IsFileOf text g → f ≡ g
-one-file text f g hf hg =
-    let same : hf.tree ≡ hg.tree = one_tree text hf.tree hg.tree hf.is_spec hg.is_spec in
-    let bound : bound_file text hg.tree ≡ Ok f = subst (λ t. bound_file text t ≡ Ok f) same hf.is_bound in
-    let told = hg.is_bound in
-    cc
+-- the file of a text is ready to be run
+pub file-is-ready : (text : List ℕ) (file : SpecFile) → IsFileOf text file → IsReady file
+file-is-ready text file is =
+    let tree = is.tree in
+    let a = bind (shaped (orders_of tree)) _ file is.is_bound in
+    let b = bind (declared main_setup [] tree.front.setups) _ file a.1.1 in
+    let main = b.0 in
+    let c = bind (each (session main.0) tree.sessions) _ file b.1.1 in
+    let same : made_file text tree a.0 main.1 c.0 ≡ file = cc (c.1.1) in
+    subst IsReady same (file-ready text tree a.0 main c.0 (some_of (orders_of tree) a.0 a.1.0) b.1.0 c.1.0)

@@ -34,6 +34,7 @@ use Rattle.sql_binding.specs.Translation.{where_of}
 use Rattle.sql_binding.specs.KeyParts.{key_of}
 use Rattle.sql_binding.specs.Names.{list_of, repeats}
 use Rattle.sql_binding.specs.Tables.{below, key_column, column_number, column_place, width, table, create}
+use Rattle.bound_specs.proofs.FileLemmas.{bind, front_ok, each-length}
 use Rattle.sql_subset.proofs.ReadLemmas.{read-few}
 
 -- ---- what holds of what is bound
@@ -57,23 +58,6 @@ unless-bound P false at kind r h = h
 
 pub bound-is : {X : Type 0} (P : X → Type 0) (r : Bind X) (x : X) → IfBound P r → r ≡ Ok x → P x
 bound-is P r x h e = subst (IfBound P) e h
-
-pub bind : {A B : Type 0} (r : Bind A) (f : A → Bind B) (y : B) → (r >>= f) ≡ Ok y → (x : A) × ((r ≡ Ok x) × (f x ≡ Ok y))
-bind (Ok x) f y e = (x, (refl, e))
-bind (Err e') f y e = absurd (cc e)
-
--- ---- how many are bound
-
-front_ok : {X : Type 0} (xs : List X) (r : Bind (List X)) (ys : List X) → with_front xs r ≡ Ok ys → (zs : List X) × ((r ≡ Ok zs) × (xs ++ zs ≡ ys))
-front_ok xs (Ok zs) ys e = (zs, (refl, cc))
-front_ok xs (Err e') ys e = absurd (cc e)
-
-pub each-length : {A X : Type 0} (f : A → Bind X) (as' : List A) (xs : List X) → each f as' ≡ Ok xs → length xs ≡ length as'
-each-length f [] xs e = let same : [] ≡ xs = cc in ap length (sym same)
-each-length f (a ∷ as') xs e =
-    let b = bind (f a) (λ x. with_front (x ∷ []) (each f as')) xs e in
-    let c = front_ok (b.0 ∷ []) (each f as') xs b.1.1 in
-    ap length (sym c.1.1) ∙ ap suc (each-length f as' c.0 c.1.0)
 
 -- ---- single statements
 

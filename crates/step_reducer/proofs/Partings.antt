@@ -6,7 +6,7 @@ use Rattle.perm_ranks.specs.Counting.{taken, words_before}
 use Rattle.perm_ranks.specs.Blocks.{Block, HasRank, end_of, narrowed}
 use Rattle.perm_ranks.proofs.BlockLemmas.{block-narrowed, some-total}
 use Rattle.perm_ranks.proofs.PlaceLemmas.{place_of-taken}
-use Rattle.perm_ranks.proofs.WordLemmas.{Takes, done, takes, words-take, each-at, entry-place, place-is, all_words-rise}
+use Rattle.perm_ranks.proofs.WordLemmas.{Takes, done, takes, takes-length, words-take, each-at, entry-place, place-is, all_words-rise}
 use Rattle.bound_specs.specs.Spec.{no_step, Spec, Queues, line, line_by, line_of, counts_of, queues_of}
 use Rattle.machine_model.specs.World.{World}
 use Rattle.quiet_steps.proofs.Lines.{counts-set}
@@ -43,11 +43,6 @@ line-le q (a ∷ v) = at (get_or q a []) (line-le q v) (λ ns. line-le (set q a 
     at (n ∷ ns) here there = (let le = there ns in omega (arith, le))
 
 -- ---- how long a line is
-
--- a word of so many letters has them
-pub takes-length : (n : ℕ) (counts : List ℕ) (v : Word) → Takes n counts v → length v ≡ n
-takes-length _ counts _ done = refl
-takes-length _ counts _ (takes {n = n} {i = i} {c = c} {v = v} lt is t) = ap suc (takes-length n (set counts i c) v t)
 
 -- each letter takes a step
 line-takes : (n : ℕ) (counts : List ℕ) (v : Word) → Takes n counts v → (q : Queues) → counts_of q ≡ counts → length (line q v) ≡ n

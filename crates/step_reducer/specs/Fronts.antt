@@ -1,7 +1,5 @@
 -- How much two lines share, and the steps sent for lines that share what they can.
 use Rattle.std.specs.Prelude.{◌≡◌, ℕ, zero, suc, ◌+◌, ◌-◌, ◌==◌, cond, List, [], ◌∷◌, length}
-use Rattle.perm_ranks.specs.Words.{Word}
-use Rattle.perm_ranks.specs.Blocks.{Block, HasRank, IsBlockOf}
 use Rattle.bound_specs.specs.Spec.{Spec, line_of}
 use Rattle.quiet_steps.specs.declared.fact.Fact.{Fact}
 use Rattle.quiet_steps.specs.declared.fact.Fact.TheVariants.{Ran, Swap}
@@ -30,10 +28,3 @@ sent_by spec first (suc n) = sent_by spec first n + new_steps spec first n
 abbrev pub most_steps : Spec → ℕ → Fact → ℕ
 most_steps spec rank (Ran outcome) = length (line_of spec rank)
 most_steps spec rank (Swap k) = k + 1
-
--- the block of the words that share so many letters with the rank's
-pub record IsSharedBlock (counts : List ℕ) (rank letters : ℕ) (block : Block) : Type 0 where
-  pub shared : Word
-  pub is_block : IsBlockOf counts shared block
-  pub long : length shared ≡ letters
-  pub has : HasRank block rank

@@ -1,6 +1,6 @@
 -- A walker between its calls, and what they give.
 use Rattle.std.specs.Prelude.{◌≡◌, ◌≢◌, ℕ, ◌+◌, ◌-◌, ◌*◌, [], ◌<◌, ◌≤◌, Bool, true, false, ◌&&◌, Option, Some, None, List, length, get_or, ◌⊎◌}
-use Rattle.step_reducer.specs.declared.walker.TheConstants.{MAX_RANKS}
+use Rattle.quiet_steps.specs.declared.shard.TheConstants.{MAX_RANKS}
 use Rattle.spec_reader.specs.declared.TheConstants.{MAX_ITEMS}
 use Rattle.bound_specs.specs.Spec.{Spec, SpecFile, ranks}
 use Rattle.machine_model.specs.World.{World}
@@ -10,7 +10,8 @@ use Rattle.quiet_steps.specs.declared.fact.Fact.{Fact}
 use Rattle.session_machine.specs.Running.{IsNotRunBy}
 use Rattle.session_machine.specs.declared.error.RunError.{RunError}
 use Rattle.session_machine.specs.declared.error.RunError.TheVariants as run_error
-use Rattle.step_reducer.specs.declared.walker.Shard.{Shard}
+use Rattle.quiet_steps.specs.declared.shard.Shard.{Shard}
+use Rattle.quiet_steps.specs.Shards.{IsShardOf}
 use Rattle.step_reducer.specs.declared.fact.FactRun.{FactRun}
 use Rattle.step_reducer.specs.declared.fact.Given.{Given}
 use Rattle.step_reducer.specs.declared.word_walk.WordWalk.{WordWalk}
@@ -137,12 +138,6 @@ abbrev pub IsStandingUnless : Bool → SpecFile → Bool → ℕ → ℕ → ℕ
 IsStandingUnless spent file reduce first at end sent w rest = spent ≡ false → IsStanding file reduce first at end sent w rest
 
 -- ---- which shards are walked
-
--- the shard is of ranks of the spec, and not too long
-pub record IsShardOf (spec : Spec) (shard : Shard) : Type 0 where
-  pub order : shard.first ≤ shard.end
-  pub inside : shard.end ≤ ranks spec
-  pub few : shard.end ≤ shard.first + MAX_RANKS
 
 -- why a shard of a spec is not walked: the first of these that fits, unless memory ran out behind the first two
 abbrev pub IsNotWalked : Spec → Shard → RunError → Type 0

@@ -1,7 +1,6 @@
 //! Which neighbouring steps may be exchanged, and the facts of a spec's ranks in runs.
 #![tactic(auto)]
 
-mod blocks;
 mod error;
 mod fact;
 mod frame;
@@ -17,11 +16,10 @@ mod walker;
 mod word_walk;
 mod worlds;
 
-pub use blocks::shared_block;
 pub use error::WalkError;
 pub use fact::FactRun;
 pub use laws::swaps_cover_blocks;
 pub use pairs::quiet;
 pub use path::Path;
-pub use quiet_steps::Fact;
-pub use walker::{MAX_RANKS, Shard, Walker, run_shard};
+pub use quiet_steps::{Fact, MAX_RANKS, Shard};
+pub use walker::{Walker, run_shard};

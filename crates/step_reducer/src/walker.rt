@@ -2,7 +2,8 @@
 
 ghost use Rattle.std.specs.Prelude.{◌≡◌, ◌↔◌, ◌-◌, ◌++◌, [], ◌∷◌, true, false, IfOk, IfErr, OnOk, OnErr, IsErrOf, ◌≤◌};
 ghost use Rattle.step_reducer.specs.declared.error.WalkError.TheVariants as walk_error;
-ghost use Rattle.step_reducer.specs.Walking.{begun_at, AreSent, GivesRun, GivesFact, HasStopped, IsNotWalked, IsShardOf, Starts, AreFacts};
+ghost use Rattle.quiet_steps.specs.Shards.{IsShardOf};
+ghost use Rattle.step_reducer.specs.Walking.{begun_at, AreSent, GivesRun, GivesFact, HasStopped, IsNotWalked, Starts, AreFacts};
 
 use crate::error::WalkError;
 use crate::fact::FactRun;
@@ -11,20 +12,10 @@ use crate::walk::Walk;
 use crate::word_walk::WordWalk;
 use bound_specs::Spec;
 use finite_maps::Fork;
-use quiet_steps::Fact;
+use quiet_steps::{Fact, MAX_RANKS, Shard};
 use session_machine::{RunError, World, not_started};
 use std::alloc::{AllocError, Global};
 use std::marker::Model;
-
-/// The ranks of a shard, at most.
-pub const MAX_RANKS: u64 = 1_000_000;
-
-/// The ranks from `first` up to but not `end`.
-#[derive(Clone, Copy, PartialEq, Eq)]
-pub struct Shard {
-    pub first: u64,
-    pub end: u64,
-}
 
 /// Gives the facts of the ranks of a shard in rising order, of many ranks at once where one swap covers them. Contracts see
 /// the spec, whether facts are reduced, the shard, the next rank, the steps sent so far, whether no run was given in part, and

@@ -1,7 +1,8 @@
 use Rattle.std.proofs.Common.{subst, ◌<◌, [], length, get_or, arith}
 use Rattle.quiet_steps.specs.Swap.{leads_in}
 use Rattle.outcome_books.specs.Entries.{Told}
-use Rattle.outcome_books.proofs.Recordable.{file-is-ready, value-own}
+use Rattle.sql_subset.proofs.FileLemmas.{file-is-ready}
+use Rattle.outcome_books.proofs.Recordable.{value-own}
 use Rattle.accepted_outputs.proofs.Places.{whichever}
 use Rattle.accepted_outputs.proofs.judging.reports_have_few_sessions.Goals as goal
 

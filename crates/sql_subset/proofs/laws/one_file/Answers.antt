@@ -1,4 +1,4 @@
-use Rattle.sql_subset.proofs.FileLemmas.{one-file}
+use Rattle.bound_specs.proofs.FileLemmas.{one-file}
 use Rattle.sql_subset.proofs.laws.one_file.Goals as goal
 
 pub returns : goal.returns

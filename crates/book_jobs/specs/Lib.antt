@@ -1,0 +1,4 @@
+pub mod formers
+pub mod JobTrees
+pub mod Jobs
+pub mod Laws

@@ -1,5 +1,0 @@
-use Rattle.std.proofs.Common.{length}
-use Rattle.outcome_books.proofs.making.+made.Given as goal
-
-abbrev pub decreases-made : goal.decreases-made
-decreases-made c = length c.leaves.now

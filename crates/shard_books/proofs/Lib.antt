@@ -1,0 +1,2 @@
+pub mod Recordable
+pub mod ShardLemmas
