@@ -16,7 +16,7 @@ use Rattle.outcome_books.specs.Entries.{Told, FactSet, recorded}
 use Rattle.outcome_books.specs.Books.{Contents, AllRecordable}
 use Rattle.outcome_books.specs.Values.{AreValues, IsNotReported}
 use Rattle.outcome_books.proofs.Recordable.{file-is-bound, value-own}
-use Rattle.iso_farm.specs.One.{IsAnswer}
+use Rattle.spec_answers.specs.One.{IsAnswer}
 use Rattle.iso_farm.specs.Reporting.{values_text, IsReportText, AllOwn}
 use Rattle.iso_farm.specs.Laws.{AreAnswers, ReportsAreTheMachines, CoveringReports}
 

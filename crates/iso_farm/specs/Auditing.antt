@@ -6,11 +6,11 @@ use Rattle.outcome_books.specs.Books.{Contents}
 use Rattle.book_audit.specs.Audit.{IsAudit}
 use Rattle.book_audit.specs.declared.error.AuditError.{AuditError}
 use Rattle.book_audit.specs.declared.error.AuditError.TheVariants.{False}
+use Rattle.spec_answers.specs.Counting.{number_line}
 use Rattle.iso_farm.specs.declared.finding.Finding.{Finding}
 use Rattle.iso_farm.specs.declared.finding.Finding.TheVariants.{Good, Bad}
 use Rattle.iso_farm.specs.declared.auditing.AuditFault.{AuditFault}
 use Rattle.iso_farm.specs.declared.auditing.AuditFault.TheVariants.{File, NoMemory, Write}
-use Rattle.iso_farm.specs.Counting.{number_line}
 use Rattle.iso_farm.specs.Joining.{IsFileBook}
 
 -- an audit's answer, by the least rank with a false fact, if there is one

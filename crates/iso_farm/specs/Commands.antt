@@ -3,16 +3,16 @@ use Rattle.std.specs.Prelude.{◌≡◌, ℕ, ◌+◌, ◌⊎◌, Bool, false, n
 use Rattle.std.specs.Io.KnownBytes.{Keeps}
 use Rattle.transcripts.specs.Counted.{Wrote, Stopped, written, failures_of}
 use Rattle.transcripts.specs.declared.counted.Counted.{Counted}
+use Rattle.command_words.specs.declared.words.Asked.{Asked}
+use Rattle.command_words.specs.declared.words.Asked.TheVariants.{Check, One, Count, Run, Join, Report, Audit, Judge}
+use Rattle.spec_answers.specs.One.{IsOneRun}
+use Rattle.spec_answers.specs.Counting.{IsChecked, IsCounted}
 use Rattle.iso_farm.specs.declared.files.TheConstants.{MAX_SPEC_READ}
 use Rattle.iso_farm.specs.declared.fault.ProgramFault.{ProgramFault}
 use Rattle.iso_farm.specs.declared.fault.ProgramFault.TheVariants.{NoMemory, Read, Write}
 use Rattle.iso_farm.specs.declared.finding.Finding.{Finding}
 use Rattle.iso_farm.specs.declared.finding.Finding.TheVariants.{Good}
-use Rattle.command_words.specs.declared.words.Asked.{Asked}
-use Rattle.command_words.specs.declared.words.Asked.TheVariants.{Check, One, Count, Run, Join, Report, Audit, Judge}
 use Rattle.iso_farm.specs.Status.{status_of, finding_status, one_status, count_status, range_status, join_status, report_status, audit_status, judge_status}
-use Rattle.iso_farm.specs.One.{IsOneRun}
-use Rattle.iso_farm.specs.Counting.{IsChecked, IsCounted}
 use Rattle.iso_farm.specs.Ranges.{IsRangeRun}
 use Rattle.iso_farm.specs.Joining.{Files, IsJoinRun}
 use Rattle.iso_farm.specs.Reporting.{IsFileReported}

@@ -12,13 +12,13 @@ use Rattle.outcome_books.specs.Values.{AreValues, IsNotReported}
 use Rattle.accepted_outputs.specs.Judging.{IsVerdict}
 use Rattle.accepted_outputs.specs.declared.verdict.Verdict.{Verdict}
 use Rattle.accepted_outputs.specs.declared.verdict.Verdict.TheVariants.{Matches, Differs}
+use Rattle.spec_answers.specs.Counting.{number_line}
 use Rattle.iso_farm.specs.declared.finding.Finding.{Finding}
 use Rattle.iso_farm.specs.declared.finding.Finding.TheVariants.{Good, Bad}
 use Rattle.iso_farm.specs.declared.judging.NoReport.{NoReport}
 use Rattle.iso_farm.specs.declared.judging.NoReport.TheVariants.{File, Report}
 use Rattle.iso_farm.specs.declared.judging.JudgeFault.{JudgeFault}
 use Rattle.iso_farm.specs.declared.judging.JudgeFault.TheVariants.{Book, Accepted, NoMemory, Write}
-use Rattle.iso_farm.specs.Counting.{number_line}
 use Rattle.iso_farm.specs.Joining.{Files, IsFileBook, bytes_at}
 
 -- the book has this report: the one value of each rank

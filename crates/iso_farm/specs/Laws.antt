@@ -9,7 +9,7 @@ use Rattle.outcome_books.specs.Entries.{FactSet, recorded}
 use Rattle.outcome_books.specs.Books.{Contents}
 use Rattle.outcome_books.specs.Building.{AreFactsOf}
 use Rattle.outcome_books.specs.Values.{IsNotReported}
-use Rattle.iso_farm.specs.One.{IsAnswer}
+use Rattle.spec_answers.specs.One.{IsAnswer}
 use Rattle.iso_farm.specs.Reporting.{IsReportText}
 
 -- the text is what the sequential machine tells of the first ranks in order

@@ -1,6 +1,3 @@
-pub mod SpecFiles
-pub mod One
-pub mod Counting
 pub mod Ranges
 pub mod Progress
 pub mod Reporting

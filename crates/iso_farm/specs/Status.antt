@@ -14,15 +14,15 @@ use Rattle.book_files.specs.declared.error.BookError.{BookError}
 use Rattle.book_files.specs.declared.error.BookError.TheVariants as book_error
 use Rattle.book_files.specs.declared.write_error.WriteError.{WriteError}
 use Rattle.book_files.specs.declared.write_error.WriteError.TheVariants as write_error
+use Rattle.spec_answers.specs.declared.spec.SpecFault.{SpecFault}
+use Rattle.spec_answers.specs.declared.spec.SpecFault.TheVariants as spec_fault
+use Rattle.spec_answers.specs.declared.single.OneFault.{OneFault}
+use Rattle.spec_answers.specs.declared.single.OneFault.TheVariants as one_fault
+use Rattle.spec_answers.specs.declared.counting.CountFault.{CountFault}
+use Rattle.spec_answers.specs.declared.counting.CountFault.TheVariants as count_fault
 use Rattle.iso_farm.specs.declared.fault.ProgramFault.{ProgramFault}
 use Rattle.iso_farm.specs.declared.fault.ProgramFault.TheVariants.{Spec, Sql, Bind, Start, RankOutOfRange, Shard, Book, BookTooLarge, OtherSpec}
 use Rattle.iso_farm.specs.declared.fault.ProgramFault.TheVariants.{TooManyRanks, Explained, Missing, Clash, NoMemory, Read, Write}
-use Rattle.iso_farm.specs.declared.spec.SpecFault.{SpecFault}
-use Rattle.iso_farm.specs.declared.spec.SpecFault.TheVariants as spec_fault
-use Rattle.iso_farm.specs.declared.single.OneFault.{OneFault}
-use Rattle.iso_farm.specs.declared.single.OneFault.TheVariants as one_fault
-use Rattle.iso_farm.specs.declared.counting.CountFault.{CountFault}
-use Rattle.iso_farm.specs.declared.counting.CountFault.TheVariants as count_fault
 use Rattle.iso_farm.specs.declared.ranges.RangeFault.{RangeFault}
 use Rattle.iso_farm.specs.declared.ranges.RangeFault.TheVariants as range_fault
 use Rattle.iso_farm.specs.declared.joining.FileFault.{FileFault}

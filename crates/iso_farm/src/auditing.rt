@@ -5,12 +5,12 @@ ghost use Rattle.book_audit.specs.Audit.{IsAudit};
 ghost use Rattle.transcripts.specs.Counted.{Prints, failures_of};
 ghost use Rattle.iso_farm.specs.Auditing.{IsAuditRun, answer_of, audit_text, finding_of};
 
-use crate::counting::write_count;
 use crate::files::Opener;
 use crate::finding::Finding;
 use crate::joining::{FileFault, book_of_file};
 use book_audit::{AuditError, audit};
 use outcome_books::Book;
+use spec_answers::write_count;
 use std::alloc::{AllocError, Global};
 use std::io::Write;
 use std::thread::Threads;

@@ -7,18 +7,16 @@ ghost use Rattle.iso_farm.specs.Status.{status_of, one_status, count_status, ran
 ghost use Rattle.iso_farm.specs.Status.{values_status, file_status, write_status, spec_status, text_status, binding_status, run_status, start_status};
 
 use crate::auditing::AuditFault;
-use crate::counting::CountFault;
 use crate::fault::ProgramFault;
 use crate::joining::{FileFault, JoinFault};
 use crate::judging::{JudgeFault, NoReport};
 use crate::ranges::RangeFault;
 use crate::reporting::{ReportFault, ReportFileFault};
-use crate::single::OneFault;
-use crate::spec::SpecFault;
 use book_files::{BookError, WriteError};
 use fault_words::{binding_sentence, explained, text_sentence};
 use outcome_books::ReportError;
 use session_machine::{RunError, StartError};
+use spec_answers::{CountFault, OneFault, SpecFault};
 use spec_reader::{SpecError, SpecErrorKind};
 use sql_subset::{BindError, BindErrorKind};
 use std::alloc::{AllocError, Global};

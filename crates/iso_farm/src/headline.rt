@@ -6,11 +6,11 @@ ghost use Rattle.outcome_books.specs.Laws.{JoinsCommute, JoinsAssociate, JoinsRe
 ghost use Rattle.iso_farm.specs.Headline.{AreRunsReported, AreRun, IsNextRun, IsJoinedWith};
 
 use crate::reporting::{ReportFault, write_report};
-use crate::spec::{SpecFault, spec_of};
 use bound_specs::Spec;
 use outcome_books::{Book, Job, JoinError, join, joins_are_unions, make};
 use session_machine::RunError;
 use shard_farm::{FarmError, Gate, farm_run};
+use spec_answers::{SpecFault, spec_of};
 use std::alloc::Global;
 use std::io::Write;
 use std::sync::Wait;

@@ -5,13 +5,13 @@ ghost use Rattle.accepted_outputs.specs.Judging.{HasFewSessions};
 ghost use Rattle.transcripts.specs.Counted.{Prints, failures_of};
 ghost use Rattle.iso_farm.specs.Judging.{AreReports, IsFileReport, IsJudged, IsJudgeRun, IsNotAccepted, difference_line, difference_lines, finding_of, verdict_text};
 
-use crate::counting::{write_count, write_number};
 use crate::files::Opener;
 use crate::finding::Finding;
 use crate::joining::{FileFault, book_of_file};
 use accepted_outputs::{Verdict, judge, reports_have_few_sessions};
 use itoa::Buffer;
 use outcome_books::{Report, ReportError, report};
+use spec_answers::{write_count, write_number};
 use std::alloc::Global;
 use std::io::Write;
 use transcripts::{Counted, WriteFault};

@@ -3,7 +3,6 @@
 
 mod auditing;
 mod commands;
-mod counting;
 mod cutting;
 mod fault;
 mod faults;
@@ -17,13 +16,10 @@ mod laws;
 mod progress;
 mod ranges;
 mod reporting;
-mod single;
-mod spec;
 mod telling;
 
 pub use auditing::{AuditFault, audit_file};
 pub use commands::{answer, run, tell_words_fault};
-pub use counting::{CountFault, check, count};
 pub use cutting::SHARD_RANKS;
 pub use fault::ProgramFault;
 pub use faults::fault_at;
@@ -36,5 +32,4 @@ pub use laws::{reports_are_the_machines, runs_decide};
 pub use progress::Progress;
 pub use ranges::{MAX_RANGE, RangeFault, book_of_range, run_range};
 pub use reporting::{ReportFault, ReportFileFault, report_file, write_report};
-pub use single::{OneFault, one, one_of};
-pub use spec::{SpecFault, spec_of};
+pub use spec_answers::{CountFault, OneFault, SpecFault, check, count, one, one_of, spec_of};

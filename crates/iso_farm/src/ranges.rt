@@ -8,13 +8,13 @@ ghost use Rattle.iso_farm.specs.Ranges.{IsRangeOf, IsOutsideRange, IsNoRange, Is
 
 use crate::cutting::shards_of;
 use crate::progress::Progress;
-use crate::spec::{SpecFault, spec_of};
 use book_files::{WriteError, write_book};
 use bound_specs::Spec;
 use command_words::Workers;
 use outcome_books::Book;
 use session_machine::RunError;
 use shard_farm::{FarmError, Gate, OpenGate, farm_run};
+use spec_answers::{SpecFault, spec_of};
 use std::alloc::Global;
 use std::io::Write;
 use std::sync::Wait;

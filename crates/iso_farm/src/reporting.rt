@@ -6,10 +6,9 @@ ghost use Rattle.iso_farm.specs.Reporting.{AllOwn, IsReported, IsFileReported, v
 
 use crate::files::Opener;
 use crate::joining::{FileFault, book_of_file};
-use crate::single::write_one;
-use crate::spec::spec_of;
 use bound_specs::Spec;
 use outcome_books::{Book, Report, ReportError, report};
+use spec_answers::{spec_of, write_one};
 use std::alloc::Global;
 use std::io::Write;
 use transcripts::{Counted, WriteFault};

@@ -3,7 +3,7 @@
 ghost use Rattle.std.specs.Prelude.{◌≡◌, ◌<◌, ◌++◌, length};
 ghost use Rattle.bound_specs.specs.Spec.{ranks};
 ghost use Rattle.transcripts.specs.Counted.{Prints, failures_of};
-ghost use Rattle.iso_farm.specs.Counting.{IsChecked, IsCounted, counts_lines, number_line};
+ghost use Rattle.spec_answers.specs.Counting.{IsChecked, IsCounted, counts_lines, number_line};
 
 use crate::spec::{SpecFault, spec_of};
 use bound_specs::Spec;
@@ -81,8 +81,8 @@ fn write_counts<W: Write>(counts: Counts, out: &mut Counted<W>) -> Result<(), Wr
     write_count("ranks ", counts.ranks, out)
 }
 
-/// Writes a number behind its word, on a line of its own.
-pub(crate) fn write_count<W: Write>(
+/// Writes a number behind its word, on a line of its own. Where a write fails, a front of the line may be written.
+pub fn write_count<W: Write>(
     word: &str,
     number: u64,
     out: &mut Counted<W>,
@@ -94,8 +94,8 @@ pub(crate) fn write_count<W: Write>(
     write_number(number, out)
 }
 
-/// Writes a number on a line of its own.
-pub(crate) fn write_number<W: Write>(number: u64, out: &mut Counted<W>) -> Result<(), WriteFault>
+/// Writes a number on a line of its own. Where a write fails, a front of the line may be written.
+pub fn write_number<W: Write>(number: u64, out: &mut Counted<W>) -> Result<(), WriteFault>
     requires { failures_of out.old < u64.MAX }
     ensures { Prints W.contents out.old out.new result (number_line number) }
 {

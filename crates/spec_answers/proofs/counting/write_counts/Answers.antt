@@ -1,7 +1,7 @@
 use Rattle.std.proofs.Common.{List, ℕ, ◌++◌, codes}
 use Rattle.transcripts.proofs.Writing.{prints-after, prints-stopped, stopped-append, stopped-after}
-use Rattle.iso_farm.specs.Counting.{number_line}
-use Rattle.iso_farm.proofs.counting.write_counts.Goals as goal
+use Rattle.spec_answers.specs.Counting.{number_line}
+use Rattle.spec_answers.proofs.counting.write_counts.Goals as goal
 
 abbrev sessions : ℕ → List ℕ
 sessions n = codes "sessions " ++ number_line n

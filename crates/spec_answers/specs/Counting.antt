@@ -4,9 +4,9 @@ use Rattle.bound_specs.specs.Spec.{SpecFile, ranks}
 use Rattle.bound_specs.specs.Binding.{IsFileOf}
 use Rattle.transcripts.specs.Counted.{Wrote, Stopped}
 use Rattle.transcripts.specs.declared.counted.Counted.{Counted}
-use Rattle.iso_farm.specs.declared.counting.CountFault.{CountFault}
-use Rattle.iso_farm.specs.declared.counting.CountFault.TheVariants.{Spec, Write}
-use Rattle.iso_farm.specs.SpecFiles.{IsNoSpec}
+use Rattle.spec_answers.specs.declared.counting.CountFault.{CountFault}
+use Rattle.spec_answers.specs.declared.counting.CountFault.TheVariants.{Spec, Write}
+use Rattle.spec_answers.specs.SpecFiles.{IsNoSpec}
 
 abbrev pub number_line : ℕ → List ℕ
 number_line n = decimal n ++ codes "\n"

@@ -1,6 +1,6 @@
 use Rattle.transcripts.proofs.Writing.{prints-after}
-use Rattle.iso_farm.specs.Counting.{number_line}
-use Rattle.iso_farm.proofs.counting.write_count.Goals as goal
+use Rattle.spec_answers.specs.Counting.{number_line}
+use Rattle.spec_answers.proofs.counting.write_count.Goals as goal
 
 pub returns : goal.returns
 returns g c =

@@ -4,7 +4,7 @@ ghost use Rattle.std.specs.Prelude.{◌≡◌, ◌<◌, ◌+◌, ◌++◌, ℕ, 
 ghost use Rattle.machine_model.specs.Outcome.{IsOutcomeOf};
 ghost use Rattle.transcripts.specs.Counted.{Wrote, Prints, failures_of};
 ghost use Rattle.transcripts.specs.Text.{rank_text, outcome_text};
-ghost use Rattle.iso_farm.specs.One.{IsAnswer, IsAnswerOf, IsRefused, IsRefusedOf, Leaves, faults_of};
+ghost use Rattle.spec_answers.specs.One.{IsAnswer, IsAnswerOf, IsRefused, IsRefusedOf, Leaves, faults_of};
 
 use crate::spec::{SpecFault, spec_of};
 use bound_specs::Spec;
@@ -71,8 +71,8 @@ pub fn one_of<W: Write>(
     }
 }
 
-/// Writes the rank and an outcome.
-pub(crate) fn write_one<W: Write>(
+/// Writes the rank and an outcome of the spec. Where a write fails, a front of the text may be written.
+pub fn write_one<W: Write>(
     spec: &Spec,
     rank: u64,
     outcome: &Outcome,

@@ -5,7 +5,7 @@ use Rattle.transcripts.proofs.Writing.{prints-after, prints-stopped, stopped-app
 use Rattle.std.specs.List.{All}
 use Rattle.transcripts.specs.Outcome.{HasStep}
 use Rattle.machine_model.proofs.Owned.{outcome-named}
-use Rattle.iso_farm.proofs.single.write_one.Goals as goal
+use Rattle.spec_answers.proofs.single.write_one.Goals as goal
 
 -- an outcome of the spec names its sessions and its steps alone
 pub print-requires-clause-named : goal.print-requires-clause-named

@@ -9,9 +9,9 @@ use Rattle.transcripts.specs.declared.event.Event.{Event}
 use Rattle.machine_model.specs.Start.{start}
 use Rattle.machine_model.specs.Outcome.{outcome_of_line}
 use Rattle.session_machine.specs.Running.{IsNotRunBy}
-use Rattle.iso_farm.specs.declared.single.OneFault.{OneFault}
-use Rattle.iso_farm.specs.declared.single.OneFault.TheVariants.{Spec, OutOfRange, Run, Write}
-use Rattle.iso_farm.specs.SpecFiles.{IsNoSpec}
+use Rattle.spec_answers.specs.declared.single.OneFault.{OneFault}
+use Rattle.spec_answers.specs.declared.single.OneFault.TheVariants.{Spec, OutOfRange, Run, Write}
+use Rattle.spec_answers.specs.SpecFiles.{IsNoSpec}
 
 -- the text tells the rank and then the outcome of its line, by the sequential machine
 pub record IsAnswer (file : SpecFile) (rank : ℕ) (text : List ℕ) : Type 0 where

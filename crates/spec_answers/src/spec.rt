@@ -2,7 +2,7 @@
 
 ghost use Rattle.std.specs.Prelude.{IfErr, IfOk};
 ghost use Rattle.bound_specs.specs.Binding.{IsFileOf};
-ghost use Rattle.iso_farm.specs.SpecFiles.{IsNoSpec};
+ghost use Rattle.spec_answers.specs.SpecFiles.{IsNoSpec};
 
 use bound_specs::Spec;
 use spec_reader::{SpecError, read_spec};
