@@ -1,8 +1,5 @@
-pub mod FileLemmas
 pub mod RangeLemmas
-pub mod ReportLemmas
-pub mod JoinLemmas
-pub mod JudgeLemmas
+pub mod TrueReports
 pub mod CommandLemmas
 pub mod CutLemmas
 pub mod HeadlineLemmas

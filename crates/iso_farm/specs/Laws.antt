@@ -10,7 +10,7 @@ use Rattle.outcome_books.specs.Books.{Contents}
 use Rattle.outcome_books.specs.Building.{AreFactsOf}
 use Rattle.outcome_books.specs.Values.{IsNotReported}
 use Rattle.spec_answers.specs.One.{IsAnswer}
-use Rattle.iso_farm.specs.Reporting.{IsReportText}
+use Rattle.book_answers.specs.Reporting.{IsReportText}
 
 -- the text is what the sequential machine tells of the first ranks in order
 abbrev pub AreAnswers : SpecFile → ℕ → List ℕ → Type 0

@@ -1,9 +1,5 @@
 pub mod Ranges
 pub mod Progress
-pub mod Reporting
-pub mod Joining
-pub mod Auditing
-pub mod Judging
 pub mod Laws
 pub mod Status
 pub mod Commands

@@ -5,7 +5,7 @@ ghost use Rattle.transcripts.specs.Counted.{failures_of};
 ghost use Rattle.outcome_books.specs.Laws.{JoinsCommute, JoinsAssociate, JoinsRepeat};
 ghost use Rattle.iso_farm.specs.Headline.{AreRunsReported, AreRun, IsNextRun, IsJoinedWith};
 
-use crate::reporting::{ReportFault, write_report};
+use book_answers::{ReportFault, write_report};
 use bound_specs::Spec;
 use outcome_books::{Book, Job, JoinError, join, joins_are_unions, make};
 use session_machine::RunError;
