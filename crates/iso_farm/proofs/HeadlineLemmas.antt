@@ -38,10 +38,10 @@ use Rattle.shard_farm.proofs.CrewLemmas.{inside}
 use Rattle.book_answers.specs.declared.reporting.ReportFault.{ReportFault}
 use Rattle.book_answers.specs.declared.reporting.ReportFault.TheVariants.{Report, Write}
 use Rattle.book_answers.specs.Reporting.{IsReportText, IsReported}
+use Rattle.range_answers.specs.Cutting.{IsInOne}
 use Rattle.iso_farm.specs.declared.headline.Plan.{Plan}
 use Rattle.iso_farm.specs.declared.headline.HeadlineFault.{HeadlineFault}
 use Rattle.iso_farm.specs.declared.headline.HeadlineFault.TheVariants as fault_of
-use Rattle.iso_farm.specs.Cutting.{IsInOne}
 use Rattle.iso_farm.specs.Laws.{AreAnswers}
 use Rattle.iso_farm.specs.Headline.{shards_in, IsRun, HaveFact, WasRun, ArePlansOf, HoldsTheRuns, AreSerial, IsReportOfRuns, MayRefuse}
 use Rattle.iso_farm.specs.Headline.{WasRunByOne, RunsHold, JoinsHold, RunsDecide}

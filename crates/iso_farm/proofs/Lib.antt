@@ -1,5 +1,4 @@
 pub mod RangeLemmas
 pub mod TrueReports
 pub mod CommandLemmas
-pub mod CutLemmas
 pub mod HeadlineLemmas

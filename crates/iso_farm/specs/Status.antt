@@ -33,11 +33,11 @@ use Rattle.book_answers.specs.declared.judging.NoReport.{NoReport}
 use Rattle.book_answers.specs.declared.judging.NoReport.TheVariants as no_report
 use Rattle.book_answers.specs.declared.judging.JudgeFault.{JudgeFault}
 use Rattle.book_answers.specs.declared.judging.JudgeFault.TheVariants as judge_fault
+use Rattle.range_answers.specs.declared.ranges.RangeFault.{RangeFault}
+use Rattle.range_answers.specs.declared.ranges.RangeFault.TheVariants as range_fault
 use Rattle.iso_farm.specs.declared.fault.ProgramFault.{ProgramFault}
 use Rattle.iso_farm.specs.declared.fault.ProgramFault.TheVariants.{Spec, Sql, Bind, Start, RankOutOfRange, Shard, Book, BookTooLarge, OtherSpec}
 use Rattle.iso_farm.specs.declared.fault.ProgramFault.TheVariants.{TooManyRanks, Explained, Missing, Clash, NoMemory, Read, Write}
-use Rattle.iso_farm.specs.declared.ranges.RangeFault.{RangeFault}
-use Rattle.iso_farm.specs.declared.ranges.RangeFault.TheVariants as range_fault
 
 -- a rank without exactly one value is told by 1, what is refused by 3, want of memory by 4, and a read or write fault by 5
 abbrev pub status_of : ProgramFault → ℕ

@@ -11,8 +11,8 @@ ghost use Rattle.book_answers.specs.Reporting.{IsFileReported};
 ghost use Rattle.book_answers.specs.Auditing.{IsAuditRun};
 ghost use Rattle.book_answers.specs.Judging.{IsJudgeRun};
 ghost use Rattle.book_answers.specs.declared.finding.Finding.TheVariants.{Good};
+ghost use Rattle.range_answers.specs.Ranges.{IsRangeRun};
 ghost use Rattle.iso_farm.specs.Status.{status_of, one_status, count_status, range_status, join_status, report_status, audit_status, judge_status};
-ghost use Rattle.iso_farm.specs.Ranges.{IsRangeRun};
 ghost use Rattle.iso_farm.specs.declared.fault.ProgramFault.TheVariants.{Write as WriteFault};
 ghost use Rattle.iso_farm.specs.Commands.{IsAnswered, IsCut, IsDone, IsCalled, IsFlushed, IsFound, IsPassedOn, IsRun, IsTold, IsUnread, IsUsage, tells_progress};
 
@@ -22,12 +22,11 @@ use crate::faults::{
     report_fault,
 };
 use crate::files::read_spec_file;
-use crate::ranges::run_told;
-use crate::telling::say;
 use book_answers::{Finding, Opener, audit_file, join_files, judge_files, report_file};
 use clap::Error;
 use clap::error::ErrorKind;
 use command_words::{Asked, Workers, parse_words};
+use range_answers::{run_told, say};
 use spec_answers::{CountFault, check, count, one};
 use std::alloc::Global;
 use std::io::{self, Write};

@@ -7,13 +7,13 @@ ghost use Rattle.iso_farm.specs.Status.{status_of, one_status, count_status, ran
 ghost use Rattle.iso_farm.specs.Status.{values_status, file_status, write_status, spec_status, text_status, binding_status, run_status, start_status};
 
 use crate::fault::ProgramFault;
-use crate::ranges::RangeFault;
 use book_answers::{
     AuditFault, FileFault, JoinFault, JudgeFault, NoReport, ReportFault, ReportFileFault,
 };
 use book_files::{BookError, WriteError};
 use fault_words::{binding_sentence, explained, text_sentence};
 use outcome_books::ReportError;
+use range_answers::RangeFault;
 use session_machine::{RunError, StartError};
 use spec_answers::{CountFault, OneFault, SpecFault};
 use spec_reader::{SpecError, SpecErrorKind};

@@ -2,8 +2,8 @@
 
 ghost use Rattle.std.specs.Prelude.{◌≡◌, ◌+◌, ◌≤◌, true, false};
 ghost use Rattle.std.specs.Duration.{as_nanos};
-ghost use Rattle.iso_farm.specs.Progress.{ranks_of_shard};
-ghost use Rattle.iso_farm.specs.declared.progress.TheConstants.{GAP_NANOS};
+ghost use Rattle.range_answers.specs.Progress.{ranks_of_shard};
+ghost use Rattle.range_answers.specs.declared.progress.TheConstants.{GAP_NANOS};
 
 use crate::cutting::SHARD_RANKS;
 use crate::headway::Headway;

@@ -1,7 +1,7 @@
 use Rattle.std.proofs.Common.{sym, subst}
-use Rattle.iso_farm.specs.Cutting.{AreCut}
-use Rattle.iso_farm.proofs.CutLemmas.{cut-more}
-use Rattle.iso_farm.proofs.cutting.shards_of.Goals as goal
+use Rattle.range_answers.specs.Cutting.{AreCut}
+use Rattle.range_answers.proofs.CutLemmas.{cut-more}
+use Rattle.range_answers.proofs.cutting.shards_of.Goals as goal
 
 -- a shard more
 pub loop-at-preserved : goal.loop-at-preserved

@@ -4,7 +4,7 @@ ghost use Rattle.std.specs.Prelude.{◌≡◌, ◌<◌, ◌≤◌, IfErr, IfOk, 
 ghost use Rattle.step_reducer.specs.Walking.{Starts};
 ghost use Rattle.outcome_books.specs.Building.{AreFactsOf};
 ghost use Rattle.transcripts.specs.Counted.{failures_of};
-ghost use Rattle.iso_farm.specs.Ranges.{IsRangeOf, IsOutsideRange, IsNoRange, IsRangeRun, IsToldOf};
+ghost use Rattle.range_answers.specs.Ranges.{IsRangeOf, IsOutsideRange, IsNoRange, IsRangeRun, IsToldOf};
 
 use crate::cutting::shards_of;
 use crate::progress::Progress;
@@ -66,8 +66,8 @@ pub fn run_range<R: Threads + Wait + Sync, G: Gate + Sync, W: Write>(
     }
 }
 
-/// Does as `run_range`, and tells how far it is where that is wanted.
-pub(crate) fn run_told<R: Threads + Wait + Clock + Sync, W: Write, E: Write + Send>(
+/// Does as `run_range`, and tells on `err` how far it is where that is wanted. What is not written there is no fault.
+pub fn run_told<R: Threads + Wait + Clock + Sync, W: Write, E: Write + Send>(
     rt: &R,
     alloc: Global,
     bytes: &[u8],

@@ -9,7 +9,7 @@ use Rattle.outcome_books.specs.Entries.{FactSet, recorded}
 use Rattle.outcome_books.specs.Building.{AreFactsOf}
 use Rattle.shard_farm.specs.Farming.{AreShardFacts}
 use Rattle.shard_board.proofs.RowLemmas.{at_end}
-use Rattle.iso_farm.specs.Cutting.{AreCut, IsCut, IsCutAt, IsInOne}
+use Rattle.range_answers.specs.Cutting.{AreCut, IsCut, IsCutAt, IsInOne}
 
 in-longer : (shards : List Shard) (one : Shard) (r : ℕ) → IsInOne shards r → IsInOne (shards ++ one ∷ []) r
 in-longer shards one r (n, (s, (is, inside))) = (n, (s, (at_longer shards (one ∷ []) n s is, inside)))

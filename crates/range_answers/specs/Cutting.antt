@@ -3,7 +3,7 @@ use Rattle.std.specs.Prelude.{◌≡◌, ℕ, ◌+◌, ◌*◌, ◌<◌, ◌≤�
 use mathlib.Core.Option.{some}
 use lib.ListN.{get_elem?}
 use Rattle.step_reducer.specs.declared.walker.Shard.{Shard}
-use Rattle.iso_farm.specs.declared.cutting.TheConstants.{SHARD_RANKS}
+use Rattle.range_answers.specs.declared.cutting.TheConstants.{SHARD_RANKS}
 
 -- the shard of a range with this number, from 0: it begins behind as many whole ones, and is whole, unless it is the last
 pub record IsCut (first end number : ℕ) (shard : Shard) : Type 0 where

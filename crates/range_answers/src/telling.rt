@@ -4,7 +4,7 @@ use std::io::Write;
 use transcripts::Counted;
 
 /// Writes a text where faults are told, as far as that takes it: there is nowhere to tell a fault of that.
-pub(crate) fn say<E: Write>(text: &str, err: &mut Counted<E>) {
+pub fn say<E: Write>(text: &str, err: &mut Counted<E>) {
     if err.failures() < u64::MAX {
         let _told = err.write_str(text);
     }

@@ -1,7 +1,7 @@
 //! Ranges of ranks cut into the shards that workers claim.
 
 ghost use Rattle.std.specs.Prelude.{◌<◌, ◌≤◌, IfOk};
-ghost use Rattle.iso_farm.specs.Cutting.{AreCut, IsCutAt};
+ghost use Rattle.range_answers.specs.Cutting.{AreCut, IsCutAt};
 
 use std::alloc::{AllocError, Global};
 use step_reducer::Shard;

@@ -1,7 +1,7 @@
 use Rattle.std.proofs.Common.{subst}
 use Rattle.shard_farm.specs.Farming.{AreShardFacts}
-use Rattle.iso_farm.proofs.CutLemmas.{cut-facts}
-use Rattle.iso_farm.proofs.ranges.book_of_range.Goals as goal
+use Rattle.range_answers.proofs.CutLemmas.{cut-facts}
+use Rattle.range_answers.proofs.ranges.book_of_range.Goals as goal
 
 -- the facts of the shards are those of the range
 pub returns-in-Ok-clause-facts : goal.returns-in-Ok-clause-facts

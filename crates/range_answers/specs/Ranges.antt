@@ -14,9 +14,9 @@ use Rattle.outcome_books.specs.Books.{Contents}
 use Rattle.outcome_books.specs.Building.{AreFactsOf}
 use Rattle.book_files.specs.Writing.{IsWritten}
 use Rattle.spec_answers.specs.SpecFiles.{IsNoSpec}
-use Rattle.iso_farm.specs.declared.ranges.RangeFault.{RangeFault}
-use Rattle.iso_farm.specs.declared.ranges.RangeFault.TheVariants as range_fault
-use Rattle.iso_farm.specs.declared.ranges.TheConstants.{MAX_RANGE}
+use Rattle.range_answers.specs.declared.ranges.RangeFault.{RangeFault}
+use Rattle.range_answers.specs.declared.ranges.RangeFault.TheVariants as range_fault
+use Rattle.range_answers.specs.declared.ranges.TheConstants.{MAX_RANGE}
 
 -- the ranks from first up to but not end are of the spec, and not too many
 pub record IsRangeOf (spec : Spec) (first end : ℕ) : Type 0 where
