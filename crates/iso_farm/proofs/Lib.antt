@@ -1,4 +1,1 @@
-pub mod RangeLemmas
-pub mod TrueReports
 pub mod CommandLemmas
-pub mod HeadlineLemmas

@@ -1,4 +1,2 @@
-pub mod Laws
 pub mod Status
 pub mod Commands
-pub mod Headline

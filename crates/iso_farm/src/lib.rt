@@ -5,8 +5,6 @@ mod commands;
 mod fault;
 mod faults;
 mod files;
-mod headline;
-mod laws;
 
 pub use book_answers::{
     AuditFault, FileFault, Finding, JoinFault, JudgeFault, NoReport, Opener, ReportFault,
@@ -16,7 +14,5 @@ pub use commands::{answer, run, tell_words_fault};
 pub use fault::ProgramFault;
 pub use faults::fault_at;
 pub use files::MAX_SPEC_READ;
-pub use headline::{HeadlineFault, Plan, book_of_runs, report_of_runs};
-pub use laws::{reports_are_the_machines, runs_decide};
 pub use range_answers::{MAX_RANGE, Progress, RangeFault, SHARD_RANKS, book_of_range, run_range};
 pub use spec_answers::{CountFault, OneFault, SpecFault, check, count, one, one_of, spec_of};

@@ -1,6 +1,7 @@
 //! What jobs and plans of one spec tell together, from its bytes to its report.
 use crate::disks::assert_text;
-use iso_farm::{HeadlineFault, Plan, ReportFault, report_of_runs};
+use farm_headline::{HeadlineFault, Plan, report_of_runs};
+use iso_farm::ReportFault;
 use outcome_books::{Boxed, Job, ReportError};
 use session_machine::RunError;
 use shard_farm::{FarmError, OpenGate};

@@ -1,5 +1,5 @@
-use Rattle.iso_farm.specs.Headline.{HoldsTheFirst}
-use Rattle.iso_farm.proofs.headline.book_of_runs.Given as goal
+use Rattle.farm_headline.specs.Headline.{HoldsTheFirst}
+use Rattle.farm_headline.proofs.headline.book_of_runs.Given as goal
 
 -- the book has the job's facts and those of the plans before this one
 abbrev pub invariant-loop-place : goal.invariant-loop-place

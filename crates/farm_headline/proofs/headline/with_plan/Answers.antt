@@ -1,8 +1,8 @@
 use Rattle.std.proofs.Common.{subst}
 use Rattle.shard_board.specs.Changes.{IsPlanOf}
 use Rattle.shard_farm.specs.Farming.{AreShardFacts}
-use Rattle.iso_farm.proofs.HeadlineLemmas.{next-joined}
-use Rattle.iso_farm.proofs.headline.with_plan.Goals as goal
+use Rattle.farm_headline.proofs.HeadlineLemmas.{next-joined}
+use Rattle.farm_headline.proofs.headline.with_plan.Goals as goal
 
 pub returns-in-Ok : goal.returns-in-Ok
 returns-in-Ok g c =

@@ -2,9 +2,9 @@ use Rattle.std.proofs.Common.{◌≡◌, ◌∙◌, sym, ap, length, arith}
 use lib.ListN.{get_elem?}
 use mathlib.Core.Option.{some}
 use Rattle.shard_farm.proofs.CrewLemmas.{found_at}
-use Rattle.iso_farm.specs.declared.headline.Plan.{Plan}
-use Rattle.iso_farm.proofs.HeadlineLemmas.{plan-more, plans-all, refused-by}
-use Rattle.iso_farm.proofs.headline.book_of_runs.Goals as goal
+use Rattle.farm_headline.specs.declared.headline.Plan.{Plan}
+use Rattle.farm_headline.proofs.HeadlineLemmas.{plan-more, plans-all, refused-by}
+use Rattle.farm_headline.proofs.headline.book_of_runs.Goals as goal
 
 -- a plan is refused
 pub returns-in_err-book : goal.returns-in_err-book

@@ -26,10 +26,10 @@ use Rattle.spec_answers.specs.SpecFiles.{IsNoSpec}
 use Rattle.book_answers.specs.declared.reporting.ReportFault.TheVariants.{Report, Write}
 use Rattle.book_answers.specs.Reporting.{IsReportText}
 use Rattle.range_answers.specs.Cutting.{IsInOne}
-use Rattle.iso_farm.specs.declared.headline.Plan.{Plan}
-use Rattle.iso_farm.specs.declared.headline.HeadlineFault.{HeadlineFault}
-use Rattle.iso_farm.specs.declared.headline.HeadlineFault.TheVariants as fault_of
-use Rattle.iso_farm.specs.Laws.{AreAnswers}
+use Rattle.farm_headline.specs.declared.headline.Plan.{Plan}
+use Rattle.farm_headline.specs.declared.headline.HeadlineFault.{HeadlineFault}
+use Rattle.farm_headline.specs.declared.headline.HeadlineFault.TheVariants as fault_of
+use Rattle.farm_headline.specs.Laws.{AreAnswers}
 
 -- ---- what was run
 

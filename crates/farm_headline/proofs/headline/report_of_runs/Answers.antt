@@ -1,5 +1,5 @@
-use Rattle.iso_farm.proofs.HeadlineLemmas.{runs-reported, report-refused}
-use Rattle.iso_farm.proofs.headline.report_of_runs.Goals as goal
+use Rattle.farm_headline.proofs.HeadlineLemmas.{runs-reported, report-refused}
+use Rattle.farm_headline.proofs.headline.report_of_runs.Goals as goal
 
 -- the report is written
 pub returns-in-Ok-write_report-clause-reported : goal.returns-in-Ok-write_report-clause-reported

@@ -3,7 +3,7 @@
 ghost use Rattle.std.specs.Prelude.{◌≡◌, ◌<◌};
 ghost use Rattle.transcripts.specs.Counted.{failures_of};
 ghost use Rattle.outcome_books.specs.Laws.{JoinsCommute, JoinsAssociate, JoinsRepeat};
-ghost use Rattle.iso_farm.specs.Headline.{AreRunsReported, AreRun, IsNextRun, IsJoinedWith};
+ghost use Rattle.farm_headline.specs.Headline.{AreRunsReported, AreRun, IsNextRun, IsJoinedWith};
 
 use book_answers::{ReportFault, write_report};
 use bound_specs::Spec;

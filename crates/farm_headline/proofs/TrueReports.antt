@@ -1,5 +1,5 @@
 -- Reports of true facts.
-use Rattle.std.proofs.Common.{◌≡◌, refl, sym, subst, ◌∙◌, ℕ, zero, suc, ◌+◌, ◌-◌, ◌≤◌, ◌++◌, List, [], get_or, Some}
+use Rattle.std.proofs.Common.{◌≡◌, refl, sym, subst, ◌∙◌, ℕ, zero, suc, ◌≤◌, ◌++◌, List, [], get_or, Some}
 use Rattle.std.proofs.Common.{arith}
 use Rattle.bound_specs.specs.Spec.{ranks}
 use Rattle.bound_specs.specs.Binding.{IsFileOf}
@@ -14,7 +14,7 @@ use Rattle.outcome_books.specs.Values.{AreValues, IsNotReported}
 use Rattle.outcome_books.proofs.Recordable.{file-is-bound}
 use Rattle.spec_answers.specs.One.{IsAnswer}
 use Rattle.book_answers.specs.Reporting.{values_text, IsReportText}
-use Rattle.iso_farm.specs.Laws.{AreAnswers, ReportsAreTheMachines, CoveringReports}
+use Rattle.farm_headline.specs.Laws.{AreAnswers, ReportsAreTheMachines, CoveringReports}
 
 module _ (book : Contents) (is : IsFileOf book.file.text book.file) (all : AllTrue book.file.run (recorded book.facts)) where
   tells : TellTheMachine book.file.run (recorded book.facts)

@@ -39,15 +39,15 @@ use Rattle.book_answers.specs.declared.reporting.ReportFault.{ReportFault}
 use Rattle.book_answers.specs.declared.reporting.ReportFault.TheVariants.{Report, Write}
 use Rattle.book_answers.specs.Reporting.{IsReportText, IsReported}
 use Rattle.range_answers.specs.Cutting.{IsInOne}
-use Rattle.iso_farm.specs.declared.headline.Plan.{Plan}
-use Rattle.iso_farm.specs.declared.headline.HeadlineFault.{HeadlineFault}
-use Rattle.iso_farm.specs.declared.headline.HeadlineFault.TheVariants as fault_of
-use Rattle.iso_farm.specs.Laws.{AreAnswers}
-use Rattle.iso_farm.specs.Headline.{shards_in, IsRun, HaveFact, WasRun, ArePlansOf, HoldsTheRuns, AreSerial, IsReportOfRuns, MayRefuse}
-use Rattle.iso_farm.specs.Headline.{WasRunByOne, RunsHold, JoinsHold, RunsDecide}
-use Rattle.iso_farm.specs.Headline.{HaveFactBelow, HoldsTheFirst, AreRun, IsNotRun, IsNextRun, IsJoinedWith, AreRunsReported}
-use Rattle.iso_farm.proofs.RangeLemmas.{fact-true}
-use Rattle.iso_farm.proofs.TrueReports.{report-answers, none-clash}
+use Rattle.farm_headline.specs.declared.headline.Plan.{Plan}
+use Rattle.farm_headline.specs.declared.headline.HeadlineFault.{HeadlineFault}
+use Rattle.farm_headline.specs.declared.headline.HeadlineFault.TheVariants as fault_of
+use Rattle.farm_headline.specs.Laws.{AreAnswers}
+use Rattle.farm_headline.specs.Headline.{shards_in, IsRun, HaveFact, WasRun, ArePlansOf, HoldsTheRuns, AreSerial, IsReportOfRuns, MayRefuse}
+use Rattle.farm_headline.specs.Headline.{WasRunByOne, RunsHold, JoinsHold, RunsDecide}
+use Rattle.farm_headline.specs.Headline.{HaveFactBelow, HoldsTheFirst, AreRun, IsNotRun, IsNextRun, IsJoinedWith, AreRunsReported}
+use Rattle.farm_headline.proofs.RangeLemmas.{fact-true}
+use Rattle.farm_headline.proofs.TrueReports.{report-answers, none-clash}
 
 some-same : {A : Type 0} (a b : A) → Some a ≡ Some b → a ≡ b
 some-same a b e = cc

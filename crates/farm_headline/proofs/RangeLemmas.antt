@@ -7,7 +7,7 @@ use Rattle.quiet_steps.specs.declared.fact.Fact.{Fact}
 use Rattle.quiet_steps.specs.declared.fact.Fact.TheVariants.{Ran, Swap}
 use Rattle.outcome_books.specs.Entries.{recorded}
 use Rattle.outcome_books.proofs.SetLemmas.{in_union}
-use Rattle.iso_farm.specs.Laws.{RangesAreTrue, JoinsStayTrue}
+use Rattle.farm_headline.specs.Laws.{RangesAreTrue, JoinsStayTrue}
 
 pub fact-true : (reduce : Bool) (spec : Spec) (r : ℕ) (fact : Fact) → IsFactOf reduce spec r fact → IsTrueAt spec r fact
 fact-true reduce spec r (Ran outcome) h = h.0

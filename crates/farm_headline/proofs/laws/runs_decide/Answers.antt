@@ -1,5 +1,5 @@
-use Rattle.iso_farm.proofs.HeadlineLemmas.{runs-hold, joins-hold, runs-decide}
-use Rattle.iso_farm.proofs.laws.runs_decide.Goals as goal
+use Rattle.farm_headline.proofs.HeadlineLemmas.{runs-hold, joins-hold, runs-decide}
+use Rattle.farm_headline.proofs.laws.runs_decide.Goals as goal
 
 pub returns-clause-alone : goal.returns-clause-alone
 returns-clause-alone c = runs-hold

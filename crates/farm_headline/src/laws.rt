@@ -1,7 +1,7 @@
 //! The laws of what is run, joined and reported, each the contract of a function that does nothing.
 
-ghost use Rattle.iso_farm.specs.Headline.{RunsHold, JoinsHold, RunsDecide};
-ghost use Rattle.iso_farm.specs.Laws.{RangesAreTrue, JoinsStayTrue, ReportsAreTheMachines, CoveringReports};
+ghost use Rattle.farm_headline.specs.Headline.{RunsHold, JoinsHold, RunsDecide};
+ghost use Rattle.farm_headline.specs.Laws.{RangesAreTrue, JoinsStayTrue, ReportsAreTheMachines, CoveringReports};
 
 /// Whatever ranges are run, whichever way they cover or overlap each other, and however their books are joined: what is reported is
 /// what the sequential machine tells, rank by rank, and nothing is missing where each rank has a fact.
