@@ -3,15 +3,15 @@ use Rattle.std.specs.Prelude.{⊤}
 use Rattle.std.proofs.Common.{◌≡◌, refl, List, ℕ, Option, Result, Ok, Err, OnOk, IfErr, ◌⊎◌, inl, inr}
 use Rattle.transcripts.specs.Counted.{Wrote}
 use Rattle.transcripts.specs.declared.counted.Counted.{Counted}
+use Rattle.spec_reader.specs.declared.error.Kind.TheVariants.{NoMemory}
+use Rattle.spec_answers.specs.declared.spec.SpecFault.{SpecFault}
+use Rattle.spec_answers.specs.declared.spec.SpecFault.TheVariants.{Text}
+use Rattle.spec_answers.specs.declared.counting.CountFault.TheVariants.{Spec}
+use Rattle.spec_answers.specs.SpecFiles.{IsNoSpec}
+use Rattle.spec_answers.specs.Counting.{IsChecked}
 use Rattle.iso_farm.specs.declared.fault.ProgramFault.{ProgramFault}
 use Rattle.iso_farm.specs.declared.fault.ProgramFault.TheVariants.{Write}
-use Rattle.spec_reader.specs.declared.error.Kind.TheVariants.{NoMemory}
-use Rattle.iso_farm.specs.declared.spec.SpecFault.{SpecFault}
-use Rattle.iso_farm.specs.declared.spec.SpecFault.TheVariants.{Text}
-use Rattle.iso_farm.specs.declared.counting.CountFault.TheVariants.{Spec}
-use Rattle.iso_farm.specs.SpecFiles.{IsNoSpec}
 use Rattle.iso_farm.specs.Status.{status_of, spec_status, count_status}
-use Rattle.iso_farm.specs.Counting.{IsChecked}
 use Rattle.iso_farm.specs.Commands.{IsCut, IsFlushed, IsPassedOn, IsTold}
 
 pub passed-on : {W : Type 0} (contents : W → Option (List ℕ)) (old mid new : Counted W) (text : List ℕ) (done : ⊤) (result : Result ⊤ ProgramFault)

@@ -3,21 +3,22 @@ use Rattle.std.specs.Prelude.{◌≡◌, ℕ, ◌+◌, ◌⊎◌, Bool, false, n
 use Rattle.std.specs.Io.KnownBytes.{Keeps}
 use Rattle.transcripts.specs.Counted.{Wrote, Stopped, written, failures_of}
 use Rattle.transcripts.specs.declared.counted.Counted.{Counted}
+use Rattle.command_words.specs.declared.words.Asked.{Asked}
+use Rattle.command_words.specs.declared.words.Asked.TheVariants.{Check, One, Count, Run, Join, Report, Audit, Judge}
+use Rattle.spec_answers.specs.One.{IsOneRun}
+use Rattle.spec_answers.specs.Counting.{IsChecked, IsCounted}
+use Rattle.book_answers.specs.declared.finding.Finding.{Finding}
+use Rattle.book_answers.specs.declared.finding.Finding.TheVariants.{Good}
+use Rattle.book_answers.specs.Finding.{finding_status}
+use Rattle.book_answers.specs.Joining.{Files, IsJoinRun}
+use Rattle.book_answers.specs.Reporting.{IsFileReported}
+use Rattle.book_answers.specs.Auditing.{IsAuditRun}
+use Rattle.book_answers.specs.Judging.{IsJudgeRun}
+use Rattle.range_answers.specs.Ranges.{IsRangeRun}
 use Rattle.iso_farm.specs.declared.files.TheConstants.{MAX_SPEC_READ}
 use Rattle.iso_farm.specs.declared.fault.ProgramFault.{ProgramFault}
 use Rattle.iso_farm.specs.declared.fault.ProgramFault.TheVariants.{NoMemory, Read, Write}
-use Rattle.iso_farm.specs.declared.finding.Finding.{Finding}
-use Rattle.iso_farm.specs.declared.finding.Finding.TheVariants.{Good}
-use Rattle.command_words.specs.declared.words.Asked.{Asked}
-use Rattle.command_words.specs.declared.words.Asked.TheVariants.{Check, One, Count, Run, Join, Report, Audit, Judge}
-use Rattle.iso_farm.specs.Status.{status_of, finding_status, one_status, count_status, range_status, join_status, report_status, audit_status, judge_status}
-use Rattle.iso_farm.specs.One.{IsOneRun}
-use Rattle.iso_farm.specs.Counting.{IsChecked, IsCounted}
-use Rattle.iso_farm.specs.Ranges.{IsRangeRun}
-use Rattle.iso_farm.specs.Joining.{Files, IsJoinRun}
-use Rattle.iso_farm.specs.Reporting.{IsFileReported}
-use Rattle.iso_farm.specs.Auditing.{IsAuditRun}
-use Rattle.iso_farm.specs.Judging.{IsJudgeRun}
+use Rattle.iso_farm.specs.Status.{status_of, one_status, count_status, range_status, join_status, report_status, audit_status, judge_status}
 
 -- what a call finds is the program's answer, and a refusal is told with its status
 abbrev pub IsFound : {E : Type 0} → (Result Finding E → Type 0) → (E → ℕ) → Result Finding ProgramFault → Type 0

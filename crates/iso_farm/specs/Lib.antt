@@ -1,14 +1,2 @@
-pub mod SpecFiles
-pub mod One
-pub mod Counting
-pub mod Ranges
-pub mod Progress
-pub mod Reporting
-pub mod Joining
-pub mod Auditing
-pub mod Judging
-pub mod Laws
 pub mod Status
 pub mod Commands
-pub mod Cutting
-pub mod Headline

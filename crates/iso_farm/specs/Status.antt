@@ -14,37 +14,30 @@ use Rattle.book_files.specs.declared.error.BookError.{BookError}
 use Rattle.book_files.specs.declared.error.BookError.TheVariants as book_error
 use Rattle.book_files.specs.declared.write_error.WriteError.{WriteError}
 use Rattle.book_files.specs.declared.write_error.WriteError.TheVariants as write_error
+use Rattle.spec_answers.specs.declared.spec.SpecFault.{SpecFault}
+use Rattle.spec_answers.specs.declared.spec.SpecFault.TheVariants as spec_fault
+use Rattle.spec_answers.specs.declared.single.OneFault.{OneFault}
+use Rattle.spec_answers.specs.declared.single.OneFault.TheVariants as one_fault
+use Rattle.spec_answers.specs.declared.counting.CountFault.{CountFault}
+use Rattle.spec_answers.specs.declared.counting.CountFault.TheVariants as count_fault
+use Rattle.book_answers.specs.declared.joining.FileFault.{FileFault}
+use Rattle.book_answers.specs.declared.joining.FileFault.TheVariants as file_fault
+use Rattle.book_answers.specs.declared.joining.JoinFault.{JoinFault}
+use Rattle.book_answers.specs.declared.joining.JoinFault.TheVariants as join_fault
+use Rattle.book_answers.specs.declared.reporting.ReportFault.TheVariants as values_fault
+use Rattle.book_answers.specs.declared.reporting.ReportFileFault.{ReportFileFault}
+use Rattle.book_answers.specs.declared.reporting.ReportFileFault.TheVariants as report_fault
+use Rattle.book_answers.specs.declared.auditing.AuditFault.{AuditFault}
+use Rattle.book_answers.specs.declared.auditing.AuditFault.TheVariants as audit_fault
+use Rattle.book_answers.specs.declared.judging.NoReport.{NoReport}
+use Rattle.book_answers.specs.declared.judging.NoReport.TheVariants as no_report
+use Rattle.book_answers.specs.declared.judging.JudgeFault.{JudgeFault}
+use Rattle.book_answers.specs.declared.judging.JudgeFault.TheVariants as judge_fault
+use Rattle.range_answers.specs.declared.ranges.RangeFault.{RangeFault}
+use Rattle.range_answers.specs.declared.ranges.RangeFault.TheVariants as range_fault
 use Rattle.iso_farm.specs.declared.fault.ProgramFault.{ProgramFault}
 use Rattle.iso_farm.specs.declared.fault.ProgramFault.TheVariants.{Spec, Sql, Bind, Start, RankOutOfRange, Shard, Book, BookTooLarge, OtherSpec}
 use Rattle.iso_farm.specs.declared.fault.ProgramFault.TheVariants.{TooManyRanks, Explained, Missing, Clash, NoMemory, Read, Write}
-use Rattle.iso_farm.specs.declared.spec.SpecFault.{SpecFault}
-use Rattle.iso_farm.specs.declared.spec.SpecFault.TheVariants as spec_fault
-use Rattle.iso_farm.specs.declared.single.OneFault.{OneFault}
-use Rattle.iso_farm.specs.declared.single.OneFault.TheVariants as one_fault
-use Rattle.iso_farm.specs.declared.counting.CountFault.{CountFault}
-use Rattle.iso_farm.specs.declared.counting.CountFault.TheVariants as count_fault
-use Rattle.iso_farm.specs.declared.ranges.RangeFault.{RangeFault}
-use Rattle.iso_farm.specs.declared.ranges.RangeFault.TheVariants as range_fault
-use Rattle.iso_farm.specs.declared.joining.FileFault.{FileFault}
-use Rattle.iso_farm.specs.declared.joining.FileFault.TheVariants as file_fault
-use Rattle.iso_farm.specs.declared.joining.JoinFault.{JoinFault}
-use Rattle.iso_farm.specs.declared.joining.JoinFault.TheVariants as join_fault
-use Rattle.iso_farm.specs.declared.reporting.ReportFault.TheVariants as values_fault
-use Rattle.iso_farm.specs.declared.reporting.ReportFileFault.{ReportFileFault}
-use Rattle.iso_farm.specs.declared.reporting.ReportFileFault.TheVariants as report_fault
-use Rattle.iso_farm.specs.declared.auditing.AuditFault.{AuditFault}
-use Rattle.iso_farm.specs.declared.auditing.AuditFault.TheVariants as audit_fault
-use Rattle.iso_farm.specs.declared.judging.NoReport.{NoReport}
-use Rattle.iso_farm.specs.declared.judging.NoReport.TheVariants as no_report
-use Rattle.iso_farm.specs.declared.judging.JudgeFault.{JudgeFault}
-use Rattle.iso_farm.specs.declared.judging.JudgeFault.TheVariants as judge_fault
-use Rattle.iso_farm.specs.declared.finding.Finding.{Finding}
-use Rattle.iso_farm.specs.declared.finding.Finding.TheVariants.{Good, Bad}
-
--- where no fault is told: a false fact, or a report that is equal to no accepted one, ends with 1
-abbrev pub finding_status : Finding → ℕ
-finding_status Good = 0
-finding_status Bad = 1
 
 -- a rank without exactly one value is told by 1, what is refused by 3, want of memory by 4, and a read or write fault by 5
 abbrev pub status_of : ProgramFault → ℕ

@@ -3,36 +3,31 @@
 ghost use Rattle.std.specs.Prelude.{◌≡◌, ◌<◌, ◌⊎◌, [], map, Ok, OnOk, IfErr, false};
 ghost use Rattle.transcripts.specs.Counted.{Wrote, failures_of};
 ghost use Rattle.transcripts.specs.declared.counted.Counted.{Counted};
-ghost use Rattle.iso_farm.specs.Status.{status_of, finding_status, one_status, count_status, range_status, join_status, report_status, audit_status, judge_status};
-ghost use Rattle.iso_farm.specs.One.{IsOneRun};
-ghost use Rattle.iso_farm.specs.Counting.{IsChecked, IsCounted};
-ghost use Rattle.iso_farm.specs.Ranges.{IsRangeRun};
-ghost use Rattle.iso_farm.specs.Joining.{IsJoinRun};
-ghost use Rattle.iso_farm.specs.Reporting.{IsFileReported};
-ghost use Rattle.iso_farm.specs.Auditing.{IsAuditRun};
-ghost use Rattle.iso_farm.specs.Judging.{IsJudgeRun};
+ghost use Rattle.spec_answers.specs.One.{IsOneRun};
+ghost use Rattle.spec_answers.specs.Counting.{IsChecked, IsCounted};
+ghost use Rattle.book_answers.specs.Finding.{finding_status};
+ghost use Rattle.book_answers.specs.Joining.{IsJoinRun};
+ghost use Rattle.book_answers.specs.Reporting.{IsFileReported};
+ghost use Rattle.book_answers.specs.Auditing.{IsAuditRun};
+ghost use Rattle.book_answers.specs.Judging.{IsJudgeRun};
+ghost use Rattle.book_answers.specs.declared.finding.Finding.TheVariants.{Good};
+ghost use Rattle.range_answers.specs.Ranges.{IsRangeRun};
+ghost use Rattle.iso_farm.specs.Status.{status_of, one_status, count_status, range_status, join_status, report_status, audit_status, judge_status};
 ghost use Rattle.iso_farm.specs.declared.fault.ProgramFault.TheVariants.{Write as WriteFault};
-ghost use Rattle.iso_farm.specs.declared.finding.Finding.TheVariants.{Good};
 ghost use Rattle.iso_farm.specs.Commands.{IsAnswered, IsCut, IsDone, IsCalled, IsFlushed, IsFound, IsPassedOn, IsRun, IsTold, IsUnread, IsUsage, tells_progress};
 
-use crate::auditing::audit_file;
-use crate::counting::{CountFault, check, count};
 use crate::fault::ProgramFault;
 use crate::faults::{
     audit_fault, count_fault, explained_fault, fault_at, join_fault, judge_fault, range_fault,
     report_fault,
 };
-use crate::files::{Opener, read_spec_file};
-use crate::finding::Finding;
-use crate::joining::join_files;
-use crate::judging::judge_files;
-use crate::ranges::run_told;
-use crate::reporting::report_file;
-use crate::single::one;
-use crate::telling::say;
+use crate::files::read_spec_file;
+use book_answers::{Finding, Opener, audit_file, join_files, judge_files, report_file};
 use clap::Error;
 use clap::error::ErrorKind;
 use command_words::{Asked, Workers, parse_words};
+use range_answers::{run_told, say};
+use spec_answers::{CountFault, check, count, one};
 use std::alloc::Global;
 use std::io::{self, Write};
 use std::sync::Wait;

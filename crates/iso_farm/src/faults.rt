@@ -1,24 +1,21 @@
 //! The program's faults for the faults of its calls.
 
 ghost use Rattle.std.specs.Prelude.{◌≡◌, ◌⊎◌, length};
-ghost use Rattle.iso_farm.specs.Joining.{IsPlaced};
-ghost use Rattle.iso_farm.specs.Judging.{IsAcceptedPlace};
+ghost use Rattle.book_answers.specs.Joining.{IsPlaced};
+ghost use Rattle.book_answers.specs.Judging.{IsAcceptedPlace};
 ghost use Rattle.iso_farm.specs.Status.{status_of, one_status, count_status, range_status, join_status, report_status, audit_status, judge_status, no_report_status};
 ghost use Rattle.iso_farm.specs.Status.{values_status, file_status, write_status, spec_status, text_status, binding_status, run_status, start_status};
 
-use crate::auditing::AuditFault;
-use crate::counting::CountFault;
 use crate::fault::ProgramFault;
-use crate::joining::{FileFault, JoinFault};
-use crate::judging::{JudgeFault, NoReport};
-use crate::ranges::RangeFault;
-use crate::reporting::{ReportFault, ReportFileFault};
-use crate::single::OneFault;
-use crate::spec::SpecFault;
+use book_answers::{
+    AuditFault, FileFault, JoinFault, JudgeFault, NoReport, ReportFault, ReportFileFault,
+};
 use book_files::{BookError, WriteError};
 use fault_words::{binding_sentence, explained, text_sentence};
 use outcome_books::ReportError;
+use range_answers::RangeFault;
 use session_machine::{RunError, StartError};
+use spec_answers::{CountFault, OneFault, SpecFault};
 use spec_reader::{SpecError, SpecErrorKind};
 use sql_subset::{BindError, BindErrorKind};
 use std::alloc::{AllocError, Global};

@@ -1,28 +1,16 @@
-//! Where the program reads from.
+//! What the program reads of a spec file.
 
-ghost use Rattle.std.specs.Prelude.{◌≡◌, ◌≤◌, ℕ, List, Option, Some, None, IfOk, IfErr, IfSome, take, vec_len};
+ghost use Rattle.std.specs.Prelude.{◌≡◌, ◌≤◌, IfOk, IfErr, IfSome, take, vec_len};
 ghost use Rattle.iso_farm.specs.Commands.{IsReadFault};
 
 use crate::fault::ProgramFault;
+use book_answers::Opener;
 use spec_reader::MAX_BYTES;
 use std::alloc::Global;
-use std::io::Read;
 use transcripts::{Counted, ReadError};
 
 /// One byte more than the longest spec file: a longer file is refused by what is read of it.
 pub const MAX_SPEC_READ: usize = MAX_BYTES + 1;
-
-/// Opens files for reading.
-pub trait Opener {
-    type Reader: Read + Drop;
-
-    // The bytes of the file at each path, where they are known.
-    ghost bytes: { Self → List ℕ → Option (List ℕ) } = { λ _ _. None };
-
-    /// A reader of the file at this path, none where it can't be opened.
-    fn open(&self, path: &str) -> Option<Self::Reader>
-        ensures { IfSome result (λ reader. IfSome (bytes self.now path.now) (λ known. Self.Reader.remaining reader ≡ Some known)) };
-}
 
 /// The bytes of a spec file, as far as its reader looks at them.
 pub(crate) fn read_spec_file<'a, O: Opener>(

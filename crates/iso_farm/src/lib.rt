@@ -1,40 +1,18 @@
 //! The farm as a library: what each command of the program does, over words, files and two writers.
 #![tactic(auto)]
 
-mod auditing;
 mod commands;
-mod counting;
-mod cutting;
 mod fault;
 mod faults;
 mod files;
-mod finding;
-mod headline;
-mod headway;
-mod joining;
-mod judging;
-mod laws;
-mod progress;
-mod ranges;
-mod reporting;
-mod single;
-mod spec;
-mod telling;
 
-pub use auditing::{AuditFault, audit_file};
+pub use book_answers::{
+    AuditFault, FileFault, Finding, JoinFault, JudgeFault, NoReport, Opener, ReportFault,
+    ReportFileFault, audit_file, join_files, judge_files, report_file, write_report,
+};
 pub use commands::{answer, run, tell_words_fault};
-pub use counting::{CountFault, check, count};
-pub use cutting::SHARD_RANKS;
 pub use fault::ProgramFault;
 pub use faults::fault_at;
-pub use files::{MAX_SPEC_READ, Opener};
-pub use finding::Finding;
-pub use headline::{HeadlineFault, Plan, book_of_runs, report_of_runs};
-pub use joining::{FileFault, JoinFault, join_files};
-pub use judging::{JudgeFault, NoReport, judge_files};
-pub use laws::{reports_are_the_machines, runs_decide};
-pub use progress::Progress;
-pub use ranges::{MAX_RANGE, RangeFault, book_of_range, run_range};
-pub use reporting::{ReportFault, ReportFileFault, report_file, write_report};
-pub use single::{OneFault, one, one_of};
-pub use spec::{SpecFault, spec_of};
+pub use files::MAX_SPEC_READ;
+pub use range_answers::{MAX_RANGE, Progress, RangeFault, SHARD_RANKS, book_of_range, run_range};
+pub use spec_answers::{CountFault, OneFault, SpecFault, check, count, one, one_of, spec_of};

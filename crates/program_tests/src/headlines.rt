@@ -1,7 +1,8 @@
 //! What jobs and plans of one spec tell together, from its bytes to its report.
 use crate::disks::assert_text;
 use book_jobs::{Boxed, Job};
-use iso_farm::{HeadlineFault, Plan, ReportFault, report_of_runs};
+use farm_headline::{HeadlineFault, Plan, report_of_runs};
+use iso_farm::ReportFault;
 use outcome_books::ReportError;
 use session_machine::RunError;
 use shard_farm::{FarmError, OpenGate};

@@ -1,6 +1,6 @@
 use Rattle.std.proofs.Common.{refl, sym, ap, subst, inr, Ok, Err}
+use Rattle.spec_answers.specs.Counting.{IsChecked}
 use Rattle.iso_farm.specs.Status.{count_status}
-use Rattle.iso_farm.specs.Counting.{IsChecked}
 use Rattle.iso_farm.proofs.commands.check_of_file.Goals as goal
 
 pub returns-in-Ok-check-clause-done : goal.returns-in-Ok-check-clause-done

@@ -1,5 +1,5 @@
 use Rattle.std.proofs.Common.{refl, subst, inr, Ok}
-use Rattle.iso_farm.specs.Counting.{IsCounted}
+use Rattle.spec_answers.specs.Counting.{IsCounted}
 use Rattle.iso_farm.proofs.commands.count_of_file.Goals as goal
 
 pub returns-in-Ok-count-clause-done : goal.returns-in-Ok-count-clause-done

@@ -1,5 +1,5 @@
 use Rattle.std.proofs.Common.{refl, subst, inr, Ok, Err}
-use Rattle.iso_farm.specs.One.{IsOneRun}
+use Rattle.spec_answers.specs.One.{IsOneRun}
 use Rattle.iso_farm.proofs.commands.one_of_file.Goals as goal
 
 pub returns-in-Ok-one-clause-done : goal.returns-in-Ok-one-clause-done

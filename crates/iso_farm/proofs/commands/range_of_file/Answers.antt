@@ -1,5 +1,5 @@
 use Rattle.std.proofs.Common.{refl, subst, inr, Ok, Err}
-use Rattle.iso_farm.specs.Ranges.{IsRangeRun}
+use Rattle.range_answers.specs.Ranges.{IsRangeRun}
 use Rattle.iso_farm.proofs.commands.range_of_file.Goals as goal
 
 pub returns-in-Ok-run_told-clause-done : goal.returns-in-Ok-run_told-clause-done

@@ -1,8 +1,8 @@
 use Rattle.std.proofs.Common.{◌≡◌, ◌⊎◌, [], sym, subst, map, Ok, Bor, List, ℕ}
-use Rattle.iso_farm.specs.declared.finding.Finding.TheVariants.{Good}
+use Rattle.book_answers.specs.declared.finding.Finding.TheVariants.{Good}
+use Rattle.book_answers.specs.Joining.{IsJoinRun}
+use Rattle.book_answers.specs.Judging.{IsJudgeRun}
 use Rattle.iso_farm.specs.Status.{join_status, judge_status}
-use Rattle.iso_farm.specs.Joining.{IsJoinRun}
-use Rattle.iso_farm.specs.Judging.{IsJudgeRun}
 use Rattle.iso_farm.specs.Commands.{IsDone, IsFound, IsTold}
 use Rattle.iso_farm.proofs.commands.work.Goals as goal
 

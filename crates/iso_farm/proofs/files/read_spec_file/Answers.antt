@@ -1,6 +1,6 @@
 use Rattle.std.proofs.Common.{◌≡◌, take}
+use Rattle.book_answers.proofs.FileLemmas.{of-known}
 use Rattle.iso_farm.specs.declared.files.TheConstants.{MAX_SPEC_READ}
-use Rattle.iso_farm.proofs.FileLemmas.{of-known}
 use Rattle.iso_farm.proofs.files.read_spec_file.Goals as goal
 
 -- a reader at the front of a file is asked for as much

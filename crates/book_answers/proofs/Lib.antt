@@ -1,0 +1,4 @@
+pub mod FileLemmas
+pub mod ReportLemmas
+pub mod JoinLemmas
+pub mod JudgeLemmas

@@ -1,0 +1,5 @@
+pub mod Finding
+pub mod Joining
+pub mod Reporting
+pub mod Auditing
+pub mod Judging

@@ -1,0 +1,16 @@
+//! What is answered from book files: their join, and the report, the audit and the judgement of a book.
+#![tactic(auto)]
+
+mod auditing;
+mod finding;
+mod joining;
+mod judging;
+mod opener;
+mod reporting;
+
+pub use auditing::{AuditFault, audit_file};
+pub use finding::Finding;
+pub use joining::{FileFault, JoinFault, join_files};
+pub use judging::{JudgeFault, NoReport, judge_files};
+pub use opener::Opener;
+pub use reporting::{ReportFault, ReportFileFault, report_file, write_report};

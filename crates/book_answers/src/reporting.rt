@@ -1,0 +1,94 @@
+//! The report of a book, rank by rank, and from the file of the book.
+
+ghost use Rattle.std.specs.Prelude.{◌≡◌, ◌<◌, length};
+ghost use Rattle.transcripts.specs.Counted.{Prints, failures_of};
+ghost use Rattle.book_answers.specs.Reporting.{AllOwn, IsReported, IsFileReported, values_text};
+
+use crate::joining::{FileFault, book_of_file};
+use crate::opener::Opener;
+use bound_specs::Spec;
+use outcome_books::{Book, Report, ReportError, report};
+use spec_answers::{spec_of, write_one};
+use std::alloc::Global;
+use std::io::Write;
+use transcripts::{Counted, WriteFault};
+
+/// Why a report was not written. The first is tried before the second.
+#[derive(Clone, Copy, PartialEq, Eq)]
+pub enum ReportFault {
+    /// The book has no report, or memory ran out.
+    Report(ReportError),
+    /// The report was not written; a front of it may be.
+    Write(WriteFault),
+}
+
+/// Why the report of the book at a path was not written. The first is tried before the second.
+#[derive(Clone, Copy, PartialEq, Eq)]
+pub enum ReportFileFault {
+    /// The file gives no book.
+    File(FileFault),
+    /// The book's report was not written.
+    Report(ReportFault),
+}
+
+/// Reads the book at a path, and writes its report.
+pub fn report_file<O: Opener, W: Write>(
+    alloc: Global,
+    opener: &O,
+    path: &str,
+    out: &mut Counted<W>,
+) -> Result<(), ReportFileFault>
+    requires { failures_of out.old < u64.MAX }
+    ensures { IsFileReported (O.bytes opener.now path.now) W.contents out.old out.new result }
+{
+    let book = match book_of_file(alloc, opener, path) {
+        Ok(book) => book,
+        Err(fault) => return Err(ReportFileFault::File(fault)),
+    };
+    match write_report(alloc, &book, out) {
+        Ok(()) => Ok(()),
+        Err(fault) => Err(ReportFileFault::Report(fault)),
+    }
+}
+
+/// Writes for each rank of the book's spec in order the rank and its one value. The text is never in memory as a whole.
+pub fn write_report<W: Write>(
+    alloc: Global,
+    book: &Book,
+    out: &mut Counted<W>,
+) -> Result<(), ReportFault>
+    requires { failures_of out.old < u64.MAX }
+    ensures { IsReported W.contents out.old out.new book.now result }
+{
+    book.known();
+    let values = match report(alloc, book) {
+        Ok(values) => values,
+        Err(error) => return Err(ReportFault::Report(error)),
+    };
+    // The text was bound when the book was made, so that only want of memory can refuse it.
+    let Ok(spec) = spec_of(alloc, book.text().as_bytes()) else {
+        return Err(ReportFault::Report(ReportError::NoMemory));
+    };
+    match write_values(&spec, &values, out) {
+        Ok(()) => Ok(()),
+        Err(fault) => Err(ReportFault::Write(fault)),
+    }
+}
+
+/// Writes for each rank in order the rank and its value.
+fn write_values<W: Write>(
+    spec: &Spec,
+    values: &Report,
+    out: &mut Counted<W>,
+) -> Result<(), WriteFault>
+    requires countable { failures_of out.old < u64.MAX }
+    requires own { AllOwn spec.now.run values.now }
+    ensures { Prints W.contents out.old out.new result (values_text spec.now values.now (length values.now)) }
+{
+    for rank in 0..values.len() {
+        if let Some(outcome) = values.outcome(rank) {
+            write_one(spec, rank, outcome, out)?;
+        }
+    }
+    Ok(())
+}

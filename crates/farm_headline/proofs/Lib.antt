@@ -1,0 +1,3 @@
+pub mod RangeLemmas
+pub mod TrueReports
+pub mod HeadlineLemmas

@@ -1,0 +1,21 @@
+//! The laws of what is run, joined and reported, each the contract of a function that does nothing.
+
+ghost use Rattle.farm_headline.specs.Headline.{RunsHold, JoinsHold, RunsDecide};
+ghost use Rattle.farm_headline.specs.Laws.{RangesAreTrue, JoinsStayTrue, ReportsAreTheMachines, CoveringReports};
+
+/// Whatever ranges are run, whichever way they cover or overlap each other, and however their books are joined: what is reported is
+/// what the sequential machine tells, rank by rank, and nothing is missing where each rank has a fact.
+pub fn reports_are_the_machines()
+    ensures ranges { RangesAreTrue }
+    ensures joins { JoinsStayTrue }
+    ensures reports { ReportsAreTheMachines }
+    ensures covering { CoveringReports }
+{}
+
+/// What was run decides the book, and so its report: neither the order, the grouping and the number of shards and of joins nor the workers do. Books of
+/// jobs and plans may be joined in any tree.
+pub fn runs_decide()
+    ensures alone { RunsHold }
+    ensures joins { JoinsHold }
+    ensures decide { RunsDecide }
+{}

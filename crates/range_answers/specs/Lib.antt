@@ -1,0 +1,3 @@
+pub mod Ranges
+pub mod Progress
+pub mod Cutting

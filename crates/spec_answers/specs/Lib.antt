@@ -1,0 +1,3 @@
+pub mod SpecFiles
+pub mod One
+pub mod Counting
