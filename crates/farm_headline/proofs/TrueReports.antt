@@ -11,7 +11,7 @@ use Rattle.outcome_books.specs.declared.error.ReportError.TheVariants.{Missing, 
 use Rattle.outcome_books.specs.Entries.{Told, recorded}
 use Rattle.outcome_books.specs.Books.{Contents}
 use Rattle.outcome_books.specs.Values.{AreValues, IsNotReported}
-use Rattle.outcome_books.proofs.Recordable.{file-is-bound}
+use Rattle.bound_specs.proofs.FileLemmas.{file-is-bound}
 use Rattle.spec_answers.specs.One.{IsAnswer}
 use Rattle.book_answers.specs.Reporting.{values_text, IsReportText}
 use Rattle.farm_headline.specs.Laws.{AreAnswers, ReportsAreTheMachines, CoveringReports}
