@@ -3,10 +3,10 @@ use Rattle.std.proofs.Common.{◌≡◌, refl, sym, subst, ◌∙◌, ℕ, zero,
 use Rattle.std.proofs.Common.{arith}
 use Rattle.bound_specs.specs.Spec.{Spec, SpecFile, ranks}
 use Rattle.bound_specs.specs.Binding.{IsFileOf}
-use Rattle.transcripts.specs.Counted.{Wrote, Stopped}
-use Rattle.transcripts.specs.Text.{rank_text, outcome_text}
-use Rattle.transcripts.specs.declared.counted.Counted.{Counted}
-use Rattle.transcripts.proofs.Writing.{wrote-append, stopped-append, stopped-after}
+use Rattle.outcome_texts.specs.Counted.{Wrote, Stopped}
+use Rattle.outcome_texts.specs.Text.{rank_text, outcome_text}
+use Rattle.outcome_texts.specs.declared.counted.Counted.{Counted}
+use Rattle.outcome_texts.proofs.Writing.{wrote-append, stopped-append, stopped-after}
 use Rattle.quiet_steps.specs.Swap.{leads_in}
 use Rattle.quiet_steps.specs.Values.{AllTrue, CoverEachRank, TellTheMachine}
 use Rattle.quiet_steps.proofs.TrueValues.{tell-the-machine}

@@ -1,7 +1,7 @@
 //! The report of a book, rank by rank, and from the file of the book.
 
 ghost use Rattle.std.specs.Prelude.{◌≡◌, ◌<◌, length};
-ghost use Rattle.transcripts.specs.Counted.{Prints, failures_of};
+ghost use Rattle.outcome_texts.specs.Counted.{Prints, failures_of};
 ghost use Rattle.iso_farm.specs.Reporting.{AllOwn, IsReported, IsFileReported, values_text};
 
 use crate::files::Opener;
@@ -10,9 +10,9 @@ use crate::single::write_one;
 use crate::spec::spec_of;
 use bound_specs::Spec;
 use outcome_books::{Book, Report, ReportError, report};
+use outcome_texts::{Counted, WriteFault};
 use std::alloc::Global;
 use std::io::Write;
-use transcripts::{Counted, WriteFault};
 
 /// Why a report was not written. The first is tried before the second.
 #[derive(Clone, Copy, PartialEq, Eq)]

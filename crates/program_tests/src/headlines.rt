@@ -2,6 +2,7 @@
 use crate::disks::assert_text;
 use iso_farm::{HeadlineFault, Plan, ReportFault, report_of_runs};
 use outcome_books::{Boxed, Job, ReportError};
+use outcome_texts::Counted;
 use session_machine::RunError;
 use shard_farm::{FarmError, OpenGate};
 use std::alloc::{AllocError, Global};
@@ -10,7 +11,6 @@ use std::sync::Wait;
 use std::test::Fail;
 use std::thread::Threads;
 use step_reducer::Shard;
-use transcripts::Counted;
 
 /// Two sessions that never meet: of their six orders each tells the same.
 const APART: &str =

@@ -1,5 +1,5 @@
 use Rattle.std.proofs.Common.{List, ℕ, ◌++◌, codes, decimal}
-use Rattle.transcripts.proofs.Writing.{prints-after, prints-stopped, stopped-append, stopped-after}
+use Rattle.outcome_texts.proofs.Writing.{prints-after, prints-stopped, stopped-append, stopped-after}
 use Rattle.iso_farm.specs.Counting.{number_line}
 use Rattle.iso_farm.proofs.judging.write_difference.Goals as goal
 

@@ -1,4 +1,4 @@
-use Rattle.transcripts.proofs.Writing.{prints-stopped}
+use Rattle.outcome_texts.proofs.Writing.{prints-stopped}
 use Rattle.iso_farm.proofs.JudgeLemmas.{line-stopped}
 use Rattle.iso_farm.proofs.judging.write_differences.Goals as goal
 

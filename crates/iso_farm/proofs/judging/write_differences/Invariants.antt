@@ -1,4 +1,4 @@
-use Rattle.transcripts.specs.Counted.{Wrote}
+use Rattle.outcome_texts.specs.Counted.{Wrote}
 use Rattle.iso_farm.specs.Judging.{difference_lines}
 use Rattle.iso_farm.proofs.judging.write_differences.Given as goal
 

@@ -1,6 +1,6 @@
 use Rattle.std.proofs.Common.{◌+◌, ◌<◌, sym, subst, length}
-use Rattle.transcripts.specs.Counted.{Wrote}
-use Rattle.transcripts.proofs.Writing.{prints-stopped}
+use Rattle.outcome_texts.specs.Counted.{Wrote}
+use Rattle.outcome_texts.proofs.Writing.{prints-stopped}
 use Rattle.iso_farm.specs.Reporting.{values_text}
 use Rattle.iso_farm.proofs.ReportLemmas.{value-written, value-stopped, none-at}
 use Rattle.iso_farm.proofs.reporting.write_values.Goals.{in-Some+in_ok-write_one, in_default}

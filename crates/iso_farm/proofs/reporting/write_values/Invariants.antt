@@ -1,4 +1,4 @@
-use Rattle.transcripts.specs.Counted.{Wrote}
+use Rattle.outcome_texts.specs.Counted.{Wrote}
 use Rattle.iso_farm.specs.Reporting.{values_text}
 use Rattle.iso_farm.proofs.reporting.write_values.Given as goal
 
