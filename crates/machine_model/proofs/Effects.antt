@@ -2,10 +2,10 @@
 use Rattle.std.proofs.Common.{◌≡◌, refl, subst, ℕ, Bool, true, false, ◌&&◌, ◌||◌, List, [], ◌∷◌, map, Some, None, ◌⊎◌, inl, inr, ⊎_elim}
 use Rattle.finite_maps.specs.Map.{same_key-true, same_key-refl, entries}
 use Rattle.lock_modes.specs.RowPlace.{RowPlace}
+use Rattle.lock_modes.specs.Rows.{Rows', Write}
 use Rattle.lock_modes.specs.Resource.{resource_order, same_resource}
 use Rattle.lock_modes.specs.Mode.{compatible}
 use Rattle.sql_statements.specs.Plan.{Tuple, Request, request, plan, opened, asks_on, reads_table, writes_in, is_exclusive, looks_at, key_at}
-use Rattle.row_tables.specs.Overlay.{Rows', Write}
 use Rattle.statement_effects.specs.Effect.{visible, Effect, Gives, Faults, effect, matching, all_assigned, placed, or_fault, counted}
 use Rattle.machine_model.specs.Claims.{Claims, may_write}
 use Rattle.sql_statements.specs.declared.statement.Assignment.{Assignment}

@@ -3,10 +3,11 @@ use Rattle.std.proofs.Common.{◌≡◌, refl, sym, ap, ◌∙◌, subst, ℕ, s
 use Rattle.std.proofs.Common.{⊎_elim, arith}
 use Rattle.finite_maps.specs.Map.{same_key, same_key-true, get, insert, get-insert, empty, get-empty}
 use Rattle.lock_modes.specs.RowPlace.{place_order}
+use Rattle.lock_modes.specs.Rows.{Rows', Write}
 use Rattle.lock_modes.specs.Resource.{resource_order}
 use Rattle.lock_queues.specs.Locks.{fits, wanted, may_have, closes_ring, answered}
 use Rattle.sql_statements.specs.Plan.{Tuple, Request, request, plan}
-use Rattle.row_tables.specs.Overlay.{Rows', Write, Overlay, written}
+use Rattle.row_tables.specs.Overlay.{Overlay, written}
 use Rattle.statement_effects.specs.Effect.{Effect, Gives, Faults, effect}
 use Rattle.machine_model.specs.Session.{Task, Ask, Do, Session, Held, Performed, Goes, Fails, Kind, Begins, Commits, RollsBack, Works, kind, perform}
 use Rattle.machine_model.specs.Session.{perform_by, worked}

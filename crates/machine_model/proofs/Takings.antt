@@ -10,9 +10,10 @@ use Rattle.std.proofs.lemmas.Bool.{eqb-true, eq-eqb}
 use Rattle.std.proofs.lemmas.List.Elements.{All-head, All-tail}
 use Rattle.finite_maps.specs.Map.{Order, Map, empty, entries, insert, keep, remove}
 use Rattle.lock_modes.specs.RowPlace.{RowPlace}
+use Rattle.lock_modes.specs.Rows.{Tuple, Rows', Write}
 use Rattle.lock_modes.specs.declared.value.Value.{Value}
 use Rattle.lock_modes.specs.declared.value.Value.TheVariants.{Int, Text}
-use Rattle.row_tables.specs.Overlay.{Tuple, Rows', Overlay, Write, laid, lay_entries, lay, written}
+use Rattle.row_tables.specs.Overlay.{Overlay, laid, lay_entries, lay, written}
 use Rattle.sql_statements.specs.Plan.{key_at, at_key, looks_at}
 use Rattle.sql_statements.specs.declared.condition.Condition.{Condition, more_of-Condition, end_of-Condition}
 use Rattle.sql_statements.specs.declared.condition.Condition.TheVariants.{Always, Compares, Not', And', Or'}

@@ -6,10 +6,11 @@ use Rattle.std.proofs.lemmas.List.{get_or_past}
 use Rattle.std.proofs.lemmas.List.Elements.{All-head, All-tail}
 use Rattle.finite_maps.specs.Map.{empty}
 use Rattle.lock_modes.specs.RowPlace.{place_order}
+use Rattle.lock_modes.specs.Rows.{Tuple, Rows'}
 use Rattle.lock_queues.specs.declared.answer.Answer.{Answer}
 use Rattle.lock_queues.specs.declared.answer.Answer.TheVariants.{Granted, Waits, Ring}
 use Rattle.lock_queues.specs.Locks.{Spot, next_grant, waits_now}
-use Rattle.row_tables.specs.Overlay.{Tuple, Rows', lay}
+use Rattle.row_tables.specs.Overlay.{lay}
 use Rattle.sql_statements.specs.Plan.{Request, plan}
 use Rattle.sql_statements.specs.declared.statement.Bound.{Bound}
 use Rattle.sql_binding.specs.declared.tables.Table.{Table}

@@ -3,7 +3,8 @@ use Rattle.std.proofs.Common.{◌≡◌, ◌≢◌, refl, ap, ◌∙◌, ℕ, Bo
 use Rattle.std.specs.Option.{unwrap_or}
 use Rattle.finite_maps.specs.Map.{same_key, same_key-true, get, insert, empty, get-insert, get-empty}
 use Rattle.lock_modes.specs.RowPlace.{RowPlace, place_order}
-use Rattle.row_tables.specs.Overlay.{Tuple, Overlay, Write}
+use Rattle.lock_modes.specs.Rows.{Tuple, Write}
+use Rattle.row_tables.specs.Overlay.{Overlay}
 use Rattle.row_tables.specs.Layers.{Layers, session_order, overlay_of, IsOnlyWriterAt, wrote, no_rows}
 use Rattle.sql_statements.specs.declared.statement.Bound.{Bound}
 use Rattle.statement_effects.specs.Effect.{Effect, Gives, Faults}

@@ -2,6 +2,7 @@
 use Rattle.std.proofs.Common.{◌≡◌, refl, ap, ℕ, Bool, true, false, ◌&&◌, ◌==◌, List, [], ◌∷◌, map, Option, Some, None}
 use Rattle.finite_maps.specs.Map.{keep, entries}
 use Rattle.lock_modes.specs.RowPlace.{RowPlace}
+use Rattle.lock_modes.specs.Rows.{Tuple, Rows'}
 use Rattle.lock_modes.specs.declared.mode.Mode.{Mode}
 use Rattle.lock_modes.specs.declared.value.Value.{Value}
 use Rattle.transcripts.specs.declared.event.Fault.TheVariants.{Duplicate, OutOfRange}
@@ -12,7 +13,6 @@ use Rattle.sql_statements.specs.declared.statement.Assignment.{Assignment}
 use Rattle.sql_statements.specs.declared.statement.SortKey.{SortKey}
 use Rattle.sql_statements.specs.declared.statement.Output.{Output}
 use Rattle.sql_statements.specs.declared.statement.Bound.TheVariants.{Select, Insert, Update, Delete, Begin, Commit, Rollback, Lock, SetVariable}
-use Rattle.row_tables.specs.Overlay.{Tuple, Rows'}
 use Rattle.row_tables.specs.Layers.{Layers, IsOnlyWriterAt}
 use Rattle.statement_effects.specs.Effect.{Effect, Gives, Faults, effect, matching, shown, sorted_by, all_assigned, placed, numbered, next_number, or_fault}
 use Rattle.statement_effects.specs.Effect.{counted}

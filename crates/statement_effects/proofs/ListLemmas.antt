@@ -3,7 +3,7 @@ pub use Rattle.perm_ranks.proofs.TruthLemmas.{Each, Each-map}
 use Rattle.std.proofs.Common.{◌≡◌, refl, sym, ap, ℕ, zero, suc, ◌<◌, length, get_or, arith, Bool, true, false, cond, List, [], ◌∷◌, ◌++◌, Option, Some, None}
 use Rattle.std.proofs.Common.{append_assoc}
 use Rattle.lock_modes.specs.RowPlace.{RowPlace}
-use Rattle.row_tables.specs.Overlay.{Tuple, Write}
+use Rattle.lock_modes.specs.Rows.{Tuple, Write}
 use Rattle.statement_effects.specs.Effect.{consed, passed, consed_write}
 
 -- these in front of those that are left, if there are such

@@ -7,12 +7,12 @@ use Rattle.std.specs.List.{list_any}
 use Rattle.std.proofs.lemmas.Bool.{and_from, or_left, or_right}
 use Rattle.finite_maps.specs.Map.{same_key, same_key-true, same_key-refl, get, insert, keep, get-insert, get-keep, same_map}
 use Rattle.lock_modes.specs.RowPlace.{RowPlace, place_order}
+use Rattle.lock_modes.specs.Rows.{Tuple, Rows', Write}
 use Rattle.lock_modes.specs.Value.{value_order, value_cmp, value_total}
 use Rattle.lock_modes.specs.declared.value.Value.{Value}
 use Rattle.sql_statements.specs.Plan.{key_at, at_key, looks_at}
 use Rattle.sql_statements.specs.declared.statement.Bound.{Bound}
 use Rattle.sql_statements.specs.declared.statement.Bound.TheVariants.{Insert}
-use Rattle.row_tables.specs.Overlay.{Tuple, Rows', Write}
 use Rattle.row_tables.specs.Layers.{session_order}
 use Rattle.statement_effects.specs.Effect.{placed, consed_write, visible}
 use Rattle.statement_effects.proofs.ListLemmas.{onto, onto-[], onto-write, Each, Each-map}

@@ -9,13 +9,13 @@ use Rattle.std.specs.List.Sorted.{IsSortedBy, IsStableBy, ties}
 use Rattle.std.proofs.lemmas.List.Sorted.{ranks_by, sorted_far}
 use Rattle.std.proofs.lemmas.Bool.{and_parts, not-true}
 use Rattle.lock_modes.specs.RowPlace.{RowPlace}
+use Rattle.lock_modes.specs.Rows.{Tuple}
 use Rattle.lock_modes.specs.Value.{value_cmp, value_total}
 use Rattle.lock_modes.specs.declared.value.Value.{Value}
 use Rattle.lock_modes.specs.declared.value.Value.TheVariants.{Int}
 use Rattle.sql_statements.specs.declared.statement.Order.{Order}
 use Rattle.sql_statements.specs.declared.statement.Order.TheVariants.{Rises as Up, Falls as Down}
 use Rattle.sql_statements.specs.declared.statement.SortKey.{SortKey}
-use Rattle.row_tables.specs.Overlay.{Tuple}
 use Rattle.statement_effects.specs.Effect.{in_order, sort_cmp, put_in, sorted_by}
 
 -- an entry that passes goes before others, in either order where not both pass

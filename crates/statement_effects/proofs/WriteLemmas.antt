@@ -3,6 +3,7 @@ use Rattle.std.proofs.Common.{◌≡◌, refl, sym, subst, ℕ, suc, Bool, true,
 use Rattle.std.specs.List.{filter}
 use Rattle.finite_maps.specs.Map.{get, insert, keep, entries}
 use Rattle.lock_modes.specs.RowPlace.{RowPlace}
+use Rattle.lock_modes.specs.Rows.{Tuple, Rows', Write}
 use Rattle.lock_modes.specs.declared.value.Value.{Value}
 use Rattle.lock_modes.specs.declared.value.Value.TheVariants.{Int}
 use Rattle.transcripts.specs.declared.event.Fault.{Fault}
@@ -17,7 +18,6 @@ use Rattle.sql_statements.specs.declared.statement.Output.{Output}
 use Rattle.sql_statements.specs.declared.statement.Output.TheVariants.{Columns, Aggregates}
 use Rattle.sql_statements.specs.declared.statement.Bound.{Bound}
 use Rattle.sql_statements.specs.declared.statement.Bound.TheVariants.{Select, Insert, Update, Delete, Begin, Commit, Rollback, Lock, SetVariable}
-use Rattle.row_tables.specs.Overlay.{Tuple, Rows', Write}
 use Rattle.row_tables.specs.Layers.{Layers, IsOnlyWriterAt}
 use Rattle.statement_effects.specs.Evaluate.{holds}
 use Rattle.statement_effects.specs.Effect.{Effect, Gives, Faults, effect, visible, matching, passed, consed, consed_write, sorted_by, shown, all_aggregated}

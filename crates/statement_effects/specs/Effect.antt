@@ -4,6 +4,7 @@ use Rattle.std.proofs.Common.{Ordering, Less, Equal, Greater, is_gt}
 use Rattle.std.specs.Ordering.{ordering_then}
 use Rattle.finite_maps.specs.Map.{get, insert, keep, entries}
 use Rattle.lock_modes.specs.RowPlace.{RowPlace}
+pub use Rattle.lock_modes.specs.Rows.{Rows', Write}
 use Rattle.lock_modes.specs.Value.{value_cmp}
 use Rattle.lock_modes.specs.declared.value.Value.{Value}
 use Rattle.lock_modes.specs.declared.value.Value.TheVariants.{Int, Text}
@@ -23,7 +24,6 @@ use Rattle.sql_statements.specs.declared.statement.Output.TheVariants.{Columns, 
 use Rattle.sql_statements.specs.declared.statement.Bound.{Bound}
 use Rattle.sql_statements.specs.declared.statement.Bound.TheVariants.{Select, Insert, Update, Delete, Begin, Commit, Rollback, Lock, SetVariable}
 use Rattle.sql_statements.specs.Plan.{Tuple, key_at, looks_at}
-pub use Rattle.row_tables.specs.Overlay.{Rows', Write}
 use Rattle.statement_effects.specs.Evaluate.{checked, holds}
 use Rattle.statement_effects.specs.Evaluate.{value_of}
 

@@ -2,6 +2,7 @@
 use Rattle.std.specs.Prelude.{◌≡◌, ℕ, suc, ◌<◌, Bool, true, ◌&&◌, ◌==◌, List, length, get_or, map, Option, Some, None, pos, negsuc}
 use Rattle.finite_maps.specs.Map.{keep, entries}
 use Rattle.lock_modes.specs.RowPlace.{RowPlace}
+use Rattle.lock_modes.specs.Rows.{Rows'}
 use Rattle.lock_modes.specs.declared.value.Value.{Value}
 use Rattle.lock_modes.specs.declared.value.Value.TheVariants.{Int, Text}
 use Rattle.sql_statements.specs.Plan.{Tuple, at_key, key_at}
@@ -10,7 +11,6 @@ use Rattle.sql_statements.specs.declared.statement.SortKey.{SortKey}
 use Rattle.sql_statements.specs.declared.statement.Output.{Output}
 use Rattle.transcripts.specs.declared.event.Fault.TheVariants.{OutOfRange}
 use Rattle.transcripts.specs.declared.event.Event.TheVariants.{Updated, Deleted}
-use Rattle.row_tables.specs.Overlay.{Rows'}
 use Rattle.statement_effects.specs.Effect.{Effect, Faults, shown, sorted_by, all_assigned, or_fault, counted}
 use Rattle.row_tables.specs.Layers.{Layers, IsOnlyWriterAt}
 

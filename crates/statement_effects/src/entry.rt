@@ -19,7 +19,7 @@ pub(crate) struct Entry<'a> {
 
 impl<'a> Model for Entry<'a> {
     ghost use Rattle.lock_modes.specs.RowPlace.{RowPlace};
-    ghost use Rattle.row_tables.specs.Overlay.{Tuple};
+    ghost use Rattle.lock_modes.specs.Rows.{Tuple};
 
     ghost Value = { RowPlace × Tuple };
 
@@ -61,7 +61,7 @@ pub(crate) struct Entries<'a> {
 impl<'a> Model for Entries<'a> {
     ghost use Rattle.std.specs.Prelude.{List};
     ghost use Rattle.lock_modes.specs.RowPlace.{RowPlace};
-    ghost use Rattle.row_tables.specs.Overlay.{Tuple};
+    ghost use Rattle.lock_modes.specs.Rows.{Tuple};
 
     ghost Value = { List (RowPlace × Tuple) };
 

@@ -1,7 +1,7 @@
 //! Rows that change or go.
 
 ghost use Rattle.std.specs.Prelude.{◌≡◌, IfOk, None, map, set};
-ghost use Rattle.row_tables.specs.Overlay.{Tuple};
+ghost use Rattle.lock_modes.specs.Rows.{Tuple};
 ghost use Rattle.lock_modes.specs.RowPlace.{RowPlace};
 ghost use Rattle.statement_effects.specs.Effect as spec;
 ghost use Rattle.statement_effects.specs.Borrowed.{effect_at};

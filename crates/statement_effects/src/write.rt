@@ -1,7 +1,7 @@
 //! What a statement writes.
 
 ghost use Rattle.std.specs.Prelude.{◌≡◌, [], ◌∷◌, ◌++◌, OnOk, length};
-ghost use Rattle.row_tables.specs.Overlay as overlay;
+ghost use Rattle.lock_modes.specs.Rows as rows;
 
 use lock_modes::{Row, Value};
 use std::alloc::{AllocError, Global};
@@ -16,9 +16,9 @@ pub(crate) struct Write {
 }
 
 impl Model for Write {
-    ghost use Rattle.row_tables.specs.Overlay as overlay;
+    ghost use Rattle.lock_modes.specs.Rows as rows;
 
-    ghost Value = { overlay.Write };
+    ghost Value = { rows.Write };
 
     ghost view = { λ w. record { place = (w.table, w.key); left = w.left } };
 }
@@ -46,9 +46,9 @@ pub(crate) struct Writes {
 
 impl Model for Writes {
     ghost use Rattle.std.specs.Prelude.{List};
-    ghost use Rattle.row_tables.specs.Overlay as overlay;
+    ghost use Rattle.lock_modes.specs.Rows as rows;
 
-    ghost Value = { List overlay.Write };
+    ghost Value = { List rows.Write };
 
     ghost view = { λ w. w.items.items };
 }

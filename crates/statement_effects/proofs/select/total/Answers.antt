@@ -3,7 +3,7 @@ use lib.IntN.{neg_ℤ, ℤ}
 use mir.Val.{SFits, to_z, of_z}
 use mir.Syntax.{w64, w128}
 use Rattle.lock_modes.specs.RowPlace.{RowPlace}
-use Rattle.row_tables.specs.Overlay.{Tuple}
+use Rattle.lock_modes.specs.Rows.{Tuple}
 use Rattle.std.proofs.lemmas.Int.{ints}
 use Rattle.statement_effects.specs.Effect.{total_of, number_in}
 use Rattle.statement_effects.proofs.select.total.Goals as goal

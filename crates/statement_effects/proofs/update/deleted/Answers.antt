@@ -2,7 +2,7 @@ use Rattle.std.proofs.Common.{◌≡◌, sym, ap, ◌∙◌, subst, ◌∷◌, [
 use Rattle.std.specs.Result.{IfOk}
 use Rattle.transcripts.specs.declared.event.Event.TheVariants.{Deleted}
 use Rattle.lock_modes.specs.RowPlace.{RowPlace}
-use Rattle.row_tables.specs.Overlay.{Tuple}
+use Rattle.lock_modes.specs.Rows.{Tuple}
 use Rattle.statement_effects.specs.Effect.{Effect, Gives, counted}
 use Rattle.statement_effects.specs.Seen.{deleted}
 use Rattle.statement_effects.specs.Borrowed.{effect_at}

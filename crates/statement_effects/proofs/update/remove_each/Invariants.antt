@@ -1,6 +1,6 @@
 use Rattle.std.proofs.Common.{◌≡◌, map, take, None}
 use Rattle.lock_modes.specs.RowPlace.{RowPlace}
-use Rattle.row_tables.specs.Overlay.{Tuple}
+use Rattle.lock_modes.specs.Rows.{Tuple}
 use Rattle.statement_effects.proofs.update.remove_each.Given as goal
 
 -- the first rows are gone
