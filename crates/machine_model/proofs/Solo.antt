@@ -6,7 +6,7 @@ use Rattle.lock_modes.specs.Resource.{resource_order}
 use Rattle.lock_modes.specs.Mode.{cover}
 use Rattle.lock_modes.specs.Rows.{Rows'}
 use Rattle.lock_queues.specs.Locks.{Look, fits, fits_with, wanted, all_below, may_have, answered}
-use Rattle.statement_effects.specs.Effect.{Effect, Gives, Faults}
+use Rattle.row_effects.specs.Effect.{Effect, Gives, Faults}
 use Rattle.machine_model.specs.Session.{Task, Ask, Do, Session, Held, Performed, Goes, Fails, Kind, Begins, Commits, RollsBack, Works, kind, perform}
 use Rattle.machine_model.specs.Session.{perform_by, worked}
 use Rattle.machine_model.specs.Go.{Scene, Run, Stop, taking, go, solo, stopped, failed, finished_by, is_broken, held_up}

@@ -43,12 +43,12 @@ use Rattle.sql_binding.specs.Tables.{no_table, key_column, type_of, width}
 use Rattle.sql_binding.specs.Types.{value_type}
 use Rattle.transcripts.specs.declared.event.Fault.TheVariants.{Duplicate, OutOfRange}
 use Rattle.transcripts.specs.declared.event.Event.TheVariants.{Inserted, Updated, Deleted}
-use Rattle.statement_effects.specs.Evaluate.{in_range, checked, on_numbers, operand_value, times_each, product_value, plus_or_minus, plus_each, value_of}
-use Rattle.statement_effects.specs.Effect.{visible, Effect, Gives, Faults, effect, matching, assigned, all_assigned, placed, next_number, numbered, or_fault}
-use Rattle.statement_effects.specs.Effect.{counted}
-use Rattle.statement_effects.proofs.ListLemmas.{Each, Each-map, Each-at}
-use Rattle.statement_effects.proofs.WriteLemmas.{OnSome, OnGives, leaves, any-some, each-kept, each-any, each-matching, each-all_assigned, each-placed}
-use Rattle.statement_effects.proofs.WriteLemmas.{each-deleted, on-or_fault, on-matched, on-selected}
+use Rattle.row_effects.specs.Evaluate.{in_range, checked, on_numbers, operand_value, times_each, product_value, plus_or_minus, plus_each, value_of}
+use Rattle.row_effects.specs.Effect.{visible, Effect, Gives, Faults, effect, matching, assigned, all_assigned, placed, next_number, numbered, or_fault}
+use Rattle.row_effects.specs.Effect.{counted}
+use Rattle.row_effects.proofs.ListLemmas.{Each, Each-map, Each-at}
+use Rattle.row_effects.proofs.WriteLemmas.{OnSome, OnGives, leaves, any-some, each-kept, each-any, each-matching, each-all_assigned, each-placed}
+use Rattle.row_effects.proofs.WriteLemmas.{each-deleted, on-or_fault, on-matched, on-selected}
 use Rattle.machine_model.specs.Typed.{LiesAt, EntryFits, RowsFit, LeftFits}
 use Rattle.machine_model.proofs.Basics.{cases-eq, both_true}
 

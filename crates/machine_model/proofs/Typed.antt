@@ -19,9 +19,9 @@ use Rattle.bound_specs.specs.Spec.{Spec, Step, no_step}
 use Rattle.transcripts.specs.declared.event.Fault.{Fault}
 use Rattle.transcripts.specs.declared.event.Fault.TheVariants.{Deadlock, Aborted}
 use Rattle.transcripts.specs.declared.event.Event.TheVariants.{Sent, Resumed, NotSent}
-use Rattle.statement_effects.specs.Effect.{Effect, Gives, Faults, effect}
-use Rattle.statement_effects.proofs.ListLemmas.{Each}
-use Rattle.statement_effects.proofs.WriteLemmas.{OnGives}
+use Rattle.row_effects.specs.Effect.{Effect, Gives, Faults, effect}
+use Rattle.row_effects.proofs.ListLemmas.{Each}
+use Rattle.row_effects.proofs.WriteLemmas.{OnGives}
 use Rattle.machine_model.specs.declared.status.Status.{Status}
 use Rattle.machine_model.specs.declared.status.Status.TheVariants.{Outside, InBlock, Broken}
 use Rattle.machine_model.specs.Session.{Task, Ask, Do, Session, Kind, Begins, Commits, RollsBack, Works, kind, note, asks, tasks_of, Performed, Goes, Fails}

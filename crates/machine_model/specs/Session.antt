@@ -5,7 +5,7 @@ use Rattle.lock_modes.specs.Resource.{resource_order}
 use Rattle.lock_modes.specs.Rows.{Rows'}
 use Rattle.sql_statements.specs.Plan.{Request, plan}
 use Rattle.row_tables.specs.Overlay.{Overlay, lay, written}
-use Rattle.statement_effects.specs.Effect.{Effect, Gives, Faults, effect}
+use Rattle.row_effects.specs.Effect.{Effect, Gives, Faults, effect}
 use Rattle.lock_modes.specs.declared.mode.Mode.{Mode}
 use Rattle.lock_modes.specs.declared.resource.Resource.{Resource}
 use Rattle.transcripts.specs.declared.event.Fault.{Fault}

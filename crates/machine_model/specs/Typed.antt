@@ -14,7 +14,7 @@ use Rattle.sql_binding.specs.declared.tables.Table.{Table}
 use Rattle.bound_specs.specs.Fits.{OfTable, RowFits, ValueIn, Takes, Fits, SpecFits}
 use Rattle.bound_specs.specs.Spec.{Spec}
 use Rattle.sql_binding.specs.Tables.{key_column}
-use Rattle.statement_effects.specs.Effect.{visible, next_number}
+use Rattle.row_effects.specs.Effect.{visible, next_number}
 use Rattle.machine_model.specs.Start.{Started, start}
 use Rattle.machine_model.specs.Session.{Session, Task, Ask, Do, Goes, Fails, perform}
 use Rattle.machine_model.specs.Go.{taking}

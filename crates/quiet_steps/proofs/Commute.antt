@@ -22,7 +22,7 @@ use Rattle.lock_modes.specs.declared.resource.Resource.{Resource}
 use Rattle.sql_statements.specs.declared.statement.Bound.{Bound}
 use Rattle.machine_model.proofs.Basics.{Each-left, Each-right, filter_same, both_true, and_true, or_true_right, known, cases-eq}
 use Rattle.perm_ranks.proofs.TruthLemmas.{Each-append}
-use Rattle.statement_effects.proofs.ListLemmas.{Each, Each-map}
+use Rattle.row_effects.proofs.ListLemmas.{Each, Each-map}
 use Rattle.lock_modes.proofs.ModeLaws.{compatible-cover, compatible-comm}
 use Rattle.machine_model.specs.Footprint.{EachAsk, EachDo, HeldFits, IsFree}
 use Rattle.machine_model.proofs.Solo.{Keeps, go-solo, solo-held}

@@ -8,7 +8,7 @@ use Rattle.lock_queues.specs.declared.answer.Answer.TheVariants.{Granted, Waits,
 use Rattle.row_tables.specs.Overlay.{Overlay, lay}
 use Rattle.sql_statements.specs.Plan.{Request, request, plan}
 use Rattle.sql_statements.specs.declared.statement.Bound.{Bound}
-use Rattle.statement_effects.specs.Effect.{Effect, Gives, Faults, effect}
+use Rattle.row_effects.specs.Effect.{Effect, Gives, Faults, effect}
 use Rattle.transcripts.specs.declared.event.Fault.TheVariants.{Deadlock, Aborted}
 use Rattle.machine_model.specs.declared.status.Status.{Status}
 use Rattle.machine_model.specs.declared.status.Status.TheVariants.{Outside, InBlock, Broken}

@@ -17,7 +17,7 @@ use Rattle.transcripts.specs.declared.event.Fault.TheVariants.{Deadlock, Aborted
 use Rattle.transcripts.specs.declared.event.Event.{Event}
 use Rattle.transcripts.specs.declared.event.Event.TheVariants.{Done, Warned, Committed, RolledBack}
 use Rattle.transcripts.specs.declared.event.Warning.TheVariants.{NoBlock}
-use Rattle.statement_effects.specs.Effect.{Effect, Gives, Faults, effect}
+use Rattle.row_effects.specs.Effect.{Effect, Gives, Faults, effect}
 use Rattle.statement_effects.specs.Run.{events_of, fault_of, left_by}
 use Rattle.row_tables.specs.Layers.{Layers, sight, undone, kept}
 use Rattle.session_machine.specs.declared.session.SessionState.{SessionState}

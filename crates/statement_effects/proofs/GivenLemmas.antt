@@ -14,11 +14,12 @@ use Rattle.sql_statements.specs.declared.statement.SortKey.{SortKey}
 use Rattle.sql_statements.specs.declared.statement.Output.{Output}
 use Rattle.sql_statements.specs.declared.statement.Bound.TheVariants.{Select, Insert, Update, Delete, Begin, Commit, Rollback, Lock, SetVariable}
 use Rattle.row_tables.specs.Layers.{Layers, IsOnlyWriterAt}
-use Rattle.statement_effects.specs.Effect.{Effect, Gives, Faults, effect, matching, shown, sorted_by, all_assigned, placed, numbered, next_number, or_fault}
-use Rattle.statement_effects.specs.Effect.{counted}
+use Rattle.row_effects.specs.Effect.{Effect, Gives, Faults, effect, matching, shown, sorted_by, all_assigned, placed, numbered, next_number, or_fault}
+use Rattle.row_effects.specs.Effect.{counted}
+use Rattle.row_effects.specs.Matched.{selected, updated, deleted}
+use Rattle.row_effects.proofs.ListLemmas.{Each-at, Each-map}
 use Rattle.statement_effects.specs.Run.{SeesAlone}
-use Rattle.statement_effects.specs.Seen.{named, selected, updated, deleted, KeysAlone}
-use Rattle.statement_effects.proofs.ListLemmas.{Each-at, Each-map}
+use Rattle.statement_effects.specs.Seen.{named, KeysAlone}
 use Rattle.statement_effects.proofs.PlaceLemmas.{placed-visible, looks-each}
 
 matched-selected : (by : List SortKey) (out : Output) (o : Option (List (RowPlace × Tuple)))

@@ -11,8 +11,8 @@ use Rattle.lock_modes.specs.Value.{value_order}
 use Rattle.lock_modes.specs.declared.value.Value.{Value}
 use Rattle.row_tables.specs.Layers.{session_order, rows_in, rows_of}
 use Rattle.sql_statements.specs.declared.condition.Condition.{Condition}
-use Rattle.statement_effects.specs.Evaluate.{holds}
-use Rattle.statement_effects.specs.Effect.{matching, passed}
+use Rattle.row_effects.specs.Evaluate.{holds}
+use Rattle.row_effects.specs.Effect.{matching, passed}
 use Rattle.statement_effects.specs.Seen.{is_named, named, in_table}
 
 -- ---- by a key

@@ -7,7 +7,7 @@ use Rattle.transcripts.specs.declared.event.Event.{Event}
 use Rattle.sql_statements.specs.declared.statement.Bound.{Bound}
 use Rattle.sql_statements.specs.Plan.{looks_at}
 use Rattle.row_tables.specs.Layers.{Layers, wrote, IsOnlyWriterAt}
-use Rattle.statement_effects.specs.Effect.{Effect, Gives, Faults}
+use Rattle.row_effects.specs.Effect.{Effect, Gives, Faults}
 
 -- what an effect tells
 abbrev pub events_of : Effect → List Event

@@ -4,7 +4,7 @@ use Rattle.std.specs.Result.{IfOk}
 use Rattle.lock_modes.specs.RowPlace.{RowPlace}
 use Rattle.lock_modes.specs.Rows.{Tuple}
 use Rattle.row_tables.specs.Layers.{sight, rows_of}
-use Rattle.statement_effects.specs.Effect.{matching}
+use Rattle.row_effects.specs.Effect.{matching}
 use Rattle.statement_effects.specs.Seen.{is_named, named, in_table}
 use Rattle.statement_effects.proofs.SeenLemmas.{there, named-table}
 use Rattle.statement_effects.proofs.matching.matching.Goals as goal
