@@ -18,9 +18,10 @@ use Rattle.row_effects.specs.Effect.{Effect, Gives, Faults, effect, matching, sh
 use Rattle.row_effects.specs.Effect.{counted}
 use Rattle.row_effects.specs.Matched.{selected, updated, deleted}
 use Rattle.row_effects.proofs.ListLemmas.{Each-at, Each-map}
+use Rattle.row_effects.proofs.WriteLemmas.{looks-each}
 use Rattle.statement_effects.specs.Run.{SeesAlone}
 use Rattle.statement_effects.specs.Seen.{named, KeysAlone}
-use Rattle.statement_effects.proofs.PlaceLemmas.{placed-visible, looks-each}
+use Rattle.statement_effects.proofs.PlaceLemmas.{placed-visible}
 
 matched-selected : (by : List SortKey) (out : Output) (o : Option (List (RowPlace × Tuple)))
     → (let f : Effect = elim o [ None ↦ Faults OutOfRange | Some es ↦ shown out (sorted_by by es) ] in f) ≡ selected by out o
