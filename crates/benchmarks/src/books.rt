@@ -6,12 +6,12 @@ use book_jobs::{Boxed, Job, make};
 use bound_specs::Spec;
 use iso_farm::{OneFault, spec_of};
 use outcome_books::{Book, Report, ReportError, missing, report};
+use outcome_texts::outcome_value;
 use session_machine::RunError;
 use std::alloc::Global;
 use std::io;
 use std::process::ExitCode;
 use step_reducer::Shard;
-use transcripts::outcome_value;
 
 /// The job of a range of ranks: its first rank, its end, and how.
 fn run_of(range: &[String]) -> io::Result<Job> {

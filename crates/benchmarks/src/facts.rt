@@ -3,11 +3,11 @@
 use crate::walks::text_of;
 use bound_specs::Spec;
 use iso_farm::{OneFault, fault_at, spec_of};
+use outcome_texts::outcome_value;
 use session_machine::RunError;
 use std::io;
 use std::process::ExitCode;
 use step_reducer::{Fact, Shard, Walker};
-use transcripts::outcome_value;
 
 /// The status of what is refused.
 const REFUSED: u8 = 3;

@@ -1,7 +1,7 @@
 -- Bytes that a reader of a file gives.
 use Rattle.std.proofs.Common.{◌≡◌, ap, subst, ◌∙◌, ℕ, List, Option, Some, None, IfSome}
-use Rattle.transcripts.specs.Counted.{inner_of, unread}
-use Rattle.transcripts.specs.declared.counted.Counted.{Counted}
+use Rattle.outcome_texts.specs.Counted.{inner_of, unread}
+use Rattle.outcome_texts.specs.declared.counted.Counted.{Counted}
 
 -- what is said of a file's bytes by its reader
 pub of-known : {R : Type 0} (remaining : R → Option (List ℕ)) (known : Option (List ℕ)) (reader : R) (input : Counted R) (P : List ℕ → Type 0)

@@ -1,6 +1,6 @@
 -- Books of files, joined one after another.
 use Rattle.std.proofs.Common.{◌≡◌, sym, subst, ℕ, zero, suc, ◌+◌, ◌<◌, List, length, Option, Result, Ok, Err, IsErrAnd, arith}
-use Rattle.transcripts.specs.declared.counted.Counted.{Counted}
+use Rattle.outcome_texts.specs.declared.counted.Counted.{Counted}
 use Rattle.outcome_books.specs.Books.{Contents}
 use Rattle.book_answers.specs.declared.joining.JoinFault.{JoinFault}
 use Rattle.book_answers.specs.declared.joining.JoinFault.TheVariants.{File, OtherSpec, NoMemory, Write}

@@ -1,9 +1,9 @@
 -- Reports of accepted files, and the lines of a verdict.
 use Rattle.std.proofs.Common.{◌≡◌, sym, subst, ℕ, zero, suc, ◌+◌, ◌-◌, ◌<◌, ◌++◌, List, [], ◌∷◌, length, get_or, take, Option, Ok, arith}
 use Rattle.std.proofs.lemmas.List.{take_more}
-use Rattle.transcripts.specs.Counted.{Wrote, Stopped}
-use Rattle.transcripts.specs.declared.counted.Counted.{Counted}
-use Rattle.transcripts.proofs.Writing.{stopped-append, stopped-after}
+use Rattle.outcome_texts.specs.Counted.{Wrote, Stopped}
+use Rattle.outcome_texts.specs.declared.counted.Counted.{Counted}
+use Rattle.outcome_texts.proofs.Writing.{stopped-append, stopped-after}
 use Rattle.outcome_books.specs.Entries.{Told}
 use Rattle.accepted_outputs.proofs.Places.{whichever, zip-push}
 use Rattle.book_answers.specs.Joining.{Files, bytes_at}

@@ -2,10 +2,10 @@
 use Rattle.std.proofs.Common.{◌≡◌, refl, sym, subst, ℕ, zero, suc, ◌+◌, ◌-◌, ◌<◌, ◌≤◌, ◌++◌, List, [], ◌∷◌, length, get_or, Option, Some, None, slice_get}
 use Rattle.std.proofs.Common.{arith}
 use Rattle.bound_specs.specs.Spec.{Spec, SpecFile, ranks}
-use Rattle.transcripts.specs.Counted.{Wrote, Stopped}
-use Rattle.transcripts.specs.Text.{rank_text, outcome_text}
-use Rattle.transcripts.specs.declared.counted.Counted.{Counted}
-use Rattle.transcripts.proofs.Writing.{wrote-append, stopped-append, stopped-after}
+use Rattle.outcome_texts.specs.Counted.{Wrote, Stopped}
+use Rattle.outcome_texts.specs.Text.{rank_text, outcome_text}
+use Rattle.outcome_texts.specs.declared.counted.Counted.{Counted}
+use Rattle.outcome_texts.proofs.Writing.{wrote-append, stopped-append, stopped-after}
 use Rattle.quiet_steps.specs.Swap.{leads_in}
 use Rattle.outcome_books.specs.declared.error.TheConstants.{MAX_REPORTED}
 use Rattle.outcome_books.specs.Entries.{Told, FactSet}

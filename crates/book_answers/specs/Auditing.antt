@@ -1,7 +1,7 @@
 -- What the program writes for the audit of a book.
 use Rattle.std.specs.Prelude.{◌≡◌, ℕ, ◌++◌, List, codes, Option, Some, None, Result, Ok, Err, ⊤}
-use Rattle.transcripts.specs.Counted.{Wrote, Stopped}
-use Rattle.transcripts.specs.declared.counted.Counted.{Counted}
+use Rattle.outcome_texts.specs.Counted.{Wrote, Stopped}
+use Rattle.outcome_texts.specs.declared.counted.Counted.{Counted}
 use Rattle.outcome_books.specs.Books.{Contents}
 use Rattle.book_audit.specs.Audit.{IsAudit}
 use Rattle.book_audit.specs.declared.error.AuditError.{AuditError}

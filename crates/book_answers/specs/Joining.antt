@@ -1,6 +1,6 @@
 -- Books from files, and what the program writes for their join.
 use Rattle.std.specs.Prelude.{◌≡◌, ◌≢◌, ℕ, zero, suc, ◌<◌, List, [], length, get_or, Option, Result, Ok, Err, IfSome, ⊤}
-use Rattle.transcripts.specs.declared.counted.Counted.{Counted}
+use Rattle.outcome_texts.specs.declared.counted.Counted.{Counted}
 use Rattle.bound_specs.specs.Binding.{IsFileOf}
 use Rattle.outcome_books.specs.Books.{Contents, joined, AllRecordable}
 use Rattle.book_files.specs.ReadingBooks.{IsReadOf}

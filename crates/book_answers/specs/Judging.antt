@@ -2,8 +2,8 @@
 use Rattle.std.specs.Prelude.{◌≡◌, ℕ, zero, suc, ◌<◌, ◌≤◌, ◌++◌, List, [], length, codes, decimal, take, Option, Result, Ok, Err, slice_index_or}
 use Rattle.std.specs.List.{AllZip}
 use Rattle.bound_specs.specs.Spec.{ranks}
-use Rattle.transcripts.specs.Counted.{Wrote, Stopped}
-use Rattle.transcripts.specs.declared.counted.Counted.{Counted}
+use Rattle.outcome_texts.specs.Counted.{Wrote, Stopped}
+use Rattle.outcome_texts.specs.declared.counted.Counted.{Counted}
 use Rattle.quiet_steps.specs.Swap.{leads_in}
 use Rattle.outcome_books.specs.declared.error.TheConstants.{MAX_REPORTED}
 use Rattle.outcome_books.specs.Entries.{Told}

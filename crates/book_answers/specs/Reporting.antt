@@ -1,9 +1,9 @@
 -- What the program writes for the report of a book.
 use Rattle.std.specs.Prelude.{◌≡◌, ℕ, zero, suc, ◌<◌, ◌≤◌, ◌++◌, List, [], length, Option, Result, Ok, Err, ⊤, slice_index_or}
 use Rattle.bound_specs.specs.Spec.{Spec, SpecFile, ranks}
-use Rattle.transcripts.specs.Counted.{Wrote, Stopped}
-use Rattle.transcripts.specs.Text.{rank_text, outcome_text}
-use Rattle.transcripts.specs.declared.counted.Counted.{Counted}
+use Rattle.outcome_texts.specs.Counted.{Wrote, Stopped}
+use Rattle.outcome_texts.specs.Text.{rank_text, outcome_text}
+use Rattle.outcome_texts.specs.declared.counted.Counted.{Counted}
 use Rattle.machine_model.specs.Outcome.{IsOutcomeOf}
 use Rattle.quiet_steps.specs.Swap.{leads_in}
 use Rattle.outcome_books.specs.declared.error.TheConstants.{MAX_REPORTED}

@@ -2,7 +2,7 @@
 
 ghost use Rattle.std.specs.Prelude.{◌≡◌, ◌<◌, IfOk};
 ghost use Rattle.book_audit.specs.Audit.{IsAudit};
-ghost use Rattle.transcripts.specs.Counted.{Prints, failures_of};
+ghost use Rattle.outcome_texts.specs.Counted.{Prints, failures_of};
 ghost use Rattle.book_answers.specs.Auditing.{IsAuditRun, answer_of, audit_text, finding_of};
 
 use crate::finding::Finding;
@@ -10,11 +10,11 @@ use crate::joining::{FileFault, book_of_file};
 use crate::opener::Opener;
 use book_audit::{AuditError, audit};
 use outcome_books::Book;
+use outcome_texts::{Counted, WriteFault};
 use spec_answers::write_count;
 use std::alloc::{AllocError, Global};
 use std::io::Write;
 use std::thread::Threads;
-use transcripts::{Counted, WriteFault};
 
 /// Why what an audit tells was not written. Each is tried before those below it, but for want of memory.
 #[derive(Clone, Copy, PartialEq, Eq)]

@@ -1,15 +1,15 @@
 //! Books from their files, and the text of their join.
 
 ghost use Rattle.std.specs.Prelude.{◌<◌, length, map};
-ghost use Rattle.transcripts.specs.Counted.{failures_of};
+ghost use Rattle.outcome_texts.specs.Counted.{failures_of};
 ghost use Rattle.book_answers.specs.Joining.{IsFileBook, IsJoinRun, IsJoined, IsNext};
 
 use crate::opener::Opener;
 use book_files::{BookError, WriteError, read_book, write_book};
 use outcome_books::{Book, JoinError, join};
+use outcome_texts::Counted;
 use std::alloc::Global;
 use std::io::Write;
-use transcripts::Counted;
 
 /// Why the file at a path gives no book.
 #[derive(Clone, Copy, PartialEq, Eq)]

@@ -2,7 +2,7 @@
 
 ghost use Rattle.std.specs.Prelude.{◌≡◌, ◌<◌, ◌++◌, All, IfOk, IfErr, decimal, length, map};
 ghost use Rattle.accepted_outputs.specs.Judging.{HasFewSessions};
-ghost use Rattle.transcripts.specs.Counted.{Prints, failures_of};
+ghost use Rattle.outcome_texts.specs.Counted.{Prints, failures_of};
 ghost use Rattle.book_answers.specs.Judging.{AreReports, IsFileReport, IsJudged, IsJudgeRun, IsNotAccepted, difference_line, difference_lines, finding_of, verdict_text};
 
 use crate::finding::Finding;
@@ -11,10 +11,10 @@ use crate::opener::Opener;
 use accepted_outputs::{Verdict, judge, reports_have_few_sessions};
 use itoa::Buffer;
 use outcome_books::{Report, ReportError, report};
+use outcome_texts::{Counted, WriteFault};
 use spec_answers::{write_count, write_number};
 use std::alloc::Global;
 use std::io::Write;
-use transcripts::{Counted, WriteFault};
 
 /// Why the file at a path gives no report. The first is tried before the second.
 #[derive(Clone, Copy, PartialEq, Eq)]

@@ -1,17 +1,17 @@
 //! The report of a book, rank by rank, and from the file of the book.
 
 ghost use Rattle.std.specs.Prelude.{◌≡◌, ◌<◌, length};
-ghost use Rattle.transcripts.specs.Counted.{Prints, failures_of};
+ghost use Rattle.outcome_texts.specs.Counted.{Prints, failures_of};
 ghost use Rattle.book_answers.specs.Reporting.{AllOwn, IsReported, IsFileReported, values_text};
 
 use crate::joining::{FileFault, book_of_file};
 use crate::opener::Opener;
 use bound_specs::Spec;
 use outcome_books::{Book, Report, ReportError, report};
+use outcome_texts::{Counted, WriteFault};
 use spec_answers::{spec_of, write_one};
 use std::alloc::Global;
 use std::io::Write;
-use transcripts::{Counted, WriteFault};
 
 /// Why a report was not written. The first is tried before the second.
 #[derive(Clone, Copy, PartialEq, Eq)]

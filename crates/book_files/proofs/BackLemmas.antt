@@ -7,7 +7,8 @@ use Rattle.std.specs.FinSet.{contains}
 use Rattle.serde_json.specs.View.{items_of}
 use Rattle.serde_json.specs.Read.{read}
 use Rattle.serde_json.proofs.OnLiterals.{serde_json_on_literals}
-use Rattle.transcripts.specs.Json.{outcome_data, OutcomeFits}
+use Rattle.transcripts.specs.Outcome.{OutcomeFits}
+use Rattle.outcome_texts.specs.Json.{outcome_data}
 use Rattle.machine_model.specs.Outcome.{IsOutcomeOf}
 use Rattle.quiet_steps.specs.declared.fact.Fact.TheVariants.{Ran as RanFact}
 use Rattle.bound_specs.specs.Spec.{Spec, ranks}

@@ -8,7 +8,7 @@ use Rattle.lock_modes.specs.declared.value.Value.TheVariants.{Int, Text}
 use Rattle.transcripts.specs.declared.event.Event.{Event}
 use Rattle.transcripts.specs.declared.event.Event.TheVariants.{Sent, Row, Rows, Inserted, Updated, Deleted, Began, Committed, RolledBack, Locked, Set}
 use Rattle.transcripts.specs.declared.event.Event.TheVariants.{Warned, Failed, Waiting, Resumed, Done, NotSent}
-use Rattle.transcripts.specs.Json.{cell_data, event_data, session_data, outcome_data}
+use Rattle.outcome_texts.specs.Json.{cell_data, event_data, session_data, outcome_data}
 use Rattle.outcome_books.specs.Entries.{Told}
 
 none-float : {X : Type 0} (enc : X → Data) → ((x : X) → has_float (enc x) ≡ false) → (xs : List X) → items_have_float (items_of (map enc xs)) ≡ false

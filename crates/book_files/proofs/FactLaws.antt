@@ -11,7 +11,7 @@ use Rattle.std.specs.declared.cmp.Ordering.{Ordering}
 use Rattle.std.specs.declared.cmp.Ordering.TheVariants.{Less, Equal, Greater}
 use Rattle.std.specs.FinSet.{contains, union, from_list, empty, contains-from_list, contains-empty}
 use Rattle.serde_json.specs.Data.{Data, Items, no_items, item}
-use Rattle.transcripts.specs.Json.{OutcomeFits}
+use Rattle.transcripts.specs.Outcome.{OutcomeFits}
 use Rattle.machine_model.specs.Outcome.{IsOutcomeOf}
 use Rattle.bound_specs.specs.Spec.{Spec, ranks}
 use Rattle.quiet_steps.specs.declared.fact.Fact.{Fact}

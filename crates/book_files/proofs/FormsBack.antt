@@ -6,7 +6,7 @@ use Rattle.std.proofs.lemmas.List.{get_or_default}
 use Rattle.std.proofs.lemmas.List.Elements.{All-head, All-tail}
 use Rattle.std.specs.List.{list_any}
 use Rattle.serde_json.specs.View.{items_of}
-use Rattle.transcripts.specs.Json.{outcome_data}
+use Rattle.outcome_texts.specs.Json.{outcome_data}
 use Rattle.bound_specs.specs.Spec.{Spec, ranks}
 use Rattle.outcome_books.specs.declared.run.Run.{Run}
 use Rattle.outcome_books.specs.declared.run.Tag.{Tag}

@@ -9,8 +9,8 @@ use Rattle.transcripts.specs.declared.event.Warning.TheVariants.{InBlock, NoBloc
 use Rattle.transcripts.specs.declared.event.Event.{Event}
 use Rattle.transcripts.specs.declared.event.Event.TheVariants.{Sent, Row, Rows, Inserted, Updated, Deleted, Began, Committed, RolledBack, Locked, Set, Warned}
 use Rattle.transcripts.specs.declared.event.Event.TheVariants.{Failed, Waiting, Resumed, Done, NotSent}
-use Rattle.transcripts.specs.Json.{cell_data, event_data, session_data, outcome_data}
-use Rattle.transcripts.specs.JsonReading.{word_event}
+use Rattle.outcome_texts.specs.Json.{cell_data, event_data, session_data, outcome_data}
+use Rattle.outcome_texts.specs.JsonReading.{word_event}
 use Rattle.outcome_books.specs.Entries.{Told}
 
 -- ---- what a value tells, with nothing asked of its numbers

@@ -8,7 +8,7 @@ use Rattle.json.specs.Print.{quoted, escape_byte}
 use Rattle.serde_json.specs.Data.{Data, string}
 use Rattle.serde_json.specs.View.{items_of}
 use Rattle.serde_json.specs.Written.{compact_text, items_text}
-use Rattle.transcripts.specs.Json.{list, whole, outcome_data}
+use Rattle.outcome_texts.specs.Json.{list, whole, outcome_data}
 use Rattle.outcome_books.specs.declared.run.Run.{Run}
 use Rattle.outcome_books.specs.declared.run.Tag.{Tag}
 use Rattle.outcome_books.specs.declared.run.Tag.TheVariants.{Ran, Swap}

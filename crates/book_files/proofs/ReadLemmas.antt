@@ -5,7 +5,7 @@ use Rattle.std.proofs.lemmas.List.{length_push, get_or_push}
 use Rattle.std.proofs.lemmas.List.Elements.{All-push}
 use Rattle.std.proofs.lemmas.Option.{slice_get-get_or}
 use Rattle.serde_json.specs.Data.{Data, Items, no_items, item}
-use Rattle.transcripts.specs.Json.{OutcomeFits}
+use Rattle.transcripts.specs.Outcome.{OutcomeFits}
 use Rattle.machine_model.specs.Outcome.{IsOutcomeOf}
 use Rattle.bound_specs.specs.Spec.{Spec}
 use Rattle.outcome_books.specs.Entries.{Told}

@@ -13,7 +13,7 @@ use Rattle.serde_json.specs.View.{view, items_view}
 use Rattle.serde_json.specs.declared.value.Value.{Value as Json}
 use Rattle.bound_specs.specs.Spec.{Spec}
 use Rattle.machine_model.specs.Outcome.{IsOutcomeOf}
-use Rattle.transcripts.specs.Json.{outcome_data}
+use Rattle.outcome_texts.specs.Json.{outcome_data}
 use Rattle.outcome_books.specs.declared.run.Run.{Run}
 use Rattle.outcome_books.specs.Entries.{Entry, Told, entry_cmp}
 use Rattle.outcome_books.specs.Runs.{Table, repeated}

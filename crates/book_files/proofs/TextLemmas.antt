@@ -29,7 +29,8 @@ use Rattle.transcripts.specs.declared.event.Warning.TheVariants.{InBlock, NoBloc
 use Rattle.transcripts.specs.declared.event.Event.{Event}
 use Rattle.transcripts.specs.declared.event.Event.TheVariants.{Sent, Row, Rows, Inserted, Updated, Deleted, Began, Committed, RolledBack, Locked, Set, Warned}
 use Rattle.transcripts.specs.declared.event.Event.TheVariants.{Failed, Waiting, Resumed, Done, NotSent}
-use Rattle.transcripts.specs.Json.{list, whole, cell_data, event_data, session_data, outcome_data, CellFits, EventFits, OutcomeFits}
+use Rattle.transcripts.specs.Outcome.{CellFits, EventFits, OutcomeFits}
+use Rattle.outcome_texts.specs.Json.{list, whole, cell_data, event_data, session_data, outcome_data}
 use Rattle.outcome_books.specs.declared.run.Run.{Run}
 use Rattle.outcome_books.specs.declared.run.Tag.{Tag}
 use Rattle.outcome_books.specs.declared.run.Tag.TheVariants.{Ran, Swap}

@@ -2,7 +2,7 @@
 use Rattle.std.specs.Prelude.{◌≡◌, ℕ, ◌-◌, ◌+◌, List, [], ◌∷◌, ◌++◌, map, codes}
 use Rattle.serde_json.specs.Data.{Data, string, object, member, no_members}
 use Rattle.serde_json.specs.Written.{compact_text}
-use Rattle.transcripts.specs.Json.{list, whole, outcome_data}
+use Rattle.outcome_texts.specs.Json.{list, whole, outcome_data}
 use Rattle.outcome_books.specs.declared.run.Run.{Run}
 use Rattle.outcome_books.specs.declared.run.Tag.{Tag}
 use Rattle.outcome_books.specs.declared.run.Tag.TheVariants.{Ran, Swap}

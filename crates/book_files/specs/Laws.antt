@@ -1,7 +1,7 @@
 -- The laws of book files.
 use Rattle.std.specs.Prelude.{◌≡◌, ℕ, ◌<◌, ◌≤◌, ◌^◌, List, length, Some, All, Ok, IsUtf8}
 use Rattle.serde_json.specs.Read.{read}
-use Rattle.transcripts.specs.Json.{OutcomeFits}
+use Rattle.transcripts.specs.Outcome.{OutcomeFits}
 use Rattle.outcome_books.specs.declared.run.Run.{Run}
 use Rattle.outcome_books.specs.Runs.{Table}
 use Rattle.bound_specs.specs.Binding.{IsFileOf}

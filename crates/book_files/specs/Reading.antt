@@ -2,7 +2,8 @@
 use Rattle.std.specs.Prelude.{◌≡◌, ℕ, ◌-◌, List, [], ◌∷◌, ◌++◌, length, Option, Some, option_and_then, slice_get, Result, Ok, Err, ◌⊎◌}
 use Rattle.serde_json.specs.Data.{Data, Items, no_items, item}
 use Rattle.serde_json.specs.Find.{as_number, as_u64}
-use Rattle.transcripts.specs.Json.{outcome_data, OutcomeFits}
+use Rattle.transcripts.specs.Outcome.{OutcomeFits}
+use Rattle.outcome_texts.specs.Json.{outcome_data}
 use Rattle.machine_model.specs.Outcome.{IsOutcomeOf}
 use Rattle.bound_specs.specs.Spec.{Spec}
 use Rattle.outcome_books.specs.Entries.{Told}

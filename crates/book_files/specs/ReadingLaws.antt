@@ -1,7 +1,7 @@
 -- The laws of reading.
 use Rattle.std.specs.Prelude.{◌≤◌, List, map, Ok}
 use Rattle.serde_json.specs.View.{items_of}
-use Rattle.transcripts.specs.Json.{outcome_data}
+use Rattle.outcome_texts.specs.Json.{outcome_data}
 use Rattle.bound_specs.specs.Spec.{SpecFile}
 use Rattle.outcome_books.specs.declared.run.Run.{Run}
 use Rattle.outcome_books.specs.Entries.{FactSet}

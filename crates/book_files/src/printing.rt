@@ -2,7 +2,7 @@
 
 ghost use Rattle.std.specs.Prelude.{◌<◌, ◌++◌, codes, decimal, flat_map, string_bytes};
 ghost use Rattle.std.specs.List.{join_by};
-ghost use Rattle.transcripts.specs.Counted.{Prints, failures_of};
+ghost use Rattle.outcome_texts.specs.Counted.{Prints, failures_of};
 ghost use Rattle.book_files.specs.Pieces.{run_text, after_comma, facts_text, outcomes_text, spec_text, text_in};
 
 use crate::canonical::number;
@@ -10,8 +10,8 @@ use crate::lengths::{front, ranks_in};
 use crate::pieces::Pieces;
 use itoa::Buffer;
 use outcome_books::Run;
+use outcome_texts::{Counted, WriteFault};
 use std::io::Write;
-use transcripts::{Counted, WriteFault};
 
 /// Writes the text that the pieces make. It takes no memory. After a fault the writer has a front of the text.
 pub(crate) fn print_book<W: Write>(pieces: &Pieces, out: &mut Counted<W>) -> Result<(), WriteFault>

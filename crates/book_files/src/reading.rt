@@ -2,7 +2,7 @@
 
 ghost use Rattle.std.specs.Prelude.{◌≡◌, ◌≢◌, ◌+◌, ◌<◌, IfErr, IfSome};
 ghost use Rattle.serde_json.specs.View.{view};
-ghost use Rattle.transcripts.specs.Counted.{failures_of, unread};
+ghost use Rattle.outcome_texts.specs.Counted.{failures_of, unread};
 ghost use Rattle.book_files.specs.declared.error.BookError.TheVariants as book_error;
 ghost use Rattle.book_files.specs.Reading.{Given, Gives, Meets};
 ghost use Rattle.book_files.specs.ReadingBooks.{IsBookFile, IsBookOf, IsBookValue, IsReadOf, IsValueOf, read_faults_of};
@@ -20,11 +20,11 @@ use facts::facts_book;
 use form::runs_book;
 pub use laws::forms_read_back;
 use outcome_books::Book;
+use outcome_texts::{Counted, ReadError};
 use parts::{Version, version_of};
 use serde_json::Value as Json;
 use std::alloc::Global;
 use std::io::Read;
-use transcripts::{Counted, ReadError};
 
 /// The book that an input is the file of: of runs that have one fact, or of facts one by one. The input is read to its end, or up to
 /// one byte past the longest file; any error of a read is a read fault at once.

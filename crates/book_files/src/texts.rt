@@ -3,11 +3,12 @@
 ghost use Rattle.std.specs.Prelude.{◌≡◌, IfOk, map, string_bytes};
 ghost use Rattle.serde_json.specs.Data.{string};
 ghost use Rattle.serde_json.specs.Written.{compact_text};
-ghost use Rattle.transcripts.specs.Json.{outcome_data};
+ghost use Rattle.outcome_texts.specs.Json.{outcome_data};
 
+use outcome_texts::outcome_value;
 use serde_json::Value;
 use std::alloc::{AllocError, Global};
-use transcripts::{Outcome, outcome_value};
+use transcripts::Outcome;
 
 /// The compact text of an outcome's value.
 fn outcome_text(alloc: Global, outcome: &Outcome) -> Result<String, AllocError>

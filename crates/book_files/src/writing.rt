@@ -1,16 +1,16 @@
 //! Writing a book.
 
 ghost use Rattle.std.specs.Prelude.{◌<◌, OnOk};
-ghost use Rattle.transcripts.specs.Counted.{failures_of};
+ghost use Rattle.outcome_texts.specs.Counted.{failures_of};
 ghost use Rattle.book_files.specs.Writing.{IsWritten, ReadsBack};
 
 use crate::pieces::{Pieces, pieces_of};
 use crate::printing::print_book;
 use crate::write_error::WriteError;
 use outcome_books::Book;
+use outcome_texts::Counted;
 use std::alloc::Global;
 use std::io::Write;
-use transcripts::Counted;
 
 /// Writes the one text of a book: a JSON object without spaces, with the runs, the format's number, the outcomes and the spec's text,
 /// and a line feed. The writer gets it in many small pieces.

@@ -20,8 +20,8 @@ use Rattle.quiet_steps.proofs.Leading.{leads-down}
 use Rattle.quiet_steps.proofs.TrueFacts.{facts-one, of_start}
 use Rattle.quiet_steps.specs.declared.shard.Shard.{Shard}
 use Rattle.step_reducer.specs.Walking.{Starts}
-use Rattle.transcripts.specs.declared.counted.Counted.{Counted}
 use Rattle.transcripts.specs.declared.event.Event.{Event}
+use Rattle.outcome_texts.specs.declared.counted.Counted.{Counted}
 use Rattle.outcome_books.specs.declared.error.ReportError.{ReportError}
 use Rattle.outcome_books.specs.declared.error.ReportError.TheVariants.{TooMany, Missing, Clash, NoMemory}
 use Rattle.book_jobs.specs.declared.job.Job.{Job, more_of-Job, end_of-Job, Run, Join'}

@@ -3,7 +3,7 @@ use Rattle.std.proofs.Common.{◌≡◌, refl, sym, subst, ◌∙◌, ℕ, zero,
 use Rattle.std.proofs.Common.{arith}
 use Rattle.bound_specs.specs.Spec.{ranks}
 use Rattle.bound_specs.specs.Binding.{IsFileOf}
-use Rattle.transcripts.specs.Text.{rank_text, outcome_text}
+use Rattle.outcome_texts.specs.Text.{rank_text, outcome_text}
 use Rattle.quiet_steps.specs.Swap.{leads_in}
 use Rattle.quiet_steps.specs.Values.{AllTrue, CoverEachRank, TellTheMachine}
 use Rattle.quiet_steps.proofs.TrueValues.{tell-the-machine}

@@ -9,9 +9,9 @@ use Rattle.quiet_steps.specs.declared.fact.Fact.{Fact}
 use Rattle.serial_history.specs.Serial.{IsSerial}
 use Rattle.quiet_steps.specs.declared.shard.Shard.{Shard}
 use Rattle.step_reducer.specs.Walking.{Starts}
-use Rattle.transcripts.specs.Counted.{Wrote, Stopped}
-use Rattle.transcripts.specs.declared.counted.Counted.{Counted}
 use Rattle.transcripts.specs.declared.event.Event.{Event}
+use Rattle.outcome_texts.specs.Counted.{Wrote, Stopped}
+use Rattle.outcome_texts.specs.declared.counted.Counted.{Counted}
 use Rattle.outcome_books.specs.declared.error.ReportError.{ReportError}
 use Rattle.outcome_books.specs.declared.error.ReportError.TheVariants.{TooMany, Missing, Clash, NoMemory}
 use Rattle.book_jobs.specs.declared.job.Job.{Job}

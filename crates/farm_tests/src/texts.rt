@@ -3,12 +3,12 @@ use book_files::write_book;
 use book_jobs::{Job, make};
 use bound_specs::Spec;
 use outcome_books::Book;
+use outcome_texts::Counted;
 use spec_reader::read_spec;
 use sql_subset::bind;
 use std::alloc::Global;
 use std::process::Abort;
 use step_reducer::Shard;
-use transcripts::Counted;
 
 /// The text of the book of all its six ranks, reduced.
 pub(crate) const SIX: &str =

@@ -1,8 +1,8 @@
 -- What is written and then passed on.
 use Rattle.std.specs.Prelude.{⊤}
 use Rattle.std.proofs.Common.{◌≡◌, refl, List, ℕ, Option, Result, Ok, Err, OnOk, IfErr, ◌⊎◌, inl, inr}
-use Rattle.transcripts.specs.Counted.{Wrote}
-use Rattle.transcripts.specs.declared.counted.Counted.{Counted}
+use Rattle.outcome_texts.specs.Counted.{Wrote}
+use Rattle.outcome_texts.specs.declared.counted.Counted.{Counted}
 use Rattle.spec_reader.specs.declared.error.Kind.TheVariants.{NoMemory}
 use Rattle.spec_answers.specs.declared.spec.SpecFault.{SpecFault}
 use Rattle.spec_answers.specs.declared.spec.SpecFault.TheVariants.{Text}

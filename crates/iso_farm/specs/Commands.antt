@@ -1,8 +1,8 @@
 -- What the program does for what is asked.
 use Rattle.std.specs.Prelude.{◌≡◌, ℕ, ◌+◌, ◌⊎◌, Bool, false, not, List, [], map, take, Option, Result, Ok, Err, IfSome, ⊤}
 use Rattle.std.specs.Io.KnownBytes.{Keeps}
-use Rattle.transcripts.specs.Counted.{Wrote, Stopped, written, failures_of}
-use Rattle.transcripts.specs.declared.counted.Counted.{Counted}
+use Rattle.outcome_texts.specs.Counted.{Wrote, Stopped, written, failures_of}
+use Rattle.outcome_texts.specs.declared.counted.Counted.{Counted}
 use Rattle.command_words.specs.declared.words.Asked.{Asked}
 use Rattle.command_words.specs.declared.words.Asked.TheVariants.{Check, One, Count, Run, Join, Report, Audit, Judge}
 use Rattle.spec_answers.specs.One.{IsOneRun}

@@ -1,8 +1,8 @@
 //! What the program does for the words of a command line.
 
 ghost use Rattle.std.specs.Prelude.{◌≡◌, ◌<◌, ◌⊎◌, [], map, Ok, OnOk, IfErr, false};
-ghost use Rattle.transcripts.specs.Counted.{Wrote, failures_of};
-ghost use Rattle.transcripts.specs.declared.counted.Counted.{Counted};
+ghost use Rattle.outcome_texts.specs.Counted.{Wrote, failures_of};
+ghost use Rattle.outcome_texts.specs.declared.counted.Counted.{Counted};
 ghost use Rattle.spec_answers.specs.One.{IsOneRun};
 ghost use Rattle.spec_answers.specs.Counting.{IsChecked, IsCounted};
 ghost use Rattle.book_answers.specs.Finding.{finding_status};
@@ -26,6 +26,7 @@ use book_answers::{Finding, Opener, audit_file, join_files, judge_files, report_
 use clap::Error;
 use clap::error::ErrorKind;
 use command_words::{Asked, Workers, parse_words};
+use outcome_texts::Counted;
 use range_answers::{run_told, say};
 use spec_answers::{CountFault, check, count, one};
 use std::alloc::Global;
@@ -33,7 +34,6 @@ use std::io::{self, Write};
 use std::sync::Wait;
 use std::thread::Threads;
 use std::time::Clock;
-use transcripts::Counted;
 
 /// Does what the words ask, the first of which is the program's name. What is asked for goes to `out`; faults go to `err`, and so does how far a
 /// run is, where that is asked for. The answer is the exit status: 0 good, 1 where a rank has not exactly one value, a fact is false or no

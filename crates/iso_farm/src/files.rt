@@ -5,9 +5,9 @@ ghost use Rattle.iso_farm.specs.Commands.{IsReadFault};
 
 use crate::fault::ProgramFault;
 use book_answers::Opener;
+use outcome_texts::{Counted, ReadError};
 use spec_reader::MAX_BYTES;
 use std::alloc::Global;
-use transcripts::{Counted, ReadError};
 
 /// One byte more than the longest spec file: a longer file is refused by what is read of it.
 pub const MAX_SPEC_READ: usize = MAX_BYTES + 1;

@@ -2,6 +2,7 @@
 #![tactic(auto)]
 
 use iso_farm::{Opener, run, tell_words_fault};
+use outcome_texts::Counted;
 use std::alloc::Global;
 use std::env;
 use std::fs::File;
@@ -10,7 +11,6 @@ use std::process::ExitCode;
 use std::sync::Wait;
 use std::thread::Threads;
 use std::time::Clock;
-use transcripts::Counted;
 
 /// The files of the machine.
 #[derive(Drop)]

@@ -5,8 +5,9 @@ use Rattle.std.specs.Result.{OnOk, OnErr}
 use Rattle.std.specs.Prelude.{Result, Ok, Err}
 use Rattle.finite_maps.specs.Map.{same_key-true, get, insert, empty, get-empty, get-insert}
 use Rattle.lock_modes.specs.RowPlace.{RowPlace, place_order}
+use Rattle.lock_modes.specs.Rows.{Tuple}
 use Rattle.lock_modes.specs.declared.value.Value.{Value}
-use Rattle.row_tables.specs.Overlay.{Tuple, Overlay}
+use Rattle.row_tables.specs.Overlay.{Overlay}
 use Rattle.row_tables.specs.Layers.{Layers, session_order, overlay_of, no_rows, IsOnlyWriterIn, wrote, undone, kept}
 use Rattle.row_tables.proofs.LayersLemmas.{overlay_of-wrote, overlay_of-undone, overlay_of-kept}
 use Rattle.row_tables.proofs.UndoLemmas.{same_session, same_place}

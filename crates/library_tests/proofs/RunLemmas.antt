@@ -2,7 +2,7 @@
 use Rattle.std.proofs.Common.{◌≡◌, sym, subst}
 use Rattle.row_tables.specs.Layers.{Layers, sight}
 use Rattle.sql_statements.specs.declared.statement.Bound.{Bound}
-use Rattle.statement_effects.specs.Effect.{effect}
+use Rattle.row_effects.specs.Effect.{effect}
 use Rattle.statement_effects.specs.Alone.{IsAlone}
 use Rattle.statement_effects.specs.Run.{left_by}
 use Rattle.statement_effects.proofs.AloneLemmas.{left_by-alone}

@@ -3,6 +3,7 @@ ghost use Rattle.statement_effects.specs.Alone.{IsAlone};
 
 use crate::asserts::assert_text;
 use lock_modes::{Mode, Row, Text, Value};
+use outcome_texts::{Counted, Names, print};
 use row_tables::Store;
 use sql_statements::{
     AddSign, Aggregate, Assignment, Bound, Comparison, Condition, Expression, Operand, Order,
@@ -13,7 +14,7 @@ use statement_effects::run_statement;
 use std::alloc::{AllocError, Global};
 use std::process::Abort;
 use std::test::Fail;
-use transcripts::{Counted, Event, Log, Names, Outcome, Transcript, print};
+use transcripts::{Event, Log, Outcome, Transcript};
 
 /// A value of a row.
 #[derive(Clone, Copy)]

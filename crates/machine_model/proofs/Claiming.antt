@@ -11,7 +11,7 @@ use Rattle.machine_model.specs.Claims.{Claims, may_write, claims_of, is_mode}
 use Rattle.lock_modes.specs.declared.mode.Mode.{Mode}
 use Rattle.lock_modes.specs.declared.resource.Resource.{Resource}
 use Rattle.machine_model.proofs.Basics.{both_true, and_true, or_true_left, or_true_right, some_passes, either_true}
-use Rattle.statement_effects.proofs.ListLemmas.{Each, Each-map}
+use Rattle.row_effects.proofs.ListLemmas.{Each, Each-map}
 use Rattle.machine_model.proofs.Effects.{Claimed}
 use Rattle.lock_modes.specs.declared.mode.Mode.TheVariants.{IntentExclusive, ShareIntent, Exclusive}
 use Rattle.lock_modes.specs.declared.resource.Resource.TheVariants.{Table, Row as RowOf}

@@ -3,11 +3,12 @@ use Rattle.std.proofs.Common.{◌≡◌, refl, sym, ap, ◌∙◌, subst, ℕ, s
 use Rattle.std.proofs.Common.{⊎_elim, arith}
 use Rattle.finite_maps.specs.Map.{same_key, same_key-true, get, insert, get-insert, empty, get-empty}
 use Rattle.lock_modes.specs.RowPlace.{place_order}
+use Rattle.lock_modes.specs.Rows.{Rows', Write}
 use Rattle.lock_modes.specs.Resource.{resource_order}
 use Rattle.lock_queues.specs.Locks.{fits, wanted, may_have, closes_ring, answered}
 use Rattle.sql_statements.specs.Plan.{Tuple, Request, request, plan}
-use Rattle.row_tables.specs.Overlay.{Rows', Write, Overlay, written}
-use Rattle.statement_effects.specs.Effect.{Effect, Gives, Faults, effect}
+use Rattle.row_tables.specs.Overlay.{Overlay, written}
+use Rattle.row_effects.specs.Effect.{Effect, Gives, Faults, effect}
 use Rattle.machine_model.specs.Session.{Task, Ask, Do, Session, Held, Performed, Goes, Fails, Kind, Begins, Commits, RollsBack, Works, kind, perform}
 use Rattle.machine_model.specs.Session.{perform_by, worked}
 use Rattle.machine_model.specs.Go.{Scene, Run, taking, go, stopped, failed, finished_by, is_broken, held_up, look_with, waiting_with}
@@ -23,11 +24,11 @@ use Rattle.machine_model.specs.declared.status.Status.TheVariants.{Outside, InBl
 use Rattle.sql_statements.specs.declared.statement.Bound.{Bound}
 use Rattle.machine_model.proofs.Looks.{writable}
 use Rattle.machine_model.proofs.Basics.{both_true}
-use Rattle.statement_effects.proofs.ListLemmas.{Each}
+use Rattle.row_effects.proofs.ListLemmas.{Each}
 use Rattle.machine_model.specs.Footprint.{HeldFits}
 use Rattle.machine_model.proofs.Solo.{OnGoes, held-fits-empty, perform-held}
 use Rattle.machine_model.proofs.Footprint.{OverlayUnder-written}
-use Rattle.statement_effects.proofs.WriteLemmas.{OnGives}
+use Rattle.row_effects.proofs.WriteLemmas.{OnGives}
 use Rattle.machine_model.proofs.Effects.{effect-writable, on-gives-map}
 use Rattle.machine_model.proofs.Stronger.{stronger-taking, under-stronger, holds-stronger, covers-taking, holds-plan, writable-can, can-may}
 

@@ -16,8 +16,9 @@ use Rattle.transcripts.specs.declared.event.Event.TheVariants.{Set, Warned, Fail
 use Rattle.transcripts.specs.declared.event.Fault.{Fault}
 use Rattle.transcripts.specs.declared.event.Fault.TheVariants.{Deadlock, Aborted}
 use Rattle.transcripts.specs.declared.event.Warning.TheVariants.{InBlock as AlreadyInBlock, NoBlock}
-use Rattle.row_tables.specs.Overlay.{Rows', lay}
-use Rattle.statement_effects.specs.Effect.{Effect, Gives, Faults, effect}
+use Rattle.lock_modes.specs.Rows.{Rows'}
+use Rattle.row_tables.specs.Overlay.{lay}
+use Rattle.row_effects.specs.Effect.{Effect, Gives, Faults, effect}
 use Rattle.machine_model.specs.declared.status.Status.{Status}
 use Rattle.machine_model.specs.declared.status.Status.TheVariants.{Outside, InBlock, Broken}
 use Rattle.machine_model.specs.Events.{is_effect}

@@ -8,17 +8,17 @@ use Rattle.std.specs.Cmp.{nat_cmp_is}
 use Rattle.std.specs.FinMap.Entries.{is_sorted}
 use Rattle.finite_maps.specs.Map.{entries}
 use Rattle.lock_modes.specs.RowPlace.{RowPlace, place_cmp}
+use Rattle.lock_modes.specs.Rows.{Tuple, Rows'}
 use Rattle.lock_modes.specs.declared.value.Value.{Value}
 use Rattle.lock_modes.specs.declared.value.Value.TheVariants.{Int, Text}
-use Rattle.row_tables.specs.Overlay.{Tuple, Rows'}
 use Rattle.row_tables.proofs.UndoLemmas.{front, back}
 use Rattle.sql_statements.specs.declared.statement.Bound.{Bound}
 use Rattle.sql_statements.specs.declared.statement.Bound.TheVariants.{Insert}
 use Rattle.sql_binding.specs.declared.tables.Table.{Table}
 use Rattle.bound_specs.specs.Fits.{Fits}
 use Rattle.sql_binding.specs.Tables.{no_table, key_column}
-use Rattle.statement_effects.specs.Effect.{visible, next_number}
-use Rattle.statement_effects.proofs.ListLemmas.{Each, Each-map}
+use Rattle.row_effects.specs.Effect.{visible, next_number}
+use Rattle.row_effects.proofs.ListLemmas.{Each, Each-map}
 use Rattle.machine_model.specs.Typed.{LiesAt, EntryFits, RowsFit}
 use Rattle.machine_model.proofs.Takings.{each-all, all-each, IsOf, seen-fits}
 

@@ -4,9 +4,9 @@ use Rattle.std.proofs.Common.{is_some}
 use Rattle.finite_maps.specs.Map.{same_key, same_key-true, get, insert, get-insert, empty, get-empty}
 use Rattle.lock_modes.specs.Resource.{resource_order}
 use Rattle.lock_modes.specs.Mode.{cover}
+use Rattle.lock_modes.specs.Rows.{Rows'}
 use Rattle.lock_queues.specs.Locks.{Look, fits, fits_with, wanted, all_below, may_have, answered}
-use Rattle.row_tables.specs.Overlay.{Rows'}
-use Rattle.statement_effects.specs.Effect.{Effect, Gives, Faults}
+use Rattle.row_effects.specs.Effect.{Effect, Gives, Faults}
 use Rattle.machine_model.specs.Session.{Task, Ask, Do, Session, Held, Performed, Goes, Fails, Kind, Begins, Commits, RollsBack, Works, kind, perform}
 use Rattle.machine_model.specs.Session.{perform_by, worked}
 use Rattle.machine_model.specs.Go.{Scene, Run, Stop, taking, go, solo, stopped, failed, finished_by, is_broken, held_up}

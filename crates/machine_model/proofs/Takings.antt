@@ -10,9 +10,10 @@ use Rattle.std.proofs.lemmas.Bool.{eqb-true, eq-eqb}
 use Rattle.std.proofs.lemmas.List.Elements.{All-head, All-tail}
 use Rattle.finite_maps.specs.Map.{Order, Map, empty, entries, insert, keep, remove}
 use Rattle.lock_modes.specs.RowPlace.{RowPlace}
+use Rattle.lock_modes.specs.Rows.{Tuple, Rows', Write}
 use Rattle.lock_modes.specs.declared.value.Value.{Value}
 use Rattle.lock_modes.specs.declared.value.Value.TheVariants.{Int, Text}
-use Rattle.row_tables.specs.Overlay.{Tuple, Rows', Overlay, Write, laid, lay_entries, lay, written}
+use Rattle.row_tables.specs.Overlay.{Overlay, laid, lay_entries, lay, written}
 use Rattle.sql_statements.specs.Plan.{key_at, at_key, looks_at}
 use Rattle.sql_statements.specs.declared.condition.Condition.{Condition, more_of-Condition, end_of-Condition}
 use Rattle.sql_statements.specs.declared.condition.Condition.TheVariants.{Always, Compares, Not', And', Or'}
@@ -42,12 +43,12 @@ use Rattle.sql_binding.specs.Tables.{no_table, key_column, type_of, width}
 use Rattle.sql_binding.specs.Types.{value_type}
 use Rattle.transcripts.specs.declared.event.Fault.TheVariants.{Duplicate, OutOfRange}
 use Rattle.transcripts.specs.declared.event.Event.TheVariants.{Inserted, Updated, Deleted}
-use Rattle.statement_effects.specs.Evaluate.{in_range, checked, on_numbers, operand_value, times_each, product_value, plus_or_minus, plus_each, value_of}
-use Rattle.statement_effects.specs.Effect.{visible, Effect, Gives, Faults, effect, matching, assigned, all_assigned, placed, next_number, numbered, or_fault}
-use Rattle.statement_effects.specs.Effect.{counted}
-use Rattle.statement_effects.proofs.ListLemmas.{Each, Each-map, Each-at}
-use Rattle.statement_effects.proofs.WriteLemmas.{OnSome, OnGives, leaves, any-some, each-kept, each-any, each-matching, each-all_assigned, each-placed}
-use Rattle.statement_effects.proofs.WriteLemmas.{each-deleted, on-or_fault, on-matched, on-selected}
+use Rattle.row_effects.specs.Evaluate.{in_range, checked, on_numbers, operand_value, times_each, product_value, plus_or_minus, plus_each, value_of}
+use Rattle.row_effects.specs.Effect.{visible, Effect, Gives, Faults, effect, matching, assigned, all_assigned, placed, next_number, numbered, or_fault}
+use Rattle.row_effects.specs.Effect.{counted}
+use Rattle.row_effects.proofs.ListLemmas.{Each, Each-map, Each-at}
+use Rattle.row_effects.proofs.WriteLemmas.{OnSome, OnGives, leaves, any-some, each-kept, each-any, each-matching, each-all_assigned, each-placed}
+use Rattle.row_effects.proofs.WriteLemmas.{each-deleted, on-or_fault, on-matched, on-selected}
 use Rattle.machine_model.specs.Typed.{LiesAt, EntryFits, RowsFit, LeftFits}
 use Rattle.machine_model.proofs.Basics.{cases-eq, both_true}
 

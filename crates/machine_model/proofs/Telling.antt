@@ -2,10 +2,10 @@
 use Rattle.std.proofs.Common.{◌≡◌, refl, ℕ, true, List, [], ◌∷◌, ◌++◌, length, map, Option, Some, None}
 use Rattle.finite_maps.specs.Map.{entries}
 use Rattle.lock_modes.specs.RowPlace.{RowPlace}
+use Rattle.lock_modes.specs.Rows.{Rows', Write}
 use Rattle.sql_statements.specs.Plan.{Tuple}
-use Rattle.row_tables.specs.Overlay.{Rows', Write}
-use Rattle.statement_effects.specs.Effect.{Effect, Gives, Faults, effect, visible, matching, sorted_by, shown, projected, all_aggregated, all_assigned, placed}
-use Rattle.statement_effects.specs.Effect.{or_fault, counted}
+use Rattle.row_effects.specs.Effect.{Effect, Gives, Faults, effect, visible, matching, sorted_by, shown, projected, all_aggregated, all_assigned, placed}
+use Rattle.row_effects.specs.Effect.{or_fault, counted}
 use Rattle.machine_model.specs.Events.{is_effect}
 use Rattle.transcripts.specs.declared.event.Event.{Event}
 use Rattle.transcripts.specs.declared.event.Event.TheVariants.{Row as RowEvent, Rows, Inserted, Updated, Deleted}

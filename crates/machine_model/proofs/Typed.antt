@@ -6,10 +6,11 @@ use Rattle.std.proofs.lemmas.List.{get_or_past}
 use Rattle.std.proofs.lemmas.List.Elements.{All-head, All-tail}
 use Rattle.finite_maps.specs.Map.{empty}
 use Rattle.lock_modes.specs.RowPlace.{place_order}
+use Rattle.lock_modes.specs.Rows.{Tuple, Rows'}
 use Rattle.lock_queues.specs.declared.answer.Answer.{Answer}
 use Rattle.lock_queues.specs.declared.answer.Answer.TheVariants.{Granted, Waits, Ring}
 use Rattle.lock_queues.specs.Locks.{Spot, next_grant, waits_now}
-use Rattle.row_tables.specs.Overlay.{Tuple, Rows', lay}
+use Rattle.row_tables.specs.Overlay.{lay}
 use Rattle.sql_statements.specs.Plan.{Request, plan}
 use Rattle.sql_statements.specs.declared.statement.Bound.{Bound}
 use Rattle.sql_binding.specs.declared.tables.Table.{Table}
@@ -18,9 +19,9 @@ use Rattle.bound_specs.specs.Spec.{Spec, Step, no_step}
 use Rattle.transcripts.specs.declared.event.Fault.{Fault}
 use Rattle.transcripts.specs.declared.event.Fault.TheVariants.{Deadlock, Aborted}
 use Rattle.transcripts.specs.declared.event.Event.TheVariants.{Sent, Resumed, NotSent}
-use Rattle.statement_effects.specs.Effect.{Effect, Gives, Faults, effect}
-use Rattle.statement_effects.proofs.ListLemmas.{Each}
-use Rattle.statement_effects.proofs.WriteLemmas.{OnGives}
+use Rattle.row_effects.specs.Effect.{Effect, Gives, Faults, effect}
+use Rattle.row_effects.proofs.ListLemmas.{Each}
+use Rattle.row_effects.proofs.WriteLemmas.{OnGives}
 use Rattle.machine_model.specs.declared.status.Status.{Status}
 use Rattle.machine_model.specs.declared.status.Status.TheVariants.{Outside, InBlock, Broken}
 use Rattle.machine_model.specs.Session.{Task, Ask, Do, Session, Kind, Begins, Commits, RollsBack, Works, kind, note, asks, tasks_of, Performed, Goes, Fails}

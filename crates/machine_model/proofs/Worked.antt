@@ -1,7 +1,7 @@
 -- Worked runs of the machine, computed.
 use Rattle.std.proofs.Common.{◌≡◌, refl, ℕ, List, [], ◌∷◌, Some, None, pos}
 use Rattle.finite_maps.specs.Map.{get, insert, keep, remove, entries, empty}
-use Rattle.statement_effects.specs.Effect.{effect}
+use Rattle.row_effects.specs.Effect.{effect}
 use Rattle.row_tables.specs.Overlay.{lay}
 use Rattle.bound_specs.specs.Spec.{Step, Spec}
 use Rattle.machine_model.specs.Start.{Started, start}

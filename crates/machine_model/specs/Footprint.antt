@@ -2,8 +2,8 @@
 use Rattle.std.specs.Prelude.{◌≡◌, ◌⊎◌, ℕ, Bool, true, false, List, [], ◌∷◌, Some}
 use Rattle.finite_maps.specs.Map.{get}
 use Rattle.lock_modes.specs.RowPlace.{RowPlace}
+use Rattle.lock_modes.specs.Rows.{Rows'}
 use Rattle.lock_queues.specs.Locks.{fits, nobody_waits, may_have}
-use Rattle.row_tables.specs.Overlay.{Rows'}
 use Rattle.sql_statements.specs.Plan.{plan, opened}
 use Rattle.machine_model.specs.Session.{Task, Ask, Do, Session, Held, Goes, Fails, perform}
 use Rattle.machine_model.specs.Go.{Scene, Stop, taking, is_broken}

@@ -3,7 +3,8 @@ use Rattle.std.specs.Prelude.{ℕ, Bool, true, false, ◌==◌, List, [], ◌∷
 use Rattle.finite_maps.specs.Map.{get, insert}
 use Rattle.lock_queues.specs.declared.wait.Wait.{Wait}
 use Rattle.lock_queues.specs.Locks.{Look, wanted, may_have, closes_ring, answered}
-use Rattle.row_tables.specs.Overlay.{Rows', lay}
+use Rattle.lock_modes.specs.Rows.{Rows'}
+use Rattle.row_tables.specs.Overlay.{lay}
 use Rattle.lock_queues.specs.declared.answer.Answer.{Answer}
 use Rattle.lock_queues.specs.declared.answer.Answer.TheVariants.{Granted, Waits, Ring}
 use Rattle.lock_modes.specs.declared.mode.Mode.{Mode}

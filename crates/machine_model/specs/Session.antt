@@ -2,9 +2,10 @@
 use Rattle.std.specs.Prelude.{List, [], ◌∷◌, ◌++◌}
 use Rattle.finite_maps.specs.Map.{Map, empty}
 use Rattle.lock_modes.specs.Resource.{resource_order}
+use Rattle.lock_modes.specs.Rows.{Rows'}
 use Rattle.sql_statements.specs.Plan.{Request, plan}
-use Rattle.row_tables.specs.Overlay.{Rows', Overlay, lay, written}
-use Rattle.statement_effects.specs.Effect.{Effect, Gives, Faults, effect}
+use Rattle.row_tables.specs.Overlay.{Overlay, lay, written}
+use Rattle.row_effects.specs.Effect.{Effect, Gives, Faults, effect}
 use Rattle.lock_modes.specs.declared.mode.Mode.{Mode}
 use Rattle.lock_modes.specs.declared.resource.Resource.{Resource}
 use Rattle.transcripts.specs.declared.event.Fault.{Fault}

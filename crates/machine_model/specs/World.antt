@@ -3,7 +3,7 @@ use Rattle.std.specs.Prelude.{ℕ, zero, suc, ◌+◌, true, false, List, [], �
 use Rattle.finite_maps.specs.Map.{get, empty}
 use Rattle.lock_queues.specs.declared.wait.Wait.{Wait}
 use Rattle.lock_queues.specs.Locks.{Spot, Look, next_grant, waits_now}
-use Rattle.row_tables.specs.Overlay.{Rows'}
+use Rattle.lock_modes.specs.Rows.{Rows'}
 use Rattle.transcripts.specs.declared.event.Event.{Event}
 use Rattle.transcripts.specs.declared.event.Event.TheVariants.{Sent, Resumed, NotSent}
 use Rattle.machine_model.specs.declared.status.Status.TheVariants.{Outside}

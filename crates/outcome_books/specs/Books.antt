@@ -3,7 +3,7 @@ use Rattle.std.specs.Prelude.{◌≡◌, ℕ, ◌<◌, List, length, Option, Som
 use Rattle.std.specs.FinSet.{union, from_list, empty}
 use Rattle.bound_specs.specs.Spec.{Spec, SpecFile, ranks}
 use Rattle.bound_specs.specs.Binding.{IsFileOf}
-use Rattle.transcripts.specs.Json.{OutcomeFits}
+use Rattle.transcripts.specs.Outcome.{OutcomeFits}
 use Rattle.machine_model.specs.Outcome.{IsOutcomeOf}
 use Rattle.quiet_steps.specs.Swap.{leads_in}
 use Rattle.quiet_steps.specs.declared.fact.Fact.{Fact}

@@ -1,7 +1,7 @@
 -- A set of facts that is built up in the order of ranks, and the facts of a shard.
 use Rattle.std.specs.Prelude.{◌≡◌, ◌↔◌, ℕ, ◌-◌, ◌<◌, ◌≤◌, Bool, true, List}
 use Rattle.std.specs.FinSet.{union, from_list}
-use Rattle.transcripts.specs.Json.{OutcomeFits}
+use Rattle.transcripts.specs.Outcome.{OutcomeFits}
 use Rattle.bound_specs.specs.Spec.{Spec}
 use Rattle.quiet_steps.specs.Facts.{IsFactOf}
 use Rattle.quiet_steps.specs.declared.fact.Fact.{Fact}

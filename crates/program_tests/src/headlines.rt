@@ -4,6 +4,7 @@ use book_jobs::{Boxed, Job};
 use farm_headline::{HeadlineFault, Plan, report_of_runs};
 use iso_farm::ReportFault;
 use outcome_books::ReportError;
+use outcome_texts::Counted;
 use session_machine::RunError;
 use shard_farm::{FarmError, OpenGate};
 use std::alloc::{AllocError, Global};
@@ -12,7 +13,6 @@ use std::sync::Wait;
 use std::test::Fail;
 use std::thread::Threads;
 use step_reducer::Shard;
-use transcripts::Counted;
 
 /// Two sessions that never meet: of their six orders each tells the same.
 const APART: &str =

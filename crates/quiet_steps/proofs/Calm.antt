@@ -1,7 +1,7 @@
 -- A session that goes alone notes no wait.
 use Rattle.std.proofs.Common.{◌≡◌, ◌≢◌, refl, sym, ap, subst, ◌∙◌, ℕ, ◌<◌, true, false, List, [], ◌∷◌, ◌++◌, length, get_or, append_assoc, length-set}
-use Rattle.row_tables.specs.Overlay.{Rows'}
-use Rattle.statement_effects.specs.Effect.{Effect, Gives, Faults, effect}
+use Rattle.lock_modes.specs.Rows.{Rows'}
+use Rattle.row_effects.specs.Effect.{Effect, Gives, Faults, effect}
 use Rattle.machine_model.specs.Session.{Task, Ask, Do, Session, Performed, Goes, Fails, Kind, Begins, Commits, RollsBack, Works, kind, perform, perform_by}
 use Rattle.machine_model.specs.Session.{worked}
 use Rattle.machine_model.specs.Go.{Stop, taking, solo, failed, finished_by, is_broken}

@@ -4,12 +4,12 @@ use Rattle.std.proofs.Common.{set, get_or, filter, Option, Some, None, is_some, 
 use Rattle.std.proofs.lemmas.List.{set_comm}
 use Rattle.finite_maps.specs.Map.{same_key, same_key-true, get, get-insert, get-empty, same_map}
 use Rattle.lock_modes.specs.RowPlace.{RowPlace}
+use Rattle.lock_modes.specs.Rows.{Rows'}
 use Rattle.lock_modes.specs.Resource.{resource_order, same_resource}
 use Rattle.lock_modes.specs.Mode.{compatible, cover}
 use Rattle.lock_queues.specs.declared.wait.Wait.{Wait}
 use Rattle.lock_queues.specs.Locks.{Spot, Look, fits, fits_with, wanted, wanted_by, all_below, waits_now, converts, ahead, is_empty, is_ripe, first_ripe}
 use Rattle.lock_queues.specs.Locks.{next_grant, spots_from}
-use Rattle.row_tables.specs.Overlay.{Rows'}
 use Rattle.sql_statements.specs.Plan.{Request, plan}
 use Rattle.machine_model.specs.Session.{Task, Do, Session, Held, tasks_of, asks, note}
 use Rattle.machine_model.specs.Go.{Stop, solo}
@@ -22,7 +22,7 @@ use Rattle.lock_modes.specs.declared.resource.Resource.{Resource}
 use Rattle.sql_statements.specs.declared.statement.Bound.{Bound}
 use Rattle.machine_model.proofs.Basics.{Each-left, Each-right, filter_same, both_true, and_true, or_true_right, known, cases-eq}
 use Rattle.perm_ranks.proofs.TruthLemmas.{Each-append}
-use Rattle.statement_effects.proofs.ListLemmas.{Each, Each-map}
+use Rattle.row_effects.proofs.ListLemmas.{Each, Each-map}
 use Rattle.lock_modes.proofs.ModeLaws.{compatible-cover, compatible-comm}
 use Rattle.machine_model.specs.Footprint.{EachAsk, EachDo, HeldFits, IsFree}
 use Rattle.machine_model.proofs.Solo.{Keeps, go-solo, solo-held}

@@ -2,12 +2,13 @@
 use Rattle.std.proofs.Common.{◌≡◌, refl, sym, ap, ◌∙◌, subst, ℕ, Bool, true, false, true≢false, List, [], ◌∷◌, ◌++◌}
 use Rattle.finite_maps.specs.Map.{get}
 use Rattle.lock_modes.specs.RowPlace.{RowPlace}
+use Rattle.lock_modes.specs.Rows.{Rows'}
 use Rattle.lock_queues.specs.Locks.{may_have, closes_ring, answered}
 use Rattle.lock_queues.specs.declared.answer.Answer.TheVariants.{Granted, Waits, Ring}
-use Rattle.row_tables.specs.Overlay.{Rows', Overlay, lay}
+use Rattle.row_tables.specs.Overlay.{Overlay, lay}
 use Rattle.sql_statements.specs.Plan.{Request, request, plan}
 use Rattle.sql_statements.specs.declared.statement.Bound.{Bound}
-use Rattle.statement_effects.specs.Effect.{Effect, Gives, Faults, effect}
+use Rattle.row_effects.specs.Effect.{Effect, Gives, Faults, effect}
 use Rattle.transcripts.specs.declared.event.Fault.TheVariants.{Deadlock, Aborted}
 use Rattle.machine_model.specs.declared.status.Status.{Status}
 use Rattle.machine_model.specs.declared.status.Status.TheVariants.{Outside, InBlock, Broken}

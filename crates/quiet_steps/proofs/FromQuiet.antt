@@ -16,7 +16,7 @@ use Rattle.machine_model.specs.Sound.{Sound}
 use Rattle.lock_modes.specs.declared.mode.Mode.{Mode}
 use Rattle.lock_modes.specs.declared.resource.Resource.{Resource}
 use Rattle.machine_model.proofs.Basics.{Each-swap, Each-list_all, list_all-Each, both_true, either_true, not_true, not_both}
-use Rattle.statement_effects.proofs.ListLemmas.{Each, Each-map}
+use Rattle.row_effects.proofs.ListLemmas.{Each, Each-map}
 use Rattle.machine_model.specs.Footprint.{IsFree}
 use Rattle.machine_model.proofs.Footprint.{OverlayUnder}
 use Rattle.machine_model.proofs.Effects.{Friends}

@@ -10,7 +10,7 @@ use Rattle.bound_specs.specs.Spec.{Step}
 use Rattle.machine_model.specs.World.{World}
 use Rattle.machine_model.specs.Claims.{plans}
 use Rattle.machine_model.proofs.Basics.{Each-swap, Each-list_all, list_all-Each, both_true, and_true}
-use Rattle.statement_effects.proofs.ListLemmas.{Each, Each-map}
+use Rattle.row_effects.proofs.ListLemmas.{Each, Each-map}
 use Rattle.quiet_steps.specs.Quiet.{is_quiet, all_fit, all_fit_together, fit_together, undisturbed}
 use Rattle.lock_modes.proofs.ModeLaws.{compatible-comm}
 

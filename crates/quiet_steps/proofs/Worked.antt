@@ -1,7 +1,7 @@
 -- Worked swaps and facts, computed.
 use Rattle.std.proofs.Common.{zero, suc, Bool, Option, ◌≡◌, refl, ℕ, List, [], ◌∷◌, Some, None, map, true, false}
 use Rattle.finite_maps.specs.Map.{get, insert, keep, remove, entries, empty}
-use Rattle.statement_effects.specs.Effect.{effect}
+use Rattle.row_effects.specs.Effect.{effect}
 use Rattle.row_tables.specs.Overlay.{lay}
 use Rattle.bound_specs.specs.Spec.{Spec, Queues, queues_of, ranks, line_of, counts_of}
 use Rattle.machine_model.specs.Start.{Started, start}

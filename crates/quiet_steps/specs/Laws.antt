@@ -4,6 +4,7 @@ use Rattle.bound_specs.specs.Spec.{Spec, Step, no_step, Queues, queues_of, line,
 use Rattle.machine_model.specs.World.{World, send, send_all, session_at, scene_of}
 use Rattle.machine_model.specs.Session.{Session, Task, tasks_of}
 use Rattle.lock_modes.specs.RowPlace.{RowPlace}
+use Rattle.lock_modes.specs.Rows.{Rows'}
 use Rattle.machine_model.specs.Footprint.{AllHad}
 use Rattle.quiet_steps.specs.Footprint.{Leads, Footprint, FootprintUntil}
 use Rattle.sql_statements.specs.declared.statement.Bound.{Bound}
@@ -17,7 +18,6 @@ use Rattle.quiet_steps.specs.Values.{Facts, AllTrue, TellTheMachine}
 use Rattle.quiet_steps.specs.declared.fact.Fact.{Fact}
 use Rattle.quiet_steps.specs.declared.fact.Fact.TheVariants.{Ran, Swap}
 use Rattle.machine_model.specs.Outcome.{outcome_of_line}
-use Rattle.row_tables.specs.Overlay.{Rows'}
 use Rattle.sql_statements.specs.Plan.{plan, opened, looks_at}
 use Rattle.transcripts.specs.declared.event.Event.{Event}
 use Rattle.machine_model.specs.Laws.{IsOf}

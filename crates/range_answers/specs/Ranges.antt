@@ -6,7 +6,7 @@ use Rattle.machine_model.specs.Start.{start}
 use Rattle.session_machine.specs.Running.{IsNotRunBy}
 use Rattle.session_machine.specs.declared.error.RunError.{RunError}
 use Rattle.session_machine.specs.declared.error.RunError.TheVariants as run_error
-use Rattle.transcripts.specs.declared.counted.Counted.{Counted}
+use Rattle.outcome_texts.specs.declared.counted.Counted.{Counted}
 use Rattle.step_reducer.specs.Walking.{Starts}
 use Rattle.shard_farm.specs.declared.error.FarmError.{FarmError}
 use Rattle.shard_farm.specs.declared.error.FarmError.TheVariants as farm_error

@@ -8,13 +8,13 @@ ghost use Rattle.range_answers.specs.declared.progress.TheConstants.{GAP_NANOS};
 use crate::cutting::SHARD_RANKS;
 use crate::headway::Headway;
 use crate::telling::say;
+use outcome_texts::Counted;
 use shard_farm::Gate;
 use std::alloc::{AllocError, Global};
 use std::io::Write;
 use std::sync::Mutex;
 use std::sync::atomic::{AtomicU64, Ordering};
 use std::time::{Clock, Duration, Instant};
-use transcripts::Counted;
 
 // An eighth of a second, so that no second has more than ten lines, the last one of a run among them.
 const GAP_NANOS: u64 = 125_000_000;

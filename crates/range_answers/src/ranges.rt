@@ -3,7 +3,7 @@
 ghost use Rattle.std.specs.Prelude.{◌≡◌, ◌<◌, ◌≤◌, IfErr, IfOk, OnOk, MatchOption, false};
 ghost use Rattle.step_reducer.specs.Walking.{Starts};
 ghost use Rattle.outcome_books.specs.Building.{AreFactsOf};
-ghost use Rattle.transcripts.specs.Counted.{failures_of};
+ghost use Rattle.outcome_texts.specs.Counted.{failures_of};
 ghost use Rattle.range_answers.specs.Ranges.{IsRangeOf, IsOutsideRange, IsNoRange, IsRangeRun, IsToldOf};
 
 use crate::cutting::shards_of;
@@ -12,6 +12,7 @@ use book_files::{WriteError, write_book};
 use bound_specs::Spec;
 use command_words::Workers;
 use outcome_books::Book;
+use outcome_texts::Counted;
 use session_machine::RunError;
 use shard_farm::{FarmError, Gate, OpenGate, farm_run};
 use spec_answers::{SpecFault, spec_of};
@@ -20,7 +21,6 @@ use std::io::Write;
 use std::sync::Wait;
 use std::thread::Threads;
 use std::time::Clock;
-use transcripts::Counted;
 
 /// The ranks of a range, at most: as many shards of 1,000 ranks as a plan may have.
 pub const MAX_RANGE: u64 = 4_096_000;

@@ -3,7 +3,8 @@ use Rattle.std.proofs.Common.{◌≡◌, refl, ap, ◌∙◌, ℕ, Bool, true, f
 use Rattle.std.specs.Option.{unwrap_or}
 use Rattle.finite_maps.specs.Map.{get, insert, empty, get-insert, get-remove}
 use Rattle.lock_modes.specs.RowPlace.{RowPlace}
-use Rattle.row_tables.specs.Overlay.{Tuple, Overlay}
+use Rattle.lock_modes.specs.Rows.{Tuple}
+use Rattle.row_tables.specs.Overlay.{Overlay}
 use Rattle.row_tables.specs.Layers.{Layers, overlay_of, wrote, undone, kept}
 use Rattle.row_tables.proofs.UndoLemmas.{same_session}
 

@@ -6,7 +6,8 @@ use Rattle.std.specs.Ordering.{is_eq, is_lt, ordering_then}
 use Rattle.std.specs.FinMap.Entries.{find}
 use Rattle.finite_maps.specs.Map.{same_key, get, get-insert, get-remove, entries}
 use Rattle.lock_modes.specs.RowPlace.{RowPlace, place_order, place_cmp}
-use Rattle.row_tables.specs.Overlay.{Tuple, Rows', Overlay, laid, lay, lay_entries}
+use Rattle.lock_modes.specs.Rows.{Tuple, Rows'}
+use Rattle.row_tables.specs.Overlay.{Overlay, laid, lay, lay_entries}
 
 -- what an overlay has at a place, or else the row below it
 abbrev pub over : Option (Option Tuple) → Option Tuple → Option Tuple

@@ -4,7 +4,8 @@ use Rattle.std.specs.Prelude.{T}
 use Rattle.std.specs.FinMap.Entries.{find, is_sorted}
 use Rattle.finite_maps.specs.Map.{get, insert, entries, empty, get-empty, same_key, same_key-true, same_map, of_entries}
 use Rattle.lock_modes.specs.RowPlace.{RowPlace, place_order, place_cmp}
-use Rattle.row_tables.specs.Overlay.{Tuple, Rows', Overlay, laid, lay}
+use Rattle.lock_modes.specs.Rows.{Tuple, Rows'}
+use Rattle.row_tables.specs.Overlay.{Overlay, laid, lay}
 use Rattle.row_tables.specs.Layers.{no_rows}
 use Rattle.row_tables.specs.Undo.{before_in, noted, AreApart, layers}
 use Rattle.row_tables.proofs.OverlayLemmas.{over, get-laid, get-lay}

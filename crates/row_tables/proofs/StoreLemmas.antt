@@ -6,7 +6,8 @@ use Rattle.std.specs.Prelude.{Result, Ok, Err}
 use Rattle.finite_maps.specs.Map
 use Rattle.finite_maps.specs.Map.{same_key, same_key-true, same_key-refl, get, insert, entries, empty, get-empty, get-insert, get-remove, same_map}
 use Rattle.lock_modes.specs.RowPlace.{RowPlace, place_order}
-use Rattle.row_tables.specs.Overlay.{Tuple, Rows', Overlay, laid, lay}
+use Rattle.lock_modes.specs.Rows.{Tuple, Rows'}
+use Rattle.row_tables.specs.Overlay.{Overlay, laid, lay}
 use Rattle.row_tables.specs.Layers.{Layers, session_order, overlay_of, sight, IsOnlyWriterAt, IsOnlyWriterIn, wrote, undone, kept, rows_of}
 use Rattle.row_tables.specs.Undo.{Lists, before_in, before, noted, AreApart, in_place, layers}
 use Rattle.row_tables.proofs.OverlayLemmas.{over, get-lay, get-laid}

@@ -10,9 +10,10 @@ use Rattle.finite_maps.specs.Entries.{without}
 use Rattle.finite_maps.specs.Map
 use Rattle.finite_maps.specs.Map.{same_key, get, insert, keep, entries, get-insert, get-keep, get-empty, same_map}
 use Rattle.lock_modes.specs.RowPlace.{RowPlace, place_order, place_cmp}
+use Rattle.lock_modes.specs.Rows.{Tuple, Rows'}
 use Rattle.lock_modes.specs.Value.{value_cmp, value_total, value_same}
 use Rattle.lock_modes.specs.declared.value.Value.{Value}
-use Rattle.row_tables.specs.Overlay.{Tuple, Rows', laid}
+use Rattle.row_tables.specs.Overlay.{laid}
 use Rattle.row_tables.specs.Layers.{rows_in, rows_of}
 use Rattle.row_tables.specs.Tables.{with_rows, put_rows, rows_of_tables}
 use Rattle.row_tables.proofs.OverlayLemmas.{get-laid, is_eq-then, is_eq-Equal, is_lt-then}

@@ -9,7 +9,8 @@ use Rattle.std.specs.Cmp.{nat_cmp_total, tied_itself}
 use Rattle.std.specs.FinMap.Entries.{find, is_sorted, below_all}
 use Rattle.finite_maps.specs.Map.{same_key, same_key-true, same_key-refl, get, entries, empty, get-empty, same_map, get-of_entries}
 use Rattle.lock_modes.specs.RowPlace.{RowPlace, place_order, place_cmp}
-use Rattle.row_tables.specs.Overlay.{Tuple, Rows', Overlay}
+use Rattle.lock_modes.specs.Rows.{Tuple, Rows'}
+use Rattle.row_tables.specs.Overlay.{Overlay}
 use Rattle.row_tables.specs.Layers.{session_order, overlay_of}
 use Rattle.row_tables.specs.Undo.{Lists, before_in, before, AreApart, in_place, all_undone, layers}
 use Rattle.row_tables.proofs.OverlayLemmas.{over, get-lay}

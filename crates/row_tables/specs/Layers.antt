@@ -6,8 +6,9 @@ use Rattle.finite_maps.specs.Map
 use Rattle.finite_maps.specs.Map.{Order, Map, get, insert, empty, entries}
 use Rattle.finite_maps.specs.Numbers.{nat_order}
 use Rattle.lock_modes.specs.RowPlace.{RowPlace}
+use Rattle.lock_modes.specs.Rows.{Tuple, Rows'}
 use Rattle.lock_modes.specs.declared.value.Value.{Value}
-use Rattle.row_tables.specs.Overlay.{Tuple, Rows', Overlay, lay}
+use Rattle.row_tables.specs.Overlay.{Overlay, lay}
 
 -- sessions by their number
 abbrev pub session_order : Order ℕ

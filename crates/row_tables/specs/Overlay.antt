@@ -3,24 +3,11 @@ use Rattle.std.specs.Prelude.{List, [], ◌∷◌, Option, Some, None}
 use Rattle.finite_maps.specs.Map
 use Rattle.finite_maps.specs.Map.{Map, insert, entries}
 use Rattle.lock_modes.specs.RowPlace.{RowPlace, place_order}
-use Rattle.lock_modes.specs.declared.value.Value.{Value}
-
--- the values of a row in the order of the columns
-abbrev pub Tuple : Type 0
-Tuple = List Value
-
--- committed rows, and the rows that a session sees
-abbrev pub Rows' : Type 0
-Rows' = Map place_order Tuple
+use Rattle.lock_modes.specs.Rows.{Tuple, Rows', Write}
 
 -- at each place that was written the row that was left there, or none
 abbrev pub Overlay : Type 0
 Overlay = Map place_order (Option Tuple)
-
--- what a write leaves at a place: a row, or none
-pub record Write : Type 0 where
-  pub place : RowPlace
-  pub left : Option Tuple
 
 -- one entry of an overlay laid over the rows
 abbrev pub laid : RowPlace → Option Tuple → Rows' → Rows'

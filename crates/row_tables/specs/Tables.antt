@@ -3,7 +3,7 @@ use Rattle.std.specs.Prelude.{ℕ, not, List, [], ◌∷◌}
 use Rattle.std.specs.Ordering.{nat_cmp, eq_by_cmp}
 use Rattle.finite_maps.specs.Map.{insert, keep, empty}
 use Rattle.lock_modes.specs.declared.value.Value.{Value}
-use Rattle.row_tables.specs.Overlay.{Tuple, Rows'}
+use Rattle.lock_modes.specs.Rows.{Tuple, Rows'}
 
 abbrev pub with_rows : ℕ → List (Value × Tuple) → Rows' → Rows'
 with_rows table [] rows = rows

@@ -2,7 +2,8 @@
 use Rattle.std.specs.Prelude.{◌≡◌, ◌≢◌, ℕ, List, [], ◌∷◌, map, Option, Some, None}
 use Rattle.finite_maps.specs.Map.{Map, get, insert, entries, of_entries}
 use Rattle.lock_modes.specs.RowPlace.{RowPlace, place_order}
-use Rattle.row_tables.specs.Overlay.{Tuple, Rows', Overlay, lay}
+use Rattle.lock_modes.specs.Rows.{Tuple, Rows'}
+use Rattle.row_tables.specs.Overlay.{Overlay, lay}
 use Rattle.row_tables.specs.Layers.{session_order, Layers}
 
 abbrev pub Lists : Type 0

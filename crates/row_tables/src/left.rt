@@ -13,7 +13,7 @@ pub(crate) struct Left {
 
 impl Model for Left {
     ghost use Rattle.std.specs.Prelude.{Option};
-    ghost use Rattle.row_tables.specs.Overlay.{Tuple};
+    ghost use Rattle.lock_modes.specs.Rows.{Tuple};
 
     ghost Value = { Option Tuple };
 

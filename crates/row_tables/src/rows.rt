@@ -30,7 +30,7 @@ impl Model for Rows {
     ghost use Rattle.std.specs.Coded.{codes};
     ghost use Rattle.finite_maps.specs.Codes.{map_code};
     ghost use Rattle.lock_modes.specs.contracts.value.Value as value;
-    ghost use Rattle.row_tables.specs.Overlay.{Rows'};
+    ghost use Rattle.lock_modes.specs.Rows.{Rows'};
     ghost use Rattle.row_tables.specs.Tables.{rows_of_tables};
 
     ghost Value = { Rows' };

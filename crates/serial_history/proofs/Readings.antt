@@ -1,7 +1,7 @@
 -- A transcript read event by event.
 use Rattle.std.proofs.Common.{◌≡◌, ◌≢◌, refl, sym, ap, ◌∙◌, subst, Bool, true, false, cond, List, [], ◌∷◌, ◌++◌, append_assoc, append-nil}
-use Rattle.statement_effects.specs.Effect.{Gives}
-use Rattle.row_tables.specs.Overlay.{Write}
+use Rattle.row_effects.specs.Effect.{Gives}
+use Rattle.lock_modes.specs.Rows.{Write}
 use Rattle.transcripts.specs.declared.event.Event.{Event}
 use Rattle.transcripts.specs.declared.event.Event.TheVariants.{Sent, Row as RowEvent, Rows, Inserted, Updated, Deleted, Began, Committed, RolledBack, Locked}
 use Rattle.transcripts.specs.declared.event.Event.TheVariants.{Set, Warned, Failed, Waiting, Resumed, Done, NotSent}

@@ -4,7 +4,8 @@ use Rattle.std.proofs.Common.{None, ⊎_elim, length-set, get_or-set_same, get_o
 use Rattle.finite_maps.specs.Map.{empty}
 use Rattle.lock_queues.specs.declared.wait.Wait.{Wait}
 use Rattle.lock_queues.specs.Locks.{Spot, next_grant, waits_now}
-use Rattle.row_tables.specs.Overlay.{Rows', Overlay, lay}
+use Rattle.lock_modes.specs.Rows.{Rows'}
+use Rattle.row_tables.specs.Overlay.{Overlay, lay}
 use Rattle.machine_model.specs.Session.{Task, Session, Held, note, tasks_of}
 use Rattle.machine_model.specs.Go.{Run, go, taking}
 use Rattle.machine_model.specs.World.{World, session_at, look_of, scene_of, goes, granted, settle, settle_for, left_to_do, send, send_all, noted}

@@ -3,8 +3,9 @@ use Rattle.std.proofs.Common.{◌≡◌, ◌≢◌, refl, sym, ap, ◌∙◌, su
 use Rattle.std.proofs.Common.{Option, Some, None, ⊎_elim, append_assoc, append-nil, eqb-true, eq-eqb, length-set, get_or-set_same, get_or-set_other}
 use Rattle.finite_maps.specs.Map.{get}
 use Rattle.lock_queues.specs.Locks.{Spot, may_have, closes_ring, answered, next_grant, waits_now}
-use Rattle.row_tables.specs.Overlay.{Rows', lay}
-use Rattle.statement_effects.specs.Effect.{Effect, Gives, Faults, effect}
+use Rattle.lock_modes.specs.Rows.{Rows'}
+use Rattle.row_tables.specs.Overlay.{lay}
+use Rattle.row_effects.specs.Effect.{Effect, Gives, Faults, effect}
 use Rattle.machine_model.specs.Session.{Task, Ask, Do, Session, Performed, Goes, Fails, Kind, Begins, Commits, RollsBack, Works, kind, perform, perform_by}
 use Rattle.machine_model.specs.Session.{worked, note, tasks_of}
 use Rattle.machine_model.specs.Go.{Scene, Run, taking, is_broken, failed, finished_by, stopped, go, held_up, look_with, waiting_with}

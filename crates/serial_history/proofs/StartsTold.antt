@@ -3,8 +3,8 @@ use Rattle.std.proofs.Common.{◌≡◌, refl, sym, ap, ◌∙◌, subst, ℕ, s
 use Rattle.std.proofs.Common.{length-set, get_or-set_same, get_or-set_other}
 use Rattle.finite_maps.specs.Map.{get, empty, get-empty}
 use Rattle.lock_modes.specs.Resource.{resource_order}
+use Rattle.lock_modes.specs.Rows.{Rows'}
 use Rattle.lock_queues.specs.Locks.{waits_now}
-use Rattle.row_tables.specs.Overlay.{Rows'}
 use Rattle.machine_model.specs.Session.{Task, Ask, Do, Session, Performed, Goes, Fails, perform, tasks_of}
 use Rattle.machine_model.specs.Go.{Run, Stop, taking, is_broken, solo, failed, finished_by, stopped, go}
 use Rattle.machine_model.specs.World.{World, fresh, session_at, scene_of, send_all}

@@ -1,7 +1,7 @@
 -- Worked histories of the machine, computed.
 use Rattle.std.proofs.Common.{◌≡◌, refl, ℕ, true, false, List, [], ◌∷◌, Some, map}
 use Rattle.finite_maps.specs.Map.{get, insert, keep, remove, entries, empty}
-use Rattle.statement_effects.specs.Effect.{effect}
+use Rattle.row_effects.specs.Effect.{effect}
 use Rattle.row_tables.specs.Overlay.{lay}
 use Rattle.bound_specs.specs.Spec.{Spec}
 use Rattle.machine_model.specs.Start.{Started, start}

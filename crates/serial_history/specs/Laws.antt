@@ -4,7 +4,7 @@ use Rattle.bound_specs.specs.Spec.{Spec, Step, IsBound}
 use Rattle.machine_model.specs.Start.{Started, start}
 use Rattle.machine_model.specs.World.{World, send_all}
 use Rattle.machine_model.specs.Sound.{Sound}
-use Rattle.row_tables.specs.Overlay.{Rows'}
+use Rattle.lock_modes.specs.Rows.{Rows'}
 use Rattle.serial_history.specs.Serial.{History, Told, Shown, after_setups, send_all_told, first_rows, start_told}
 use Rattle.serial_history.specs.Reading.{Reading, read, told_in, data_of}
 use Rattle.transcripts.specs.declared.event.Event.{Event}

@@ -5,8 +5,9 @@ use Rattle.finite_maps.specs.Map.{empty}
 use Rattle.lock_queues.specs.Locks.{Spot, next_grant, waits_now}
 use Rattle.machine_model.specs.Sound.{HoldsAll}
 use Rattle.sql_statements.specs.Plan.{plan}
-use Rattle.row_tables.specs.Overlay.{Rows', Write, Overlay, lay, written}
-use Rattle.statement_effects.specs.Effect.{Effect, Gives, Faults, effect}
+use Rattle.lock_modes.specs.Rows.{Rows', Write}
+use Rattle.row_tables.specs.Overlay.{Overlay, lay, written}
+use Rattle.row_effects.specs.Effect.{Effect, Gives, Faults, effect}
 use Rattle.machine_model.specs.Session.{Task, Ask, Do, Session, Held, Goes, Fails, Kind, Begins, Commits, RollsBack, Works, kind, perform, tasks_of, note, ended}
 use Rattle.machine_model.specs.Go.{Scene, taking, is_broken, answer_in}
 use Rattle.machine_model.specs.World.{World, session_at, look_of, scene_of, granted, goes, left_to_do, send, send_all, outcome_of}

@@ -23,7 +23,7 @@ use Rattle.session_machine.specs.Going.{IsScene}
 use Rattle.machine_model.specs.Claims.{claims_of}
 use Rattle.machine_model.specs.Sound.{HeldTogether, UnderLocks, HoldsAll}
 use Rattle.machine_model.proofs.Basics.{both_true, or_true_left, not_both, cases-eq}
-use Rattle.statement_effects.proofs.ListLemmas.{Each}
+use Rattle.row_effects.proofs.ListLemmas.{Each}
 use Rattle.machine_model.proofs.Claiming.{claims-asked, claims-cases}
 use Rattle.machine_model.proofs.Effects.{Friends, reads-off}
 use Rattle.machine_model.proofs.Looks.{looked-opened}

@@ -4,6 +4,7 @@ use Rattle.std.proofs.lemmas.List.{append-nil}
 use Rattle.finite_maps.specs.Map.{get, empty}
 use Rattle.lock_modes.specs.declared.mode.Mode.{Mode}
 use Rattle.lock_modes.specs.declared.resource.Resource.{Resource}
+use Rattle.lock_modes.specs.Rows.{Rows'}
 use Rattle.lock_queues.specs.declared.answer.Answer.{Answer}
 use Rattle.lock_queues.specs.declared.answer.Answer.TheVariants.{Granted, Waits, Ring}
 use Rattle.lock_queues.specs.Locks.{waits_now}
@@ -16,8 +17,7 @@ use Rattle.transcripts.specs.declared.event.Fault.TheVariants.{Deadlock, Aborted
 use Rattle.transcripts.specs.declared.event.Event.{Event}
 use Rattle.transcripts.specs.declared.event.Event.TheVariants.{Done, Warned, Committed, RolledBack}
 use Rattle.transcripts.specs.declared.event.Warning.TheVariants.{NoBlock}
-use Rattle.row_tables.specs.Overlay.{Rows'}
-use Rattle.statement_effects.specs.Effect.{Effect, Gives, Faults, effect}
+use Rattle.row_effects.specs.Effect.{Effect, Gives, Faults, effect}
 use Rattle.statement_effects.specs.Run.{events_of, fault_of, left_by}
 use Rattle.row_tables.specs.Layers.{Layers, sight, undone, kept}
 use Rattle.session_machine.specs.declared.session.SessionState.{SessionState}

@@ -6,14 +6,15 @@ use Rattle.finite_maps.specs.Map.{same_key, same_key-true, same_key-refl, get, i
 use Rattle.lock_modes.specs.Resource.{resource_order}
 use Rattle.lock_modes.specs.declared.mode.Mode.{Mode}
 use Rattle.lock_modes.specs.declared.resource.Resource.{Resource}
+use Rattle.lock_modes.specs.Rows.{Write}
 use Rattle.lock_queues.specs.Locks.{wanted, next_grant, waits_now}
 use Rattle.lock_queues.specs.LockTable.{Locks, look_in, taken, let_go, to_grant, slice}
 use Rattle.lock_queues.specs.Laws.{IsBelow}
 use Rattle.lock_queues.proofs.Slices.{get-slice, slice-insert, slice-insert_other, slice-let_go, slice-let_go_other}
-use Rattle.row_tables.specs.Overlay.{Write, written}
+use Rattle.row_tables.specs.Overlay.{written}
 use Rattle.row_tables.specs.Layers.{Layers, session_order, overlay_of, wrote, undone, kept}
 use Rattle.row_tables.proofs.LayersLemmas.{overlay_of-wrote, overlay_of-undone, overlay_of-kept}
-use Rattle.statement_effects.specs.Effect.{Effect, Gives, Faults}
+use Rattle.row_effects.specs.Effect.{Effect, Gives, Faults}
 use Rattle.statement_effects.specs.Run.{wrote_each, left_by}
 use Rattle.machine_model.specs.Session.{Session}
 use Rattle.machine_model.specs.Go.{taking}

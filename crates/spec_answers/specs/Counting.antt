@@ -2,8 +2,8 @@
 use Rattle.std.specs.Prelude.{◌≡◌, ℕ, ◌++◌, List, length, codes, decimal, Option, Result, Ok, Err, ⊤}
 use Rattle.bound_specs.specs.Spec.{SpecFile, ranks}
 use Rattle.bound_specs.specs.Binding.{IsFileOf}
-use Rattle.transcripts.specs.Counted.{Wrote, Stopped}
-use Rattle.transcripts.specs.declared.counted.Counted.{Counted}
+use Rattle.outcome_texts.specs.Counted.{Wrote, Stopped}
+use Rattle.outcome_texts.specs.declared.counted.Counted.{Counted}
 use Rattle.spec_answers.specs.declared.counting.CountFault.{CountFault}
 use Rattle.spec_answers.specs.declared.counting.CountFault.TheVariants.{Spec, Write}
 use Rattle.spec_answers.specs.SpecFiles.{IsNoSpec}

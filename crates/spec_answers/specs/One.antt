@@ -2,10 +2,10 @@
 use Rattle.std.specs.Prelude.{◌≡◌, ℕ, ◌<◌, ◌≤◌, ◌++◌, List, Option, Some, Result, Ok, Err, ⊤}
 use Rattle.bound_specs.specs.Spec.{SpecFile, ranks, line_of}
 use Rattle.bound_specs.specs.Binding.{IsFileOf}
-use Rattle.transcripts.specs.Counted.{Wrote, Stopped}
-use Rattle.transcripts.specs.Text.{rank_text, outcome_text}
-use Rattle.transcripts.specs.declared.counted.Counted.{Counted}
 use Rattle.transcripts.specs.declared.event.Event.{Event}
+use Rattle.outcome_texts.specs.Counted.{Wrote, Stopped}
+use Rattle.outcome_texts.specs.Text.{rank_text, outcome_text}
+use Rattle.outcome_texts.specs.declared.counted.Counted.{Counted}
 use Rattle.machine_model.specs.Start.{start}
 use Rattle.machine_model.specs.Outcome.{outcome_of_line}
 use Rattle.session_machine.specs.Running.{IsNotRunBy}

@@ -2,15 +2,15 @@
 
 ghost use Rattle.std.specs.Prelude.{◌≡◌, ◌<◌, ◌++◌, length};
 ghost use Rattle.bound_specs.specs.Spec.{ranks};
-ghost use Rattle.transcripts.specs.Counted.{Prints, failures_of};
+ghost use Rattle.outcome_texts.specs.Counted.{Prints, failures_of};
 ghost use Rattle.spec_answers.specs.Counting.{IsChecked, IsCounted, counts_lines, number_line};
 
 use crate::spec::{SpecFault, spec_of};
 use bound_specs::Spec;
 use itoa::Buffer;
+use outcome_texts::{Counted, WriteFault};
 use std::alloc::Global;
 use std::io::Write;
-use transcripts::{Counted, WriteFault};
 
 /// Why it was not written how much a spec has. The first is tried before the second.
 #[derive(Clone, Copy, PartialEq, Eq)]

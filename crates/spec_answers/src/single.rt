@@ -2,16 +2,17 @@
 
 ghost use Rattle.std.specs.Prelude.{◌≡◌, ◌<◌, ◌+◌, ◌++◌, ℕ, List, OnOk, IfErr};
 ghost use Rattle.machine_model.specs.Outcome.{IsOutcomeOf};
-ghost use Rattle.transcripts.specs.Counted.{Wrote, Prints, failures_of};
-ghost use Rattle.transcripts.specs.Text.{rank_text, outcome_text};
+ghost use Rattle.outcome_texts.specs.Counted.{Wrote, Prints, failures_of};
+ghost use Rattle.outcome_texts.specs.Text.{rank_text, outcome_text};
 ghost use Rattle.spec_answers.specs.One.{IsAnswer, IsAnswerOf, IsRefused, IsRefusedOf, Leaves, faults_of};
 
 use crate::spec::{SpecFault, spec_of};
 use bound_specs::Spec;
+use outcome_texts::{Counted, Names, WriteFault, print, print_rank};
 use session_machine::{RunError, run_one};
 use std::alloc::Global;
 use std::io::Write;
-use transcripts::{Counted, Names, Outcome, WriteFault, print, print_rank};
+use transcripts::Outcome;
 
 /// Why one permutation was not written. Each is tried before those below it, but for want of memory.
 #[derive(Clone, Copy, PartialEq, Eq)]

@@ -1,12 +1,16 @@
 -- No other session has written where a statement writes.
-use Rattle.std.proofs.Common.{◌≡◌, ◌≢◌, refl, ap, ◌∙◌, ℕ, Bool, true, false, cond, List, [], ◌∷◌, Option, Some}
+use Rattle.std.proofs.Common.{◌≡◌, ◌≢◌, refl, sym, ap, ◌∙◌, subst, ℕ, Bool, true, false, cond, List, [], ◌∷◌, Option, Some}
 use Rattle.std.specs.Option.{unwrap_or}
 use Rattle.finite_maps.specs.Map.{same_key, same_key-true, get, insert, empty, get-insert, get-empty}
 use Rattle.lock_modes.specs.RowPlace.{RowPlace, place_order}
-use Rattle.row_tables.specs.Overlay.{Tuple, Overlay, Write}
+use Rattle.lock_modes.specs.Rows.{Tuple, Rows', Write}
+use Rattle.row_tables.specs.Overlay.{Overlay}
 use Rattle.row_tables.specs.Layers.{Layers, session_order, overlay_of, IsOnlyWriterAt, wrote, no_rows}
+use Rattle.transcripts.specs.declared.event.Event.{Event}
 use Rattle.sql_statements.specs.declared.statement.Bound.{Bound}
-use Rattle.statement_effects.specs.Effect.{Effect, Gives, Faults}
+use Rattle.row_effects.specs.Effect.{Effect, Gives, Faults, effect}
+use Rattle.row_effects.proofs.ListLemmas.{Each}
+use Rattle.row_effects.proofs.WriteLemmas.{OnGives, effect-each}
 use Rattle.statement_effects.specs.Run.{WritesAlone, SeesAlone, wrote_each, left_by}
 use Rattle.statement_effects.specs.Alone.{IsAlone}
 
@@ -33,6 +37,21 @@ WritesAlone-wrote session place left (w ∷ ws) l alone = (
   IsOnlyWriterAt-wrote session place left l w.place alone.0,
   WritesAlone-wrote session place left ws l alone.1,
 )
+
+-- ---- no other session has written where a statement writes
+
+each-alone : (session : ℕ) (l : Layers) (ws : List Write) → Each (λ (w : Write). IsOnlyWriterAt session w.place l) ws → WritesAlone session ws l
+each-alone session l [] h = tt
+each-alone session l (w ∷ ws) h = (h.0, each-alone session l ws h.1)
+
+on_gives : (e : Effect) (P : List Write → Type 0) (events : List Event) (ws : List Write) → Gives events ws ≡ e → OnGives e P → P ws
+on_gives e P events ws is h = subst (λ (f : Effect). OnGives f P) (sym is) h
+
+pub writes-alone : (session : ℕ) (st : Bound) (l : Layers) (rows : Rows') (events : List Event) (ws : List Write) → SeesAlone session st l → Gives events ws
+    ≡ effect st rows → WritesAlone session ws l
+writes-alone session st l rows events ws sees is =
+    each-alone session l ws (on_gives (effect st rows) (Each (λ (w : Write). IsOnlyWriterAt session w.place l)) events ws is
+    (effect-each (λ p. IsOnlyWriterAt session p l) st rows sees))
 
 -- ---- stores that session 0 alone has written
 

@@ -2,6 +2,7 @@
 use Rattle.std.proofs.Common.{◌≡◌, refl, ap, ℕ, Bool, true, false, ◌&&◌, ◌==◌, List, [], ◌∷◌, map, Option, Some, None}
 use Rattle.finite_maps.specs.Map.{keep, entries}
 use Rattle.lock_modes.specs.RowPlace.{RowPlace}
+use Rattle.lock_modes.specs.Rows.{Tuple, Rows'}
 use Rattle.lock_modes.specs.declared.mode.Mode.{Mode}
 use Rattle.lock_modes.specs.declared.value.Value.{Value}
 use Rattle.transcripts.specs.declared.event.Fault.TheVariants.{Duplicate, OutOfRange}
@@ -12,14 +13,15 @@ use Rattle.sql_statements.specs.declared.statement.Assignment.{Assignment}
 use Rattle.sql_statements.specs.declared.statement.SortKey.{SortKey}
 use Rattle.sql_statements.specs.declared.statement.Output.{Output}
 use Rattle.sql_statements.specs.declared.statement.Bound.TheVariants.{Select, Insert, Update, Delete, Begin, Commit, Rollback, Lock, SetVariable}
-use Rattle.row_tables.specs.Overlay.{Tuple, Rows'}
 use Rattle.row_tables.specs.Layers.{Layers, IsOnlyWriterAt}
-use Rattle.statement_effects.specs.Effect.{Effect, Gives, Faults, effect, matching, shown, sorted_by, all_assigned, placed, numbered, next_number, or_fault}
-use Rattle.statement_effects.specs.Effect.{counted}
+use Rattle.row_effects.specs.Effect.{Effect, Gives, Faults, effect, matching, shown, sorted_by, all_assigned, placed, numbered, next_number, or_fault}
+use Rattle.row_effects.specs.Effect.{counted}
+use Rattle.row_effects.specs.Matched.{selected, updated, deleted}
+use Rattle.row_effects.proofs.ListLemmas.{Each-at, Each-map}
+use Rattle.row_effects.proofs.WriteLemmas.{looks-each}
 use Rattle.statement_effects.specs.Run.{SeesAlone}
-use Rattle.statement_effects.specs.Seen.{named, selected, updated, deleted, KeysAlone}
-use Rattle.statement_effects.proofs.ListLemmas.{Each-at, Each-map}
-use Rattle.statement_effects.proofs.PlaceLemmas.{placed-visible, looks-each}
+use Rattle.statement_effects.specs.Seen.{named, KeysAlone}
+use Rattle.statement_effects.proofs.PlaceLemmas.{placed-visible}
 
 matched-selected : (by : List SortKey) (out : Output) (o : Option (List (RowPlace × Tuple)))
     → (let f : Effect = elim o [ None ↦ Faults OutOfRange | Some es ↦ shown out (sorted_by by es) ] in f) ≡ selected by out o

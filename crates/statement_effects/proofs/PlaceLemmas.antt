@@ -2,20 +2,17 @@
 use Rattle.std.specs.Ordering.{nat_cmp}
 use Rattle.std.specs.Cmp.{tied_then}
 use Rattle.std.specs.FinMap.Entries.{find, put, find-put}
-use Rattle.std.proofs.Common.{◌≡◌, refl, sym, ap, ◌∙◌, ℕ, Bool, true, false, cond, ◌&&◌, ◌||◌, ◌==◌, List, [], ◌∷◌, ◌++◌, Some, None, is_some, eq-eqb}
-use Rattle.std.specs.List.{list_any}
-use Rattle.std.proofs.lemmas.Bool.{and_from, or_left, or_right}
+use Rattle.std.proofs.Common.{◌≡◌, refl, sym, ap, ◌∙◌, ℕ, Bool, true, false, cond, ◌&&◌, ◌||◌, List, [], ◌∷◌, ◌++◌, Some, None, is_some}
 use Rattle.finite_maps.specs.Map.{same_key, same_key-true, same_key-refl, get, insert, keep, get-insert, get-keep, same_map}
 use Rattle.lock_modes.specs.RowPlace.{RowPlace, place_order}
+use Rattle.lock_modes.specs.Rows.{Tuple, Rows', Write}
 use Rattle.lock_modes.specs.Value.{value_order, value_cmp, value_total}
 use Rattle.lock_modes.specs.declared.value.Value.{Value}
-use Rattle.sql_statements.specs.Plan.{key_at, at_key, looks_at}
-use Rattle.sql_statements.specs.declared.statement.Bound.{Bound}
-use Rattle.sql_statements.specs.declared.statement.Bound.TheVariants.{Insert}
-use Rattle.row_tables.specs.Overlay.{Tuple, Rows', Write}
+use Rattle.sql_statements.specs.Plan.{key_at, looks_at}
 use Rattle.row_tables.specs.Layers.{session_order}
-use Rattle.statement_effects.specs.Effect.{placed, consed_write, visible}
-use Rattle.statement_effects.proofs.ListLemmas.{onto, onto-[], onto-write, Each, Each-map}
+use Rattle.row_effects.specs.Effect.{placed, consed_write, visible}
+use Rattle.row_effects.proofs.ListLemmas.{onto, onto-[], onto-write, Each}
+use Rattle.row_effects.proofs.WriteLemmas.{insert_at, looks-each}
 
 -- the rows so far are among some rows, and with those that are left they are all
 pub record Placing (t k : ℕ) (rows : Rows') (new left : List Tuple) (writes : List Write) (keys : List (Value × ℕ)) : Type 0 where
@@ -60,25 +57,6 @@ module _ (t k : ℕ) (rows : Rows') (new : List Tuple) (row : Tuple) (more : Lis
           ≡ (is_some (get rows (t, v)) || is_some (cond b (Some n) (find value_cmp v keys)))
       at v true = or-true (is_some (get rows (t, v)))
       at v false = p.taken v
-
--- ---- an insert looks at the keys of its rows
-
-each-among : {A : Type 0} (R : A → A → Bool) → ((x : A) → R x x ≡ true) → (xs : List A) → Each (λ y. list_any (λ x. R x y) xs ≡ true) xs
-each-among R same [] = tt
-each-among R same (x ∷ xs) = (
-  or_left (R x x) _ (same x),
-  Each-map (λ y. list_any (λ x. R x y) xs ≡ true) (λ y. list_any (λ z. R z y) (x ∷ xs)
-      ≡ true) (λ y h. or_right (R x y) _ h) xs (each-among R same xs),
-)
-
-abbrev pub insert_at : ℕ → ℕ → List Tuple → Bound
-insert_at t k new = Insert t (Some k) new
-
-pub looks-each : (t k : ℕ) (new : List Tuple) → Each (λ row. looks_at (insert_at t k new) (t, key_at k row) ≡ true) new
-looks-each t k new =
-    Each-map (λ row. list_any (λ x. at_key (Some (key_at k x)) (key_at k row)) new ≡ true) (λ row. looks_at (insert_at t k new) (t, key_at k row)
-    ≡ true) (λ row h. and_from (t == t) _ (eq-eqb t t refl) h) new
-    (each-among (λ x row. at_key (Some (key_at k x)) (key_at k row)) (λ x. same_key-refl value_order (key_at k x)) new)
 
 -- ---- rows are placed alike in what is kept
 

@@ -6,13 +6,13 @@ use Rattle.std.proofs.Common.{◌≡◌, refl, sym, ap, ◌∙◌, subst, ℕ, B
 use Rattle.std.proofs.lemmas.Bool.{and_from, and_parts}
 use Rattle.finite_maps.specs.Map.{same_key, same_key-true, same_key-refl, get, insert, keep, entries, empty, get-insert, get-keep, get-empty, same_map}
 use Rattle.lock_modes.specs.RowPlace.{RowPlace, place_order, place_cmp}
+use Rattle.lock_modes.specs.Rows.{Tuple, Rows'}
 use Rattle.lock_modes.specs.Value.{value_order}
 use Rattle.lock_modes.specs.declared.value.Value.{Value}
-use Rattle.row_tables.specs.Overlay.{Tuple, Rows'}
 use Rattle.row_tables.specs.Layers.{session_order, rows_in, rows_of}
 use Rattle.sql_statements.specs.declared.condition.Condition.{Condition}
-use Rattle.statement_effects.specs.Evaluate.{holds}
-use Rattle.statement_effects.specs.Effect.{matching, passed}
+use Rattle.row_effects.specs.Evaluate.{holds}
+use Rattle.row_effects.specs.Effect.{matching, passed}
 use Rattle.statement_effects.specs.Seen.{is_named, named, in_table}
 
 -- ---- by a key

@@ -1,13 +1,13 @@
 -- What running a statement tells, and what it leaves in the store.
 use Rattle.std.specs.Prelude.{◌≡◌, ⊤, ℕ, true, List, [], ◌∷◌, Option, Some, None}
 use Rattle.lock_modes.specs.RowPlace.{RowPlace}
+use Rattle.lock_modes.specs.Rows.{Write}
 use Rattle.transcripts.specs.declared.event.Fault.{Fault}
 use Rattle.transcripts.specs.declared.event.Event.{Event}
 use Rattle.sql_statements.specs.declared.statement.Bound.{Bound}
 use Rattle.sql_statements.specs.Plan.{looks_at}
-use Rattle.row_tables.specs.Overlay.{Write}
 use Rattle.row_tables.specs.Layers.{Layers, wrote, IsOnlyWriterAt}
-use Rattle.statement_effects.specs.Effect.{Effect, Gives, Faults}
+use Rattle.row_effects.specs.Effect.{Effect, Gives, Faults}
 
 -- what an effect tells
 abbrev pub events_of : Effect → List Event

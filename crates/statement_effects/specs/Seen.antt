@@ -1,17 +1,11 @@
 -- The rows that a statement looks at.
-use Rattle.std.specs.Prelude.{◌≡◌, ℕ, suc, ◌<◌, Bool, true, ◌&&◌, ◌==◌, List, length, get_or, map, Option, Some, None, pos, negsuc}
+use Rattle.std.specs.Prelude.{◌≡◌, ℕ, suc, ◌<◌, Bool, true, ◌&&◌, ◌==◌, List, length, get_or, map, Option, pos, negsuc}
 use Rattle.finite_maps.specs.Map.{keep, entries}
 use Rattle.lock_modes.specs.RowPlace.{RowPlace}
+use Rattle.lock_modes.specs.Rows.{Rows'}
 use Rattle.lock_modes.specs.declared.value.Value.{Value}
 use Rattle.lock_modes.specs.declared.value.Value.TheVariants.{Int, Text}
 use Rattle.sql_statements.specs.Plan.{Tuple, at_key, key_at}
-use Rattle.sql_statements.specs.declared.statement.Assignment.{Assignment}
-use Rattle.sql_statements.specs.declared.statement.SortKey.{SortKey}
-use Rattle.sql_statements.specs.declared.statement.Output.{Output}
-use Rattle.transcripts.specs.declared.event.Fault.TheVariants.{OutOfRange}
-use Rattle.transcripts.specs.declared.event.Event.TheVariants.{Updated, Deleted}
-use Rattle.row_tables.specs.Overlay.{Rows'}
-use Rattle.statement_effects.specs.Effect.{Effect, Faults, shown, sorted_by, all_assigned, or_fault, counted}
 use Rattle.row_tables.specs.Layers.{Layers, IsOnlyWriterAt}
 
 -- a place in the table, at the key if one is named
@@ -37,17 +31,3 @@ number_after key n = elim key [ Int z ↦ elim z [ pos m ↦ suc m | negsuc m �
 -- no other session has written at the keys of these rows
 abbrev pub KeysAlone : ℕ → ℕ → ℕ → List Tuple → Layers → Type 0
 KeysAlone session t k new l = (i : ℕ) (row : Tuple) → i < length new → IsOnlyWriterAt session (t, key_at k (get_or new i row)) l
-
--- ---- effects from the entries that match, or none where the condition faults
-
-abbrev pub selected : List SortKey → Output → Option (List (RowPlace × Tuple)) → Effect
-selected by out None = Faults OutOfRange
-selected by out (Some es) = shown out (sorted_by by es)
-
-abbrev pub updated : List Assignment → Option (List (RowPlace × Tuple)) → Effect
-updated sets None = Faults OutOfRange
-updated sets (Some es) = or_fault OutOfRange (all_assigned sets es) Updated
-
-abbrev pub deleted : Option (List (RowPlace × Tuple)) → Effect
-deleted None = Faults OutOfRange
-deleted (Some es) = counted Deleted (map (λ (e : RowPlace × Tuple). record { place = e.0; left = None }) es)

@@ -1,7 +1,7 @@
 //! Laws of evaluation. The functions do nothing: what they promise is the law.
 
 ghost use Rattle.std.specs.Prelude.{◌≡◌, Bool, Option};
-ghost use Rattle.statement_effects.specs.Evaluate.{and_then, or_else};
+ghost use Rattle.row_effects.specs.Evaluate.{and_then, or_else};
 
 /// It does not matter which two of three conditions AND joins first, nor OR, also where a value leaves the range. So whether a row meets
 /// a chain follows from the list of its parts.

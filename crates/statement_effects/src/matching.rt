@@ -3,12 +3,11 @@
 ghost use Rattle.std.specs.Prelude.{◌≡◌, IfOk, Some};
 ghost use Rattle.std.specs.Option.{option_copied};
 ghost use Rattle.row_tables.specs.Layers.{sight, rows_of, IsOnlyWriterAt, IsOnlyWriterIn};
-ghost use Rattle.statement_effects.specs.Effect as spec;
+ghost use Rattle.row_effects.specs.Effect as spec;
 ghost use Rattle.statement_effects.specs.Seen.{named, NamesAlone, in_table};
 
-use crate::entry::{Entries, Entry};
-use crate::evaluate::holds;
 use lock_modes::Value;
+use row_effects::{Entries, Entry, holds};
 use row_tables::Store;
 use sql_statements::Condition;
 use std::alloc::{AllocError, Global};

@@ -2,16 +2,13 @@
 
 ghost use Rattle.std.specs.Prelude.{◌≡◌, ◌++◌, IfOk, OnOk};
 ghost use Rattle.row_tables.specs.Layers.{sight};
-ghost use Rattle.statement_effects.specs.Effect.{effect};
-ghost use Rattle.statement_effects.specs.Borrowed.{effect_at};
+ghost use Rattle.row_effects.specs.Effect.{effect};
+ghost use Rattle.row_effects.specs.Borrowed.{effect_at};
 ghost use Rattle.statement_effects.specs.Run.{SeesAlone, fault_of, left_by, events_of, wrote_each, WritesAlone};
 
-use crate::effect::{Given, nothing, telling};
 use crate::insert::{inserted, made};
 use crate::matching::matching;
-use crate::select::selected;
-use crate::update::{deleted, updated};
-use crate::write::Writes;
+use row_effects::{Given, Writes, deleted, nothing, selected, telling, updated};
 use row_tables::Store;
 use sql_statements::Bound;
 use std::alloc::{AllocError, Global};

@@ -1,6 +1,4 @@
 pub mod Walking
-pub mod Writing
-pub mod JsonLaws
 pub mod Codes
 pub mod Digits
 pub mod Tables
@@ -8,6 +6,5 @@ pub mod Escapes
 pub mod EventCodes
 pub mod EventOrder
 pub mod SideBySide
-pub mod CompactText
 pub mod OutcomeOrder
 pub mod Worked

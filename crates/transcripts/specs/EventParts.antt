@@ -3,7 +3,7 @@ use Rattle.std.specs.Prelude.{ℕ, suc, ◌==◌, List, [], ◌∷◌, codes, ge
 use Rattle.lock_modes.specs.declared.value.Value.{Value}
 use Rattle.transcripts.specs.declared.event.Event.{Event}
 use Rattle.transcripts.specs.declared.event.Event.TheVariants.{Sent, Row, Rows, Inserted, Updated, Deleted, Began, Committed, RolledBack, Locked, Set, Warned, Failed, Waiting, Resumed, Done, NotSent}
-use Rattle.transcripts.specs.Json.{warning_number, fault_number}
+use Rattle.transcripts.specs.Numbers.{warning_number, fault_number}
 
 -- the place of an event in the table of the format
 abbrev pub kind_of : Event → ℕ

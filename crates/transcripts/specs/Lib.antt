@@ -1,8 +1,5 @@
-pub mod Counted
+pub mod Numbers
 pub mod Outcome
-pub mod Text
-pub mod Json
-pub mod JsonReading
 pub mod Log
 pub mod Turned
 pub mod Compact

@@ -1,24 +1,14 @@
-//! Transcripts: what a session is told, event by event, and the text of an outcome.
+//! Transcripts: what a session is told, event by event, and the order of outcomes.
 #![tactic(auto)]
 
-mod counted;
-mod error;
 mod event;
 mod log;
-mod names;
-mod of_value;
+mod numbers;
 mod order;
 mod outcome;
-mod printing;
-mod to_value;
 mod turn;
 
-pub use counted::{Counted, ReadError, ReadFault, WriteFault};
-pub use error::ValueError;
 pub use event::{Event, Fault, Warning};
 pub use log::Log;
-pub use names::Names;
-pub use of_value::outcome_of_value;
+pub use numbers::{fault_number, warning_number};
 pub use outcome::{Outcome, Transcript};
-pub use printing::{print, print_rank};
-pub use to_value::outcome_value;

@@ -6,8 +6,8 @@ ghost use Rattle.transcripts.specs.Compact.{bytes_cmp, cell_json, event_json, fi
 ghost use Rattle.transcripts.specs.EventParts.{end_at, front_by, kind_of, number_of, values_of};
 
 use crate::event::Event;
+use crate::numbers::{fault_number, warning_number};
 use crate::outcome::Transcript;
-use crate::to_value::{fault_number, warning_number};
 use itoa::Buffer;
 use lock_modes::Value;
 use std::cmp::Ordering;

@@ -4,7 +4,7 @@ ghost use Rattle.std.specs.Ordering.{eq_by_cmp};
 ghost use Rattle.std.specs.Cmp.{po, eq_by_cmp_equiv, partial_equiv_from_equiv};
 ghost use Rattle.std.specs.declared.cmp.Ordering.TheVariants.{Equal};
 ghost use Rattle.transcripts.specs.Compact.{bytes_cmp, outcome_json};
-ghost use Rattle.transcripts.specs.Json.{CellFits, EventFits, OutcomeFits};
+ghost use Rattle.transcripts.specs.Outcome.{CellFits, EventFits, OutcomeFits};
 
 use crate::event::Event;
 use crate::order::outcome_order;

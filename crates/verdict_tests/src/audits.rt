@@ -4,11 +4,11 @@ use book_audit::{AuditError, audit, audit_plain};
 use book_files::{BookError, read_book};
 use book_tests::{DISJOINT, SAME_OUTCOME};
 use outcome_books::{Book, report};
+use outcome_texts::Counted;
 use std::alloc::Global;
 use std::process::Abort;
 use std::test::Fail;
 use std::thread::Threads;
-use transcripts::Counted;
 
 fn read(alloc: Global, text: &str) -> Result<Book, BookError> {
     read_book(alloc, &mut Counted::new(text.as_bytes()))

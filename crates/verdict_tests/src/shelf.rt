@@ -1,12 +1,12 @@
 //! A disk of held files, and what the program tells over it.
 use book_tests::{Told, words_of};
 use iso_farm::{Opener, run};
+use outcome_texts::Counted;
 use std::alloc::{AllocError, Global};
 use std::io::{self, Read, Write};
 use std::sync::Wait;
 use std::thread::Threads;
 use std::time::Clock;
-use transcripts::Counted;
 
 /// Files: a path and a text. `other` differs from `first` in session b at rank 0; `swap` has a false swap at rank 1; `short` is of a spec with
 /// one permutation, which tells what each of `every` does.

@@ -9,9 +9,10 @@ ghost use Rattle.book_files.specs.Reading.{AreOutcomes, IsNextOutcome, IsOutcome
 
 use crate::error::BookError;
 use bound_specs::Spec;
+use outcome_texts::{ValueError, outcome_of_value};
 use serde_json::Value as Json;
 use std::alloc::Global;
-use transcripts::{Event, Outcome, Transcript, ValueError, outcome_of_value};
+use transcripts::{Event, Outcome, Transcript};
 
 /// The outcomes that these values are, which have to rise by their texts.
 pub(crate) fn outcomes_of(

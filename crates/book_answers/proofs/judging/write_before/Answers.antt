@@ -1,6 +1,6 @@
 use Rattle.std.proofs.Common.{subst, decimal}
-use Rattle.transcripts.specs.Counted.{Wrote}
-use Rattle.transcripts.proofs.Writing.{prints-after}
+use Rattle.outcome_texts.specs.Counted.{Wrote}
+use Rattle.outcome_texts.proofs.Writing.{prints-after}
 use Rattle.book_answers.proofs.judging.write_before.Goals as goal
 
 -- the number is written, and then the word or a front of it

@@ -1,5 +1,5 @@
 use Rattle.std.proofs.Common.{List, ℕ, ◌++◌, codes, decimal}
-use Rattle.transcripts.proofs.Writing.{prints-after, prints-stopped, stopped-append, stopped-after}
+use Rattle.outcome_texts.proofs.Writing.{prints-after, prints-stopped, stopped-append, stopped-after}
 use Rattle.spec_answers.specs.Counting.{number_line}
 use Rattle.book_answers.proofs.judging.write_difference.Goals as goal
 

@@ -1,4 +1,4 @@
-use Rattle.transcripts.proofs.Writing.{prints-stopped}
+use Rattle.outcome_texts.proofs.Writing.{prints-stopped}
 use Rattle.book_answers.proofs.JudgeLemmas.{line-stopped}
 use Rattle.book_answers.proofs.judging.write_differences.Goals as goal
 

@@ -1,4 +1,4 @@
-use Rattle.transcripts.specs.Counted.{Wrote}
+use Rattle.outcome_texts.specs.Counted.{Wrote}
 use Rattle.book_answers.specs.Judging.{difference_lines}
 use Rattle.book_answers.proofs.judging.write_differences.Given as goal
 

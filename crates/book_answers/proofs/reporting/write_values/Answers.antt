@@ -1,6 +1,6 @@
 use Rattle.std.proofs.Common.{◌+◌, ◌<◌, sym, subst, length}
-use Rattle.transcripts.specs.Counted.{Wrote}
-use Rattle.transcripts.proofs.Writing.{prints-stopped}
+use Rattle.outcome_texts.specs.Counted.{Wrote}
+use Rattle.outcome_texts.proofs.Writing.{prints-stopped}
 use Rattle.book_answers.specs.Reporting.{values_text}
 use Rattle.book_answers.proofs.ReportLemmas.{value-written, value-stopped, none-at}
 use Rattle.book_answers.proofs.reporting.write_values.Goals.{in-Some+in_ok-write_one, in_default}

@@ -1,4 +1,4 @@
-use Rattle.transcripts.specs.Counted.{Wrote}
+use Rattle.outcome_texts.specs.Counted.{Wrote}
 use Rattle.book_answers.specs.Reporting.{values_text}
 use Rattle.book_answers.proofs.reporting.write_values.Given as goal
 

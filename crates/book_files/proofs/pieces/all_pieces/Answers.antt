@@ -1,7 +1,7 @@
 use Rattle.std.proofs.Common.{◌∙◌, ap, subst, map}
 use Rattle.serde_json.specs.Data.{string}
 use Rattle.serde_json.specs.Written.{compact_text}
-use Rattle.transcripts.specs.Json.{outcome_data}
+use Rattle.outcome_texts.specs.Json.{outcome_data}
 use Rattle.book_files.specs.Forms.{IsForm}
 use Rattle.book_files.proofs.PiecesLemmas.{are-pieces}
 use Rattle.book_files.proofs.pieces.all_pieces.Goals as goal

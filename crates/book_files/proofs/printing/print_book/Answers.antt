@@ -1,5 +1,5 @@
 use Rattle.std.specs.Prelude.{◌++◌, string_bytes}
-use Rattle.transcripts.proofs.Writing.{prints-after, prints-stopped, stopped-after, stopped-append, wrote-append}
+use Rattle.outcome_texts.proofs.Writing.{prints-after, prints-stopped, stopped-after, stopped-append, wrote-append}
 use Rattle.book_files.specs.Pieces.{facts_text, outcomes_text, spec_text}
 use Rattle.book_files.proofs.printing.print_book.Goals as goal
 

@@ -1,6 +1,6 @@
 use Rattle.std.specs.Prelude.{codes}
 use Rattle.std.specs.List.{join_by}
-use Rattle.transcripts.proofs.Writing.{prints-after, prints-stopped, stopped-append}
+use Rattle.outcome_texts.proofs.Writing.{prints-after, prints-stopped, stopped-append}
 use Rattle.book_files.specs.Pieces.{run_text}
 use Rattle.book_files.proofs.printing.print_facts.Goals as goal
 

@@ -2,7 +2,7 @@ use Rattle.std.proofs.Common.{refl}
 use Rattle.std.specs.Prelude.{[], codes}
 use Rattle.outcome_books.specs.declared.run.Tag.TheVariants.{Ran}
 use Rattle.book_files.specs.Pieces.{run_text, after_comma}
-use Rattle.transcripts.proofs.Writing.{prints-stopped, stopped-after, stopped-append, stopped-next_of}
+use Rattle.outcome_texts.proofs.Writing.{prints-stopped, stopped-after, stopped-append, stopped-next_of}
 use Rattle.book_files.proofs.printing.print_other_runs.Goals as goal
 
 -- a comma

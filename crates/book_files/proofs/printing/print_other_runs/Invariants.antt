@@ -1,5 +1,5 @@
 use Rattle.std.specs.Prelude.{flat_map, take}
-use Rattle.transcripts.specs.Counted.{Wrote}
+use Rattle.outcome_texts.specs.Counted.{Wrote}
 use Rattle.book_files.specs.Pieces.{run_text, after_comma}
 use Rattle.book_files.proofs.printing.print_other_runs.Given as goal
 

@@ -1,8 +1,8 @@
 use Rattle.std.proofs.Common.{subst}
 use Rattle.std.specs.Prelude.{[], ◌++◌, codes, string_bytes}
-use Rattle.transcripts.specs.Counted.{Stopped}
+use Rattle.outcome_texts.specs.Counted.{Stopped}
 use Rattle.book_files.specs.Pieces.{after_comma}
-use Rattle.transcripts.proofs.Writing.{prints-stopped, stopped-next_of}
+use Rattle.outcome_texts.proofs.Writing.{prints-stopped, stopped-next_of}
 use Rattle.book_files.proofs.printing.print_other_texts.Goals as goal
 
 pub returns-in_err-print_pair : goal.returns-in_err-print_pair

@@ -1,6 +1,6 @@
 use Rattle.std.specs.Prelude.{codes, string_bytes}
 use Rattle.std.specs.List.{join_by}
-use Rattle.transcripts.proofs.Writing.{prints-after, prints-stopped, stopped-append}
+use Rattle.outcome_texts.proofs.Writing.{prints-after, prints-stopped, stopped-append}
 use Rattle.book_files.proofs.printing.print_outcomes.Goals as goal
 
 pub returns-in_err-write_str : goal.returns-in_err-write_str

@@ -1,4 +1,4 @@
-use Rattle.transcripts.proofs.Writing.{prints-after}
+use Rattle.outcome_texts.proofs.Writing.{prints-after}
 use Rattle.book_files.proofs.printing.print_pair.Goals as goal
 
 -- the text follows what stands before it

@@ -1,5 +1,5 @@
 use Rattle.std.specs.Prelude.{◌-◌, ◌++◌, codes, decimal}
-use Rattle.transcripts.proofs.Writing.{prints-after, prints-stopped, stopped-after, stopped-append, wrote-append}
+use Rattle.outcome_texts.proofs.Writing.{prints-after, prints-stopped, stopped-after, stopped-append, wrote-append}
 use Rattle.book_files.specs.Forms.{tag_number}
 use Rattle.book_files.specs.Pieces.{tag_front}
 use Rattle.book_files.proofs.printing.print_run.Goals as goal

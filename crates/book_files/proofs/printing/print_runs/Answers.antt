@@ -1,6 +1,6 @@
 use Rattle.std.specs.Prelude.{flat_map}
 use Rattle.book_files.specs.Pieces.{run_text, after_comma}
-use Rattle.transcripts.proofs.Writing.{prints-after, prints-stopped, stopped-append}
+use Rattle.outcome_texts.proofs.Writing.{prints-after, prints-stopped, stopped-append}
 use Rattle.book_files.proofs.printing.print_runs.Goals as goal
 
 -- the first run, and then the others

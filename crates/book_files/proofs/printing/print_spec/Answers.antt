@@ -1,5 +1,5 @@
 use Rattle.std.specs.Prelude.{◌++◌, codes}
-use Rattle.transcripts.proofs.Writing.{prints-after, prints-stopped, stopped-append}
+use Rattle.outcome_texts.proofs.Writing.{prints-after, prints-stopped, stopped-append}
 use Rattle.book_files.proofs.printing.print_spec.Goals as goal
 
 pub returns-in_err-print_pair : goal.returns-in_err-print_pair

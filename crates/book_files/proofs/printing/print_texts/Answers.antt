@@ -1,8 +1,8 @@
 use Rattle.std.proofs.Common.{subst}
 use Rattle.std.specs.Prelude.{flat_map, string_bytes}
-use Rattle.transcripts.specs.Counted.{Wrote}
+use Rattle.outcome_texts.specs.Counted.{Wrote}
 use Rattle.book_files.specs.Pieces.{after_comma}
-use Rattle.transcripts.proofs.Writing.{prints-after}
+use Rattle.outcome_texts.proofs.Writing.{prints-after}
 use Rattle.book_files.proofs.printing.print_texts.Goals as goal
 
 -- the first text, and then the others

@@ -1,7 +1,7 @@
 use Rattle.std.proofs.Common.{◌≡◌, map, take}
 use Rattle.std.specs.Prelude.{string_bytes}
 use Rattle.serde_json.specs.Written.{compact_text}
-use Rattle.transcripts.specs.Json.{outcome_data}
+use Rattle.outcome_texts.specs.Json.{outcome_data}
 use Rattle.book_files.proofs.texts.outcome_texts.Given as goal
 
 -- the texts so far

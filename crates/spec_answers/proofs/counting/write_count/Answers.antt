@@ -1,4 +1,4 @@
-use Rattle.transcripts.proofs.Writing.{prints-after}
+use Rattle.outcome_texts.proofs.Writing.{prints-after}
 use Rattle.spec_answers.specs.Counting.{number_line}
 use Rattle.spec_answers.proofs.counting.write_count.Goals as goal
 

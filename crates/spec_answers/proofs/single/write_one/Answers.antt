@@ -1,7 +1,7 @@
 use Rattle.std.proofs.Common.{◌≡◌, ◌++◌, sym, subst, length, arith}
-use Rattle.transcripts.specs.Counted.{Prints}
-use Rattle.transcripts.specs.Text.{rank_text, outcome_text}
-use Rattle.transcripts.proofs.Writing.{prints-after, prints-stopped, stopped-append}
+use Rattle.outcome_texts.specs.Counted.{Prints}
+use Rattle.outcome_texts.specs.Text.{rank_text, outcome_text}
+use Rattle.outcome_texts.proofs.Writing.{prints-after, prints-stopped, stopped-append}
 use Rattle.std.specs.List.{All}
 use Rattle.transcripts.specs.Outcome.{HasStep}
 use Rattle.machine_model.proofs.Owned.{outcome-named}

@@ -5,7 +5,7 @@ use Rattle.transcripts.specs.declared.event.Fault.TheVariants.{Duplicate}
 use Rattle.transcripts.specs.declared.event.Event.TheVariants.{Inserted}
 use Rattle.sql_statements.specs.declared.statement.Bound.TheVariants.{Insert}
 use Rattle.row_tables.specs.Layers.{sight}
-use Rattle.statement_effects.specs.Effect.{effect, or_fault, counted}
+use Rattle.row_effects.specs.Effect.{effect, or_fault, counted}
 use Rattle.statement_effects.specs.Run.{SeesAlone}
 use Rattle.statement_effects.proofs.GivenLemmas.{effect-placed, effect-numbered, keys-alone}
 use Rattle.statement_effects.proofs.insert.made.Goals as goal

@@ -1,6 +1,6 @@
 use Rattle.std.proofs.Common.{sym, ap, ◌∙◌}
 use Rattle.row_tables.specs.Layers.{sight}
-use Rattle.statement_effects.specs.Effect.{next_number}
+use Rattle.row_effects.specs.Effect.{next_number}
 use Rattle.statement_effects.specs.Seen.{in_table}
 use Rattle.statement_effects.proofs.SeenLemmas.{named-table}
 use Rattle.statement_effects.proofs.insert.next_number.Goals as goal

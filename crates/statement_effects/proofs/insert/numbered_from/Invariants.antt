@@ -1,5 +1,5 @@
 use Rattle.std.proofs.Common.{◌≡◌, drop, ◌++◌}
-use Rattle.statement_effects.specs.Effect.{numbered}
+use Rattle.row_effects.specs.Effect.{numbered}
 use Rattle.statement_effects.proofs.insert.numbered_from.Given as goal
 
 -- with those that are left they are all

@@ -3,8 +3,8 @@ use Rattle.std.specs.FinMap.Entries.{find, put}
 use Rattle.finite_maps.specs.Map.{get}
 use Rattle.lock_modes.specs.Value.{value_cmp}
 use Rattle.lock_modes.specs.declared.value.Value.{Value}
+use Rattle.lock_modes.specs.Rows.{Write}
 use Rattle.sql_statements.specs.Plan.{Tuple, key_at}
-use Rattle.row_tables.specs.Overlay.{Write}
 use Rattle.row_tables.specs.Layers.{sight}
 use Rattle.statement_effects.proofs.PlaceLemmas.{Placing, placing-starts, placing-goes}
 use Rattle.statement_effects.proofs.insert.placed.Goals as goal

@@ -1,5 +1,5 @@
 use Rattle.std.proofs.Common.{◌≡◌, refl, Bool, true, false, Option, Some, None}
-use Rattle.statement_effects.specs.Evaluate.{and_then, or_else}
+use Rattle.row_effects.specs.Evaluate.{and_then, or_else}
 use Rattle.statement_effects.proofs.laws.links_are_associative.Goals as goal
 
 -- the first part decides, or the others do

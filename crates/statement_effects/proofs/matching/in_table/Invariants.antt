@@ -1,8 +1,8 @@
 use Rattle.std.proofs.Common.{◌≡◌}
 use Rattle.row_tables.specs.Layers.{sight, rows_of}
-use Rattle.statement_effects.specs.Effect.{matching}
+use Rattle.row_effects.specs.Effect.{matching}
+use Rattle.row_effects.proofs.ListLemmas.{onto}
 use Rattle.statement_effects.specs.Seen.{in_table}
-use Rattle.statement_effects.proofs.ListLemmas.{onto}
 use Rattle.statement_effects.proofs.matching.in_table.Given as goal
 
 -- with those that are left they are all that match

@@ -2,9 +2,9 @@ use Rattle.std.proofs.Common.{◌≡◌, sym, ap, ◌∙◌, subst, List}
 use Rattle.std.specs.Option.{option_copied}
 use Rattle.std.specs.Result.{IfOk}
 use Rattle.lock_modes.specs.RowPlace.{RowPlace}
-use Rattle.row_tables.specs.Overlay.{Tuple}
+use Rattle.lock_modes.specs.Rows.{Tuple}
 use Rattle.row_tables.specs.Layers.{sight, rows_of}
-use Rattle.statement_effects.specs.Effect.{matching}
+use Rattle.row_effects.specs.Effect.{matching}
 use Rattle.statement_effects.specs.Seen.{is_named, named, in_table}
 use Rattle.statement_effects.proofs.SeenLemmas.{there, named-table}
 use Rattle.statement_effects.proofs.matching.matching.Goals as goal

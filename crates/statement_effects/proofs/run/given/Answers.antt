@@ -3,9 +3,10 @@ use Rattle.std.specs.Result.{IfOk}
 use Rattle.row_tables.specs.Layers.{sight}
 use Rattle.sql_statements.specs.declared.statement.Bound.{Bound}
 use Rattle.transcripts.specs.declared.event.Event.TheVariants.{Locked, Set}
-use Rattle.statement_effects.specs.Effect.{Effect, effect, Gives, matching}
-use Rattle.statement_effects.specs.Seen.{named, selected, updated, deleted}
-use Rattle.statement_effects.specs.Borrowed.{effect_at}
+use Rattle.row_effects.specs.Effect.{Effect, effect, Gives, matching}
+use Rattle.row_effects.specs.Matched.{selected, updated, deleted}
+use Rattle.row_effects.specs.Borrowed.{effect_at}
+use Rattle.statement_effects.specs.Seen.{named}
 use Rattle.statement_effects.proofs.GivenLemmas.{effect-select, effect-update, effect-delete, effect-locked, effect-set, effect-begin, effect-commit}
 use Rattle.statement_effects.proofs.GivenLemmas.{effect-rollback}
 use Rattle.statement_effects.proofs.run.given.Goals as goal

@@ -1,7 +1,7 @@
 use Rattle.std.proofs.Common.{sym, ap, ◌∙◌}
 use Rattle.row_tables.specs.Layers.{sight}
-use Rattle.statement_effects.specs.Borrowed.{effect_at}
-use Rattle.statement_effects.proofs.WriteLemmas.{writes-alone}
+use Rattle.row_effects.specs.Borrowed.{effect_at}
+use Rattle.statement_effects.proofs.AloneLemmas.{writes-alone}
 use Rattle.statement_effects.proofs.run.run_statement.Goals as goal
 
 -- a statement writes where it looks

@@ -1,6 +1,6 @@
 use Rattle.std.proofs.Common.{◌≡◌, sym, ap, ◌∙◌, subst, ◌∷◌, List}
 use Rattle.std.specs.Vec.Iter.{into_iter_items}
-use Rattle.row_tables.specs.Overlay.{Write}
+use Rattle.lock_modes.specs.Rows.{Write}
 use Rattle.row_tables.specs.Layers.{Layers, wrote}
 use Rattle.statement_effects.specs.Run.{wrote_each, WritesAlone}
 use Rattle.statement_effects.proofs.AloneLemmas.{WritesAlone-wrote}

@@ -1,4 +1,4 @@
-use Rattle.transcripts.specs.Json.{CellFits}
+use Rattle.transcripts.specs.Outcome.{CellFits}
 use Rattle.transcripts.proofs.Walking.{all-next, all-past}
 use Rattle.transcripts.proofs.outcome.known_row.Goals as goal
 

@@ -3,7 +3,7 @@ use Rattle.std.specs.Result.{IfOk}
 use Rattle.std.specs.FinMap.Entries.{put}
 use Rattle.finite_maps.specs.Map.{insert}
 use Rattle.lock_modes.specs.Value.{value_cmp}
-use Rattle.row_tables.specs.Overlay.{Rows'}
+use Rattle.lock_modes.specs.Rows.{Rows'}
 use Rattle.row_tables.specs.Tables.{put_rows}
 use Rattle.row_tables.proofs.TableLemmas.{put_rows-put}
 use Rattle.row_tables.proofs.rows.Rows.put.Goals as goal

@@ -3,7 +3,7 @@ use Rattle.std.specs.Result.{IfOk}
 use Rattle.finite_maps.specs.Map
 use Rattle.finite_maps.specs.Entries.{without}
 use Rattle.lock_modes.specs.Value.{value_cmp}
-use Rattle.row_tables.specs.Overlay.{Rows'}
+use Rattle.lock_modes.specs.Rows.{Rows'}
 use Rattle.row_tables.specs.Tables.{put_rows}
 use Rattle.row_tables.proofs.TableLemmas.{put_rows-without}
 use Rattle.row_tables.proofs.rows.Rows.without.Goals as goal

@@ -1,5 +1,5 @@
 use Rattle.std.proofs.Common.{sym, ◌∙◌, ap, subst}
-use Rattle.row_tables.specs.Overlay.{Rows'}
+use Rattle.lock_modes.specs.Rows.{Rows'}
 use Rattle.row_tables.specs.Undo.{AreApart, layers}
 use Rattle.row_tables.proofs.RestoreLemmas.{empty-apart, empty-layers}
 use Rattle.row_tables.proofs.store.Store.new.Goals as goal

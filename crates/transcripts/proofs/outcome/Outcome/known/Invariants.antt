@@ -1,5 +1,5 @@
 use Rattle.std.proofs.Common.{take}
-use Rattle.transcripts.specs.Json.{OutcomeFits}
+use Rattle.transcripts.specs.Outcome.{OutcomeFits}
 use Rattle.transcripts.proofs.outcome.Outcome.known.Given as goal
 
 -- the transcripts so far fit

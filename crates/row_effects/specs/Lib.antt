@@ -1,0 +1,4 @@
+pub mod Evaluate
+pub mod Effect
+pub mod Matched
+pub mod Borrowed

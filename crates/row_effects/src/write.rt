@@ -1,0 +1,89 @@
+//! What a statement writes.
+
+ghost use Rattle.std.specs.Prelude.{◌≡◌, [], ◌∷◌, ◌++◌, OnOk, length};
+ghost use Rattle.lock_modes.specs.Rows as rows;
+
+use lock_modes::{Row, Value};
+use std::alloc::{AllocError, Global};
+use std::marker::Model;
+
+/// A row, or none, that a statement leaves at a place.
+#[derive(Drop)]
+pub struct Write {
+    table: u16,
+    key: Value,
+    left: Option<Row>,
+}
+
+impl Model for Write {
+    ghost use Rattle.lock_modes.specs.Rows as rows;
+
+    ghost Value = { rows.Write };
+
+    ghost view = { λ w. record { place = (w.table, w.key); left = w.left } };
+}
+
+impl Write {
+    /// A row, or none, that is left at a key of the table with this number.
+    pub fn new(table: u16, key: Value, left: Option<Row>) -> Write
+        ensures { result ≡ record { place = (table, key); left = left } }
+    {
+        Write { table, key, left }
+    }
+
+    /// The number of the table, the key, and what is left there.
+    pub fn into_parts(self) -> (u16, Value, Option<Row>)
+        ensures place { (result.0, result.1) ≡ self.place }
+        ensures left { result.2 ≡ self.left }
+    {
+        (self.table, self.key, self.left)
+    }
+}
+
+/// Writes in their order, seen by contracts as their list.
+#[derive(Drop)]
+pub struct Writes {
+    items: Vec<Write>,
+}
+
+impl Model for Writes {
+    ghost use Rattle.std.specs.Prelude.{List};
+    ghost use Rattle.lock_modes.specs.Rows as rows;
+
+    ghost Value = { List rows.Write };
+
+    ghost view = { λ w. w.items.items };
+}
+
+impl Writes {
+    /// No writes.
+    pub fn new(alloc: Global) -> Writes
+        ensures { result ≡ [] }
+    {
+        Writes {
+            items: Vec::new(alloc),
+        }
+    }
+
+    /// Adds a write at the end. It fails for want of memory alone.
+    pub fn push(&mut self, write: Write) -> Result<(), AllocError>
+        ensures { OnOk result (self.new ≡ self.old ++ write ∷ []) }
+    {
+        self.items.push(write)?;
+        Ok(())
+    }
+
+    /// How many writes there are.
+    pub fn len(&self) -> usize
+        ensures { result ≡ length self.now }
+    {
+        self.items.len()
+    }
+
+    /// The writes as a list, in their order.
+    pub fn into_vec(self) -> Vec<Write>
+        ensures { result.items ≡ self }
+    {
+        self.items
+    }
+}
