@@ -10,9 +10,9 @@ ghost use Rattle.step_reducer.specs.Reduced.{first_world};
 ghost use Rattle.perm_ranks.specs.Words.{all_words, total};
 ghost use Rattle.book_audit.specs.Grounds.{IsTrueUntil, AreAlikeTo};
 
-use perm_ranks::{Shape, swapped};
+use perm_ranks::{Shape, shared_block, swapped};
 use std::alloc::AllocError;
-use step_reducer::{Path, quiet, shared_block};
+use step_reducer::{Path, quiet};
 use transcripts::Outcome;
 
 /// Whether this is the outcome of a rank.
