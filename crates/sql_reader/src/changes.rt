@@ -6,9 +6,9 @@ ghost use Rattle.sql_grammar.specs.Reading.{with_commas, assignment, update, del
 ghost use Rattle.sql_grammar.specs.Views.{Gives, chain_by, view_assignment, view_update, view_delete};
 
 use crate::conditions::maybe_where;
-use crate::steps::{name, past_sign, skip_key, skip_sign, skip_word};
 use crate::values::sum;
 use sql_grammar::{Assignment, Chain, Delete, Placed, Stop, Update};
+use sql_words::{name, past_sign, skip_key, skip_sign, skip_word};
 use sqlite_items::Items;
 use std::alloc::Global;
 

@@ -8,11 +8,11 @@ ghost use Rattle.sql_grammar.specs.Lexing.{key_of};
 ghost use Rattle.sql_grammar.specs.Reading.{first, the, comparison, compares, part_of, condition_of, negated, group, atom, condition, where_part, optional};
 ghost use Rattle.sql_grammar.specs.Views.{Gives, Passed, view_sum, view_atom, view_part, view_condition, part_by, condition_by, option_by};
 
-use crate::steps::{at_key, at_sign, first, skip_key, skip_sign, taken};
 use crate::values::sum;
 use sql_grammar::{
     Atom, Comparison, Condition, Limit, MAX_DEPTH, Part, Placed, Stop, Sum, Token, Why,
 };
+use sql_words::{at_key, at_sign, first, skip_key, skip_sign, taken};
 use sqlite_items::{Boxed, Items};
 use std::alloc::{AllocError, Global};
 

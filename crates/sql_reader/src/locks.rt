@@ -6,8 +6,8 @@ ghost use Rattle.sql_grammar.specs.Tokens.{Key};
 ghost use Rattle.sql_grammar.specs.Reading.{strength, row_exclusive, share_mode, lock_mode, mode_part, table_word, lock, optional};
 ghost use Rattle.sql_grammar.specs.Views.{Gives, view_lock};
 
-use crate::steps::{at_key, at_word, first, name, skip_key, skip_word, taken};
 use sql_grammar::{LockMode, Placed, Stop, Strength, TableLock, Token};
+use sql_words::{at_key, at_word, first, name, skip_key, skip_word, taken};
 use std::alloc::Global;
 
 fn strength(token: &Token) -> Option<Strength>

@@ -8,10 +8,10 @@ ghost use Rattle.sql_grammar.specs.Views.{Gives, chain_of, option_by, view_selec
 
 use crate::conditions::maybe_where;
 use crate::rows::names;
-use crate::steps::{
+use sql_grammar::{Aggregate, Chain, Direction, Placed, Select, Selected, SortKey, Stop, Token};
+use sql_words::{
     at_key, at_sign, at_word, behind, first, name, past_sign, skip_key, skip_sign, skip_word,
 };
-use sql_grammar::{Aggregate, Chain, Direction, Placed, Select, Selected, SortKey, Stop, Token};
 use sqlite_items::Items;
 use std::alloc::Global;
 

@@ -13,14 +13,14 @@ use crate::changes::{delete, update};
 use crate::locks::lock;
 use crate::queries::select;
 use crate::rows::insert;
-use crate::settings::{inside, set};
-use crate::steps::{at_key, at_sign, at_word, behind, first};
+use crate::settings::set;
 use crate::table::create;
 use crate::transactions::{begin, end_word, ends};
 use byte_runs::tokens_of;
 use sql_grammar::{
     Failure, Form, Limit, Placed, SqlError, SqlErrorKind, Statement, Stop, Token, Why, quoted_len,
 };
+use sql_words::{at_key, at_sign, at_word, behind, first, inside};
 use std::alloc::{AllocError, Global};
 
 fn begins_begin(tokens: &[Placed]) -> bool

@@ -3,12 +3,12 @@
 ghost use Rattle.std.specs.Prelude.{◌≡◌, ◌≤◌, length, IfOk};
 ghost use Rattle.sql_grammar.specs.Lexing.{view_token, views};
 ghost use Rattle.sql_grammar.specs.Tree.{Set};
-ghost use Rattle.sql_grammar.specs.Reading.{set_sign, scope, inside, statement_end, setting_after, scoped_setting, has_scope, set, is_name};
+ghost use Rattle.sql_grammar.specs.Reading.{set_sign, scope, statement_end, setting_after, scoped_setting, has_scope, set, is_name};
 ghost use Rattle.sql_grammar.specs.Views.{Gives};
 
-use crate::steps::{at_sign, at_word, behind, first, name, skip_key, taken};
 use crate::values::factor;
 use sql_grammar::{Placed, Scope, SetSign, Setting, Stop, Token, Why};
+use sql_words::{at_sign, at_word, behind, first, inside, name, skip_key, taken};
 use std::alloc::Global;
 
 fn set_sign(token: &Token) -> Option<SetSign>
@@ -33,13 +33,6 @@ fn scope(token: &Token) -> Option<Scope>
     } else {
         None
     }
-}
-
-/// Whether the token belongs to a statement: it is no semicolon, and not the end.
-pub fn inside(token: &Token) -> bool
-    ensures { result ≡ inside (view_token token.now) }
-{
-    !(token.is_sign(";") || token.is_end())
 }
 
 fn is_name(token: &Token) -> bool

@@ -5,8 +5,8 @@ ghost use Rattle.sql_grammar.specs.Lexing.{view_token, views};
 ghost use Rattle.sql_grammar.specs.Reading.{begins_property, next_property, property, many, type_word, column_part, key_part, table_part, create, with_commas};
 ghost use Rattle.sql_grammar.specs.Views.{Gives, chain_of, view_create};
 
-use crate::steps::{at_key, first, name, past_sign, skip_key, skip_sign, skip_word, taken};
 use sql_grammar::{Chain, CreateTable, Placed, Property, Stop, TablePart, Token, TypeWord};
+use sql_words::{at_key, first, name, past_sign, skip_key, skip_sign, skip_word, taken};
 use sqlite_items::Items;
 use std::alloc::Global;
 

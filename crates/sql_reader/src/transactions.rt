@@ -6,8 +6,8 @@ ghost use Rattle.sql_grammar.specs.Tokens.{Word};
 ghost use Rattle.sql_grammar.specs.Reading.{noise, maybe_noise, read_word, level, level_part, start, begin, end_word, ends, optional};
 ghost use Rattle.sql_grammar.specs.Views.{Gives, view_begin, view_end};
 
-use crate::steps::{at_word, behind, first, skip_word, taken};
 use sql_grammar::{Begin, End, EndWord, Level, Noise, Placed, ReadWord, Start, Stop, Token};
+use sql_words::{at_word, behind, first, skip_word, taken};
 
 fn noise(token: &Token) -> Option<Noise>
     ensures { result ≡ noise (view_token token.now) }

@@ -6,11 +6,10 @@ ghost use Rattle.sql_grammar.specs.Grammar.{fits};
 ghost use Rattle.sql_grammar.specs.Reading.{first, whole, quoted_text, literal, factor, term, add_sign, sum};
 ghost use Rattle.sql_grammar.specs.Views.{Gives, Passed, chain_of, view_sum};
 
-use crate::quotes::unquoted;
-use crate::steps::{at_sign, behind, first, name, past_sign, skip_sign};
 use sql_grammar::{
     AddSign, Chain, Factor, Limit, Literal, Placed, SignedTerm, Stop, Sum, Token, Why,
 };
+use sql_words::{at_sign, behind, first, name, past_sign, skip_sign, unquoted};
 use sqlite_items::Items;
 use std::alloc::Global;
 

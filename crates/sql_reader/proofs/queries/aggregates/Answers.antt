@@ -5,7 +5,7 @@ use Rattle.sql_grammar.specs.Tokens.{Sign}
 use Rattle.sql_grammar.specs.Tree.{Last, More}
 use Rattle.sql_grammar.specs.Lexing.{views}
 use Rattle.sql_grammar.specs.Reading.{the, aggregate}
-use Rattle.sql_reader.proofs.Loops.{starts_with, next, err, fits}
+use Rattle.sql_words.proofs.Loops.{starts_with, next, err, fits}
 use Rattle.sql_reader.proofs.queries.aggregates.Goals as goal
 
 pub returns-in_err-next-clause-reads : goal.returns-in_err-next-clause-reads

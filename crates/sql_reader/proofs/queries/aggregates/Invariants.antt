@@ -3,7 +3,7 @@ use Rattle.sql_grammar.specs.Tokens.{Sign}
 use Rattle.sql_grammar.specs.Tree.{Last, More}
 use Rattle.sql_grammar.specs.Lexing.{views}
 use Rattle.sql_grammar.specs.Reading.{the, with_commas, aggregate}
-use Rattle.sql_reader.proofs.Loops.{SoFar}
+use Rattle.sql_words.proofs.Loops.{SoFar}
 use Rattle.sql_reader.proofs.queries.aggregates.Given as goal
 
 abbrev pub invariant-commas : goal.invariant-commas

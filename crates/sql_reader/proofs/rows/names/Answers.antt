@@ -3,7 +3,7 @@ use Rattle.std.specs.Prelude.{codes}
 use Rattle.sql_grammar.specs.Tokens.{Sign}
 use Rattle.sql_grammar.specs.Tree.{Last, More}
 use Rattle.sql_grammar.specs.Reading.{the, name}
-use Rattle.sql_reader.proofs.Loops.{next, err, fits}
+use Rattle.sql_words.proofs.Loops.{next, err, fits}
 use Rattle.sql_reader.proofs.rows.names.Goals as goal
 
 pub returns-in_err-next-clause-reads : goal.returns-in_err-next-clause-reads

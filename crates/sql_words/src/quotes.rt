@@ -46,7 +46,7 @@ fn past_pair(text: &str) -> Option<&str>
     }
 }
 
-/// What stands behind an opening quote up to the closing one, each doubled quote once.
+/// What stands behind an opening quote up to the closing one, each doubled quote once, or `None` where no quote closes it.
 pub fn unquoted(alloc: Global, text: &str) -> Result<Option<Text>, AllocError>
     ensures { IfOk result (λ inner. inner ≡ content text.now) }
 {

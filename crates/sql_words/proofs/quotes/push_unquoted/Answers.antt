@@ -3,8 +3,8 @@ use Rattle.std.specs.String.{string_bytes}
 use Rattle.byte_runs.specs.declared.runs.Class.TheVariants as class
 use Rattle.sql_grammar.specs.Lexing.{with_front}
 use Rattle.byte_runs.proofs.RunLemmas.{run_boundary}
-use Rattle.sql_reader.proofs.QuoteLemmas.{content-front, front-twice, run_stops}
-use Rattle.sql_reader.proofs.quotes.push_unquoted.Goals as goal
+use Rattle.sql_words.proofs.QuoteLemmas.{content-front, front-twice, run_stops}
+use Rattle.sql_words.proofs.quotes.push_unquoted.Goals as goal
 
 pub split_at-requires : goal.split_at-requires
 split_at-requires c = rw (c.run_len.ensures, c.as_bytes.ensures.value) (run_boundary class.SingleQuoted c.args.text.now c.utf8.text)

@@ -2,8 +2,8 @@
 
 ghost use Rattle.std.specs.Prelude.{◌≡◌, ◌≤◌, length, IfOk, Some, None, MatchOption};
 ghost use Rattle.sql_grammar.specs.Tokens.{Sign};
-ghost use Rattle.sql_grammar.specs.Lexing.{key_of, other_of, view, views};
-ghost use Rattle.sql_grammar.specs.Reading.{first, rest, at, skip, taken, the, name};
+ghost use Rattle.sql_grammar.specs.Lexing.{key_of, other_of, view, view_token, views};
+ghost use Rattle.sql_grammar.specs.Reading.{first, rest, at, skip, taken, the, name, inside};
 ghost use Rattle.sql_grammar.specs.Views.{Gives, Passed};
 
 use lock_modes::Text;
@@ -55,6 +55,14 @@ pub fn at_sign(tokens: &[Placed], sign: &str) -> bool
     first(tokens).token.is_sign(sign)
 }
 
+/// Whether the token belongs to a statement: it is no semicolon, and not the end.
+pub fn inside(token: &Token) -> bool
+    ensures { result ≡ inside (view_token token.now) }
+{
+    !(token.is_sign(";") || token.is_end())
+}
+
+/// The tokens behind a reserved word, which is given in lower case. It stops at any other token.
 pub fn skip_key<'a, 't>(tokens: &'t [Placed<'a>], word: &str) -> Result<&'t [Placed<'a>], Stop<'a>>
     ensures reads { Gives (λ rest. (tt, views rest.now)) result (skip (key_of word.now) (views tokens.now)) }
     ensures shorter { IfOk result (λ rest. length rest.now ≤ length tokens.now) }
@@ -66,6 +74,7 @@ pub fn skip_key<'a, 't>(tokens: &'t [Placed<'a>], word: &str) -> Result<&'t [Pla
     }
 }
 
+/// The tokens behind a word that is not reserved, which is given in lower case. It stops at any other token.
 pub fn skip_word<'a, 't>(tokens: &'t [Placed<'a>], word: &str) -> Result<&'t [Placed<'a>], Stop<'a>>
     ensures reads { Gives (λ rest. (tt, views rest.now)) result (skip (other_of word.now) (views tokens.now)) }
     ensures shorter { IfOk result (λ rest. length rest.now ≤ length tokens.now) }
@@ -77,6 +86,7 @@ pub fn skip_word<'a, 't>(tokens: &'t [Placed<'a>], word: &str) -> Result<&'t [Pl
     }
 }
 
+/// The tokens behind a sign. It stops at any other token.
 pub fn skip_sign<'a, 't>(tokens: &'t [Placed<'a>], sign: &str) -> Result<&'t [Placed<'a>], Stop<'a>>
     ensures reads { Gives (λ rest. (tt, views rest.now)) result (skip (Sign sign.now) (views tokens.now)) }
     ensures shorter { IfOk result (λ rest. length rest.now ≤ length tokens.now) }
@@ -88,6 +98,7 @@ pub fn skip_sign<'a, 't>(tokens: &'t [Placed<'a>], sign: &str) -> Result<&'t [Pl
     }
 }
 
+/// A name, in lower case, and the tokens behind it. It stops at any token but a word that is not reserved, or for want of memory.
 pub fn name<'a, 't>(
     alloc: Global,
     tokens: &'t [Placed<'a>],
@@ -115,7 +126,7 @@ pub fn past_sign<'a, 't>(tokens: &'t [Placed<'a>], sign: &str) -> Option<&'t [Pl
     }
 }
 
-/// What the first token is taken for, if it is taken.
+/// What the first token is taken for, and the tokens behind it. It stops at a token that is taken for nothing.
 pub fn taken<'a, 't, T: Drop>(
     what: Option<T>,
     tokens: &'t [Placed<'a>],

@@ -1,7 +1,7 @@
 use Rattle.std.proofs.Common.{length, [], false, IsUtf8, ◌≡◌}
 use Rattle.std.specs.String.{string_bytes}
 use Rattle.sql_grammar.specs.Lexing.{content, with_front, begins_quote}
-use Rattle.sql_reader.proofs.quotes.unquoted.Given as goal
+use Rattle.sql_words.proofs.quotes.unquoted.Given as goal
 
 abbrev pub invariant-pairs : goal.invariant-pairs
 invariant-pairs l = record {

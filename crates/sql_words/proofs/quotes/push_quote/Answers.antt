@@ -1,8 +1,8 @@
 use Rattle.std.proofs.Common.{sym, ap, ◌∙◌, List, ℕ, [], ◌∷◌}
 use Rattle.std.specs.String.{string_bytes}
 use Rattle.sql_grammar.specs.Lexing.{content, with_front}
-use Rattle.sql_reader.proofs.QuoteLemmas.{front-twice}
-use Rattle.sql_reader.proofs.quotes.push_quote.Goals as goal
+use Rattle.sql_words.proofs.QuoteLemmas.{front-twice}
+use Rattle.sql_words.proofs.quotes.push_quote.Goals as goal
 
 pub returns-clause-whole : goal.returns-clause-whole
 unfolding lib.Utf8.encode
