@@ -5,8 +5,7 @@ ghost use Rattle.sql_grammar.specs.Lexing.{views};
 ghost use Rattle.sql_grammar.specs.Reading.{with_commas, assignment, update, delete};
 ghost use Rattle.sql_grammar.specs.Views.{Gives, chain_by, view_assignment, view_update, view_delete};
 
-use crate::conditions::maybe_where;
-use crate::values::sum;
+use sql_expressions::{maybe_where, sum};
 use sql_grammar::{Assignment, Chain, Delete, Placed, Stop, Update};
 use sql_words::{name, past_sign, skip_key, skip_sign, skip_word};
 use sqlite_items::Items;

@@ -2,7 +2,6 @@
 #![tactic(auto)]
 
 mod changes;
-mod conditions;
 mod locks;
 mod queries;
 mod reading;
@@ -10,6 +9,5 @@ mod rows;
 mod settings;
 mod table;
 mod transactions;
-mod values;
 
 pub use reading::read_sql;

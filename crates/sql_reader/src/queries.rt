@@ -6,8 +6,8 @@ ghost use Rattle.sql_grammar.specs.Tokens.{Key};
 ghost use Rattle.sql_grammar.specs.Reading.{with_commas, count_all, sum_of, aggregate, at_aggregate, items, direction, maybe_direction, sort_key, order_part, optional, select};
 ghost use Rattle.sql_grammar.specs.Views.{Gives, chain_of, option_by, view_selected, view_select};
 
-use crate::conditions::maybe_where;
 use crate::rows::names;
+use sql_expressions::maybe_where;
 use sql_grammar::{Aggregate, Chain, Direction, Placed, Select, Selected, SortKey, Stop, Token};
 use sql_words::{
     at_key, at_sign, at_word, behind, first, name, past_sign, skip_key, skip_sign, skip_word,

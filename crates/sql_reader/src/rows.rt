@@ -6,8 +6,8 @@ ghost use Rattle.sql_grammar.specs.Tokens.{Sign};
 ghost use Rattle.sql_grammar.specs.Reading.{with_commas, name, names_part, optional, literal, row, insert};
 ghost use Rattle.sql_grammar.specs.Views.{Gives, chain_of, chain_by, option_by, view_insert};
 
-use crate::values::literal;
 use lock_modes::Text;
+use sql_expressions::literal;
 use sql_grammar::{Chain, Insert, Limit, Literal, MAX_ROWS, Placed, Stop, Why};
 use sql_words::{at_sign, first, name, past_sign, skip_key, skip_sign, skip_word};
 use sqlite_items::Items;

@@ -6,7 +6,7 @@ ghost use Rattle.sql_grammar.specs.Tree.{Set};
 ghost use Rattle.sql_grammar.specs.Reading.{set_sign, scope, statement_end, setting_after, scoped_setting, has_scope, set, is_name};
 ghost use Rattle.sql_grammar.specs.Views.{Gives};
 
-use crate::values::factor;
+use sql_expressions::factor;
 use sql_grammar::{Placed, Scope, SetSign, Setting, Stop, Token, Why};
 use sql_words::{at_sign, at_word, behind, first, inside, name, skip_key, taken};
 use std::alloc::Global;

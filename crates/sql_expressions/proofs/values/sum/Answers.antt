@@ -6,7 +6,7 @@ use Rattle.sql_grammar.specs.Lexing.{views}
 use Rattle.sql_grammar.specs.Views.{chain_of}
 use Rattle.sql_grammar.specs.Reading.{term, add_sign}
 use Rattle.sql_words.proofs.Loops.{starts_with, next, err, fits}
-use Rattle.sql_reader.proofs.values.sum.Goals as goal
+use Rattle.sql_expressions.proofs.values.sum.Goals as goal
 
 pub returns-in_err-term-clause-reads : goal.returns-in_err-term-clause-reads
 returns-in_err-term-clause-reads c =

@@ -60,6 +60,7 @@ fn quoted_text<'a, 't>(
     }
 }
 
+/// A literal, and the tokens behind it. It stops at a token that cannot stand there or passes a limit, or for want of memory.
 pub fn literal<'a, 't>(
     alloc: Global,
     tokens: &'t [Placed<'a>],
@@ -77,6 +78,7 @@ pub fn literal<'a, 't>(
     }
 }
 
+/// A column or a literal, and the tokens behind it. It stops at a token that cannot stand there or passes a limit, or for want of memory.
 pub fn factor<'a, 't>(
     alloc: Global,
     tokens: &'t [Placed<'a>],
@@ -139,7 +141,7 @@ fn past_add_sign<'a, 't>(tokens: &'t [Placed<'a>]) -> Option<(AddSign, &'t [Plac
     }
 }
 
-/// Terms with `+` and `-` between them.
+/// Terms with `+` and `-` between them, and the tokens behind. It stops at a token that cannot stand there or passes a limit, or for want of memory.
 pub fn sum<'a, 't>(
     alloc: Global,
     tokens: &'t [Placed<'a>],

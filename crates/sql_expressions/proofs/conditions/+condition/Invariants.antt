@@ -5,7 +5,7 @@ use Rattle.sql_grammar.specs.Lexing.{views}
 use Rattle.sql_grammar.specs.Views.{view_atom, view_part}
 use Rattle.sql_grammar.specs.Reading.{the, atom, part_of, condition_of}
 use Rattle.sql_words.proofs.Loops.{SoFar}
-use Rattle.sql_reader.proofs.conditions.+condition.Given as goal
+use Rattle.sql_expressions.proofs.conditions.+condition.Given as goal
 
 abbrev pub decreases-atom : goal.decreases-atom
 decreases-atom l = 4 * l.levels

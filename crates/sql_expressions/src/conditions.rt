@@ -232,7 +232,7 @@ fn where_part<'a, 't>(
     condition(alloc, rest)
 }
 
-/// WHERE and a condition, or nothing.
+/// WHERE and a condition, or nothing, and the tokens behind. It stops at a token that cannot stand there or passes a limit, or for want of memory.
 pub fn maybe_where<'a, 't>(
     alloc: Global,
     tokens: &'t [Placed<'a>],

@@ -1,8 +1,8 @@
 use Rattle.std.proofs.Common.{◌∙◌, sym, ap, false}
 use Rattle.sql_grammar.specs.Tokens.{Placed}
 use Rattle.sql_grammar.specs.Lexing.{views, view_token, quoted}
-use Rattle.sql_reader.proofs.ReadingLemmas.{text-literal}
-use Rattle.sql_reader.proofs.values.literal.Goals as goal
+use Rattle.sql_expressions.proofs.ReadingLemmas.{text-literal}
+use Rattle.sql_expressions.proofs.values.literal.Goals as goal
 
 pub returns-in-Text-clause-reads : goal.returns-in-Text-clause-reads
 returns-in-Text-clause-reads c =

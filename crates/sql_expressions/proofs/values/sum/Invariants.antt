@@ -4,7 +4,7 @@ use Rattle.sql_grammar.specs.Lexing.{views}
 use Rattle.sql_grammar.specs.Views.{chain_of}
 use Rattle.sql_grammar.specs.Reading.{term, add_sign, sum}
 use Rattle.sql_words.proofs.Loops.{SoFar}
-use Rattle.sql_reader.proofs.values.sum.Given as goal
+use Rattle.sql_expressions.proofs.values.sum.Given as goal
 
 abbrev pub invariant-signs : goal.invariant-signs
 invariant-signs l = record {

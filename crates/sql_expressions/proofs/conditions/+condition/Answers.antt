@@ -6,9 +6,9 @@ use Rattle.sql_grammar.specs.Tree.{Single, And, Alone, Or}
 use Rattle.sql_grammar.specs.Lexing.{views}
 use Rattle.sql_grammar.specs.Views.{view_atom, view_part}
 use Rattle.sql_grammar.specs.Reading.{the, atom, part_of}
-use Rattle.sql_reader.proofs.ReadingLemmas.{group-opens}
+use Rattle.sql_expressions.proofs.ReadingLemmas.{group-opens}
 use Rattle.sql_words.proofs.Loops.{starts_with, next, err, fits}
-use Rattle.sql_reader.proofs.conditions.+condition.Goals as goal
+use Rattle.sql_expressions.proofs.conditions.+condition.Goals as goal
 
 pub part_of-returns-in_err-next-clause-reads : goal.part_of-returns-in_err-next-clause-reads
 part_of-returns-in_err-next-clause-reads t c =
