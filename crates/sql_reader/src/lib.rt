@@ -2,12 +2,9 @@
 #![tactic(auto)]
 
 mod changes;
-mod locks;
 mod queries;
 mod reading;
 mod rows;
 mod settings;
-mod table;
-mod transactions;
 
 pub use reading::read_sql;

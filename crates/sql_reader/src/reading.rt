@@ -10,13 +10,11 @@ ghost use Rattle.sql_grammar.specs.Text.{StatementAt, IsSpelled, Explains, AllHa
 ghost use Rattle.sql_grammar.specs.Views.{Gives, option_by, view_form};
 
 use crate::changes::{delete, update};
-use crate::locks::lock;
 use crate::queries::select;
 use crate::rows::insert;
 use crate::settings::set;
-use crate::table::create;
-use crate::transactions::{begin, end_word, ends};
 use byte_runs::tokens_of;
+use sql_forms::{begin, create, end_word, ends, lock};
 use sql_grammar::{
     Failure, Form, Limit, Placed, SqlError, SqlErrorKind, Statement, Stop, Token, Why, quoted_len,
 };

@@ -101,6 +101,7 @@ fn start<'a, 't>(tokens: &'t [Placed<'a>]) -> Result<(Start, &'t [Placed<'a>]), 
     }
 }
 
+/// A BEGIN or START TRANSACTION, and the tokens behind it. It stops at a token that cannot stand there.
 pub fn begin<'a, 't>(tokens: &'t [Placed<'a>]) -> Result<(Begin, &'t [Placed<'a>]), Stop<'a>>
     ensures reads { Gives (λ x. (view_begin x.0, views x.1.now)) result (begin (views tokens.now)) }
     ensures shorter { IfOk result (λ x. length x.1.now ≤ length tokens.now) }
@@ -110,6 +111,7 @@ pub fn begin<'a, 't>(tokens: &'t [Placed<'a>]) -> Result<(Begin, &'t [Placed<'a>
     Ok((Begin { start, level }, rest))
 }
 
+/// What a token says at the front of a statement that ends a transaction, if it can stand there.
 pub fn end_word(token: &Token) -> Option<EndWord>
     ensures { result ≡ end_word (view_token token.now) }
 {
@@ -126,6 +128,7 @@ pub fn end_word(token: &Token) -> Option<EndWord>
     }
 }
 
+/// A COMMIT or ROLLBACK, or another word for them, and the tokens behind it. It stops at a token that cannot stand there.
 pub fn ends<'a, 't>(tokens: &'t [Placed<'a>]) -> Result<(End, &'t [Placed<'a>]), Stop<'a>>
     ensures reads { Gives (λ x. (view_end x.0, views x.1.now)) result (ends (views tokens.now)) }
     ensures shorter { IfOk result (λ x. length x.1.now ≤ length tokens.now) }

@@ -2,7 +2,7 @@ use Rattle.std.specs.Prelude.{◌≤◌, ◌+◌, suc, length}
 use Rattle.sql_grammar.specs.Lexing.{views}
 use Rattle.sql_grammar.specs.Reading.{begins_property, property, many}
 use Rattle.sql_words.proofs.Loops.{ManySoFar}
-use Rattle.sql_reader.proofs.table.properties.Given as goal
+use Rattle.sql_forms.proofs.table.properties.Given as goal
 
 abbrev pub invariant-all : goal.invariant-all
 invariant-all l = record {

@@ -130,6 +130,7 @@ fn table_parts<'a, 't>(
     Ok((Chain { first, more }, rest))
 }
 
+/// A CREATE TABLE, and the tokens behind it. It stops at a token that cannot stand there, or for want of memory.
 pub fn create<'a, 't>(
     alloc: Global,
     tokens: &'t [Placed<'a>],

@@ -6,7 +6,7 @@ use Rattle.sql_grammar.specs.Tree.{Last, More}
 use Rattle.sql_grammar.specs.Lexing.{views}
 use Rattle.sql_grammar.specs.Reading.{the, table_part}
 use Rattle.sql_words.proofs.Loops.{starts_with, next, err, fits}
-use Rattle.sql_reader.proofs.table.table_parts.Goals as goal
+use Rattle.sql_forms.proofs.table.table_parts.Goals as goal
 
 pub returns-in_err-next-clause-reads : goal.returns-in_err-next-clause-reads
 returns-in_err-next-clause-reads c =

@@ -4,7 +4,7 @@ use Rattle.std.specs.Prelude.{length, ◌∷◌}
 use Rattle.sql_grammar.specs.Lexing.{views}
 use Rattle.sql_grammar.specs.Reading.{begins_property, property}
 use Rattle.sql_words.proofs.Loops.{many-next, many-stops, many-err}
-use Rattle.sql_reader.proofs.table.properties.Goals as goal
+use Rattle.sql_forms.proofs.table.properties.Goals as goal
 
 pub returns-in_err-next-clause-reads : goal.returns-in_err-next-clause-reads
 returns-in_err-next-clause-reads c =

@@ -110,6 +110,7 @@ fn table_word<'a, 't>(tokens: &'t [Placed<'a>]) -> Result<(bool, &'t [Placed<'a>
     }
 }
 
+/// A LOCK TABLE, and the tokens behind it. It stops at a token that cannot stand there, or for want of memory.
 pub fn lock<'a, 't>(
     alloc: Global,
     tokens: &'t [Placed<'a>],
