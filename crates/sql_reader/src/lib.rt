@@ -1,10 +1,6 @@
 //! Reads the whole SQL subset: the statements of a block, as they are written, or its first fault.
 #![tactic(auto)]
 
-mod changes;
-mod queries;
 mod reading;
-mod rows;
-mod settings;
 
 pub use reading::read_sql;

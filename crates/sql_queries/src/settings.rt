@@ -104,6 +104,7 @@ fn has_scope(tokens: &[Placed]) -> bool
     }
 }
 
+/// A SET, and the tokens behind it. It stops at a token that cannot stand there or passes a limit, or for want of memory.
 pub fn set<'a, 't>(
     alloc: Global,
     tokens: &'t [Placed<'a>],

@@ -4,7 +4,7 @@ use Rattle.sql_grammar.specs.Tree.{Last, More}
 use Rattle.sql_grammar.specs.Lexing.{views}
 use Rattle.sql_grammar.specs.Reading.{the, with_commas, literal}
 use Rattle.sql_words.proofs.Loops.{SoFar}
-use Rattle.sql_reader.proofs.rows.literals.Given as goal
+use Rattle.sql_queries.proofs.rows.literals.Given as goal
 
 abbrev pub invariant-commas : goal.invariant-commas
 invariant-commas l = record {

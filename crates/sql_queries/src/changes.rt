@@ -42,6 +42,7 @@ fn assignments<'a, 't>(
     Ok((Chain { first, more }, rest))
 }
 
+/// An UPDATE, and the tokens behind it. It stops at a token that cannot stand there or passes a limit, or for want of memory.
 pub fn update<'a, 't>(
     alloc: Global,
     tokens: &'t [Placed<'a>],
@@ -64,6 +65,7 @@ pub fn update<'a, 't>(
     ))
 }
 
+/// A DELETE, and the tokens behind it. It stops at a token that cannot stand there or passes a limit, or for want of memory.
 pub fn delete<'a, 't>(
     alloc: Global,
     tokens: &'t [Placed<'a>],

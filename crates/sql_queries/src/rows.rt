@@ -116,6 +116,7 @@ fn rows<'a, 't>(
     Ok((Chain { first, more }, rest))
 }
 
+/// An INSERT, and the tokens behind it. It stops at a token that cannot stand there or passes a limit, or for want of memory.
 pub fn insert<'a, 't>(
     alloc: Global,
     tokens: &'t [Placed<'a>],

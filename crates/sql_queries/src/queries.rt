@@ -179,6 +179,7 @@ fn maybe_order<'a, 't>(
     }
 }
 
+/// A SELECT, and the tokens behind it. It stops at a token that cannot stand there or passes a limit, or for want of memory.
 pub fn select<'a, 't>(
     alloc: Global,
     tokens: &'t [Placed<'a>],
