@@ -10,9 +10,6 @@ pub mod FormLaws
 pub mod Inside
 pub mod BlockLaws
 pub mod Ended
-pub mod Loops
-pub mod Joined
-pub mod QuoteLemmas
 pub mod ReadingLemmas
 pub mod TextLemmas
 pub mod RowLemmas

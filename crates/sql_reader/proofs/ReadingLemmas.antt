@@ -1,23 +1,11 @@
--- What a token says about the reading that follows.
-use Rattle.std.proofs.Common.{◌≡◌, refl, ap, ◌∙◌, ℕ, suc, true, false, List, Option, Some, None}
-use Rattle.std.specs.Prelude.{codes, is_some, if◌then◌else◌}
+-- What is wrong with a token that cannot stand where it stands.
+use Rattle.std.proofs.Common.{◌≡◌, refl, ℕ, List, Option, Some, None}
+use Rattle.std.specs.Prelude.{is_some, if◌then◌else◌}
 use Rattle.sql_grammar.specs.declared.error.SqlErrorKind.TheVariants.{Syntax, Unclosed}
-use Rattle.sql_grammar.specs.Tokens.{Key, Sign, Placed}
 use Rattle.sql_grammar.specs.Lexing.{text_token}
-use Rattle.sql_grammar.specs.Reading.{first, quoted_text, literal, refused, at, atom, group}
+use Rattle.sql_grammar.specs.Reading.{refused}
 
--- a literal that begins with a quote is a text, or none where the quote is not closed
-pub text-literal : (ts : List Placed) (o : Option (List ℕ × ℕ)) → (first ts).token ≡ text_token o → literal ts ≡ quoted_text ts
-text-literal ts None e = rw e refl
-text-literal ts (Some x) e = rw e refl
-
+-- a text is told as unclosed, where its quote is not closed
 pub refused_text : (o : Option (List ℕ × ℕ)) → refused (text_token o) ≡ (if is_some o then Syntax else Unclosed)
 refused_text None = refl
 refused_text (Some x) = refl
-
--- parentheses where a level may be opened
-pub group-opens : (n m : ℕ) (ts : List Placed) → n ≡ suc m → at (Key (codes "not")) ts ≡ false → at (Sign (codes "(")) ts ≡ true → atom n ts ≡ group (atom m) ts
-group-opens n m ts k e f = ap (λ (i : ℕ). atom i ts) k ∙ opens
-  where
-    opens : atom (suc m) ts ≡ group (atom m) ts
-    opens = rw (e, f) refl

@@ -1,0 +1,205 @@
+//! SELECT.
+
+ghost use Rattle.std.specs.Prelude.{◌≡◌, ◌≤◌, length, IfOk, codes};
+ghost use Rattle.sql_grammar.specs.Lexing.{view_token, views};
+ghost use Rattle.sql_grammar.specs.Tokens.{Key};
+ghost use Rattle.sql_grammar.specs.Reading.{with_commas, count_all, sum_of, aggregate, at_aggregate, items, direction, maybe_direction, sort_key, order_part, optional, select};
+ghost use Rattle.sql_grammar.specs.Views.{Gives, chain_of, option_by, view_selected, view_select};
+
+use crate::rows::names;
+use sql_expressions::maybe_where;
+use sql_grammar::{Aggregate, Chain, Direction, Placed, Select, Selected, SortKey, Stop, Token};
+use sql_words::{
+    at_key, at_sign, at_word, behind, first, name, past_sign, skip_key, skip_sign, skip_word,
+};
+use sqlite_items::Items;
+use std::alloc::Global;
+
+fn count_all<'a, 't>(tokens: &'t [Placed<'a>]) -> Result<(Aggregate, &'t [Placed<'a>]), Stop<'a>>
+    ensures reads { Gives (λ x. (x.0, views x.1.now)) result (count_all (views tokens.now)) }
+    ensures shorter { IfOk result (λ x. length x.1.now ≤ length tokens.now) }
+{
+    let rest = skip_word(tokens, "count")?;
+    let rest = skip_sign(rest, "(")?;
+    let rest = skip_sign(rest, "*")?;
+    let rest = skip_sign(rest, ")")?;
+    Ok((Aggregate::Count, rest))
+}
+
+fn sum_of<'a, 't>(
+    alloc: Global,
+    tokens: &'t [Placed<'a>],
+) -> Result<(Aggregate, &'t [Placed<'a>]), Stop<'a>>
+    ensures reads { Gives (λ x. (x.0, views x.1.now)) result (sum_of (views tokens.now)) }
+    ensures shorter { IfOk result (λ x. length x.1.now ≤ length tokens.now) }
+{
+    let rest = skip_word(tokens, "sum")?;
+    let rest = skip_sign(rest, "(")?;
+    let (column, rest) = name(alloc, rest)?;
+    let rest = skip_sign(rest, ")")?;
+    Ok((Aggregate::Total(column), rest))
+}
+
+fn aggregate<'a, 't>(
+    alloc: Global,
+    tokens: &'t [Placed<'a>],
+) -> Result<(Aggregate, &'t [Placed<'a>]), Stop<'a>>
+    ensures reads { Gives (λ x. (x.0, views x.1.now)) result (aggregate (views tokens.now)) }
+    ensures shorter { IfOk result (λ x. length x.1.now ≤ length tokens.now) }
+{
+    if at_word(tokens, "count") {
+        count_all(tokens)
+    } else {
+        sum_of(alloc, tokens)
+    }
+}
+
+fn aggregates<'a, 't>(
+    alloc: Global,
+    tokens: &'t [Placed<'a>],
+) -> Result<(Chain<Aggregate>, &'t [Placed<'a>]), Stop<'a>>
+    ensures reads { Gives (λ x. (chain_of x.0, views x.1.now)) result (with_commas (λ k. aggregate) (views tokens.now)) }
+    ensures shorter { IfOk result (λ x. length x.1.now ≤ length tokens.now) }
+{
+    let (first, mut rest) = aggregate(alloc, tokens)?;
+    let mut more = Vec::new(alloc);
+    'commas: while let Some(after) = past_sign(rest, ",") {
+        let (next, behind) = aggregate(alloc, after)?;
+        more.push(next)?;
+        rest = behind;
+    }
+    let more = Items::from_vec(more);
+    Ok((Chain { first, more }, rest))
+}
+
+/// Whether `count` or `sum` stands here with a parenthesis behind it.
+fn at_aggregate(tokens: &[Placed]) -> bool
+    ensures { result ≡ at_aggregate (views tokens.now) }
+{
+    (at_word(tokens, "count") || at_word(tokens, "sum")) && at_sign(behind(tokens), "(")
+}
+
+fn items<'a, 't>(
+    alloc: Global,
+    tokens: &'t [Placed<'a>],
+) -> Result<(Selected, &'t [Placed<'a>]), Stop<'a>>
+    ensures reads { Gives (λ x. (view_selected x.0, views x.1.now)) result (items (views tokens.now)) }
+    ensures shorter { IfOk result (λ x. length x.1.now ≤ length tokens.now) }
+{
+    if at_sign(tokens, "*") {
+        let rest = skip_sign(tokens, "*")?;
+        Ok((Selected::All, rest))
+    } else if at_aggregate(tokens) {
+        let (aggregates, rest) = aggregates(alloc, tokens)?;
+        Ok((Selected::Aggregates(aggregates), rest))
+    } else {
+        let (columns, rest) = names(alloc, tokens)?;
+        Ok((Selected::Columns(columns), rest))
+    }
+}
+
+fn direction(token: &Token) -> Option<Direction>
+    ensures { result ≡ direction (view_token token.now) }
+{
+    if token.is_key("asc") {
+        Some(Direction::Ascending)
+    } else if token.is_key("desc") {
+        Some(Direction::Descending)
+    } else {
+        None
+    }
+}
+
+fn maybe_direction<'a, 't>(
+    tokens: &'t [Placed<'a>],
+) -> Result<(Option<Direction>, &'t [Placed<'a>]), Stop<'a>>
+    ensures reads { Gives (λ x. (x.0, views x.1.now)) result (maybe_direction (views tokens.now)) }
+    ensures shorter { IfOk result (λ x. length x.1.now ≤ length tokens.now) }
+{
+    match direction(&first(tokens).token) {
+        Some(direction) => Ok((Some(direction), behind(tokens))),
+        None => Ok((None, tokens)),
+    }
+}
+
+fn sort_key<'a, 't>(
+    alloc: Global,
+    tokens: &'t [Placed<'a>],
+) -> Result<(SortKey, &'t [Placed<'a>]), Stop<'a>>
+    ensures reads { Gives (λ x. (x.0, views x.1.now)) result (sort_key (views tokens.now)) }
+    ensures shorter { IfOk result (λ x. length x.1.now ≤ length tokens.now) }
+{
+    let (column, rest) = name(alloc, tokens)?;
+    let (direction, rest) = maybe_direction(rest)?;
+    Ok((SortKey { column, direction }, rest))
+}
+
+fn sort_keys<'a, 't>(
+    alloc: Global,
+    tokens: &'t [Placed<'a>],
+) -> Result<(Chain<SortKey>, &'t [Placed<'a>]), Stop<'a>>
+    ensures reads { Gives (λ x. (chain_of x.0, views x.1.now)) result (with_commas (λ k. sort_key) (views tokens.now)) }
+    ensures shorter { IfOk result (λ x. length x.1.now ≤ length tokens.now) }
+{
+    let (first, mut rest) = sort_key(alloc, tokens)?;
+    let mut more = Vec::new(alloc);
+    'commas: while let Some(after) = past_sign(rest, ",") {
+        let (next, behind) = sort_key(alloc, after)?;
+        more.push(next)?;
+        rest = behind;
+    }
+    let more = Items::from_vec(more);
+    Ok((Chain { first, more }, rest))
+}
+
+fn order_part<'a, 't>(
+    alloc: Global,
+    tokens: &'t [Placed<'a>],
+) -> Result<(Chain<SortKey>, &'t [Placed<'a>]), Stop<'a>>
+    ensures reads { Gives (λ x. (chain_of x.0, views x.1.now)) result (order_part (views tokens.now)) }
+    ensures shorter { IfOk result (λ x. length x.1.now ≤ length tokens.now) }
+{
+    let rest = skip_key(tokens, "order")?;
+    let rest = skip_key(rest, "by")?;
+    sort_keys(alloc, rest)
+}
+
+fn maybe_order<'a, 't>(
+    alloc: Global,
+    tokens: &'t [Placed<'a>],
+) -> Result<(Option<Chain<SortKey>>, &'t [Placed<'a>]), Stop<'a>>
+    ensures reads { Gives (λ x. (option_by chain_of x.0, views x.1.now)) result (optional (Key (codes "order")) order_part (views tokens.now)) }
+    ensures shorter { IfOk result (λ x. length x.1.now ≤ length tokens.now) }
+{
+    if at_key(tokens, "order") {
+        let (order, rest) = order_part(alloc, tokens)?;
+        Ok((Some(order), rest))
+    } else {
+        Ok((None, tokens))
+    }
+}
+
+/// A SELECT, and the tokens behind it. It stops at a token that cannot stand there or passes a limit, or for want of memory.
+pub fn select<'a, 't>(
+    alloc: Global,
+    tokens: &'t [Placed<'a>],
+) -> Result<(Select, &'t [Placed<'a>]), Stop<'a>>
+    ensures reads { Gives (λ x. (view_select x.0, views x.1.now)) result (select (views tokens.now)) }
+    ensures shorter { IfOk result (λ x. length x.1.now ≤ length tokens.now) }
+{
+    let rest = skip_key(tokens, "select")?;
+    let (items, rest) = items(alloc, rest)?;
+    let rest = skip_key(rest, "from")?;
+    let (table, rest) = name(alloc, rest)?;
+    let (condition, rest) = maybe_where(alloc, rest)?;
+    let (order, rest) = maybe_order(alloc, rest)?;
+    Ok((
+        Select {
+            items,
+            table,
+            condition,
+            order,
+        },
+        rest,
+    ))
+}
