@@ -1,6 +1,6 @@
 use Rattle.std.proofs.Common.{◌≡◌, ◌∙◌, subst}
 use Rattle.bound_specs.specs.Binding.{IsFileOf}
-use Rattle.sql_subset.proofs.FileLemmas.{one-file}
+use Rattle.bound_specs.proofs.FileLemmas.{one-file}
 use Rattle.outcome_texts.specs.Counted.{Wrote, Stopped}
 use Rattle.book_answers.specs.Reporting.{AllOwn}
 use Rattle.book_answers.proofs.ReportLemmas.{values-own, report-text}
