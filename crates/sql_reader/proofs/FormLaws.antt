@@ -2,8 +2,7 @@
 use Rattle.std.proofs.Common.{◌≡◌, true, false, List, ◌++◌, refl, inl, inr, ◌⊎◌}
 use Rattle.std.specs.Prelude.{codes}
 use Rattle.sql_grammar.specs.Tokens.{Key, Word, Placed, is}
-use Rattle.sql_grammar.specs.Tree.{Name, Chain, Condition, Items, Select, Statement, CreateTable, Insert, Selects, Update, Delete, Begin, Ends, Lock, Set}
-use Rattle.sql_grammar.specs.Tree as tree
+use Rattle.sql_grammar.specs.Tree.{Statement, CreateTable, Insert, Selects, Update, Delete, Begin, Ends, Lock, Set}
 use Rattle.sql_grammar.specs.Grammar.{Marked}
 use Rattle.sql_grammar.specs.Grammar as grammar
 use Rattle.sql_grammar.specs.Reading.{first, inside}
@@ -12,9 +11,7 @@ use Rattle.sql_reader.proofs.Laws.{Stops, HasEnd, Agrees, Heads, choice, both, a
 use Rattle.sql_reader.proofs.StatementLaws.{CreateIndex, create_law, InsertIndex, insert_law, SelectIndex, tree_select, select_law, UpdateIndex}
 use Rattle.sql_reader.proofs.StatementLaws.{update_law, DeleteIndex, delete_law, BeginIndex, begin_law, EndIndex, ends_law, LockIndex, lock_law}
 use Rattle.sql_reader.proofs.SettingLaws.{set_law}
-use Rattle.sql_grammar.specs.declared.statement.SortKey.{SortKey}
 use Rattle.sql_grammar.specs.declared.statement.Setting.{Setting}
-use Rattle.sql_grammar.specs.declared.statement.Start.{Start}
 use Rattle.sql_grammar.specs.declared.statement.Start.TheVariants.{BeginWord, StartWords}
 use Rattle.sql_grammar.specs.declared.statement.EndWord.TheVariants as end_words
 

@@ -1,11 +1,10 @@
 -- No token of a statement is a semicolon or the end, and each begins with a word of its form.
-use Rattle.std.proofs.Common.{◌≡◌, ℕ, suc, Bool, true, false, List, [], ◌∷◌, ◌++◌, Option, Some, None, refl, sym, ap, subst, ◌∙◌, inl, inr, ◌⊎◌}
+use Rattle.std.proofs.Common.{◌≡◌, ℕ, suc, Bool, true, false, List, [], ◌∷◌, ◌++◌, Option, Some, None, refl, sym, ap, ◌∙◌, inl, inr, ◌⊎◌}
 use Rattle.std.specs.Prelude.{⊤, codes, ◌||◌, is_some}
 use Rattle.sql_grammar.specs.Tokens.{Token, Key, Word, Sign, is}
 use Rattle.sql_grammar.specs.Tree.{Name, Chain, Last, More, Term, Sum, Only, Then, Condition, Alone, Or, Part, Single, And, Atom, Compares, Not, Group}
 use Rattle.sql_grammar.specs.Tree.{Items, AllColumns, Columns, Aggregates, Assignment}
-use Rattle.sql_grammar.specs.Tree.{Select, Statement, CreateTable, Insert, Selects, Update, Delete, Begin, Ends, Lock, Set}
-use Rattle.sql_grammar.specs.Tree as tree
+use Rattle.sql_grammar.specs.Tree.{Statement, CreateTable, Insert, Selects, Update, Delete, Begin, Ends, Lock, Set}
 use Rattle.sql_grammar.specs.Grammar.{Marked, mark, plain}
 use Rattle.sql_grammar.specs.Grammar as grammar
 use Rattle.sql_grammar.specs.Reading.{inside, begins_form, begins_begin, begins_end, end_word}
@@ -15,12 +14,9 @@ use Rattle.sql_grammar.specs.declared.expression.Literal.{Literal}
 use Rattle.sql_grammar.specs.declared.expression.Literal.TheVariants.{Whole, Quoted}
 use Rattle.sql_grammar.specs.declared.expression.Factor.{Factor}
 use Rattle.sql_grammar.specs.declared.expression.Factor.TheVariants.{Value, Column}
-use Rattle.sql_grammar.specs.declared.expression.AddSign.{AddSign}
 use Rattle.sql_grammar.specs.declared.expression.AddSign.TheVariants.{Plus, Minus}
 use Rattle.sql_grammar.specs.declared.expression.Comparison.{Comparison}
 use Rattle.sql_grammar.specs.declared.expression.Comparison.TheVariants.{Equal, Unequal, Differs, Less, AtMost, Greater, AtLeast}
-use Rattle.sql_grammar.specs.declared.statement.TypeWord.{TypeWord}
-use Rattle.sql_grammar.specs.declared.statement.TypeWord.TheVariants.{Int, Integer, Int4, BigInt, Int8, Text as TextType}
 use Rattle.sql_grammar.specs.declared.statement.Property.{Property}
 use Rattle.sql_grammar.specs.declared.statement.Property.TheVariants.{PrimaryKey, NotNull}
 use Rattle.sql_grammar.specs.declared.statement.TablePart.{TablePart}
@@ -32,12 +28,9 @@ use Rattle.sql_grammar.specs.declared.statement.Aggregate.{Aggregate}
 use Rattle.sql_grammar.specs.declared.statement.Aggregate.TheVariants.{Count, Total}
 use Rattle.sql_grammar.specs.declared.statement.Noise.{Noise}
 use Rattle.sql_grammar.specs.declared.statement.Noise.TheVariants.{Work, Transaction}
-use Rattle.sql_grammar.specs.declared.statement.ReadWord.{ReadWord}
-use Rattle.sql_grammar.specs.declared.statement.ReadWord.TheVariants.{Committed, Uncommitted}
 use Rattle.sql_grammar.specs.declared.statement.Level.{Level}
 use Rattle.sql_grammar.specs.declared.statement.Level.TheVariants.{Serializable, RepeatableRead}
 use Rattle.sql_grammar.specs.declared.statement.EndWord.{EndWord}
-use Rattle.sql_grammar.specs.declared.statement.Strength.{Strength}
 use Rattle.sql_grammar.specs.declared.statement.LockMode.{LockMode}
 use Rattle.sql_grammar.specs.declared.statement.LockMode.TheVariants.{Access, RowLevel, Shared, Exclusively}
 use Rattle.sql_grammar.specs.declared.statement.Scope.{Scope}
@@ -46,7 +39,6 @@ use Rattle.sql_grammar.specs.declared.statement.Start.{Start}
 use Rattle.sql_grammar.specs.declared.statement.Start.TheVariants.{BeginWord, StartWords}
 use Rattle.sql_grammar.specs.declared.statement.SetSign.{SetSign}
 use Rattle.sql_grammar.specs.declared.statement.SetSign.TheVariants.{EqualSign, ToWord}
-use Rattle.sql_grammar.specs.declared.statement.Setting.{Setting}
 use Rattle.sql_grammar.specs.declared.statement.EndWord.TheVariants as end_words
 use Rattle.sql_grammar.specs.declared.statement.Level.TheVariants as levels
 

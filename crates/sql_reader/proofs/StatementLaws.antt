@@ -2,9 +2,8 @@
 use Rattle.std.proofs.Common.{◌≡◌, ℕ, suc, Bool, true, false, List, [], ◌∷◌, ◌++◌, length, Option, Some, None, refl, sym, inl, inr, ◌⊎◌, arith, cond}
 use Rattle.std.specs.Prelude.{codes, ◌||◌, is_some}
 use Rattle.sql_grammar.specs.Tokens.{Token, Key, Word, Sign, End, Placed, is, is_last}
-use Rattle.sql_grammar.specs.Tree.{Name, Chain, Last, More, Sum, Condition, Items, AllColumns, Columns, Aggregates, Assignment}
-use Rattle.sql_grammar.specs.Tree.{Select, Statement, CreateTable, Insert, Selects, Update, Delete, Begin, Ends, Lock, Set}
-use Rattle.sql_grammar.specs.Tree as tree
+use Rattle.sql_grammar.specs.Tree.{Name, Chain, Last, Sum, Condition, Items, AllColumns, Assignment}
+use Rattle.sql_grammar.specs.Tree.{Statement, CreateTable, Insert, Selects, Update, Delete, Begin, Ends, Lock}
 use Rattle.sql_grammar.specs.Grammar.{Marked, mark, plain}
 use Rattle.sql_grammar.specs.Grammar as grammar
 use Rattle.sql_grammar.specs.Reading.{Read, ◌>>=◌, first, rest, taken, the, skip, which, name, inside, with_commas, over_rows}
@@ -27,8 +26,6 @@ use Rattle.sql_grammar.specs.declared.statement.TablePart.TheVariants.{Column as
 use Rattle.sql_grammar.specs.declared.statement.Direction.{Direction}
 use Rattle.sql_grammar.specs.declared.statement.Direction.TheVariants.{Ascending, Descending}
 use Rattle.sql_grammar.specs.declared.statement.SortKey.{SortKey}
-use Rattle.sql_grammar.specs.declared.statement.Aggregate.{Aggregate}
-use Rattle.sql_grammar.specs.declared.statement.Aggregate.TheVariants.{Count, Total}
 use Rattle.sql_grammar.specs.declared.statement.Noise.{Noise}
 use Rattle.sql_grammar.specs.declared.statement.Noise.TheVariants.{Work, Transaction}
 use Rattle.sql_grammar.specs.declared.statement.ReadWord.{ReadWord}
@@ -39,13 +36,8 @@ use Rattle.sql_grammar.specs.declared.statement.EndWord.{EndWord}
 use Rattle.sql_grammar.specs.declared.statement.Strength.{Strength}
 use Rattle.sql_grammar.specs.declared.statement.LockMode.{LockMode}
 use Rattle.sql_grammar.specs.declared.statement.LockMode.TheVariants.{Access, RowLevel, Shared, Exclusively}
-use Rattle.sql_grammar.specs.declared.statement.Scope.{Scope}
-use Rattle.sql_grammar.specs.declared.statement.Scope.TheVariants.{Local, Session}
 use Rattle.sql_grammar.specs.declared.statement.Start.{Start}
 use Rattle.sql_grammar.specs.declared.statement.Start.TheVariants.{BeginWord, StartWords}
-use Rattle.sql_grammar.specs.declared.statement.SetSign.{SetSign}
-use Rattle.sql_grammar.specs.declared.statement.SetSign.TheVariants.{EqualSign, ToWord}
-use Rattle.sql_grammar.specs.declared.statement.Setting.{Setting}
 use Rattle.sql_grammar.specs.declared.statement.EndWord.TheVariants as end_words
 use Rattle.sql_grammar.specs.declared.statement.Level.TheVariants as levels
 use Rattle.sql_grammar.specs.declared.expression.Literal.TheVariants as literals
