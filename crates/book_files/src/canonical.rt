@@ -1,6 +1,6 @@
 //! The longest runs of a set of facts, in order.
 
-ghost use Rattle.std.specs.Prelude.{◌≡◌, IfOk, IsTrue, max};
+ghost use Rattle.std.specs.Prelude.{◌≡◌, ◌⊎◌, IfOk, IsTrue, max};
 ghost use Rattle.std.specs.List.Sorted.{IsPermutation};
 ghost use Rattle.book_files.specs.Forms.{Rises, IsLater, run_cmp, tag_kind, tag_number};
 ghost use Rattle.book_files.specs.Canonical.{AreInTurn, IsTagSorted, IsPast, IsTouching, AreSound, StaySound, SayTheSame, tag_cmp};
@@ -18,7 +18,7 @@ pub(crate) fn canonical(alloc: Global, runs: &[Run]) -> Result<Vec<Run>, AllocEr
     ensures sound { IfOk result (λ out. StaySound runs.now out.items) }
 {
     if are_in_turn(runs) {
-        longest_in_turn(alloc, runs)
+        longest(alloc, runs)
     } else {
         sorted_and_joined(alloc, runs)
     }
@@ -46,32 +46,6 @@ fn are_in_turn(runs: &[Run]) -> bool
         }
     }
     true
-}
-
-/// The longest runs, of runs that come one behind the other.
-fn longest_in_turn(alloc: Global, runs: &[Run]) -> Result<Vec<Run>, AllocError>
-    requires in_turn { AreInTurn runs.now }
-    requires sound { AreSound runs.now }
-    ensures rises { IfOk result (λ out. Rises IsLater out.items) }
-    ensures facts { IfOk result (λ out. SayTheSame out.items runs.now) }
-    ensures sound { IfOk result (λ out. StaySound runs.now out.items) }
-{
-    let mut out = Vec::new(alloc);
-    if runs.is_empty() {
-        return Ok(out);
-    }
-    let mut current = runs[0];
-    for i in 1..runs.len() {
-        let run = runs[i];
-        if touches(current, run) {
-            current = grown(current, run);
-        } else {
-            out.push(current)?;
-            current = run;
-        }
-    }
-    out.push(current)?;
-    Ok(out)
 }
 
 /// 0 for an outcome, 1 for a swap.
@@ -142,11 +116,13 @@ fn grown(current: Run, run: Run) -> Run
     }
 }
 
-/// The longest runs, of runs in the order of what they say and of their first ranks.
+/// The longest runs, of runs in the order of what they say and of their first ranks, or of runs that come one behind the other. They stand in the
+/// order of those.
 fn longest(alloc: Global, runs: &[Run]) -> Result<Vec<Run>, AllocError>
-    requires sorted { IsTagSorted runs.now }
+    requires order { IsTagSorted runs.now ⊎ AreInTurn runs.now }
     requires sound { AreSound runs.now }
-    ensures apart { IfOk result (λ out. Rises IsPast out.items) }
+    ensures apart { IfOk result (λ out. IsTagSorted runs.now → Rises IsPast out.items) }
+    ensures rises { IfOk result (λ out. AreInTurn runs.now → Rises IsLater out.items) }
     ensures facts { IfOk result (λ out. SayTheSame out.items runs.now) }
     ensures sound { IfOk result (λ out. StaySound runs.now out.items) }
 {

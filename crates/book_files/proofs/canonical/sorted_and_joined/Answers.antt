@@ -1,4 +1,4 @@
-use Rattle.std.proofs.Common.{sym, ap, ◌∙◌, subst}
+use Rattle.std.proofs.Common.{sym, ap, ◌∙◌, subst, inl}
 use Rattle.std.proofs.lemmas.List.Sorted.{list_any-IsPermutation}
 use Rattle.std.specs.List.{list_any}
 use Rattle.outcome_books.specs.Runs.{has, AllSound}
@@ -6,12 +6,15 @@ use Rattle.book_files.specs.Canonical.{IsTagSorted}
 use Rattle.book_files.proofs.CanonicalLemmas.{sound-moved}
 use Rattle.book_files.proofs.canonical.sorted_and_joined.Goals as goal
 
-pub longest-requires-clause-sorted : goal.longest-requires-clause-sorted
-longest-requires-clause-sorted c = subst IsTagSorted (sym c.as_slice.ensures.value) c.in_ok-sorted.ensures.sorted
+pub longest-requires-clause-order : goal.longest-requires-clause-order
+longest-requires-clause-order c = inl (subst IsTagSorted (sym c.as_slice.ensures.value) c.in_ok-sorted.ensures.sorted)
 
 pub longest-requires-clause-sound : goal.longest-requires-clause-sound
 longest-requires-clause-sound c =
     (c.requires.0, subst (AllSound c.requires.0) (sym c.as_slice.ensures.value) (sound-moved c.requires.0 _ _ c.requires.1 c.in_ok-sorted.ensures.same))
+
+pub in_order-requires-clause-apart : goal.in_order-requires-clause-apart
+in_order-requires-clause-apart c = c.in_ok-joined.ensures.apart (subst IsTagSorted (sym c.as_slice.ensures.value) c.in_ok-sorted.ensures.sorted)
 
 pub in_order-requires-clause-sound : goal.in_order-requires-clause-sound
 in_order-requires-clause-sound c = (
