@@ -38,7 +38,7 @@ use Rattle.shard_farm.proofs.CrewLemmas.{inside}
 use Rattle.book_answers.specs.declared.reporting.ReportFault.{ReportFault}
 use Rattle.book_answers.specs.declared.reporting.ReportFault.TheVariants.{Report, Write}
 use Rattle.book_answers.specs.Reporting.{IsReportText, IsReported}
-use Rattle.range_answers.specs.Cutting.{IsInOne}
+use Rattle.range_shards.specs.Cutting.{IsInOne}
 use Rattle.farm_headline.specs.declared.headline.Plan.{Plan}
 use Rattle.farm_headline.specs.declared.headline.HeadlineFault.{HeadlineFault}
 use Rattle.farm_headline.specs.declared.headline.HeadlineFault.TheVariants as fault_of

@@ -25,7 +25,7 @@ use Rattle.shard_farm.specs.Farming.{InShards, AreShardFacts, IsNotFarmed}
 use Rattle.spec_answers.specs.SpecFiles.{IsNoSpec}
 use Rattle.book_answers.specs.declared.reporting.ReportFault.TheVariants.{Report, Write}
 use Rattle.book_answers.specs.Reporting.{IsReportText}
-use Rattle.range_answers.specs.Cutting.{IsInOne}
+use Rattle.range_shards.specs.Cutting.{IsInOne}
 use Rattle.farm_headline.specs.declared.headline.Plan.{Plan}
 use Rattle.farm_headline.specs.declared.headline.HeadlineFault.{HeadlineFault}
 use Rattle.farm_headline.specs.declared.headline.HeadlineFault.TheVariants as fault_of

@@ -9,9 +9,10 @@ use Rattle.spec_answers.specs.declared.spec.SpecFault.TheVariants.{Text}
 use Rattle.spec_answers.specs.declared.counting.CountFault.TheVariants.{Spec}
 use Rattle.spec_answers.specs.SpecFiles.{IsNoSpec}
 use Rattle.spec_answers.specs.Counting.{IsChecked}
-use Rattle.iso_farm.specs.declared.fault.ProgramFault.{ProgramFault}
-use Rattle.iso_farm.specs.declared.fault.ProgramFault.TheVariants.{Write}
-use Rattle.iso_farm.specs.Status.{status_of, spec_status, count_status}
+use Rattle.fault_words.specs.declared.fault.ProgramFault.{ProgramFault}
+use Rattle.fault_words.specs.declared.fault.ProgramFault.TheVariants.{Write}
+use Rattle.fault_words.specs.Status.{status_of}
+use Rattle.iso_farm.specs.Status.{spec_status, count_status}
 use Rattle.iso_farm.specs.Commands.{IsCut, IsFlushed, IsPassedOn, IsTold}
 
 pub passed-on : {W : Type 0} (contents : W → Option (List ℕ)) (old mid new : Counted W) (text : List ℕ) (done : ⊤) (result : Result ⊤ ProgramFault)

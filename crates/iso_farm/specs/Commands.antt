@@ -16,9 +16,10 @@ use Rattle.book_answers.specs.Auditing.{IsAuditRun}
 use Rattle.book_answers.specs.Judging.{IsJudgeRun}
 use Rattle.range_answers.specs.Ranges.{IsRangeRun}
 use Rattle.iso_farm.specs.declared.files.TheConstants.{MAX_SPEC_READ}
-use Rattle.iso_farm.specs.declared.fault.ProgramFault.{ProgramFault}
-use Rattle.iso_farm.specs.declared.fault.ProgramFault.TheVariants.{NoMemory, Read, Write}
-use Rattle.iso_farm.specs.Status.{status_of, one_status, count_status, range_status, join_status, report_status, audit_status, judge_status}
+use Rattle.fault_words.specs.declared.fault.ProgramFault.{ProgramFault}
+use Rattle.fault_words.specs.declared.fault.ProgramFault.TheVariants.{NoMemory, Read, Write}
+use Rattle.fault_words.specs.Status.{status_of}
+use Rattle.iso_farm.specs.Status.{one_status, count_status, range_status, join_status, report_status, audit_status, judge_status}
 
 -- what a call finds is the program's answer, and a refusal is told with its status
 abbrev pub IsFound : {E : Type 0} → (Result Finding E → Type 0) → (E → ℕ) → Result Finding ProgramFault → Type 0

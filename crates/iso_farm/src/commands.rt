@@ -12,11 +12,11 @@ ghost use Rattle.book_answers.specs.Auditing.{IsAuditRun};
 ghost use Rattle.book_answers.specs.Judging.{IsJudgeRun};
 ghost use Rattle.book_answers.specs.declared.finding.Finding.TheVariants.{Good};
 ghost use Rattle.range_answers.specs.Ranges.{IsRangeRun};
-ghost use Rattle.iso_farm.specs.Status.{status_of, one_status, count_status, range_status, join_status, report_status, audit_status, judge_status};
-ghost use Rattle.iso_farm.specs.declared.fault.ProgramFault.TheVariants.{Write as WriteFault};
+ghost use Rattle.fault_words.specs.Status.{status_of};
+ghost use Rattle.iso_farm.specs.Status.{one_status, count_status, range_status, join_status, report_status, audit_status, judge_status};
+ghost use Rattle.fault_words.specs.declared.fault.ProgramFault.TheVariants.{Write as WriteFault};
 ghost use Rattle.iso_farm.specs.Commands.{IsAnswered, IsCut, IsDone, IsCalled, IsFlushed, IsFound, IsPassedOn, IsRun, IsTold, IsUnread, IsUsage, tells_progress};
 
-use crate::fault::ProgramFault;
 use crate::faults::{
     audit_fault, count_fault, explained_fault, fault_at, join_fault, judge_fault, range_fault,
     report_fault,
@@ -26,8 +26,10 @@ use book_answers::{Finding, Opener, audit_file, join_files, judge_files, report_
 use clap::Error;
 use clap::error::ErrorKind;
 use command_words::{Asked, Workers, parse_words};
+use fault_words::ProgramFault;
 use outcome_texts::Counted;
-use range_answers::{run_told, say};
+use range_answers::run_told;
+use range_shards::say;
 use spec_answers::{CountFault, check, count, one};
 use std::alloc::Global;
 use std::io::{self, Write};

@@ -3,15 +3,15 @@
 ghost use Rattle.std.specs.Prelude.{◌≡◌, ◌⊎◌, length};
 ghost use Rattle.book_answers.specs.Joining.{IsPlaced};
 ghost use Rattle.book_answers.specs.Judging.{IsAcceptedPlace};
-ghost use Rattle.iso_farm.specs.Status.{status_of, one_status, count_status, range_status, join_status, report_status, audit_status, judge_status, no_report_status};
+ghost use Rattle.fault_words.specs.Status.{status_of};
+ghost use Rattle.iso_farm.specs.Status.{one_status, count_status, range_status, join_status, report_status, audit_status, judge_status, no_report_status};
 ghost use Rattle.iso_farm.specs.Status.{values_status, file_status, write_status, spec_status, text_status, binding_status, run_status, start_status};
 
-use crate::fault::ProgramFault;
 use book_answers::{
     AuditFault, FileFault, JoinFault, JudgeFault, NoReport, ReportFault, ReportFileFault,
 };
 use book_files::{BookError, WriteError};
-use fault_words::{binding_sentence, explained, text_sentence};
+use fault_words::{ProgramFault, binding_sentence, explained, text_sentence};
 use outcome_books::ReportError;
 use range_answers::RangeFault;
 use session_machine::{RunError, StartError};

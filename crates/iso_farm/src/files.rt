@@ -3,8 +3,8 @@
 ghost use Rattle.std.specs.Prelude.{◌≡◌, ◌≤◌, IfOk, IfErr, IfSome, take, vec_len};
 ghost use Rattle.iso_farm.specs.Commands.{IsReadFault};
 
-use crate::fault::ProgramFault;
 use book_answers::Opener;
+use fault_words::ProgramFault;
 use outcome_texts::{Counted, ReadError};
 use spec_reader::MAX_BYTES;
 use std::alloc::Global;

@@ -2,7 +2,6 @@
 #![tactic(auto)]
 
 mod commands;
-mod fault;
 mod faults;
 mod files;
 
@@ -11,8 +10,9 @@ pub use book_answers::{
     ReportFileFault, audit_file, join_files, judge_files, report_file, write_report,
 };
 pub use commands::{answer, run, tell_words_fault};
-pub use fault::ProgramFault;
+pub use fault_words::ProgramFault;
 pub use faults::fault_at;
 pub use files::MAX_SPEC_READ;
-pub use range_answers::{MAX_RANGE, Progress, RangeFault, SHARD_RANKS, book_of_range, run_range};
+pub use range_answers::{MAX_RANGE, RangeFault, book_of_range, run_range};
+pub use range_shards::{Progress, SHARD_RANKS};
 pub use spec_answers::{CountFault, OneFault, SpecFault, check, count, one, one_of, spec_of};

@@ -6,13 +6,12 @@ ghost use Rattle.outcome_books.specs.Building.{AreFactsOf};
 ghost use Rattle.outcome_texts.specs.Counted.{failures_of};
 ghost use Rattle.range_answers.specs.Ranges.{IsRangeOf, IsOutsideRange, IsNoRange, IsRangeRun, IsToldOf};
 
-use crate::cutting::shards_of;
-use crate::progress::Progress;
 use book_files::{WriteError, write_book};
 use bound_specs::Spec;
 use command_words::Workers;
 use outcome_books::Book;
 use outcome_texts::Counted;
+use range_shards::{Progress, shards_of};
 use session_machine::RunError;
 use shard_farm::{FarmError, Gate, OpenGate, farm_run};
 use spec_answers::{SpecFault, spec_of};

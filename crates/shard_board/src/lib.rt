@@ -5,6 +5,7 @@ mod board;
 mod claims;
 mod closing;
 mod error;
+mod gate;
 mod history;
 mod notes;
 mod plays;
@@ -18,5 +19,6 @@ pub use closing::Closed;
 pub use error::{
     BoardError, DeliverError, DeliverErrorKind, LatestError, MAX_SEATS, MAX_SHARDS, MAX_TURNS,
 };
+pub use gate::{Gate, OpenGate};
 pub use history::{Call, Entry, Facts, Receipt};
 pub use seat::{Note, Seat};

@@ -5,10 +5,9 @@ ghost use Rattle.std.specs.Thread.{IsSync};
 ghost use Rattle.bound_specs.specs.Binding.{IsFileOf};
 ghost use Rattle.shard_farm.specs.Working.{IsReady, IsStarting, IsDone};
 
-use crate::gate::Gate;
 use crate::plan::Plan;
 use crate::worker::{Worker, work};
-use shard_board::{Board, MAX_SEATS, Seat};
+use shard_board::{Board, Gate, MAX_SEATS, Seat};
 use std::alloc::{AllocError, Global};
 use std::sync::Wait;
 use std::thread;

@@ -10,12 +10,11 @@ ghost use Rattle.shard_farm.specs.Farming.{AreShardFacts, IsNotFarmed, HasAllBut
 use crate::closing::closed;
 use crate::crew::{run_all, workers_of};
 use crate::error::{FarmError, Unfinished};
-use crate::gate::Gate;
 use crate::plan::Plan;
 use bound_specs::Spec;
 use outcome_books::Book;
 use session_machine::{RunError, World, not_started};
-use shard_board::{Board, is_plan};
+use shard_board::{Board, Gate, is_plan};
 use std::alloc::{AllocError, Global};
 use std::sync::Wait;
 use std::thread::Threads;

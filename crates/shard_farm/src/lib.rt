@@ -5,12 +5,11 @@ mod closing;
 mod crew;
 mod error;
 mod farm;
-mod gate;
 mod numbers;
 mod plan;
 mod worker;
 
 pub use error::{FarmError, Unfinished};
 pub use farm::farm_run;
-pub use gate::{Gate, OpenGate};
 pub use numbers::ShardNumbers;
+pub use shard_board::{Gate, OpenGate};

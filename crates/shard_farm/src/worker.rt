@@ -5,11 +5,10 @@ ghost use Rattle.bound_specs.specs.Spec.{SpecFile};
 ghost use Rattle.bound_specs.specs.Binding.{IsFileOf};
 ghost use Rattle.shard_farm.specs.Working.{is_marked, AreFactsAt, HasServed, IsReady, HasWorked};
 
-use crate::gate::Gate;
 use crate::plan::Plan;
 use bound_specs::Spec;
 use outcome_books::Book;
-use shard_board::{Board, Seat};
+use shard_board::{Board, Gate, Seat};
 use shard_books::of_shard;
 use spec_reader::read_spec;
 use sql_subset::bind;

@@ -1,16 +1,16 @@
 //! Ranges of ranks cut into the shards that workers claim.
 
 ghost use Rattle.std.specs.Prelude.{◌<◌, ◌≤◌, IfOk};
-ghost use Rattle.range_answers.specs.Cutting.{AreCut, IsCutAt};
+ghost use Rattle.range_shards.specs.Cutting.{AreCut, IsCutAt};
 
+use quiet_steps::Shard;
 use std::alloc::{AllocError, Global};
-use step_reducer::Shard;
 
 /// How many ranks a shard has that a worker claims, at most.
 pub const SHARD_RANKS: u64 = 1_000;
 
 /// The shards of a range in order. Each has as many ranks as one may have, but for the last.
-pub(crate) fn shards_of(alloc: Global, first: u64, end: u64) -> Result<Vec<Shard>, AllocError>
+pub fn shards_of(alloc: Global, first: u64, end: u64) -> Result<Vec<Shard>, AllocError>
     requires { first ≤ end }
     ensures { IfOk result (λ shards. AreCut first end end shards.items) }
 {

@@ -1,7 +1,7 @@
 -- What a run tells while it goes on.
 use Rattle.std.specs.Prelude.{ℕ, ◌+◌, ◌-◌, ◌*◌, ◌/◌, ◌++◌, min, List, codes, decimal}
-use Rattle.range_answers.specs.declared.cutting.TheConstants.{SHARD_RANKS}
-use Rattle.range_answers.specs.declared.headway.Headway.{Headway}
+use Rattle.range_shards.specs.declared.cutting.TheConstants.{SHARD_RANKS}
+use Rattle.range_shards.specs.declared.headway.Headway.{Headway}
 
 -- how many shards so many ranks are: each has as many as one may have, but for the last
 abbrev pub shards_of : ℕ → ℕ

@@ -2,7 +2,7 @@
 
 ghost use Rattle.std.specs.Prelude.{◌≡◌, ◌/◌, ◌%◌, IfOk, string_bytes};
 ghost use Rattle.std.specs.Duration.{as_nanos};
-ghost use Rattle.range_answers.specs.Progress.{shards_of, headway_text, progress_line};
+ghost use Rattle.range_shards.specs.Progress.{shards_of, headway_text, progress_line};
 
 use crate::cutting::SHARD_RANKS;
 use std::alloc::{AllocError, Global};

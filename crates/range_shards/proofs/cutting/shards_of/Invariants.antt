@@ -1,6 +1,6 @@
 use Rattle.std.proofs.Common.{◌-◌}
-use Rattle.range_answers.specs.Cutting.{AreCut}
-use Rattle.range_answers.proofs.cutting.shards_of.Given as goal
+use Rattle.range_shards.specs.Cutting.{AreCut}
+use Rattle.range_shards.proofs.cutting.shards_of.Given as goal
 
 -- the shards up to here
 abbrev pub invariant-loop-at : goal.invariant-loop-at

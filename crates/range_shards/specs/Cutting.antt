@@ -3,7 +3,7 @@ use Rattle.std.specs.Prelude.{◌≡◌, ℕ, ◌+◌, ◌*◌, ◌<◌, ◌≤�
 use mathlib.Core.Option.{some}
 use lib.ListN.{get_elem?}
 use Rattle.quiet_steps.specs.declared.shard.Shard.{Shard}
-use Rattle.range_answers.specs.declared.cutting.TheConstants.{SHARD_RANKS}
+use Rattle.range_shards.specs.declared.cutting.TheConstants.{SHARD_RANKS}
 
 -- the shard of a range with this number, from 0: it begins behind as many whole ones, and is whole, unless it is the last
 pub record IsCut (first end number : ℕ) (shard : Shard) : Type 0 where

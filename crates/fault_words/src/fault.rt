@@ -1,7 +1,7 @@
 //! Why the program stops without an answer.
 
 ghost use Rattle.std.specs.Prelude.{◌≡◌};
-ghost use Rattle.iso_farm.specs.Status.{status_of};
+ghost use Rattle.fault_words.specs.Status.{status_of};
 
 use thiserror::Error;
 

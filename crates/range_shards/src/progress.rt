@@ -2,14 +2,14 @@
 
 ghost use Rattle.std.specs.Prelude.{◌≡◌, ◌+◌, ◌≤◌, true, false};
 ghost use Rattle.std.specs.Duration.{as_nanos};
-ghost use Rattle.range_answers.specs.Progress.{ranks_of_shard};
-ghost use Rattle.range_answers.specs.declared.progress.TheConstants.{GAP_NANOS};
+ghost use Rattle.range_shards.specs.Progress.{ranks_of_shard};
+ghost use Rattle.range_shards.specs.declared.progress.TheConstants.{GAP_NANOS};
 
 use crate::cutting::SHARD_RANKS;
 use crate::headway::Headway;
 use crate::telling::say;
 use outcome_texts::Counted;
-use shard_farm::Gate;
+use shard_board::Gate;
 use std::alloc::{AllocError, Global};
 use std::io::Write;
 use std::sync::Mutex;

@@ -1,7 +1,7 @@
 use Rattle.std.proofs.Common.{sym, subst}
-use Rattle.range_answers.specs.Cutting.{AreCut}
-use Rattle.range_answers.proofs.CutLemmas.{cut-more}
-use Rattle.range_answers.proofs.cutting.shards_of.Goals as goal
+use Rattle.range_shards.specs.Cutting.{AreCut}
+use Rattle.range_shards.proofs.CutLemmas.{cut-more}
+use Rattle.range_shards.proofs.cutting.shards_of.Goals as goal
 
 -- a shard more
 pub loop-at-preserved : goal.loop-at-preserved

@@ -1,0 +1,11 @@
+//! Ranges of ranks cut into the shards that workers claim, and how far a run of these is.
+#![tactic(auto)]
+
+mod cutting;
+mod headway;
+mod progress;
+mod telling;
+
+pub use cutting::{SHARD_RANKS, shards_of};
+pub use progress::Progress;
+pub use telling::say;
