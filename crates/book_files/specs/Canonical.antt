@@ -1,4 +1,5 @@
--- Making the longest runs: runs in the order of what they say, and those that overlap or touch as one.
+-- Making the longest runs: runs in the order of what they say, and those that say the same and overlap or touch as one; where sound runs come one
+-- behind the other, they are joined in that order.
 use Rattle.std.specs.Prelude.{◌≡◌, ℕ, ◌+◌, Bool, true, false, ◌<◌, ◌≤◌, ◌||◌, List, [], ◌∷◌, ◌++◌, length, take, slice_index_or}
 use Rattle.std.proofs.Common.{Ordering, nat_cmp}
 use Rattle.std.specs.Ordering.{on, then_cmp}
@@ -27,7 +28,7 @@ SayTheSame runs others = (t : Table) (e : Entry) → list_any (has t e) runs ≡
 abbrev pub AreSound : List Run → Type 0
 AreSound runs = (n : ℕ) × AllSound n runs
 
--- the other runs name no outcomes beyond those of these
+-- where these runs are sound over so many outcomes, the others are too
 abbrev pub StaySound : List Run → List Run → Type 0
 StaySound runs others = (n : ℕ) → AllSound n runs → AllSound n others
 
@@ -40,7 +41,7 @@ pub record IsTagLe (run other : Run) : Type 0 where
 abbrev pub IsTagSorted : List Run → Type 0
 IsTagSorted runs = (i j : ℕ) (d : Run) → i ≤ j → j < length runs → IsTagLe (slice_index_or runs i d) (slice_index_or runs j d)
 
--- and where they say the same, they neither overlap nor touch
+-- it stands before the other by what they say, and where they say the same they neither overlap nor touch
 pub record IsPast (run other : Run) : Type 0 where
   pub kinds : tag_kind run.tag ≤ tag_kind other.tag
   pub numbers : tag_kind run.tag ≡ tag_kind other.tag → tag_number run.tag ≤ tag_number other.tag
@@ -59,13 +60,13 @@ pub record IsTouching (current run : Run) (answer : Bool) : Type 0 where
   pub yes : answer ≡ true → (current.tag ≡ run.tag) × (run.first ≤ current.end)
   pub no : answer ≡ false → current.tag ≡ run.tag → current.end < run.first
 
--- ---- runs that come one behind the other
+-- ---- sound runs that come one behind the other
 
 -- each run begins where the one before ends, or behind it
 abbrev pub AreInTurn : List Run → Type 0
 AreInTurn runs = (i : ℕ) (d : Run) → i + 1 < length runs → (slice_index_or runs i d).end ≤ (slice_index_or runs (i + 1) d).first
 
--- the run is over where the other begins, and where they say the same they do not touch
+-- the run begins before the other and is over where that begins, and where they say the same they do not touch
 pub record IsBefore (run other : Run) : Type 0 where
   pub firsts : run.first < other.first
   pub ends : run.end ≤ other.first

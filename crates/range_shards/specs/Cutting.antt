@@ -17,7 +17,8 @@ pub record IsCut (first end number : ℕ) (shard : Shard) : Type 0 where
 abbrev pub IsInOne : List Shard → ℕ → Type 0
 IsInOne shards r = (n : ℕ) × ((shard : Shard) × ((get_elem? shards n ≡ some shard) × ((shard.first ≤ r) × (r < shard.end))))
 
--- the shards are those of the range up to here: each is the one with its number, each rank is in one of them, and there are no more than that takes
+-- the shards are those of the range up to here: each is the one with its number, each rank is in one of them, all are whole where the end
+-- is not reached, and there are no more than that takes
 pub record AreCut (first at end : ℕ) (shards : List Shard) : Type 0 where
   pub from : first ≤ at
   pub to : at ≤ end

@@ -1,7 +1,10 @@
-use Rattle.std.proofs.Common.{refl, sym, ap, subst, inr, Ok, Err}
+use Rattle.std.proofs.Common.{refl, sym, ap, subst, inl, inr, Ok, Err}
 use Rattle.spec_answers.specs.Counting.{IsChecked}
 use Rattle.iso_farm.specs.Status.{count_status}
 use Rattle.iso_farm.proofs.commands.check_of_file.Goals as goal
+
+pub returns-in-Err-clause-done : goal.returns-in-Err-clause-done
+returns-in-Err-clause-done g c = inl (refl, c.in-Err.ensures.unread)
 
 pub returns-in-Ok-check-clause-done : goal.returns-in-Ok-check-clause-done
 returns-in-Ok-check-clause-done g c =

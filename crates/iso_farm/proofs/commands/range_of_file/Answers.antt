@@ -1,6 +1,9 @@
-use Rattle.std.proofs.Common.{refl, subst, inr, Ok, Err}
+use Rattle.std.proofs.Common.{refl, subst, inl, inr, Ok, Err}
 use Rattle.range_answers.specs.Ranges.{IsRangeRun}
 use Rattle.iso_farm.proofs.commands.range_of_file.Goals as goal
+
+pub returns-in-Err-clause-done : goal.returns-in-Err-clause-done
+returns-in-Err-clause-done g c = inl (refl, c.in-Err.ensures.unread)
 
 pub returns-in-Ok-run_told-clause-done : goal.returns-in-Ok-run_told-clause-done
 returns-in-Ok-run_told-clause-done g c =
