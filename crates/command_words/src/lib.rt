@@ -2,7 +2,5 @@
 #![tactic(auto)]
 
 mod words;
-mod workers;
 
 pub use words::{Asked, parse_words};
-pub use workers::Workers;

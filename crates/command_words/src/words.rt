@@ -1,8 +1,8 @@
 //! What the words of a command line ask for.
 
-use crate::workers::Workers;
 use clap::error::ErrorKind;
 use clap::{Arg, ArgAction, ArgMatches, Command, Error, value_parser};
+use range_shards::Workers;
 use std::alloc::{AllocError, Global};
 
 /// The version of the program. From which commit and with which kit it was built is known to what builds it alone.

@@ -8,10 +8,9 @@ ghost use Rattle.range_answers.specs.Ranges.{IsRangeOf, IsOutsideRange, IsNoRang
 
 use book_files::{WriteError, write_book};
 use bound_specs::Spec;
-use command_words::Workers;
 use outcome_books::Book;
 use outcome_texts::Counted;
-use range_shards::{Progress, shards_of};
+use range_shards::{Progress, Workers, shards_of};
 use session_machine::RunError;
 use shard_farm::{FarmError, Gate, OpenGate, farm_run};
 use spec_answers::{SpecFault, spec_of};
