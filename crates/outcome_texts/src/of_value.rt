@@ -6,7 +6,7 @@ ghost use Rattle.serde_json.specs.View.{view, items_view};
 ghost use Rattle.transcripts.specs.declared.event.Event.{Event as Told};
 ghost use Rattle.transcripts.specs.Outcome.{OutcomeFits};
 ghost use Rattle.outcome_texts.specs.Json.{outcome_data};
-ghost use Rattle.outcome_texts.specs.JsonReading.{cell_in, event_in, fault_of, list_in, numbered_event, outcome_in, pair_event, step_in, tagged_event, warning_of, word_event, Reads};
+ghost use Rattle.outcome_texts.specs.JsonReading.{cell_in, count_in, event_in, fault_of, list_in, numbered_event, outcome_in, pair_event, step_in, tagged_event, warning_of, word_event, Reads};
 ghost use Rattle.outcome_texts.specs.declared.error.ValueError.TheVariants.{BadField};
 
 use crate::error::ValueError;
@@ -119,17 +119,17 @@ fn numbered_event(tag: &str, value: &Json) -> Option<Event>
     if tag == "sent" {
         Some(Event::Sent(step(value)?))
     } else if tag == "rows" {
-        Some(Event::Rows(value.as_u64()?))
+        Some(Event::Rows(count(value)?))
     } else if tag == "inserted" {
-        Some(Event::Inserted(value.as_u64()?))
+        Some(Event::Inserted(count(value)?))
     } else if tag == "updated" {
-        Some(Event::Updated(value.as_u64()?))
+        Some(Event::Updated(count(value)?))
     } else if tag == "deleted" {
-        Some(Event::Deleted(value.as_u64()?))
+        Some(Event::Deleted(count(value)?))
     } else if tag == "warned" {
-        Some(Event::Warned(warning(value.as_u64()?)?))
+        Some(Event::Warned(warning(count(value)?)?))
     } else if tag == "failed" {
-        Some(Event::Failed(fault(value.as_u64()?)?))
+        Some(Event::Failed(fault(count(value)?)?))
     } else if tag == "notsent" {
         Some(Event::NotSent(step(value)?))
     } else {
@@ -137,10 +137,17 @@ fn numbered_event(tag: &str, value: &Json) -> Option<Event>
     }
 }
 
+/// The count that a value is, in the words of the definition: so no caller has to ask anew what a number is.
+fn count(value: &Json) -> Option<u64>
+    ensures { result ≡ count_in (view value.now) }
+{
+    value.as_u64()
+}
+
 fn step(value: &Json) -> Option<u8>
     ensures { result ≡ step_in (view value.now) }
 {
-    u8::try_from(value.as_u64()?).ok()
+    u8::try_from(count(value)?).ok()
 }
 
 fn warning(number: u64) -> Option<Warning>

@@ -1,6 +1,6 @@
 //! The setups of a spec, before its first step is sent.
 
-ghost use Rattle.std.specs.Prelude.{◌≡◌, ◌<◌, ◌≤◌, ◌+◌, [], length, suc, All, is_some, IfOk, IfErr};
+ghost use Rattle.std.specs.Prelude.{◌≡◌, ◌<◌, ◌≤◌, ◌+◌, [], length, suc, All, is_some, IfOk, IfErr, OnOk};
 ghost use Rattle.std.specs.List.{list_any};
 ghost use Rattle.sql_statements.specs.Plan.{HasKeys, IsShort};
 ghost use Rattle.bound_specs.specs.Spec.{AllHaveKeys, AllAreShort};
@@ -72,8 +72,26 @@ pub(crate) fn main_setups(
     ensures refused { IfErr result (λ error. IsRefusedBy error (main_setups control 0 (world_in [] stage) blocks.now)) }
 {
     let mut own = stage;
+    run_mains(alloc, &mut own, control, blocks)?;
+    Ok(own)
+}
+
+/// Runs the main setup blocks in order on a stage.
+fn run_mains(
+    alloc: Global,
+    stage: &mut Stage,
+    control: u8,
+    blocks: &[Block],
+) -> Result<(), StartError>
+    requires ready { IsReadyForMains control stage.old }
+    requires keys { AllHaveKeys blocks.now }
+    requires short { AllAreShort blocks.now }
+    ensures ran { OnOk result (main_setups control 0 (world_in [] stage.old) blocks.now ≡ Started (world_in [] stage.new)) }
+    ensures ready { OnOk result (IsReadyForSessions (suc control) stage.new) }
+    ensures refused { IfErr result (λ error. IsRefusedBy error (main_setups control 0 (world_in [] stage.old) blocks.now)) }
+{
     for (number, block) in blocks.iter().enumerate() {
-        match own.set_up(alloc, control, block)? {
+        match stage.set_up(alloc, control, block)? {
             SetUp::Closed => {}
             SetUp::Waits => unreachable!(),
             SetUp::Failed | SetUp::Open => {
@@ -83,7 +101,7 @@ pub(crate) fn main_setups(
             }
         }
     }
-    Ok(own)
+    Ok(())
 }
 
 /// Runs the setup of each session in order. The first that fails or has to wait refuses the start.
@@ -101,15 +119,29 @@ pub(crate) fn session_setups(
     ensures refused { IfErr result (λ error. IsRefusedBy error (session_setups 0 (world_in [] stage) blocks.now)) }
 {
     let mut own = stage;
+    run_own(alloc, &mut own, blocks)?;
+    Ok(own)
+}
+
+/// Runs the setup of each session in order on a stage.
+fn run_own(alloc: Global, stage: &mut Stage, blocks: &[Block]) -> Result<(), StartError>
+    requires ready { IsReadyForSessions (suc (length blocks.now)) stage.old }
+    requires few { length blocks.now ≤ 255 }
+    requires keys { AllHaveKeys blocks.now }
+    requires short { AllAreShort blocks.now }
+    ensures ran { OnOk result (session_setups 0 (world_in [] stage.old) blocks.now ≡ Started (world_in [] stage.new)) }
+    ensures ready { OnOk result (IsReadyForSessions (suc (length blocks.now)) stage.new) }
+    ensures refused { IfErr result (λ error. IsRefusedBy error (session_setups 0 (world_in [] stage.old) blocks.now)) }
+{
     for (number, block) in blocks.iter().enumerate() {
         let session = number as u64;
-        match own.set_up(alloc, number as u8, block)? {
+        match stage.set_up(alloc, number as u8, block)? {
             SetUp::Closed | SetUp::Open => {}
             SetUp::Waits => return Err(StartError::SessionSetupWaits { session }),
             SetUp::Failed => return Err(StartError::SessionSetupFailed { session }),
         }
     }
-    Ok(own)
+    Ok(())
 }
 
 /// How a setup ended, after which its session stands so.

@@ -45,10 +45,7 @@ impl Stage {
     pub(crate) fn fork(&self) -> Result<Stage, AllocError>
         ensures { IfOk result (HasSameParts self.now) }
     {
-        let mut members = Vec::with_capacity(*self.members.allocator(), self.members.len())?;
-        for member in &self.members {
-            members.push(member.fork()?)?;
-        }
+        let members = fork_members(*self.members.allocator(), &self.members)?;
         Ok(Stage {
             store: self.store.fork()?,
             locks: self.locks.fork()?,
@@ -136,6 +133,17 @@ impl Stage {
         self.tell(session, Event::Resumed)?;
         self.go(alloc, spec, session, rest.step, rest.point)
     }
+}
+
+/// Equal sessions in the same order.
+fn fork_members(alloc: Global, members: &[Member]) -> Result<Vec<Member>, AllocError>
+    ensures { IfOk result (λ forked. forked.items ≡ members.now) }
+{
+    let mut forked = Vec::with_capacity(alloc, members.len())?;
+    for member in members {
+        forked.push(member.fork()?)?;
+    }
+    Ok(forked)
 }
 
 /// What is left of a step that stopped there.

@@ -3,12 +3,12 @@ use Rattle.machine_model.specs.Start.{main_setups}
 use Rattle.session_machine.specs.Stage.{world_in}
 use Rattle.session_machine.specs.SetUp.{HasEnded}
 use Rattle.session_machine.proofs.SetUpLemmas.{main-idle, main-goes, main-ready}
-use Rattle.session_machine.proofs.setups.main_setups.Goals as goal
+use Rattle.session_machine.proofs.setups.run_mains.Goals as goal
 
 -- nobody else holds a lock, so the control session does not wait
 pub unreachable-requires : goal.unreachable-requires
 unreachable-requires c =
-    let x = c.loop-number.own in
+    let x = c.loop-number.stage in
     let block = c.index-blocks-number.result in
     let waits = subst (λ e. HasEnded e c.args.control block x c.set_up.new.self) c.in-Waits.is c.in_ok-set_up.ensures in
     let no : true ≡ false = sym waits.1 ∙ main-idle c.args.control x block c.loop-number.invariant.ready in
@@ -20,7 +20,7 @@ loop-number-preserved c =
     let control = c.args.control in
     let blocks = c.args.blocks.now in
     let n = c.loop-number.number in
-    let x = c.loop-number.own in
+    let x = c.loop-number.stage in
     let y = c.set_up.new.self in
     let block = c.index-blocks-number.result in
     let here : drop n blocks ≡ block ∷ drop (n + 1) blocks = drop-cons blocks n block c.loop-number-test.true

@@ -7,7 +7,7 @@ use Rattle.machine_model.specs.Start.{session_setups}
 use Rattle.session_machine.specs.Stage.{world_in}
 use Rattle.session_machine.specs.SetUp.{IsSetUp, HasEnded}
 use Rattle.session_machine.proofs.SetUpLemmas.{session-goes, session-ready, session-fails, session-waits}
-use Rattle.session_machine.proofs.setups.session_setups.Goals as goal
+use Rattle.session_machine.proofs.setups.run_own.Goals as goal
 
 pub overflow_cast-number : goal.overflow_cast-number
 overflow_cast-number c = omega (arith, c.requires.few, c.loop-number-test.true)
@@ -32,7 +32,7 @@ pub returns-in-Failed-clause-refused : goal.returns-in-Failed-clause-refused
 returns-in-Failed-clause-refused c =
     let blocks = c.args.blocks.now in
     let i = c.loop-number.number in
-    let x = c.loop-number.own in
+    let x = c.loop-number.stage in
     let block = c.index-blocks-number.result in
     let here : drop i blocks ≡ block ∷ drop (i + 1) blocks = drop-cons blocks i block c.loop-number-test.true
     ∙ (λ j. sym c.index-blocks-number.is j ∷ drop (sym (add-one i) j) blocks) in
@@ -43,7 +43,7 @@ pub returns-in-Waits-clause-refused : goal.returns-in-Waits-clause-refused
 returns-in-Waits-clause-refused c =
     let blocks = c.args.blocks.now in
     let i = c.loop-number.number in
-    let x = c.loop-number.own in
+    let x = c.loop-number.stage in
     let block = c.index-blocks-number.result in
     let here : drop i blocks ≡ block ∷ drop (i + 1) blocks = drop-cons blocks i block c.loop-number-test.true
     ∙ (λ j. sym c.index-blocks-number.is j ∷ drop (sym (add-one i) j) blocks) in
@@ -55,7 +55,7 @@ pub loop-number-preserved : goal.loop-number-preserved
 loop-number-preserved c =
     let blocks = c.args.blocks.now in
     let i = c.loop-number.number in
-    let x = c.loop-number.own in
+    let x = c.loop-number.stage in
     let y = c.set_up.new.self in
     let block = c.index-blocks-number.result in
     let here : drop i blocks ≡ block ∷ drop (i + 1) blocks = drop-cons blocks i block c.loop-number-test.true
