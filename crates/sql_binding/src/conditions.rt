@@ -1,7 +1,8 @@
 //! Binds conditions. Parentheses leave no trace, and a missing WHERE is a condition that every row meets.
 
 ghost use Rattle.std.specs.Prelude.{◌≡◌, IfOk};
-ghost use Rattle.sql_grammar.specs.Views.{option_by, view_atom, view_part, view_condition};
+ghost use Rattle.sql_grammar.specs.Tree.{Compares};
+ghost use Rattle.sql_grammar.specs.Views.{option_by, view_sum, view_atom, view_part, view_condition};
 ghost use Rattle.sql_statements.specs.Conditions as conditions;
 ghost use Rattle.sql_binding.specs.Refusals.{Binds};
 ghost use Rattle.sql_binding.specs.Translation as spec;
@@ -9,9 +10,10 @@ ghost use Rattle.sql_binding.specs.Translation as spec;
 use crate::error::BindStop;
 use crate::expressions::expression;
 use crate::joining::{Joint, joined};
+use crate::lists::push_bound;
 use crate::tables::Table;
 use sql_grammar::{
-    Atom, Comparison as ComparisonWord, Condition as ConditionText, Part as PartText,
+    Atom, Comparison as ComparisonWord, Condition as ConditionText, Part as PartText, Sum,
 };
 use sql_statements::{Comparison, Condition};
 use sqlite_items::Boxed;
@@ -37,17 +39,29 @@ fn negation(alloc: Global, part: Condition) -> Result<Condition, AllocError>
     Ok(Condition::Not(Boxed::new(alloc, part)?))
 }
 
+// Apart from the ring of conditions, since it owns an expression where the other one may be refused.
+fn compares(
+    alloc: Global,
+    table: &Table,
+    at: usize,
+    a: &Sum,
+    sign: ComparisonWord,
+    b: &Sum,
+) -> Result<Condition, BindStop>
+    ensures { Binds (λ condition. condition) result (spec.atom (Compares (view_sum a.now) sign (view_sum b.now)) table.now at) }
+{
+    let left = expression(alloc, table, at, a)?;
+    let right = expression(alloc, table, at, b)?;
+    Ok(Condition::Compares(left, comparison(sign), right))
+}
+
 #[cycle(condition)]
 #[tactic(auto, unfolding(sql_grammar::specs::Views::view_atom, sql_grammar::specs::Views::view_condition))]
 fn atom(alloc: Global, table: &Table, at: usize, atom_text: &Atom) -> Result<Condition, BindStop>
     ensures { Binds (λ condition. condition) result (spec.atom (view_atom atom_text.now) table.now at) }
 {
     match atom_text {
-        Atom::Compares(a, sign, b) => {
-            let left = expression(alloc, table, at, a)?;
-            let right = expression(alloc, table, at, b)?;
-            Ok(Condition::Compares(left, comparison(*sign), right))
-        }
+        Atom::Compares(a, sign, b) => compares(alloc, table, at, a, *sign, b),
         Atom::Not(part) => {
             let part = atom(alloc, table, at, part.get())?;
             Ok(negation(alloc, part)?)
@@ -63,9 +77,9 @@ fn part(alloc: Global, table: &Table, at: usize, text: &PartText) -> Result<Cond
     ensures { Binds (λ condition. condition) result (spec.part (view_part text.now) table.now at) }
 {
     let mut all = Vec::new(alloc);
-    all.push(atom(alloc, table, at, &text.first)?)?;
+    push_bound(&mut all, atom(alloc, table, at, &text.first))?;
     'ands: for next in text.more.as_slice() {
-        all.push(atom(alloc, table, at, next)?)?;
+        push_bound(&mut all, atom(alloc, table, at, next))?;
     }
     Ok(joined(alloc, Joint::All, all)?)
 }
@@ -82,9 +96,9 @@ fn condition(
     ensures { Binds (λ condition. condition) result (spec.condition (view_condition text.now) table.now at) }
 {
     let mut all = Vec::new(alloc);
-    all.push(part(alloc, table, at, &text.first)?)?;
+    push_bound(&mut all, part(alloc, table, at, &text.first))?;
     'ors: for next in text.more.as_slice() {
-        all.push(part(alloc, table, at, next)?)?;
+        push_bound(&mut all, part(alloc, table, at, next))?;
     }
     Ok(joined(alloc, Joint::Any, all)?)
 }

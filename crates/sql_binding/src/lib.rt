@@ -10,6 +10,7 @@ mod inserts;
 mod joining;
 mod keys;
 mod laws;
+mod lists;
 mod names;
 mod queries;
 mod statements;

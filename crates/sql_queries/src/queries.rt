@@ -5,8 +5,10 @@ ghost use Rattle.sql_grammar.specs.Lexing.{view_token, views};
 ghost use Rattle.sql_grammar.specs.Tokens.{Key};
 ghost use Rattle.sql_grammar.specs.Reading.{with_commas, count_all, sum_of, aggregate, at_aggregate, items, direction, maybe_direction, sort_key, order_part, optional, select};
 ghost use Rattle.sql_grammar.specs.Views.{Gives, chain_of, option_by, view_selected, view_select};
+ghost use Rattle.sql_queries.specs.Selecting as selecting;
 
 use crate::rows::names;
+use lock_modes::Text;
 use sql_expressions::maybe_where;
 use sql_grammar::{Aggregate, Chain, Direction, Placed, Select, Selected, SortKey, Stop, Token};
 use sql_words::{
@@ -179,19 +181,17 @@ fn maybe_order<'a, 't>(
     }
 }
 
-/// A SELECT, and the tokens behind it. It stops at a token that cannot stand there or passes a limit, or for want of memory.
-pub fn select<'a, 't>(
+// In three functions, since what is read has to be let go wherever the reading may stop.
+fn select_by<'a, 't>(
     alloc: Global,
+    items: Selected,
+    table: Text,
     tokens: &'t [Placed<'a>],
 ) -> Result<(Select, &'t [Placed<'a>]), Stop<'a>>
-    ensures reads { Gives (λ x. (view_select x.0, views x.1.now)) result (select (views tokens.now)) }
+    ensures reads { Gives (λ x. (view_select x.0, views x.1.now)) result (selecting.select_by (view_selected items) table (views tokens.now)) }
     ensures shorter { IfOk result (λ x. length x.1.now ≤ length tokens.now) }
 {
-    let rest = skip_key(tokens, "select")?;
-    let (items, rest) = items(alloc, rest)?;
-    let rest = skip_key(rest, "from")?;
-    let (table, rest) = name(alloc, rest)?;
-    let (condition, rest) = maybe_where(alloc, rest)?;
+    let (condition, rest) = maybe_where(alloc, tokens)?;
     let (order, rest) = maybe_order(alloc, rest)?;
     Ok((
         Select {
@@ -202,4 +202,30 @@ pub fn select<'a, 't>(
         },
         rest,
     ))
+}
+
+fn select_from<'a, 't>(
+    alloc: Global,
+    items: Selected,
+    tokens: &'t [Placed<'a>],
+) -> Result<(Select, &'t [Placed<'a>]), Stop<'a>>
+    ensures reads { Gives (λ x. (view_select x.0, views x.1.now)) result (selecting.select_from (view_selected items) (views tokens.now)) }
+    ensures shorter { IfOk result (λ x. length x.1.now ≤ length tokens.now) }
+{
+    let rest = skip_key(tokens, "from")?;
+    let (table, rest) = name(alloc, rest)?;
+    select_by(alloc, items, table, rest)
+}
+
+/// A SELECT, and the tokens behind it. It stops at a token that cannot stand there or passes a limit, or for want of memory.
+pub fn select<'a, 't>(
+    alloc: Global,
+    tokens: &'t [Placed<'a>],
+) -> Result<(Select, &'t [Placed<'a>]), Stop<'a>>
+    ensures reads { Gives (λ x. (view_select x.0, views x.1.now)) result (select (views tokens.now)) }
+    ensures shorter { IfOk result (λ x. length x.1.now ≤ length tokens.now) }
+{
+    let rest = skip_key(tokens, "select")?;
+    let (items, rest) = items(alloc, rest)?;
+    select_from(alloc, items, rest)
 }
