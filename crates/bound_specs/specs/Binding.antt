@@ -7,13 +7,13 @@ use Rattle.sql_grammar.specs.Grammar.{Fault}
 use Rattle.sql_grammar.specs.Lexing.{token_list}
 use Rattle.sql_grammar.specs.Text.{StatementAt, statements_from}
 use Rattle.sql_statements.specs.declared.statement.Bound.{Bound}
-use Rattle.sql_binding.specs.declared.error.BindErrorKind.TheVariants.{Sql, Shape}
-use Rattle.sql_binding.specs.declared.tables.Table.{Table}
+use Rattle.binding_model.specs.declared.error.BindErrorKind.TheVariants.{Sql, Shape}
+use Rattle.binding_model.specs.declared.tables.Table.{Table}
 use Rattle.bound_specs.specs.Lines.{step_names, session_names, orders_of}
-use Rattle.sql_binding.specs.Refusals.{Bind, ◌>>=◌, refuse, each}
+use Rattle.binding_model.specs.Refusals.{Bind, ◌>>=◌, refuse, each}
 use Rattle.bound_specs.specs.Spec.{Step, SpecFile}
-use Rattle.sql_binding.specs.Statements.{statement}
-use Rattle.sql_binding.specs.Tables.{create}
+use Rattle.binding_model.specs.Statements.{statement}
+use Rattle.binding_model.specs.Tables.{create}
 
 -- ---- a block
 

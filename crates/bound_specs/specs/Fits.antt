@@ -17,13 +17,13 @@ use Rattle.sql_statements.specs.declared.statement.Bound.TheVariants.{Select, In
 use Rattle.sql_statements.specs.declared.statement.Output.{Output}
 use Rattle.sql_statements.specs.declared.statement.Output.TheVariants.{Columns, Aggregates}
 use Rattle.sql_statements.specs.declared.statement.SortKey.{SortKey}
-use Rattle.sql_binding.specs.declared.tables.ColumnType.{ColumnType}
-use Rattle.sql_binding.specs.declared.tables.ColumnType.TheVariants.{Number}
-use Rattle.sql_binding.specs.declared.tables.Table.{Table}
+use Rattle.binding_model.specs.declared.tables.ColumnType.{ColumnType}
+use Rattle.binding_model.specs.declared.tables.ColumnType.TheVariants.{Number}
+use Rattle.binding_model.specs.declared.tables.Table.{Table}
 use Rattle.bound_specs.specs.Spec.{Spec, Step}
-use Rattle.sql_binding.specs.Statements.{sets_key}
-use Rattle.sql_binding.specs.Tables.{no_table, key_column, type_of, width}
-use Rattle.sql_binding.specs.Types.{value_type}
+use Rattle.binding_model.specs.Statements.{sets_key}
+use Rattle.binding_model.specs.Tables.{no_table, key_column, type_of, width}
+use Rattle.binding_model.specs.Types.{value_type}
 
 -- ---- what is taken of columns, where it is known which of them are there, and of which type
 

@@ -6,7 +6,7 @@ use Rattle.perm_ranks.specs.Words.{total}
 use Rattle.spec_reader.specs.declared.TheConstants.{MAX_ITEMS, MAX_LINES}
 use Rattle.spec_reader.specs.Tree.{StepTree, SessionTree, ItemTree, LineTree, SpecTree}
 use Rattle.bound_specs.specs.declared.TheConstants.{MAX_LINED_STEPS}
-use Rattle.sql_binding.specs.Names.{Name, place_in}
+use Rattle.binding_model.specs.Names.{Name, place_in}
 
 abbrev pub counts_in : List SessionTree → List ℕ
 counts_in sessions = map (λ (s : SessionTree). length s.steps) sessions

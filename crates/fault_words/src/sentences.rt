@@ -1,7 +1,7 @@
 //! What is wrong with a spec file, a sentence for each kind of refusal.
 
+use binding_model::BindErrorKind;
 use spec_reader::SpecErrorKind;
-use sql_binding::BindErrorKind;
 use sql_grammar::SqlErrorKind;
 
 /// What is wrong where a text is no spec file, and what is expected there.

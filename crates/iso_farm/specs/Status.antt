@@ -2,8 +2,8 @@
 use Rattle.std.specs.Prelude.{ℕ}
 use Rattle.spec_reader.specs.declared.error.Kind.{Kind as SpecErrorKind}
 use Rattle.spec_reader.specs.declared.error.Kind.TheVariants as spec_kind
-use Rattle.sql_binding.specs.declared.error.BindErrorKind.{BindErrorKind}
-use Rattle.sql_binding.specs.declared.error.BindErrorKind.TheVariants as bind_kind
+use Rattle.binding_model.specs.declared.error.BindErrorKind.{BindErrorKind}
+use Rattle.binding_model.specs.declared.error.BindErrorKind.TheVariants as bind_kind
 use Rattle.session_machine.specs.declared.error.StartError.{StartError}
 use Rattle.session_machine.specs.declared.error.StartError.TheVariants as start_error
 use Rattle.session_machine.specs.declared.error.RunError.{RunError}

@@ -32,15 +32,15 @@ use Rattle.sql_statements.specs.declared.statement.Bound.TheVariants.{Select, In
 use Rattle.sql_statements.specs.declared.statement.Output.{Output}
 use Rattle.sql_statements.specs.declared.statement.Output.TheVariants.{Columns, Aggregates}
 use Rattle.sql_statements.specs.declared.statement.SortKey.{SortKey}
-use Rattle.sql_binding.specs.declared.tables.ColumnType.{ColumnType}
-use Rattle.sql_binding.specs.declared.tables.ColumnType.TheVariants.{Number}
-use Rattle.sql_binding.specs.declared.tables.Table.{Table}
+use Rattle.binding_model.specs.declared.tables.ColumnType.{ColumnType}
+use Rattle.binding_model.specs.declared.tables.ColumnType.TheVariants.{Number}
+use Rattle.binding_model.specs.declared.tables.Table.{Table}
 use Rattle.bound_specs.specs.Fits.{IsThere, OperandIs, FactorsAre, ProductIs, TermsAre, ExpressionIs, ComparisonFits, ConditionFits, AggregateFits, OutputFits}
 use Rattle.bound_specs.specs.Fits.{SortKeyFits}
 use Rattle.bound_specs.specs.Fits.{AssignmentFits, Takes, IsColumn, ColumnOf, ValueIn, RowFits, OfTable, Fits}
-use Rattle.sql_binding.specs.Statements.{sets_column, sets_key}
-use Rattle.sql_binding.specs.Tables.{no_table, key_column, type_of, width}
-use Rattle.sql_binding.specs.Types.{value_type}
+use Rattle.binding_model.specs.Statements.{sets_column, sets_key}
+use Rattle.binding_model.specs.Tables.{no_table, key_column, type_of, width}
+use Rattle.binding_model.specs.Types.{value_type}
 use Rattle.transcripts.specs.declared.event.Fault.TheVariants.{Duplicate, OutOfRange}
 use Rattle.transcripts.specs.declared.event.Event.TheVariants.{Inserted, Updated, Deleted}
 use Rattle.row_effects.specs.Evaluate.{in_range, checked, on_numbers, operand_value, times_each, product_value, plus_or_minus, plus_each, value_of}

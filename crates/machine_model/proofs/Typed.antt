@@ -13,7 +13,7 @@ use Rattle.lock_queues.specs.Locks.{Spot, next_grant, waits_now}
 use Rattle.row_tables.specs.Overlay.{lay}
 use Rattle.sql_statements.specs.Plan.{Request, plan}
 use Rattle.sql_statements.specs.declared.statement.Bound.{Bound}
-use Rattle.sql_binding.specs.declared.tables.Table.{Table}
+use Rattle.binding_model.specs.declared.tables.Table.{Table}
 use Rattle.bound_specs.specs.Fits.{Fits, SpecFits}
 use Rattle.bound_specs.specs.Spec.{Spec, Step, no_step}
 use Rattle.transcripts.specs.declared.event.Fault.{Fault}

@@ -10,10 +10,10 @@ use Rattle.row_tables.specs.Overlay.{lay}
 use Rattle.sql_statements.specs.Plan.{key_at}
 use Rattle.sql_statements.specs.declared.statement.Bound.{Bound}
 use Rattle.sql_statements.specs.declared.statement.Bound.TheVariants.{Insert}
-use Rattle.sql_binding.specs.declared.tables.Table.{Table}
+use Rattle.binding_model.specs.declared.tables.Table.{Table}
 use Rattle.bound_specs.specs.Fits.{OfTable, RowFits, ValueIn, Takes, Fits, SpecFits}
 use Rattle.bound_specs.specs.Spec.{Spec}
-use Rattle.sql_binding.specs.Tables.{key_column}
+use Rattle.binding_model.specs.Tables.{key_column}
 use Rattle.row_effects.specs.Effect.{visible, next_number}
 use Rattle.machine_model.specs.Start.{Started, start}
 use Rattle.machine_model.specs.Session.{Session, Task, Ask, Do, Goes, Fails, perform}

@@ -3,7 +3,7 @@ use Rattle.std.specs.Prelude.{◌≡◌, ℕ, ◌⊎◌, List, Err}
 use Rattle.spec_reader.specs.Tree.{SpecTree}
 use Rattle.spec_reader.specs.Text.{IsSpec, Explains}
 use Rattle.bound_specs.specs.Binding.{bound_file}
-use Rattle.sql_binding.specs.declared.error.BindErrorKind.TheVariants.{NoMemory}
+use Rattle.binding_model.specs.declared.error.BindErrorKind.TheVariants.{NoMemory}
 use Rattle.spec_answers.specs.declared.spec.SpecFault.{SpecFault}
 use Rattle.spec_answers.specs.declared.spec.SpecFault.TheVariants.{Text, Binding}
 

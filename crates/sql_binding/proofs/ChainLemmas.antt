@@ -6,11 +6,11 @@ use Rattle.sql_grammar.specs.declared.expression.SignedTerm.{SignedTerm}
 use Rattle.sql_grammar.specs.declared.statement.Assignment.{Assignment as AssignmentText}
 use Rattle.sql_grammar.specs.Tree.{Chain, Last, More, Sum, Only, Then}
 use Rattle.sql_grammar.specs.Views.{joined, chain_by, chain_of, view_assignment}
-use Rattle.sql_binding.specs.Names.{list_of, head, tail}
-use Rattle.sql_binding.specs.Refusals.{Bind, ◌>>=◌, each}
-use Rattle.sql_binding.specs.Statements.{assignment}
-use Rattle.sql_binding.specs.declared.tables.Table.{Table}
-use Rattle.sql_binding.specs.Translation.{sum_head, sum_tail}
+use Rattle.binding_model.specs.Names.{list_of, head, tail}
+use Rattle.binding_model.specs.Refusals.{Bind, ◌>>=◌, each}
+use Rattle.binding_model.specs.Statements.{assignment}
+use Rattle.binding_model.specs.declared.tables.Table.{Table}
+use Rattle.binding_model.specs.Translation.{sum_head, sum_tail}
 use Rattle.sql_binding.proofs.EachLemmas.{each-map}
 
 abbrev chained : {A B : Type 0} → (A → B) → B → List A → Chain B

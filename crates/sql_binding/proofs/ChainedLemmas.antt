@@ -3,11 +3,11 @@ use Rattle.std.proofs.Common.{◌≡◌, refl, sym, ap, ◌∙◌, ℕ, zero, su
 use Rattle.lock_modes.specs.declared.value.Value.{Value}
 use Rattle.sql_statements.specs.Conditions.{told}
 use Rattle.sql_statements.specs.declared.condition.Condition.{Condition, Condition-F as Level}
-use Rattle.sql_binding.specs.declared.joining.Joint.{Joint}
-use Rattle.sql_binding.specs.declared.joining.Joint.TheVariants.{All, Any}
-use Rattle.sql_binding.specs.Chains.{linked, IsAssociative, chained, first_some, ChainsNameFirstKeys, AlternativesNameNoKey}
-use Rattle.sql_binding.specs.KeyParts.{or_next, level_key, key_in}
-use Rattle.sql_binding.specs.Translation.{join, paired, joined_in, joined}
+use Rattle.binding_model.specs.declared.joint.Joint.{Joint}
+use Rattle.binding_model.specs.declared.joint.Joint.TheVariants.{All, Any}
+use Rattle.binding_model.specs.Chains.{linked, IsAssociative, chained, first_some, ChainsNameFirstKeys, AlternativesNameNoKey}
+use Rattle.binding_model.specs.KeyParts.{or_next, level_key, key_in}
+use Rattle.binding_model.specs.Translation.{join, paired, joined_in, joined}
 use Rattle.sql_binding.proofs.JoinLemmas.{paired-fewer}
 
 -- what is told of a list of conditions, or this of none

@@ -4,10 +4,10 @@ use Rattle.sql_grammar.specs.declared.expression.Condition.{Condition as Written
 use Rattle.sql_grammar.specs.declared.expression.Part.{Part as WrittenPart, fold_out-Part}
 use Rattle.sql_grammar.specs.Tree as tree
 use Rattle.sql_grammar.specs.Views.{atom_step, part_step, condition_step, part_by, condition_by, view_atom, view_part, view_condition}
-use Rattle.sql_binding.specs.declared.joining.Joint.TheVariants.{All}
-use Rattle.sql_binding.specs.declared.tables.Table.{Table}
-use Rattle.sql_binding.specs.Refusals.{Bind, ◌>>=◌, with_front, each}
-use Rattle.sql_binding.specs.Translation.{atom, part, parts, alternatives, joined}
+use Rattle.binding_model.specs.declared.joint.Joint.TheVariants.{All}
+use Rattle.binding_model.specs.declared.tables.Table.{Table}
+use Rattle.binding_model.specs.Refusals.{Bind, ◌>>=◌, with_front, each}
+use Rattle.binding_model.specs.Translation.{atom, part, parts, alternatives, joined}
 use Rattle.sql_binding.proofs.EachLemmas.{each-map}
 
 then_front : {A X : Type 0} (r : Bind A) (g : A → X) (b : Bind (List X)) → (r >>= λ a. with_front (g a ∷ []) b)

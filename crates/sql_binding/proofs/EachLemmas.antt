@@ -1,10 +1,10 @@
 -- One part after another is bound.
 use Rattle.std.proofs.Common.{◌≡◌, refl, sym, ap, ◌∙◌, ℕ, suc, ◌+◌, ◌<◌, List, [], ◌∷◌, ◌++◌, length, map, get_or, drop, Ok, Err, drop-cons, add-one}
 use Rattle.std.proofs.Common.{append_assoc}
-use Rattle.sql_binding.specs.declared.error.BindError.{BindError}
-use Rattle.sql_binding.specs.declared.error.BindStop.{BindStop}
-use Rattle.sql_binding.specs.declared.error.BindStop.TheVariants.{Memory, Refused}
-use Rattle.sql_binding.specs.Refusals.{Bind, Binds, ◌>>=◌, with_front, each}
+use Rattle.binding_model.specs.declared.error.BindError.{BindError}
+use Rattle.binding_model.specs.declared.error.BindStop.{BindStop}
+use Rattle.binding_model.specs.declared.error.BindStop.TheVariants.{Memory, Refused}
+use Rattle.binding_model.specs.Refusals.{Bind, Binds, ◌>>=◌, with_front, each}
 
 front_twice : {X : Type 0} (xs ys : List X) (r : Bind (List X)) → with_front xs (with_front ys r) ≡ with_front (xs ++ ys) r
 front_twice xs ys (Ok zs) = ap Ok (sym (append_assoc xs ys zs))

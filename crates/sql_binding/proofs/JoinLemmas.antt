@@ -2,11 +2,11 @@
 use Rattle.std.proofs.Common.{◌≡◌, refl, sym, ap, ◌∙◌, ℕ, zero, suc, ◌<◌, ◌≤◌, List, [], ◌∷◌, ◌++◌, length, Option, Some, None, arith, append_assoc}
 use Rattle.std.proofs.lemmas.List.{append-nil}
 use Rattle.sql_statements.specs.declared.condition.Condition.{Condition}
-use Rattle.sql_binding.specs.declared.joining.Joint.{Joint}
-use Rattle.sql_binding.specs.declared.joining.Joint.TheVariants.{All, Any}
-use Rattle.sql_binding.specs.Chains.{leaves, each_leaves}
-use Rattle.sql_binding.specs.Names.{maybe}
-use Rattle.sql_binding.specs.Translation.{join, paired, joined_in, joined}
+use Rattle.binding_model.specs.declared.joint.Joint.{Joint}
+use Rattle.binding_model.specs.declared.joint.Joint.TheVariants.{All, Any}
+use Rattle.binding_model.specs.Chains.{leaves, each_leaves}
+use Rattle.binding_model.specs.Names.{maybe}
+use Rattle.binding_model.specs.Translation.{join, paired, joined_in, joined}
 
 -- the part that waits last
 pub last-waits : (j : Joint) (pairs : List Condition) (waiting : Option Condition) (whole new : List Condition) → new ≡ pairs ++ maybe waiting

@@ -26,25 +26,25 @@ use Rattle.sql_statements.specs.declared.statement.Output.{Output}
 use Rattle.sql_statements.specs.declared.statement.SortKey.{SortKey}
 use Rattle.sql_statements.specs.declared.statement.Bound.{Bound}
 use Rattle.sql_statements.specs.declared.statement.Bound.TheVariants.{Insert, Select, Update, Delete, Lock}
-use Rattle.sql_binding.specs.declared.TheConstants.{MAX_COLUMNS, MAX_TABLES}
-use Rattle.sql_binding.specs.declared.error.BindError.{BindError}
-use Rattle.sql_binding.specs.declared.error.BindErrorKind.{BindErrorKind}
-use Rattle.sql_binding.specs.declared.error.BindErrorKind.TheVariants.{Sql, UnknownTable, UnknownColumn, TypeMismatch, KeyChanged, DuplicateTable, WrongCount}
-use Rattle.sql_binding.specs.declared.error.BindErrorKind.TheVariants.{Shape, NoMemory}
-use Rattle.sql_binding.specs.declared.joining.Joint.TheVariants.{All}
-use Rattle.sql_binding.specs.declared.tables.Table.{Table}
-use Rattle.sql_binding.specs.Names.{Name, head, tail, list_of, repeats}
-use Rattle.sql_binding.specs.Refusals.{Bind, ◌>>=◌, refuse, unless, with_front, each, bind_number_of}
-use Rattle.sql_binding.specs.Kinds.{Faults, has, IsLeast, factor_names, term_names, sum_names, condition_names, part_names, atom_names, where_names}
-use Rattle.sql_binding.specs.Kinds.{aggregate_names, item_names, order_names, assignment_names, row_names, names_unknown, both, faults_by, never, no_faults}
-use Rattle.sql_binding.specs.Kinds.{in_table, statement_faults, insert_faults, select_faults, update_faults, delete_faults, declaration_faults}
-use Rattle.sql_binding.specs.Statements.{places, at_places, rows_miscount, set_columns, sets_key, row_columns, row_values, insert, aggregate, output, sort_key}
-use Rattle.sql_binding.specs.Statements.{sort_keys, select, assignment, update, delete, mode_of, statement}
-use Rattle.sql_binding.specs.Tables.{create, key_column, column_number, column, no_table, table_number, joined as each_of, part_columns, part_keys}
-use Rattle.sql_binding.specs.Tables.{has_unknown, repeated, declared, table_place}
-use Rattle.sql_binding.specs.Translation.{value, operand, product, signed, sum_head, sum_tail, expression, joined, alternatives, parts, atom, where_of}
-use Rattle.sql_binding.specs.Types.{condition_mixes, assignment_mixes, output_mixes, row_mixes}
-use Rattle.sql_binding.specs.KeyParts.{key_of}
+use Rattle.binding_model.specs.declared.TheConstants.{MAX_COLUMNS, MAX_TABLES}
+use Rattle.binding_model.specs.declared.error.BindError.{BindError}
+use Rattle.binding_model.specs.declared.error.BindErrorKind.{BindErrorKind}
+use Rattle.binding_model.specs.declared.error.BindErrorKind.TheVariants.{Sql, UnknownTable, UnknownColumn, TypeMismatch, KeyChanged, DuplicateTable, WrongCount}
+use Rattle.binding_model.specs.declared.error.BindErrorKind.TheVariants.{Shape, NoMemory}
+use Rattle.binding_model.specs.declared.joint.Joint.TheVariants.{All}
+use Rattle.binding_model.specs.declared.tables.Table.{Table}
+use Rattle.binding_model.specs.Names.{Name, head, tail, list_of, repeats}
+use Rattle.binding_model.specs.Refusals.{Bind, ◌>>=◌, refuse, unless, with_front, each, bind_number_of}
+use Rattle.binding_model.specs.Kinds.{Faults, has, IsLeast, factor_names, term_names, sum_names, condition_names, part_names, atom_names, where_names}
+use Rattle.binding_model.specs.Kinds.{aggregate_names, item_names, order_names, assignment_names, row_names, names_unknown, both, faults_by, never, no_faults}
+use Rattle.binding_model.specs.Kinds.{in_table, statement_faults, insert_faults, select_faults, update_faults, delete_faults, declaration_faults}
+use Rattle.binding_model.specs.Statements.{places, at_places, rows_miscount, set_columns, sets_key, row_columns, row_values, insert, aggregate, output, sort_key}
+use Rattle.binding_model.specs.Statements.{sort_keys, select, assignment, update, delete, mode_of, statement}
+use Rattle.binding_model.specs.Tables.{create, key_column, column_number, column, no_table, table_number, joined as each_of, part_columns, part_keys}
+use Rattle.binding_model.specs.Tables.{has_unknown, repeated, declared, table_place}
+use Rattle.binding_model.specs.Translation.{value, operand, product, signed, sum_head, sum_tail, expression, joined, alternatives, parts, atom, where_of}
+use Rattle.binding_model.specs.Types.{condition_mixes, assignment_mixes, output_mixes, row_mixes}
+use Rattle.binding_model.specs.KeyParts.{key_of}
 
 -- ---- the names of a part are known where it is bound, and one of them is not where it is refused for that
 

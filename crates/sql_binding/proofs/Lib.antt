@@ -1,8 +1,6 @@
-mod Worked
 pub mod EachLemmas
 pub mod ChainLemmas
 pub mod ChainedLemmas
 pub mod ConditionLemmas
 pub mod JoinLemmas
 pub mod KindLemmas
-pub mod OptionLemmas

@@ -4,14 +4,13 @@ ghost use Rattle.std.specs.Prelude.{◌≡◌, IfOk};
 ghost use Rattle.sql_grammar.specs.Tree.{Compares};
 ghost use Rattle.sql_grammar.specs.Views.{option_by, view_sum, view_atom, view_part, view_condition};
 ghost use Rattle.sql_statements.specs.Conditions as conditions;
-ghost use Rattle.sql_binding.specs.Refusals.{Binds};
-ghost use Rattle.sql_binding.specs.Translation as spec;
+ghost use Rattle.binding_model.specs.Refusals.{Binds};
+ghost use Rattle.binding_model.specs.Translation as spec;
 
-use crate::error::BindStop;
 use crate::expressions::expression;
-use crate::joining::{Joint, joined};
+use crate::joining::joined;
 use crate::lists::push_bound;
-use crate::tables::Table;
+use binding_model::{BindStop, Joint, Table};
 use sql_grammar::{
     Atom, Comparison as ComparisonWord, Condition as ConditionText, Part as PartText, Sum,
 };

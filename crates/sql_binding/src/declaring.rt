@@ -3,13 +3,14 @@
 ghost use Rattle.std.specs.Prelude.{◌≡◌, ◌++◌, ◌∷◌, [], bytes_eq, IfOk, OnOk};
 ghost use Rattle.std.specs.List.{list_any};
 ghost use Rattle.sql_grammar.specs.Views.{chain_of};
-ghost use Rattle.sql_binding.specs.Refusals.{Binds};
-ghost use Rattle.sql_binding.specs.Tables.{joined, repeated, keys_of, part_columns, part_keys, has_unknown, create};
-ghost use Rattle.sql_binding.specs.Tables as spec;
+ghost use Rattle.binding_model.specs.Refusals.{Binds};
+ghost use Rattle.binding_model.specs.Tables.{joined, repeated, keys_of, part_columns, part_keys, has_unknown, create};
+ghost use Rattle.binding_model.specs.Tables as spec;
 
-use crate::error::{BindErrorKind, BindStop, refused};
-use crate::tables::{Column, Table, column_place, table_place, type_of};
-use crate::{MAX_COLUMNS, MAX_TABLES};
+use binding_model::{
+    BindErrorKind, BindStop, Column, MAX_COLUMNS, MAX_TABLES, Table, column_place, refused,
+    table_place, type_of,
+};
 use lock_modes::Text;
 use sql_grammar::{CreateTable, Property, SqlErrorKind, TablePart};
 use sqlite_items::Items;

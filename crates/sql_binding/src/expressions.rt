@@ -2,11 +2,10 @@
 
 ghost use Rattle.std.specs.Prelude.{◌≡◌};
 ghost use Rattle.sql_grammar.specs.Views.{chain_of, view_sum};
-ghost use Rattle.sql_binding.specs.Refusals.{Binds, each};
-ghost use Rattle.sql_binding.specs.Translation as spec;
+ghost use Rattle.binding_model.specs.Refusals.{Binds, each};
+ghost use Rattle.binding_model.specs.Translation as spec;
 
-use crate::error::{BindErrorKind, BindStop, refused};
-use crate::tables::Table;
+use binding_model::{BindErrorKind, BindStop, Table, refused};
 use lock_modes::{Text, Value};
 use sql_grammar::{AddSign as SignWord, Chain, Factor, Literal, SignedTerm, SqlErrorKind, Sum};
 use sql_statements::{AddSign, Expression, Operand, Product, SignedProduct};

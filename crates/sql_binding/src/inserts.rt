@@ -3,17 +3,16 @@
 ghost use Rattle.std.specs.Prelude.{◌≡◌, ◌==◌, ◌∷◌, [], map, IfOk};
 ghost use Rattle.std.specs.List.{list_any};
 ghost use Rattle.sql_grammar.specs.Views.{chain_of, chain_by, option_by};
-ghost use Rattle.sql_binding.specs.Names.{list_of, repeats};
-ghost use Rattle.sql_binding.specs.Refusals.{Binds, each};
-ghost use Rattle.sql_binding.specs.Statements as spec;
-ghost use Rattle.sql_binding.specs.Statements.{numbers_from};
-ghost use Rattle.sql_binding.specs.Tables as tables;
-ghost use Rattle.sql_binding.specs.Types as types;
+ghost use Rattle.binding_model.specs.Names.{list_of, repeats};
+ghost use Rattle.binding_model.specs.Refusals.{Binds, each};
+ghost use Rattle.binding_model.specs.Statements as spec;
+ghost use Rattle.binding_model.specs.Statements.{numbers_from};
+ghost use Rattle.binding_model.specs.Tables as tables;
+ghost use Rattle.binding_model.specs.Types as types;
 
-use crate::error::{BindErrorKind, BindStop, refused};
 use crate::expressions::value;
-use crate::tables::Table;
 use crate::types::row_mixes;
+use binding_model::{BindErrorKind, BindStop, Table, refused};
 use finite_maps::Fork;
 use lock_modes::{Row, Text, Value};
 use sql_grammar::{Chain, Insert, Literal};

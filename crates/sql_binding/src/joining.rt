@@ -2,19 +2,13 @@
 
 ghost use Rattle.std.specs.Prelude.{◌≡◌, ◌++◌, ◌∷◌, [], List, IfOk, OnOk};
 ghost use Rattle.sql_statements.specs.declared.condition.Condition.{Condition as One};
-ghost use Rattle.sql_binding.specs.Names.{maybe};
-ghost use Rattle.sql_binding.specs.Translation.{join, paired, first_or_always, joined_in, joined};
+ghost use Rattle.binding_model.specs.Names.{maybe};
+ghost use Rattle.binding_model.specs.Translation.{join, paired, first_or_always, joined_in, joined};
 
+use binding_model::Joint;
 use sql_statements::Condition;
 use sqlite_items::Boxed;
 use std::alloc::{AllocError, Global};
-
-/// What joins the parts of a chain: AND, of which all have to hold, or OR.
-#[derive(Clone, Copy)]
-pub enum Joint {
-    All,
-    Any,
-}
 
 #[tactic(auto, using(sql_statements::proofs::ConditionLemmas::making))]
 fn join(alloc: Global, joint: Joint, a: Condition, b: Condition) -> Result<Condition, AllocError>

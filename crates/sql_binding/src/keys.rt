@@ -2,7 +2,7 @@
 
 ghost use Rattle.std.specs.Prelude.{◌≡◌, IfOk};
 ghost use Rattle.std.specs.Option.{option_copied};
-ghost use Rattle.sql_binding.specs.KeyParts as spec;
+ghost use Rattle.binding_model.specs.KeyParts as spec;
 
 use finite_maps::Fork;
 use lock_modes::Value;

@@ -5,15 +5,15 @@ ghost use Rattle.sql_grammar.specs.Tree.{Chain, Statement};
 ghost use Rattle.sql_grammar.specs.declared.error.SqlErrorKind.TheVariants.{NumberTooLarge};
 ghost use Rattle.sql_grammar.specs.declared.statement.TablePart.{TablePart};
 ghost use Rattle.sql_statements.specs.declared.statement.Bound.{Bound};
-ghost use Rattle.sql_binding.specs.declared.error.BindErrorKind.{BindErrorKind};
-ghost use Rattle.sql_binding.specs.declared.error.BindErrorKind.TheVariants.{Sql};
-ghost use Rattle.sql_binding.specs.declared.error.BindError.{BindError};
-ghost use Rattle.sql_binding.specs.declared.tables.Table.{Table};
-ghost use Rattle.sql_binding.specs.Kinds.{has, IsLeast, statement_faults, declaration_faults};
-ghost use Rattle.sql_binding.specs.Names.{Name};
-ghost use Rattle.sql_binding.specs.Statements.{statement};
-ghost use Rattle.sql_binding.specs.Tables.{create};
-ghost use Rattle.sql_binding.specs.Chains.{ChainsKeepParts, ChainsAreLists, ChainsNameFirstKeys, AlternativesNameNoKey};
+ghost use Rattle.binding_model.specs.declared.error.BindErrorKind.{BindErrorKind};
+ghost use Rattle.binding_model.specs.declared.error.BindErrorKind.TheVariants.{Sql};
+ghost use Rattle.binding_model.specs.declared.error.BindError.{BindError};
+ghost use Rattle.binding_model.specs.declared.tables.Table.{Table};
+ghost use Rattle.binding_model.specs.Kinds.{has, IsLeast, statement_faults, declaration_faults};
+ghost use Rattle.binding_model.specs.Names.{Name};
+ghost use Rattle.binding_model.specs.Statements.{statement};
+ghost use Rattle.binding_model.specs.Tables.{create};
+ghost use Rattle.binding_model.specs.Chains.{ChainsKeepParts, ChainsAreLists, ChainsNameFirstKeys, AlternativesNameNoKey};
 
 /// What is told of a chain of AND or of OR, as whether a row meets it, follows from the list of its parts, and so does the key that it names.
 pub fn chains_are_lists()

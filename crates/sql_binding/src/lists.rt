@@ -1,9 +1,9 @@
 //! Lists of what is bound.
 
 ghost use Rattle.std.specs.Prelude.{◌++◌, ◌∷◌, [], Ok};
-ghost use Rattle.sql_binding.specs.Refusals.{Bind, Binds, ◌>>=◌ as and_then};
+ghost use Rattle.binding_model.specs.Refusals.{Bind, Binds, ◌>>=◌ as and_then};
 
-use crate::error::BindStop;
+use binding_model::BindStop;
 
 /// Adds what is bound next, if it is.
 pub(crate) fn push_bound<T: Drop>(

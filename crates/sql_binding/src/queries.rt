@@ -4,16 +4,15 @@ ghost use Rattle.std.specs.Prelude.{◌≡◌, ℕ, List};
 ghost use Rattle.sql_statements.specs.declared.statement.Bound.TheVariants as variants;
 ghost use Rattle.sql_statements.specs.declared.statement.SortKey.{SortKey as Sorted};
 ghost use Rattle.sql_grammar.specs.Views.{chain_of, option_by, view_selected, view_condition};
-ghost use Rattle.sql_binding.specs.Names.{list_of};
-ghost use Rattle.sql_binding.specs.Refusals.{Binds, each};
-ghost use Rattle.sql_binding.specs.Statements as spec;
+ghost use Rattle.binding_model.specs.Names.{list_of};
+ghost use Rattle.binding_model.specs.Refusals.{Binds, each};
+ghost use Rattle.binding_model.specs.Statements as spec;
 
 use crate::conditions::where_of;
-use crate::error::{BindErrorKind, BindStop, refused};
 use crate::inserts::{all_columns, columns};
 use crate::keys::key_of;
-use crate::tables::Table;
 use crate::types::{condition_mixes, output_mixes};
+use binding_model::{BindErrorKind, BindStop, Table, refused};
 use lock_modes::Value;
 use sql_grammar::{
     Aggregate as AggregateText, Chain, Direction, Select, Selected, SortKey as SortKeyText,

@@ -2,14 +2,13 @@
 
 ghost use Rattle.std.specs.Prelude.{◌≡◌};
 ghost use Rattle.sql_grammar.specs.Views.{view_form};
-ghost use Rattle.sql_binding.specs.Refusals.{Binds};
-ghost use Rattle.sql_binding.specs.Statements as spec;
+ghost use Rattle.binding_model.specs.Refusals.{Binds};
+ghost use Rattle.binding_model.specs.Statements as spec;
 
 use crate::changes::{delete, update};
-use crate::error::{BindErrorKind, BindStop, refused};
 use crate::inserts::insert;
 use crate::queries::select;
-use crate::tables::{Table, table_named};
+use binding_model::{BindErrorKind, BindStop, Table, refused, table_named};
 use lock_modes::Mode;
 use sql_grammar::{EndWord, Form, LockMode, SqlErrorKind, Strength};
 use sql_statements::Bound;

@@ -2,10 +2,10 @@
 
 ghost use Rattle.std.specs.Prelude.{◌≡◌};
 ghost use Rattle.std.specs.Option.{option_copied};
-ghost use Rattle.sql_binding.specs.Types as spec;
+ghost use Rattle.binding_model.specs.Types as spec;
 
 use crate::keys::single;
-use crate::tables::{ColumnType, Table};
+use binding_model::{ColumnType, Table};
 use lock_modes::Value;
 use sql_statements::{
     Aggregate, Assignment, Condition, Expression, Operand, Output, Product, SignedProduct,

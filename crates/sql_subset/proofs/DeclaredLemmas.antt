@@ -1,8 +1,8 @@
 -- One part after another is bound, with the tables that are declared so far.
 use Rattle.std.proofs.Common.{◌≡◌, refl, sym, ap, ◌∙◌, ℕ, suc, ◌+◌, ◌<◌, List, [], ◌∷◌, ◌++◌, length, map, get_or, drop, Ok, Err, drop-cons, add-one}
 use Rattle.std.proofs.Common.{append_assoc}
-use Rattle.sql_binding.specs.declared.tables.Table.{Table}
-use Rattle.sql_binding.specs.Refusals.{Bind, ◌>>=◌}
+use Rattle.binding_model.specs.declared.tables.Table.{Table}
+use Rattle.binding_model.specs.Refusals.{Bind, ◌>>=◌}
 use Rattle.bound_specs.specs.Binding.{then_more, declared}
 
 more_twice : {X : Type 0} (xs ys : List X) (r : Bind (List Table × List X)) → then_more xs (then_more ys r) ≡ then_more (xs ++ ys) r

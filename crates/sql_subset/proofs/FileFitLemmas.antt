@@ -10,19 +10,19 @@ use Rattle.sql_grammar.specs.Text.{StatementAt}
 use Rattle.sql_grammar.specs.declared.statement.TablePart.{TablePart}
 use Rattle.sql_statements.specs.declared.statement.Bound.{Bound}
 use Rattle.sql_statements.specs.declared.statement.Bound.TheVariants.{Select, Insert, Update, Delete, Begin, Commit, Rollback, Lock, SetVariable}
-use Rattle.sql_binding.specs.declared.error.BindErrorKind.{BindErrorKind}
-use Rattle.sql_binding.specs.declared.tables.Column.{Column}
-use Rattle.sql_binding.specs.declared.tables.Table.{Table}
+use Rattle.binding_model.specs.declared.error.BindErrorKind.{BindErrorKind}
+use Rattle.binding_model.specs.declared.tables.Column.{Column}
+use Rattle.binding_model.specs.declared.tables.Table.{Table}
 use Rattle.bound_specs.specs.Binding.{IsFileOf, read_block, statement_at, bind_block, session_setup, step, BoundSession, session, then_more, sent}
 use Rattle.bound_specs.specs.Binding.{main_statement, main_at, main_setup, offset_in, numbered, all_steps, made_file, shaped, bound_file}
 use Rattle.bound_specs.specs.Binding.{declared as declared_by}
 use Rattle.bound_specs.specs.Fits.{Takes, ColumnOf, RowFits, OfTable, Fits, SpecFits}
 use Rattle.bound_specs.specs.Lines.{orders_of}
-use Rattle.sql_binding.specs.Names.{Name, list_of}
-use Rattle.sql_binding.specs.Refusals.{Bind, ◌>>=◌, refuse, each}
+use Rattle.binding_model.specs.Names.{Name, list_of}
+use Rattle.binding_model.specs.Refusals.{Bind, ◌>>=◌, refuse, each}
 use Rattle.bound_specs.specs.Spec.{Step, Spec, SpecFile}
-use Rattle.sql_binding.specs.Statements.{sets_key, statement}
-use Rattle.sql_binding.specs.Tables.{no_table, key_column, create, create_with, refusal, joined, part_columns, part_keys, declared}
+use Rattle.binding_model.specs.Statements.{sets_key, statement}
+use Rattle.binding_model.specs.Tables.{no_table, key_column, create, create_with, refusal, joined, part_columns, part_keys, declared}
 use Rattle.sql_subset.proofs.FitLemmas.{then-both, each-bound, statement-fits}
 use Rattle.bound_specs.proofs.FileLemmas.{bind}
 use Rattle.sql_subset.proofs.SentLemmas.{IfBound, then-bound, bound-is}

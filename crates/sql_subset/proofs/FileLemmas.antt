@@ -18,12 +18,12 @@ use Rattle.spec_reader.specs.Tree.{StepTree, SessionTree, LineTree, SpecTree}
 use Rattle.sql_statements.specs.Plan.{HasKeys, IsShort}
 use Rattle.sql_statements.specs.declared.statement.Bound.{Bound}
 use Rattle.bound_specs.specs.declared.TheConstants.{MAX_LINED_STEPS}
-use Rattle.sql_binding.specs.declared.tables.Table.{Table}
+use Rattle.binding_model.specs.declared.tables.Table.{Table}
 use Rattle.bound_specs.specs.Spec.{Step, Spec, SpecFile, counts_of, steps_of, queues_from, queues_of, step_limit, IsLine, IsStep, IsReady, AllHaveKeys}
 use Rattle.bound_specs.specs.Spec.{AllAreShort}
 use Rattle.bound_specs.specs.Binding.{BoundSession, session, declared, main_setup, numbered, all_steps, made_file, shaped, bound_file, IsFileOf}
 use Rattle.bound_specs.specs.Lines.{counts_in, step_names, then_some, all_some, step_number, numbered_line, lines_by, orders_of}
-use Rattle.sql_binding.specs.Refusals.{Bind, ◌>>=◌, each}
+use Rattle.binding_model.specs.Refusals.{Bind, ◌>>=◌, each}
 use Rattle.bound_specs.specs.declared.orders.Orders.{Orders}
 use Rattle.bound_specs.specs.declared.orders.Orders.TheVariants.{Words, Lines}
 use Rattle.bound_specs.specs.declared.spec.Parts.{Parts}

@@ -30,28 +30,28 @@ use Rattle.sql_statements.specs.declared.statement.Bound.{Bound}
 use Rattle.sql_statements.specs.declared.statement.Bound.TheVariants.{Insert, Select, Update, Delete}
 use Rattle.sql_statements.specs.declared.statement.Output.{Output}
 use Rattle.sql_statements.specs.declared.statement.Output.TheVariants.{Columns, Aggregates}
-use Rattle.sql_binding.specs.declared.TheConstants.{MAX_TABLES}
-use Rattle.sql_binding.specs.declared.error.BindErrorKind.{BindErrorKind}
-use Rattle.sql_binding.specs.declared.error.BindErrorKind.TheVariants.{UnknownTable, UnknownColumn, TypeMismatch, KeyChanged, WrongCount}
-use Rattle.sql_binding.specs.declared.joining.Joint.{Joint}
-use Rattle.sql_binding.specs.declared.joining.Joint.TheVariants.{All as AllOf, Any}
-use Rattle.sql_binding.specs.declared.tables.ColumnType.{ColumnType}
-use Rattle.sql_binding.specs.declared.tables.ColumnType.TheVariants.{Number, Text}
-use Rattle.sql_binding.specs.declared.tables.Table.{Table}
+use Rattle.binding_model.specs.declared.TheConstants.{MAX_TABLES}
+use Rattle.binding_model.specs.declared.error.BindErrorKind.{BindErrorKind}
+use Rattle.binding_model.specs.declared.error.BindErrorKind.TheVariants.{UnknownTable, UnknownColumn, TypeMismatch, KeyChanged, WrongCount}
+use Rattle.binding_model.specs.declared.joint.Joint.{Joint}
+use Rattle.binding_model.specs.declared.joint.Joint.TheVariants.{All as AllOf, Any}
+use Rattle.binding_model.specs.declared.tables.ColumnType.{ColumnType}
+use Rattle.binding_model.specs.declared.tables.ColumnType.TheVariants.{Number, Text}
+use Rattle.binding_model.specs.declared.tables.Table.{Table}
 use Rattle.bound_specs.specs.Fits.{IsColumn, IsThere, ColumnOf, OperandIs, FactorsAre, ProductIs, TermsAre, ExpressionIs, EachComparison, ComparisonFits}
 use Rattle.bound_specs.specs.Fits.{ConditionFits}
 use Rattle.bound_specs.specs.Fits.{AggregateFits, OutputFits, SortKeyFits, AssignmentFits, RowFits, OfTable, Fits}
-use Rattle.sql_binding.specs.KeyParts.{key_of}
-use Rattle.sql_binding.specs.Names.{Name, head, tail, list_of, repeats}
-use Rattle.sql_binding.specs.Refusals.{Bind, ◌>>=◌, refuse, unless, with_front, each}
-use Rattle.sql_binding.specs.Statements.{numbers_from, places, at_places, rows_miscount, set_columns, sets_key, row_columns, row_values, insert}
-use Rattle.sql_binding.specs.Statements.{aggregate, output, sort_key, sort_keys, select, assignment, update, delete, end_of, statement}
-use Rattle.sql_binding.specs.Tables.{key_column, column_number, column, no_table, table_place, table_number, table, type_of, width}
-use Rattle.sql_binding.specs.Translation.{value, operand, product, signed, sum_head, sum_tail, expression}
-use Rattle.sql_binding.specs.Translation.{join, paired, first_or_always, joined_in, joined, alternatives, parts, atom, where_of}
-use Rattle.sql_binding.specs.Types.{differ, operand_type, is_text, any_text, product_has_text, any_has_text, expression_type, expression_mixes}
-use Rattle.sql_binding.specs.Types.{comparison_mixes, condition_mixes, assignment_mixes, aggregate_mixes, output_mixes, row_mixes}
-use Rattle.sql_binding.specs.Statements.{has_other_width}
+use Rattle.binding_model.specs.KeyParts.{key_of}
+use Rattle.binding_model.specs.Names.{Name, head, tail, list_of, repeats}
+use Rattle.binding_model.specs.Refusals.{Bind, ◌>>=◌, refuse, unless, with_front, each}
+use Rattle.binding_model.specs.Statements.{numbers_from, places, at_places, rows_miscount, set_columns, sets_key, row_columns, row_values, insert}
+use Rattle.binding_model.specs.Statements.{aggregate, output, sort_key, sort_keys, select, assignment, update, delete, end_of, statement}
+use Rattle.binding_model.specs.Tables.{key_column, column_number, column, no_table, table_place, table_number, table, type_of, width}
+use Rattle.binding_model.specs.Translation.{value, operand, product, signed, sum_head, sum_tail, expression}
+use Rattle.binding_model.specs.Translation.{join, paired, first_or_always, joined_in, joined, alternatives, parts, atom, where_of}
+use Rattle.binding_model.specs.Types.{differ, operand_type, is_text, any_text, product_has_text, any_has_text, expression_type, expression_mixes}
+use Rattle.binding_model.specs.Types.{comparison_mixes, condition_mixes, assignment_mixes, aggregate_mixes, output_mixes, row_mixes}
+use Rattle.binding_model.specs.Statements.{has_other_width}
 use Rattle.sql_subset.proofs.RowLemmas.{or_false, same_if, row-typed}
 use Rattle.sql_subset.proofs.SentLemmas.{IfBound, then-bound, bound-is, position-below, below-is, column-below, length-places}
 

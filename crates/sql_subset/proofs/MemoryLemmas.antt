@@ -21,22 +21,22 @@ use Rattle.sql_grammar.specs.declared.statement.SortKey.{SortKey as Sorted}
 use Rattle.sql_grammar.specs.declared.statement.TablePart.{TablePart}
 use Rattle.sql_statements.specs.declared.statement.Bound.{Bound}
 use Rattle.sql_statements.specs.declared.statement.Bound.TheVariants.{Insert, Select, Update, Delete}
-use Rattle.sql_binding.specs.declared.error.BindError.{BindError}
-use Rattle.sql_binding.specs.declared.error.BindErrorKind.{BindErrorKind}
-use Rattle.sql_binding.specs.declared.error.BindErrorKind.TheVariants.{Sql, UnknownTable, UnknownColumn, TypeMismatch, KeyChanged, DuplicateTable, WrongCount}
-use Rattle.sql_binding.specs.declared.joining.Joint.TheVariants.{All}
-use Rattle.sql_binding.specs.declared.tables.Table.{Table}
+use Rattle.binding_model.specs.declared.error.BindError.{BindError}
+use Rattle.binding_model.specs.declared.error.BindErrorKind.{BindErrorKind}
+use Rattle.binding_model.specs.declared.error.BindErrorKind.TheVariants.{Sql, UnknownTable, UnknownColumn, TypeMismatch, KeyChanged, DuplicateTable, WrongCount}
+use Rattle.binding_model.specs.declared.joint.Joint.TheVariants.{All}
+use Rattle.binding_model.specs.declared.tables.Table.{Table}
 use Rattle.bound_specs.specs.Binding.{offset_in, read_text, read_at, read_block, statement_at, bind_block, session_setup, step, session, then_more, declared}
 use Rattle.bound_specs.specs.Binding.{sent, main_statement, main_at, main_setup, shaped, bound_file}
 use Rattle.bound_specs.specs.Lines.{orders_of}
-use Rattle.sql_binding.specs.Names.{Name, head, tail, list_of, repeats}
-use Rattle.sql_binding.specs.Refusals.{Bind, ◌>>=◌, refuse, unless, with_front, each, IsNamed}
-use Rattle.sql_binding.specs.Statements.{places, at_places, rows_miscount, set_columns, sets_key, row_columns, row_values, insert, aggregate, output, sort_key}
-use Rattle.sql_binding.specs.Statements.{sort_keys, select, assignment, update, delete, statement}
-use Rattle.sql_binding.specs.Tables.{create, key_column, column_number, column, no_table, table_number, table}
-use Rattle.sql_binding.specs.Translation.{value, operand, product, signed, sum_head, sum_tail, expression, joined, alternatives, parts, atom, where_of}
-use Rattle.sql_binding.specs.Types.{condition_mixes, assignment_mixes, output_mixes, row_mixes}
-use Rattle.sql_binding.specs.KeyParts.{key_of}
+use Rattle.binding_model.specs.Names.{Name, head, tail, list_of, repeats}
+use Rattle.binding_model.specs.Refusals.{Bind, ◌>>=◌, refuse, unless, with_front, each, IsNamed}
+use Rattle.binding_model.specs.Statements.{places, at_places, rows_miscount, set_columns, sets_key, row_columns, row_values, insert, aggregate, output, sort_key}
+use Rattle.binding_model.specs.Statements.{sort_keys, select, assignment, update, delete, statement}
+use Rattle.binding_model.specs.Tables.{create, key_column, column_number, column, no_table, table_number, table}
+use Rattle.binding_model.specs.Translation.{value, operand, product, signed, sum_head, sum_tail, expression, joined, alternatives, parts, atom, where_of}
+use Rattle.binding_model.specs.Types.{condition_mixes, assignment_mixes, output_mixes, row_mixes}
+use Rattle.binding_model.specs.KeyParts.{key_of}
 use Rattle.sql_subset.proofs.ReadLemmas.{refused-is, fault-not}
 
 -- what is refused is refused by a kind that is no want of memory

@@ -10,13 +10,13 @@ use Rattle.std.proofs.lemmas.List.Folds.{list_any-append}
 use Rattle.std.proofs.lemmas.Map.Steps.{length-le_from_distinct_below}
 use Rattle.lock_modes.specs.declared.value.Value.{Value}
 use Rattle.lock_modes.specs.declared.value.Value.TheVariants.{Int}
-use Rattle.sql_binding.specs.declared.tables.ColumnType.{ColumnType}
-use Rattle.sql_binding.specs.declared.tables.ColumnType.TheVariants.{Number, Text}
-use Rattle.sql_binding.specs.declared.tables.Table.{Table}
-use Rattle.sql_binding.specs.Names.{repeats}
-use Rattle.sql_binding.specs.Statements.{numbers_from, stands_at, place_of, places, value_at, at_places}
-use Rattle.sql_binding.specs.Tables.{type_of, width}
-use Rattle.sql_binding.specs.Types.{differ, value_type, row_mixes}
+use Rattle.binding_model.specs.declared.tables.ColumnType.{ColumnType}
+use Rattle.binding_model.specs.declared.tables.ColumnType.TheVariants.{Number, Text}
+use Rattle.binding_model.specs.declared.tables.Table.{Table}
+use Rattle.binding_model.specs.Names.{repeats}
+use Rattle.binding_model.specs.Statements.{numbers_from, stands_at, place_of, places, value_at, at_places}
+use Rattle.binding_model.specs.Tables.{type_of, width}
+use Rattle.binding_model.specs.Types.{differ, value_type, row_mixes}
 use Rattle.sql_subset.proofs.SentLemmas.{length-numbers}
 
 pub or_false : (a b : Bool) → (a || b) ≡ false → (a ≡ false) × (b ≡ false)

@@ -17,23 +17,23 @@ use Rattle.sql_grammar.specs.Tree.{Chain, Last, More, count, HasFewRows}
 use Rattle.sql_grammar.specs.declared.expression.Literal.{Literal}
 use Rattle.sql_grammar.specs.declared.statement.EndWord.{EndWord}
 use Rattle.sql_grammar.specs.declared.statement.EndWord.TheVariants as word
-use Rattle.sql_binding.specs.declared.TheConstants.{MAX_COLUMNS}
+use Rattle.binding_model.specs.declared.TheConstants.{MAX_COLUMNS}
 use Rattle.sql_statements.specs.Plan.{row_plan, key_lock, HasKeys, IsShort}
 use Rattle.sql_statements.specs.declared.statement.Bound.{Bound}
 use Rattle.sql_statements.specs.declared.statement.Bound.TheVariants.{Insert, Select, Update, Delete}
-use Rattle.sql_binding.specs.declared.error.BindErrorKind.{BindErrorKind}
-use Rattle.sql_binding.specs.declared.error.BindErrorKind.TheVariants.{TypeMismatch, KeyChanged, WrongCount}
-use Rattle.sql_binding.specs.Types.{row_mixes, assignment_mixes, condition_mixes, output_mixes}
-use Rattle.sql_binding.specs.declared.tables.Table.{Table}
+use Rattle.binding_model.specs.declared.error.BindErrorKind.{BindErrorKind}
+use Rattle.binding_model.specs.declared.error.BindErrorKind.TheVariants.{TypeMismatch, KeyChanged, WrongCount}
+use Rattle.binding_model.specs.Types.{row_mixes, assignment_mixes, condition_mixes, output_mixes}
+use Rattle.binding_model.specs.declared.tables.Table.{Table}
 use Rattle.bound_specs.specs.Binding.{read_block, statement_at, bind_block, session_setup, step, BoundSession, session, then_more, declared, sent}
 use Rattle.bound_specs.specs.Binding.{main_statement, main_at, main_setup, offset_in}
-use Rattle.sql_binding.specs.Refusals.{Bind, ◌>>=◌, unless, with_front, each}
-use Rattle.sql_binding.specs.Statements.{numbers_from, places, at_places, rows_miscount, set_columns, sets_key, row_columns, row_values, insert, output}
-use Rattle.sql_binding.specs.Statements.{sort_keys, select, assignment, update, delete, end_of, statement}
-use Rattle.sql_binding.specs.Translation.{where_of}
-use Rattle.sql_binding.specs.KeyParts.{key_of}
-use Rattle.sql_binding.specs.Names.{list_of, repeats}
-use Rattle.sql_binding.specs.Tables.{below, key_column, column_number, column_place, width, table, create}
+use Rattle.binding_model.specs.Refusals.{Bind, ◌>>=◌, unless, with_front, each}
+use Rattle.binding_model.specs.Statements.{numbers_from, places, at_places, rows_miscount, set_columns, sets_key, row_columns, row_values, insert, output}
+use Rattle.binding_model.specs.Statements.{sort_keys, select, assignment, update, delete, end_of, statement}
+use Rattle.binding_model.specs.Translation.{where_of}
+use Rattle.binding_model.specs.KeyParts.{key_of}
+use Rattle.binding_model.specs.Names.{list_of, repeats}
+use Rattle.binding_model.specs.Tables.{below, key_column, column_number, column_place, width, table, create}
 use Rattle.bound_specs.proofs.FileLemmas.{bind, front_ok, each-length}
 use Rattle.sql_subset.proofs.ReadLemmas.{read-few}
 

@@ -10,17 +10,17 @@ ghost use Rattle.bound_specs.specs.Orders.{lines_of};
 ghost use Rattle.sql_subset.specs.Bindings.{bound_session, FitsCounts};
 ghost use Rattle.bound_specs.specs.Lines.{all_some, numbered_line, counts_in, step_names, session_names, lines_by, orders_of};
 ghost use Rattle.bound_specs.specs.Binding.{numbered, all_steps, shaped, bound_file};
-ghost use Rattle.sql_binding.specs.Refusals.{Binds};
+ghost use Rattle.binding_model.specs.Refusals.{Binds};
 
 use crate::blocks::{BoundSession, sessions, setups};
 use crate::shapes::{lines, shape, total_steps};
+use binding_model::{BindError, BindErrorKind, BindStop, refused};
 use bound_specs::{Block, Line, MAX_LINED_STEPS, Orders, Parts, Spec, Step};
 use lock_modes::Text;
 use perm_ranks::{MAX_SESSIONS, MAX_STEPS};
 use spec_reader::{
     Line as LineText, MAX_LINES, Session as SessionText, SpecText, Step as StepText,
 };
-use sql_binding::{BindError, BindErrorKind, BindStop, refused};
 use std::alloc::{AllocError, Global};
 
 fn push_names(alloc: Global, steps: &[StepText], names: &mut Vec<Text>) -> Result<(), AllocError>

@@ -6,11 +6,12 @@ ghost use Rattle.sql_grammar.specs.Text.{seen};
 ghost use Rattle.sql_grammar.specs.Views.{view_form};
 ghost use Rattle.bound_specs.specs.Binding.{offset_in, read_block, statement_at, bind_block, session_setup, step, session, main_statement, main_at, main_setup, then_more, declared};
 ghost use Rattle.sql_subset.specs.Bindings.{bound_session};
-ghost use Rattle.sql_binding.specs.Refusals.{Binds, each};
+ghost use Rattle.binding_model.specs.Refusals.{Binds, each};
 
+use binding_model::{BindErrorKind, BindStop, Table, refused};
 use bound_specs::Block;
 use spec_reader::{Block as BlockText, Session as SessionText, Step as StepText};
-use sql_binding::{BindErrorKind, BindStop, Table, create, refused, statement};
+use sql_binding::{create, statement};
 use sql_grammar::{Form, SqlErrorKind, Statement};
 use sql_reader::read_sql;
 use sql_statements::Bound;

@@ -8,11 +8,11 @@ ghost use Rattle.sql_grammar.specs.declared.error.SqlErrorKind.TheVariants.{NoMe
 ghost use Rattle.spec_reader.specs.Tree.{SpecTree};
 ghost use Rattle.sql_grammar.specs.Tree.{Statement};
 ghost use Rattle.sql_statements.specs.declared.statement.Bound.{Bound};
-ghost use Rattle.sql_binding.specs.declared.tables.Table.{Table};
+ghost use Rattle.binding_model.specs.declared.tables.Table.{Table};
 ghost use Rattle.bound_specs.specs.Fits.{Fits, SpecFits};
-ghost use Rattle.sql_binding.specs.Statements.{statement};
-ghost use Rattle.sql_binding.specs.declared.error.BindError.{BindError};
-ghost use Rattle.sql_binding.specs.Refusals.{IsNamed};
+ghost use Rattle.binding_model.specs.Statements.{statement};
+ghost use Rattle.binding_model.specs.declared.error.BindError.{BindError};
+ghost use Rattle.binding_model.specs.Refusals.{IsNamed};
 ghost use Rattle.bound_specs.specs.Spec.{SpecFile};
 ghost use Rattle.bound_specs.specs.Binding.{IsFileOf, read_text, bound_file, declared, main_setup};
 

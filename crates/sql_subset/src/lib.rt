@@ -9,10 +9,10 @@ mod shapes;
 pub mod written;
 
 pub use binding::bind;
+pub use binding_model::{BindError, BindErrorKind, Column, ColumnType, Table};
 pub use laws::{
     blocks_are_spelled, bound_files_fit, bound_statements_fit, one_file, refusals_are_named,
 };
-pub use sql_binding::{BindError, BindErrorKind, Column, ColumnType, Table};
 pub use sql_grammar::{SqlError, SqlErrorKind};
 pub use sql_reader::read_sql;
 pub use sql_statements::{Bound, lock_plan};

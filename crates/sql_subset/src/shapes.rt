@@ -9,11 +9,11 @@ ghost use Rattle.bound_specs.specs.declared.TheConstants.{MAX_LINED_STEPS};
 ghost use Rattle.bound_specs.specs.Lines.{counts_in, all_some, numbered_line};
 
 use arrayvec::ArrayVec;
+use binding_model::position;
 use bound_specs::Line;
 use lock_modes::Text;
 use perm_ranks::{MAX_SESSIONS, Shape};
 use spec_reader::{Item as ItemText, Line as LineText, MAX_ITEMS, Session as SessionText};
-use sql_binding::position;
 use std::alloc::{AllocError, Global};
 
 /// How many steps the sessions have, if they are at most so many.

@@ -3,7 +3,7 @@
 ghost use Rattle.std.specs.Prelude.{◌≡◌, ◌≢◌, ◌==◌, ◌⊎◌, option_map};
 ghost use Rattle.serde_json.specs.View.{view, items_view};
 ghost use Rattle.spec_reader.specs.declared.error.Kind.TheVariants as spec_kind;
-ghost use Rattle.sql_binding.specs.declared.error.BindErrorKind.TheVariants as bind_kind;
+ghost use Rattle.binding_model.specs.declared.error.BindErrorKind.TheVariants as bind_kind;
 ghost use Rattle.book_files.specs.declared.error.BookError.TheVariants as book_error;
 ghost use Rattle.book_files.specs.Reading.{Given, Gives, Meets};
 ghost use Rattle.book_files.specs.ReadingBooks.{IsBoundTo, IsSpecText, format_in, items_at, members_in, text_at, version_with};

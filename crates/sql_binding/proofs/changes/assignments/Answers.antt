@@ -2,8 +2,8 @@ use Rattle.std.proofs.Common.{ap, sym, ◌∙◌, get_or, length, arith}
 use Rattle.sql_grammar.specs.Views.{view_assignment}
 use Rattle.sql_statements.specs.declared.statement.Assignment.{Assignment}
 use Rattle.sql_grammar.specs.declared.statement.Assignment.{Assignment as Written}
-use Rattle.sql_binding.specs.Refusals.{Bind}
-use Rattle.sql_binding.specs.Statements.{assignment}
+use Rattle.binding_model.specs.Refusals.{Bind}
+use Rattle.binding_model.specs.Statements.{assignment}
 use Rattle.sql_binding.proofs.EachLemmas.{each-goes_on}
 use Rattle.sql_binding.proofs.changes.assignments.Goals as goal
 

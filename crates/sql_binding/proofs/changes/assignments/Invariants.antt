@@ -1,7 +1,7 @@
 use Rattle.std.proofs.Common.{◌≡◌, ◌∷◌, drop}
 use Rattle.sql_grammar.specs.Views.{view_assignment}
-use Rattle.sql_binding.specs.Refusals.{with_front, each}
-use Rattle.sql_binding.specs.Statements.{assignment}
+use Rattle.binding_model.specs.Refusals.{with_front, each}
+use Rattle.binding_model.specs.Statements.{assignment}
 use Rattle.sql_binding.proofs.changes.assignments.Given as goal
 
 abbrev pub invariant-loop-text : goal.invariant-loop-text

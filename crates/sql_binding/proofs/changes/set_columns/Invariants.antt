@@ -1,5 +1,5 @@
 use Rattle.std.proofs.Common.{◌≡◌, take}
-use Rattle.sql_binding.specs.Statements.{set_columns}
+use Rattle.binding_model.specs.Statements.{set_columns}
 use Rattle.sql_binding.proofs.changes.set_columns.Given as goal
 
 abbrev pub invariant-loop-set : goal.invariant-loop-set

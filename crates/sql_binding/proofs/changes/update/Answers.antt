@@ -1,5 +1,5 @@
 use Rattle.std.proofs.Common.{◌∙◌, rules}
-use Rattle.sql_binding.specs.Statements.{update_rows}
+use Rattle.binding_model.specs.Statements.{update_rows}
 use Rattle.sql_binding.proofs.ChainLemmas.{assignments-listed, then-both}
 use Rattle.sql_binding.proofs.changes.update.Goals as goal
 

@@ -3,10 +3,10 @@ use Rattle.std.proofs.lemmas.Result.{err_from_is_err_and}
 use Rattle.sql_grammar.specs.Tree as tree
 use Rattle.sql_grammar.specs.declared.expression.Condition.{out-Condition}
 use Rattle.sql_statements.specs.declared.condition.Condition.{Condition}
-use Rattle.sql_binding.specs.Refusals.{Bind, ◌>>=◌, each}
+use Rattle.binding_model.specs.Refusals.{Bind, ◌>>=◌, each}
 use Rattle.sql_grammar.specs.Views.{view_atom, view_part}
-use Rattle.sql_binding.specs.Translation.{atom, part, joined}
-use Rattle.sql_binding.specs.declared.joining.Joint.TheVariants.{All, Any}
+use Rattle.binding_model.specs.Translation.{atom, part, joined}
+use Rattle.binding_model.specs.declared.joint.Joint.TheVariants.{All, Any}
 use Rattle.sql_binding.proofs.ConditionLemmas.{parts-viewed, alternatives-viewed}
 use Rattle.sql_binding.proofs.EachLemmas.{each-bound, each-refused, first-bound, first-refused, still-refused}
 use Rattle.sql_binding.proofs.conditions.+condition.Goals as goal

@@ -1,8 +1,8 @@
 use Rattle.std.proofs.Common.{◌≡◌, drop}
 use Rattle.sql_grammar.specs.declared.expression.Condition.{out-Condition}
 use Rattle.sql_grammar.specs.Views.{view_atom, view_part, view_condition}
-use Rattle.sql_binding.specs.Refusals.{with_front, each}
-use Rattle.sql_binding.specs.Translation.{atom, part, parts, alternatives}
+use Rattle.binding_model.specs.Refusals.{with_front, each}
+use Rattle.binding_model.specs.Translation.{atom, part, parts, alternatives}
 use Rattle.sql_binding.proofs.conditions.+condition.Given as goal
 
 abbrev pub invariant-part-ands : goal.invariant-part-ands

@@ -1,5 +1,5 @@
 use Rattle.std.proofs.Common.{◌≡◌, [], take, drop}
-use Rattle.sql_binding.specs.Tables.{repeated}
+use Rattle.binding_model.specs.Tables.{repeated}
 use Rattle.sql_binding.proofs.declaring.has_repeated.Given as goal
 
 abbrev pub invariant-loop-n : goal.invariant-loop-n

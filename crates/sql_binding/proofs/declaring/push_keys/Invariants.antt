@@ -1,5 +1,5 @@
 use Rattle.std.proofs.Common.{◌≡◌, ◌++◌, drop}
-use Rattle.sql_binding.specs.Tables.{keys_of}
+use Rattle.binding_model.specs.Tables.{keys_of}
 use Rattle.sql_binding.proofs.declaring.push_keys.Given as goal
 
 abbrev pub invariant-loop-property : goal.invariant-loop-property

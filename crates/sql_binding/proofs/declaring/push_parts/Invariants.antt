@@ -1,5 +1,5 @@
 use Rattle.std.proofs.Common.{◌≡◌, ◌++◌, drop}
-use Rattle.sql_binding.specs.Tables.{joined, part_columns, part_keys}
+use Rattle.binding_model.specs.Tables.{joined, part_columns, part_keys}
 use Rattle.sql_binding.proofs.declaring.push_parts.Given as goal
 
 abbrev pub invariant-loop-part : goal.invariant-loop-part

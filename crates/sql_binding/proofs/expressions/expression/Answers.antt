@@ -1,7 +1,7 @@
 use Rattle.std.proofs.Common.{ap, sym, ◌∙◌, Ok, rules}
 use Rattle.sql_grammar.specs.Views.{chain_of}
-use Rattle.sql_binding.specs.Translation.{product, signed}
-use Rattle.sql_binding.specs.Refusals.{each}
+use Rattle.binding_model.specs.Translation.{product, signed}
+use Rattle.binding_model.specs.Refusals.{each}
 use Rattle.sql_binding.proofs.ChainLemmas.{each-summed, sum_head-summed, bound-both}
 use Rattle.sql_binding.proofs.expressions.expression.Goals as goal
 

@@ -1,6 +1,6 @@
 use Rattle.std.proofs.Common.{◌≡◌, drop}
-use Rattle.sql_binding.specs.Refusals.{with_front, each}
-use Rattle.sql_binding.specs.Translation.{operand}
+use Rattle.binding_model.specs.Refusals.{with_front, each}
+use Rattle.binding_model.specs.Translation.{operand}
 use Rattle.sql_binding.proofs.expressions.operands.Given as goal
 
 abbrev pub invariant-loop-factor : goal.invariant-loop-factor

@@ -1,7 +1,7 @@
 use Rattle.std.proofs.Common.{◌≡◌, drop}
 use Rattle.sql_grammar.specs.Views.{chain_of}
-use Rattle.sql_binding.specs.Refusals.{with_front, each}
-use Rattle.sql_binding.specs.Translation.{signed}
+use Rattle.binding_model.specs.Refusals.{with_front, each}
+use Rattle.binding_model.specs.Translation.{signed}
 use Rattle.sql_binding.proofs.expressions.signed_terms.Given as goal
 
 abbrev pub invariant-loop-term : goal.invariant-loop-term

@@ -1,5 +1,5 @@
 use Rattle.std.proofs.Common.{arith}
-use Rattle.sql_binding.proofs.OptionLemmas.{numbers-next}
+use Rattle.binding_model.proofs.OptionLemmas.{numbers-next}
 use Rattle.sql_binding.proofs.inserts.all_columns.Goals as goal
 
 pub loop-number-preserved : goal.loop-number-preserved

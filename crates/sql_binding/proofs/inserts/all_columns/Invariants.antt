@@ -1,6 +1,6 @@
 use Rattle.std.proofs.Common.{◌≡◌, ◌++◌, ◌-◌}
-use Rattle.sql_binding.specs.Statements.{numbers_from}
-use Rattle.sql_binding.specs.Tables.{width}
+use Rattle.binding_model.specs.Statements.{numbers_from}
+use Rattle.binding_model.specs.Tables.{width}
 use Rattle.sql_binding.proofs.inserts.all_columns.Given as goal
 
 abbrev pub invariant-loop-number : goal.invariant-loop-number

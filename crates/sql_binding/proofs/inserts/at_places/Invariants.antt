@@ -1,5 +1,5 @@
 use Rattle.std.proofs.Common.{◌≡◌, take, map}
-use Rattle.sql_binding.specs.Statements.{value_at}
+use Rattle.binding_model.specs.Statements.{value_at}
 use Rattle.sql_binding.proofs.inserts.at_places.Given as goal
 
 abbrev pub invariant-loop-place : goal.invariant-loop-place

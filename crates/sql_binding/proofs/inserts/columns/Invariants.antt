@@ -1,8 +1,8 @@
 use Rattle.std.proofs.Common.{◌≡◌, drop}
 use Rattle.sql_grammar.specs.Views.{chain_of}
-use Rattle.sql_binding.specs.Names.{list_of}
-use Rattle.sql_binding.specs.Refusals.{with_front, each}
-use Rattle.sql_binding.specs.Tables.{column}
+use Rattle.binding_model.specs.Names.{list_of}
+use Rattle.binding_model.specs.Refusals.{with_front, each}
+use Rattle.binding_model.specs.Tables.{column}
 use Rattle.sql_binding.proofs.inserts.columns.Given as goal
 
 abbrev pub invariant-loop-name : goal.invariant-loop-name

@@ -1,6 +1,6 @@
 use Rattle.std.proofs.Common.{◌∙◌, rules}
 use Rattle.sql_grammar.specs.Views.{chain_of}
-use Rattle.sql_binding.specs.Statements.{row_values, insert_rows}
+use Rattle.binding_model.specs.Statements.{row_values, insert_rows}
 use Rattle.sql_binding.proofs.ChainLemmas.{each-listed, then-both}
 use Rattle.sql_binding.proofs.inserts.insert.Goals as goal
 

@@ -1,5 +1,5 @@
 use Rattle.std.proofs.Common.{◌≡◌, map}
-use Rattle.sql_binding.specs.Statements.{place_of}
+use Rattle.binding_model.specs.Statements.{place_of}
 use Rattle.sql_binding.proofs.inserts.places.Given as goal
 
 abbrev pub invariant-loop-column : goal.invariant-loop-column

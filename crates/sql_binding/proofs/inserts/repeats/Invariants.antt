@@ -1,5 +1,5 @@
 use Rattle.std.proofs.Common.{◌≡◌, [], take, drop}
-use Rattle.sql_binding.specs.Names.{repeats}
+use Rattle.binding_model.specs.Names.{repeats}
 use Rattle.sql_binding.proofs.inserts.repeats.Given as goal
 
 abbrev pub invariant-loop-n : goal.invariant-loop-n

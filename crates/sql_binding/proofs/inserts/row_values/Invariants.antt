@@ -1,8 +1,8 @@
 use Rattle.std.proofs.Common.{◌≡◌, drop}
 use Rattle.sql_grammar.specs.Views.{chain_of}
-use Rattle.sql_binding.specs.Names.{list_of}
-use Rattle.sql_binding.specs.Refusals.{with_front, each}
-use Rattle.sql_binding.specs.Translation.{value}
+use Rattle.binding_model.specs.Names.{list_of}
+use Rattle.binding_model.specs.Refusals.{with_front, each}
+use Rattle.binding_model.specs.Translation.{value}
 use Rattle.sql_binding.proofs.inserts.row_values.Given as goal
 
 abbrev pub invariant-loop-literal : goal.invariant-loop-literal

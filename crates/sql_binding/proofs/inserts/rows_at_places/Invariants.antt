@@ -1,5 +1,5 @@
 use Rattle.std.proofs.Common.{◌≡◌, take, map}
-use Rattle.sql_binding.specs.Statements.{at_places}
+use Rattle.binding_model.specs.Statements.{at_places}
 use Rattle.sql_binding.proofs.inserts.rows_at_places.Given as goal
 
 abbrev pub invariant-loop-row : goal.invariant-loop-row

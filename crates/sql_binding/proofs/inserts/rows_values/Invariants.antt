@@ -1,7 +1,7 @@
 use Rattle.std.proofs.Common.{◌≡◌, ◌∷◌, drop}
 use Rattle.sql_grammar.specs.Views.{chain_of}
-use Rattle.sql_binding.specs.Refusals.{with_front, each}
-use Rattle.sql_binding.specs.Statements.{row_values}
+use Rattle.binding_model.specs.Refusals.{with_front, each}
+use Rattle.binding_model.specs.Statements.{row_values}
 use Rattle.sql_binding.proofs.inserts.rows_values.Given as goal
 
 abbrev pub invariant-loop-row : goal.invariant-loop-row

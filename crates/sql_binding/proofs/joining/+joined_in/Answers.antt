@@ -1,5 +1,5 @@
 use Rattle.std.proofs.Common.{ap, ◌∙◌, ◌-◌, arith}
-use Rattle.sql_binding.specs.Translation.{joined_in}
+use Rattle.binding_model.specs.Translation.{joined_in}
 use Rattle.sql_binding.proofs.JoinLemmas.{joined-many}
 use Rattle.sql_binding.proofs.joining.+joined_in.Goals as goal
 

@@ -1,7 +1,7 @@
 use Rattle.std.proofs.Common.{◌≡◌, ap, sym, ◌∙◌, [], rules}
 use Rattle.std.proofs.lemmas.Iterator.Adapters.{YieldsList-from_vec}
 use Rattle.std.proofs.lemmas.Iterator.Consumers.{YieldsList-end}
-use Rattle.sql_binding.specs.Translation.{paired}
+use Rattle.binding_model.specs.Translation.{paired}
 use Rattle.sql_binding.proofs.ChainLemmas.{map-same}
 use Rattle.sql_binding.proofs.JoinLemmas.{last-waits}
 use Rattle.sql_binding.proofs.joining.paired.Goals as goal

@@ -1,7 +1,7 @@
 use Rattle.std.proofs.Common.{◌≡◌, ◌++◌, List}
 use Rattle.sql_statements.specs.declared.condition.Condition.{Condition}
-use Rattle.sql_binding.specs.Names.{maybe}
-use Rattle.sql_binding.specs.Translation.{paired}
+use Rattle.binding_model.specs.Names.{maybe}
+use Rattle.binding_model.specs.Translation.{paired}
 use Rattle.sql_binding.proofs.joining.paired.Given as goal
 
 abbrev pub invariant-loop-part : goal.invariant-loop-part

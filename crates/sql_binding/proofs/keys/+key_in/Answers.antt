@@ -1,7 +1,7 @@
 use Rattle.std.proofs.Common.{◌≡◌, ap, sym, ◌∙◌, None}
 use Rattle.std.specs.Option.{option_copied}
 use Rattle.sql_statements.proofs.ConditionLemmas.{told-and}
-use Rattle.sql_binding.specs.KeyParts.{or_next, level_key, key_in}
+use Rattle.binding_model.specs.KeyParts.{or_next, level_key, key_in}
 use Rattle.sql_binding.proofs.keys.+key_in.Goals as goal
 
 -- the first part names no key, so the second decides

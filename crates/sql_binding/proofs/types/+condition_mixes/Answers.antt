@@ -1,7 +1,7 @@
 use Rattle.std.proofs.Common.{◌≡◌, ap, sym, ◌∙◌, false, inl, inr}
 use Rattle.std.specs.Prelude.{◌||◌}
 use Rattle.sql_statements.proofs.ConditionLemmas.{told-and, told-or}
-use Rattle.sql_binding.specs.Types.{level_mixes, condition_mixes}
+use Rattle.binding_model.specs.Types.{level_mixes, condition_mixes}
 use Rattle.sql_binding.proofs.types.+condition_mixes.Goals as goal
 
 -- the first part does not mix them, so the second decides

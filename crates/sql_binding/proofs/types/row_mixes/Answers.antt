@@ -1,6 +1,6 @@
 use Rattle.std.proofs.Common.{sym, length}
 use Rattle.std.proofs.lemmas.Bool.{ltb-false}
-use Rattle.sql_binding.proofs.OptionLemmas.{row_mixes-past}
+use Rattle.binding_model.proofs.OptionLemmas.{row_mixes-past}
 use Rattle.sql_binding.proofs.types.row_mixes.Goals as goal
 
 pub returns-in-None : goal.returns-in-None

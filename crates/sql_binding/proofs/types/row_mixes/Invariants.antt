@@ -1,5 +1,5 @@
 use Rattle.std.proofs.Common.{◌≡◌, drop}
-use Rattle.sql_binding.specs.Types.{row_mixes}
+use Rattle.binding_model.specs.Types.{row_mixes}
 use Rattle.sql_binding.proofs.types.row_mixes.Given as goal
 
 abbrev pub invariant-loop-n : goal.invariant-loop-n

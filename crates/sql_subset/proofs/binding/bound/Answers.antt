@@ -7,7 +7,7 @@ use Rattle.sql_subset.specs.Bindings.{bound_session}
 use Rattle.bound_specs.specs.Orders.{lines_of}
 use Rattle.bound_specs.specs.Binding.{session, declared, main_setup}
 use Rattle.bound_specs.specs.Lines.{session_names, step_names}
-use Rattle.sql_binding.specs.Refusals.{each}
+use Rattle.binding_model.specs.Refusals.{each}
 use Rattle.sql_subset.proofs.FileLemmas.{few-sessions, kept}
 use Rattle.sql_subset.proofs.binding.bound.Goals as goal
 use Rattle.sql_subset.proofs.binding.bound.Goals.{In_ok-bound}

@@ -1,5 +1,5 @@
 use Rattle.std.proofs.Common.{ap, sym, ◌∙◌, Err}
-use Rattle.sql_binding.specs.declared.error.BindErrorKind.TheVariants.{Sql}
+use Rattle.binding_model.specs.declared.error.BindErrorKind.TheVariants.{Sql}
 use Rattle.bound_specs.specs.Binding.{read_at, read_text}
 use Rattle.sql_subset.proofs.ReadLemmas.{read-is, read-refused}
 use Rattle.sql_subset.proofs.blocks.read_block.Goals as goal

@@ -1,6 +1,6 @@
 use Rattle.std.proofs.Common.{◌≡◌, drop, map}
 use Rattle.spec_reader.specs.Views.{session_tree}
-use Rattle.sql_binding.specs.Refusals.{with_front, each}
+use Rattle.binding_model.specs.Refusals.{with_front, each}
 use Rattle.bound_specs.specs.Binding.{session}
 use Rattle.sql_subset.specs.Bindings.{bound_session}
 use Rattle.sql_subset.proofs.blocks.sessions.Given as goal

@@ -1,7 +1,7 @@
 use Rattle.std.proofs.Common.{◌≡◌, drop}
 use Rattle.sql_grammar.specs.Text.{seen}
 use Rattle.sql_grammar.specs.Views.{view_form}
-use Rattle.sql_binding.specs.Refusals.{with_front, each}
+use Rattle.binding_model.specs.Refusals.{with_front, each}
 use Rattle.bound_specs.specs.Binding.{statement_at}
 use Rattle.sql_subset.proofs.blocks.statements.Given as goal
 

@@ -1,6 +1,6 @@
 use Rattle.std.proofs.Common.{◌≡◌, drop, map}
 use Rattle.spec_reader.specs.Views.{step_tree}
-use Rattle.sql_binding.specs.Refusals.{with_front, each}
+use Rattle.binding_model.specs.Refusals.{with_front, each}
 use Rattle.bound_specs.specs.Binding.{step}
 use Rattle.sql_subset.proofs.blocks.steps.Given as goal
 

@@ -1,6 +1,6 @@
 use Rattle.std.proofs.Common.{◌≡◌, sym, ap, ◌∙◌, ◌∷◌, [], Some, arith, length-append}
 use Rattle.spec_reader.specs.Views.{item_tree}
-use Rattle.sql_binding.specs.Names.{place_in}
+use Rattle.binding_model.specs.Names.{place_in}
 use Rattle.bound_specs.specs.Lines.{step_number}
 use Rattle.sql_subset.proofs.ShapeLemmas.{some-starts, some-goes_on}
 use Rattle.sql_subset.proofs.shapes.line.Goals as goal

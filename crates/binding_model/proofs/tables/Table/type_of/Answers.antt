@@ -1,7 +1,7 @@
 use Rattle.std.proofs.Common.{◌≡◌, ap, sym, slice_get, None, rules}
-use Rattle.sql_binding.specs.Tables.{no_column}
-use Rattle.sql_binding.proofs.OptionLemmas.{get_or-none}
-use Rattle.sql_binding.proofs.tables.Table.type_of.Goals as goal
+use Rattle.binding_model.specs.Tables.{no_column}
+use Rattle.binding_model.proofs.OptionLemmas.{get_or-none}
+use Rattle.binding_model.proofs.tables.Table.type_of.Goals as goal
 
 pub returns-in-None : goal.returns-in-None
 returns-in-None c = ap (λ column. column.kind)

@@ -13,17 +13,17 @@ use Rattle.sql_grammar.specs.declared.statement.Aggregate.{Aggregate}
 use Rattle.sql_grammar.specs.declared.statement.Aggregate.TheVariants.{Count, Total}
 use Rattle.sql_grammar.specs.declared.statement.SortKey.{SortKey}
 use Rattle.sql_grammar.specs.declared.statement.TablePart.{TablePart}
-use Rattle.sql_binding.specs.declared.TheConstants.{MAX_COLUMNS, MAX_TABLES}
-use Rattle.sql_binding.specs.declared.error.BindErrorKind.{BindErrorKind}
-use Rattle.sql_binding.specs.declared.error.BindErrorKind.TheVariants.{Sql, UnknownTable, UnknownColumn, TypeMismatch, KeyChanged, DuplicateTable, WrongCount}
-use Rattle.sql_binding.specs.declared.error.BindErrorKind.TheVariants.{Shape, NoMemory}
-use Rattle.sql_binding.specs.declared.tables.Table.{Table}
-use Rattle.sql_binding.specs.Names.{Name, list_of, head, tail, repeats}
-use Rattle.sql_binding.specs.Refusals.{Bind, ◌>>=◌, each, bind_number_of}
-use Rattle.sql_binding.specs.Statements.{row_columns, row_values, rows_miscount, output, sort_keys, assignment, set_columns, sets_key}
-use Rattle.sql_binding.specs.Tables.{table_number, table_place, column_number, key_column, no_table, joined, part_columns, part_keys, has_unknown, repeated}
-use Rattle.sql_binding.specs.Translation.{where_of, sum_head, sum_tail}
-use Rattle.sql_binding.specs.Types.{condition_mixes, assignment_mixes, output_mixes, row_mixes}
+use Rattle.binding_model.specs.declared.TheConstants.{MAX_COLUMNS, MAX_TABLES}
+use Rattle.binding_model.specs.declared.error.BindErrorKind.{BindErrorKind}
+use Rattle.binding_model.specs.declared.error.BindErrorKind.TheVariants.{Sql, UnknownTable, UnknownColumn, TypeMismatch, KeyChanged, DuplicateTable, WrongCount}
+use Rattle.binding_model.specs.declared.error.BindErrorKind.TheVariants.{Shape, NoMemory}
+use Rattle.binding_model.specs.declared.tables.Table.{Table}
+use Rattle.binding_model.specs.Names.{Name, list_of, head, tail, repeats}
+use Rattle.binding_model.specs.Refusals.{Bind, ◌>>=◌, each, bind_number_of}
+use Rattle.binding_model.specs.Statements.{row_columns, row_values, rows_miscount, output, sort_keys, assignment, set_columns, sets_key}
+use Rattle.binding_model.specs.Tables.{table_number, table_place, column_number, key_column, no_table, joined, part_columns, part_keys, has_unknown, repeated}
+use Rattle.binding_model.specs.Translation.{where_of, sum_head, sum_tail}
+use Rattle.binding_model.specs.Types.{condition_mixes, assignment_mixes, output_mixes, row_mixes}
 
 -- ---- the faults of a statement, and their kinds
 

@@ -4,10 +4,10 @@ use Rattle.lock_modes.specs.declared.value.Value.{Value}
 use Rattle.sql_statements.specs.Conditions.{told}
 use Rattle.sql_statements.specs.declared.condition.Condition.{Condition, Condition-F as Level, more_of-Condition, end_of-Condition}
 use Rattle.sql_statements.specs.declared.condition.Condition.TheVariants.{Always, Compares, Not', And', Or'}
-use Rattle.sql_binding.specs.declared.joining.Joint.{Joint}
-use Rattle.sql_binding.specs.declared.joining.Joint.TheVariants.{All, Any}
-use Rattle.sql_binding.specs.KeyParts.{or_next, key_in}
-use Rattle.sql_binding.specs.Translation.{joined}
+use Rattle.binding_model.specs.declared.joint.Joint.{Joint}
+use Rattle.binding_model.specs.declared.joint.Joint.TheVariants.{All, Any}
+use Rattle.binding_model.specs.KeyParts.{or_next, key_in}
+use Rattle.binding_model.specs.Translation.{joined}
 
 -- what a joint joins, through and through
 abbrev pub leaves : Joint → Condition → List Condition

@@ -26,13 +26,13 @@ use Rattle.sql_statements.specs.declared.expression.Operand.{Operand}
 use Rattle.sql_statements.specs.declared.expression.Operand.TheVariants as operands
 use Rattle.sql_statements.specs.declared.expression.Product.{Product}
 use Rattle.sql_statements.specs.declared.expression.SignedProduct.{SignedProduct}
-use Rattle.sql_binding.specs.declared.error.BindErrorKind.TheVariants.{Sql}
-use Rattle.sql_binding.specs.declared.joining.Joint.{Joint}
-use Rattle.sql_binding.specs.declared.joining.Joint.TheVariants.{All, Any}
-use Rattle.sql_binding.specs.declared.tables.Table.{Table}
-use Rattle.sql_binding.specs.Names.{head, tail}
-use Rattle.sql_binding.specs.Refusals.{Bind, ◌>>=◌, refuse, with_front, each}
-use Rattle.sql_binding.specs.Tables.{column}
+use Rattle.binding_model.specs.declared.error.BindErrorKind.TheVariants.{Sql}
+use Rattle.binding_model.specs.declared.joint.Joint.{Joint}
+use Rattle.binding_model.specs.declared.joint.Joint.TheVariants.{All, Any}
+use Rattle.binding_model.specs.declared.tables.Table.{Table}
+use Rattle.binding_model.specs.Names.{head, tail}
+use Rattle.binding_model.specs.Refusals.{Bind, ◌>>=◌, refuse, with_front, each}
+use Rattle.binding_model.specs.Tables.{column}
 
 -- ---- expressions
 

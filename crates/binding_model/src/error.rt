@@ -1,8 +1,8 @@
 //! Why a spec file was not bound.
 
 ghost use Rattle.std.specs.Prelude.{◌≡◌};
-ghost use Rattle.sql_binding.specs.declared.error.BindStop.TheVariants.{Memory};
-ghost use Rattle.sql_binding.specs.Refusals.{bind_number_of};
+ghost use Rattle.binding_model.specs.declared.error.BindStop.TheVariants.{Memory};
+ghost use Rattle.binding_model.specs.Refusals.{bind_number_of};
 
 use sql_grammar::SqlErrorKind;
 use std::alloc::{AllocError, AllocFailed};

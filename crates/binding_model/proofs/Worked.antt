@@ -15,11 +15,11 @@ use Rattle.sql_grammar.specs.declared.statement.Start.TheVariants.{StartWords}
 use Rattle.sql_grammar.specs.declared.statement.TablePart.TheVariants.{Key}
 use Rattle.sql_statements.specs.Plan.{Request, request, plan}
 use Rattle.sql_statements.specs.declared.statement.Bound.TheVariants.{Begin, Rollback}
-use Rattle.sql_binding.specs.declared.error.BindErrorKind.TheVariants.{Sql, UnknownTable, UnknownColumn, KeyChanged, WrongCount}
-use Rattle.sql_binding.specs.declared.tables.ColumnType.TheVariants.{Number}
-use Rattle.sql_binding.specs.declared.tables.Table.{Table}
-use Rattle.sql_binding.specs.Refusals.{Bind, ◌>>=◌, refuse}
-use Rattle.sql_binding.specs.Statements.{statement}
+use Rattle.binding_model.specs.declared.error.BindErrorKind.TheVariants.{Sql, UnknownTable, UnknownColumn, KeyChanged, WrongCount}
+use Rattle.binding_model.specs.declared.tables.ColumnType.TheVariants.{Number}
+use Rattle.binding_model.specs.declared.tables.Table.{Table}
+use Rattle.binding_model.specs.Refusals.{Bind, ◌>>=◌, refuse}
+use Rattle.binding_model.specs.Statements.{statement}
 
 -- CREATE TABLE t (id int PRIMARY KEY, v int)
 tables : List Table

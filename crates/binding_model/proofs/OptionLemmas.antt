@@ -5,9 +5,9 @@ use Rattle.std.proofs.Math.ListN.{get_or-eq_default}
 use Rattle.std.proofs.lemmas.List.{drop_all}
 use Rattle.std.proofs.lemmas.Option.{slice_get_cases}
 use Rattle.lock_modes.specs.declared.value.Value.{Value}
-use Rattle.sql_binding.specs.declared.tables.Table.{Table}
-use Rattle.sql_binding.specs.Statements.{numbers_from}
-use Rattle.sql_binding.specs.Types.{row_mixes}
+use Rattle.binding_model.specs.declared.tables.Table.{Table}
+use Rattle.binding_model.specs.Statements.{numbers_from}
+use Rattle.binding_model.specs.Types.{row_mixes}
 
 pub past-none : {X : Type 0} (xs : List X) (i : ℕ) → slice_get xs i ≡ None → length xs ≤ i
 past-none xs i e = elim (slice_get_cases xs i).1 [ inl h ↦ absurd (let both : None ≡ Some h.0 = sym e ∙ h.2 in cc) | inr h ↦ h.0 ]

@@ -15,11 +15,11 @@ use Rattle.sql_statements.specs.declared.statement.Aggregate.TheVariants.{Count,
 use Rattle.sql_statements.specs.declared.statement.Assignment.{Assignment}
 use Rattle.sql_statements.specs.declared.statement.Output.{Output}
 use Rattle.sql_statements.specs.declared.statement.Output.TheVariants.{Columns, Aggregates}
-use Rattle.sql_binding.specs.declared.tables.ColumnType.{ColumnType}
-use Rattle.sql_binding.specs.declared.tables.ColumnType.TheVariants.{Number, Text}
-use Rattle.sql_binding.specs.declared.tables.Table.{Table}
-use Rattle.sql_binding.specs.KeyParts.{single}
-use Rattle.sql_binding.specs.Tables.{type_of}
+use Rattle.binding_model.specs.declared.tables.ColumnType.{ColumnType}
+use Rattle.binding_model.specs.declared.tables.ColumnType.TheVariants.{Number, Text}
+use Rattle.binding_model.specs.declared.tables.Table.{Table}
+use Rattle.binding_model.specs.KeyParts.{single}
+use Rattle.binding_model.specs.Tables.{type_of}
 
 abbrev pub differ : ColumnType → ColumnType → Bool
 differ Number Number = false

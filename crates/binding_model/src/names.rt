@@ -1,7 +1,7 @@
 //! Places of names in lists of names.
 
 ghost use Rattle.std.specs.Prelude.{◌≡◌, ◌<◌, length, IfSome};
-ghost use Rattle.sql_binding.specs.Names.{place_in};
+ghost use Rattle.binding_model.specs.Names.{place_in};
 
 use lock_modes::Text;
 

@@ -1,11 +1,11 @@
 -- Refusals, their numbers in the order of their list, and what is bound or refused.
 use Rattle.std.specs.Prelude.{◌≡◌, ◌≢◌, ℕ, Bool, List, [], ◌∷◌, ◌++◌, Result, Ok, Err, if◌then◌else◌, ⊤}
 use Rattle.sql_grammar.specs.declared.error.SqlErrorKind.TheVariants as sql
-use Rattle.sql_binding.specs.declared.error.BindErrorKind.{BindErrorKind}
-use Rattle.sql_binding.specs.declared.error.BindErrorKind.TheVariants.{Sql, UnknownTable, UnknownColumn, TypeMismatch, KeyChanged, DuplicateTable, WrongCount, Shape, NoMemory}
-use Rattle.sql_binding.specs.declared.error.BindError.{BindError}
-use Rattle.sql_binding.specs.declared.error.BindStop.{BindStop}
-use Rattle.sql_binding.specs.declared.error.BindStop.TheVariants.{Memory, Refused}
+use Rattle.binding_model.specs.declared.error.BindErrorKind.{BindErrorKind}
+use Rattle.binding_model.specs.declared.error.BindErrorKind.TheVariants.{Sql, UnknownTable, UnknownColumn, TypeMismatch, KeyChanged, DuplicateTable, WrongCount, Shape, NoMemory}
+use Rattle.binding_model.specs.declared.error.BindError.{BindError}
+use Rattle.binding_model.specs.declared.error.BindStop.{BindStop}
+use Rattle.binding_model.specs.declared.error.BindStop.TheVariants.{Memory, Refused}
 
 abbrev pub bind_number_of : BindErrorKind → ℕ
 bind_number_of (Sql kind) = 1

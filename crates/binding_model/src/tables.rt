@@ -1,9 +1,9 @@
 //! The tables that a spec file declares.
 
 ghost use Rattle.std.specs.Prelude.{◌≡◌, ◌<◌, length, get_or, IfSome};
-ghost use Rattle.sql_binding.specs.Refusals.{Binds};
-ghost use Rattle.sql_binding.specs.Tables as spec;
-ghost use Rattle.sql_binding.specs.Tables.{table_number, column_number, key_column, type_of, type_of_word};
+ghost use Rattle.binding_model.specs.Refusals.{Binds};
+ghost use Rattle.binding_model.specs.Tables as spec;
+ghost use Rattle.binding_model.specs.Tables.{table_number, column_number, key_column, type_of, type_of_word};
 
 use crate::MAX_COLUMNS;
 use crate::error::{BindErrorKind, BindStop, refused};
@@ -19,7 +19,7 @@ pub enum ColumnType {
 }
 
 /// The type that a word names: all number types are one.
-pub(crate) fn type_of(word: TypeWord) -> ColumnType
+pub fn type_of(word: TypeWord) -> ColumnType
     ensures { result ≡ type_of_word word }
 {
     match word {
@@ -47,7 +47,7 @@ pub struct Table {
 
 impl Table {
     /// How many columns have a number.
-    pub(crate) fn width(&self) -> usize
+    pub fn width(&self) -> usize
         ensures { result ≡ spec.width self.now }
     {
         self.columns.len().min(MAX_COLUMNS)
@@ -62,7 +62,7 @@ impl Table {
     }
 
     /// The number of a column, which a statement names that begins at this offset.
-    pub(crate) fn column(&self, at: usize, name: &str) -> Result<u16, BindStop>
+    pub fn column(&self, at: usize, name: &str) -> Result<u16, BindStop>
         ensures { Binds (λ column. column) result (spec.column self.now at name.now) }
     {
         match self.number(name) {
@@ -72,7 +72,7 @@ impl Table {
     }
 
     /// The number of the primary key.
-    pub(crate) fn key(&self) -> Option<u16>
+    pub fn key(&self) -> Option<u16>
         ensures { result ≡ key_column self.now }
     {
         match &self.key {
@@ -82,7 +82,7 @@ impl Table {
     }
 
     /// The type of a column.
-    pub(crate) fn type_of(&self, column: u16) -> ColumnType
+    pub fn type_of(&self, column: u16) -> ColumnType
         ensures { result ≡ type_of self.now column }
     {
         match self.columns.get(column as usize) {
@@ -92,7 +92,8 @@ impl Table {
     }
 }
 
-pub(crate) fn column_place(columns: &[Column], name: &str) -> Option<usize>
+/// Where the first column of this name stands. Each is looked at in turn.
+pub fn column_place(columns: &[Column], name: &str) -> Option<usize>
     ensures { result ≡ spec.column_place columns.now name.now }
 {
     columns
@@ -100,7 +101,8 @@ pub(crate) fn column_place(columns: &[Column], name: &str) -> Option<usize>
         .position(|column| name == column.name.as_str())
 }
 
-pub(crate) fn table_place(tables: &[Table], name: &str) -> Option<usize>
+/// Where the first table of this name stands. Each is looked at in turn.
+pub fn table_place(tables: &[Table], name: &str) -> Option<usize>
     ensures place { result ≡ spec.table_place tables.now name.now }
     ensures within { IfSome result (λ n. n < length tables.now) }
 {
@@ -108,7 +110,7 @@ pub(crate) fn table_place(tables: &[Table], name: &str) -> Option<usize>
 }
 
 /// The table of this name, and its number. Linear in the tables.
-pub(crate) fn table_named<'a>(
+pub fn table_named<'a>(
     tables: &'a [Table],
     at: usize,
     name: &str,

@@ -9,15 +9,15 @@ use Rattle.sql_grammar.specs.declared.statement.TablePart.{TablePart}
 use Rattle.sql_grammar.specs.declared.statement.TablePart.TheVariants as part
 use Rattle.sql_grammar.specs.declared.statement.TypeWord.TheVariants as word
 use Rattle.sql_grammar.specs.declared.error.SqlErrorKind.TheVariants.{TooLarge}
-use Rattle.sql_binding.specs.declared.TheConstants.{MAX_COLUMNS, MAX_TABLES}
-use Rattle.sql_binding.specs.declared.error.BindErrorKind.{BindErrorKind}
-use Rattle.sql_binding.specs.declared.error.BindErrorKind.TheVariants.{Sql, UnknownTable, UnknownColumn, DuplicateTable, WrongCount}
-use Rattle.sql_binding.specs.declared.tables.ColumnType.{ColumnType}
-use Rattle.sql_binding.specs.declared.tables.ColumnType.TheVariants.{Number, Text}
-use Rattle.sql_binding.specs.declared.tables.Column.{Column}
-use Rattle.sql_binding.specs.declared.tables.Table.{Table}
-use Rattle.sql_binding.specs.Names.{Name, list_of}
-use Rattle.sql_binding.specs.Refusals.{Bind, refuse}
+use Rattle.binding_model.specs.declared.TheConstants.{MAX_COLUMNS, MAX_TABLES}
+use Rattle.binding_model.specs.declared.error.BindErrorKind.{BindErrorKind}
+use Rattle.binding_model.specs.declared.error.BindErrorKind.TheVariants.{Sql, UnknownTable, UnknownColumn, DuplicateTable, WrongCount}
+use Rattle.binding_model.specs.declared.tables.ColumnType.{ColumnType}
+use Rattle.binding_model.specs.declared.tables.ColumnType.TheVariants.{Number, Text}
+use Rattle.binding_model.specs.declared.tables.Column.{Column}
+use Rattle.binding_model.specs.declared.tables.Table.{Table}
+use Rattle.binding_model.specs.Names.{Name, list_of}
+use Rattle.binding_model.specs.Refusals.{Bind, refuse}
 
 -- a place that is below a limit
 abbrev pub below : ℕ → Option ℕ → Option ℕ

@@ -30,14 +30,14 @@ use Rattle.sql_statements.specs.declared.statement.Order.TheVariants.{Rises, Fal
 use Rattle.sql_statements.specs.declared.statement.Output.{Output}
 use Rattle.sql_statements.specs.declared.statement.Output.TheVariants.{Columns, Aggregates}
 use Rattle.sql_statements.specs.declared.statement.SortKey.{SortKey}
-use Rattle.sql_binding.specs.declared.error.BindErrorKind.TheVariants.{Sql, TypeMismatch, KeyChanged, WrongCount}
-use Rattle.sql_binding.specs.declared.tables.Table.{Table}
-use Rattle.sql_binding.specs.KeyParts.{key_of}
-use Rattle.sql_binding.specs.Names.{Name, list_of, repeats}
-use Rattle.sql_binding.specs.Refusals.{Bind, ◌>>=◌, refuse, unless, each}
-use Rattle.sql_binding.specs.Tables.{key_column, width, column, table}
-use Rattle.sql_binding.specs.Translation.{value, expression, where_of}
-use Rattle.sql_binding.specs.Types.{condition_mixes, assignment_mixes, output_mixes, row_mixes}
+use Rattle.binding_model.specs.declared.error.BindErrorKind.TheVariants.{Sql, TypeMismatch, KeyChanged, WrongCount}
+use Rattle.binding_model.specs.declared.tables.Table.{Table}
+use Rattle.binding_model.specs.KeyParts.{key_of}
+use Rattle.binding_model.specs.Names.{Name, list_of, repeats}
+use Rattle.binding_model.specs.Refusals.{Bind, ◌>>=◌, refuse, unless, each}
+use Rattle.binding_model.specs.Tables.{key_column, width, column, table}
+use Rattle.binding_model.specs.Translation.{value, expression, where_of}
+use Rattle.binding_model.specs.Types.{condition_mixes, assignment_mixes, output_mixes, row_mixes}
 
 -- ---- INSERT
 
