@@ -14,7 +14,6 @@ use sql_statements::Bound;
 use std::marker::Model;
 
 /// What a spec is made of: its text, its names, how many sessions it has, and what they send in which orders.
-#[derive(Drop)]
 pub struct Parts {
     pub text: String,
     pub session_names: Vec<Text>,
@@ -26,10 +25,32 @@ pub struct Parts {
     pub orders: Orders,
 }
 
+// Written out and not derived, so that who owns one calls this and does not let its parts go one by one.
+impl Drop for Parts {
+    fn drop(self) {
+        let Parts {
+            text: _text,
+            session_names: _session_names,
+            step_names: _step_names,
+            sessions: _,
+            steps: _steps,
+            setups: _setups,
+            session_setups: _session_setups,
+            orders: _orders,
+        } = self;
+    }
+}
+
 /// A spec: its text, its names, what its setups and steps send, and in which orders.
-#[derive(Drop)]
 pub struct Spec {
     parts: Parts,
+}
+
+// Written out and not derived, so that who owns one calls this and does not let its parts go one by one.
+impl Drop for Spec {
+    fn drop(self) {
+        let Spec { parts: _parts } = self;
+    }
 }
 
 impl Model for Spec {

@@ -22,10 +22,19 @@ use std::marker::Model;
 /// Contracts see one finite map from a session and a resource to the mode held there, and the list of waits.
 /// No session waits twice, modes that different sessions hold on a resource are compatible, and no session
 /// waits for itself by way of others. A call that takes memory fails for want of it alone.
-#[derive(Drop)]
 pub struct LockTable {
     held: Held,
     waits: Vec<Wait>,
+}
+
+// Written out and not derived, so that who owns one calls this and does not let its parts go one by one.
+impl Drop for LockTable {
+    fn drop(self) {
+        let LockTable {
+            held: _held,
+            waits: _waits,
+        } = self;
+    }
 }
 
 impl Model for LockTable {

@@ -14,11 +14,21 @@ use std::sync::Arc;
 
 /// A spec with its text, and a finite set of ranks with facts; a rank may have several. Contracts see these two, so that books with
 /// equal sets are equal.
-#[derive(Drop)]
 pub struct Book {
     pub(crate) about: Arc<About>,
     pub(crate) table: Table,
     pub(crate) runs: Vec<Run>,
+}
+
+// Written out and not derived, so that who owns one calls this and does not let its parts go one by one.
+impl Drop for Book {
+    fn drop(self) {
+        let Book {
+            about: _about,
+            table: _table,
+            runs: _runs,
+        } = self;
+    }
 }
 
 impl Model for Book {

@@ -8,10 +8,19 @@ use std::marker::Model;
 use transcripts::Outcome;
 
 /// The value of each rank of a spec, seen by contracts as their list. Equal values are kept once.
-#[derive(Drop)]
 pub struct Report {
     outcomes: Vec<Outcome>,
     numbers: Vec<usize>,
+}
+
+// Written out and not derived, so that who owns one calls this and does not let its parts go one by one.
+impl Drop for Report {
+    fn drop(self) {
+        let Report {
+            outcomes: _outcomes,
+            numbers: _numbers,
+        } = self;
+    }
 }
 
 impl Model for Report {

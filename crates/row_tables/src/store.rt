@@ -21,10 +21,19 @@ use version_tree::Iter;
 
 /// The rows of all tables. Contracts see committed rows and for each session an overlay; what is kept is the rows as
 /// they were written last, and for each session a list that undoes its writes.
-#[derive(Drop)]
 pub struct Store {
     rows: Rows,
     undo: UndoLists,
+}
+
+// Written out and not derived, so that who owns one calls this and does not let its parts go one by one.
+impl Drop for Store {
+    fn drop(self) {
+        let Store {
+            rows: _rows,
+            undo: _undo,
+        } = self;
+    }
 }
 
 impl Model for Store {

@@ -18,11 +18,21 @@ use std::alloc::{AllocError, Global};
 use transcripts::Event;
 
 /// The rows, the locks and the sessions of a world.
-#[derive(Drop)]
 pub(crate) struct Stage {
     pub(crate) store: Store,
     pub(crate) locks: LockTable,
     pub(crate) members: Vec<Member>,
+}
+
+// Written out and not derived, so that who owns one calls this and does not let its parts go one by one.
+impl Drop for Stage {
+    fn drop(self) {
+        let Stage {
+            store: _store,
+            locks: _locks,
+            members: _members,
+        } = self;
+    }
 }
 
 impl Stage {

@@ -22,12 +22,23 @@ use std::marker::Model;
 use transcripts::{Outcome, Transcript};
 
 /// The sequential machine over a spec. Contracts see the spec, the world and whether it is spent.
-#[derive(Drop)]
 pub struct World<'a> {
     spec: &'a Spec,
     alloc: Global,
     stage: Stage,
     is_spent: bool,
+}
+
+// Written out and not derived, so that who owns one calls this and does not let its parts go one by one.
+impl Drop for World<'_> {
+    fn drop(self) {
+        let World {
+            spec: _,
+            alloc: _,
+            stage: _stage,
+            is_spent: _,
+        } = self;
+    }
 }
 
 impl<'a> Model for World<'a> {

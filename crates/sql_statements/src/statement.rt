@@ -45,7 +45,6 @@ pub struct Assignment {
 
 /// A statement whose tables and columns are numbers, which stand for their places among the declared tables and among the
 /// columns of a table. `Option<Value>` is the key of the row that the statement names: the literal of its first key part.
-#[derive(Drop)]
 pub enum Bound {
     Select(u16, Option<Value>, Condition, Items<SortKey>, Output),
     /// New rows, with all columns in their order, and which of them is the table's key, if it has one.
@@ -57,4 +56,21 @@ pub enum Bound {
     Rollback,
     Lock(u16, Mode),
     SetVariable,
+}
+
+// Written out and not derived, so that who owns one calls this and does not let its parts go one by one.
+impl Drop for Bound {
+    fn drop(self) {
+        match self {
+            Bound::Select(_, _b, _c, _d, _e) => {}
+            Bound::Insert(_, _, _c) => {}
+            Bound::Update(_, _b, _c, _d) => {}
+            Bound::Delete(_, _b, _c) => {}
+            Bound::Begin => {}
+            Bound::Commit => {}
+            Bound::Rollback => {}
+            Bound::Lock(_, _) => {}
+            Bound::SetVariable => {}
+        }
+    }
 }

@@ -10,10 +10,19 @@ use bound_specs::Spec;
 use std::alloc::AllocError;
 
 /// How the ranks are walked.
-#[derive(Drop)]
 pub(crate) enum Walk<'a> {
     Words(WordWalk<'a>),
     Lines(LineWalk<'a>),
+}
+
+// Written out and not derived, so that who owns one calls this and does not let its parts go one by one.
+impl Drop for Walk<'_> {
+    fn drop(self) {
+        match self {
+            Walk::Words(_a) => {}
+            Walk::Lines(_a) => {}
+        }
+    }
 }
 
 impl<'a> Walk<'a> {

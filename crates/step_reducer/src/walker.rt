@@ -20,7 +20,6 @@ use std::marker::Model;
 /// Gives the facts of the ranks of a shard in rising order, of many ranks at once where one swap covers them. Contracts see
 /// the spec, whether facts are reduced, the shard, the next rank, the steps sent so far, whether no run was given in part, and
 /// whether memory was refused.
-#[derive(Drop)]
 pub struct Walker<'a> {
     spec: &'a Spec,
     reduce: bool,
@@ -31,6 +30,23 @@ pub struct Walker<'a> {
     walk: Walk<'a>,
     rest: Option<FactRun>,
     is_spent: bool,
+}
+
+// Written out and not derived, so that who owns one calls this and does not let its parts go one by one.
+impl Drop for Walker<'_> {
+    fn drop(self) {
+        let Walker {
+            spec: _,
+            reduce: _,
+            first: _,
+            at: _,
+            end: _,
+            sent: _,
+            walk: _walk,
+            rest: _rest,
+            is_spent: _,
+        } = self;
+    }
 }
 
 impl<'a> Model for Walker<'a> {

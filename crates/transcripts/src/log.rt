@@ -12,7 +12,6 @@ use std::mem;
 
 /// What one session has been told so far, seen by contracts as the list of its events in order. A fork shares the events
 /// of turns that have ended, and copies those of the turn that goes on. Each goes on alone.
-#[derive(Drop)]
 pub struct Log {
     /// The turns that have ended.
     turns: Turns,
@@ -21,6 +20,18 @@ pub struct Log {
     /// How many events a transcript has to have room for.
     room: usize,
     alloc: Global,
+}
+
+// Written out and not derived, so that who owns one calls this and does not let its parts go one by one.
+impl Drop for Log {
+    fn drop(self) {
+        let Log {
+            turns: _turns,
+            current: _current,
+            room: _,
+            alloc: _,
+        } = self;
+    }
 }
 
 impl Model for Log {

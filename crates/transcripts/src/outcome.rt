@@ -17,9 +17,15 @@ use std::marker::Model;
 use std::sync::Arc;
 
 /// What one session is told, seen by contracts as the list of its events in order.
-#[derive(Drop)]
 pub struct Transcript {
     events: Vec<Event>,
+}
+
+// Written out and not derived, so that who owns one calls this and does not let its parts go one by one.
+impl Drop for Transcript {
+    fn drop(self) {
+        let Transcript { events: _events } = self;
+    }
 }
 
 impl Model for Transcript {
@@ -89,9 +95,17 @@ impl Fork for Transcript {
 
 /// What a run tells: a transcript for each session in order, seen by contracts as their list. A fork shares them and
 /// copies none.
-#[derive(Drop)]
 pub struct Outcome {
     sessions: Arc<Vec<Transcript>>,
+}
+
+// Written out and not derived, so that who owns one calls this and does not let its parts go one by one.
+impl Drop for Outcome {
+    fn drop(self) {
+        let Outcome {
+            sessions: _sessions,
+        } = self;
+    }
 }
 
 impl Model for Outcome {
