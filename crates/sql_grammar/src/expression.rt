@@ -78,11 +78,20 @@ pub struct SignedTerm {
 }
 
 /// Terms with signs between them, which are added and subtracted from the left.
-#[derive(Drop)]
 pub struct Sum {
     /// Factors that are multiplied from the left.
     pub first: Chain<Factor>,
     pub more: Items<SignedTerm>,
+}
+
+// Written out and not derived, so that who owns one calls this and does not let its parts go one by one.
+impl Drop for Sum {
+    fn drop(self) {
+        let Sum {
+            first: _first,
+            more: _more,
+        } = self;
+    }
 }
 
 /// How two values are compared.

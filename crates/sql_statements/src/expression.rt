@@ -34,9 +34,18 @@ pub struct SignedProduct {
 }
 
 /// One or more products, which are added and subtracted from the left.
-#[derive(Drop)]
 pub struct Expression {
     pub first: Product,
     /// Those behind the first, in their order.
     pub more: Items<SignedProduct>,
+}
+
+// Written out and not derived, so that who owns one calls this and does not let its parts go one by one.
+impl Drop for Expression {
+    fn drop(self) {
+        let Expression {
+            first: _first,
+            more: _more,
+        } = self;
+    }
 }
