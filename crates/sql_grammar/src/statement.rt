@@ -31,37 +31,18 @@ pub enum TablePart {
 }
 
 /// `CREATE TABLE table (part, ..)`
+#[derive(Drop)]
 pub struct CreateTable {
     pub table: Text,
     pub parts: Chain<TablePart>,
 }
 
-// Written out and not derived, so that who owns one calls this and does not let its parts go one by one.
-impl Drop for CreateTable {
-    fn drop(self) {
-        let CreateTable {
-            table: _table,
-            parts: _parts,
-        } = self;
-    }
-}
-
 /// `INSERT INTO table [(name, ..)] VALUES (literal, ..), ..`, of at most 100 rows.
+#[derive(Drop)]
 pub struct Insert {
     pub table: Text,
     pub columns: Option<Chain<Text>>,
     pub rows: Chain<Chain<Literal>>,
-}
-
-// Written out and not derived, so that who owns one calls this and does not let its parts go one by one.
-impl Drop for Insert {
-    fn drop(self) {
-        let Insert {
-            table: _table,
-            columns: _columns,
-            rows: _rows,
-        } = self;
-    }
 }
 
 /// The order of a column.
@@ -89,6 +70,7 @@ pub enum Aggregate {
 }
 
 /// What a SELECT shows.
+#[derive(Drop)]
 pub enum Selected {
     /// `*`
     All,
@@ -96,35 +78,13 @@ pub enum Selected {
     Aggregates(Chain<Aggregate>),
 }
 
-// Written out and not derived, so that who owns one calls this and does not let its parts go one by one.
-impl Drop for Selected {
-    fn drop(self) {
-        match self {
-            Selected::All => {}
-            Selected::Columns(_a) => {}
-            Selected::Aggregates(_a) => {}
-        }
-    }
-}
-
 /// `SELECT items FROM table [WHERE condition] [ORDER BY key, ..]`
+#[derive(Drop)]
 pub struct Select {
     pub items: Selected,
     pub table: Text,
     pub condition: Option<Condition>,
     pub order: Option<Chain<SortKey>>,
-}
-
-// Written out and not derived, so that who owns one calls this and does not let its parts go one by one.
-impl Drop for Select {
-    fn drop(self) {
-        let Select {
-            items: _items,
-            table: _table,
-            condition: _condition,
-            order: _order,
-        } = self;
-    }
 }
 
 /// `column = value`
@@ -135,37 +95,18 @@ pub struct Assignment {
 }
 
 /// `UPDATE table SET assignment, .. [WHERE condition]`
+#[derive(Drop)]
 pub struct Update {
     pub table: Text,
     pub assignments: Chain<Assignment>,
     pub condition: Option<Condition>,
 }
 
-// Written out and not derived, so that who owns one calls this and does not let its parts go one by one.
-impl Drop for Update {
-    fn drop(self) {
-        let Update {
-            table: _table,
-            assignments: _assignments,
-            condition: _condition,
-        } = self;
-    }
-}
-
 /// `DELETE FROM table [WHERE condition]`
+#[derive(Drop)]
 pub struct Delete {
     pub table: Text,
     pub condition: Option<Condition>,
-}
-
-// Written out and not derived, so that who owns one calls this and does not let its parts go one by one.
-impl Drop for Delete {
-    fn drop(self) {
-        let Delete {
-            table: _table,
-            condition: _condition,
-        } = self;
-    }
 }
 
 /// A word that means nothing.
@@ -278,6 +219,7 @@ pub struct Setting {
 }
 
 /// The forms of statements.
+#[derive(Drop)]
 pub enum Form {
     CreateTable(CreateTable),
     Insert(Insert),
@@ -290,33 +232,10 @@ pub enum Form {
     Set(Setting),
 }
 
-// Written out and not derived, so that who owns one calls this and does not let its parts go one by one.
-impl Drop for Form {
-    fn drop(self) {
-        match self {
-            Form::CreateTable(_a) => {}
-            Form::Insert(_a) => {}
-            Form::Select(_a) => {}
-            Form::Update(_a) => {}
-            Form::Delete(_a) => {}
-            Form::Begin(_a) => {}
-            Form::End(_a) => {}
-            Form::Lock(_a) => {}
-            Form::Set(_a) => {}
-        }
-    }
-}
-
 /// A statement as it is written.
+#[derive(Drop)]
 pub struct Statement {
     /// The offset of its first byte in the block.
     pub at: usize,
     pub form: Form,
-}
-
-// Written out and not derived, so that who owns one calls this and does not let its parts go one by one.
-impl Drop for Statement {
-    fn drop(self) {
-        let Statement { at: _, form: _form } = self;
-    }
 }
