@@ -1,12 +1,8 @@
-//! Reads the statements that have expressions: SELECT, INSERT, UPDATE, DELETE and SET.
+//! Reads SELECT and INSERT.
 #![tactic(auto)]
 
-mod changes;
 mod queries;
 mod rows;
-mod settings;
 
-pub use changes::{delete, update};
 pub use queries::select;
 pub use rows::insert;
-pub use settings::set;

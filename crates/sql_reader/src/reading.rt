@@ -10,11 +10,12 @@ ghost use Rattle.sql_grammar.specs.Text.{StatementAt, IsSpelled, Explains, AllHa
 ghost use Rattle.sql_grammar.specs.Views.{Gives, option_by, view_form};
 
 use byte_runs::tokens_of;
+use sql_changes::{delete, set, update};
 use sql_forms::{begin, create, end_word, ends, lock};
 use sql_grammar::{
     Failure, Form, Limit, Placed, SqlError, SqlErrorKind, Statement, Stop, Token, Why, quoted_len,
 };
-use sql_queries::{delete, insert, select, set, update};
+use sql_queries::{insert, select};
 use sql_words::{at_key, at_sign, at_word, behind, first, inside};
 use std::alloc::{AllocError, Global};
 

@@ -7,7 +7,7 @@ use Rattle.sql_grammar.specs.Lexing.{views}
 use Rattle.sql_grammar.specs.Views.{view_assignment}
 use Rattle.sql_grammar.specs.Reading.{the, assignment}
 use Rattle.sql_words.proofs.Loops.{starts_with, next, err, fits}
-use Rattle.sql_queries.proofs.changes.assignments.Goals as goal
+use Rattle.sql_changes.proofs.changes.assignments.Goals as goal
 
 pub returns-in_err-next-clause-reads : goal.returns-in_err-next-clause-reads
 returns-in_err-next-clause-reads c =

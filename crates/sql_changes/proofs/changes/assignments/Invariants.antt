@@ -5,7 +5,7 @@ use Rattle.sql_grammar.specs.Lexing.{views}
 use Rattle.sql_grammar.specs.Views.{view_assignment}
 use Rattle.sql_grammar.specs.Reading.{the, with_commas, assignment}
 use Rattle.sql_words.proofs.Loops.{SoFar}
-use Rattle.sql_queries.proofs.changes.assignments.Given as goal
+use Rattle.sql_changes.proofs.changes.assignments.Given as goal
 
 abbrev pub invariant-commas : goal.invariant-commas
 invariant-commas l = record {
