@@ -3,21 +3,21 @@ use Rattle.version_tree.proofs.EntriesLemmas.{regrouped, sorted_behind, sorted_r
 use Rattle.version_tree.proofs.NodeLemmas.{at_node}
 use Rattle.version_tree.proofs.tree.Node.raise_from_left.Goals as goal
 
-pub join_before-requires-clause-in_order : goal.join_before-requires-clause-in_order
-join_before-requires-clause-in_order g c =
+pub join-requires-clause-in_order : goal.join-requires-clause-in_order
+join-requires-clause-in_order g c =
     let inner = at_node c.middle.view_is c.middle.invariant c.in-Some.is in
     let all = rw inner.entries at c.requires.in_order in
     rw c.deref.ensures (sorted_inner_left g.K.Ord.cmp _ (_ ∷ _) _ _ (sorted_inner_left g.K.Ord.cmp _ (_ ∷ _) _ _ all))
 
-pub over_shared-requires-clause-in_order : goal.over_shared-requires-clause-in_order
-over_shared-requires-clause-in_order g c =
+pub join-requires-2-clause-in_order : goal.join-requires-2-clause-in_order
+join-requires-2-clause-in_order g c =
     let inner = at_node c.middle.view_is c.middle.invariant c.in-Some.is in
     let all = rw inner.entries at c.requires.in_order in
     rw c.deref-2.ensures (sorted_inner_right g.K.Ord.cmp _ _ _ _ (sorted_behind g.K.Ord.cmp _ _ _ all))
 
 -- the entries after the two rotations, and before
-pub over-requires-clause-in_order : goal.over-requires-clause-in_order
-over-requires-clause-in_order g c =
+pub join-requires-3-clause-in_order : goal.join-requires-3-clause-in_order
+join-requires-3-clause-in_order g c =
     let inner = at_node c.middle.view_is c.middle.invariant c.in-Some.is in
     let all = rw inner.entries at c.requires.in_order in
     rw (
@@ -37,5 +37,5 @@ returns-clause-entries g c =
       c.deref.ensures,
       c.deref-2.ensures,
       c.deref-3.ensures,
-    ) at c.over.ensures.entries in
+    ) at c.join-3.ensures.entries in
     rw inner.entries (rw regrouped at all)
