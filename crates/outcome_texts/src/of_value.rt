@@ -1,9 +1,10 @@
 //! The outcome that a JSON value stands for.
 
-ghost use Rattle.std.specs.Prelude.{◌≡◌, ◌≢◌, List, Some, None, IfOk, IfErr, MatchResult};
+ghost use Rattle.std.specs.Prelude.{◌≡◌, ◌≢◌, List, Some, None, IfOk, IfErr, MatchResult, option_and_then, option_map};
 ghost use Rattle.serde_json.specs.Find.{as_array};
 ghost use Rattle.serde_json.specs.View.{view, items_view};
 ghost use Rattle.transcripts.specs.declared.event.Event.{Event as Told};
+ghost use Rattle.transcripts.specs.declared.event.Event.TheVariants.{Failed, Warned};
 ghost use Rattle.transcripts.specs.Outcome.{OutcomeFits};
 ghost use Rattle.outcome_texts.specs.Json.{outcome_data};
 ghost use Rattle.outcome_texts.specs.JsonReading.{cell_in, count_in, event_in, fault_of, list_in, numbered_event, outcome_in, pair_event, step_in, tagged_event, warning_of, word_event, Reads};
@@ -117,24 +118,36 @@ fn numbered_event(tag: &str, value: &Json) -> Option<Event>
     ensures { result ≡ numbered_event tag.now (view value.now) }
 {
     if tag == "sent" {
-        Some(Event::Sent(step(value)?))
+        step(value).map(|n| Event::Sent(n))
     } else if tag == "rows" {
-        Some(Event::Rows(count(value)?))
+        count(value).map(|n| Event::Rows(n))
     } else if tag == "inserted" {
-        Some(Event::Inserted(count(value)?))
+        count(value).map(|n| Event::Inserted(n))
     } else if tag == "updated" {
-        Some(Event::Updated(count(value)?))
+        count(value).map(|n| Event::Updated(n))
     } else if tag == "deleted" {
-        Some(Event::Deleted(count(value)?))
+        count(value).map(|n| Event::Deleted(n))
     } else if tag == "warned" {
-        Some(Event::Warned(warning(count(value)?)?))
+        warned(value)
     } else if tag == "failed" {
-        Some(Event::Failed(fault(count(value)?)?))
+        failed(value)
     } else if tag == "notsent" {
-        Some(Event::NotSent(step(value)?))
+        step(value).map(|n| Event::NotSent(n))
     } else {
         None
     }
+}
+
+fn warned(value: &Json) -> Option<Event>
+    ensures { result ≡ option_map Warned (option_and_then warning_of (count_in (view value.now))) }
+{
+    Some(Event::Warned(warning(count(value)?)?))
+}
+
+fn failed(value: &Json) -> Option<Event>
+    ensures { result ≡ option_map Failed (option_and_then fault_of (count_in (view value.now))) }
+{
+    Some(Event::Failed(fault(count(value)?)?))
 }
 
 /// The count that a value is, in the words of the definition: so no caller has to ask anew what a number is.
