@@ -5,7 +5,8 @@ ghost use Rattle.outcome_texts.specs.Counted.{failures_of};
 ghost use Rattle.book_answers.specs.Joining.{IsFileBook, IsJoinRun, IsJoined, IsNext};
 
 use crate::opener::Opener;
-use book_files::{BookError, WriteError, read_book, write_book};
+use book_files::{BookError, WriteError, write_book};
+use book_reading::read_book;
 use outcome_books::{Book, JoinError, join};
 use outcome_texts::Counted;
 use std::alloc::Global;

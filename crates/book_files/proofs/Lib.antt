@@ -13,7 +13,6 @@ pub mod ReadLemmas
 pub mod RunLaws
 pub mod EndLemmas
 pub mod FactLaws
-pub mod BookLaws
 pub mod Steps
 pub mod BackLemmas
 pub mod FormsBack

@@ -1,4 +1,4 @@
-//! Book files: each book has one text, which is written and read back.
+//! Book files: each book has one text, which is written; and what the value of a file says of a spec.
 #![tactic(auto)]
 
 mod canonical;
@@ -16,6 +16,9 @@ mod writing;
 pub use error::BookError;
 pub use laws::{books_have_one_text, texts_read_as_values, written_books_read_back};
 pub use pieces::{MAX_FACTS, MAX_TEXT};
-pub use reading::{forms_read_back, read_book};
+pub use reading::{
+    FactParts, RunParts, Version, book_of_facts, book_of_runs, fact_parts, forms_read_back,
+    run_parts, version_of,
+};
 pub use write_error::WriteError;
 pub use writing::write_book;

@@ -2,7 +2,8 @@
 //! `rt try --test --fail-alloc` too.
 use crate::asserts::assert_text;
 use crate::texts::{DISJOINT, SAME_OUTCOME};
-use book_files::{BookError, read_book};
+use book_files::BookError;
+use book_reading::read_book;
 use outcome_books::{Book, missing, report};
 use outcome_texts::Counted;
 use std::alloc::Global;

@@ -1,7 +1,8 @@
 //! Audits in threads and on one thread, which answer the same. The test without memory is to be read under `rt try --test --fail-alloc`
 //! too.
 use book_audit::{AuditError, audit, audit_plain};
-use book_files::{BookError, read_book};
+use book_files::BookError;
+use book_reading::read_book;
 use book_tests::{DISJOINT, SAME_OUTCOME};
 use outcome_books::{Book, report};
 use outcome_texts::Counted;

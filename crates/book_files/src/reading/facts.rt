@@ -7,10 +7,10 @@ ghost use Rattle.outcome_books.specs.Entries.{entry_cmp, fact_cmp};
 ghost use Rattle.book_files.specs.Reading.{Meets, StandsAfter};
 ghost use Rattle.book_files.specs.ReadingFacts.{AreEntries, AreUnder, ComesUnder, IsEntry, IsFact, IsFactLed, IsNextEntry, IsRan, IsSwap, RanksBelow};
 ghost use Rattle.book_files.specs.ReadingFacts.{entries_of, entry_in_three, entry_items, entry_of, entry_parts, place_in};
-ghost use Rattle.book_files.specs.ReadingBooks.{IsFactsBook, IsFactsOf, fact_parts};
+ghost use Rattle.book_files.specs.ReadingBooks.{IsFactsOf, fact_parts};
 
 use super::outcomes::outcome_of;
-use super::parts::{items_at, members_in, spec_of_text, text_at};
+use super::parts::{items_at, members_in, text_at};
 use crate::error::BookError;
 use bound_specs::Spec;
 use outcome_books::{Book, Builder, leads_along};
@@ -29,13 +29,15 @@ pub(crate) struct RankFact {
 
 /// What a book of facts has besides its format.
 #[derive(Clone, Copy, Drop)]
-struct FactParts<'a> {
-    facts: &'a [Json],
-    text: &'a str,
+pub struct FactParts<'a> {
+    /// The facts, as values.
+    pub facts: &'a [Json],
+    /// The text of the spec.
+    pub text: &'a str,
 }
 
 /// The parts of a book of facts. None where a member is missing, of another kind, or one too many.
-fn fact_parts(value: &Json) -> Option<FactParts<'_>>
+pub fn fact_parts(value: &Json) -> Option<FactParts<'_>>
     ensures { option_map (λ parts. record { facts = items_view parts.facts.now; text = parts.text.now }) result ≡ fact_parts (view value.now) }
 {
     if members_in(value) != 3 {
@@ -46,21 +48,8 @@ fn fact_parts(value: &Json) -> Option<FactParts<'_>>
     Some(FactParts { facts, text })
 }
 
-/// The book of facts that a value is.
-pub(crate) fn facts_book(alloc: Global, value: &Json) -> Result<Book, BookError>
-    ensures { Meets (λ book. book) (IsFactsBook (view value.now)) result }
-{
-    let Some(parts) = fact_parts(value) else {
-        return Err(BookError::BadField);
-    };
-    match spec_of_text(alloc, parts.text) {
-        Ok(spec) => book_of_facts(alloc, &spec, parts.facts),
-        Err(error) => Err(error),
-    }
-}
-
 /// The book of a spec with the facts that these values are.
-fn book_of_facts(alloc: Global, spec: &Spec, values: &[Json]) -> Result<Book, BookError>
+pub fn book_of_facts(alloc: Global, spec: &Spec, values: &[Json]) -> Result<Book, BookError>
     ensures { Meets (λ book. book) (IsFactsOf spec.now (items_view values.now)) result }
 {
     let facts = match facts_of(alloc, spec, values) {

@@ -3,10 +3,10 @@
 ghost use Rattle.std.specs.Prelude.{◌≡◌, option_map};
 ghost use Rattle.serde_json.specs.View.{view, items_view};
 ghost use Rattle.book_files.specs.Reading.{Meets};
-ghost use Rattle.book_files.specs.ReadingBooks.{IsRunsBook, IsRunsOf, run_parts};
+ghost use Rattle.book_files.specs.ReadingBooks.{IsRunsOf, run_parts};
 
 use super::outcomes::outcomes_of;
-use super::parts::{items_at, members_in, spec_of_text, text_at};
+use super::parts::{items_at, members_in, text_at};
 use super::runs::runs_of;
 use crate::error::BookError;
 use bound_specs::Spec;
@@ -16,14 +16,17 @@ use std::alloc::Global;
 
 /// What a book of runs has besides its format.
 #[derive(Clone, Copy, Drop)]
-struct RunParts<'a> {
-    facts: &'a [Json],
-    outcomes: &'a [Json],
-    text: &'a str,
+pub struct RunParts<'a> {
+    /// The runs, as values.
+    pub facts: &'a [Json],
+    /// The outcomes that runs name, as values.
+    pub outcomes: &'a [Json],
+    /// The text of the spec.
+    pub text: &'a str,
 }
 
 /// The parts of a book of runs. None where a member is missing, of another kind, or one too many.
-fn run_parts(value: &Json) -> Option<RunParts<'_>>
+pub fn run_parts(value: &Json) -> Option<RunParts<'_>>
     ensures { option_map (λ parts. record { facts = items_view parts.facts.now; outcomes = items_view parts.outcomes.now; text = parts.text.now }) result
         ≡ run_parts (view value.now) }
 {
@@ -40,21 +43,8 @@ fn run_parts(value: &Json) -> Option<RunParts<'_>>
     })
 }
 
-/// The book of runs that a value is.
-pub(crate) fn runs_book(alloc: Global, value: &Json) -> Result<Book, BookError>
-    ensures { Meets (λ book. book) (IsRunsBook (view value.now)) result }
-{
-    let Some(parts) = run_parts(value) else {
-        return Err(BookError::BadField);
-    };
-    match spec_of_text(alloc, parts.text) {
-        Ok(spec) => book_of_runs(alloc, &spec, parts.facts, parts.outcomes),
-        Err(error) => Err(error),
-    }
-}
-
 /// The book of a spec with the runs and outcomes that these values are.
-fn book_of_runs(
+pub fn book_of_runs(
     alloc: Global,
     spec: &Spec,
     facts: &[Json],

@@ -1,6 +1,6 @@
 use Rattle.serde_json.specs.View.{view, items_view}
-use Rattle.book_files.proofs.BookLaws.{by-facts}
-use Rattle.book_files.proofs.reading.facts.facts_book.Goals as goal
+use Rattle.book_reading.proofs.BookLaws.{by-facts}
+use Rattle.book_reading.proofs.reading.facts_book.Goals as goal
 
 pub returns-in-Ok : goal.returns-in-Ok
 returns-in-Ok c =
