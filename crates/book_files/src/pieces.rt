@@ -22,11 +22,21 @@ pub const MAX_FACTS: u64 = 30_000_000;
 const FIXED_LEN: u64 = 46;
 
 /// The runs of a book, the texts of its outcomes, and its spec's text as a JSON string.
-#[derive(Drop)]
 pub(crate) struct Pieces {
     pub(crate) runs: Vec<Run>,
     pub(crate) texts: Vec<String>,
     pub(crate) quoted: String,
+}
+
+// Written out and not derived, so that who owns one calls this and does not let its parts go one by one.
+impl Drop for Pieces {
+    fn drop(self) {
+        let Pieces {
+            runs: _runs,
+            texts: _texts,
+            quoted: _quoted,
+        } = self;
+    }
 }
 
 /// The pieces of a book's one text, if neither it nor the facts are over their limit.

@@ -8,10 +8,19 @@ use perm_ranks::Shape;
 pub type Line = ArrayVec<u8, MAX_SENT>;
 
 /// In which orders the steps are sent: by all words of the shape, or by the lines of the file.
-#[derive(Drop)]
 pub enum Orders {
     Words(Shape),
     Lines(Vec<Line>),
+}
+
+// Written out and not derived, so that who owns one calls this and does not let its parts go one by one.
+impl Drop for Orders {
+    fn drop(self) {
+        match self {
+            Orders::Words(_shape) => {}
+            Orders::Lines(_vec) => {}
+        }
+    }
 }
 
 /// The same line. `clone` can fail, and this can't.

@@ -13,10 +13,19 @@ use std::marker::Model;
 use version_tree::VMap;
 
 /// The modes that one session holds: by table, and there by key, so that a look-up takes no memory.
-#[derive(Drop)]
 pub struct Modes {
     tables: VMap<u16, Mode>,
     rows: VMap<u16, VMap<Value, Mode>>,
+}
+
+// Written out and not derived, so that who owns one calls this and does not let its parts go one by one.
+impl Drop for Modes {
+    fn drop(self) {
+        let Modes {
+            tables: _tables,
+            rows: _rows,
+        } = self;
+    }
 }
 
 impl Model for Modes {

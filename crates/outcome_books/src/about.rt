@@ -8,12 +8,22 @@ use perm_ranks::Shape;
 use std::alloc::{AllocError, Global};
 
 /// The spec's text, how many ranks it has, and their shape where they are words. Contracts see the file that the text is, too.
-#[derive(Drop)]
 pub(crate) struct About {
     pub(crate) text: String,
     pub(crate) ranks: u64,
     pub(crate) shape: Option<Shape>,
     pub(crate) ghost known: { FileOf (string_bytes text) } by { one_file_of (string_bytes text) },
+}
+
+// Written out and not derived, so that who owns one calls this and does not let its parts go one by one.
+impl Drop for About {
+    fn drop(self) {
+        let About {
+            text: _text,
+            ranks: _,
+            shape: _shape,
+        } = self;
+    }
 }
 
 impl About {

@@ -14,11 +14,21 @@ use std::alloc::{AllocError, Global};
 use std::marker::Model;
 
 /// Facts of ranks up to `next`.
-#[derive(Drop)]
 pub struct Builder {
     table: Table,
     runs: Vec<Run>,
     next: u64,
+}
+
+// Written out and not derived, so that who owns one calls this and does not let its parts go one by one.
+impl Drop for Builder {
+    fn drop(self) {
+        let Builder {
+            table: _table,
+            runs: _runs,
+            next: _,
+        } = self;
+    }
 }
 
 impl Model for Builder {
@@ -68,7 +78,12 @@ impl Builder {
         ensures is { built_of result.0 result.1.items self.next ≡ self }
         ensures kept { IsKept result.0 result.1.items }
     {
-        (self.table, self.runs)
+        let Builder {
+            table,
+            runs,
+            next: _,
+        } = self;
+        (table, runs)
     }
 }
 

@@ -12,10 +12,19 @@ use transcripts::Outcome;
 
 /// Outcomes in the order of their numbers, seen by contracts as their list. The index has a number for a fingerprint. What it tells is
 /// looked up and compared, so that nothing but the table's size depends on it.
-#[derive(Drop)]
 pub(crate) struct Table {
     outcomes: Vec<Outcome>,
     index: BTreeMap<u64, usize>,
+}
+
+// Written out and not derived, so that who owns one calls this and does not let its parts go one by one.
+impl Drop for Table {
+    fn drop(self) {
+        let Table {
+            outcomes: _outcomes,
+            index: _index,
+        } = self;
+    }
 }
 
 impl Model for Table {

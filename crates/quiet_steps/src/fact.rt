@@ -3,13 +3,22 @@ use std::alloc::AllocError;
 use transcripts::Outcome;
 
 /// What is known of a rank.
-#[derive(Drop)]
 pub enum Fact {
     /// Its line was run, with this outcome.
     Ran(Outcome),
     /// It tells that the two steps at this place of its line and after it are quiet and stand in falling order, so that exchanging
     /// them leads to a smaller rank with the same outcome. Places count from 0.
     Swap(u8),
+}
+
+// Written out and not derived, so that who owns one calls this and does not let its parts go one by one.
+impl Drop for Fact {
+    fn drop(self) {
+        match self {
+            Fact::Ran(_outcome) => {}
+            Fact::Swap(_) => {}
+        }
+    }
 }
 
 impl Fork for Fact {

@@ -8,11 +8,21 @@ use std::alloc::{AllocError, Global};
 use std::marker::Model;
 
 /// A row, or none, that a statement leaves at a place.
-#[derive(Drop)]
 pub struct Write {
     table: u16,
     key: Value,
     left: Option<Row>,
+}
+
+// Written out and not derived, so that who owns one calls this and does not let its parts go one by one.
+impl Drop for Write {
+    fn drop(self) {
+        let Write {
+            table: _,
+            key: _key,
+            left: _left,
+        } = self;
+    }
 }
 
 impl Model for Write {
@@ -36,7 +46,8 @@ impl Write {
         ensures place { (result.0, result.1) ≡ self.place }
         ensures left { result.2 ≡ self.left }
     {
-        (self.table, self.key, self.left)
+        let Write { table, key, left } = self;
+        (table, key, left)
     }
 }
 

@@ -6,9 +6,15 @@ use std::alloc::AllocError;
 use std::marker::Model;
 
 /// What is left at a place, a row or none. Contracts see the option.
-#[derive(Drop)]
 pub(crate) struct Left {
     row: Option<Row>,
+}
+
+// Written out and not derived, so that who owns one calls this and does not let its parts go one by one.
+impl Drop for Left {
+    fn drop(self) {
+        let Left { row: _row } = self;
+    }
 }
 
 impl Model for Left {
@@ -30,7 +36,8 @@ impl Left {
     pub fn into_row(self) -> Option<Row>
         ensures { result ≡ self }
     {
-        self.row
+        let Left { row } = self;
+        row
     }
 }
 

@@ -18,11 +18,20 @@ use std::marker::Model;
 use version_tree::{Iter, VMap};
 
 /// Rows by table and key, in persistent versions. Contracts see their finite map.
-#[derive(Drop)]
 pub(crate) struct Rows {
     tables: VMap<u16, VMap<Value, Row>>,
     /// The rows of a table that is not in `tables`.
     no_rows: VMap<Value, Row>,
+}
+
+// Written out and not derived, so that who owns one calls this and does not let its parts go one by one.
+impl Drop for Rows {
+    fn drop(self) {
+        let Rows {
+            tables: _tables,
+            no_rows: _no_rows,
+        } = self;
+    }
 }
 
 impl Model for Rows {

@@ -16,10 +16,19 @@ pub(crate) struct Rest {
 }
 
 /// A session of a world, with what is left of its step while it waits.
-#[derive(Drop)]
 pub(crate) struct Member {
     pub(crate) state: SessionState,
     pub(crate) rest: Option<Rest>,
+}
+
+// Written out and not derived, so that who owns one calls this and does not let its parts go one by one.
+impl Drop for Member {
+    fn drop(self) {
+        let Member {
+            state: _state,
+            rest: _rest,
+        } = self;
+    }
 }
 
 impl Member {

@@ -10,10 +10,19 @@ use std::alloc::{AllocError, Global};
 use std::marker::Model;
 
 /// The steps of a session so far, seen by contracts as their list.
-#[derive(Drop)]
 pub struct KnownSteps {
     each: Vec<Step>,
     names: NameSet,
+}
+
+// Written out and not derived, so that who owns one calls this and does not let its parts go one by one.
+impl Drop for KnownSteps {
+    fn drop(self) {
+        let KnownSteps {
+            each: _each,
+            names: _names,
+        } = self;
+    }
 }
 
 impl Model for KnownSteps {
@@ -62,16 +71,29 @@ impl KnownSteps {
     pub fn into_vec(self) -> Vec<Step>
         ensures { map step_tree result.items ≡ self }
     {
-        self.each
+        let KnownSteps {
+            each,
+            names: _names,
+        } = self;
+        each
     }
 }
 
 /// The sessions so far, seen by contracts as their list.
-#[derive(Drop)]
 pub struct KnownSessions {
     each: Vec<Session>,
     names: NameSet,
     names_of_steps: NameSet,
+}
+
+impl Drop for KnownSessions {
+    fn drop(self) {
+        let KnownSessions {
+            each: _each,
+            names: _names,
+            names_of_steps: _names_of_steps,
+        } = self;
+    }
 }
 
 impl Model for KnownSessions {
@@ -134,7 +156,12 @@ impl KnownSessions {
     pub fn into_vec(self) -> Vec<Session>
         ensures { map session_tree result.items ≡ self }
     {
-        self.each
+        let KnownSessions {
+            each,
+            names: _names,
+            names_of_steps: _names_of_steps,
+        } = self;
+        each
     }
 }
 

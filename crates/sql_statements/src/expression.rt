@@ -4,19 +4,35 @@ use lock_modes::Value;
 use sqlite_items::Items;
 
 /// A value, or a column of the row.
-#[derive(Drop)]
 pub enum Operand {
     Literal(Value),
     /// The column's number, from 0.
     Column(u16),
 }
 
+impl Drop for Operand {
+    fn drop(self) {
+        match self {
+            Operand::Literal(_value) => {}
+            Operand::Column(_u16) => {}
+        }
+    }
+}
+
 /// One or more operands, which are multiplied from the left.
-#[derive(Drop)]
 pub struct Product {
     pub first: Operand,
     /// Those behind the first, in their order.
     pub more: Items<Operand>,
+}
+
+impl Drop for Product {
+    fn drop(self) {
+        let Product {
+            first: _first,
+            more: _more,
+        } = self;
+    }
 }
 
 /// What stands between two products.

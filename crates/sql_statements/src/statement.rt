@@ -14,12 +14,20 @@ pub enum Aggregate {
 }
 
 /// What a select shows.
-#[derive(Drop)]
 pub enum Output {
     /// These columns of each row, in this order.
     Columns(Items<u16>),
     /// One row of these numbers.
     Aggregates(Items<Aggregate>),
+}
+
+impl Drop for Output {
+    fn drop(self) {
+        match self {
+            Output::Columns(_items) => {}
+            Output::Aggregates(_items) => {}
+        }
+    }
 }
 
 /// How the rows stand that a column sorts.

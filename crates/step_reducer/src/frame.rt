@@ -20,11 +20,21 @@ use std::alloc::AllocError;
 pub(crate) type Swaps = ArrayVec<bool, MAX_SESSIONS>;
 
 /// The words that begin with the same letters, the world after these, and with which next letters the last one makes a swap.
-#[derive(Drop)]
 pub(crate) struct Frame<'a> {
     pub(crate) block: Block,
     pub(crate) swaps: Swaps,
     pub(crate) world: World<'a>,
+}
+
+// Written out and not derived, so that who owns one calls this and does not let its parts go one by one.
+impl Drop for Frame<'_> {
+    fn drop(self) {
+        let Frame {
+            block: _block,
+            swaps: _swaps,
+            world: _world,
+        } = self;
+    }
 }
 
 /// Where the word of a rank goes on from a frame: its next letter, the step of it, the words that share the letter too, and with

@@ -16,11 +16,21 @@ use transcripts::Outcome;
 
 /// The steps of a spec that were sent last, with the world before each of them and the one after all. Lines that begin alike share
 /// the worlds of what they begin with.
-#[derive(Drop)]
 pub struct Path<'a> {
     pub(crate) spec: &'a Spec,
     pub(crate) line: Line,
     pub(crate) trail: Trail<'a>,
+}
+
+// Written out and not derived, so that who owns one calls this and does not let its parts go one by one.
+impl Drop for Path<'_> {
+    fn drop(self) {
+        let Path {
+            spec: _,
+            line: _line,
+            trail: _trail,
+        } = self;
+    }
 }
 
 impl<'a> Path<'a> {

@@ -8,10 +8,19 @@ use crate::frame::{Frame, Turn};
 use std::alloc::AllocError;
 
 /// The frame of the longest prefix, and below it frames of shorter ones that later words share.
-#[derive(Drop)]
 pub(crate) struct Stack<'a> {
     pub(crate) below: Vec<Frame<'a>>,
     pub(crate) top: Frame<'a>,
+}
+
+// Written out and not derived, so that who owns one calls this and does not let its parts go one by one.
+impl Drop for Stack<'_> {
+    fn drop(self) {
+        let Stack {
+            below: _below,
+            top: _top,
+        } = self;
+    }
 }
 
 impl<'a> Stack<'a> {

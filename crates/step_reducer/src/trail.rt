@@ -10,10 +10,19 @@ use session_machine::World;
 use std::alloc::AllocError;
 
 /// The worlds after none, one, two .. and all steps of a line.
-#[derive(Drop)]
 pub(crate) struct Trail<'a> {
     pub(crate) below: Vec<World<'a>>,
     pub(crate) top: World<'a>,
+}
+
+// Written out and not derived, so that who owns one calls this and does not let its parts go one by one.
+impl Drop for Trail<'_> {
+    fn drop(self) {
+        let Trail {
+            below: _below,
+            top: _top,
+        } = self;
+    }
 }
 
 impl<'a> Trail<'a> {

@@ -20,7 +20,6 @@ use session_machine::World;
 use std::alloc::{AllocError, Global};
 
 /// Stands before a rank, with worlds of prefixes of its word that later words share.
-#[derive(Drop)]
 pub(crate) struct WordWalk<'a> {
     pub(crate) table: StepTable,
     pub(crate) reduce: bool,
@@ -28,6 +27,20 @@ pub(crate) struct WordWalk<'a> {
     pub(crate) steps: u8,
     pub(crate) at: u64,
     pub(crate) stack: Stack<'a>,
+}
+
+// Written out and not derived, so that who owns one calls this and does not let its parts go one by one.
+impl Drop for WordWalk<'_> {
+    fn drop(self) {
+        let WordWalk {
+            table: _table,
+            reduce: _,
+            end: _,
+            steps: _,
+            at: _,
+            stack: _stack,
+        } = self;
+    }
 }
 
 /// A fact, the rank behind the last one that has it, and how many steps were sent for it.

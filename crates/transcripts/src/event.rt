@@ -25,7 +25,6 @@ pub enum Warning {
 }
 
 /// One line of a transcript.
-#[derive(Drop)]
 pub enum Event {
     /// The step with this number begins.
     Sent(u8),
@@ -61,6 +60,31 @@ pub enum Event {
     Done,
     /// The step with this number is skipped, since its session waits.
     NotSent(u8),
+}
+
+// Written out and not derived, so that who owns one calls this and does not let its parts go one by one.
+impl Drop for Event {
+    fn drop(self) {
+        match self {
+            Event::Sent(_) => {}
+            Event::Row(_row) => {}
+            Event::Rows(_) => {}
+            Event::Inserted(_) => {}
+            Event::Updated(_) => {}
+            Event::Deleted(_) => {}
+            Event::Began => {}
+            Event::Committed => {}
+            Event::RolledBack => {}
+            Event::Locked => {}
+            Event::Set => {}
+            Event::Warned(_) => {}
+            Event::Failed(_) => {}
+            Event::Waiting => {}
+            Event::Resumed => {}
+            Event::Done => {}
+            Event::NotSent(_) => {}
+        }
+    }
 }
 
 impl Event {

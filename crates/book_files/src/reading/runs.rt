@@ -27,10 +27,19 @@ pub(crate) struct Span {
 }
 
 /// For each outcome and each place the end of the last run that names it, 0 where none does.
-#[derive(Drop)]
 pub(crate) struct Ends {
     pub(crate) ran: Vec<u64>,
     pub(crate) swap: Vec<u64>,
+}
+
+// Written out and not derived, so that who owns one calls this and does not let its parts go one by one.
+impl Drop for Ends {
+    fn drop(self) {
+        let Ends {
+            ran: _ran,
+            swap: _swap,
+        } = self;
+    }
 }
 
 impl Ends {
