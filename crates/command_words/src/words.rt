@@ -69,20 +69,89 @@ fn no_command(alloc: Global) -> Result<Error, AllocError> {
     command(alloc)?.error(ErrorKind::MissingSubcommand, "no command")
 }
 
+/// A word that a command takes.
+#[derive(Clone, Copy, Drop)]
+enum Word {
+    Spec,
+    Rank,
+    First,
+    End,
+    Every,
+    Workers,
+    Progress,
+    Books,
+    Book,
+    Accepted,
+}
+
+/// A command: its name, what it does, and its words in their order.
+#[derive(Clone, Copy, Drop)]
+struct Row {
+    name: &'static str,
+    about: &'static str,
+    words: &'static [Word],
+}
+
+static COMMANDS: [Row; 8] = [
+    Row {
+        name: "check",
+        about: "Prints how much a spec has, or where it is wrong and why",
+        words: &[Word::Spec],
+    },
+    Row {
+        name: "one",
+        about: "Runs one permutation and prints what each session saw",
+        words: &[Word::Spec, Word::Rank],
+    },
+    Row {
+        name: "count",
+        about: "Prints how many permutations a spec has",
+        words: &[Word::Spec],
+    },
+    Row {
+        name: "run",
+        about: "Runs a range of permutations and prints the book of what they show",
+        words: &[
+            Word::Spec,
+            Word::First,
+            Word::End,
+            Word::Every,
+            Word::Workers,
+            Word::Progress,
+        ],
+    },
+    Row {
+        name: "join",
+        about: "Prints one book with the facts of all",
+        words: &[Word::Books],
+    },
+    Row {
+        name: "report",
+        about: "Prints what each session saw in each permutation",
+        words: &[Word::Book],
+    },
+    Row {
+        name: "audit",
+        about: "Tests each fact of a book again, and prints the first permutation with a false one",
+        words: &[Word::Book],
+    },
+    Row {
+        name: "judge",
+        about: "Prints which accepted book tells the same, or where each differs first",
+        words: &[Word::Book, Word::Accepted],
+    },
+];
+
 /// The commands and their words.
 fn command<'a>(alloc: Global) -> Result<Command<'a>, AllocError> {
-    let command = Command::new(alloc, "isofarm")
+    let mut command = Command::new(alloc, "isofarm")
         .about("Runs the steps of SQL sessions in their orders, under two-phase locking")
         .version(VERSION)
         .subcommand_required(true);
-    let command = with(command, check_command(alloc))?;
-    let command = with(command, one_command(alloc))?;
-    let command = with(command, count_command(alloc))?;
-    let command = with(command, run_command(alloc))?;
-    let command = with(command, join_command(alloc))?;
-    let command = with(command, report_command(alloc))?;
-    let command = with(command, audit_command(alloc))?;
-    with(command, judge_command(alloc))
+    for row in &COMMANDS {
+        command = with(command, command_of(alloc, row))?;
+    }
+    Ok(command)
 }
 
 /// The command with one more below it.
@@ -96,38 +165,36 @@ fn with<'a>(
     }
 }
 
-fn check_command<'a>(alloc: Global) -> Result<Command<'a>, AllocError> {
-    Command::new(alloc, "check")
-        .about("Prints how much a spec has, or where it is wrong and why")
-        .arg(spec_word(alloc))
+/// The command of a row.
+fn command_of<'a>(alloc: Global, row: &'static Row) -> Result<Command<'a>, AllocError> {
+    let mut command = Command::new(alloc, row.name).about(row.about);
+    for word in row.words {
+        command = command.arg(arg_of(alloc, *word))?;
+    }
+    Ok(command)
 }
 
-fn one_command<'a>(alloc: Global) -> Result<Command<'a>, AllocError> {
-    Command::new(alloc, "one")
-        .about("Runs one permutation and prints what each session saw")
-        .arg(spec_word(alloc))?
-        .arg(number_word(alloc, "RANK", "The number of a permutation, from 0"))
-}
-
-fn count_command<'a>(alloc: Global) -> Result<Command<'a>, AllocError> {
-    Command::new(alloc, "count")
-        .about("Prints how many permutations a spec has")
-        .arg(spec_word(alloc))
-}
-
-fn run_command<'a>(alloc: Global) -> Result<Command<'a>, AllocError> {
-    Command::new(alloc, "run")
-        .about("Runs a range of permutations and prints the book of what they show")
-        .arg(spec_word(alloc))?
-        .arg(number_word(alloc, "FIRST", "The number of the first permutation"))?
-        .arg(number_word(
+fn arg_of<'a>(alloc: Global, word: Word) -> Arg<'a> {
+    match word {
+        Word::Spec => spec_word(alloc),
+        Word::Rank => number_word(alloc, "RANK", "The number of a permutation, from 0"),
+        Word::First => number_word(alloc, "FIRST", "The number of the first permutation"),
+        Word::End => number_word(
             alloc,
             "END",
             "The number behind that of the last permutation",
-        ))?
-        .arg(every_word(alloc))?
-        .arg(workers_word(alloc))?
-        .arg(progress_word(alloc))
+        ),
+        Word::Every => every_word(alloc),
+        Word::Workers => workers_word(alloc),
+        Word::Progress => progress_word(alloc),
+        Word::Books => books_word(alloc, "BOOK", "Book files of one spec"),
+        Word::Book => book_word(alloc),
+        Word::Accepted => books_word(
+            alloc,
+            "ACCEPTED",
+            "Book files of outcomes that are accepted",
+        ),
+    }
 }
 
 fn every_word<'a>(alloc: Global) -> Arg<'a> {
@@ -154,39 +221,12 @@ fn progress_word<'a>(alloc: Global) -> Arg<'a> {
         .help("Tells on standard error how far it is")
 }
 
-fn join_command<'a>(alloc: Global) -> Result<Command<'a>, AllocError> {
-    let books = Arg::new(alloc, "BOOK")
+fn books_word<'a>(alloc: Global, name: &'a str, help: &'a str) -> Arg<'a> {
+    Arg::new(alloc, name)
         .required(true)
         .action(ArgAction::Append)
         .num_args(1..=MAX_BOOKS)
-        .help("Book files of one spec");
-    Command::new(alloc, "join")
-        .about("Prints one book with the facts of all")
-        .arg(books)
-}
-
-fn report_command<'a>(alloc: Global) -> Result<Command<'a>, AllocError> {
-    Command::new(alloc, "report")
-        .about("Prints what each session saw in each permutation")
-        .arg(book_word(alloc))
-}
-
-fn audit_command<'a>(alloc: Global) -> Result<Command<'a>, AllocError> {
-    Command::new(alloc, "audit")
-        .about("Tests each fact of a book again, and prints the first permutation with a false one")
-        .arg(book_word(alloc))
-}
-
-fn judge_command<'a>(alloc: Global) -> Result<Command<'a>, AllocError> {
-    let accepted = Arg::new(alloc, "ACCEPTED")
-        .required(true)
-        .action(ArgAction::Append)
-        .num_args(1..=MAX_BOOKS)
-        .help("Book files of outcomes that are accepted");
-    Command::new(alloc, "judge")
-        .about("Prints which accepted book tells the same, or where each differs first")
-        .arg(book_word(alloc))?
-        .arg(accepted)
+        .help(help)
 }
 
 fn book_word<'a>(alloc: Global) -> Arg<'a> {
@@ -212,30 +252,19 @@ fn number_word<'a>(alloc: Global, name: &'a str, help: &'a str) -> Arg<'a> {
 }
 
 fn asked_of<'a>(alloc: Global, matches: &ArgMatches<'a>) -> Result<Option<Asked<'a>>, AllocError> {
-    if let Some(words) = matches.subcommand_matches("check") {
-        return Ok(check_of_words(words));
-    }
-    if let Some(words) = matches.subcommand_matches("one") {
-        return Ok(one_of_words(words));
-    }
-    if let Some(words) = matches.subcommand_matches("count") {
-        return Ok(count_of_words(words));
-    }
-    if let Some(words) = matches.subcommand_matches("run") {
-        return Ok(run_of_words(words));
-    }
-    if let Some(words) = matches.subcommand_matches("join") {
-        return join_of_words(alloc, words);
-    }
-    if let Some(words) = matches.subcommand_matches("report") {
-        return Ok(report_of_words(words));
-    }
-    if let Some(words) = matches.subcommand_matches("audit") {
-        return Ok(audit_of_words(words));
-    }
-    match matches.subcommand_matches("judge") {
-        Some(words) => judge_of_words(alloc, words),
-        None => Ok(None),
+    let Some((name, words)) = matches.subcommand() else {
+        return Ok(None);
+    };
+    match name {
+        "check" => Ok(check_of_words(words)),
+        "one" => Ok(one_of_words(words)),
+        "count" => Ok(count_of_words(words)),
+        "run" => Ok(run_of_words(words)),
+        "join" => join_of_words(alloc, words),
+        "report" => Ok(report_of_words(words)),
+        "audit" => Ok(audit_of_words(words)),
+        "judge" => judge_of_words(alloc, words),
+        _ => Ok(None),
     }
 }
 
