@@ -1,5 +1,5 @@
-//! The tests of the machine, of the walker, and of books and their files, in one crate above them, so that each of these is proved once. It
-//! exports what they share with the tests of the program.
+//! The tests of the machine, of the walker, of books and their files, and of boards and farms, in one crate above them, so that each of these
+//! is proved once. It exports what they share with the tests of the program.
 //!
 //! A test that speaks of a refusal of memory accepts the full answer or the named refusal with what it leaves: it is to be read under
 //! `rt try --test --fail-alloc` too.
@@ -8,9 +8,19 @@
 #[cfg(test)]
 mod asserts;
 #[cfg(test)]
+mod boards;
+#[cfg(test)]
 mod books;
 #[cfg(test)]
+mod farms;
+#[cfg(test)]
+mod gates;
+#[cfg(test)]
 mod read_books;
+#[cfg(test)]
+mod refusals;
+#[cfg(test)]
+mod six_ranks;
 mod texts;
 mod told;
 #[cfg(test)]

@@ -53,7 +53,7 @@ fn book_row(row: &str) -> Option<BookRow<'_>> {
 }
 
 /// What is written of a book. None where memory ran out.
-fn bytes_of(alloc: Global, book: &Book) -> Option<Vec<u8>> {
+pub(crate) fn bytes_of(alloc: Global, book: &Book) -> Option<Vec<u8>> {
     let mut out = Counted::new(Vec::new(alloc));
     match write_book(alloc, book, &mut out) {
         Ok(()) => Some(out.into_inner()),
@@ -61,7 +61,13 @@ fn bytes_of(alloc: Global, book: &Book) -> Option<Vec<u8>> {
     }
 }
 
-fn assert_book(rt: &impl Abort, alloc: Global, book: &Book, want: &str, name: &str) -> Option<()> {
+pub(crate) fn assert_book(
+    rt: &impl Abort,
+    alloc: Global,
+    book: &Book,
+    want: &str,
+    name: &str,
+) -> Option<()> {
     let bytes = bytes_of(alloc, book)?;
     assert_bytes(rt, &bytes, want, name);
     Some(())

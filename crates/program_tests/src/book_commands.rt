@@ -1,11 +1,11 @@
 //! The commands that count and run ranks and that join and report books, over a disk with some files. The test without memory is to
 //! be read under `rt try --test --fail-alloc` too.
 use crate::commands::{BrokenPipe, FIRST, FullDevice, assert_no_command, assert_write_fault};
-use crate::disks::{Disk, FileReader, assert_tells, assert_told, told_by};
+use crate::disks::{Disk, assert_tells, assert_told, told_by};
 use crate::memory::assert_front;
 use crate::runs::lines_of;
+use crate::shelf::{Shelf, file_of};
 use book_tests::{Told, words_of};
-use iso_farm::Opener;
 use std::alloc::{AllocError, Global};
 use std::process::Abort;
 use std::sync::Wait;
@@ -60,37 +60,6 @@ rank.book | {"facts":[[0,2,"ran",0]],"format":2,"outcomes":[[[["sent",0],"done"]
 order.book | {"facts":[[0,"ran",[[["sent",0],"done"]]],[0,"ran",[[["sent",0],"done"]]]],"format":1,"spec":"session a step s {}"}
 swap.book | {"facts":[[0,"swap",0]],"format":1,"spec":"session a step s {}"}
 size.book | {"facts":[[0,30000001,"ran",0]],"format":2,"outcomes":[[[["sent",0],"done"]]],"spec":"session a step s {}"}"#;
-
-/// The path and the text of a file in rows.
-fn file_of<'a>(rows: &'a str, path: &str) -> Option<(&'a str, &'a str)> {
-    for row in rows.lines() {
-        let (name, text) = row.split_once(" | ")?;
-        if name == path {
-            return Some((name, text));
-        }
-    }
-    None
-}
-
-// A disk whose files stand in rows.
-#[derive(Drop)]
-struct Shelf<'a> {
-    rows: &'a str,
-}
-
-impl<'a> Opener for Shelf<'a> {
-    type Reader = FileReader<'a>;
-
-    fn open(&self, path: &str) -> Option<FileReader<'a>> {
-        let (name, text) = file_of(self.rows, path)?;
-        let file = Disk {
-            path: name,
-            text: text.as_bytes(),
-            calls_left: None,
-        };
-        file.open(name)
-    }
-}
 
 /// What a line of words tells over the files.
 fn tell_of_files(

@@ -1,10 +1,12 @@
-//! The tests of binding, and of the machine by what the program tells, and those of the program's commands, in one crate above them, so that
-//! each of these is proved once.
+//! The tests of binding, of the machine by what the program tells, of audits and judgements, and of the program's commands, in one crate above
+//! them, so that each of these is proved once.
 //!
 //! A test that speaks of a refusal of memory accepts the full answer or the named refusal with what it leaves: it is to be read under
 //! `rt try --test --fail-alloc` too.
 #![tactic(auto)]
 
+#[cfg(test)]
+mod audits;
 #[cfg(test)]
 mod book_commands;
 #[cfg(test)]
@@ -24,4 +26,8 @@ mod progress;
 #[cfg(test)]
 mod runs;
 #[cfg(test)]
+mod shelf;
+#[cfg(test)]
 mod statements;
+#[cfg(test)]
+mod verdicts;

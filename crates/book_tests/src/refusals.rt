@@ -5,8 +5,9 @@ ghost use Rattle.std.specs.Prelude.{◌≡◌, All};
 use crate::boards::{assert_front, board_of};
 use crate::farms::SHARDS;
 use crate::gates::{HOLDS_NONE, Hold, bit};
-use crate::texts::{SIX, assert_text, made, spec_of};
-use book_tests::DISJOINT;
+use crate::six_ranks::{assert_six, made};
+use crate::texts::DISJOINT;
+use crate::walks::bound;
 use bound_specs::Spec;
 use outcome_books::{Book, join};
 use session_machine::StartError;
@@ -117,7 +118,7 @@ fn assert_board_in_the_end<R: Wait + Abort>(
 
 #[test]
 fn a_refused_turn_is_one_and_can_be_asked_for_again(rt: HostRuntime) {
-    if let Some(spec) = spec_of(rt.alloc(), DISJOINT) {
+    if let Some(spec) = bound(rt.alloc(), DISJOINT) {
         if let Some(Ok((board, seats))) = board_of(rt.alloc(), &spec, 1) {
             let _ = assert_board_in_the_end(&rt, rt.alloc(), &spec, &board, seats);
         }
@@ -196,9 +197,9 @@ fn farmed_again<R: Threads + Wait + Abort + Clock + Sync>(
 
 #[test]
 fn a_farm_is_whole_or_names_what_is_missing(rt: HostRuntime) -> Result<(), Fail> {
-    if let Some(spec) = spec_of(rt.alloc(), DISJOINT) {
+    if let Some(spec) = bound(rt.alloc(), DISJOINT) {
         if let Some(book) = farmed_again(&rt, rt.alloc(), &spec) {
-            let _ = assert_text(&rt, rt.alloc(), &book, SIX);
+            let _ = assert_six(&rt, rt.alloc(), &book);
         }
     }
     Ok(())

@@ -1,7 +1,7 @@
 use Rattle.std.proofs.Common.{◌≡◌, All, sym, subst}
 use Rattle.std.proofs.lemmas.List.Elements.{All-push, All-pop}
 use Rattle.shard_board.specs.declared.seat.Seat.{Seat}
-use Rattle.farm_tests.proofs.boards.assert_board.Goals as goal
+use Rattle.book_tests.proofs.boards.assert_board.Goals as goal
 
 -- the two seats are put behind the others, and all are of the board
 pub close-closed-requires-clause-seats : goal.close-closed-requires-clause-seats

@@ -2,8 +2,9 @@
 ghost use Rattle.std.specs.Prelude.{◌≡◌, All, vec_len, IfSome, IfOk};
 
 use crate::farms::SHARDS;
-use crate::texts::{SIX, assert_same, assert_text, made, spec_of};
-use book_tests::DISJOINT;
+use crate::six_ranks::{assert_same, assert_six, made};
+use crate::texts::DISJOINT;
+use crate::walks::bound;
 use bound_specs::Spec;
 use outcome_books::Book;
 use shard_board::{
@@ -137,12 +138,12 @@ fn assert_board<R: Wait + Abort>(
     done?;
     assert_eq!(rt; closed.claimed, 2, "claims");
     assert_eq!(rt; closed.turns, 3, "turns");
-    assert_text(rt, alloc, &closed.book, SIX)
+    assert_six(rt, alloc, &closed.book)
 }
 
 #[test]
 fn two_seats_deliver_the_shards_of_a_board(rt: HostRuntime) -> Result<(), Fail> {
-    let spec = spec_of(rt.alloc(), DISJOINT).ok_or("a spec")?;
+    let spec = bound(rt.alloc(), DISJOINT).ok_or("a spec")?;
     match board_of(rt.alloc(), &spec, 2) {
         Some(Ok((board, seats))) => {
             assert_board(&rt, rt.alloc(), &spec, board, seats).ok_or("a book")?
@@ -154,7 +155,7 @@ fn two_seats_deliver_the_shards_of_a_board(rt: HostRuntime) -> Result<(), Fail> 
 
 #[test]
 fn a_board_of_no_or_too_many_seats_is_refused(rt: HostRuntime) -> Result<(), Fail> {
-    let spec = spec_of(rt.alloc(), DISJOINT).ok_or("a spec")?;
+    let spec = bound(rt.alloc(), DISJOINT).ok_or("a spec")?;
     for seats in [0, 17] {
         let made = board_of(rt.alloc(), &spec, seats).ok_or("memory")?;
         assert!(rt; matches!(made, Err(BoardError::BadPlan)), "{seats}");
@@ -217,7 +218,7 @@ fn assert_all_turns<R: Wait + Abort>(
 
 #[test]
 fn a_seat_has_a_hundred_thousand_turns(rt: HostRuntime) -> Result<(), Fail> {
-    let spec = spec_of(rt.alloc(), DISJOINT).ok_or("a spec")?;
+    let spec = bound(rt.alloc(), DISJOINT).ok_or("a spec")?;
     match board_of(rt.alloc(), &spec, 1) {
         Some(Ok((board, seats))) => {
             assert_all_turns(&rt, rt.alloc(), &spec, &board, seats).ok_or("a book")?

@@ -1,7 +1,8 @@
 //! Farms by their calls: the book of a plan by few and many workers, workers that go on while others are held, and what is refused.
 use crate::gates::{Hold, Holding};
-use crate::texts::{SIX, assert_same, assert_text, made, spec_of};
-use book_tests::DISJOINT;
+use crate::six_ranks::{assert_same, assert_six, made};
+use crate::texts::DISJOINT;
+use crate::walks::bound;
 use bound_specs::Spec;
 use session_machine::StartError;
 use shard_farm::{FarmError, Gate, OpenGate, farm_run};
@@ -31,14 +32,14 @@ fn assert_farmed<R: Threads + Wait + Abort + Sync, G: Gate + Sync>(
     gate: &G,
 ) -> Option<()> {
     let book = farm_run(rt, alloc, spec, &SHARDS, true, workers, gate).ok()?;
-    assert_text(rt, alloc, &book, SIX)?;
+    assert_six(rt, alloc, &book)?;
     let job = made(alloc, spec, 0, 6)?;
     assert_same(rt, alloc, &book, &job)
 }
 
 #[test]
 fn any_workers_give_the_book_of_the_ranks(rt: HostRuntime) -> Result<(), Fail> {
-    let spec = spec_of(rt.alloc(), DISJOINT).ok_or("a spec")?;
+    let spec = bound(rt.alloc(), DISJOINT).ok_or("a spec")?;
     for workers in [1, 2, 16] {
         assert_farmed(&rt, rt.alloc(), &spec, workers, &OpenGate).ok_or("a book")?;
     }
@@ -89,7 +90,7 @@ fn assert_let_go<R: Threads + Wait + Abort + Clock + Sync>(
 
 #[test]
 fn a_worker_goes_on_while_another_is_held(rt: HostRuntime) -> Result<(), Fail> {
-    let spec = spec_of(rt.alloc(), DISJOINT).ok_or("a spec")?;
+    let spec = bound(rt.alloc(), DISJOINT).ok_or("a spec")?;
     for holding in &HOLDINGS {
         assert_let_go(&rt, rt.alloc(), &spec, *holding).ok_or("a book")?;
     }
@@ -109,7 +110,7 @@ fn refused<R: Threads + Wait + Sync>(
 
 #[test]
 fn a_plan_of_no_or_too_many_workers_is_refused(rt: HostRuntime) -> Result<(), Fail> {
-    let spec = spec_of(rt.alloc(), DISJOINT).ok_or("a spec")?;
+    let spec = bound(rt.alloc(), DISJOINT).ok_or("a spec")?;
     for workers in [0, 17] {
         let error = refused(&rt, rt.alloc(), &spec, &SHARDS, workers).ok_or("a refusal")?;
         assert!(rt; matches!(error, FarmError::BadPlan), "{error}");
@@ -125,7 +126,7 @@ const TWICE: &str =
 
 #[test]
 fn a_bad_plan_is_told_before_a_refused_start(rt: HostRuntime) -> Result<(), Fail> {
-    let spec = spec_of(rt.alloc(), TWICE).ok_or("a spec")?;
+    let spec = bound(rt.alloc(), TWICE).ok_or("a spec")?;
     let error = refused(&rt, rt.alloc(), &spec, &OUTSIDE, 4).ok_or("a refusal")?;
     assert!(rt; matches!(error, FarmError::BadPlan), "{error}");
     let error = refused(&rt, rt.alloc(), &spec, &[], 4).ok_or("a refusal")?;

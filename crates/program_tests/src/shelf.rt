@@ -1,0 +1,34 @@
+//! A disk whose files stand in rows.
+use crate::disks::{Disk, FileReader};
+use iso_farm::Opener;
+
+/// The path and the text of a file in rows.
+pub fn file_of<'a>(rows: &'a str, path: &str) -> Option<(&'a str, &'a str)> {
+    for row in rows.lines() {
+        let (name, text) = row.split_once(" | ")?;
+        if name == path {
+            return Some((name, text));
+        }
+    }
+    None
+}
+
+// A disk whose files stand in rows.
+#[derive(Drop)]
+pub struct Shelf<'a> {
+    pub rows: &'a str,
+}
+
+impl<'a> Opener for Shelf<'a> {
+    type Reader = FileReader<'a>;
+
+    fn open(&self, path: &str) -> Option<FileReader<'a>> {
+        let (name, text) = file_of(self.rows, path)?;
+        let file = Disk {
+            path: name,
+            text: text.as_bytes(),
+            calls_left: None,
+        };
+        file.open(name)
+    }
+}
