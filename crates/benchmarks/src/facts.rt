@@ -2,9 +2,10 @@
 
 use crate::walks::text_of;
 use bound_specs::Spec;
-use iso_farm::{OneFault, fault_at, spec_of};
+use iso_farm::fault_at;
 use outcome_texts::outcome_value;
 use session_machine::RunError;
+use spec_answers::{OneFault, spec_of};
 use std::io;
 use std::process::ExitCode;
 use step_reducer::{Fact, Shard, Walker};

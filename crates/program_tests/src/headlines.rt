@@ -1,8 +1,8 @@
 //! What jobs and plans of one spec tell together, from its bytes to its report.
 use crate::disks::assert_text;
+use book_answers::ReportFault;
 use book_jobs::{Boxed, Job};
 use farm_headline::{HeadlineFault, Plan, report_of_runs};
-use iso_farm::ReportFault;
 use outcome_books::ReportError;
 use outcome_texts::Counted;
 use session_machine::RunError;
