@@ -40,7 +40,7 @@ one : tree.Atom → tree.Condition
 one a = Alone (Single a)
 
 select : tree.Items → List ℕ → Option tree.Condition → tree.Statement
-select items name c = tree.Selects (record { items = items; table = name; where' = c; order = None })
+select items name c = tree.Selects (record { items = items; table = name; where' = c; order = None; lock = tree.lock_for items None })
 
 plan_of : tree.Statement → Bind (List Request)
 plan_of s = statement tables 7 s >>= λ b. Ok (plan b)

@@ -181,7 +181,7 @@ statement_faults tables at (tree.Update n as' c) = in_table tables (table_number
 statement_faults tables at (tree.Delete n c) = in_table tables (table_number tables n) (delete_faults at c)
 statement_faults tables at (tree.Begin start level) = no_faults
 statement_faults tables at (tree.Ends word noise) = no_faults
-statement_faults tables at (tree.Lock word n mode) = in_table tables (table_number tables n) (λ t. no_faults)
+statement_faults tables at (tree.Lock word n mode nowait) = in_table tables (table_number tables n) (λ t. no_faults)
 statement_faults tables at (tree.Set setting) = no_faults
 
 -- of a table that a main setup declares

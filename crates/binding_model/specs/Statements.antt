@@ -16,6 +16,9 @@ use Rattle.sql_grammar.specs.declared.statement.EndWord.{EndWord}
 use Rattle.sql_grammar.specs.declared.statement.EndWord.TheVariants as word
 use Rattle.sql_grammar.specs.declared.statement.LockMode.{LockMode}
 use Rattle.sql_grammar.specs.declared.statement.LockMode.TheVariants.{Access, RowLevel, Shared, Exclusively}
+use Rattle.sql_grammar.specs.declared.statement.LockedFor.{LockedFor}
+use Rattle.sql_grammar.specs.declared.statement.LockedFor.TheVariants as purpose
+use Rattle.sql_grammar.specs.declared.statement.RowLock.{RowLock as WrittenLock}
 use Rattle.sql_grammar.specs.declared.statement.SortKey.{SortKey as Sorted}
 use Rattle.sql_grammar.specs.declared.statement.Strength.TheVariants.{Share, Exclusive}
 use Rattle.sql_grammar.specs.declared.error.SqlErrorKind.TheVariants.{NotHere}
@@ -29,6 +32,7 @@ use Rattle.sql_statements.specs.declared.statement.Order.{Order}
 use Rattle.sql_statements.specs.declared.statement.Order.TheVariants.{Rises, Falls}
 use Rattle.sql_statements.specs.declared.statement.Output.{Output}
 use Rattle.sql_statements.specs.declared.statement.Output.TheVariants.{Columns, Aggregates}
+use Rattle.sql_statements.specs.declared.statement.RowLock.{RowLock}
 use Rattle.sql_statements.specs.declared.statement.SortKey.{SortKey}
 use Rattle.binding_model.specs.declared.error.BindErrorKind.TheVariants.{Sql, TypeMismatch, KeyChanged, WrongCount}
 use Rattle.binding_model.specs.declared.tables.Table.{Table}
@@ -112,13 +116,23 @@ abbrev pub sort_keys : Table → ℕ → Option (Chain Sorted) → Bind (List So
 sort_keys t at None = Ok []
 sort_keys t at (Some ks) = each (sort_key t at) (list_of ks)
 
-abbrev pub select_rows : Table → ℕ → ℕ → Output → List SortKey → Condition → Bind Bound
-select_rows t at n out by c = unless (output_mixes t out || condition_mixes t c) at TypeMismatch (Ok (Select n (key_of (key_column t) c) c by out))
+abbrev pub is_update : LockedFor → Bool
+is_update purpose.Update = true
+is_update purpose.Share = false
+
+-- FOR SHARE locks the rows as a select does that says nothing, and NOWAIT stays
+abbrev pub lock_of : Option WrittenLock → RowLock
+lock_of None = record { exclusive = false; nowait = false }
+lock_of (Some l) = record { exclusive = is_update l.locked_for; nowait = l.nowait }
+
+abbrev pub select_rows : Table → ℕ → ℕ → Output → List SortKey → RowLock → Condition → Bind Bound
+select_rows t at n out by lock c =
+    unless (output_mixes t out || condition_mixes t c) at TypeMismatch (Ok (Select n (key_of (key_column t) c) c by out lock))
 
 abbrev pub select : Table → ℕ → ℕ → tree.Select → Bind Bound
 select t at n s =
     output t at s.items >>= λ out. (sort_keys t at s.order >>= λ by. (where_of t at s.where' >>= λ c.
-    select_rows t at n out by c))
+    select_rows t at n out by (lock_of (tree.written_lock s.items s.lock)) c))
 
 -- ---- UPDATE and DELETE
 
@@ -179,5 +193,5 @@ statement tables at (tree.Update n as' c) = table tables at n >>= λ x. update x
 statement tables at (tree.Delete n c) = table tables at n >>= λ x. delete x.1 at x.0 c
 statement tables at (tree.Begin start level) = Ok Begin
 statement tables at (tree.Ends end noise) = Ok (end_of end)
-statement tables at (tree.Lock noise n mode) = table tables at n >>= λ x. Ok (Lock x.0 (mode_of mode))
+statement tables at (tree.Lock noise n mode nowait) = table tables at n >>= λ x. Ok (Lock x.0 (mode_of mode) nowait)
 statement tables at (tree.Set setting) = Ok SetVariable

@@ -26,7 +26,7 @@ pub enum BindErrorKind {
     DuplicateTable,
     /// New rows without each column once, a column that is set or declared twice, or two primary keys.
     WrongCount,
-    /// Over 6 sessions, over 24 steps without permutation lines, or over 255 with them.
+    /// Over 8 sessions, over 255 steps with permutation lines, or without them over 28 steps or orders whose ranks do not have 63 bits.
     Shape,
     /// Memory ran out. The offset is 0.
     NoMemory,

@@ -4,7 +4,7 @@ use Rattle.serde_json.specs.Data.{unsigned, negative, Data, number, string, arra
 use Rattle.serde_json.specs.View.{items_of}
 use Rattle.lock_modes.specs.declared.value.Value.{Value}
 use Rattle.lock_modes.specs.declared.value.Value.TheVariants.{Int, Text}
-use Rattle.transcripts.specs.declared.event.Fault.TheVariants.{Duplicate, OutOfRange, Deadlock, Aborted}
+use Rattle.transcripts.specs.declared.event.Fault.TheVariants.{Duplicate, OutOfRange, Deadlock, Aborted, Unavailable}
 use Rattle.transcripts.specs.declared.event.Warning.TheVariants.{InBlock, NoBlock}
 use Rattle.transcripts.specs.declared.event.Event.{Event}
 use Rattle.transcripts.specs.declared.event.Event.TheVariants.{Sent, Row, Rows, Inserted, Updated, Deleted, Began, Committed, RolledBack, Locked, Set, Warned}
@@ -45,7 +45,8 @@ tagged_of w d =
     (codes "deleted")) (Deleted (nat_in d))
     (cond (bytes_eq w (codes "warned")) (Warned (cond (bytes_eq (nat_in d ∷ []) (1 ∷ [])) InBlock NoBlock))
     (cond (bytes_eq w (codes "failed")) (Failed (cond (bytes_eq (nat_in d ∷ []) (1 ∷ [])) Duplicate (cond (bytes_eq (nat_in d ∷ [])
-    (2 ∷ [])) OutOfRange (cond (bytes_eq (nat_in d ∷ []) (3 ∷ [])) Deadlock Aborted))))
+    (2 ∷ [])) OutOfRange (cond (bytes_eq (nat_in d ∷ []) (3 ∷ [])) Deadlock
+    (cond (bytes_eq (nat_in d ∷ []) (4 ∷ [])) Aborted Unavailable)))))
     (NotSent (nat_in d)))))))))
 
 abbrev event_of : Data → Event
@@ -80,6 +81,7 @@ event-back (Failed Duplicate) = refl
 event-back (Failed OutOfRange) = refl
 event-back (Failed Deadlock) = refl
 event-back (Failed Aborted) = refl
+event-back (Failed Unavailable) = refl
 event-back Waiting = refl
 event-back Resumed = refl
 event-back Done = refl

@@ -24,7 +24,7 @@ use Rattle.serde_json.proofs.Texts.{print-outline}
 use Rattle.serde_json.proofs.OnLiterals.{serde_json_on_literals}
 use Rattle.lock_modes.specs.declared.value.Value.{Value}
 use Rattle.lock_modes.specs.declared.value.Value.TheVariants.{Int, Text}
-use Rattle.transcripts.specs.declared.event.Fault.TheVariants.{Duplicate, OutOfRange, Deadlock, Aborted}
+use Rattle.transcripts.specs.declared.event.Fault.TheVariants.{Duplicate, OutOfRange, Deadlock, Aborted, Unavailable}
 use Rattle.transcripts.specs.declared.event.Warning.TheVariants.{InBlock, NoBlock}
 use Rattle.transcripts.specs.declared.event.Event.{Event}
 use Rattle.transcripts.specs.declared.event.Event.TheVariants.{Sent, Row, Rows, Inserted, Updated, Deleted, Began, Committed, RolledBack, Locked, Set, Warned}
@@ -237,6 +237,7 @@ event-plain (Failed Duplicate) fits = (tt, (omega arith, tt))
 event-plain (Failed OutOfRange) fits = (tt, (omega arith, tt))
 event-plain (Failed Deadlock) fits = (tt, (omega arith, tt))
 event-plain (Failed Aborted) fits = (tt, (omega arith, tt))
+event-plain (Failed Unavailable) fits = (tt, (omega arith, tt))
 event-plain Waiting fits = tt
 event-plain Resumed fits = tt
 event-plain Done fits = tt

@@ -69,14 +69,16 @@ module _ (steps : List Step) where
       line-takes (queues_at 0 n next steps) i k (steps_from i (k + 1) steps) word (get_or-queues_at 0 n i i next h (omega arith) ∙ e)
       ∙ ap (λ q. k ∷ line q word) (sym (queues_at-set 0 n i i (k + 1) next h (omega arith) fits))
 
-pub six-zeros : (i : ℕ) → ◌≡◌ {A = ℕ} (get_or (0 ∷ 0 ∷ 0 ∷ 0 ∷ 0 ∷ 0 ∷ []) i 0) 0
-six-zeros zero = refl
-six-zeros (suc zero) = refl
-six-zeros (suc (suc zero)) = refl
-six-zeros (suc (suc (suc zero))) = refl
-six-zeros (suc (suc (suc (suc zero)))) = refl
-six-zeros (suc (suc (suc (suc (suc zero))))) = refl
-six-zeros (suc (suc (suc (suc (suc (suc i)))))) = refl
+pub eight-zeros : (i : ℕ) → ◌≡◌ {A = ℕ} (get_or (0 ∷ 0 ∷ 0 ∷ 0 ∷ 0 ∷ 0 ∷ 0 ∷ 0 ∷ []) i 0) 0
+eight-zeros zero = refl
+eight-zeros (suc zero) = refl
+eight-zeros (suc (suc zero)) = refl
+eight-zeros (suc (suc (suc zero))) = refl
+eight-zeros (suc (suc (suc (suc zero)))) = refl
+eight-zeros (suc (suc (suc (suc (suc zero))))) = refl
+eight-zeros (suc (suc (suc (suc (suc (suc zero)))))) = refl
+eight-zeros (suc (suc (suc (suc (suc (suc (suc zero))))))) = refl
+eight-zeros (suc (suc (suc (suc (suc (suc (suc (suc i)))))))) = refl
 
 -- the next letter, where it takes a step
 pub walk-takes : (front whole : List ℕ) (q q' : Queues) (word : Word) (i k : ℕ) → i < length word

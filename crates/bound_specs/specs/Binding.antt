@@ -78,7 +78,7 @@ main_statement tables at (tree.Update n as' c) = sent tables (statement tables a
 main_statement tables at (tree.Delete n c) = sent tables (statement tables at (tree.Delete n c))
 main_statement tables at (tree.Begin start level) = sent tables (statement tables at (tree.Begin start level))
 main_statement tables at (tree.Ends word noise) = sent tables (statement tables at (tree.Ends word noise))
-main_statement tables at (tree.Lock word n mode) = sent tables (statement tables at (tree.Lock word n mode))
+main_statement tables at (tree.Lock word n mode nowait) = sent tables (statement tables at (tree.Lock word n mode nowait))
 main_statement tables at (tree.Set setting) = sent tables (statement tables at (tree.Set setting))
 
 abbrev pub main_at : ℕ → List Table → StatementAt → Bind (List Table × List Bound)

@@ -85,11 +85,11 @@ AssignmentFits Has a = (kind : ColumnType) × (Has a.column kind × ExpressionIs
 
 -- what a statement takes of columns
 abbrev pub Takes : (ℕ → ColumnType → Type 0) → Bound → Type 0
-Takes Has (Select n key c by out) = OutputFits Has out × (All (SortKeyFits Has) by × ConditionFits Has c)
+Takes Has (Select n key c by out lock) = OutputFits Has out × (All (SortKeyFits Has) by × ConditionFits Has c)
 Takes Has (Update n key sets c) = All (AssignmentFits Has) sets × ConditionFits Has c
 Takes Has (Delete n key c) = ConditionFits Has c
 Takes Has (Insert n key rows) = ⊤
-Takes Has (Lock n mode) = ⊤
+Takes Has (Lock n mode nowait) = ⊤
 Takes Has Begin = ⊤
 Takes Has Commit = ⊤
 Takes Has Rollback = ⊤
@@ -118,11 +118,11 @@ OfTable tables n P = (n < length tables) × P (get_or tables n no_table)
 
 -- what a statement takes of columns its table has; new rows have a value for each column, of its type, and lie at the table's key; no key is set
 abbrev pub Fits : List Table → Bound → Type 0
-Fits tables (Select n key c by out) = OfTable tables n (λ t. Takes (ColumnOf t) (Select n key c by out))
+Fits tables (Select n key c by out lock) = OfTable tables n (λ t. Takes (ColumnOf t) (Select n key c by out lock))
 Fits tables (Insert n key rows) = OfTable tables n (λ t. (key ≡ key_column t) × All (RowFits t) rows)
 Fits tables (Update n key sets c) = OfTable tables n (λ t. Takes (ColumnOf t) (Update n key sets c) × (sets_key (key_column t) sets ≡ false))
 Fits tables (Delete n key c) = OfTable tables n (λ t. Takes (ColumnOf t) (Delete n key c))
-Fits tables (Lock n mode) = n < length tables
+Fits tables (Lock n mode nowait) = n < length tables
 Fits tables Begin = ⊤
 Fits tables Commit = ⊤
 Fits tables Rollback = ⊤

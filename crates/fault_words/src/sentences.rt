@@ -30,7 +30,7 @@ pub fn text_sentence(kind: SpecErrorKind) -> &'static str {
             "No step has this name: permutation lines and their markers name steps of the file."
         }
         SpecErrorKind::TooLarge => {
-            "The file is too large: it has 65,536 bytes and 4,096 permutation lines at most, and a line 24 steps."
+            "The file is too large: it has 65,536 bytes and 4,096 permutation lines at most, and a line 28 steps."
         }
         SpecErrorKind::NoMemory => "Memory ran out.",
     }
@@ -59,7 +59,7 @@ pub fn binding_sentence(kind: BindErrorKind) -> &'static str {
             "The statement that begins here has too many or too few: a new row gives each column one value, a column is set or declared once, and a table has one primary key at most."
         }
         BindErrorKind::Shape => {
-            "The file has too many sessions or steps: 6 sessions at most, and 24 steps, or 255 where it has permutation lines."
+            "The file has too many sessions, steps or orders: 8 sessions at most, and 28 steps with fewer than 9,223,372,036,854,775,808 orders, or 255 steps where it has permutation lines."
         }
         BindErrorKind::NoMemory => "Memory ran out.",
     }

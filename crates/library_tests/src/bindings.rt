@@ -23,7 +23,10 @@ fn wide_spec(alloc: Global, numbered: bool, sql: &str) -> Result<String, AllocEr
 /// The number of the only column that a select shows.
 fn shown_column(statement: &Bound) -> Option<u16> {
     match statement {
-        Bound::Select(_, _, _, _, Output::Columns(columns)) => columns.as_slice().first().copied(),
+        Bound::Select(_, _, _, _, Output::Columns(columns), _) => columns
+            .as_slice()
+            .first()
+            .copied(),
         _ => None,
     }
 }

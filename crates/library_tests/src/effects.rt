@@ -7,7 +7,7 @@ use outcome_texts::{Counted, Names, print};
 use row_tables::Store;
 use sql_statements::{
     AddSign, Aggregate, Assignment, Bound, Comparison, Condition, Expression, Operand, Order,
-    Output, Product, SignedProduct, SortKey,
+    Output, Product, RowLock, SignedProduct, SortKey,
 };
 use sqlite_items::{Boxed, Items};
 use statement_effects::run_statement;
@@ -200,6 +200,12 @@ fn condition(alloc: Global, rows: Rows) -> Result<Condition, AllocError> {
     }
 }
 
+/// A select that locks no more than it reads.
+const SHARES: RowLock = RowLock {
+    exclusive: false,
+    nowait: false,
+};
+
 /// These columns of the rows, sorted.
 fn shows(
     alloc: Global,
@@ -215,12 +221,20 @@ fn shows(
         condition(alloc, rows)?,
         order,
         Output::Columns(columns),
+        SHARES,
     ))
 }
 
 fn totals(alloc: Global, rows: Rows, aggregates: &[Aggregate]) -> Result<Bound, AllocError> {
     let output = Output::Aggregates(Items::from_slice(alloc, aggregates)?);
-    Ok(Bound::Select(0, None, condition(alloc, rows)?, Items::new(alloc), output))
+    Ok(Bound::Select(
+        0,
+        None,
+        condition(alloc, rows)?,
+        Items::new(alloc),
+        output,
+        SHARES,
+    ))
 }
 
 fn expression(alloc: Global, written: Written) -> Result<Expression, AllocError> {
@@ -259,7 +273,7 @@ fn statement_of(alloc: Global, step: Step) -> Result<Bound, AllocError> {
         Step::Totals(rows, aggregates) => totals(alloc, rows, aggregates),
         Step::Updates(key, sets, rows) => updates(alloc, key, sets, rows),
         Step::Deletes(rows) => Ok(Bound::Delete(0, None, condition(alloc, rows)?)),
-        Step::Locks(mode) => Ok(Bound::Lock(0, mode)),
+        Step::Locks(mode) => Ok(Bound::Lock(0, mode, false)),
         Step::SetsVariable => Ok(Bound::SetVariable),
         Step::Begins => Ok(Bound::Begin),
     }

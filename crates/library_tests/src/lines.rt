@@ -56,6 +56,7 @@ fn push_faults_and_ends(transcript: &mut Transcript) -> Result<(), AllocError> {
     transcript.push(Event::Failed(Fault::OutOfRange))?;
     transcript.push(Event::Failed(Fault::Deadlock))?;
     transcript.push(Event::Failed(Fault::Aborted))?;
+    transcript.push(Event::Failed(Fault::Unavailable))?;
     transcript.push(Event::Waiting)?;
     transcript.push(Event::Resumed)?;
     transcript.push(Event::Done)?;

@@ -7,21 +7,28 @@ fn shape_of(rt: &impl Abort, counts: &[u8]) -> Shape {
 }
 
 fn word_of(rt: &impl Abort, letters: &[u8]) -> Word {
-    Word::try_from(letters).expect(rt, "a word has at most 24 letters")
+    Word::try_from(letters).expect(rt, "a word has at most 28 letters")
 }
 
 /// Counts that are no shape, each with why.
-static NO_SHAPES: [(&[u8], ShapeError); 10] = [
+static NO_SHAPES: [(&[u8], ShapeError); 14] = [
     (&[], ShapeError::Empty),
     (&[0], ShapeError::Empty),
-    (&[25, 0], ShapeError::Empty),
-    (&[9, 9, 9, 9, 9, 9, 0], ShapeError::Empty),
-    (&[9, 9, 9, 9, 9, 9, 9], ShapeError::TooManySessions),
-    (&[1, 1, 1, 1, 1, 1, 1], ShapeError::TooManySessions),
-    (&[25], ShapeError::TooManySteps),
-    (&[24, 1], ShapeError::TooManySteps),
-    (&[12, 13], ShapeError::TooManySteps),
-    (&[255, 255, 255, 255, 255, 255], ShapeError::TooManySteps),
+    (&[29, 0], ShapeError::Empty),
+    (&[9, 9, 9, 9, 9, 9, 9, 9, 0], ShapeError::Empty),
+    (&[9, 9, 9, 9, 9, 9, 9, 9, 9], ShapeError::TooManySessions),
+    (&[1, 1, 1, 1, 1, 1, 1, 1, 1], ShapeError::TooManySessions),
+    (&[29], ShapeError::TooManySteps),
+    (&[28, 1], ShapeError::TooManySteps),
+    (&[14, 15], ShapeError::TooManySteps),
+    (&[4, 4, 4, 4, 4, 4, 4, 1], ShapeError::TooManySteps),
+    (
+        &[255, 255, 255, 255, 255, 255, 255, 255],
+        ShapeError::TooManySteps,
+    ),
+    (&[4, 4, 4, 4, 4, 4, 4], ShapeError::TooManyRanks),
+    (&[4, 4, 4, 4, 3, 3, 3, 3], ShapeError::TooManyRanks),
+    (&[4, 4, 4, 3, 3, 3, 3, 3], ShapeError::TooManyRanks),
 ];
 
 fn assert_refused(rt: &impl Abort, counts: &[u8], want: ShapeError) {
@@ -37,14 +44,20 @@ fn refusals_come_in_their_order(rt: HostRuntime) {
 }
 
 /// Shapes, each with how many words it has.
-static COUNTS: [(&[u8], u64); 10] = [
+static COUNTS: [(&[u8], u64); 16] = [
     (&[1], 1),
     (&[3], 1),
-    (&[24], 1),
+    (&[28], 1),
+    (&[24, 1], 25),
+    (&[27, 1], 28),
     (&[1, 1], 2),
     (&[2, 2], 6),
     (&[3, 2, 1], 60),
     (&[12, 12], 2704156),
+    (&[14, 14], 40116600),
+    (&[2, 2, 2, 2, 2, 2, 2, 2], 81729648000),
+    (&[3, 3, 3, 3, 3, 3, 3, 3], 369398958888960000),
+    (&[4, 3, 3, 3, 3, 3, 3, 3], 2308743493056000000),
     (&[8, 8, 8], 9465511770),
     (&[6, 6, 6, 6], 2308743493056),
     (&[4, 4, 4, 4, 4, 4], 3246670537110000),
@@ -137,12 +150,14 @@ fn assert_ranks_go_round(rt: &impl Abort, shape: &Shape, last: u64) {
     }
 }
 
-static LARGE_SHAPES: [&[u8]; 5] = [
+static LARGE_SHAPES: [&[u8]; 7] = [
     &[4, 4, 4, 4, 4, 4],
-    &[12, 12],
+    &[3, 3, 3, 3, 3, 3, 3, 3],
+    &[4, 3, 3, 3, 3, 3, 3, 3],
+    &[14, 14],
     &[8, 8, 8],
-    &[19, 1, 1, 1, 1, 1],
-    &[24],
+    &[21, 1, 1, 1, 1, 1, 1, 1],
+    &[28],
 ];
 
 #[test]

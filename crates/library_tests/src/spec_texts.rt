@@ -409,7 +409,7 @@ fn assert_limited(
 fn each_limit_is_passed_by_one(rt: HostRuntime) -> Result<(), Fail> {
     assert_bytes_limited(&rt, rt.alloc())?;
     let front = "session a step s {} permutation";
-    assert_limited(&rt, rt.alloc(), front, " s", 24, " x", 80)?;
+    assert_limited(&rt, rt.alloc(), front, " s", 28, " x", 88)?;
     let front = "session a step s {}";
     let line = " permutation s";
     assert_limited(&rt, rt.alloc(), front, line, 4096, line, 57_364)?;

@@ -9,12 +9,14 @@ use Rattle.lock_modes.specs.declared.resource.Resource.{Resource}
 use Rattle.finite_maps.specs.Map.{get, insert, same_key, same_key-true}
 use Rattle.lock_queues.specs.Locks.{Wait, Spot, Look, all_below, fits, fits_with, wanted, wanted_by, may_have, closes_ring, answered, is_ripe, first_ripe}
 use Rattle.lock_queues.specs.Locks.{spots_from, waits_for, waits_now}
-use Rattle.lock_queues.specs.LockTable.{Locks, Holding, holding_cmp, holding_order, Asked, ask, look_in, queued, taken, Fits}
+use Rattle.lock_queues.specs.LockTable.{Locks, Holding, holding_cmp, holding_order, Asked, ask, ask_now, AskedNow, look_in, queued, taken, Fits}
 use Rattle.lock_queues.specs.Sound.{Way, EachWait, edges, IsSound}
-use Rattle.lock_queues.specs.Rules.{MayHave, IsInRing, IsAnswer, after, IsSpot, IsRipe, NothingRipe}
+use Rattle.lock_queues.specs.Rules.{MayHave, IsInRing, IsAnswer, IsTaken, after_now, after, IsSpot, IsRipe, NothingRipe}
 use Rattle.lock_queues.specs.Laws.{IsBelow, TestsDecide}
 use Rattle.lock_queues.specs.declared.answer.Answer.{Answer}
 use Rattle.lock_queues.specs.declared.answer.Answer.TheVariants.{Granted, Waits, Ring}
+use Rattle.lock_queues.specs.declared.answer.Taken.{Taken}
+use Rattle.lock_queues.specs.declared.answer.Taken.TheVariants as at_once
 use Rattle.lock_queues.proofs.HeldLemmas.{held-same}
 use Rattle.lock_queues.proofs.Rings.{way-found, way-is-found}
 use Rattle.lock_queues.proofs.Spots.{edge-waits}
@@ -126,9 +128,17 @@ module _ (count : ℕ) (l : Locks) (below : IsBelow count l) where
   asked-is i r m Ring lt h = (λ k. step i r m (had-not i r m h.0 k) (ring-is i r m lt h.1 k))
   asked-is i r m Waits lt h = (λ k. step i r m (had-not i r m h.0 k) (ring-not i r m h.1 k))
 
+  abbrev step_now : ℕ → Resource → Mode → Bool → AskedNow
+  step_now i r m may = elim may [ true ↦ record { answer = at_once.Granted; locks = taken l i r m } | false ↦ record { answer = at_once.Refused; locks = l } ]
+
+  taken-is : (i : ℕ) (r : Resource) (m : Mode) (a : Taken) → IsTaken l i r m a → ask_now count l i r m ≡ record { answer = a; locks = after_now l i r m a }
+  taken-is i r m at_once.Granted h = ap (step_now i r m) (had i r m h)
+  taken-is i r m at_once.Refused h = ap (step_now i r m) (had-not i r m h)
+
   pub tests-decide : TestsDecide count l
   tests-decide = record {
     asked = asked-is;
+    taken = taken-is;
     next = λ s n. ap (λ ws. first_ripe count (look_in l) (spots_from [] ws)) (sym n.there)
         ∙ first-is count (look_in l) below.holders l.waits [] s.before s.wait s.after n.there n.ripe n.earliest;
     none = λ never. none-first count (look_in l) below.holders l.waits [] l.waits refl never;

@@ -14,9 +14,11 @@ use Rattle.finite_maps.specs.Map.{Map, get, get-empty, insert, get-insert, keep,
 use Rattle.lock_queues.specs.Locks.{Wait, Spot, Look, fits_with, wanted, wanted_by, waits_now, waits_for}
 use Rattle.lock_queues.specs.LockTable.{Locks, Holding, holding_order, no_locks, look_at, look_in, queued, taken, let_go, grant, Fits}
 use Rattle.lock_queues.specs.Sound.{NoRing, HeldTogether, EachWait, Distinct, edges, IsSound}
-use Rattle.lock_queues.specs.Rules.{MayHave, IsInRing, IsAnswer, after, IsSpot, IsRipe, IsNext}
+use Rattle.lock_queues.specs.Rules.{MayHave, IsInRing, IsAnswer, IsTaken, after_now, after, IsSpot, IsRipe, IsNext}
 use Rattle.lock_queues.specs.declared.answer.Answer.{Answer}
 use Rattle.lock_queues.specs.declared.answer.Answer.TheVariants.{Granted, Waits, Ring}
+use Rattle.lock_queues.specs.declared.answer.Taken.{Taken}
+use Rattle.lock_queues.specs.declared.answer.Taken.TheVariants as at_once
 use Rattle.lock_queues.proofs.WaitLists.{Not, distinct-push}
 use Rattle.lock_queues.proofs.Spots.{same-spot}
 use Rattle.lock_queues.proofs.Rings.{no-ring-past, no-way-from, no-edge-from, edge-put, edge-off}
@@ -255,6 +257,11 @@ pub ask-sound : (l : Locks) (i : ℕ) (r : Resource) (m : Mode) (a : Answer) →
 ask-sound l i r m Granted s free is = taken-sound l i r m s free is
 ask-sound l i r m Ring s free is = s
 ask-sound l i r m Waits s free is = queued-sound l i r m s free is.1
+
+pub ask_now-sound : (l : Locks) (i : ℕ) (r : Resource) (m : Mode) (a : Taken) → IsSound l → waits_now l.waits i ≡ false → IsTaken l i r m a
+    → IsSound (after_now l i r m a)
+ask_now-sound l i r m at_once.Granted s free is = taken-sound l i r m s free is
+ask_now-sound l i r m at_once.Refused s free is = s
 
 pub let_go-sound : (l : Locks) (i : ℕ) → IsSound l → IsSound (let_go l i)
 let_go-sound l i s = record {

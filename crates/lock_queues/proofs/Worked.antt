@@ -2,9 +2,10 @@
 use Rattle.std.proofs.Common.{◌≡◌, refl, ℕ, List, [], ◌∷◌, Option, Some, None, option_map}
 use Rattle.finite_maps.specs.Map.{get, insert, keep, empty}
 use Rattle.lock_queues.specs.Locks.{Spot}
-use Rattle.lock_queues.specs.LockTable.{no_locks, look_in, ask, Asked, let_go, to_grant}
+use Rattle.lock_queues.specs.LockTable.{no_locks, look_in, ask, ask_now, Asked, let_go, to_grant}
 use Rattle.lock_queues.specs.declared.answer.Answer.{Answer}
 use Rattle.lock_queues.specs.declared.answer.Answer.TheVariants.{Granted, Waits, Ring}
+use Rattle.lock_queues.specs.declared.answer.Taken.TheVariants.{Refused}
 use Rattle.lock_modes.specs.declared.mode.Mode.TheVariants.{IntentShare, IntentExclusive, Share, ShareIntent, Exclusive}
 use Rattle.lock_modes.specs.declared.resource.Resource.{Resource}
 use Rattle.lock_modes.specs.declared.resource.Resource.TheVariants.{Table}
@@ -57,3 +58,12 @@ not_passed = refl
 ring : (ask 3 (ask 3 (ask 3 (ask 3 no_locks 0 t0 Exclusive).locks 1 t1 Exclusive).locks 0 t1 Exclusive).locks 1 t0 Exclusive).answer ≡ Ring
 unfolding get insert keep empty
 ring = refl
+
+-- a request that refuses to wait leaves nobody behind who would be passed
+refused : (ask_now 3 first.locks 1 t0 Exclusive).answer ≡ Refused
+unfolding get insert keep empty
+refused = refl
+
+not_behind : (ask 3 (ask_now 3 first.locks 1 t0 Exclusive).locks 2 t0 IntentShare).answer ≡ Granted
+unfolding get insert keep empty
+not_behind = refl

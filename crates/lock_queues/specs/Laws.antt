@@ -4,16 +4,19 @@ use Rattle.lock_modes.specs.Mode.{cover}
 use Rattle.lock_modes.specs.declared.mode.Mode.{Mode}
 use Rattle.lock_modes.specs.declared.resource.Resource.{Resource}
 use Rattle.lock_queues.specs.declared.answer.Answer.{Answer}
+use Rattle.lock_queues.specs.declared.answer.Taken.{Taken}
 use Rattle.lock_queues.specs.Locks.{Spot, waits_now}
-use Rattle.lock_queues.specs.LockTable.{Locks, no_locks, look_in, taken, ask, let_go, to_grant, grant}
+use Rattle.lock_queues.specs.LockTable.{Locks, no_locks, look_in, taken, ask, ask_now, let_go, to_grant, grant}
 use Rattle.lock_queues.specs.Sound.{Way, EachWait, edges, IsSound}
-use Rattle.lock_queues.specs.Rules.{MayHave, IsAnswer, after, IsNext, NothingRipe}
+use Rattle.lock_queues.specs.Rules.{MayHave, IsAnswer, after, IsTaken, after_now, IsNext, NothingRipe}
 
 -- modes of different sessions stay compatible, no session waits twice, and no ring comes, whatever is asked, granted and let go
 pub record StaysSound : Type 0 where
   pub empty : IsSound no_locks
   pub asked : (l : Locks) (i : ℕ) (r : Resource) (m : Mode) (a : Answer)
       → IsSound l → waits_now l.waits i ≡ false → IsAnswer l i r m a → IsSound (after l i r m a)
+  pub taken : (l : Locks) (i : ℕ) (r : Resource) (m : Mode) (a : Taken)
+      → IsSound l → waits_now l.waits i ≡ false → IsTaken l i r m a → IsSound (after_now l i r m a)
   pub granted : (l : Locks) (s : Spot) → IsSound l → IsNext l s → IsSound (grant l s)
   pub gone : (l : Locks) (i : ℕ) → IsSound l → IsSound (let_go l i)
 
@@ -35,6 +38,7 @@ pub record IsBelow (count : ℕ) (l : Locks) : Type 0 where
 pub record TestsDecide (count : ℕ) (l : Locks) : Type 0 where
   pub asked : (i : ℕ) (r : Resource) (m : Mode) (a : Answer)
       → i < count → IsAnswer l i r m a → ask count l i r m ≡ record { answer = a; locks = after l i r m a }
+  pub taken : (i : ℕ) (r : Resource) (m : Mode) (a : Taken) → IsTaken l i r m a → ask_now count l i r m ≡ record { answer = a; locks = after_now l i r m a }
   pub next : (s : Spot) → IsNext l s → to_grant count l ≡ Some s
   pub none : NothingRipe l → to_grant count l ≡ None
 

@@ -1,5 +1,5 @@
 -- What a lock table holds and who waits, with what each call does to it: tests up to a number of sessions.
-use Rattle.std.specs.Prelude.{◌≡◌, ◌≢◌, ℕ, true, cond, not, ◌==◌, List, [], ◌∷◌, ◌++◌, Option, filter}
+use Rattle.std.specs.Prelude.{◌≡◌, ◌≢◌, ℕ, true, false, cond, not, ◌==◌, List, [], ◌∷◌, ◌++◌, Option, filter}
 use Rattle.std.proofs.Common.{Ordering, Equal, nat_cmp}
 use Rattle.std.specs.Ordering.{on, then_cmp}
 use Rattle.std.specs.Cmp.{IsTotalOrder, nat_cmp_total, on_total, then_total}
@@ -7,6 +7,8 @@ use Rattle.std.specs.FinMap.{nat_cmp-IsAntisymmetric}
 use Rattle.finite_maps.specs.Map.{Map, Order, get, insert, keep, entries, empty}
 use Rattle.lock_modes.specs.Resource.{resource_order, resource_cmp, resource_total, resource_same, both_equal}
 use Rattle.lock_queues.specs.Locks.{Wait, Spot, Look, fits_with, wanted, may_have, closes_ring, answered, next_grant}
+use Rattle.lock_queues.specs.declared.answer.Taken.{Taken}
+use Rattle.lock_queues.specs.declared.answer.Taken.TheVariants as at_once
 use Rattle.lock_queues.specs.declared.answer.Answer.{Answer}
 use Rattle.lock_queues.specs.declared.answer.Answer.TheVariants.{Granted, Waits, Ring}
 use Rattle.lock_modes.specs.declared.mode.Mode.{Mode}
@@ -61,6 +63,18 @@ ask count l i r m =
       | Granted ↦ record { answer = Granted; locks = taken l i r m }
       | Waits ↦ record { answer = Waits; locks = queued l i r m }
       | Ring ↦ record { answer = Ring; locks = l }
+    ]
+
+pub record AskedNow : Type 0 where
+  pub answer : Taken
+  pub locks : Locks
+
+-- the answer to a request that refuses to wait, and the locks behind it
+abbrev pub ask_now : ℕ → Locks → ℕ → Resource → Mode → AskedNow
+ask_now count l i r m =
+    elim (may_have count (look_in l) l.waits i (look_in l i r) r m) [
+      | true ↦ record { answer = at_once.Granted; locks = taken l i r m }
+      | false ↦ record { answer = at_once.Refused; locks = l }
     ]
 
 -- the session's modes go, and its wait

@@ -102,7 +102,7 @@ way_below edge (suc n) a b = way_below edge n a b || (way_below edge n a n && wa
 abbrev pub closes_ring : ℕ → Look → List Wait → ℕ → Bool
 closes_ring count look waits i = way_below (waits_for look waits) count i i
 
--- what a request gets that may be had at once or not, and whose wait would close a ring or not
+-- what a request gets that would wait: it may be had at once or not, and its wait would close a ring or not
 abbrev pub answered : Bool → Bool → Answer
 answered true closes = Granted
 answered false true = Ring

@@ -6,6 +6,8 @@ use Rattle.lock_modes.specs.declared.mode.Mode.{Mode}
 use Rattle.lock_modes.specs.declared.resource.Resource.{Resource}
 use Rattle.lock_queues.specs.declared.answer.Answer.{Answer}
 use Rattle.lock_queues.specs.declared.answer.Answer.TheVariants.{Granted, Waits, Ring}
+use Rattle.lock_queues.specs.declared.answer.Taken.{Taken}
+use Rattle.lock_queues.specs.declared.answer.Taken.TheVariants as at_once
 use Rattle.lock_queues.specs.Locks.{Wait, Spot, Look, wanted, wanted_by, nobody_waits, ahead, is_empty}
 use Rattle.lock_queues.specs.LockTable.{Locks, look_in, queued, taken, Fits}
 use Rattle.lock_queues.specs.Sound.{Way, edges}
@@ -19,7 +21,7 @@ MayHave l i r m = Fits (look_in l) i r (wanted (look_in l i r) m) × ((is_some (
 abbrev pub IsInRing : Locks → ℕ → Type 0
 IsInRing l i = Way (edges l) i i
 
--- what a request gets: the mode where it may be had, else a refusal where the wait would close a ring, else a wait
+-- what a request gets that would wait: the mode where it may be had, else a refusal where the wait would close a ring, else a wait
 abbrev pub IsAnswer : Locks → ℕ → Resource → Mode → Answer → Type 0
 IsAnswer l i r m Granted = MayHave l i r m
 IsAnswer l i r m Ring = (¬ (MayHave l i r m)) × IsInRing (queued l i r m) i
@@ -30,6 +32,16 @@ abbrev pub after : Locks → ℕ → Resource → Mode → Answer → Locks
 after l i r m Granted = taken l i r m
 after l i r m Ring = l
 after l i r m Waits = queued l i r m
+
+-- what a request gets that refuses to wait: the mode where it may be had, and else a refusal
+abbrev pub IsTaken : Locks → ℕ → Resource → Mode → Taken → Type 0
+IsTaken l i r m at_once.Granted = MayHave l i r m
+IsTaken l i r m at_once.Refused = ¬ (MayHave l i r m)
+
+-- the table after what it gets
+abbrev pub after_now : Locks → ℕ → Resource → Mode → Taken → Locks
+after_now l i r m at_once.Granted = taken l i r m
+after_now l i r m at_once.Refused = l
 
 -- the wait stands there
 abbrev pub IsSpot : List Wait → Spot → Type 0

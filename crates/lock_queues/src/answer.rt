@@ -8,3 +8,12 @@ pub enum Answer {
     /// The wait would close a ring, so the request is refused.
     Ring,
 }
+
+/// What a request for a lock gets that refuses to wait.
+#[derive(Clone, Copy, PartialEq, Eq)]
+pub enum Taken {
+    /// The mode is had.
+    Granted,
+    /// The mode may not be had at once, and nothing is changed.
+    Refused,
+}

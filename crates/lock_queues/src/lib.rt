@@ -10,7 +10,7 @@ mod ring;
 mod table;
 mod wait;
 
-pub use answer::Answer;
+pub use answer::{Answer, Taken};
 pub use laws::{covered_modes_are_had, tables_stay_sound, tests_decide, waiters_reach};
 pub use table::LockTable;
 pub use wait::Wait;

@@ -7,7 +7,7 @@ ghost use Rattle.lock_queues.specs.LockTable as spec;
 ghost use Rattle.lock_queues.specs.Rules as rule;
 ghost use Rattle.lock_queues.specs.Sound.{Distinct, IsSound};
 
-use crate::answer::Answer;
+use crate::answer::{Answer, Taken};
 use crate::held::Held;
 use crate::queue::{next_ripe, wanted, wanted_mode};
 use crate::ring::is_in_ring;
@@ -89,6 +89,27 @@ impl LockTable {
             return Ok(Answer::Ring);
         }
         Ok(Answer::Waits)
+    }
+
+    /// Asks for a mode and refuses to wait: the session gets the cover of it and the mode that it holds, or
+    /// nothing is changed. No ring is looked for. Without memory the table stays as it was.
+    pub fn ask_now(
+        &mut self,
+        session: u8,
+        place: Place<'_>,
+        mode: Mode,
+    ) -> Result<Taken, AllocError>
+        requires { locks.waits_now self.old.waits session ≡ false }
+        ensures answer { IfOk result (rule.IsTaken self.old session (resource_at place.entry) mode) }
+        ensures change { IfOk result (λ answer. self.new ≡ rule.after_now self.old session (resource_at place.entry) mode answer) }
+        ensures kept { OnErr result (self.new ≡ self.old) }
+    {
+        if may_have(&self.held, &self.waits, session, place, mode) {
+            let wanted = wanted_mode(self.held.mode_of(session, place), mode);
+            self.held.give(session, place, wanted)?;
+            return Ok(Taken::Granted);
+        }
+        Ok(Taken::Refused)
     }
 
     /// Takes all modes from a session, and its wait if it has one. Without memory the table stays as it was.

@@ -114,8 +114,8 @@ deleted-under st c rows each = deleted-each (λ p. writable (plan st) p ≡ true
 -- each write of an effect lies where the plan lets the statement write
 pub effect-writable : (st : Bound) (rows : Rows') → OnGives (effect st rows) (Each (λ w. writable (plan st) w.place ≡ true))
 unfolding effect
-effect-writable (Select t key c by out) rows =
-    on-selected (λ w. writable (plan (Select t key c by out)) w.place ≡ true) by out (matching c (entries (visible (Select t key c by out) rows)))
+effect-writable (Select t key c by out l) rows =
+    on-selected (λ w. writable (plan (Select t key c by out l)) w.place ≡ true) by out (matching c (entries (visible (Select t key c by out l) rows)))
 effect-writable (Insert t (Some k) new) rows =
     let R : Write → Type 0 = λ w. writable (plan (Insert t (Some k) new)) w.place ≡ true in
     on-or_fault R Duplicate (placed t k new (visible (Insert t (Some k) new) rows)) Inserted (each-placed R t k new _ (writable-new t k new))
@@ -126,7 +126,7 @@ effect-writable (Update t (Some key) sets c) rows = updated-under (Update t (Som
 effect-writable (Update t None sets c) rows = updated-under (Update t None sets c) sets c rows (refl, tt)
 effect-writable (Delete t (Some key) c) rows = deleted-under (Delete t (Some key) c) c rows (refl, (refl, tt))
 effect-writable (Delete t None c) rows = deleted-under (Delete t None c) c rows (refl, tt)
-effect-writable (Lock t m) rows = tt
+effect-writable (Lock t m n) rows = tt
 effect-writable SetVariable rows = tt
 effect-writable Begin rows = tt
 effect-writable Commit rows = tt

@@ -109,7 +109,7 @@ finished-same Broken s a b = record { session = refl; changes = changes-none a b
 pub solo-same-but : (hidden : RowPlace → Bool) (s : Session) (a b : Rows') (ts : List Task) → EachDo (ReadsBut hidden) ts → AgreeBut hidden a b
     → EndsSame a b (solo s a ts) (solo s b ts)
 solo-same-but hidden s a b [] off h = finished-same s.status s a b
-solo-same-but hidden s a b (Ask r m ∷ ts) off h = asked (is_broken s.status) (solo-same-but hidden (taking s r m) a b ts off h)
+solo-same-but hidden s a b (Ask n r m ∷ ts) off h = asked (is_broken s.status) (solo-same-but hidden (taking s r m) a b ts off h)
   where
     asked : (t : Bool) → EndsSame a b (solo (taking s r m) a ts) (solo (taking s r m) b ts)
         → EndsSame a b (elim t [ true ↦ failed s a Aborted | false ↦ solo (taking s r m) a ts ])
@@ -224,7 +224,7 @@ finished-within claims Broken s rows h = AgreeOff-refl claims rows
 pub solo-within : (claims : Claims) (s : Session) (rows : Rows') (ts : List Task) → EachDo (WritesUnder claims) ts → OverlayUnder claims s.overlay
     → AgreeOff claims (solo s rows ts).rows rows
 solo-within claims s rows [] under h = finished-within claims s.status s rows h
-solo-within claims s rows (Ask r m ∷ ts) under h = asked (is_broken s.status) (solo-within claims (taking s r m) rows ts under h)
+solo-within claims s rows (Ask n r m ∷ ts) under h = asked (is_broken s.status) (solo-within claims (taking s r m) rows ts under h)
   where
     asked : (t : Bool) → AgreeOff claims (solo (taking s r m) rows ts).rows rows
         → AgreeOff claims (let x : Stop = elim t [ true ↦ failed s rows Aborted | false ↦ solo (taking s r m) rows ts ] in x.rows) rows

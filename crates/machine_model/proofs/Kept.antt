@@ -5,19 +5,19 @@ use Rattle.finite_maps.specs.Map.{same_key, same_key-true, get, insert, get-inse
 use Rattle.lock_modes.specs.RowPlace.{place_order}
 use Rattle.lock_modes.specs.Rows.{Rows', Write}
 use Rattle.lock_modes.specs.Resource.{resource_order}
-use Rattle.lock_queues.specs.Locks.{fits, wanted, may_have, closes_ring, answered}
+use Rattle.lock_queues.specs.Locks.{fits, wanted, may_have, closes_ring}
 use Rattle.sql_statements.specs.Plan.{Tuple, Request, request, plan}
 use Rattle.row_tables.specs.Overlay.{Overlay, written}
 use Rattle.row_effects.specs.Effect.{Effect, Gives, Faults, effect}
 use Rattle.machine_model.specs.Session.{Task, Ask, Do, Session, Held, Performed, Goes, Fails, Kind, Begins, Commits, RollsBack, Works, kind, perform}
 use Rattle.machine_model.specs.Session.{perform_by, worked}
-use Rattle.machine_model.specs.Go.{Scene, Run, taking, go, stopped, failed, finished_by, is_broken, held_up, look_with, waiting_with}
+use Rattle.machine_model.specs.Go.{Scene, Run, replied, taking, go, stopped, failed, finished_by, is_broken, held_up, look_with, waiting_with}
+use Rattle.machine_model.specs.declared.reply.Reply.TheVariants.{Had, Waits, Refused}
 use Rattle.machine_model.specs.Claims.{may_write, claims_of}
 use Rattle.machine_model.specs.Sound.{HoldsAll, Backed, UnderLocks}
-use Rattle.lock_queues.specs.declared.answer.Answer.TheVariants.{Granted, Waits, Ring}
 use Rattle.lock_modes.specs.declared.mode.Mode.{Mode}
 use Rattle.transcripts.specs.declared.event.Fault.{Fault}
-use Rattle.transcripts.specs.declared.event.Fault.TheVariants.{Aborted, Deadlock}
+use Rattle.transcripts.specs.declared.event.Fault.TheVariants.{Aborted, Deadlock, Unavailable}
 use Rattle.lock_modes.specs.declared.resource.Resource.{Resource}
 use Rattle.machine_model.specs.declared.status.Status.{Status}
 use Rattle.machine_model.specs.declared.status.Status.TheVariants.{Outside, InBlock, Broken}
@@ -137,8 +137,8 @@ fits-taking e i s r m had p = fits-inserted e i s.held r (wanted (get s.held r) 
 pub go-good : (e : Scene) (i : ℕ) (s : Session) (rows : Rows') (ts : List Task) (have : List Request) → HeldFits e i s.held → UnderLocks s.overlay s.held
     → HoldsAll s.held have → Backed have ts → GoodRun e i (length ts) (go e i s rows ts)
 go-good e i s rows [] have fits under holds backed = good-finished e i 0 s.status s rows fits under
-go-good e i s rows (Ask r m ∷ ts) have fits under holds backed =
-    asked (is_broken s.status) (may_have e.count e.look e.waits i (get s.held r) r m) (closes_ring e.count (look_with e i s.held) (waiting_with e i r m) i) refl
+go-good e i s rows (Ask n r m ∷ ts) have fits under holds backed =
+    asked (is_broken s.status) (may_have e.count e.look e.waits i (get s.held r) r m) n (closes_ring e.count (look_with e i s.held) (waiting_with e i r m) i) refl
     refl
     (λ h. longer e i (length ts) (suc (length ts)) _ (omega arith)
     (go-good e i (taking s r m) rows ts (request r m ∷ have) (fits-taking e i s r m h fits)
@@ -147,17 +147,18 @@ go-good e i s rows (Ask r m ∷ ts) have fits under holds backed =
       holds-stronger s.held _ (stronger-taking s.held r m) have holds,
     ) backed))
   where
-    asked : (b h c : Bool) → may_have e.count e.look e.waits i (get s.held r) r m ≡ h → closes_ring e.count (look_with e i s.held) (waiting_with e i r m) i ≡ c
+    asked : (b h n c : Bool) → may_have e.count e.look e.waits i (get s.held r) r m ≡ h → closes_ring e.count (look_with e i s.held) (waiting_with e i r m) i ≡ c
         → (may_have e.count e.look e.waits i (get s.held r) r m ≡ true → GoodRun e i (suc (length ts)) (go e i (taking s r m) rows ts))
         → GoodRun e i (suc (length ts)) (elim b [
           | true ↦ stopped e (failed s rows Aborted)
-          | false ↦ elim (answered h c)
-              [ Granted ↦ go e i (taking s r m) rows ts | Waits ↦ held_up e i s rows r m ts | Ring ↦ stopped e (failed s rows Deadlock) ]
+          | false ↦ elim (replied h n c)
+              [ Had ↦ go e i (taking s r m) rows ts | Waits ↦ held_up e i s rows r m ts | Refused f ↦ stopped e (failed s rows f) ]
         ])
-    asked true h c is k rec = good-failed e i _ s rows Aborted
-    asked false true c is k rec = rec is
-    asked false false true is k rec = good-failed e i _ s rows Deadlock
-    asked false false false is k rec = good-held_up e i _ s rows r m ts have fits under holds backed (omega arith) k
+    asked true h n c is k rec = good-failed e i _ s rows Aborted
+    asked false true n c is k rec = rec is
+    asked false false true c is k rec = good-failed e i _ s rows Unavailable
+    asked false false false true is k rec = good-failed e i _ s rows Deadlock
+    asked false false false false is k rec = good-held_up e i _ s rows r m ts have fits under holds backed (omega arith) k
 go-good e i s rows (Do st ∷ ts) have fits under holds backed =
     done (perform s rows st) (perform-held (HeldFits e i) (held-fits-empty e i) s rows st fits)
     (perform_by-under s.status (kind st) s rows st (holds-plan s.held have (plan st) holds backed.0) under)

@@ -1,11 +1,11 @@
 -- The plan of a statement opens what the statement looks at; what a plan lets be written.
-use Rattle.std.proofs.Common.{◌≡◌, refl, sym, subst, ℕ, Bool, true, ◌&&◌, ◌||◌, ◌==◌, List, [], ◌∷◌, map, Some, None, inl, inr, eqb-true}
+use Rattle.std.proofs.Common.{◌≡◌, refl, sym, subst, ℕ, Bool, true, false, ◌&&◌, ◌||◌, ◌==◌, List, [], ◌∷◌, map, Some, None, inl, inr, eqb-true}
 use Rattle.std.specs.List.{list_any}
 use Rattle.finite_maps.specs.Map.{same_key-true, same_key-refl}
 use Rattle.lock_modes.specs.RowPlace.{RowPlace}
 use Rattle.lock_modes.specs.Value.{value_order}
 use Rattle.lock_modes.specs.Resource.{resource_order, same_resource}
-use Rattle.sql_statements.specs.Plan.{Tuple, request, Request, plan, opened, asks_on, reads_table, writes_in, is_exclusive, key_at, at_key, looks_at}
+use Rattle.sql_statements.specs.Plan.{Tuple, request, Request, plan, opened, asks_on, reads_table, writes_in, is_exclusive, key_at, at_key, looks_at, select_intent, select_mode}
 use Rattle.lock_modes.specs.declared.mode.Mode.{Mode}
 use Rattle.lock_modes.specs.declared.mode.Mode.TheVariants.{IntentShare, IntentExclusive, Share, Exclusive}
 use Rattle.lock_modes.specs.declared.resource.Resource.TheVariants.{Table, Row as RowOf}
@@ -48,10 +48,17 @@ new-rows t k (row ∷ rows) p e h =
       | inr x ↦ or_true_right (same_resource (RowOf t (key_at k row)) (RowOf p.0 p.1) && true) _ (new-rows t k rows p e x)
     ]
 
+select-reads : (exclusive : Bool) → reads_table (select_mode exclusive) ≡ true
+select-reads false = refl
+select-reads true = refl
+
 pub looked-opened : (s : Bound) (p : RowPlace) → looks_at s p ≡ true → opened (plan s) p ≡ true
-looked-opened (Select t (Some key) c by out) p h = let b = both_true (p.0 == t) _ h
-    in row-opens t IntentShare (request (RowOf t key) Share ∷ []) p b.0 (one-row t key Share p refl b.0 b.1)
-looked-opened (Select t None c by out) p h = table-opens t Share [] p refl (both_true (p.0 == t) _ h).0
+looked-opened (Select t (Some key) c by out lock) p h =
+    let b = both_true (p.0 == t) _ h in
+    let m = select_mode lock.exclusive in
+    row-opens t (select_intent lock.exclusive) (request (RowOf t key) m ∷ []) p b.0 (one-row t key m p (select-reads lock.exclusive) b.0 b.1)
+looked-opened (Select t None c by out lock) p h =
+    table-opens t (select_mode lock.exclusive) [] p (select-reads lock.exclusive) (both_true (p.0 == t) _ h).0
 looked-opened (Insert t (Some k) rows) p h = let b = both_true (p.0 == t) _ h
     in row-opens t IntentExclusive (map (λ row. request (RowOf t (key_at k row)) Exclusive) rows) p b.0 (new-rows t k rows p b.0 b.1)
 looked-opened (Insert t None rows) p h = table-opens t Exclusive [] p refl h
@@ -61,7 +68,7 @@ looked-opened (Update t None sets c) p h = table-opens t Exclusive [] p refl (bo
 looked-opened (Delete t (Some key) c) p h = let b = both_true (p.0 == t) _ h
     in row-opens t IntentExclusive (request (RowOf t key) Exclusive ∷ []) p b.0 (one-row t key Exclusive p refl b.0 b.1)
 looked-opened (Delete t None c) p h = table-opens t Exclusive [] p refl (both_true (p.0 == t) _ h).0
-looked-opened (Lock t m) p h = cc
+looked-opened (Lock t m n) p h = cc
 looked-opened Begin p h = cc
 looked-opened Commit p h = cc
 looked-opened Rollback p h = cc

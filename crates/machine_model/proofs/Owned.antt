@@ -4,8 +4,6 @@ use Rattle.std.proofs.lemmas.List.Elements.{All-nil, All-cons, All-append, All-p
 use Rattle.std.proofs.lemmas.List.{get_or_past, get_or_default}
 use Rattle.std.proofs.Common.{◌≡◌, ◌≢◌, refl, sym, ap, ◌∙◌, subst, ℕ, zero, suc, ◌<◌, ◌≤◌, Bool, true, false, List, [], ◌∷◌, ◌++◌, length, map, take, set}
 use Rattle.std.proofs.Common.{get_or, Option, Some, None, ◌⊎◌, ⊎_elim, arith, inl, inr, length-set, get_or-set_same, get_or-set_other, not, ◌||◌}
-use Rattle.lock_queues.specs.declared.answer.Answer.{Answer}
-use Rattle.lock_queues.specs.declared.answer.Answer.TheVariants.{Granted, Waits, Ring}
 use Rattle.lock_queues.specs.Locks.{Spot, next_grant, waits_now}
 use Rattle.sql_statements.specs.declared.statement.Bound.{Bound}
 use Rattle.bound_specs.specs.Spec.{Spec, Step, no_step, IsBound}
@@ -14,7 +12,7 @@ use Rattle.transcripts.specs.declared.event.Event.{Event}
 use Rattle.transcripts.specs.declared.event.Event.TheVariants.{Sent, Row as RowEvent, Rows, Inserted, Updated, Deleted, Began, Committed, RolledBack, Locked}
 use Rattle.transcripts.specs.declared.event.Event.TheVariants.{Set, Warned, Failed, Waiting, Resumed, Done, NotSent}
 use Rattle.transcripts.specs.declared.event.Fault.{Fault}
-use Rattle.transcripts.specs.declared.event.Fault.TheVariants.{Deadlock, Aborted}
+use Rattle.transcripts.specs.declared.event.Fault.TheVariants.{Aborted}
 use Rattle.transcripts.specs.declared.event.Warning.TheVariants.{InBlock as AlreadyInBlock, NoBlock}
 use Rattle.lock_modes.specs.Rows.{Rows'}
 use Rattle.row_tables.specs.Overlay.{lay}
@@ -24,7 +22,9 @@ use Rattle.machine_model.specs.declared.status.Status.TheVariants.{Outside, InBl
 use Rattle.machine_model.specs.Events.{is_effect}
 use Rattle.machine_model.specs.Session.{Task, Ask, Do, Session, Kind, Begins, Commits, RollsBack, Works, kind, note, tasks_of, Performed, Goes, Fails, worked}
 use Rattle.machine_model.specs.Session.{perform_by, perform}
-use Rattle.machine_model.specs.Go.{Scene, Run, go, taking, is_broken, answer_in, finished_by, stopped, failed, held_up}
+use Rattle.machine_model.specs.Go.{Scene, Run, go, taking, is_broken, reply_in, finished_by, stopped, failed, held_up}
+use Rattle.machine_model.specs.declared.reply.Reply.{Reply}
+use Rattle.machine_model.specs.declared.reply.Reply.TheVariants.{Had, Waits, Refused}
 use Rattle.machine_model.specs.World.{World, fresh, session_at, look_of, scene_of, noted, goes, granted, settle_for, settle, left_to_do, send, send_all}
 use Rattle.machine_model.specs.World.{outcome_of}
 use Rattle.machine_model.specs.Start.{Start, Started, SetupFailed, SessionSetupFailed, SessionSetupWaits, start, set_up, started_then, main_setups}
@@ -103,22 +103,22 @@ module _ (steps : List Step) (o : ℕ) where
 
   go-own : (e : Scene) (i : ℕ) (s : Session) (rows : Rows') (ts : List Task) → Own s.transcript → Own (go e i s rows ts).session.transcript
   go-own e i s rows [] all = finished-own s.status s rows all
-  go-own e i s rows (Ask r m ∷ ts) all = at (is_broken s.status) (answer_in e i s r m) (go-own e i (taking s r m) rows ts all)
+  go-own e i s rows (Ask n r m ∷ ts) all = at (is_broken s.status) (reply_in e i s n r m) (go-own e i (taking s r m) rows ts all)
     where
-      at : (b : Bool) (a : Answer) → Own (go e i (taking s r m) rows ts).session.transcript
+      at : (b : Bool) (a : Reply) → Own (go e i (taking s r m) rows ts).session.transcript
           → let x : Run = elim b [
             | true ↦ stopped e (failed s rows Aborted)
             | false ↦ elim a [
-              | Granted ↦ go e i (taking s r m) rows ts
+              | Had ↦ go e i (taking s r m) rows ts
               | Waits ↦ held_up e i s rows r m ts
-              | Ring ↦ stopped e (failed s rows Deadlock)
+              | Refused f ↦ stopped e (failed s rows f)
             ]
           ] in
           Own x.session.transcript
       at true a rec = failed-own s.transcript Aborted all
-      at false Granted rec = rec
+      at false Had rec = rec
       at false Waits rec = push s.transcript Waiting tt all
-      at false Ring rec = failed-own s.transcript Deadlock all
+      at false (Refused f) rec = failed-own s.transcript f all
   go-own e i s rows (Do st ∷ ts) all = at (perform s rows st) (perform_by-own s.status (kind st) s rows st all) (λ s2 rows2. go-own e i s2 rows2 ts)
     where
       at : (p : Performed) → OwnAfter p → ((s2 : Session) (rows2 : Rows') → Own s2.transcript → Own (go e i s2 rows2 ts).session.transcript)

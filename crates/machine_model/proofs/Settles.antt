@@ -11,7 +11,7 @@ use Rattle.lock_modes.specs.Mode.{compatible}
 use Rattle.lock_queues.specs.declared.wait.Wait.{Wait}
 use Rattle.lock_queues.specs.Locks.{Spot, Look, fits, wanted, wanted_by, waits_for, closes_ring, way_below, waits_now, is_ripe, first_ripe, next_grant}
 use Rattle.lock_queues.specs.Locks.{spots_from}
-use Rattle.sql_statements.specs.Plan.{Request, request, plan}
+use Rattle.sql_statements.specs.Plan.{Request, request, plan, nowait}
 use Rattle.machine_model.specs.Session.{Task, Do, asks, tasks_of, Session, note}
 use Rattle.machine_model.specs.Go.{Run, look_with, taking, go}
 use Rattle.machine_model.specs.World.{World, fresh, session_at, look_of, scene_of, placed_back, goes, granted, settle, settle_for, left_of, left_to_do, noted}
@@ -355,14 +355,14 @@ all-pushed : (qs have : List Request) → AllIn qs (pushed qs have)
 all-pushed [] have = tt
 all-pushed (q ∷ qs) have = (in-pushed q qs (q ∷ have) here, all-pushed qs (q ∷ have))
 
-backed-asks : (qs have : List Request) (ts : List Task) → Backed (pushed qs have) ts → Backed have (asks qs ts)
-backed-asks [] have ts b = b
-backed-asks (q ∷ qs) have ts b = backed-asks qs (q ∷ have) ts b
+backed-asks : (n : Bool) (qs have : List Request) (ts : List Task) → Backed (pushed qs have) ts → Backed have (asks n qs ts)
+backed-asks n [] have ts b = b
+backed-asks n (q ∷ qs) have ts b = backed-asks n qs (q ∷ have) ts b
 
 -- the tasks of a step come after their requests
 pub backed-tasks : (ss : List Bound) → Backed [] (tasks_of ss)
 backed-tasks [] = tt
-backed-tasks (s ∷ ss) = backed-asks (plan s) [] (Do s ∷ tasks_of ss) (all-pushed (plan s) [], backed-tasks ss)
+backed-tasks (s ∷ ss) = backed-asks (nowait s) (plan s) [] (Do s ∷ tasks_of ss) (all-pushed (plan s) [], backed-tasks ss)
 
 -- a session that is sound and does not wait may go
 pub entering : (w : World) (i : ℕ) (s : Session) (ss : List Bound) → Steady w → i < length w.sessions → waits_now w.waits i ≡ false → s.held

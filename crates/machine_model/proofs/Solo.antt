@@ -5,16 +5,16 @@ use Rattle.finite_maps.specs.Map.{same_key, same_key-true, get, insert, get-inse
 use Rattle.lock_modes.specs.Resource.{resource_order}
 use Rattle.lock_modes.specs.Mode.{cover}
 use Rattle.lock_modes.specs.Rows.{Rows'}
-use Rattle.lock_queues.specs.Locks.{Look, fits, fits_with, wanted, all_below, may_have, answered}
+use Rattle.lock_queues.specs.Locks.{Look, fits, fits_with, wanted, all_below, may_have}
 use Rattle.row_effects.specs.Effect.{Effect, Gives, Faults}
 use Rattle.machine_model.specs.Session.{Task, Ask, Do, Session, Held, Performed, Goes, Fails, Kind, Begins, Commits, RollsBack, Works, kind, perform}
 use Rattle.machine_model.specs.Session.{perform_by, worked}
-use Rattle.machine_model.specs.Go.{Scene, Run, Stop, taking, go, solo, stopped, failed, finished_by, is_broken, held_up}
-use Rattle.lock_queues.specs.declared.answer.Answer.TheVariants.{Granted, Waits, Ring}
+use Rattle.machine_model.specs.Go.{Scene, Run, Stop, replied, taking, go, solo, stopped, failed, finished_by, is_broken, held_up}
+use Rattle.machine_model.specs.declared.reply.Reply.TheVariants.{Had, Waits, Refused}
 use Rattle.lock_modes.specs.declared.mode.Mode.{Mode}
 use Rattle.lock_modes.specs.declared.resource.Resource.{Resource}
 use Rattle.machine_model.specs.Footprint.{EachAsk, HeldFits, IsFree}
-use Rattle.transcripts.specs.declared.event.Fault.TheVariants.{Deadlock, Aborted}
+use Rattle.transcripts.specs.declared.event.Fault.TheVariants.{Aborted}
 use Rattle.machine_model.specs.declared.status.Status.{Status}
 use Rattle.machine_model.specs.declared.status.Status.TheVariants.{Outside, InBlock, Broken}
 use Rattle.sql_statements.specs.declared.statement.Bound.{Bound}
@@ -63,7 +63,7 @@ finished-held P e Broken s rows p = p
 pub solo-held : (P : Held → Type 0) → P empty → (s : Session) (rows : Rows') (ts : List Task) → EachAsk (Keeps P) ts → P s.held
     → P (solo s rows ts).session.held
 solo-held P e s rows [] keeps p = finished-held P e s.status s rows p
-solo-held P e s rows (Ask r m ∷ ts) keeps p =
+solo-held P e s rows (Ask n r m ∷ ts) keeps p =
     elim (is_broken s.status) as (λ b. P (let x : Stop = elim b [ true ↦ failed s rows Aborted | false ↦ solo (taking s r m) rows ts ] in x.session.held)) [
       | true ↦ e
       | false ↦ solo-held P e (taking s r m) rows ts keeps.1 (keeps.0 s.held p)
@@ -133,19 +133,19 @@ had e i s r m free p = and_true _ _ (wanted-fits e i r (get s.held r) m (p.each 
 pub go-solo : (e : Scene) (i : ℕ) (s : Session) (rows : Rows') (ts : List Task) → EachAsk (IsFree e i) ts → HeldFits e i s.held → go e i s rows ts
     ≡ stopped e (solo s rows ts)
 go-solo e i s rows [] free p = refl
-go-solo e i s rows (Ask r m ∷ ts) free p = asked (is_broken s.status) _ _ (had e i s r m free.0 p)
+go-solo e i s rows (Ask n r m ∷ ts) free p = asked (is_broken s.status) _ n _ (had e i s r m free.0 p)
     (go-solo e i (taking s r m) rows ts free.1 (held-fits-taking e i r m free.0 s.held p))
   where
-    asked : (b h c : Bool) → h ≡ true → go e i (taking s r m) rows ts ≡ stopped e (solo (taking s r m) rows ts)
+    asked : (b h n c : Bool) → h ≡ true → go e i (taking s r m) rows ts ≡ stopped e (solo (taking s r m) rows ts)
         → (let x : Run = elim b [
           | true ↦ stopped e (failed s rows Aborted)
-          | false ↦ elim (answered h c)
-              [ Granted ↦ go e i (taking s r m) rows ts | Waits ↦ held_up e i s rows r m ts | Ring ↦ stopped e (failed s rows Deadlock) ]
+          | false ↦ elim (replied h n c)
+              [ Had ↦ go e i (taking s r m) rows ts | Waits ↦ held_up e i s rows r m ts | Refused f ↦ stopped e (failed s rows f) ]
         ] in x)
         ≡ stopped e (elim b [ true ↦ failed s rows Aborted | false ↦ solo (taking s r m) rows ts ])
-    asked true h c is rec = refl
-    asked false true c is rec = rec
-    asked false false c is rec = cc
+    asked true h n c is rec = refl
+    asked false true n c is rec = rec
+    asked false false n c is rec = cc
 go-solo e i s rows (Do st ∷ ts) free p = done (perform s rows st) (perform-held (HeldFits e i) (held-fits-empty e i) s rows st p) (λ s2 rows2 q.
     go-solo e i s2 rows2 ts free q)
   where

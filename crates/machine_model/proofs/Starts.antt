@@ -55,7 +55,7 @@ first-steady n =
 
 pub all-free : (e : Scene) (i : ℕ) → ((c : ℕ) (r : Resource) → c ≢ i → e.look c r ≡ None) → e.waits ≡ [] → (ts : List Task) → EachAsk (IsFree e i) ts
 all-free e i none idle [] = tt
-all-free e i none idle (Ask r m ∷ ts) = (
+all-free e i none idle (Ask n r m ∷ ts) = (
   (
     all_below-true e.count _ (λ c. ⊎_elim (λ k. or_true_left (c == i) _ (eq-eqb c i k)) (λ k. or_true_right (c == i) _ (ap (fits_with m) (none c r k)))
         (cases-eq c i)),

@@ -105,11 +105,11 @@ module _ (Has Knows : ℕ → ColumnType → Type 0) (more : (c : ℕ) (kind : C
   assignment a h = (h.0, (more a.column h.0 h.1.0, expression h.0 a.value h.1.1))
 
   takes : (st : Bound) → Takes Has st → Takes Knows st
-  takes (Select n key c by out) h = (output out h.0, (λ i d lt. there (get_or by i d).column (h.1.0 i d lt), condition c h.1.1))
+  takes (Select n key c by out l) h = (output out h.0, (λ i d lt. there (get_or by i d).column (h.1.0 i d lt), condition c h.1.1))
   takes (Update n key sets c) h = (λ i d lt. assignment (get_or sets i d) (h.0 i d lt), condition c h.1)
   takes (Delete n key c) h = condition c h
   takes (Insert n key rows) h = tt
-  takes (Lock n mode) h = tt
+  takes (Lock n mode r) h = tt
   takes Begin h = tt
   takes Commit h = tt
   takes Rollback h = tt
@@ -316,11 +316,11 @@ module _ (tables : List Table) where
 
   each-taken : (st : Bound) → Fits tables st → (rows : Rows') → EachFits rows
       → Each (λ (e : RowPlace × Tuple). Takes (ValueIn e.1) st) (entries (visible st rows))
-  each-taken (Select n key c by out) fits rows h = taken (Select n key c by out) n (λ p e. in-table n p (at_key key p.1) e) fits rows h
+  each-taken (Select n key c by out l) fits rows h = taken (Select n key c by out l) n (λ p e. in-table n p (at_key key p.1) e) fits rows h
   each-taken (Update n key sets c) fits rows h = taken (Update n key sets c) n (λ p e. in-table n p (at_key key p.1) e) (fits.0, fits.1.0) rows h
   each-taken (Delete n key c) fits rows h = taken (Delete n key c) n (λ p e. in-table n p (at_key key p.1) e) fits rows h
   each-taken (Insert n key new) fits rows h = each-any (λ (e : RowPlace × Tuple). ⊤) (λ e. tt) (entries (visible (Insert n key new) rows))
-  each-taken (Lock n mode) fits rows h = each-any (λ (e : RowPlace × Tuple). ⊤) (λ e. tt) (entries (visible (Lock n mode) rows))
+  each-taken (Lock n mode r) fits rows h = each-any (λ (e : RowPlace × Tuple). ⊤) (λ e. tt) (entries (visible (Lock n mode r) rows))
   each-taken Begin fits rows h = each-any (λ (e : RowPlace × Tuple). ⊤) (λ e. tt) (entries (visible Begin rows))
   each-taken Commit fits rows h = each-any (λ (e : RowPlace × Tuple). ⊤) (λ e. tt) (entries (visible Commit rows))
   each-taken Rollback fits rows h = each-any (λ (e : RowPlace × Tuple). ⊤) (λ e. tt) (entries (visible Rollback rows))
@@ -383,7 +383,7 @@ module _ (tables : List Table) where
   -- what a statement that fits writes over rows that fit, fits
   pub effect-fits : (st : Bound) (rows : Rows') → Fits tables st → EachFits rows → OnGives (effect st rows) (Each WriteFits)
   unfolding effect
-  effect-fits (Select n key c by out) rows fits h = on-selected WriteFits by out (matching c (entries (visible (Select n key c by out) rows)))
+  effect-fits (Select n key c by out l) rows fits h = on-selected WriteFits by out (matching c (entries (visible (Select n key c by out l) rows)))
   effect-fits (Insert n (Some k) new) rows fits h =
       on-or_fault WriteFits Duplicate (placed n k new (visible (Insert n (Some k) new) rows)) Inserted (each-placed WriteFits n k new _ (keyed n k new fits))
   effect-fits (Insert n None new) rows fits h =
@@ -400,7 +400,7 @@ module _ (tables : List Table) where
       (λ es. counted Deleted (map (λ (e : RowPlace × Tuple). record { place = e.0; left = None }) es))
       (λ es all. each-deleted WriteFits es all)
       (each-matching (λ (e : RowPlace × Tuple). ⊤) c _ (each-any (λ (e : RowPlace × Tuple). ⊤) (λ e. tt) (entries (visible (Delete n key c) rows))))
-  effect-fits (Lock n mode) rows fits h = tt
+  effect-fits (Lock n mode r) rows fits h = tt
   effect-fits SetVariable rows fits h = tt
   effect-fits Begin rows fits h = tt
   effect-fits Commit rows fits h = tt

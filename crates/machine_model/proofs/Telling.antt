@@ -54,7 +54,7 @@ told-matched (Some es) then' h = h es
 -- each event of an effect comes from one
 pub effect-tells : (st : Bound) (rows : Rows') → TellsEffects (effect st rows)
 unfolding effect
-effect-tells (Select t key c by out) rows = told-matched (matching c (entries (visible (Select t key c by out) rows))) (λ es. shown out (sorted_by by es))
+effect-tells (Select t key c by out l) rows = told-matched (matching c (entries (visible (Select t key c by out l) rows))) (λ es. shown out (sorted_by by es))
     (λ es. told-shown out (sorted_by by es))
 effect-tells (Insert t (Some k) new) rows = told-or_fault Duplicate (placed t k new (visible (Insert t (Some k) new) rows)) Inserted (λ n. refl)
 effect-tells (Insert t None new) rows = (refl, tt)
@@ -62,7 +62,7 @@ effect-tells (Update t key sets c) rows = told-matched (matching c (entries (vis
     or_fault OutOfRange (all_assigned sets es) Updated) (λ es. told-or_fault OutOfRange (all_assigned sets es) Updated (λ n. refl))
 effect-tells (Delete t key c) rows = told-matched (matching c (entries (visible (Delete t key c) rows))) (λ es.
     counted Deleted (map (λ (e : RowPlace × Tuple). record { place = e.0; left = None }) es)) (λ es. (refl, tt))
-effect-tells (Lock t m) rows = (refl, tt)
+effect-tells (Lock t m n) rows = (refl, tt)
 effect-tells SetVariable rows = (refl, tt)
 effect-tells Begin rows = tt
 effect-tells Commit rows = tt

@@ -7,17 +7,15 @@ use Rattle.std.proofs.lemmas.List.Elements.{All-head, All-tail}
 use Rattle.finite_maps.specs.Map.{empty}
 use Rattle.lock_modes.specs.RowPlace.{place_order}
 use Rattle.lock_modes.specs.Rows.{Tuple, Rows'}
-use Rattle.lock_queues.specs.declared.answer.Answer.{Answer}
-use Rattle.lock_queues.specs.declared.answer.Answer.TheVariants.{Granted, Waits, Ring}
 use Rattle.lock_queues.specs.Locks.{Spot, next_grant, waits_now}
 use Rattle.row_tables.specs.Overlay.{lay}
-use Rattle.sql_statements.specs.Plan.{Request, plan}
+use Rattle.sql_statements.specs.Plan.{Request, plan, nowait}
 use Rattle.sql_statements.specs.declared.statement.Bound.{Bound}
 use Rattle.binding_model.specs.declared.tables.Table.{Table}
 use Rattle.bound_specs.specs.Fits.{Fits, SpecFits}
 use Rattle.bound_specs.specs.Spec.{Spec, Step, no_step}
 use Rattle.transcripts.specs.declared.event.Fault.{Fault}
-use Rattle.transcripts.specs.declared.event.Fault.TheVariants.{Deadlock, Aborted}
+use Rattle.transcripts.specs.declared.event.Fault.TheVariants.{Aborted}
 use Rattle.transcripts.specs.declared.event.Event.TheVariants.{Sent, Resumed, NotSent}
 use Rattle.row_effects.specs.Effect.{Effect, Gives, Faults, effect}
 use Rattle.row_effects.proofs.ListLemmas.{Each}
@@ -26,7 +24,9 @@ use Rattle.machine_model.specs.declared.status.Status.{Status}
 use Rattle.machine_model.specs.declared.status.Status.TheVariants.{Outside, InBlock, Broken}
 use Rattle.machine_model.specs.Session.{Task, Ask, Do, Session, Kind, Begins, Commits, RollsBack, Works, kind, note, asks, tasks_of, Performed, Goes, Fails}
 use Rattle.machine_model.specs.Session.{worked, perform_by, perform}
-use Rattle.machine_model.specs.Go.{Scene, Run, go, taking, is_broken, answer_in, finished_by, stopped, failed, held_up}
+use Rattle.machine_model.specs.Go.{Scene, Run, go, taking, is_broken, reply_in, finished_by, stopped, failed, held_up}
+use Rattle.machine_model.specs.declared.reply.Reply.{Reply}
+use Rattle.machine_model.specs.declared.reply.Reply.TheVariants.{Had, Waits, Refused}
 use Rattle.machine_model.specs.World.{World, fresh, session_at, look_of, scene_of, noted, goes, granted, settle_for, settle, left_to_do, send, send_all}
 use Rattle.machine_model.specs.Start.{Start, Started, SetupFailed, SessionSetupFailed, SessionSetupWaits, start, set_up, started_then, main_setups}
 use Rattle.machine_model.specs.Start.{session_setups, after_setup, forgotten, has_failed, is_outside}
@@ -75,13 +75,13 @@ module _ (tables : List Table) where
 
   -- ---- a session goes
 
-  asks-fit : (qs : List Request) (ts : List Task) → Each (TaskFits tables) ts → Each (TaskFits tables) (asks qs ts)
-  asks-fit [] ts h = h
-  asks-fit (q ∷ qs) ts h = (tt, asks-fit qs ts h)
+  asks-fit : (n : Bool) (qs : List Request) (ts : List Task) → Each (TaskFits tables) ts → Each (TaskFits tables) (asks n qs ts)
+  asks-fit n [] ts h = h
+  asks-fit n (q ∷ qs) ts h = (tt, asks-fit n qs ts h)
 
   tasks-fit : (ss : List Bound) → All (Fits tables) ss → Each (TaskFits tables) (tasks_of ss)
   tasks-fit [] h = tt
-  tasks-fit (s ∷ ss) h = asks-fit (plan s) (Do s ∷ tasks_of ss) (All-head (Fits tables) s ss h, tasks-fit ss (All-tail (Fits tables) s ss h))
+  tasks-fit (s ∷ ss) h = asks-fit (nowait s) (plan s) (Do s ∷ tasks_of ss) (All-head (Fits tables) s ss h, tasks-fit ss (All-tail (Fits tables) s ss h))
 
   abbrev PerformedFits : Performed → Type 0
   PerformedFits (Goes s rows) = EachSession s × EachFits tables rows
@@ -123,23 +123,23 @@ module _ (tables : List Table) where
   go-fits : (e : Scene) (i : ℕ) (s : Session) (rows : Rows') (ts : List Task) → EachSession s → EachFits tables rows → Each (TaskFits tables) ts
       → RunFits (go e i s rows ts)
   go-fits e i s rows [] h all fits = finished-fits e s.status s rows h all
-  go-fits e i s rows (Ask r m ∷ ts) h all fits =
-      at (is_broken s.status) (answer_in e i s r m) (go-fits e i (taking s r m) rows ts (record { overlay = h.overlay; rest = h.rest }) all fits.1)
+  go-fits e i s rows (Ask n r m ∷ ts) h all fits =
+      at (is_broken s.status) (reply_in e i s n r m) (go-fits e i (taking s r m) rows ts (record { overlay = h.overlay; rest = h.rest }) all fits.1)
     where
-      at : (b : Bool) (a : Answer) → RunFits (go e i (taking s r m) rows ts)
+      at : (b : Bool) (a : Reply) → RunFits (go e i (taking s r m) rows ts)
           → let x : Run = elim b [
             | true ↦ stopped e (failed s rows Aborted)
             | false ↦ elim a [
-              | Granted ↦ go e i (taking s r m) rows ts
+              | Had ↦ go e i (taking s r m) rows ts
               | Waits ↦ held_up e i s rows r m ts
-              | Ring ↦ stopped e (failed s rows Deadlock)
+              | Refused f ↦ stopped e (failed s rows f)
             ]
           ] in
           RunFits x
       at true a rec = failed-fits e s rows Aborted all
-      at false Granted rec = rec
+      at false Had rec = rec
       at false Waits rec = record { session = record { overlay = h.overlay; rest = fits.1 }; rows = all }
-      at false Ring rec = failed-fits e s rows Deadlock all
+      at false (Refused f) rec = failed-fits e s rows f all
   go-fits e i s rows (Do st ∷ ts) h all fits =
       at (perform s rows st) (perform_by-fits s.status (kind st) s rows st fits.0 h all) (λ s2 rows2 h2 all2. go-fits e i s2 rows2 ts h2 all2 fits.1)
     where
@@ -285,7 +285,7 @@ module _ (tables : List Table) where
 
   see-fit : (s : Session) (rows : Rows') (ts : List Task) → EachSession s → EachFits tables rows → Each (TaskFits tables) ts → SeeFit tables s rows ts
   see-fit s rows [] h all fits = tt
-  see-fit s rows (Ask r m ∷ ts) h all fits = see-fit (taking s r m) rows ts (record { overlay = h.overlay; rest = h.rest }) all fits.1
+  see-fit s rows (Ask n r m ∷ ts) h all fits = see-fit (taking s r m) rows ts (record { overlay = h.overlay; rest = h.rest }) all fits.1
   see-fit s rows (Do st ∷ ts) h all fits = (
     each-all (EntryFits tables) (entries (lay s.overlay rows)) (lay-fits tables s.overlay rows h.overlay all),
     at (perform s rows st) (perform_by-fits s.status (kind st) s rows st fits.0 h all) (λ s2 rows2 h2 all2. see-fit s2 rows2 ts h2 all2 fits.1),

@@ -1,5 +1,5 @@
 -- Worked runs of the machine, computed.
-use Rattle.std.proofs.Common.{◌≡◌, refl, ℕ, List, [], ◌∷◌, Some, None, pos}
+use Rattle.std.proofs.Common.{◌≡◌, refl, ℕ, true, false, List, [], ◌∷◌, Some, None, pos}
 use Rattle.finite_maps.specs.Map.{get, insert, keep, remove, entries, empty}
 use Rattle.row_effects.specs.Effect.{effect}
 use Rattle.row_tables.specs.Overlay.{lay}
@@ -13,7 +13,7 @@ use Rattle.transcripts.specs.declared.event.Event.{Event}
 use Rattle.transcripts.specs.declared.event.Event.TheVariants.{Sent, Row as RowEvent, Rows, Inserted, Updated, Deleted, Committed, RolledBack, Locked, Warned}
 use Rattle.transcripts.specs.declared.event.Event.TheVariants.{Failed, Waiting, Resumed, Done, NotSent}
 use Rattle.transcripts.specs.declared.event.Warning.TheVariants.{NoBlock}
-use Rattle.transcripts.specs.declared.event.Fault.TheVariants.{Duplicate, OutOfRange, Deadlock, Aborted}
+use Rattle.transcripts.specs.declared.event.Fault.TheVariants.{Duplicate, OutOfRange, Deadlock, Aborted, Unavailable}
 use Rattle.sql_statements.specs.declared.expression.Operand.{Operand}
 use Rattle.sql_statements.specs.declared.expression.Operand.TheVariants.{Literal, Column}
 use Rattle.sql_statements.specs.declared.expression.AddSign.TheVariants.{Plus}
@@ -24,6 +24,7 @@ use Rattle.sql_statements.specs.declared.condition.Condition.TheVariants.{Always
 use Rattle.sql_statements.specs.declared.statement.Aggregate.TheVariants.{Count, Sum}
 use Rattle.sql_statements.specs.declared.statement.Order.TheVariants.{Falls}
 use Rattle.sql_statements.specs.declared.statement.Output.TheVariants.{Columns, Aggregates}
+use Rattle.sql_statements.specs.declared.statement.RowLock.{RowLock}
 use Rattle.sql_statements.specs.declared.statement.Bound.{Bound}
 use Rattle.sql_statements.specs.declared.statement.Bound.TheVariants.{Select, Insert, Update, Delete, Begin, Commit, Rollback, Lock}
 
@@ -39,6 +40,10 @@ plus a b = record { first = record { first = a; more = [] }; more = record { sig
 
 abbrev pub id_is : ℕ → Condition
 id_is n = Compares (alone (Column 0)) Same (alone (Literal (number n)))
+
+-- a select that locks no more than it reads
+abbrev pub shares : RowLock
+shares = record { exclusive = false; nowait = false }
 
 -- a step of the session with one statement
 abbrev pub step : ℕ → Bound → Step
@@ -82,13 +87,13 @@ ring_row_is = refl
 
 -- every row: SELECT *
 abbrev pub all_rows : Bound
-all_rows = Select 0 None Always [] (Columns (0 ∷ 1 ∷ []))
+all_rows = Select 0 None Always [] (Columns (0 ∷ 1 ∷ [])) shares
 
 abbrev pub waiters_row : Spec
 waiters_row =
     record {
       sessions = 3;
-      steps = step 0 (Select 0 (Some (number 1)) (id_is 1) [] (Columns (1 ∷ []))) ∷ step 0 all_rows ∷ step 1 all_rows ∷ step 1 Commit ∷ step 2 (sets 2 5) ∷ [];
+      steps = step 0 (Select 0 (Some (number 1)) (id_is 1) [] (Columns (1 ∷ [])) shares) ∷ step 0 all_rows ∷ step 1 all_rows ∷ step 1 Commit ∷ step 2 (sets 2 5) ∷ [];
       setups = two_rows ∷ [];
       lines = [];
       session_setups = (Begin ∷ []) ∷ (Begin ∷ []) ∷ [] ∷ [];
@@ -136,7 +141,7 @@ deletes_and_reads =
     record (deletes Commit) {
       steps = step 0 (Delete 0 (Some (number 1)) (id_is 1)) ∷ record {
         session = 0;
-        statements = Commit ∷ Select 0 (Some (number 1)) (id_is 1) [] (Columns (1 ∷ [])) ∷ [];
+        statements = Commit ∷ Select 0 (Some (number 1)) (id_is 1) [] (Columns (1 ∷ [])) shares ∷ [];
       } ∷ step 1 (Insert 0 (Some 0) ((number 1 ∷ number 7 ∷ []) ∷ [])) ∷
           [];
     }
@@ -157,7 +162,7 @@ duplicate_row =
         statements = Insert 0 (Some 0) ((number 3 ∷ number 0 ∷ []) ∷ []) ∷ Insert 0 (Some 0) ((number 3 ∷ number 1 ∷ []) ∷ []) ∷
             all_rows ∷ [];
       }
-          ∷ step 0 (Select 0 None Always [] (Aggregates (Count ∷ Sum 1 ∷ []))) ∷ [];
+          ∷ step 0 (Select 0 None Always [] (Aggregates (Count ∷ Sum 1 ∷ [])) shares) ∷ [];
       setups = two_rows ∷ [];
       lines = [];
       session_setups = [] ∷ [];
@@ -174,7 +179,7 @@ ordered_row =
     record {
       sessions = 1;
       steps = step 0 (Insert 0 (Some 0) ((number 3 ∷ number 20 ∷ []) ∷ [])) ∷ step 0
-          (Select 0 None Always (record { column = 1; order = Falls } ∷ []) (Columns (0 ∷ 1 ∷ []))) ∷ [];
+          (Select 0 None Always (record { column = 1; order = Falls } ∷ []) (Columns (0 ∷ 1 ∷ [])) shares) ∷ [];
       setups = two_rows ∷ [];
       lines = [];
       session_setups = [] ∷ [];
@@ -203,10 +208,42 @@ unfolding get insert keep remove entries empty effect lay
 range_row_is = refl
 
 abbrev pub upgrade_row : Spec
-upgrade_row = in_blocks 2 (step 0 (Lock 0 Share) ∷ step 0 (Lock 0 Exclusive) ∷ step 1 (Lock 0 Share) ∷ step 1 (Lock 0 Exclusive) ∷ [])
+upgrade_row = in_blocks 2 (step 0 (Lock 0 Share false) ∷ step 0 (Lock 0 Exclusive false) ∷ step 1 (Lock 0 Share false) ∷ step 1 (Lock 0 Exclusive false) ∷ [])
 
 -- two conversions would wait for each other
 upgrade_row_is : transcripts upgrade_row (0 ∷ 2 ∷ 1 ∷ 3 ∷ [])
     ≡ (Sent 0 ∷ Locked ∷ Done ∷ Sent 1 ∷ Waiting ∷ Resumed ∷ Locked ∷ Done ∷ []) ∷ (Sent 2 ∷ Locked ∷ Done ∷ Sent 3 ∷ Failed Deadlock ∷ Done ∷ []) ∷ []
 unfolding get insert keep remove entries empty effect lay
 upgrade_row_is = refl
+
+-- SELECT v FROM t WHERE id = 1, with this lock
+abbrev pub reads_one : RowLock → Bound
+reads_one lock = Select 0 (Some (number 1)) (id_is 1) [] (Columns (1 ∷ [])) lock
+
+abbrev pub not_waiting_row : Spec
+not_waiting_row =
+    in_blocks 2 (step 0 (reads_one (record { exclusive = true; nowait = false })) ∷ step 0 Commit
+    ∷ step 1 (reads_one (record { exclusive = false; nowait = true })) ∷ step 1 Commit ∷ [])
+
+-- a statement that refuses to wait has its locks where they are free
+not_waiting_row_first : transcripts not_waiting_row (0 ∷ 1 ∷ 2 ∷ 3 ∷ [])
+    ≡ (Sent 0 ∷ RowEvent (number 10 ∷ []) ∷ Rows 1 ∷ Done ∷ Sent 1 ∷ Committed ∷ Done ∷ [])
+    ∷ (Sent 2 ∷ RowEvent (number 10 ∷ []) ∷ Rows 1 ∷ Done ∷ Sent 3 ∷ Committed ∷ Done ∷ []) ∷ []
+unfolding get insert keep remove entries empty effect lay
+not_waiting_row_first = refl
+
+-- and fails where it would wait
+not_waiting_row_second : transcripts not_waiting_row (0 ∷ 2 ∷ 1 ∷ 3 ∷ [])
+    ≡ (Sent 0 ∷ RowEvent (number 10 ∷ []) ∷ Rows 1 ∷ Done ∷ Sent 1 ∷ Committed ∷ Done ∷ [])
+    ∷ (Sent 2 ∷ Failed Unavailable ∷ Done ∷ Sent 3 ∷ RolledBack ∷ Done ∷ []) ∷ []
+unfolding get insert keep remove entries empty effect lay
+not_waiting_row_second = refl
+
+abbrev pub ring_or_not : Spec
+ring_or_not = in_blocks 2 (step 0 (Lock 0 Share false) ∷ step 0 (Lock 0 Exclusive false) ∷ step 1 (Lock 0 Share false) ∷ step 1 (Lock 0 Exclusive true) ∷ [])
+
+-- no ring is looked for where a statement refuses to wait
+ring_or_not_is : transcripts ring_or_not (0 ∷ 2 ∷ 1 ∷ 3 ∷ [])
+    ≡ (Sent 0 ∷ Locked ∷ Done ∷ Sent 1 ∷ Waiting ∷ Resumed ∷ Locked ∷ Done ∷ []) ∷ (Sent 2 ∷ Locked ∷ Done ∷ Sent 3 ∷ Failed Unavailable ∷ Done ∷ []) ∷ []
+unfolding get insert keep remove entries empty effect lay
+ring_or_not_is = refl

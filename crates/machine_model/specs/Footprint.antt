@@ -13,13 +13,13 @@ use Rattle.sql_statements.specs.declared.statement.Bound.{Bound}
 
 abbrev pub EachAsk : (Resource → Mode → Type 0) → List Task → Type 0
 EachAsk P [] = Unit {0}
-EachAsk P (Ask r m ∷ ts) = P r m × EachAsk P ts
+EachAsk P (Ask nowait r m ∷ ts) = P r m × EachAsk P ts
 EachAsk P (Do st ∷ ts) = EachAsk P ts
 
 -- each statement of the tasks
 abbrev pub EachDo : (Bound → Type 0) → List Task → Type 0
 EachDo P [] = Unit {0}
-EachDo P (Ask r m ∷ ts) = EachDo P ts
+EachDo P (Ask nowait r m ∷ ts) = EachDo P ts
 EachDo P (Do st ∷ ts) = P st × EachDo P ts
 
 -- what the session holds fits beside the others
@@ -49,6 +49,6 @@ pub record EndsSame (a b : Rows') (x y : Stop) : Type 0 where
 -- each request is had when it is asked
 abbrev pub AllHad : Scene → ℕ → Session → Rows' → List Task → Type 0
 AllHad e i s rows [] = Unit {0}
-AllHad e i s rows (Ask r m ∷ ts) = elim (is_broken s.status)
+AllHad e i s rows (Ask nowait r m ∷ ts) = elim (is_broken s.status)
     [ true ↦ Unit {0} | false ↦ (may_have e.count e.look e.waits i (get s.held r) r m ≡ true) × AllHad e i (taking s r m) rows ts ]
 AllHad e i s rows (Do st ∷ ts) = elim (perform s rows st) [ Goes s2 rows2 ↦ AllHad e i s2 rows2 ts | Fails f ↦ Unit {0} ]

@@ -2,18 +2,18 @@
 use Rattle.std.specs.Prelude.{ℕ, Bool, true, false, ◌==◌, List, [], ◌∷◌, ◌++◌, if◌then◌else◌}
 use Rattle.finite_maps.specs.Map.{get, insert}
 use Rattle.lock_queues.specs.declared.wait.Wait.{Wait}
-use Rattle.lock_queues.specs.Locks.{Look, wanted, may_have, closes_ring, answered}
+use Rattle.lock_queues.specs.Locks.{Look, wanted, may_have, closes_ring}
 use Rattle.lock_modes.specs.Rows.{Rows'}
 use Rattle.row_tables.specs.Overlay.{lay}
-use Rattle.lock_queues.specs.declared.answer.Answer.{Answer}
-use Rattle.lock_queues.specs.declared.answer.Answer.TheVariants.{Granted, Waits, Ring}
 use Rattle.lock_modes.specs.declared.mode.Mode.{Mode}
 use Rattle.lock_modes.specs.declared.resource.Resource.{Resource}
 use Rattle.transcripts.specs.declared.event.Fault.{Fault}
-use Rattle.transcripts.specs.declared.event.Fault.TheVariants.{Deadlock, Aborted}
+use Rattle.transcripts.specs.declared.event.Fault.TheVariants.{Deadlock, Aborted, Unavailable}
 use Rattle.transcripts.specs.declared.event.Event.TheVariants.{Failed, Waiting, Done}
 use Rattle.machine_model.specs.declared.status.Status.{Status}
 use Rattle.machine_model.specs.declared.status.Status.TheVariants.{Outside, InBlock, Broken}
+use Rattle.machine_model.specs.declared.reply.Reply.{Reply}
+use Rattle.machine_model.specs.declared.reply.Reply.TheVariants.{Had, Waits, Refused}
 use Rattle.machine_model.specs.Session.{Ask, Do, Fails, Goes, Held, Session, Task, after_fault, note, perform, released}
 
 -- what the running session sees of the others
@@ -55,9 +55,17 @@ look_with e i held = λ c r. if c == i then get held r else e.look c r
 abbrev pub waiting_with : Scene → ℕ → Resource → Mode → List Wait
 waiting_with e i r m = e.waits ++ record { session = i; resource = r; mode = m } ∷ []
 
+-- what a request gets that may be had at once or not, that refuses to wait or not, and whose wait would close a ring or not
+abbrev pub replied : Bool → Bool → Bool → Reply
+replied true nowait closes = Had
+replied false true closes = Refused Unavailable
+replied false false true = Refused Deadlock
+replied false false false = Waits
+
 -- what the session's request gets
-abbrev pub answer_in : Scene → ℕ → Session → Resource → Mode → Answer
-answer_in e i s r m = answered (may_have e.count e.look e.waits i (get s.held r) r m) (closes_ring e.count (look_with e i s.held) (waiting_with e i r m) i)
+abbrev pub reply_in : Scene → ℕ → Session → Bool → Resource → Mode → Reply
+reply_in e i s nowait r m =
+    replied (may_have e.count e.look e.waits i (get s.held r) r m) nowait (closes_ring e.count (look_with e i s.held) (waiting_with e i r m) i)
 
 -- the session waits, with these tasks left
 abbrev pub held_up : Scene → ℕ → Session → Rows' → Resource → Mode → List Task → Run
@@ -74,13 +82,13 @@ is_broken Broken = true
 
 abbrev pub go : Scene → ℕ → Session → Rows' → List Task → Run
 go e i s rows [] = stopped e (finished_by s.status s rows)
-go e i s rows (Ask r m ∷ ts) =
+go e i s rows (Ask nowait r m ∷ ts) =
     elim (is_broken s.status) [
       | true ↦ stopped e (failed s rows Aborted)
-      | false ↦ elim (answer_in e i s r m) [
-        | Granted ↦ go e i (taking s r m) rows ts
+      | false ↦ elim (reply_in e i s nowait r m) [
+        | Had ↦ go e i (taking s r m) rows ts
         | Waits ↦ held_up e i s rows r m ts
-        | Ring ↦ stopped e (failed s rows Deadlock)
+        | Refused f ↦ stopped e (failed s rows f)
       ]
     ]
 go e i s rows (Do st ∷ ts) = elim (perform s rows st) [ Goes s2 rows2 ↦ go e i s2 rows2 ts | Fails f ↦ stopped e (failed s rows f) ]
@@ -88,5 +96,5 @@ go e i s rows (Do st ∷ ts) = elim (perform s rows st) [ Goes s2 rows2 ↦ go e
 -- the same where each request is had
 abbrev pub solo : Session → Rows' → List Task → Stop
 solo s rows [] = finished_by s.status s rows
-solo s rows (Ask r m ∷ ts) = elim (is_broken s.status) [ true ↦ failed s rows Aborted | false ↦ solo (taking s r m) rows ts ]
+solo s rows (Ask nowait r m ∷ ts) = elim (is_broken s.status) [ true ↦ failed s rows Aborted | false ↦ solo (taking s r m) rows ts ]
 solo s rows (Do st ∷ ts) = elim (perform s rows st) [ Goes s2 rows2 ↦ solo s2 rows2 ts | Fails f ↦ failed s rows f ]

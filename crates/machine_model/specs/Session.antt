@@ -1,9 +1,9 @@
 -- A session, what is left of its step, and what a statement does whose requests are had.
-use Rattle.std.specs.Prelude.{List, [], ◌∷◌, ◌++◌}
+use Rattle.std.specs.Prelude.{Bool, List, [], ◌∷◌, ◌++◌}
 use Rattle.finite_maps.specs.Map.{Map, empty}
 use Rattle.lock_modes.specs.Resource.{resource_order}
 use Rattle.lock_modes.specs.Rows.{Rows'}
-use Rattle.sql_statements.specs.Plan.{Request, plan}
+use Rattle.sql_statements.specs.Plan.{Request, plan, nowait}
 use Rattle.row_tables.specs.Overlay.{Overlay, lay, written}
 use Rattle.row_effects.specs.Effect.{Effect, Gives, Faults, effect}
 use Rattle.lock_modes.specs.declared.mode.Mode.{Mode}
@@ -18,18 +18,18 @@ use Rattle.machine_model.specs.declared.status.Status.TheVariants.{Outside, InBl
 use Rattle.sql_statements.specs.declared.statement.Bound.{Bound}
 use Rattle.sql_statements.specs.declared.statement.Bound.TheVariants.{Select, Insert, Update, Delete, Begin, Commit, Rollback, Lock, SetVariable}
 
--- a step is its requests and its statements, each statement behind its requests
+-- a step is its requests and its statements, each statement behind its requests; the requests of a statement wait, or all refuse to
 pub data Task : Type 0 where
-  Ask : (resource : Resource) (mode : Mode) → Task
+  Ask : (nowait : Bool) (resource : Resource) (mode : Mode) → Task
   Do : (statement : Bound) → Task
 
-abbrev pub asks : List Request → List Task → List Task
-asks [] ts = ts
-asks (q ∷ qs) ts = Ask q.resource q.mode ∷ asks qs ts
+abbrev pub asks : Bool → List Request → List Task → List Task
+asks nowait [] ts = ts
+asks nowait (q ∷ qs) ts = Ask nowait q.resource q.mode ∷ asks nowait qs ts
 
 abbrev pub tasks_of : List Bound → List Task
 tasks_of [] = []
-tasks_of (s ∷ ss) = asks (plan s) (Do s ∷ tasks_of ss)
+tasks_of (s ∷ ss) = asks (nowait s) (plan s) (Do s ∷ tasks_of ss)
 
 abbrev pub Held : Type 0
 Held = Map resource_order Mode
@@ -65,11 +65,11 @@ abbrev pub kind : Bound → Kind
 kind Begin = Begins
 kind Commit = Commits
 kind Rollback = RollsBack
-kind (Select t k c by o) = Works
+kind (Select t k c by o l) = Works
 kind (Insert t k r) = Works
 kind (Update t k a c) = Works
 kind (Delete t k c) = Works
-kind (Lock t m) = Works
+kind (Lock t m n) = Works
 kind SetVariable = Works
 
 -- what a statement does whose requests are had

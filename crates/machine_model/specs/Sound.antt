@@ -37,7 +37,7 @@ AllIn (q ∷ qs) have = IsIn q have × AllIn qs have
 -- each statement comes after its requests, the ones had already included
 abbrev pub Backed : List Request → List Task → Type 0
 Backed have [] = Unit {0}
-Backed have (Ask r m ∷ ts) = Backed (request r m ∷ have) ts
+Backed have (Ask nowait r m ∷ ts) = Backed (request r m ∷ have) ts
 Backed have (Do st ∷ ts) = AllIn (plan st) have × Backed [] ts
 
 -- a waiting session has what is left of its step, behind the request that it waits for

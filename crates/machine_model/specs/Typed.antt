@@ -42,7 +42,7 @@ LeftFits tables p None = ⊤
 LeftFits tables p (Some row) = EntryFits tables (p, row)
 
 abbrev pub TaskFits : List Table → Task → Type 0
-TaskFits tables (Ask r m) = ⊤
+TaskFits tables (Ask nowait r m) = ⊤
 TaskFits tables (Do st) = Fits tables st
 
 -- what a session has written fits, and so do the statements that are left of its step
@@ -57,7 +57,7 @@ pub record WorldFits (tables : List Table) (w : World) : Type 0 where
 -- each of these statements that is performed sees rows that fit
 abbrev pub SeeFit : List Table → Session → Rows' → List Task → Type 0
 SeeFit tables s rows [] = ⊤
-SeeFit tables s rows (Ask r m ∷ ts) = SeeFit tables (taking s r m) rows ts
+SeeFit tables s rows (Ask nowait r m ∷ ts) = SeeFit tables (taking s r m) rows ts
 SeeFit tables s rows (Do st ∷ ts) = RowsFit tables (lay s.overlay rows) × elim (perform s rows st) [ Goes s2 rows2 ↦ SeeFit tables s2 rows2 ts | Fails f ↦ ⊤ ]
 
 -- wherever a session goes, in a setup, with a step or when its wait is granted: from a world that fits it comes to one that fits, and each

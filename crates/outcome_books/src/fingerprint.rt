@@ -55,6 +55,7 @@ fn word_of(event: &Event) -> u64 {
         Event::Failed(Fault::OutOfRange) => word(12, 1),
         Event::Failed(Fault::Deadlock) => word(12, 2),
         Event::Failed(Fault::Aborted) => word(12, 3),
+        Event::Failed(Fault::Unavailable) => word(12, 4),
         Event::Waiting => word(13, 0),
         Event::Resumed => word(14, 0),
         Event::Done => word(15, 0),

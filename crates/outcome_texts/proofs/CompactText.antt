@@ -8,7 +8,7 @@ use Rattle.serde_json.specs.Written.{compact_text, items_text}
 use Rattle.json.specs.Print.{escape_byte}
 use Rattle.lock_modes.specs.declared.value.Value.{Value}
 use Rattle.lock_modes.specs.declared.value.Value.TheVariants.{Int, Text}
-use Rattle.transcripts.specs.declared.event.Fault.TheVariants.{Duplicate, OutOfRange, Deadlock, Aborted}
+use Rattle.transcripts.specs.declared.event.Fault.TheVariants.{Duplicate, OutOfRange, Deadlock, Aborted, Unavailable}
 use Rattle.transcripts.specs.declared.event.Warning.TheVariants.{InBlock, NoBlock}
 use Rattle.transcripts.specs.declared.event.Event.{Event}
 use Rattle.transcripts.specs.declared.event.Event.TheVariants.{Sent, Row, Rows, Inserted, Updated, Deleted, Began, Committed, RolledBack, Locked, Set, Warned}
@@ -58,6 +58,7 @@ event-text (Failed Duplicate) fits = ap (λ ds. codes "[\"failed\"," ++ (ds ++ c
 event-text (Failed OutOfRange) fits = ap (λ ds. codes "[\"failed\"," ++ (ds ++ codes "]")) (sym (whole-decimal 2 (lit< tt)))
 event-text (Failed Deadlock) fits = ap (λ ds. codes "[\"failed\"," ++ (ds ++ codes "]")) (sym (whole-decimal 3 (lit< tt)))
 event-text (Failed Aborted) fits = ap (λ ds. codes "[\"failed\"," ++ (ds ++ codes "]")) (sym (whole-decimal 4 (lit< tt)))
+event-text (Failed Unavailable) fits = ap (λ ds. codes "[\"failed\"," ++ (ds ++ codes "]")) (sym (whole-decimal 5 (lit< tt)))
 event-text Waiting fits = refl
 event-text Resumed fits = refl
 event-text Done fits = refl

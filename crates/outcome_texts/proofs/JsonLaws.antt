@@ -13,7 +13,7 @@ use Rattle.lock_modes.specs.declared.value.Value.{Value}
 use Rattle.lock_modes.specs.declared.value.Value.TheVariants.{Int, Text}
 use Rattle.transcripts.specs.declared.event.Fault.{Fault}
 use Rattle.transcripts.specs.declared.event.Warning.{Warning}
-use Rattle.transcripts.specs.declared.event.Fault.TheVariants.{Duplicate, OutOfRange, Deadlock, Aborted}
+use Rattle.transcripts.specs.declared.event.Fault.TheVariants.{Duplicate, OutOfRange, Deadlock, Aborted, Unavailable}
 use Rattle.transcripts.specs.declared.event.Warning.TheVariants.{InBlock, NoBlock}
 use Rattle.transcripts.specs.declared.event.Event.{Event}
 use Rattle.transcripts.specs.declared.event.Event.TheVariants.{Sent, Row, Rows, Inserted, Updated, Deleted, Began, Committed, RolledBack, Locked, Set, Warned}
@@ -58,6 +58,7 @@ event_back (Failed Duplicate) fits = refl
 event_back (Failed OutOfRange) fits = refl
 event_back (Failed Deadlock) fits = refl
 event_back (Failed Aborted) fits = refl
+event_back (Failed Unavailable) fits = refl
 event_back Waiting fits = refl
 event_back Resumed fits = refl
 event_back Done fits = refl
@@ -135,8 +136,9 @@ fault_told n f e =
     (told_by (n == 2) (Some OutOfRange) _ f (λ f. fault_number f ≡ n) (λ t same. let is : OutOfRange ≡ f = cc in ap fault_number (sym is)
     ∙ sym (eqb-true n 2 t))
     (told_by (n == 3) (Some Deadlock) _ f (λ f. fault_number f ≡ n) (λ t same. let is : Deadlock ≡ f = cc in ap fault_number (sym is) ∙ sym (eqb-true n 3 t))
-    (told_by (n == 4) (Some Aborted) None f (λ f. fault_number f ≡ n) (λ t same. let is : Aborted ≡ f = cc in ap fault_number (sym is)
-    ∙ sym (eqb-true n 4 t)) (λ same. cc)))) e
+    (told_by (n == 4) (Some Aborted) _ f (λ f. fault_number f ≡ n) (λ t same. let is : Aborted ≡ f = cc in ap fault_number (sym is) ∙ sym (eqb-true n 4 t))
+    (told_by (n == 5) (Some Unavailable) None f (λ f. fault_number f ≡ n) (λ t same. let is : Unavailable ≡ f = cc in ap fault_number (sym is)
+    ∙ sym (eqb-true n 5 t)) (λ same. cc))))) e
 
 integer_only : (n : Num) (z : ℤ) → integer_of_number n ≡ Some z → of_integer z ≡ n
 integer_only (unsigned m) z e = told_by (nat_lt m (2 ^ 63)) (Some (pos m)) None z (λ z. of_integer z ≡ unsigned m) (λ t same. let is : pos m ≡ z = cc

@@ -5,7 +5,7 @@ use Rattle.serde_json.specs.Find.{as_array, as_str}
 use Rattle.lock_modes.specs.declared.value.Value.{Value}
 use Rattle.lock_modes.specs.declared.value.Value.TheVariants.{Int, Text}
 use Rattle.transcripts.specs.declared.event.Fault.{Fault}
-use Rattle.transcripts.specs.declared.event.Fault.TheVariants.{Duplicate, OutOfRange, Deadlock, Aborted}
+use Rattle.transcripts.specs.declared.event.Fault.TheVariants.{Duplicate, OutOfRange, Deadlock, Aborted, Unavailable}
 use Rattle.transcripts.specs.declared.event.Warning.{Warning}
 use Rattle.transcripts.specs.declared.event.Warning.TheVariants.{InBlock, NoBlock}
 use Rattle.transcripts.specs.declared.event.Event.{Event}
@@ -60,7 +60,8 @@ abbrev pub warning_of : ℕ → Option Warning
 warning_of n = if n == 1 then Some InBlock else if n == 2 then Some NoBlock else None
 
 abbrev pub fault_of : ℕ → Option Fault
-fault_of n = if n == 1 then Some Duplicate else if n == 2 then Some OutOfRange else if n == 3 then Some Deadlock else if n == 4 then Some Aborted else None
+fault_of n = if n == 1 then Some Duplicate else if n == 2 then Some OutOfRange else if n == 3 then Some Deadlock else if n == 4 then Some Aborted
+    else if n == 5 then Some Unavailable else None
 
 abbrev pub word_event : List ℕ → Option Event
 word_event w =

@@ -5,7 +5,7 @@ use Rattle.std.specs.Fmt.{signed_decimal}
 use Rattle.lock_modes.specs.declared.value.Value.{Value}
 use Rattle.lock_modes.specs.declared.value.Value.TheVariants.{Int, Text}
 use Rattle.transcripts.specs.declared.event.Fault.{Fault}
-use Rattle.transcripts.specs.declared.event.Fault.TheVariants.{Duplicate, OutOfRange, Deadlock, Aborted}
+use Rattle.transcripts.specs.declared.event.Fault.TheVariants.{Duplicate, OutOfRange, Deadlock, Aborted, Unavailable}
 use Rattle.transcripts.specs.declared.event.Warning.{Warning}
 use Rattle.transcripts.specs.declared.event.Warning.TheVariants.{InBlock, NoBlock}
 use Rattle.transcripts.specs.declared.event.Event.{Event}
@@ -41,6 +41,7 @@ fault_text Duplicate = codes "error: duplicate key"
 fault_text OutOfRange = codes "error: integer out of range"
 fault_text Deadlock = codes "error: deadlock"
 fault_text Aborted = codes "error: transaction is aborted"
+fault_text Unavailable = codes "error: lock not available"
 
 -- an event in words, where these are the names of the steps
 abbrev pub event_text : List (List ℕ) → Event → List ℕ

@@ -181,6 +181,7 @@ fn fault(number: u64) -> Option<Fault>
         2 => Some(Fault::OutOfRange),
         3 => Some(Fault::Deadlock),
         4 => Some(Fault::Aborted),
+        5 => Some(Fault::Unavailable),
         _ => None,
     }
 }

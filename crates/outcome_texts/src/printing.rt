@@ -120,6 +120,7 @@ fn fault_words(fault: Fault) -> &'static str
         Fault::OutOfRange => "error: integer out of range",
         Fault::Deadlock => "error: deadlock",
         Fault::Aborted => "error: transaction is aborted",
+        Fault::Unavailable => "error: lock not available",
     }
 }
 

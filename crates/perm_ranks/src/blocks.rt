@@ -2,6 +2,7 @@ ghost use Rattle.std.specs.Prelude.{◌≡◌, ℕ, ◌<◌, ◌≤◌, ◌^◌,
 ghost use Rattle.perm_ranks.specs.Words.{Word, total, all_words};
 ghost use Rattle.perm_ranks.specs.Blocks as spec;
 ghost use Rattle.perm_ranks.specs.Blocks.{end_of, narrowed, HasRank, IsBlockOf};
+ghost use Rattle.perm_ranks.specs.declared.TheConstants.{MAX_STEPS};
 
 use crate::counting::Letters;
 use crate::shape::Shape;
@@ -69,7 +70,7 @@ impl Block {
     /// How many letters the words have behind those that they share.
     pub fn letters_left(&self) -> u8
         ensures all { result ≡ total self.now.left }
-        ensures few { result ≤ 24 }
+        ensures few { result ≤ MAX_STEPS }
     {
         self.left.steps()
     }

@@ -125,8 +125,8 @@ static WRONG_TEXTS: [(&str, &str); 8] = [
         "spec error 8 at 34\nfirst.spec:2:15\npermutation s t\n              ^\nNo step has this name: permutation lines and their markers name steps of the file.\n",
     ),
     (
-        "session a step s {}\npermutation s s s s s s s s s s s s s s s s s s s s s s s s s",
-        "spec error 9 at 80\nfirst.spec:2:61\npermutation s s s s s s s s s s s s s s s s s s s s s s s s s\n                                                            ^\nThe file is too large: it has 65,536 bytes and 4,096 permutation lines at most, and a line 24 steps.\n",
+        "session a step s {}\npermutation s s s s s s s s s s s s s s s s s s s s s s s s s s s s s",
+        "spec error 9 at 88\nfirst.spec:2:69\npermutation s s s s s s s s s s s s s s s s s s s s s s s s s s s s s\n                                                                    ^\nThe file is too large: it has 65,536 bytes and 4,096 permutation lines at most, and a line 28 steps.\n",
     ),
 ];
 
@@ -187,7 +187,7 @@ static WRONG_STATEMENTS: [(&str, &str); 7] = [
         "bind error 7 at 63\nfirst.spec:2:19\nsession a step s {INSERT INTO t VALUES (1, 2)}\n                  ^\nThe statement that begins here has too many or too few: a new row gives each column one value, a column is set or declared once, and a table has one primary key at most.\n",
     ),
     (
-        "session a step aa {}\nsession b step bb {}\nsession c step cc {}\nsession d step dd {}\nsession e step ee {}\nsession f step ff {}\nsession g step gg {}\n",
-        "bind error 8 at 0\nfirst.spec:1:1\nsession a step aa {}\n^\nThe file has too many sessions or steps: 6 sessions at most, and 24 steps, or 255 where it has permutation lines.\n",
+        "session a step aa {}\nsession b step bb {}\nsession c step cc {}\nsession d step dd {}\nsession e step ee {}\nsession f step ff {}\nsession g step gg {}\nsession h step hh {}\nsession i step ii {}\n",
+        "bind error 8 at 0\nfirst.spec:1:1\nsession a step aa {}\n^\nThe file has too many sessions, steps or orders: 8 sessions at most, and 28 steps with fewer than 9,223,372,036,854,775,808 orders, or 255 steps where it has permutation lines.\n",
     ),
 ];

@@ -277,15 +277,16 @@ fn each_statement_asks_for_the_locks_of_its_plan(rt: HostRuntime) -> Result<(), 
 }
 
 /// How many sessions, how many steps each of them has, whether there is a permutation line, and whether that is a shape.
-const SHAPES: [(usize, usize, bool, bool); 8] = [
-    (6, 4, false, true),
-    (7, 1, false, false),
-    (1, 24, false, true),
-    (1, 25, false, false),
-    (5, 5, false, false),
+const SHAPES: [(usize, usize, bool, bool); 9] = [
+    (8, 3, false, true),
+    (9, 1, false, false),
+    (1, 28, false, true),
+    (1, 29, false, false),
+    (7, 4, false, false),
+    (7, 4, true, true),
     (5, 51, true, true),
     (4, 64, true, false),
-    (7, 1, true, false),
+    (9, 1, true, false),
 ];
 
 /// A session of so many steps.

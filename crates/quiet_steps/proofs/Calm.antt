@@ -112,7 +112,7 @@ failed-on s rows f = record { events = Failed f ∷ Done ∷ []; calm = (refl, (
 
 pub solo-on : (s : Session) (rows : Rows') (ts : List Task) → GoesOn s.transcript (solo s rows ts).session.transcript
 solo-on s rows [] = finished-on s.status s rows
-solo-on s rows (Ask r m ∷ ts) =
+solo-on s rows (Ask n r m ∷ ts) =
     elim (is_broken s.status) as (λ b. GoesOn s.transcript (let x : Stop = elim b [ true ↦ failed s rows Aborted | false ↦ solo (taking s r m) rows ts ] in
     x.session.transcript)) [ true ↦ failed-on s rows Aborted | false ↦ solo-on (taking s r m) rows ts ]
 solo-on s rows (Do st ∷ ts) = done (perform s rows st) (perform_by-on s.status (kind st) s rows st) (λ s2 rows2. solo-on s2 rows2 ts)

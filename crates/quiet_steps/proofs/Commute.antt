@@ -10,7 +10,7 @@ use Rattle.lock_modes.specs.Mode.{compatible, cover}
 use Rattle.lock_queues.specs.declared.wait.Wait.{Wait}
 use Rattle.lock_queues.specs.Locks.{Spot, Look, fits, fits_with, wanted, wanted_by, all_below, waits_now, converts, ahead, is_empty, is_ripe, first_ripe}
 use Rattle.lock_queues.specs.Locks.{next_grant, spots_from}
-use Rattle.sql_statements.specs.Plan.{Request, plan}
+use Rattle.sql_statements.specs.Plan.{Request, plan, nowait}
 use Rattle.machine_model.specs.Session.{Task, Do, Session, Held, tasks_of, asks, note}
 use Rattle.machine_model.specs.Go.{Stop, solo}
 use Rattle.machine_model.specs.World.{World, fresh, session_at, look_of, scene_of, placed_back, goes, settle, left_to_do, send}
@@ -31,23 +31,24 @@ use Rattle.machine_model.proofs.Effects.{Friends, writes-under, reads-off, not_b
 use Rattle.machine_model.proofs.Claiming.{claims-asked, claims-held}
 use Rattle.machine_model.proofs.SettleSteps.{settled-at}
 
-ask-tasks : (P : Resource → Mode → Type 0) (qs : List Request) (ts : List Task) → Each (λ q. P q.resource q.mode) qs → EachAsk P ts → EachAsk P (asks qs ts)
-ask-tasks P [] ts each h = h
-ask-tasks P (q ∷ qs) ts each h = (each.0, ask-tasks P qs ts each.1 h)
+ask-tasks : (P : Resource → Mode → Type 0) (n : Bool) (qs : List Request) (ts : List Task) → Each (λ q. P q.resource q.mode) qs → EachAsk P ts
+    → EachAsk P (asks n qs ts)
+ask-tasks P n [] ts each h = h
+ask-tasks P n (q ∷ qs) ts each h = (each.0, ask-tasks P n qs ts each.1 h)
 
 pub asks-of : (P : Resource → Mode → Type 0) (ss : List Bound) → Each (λ q. P q.resource q.mode) (plans ss) → EachAsk P (tasks_of ss)
 asks-of P [] each = tt
-asks-of P (s ∷ ss) each = ask-tasks P (plan s) (Do s ∷ tasks_of ss) (Each-left (λ (q : Request). P q.resource q.mode) (plan s) (plans ss) each)
+asks-of P (s ∷ ss) each = ask-tasks P (nowait s) (plan s) (Do s ∷ tasks_of ss) (Each-left (λ (q : Request). P q.resource q.mode) (plan s) (plans ss) each)
     (asks-of P ss (Each-right (λ (q : Request). P q.resource q.mode) (plan s) (plans ss) each))
 
-do-tasks : (P : Bound → Type 0) (qs : List Request) (ts : List Task) → EachDo P ts → EachDo P (asks qs ts)
-do-tasks P [] ts h = h
-do-tasks P (q ∷ qs) ts h = do-tasks P qs ts h
+do-tasks : (P : Bound → Type 0) (n : Bool) (qs : List Request) (ts : List Task) → EachDo P ts → EachDo P (asks n qs ts)
+do-tasks P n [] ts h = h
+do-tasks P n (q ∷ qs) ts h = do-tasks P n qs ts h
 
 pub dos-of : (Q : Request → Type 0) (P : Bound → Type 0) → ((s : Bound) → Each Q (plan s) → P s) → (ss : List Bound) → Each Q (plans ss)
     → EachDo P (tasks_of ss)
 dos-of Q P f [] each = tt
-dos-of Q P f (s ∷ ss) each = do-tasks P (plan s) (Do s ∷ tasks_of ss) (
+dos-of Q P f (s ∷ ss) each = do-tasks P (nowait s) (plan s) (Do s ∷ tasks_of ss) (
   f s (Each-left Q (plan s) (plans ss) each),
   dos-of Q P f ss (Each-right Q (plan s) (plans ss) each),
 )

@@ -3,18 +3,18 @@ use Rattle.std.proofs.Common.{◌≡◌, refl, sym, ap, ◌∙◌, subst, ℕ, B
 use Rattle.finite_maps.specs.Map.{get}
 use Rattle.lock_modes.specs.RowPlace.{RowPlace}
 use Rattle.lock_modes.specs.Rows.{Rows'}
-use Rattle.lock_queues.specs.Locks.{may_have, closes_ring, answered}
-use Rattle.lock_queues.specs.declared.answer.Answer.TheVariants.{Granted, Waits, Ring}
+use Rattle.lock_queues.specs.Locks.{may_have, closes_ring}
 use Rattle.row_tables.specs.Overlay.{Overlay, lay}
 use Rattle.sql_statements.specs.Plan.{Request, request, plan}
 use Rattle.sql_statements.specs.declared.statement.Bound.{Bound}
 use Rattle.row_effects.specs.Effect.{Effect, Gives, Faults, effect}
-use Rattle.transcripts.specs.declared.event.Fault.TheVariants.{Deadlock, Aborted}
+use Rattle.transcripts.specs.declared.event.Fault.TheVariants.{Aborted}
 use Rattle.machine_model.specs.declared.status.Status.{Status}
 use Rattle.machine_model.specs.declared.status.Status.TheVariants.{Outside, InBlock, Broken}
 use Rattle.machine_model.specs.Session.{Task, Ask, Do, Session, Held, Kind, Begins, Commits, RollsBack, Works, kind, Performed, Goes, Fails, perform}
 use Rattle.machine_model.specs.Session.{perform_by, worked, tasks_of}
-use Rattle.machine_model.specs.Go.{Scene, Run, taking, go, solo, stopped, failed, finished_by, is_broken, held_up, look_with, waiting_with}
+use Rattle.machine_model.specs.Go.{Scene, Run, replied, taking, go, solo, stopped, failed, finished_by, is_broken, held_up, look_with, waiting_with}
+use Rattle.machine_model.specs.declared.reply.Reply.TheVariants.{Had, Waits, Refused}
 use Rattle.machine_model.specs.World.{World, session_at, scene_of}
 use Rattle.machine_model.specs.Claims.{claims_of}
 use Rattle.machine_model.specs.Sound.{Sound, UnderLocks, HoldsAll, Backed}
@@ -29,10 +29,10 @@ use Rattle.quiet_steps.specs.Footprint.{ChangesUnder, WritesUnder, EndsUnder, Le
 
 pub go-had : (e : Scene) (i : ℕ) (s : Session) (rows : Rows') (ts : List Task) → AllHad e i s rows ts → go e i s rows ts ≡ stopped e (solo s rows ts)
 go-had e i s rows [] h = refl
-go-had e i s rows (Ask r m ∷ ts) h = asked (is_broken s.status) (may_have e.count e.look e.waits i (get s.held r) r m)
+go-had e i s rows (Ask n r m ∷ ts) h = asked (is_broken s.status) (may_have e.count e.look e.waits i (get s.held r) r m) n
     (closes_ring e.count (look_with e i s.held) (waiting_with e i r m) i) refl h (λ k. go-had e i (taking s r m) rows ts k)
   where
-    asked : (b h c : Bool) → may_have e.count e.look e.waits i (get s.held r) r m ≡ h
+    asked : (b h n c : Bool) → may_have e.count e.look e.waits i (get s.held r) r m ≡ h
         → (let T : Type 0 = elim b [
           | true ↦ Unit {0}
           | false ↦ (may_have e.count e.look e.waits i (get s.held r) r m ≡ true)
@@ -42,12 +42,12 @@ go-had e i s rows (Ask r m ∷ ts) h = asked (is_broken s.status) (may_have e.co
         → (let x : Run = elim b [
           | true ↦ stopped e (failed s rows Aborted)
           | false ↦ elim
-              (answered h c) [ Granted ↦ go e i (taking s r m) rows ts | Waits ↦ held_up e i s rows r m ts | Ring ↦ stopped e (failed s rows Deadlock) ]
+              (replied h n c) [ Had ↦ go e i (taking s r m) rows ts | Waits ↦ held_up e i s rows r m ts | Refused f ↦ stopped e (failed s rows f) ]
         ] in x)
         ≡ stopped e (elim b [ true ↦ failed s rows Aborted | false ↦ solo (taking s r m) rows ts ])
-    asked true h c is k rec = refl
-    asked false true c is k rec = rec k.1
-    asked false false c is k rec = absurd (true≢false (sym k.0 ∙ is))
+    asked true h n c is k rec = refl
+    asked false true n c is k rec = rec k.1
+    asked false false n c is k rec = absurd (true≢false (sym k.0 ∙ is))
 go-had e i s rows (Do st ∷ ts) h = done (perform s rows st) h (λ s2 rows2 k. go-had e i s2 rows2 ts k)
   where
     done : (d : Performed) → (let T : Type 0 = elim d [ Goes s2 rows2 ↦ AllHad e i s2 rows2 ts | Fails f ↦ Unit {0} ] in T)
@@ -94,7 +94,7 @@ writes-under : (last : Session → Rows' → Type 0) → ((s : Session) (rows : 
     → (s : Session) (rows : Rows') (ts : List Task) (have : List Request) → UnderLocks s.overlay s.held → HoldsAll s.held have → Backed have ts
     → WritesUnder last s rows ts
 writes-under last ends s rows [] have under holds backed = ends s rows under
-writes-under last ends s rows (Ask r m ∷ ts) have under holds backed =
+writes-under last ends s rows (Ask n r m ∷ ts) have under holds backed =
     asked (is_broken s.status)
     (writes-under last ends (taking s r m) rows ts (request r m ∷ have) (under-stronger s.overlay s.held _ (stronger-taking s.held r m) under)
     (covers-taking s.held r m, holds-stronger s.held _ (stronger-taking s.held r m) have holds) backed)
@@ -131,7 +131,7 @@ footprint w i ss sound had =
 
 backed-front : (have : List Request) (ts us : List Task) → Backed have (ts ++ us) → Backed have ts
 backed-front have [] us b = tt
-backed-front have (Ask r m ∷ ts) us b = backed-front (request r m ∷ have) ts us b
+backed-front have (Ask n r m ∷ ts) us b = backed-front (request r m ∷ have) ts us b
 backed-front have (Do st ∷ ts) us b = (b.0, backed-front [] ts us b.1)
 
 same-goes : (a b : Rows') (x y : Performed) → SameWay a b x y → (u : Session) (c : Rows') → x ≡ Goes u c → (d : Rows') × ((y ≡ Goes u d) × SameChanges a c b d)
@@ -145,7 +145,7 @@ leads-same : (hidden : RowPlace → Bool) (s : Session) (a b : Rows') (ts : List
     → AgreeBut hidden a b → Leads s a ts t c
     → (d : Rows') × (Leads s b ts t d × SameChanges a c b d)
 leads-same hidden s a b [] t c off h leads = (b, ((leads.0, refl), subst (λ z. SameChanges a z b b) leads.1 (changes-none a b)))
-leads-same hidden s a b (Ask r m ∷ ts) t c off h leads =
+leads-same hidden s a b (Ask n r m ∷ ts) t c off h leads =
     let rest = leads-same hidden (taking s r m) a b ts t c off h leads.1 in
     (rest.0, ((leads.0, rest.1.0), rest.1.1))
 leads-same hidden s a b (Do st ∷ ts) t c off h leads =
@@ -158,12 +158,12 @@ leads-same hidden s a b (Do st ∷ ts) t c off h leads =
 go-until : (e : Scene) (i : ℕ) (s : Session) (rows : Rows') (ts us : List Task) (t : Session) (last : Rows') → AllHad e i s rows ts → Leads s rows ts t last
     → go e i s rows (ts ++ us) ≡ go e i t last us
 go-until e i s rows [] us t last had leads = λ k. go e i (leads.0 k) (leads.1 k) us
-go-until e i s rows (Ask r m ∷ ts) us t last had leads =
-    asked (is_broken s.status) (may_have e.count e.look e.waits i (get s.held r) r m) (closes_ring e.count (look_with e i s.held) (waiting_with e i r m) i)
+go-until e i s rows (Ask n r m ∷ ts) us t last had leads =
+    asked (is_broken s.status) (may_have e.count e.look e.waits i (get s.held r) r m) n (closes_ring e.count (look_with e i s.held) (waiting_with e i r m) i)
     leads.0 refl had
     (λ h. go-until e i (taking s r m) rows ts us t last h leads.1)
   where
-    asked : (b h c : Bool) → b ≡ false → may_have e.count e.look e.waits i (get s.held r) r m ≡ h
+    asked : (b h n c : Bool) → b ≡ false → may_have e.count e.look e.waits i (get s.held r) r m ≡ h
         → (let T : Type 0 = elim b [
           | true ↦ Unit {0}
           | false ↦ (may_have e.count e.look e.waits i (get s.held r) r m ≡ true)
@@ -172,15 +172,15 @@ go-until e i s rows (Ask r m ∷ ts) us t last had leads =
         → (AllHad e i (taking s r m) rows ts → go e i (taking s r m) rows (ts ++ us) ≡ go e i t last us)
         → (let x : Run = elim b [
           | true ↦ stopped e (failed s rows Aborted)
-          | false ↦ elim (answered h c) [
-            | Granted ↦ go e i (taking s r m) rows (ts ++ us)
+          | false ↦ elim (replied h n c) [
+            | Had ↦ go e i (taking s r m) rows (ts ++ us)
             | Waits ↦ held_up e i s rows r m (ts ++ us)
-            | Ring ↦ stopped e (failed s rows Deadlock)
+            | Refused f ↦ stopped e (failed s rows f)
           ]
         ] in x) ≡ go e i t last us
-    asked true h c off is k rec = cc
-    asked false true c off is k rec = rec k.1
-    asked false false c off is k rec = absurd (true≢false (sym k.0 ∙ is))
+    asked true h n c off is k rec = cc
+    asked false true n c off is k rec = rec k.1
+    asked false false n c off is k rec = absurd (true≢false (sym k.0 ∙ is))
 go-until e i s rows (Do st ∷ ts) us t last had leads = done (λ h. go-until e i leads.0 leads.1.0 ts us t last h leads.1.1.1) (perform s rows st) leads.1.1.0 had
   where
     done : (AllHad e i leads.0 leads.1.0 ts → go e i leads.0 leads.1.0 (ts ++ us) ≡ go e i t last us) → (d : Performed) → d ≡ Goes leads.0 leads.1.0

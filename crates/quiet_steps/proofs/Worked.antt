@@ -10,7 +10,7 @@ use Rattle.perm_ranks.specs.Words.{all_words}
 use Rattle.transcripts.specs.declared.event.Event.{Event}
 use Rattle.sql_statements.specs.declared.statement.Output.TheVariants.{Columns}
 use Rattle.sql_statements.specs.declared.statement.Bound.TheVariants.{Select, Insert, Delete}
-use Rattle.machine_model.proofs.Worked.{number, id_is, step, two_rows, waits_row, waiters_row}
+use Rattle.machine_model.proofs.Worked.{number, id_is, step, two_rows, waits_row, waiters_row, shares}
 use Rattle.quiet_steps.specs.Swap.{quiet_at, leads_in}
 use Rattle.quiet_steps.specs.Facts.{least_swap, fact_of}
 use Rattle.quiet_steps.specs.Values.{Facts, IsValue, ran, swap}
@@ -83,7 +83,7 @@ abbrev select_row : Spec
 select_row = record {
   sessions = 2;
   steps = step 0 (Insert 0 (Some 0) ((number 3 ∷ number 30 ∷ []) ∷ [])) ∷ step 1
-      (Select 0 (Some (number 3)) (id_is 3) [] (Columns (1 ∷ []))) ∷ [];
+      (Select 0 (Some (number 3)) (id_is 3) [] (Columns (1 ∷ [])) shares) ∷ [];
   setups = two_rows ∷ [];
   lines = [];
   session_setups = [] ∷ [] ∷ [];

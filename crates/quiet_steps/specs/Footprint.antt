@@ -18,7 +18,7 @@ ChangesUnder held a b = (p : RowPlace) → may_write (claims_of held []) p ≡ f
 -- each statement on the way, and a fault that ends the step, changes rows only where what is held at that moment lets it; the last standing is such
 abbrev pub WritesUnder : (Session → Rows' → Type 0) → Session → Rows' → List Task → Type 0
 WritesUnder last s rows [] = last s rows
-WritesUnder last s rows (Ask r m ∷ ts) = elim (is_broken s.status) [
+WritesUnder last s rows (Ask nowait r m ∷ ts) = elim (is_broken s.status) [
   | true ↦ ChangesUnder s.held rows (failed s rows Aborted).rows
   | false ↦ WritesUnder last
       (taking s r m) rows ts
@@ -36,7 +36,7 @@ EndsUnder s rows = ChangesUnder s.held rows (finished_by s.status s rows).rows
 -- tasks lead a session from the one standing to the other: each request leaves its cover held, and each statement goes through
 abbrev pub Leads : Session → Rows' → List Task → Session → Rows' → Type 0
 Leads s rows [] t last = (s ≡ t) × (rows ≡ last)
-Leads s rows (Ask r m ∷ ts) t last = (is_broken s.status ≡ false) × Leads (taking s r m) rows ts t last
+Leads s rows (Ask nowait r m ∷ ts) t last = (is_broken s.status ≡ false) × Leads (taking s r m) rows ts t last
 Leads s rows (Do st ∷ ts) t last = (u : Session) × ((after : Rows') × ((perform s rows st ≡ Goes u after) × Leads u after ts t last))
 
 -- a session whose requests are all had goes as if alone; over rows that agree where its plans let it read it ends the same and changes the same; and it

@@ -182,7 +182,7 @@ module _ (P : RowPlace → Type 0) where
 
   pub effect-each : (st : Bound) (rows : Rows') → ((p : RowPlace) → looks_at st p ≡ true → P p) → OnGives (effect st rows) (Each (λ (w : Write). P w.place))
   unfolding effect
-  effect-each (Select t key c by out) rows sees = on-selected (λ w. P w.place) by out (matching c (entries (visible (Select t key c by out) rows)))
+  effect-each (Select t key c by out l) rows sees = on-selected (λ w. P w.place) by out (matching c (entries (visible (Select t key c by out l) rows)))
   effect-each (Insert t (Some k) new) rows sees =
       on-or_fault (λ w. P w.place) Duplicate (placed t k new (visible (Insert t (Some k) new) rows)) Inserted
       (each-placed (λ w. P w.place) t k new _ (Each-map (λ row. looks_at (Insert t (Some k) new) (t, key_at k row)
@@ -191,7 +191,7 @@ module _ (P : RowPlace → Type 0) where
       (each-any (λ row. (v : Value) → P (t, v)) (λ row v. sees (t, v) (eq-eqb t t refl)) new)
   effect-each (Update t key sets c) rows sees = updated-each P sets c (entries (visible (Update t key sets c) rows)) (seen-each (Update t key sets c) rows sees)
   effect-each (Delete t key c) rows sees = deleted-each P c (entries (visible (Delete t key c) rows)) (seen-each (Delete t key c) rows sees)
-  effect-each (Lock t m) rows sees = tt
+  effect-each (Lock t m n) rows sees = tt
   effect-each SetVariable rows sees = tt
   effect-each Begin rows sees = tt
   effect-each Commit rows sees = tt

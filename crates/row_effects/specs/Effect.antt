@@ -137,14 +137,14 @@ or_fault f (Some ws) event = counted event ws
 
 -- the effect on the rows that the statement sees
 abbrev pub effect_on : Bound → Rows' → Effect
-effect_on (Select t key c by out) rows = elim (matching c (entries rows)) [ None ↦ Faults OutOfRange | Some es ↦ shown out (sorted_by by es) ]
+effect_on (Select t key c by out lock) rows = elim (matching c (entries rows)) [ None ↦ Faults OutOfRange | Some es ↦ shown out (sorted_by by es) ]
 effect_on (Insert t (Some k) new) rows = or_fault Duplicate (placed t k new rows) Inserted
 effect_on (Insert t None new) rows = counted Inserted (numbered t (next_number 1 (entries rows)) new)
 effect_on (Update t key sets c) rows = elim (matching c (entries rows))
     [ None ↦ Faults OutOfRange | Some es ↦ or_fault OutOfRange (all_assigned sets es) Updated ]
 effect_on (Delete t key c) rows = elim (matching c (entries rows))
     [ None ↦ Faults OutOfRange | Some es ↦ counted Deleted (map (λ (e : RowPlace × Tuple). record { place = e.0; left = None }) es) ]
-effect_on (Lock t m) rows = Gives (Locked ∷ []) []
+effect_on (Lock t m nowait) rows = Gives (Locked ∷ []) []
 effect_on SetVariable rows = Gives (Set ∷ []) []
 effect_on Begin rows = Gives [] []
 effect_on Commit rows = Gives [] []

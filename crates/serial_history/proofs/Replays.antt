@@ -4,19 +4,19 @@ use Rattle.finite_maps.specs.Map.{Map, get, empty, entries}
 use Rattle.lock_modes.specs.RowPlace.{RowPlace}
 use Rattle.lock_modes.specs.Rows.{Rows', Write}
 use Rattle.lock_modes.specs.Mode.{compatible, AtLeast}
-use Rattle.lock_queues.specs.Locks.{may_have, closes_ring, answered}
+use Rattle.lock_queues.specs.Locks.{may_have, closes_ring}
 use Rattle.row_tables.specs.Overlay.{Overlay, lay, written}
 use Rattle.row_effects.specs.Effect.{Effect, Gives, Faults, effect}
 use Rattle.sql_statements.specs.Plan.{Request, request, plan, opened, asks_on, reads_table}
 use Rattle.machine_model.specs.Session.{Task, Ask, Do, Session, Held, Performed, Goes, Fails, Kind, Begins, Commits, RollsBack, Works, kind, perform}
 use Rattle.machine_model.specs.Session.{perform_by, worked}
-use Rattle.machine_model.specs.Go.{Scene, Run, taking, go, stopped, failed, finished_by, is_broken, held_up, look_with, waiting_with}
+use Rattle.machine_model.specs.Go.{replied, Scene, Run, taking, go, stopped, failed, finished_by, is_broken, held_up, look_with, waiting_with}
+use Rattle.machine_model.specs.declared.reply.Reply.TheVariants.{Had, Waits, Refused}
 use Rattle.machine_model.specs.Claims.{Claims, may_write, claims_of}
 use Rattle.machine_model.specs.Sound.{HoldsAll, Backed, UnderLocks}
 use Rattle.serial_history.specs.Serial.{Transaction, Did, is_work, commit_of, Tally, ended_well, dropped, did, tally_by, tally_end, go_tally, Replay, SerialRun}
 use Rattle.serial_history.specs.Serial.{WorkHeld, Repeats}
-use Rattle.lock_queues.specs.declared.answer.Answer.TheVariants.{Granted, Waits, Ring}
-use Rattle.transcripts.specs.declared.event.Fault.TheVariants.{Aborted, Deadlock}
+use Rattle.transcripts.specs.declared.event.Fault.TheVariants.{Aborted}
 use Rattle.lock_modes.specs.declared.mode.Mode.{Mode}
 use Rattle.lock_modes.specs.declared.mode.Mode.TheVariants.{IntentShare, IntentExclusive, Share, ShareIntent, Exclusive}
 use Rattle.lock_modes.specs.declared.resource.Resource.{Resource}
@@ -233,29 +233,30 @@ module _ (start : Rows') (Others : Rows' → Type 0) (e : Scene) (i : ℕ)
   pub go-tells : (s : Session) (rows : Rows') (ts : List Task) (t : Tally) (have : List Request) → HeldFits e i s.held → UnderLocks s.overlay s.held
       → HoldsAll s.held have → Backed have ts → Telling s rows t → AfterRun (go e i s rows ts) (go_tally e i s rows ts t)
   go-tells s rows [] t have fits under holds backed x = end-tells s.status s rows t fits under x
-  go-tells s rows (Ask r m ∷ ts) t have fits under holds backed x =
-      asked (is_broken s.status) (may_have e.count e.look e.waits i (get s.held r) r m)
+  go-tells s rows (Ask n r m ∷ ts) t have fits under holds backed x =
+      asked (is_broken s.status) (may_have e.count e.look e.waits i (get s.held r) r m) n
       (closes_ring e.count (look_with e i s.held) (waiting_with e i r m) i) refl
       (λ h. go-tells (taking s r m) rows ts t (request r m ∷ have)
       (fits-inserted e i s.held r _ (both_true (Rattle.lock_queues.specs.Locks.fits e.count e.look i r
       (Rattle.lock_queues.specs.Locks.wanted (get s.held r) m)) _ h).0 fits) (under-stronger s.overlay s.held _ (stronger-taking s.held r m) under)
       (covers-taking s.held r m, holds-stronger s.held _ (stronger-taking s.held r m) have holds) backed (taking-tells s r m rows t x))
     where
-      asked : (b h c : Bool) → may_have e.count e.look e.waits i (get s.held r) r m ≡ h
+      asked : (b h n c : Bool) → may_have e.count e.look e.waits i (get s.held r) r m ≡ h
           → (may_have e.count e.look e.waits i (get s.held r) r m ≡ true → AfterRun (go e i (taking s r m) rows ts) (go_tally e i (taking s r m) rows ts t))
           → AfterRun (elim b [
             | true ↦ stopped e (failed s rows Aborted)
-            | false ↦ elim (answered h c) [
-              | Granted ↦ go e i (taking s r m) rows ts
+            | false ↦ elim (replied h n c) [
+              | Had ↦ go e i (taking s r m) rows ts
               | Waits ↦ held_up e i s rows r m ts
-              | Ring ↦ stopped e (failed s rows Deadlock)
+              | Refused f ↦ stopped e (failed s rows f)
             ]
           ])
-          (elim b [ true ↦ dropped t | false ↦ elim (answered h c) [ Granted ↦ go_tally e i (taking s r m) rows ts t | Waits ↦ t | Ring ↦ dropped t ] ])
-      asked true h c is rec = let_go s _ rows t refl x
-      asked false true c is rec = rec is
-      asked false false true is rec = let_go s _ rows t refl x
-      asked false false false is rec = as_is s _ rows t refl refl x
+          (elim b [ true ↦ dropped t | false ↦ elim (replied h n c) [ Had ↦ go_tally e i (taking s r m) rows ts t | Waits ↦ t | Refused f ↦ dropped t ] ])
+      asked true h n c is rec = let_go s _ rows t refl x
+      asked false true n c is rec = rec is
+      asked false false true c is rec = let_go s _ rows t refl x
+      asked false false false true is rec = let_go s _ rows t refl x
+      asked false false false false is rec = as_is s _ rows t refl refl x
   go-tells s rows (Do st ∷ ts) t have fits under holds backed x =
       done (perform s rows st) (perform-held (HeldFits e i) (held-fits-empty e i) s rows st fits)
       (perform_by-under s.status (kind st) s rows st (holds-plan s.held have (plan st) holds backed.0) under)

@@ -8,7 +8,8 @@ use Rattle.row_tables.specs.Overlay.{lay}
 use Rattle.row_effects.specs.Effect.{Effect, Gives, Faults, effect}
 use Rattle.machine_model.specs.Session.{Task, Ask, Do, Session, Performed, Goes, Fails, Kind, Begins, Commits, RollsBack, Works, kind, perform, perform_by}
 use Rattle.machine_model.specs.Session.{worked, note, tasks_of}
-use Rattle.machine_model.specs.Go.{Scene, Run, taking, is_broken, failed, finished_by, stopped, go, held_up, look_with, waiting_with}
+use Rattle.machine_model.specs.Go.{replied, Scene, Run, taking, is_broken, failed, finished_by, stopped, go, held_up, look_with, waiting_with}
+use Rattle.machine_model.specs.declared.reply.Reply.TheVariants.{Had, Waits, Refused}
 use Rattle.machine_model.specs.World.{World, session_at, look_of, scene_of, goes, granted, settle, settle_for, left_to_do, send, send_all, noted}
 use Rattle.bound_specs.specs.Spec.{Step, no_step}
 use Rattle.machine_model.specs.Sound.{Steady, Sound}
@@ -16,12 +17,11 @@ use Rattle.serial_history.specs.Reading.{Reading, ends, step_ends, read}
 use Rattle.serial_history.specs.Serial.{Did, Transaction, is_work, ended_with, commit_of, Ended, Tally, ended_well, dropped, did, tally_by, tally_end, go_tally}
 use Rattle.serial_history.specs.Serial.{History, tally_of, goes_told, granted_told, settle_told, send_told, send_all_told, reading_of, AllTell, EndedTell}
 use Rattle.serial_history.specs.Serial.{commits_of, committed_in, Shown}
-use Rattle.lock_queues.specs.declared.answer.Answer.TheVariants.{Granted, Waits, Ring}
 use Rattle.transcripts.specs.declared.event.Event.{Event}
 use Rattle.transcripts.specs.declared.event.Event.TheVariants.{Sent, Began, Committed, RolledBack, Warned, Failed, Waiting, Resumed, Done, NotSent}
 use Rattle.transcripts.specs.declared.event.Warning.TheVariants.{InBlock as AlreadyInBlock, NoBlock}
 use Rattle.transcripts.specs.declared.event.Fault.{Fault}
-use Rattle.transcripts.specs.declared.event.Fault.TheVariants.{Deadlock, Aborted}
+use Rattle.transcripts.specs.declared.event.Fault.TheVariants.{Deadlock, Aborted, Unavailable}
 use Rattle.machine_model.specs.declared.status.Status.{Status}
 use Rattle.machine_model.specs.declared.status.Status.TheVariants.{Outside, InBlock, Broken}
 use Rattle.sql_statements.specs.declared.statement.Bound.{Bound}
@@ -186,24 +186,25 @@ module _ (from : Reading) (i : ℕ) (before : List Transaction) where
   pub go-faithful : (e : Scene) (s : Session) (rows : Rows') (ts : List Task) (t : Tally) → Faithful s t
       → AfterRun (go e i s rows ts) (go_tally e i s rows ts t)
   go-faithful e s rows [] t x = end-faithful s.status s rows t refl x
-  go-faithful e s rows (Ask r m ∷ ts) t x = asked (is_broken s.status) (may_have e.count e.look e.waits i (get s.held r) r m)
+  go-faithful e s rows (Ask n r m ∷ ts) t x = asked (is_broken s.status) (may_have e.count e.look e.waits i (get s.held r) r m) n
       (closes_ring e.count (look_with e i s.held) (waiting_with e i r m) i)
       (go-faithful e (taking s r m) rows ts t (goes_on s (taking s r m) t [] (sym (append-nil s.transcript)) refl x))
     where
-      asked : (b h c : Bool) → AfterRun (go e i (taking s r m) rows ts) (go_tally e i (taking s r m) rows ts t)
+      asked : (b h n c : Bool) → AfterRun (go e i (taking s r m) rows ts) (go_tally e i (taking s r m) rows ts t)
           → AfterRun (elim b [
             | true ↦ stopped e (failed s rows Aborted)
-            | false ↦ elim (answered h c) [
-              | Granted ↦ go e i (taking s r m) rows ts
+            | false ↦ elim (replied h n c) [
+              | Had ↦ go e i (taking s r m) rows ts
               | Waits ↦ held_up e i s rows r m ts
-              | Ring ↦ stopped e (failed s rows Deadlock)
+              | Refused f ↦ stopped e (failed s rows f)
             ]
           ])
-          (elim b [ true ↦ dropped t | false ↦ elim (answered h c) [ Granted ↦ go_tally e i (taking s r m) rows ts t | Waits ↦ t | Ring ↦ dropped t ] ])
-      asked true h c rec = failed-faithful e s rows Aborted t x
-      asked false true c rec = rec
-      asked false false true rec = failed-faithful e s rows Deadlock t x
-      asked false false false rec = goes_on s _ t (Waiting ∷ []) refl refl x
+          (elim b [ true ↦ dropped t | false ↦ elim (replied h n c) [ Had ↦ go_tally e i (taking s r m) rows ts t | Waits ↦ t | Refused f ↦ dropped t ] ])
+      asked true h n c rec = failed-faithful e s rows Aborted t x
+      asked false true n c rec = rec
+      asked false false true c rec = failed-faithful e s rows Unavailable t x
+      asked false false false true rec = failed-faithful e s rows Deadlock t x
+      asked false false false false rec = goes_on s _ t (Waiting ∷ []) refl refl x
   go-faithful e s rows (Do st ∷ ts) t x = done (perform s rows st) (perform_by-faithful s.status (kind st) s rows st t refl x)
       (λ s2 rows2 y. go-faithful e s2 rows2 ts (tally_by s.status (kind st) s rows st t) y)
     where

@@ -40,7 +40,7 @@ finished-clear Broken s rows is out = absurd (let e : is_outside Broken ≡ true
 
 solo-clear : (s : Session) (rows : Rows') (ts : List Task) → ClearOutside (solo s rows ts).session
 solo-clear s rows [] = finished-clear s.status s rows refl
-solo-clear s rows (Ask r m ∷ ts) =
+solo-clear s rows (Ask n r m ∷ ts) =
     elim (is_broken s.status) as (λ b. ClearOutside (let x : Stop = elim b [
       | true ↦ failed s rows Aborted
       | false ↦ solo (taking s r m) rows ts

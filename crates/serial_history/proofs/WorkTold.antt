@@ -70,8 +70,8 @@ matched-work (Some es) then' h = h es
 -- what the effect of a statement tells, by whether it is work
 pub effect-work : (st : Bound) (rows : Rows') → TellsWork (is_work st) (effect st rows)
 unfolding effect
-effect-work (Select t key c by out) rows =
-    matched-work (matching c (entries (visible (Select t key c by out) rows))) (λ es. shown out (sorted_by by es)) (λ es. shown-work out (sorted_by by es))
+effect-work (Select t key c by out l) rows =
+    matched-work (matching c (entries (visible (Select t key c by out l) rows))) (λ es. shown out (sorted_by by es)) (λ es. shown-work out (sorted_by by es))
 effect-work (Insert t (Some k) new) rows = or_fault-work Duplicate (placed t k new (visible (Insert t (Some k) new) rows)) Inserted (λ n. refl)
 effect-work (Insert t None new) rows = ((refl, tt), some-first (Inserted _) [])
 effect-work (Update t key sets c) rows =
@@ -81,7 +81,7 @@ effect-work (Delete t key c) rows =
     matched-work (matching c (entries (visible (Delete t key c) rows)))
     (λ es. counted Deleted (map (λ (e : RowPlace × Tuple). record { place = e.0; left = None }) es))
     (λ es. counted-work Deleted (map (λ (e : RowPlace × Tuple). record { place = e.0; left = None }) es) (λ n. refl))
-effect-work (Lock t m) rows = ((λ x. refl), refl)
+effect-work (Lock t m n) rows = ((λ x. refl), refl)
 effect-work SetVariable rows = ((λ x. refl), refl)
 effect-work Begin rows = ((λ x. refl), refl)
 effect-work Commit rows = ((λ x. refl), refl)

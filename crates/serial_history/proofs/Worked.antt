@@ -12,7 +12,7 @@ use Rattle.sql_statements.specs.declared.statement.Bound.{Bound}
 use Rattle.sql_statements.specs.declared.statement.Bound.TheVariants.{Select, Begin, Commit, Lock, SetVariable}
 use Rattle.lock_modes.specs.declared.mode.Mode.TheVariants.{Share}
 use Rattle.machine_model.specs.declared.status.Status.TheVariants.{Outside, InBlock, Broken}
-use Rattle.machine_model.proofs.Worked.{number, id_is, step, two_rows, adds, sets, in_blocks, all_rows}
+use Rattle.machine_model.proofs.Worked.{number, id_is, step, two_rows, adds, sets, in_blocks, all_rows, shares}
 use Rattle.serial_history.specs.Reading.{Reading, read}
 use Rattle.serial_history.specs.Serial.{Did, Transaction, History, send_all_told, start_told, after_setups}
 
@@ -33,7 +33,7 @@ readings spec ks sessions =
 
 -- SELECT v WHERE id = k
 abbrev reads : ℕ → Bound
-reads k = Select 0 (Some (number k)) (id_is k) [] (Columns (1 ∷ []))
+reads k = Select 0 (Some (number k)) (id_is k) [] (Columns (1 ∷ [])) shares
 
 abbrev one_read : ℕ → ℕ → Did
 one_read k v = record { statement = reads k; events = RowEvent (number v ∷ []) ∷ Rows 1 ∷ [] }
@@ -144,7 +144,7 @@ setup_row_read = refl
 -- ---- a block that only locks a table and sets a variable commits nothing
 
 abbrev idle_row : Spec
-idle_row = record setup_row { steps = step 0 (Lock 0 Share) ∷ step 0 SetVariable ∷ step 0 Commit ∷ []; session_setups = (Begin ∷ []) ∷ [] }
+idle_row = record setup_row { steps = step 0 (Lock 0 Share false) ∷ step 0 SetVariable ∷ step 0 Commit ∷ []; session_setups = (Begin ∷ []) ∷ [] }
 
 idle_row_commits : commits idle_row (0 ∷ 1 ∷ 2 ∷ []) ≡ []
 unfolding get insert keep remove entries empty effect lay

@@ -9,11 +9,11 @@ use Rattle.lock_modes.specs.Rows.{Rows', Write}
 use Rattle.row_tables.specs.Overlay.{Overlay, lay, written}
 use Rattle.row_effects.specs.Effect.{Effect, Gives, Faults, effect}
 use Rattle.machine_model.specs.Session.{Task, Ask, Do, Session, Held, Goes, Fails, Kind, Begins, Commits, RollsBack, Works, kind, perform, tasks_of, note, ended}
-use Rattle.machine_model.specs.Go.{Scene, taking, is_broken, answer_in}
+use Rattle.machine_model.specs.Go.{Scene, taking, is_broken, reply_in}
+use Rattle.machine_model.specs.declared.reply.Reply.TheVariants.{Had, Waits, Refused}
 use Rattle.machine_model.specs.World.{World, session_at, look_of, scene_of, granted, goes, left_to_do, send, send_all, outcome_of}
 use Rattle.bound_specs.specs.Spec.{Step, no_step, Spec}
 use Rattle.machine_model.specs.Start.{Started, set_up, start, after_setup, forgotten}
-use Rattle.lock_queues.specs.declared.answer.Answer.TheVariants.{Granted, Waits, Ring}
 use Rattle.transcripts.specs.declared.event.Event.{Event}
 use Rattle.transcripts.specs.declared.event.Event.TheVariants.{Sent, Resumed}
 use Rattle.machine_model.specs.declared.status.Status.{Status}
@@ -46,11 +46,11 @@ pub record Tally : Type 0 where
 
 -- a SELECT, an INSERT, an UPDATE or a DELETE
 abbrev pub is_work : Bound → Bool
-is_work (Select t k c by o) = true
+is_work (Select t k c by o l) = true
 is_work (Insert t k r) = true
 is_work (Update t k a c) = true
 is_work (Delete t k c) = true
-is_work (Lock t m) = false
+is_work (Lock t m n) = false
 is_work SetVariable = false
 is_work Begin = false
 is_work Commit = false
@@ -115,13 +115,13 @@ tally_end Broken t = t
 -- the tally after the session has gone
 abbrev pub go_tally : Scene → ℕ → Session → Rows' → List Task → Tally → Tally
 go_tally e i s rows [] t = tally_end s.status t
-go_tally e i s rows (Ask r m ∷ ts) t =
+go_tally e i s rows (Ask nowait r m ∷ ts) t =
     elim (is_broken s.status) [
       | true ↦ dropped t
-      | false ↦ elim (answer_in e i s r m) [
-        | Granted ↦ go_tally e i (taking s r m) rows ts t
+      | false ↦ elim (reply_in e i s nowait r m) [
+        | Had ↦ go_tally e i (taking s r m) rows ts t
         | Waits ↦ t
-        | Ring ↦ dropped t
+        | Refused f ↦ dropped t
       ]
     ]
 go_tally e i s rows (Do st ∷ ts) t =

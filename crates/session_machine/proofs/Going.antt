@@ -7,8 +7,8 @@ use Rattle.lock_modes.specs.declared.mode.Mode.{Mode}
 use Rattle.lock_modes.specs.declared.resource.Resource.{Resource}
 use Rattle.lock_modes.proofs.ModeLaws.{compatible-cover}
 use Rattle.lock_queues.specs.Locks.{Look, fits, fits_with, wanted, all_below, nobody_waits, may_have, closes_ring, answered}
-use Rattle.lock_queues.specs.LockTable.{Locks, Asked, look_in, queued, ask, slice}
-use Rattle.lock_queues.specs.Rules.{IsAnswer}
+use Rattle.lock_queues.specs.LockTable.{Locks, Asked, AskedNow, look_in, queued, taken, ask, ask_now, slice}
+use Rattle.lock_queues.specs.Rules.{MayHave, IsAnswer}
 use Rattle.lock_queues.specs.declared.answer.Answer.{Answer}
 use Rattle.lock_queues.specs.declared.answer.Answer.TheVariants.{Granted, Waits, Ring}
 use Rattle.lock_queues.proofs.Bounded.{tests-decide}
@@ -18,8 +18,12 @@ use Rattle.sql_statements.specs.declared.statement.Bound.{Bound}
 use Rattle.row_tables.specs.Layers.{Layers, overlay_of}
 use Rattle.statement_effects.specs.Run.{SeesAlone}
 use Rattle.machine_model.specs.Session.{Held, Session}
-use Rattle.machine_model.specs.Go.{Scene, answer_in, look_with, waiting_with}
-use Rattle.session_machine.specs.Going.{IsScene}
+use Rattle.machine_model.specs.Go.{Scene, replied, reply_in, look_with, waiting_with}
+use Rattle.machine_model.specs.declared.reply.Reply.{Reply}
+use Rattle.machine_model.specs.declared.reply.Reply.TheVariants as reply
+use Rattle.transcripts.specs.declared.event.Fault.TheVariants.{Deadlock, Unavailable}
+use Rattle.lock_queues.specs.declared.answer.Taken.TheVariants as at_once
+use Rattle.session_machine.specs.Going.{IsScene, IsReply}
 use Rattle.machine_model.specs.Claims.{claims_of}
 use Rattle.machine_model.specs.Sound.{HeldTogether, UnderLocks, HoldsAll}
 use Rattle.machine_model.proofs.Basics.{both_true, or_true_left, not_both, cases-eq}
@@ -39,6 +43,33 @@ all_below-same (suc n) f g h = λ k. h n k && all_below-same n f g h k
 pub fits-others : (n : ℕ) (a b : Look) (i : ℕ) (r : Resource) (m : Mode) → ((c : ℕ) → c ≢ i → a c r ≡ b c r) → fits n a i r m ≡ fits n b i r m
 fits-others n a b i r m same = all_below-same n _ _ (λ c. ⊎_elim (λ e. or_true_left (c == i) _ (eq-eqb c i e)
     ∙ sym (or_true_left (c == i) _ (eq-eqb c i e))) (λ ne. ap (λ o. (c == i) || fits_with m o) (same c ne)) (cases-eq c i))
+
+had-is : (n h c : Bool) → answered h c ≡ Granted → replied h n c ≡ reply.Had
+had-is n true c is = refl
+had-is n false true is = cc
+had-is n false false is = cc
+
+waits-is : (h c : Bool) → answered h c ≡ Waits → replied h false c ≡ reply.Waits
+waits-is true c is = cc
+waits-is false true is = cc
+waits-is false false is = refl
+
+ring-refused : (h c : Bool) → answered h c ≡ Ring → replied h false c ≡ reply.Refused Deadlock
+ring-refused true c is = cc
+ring-refused false true is = refl
+ring-refused false false is = cc
+
+now-refused : (h c : Bool) → h ≡ false → replied h true c ≡ reply.Refused Unavailable
+now-refused true c is = cc
+now-refused false c is = refl
+
+-- what is refused at once may not be had
+by-answer : (h : Bool) (u t : Locks) → (let y : AskedNow = elim h [
+  | true ↦ record { answer = at_once.Granted; locks = u }
+  | false ↦ record { answer = at_once.Refused; locks = t }
+] in y.answer) ≡ at_once.Refused → h ≡ false
+by-answer true u t is = cc
+by-answer false u t is = refl
 
 module _ (e : Scene) (i : ℕ) (t : Locks) (s : Session) (held : s.held ≡ slice i t.held) (scene : IsScene e i t) where
   own : (r : Resource) → get s.held r ≡ look_in t i r
@@ -93,13 +124,30 @@ module _ (e : Scene) (i : ℕ) (t : Locks) (s : Session) (held : s.held ≡ slic
         | Ring ↦ record { answer = Ring; locks = t }
       ] in y.answer) is
 
-  -- what the table answers is what the machine answers
-  pub answer-is : (r : Resource) (m : Mode) (a : Answer) → IsAnswer t i r m a → answer_in e i s r m ≡ a
+  -- what the table answers is what the tests of the machine tell
+  answer-is : (r : Resource) (m : Mode) (a : Answer) → IsAnswer t i r m a
+      → answered (may_have e.count e.look e.waits i (get s.held r) r m) (closes_ring e.count (look_with e i s.held) (waiting_with e i r m) i) ≡ a
   answer-is r m a is =
       (λ k. answered (may-is r m k) (ring-is r m k))
       ∙ sym (asked-is r m (answered (may_have e.count (look_in t) t.waits i (look_in t i r) r m) (closes_ring e.count (look_in t) (queued t i r m).waits i))
       refl)
       ∙ ap (λ (x : Asked). x.answer) ((tests-decide e.count t scene.below).asked i r m a scene.known is)
+
+  -- what a request gets of the table is what it gets in the machine
+  pub reply-is : (r : Resource) (m : Mode) (n : Bool) (a : Reply) → IsReply t i r m n a → reply_in e i s n r m ≡ a
+  reply-is r m n reply.Had is = had-is n _ _ (answer-is r m Granted is)
+  reply-is r m false reply.Waits is = waits-is _ _ (answer-is r m Waits is.1)
+  reply-is r m true reply.Waits is = absurd (let no = is.0 in cc)
+  reply-is r m false (reply.Refused f) is = ring-refused _ _ (answer-is r m Ring is.1) ∙ ap reply.Refused (sym is.0)
+  reply-is r m true (reply.Refused f) is = now-refused _ _ (may-is r m ∙ may-not r m (taken-is r m is.1)) ∙ ap reply.Refused (sym is.0)
+    where
+      taken-is : (r : Resource) (m : Mode) → ¬ (MayHave t i r m)
+          → ask_now e.count t i r m ≡ record { answer = at_once.Refused; locks = t }
+      taken-is r m never = (tests-decide e.count t scene.below).taken i r m at_once.Refused never
+
+      may-not : (r : Resource) (m : Mode) → ask_now e.count t i r m ≡ record { answer = at_once.Refused; locks = t }
+          → may_have e.count (look_in t) t.waits i (look_in t i r) r m ≡ false
+      may-not r m is = by-answer (may_have e.count (look_in t) t.waits i (look_in t i r) r m) (taken t i r m) t (ap (λ (x : AskedNow). x.answer) is)
 
 -- ---- a statement
 

@@ -5,15 +5,12 @@ use Rattle.finite_maps.specs.Map.{get, empty}
 use Rattle.lock_modes.specs.declared.mode.Mode.{Mode}
 use Rattle.lock_modes.specs.declared.resource.Resource.{Resource}
 use Rattle.lock_modes.specs.Rows.{Rows'}
-use Rattle.lock_queues.specs.declared.answer.Answer.{Answer}
-use Rattle.lock_queues.specs.declared.answer.Answer.TheVariants.{Granted, Waits, Ring}
 use Rattle.lock_queues.specs.Locks.{waits_now}
 use Rattle.lock_queues.specs.LockTable.{Locks, look_in, taken, let_go, slice}
-use Rattle.lock_queues.specs.Rules.{IsAnswer}
 use Rattle.lock_queues.proofs.Slices.{get-slice}
 use Rattle.sql_statements.specs.declared.statement.Bound.{Bound}
 use Rattle.transcripts.specs.declared.event.Fault.{Fault}
-use Rattle.transcripts.specs.declared.event.Fault.TheVariants.{Deadlock, Aborted}
+use Rattle.transcripts.specs.declared.event.Fault.TheVariants.{Aborted}
 use Rattle.transcripts.specs.declared.event.Event.{Event}
 use Rattle.transcripts.specs.declared.event.Event.TheVariants.{Done, Warned, Committed, RolledBack}
 use Rattle.transcripts.specs.declared.event.Warning.TheVariants.{NoBlock}
@@ -25,13 +22,15 @@ use Rattle.machine_model.specs.declared.status.Status.{Status}
 use Rattle.machine_model.specs.declared.status.Status.TheVariants.{Outside, InBlock, Broken}
 use Rattle.machine_model.specs.Session.{Task, Ask, Do, Session, released, Begins, Commits, RollsBack, Works, kind, Performed, Goes, Fails, perform, perform_by}
 use Rattle.machine_model.specs.Session.{worked}
-use Rattle.machine_model.specs.Go.{Scene, Run, go, stopped, failed, finished_by, is_broken, answer_in, held_up, taking}
+use Rattle.machine_model.specs.Go.{Scene, Run, go, stopped, failed, finished_by, is_broken, reply_in, held_up, taking}
+use Rattle.machine_model.specs.declared.reply.Reply.{Reply}
+use Rattle.machine_model.specs.declared.reply.Reply.TheVariants.{Had, Waits, Refused}
 use Rattle.session_machine.specs.State.{Own, session_of, SameOthers}
 use Rattle.session_machine.specs.Going.{Standing, session_in, run_in, IsScene, GoesOnTo, StopsIn, waiting_in, told, committed, failed_in, finished_by_status}
-use Rattle.session_machine.specs.Going.{finished_in, standing, ended_by, commits_by, commits_in, rolls_back_in, Does}
+use Rattle.session_machine.specs.Going.{finished_in, standing, ended_by, commits_by, commits_in, rolls_back_in, Does, IsReply}
 use Rattle.session_machine.proofs.States.{same-refl, same-trans, session-taken, same-taken, held-let_go, same-let_go, waits-let_go, overlay-undone}
 use Rattle.session_machine.proofs.States.{overlay-kept, same-undone, same-kept, overlay-wrote_each, same-left_by, committed-left_by}
-use Rattle.session_machine.proofs.Going.{answer-is}
+use Rattle.session_machine.proofs.Going.{reply-is}
 
 -- ---- moves in turn
 
@@ -96,28 +95,28 @@ fails-to e i x f idle scene = λ k. record {
 -- ---- a request
 
 -- the machine at a request, by what is answered
-abbrev asked : Scene → ℕ → Session → Rows' → Resource → Mode → List Task → Bool → Answer → Run
+abbrev asked : Scene → ℕ → Session → Rows' → Resource → Mode → List Task → Bool → Reply → Run
 asked e i s rows r m ts b a =
     elim b [
       | true ↦ stopped e (failed s rows Aborted)
-      | false ↦ elim a [ Granted ↦ go e i (taking s r m) rows ts | Waits ↦ held_up e i s rows r m ts | Ring ↦ stopped e (failed s rows Deadlock) ]
+      | false ↦ elim a [ Had ↦ go e i (taking s r m) rows ts | Waits ↦ held_up e i s rows r m ts | Refused f ↦ stopped e (failed s rows f) ]
     ]
 
-module _ (i : ℕ) (x : Standing) (r : Resource) (m : Mode) (ts : List Task) where
-  answered-so : (e : Scene) → IsScene e i x.locks → (a : Answer) → is_broken x.own.status ≡ false → IsAnswer x.locks i r m a
-      → go e i (session_in i x) x.layers.committed (Ask r m ∷ ts) ≡ asked e i (session_in i x) x.layers.committed r m ts false a
+module _ (i : ℕ) (x : Standing) (r : Resource) (m : Mode) (n : Bool) (ts : List Task) where
+  answered-so : (e : Scene) → IsScene e i x.locks → (a : Reply) → is_broken x.own.status ≡ false → IsReply x.locks i r m n a
+      → go e i (session_in i x) x.layers.committed (Ask n r m ∷ ts) ≡ asked e i (session_in i x) x.layers.committed r m ts false a
   answered-so e scene a whole is = λ k. asked e i (session_in i x) x.layers.committed r m ts (whole k)
-      (answer-is e i x.locks (session_in i x) refl scene r m a is k)
+      (reply-is e i x.locks (session_in i x) refl scene r m n a is k)
 
-  pub had : is_broken x.own.status ≡ false → IsAnswer x.locks i r m Granted
-      → GoesOnTo i x (Ask r m ∷ ts) (record { layers = x.layers; locks = taken x.locks i r m; own = x.own }) ts
+  pub had : is_broken x.own.status ≡ false → IsReply x.locks i r m n Had
+      → GoesOnTo i x (Ask n r m ∷ ts) (record { layers = x.layers; locks = taken x.locks i r m; own = x.own }) ts
   had whole is = record {
-    goes = λ e scene. answered-so e scene Granted whole is ∙ ap (λ s. go e i s x.layers.committed ts) (sym (session-taken x.layers x.locks i r m x.own));
+    goes = λ e scene. answered-so e scene Had whole is ∙ ap (λ s. go e i s x.layers.committed ts) (sym (session-taken x.layers x.locks i r m x.own));
     others = same-taken x.layers x.locks i r m;
     waits = refl;
   }
 
-  pub waits-there : is_broken x.own.status ≡ false → IsAnswer x.locks i r m Waits → StopsIn i x (Ask r m ∷ ts) (waiting_in i x r m ts)
+  pub waits-there : is_broken x.own.status ≡ false → IsReply x.locks i r m n Waits → StopsIn i x (Ask n r m ∷ ts) (waiting_in i x r m ts)
   waits-there whole is = record {
     goes = λ e scene. answered-so e scene Waits whole is
         ∙ (λ k. record {
@@ -129,13 +128,13 @@ module _ (i : ℕ) (x : Standing) (r : Resource) (m : Mode) (ts : List Task) whe
     others = record { overlays = λ c ne. refl; held = λ c ne. refl };
   }
 
-  pub closes-ring : is_broken x.own.status ≡ false → waits_now x.locks.waits i ≡ false → IsAnswer x.locks i r m Ring
-      → StopsIn i x (Ask r m ∷ ts) (failed_in i x Deadlock)
-  closes-ring whole idle is = record { goes = λ e scene. answered-so e scene Ring whole is ∙ fails-to e i x Deadlock idle scene; others = others-undone i x }
+  pub is-refused : (f : Fault) → is_broken x.own.status ≡ false → waits_now x.locks.waits i ≡ false → IsReply x.locks i r m n (Refused f)
+      → StopsIn i x (Ask n r m ∷ ts) (failed_in i x f)
+  is-refused f whole idle is = record { goes = λ e scene. answered-so e scene (Refused f) whole is ∙ fails-to e i x f idle scene; others = others-undone i x }
 
-  pub asks-broken : is_broken x.own.status ≡ true → waits_now x.locks.waits i ≡ false → StopsIn i x (Ask r m ∷ ts) (failed_in i x Aborted)
+  pub asks-broken : is_broken x.own.status ≡ true → waits_now x.locks.waits i ≡ false → StopsIn i x (Ask n r m ∷ ts) (failed_in i x Aborted)
   asks-broken broken idle = record {
-    goes = λ e scene. ap (λ b. asked e i (session_in i x) x.layers.committed r m ts b (answer_in e i (session_in i x) r m)) broken
+    goes = λ e scene. ap (λ b. asked e i (session_in i x) x.layers.committed r m ts b (reply_in e i (session_in i x) n r m)) broken
         ∙ fails-to e i x Aborted idle scene;
     others = others-undone i x;
   }

@@ -5,7 +5,7 @@ use Rattle.std.proofs.lemmas.Option.{slice_get_cases}
 use Rattle.std.proofs.Common.{◌≡◌, refl, sym, ◌∙◌, subst, ℕ, suc, ◌+◌, ◌<◌, ◌≤◌, false, List, [], ◌∷◌, length, drop, drop-cons, add-one, Some, None, ◌⊎◌, inl}
 use Rattle.std.proofs.Common.{inr}
 use Rattle.lock_queues.specs.LockTable.{Locks, taken, slice}
-use Rattle.sql_statements.specs.Plan.{Request, plan}
+use Rattle.sql_statements.specs.Plan.{Request, plan, nowait}
 use Rattle.sql_statements.specs.declared.statement.Bound.{Bound}
 use Rattle.machine_model.specs.Session.{Do, asks}
 use Rattle.machine_model.specs.Sound.{HoldsAll, Backed}
@@ -45,10 +45,10 @@ next-to-ask i t st n q some ready = record {
     covers-taking (slice i t.held) q.resource q.mode,
     holds-stronger (slice i t.held) _ (stronger-taking (slice i t.held) q.resource q.mode) ready.have ready.holds,
   );
-  backed = subst (λ qs. Backed ready.have (asks qs (Do st ∷ []))) (plan-next (plan st) n q some) ready.backed;
+  backed = subst (λ qs. Backed ready.have (asks (nowait st) qs (Do st ∷ []))) (plan-next (plan st) n q some) ready.backed;
 }
 
 -- all requests are had
 pub all-asked : (i : ℕ) (t : Locks) (st : Bound) (n : ℕ) → drop n (plan st) ≡ [] → IsToAsk i t st n → HoldsAll (slice i t.held) (plan st)
 all-asked i t st n none ready = holds-plan (slice i t.held) ready.have (plan st) ready.holds
-    (subst (λ qs. Backed ready.have (asks qs (Do st ∷ []))) none ready.backed).0
+    (subst (λ qs. Backed ready.have (asks (nowait st) qs (Do st ∷ []))) none ready.backed).0

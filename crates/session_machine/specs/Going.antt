@@ -3,12 +3,15 @@ use Rattle.std.specs.Prelude.{◌≡◌, ◌≢◌, ℕ, ◌<◌, ◌+◌, Bool,
 use Rattle.lock_modes.specs.declared.mode.Mode.{Mode}
 use Rattle.lock_modes.specs.declared.resource.Resource.{Resource}
 use Rattle.lock_queues.specs.Locks.{waits_now}
-use Rattle.lock_queues.specs.LockTable.{Locks, look_in, queued, let_go, slice}
+use Rattle.lock_queues.specs.LockTable.{Locks, look_in, queued, taken, let_go, slice}
+use Rattle.lock_queues.specs.Rules.{MayHave, IsAnswer}
+use Rattle.lock_queues.specs.declared.answer.Answer.TheVariants as answer
 use Rattle.lock_queues.specs.Laws.{IsBelow}
 use Rattle.row_tables.specs.Layers.{Layers, overlay_of, undone, kept}
-use Rattle.sql_statements.specs.Plan.{Request, plan}
+use Rattle.sql_statements.specs.Plan.{Request, plan, nowait}
 use Rattle.sql_statements.specs.declared.statement.Bound.{Bound}
 use Rattle.transcripts.specs.declared.event.Fault.{Fault}
+use Rattle.transcripts.specs.declared.event.Fault.TheVariants.{Deadlock, Unavailable}
 use Rattle.transcripts.specs.declared.event.Event.{Event}
 use Rattle.transcripts.specs.declared.event.Warning.TheVariants.{InBlock as AlreadyInBlock, NoBlock}
 use Rattle.transcripts.specs.declared.event.Event.TheVariants.{Failed, Waiting, Done, Began, Committed, RolledBack, Warned}
@@ -20,6 +23,8 @@ use Rattle.session_machine.specs.declared.asking.Asked.{Asked}
 use Rattle.session_machine.specs.declared.asking.Asked.TheVariants.{Had, Waits, Refused}
 use Rattle.session_machine.specs.declared.stepping.Point.{Point}
 use Rattle.machine_model.specs.Go.{Scene, Run, go}
+use Rattle.machine_model.specs.declared.reply.Reply.{Reply}
+use Rattle.machine_model.specs.declared.reply.Reply.TheVariants as reply
 use Rattle.machine_model.specs.Sound.{UnderLocks, HoldsAll, Backed}
 use Rattle.session_machine.specs.State.{Own, session_of, SameOthers}
 
@@ -39,7 +44,7 @@ run_in i x = record { session = session_in i x; rows = x.layers.committed; waits
 -- what is left of statements from a request of the first one on
 abbrev pub tasks_from : List Bound → ℕ → List Task
 tasks_from [] n = []
-tasks_from (st ∷ sts) n = asks (drop n (plan st)) (Do st ∷ tasks_of sts)
+tasks_from (st ∷ sts) n = asks (nowait st) (drop n (plan st)) (Do st ∷ tasks_of sts)
 
 -- the scene in which a session began to go, and the table now: the others hold what they held, and the same sessions wait
 pub record IsScene (e : Scene) (i : ℕ) (t : Locks) : Type 0 where
@@ -148,6 +153,21 @@ abbrev pub Does : ℕ → Standing → Bound → Standing → Option Fault → T
 Does i x st y None = (ts : List Task) → GoesOnTo i x (Do st ∷ ts) y ts
 Does i x st y (Some f) = (ts : List Task) → StopsIn i x (Do st ∷ ts) (failed_in i y f)
 
+-- ---- what the call for one request promises
+
+-- what a request gets, by the rules of the lock table: one that refuses to wait is had or unavailable, whether or not its wait would close a ring
+abbrev pub IsReply : Locks → ℕ → Resource → Mode → Bool → Reply → Type 0
+IsReply l i r m nowait reply.Had = MayHave l i r m
+IsReply l i r m nowait reply.Waits = (nowait ≡ false) × IsAnswer l i r m answer.Waits
+IsReply l i r m true (reply.Refused f) = (f ≡ Unavailable) × (¬ (MayHave l i r m))
+IsReply l i r m false (reply.Refused f) = (f ≡ Deadlock) × IsAnswer l i r m answer.Ring
+
+-- the table after that reply
+abbrev pub after_reply : Locks → ℕ → Resource → Mode → Reply → Locks
+after_reply l i r m reply.Had = taken l i r m
+after_reply l i r m reply.Waits = queued l i r m
+after_reply l i r m (reply.Refused f) = l
+
 -- ---- what the call for the requests of a statement promises
 
 -- the session holds the requests that it has had, and is to ask the others of the statement from this one on
@@ -155,21 +175,21 @@ pub record IsToAsk (i : ℕ) (t : Locks) (st : Bound) (n : ℕ) : Type 0 where
   pub idle : waits_now t.waits i ≡ false
   pub have : List Request
   pub holds : HoldsAll (slice i t.held) have
-  pub backed : Backed have (asks (drop n (plan st)) (Do st ∷ []))
+  pub backed : Backed have (asks (nowait st) (drop n (plan st)) (Do st ∷ []))
 
 -- where it stands that waits for the request with this number, before tasks that come behind the statement's
 abbrev pub waits_at : Layers → Locks → SessionState → Bound → ℕ → List Task → Standing
 waits_at l t s st n ts = record {
   layers = l;
   locks = t;
-  own = record { status = s.status; rest = asks (drop (n + 1) (plan st)) ts; transcript = s.transcript ++ Waiting ∷ [] };
+  own = record { status = s.status; rest = asks (nowait st) (drop (n + 1) (plan st)) ts; transcript = s.transcript ++ Waiting ∷ [] };
 }
 
 -- all requests from that number on are had, or one waits, or is refused
 abbrev pub Asks : ℕ → Locks → SessionState → Bound → ℕ → Locks → Asked → Type 0
-Asks i t s st n u Had = (l : Layers) (ts : List Task) → GoesOnTo i (standing l t s) (asks (drop n (plan st)) ts) (standing l u s) ts
-Asks i t s st n u (Waits k) = (l : Layers) (ts : List Task) → StopsIn i (standing l t s) (asks (drop n (plan st)) ts) (waits_at l u s st k ts)
-Asks i t s st n u (Refused f) = (l : Layers) (ts : List Task) → StopsIn i (standing l t s) (asks (drop n (plan st)) ts) (failed_in i (standing l u s) f)
+Asks i t s st n u Had = (l : Layers) (ts : List Task) → GoesOnTo i (standing l t s) (asks (nowait st) (drop n (plan st)) ts) (standing l u s) ts
+Asks i t s st n u (Waits k) = (l : Layers) (ts : List Task) → StopsIn i (standing l t s) (asks (nowait st) (drop n (plan st)) ts) (waits_at l u s st k ts)
+Asks i t s st n u (Refused f) = (l : Layers) (ts : List Task) → StopsIn i (standing l t s) (asks (nowait st) (drop n (plan st)) ts) (failed_in i (standing l u s) f)
 
 -- a request that waits has a number below 255, and its session waits now; nobody else begins to wait or stops
 abbrev pub Queues : ℕ → Locks → Locks → Asked → Type 0

@@ -4,7 +4,7 @@ use Rattle.std.specs.List.{list_any, AllByRecursion}
 use Rattle.spec_reader.specs.declared.TheConstants.{MAX_ITEMS, MAX_LINES}
 use Rattle.spec_reader.specs.Tree.{StepTree, SessionTree, MarkerTree, AnyTime, Before, Notices, ItemTree, SpecTree}
 
--- there are at most 4,096 permutation lines, and each has at most 24 items
+-- there are not too many permutation lines, and no line has too many items
 pub record InLimits (f : SpecTree) : Type 0 where
   pub lines : length f.lines ≤ MAX_LINES
   pub items : AllByRecursion (λ l. length l ≤ MAX_ITEMS) f.lines

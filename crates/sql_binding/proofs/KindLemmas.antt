@@ -38,7 +38,7 @@ use Rattle.binding_model.specs.Refusals.{Bind, ◌>>=◌, refuse, unless, with_f
 use Rattle.binding_model.specs.Kinds.{Faults, has, IsLeast, factor_names, term_names, sum_names, condition_names, part_names, atom_names, where_names}
 use Rattle.binding_model.specs.Kinds.{aggregate_names, item_names, order_names, assignment_names, row_names, names_unknown, both, faults_by, never, no_faults}
 use Rattle.binding_model.specs.Kinds.{in_table, statement_faults, insert_faults, select_faults, update_faults, delete_faults, declaration_faults}
-use Rattle.binding_model.specs.Statements.{places, at_places, rows_miscount, set_columns, sets_key, row_columns, row_values, insert, aggregate, output, sort_key}
+use Rattle.binding_model.specs.Statements.{places, at_places, rows_miscount, set_columns, sets_key, row_columns, row_values, insert, aggregate, output, sort_key, lock_of}
 use Rattle.binding_model.specs.Statements.{sort_keys, select, assignment, update, delete, mode_of, statement}
 use Rattle.binding_model.specs.Tables.{create, key_column, column_number, column, no_table, table_number, joined as each_of, part_columns, part_keys}
 use Rattle.binding_model.specs.Tables.{has_unknown, repeated, declared, table_place}
@@ -368,7 +368,7 @@ select-judged at s x =
     let out = output t at s.items in
     let by = sort_keys t at s.order in
     let c = where_of t at s.where' in
-    let made : Output × (List SortKey × Condition) → Bound = λ y. Select x.0 (key_of (key_column t) y.1.1) y.1.1 y.1.0 y.0 in
+    let made : Output × (List SortKey × Condition) → Bound = λ y. Select x.0 (key_of (key_column t) y.1.1) y.1.1 y.1.0 y.0 (lock_of (tree.written_lock s.items s.lock)) in
     let mixes : Output × (List SortKey × Condition) → Bool = λ y. output_mixes t y.0 || condition_mixes t y.1.1 in
     subst (Judged (select_faults at s t)) (three out by c (tests t names mixes never never at made))
     (said-judged t names mixes never never at made (both out (both by c))
@@ -403,7 +403,7 @@ judged tables at (tree.Update n as' c) = in-table tables (table_number tables n)
 judged tables at (tree.Delete n c) = in-table tables (table_number tables n) at (delete_faults at c) _ (delete-judged at c)
 judged tables at (tree.Begin start level) = fault_free
 judged tables at (tree.Ends w noise) = fault_free
-judged tables at (tree.Lock w n mode) = in-table tables (table_number tables n) at (λ t. no_faults) (λ x. Ok (Lock x.0 (mode_of mode))) (λ x. fault_free)
+judged tables at (tree.Lock w n mode nowait) = in-table tables (table_number tables n) at (λ t. no_faults) (λ x. Ok (Lock x.0 (mode_of mode) nowait)) (λ x. fault_free)
 judged tables at (tree.Set setting) = fault_free
 
 pub told-least : (tables : List Table) (at : ℕ) (s : tree.Statement) (e : BindError) → statement tables at s ≡ Err e → e.kind ≢ Sql sql.NumberTooLarge

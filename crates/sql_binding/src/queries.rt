@@ -3,10 +3,12 @@
 ghost use Rattle.std.specs.Prelude.{◌≡◌, ℕ, List};
 ghost use Rattle.sql_statements.specs.declared.statement.Bound.TheVariants as variants;
 ghost use Rattle.sql_statements.specs.declared.statement.SortKey.{SortKey as Sorted};
-ghost use Rattle.sql_grammar.specs.Views.{chain_of, option_by, view_selected, view_condition};
+ghost use Rattle.sql_grammar.specs.Views.{chain_of, option_by, view_selected, view_lock_of, view_condition};
 ghost use Rattle.binding_model.specs.Names.{list_of};
 ghost use Rattle.binding_model.specs.Refusals.{Binds, each};
 ghost use Rattle.binding_model.specs.Statements as spec;
+ghost use Rattle.sql_grammar.specs.Tree.{written_lock};
+ghost use Rattle.sql_statements.specs.declared.statement.RowLock.{RowLock as Lock};
 
 use crate::conditions::where_of;
 use crate::inserts::{all_columns, columns};
@@ -15,9 +17,10 @@ use crate::types::{condition_mixes, output_mixes};
 use binding_model::{BindErrorKind, BindStop, Table, refused};
 use lock_modes::Value;
 use sql_grammar::{
-    Aggregate as AggregateText, Chain, Direction, Select, Selected, SortKey as SortKeyText,
+    Aggregate as AggregateText, Chain, Direction, LockedFor, RowLock as RowLockText, Select,
+    Selected, SortKey as SortKeyText,
 };
-use sql_statements::{Aggregate, Bound, Condition, Order, Output, SortKey};
+use sql_statements::{Aggregate, Bound, Condition, Order, Output, RowLock, SortKey};
 use sqlite_items::Items;
 use std::alloc::Global;
 
@@ -51,8 +54,8 @@ fn output(alloc: Global, table: &Table, at: usize, selected: &Selected) -> Resul
     ensures { Binds (λ output. output) result (spec.output table.now at (view_selected selected.now)) }
 {
     match selected {
-        Selected::All => Ok(Output::Columns(Items::from_vec(all_columns(alloc, table)?))),
-        Selected::Columns(names) => Ok(Output::Columns(Items::from_vec(columns(
+        Selected::All(_) => Ok(Output::Columns(Items::from_vec(all_columns(alloc, table)?))),
+        Selected::Columns(names, _) => Ok(Output::Columns(Items::from_vec(columns(
             alloc, table, at, names,
         )?))),
         Selected::Aggregates(texts) => Ok(Output::Aggregates(Items::from_vec(aggregates(
@@ -118,13 +121,48 @@ fn selected_key(
     output: &Output,
     condition: &Condition,
 ) -> Result<Option<Value>, BindStop>
-    ensures { (number : ℕ) → (order : List Sorted) →
-        Binds (λ key. variants.Select number key condition.now order output.now) result (spec.select_rows table.now at number output.now order condition.now) }
+    ensures { (number : ℕ) → (order : List Sorted) → (lock : Lock) →
+        Binds (λ key. variants.Select number key condition.now order output.now lock) result (spec.select_rows table.now at number output.now order lock condition.now) }
 {
     if output_mixes(table, output) || condition_mixes(table, condition) {
         return Err(refused(at, BindErrorKind::TypeMismatch));
     }
     Ok(key_of(table.key(), condition)?)
+}
+
+/// How a SELECT of these items locks its rows.
+fn lock_of(selected: &Selected) -> RowLock
+    ensures { result ≡ spec.lock_of (written_lock (view_selected selected.now) (view_lock_of selected.now)) }
+{
+    match selected {
+        Selected::All(lock) => written_lock_of(*lock),
+        Selected::Columns(_, lock) => written_lock_of(*lock),
+        Selected::Aggregates(_) => written_lock_of(None),
+    }
+}
+
+fn written_lock_of(lock: Option<RowLockText>) -> RowLock
+    ensures { result ≡ spec.lock_of lock }
+{
+    match lock {
+        None => RowLock {
+            exclusive: false,
+            nowait: false,
+        },
+        Some(lock) => RowLock {
+            exclusive: is_update(lock.locked_for),
+            nowait: lock.nowait,
+        },
+    }
+}
+
+fn is_update(locked_for: LockedFor) -> bool
+    ensures { result ≡ spec.is_update locked_for }
+{
+    match locked_for {
+        LockedFor::Update => true,
+        LockedFor::Share => false,
+    }
 }
 
 fn select_rows(
@@ -133,12 +171,13 @@ fn select_rows(
     number: u16,
     output: Output,
     order: Items<SortKey>,
+    lock: RowLock,
     condition: Condition,
 ) -> Result<Bound, BindStop>
-    ensures { Binds (λ bound. bound) result (spec.select_rows table.now at number output order condition) }
+    ensures { Binds (λ bound. bound) result (spec.select_rows table.now at number output order lock condition) }
 {
     let key = selected_key(table, at, &output, &condition)?;
-    Ok(Bound::Select(number, key, condition, order, output))
+    Ok(Bound::Select(number, key, condition, order, output, lock))
 }
 
 /// Binds a SELECT that begins at this offset.
@@ -155,10 +194,12 @@ pub(crate) fn select(
           table = statement.now.table;
           where' = option_by view_condition statement.now.condition;
           order = option_by chain_of statement.now.order;
+          lock = view_lock_of statement.now.items;
         })) }
 {
     let output = output(alloc, table, at, &statement.items)?;
     let order = sort_keys(alloc, table, at, &statement.order)?;
     let condition = where_of(alloc, table, at, &statement.condition)?;
-    select_rows(table, at, number, output, order, condition)
+    let lock = lock_of(&statement.items);
+    select_rows(table, at, number, output, order, lock, condition)
 }

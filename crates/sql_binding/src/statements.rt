@@ -73,7 +73,7 @@ pub fn statement(alloc: Global, tables: &[Table], at: usize, form: &Form) -> Res
         Form::End(end) => Ok(end_of(end.word)),
         Form::Lock(text) => {
             let (number, _) = table_named(tables, at, text.table.as_str())?;
-            Ok(Bound::Lock(number, mode_of(text.mode)))
+            Ok(Bound::Lock(number, mode_of(text.mode), text.nowait))
         }
         Form::Set(_) => Ok(Bound::SetVariable),
     }

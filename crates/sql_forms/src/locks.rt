@@ -7,7 +7,7 @@ ghost use Rattle.sql_grammar.specs.Reading.{strength, row_exclusive, share_mode,
 ghost use Rattle.sql_grammar.specs.Views.{Gives, view_lock};
 
 use sql_grammar::{LockMode, Placed, Stop, Strength, TableLock, Token};
-use sql_words::{at_key, at_word, first, name, skip_key, skip_word, taken};
+use sql_words::{at_key, at_word, first, maybe_nowait, name, skip_key, skip_word, taken};
 use std::alloc::Global;
 
 fn strength(token: &Token) -> Option<Strength>
@@ -122,11 +122,13 @@ pub fn lock<'a, 't>(
     let (table_word, rest) = table_word(rest)?;
     let (table, rest) = name(alloc, rest)?;
     let (mode, rest) = maybe_mode(rest)?;
+    let (nowait, rest) = maybe_nowait(rest)?;
     Ok((
         TableLock {
             table_word,
             table,
             mode,
+            nowait,
         },
         rest,
     ))

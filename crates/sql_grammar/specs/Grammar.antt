@@ -5,9 +5,10 @@ use Rattle.sql_grammar.specs.declared.error.Limit.{Limit}
 use Rattle.sql_grammar.specs.declared.error.Limit.TheVariants.{NumberTooLarge, TooLarge}
 use Rattle.sql_grammar.specs.Tokens.{Token, Key, Word, Sign, Number, Text, End, NoToken, NotClosed, Placed}
 use Rattle.sql_grammar.specs.Tree.{Name, Chain, Last, More, Literal, Whole, Quoted, Factor, Value, Column, Term, AddSign, Plus, Minus, Sum, Only, Then, Comparison, Equal, Unequal, Differs, Less, AtMost, Greater, AtLeast, Condition, Alone, Or, Part, Single, And, Atom, Compares, Not, Group}
-use Rattle.sql_grammar.specs.Tree.{TypeWord, Int, Integer, Int4, BigInt, Int8, TextType, Property, PrimaryKey, NotNull, TablePart, ColumnPart, KeyPart, Direction, Ascending, Descending, SortKey, Aggregate, Count, Total, Items, AllColumns, Columns, Aggregates, Assignment}
+use Rattle.sql_grammar.specs.Tree.{TypeWord, Int, Integer, Int4, BigInt, Int8, TextType, Property, PrimaryKey, NotNull, TablePart, ColumnPart, KeyPart, Direction, Ascending, Descending, SortKey, Aggregate, Count, Total, Items, AllColumns, Columns, Aggregates, LockedFor, RowLock, written_lock, Assignment}
 use Rattle.sql_grammar.specs.Tree.{Noise, Work, Transaction, ReadWord, Committed, Uncommitted, Level, Serializable, RepeatableRead, Read, EndWord, Strength, LockMode, Access, RowLevel, Shared, Exclusively, Scope, Local, Session, Start, BeginWord, StartWords, SetSign, EqualSign, ToWord, Select, Setting, Statement, CreateTable, Insert, Selects, Update, Delete, Begin, Ends, Lock, Set, Block}
 use Rattle.sql_grammar.specs.Tree as tree
+use Rattle.sql_grammar.specs.declared.statement.LockedFor.TheVariants as purpose
 use Rattle.sql_grammar.specs.declared.error.SqlErrorKind.{SqlErrorKind as Kind}
 use Rattle.sql_grammar.specs.declared.error.SqlErrorKind.TheVariants as kind
 
@@ -213,8 +214,21 @@ set_sign ToWord = Word (codes "to")
 abbrev pub setting : Setting → List Marked
 setting s = optional scope s.scope ++ (word s.name ∷ plain (set_sign s.sign) ∷ factor s.value)
 
+abbrev pub nowait : Bool → List Marked
+nowait refuses = if refuses then word (codes "nowait") ∷ [] else []
+
+abbrev pub locked_for : LockedFor → List ℕ
+locked_for purpose.Update = codes "update"
+locked_for purpose.Share = codes "share"
+
+abbrev pub row_lock : RowLock → List Marked
+row_lock l = word (codes "for") ∷ word (locked_for l.locked_for) ∷ nowait l.nowait
+
 abbrev pub select : Select → List Marked
-select s = items s.items ++ (key (codes "from") ∷ word s.table ∷ (optional where_part s.where' ++ optional order_part s.order))
+select s =
+    items s.items
+    ++ (key (codes "from") ∷ word s.table
+    ∷ (optional where_part s.where' ++ (optional order_part s.order ++ optional row_lock (written_lock s.items s.lock))))
 
 abbrev pub statement : Statement → List Marked
 statement (CreateTable n ps) = word (codes "create") ∷ key (codes "table") ∷ word n ∷ sign (codes "(") ∷ (chain table_part ps ++ (sign (codes ")") ∷ []))
@@ -224,7 +238,7 @@ statement (Update n as' c) = word (codes "update") ∷ word n ∷ key (codes "se
 statement (Delete n c) = word (codes "delete") ∷ key (codes "from") ∷ word n ∷ optional where_part c
 statement (Begin s l) = start s ++ optional level_part l
 statement (Ends w n) = word (end_word w) ∷ optional noise n
-statement (Lock t n m) = word (codes "lock") ∷ ((if t then key (codes "table") ∷ [] else []) ++ (word n ∷ optional mode_part m))
+statement (Lock t n m w) = word (codes "lock") ∷ ((if t then key (codes "table") ∷ [] else []) ++ (word n ∷ (optional mode_part m ++ nowait w)))
 statement (Set s) = key (codes "set") ∷ setting s
 
 abbrev pub statements : Block → List Marked

@@ -5,9 +5,10 @@ use Rattle.sql_grammar.specs.declared.error.Limit.{Limit}
 use Rattle.sql_grammar.specs.declared.error.Limit.TheVariants.{NumberTooLarge, TooLarge}
 use Rattle.sql_grammar.specs.Tokens.{Token, Key, Word, Sign, Number, Text, End, NoToken, NotClosed, Placed, is}
 use Rattle.sql_grammar.specs.Tree.{Name, Chain, Last, More, Literal, Whole, Quoted, Factor, Value, Column, Term, AddSign, Plus, Minus, Sum, Only, Then, Comparison, Equal, Unequal, Differs, Less, AtMost, Greater, AtLeast, Condition, Alone, Or, Part, Single, And, Atom, Compares, Not, Group}
-use Rattle.sql_grammar.specs.Tree.{TypeWord, Int, Integer, Int4, BigInt, Int8, TextType, Property, PrimaryKey, NotNull, TablePart, ColumnPart, KeyPart, Direction, Ascending, Descending, SortKey, Aggregate, Count, Total, Items, AllColumns, Columns, Aggregates, Assignment}
+use Rattle.sql_grammar.specs.Tree.{TypeWord, Int, Integer, Int4, BigInt, Int8, TextType, Property, PrimaryKey, NotNull, TablePart, ColumnPart, KeyPart, Direction, Ascending, Descending, SortKey, Aggregate, Count, Total, Items, AllColumns, Columns, Aggregates, LockedFor, RowLock, lock_for, Assignment}
 use Rattle.sql_grammar.specs.Tree.{Noise, Work, Transaction, ReadWord, Committed, Uncommitted, Level, Serializable, RepeatableRead, EndWord, Strength, LockMode, Access, RowLevel, Shared, Exclusively, Scope, Local, Session, Start, BeginWord, StartWords, SetSign, EqualSign, ToWord, Select, Setting, Statement, CreateTable, Insert, Selects, Update, Delete, Begin, Ends, Lock, Set, Block}
 use Rattle.sql_grammar.specs.Tree as tree
+use Rattle.sql_grammar.specs.declared.statement.LockedFor.TheVariants as purpose
 use Rattle.sql_grammar.specs.Grammar.{fits, Fault, kind_of_limit}
 use Rattle.sql_grammar.specs.declared.error.SqlErrorKind.{SqlErrorKind as Kind}
 use Rattle.sql_grammar.specs.declared.error.SqlErrorKind.TheVariants as kind
@@ -324,6 +325,25 @@ order_part ts = do
   b ← skip (Key (codes "by")) o.1
   with_commas (λ k. sort_key) b.1
 
+abbrev pub maybe_nowait : List Placed → Read Bool
+maybe_nowait ts = if at (Word (codes "nowait")) ts then (skip (Word (codes "nowait")) ts >>= λ x. Ok (true, x.1)) else Ok (false, ts)
+
+abbrev pub locked_for : Token → Option LockedFor
+locked_for t = which ((Word (codes "update"), purpose.Update) ∷ (Word (codes "share"), purpose.Share) ∷ []) t
+
+abbrev pub row_lock : List Placed → Read RowLock
+row_lock ts = do
+  f ← skip (Word (codes "for")) ts
+  p ← taken (locked_for (first f.1).token) f.1
+  n ← maybe_nowait p.1
+  Ok (record { locked_for = p.0; nowait = n.0 }, n.1)
+
+-- a lock may be written where rows are shown
+abbrev pub lock_part : Items → List Placed → Read (Option RowLock)
+lock_part AllColumns ts = optional (Word (codes "for")) row_lock ts
+lock_part (Columns names) ts = optional (Word (codes "for")) row_lock ts
+lock_part (Aggregates as') ts = Ok (None, ts)
+
 abbrev pub select : List Placed → Read Statement
 select ts = do
   s ← skip (Key (codes "select")) ts
@@ -332,7 +352,8 @@ select ts = do
   n ← name f.1
   w ← optional (Key (codes "where")) where_part n.1
   o ← optional (Key (codes "order")) order_part w.1
-  Ok (Selects (record { items = is'.0; table = n.0; where' = w.0; order = o.0 }), o.1)
+  l ← lock_part is'.0 o.1
+  Ok (Selects (record { items = is'.0; table = n.0; where' = w.0; order = o.0; lock = lock_for is'.0 l.0 }), l.1)
 
 abbrev pub assignment : List Placed → Read Assignment
 assignment ts = do
@@ -431,7 +452,8 @@ lock ts = do
   t ← table_word l.1
   n ← name t.1
   m ← optional (Key (codes "in")) mode_part n.1
-  Ok (Lock t.0 n.0 m.0, m.1)
+  w ← maybe_nowait m.1
+  Ok (Lock t.0 n.0 m.0 w.0, w.1)
 
 -- ---- SET: local, session and to are no reserved words, so there are two readings
 

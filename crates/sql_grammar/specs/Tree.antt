@@ -1,5 +1,5 @@
 -- Statements as they are written, word for word; case, blank space and comments leave no trace.
-use Rattle.std.specs.Prelude.{ℕ, suc, ◌≤◌, Bool, List, Option, ⊤}
+use Rattle.std.specs.Prelude.{ℕ, suc, ◌≤◌, Bool, List, Option, None, ⊤}
 use Rattle.sql_grammar.specs.declared.TheConstants.{MAX_ROWS}
 pub use Rattle.sql_grammar.specs.declared.expression.Literal.{Literal}
 pub use Rattle.sql_grammar.specs.declared.expression.Literal.TheVariants.{Whole, Quoted}
@@ -20,6 +20,8 @@ pub use Rattle.sql_grammar.specs.declared.statement.Direction.TheVariants.{Ascen
 pub use Rattle.sql_grammar.specs.declared.statement.SortKey.{SortKey}
 pub use Rattle.sql_grammar.specs.declared.statement.Aggregate.{Aggregate}
 pub use Rattle.sql_grammar.specs.declared.statement.Aggregate.TheVariants.{Count, Total}
+pub use Rattle.sql_grammar.specs.declared.statement.LockedFor.{LockedFor}
+pub use Rattle.sql_grammar.specs.declared.statement.RowLock.{RowLock}
 pub use Rattle.sql_grammar.specs.declared.statement.Noise.{Noise}
 pub use Rattle.sql_grammar.specs.declared.statement.Noise.TheVariants.{Work, Transaction}
 pub use Rattle.sql_grammar.specs.declared.statement.ReadWord.{ReadWord}
@@ -91,11 +93,28 @@ pub record Assignment : Type 0 where
   pub column : Name
   pub value : Sum
 
+-- a lock on the rows that are shown; none may be written where aggregates are
+abbrev pub LockOf : Items → Type 0
+LockOf AllColumns = Option RowLock
+LockOf (Columns names) = Option RowLock
+LockOf (Aggregates as') = Unit {0}
+
+abbrev pub lock_for : (shown : Items) → Option RowLock → LockOf shown
+lock_for AllColumns l = l
+lock_for (Columns names) l = l
+lock_for (Aggregates as') l = tt
+
+abbrev pub written_lock : (shown : Items) → LockOf shown → Option RowLock
+written_lock AllColumns l = l
+written_lock (Columns names) l = l
+written_lock (Aggregates as') l = None
+
 pub record Select : Type 0 where
   pub items : Items
   pub table : Name
   pub where' : Option Condition
   pub order : Option (Chain SortKey)
+  pub lock : LockOf items
 
 pub data Statement : Type 0 where
   CreateTable : Name → Chain TablePart → Statement
@@ -105,7 +124,7 @@ pub data Statement : Type 0 where
   Delete : Name → Option Condition → Statement
   Begin : Start → Option Level → Statement
   Ends : EndWord → Option Noise → Statement
-  Lock : (table_word : Bool) → Name → Option LockMode → Statement
+  Lock : (table_word : Bool) → Name → Option LockMode → (nowait : Bool) → Statement
   Set : Setting → Statement
 
 -- an INSERT has at most 100 rows

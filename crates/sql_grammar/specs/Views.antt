@@ -21,7 +21,7 @@ use Rattle.sql_grammar.specs.declared.statement.Select.{Select as WrittenSelect}
 use Rattle.sql_grammar.specs.declared.statement.Selected.{Selected}
 use Rattle.sql_grammar.specs.declared.statement.Selected.TheVariants as selected
 use Rattle.sql_grammar.specs.declared.statement.Update.{Update as WrittenUpdate}
-use Rattle.sql_grammar.specs.Tree.{Chain, Last, More, Sum, Only, Then, Condition, Alone, Or, Part, Single, And, Atom, Compares, Not, Group, Items, AllColumns, Columns, Aggregates, Assignment, Statement, CreateTable, Insert, Selects, Update, Delete, Begin, Ends, Lock, Set}
+use Rattle.sql_grammar.specs.Tree.{Chain, Last, More, Sum, Only, Then, Condition, Alone, Or, Part, Single, And, Atom, Compares, Not, Group, Items, AllColumns, Columns, Aggregates, LockOf, Assignment, Statement, CreateTable, Insert, Selects, Update, Delete, Begin, Ends, Lock, Set}
 use Rattle.sql_grammar.specs.Tokens.{Token}
 use Rattle.sql_grammar.specs.Lexing.{WrittenAt, view, views}
 use Rattle.sql_grammar.specs.Reading.{Stop, first, rest}
@@ -77,9 +77,14 @@ view_condition = fold-Condition Atom Condition Part atom_step condition_step par
 -- ---- statements
 
 abbrev pub view_selected : Selected → Items
-view_selected selected.All = AllColumns
-view_selected (selected.Columns c) = Columns (chain_of c)
+view_selected (selected.All l) = AllColumns
+view_selected (selected.Columns c l) = Columns (chain_of c)
 view_selected (selected.Aggregates a) = Aggregates (chain_of a)
+
+abbrev pub view_lock_of : (s : Selected) → LockOf (view_selected s)
+view_lock_of (selected.All l) = l
+view_lock_of (selected.Columns c l) = l
+view_lock_of (selected.Aggregates a) = tt
 
 abbrev pub view_assignment : WrittenAssignment → Assignment
 view_assignment a = record { column = a.column; value = view_sum a.value }
@@ -92,7 +97,7 @@ view_insert i = Insert i.table (option_by chain_of i.columns) (chain_by chain_of
 
 abbrev pub view_select : WrittenSelect → Statement
 view_select s = Selects
-    (record { items = view_selected s.items; table = s.table; where' = option_by view_condition s.condition; order = option_by chain_of s.order })
+    (record { items = view_selected s.items; table = s.table; where' = option_by view_condition s.condition; order = option_by chain_of s.order; lock = view_lock_of s.items })
 
 abbrev pub view_update : WrittenUpdate → Statement
 view_update u = Update u.table (chain_by view_assignment u.assignments) (option_by view_condition u.condition)
@@ -107,7 +112,7 @@ abbrev pub view_end : WrittenEnd → Statement
 view_end e = Ends e.word e.noise
 
 abbrev pub view_lock : WrittenLock → Statement
-view_lock l = Lock l.table_word l.table l.mode
+view_lock l = Lock l.table_word l.table l.mode l.nowait
 
 abbrev pub view_form : Form → Statement
 view_form (form.CreateTable c) = view_create c

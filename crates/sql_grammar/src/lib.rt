@@ -14,8 +14,8 @@ pub use expression::{
 };
 pub use statement::{
     Aggregate, Assignment, Begin, CreateTable, Delete, Direction, End, EndWord, Form, Insert,
-    Level, LockMode, Noise, Property, ReadWord, Scope, Select, Selected, SetSign, Setting, SortKey,
-    Start, Statement, Strength, TableLock, TablePart, TypeWord, Update,
+    Level, LockMode, LockedFor, Noise, Property, ReadWord, RowLock, Scope, Select, Selected,
+    SetSign, Setting, SortKey, Start, Statement, Strength, TableLock, TablePart, TypeWord, Update,
 };
 pub use token::{Placed, Token};
 

@@ -69,16 +69,31 @@ pub enum Aggregate {
     Total(Text),
 }
 
-/// What a SELECT shows.
+/// What a SELECT locks its rows for.
+#[derive(Clone, Copy)]
+pub enum LockedFor {
+    Update,
+    Share,
+}
+
+/// `FOR UPDATE|SHARE [NOWAIT]`
+#[derive(Clone, Copy)]
+pub struct RowLock {
+    pub locked_for: LockedFor,
+    /// Whether NOWAIT is written.
+    pub nowait: bool,
+}
+
+/// What a SELECT shows, and how it locks the rows that it shows. Behind aggregates no lock can be written.
 #[derive(Drop)]
 pub enum Selected {
     /// `*`
-    All,
-    Columns(Chain<Text>),
+    All(Option<RowLock>),
+    Columns(Chain<Text>, Option<RowLock>),
     Aggregates(Chain<Aggregate>),
 }
 
-/// `SELECT items FROM table [WHERE condition] [ORDER BY key, ..]`
+/// `SELECT items FROM table [WHERE condition] [ORDER BY key, ..] [FOR UPDATE|SHARE [NOWAIT]]`
 #[derive(Drop)]
 pub struct Select {
     pub items: Selected,
@@ -184,13 +199,15 @@ pub enum LockMode {
     Exclusively,
 }
 
-/// `LOCK [TABLE] table [IN mode MODE]`
+/// `LOCK [TABLE] table [IN mode MODE] [NOWAIT]`
 #[derive(Drop)]
 pub struct TableLock {
     /// Whether TABLE is written.
     pub table_word: bool,
     pub table: Text,
     pub mode: Option<LockMode>,
+    /// Whether NOWAIT is written.
+    pub nowait: bool,
 }
 
 /// What a SET applies to.

@@ -2,17 +2,21 @@
 
 ghost use Rattle.std.specs.Prelude.{◌≡◌, ◌≤◌, length, IfOk, codes};
 ghost use Rattle.sql_grammar.specs.Lexing.{view_token, views};
-ghost use Rattle.sql_grammar.specs.Tokens.{Key};
-ghost use Rattle.sql_grammar.specs.Reading.{with_commas, count_all, sum_of, aggregate, at_aggregate, items, direction, maybe_direction, sort_key, order_part, optional, select};
-ghost use Rattle.sql_grammar.specs.Views.{Gives, chain_of, option_by, view_selected, view_select};
+ghost use Rattle.sql_grammar.specs.Tokens.{Key, Word};
+ghost use Rattle.sql_grammar.specs.Reading.{with_commas, count_all, sum_of, aggregate, at_aggregate, items, direction, maybe_direction, sort_key, order_part, optional, row_lock, locked_for, lock_part, select};
+ghost use Rattle.sql_grammar.specs.Views.{Gives, chain_of, option_by, view_condition, view_selected, view_select};
 ghost use Rattle.sql_queries.specs.Selecting as selecting;
 
 use crate::rows::names;
 use lock_modes::Text;
 use sql_expressions::maybe_where;
-use sql_grammar::{Aggregate, Chain, Direction, Placed, Select, Selected, SortKey, Stop, Token};
+use sql_grammar::{
+    Aggregate, Chain, Condition, Direction, LockedFor, Placed, RowLock, Select, Selected, SortKey,
+    Stop, Token,
+};
 use sql_words::{
-    at_key, at_sign, at_word, behind, first, name, past_sign, skip_key, skip_sign, skip_word,
+    at_key, at_sign, at_word, behind, first, maybe_nowait, name, past_sign, skip_key, skip_sign,
+    skip_word, taken,
 };
 use sqlite_items::Items;
 use std::alloc::Global;
@@ -90,13 +94,13 @@ fn items<'a, 't>(
 {
     if at_sign(tokens, "*") {
         let rest = skip_sign(tokens, "*")?;
-        Ok((Selected::All, rest))
+        Ok((Selected::All(None), rest))
     } else if at_aggregate(tokens) {
         let (aggregates, rest) = aggregates(alloc, tokens)?;
         Ok((Selected::Aggregates(aggregates), rest))
     } else {
         let (columns, rest) = names(alloc, tokens)?;
-        Ok((Selected::Columns(columns), rest))
+        Ok((Selected::Columns(columns, None), rest))
     }
 }
 
@@ -181,6 +185,79 @@ fn maybe_order<'a, 't>(
     }
 }
 
+fn locked_for(token: &Token) -> Option<LockedFor>
+    ensures { result ≡ locked_for (view_token token.now) }
+{
+    if token.is_word("update") {
+        Some(LockedFor::Update)
+    } else if token.is_word("share") {
+        Some(LockedFor::Share)
+    } else {
+        None
+    }
+}
+
+fn row_lock<'a, 't>(tokens: &'t [Placed<'a>]) -> Result<(RowLock, &'t [Placed<'a>]), Stop<'a>>
+    ensures reads { Gives (λ x. (x.0, views x.1.now)) result (row_lock (views tokens.now)) }
+    ensures shorter { IfOk result (λ x. length x.1.now ≤ length tokens.now) }
+{
+    let rest = skip_word(tokens, "for")?;
+    let (locked_for, rest) = taken(locked_for(&first(rest).token), rest)?;
+    let (nowait, rest) = maybe_nowait(rest)?;
+    Ok((RowLock { locked_for, nowait }, rest))
+}
+
+fn maybe_lock<'a, 't>(
+    tokens: &'t [Placed<'a>],
+) -> Result<(Option<RowLock>, &'t [Placed<'a>]), Stop<'a>>
+    ensures reads { Gives (λ x. (x.0, views x.1.now)) result (optional (Word (codes "for")) row_lock (views tokens.now)) }
+    ensures shorter { IfOk result (λ x. length x.1.now ≤ length tokens.now) }
+{
+    if at_word(tokens, "for") {
+        let (lock, rest) = row_lock(tokens)?;
+        Ok((Some(lock), rest))
+    } else {
+        Ok((None, tokens))
+    }
+}
+
+/// The lock that a SELECT of these items may end with.
+fn lock_part<'a, 't>(
+    items: &Selected,
+    tokens: &'t [Placed<'a>],
+) -> Result<(Option<RowLock>, &'t [Placed<'a>]), Stop<'a>>
+    ensures reads { Gives (λ x. (x.0, views x.1.now)) result (lock_part (view_selected items.now) (views tokens.now)) }
+    ensures shorter { IfOk result (λ x. length x.1.now ≤ length tokens.now) }
+{
+    match items {
+        Selected::All(_) | Selected::Columns(_, _) => maybe_lock(tokens),
+        Selected::Aggregates(_) => Ok((None, tokens)),
+    }
+}
+
+/// A SELECT of these items that locks its rows so; behind aggregates there is no lock.
+fn select_of(
+    items: Selected,
+    table: Text,
+    condition: Option<Condition>,
+    order: Option<Chain<SortKey>>,
+    lock: Option<RowLock>,
+) -> Select
+    ensures { view_select result ≡ selecting.select_of (view_selected items) table (option_by view_condition condition) (option_by chain_of order) lock }
+{
+    let items = match items {
+        Selected::All(_) => Selected::All(lock),
+        Selected::Columns(columns, _) => Selected::Columns(columns, lock),
+        Selected::Aggregates(aggregates) => Selected::Aggregates(aggregates),
+    };
+    Select {
+        items,
+        table,
+        condition,
+        order,
+    }
+}
+
 // In three functions, since what is read has to be let go wherever the reading may stop.
 fn select_by<'a, 't>(
     alloc: Global,
@@ -193,15 +270,8 @@ fn select_by<'a, 't>(
 {
     let (condition, rest) = maybe_where(alloc, tokens)?;
     let (order, rest) = maybe_order(alloc, rest)?;
-    Ok((
-        Select {
-            items,
-            table,
-            condition,
-            order,
-        },
-        rest,
-    ))
+    let (lock, rest) = lock_part(&items, rest)?;
+    Ok((select_of(items, table, condition, order, lock), rest))
 }
 
 fn select_from<'a, 't>(

@@ -201,15 +201,23 @@ setting_right : (s : _) → AllRight (grammar.setting s)
 setting_right s = both (grammar.optional grammar.scope s.scope) (grammar.word s.name ∷ plain (grammar.set_sign s.sign) ∷ grammar.factor s.value)
     (maybe_right grammar.scope scope_right s.scope) (tt, (tt, factor_right s.value))
 
+nowait_right : (b : Bool) → AllRight (grammar.nowait b)
+nowait_right true = (tt, tt)
+nowait_right false = tt
+
+row_lock_right : (l : _) → AllRight (grammar.row_lock l)
+row_lock_right l = (tt, (tt, nowait_right l.nowait))
+
 select_right : (s : tree.Select) → AllRight (grammar.select s)
 select_right s =
     both (grammar.items s.items) (grammar.key (codes "from") ∷ grammar.word s.table ∷ (grammar.optional grammar.where_part s.where'
-    ++ grammar.optional grammar.order_part s.order)) (items_right s.items) (
+    ++ (grammar.optional grammar.order_part s.order ++ grammar.optional grammar.row_lock (tree.written_lock s.items s.lock)))) (items_right s.items) (
       tt,
       (
         tt,
-        both (grammar.optional grammar.where_part s.where') (grammar.optional grammar.order_part s.order)
-            (maybe_right grammar.where_part where_right s.where') (maybe_right grammar.order_part order_right s.order),
+        both (grammar.optional grammar.where_part s.where') _ (maybe_right grammar.where_part where_right s.where')
+            (both (grammar.optional grammar.order_part s.order) _ (maybe_right grammar.order_part order_right s.order)
+            (maybe_right grammar.row_lock row_lock_right (tree.written_lock s.items s.lock))),
       ),
     )
 
@@ -246,10 +254,13 @@ statement_right (tree.Delete n c) = (tt, (tt, (tt, maybe_right grammar.where_par
 statement_right (tree.Begin s l) =
     both (grammar.start s) (grammar.optional grammar.level_part l) (start_right s) (maybe_right grammar.level_part level_part_right l)
 statement_right (tree.Ends w n) = (tt, maybe_right grammar.noise noise_right n)
-statement_right (tree.Lock t n m) = (
+statement_right (tree.Lock t n m w) = (
   tt,
-  both (cond t (grammar.key (codes "table") ∷ []) []) (grammar.word n ∷ grammar.optional grammar.mode_part m)
-      (if_right t (grammar.key (codes "table") ∷ []) [] (tt, tt) tt) (tt, maybe_right grammar.mode_part mode_part_right m),
+  both (cond t (grammar.key (codes "table") ∷ []) []) (grammar.word n ∷ (grammar.optional grammar.mode_part m ++ grammar.nowait w))
+      (if_right t (grammar.key (codes "table") ∷ []) [] (tt, tt) tt) (
+        tt,
+        both (grammar.optional grammar.mode_part m) (grammar.nowait w) (maybe_right grammar.mode_part mode_part_right m) (nowait_right w),
+      ),
 )
 statement_right (tree.Set s) = (tt, setting_right s)
 

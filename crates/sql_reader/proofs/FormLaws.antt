@@ -2,7 +2,7 @@
 use Rattle.std.proofs.Common.{◌≡◌, true, false, List, ◌++◌, refl, inl, inr, ◌⊎◌}
 use Rattle.std.specs.Prelude.{codes}
 use Rattle.sql_grammar.specs.Tokens.{Key, Word, Placed, is}
-use Rattle.sql_grammar.specs.Tree.{Statement, CreateTable, Insert, Selects, Update, Delete, Begin, Ends, Lock, Set}
+use Rattle.sql_grammar.specs.Tree.{Items, AllColumns, Columns, Aggregates, LockOf, lock_for, written_lock, Statement, CreateTable, Insert, Selects, Update, Delete, Begin, Ends, Lock, Set}
 use Rattle.sql_grammar.specs.Grammar.{Marked}
 use Rattle.sql_grammar.specs.Grammar as grammar
 use Rattle.sql_grammar.specs.Reading.{first, inside}
@@ -28,10 +28,10 @@ abbrev Forms7 : Type 0
 Forms7 = LockIndex ⊎ Forms8
 
 abbrev tree7 : Forms7 → Statement
-tree7 = both (λ (p : LockIndex). Lock p.0 p.1.0 p.1.1) tree8
+tree7 = both (λ (p : LockIndex). Lock p.0 p.1.0 p.1.1.0 p.1.1.1) tree8
 
 abbrev sp7 : Forms7 → List Marked
-sp7 = both (λ (p : LockIndex). grammar.statement (Lock p.0 p.1.0 p.1.1)) sp8
+sp7 = both (λ (p : LockIndex). grammar.statement (Lock p.0 p.1.0 p.1.1.0 p.1.1.1)) sp8
 
 abbrev Forms6 : Type 0
 Forms6 = EndIndex ⊎ Forms7
@@ -201,7 +201,7 @@ other6 (inl p) more stop = refl
 other6 (inr p) more stop = refl
 
 begins7 : (p : LockIndex) (more : List Marked) → Stops inside more
-    → Heads (is (Word (codes "lock"))) true (grammar.statement ((λ (p : LockIndex). Lock p.0 p.1.0 p.1.1) p) ++ more)
+    → Heads (is (Word (codes "lock"))) true (grammar.statement ((λ (p : LockIndex). Lock p.0 p.1.0 p.1.1.0 p.1.1.1) p) ++ more)
 begins7 p more stop = refl
 
 other7 : (b : Forms8) (more : List Marked) → Stops inside more → Heads (is (Word (codes "lock"))) false (sp8 b ++ more)
@@ -210,12 +210,12 @@ other7 p more stop = refl
 abbrev of_statement : Statement → Forms0
 of_statement (CreateTable n ps) = inl (n, ps)
 of_statement (Insert n cs rs) = inr (inl (n, (cs, rs)))
-of_statement (Selects s) = inr (inr (inl (s.items, (s.table, (s.where', s.order)))))
+of_statement (Selects s) = inr (inr (inl (s.items, (s.table, (s.where', (s.order, written_lock s.items s.lock))))))
 of_statement (Update n as' w) = inr (inr (inr (inl (n, (as', w)))))
 of_statement (Delete n w) = inr (inr (inr (inr (inl (n, w)))))
 of_statement (Begin s l) = inr (inr (inr (inr (inr (inl (s, l))))))
 of_statement (Ends w n) = inr (inr (inr (inr (inr (inr (inl (w, n)))))))
-of_statement (Lock t n m) = inr (inr (inr (inr (inr (inr (inr (inl (t, (n, m)))))))))
+of_statement (Lock t n m w) = inr (inr (inr (inr (inr (inr (inr (inl (t, (n, (m, w))))))))))
 of_statement (Set s) = inr (inr (inr (inr (inr (inr (inr (inr s)))))))
 
 form_to : (i : Forms0) → (tree0 i ≡ tree0 i) × (grammar.statement (tree0 i) ≡ sp0 i)
@@ -229,15 +229,23 @@ form_to (inr (inr (inr (inr (inr (inr (inl p))))))) = (refl, refl)
 form_to (inr (inr (inr (inr (inr (inr (inr (inl p)))))))) = (refl, refl)
 form_to (inr (inr (inr (inr (inr (inr (inr (inr p)))))))) = (refl, refl)
 
+lock_back : (i : Items) (l : LockOf i) → lock_for i (written_lock i l) ≡ l
+lock_back AllColumns l = refl
+lock_back (Columns ns) l = refl
+lock_back (Aggregates as') tt = refl
+
 form_back : (s : Statement) → (tree0 (of_statement s) ≡ s) × (sp0 (of_statement s) ≡ grammar.statement s)
 form_back (CreateTable n ps) = (refl, refl)
 form_back (Insert n cs rs) = (refl, refl)
-form_back (Selects s) = (refl, refl)
+form_back (Selects s) = (
+  λ k. Selects (record { items = s.items; table = s.table; where' = s.where'; order = s.order; lock = lock_back s.items s.lock k }),
+  λ k. grammar.statement (Selects (record { items = s.items; table = s.table; where' = s.where'; order = s.order; lock = lock_back s.items s.lock k })),
+)
 form_back (Update n as' w) = (refl, refl)
 form_back (Delete n w) = (refl, refl)
 form_back (Begin s l) = (refl, refl)
 form_back (Ends w n) = (refl, refl)
-form_back (Lock t n m) = (refl, refl)
+form_back (Lock t n m w) = (refl, refl)
 form_back (Set s) = (refl, refl)
 
 pub form_law : (ts : List Placed) → HasEnd ts → Agrees {I = Statement} (λ s. s) grammar.statement inside ts (reading.form ts)
@@ -258,6 +266,6 @@ form_law ts ends =
     begins5 other5 (λ e. begin_law ts ends)
     (λ e. choice (λ (p : EndIndex). Ends p.0 p.1) tree7 (λ (p : EndIndex). grammar.statement (Ends p.0 p.1)) sp7 inside reading.begins_end ts _ _ begins6
     other6 (λ e. ends_law ts ends)
-    (λ e. choice (λ (p : LockIndex). Lock p.0 p.1.0 p.1.1) tree8 (λ (p : LockIndex). grammar.statement (Lock p.0 p.1.0 p.1.1)) sp8 inside
+    (λ e. choice (λ (p : LockIndex). Lock p.0 p.1.0 p.1.1.0 p.1.1.1) tree8 (λ (p : LockIndex). grammar.statement (Lock p.0 p.1.0 p.1.1.0 p.1.1.1)) sp8 inside
     (is (Word (codes "lock"))) ts _ _ begins7 other7 (λ e. lock_law ts ends)
     (λ e. set_law ts ends)))))))))

@@ -3,7 +3,10 @@ use Rattle.std.proofs.Common.{◌≡◌, ℕ, suc, Bool, true, false, List, [], 
 use Rattle.std.specs.Prelude.{⊤, codes, ◌||◌, is_some}
 use Rattle.sql_grammar.specs.Tokens.{Token, Key, Word, Sign, is}
 use Rattle.sql_grammar.specs.Tree.{Name, Chain, Last, More, Term, Sum, Only, Then, Condition, Alone, Or, Part, Single, And, Atom, Compares, Not, Group}
-use Rattle.sql_grammar.specs.Tree.{Items, AllColumns, Columns, Aggregates, Assignment}
+use Rattle.sql_grammar.specs.Tree.{Items, AllColumns, Columns, Aggregates, written_lock, Assignment}
+use Rattle.sql_grammar.specs.declared.statement.LockedFor.{LockedFor}
+use Rattle.sql_grammar.specs.declared.statement.RowLock.{RowLock}
+use Rattle.sql_grammar.specs.declared.statement.LockedFor.TheVariants as purpose
 use Rattle.sql_grammar.specs.Tree.{Statement, CreateTable, Insert, Selects, Update, Delete, Begin, Ends, Lock, Set}
 use Rattle.sql_grammar.specs.Grammar.{Marked, mark, plain}
 use Rattle.sql_grammar.specs.Grammar as grammar
@@ -169,6 +172,17 @@ of_mode (Shared true) = (refl, (refl, (refl, tt)))
 of_mode (Shared false) = (refl, tt)
 of_mode Exclusively = (refl, tt)
 
+of_nowait : (b : Bool) → Inside (grammar.nowait b)
+of_nowait true = (refl, tt)
+of_nowait false = tt
+
+of_row_lock : (l : RowLock) → Inside (grammar.row_lock l)
+of_row_lock l = (refl, (locked_for_inside l.locked_for, of_nowait l.nowait))
+  where
+    locked_for_inside : (p : LockedFor) → inside (Word (grammar.locked_for p)) ≡ true
+    locked_for_inside purpose.Update = refl
+    locked_for_inside purpose.Share = refl
+
 of_mode_part : (m : LockMode) → Inside (grammar.mode_part m)
 of_mode_part m = (refl, and (grammar.lock_mode m) _ (of_mode m) (refl, tt))
 
@@ -192,7 +206,8 @@ of_statement (Selects s) = (
     (
       refl,
       and (grammar.optional grammar.where_part s.where') _ (of_optional grammar.where_part of_where s.where')
-          (of_optional grammar.order_part of_order s.order),
+          (and (grammar.optional grammar.order_part s.order) _ (of_optional grammar.order_part of_order s.order)
+          (of_optional grammar.row_lock of_row_lock (written_lock s.items s.lock))),
     ),
   ),
 )
@@ -209,8 +224,8 @@ of_statement (Update n as' w) = (
 of_statement (Delete n w) = (refl, (refl, (refl, of_optional grammar.where_part of_where w)))
 of_statement (Begin s l) = and (grammar.start s) _ (of_start s) (of_optional grammar.level_part of_level l)
 of_statement (Ends w n) = (refl, of_optional grammar.noise of_noise n)
-of_statement (Lock true n m) = (refl, (refl, (refl, of_optional grammar.mode_part of_mode_part m)))
-of_statement (Lock false n m) = (refl, (refl, of_optional grammar.mode_part of_mode_part m))
+of_statement (Lock true n m w) = (refl, (refl, (refl, and (grammar.optional grammar.mode_part m) _ (of_optional grammar.mode_part of_mode_part m) (of_nowait w))))
+of_statement (Lock false n m w) = (refl, (refl, and (grammar.optional grammar.mode_part m) _ (of_optional grammar.mode_part of_mode_part m) (of_nowait w)))
 of_statement (Set s) =
     (refl, and (grammar.optional grammar.scope s.scope) _ (of_optional grammar.scope of_scope s.scope) (refl, (of_set_sign s.sign, of_factor s.value)))
 
@@ -228,7 +243,7 @@ heads_inside (Ends end_words.Commit n) = refl
 heads_inside (Ends end_words.End n) = refl
 heads_inside (Ends end_words.Rollback n) = refl
 heads_inside (Ends end_words.Abort n) = refl
-heads_inside (Lock t n m) = refl
+heads_inside (Lock t n m w) = refl
 heads_inside (Set s) = refl
 
 pub heads_form : (s : Statement) → Heads begins_form true (grammar.statement s)
@@ -243,7 +258,7 @@ heads_form (Ends end_words.Commit n) = refl
 heads_form (Ends end_words.End n) = refl
 heads_form (Ends end_words.Rollback n) = refl
 heads_form (Ends end_words.Abort n) = refl
-heads_form (Lock t n m) = refl
+heads_form (Lock t n m w) = refl
 heads_form (Set s) = refl
 
 abbrev Begun : Token → Type 0
@@ -285,7 +300,7 @@ starts t e = elim (split (is (Word (codes "create")) t) _ e) [
   | inr e ↦ elim (split (is (Word (codes "insert")) t) _ e) [
     | inl h ↦ begun_is t (Word (codes "insert")) (Insert [] None (Last (Last (Quoted [])))) _ refl h
     | inr e ↦ elim (split (is (Key (codes "select")) t) _ e) [
-      | inl h ↦ begun_is t (Key (codes "select")) (Selects (record { items = AllColumns; table = []; where' = None; order = None })) _ refl h
+      | inl h ↦ begun_is t (Key (codes "select")) (Selects (record { items = AllColumns; table = []; where' = None; order = None; lock = None })) _ refl h
       | inr e ↦ elim (split (is (Word (codes "update")) t) _ e) [
         | inl h ↦ begun_is t (Word (codes "update")) (Update [] (Last (record { column = []; value = Only (Last (Column [])) })) None) _ refl h
         | inr e ↦ elim (split (is (Word (codes "delete")) t) _ e) [
@@ -295,7 +310,7 @@ starts t e = elim (split (is (Word (codes "create")) t) _ e) [
             | inr e ↦ elim (split (begins_end t) _ e) [
               | inl h ↦ begun_end t h
               | inr e ↦ elim (split (is (Word (codes "lock")) t) _ e) [
-                | inl h ↦ begun_is t (Word (codes "lock")) (Lock false [] None) _ refl h
+                | inl h ↦ begun_is t (Word (codes "lock")) (Lock false [] None false) _ refl h
                 | inr h ↦ begun_is t (Key (codes "set")) (Set (record { scope = None; name = []; sign = EqualSign; value = Column [] })) _ refl h
               ]
             ]

@@ -113,6 +113,18 @@ nothing t on ts e = record {
   only = λ u after same j more m w stop eq. refl;
 }
 
+-- whatever the index is
+pub nothing_by : {I T : Type 0} (t : T) (on : Token → Bool) (some : I) (ts : List Placed) → HasEnd ts → Agrees {I = I} (λ _. t) (λ _. []) on ts (Ok (t, ts))
+nothing_by t on some ts e = record {
+  index = some;
+  is = refl;
+  front = [];
+  parts = refl;
+  spelled = refl;
+  ended = e;
+  only = λ u after same j more m w stop eq. refl;
+}
+
 -- ---- one token
 
 pub one : {A : Type 0} (what : Token → Option A) (token_of : A → Token) (on : Token → Bool) (some : A)
@@ -151,24 +163,27 @@ one {A} what token_of on some back forth inside (t ∷ ts) ends = go (what t.tok
 
 -- ---- one part and then another
 
-pub then : {A J T : Type 0} (tree : A → J → T) (spA : A → List Marked) (spJ : J → List Marked) (onA on : Token
+pub then_by : {A J T : Type 0} (tree : A → J → T) (spA : A → List Marked) (spJ : A → J → List Marked) (onA on : Token
     → Bool) (ts : List Placed) (r : Read A) (k : A × List Placed → Read T)
-    → J → ((j : J) (more : List Marked) → Stops on more → Stops onA (spJ j ++ more))
+    → J → ((a : A) (j : J) (more : List Marked) → Stops on more → Stops onA (spJ a j ++ more))
     → Agrees {I = A} (λ x. x) spA onA ts r
-    → ((x : A × List Placed) → Takes {I = A} (λ a. a) spA onA ts x.0 x.1 → Agrees (tree x.0) spJ on x.1 (k x))
-    → Agrees {I = A × J} (λ p. tree p.0 p.1) (λ p. spA p.0 ++ spJ p.1) on ts (r >>= k)
-then {A} {J} {T} tree spA spJ onA on ts (Err s) k some follow h g = record {
+    → ((x : A × List Placed) → Takes {I = A} (λ a. a) spA onA ts x.0 x.1 → Agrees (tree x.0) (spJ x.0) on x.1 (k x))
+    → Agrees {I = A × J} (λ p. tree p.0 p.1) (λ p. spA p.0 ++ spJ p.0 p.1) on ts (r >>= k)
+then_by {A} {J} {T} tree spA spJ onA on ts (Err s) k some follow h g = record {
   front = h.front;
   after = h.after;
   parts = h.parts;
   index = (h.index, some);
-  tail = h.tail ++ spJ some;
-  opens = ap (λ (ms : List Marked). ms ++ spJ some) h.opens ∙ append_assoc (good h.front) h.tail (spJ some);
-  never = λ j more m w stop eq. h.never j.0 (spJ j.1 ++ more) m w (follow j.1 more stop) (sym (append_assoc (spA j.0) (spJ j.1) more) ∙ eq);
-  may = λ l why. let x = h.may l why in
-      ((x.0, some), x.1 ++ spJ some, ap (λ (ms : List Marked). ms ++ spJ some) x.2 ∙ append_assoc (good h.front) (mark s.here.token (Some l) ∷ x.1) (spJ some));
+  tail = h.tail ++ spJ h.index some;
+  opens = ap (λ (ms : List Marked). ms ++ spJ h.index some) h.opens ∙ append_assoc (good h.front) h.tail (spJ h.index some);
+  never = λ j more m w stop eq. h.never j.0 (spJ j.0 j.1 ++ more) m w (follow j.0 j.1 more stop) (sym (append_assoc (spA j.0) (spJ j.0 j.1) more) ∙ eq);
+  may = λ l why. let x = h.may l why in (
+    (x.0, some),
+    x.1 ++ spJ x.0 some,
+    ap (λ (ms : List Marked). ms ++ spJ x.0 some) x.2 ∙ append_assoc (good h.front) (mark s.here.token (Some l) ∷ x.1) (spJ x.0 some),
+  );
 }
-then {A} {J} {T} tree spA spJ onA on ts (Ok (a, left)) k some follow h g = go (k (a, left)) (g (a, left) h)
+then_by {A} {J} {T} tree spA spJ onA on ts (Ok (a, left)) k some follow h g = go (k (a, left)) (g (a, left) h)
   where
     here : spA a ≡ good h.front
     here = ap spA h.is ∙ h.spelled
@@ -176,26 +191,26 @@ then {A} {J} {T} tree spA spJ onA on ts (Ok (a, left)) k some follow h g = go (k
     -- the first part is a, and the second one goes on
     goes : (front : List Placed) (t : Placed) (after : List Placed) → left ≡ front ++ (t ∷ after)
         → (j : A × J) (more : List Marked) (m : Option Limit) (w : List Marked) → Stops on more
-        → (spA j.0 ++ spJ j.1) ++ more ≡ good (h.front ++ front) ++ (mark t.token m ∷ w) → (j.0 ≡ a) × (spJ j.1 ++ more ≡ good front ++ (mark t.token m ∷ w))
+        → (spA j.0 ++ spJ j.0 j.1) ++ more ≡ good (h.front ++ front) ++ (mark t.token m ∷ w) → (j.0 ≡ a) × (spJ a j.1 ++ more ≡ good front ++ (mark t.token m ∷ w))
     goes front t after e j more m w stop eq =
         let ms : List Marked = good front ++ (mark t.token m ∷ w) in
-        let eq' : spA j.0 ++ (spJ j.1 ++ more) ≡ good h.front ++ ms = sym (append_assoc (spA j.0) (spJ j.1) more) ∙ eq
+        let eq' : spA j.0 ++ (spJ j.0 j.1 ++ more) ≡ good h.front ++ ms = sym (append_assoc (spA j.0) (spJ j.0 j.1) more) ∙ eq
         ∙ regroup h.front front (mark t.token m ∷ w) in
         let hd = head_of front left t after m w e in
         let same : j.0 ≡ a =
-        h.only hd.here hd.after hd.is j.0 (spJ j.1 ++ more) hd.over hd.tail (follow j.1 more stop) (eq'
+        h.only hd.here hd.after hd.is j.0 (spJ j.0 j.1 ++ more) hd.over hd.tail (follow j.0 j.1 more stop) (eq'
         ∙ ap (λ (xs : List Marked). good h.front ++ xs) hd.same) ∙ sym h.is in
-        let eq'' : good h.front ++ (spJ j.1 ++ more) ≡ good h.front ++ ms = ap (λ (xs : List Marked). xs ++ (spJ j.1 ++ more)) (sym (ap spA same ∙ here))
-        ∙ eq' in
-        (same, append_cancel_left (good h.front) (spJ j.1 ++ more) ms eq'')
+        let eq'' : good h.front ++ (spJ a j.1 ++ more) ≡ good h.front ++ ms =
+        ap (λ (xs : List Marked). xs ++ (spJ a j.1 ++ more)) (sym here) ∙ ap (λ (b : A). spA b ++ (spJ b j.1 ++ more)) (sym same) ∙ eq' in
+        (same, append_cancel_left (good h.front) (spJ a j.1 ++ more) ms eq'')
 
-    go : (o : Read T) → Agrees (tree a) spJ on left o → Agrees {I = A × J} (λ p. tree p.0 p.1) (λ p. spA p.0 ++ spJ p.1) on ts o
+    go : (o : Read T) → Agrees (tree a) (spJ a) on left o → Agrees {I = A × J} (λ p. tree p.0 p.1) (λ p. spA p.0 ++ spJ p.0 p.1) on ts o
     go (Ok r) q = record {
       index = (a, q.index);
       is = q.is;
       front = h.front ++ q.front;
       parts = h.parts ∙ ap (λ (us : List Placed). h.front ++ us) q.parts ∙ sym (append_assoc h.front q.front r.1);
-      spelled = ap (λ (ms : List Marked). ms ++ spJ q.index) here ∙ ap (λ (ms : List Marked). good h.front ++ ms) q.spelled ∙ sym (good-append h.front q.front);
+      spelled = ap (λ (ms : List Marked). ms ++ spJ a q.index) here ∙ ap (λ (ms : List Marked). good h.front ++ ms) q.spelled ∙ sym (good-append h.front q.front);
       ended = q.ended;
       only = λ t after e j more m w stop eq.
           let s = goes q.front t after (q.parts ∙ ap (λ (us : List Placed). q.front ++ us) e) j more m w stop eq in
@@ -207,15 +222,24 @@ then {A} {J} {T} tree spA spJ onA on ts (Ok (a, left)) k some follow h g = go (k
       parts = h.parts ∙ ap (λ (us : List Placed). h.front ++ us) q.parts ∙ sym (append_assoc h.front q.front (s.here ∷ q.after));
       index = (a, q.index);
       tail = q.tail;
-      opens = ap (λ (ms : List Marked). ms ++ spJ q.index) here ∙ ap (λ (ms : List Marked). good h.front ++ ms) q.opens ∙ sym (regroup h.front q.front q.tail);
+      opens = ap (λ (ms : List Marked). ms ++ spJ a q.index) here ∙ ap (λ (ms : List Marked). good h.front ++ ms) q.opens ∙ sym (regroup h.front q.front q.tail);
       never = λ j more m w stop eq. let x = goes q.front s.here q.after q.parts j more m w stop eq in q.never j.1 more m w stop x.1;
       may = λ l why. let x = q.may l why in (
         (a, x.0),
         x.1,
-        ap (λ (ms : List Marked). ms ++ spJ x.0) here ∙ ap (λ (ms : List Marked). good h.front ++ ms) x.2
+        ap (λ (ms : List Marked). ms ++ spJ a x.0) here ∙ ap (λ (ms : List Marked). good h.front ++ ms) x.2
             ∙ sym (regroup h.front q.front (mark s.here.token (Some l) ∷ x.1)),
       );
     }
+
+-- the second part is spelled alike whatever the first one is
+pub then : {A J T : Type 0} (tree : A → J → T) (spA : A → List Marked) (spJ : J → List Marked) (onA on : Token
+    → Bool) (ts : List Placed) (r : Read A) (k : A × List Placed → Read T)
+    → J → ((j : J) (more : List Marked) → Stops on more → Stops onA (spJ j ++ more))
+    → Agrees {I = A} (λ x. x) spA onA ts r
+    → ((x : A × List Placed) → Takes {I = A} (λ a. a) spA onA ts x.0 x.1 → Agrees (tree x.0) spJ on x.1 (k x))
+    → Agrees {I = A × J} (λ p. tree p.0 p.1) (λ p. spA p.0 ++ spJ p.1) on ts (r >>= k)
+then tree spA spJ onA on ts r k some follow h g = then_by tree spA (λ a. spJ) onA on ts r k some (λ a. follow) h g
 
 -- ---- the trees by a function
 

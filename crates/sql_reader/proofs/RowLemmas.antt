@@ -55,7 +55,7 @@ statement-few (tree.Update n as' c) h = tt
 statement-few (tree.Delete n c) h = tt
 statement-few (tree.Begin start level) h = tt
 statement-few (tree.Ends word noise) h = tt
-statement-few (tree.Lock word n mode) h = tt
+statement-few (tree.Lock word n mode nowait) h = tt
 statement-few (tree.Set setting) h = tt
 
 abbrev IsFew : StatementAt → Type 0

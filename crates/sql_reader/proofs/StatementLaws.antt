@@ -1,14 +1,17 @@
 -- Each form of a statement is read as it is spelled.
-use Rattle.std.proofs.Common.{◌≡◌, ℕ, suc, Bool, true, false, List, [], ◌∷◌, ◌++◌, length, Option, Some, None, refl, sym, inl, inr, ◌⊎◌, arith, cond}
+use Rattle.std.proofs.Common.{◌≡◌, ℕ, suc, Bool, true, false, List, [], ◌∷◌, ◌++◌, length, Option, Some, None, Ok, refl, sym, inl, inr, ◌⊎◌, arith, cond}
 use Rattle.std.specs.Prelude.{codes, ◌||◌, is_some}
 use Rattle.sql_grammar.specs.Tokens.{Token, Key, Word, Sign, End, Placed, is, is_last}
-use Rattle.sql_grammar.specs.Tree.{Name, Chain, Last, Sum, Condition, Items, AllColumns, Assignment}
+use Rattle.sql_grammar.specs.Tree.{Name, Chain, Last, Sum, Condition, Items, AllColumns, Columns, Aggregates, LockOf, lock_for, written_lock, Assignment}
+use Rattle.sql_grammar.specs.declared.statement.LockedFor.{LockedFor}
+use Rattle.sql_grammar.specs.declared.statement.RowLock.{RowLock}
+use Rattle.sql_grammar.specs.declared.statement.LockedFor.TheVariants as purpose
 use Rattle.sql_grammar.specs.Tree.{Statement, CreateTable, Insert, Selects, Update, Delete, Begin, Ends, Lock}
 use Rattle.sql_grammar.specs.Grammar.{Marked, mark, plain}
 use Rattle.sql_grammar.specs.Grammar as grammar
 use Rattle.sql_grammar.specs.Reading.{Read, ◌>>=◌, first, rest, taken, the, skip, which, name, inside, with_commas, over_rows}
 use Rattle.sql_grammar.specs.Reading as reading
-use Rattle.sql_reader.proofs.Laws.{Stops, HasEnd, Agrees, Heads, closed, stops_closed, one_within, then, mapped, choice, both, also, nothing, weaken}
+use Rattle.sql_reader.proofs.Laws.{Stops, HasEnd, Agrees, Heads, closed, stops_closed, one_within, then, then_by, mapped, choice, both, also, nothing, nothing_by, weaken}
 use Rattle.sql_reader.proofs.TokenLaws.{names, one_of, the-back}
 use Rattle.sql_reader.proofs.ExpressionLaws.{on_sum, sum_law, some_sum, literal_law}
 use Rattle.sql_reader.proofs.ConditionLaws.{on_condition, where_law}
@@ -331,20 +334,113 @@ order_law ts ends =
     some : Chain SortKey
     some = Last some_key
 
+-- ---- NOWAIT and FOR
+
+abbrev of_bool : Bool → Unit {0} ⊎ Unit {0}
+of_bool true = inl tt
+of_bool false = inr tt
+
+abbrev to_bool : Unit {0} ⊎ Unit {0} → Bool
+to_bool = both (λ u. true) (λ u. false)
+
+abbrev on_nowait : Token → Bool
+on_nowait t = is (Word (codes "nowait")) t
+
+nowait_to : (i : Unit {0} ⊎ Unit {0}) → (to_bool i ≡ to_bool i)
+    × (grammar.nowait (to_bool i) ≡ both (λ u. plain (Word (codes "nowait")) ∷ []) (λ u. []) i)
+nowait_to (inl u) = (refl, refl)
+nowait_to (inr u) = (refl, refl)
+
+nowait_back : (b : Bool) → (to_bool (of_bool b) ≡ b) × (both (λ u. plain (Word (codes "nowait")) ∷ []) (λ u. []) (of_bool b) ≡ grammar.nowait b)
+nowait_back true = (refl, refl)
+nowait_back false = (refl, refl)
+
+other_nowait : (u : Unit {0}) (more : List Marked) → Stops on_nowait more → Heads (is (Word (codes "nowait"))) false more
+other_nowait u [] h = absurd h
+other_nowait u (m ∷ ms) h = h
+
+nowait_law : (ts : List Placed) → HasEnd ts → Agrees {I = Bool} (λ b. b) grammar.nowait on_nowait ts (reading.maybe_nowait ts)
+nowait_law ts ends =
+    also to_bool (both (λ u. plain (Word (codes "nowait")) ∷ []) (λ u. [])) (λ b. b) grammar.nowait on_nowait ts _ to_bool of_bool nowait_to nowait_back
+    (choice (λ (u : Unit {0}). true) (λ (u : Unit {0}). false) (λ u. plain (Word (codes "nowait")) ∷ []) (λ u. []) on_nowait (is (Word (codes "nowait"))) ts _
+    _ (λ u more stop. refl) other_nowait
+    (λ e. at_last (Word (codes "nowait")) refl refl true on_nowait ts ends) (λ e. nothing false on_nowait ts ends))
+
+nowait_last : (ts : List Placed) → HasEnd ts → Agrees {I = Bool} (λ b. b) grammar.nowait inside ts (reading.maybe_nowait ts)
+nowait_last ts ends = weaken (λ b. b) grammar.nowait inside on_nowait ts _ (ends_stop on_nowait refl refl) (nowait_law ts ends)
+
+abbrev tree_lock : LockedFor × Bool → RowLock
+tree_lock p = record { locked_for = p.0; nowait = p.1 }
+
+abbrev sp_row_lock : LockedFor × Bool → List Marked
+sp_row_lock p = plain (Word (codes "for")) ∷ plain (Word (grammar.locked_for p.0)) ∷ grammar.nowait p.1
+
+purpose_law : (ts : List Placed) → HasEnd ts
+    → Agrees {I = LockedFor} (λ p. p) (λ p. plain (Word (grammar.locked_for p)) ∷ []) closed ts (taken (reading.locked_for (first ts).token) ts)
+purpose_law ts ends =
+    one_of (λ p. Word (grammar.locked_for p)) ((Word (codes "update"), purpose.Update) ∷ (Word (codes "share"), purpose.Share) ∷ []) purpose.Update
+    (refl, (refl, tt)) forth (λ p. refl) closed ts ends
+  where
+    forth : (p : LockedFor) → reading.locked_for (Word (grammar.locked_for p)) ≡ Some p
+    forth purpose.Update = refl
+    forth purpose.Share = refl
+
+row_lock_law : (ts : List Placed) → HasEnd ts → Agrees {I = RowLock} (λ l. l) grammar.row_lock inside ts (reading.row_lock ts)
+row_lock_law ts ends =
+    also tree_lock sp_row_lock (λ l. l) grammar.row_lock inside ts _ tree_lock (λ l. (l.locked_for, l.nowait)) (λ p. (refl, refl)) (λ l. (refl, refl))
+    (past (Word (codes "for")) refl refl tree_lock (λ p. plain (Word (grammar.locked_for p.0)) ∷ grammar.nowait p.1) inside ts _ (purpose.Update, false) ends
+    (λ f hf. then (λ p n. tree_lock (p, n)) (λ p. plain (Word (grammar.locked_for p)) ∷ []) grammar.nowait closed inside f.1 _ _ false
+    (λ j more stop. stops_closed inside (grammar.nowait j) more stop) (purpose_law f.1 hf)
+    (λ p hp. mapped (λ n. tree_lock (p.0, n)) (λ n. n) grammar.nowait inside p.1 _ (nowait_last p.1 hp.ended))))
+
+maybe_lock_law : (ts : List Placed) → HasEnd ts
+    → Agrees {I = Option RowLock} (λ o. o) (grammar.optional grammar.row_lock) inside ts (reading.optional (Word (codes "for")) reading.row_lock ts)
+maybe_lock_law ts ends =
+    maybe (is (Word (codes "for"))) _ grammar.row_lock inside inside ts (λ l. refl) (ends_on (is (Word (codes "for"))) refl refl) (λ more stop. stop) ends
+    (λ e. row_lock_law ts ends)
+
+-- the lock that these items may have, as it is spelled
+abbrev pub sp_lock_of : Items → Option RowLock → List Marked
+sp_lock_of i l = grammar.optional grammar.row_lock (written_lock i (lock_for i l))
+
+-- the lock behind these items, where rows are shown
+lock_end : {T : Type 0} (i : Items) (tree : LockOf i → T) (ts : List Placed) → HasEnd ts
+    → Agrees {I = Option RowLock} (λ l. tree (lock_for i l)) (sp_lock_of i) inside ts (reading.lock_part i ts >>= λ l. Ok (tree (lock_for i l.0), l.1))
+lock_end AllColumns tree ts ends = mapped tree (λ l. l) (grammar.optional grammar.row_lock) inside ts _ (maybe_lock_law ts ends)
+lock_end (Columns ns) tree ts ends = mapped tree (λ l. l) (grammar.optional grammar.row_lock) inside ts _ (maybe_lock_law ts ends)
+lock_end (Aggregates as') tree ts ends = nothing_by (tree tt) inside None ts ends
+
+lock_follows : (on : Token → Bool) → on (Word (codes "for")) ≡ false → ((more : List Marked) → Stops inside more → Stops on more) → (l : Option RowLock)
+    (more : List Marked) → Stops inside more → Stops on (grammar.optional grammar.row_lock l ++ more)
+lock_follows on a ends None more stop = ends more stop
+lock_follows on a ends (Some l) more stop = a
+
 -- ---- SELECT
 
+abbrev pub FromIndex : Type 0
+FromIndex = Name × (Option Condition × (Option (Chain SortKey) × Option RowLock))
+
 abbrev pub SelectIndex : Type 0
-SelectIndex = Items × (Name × (Option Condition × Option (Chain SortKey)))
+SelectIndex = Items × FromIndex
 
-abbrev pub tree_select : Items → Name × (Option Condition × Option (Chain SortKey)) → Statement
-tree_select i p = Selects (record { items = i; table = p.0; where' = p.1.0; order = p.1.1 })
+abbrev pub tree_select : Items → FromIndex → Statement
+tree_select i p = Selects (record { items = i; table = p.0; where' = p.1.0; order = p.1.1.0; lock = lock_for i p.1.1.1 })
 
-abbrev sp_from : Name × (Option Condition × Option (Chain SortKey)) → List Marked
-sp_from p = plain (Key (codes "from")) ∷ plain (Word p.0) ∷ (grammar.optional grammar.where_part p.1.0 ++ grammar.optional grammar.order_part p.1.1)
+abbrev sp_end : Items → Option (Chain SortKey) × Option RowLock → List Marked
+sp_end i q = grammar.optional grammar.order_part q.0 ++ sp_lock_of i q.1
 
-order_follows : (o : Option (Chain SortKey)) (more : List Marked) → Stops inside more → Stops on_where (grammar.optional grammar.order_part o ++ more)
-order_follows None more stop = ends_stop on_where refl refl more stop
-order_follows (Some ks) more stop = refl
+abbrev sp_where : Items → Option Condition × (Option (Chain SortKey) × Option RowLock) → List Marked
+sp_where i q = grammar.optional grammar.where_part q.0 ++ sp_end i q.1
+
+abbrev sp_from : Items → FromIndex → List Marked
+sp_from i p = plain (Key (codes "from")) ∷ plain (Word p.0) ∷ sp_where i p.1
+
+abbrev on_order : Token → Bool
+on_order t = or_comma on_sort t || is (Key (codes "order")) t
+
+end_follows : (i : Items) (q : Option (Chain SortKey) × Option RowLock) (more : List Marked) → Stops inside more → Stops on_where (sp_end i q ++ more)
+end_follows i (None, l) more stop = lock_follows on_where refl (ends_stop on_where refl refl) (written_lock i (lock_for i l)) more stop
+end_follows i (Some ks, l) more stop = refl
 
 or-second : (a b : Bool) → (a || b) ≡ false → b ≡ false
 or-second false b e = e
@@ -357,27 +453,28 @@ or-first true b e = absurd cc
 pub select_law : (ts : List Placed) → HasEnd ts
     → Agrees {I = SelectIndex} (λ p. tree_select p.0 p.1) (λ p. grammar.statement (tree_select p.0 p.1)) inside ts (reading.select ts)
 select_law ts ends =
-    past (Key (codes "select")) refl refl (λ (p : SelectIndex). tree_select p.0 p.1) (λ p. grammar.items p.0 ++ sp_from p.1) inside ts _ (AllColumns, some) ends
-    (λ a ha. then tree_select grammar.items sp_from on_items inside a.1 _ _ some (λ j more stop. refl) (items_law a.1 ha)
-    (λ i hi. past (Key (codes "from")) refl refl (λ p. tree_select i.0 p) (λ p. plain (Word p.0) ∷ (grammar.optional grammar.where_part p.1.0
-    ++ grammar.optional grammar.order_part p.1.1)) inside i.1 _ some hi.ended
-    (λ b hb. past_name (λ n q. tree_select i.0 (n, q)) (λ q. grammar.optional grammar.where_part q.0
-    ++ grammar.optional grammar.order_part q.1) inside b.1 _ some.1 hb
-    (λ n hn. then (λ c o. tree_select i.0 (
-      n.0,
-      (c, o),
-    )) (grammar.optional grammar.where_part) (grammar.optional grammar.order_part) on_where inside n.1 _ _ None order_follows
-    (where_or on_where (λ t e. or-second (on_condition t) _ e) (stops_weaker_where) n.1 hn)
-    (λ w hw. mapped (λ o. tree_select i.0 (n.0, (w.0, o))) (λ o. o) (grammar.optional grammar.order_part) inside w.1 _
-    (maybe (is (Key (codes "order"))) _ grammar.order_part (or_comma on_sort) inside w.1 (λ ks. refl) (ends_on (is (Key (codes "order"))) refl refl)
-    (ends_stop (or_comma on_sort) refl refl) hw.ended (λ e. order_law w.1 hw.ended)))))))
+    past (Key (codes "select")) refl refl (λ (p : SelectIndex). tree_select p.0 p.1) (λ p. grammar.items p.0 ++ sp_from p.0 p.1) inside ts _ (AllColumns, some) ends
+    (λ a ha. then_by tree_select grammar.items sp_from on_items inside a.1 _ _ some (λ i j more stop. refl) (items_law a.1 ha)
+    (λ i hi. past (Key (codes "from")) refl refl (λ p. tree_select i.0 p) (λ p. plain (Word p.0) ∷ sp_where i.0 p.1) inside i.1 _ some hi.ended
+    (λ b hb. past_name (λ n q. tree_select i.0 (n, q)) (sp_where i.0) inside b.1 _ some.1 hb
+    (λ n hn. then (λ c q. tree_select i.0 (n.0, (c, q))) (grammar.optional grammar.where_part) (sp_end i.0) on_where inside n.1 _ _ some.1.1
+    (end_follows i.0) (where_or on_where (λ t e. or-second (on_condition t) _ e) stops_weaker_where n.1 hn)
+    (λ w hw. then (λ o l. tree_select i.0 (n.0, (w.0, (o, l)))) (grammar.optional grammar.order_part) (sp_lock_of i.0) on_order inside w.1 _ _ None
+    (λ l more stop. lock_follows on_order refl (ends_stop on_order refl refl) (written_lock i.0 (lock_for i.0 l)) more stop)
+    (maybe (is (Key (codes "order"))) _ grammar.order_part (or_comma on_sort) on_order w.1 (λ ks. refl) (λ t e. or-second (or_comma on_sort t) _ e)
+    stops_weaker_order hw.ended (λ e. order_law w.1 hw.ended))
+    (λ o ho. lock_end i.0 (λ l. Selects (record { items = i.0; table = n.0; where' = w.0; order = o.0; lock = l })) o.1 ho.ended))))))
   where
-    some : Name × (Option Condition × Option (Chain SortKey))
-    some = ([], (None, None))
+    some : FromIndex
+    some = ([], (None, (None, None)))
 
     stops_weaker_where : (more : List Marked) → Stops on_where more → Stops on_condition more
     stops_weaker_where [] h = h
     stops_weaker_where (m ∷ ms) h = or-first (on_condition m.token) _ h
+
+    stops_weaker_order : (more : List Marked) → Stops on_order more → Stops (or_comma on_sort) more
+    stops_weaker_order [] h = h
+    stops_weaker_order (m ∷ ms) h = or-first (or_comma on_sort m.token) _ h
 
 -- ---- UPDATE and DELETE
 
@@ -613,13 +710,6 @@ strength_law on ts ends =
 abbrev on_mode : Token → Bool
 on_mode t = is (Word (codes "row")) t
 
-abbrev of_bool : Bool → Unit {0} ⊎ Unit {0}
-of_bool true = inl tt
-of_bool false = inr tt
-
-abbrev to_bool : Unit {0} ⊎ Unit {0} → Bool
-to_bool = both (λ u. true) (λ u. false)
-
 abbrev Modes : Type 0
 Modes = Strength ⊎ (Strength ⊎ ((Unit {0} ⊎ Unit {0}) ⊎ Unit {0}))
 
@@ -727,20 +817,32 @@ table_word_law ts ends =
     (λ e. at_last (Key (codes "table")) refl refl true on_table ts ends) (λ e. nothing false on_table ts ends))
 
 abbrev pub LockIndex : Type 0
-LockIndex = Bool × (Name × Option LockMode)
+LockIndex = Bool × (Name × (Option LockMode × Bool))
 
-abbrev sp_lock : Name × Option LockMode → List Marked
-sp_lock q = plain (Word q.0) ∷ grammar.optional grammar.mode_part q.1
+abbrev sp_lock : Name × (Option LockMode × Bool) → List Marked
+sp_lock q = plain (Word q.0) ∷ (grammar.optional grammar.mode_part q.1.0 ++ grammar.nowait q.1.1)
+
+abbrev on_in : Token → Bool
+on_in t = is (Key (codes "in")) t
+
+nowait_follows : (b : Bool) (more : List Marked) → Stops inside more → Stops on_in (grammar.nowait b ++ more)
+nowait_follows true more stop = refl
+nowait_follows false more stop = ends_stop on_in refl refl more stop
 
 pub lock_law : (ts : List Placed) → HasEnd ts
-    → Agrees {I = LockIndex} (λ p. Lock p.0 p.1.0 p.1.1) (λ p. grammar.statement (Lock p.0 p.1.0 p.1.1)) inside ts (reading.lock ts)
+    → Agrees {I = LockIndex} (λ p. Lock p.0 p.1.0 p.1.1.0 p.1.1.1) (λ p. grammar.statement (Lock p.0 p.1.0 p.1.1.0 p.1.1.1)) inside ts (reading.lock ts)
 lock_law ts ends =
-    past (Word (codes "lock")) refl refl (λ (p : LockIndex). Lock p.0 p.1.0 p.1.1) (λ p. sp_table_word p.0 ++ sp_lock p.1) inside ts _ (false, some) ends
-    (λ l hl. then (λ b q. Lock b q.0 q.1) sp_table_word sp_lock on_table inside l.1 _ _ some (λ j more stop. refl) (table_word_law l.1 hl)
-    (λ t ht. past_name (λ n m. Lock t.0 n m) (grammar.optional grammar.mode_part) inside t.1 _ None ht.ended
-    (λ n hn. mapped (λ m. Lock t.0 n.0 m) (λ m. m) (grammar.optional grammar.mode_part) inside n.1 _
-    (maybe (is (Key (codes "in"))) _ grammar.mode_part closed inside n.1 (λ m. refl) (ends_on (is (Key (codes "in"))) refl refl)
-    (ends_stop closed refl refl) hn (λ e. mode_part_law n.1 hn)))))
+    past (Word (codes "lock")) refl refl (λ (p : LockIndex). Lock p.0 p.1.0 p.1.1.0 p.1.1.1) (λ p. sp_table_word p.0 ++ sp_lock p.1) inside ts _ (
+      false,
+      some,
+    ) ends
+    (λ l hl. then (λ b q. Lock b q.0 q.1.0 q.1.1) sp_table_word sp_lock on_table inside l.1 _ _ some (λ j more stop. refl) (table_word_law l.1 hl)
+    (λ t ht. past_name (λ n (q : Option LockMode × Bool). Lock t.0 n q.0 q.1) (λ q. grammar.optional grammar.mode_part q.0
+    ++ grammar.nowait q.1) inside t.1 _ some.1 ht.ended
+    (λ n hn. then (λ m w. Lock t.0 n.0 m w) (grammar.optional grammar.mode_part) grammar.nowait on_in inside n.1 _ _ false nowait_follows
+    (maybe (is (Key (codes "in"))) _ grammar.mode_part closed on_in n.1 (λ m. refl) (λ t e. e) (λ more stop. stops_closed on_in [] more stop) hn
+    (λ e. mode_part_law n.1 hn))
+    (λ m hm. mapped (λ w. Lock t.0 n.0 m.0 w) (λ w. w) grammar.nowait inside m.1 _ (nowait_last m.1 hm.ended)))))
   where
-    some : Name × Option LockMode
-    some = ([], None)
+    some : Name × (Option LockMode × Bool)
+    some = ([], (None, false))

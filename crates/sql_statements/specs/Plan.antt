@@ -45,17 +45,38 @@ key_lock t k row = request (RowOf t (key_at k row)) Exclusive
 abbrev pub insert_plan : ℕ → ℕ → List Tuple → List Request
 insert_plan t k rows = request (Table t) IntentExclusive ∷ map (key_lock t k) rows
 
+-- a select FOR UPDATE asks for what a change of its rows asks for, and any other select for what it reads
+abbrev pub select_intent : Bool → Mode
+select_intent false = IntentShare
+select_intent true = IntentExclusive
+
+abbrev pub select_mode : Bool → Mode
+select_mode false = Share
+select_mode true = Exclusive
+
 abbrev pub plan : Bound → List Request
-plan (Select t key c by out) = row_plan t key IntentShare Share
+plan (Select t key c by out lock) = row_plan t key (select_intent lock.exclusive) (select_mode lock.exclusive)
 plan (Insert t (Some k) rows) = insert_plan t k rows
 plan (Insert t None rows) = table_plan t Exclusive
 plan (Update t key sets c) = row_plan t key IntentExclusive Exclusive
 plan (Delete t key c) = row_plan t key IntentExclusive Exclusive
-plan (Lock t m) = table_plan t m
+plan (Lock t m nowait) = table_plan t m
 plan Begin = []
 plan Commit = []
 plan Rollback = []
 plan SetVariable = []
+
+-- the requests of the statement refuse to wait
+abbrev pub nowait : Bound → Bool
+nowait (Select t key c by out lock) = lock.nowait
+nowait (Lock t m refuses) = refuses
+nowait (Insert t k rows) = false
+nowait (Update t key sets c) = false
+nowait (Delete t key c) = false
+nowait Begin = false
+nowait Commit = false
+nowait Rollback = false
+nowait SetVariable = false
 
 -- a statement asks for no more than a byte can count
 abbrev pub IsShort : Bound → Type 0
@@ -108,12 +129,12 @@ at_key (Some k) v = same_key value_order k v
 
 -- the rows that a statement looks at, by its text alone: those of its table, and only the ones with a key that it names where it names one
 abbrev pub looks_at : Bound → RowPlace → Bool
-looks_at (Select t key c by out) p = (p.0 == t) && at_key key p.1
+looks_at (Select t key c by out lock) p = (p.0 == t) && at_key key p.1
 looks_at (Insert t (Some k) rows) p = (p.0 == t) && list_any (λ row. at_key (Some (key_at k row)) p.1) rows
 looks_at (Insert t None rows) p = p.0 == t
 looks_at (Update t key sets c) p = (p.0 == t) && at_key key p.1
 looks_at (Delete t key c) p = (p.0 == t) && at_key key p.1
-looks_at (Lock t m) p = false
+looks_at (Lock t m nowait) p = false
 looks_at Begin p = false
 looks_at Commit p = false
 looks_at Rollback p = false

@@ -3,9 +3,10 @@
 ghost use Rattle.std.specs.Prelude.{◌≡◌, All, map, slice_get};
 ghost use Rattle.std.specs.Option.{option_map, option_copied};
 ghost use Rattle.lock_modes.specs.Resource.{resource_at};
-ghost use Rattle.sql_statements.specs.Plan.{request, plan, table_plan, row_plan, insert_plan, key_lock, HasKeys, HasKey};
+ghost use Rattle.sql_statements.specs.Plan.{request, plan, table_plan, row_plan, insert_plan, key_lock, select_intent, select_mode, HasKeys, HasKey};
+ghost use Rattle.sql_statements.specs.Plan as spec;
 
-use crate::statement::Bound;
+use crate::statement::{Bound, RowLock};
 use lock_modes::{Mode, Place, Row, Value};
 
 /// The request with this number of a statement's lock plan, in the order in which the statement asks for locks. None from their number on.
@@ -14,11 +15,11 @@ pub fn lock_plan(statement: &Bound, number: u8) -> Option<(Place<'_>, Mode)>
     ensures { option_map (λ r. request (resource_at r.0) r.1) result ≡ slice_get (plan statement.now) number }
 {
     match statement {
-        Bound::Select(table, key, ..) => row_request(
+        Bound::Select(table, key, _, _, _, lock) => row_request(
             *table,
             key.as_ref(),
-            Mode::IntentShare,
-            Mode::Share,
+            select_intent(*lock),
+            select_mode(*lock),
             number,
         ),
         Bound::Insert(table, Some(column), rows) => insert_request(
@@ -42,8 +43,47 @@ pub fn lock_plan(statement: &Bound, number: u8) -> Option<(Place<'_>, Mode)>
             Mode::Exclusive,
             number,
         ),
-        Bound::Lock(table, mode) => table_request(*table, *mode, number),
+        Bound::Lock(table, mode, _) => table_request(*table, *mode, number),
         Bound::Begin | Bound::Commit | Bound::Rollback | Bound::SetVariable => None,
+    }
+}
+
+/// Whether the requests of a statement refuse to wait.
+pub fn nowait(statement: &Bound) -> bool
+    ensures { result ≡ spec.nowait statement.now }
+{
+    match statement {
+        Bound::Select(_, _, _, _, _, lock) => lock.nowait,
+        Bound::Lock(_, _, nowait) => *nowait,
+        Bound::Insert(_, _, _)
+        | Bound::Update(_, _, _, _)
+        | Bound::Delete(_, _, _)
+        | Bound::Begin
+        | Bound::Commit
+        | Bound::Rollback
+        | Bound::SetVariable => false,
+    }
+}
+
+/// What a select that names one row by its key asks for on the table.
+fn select_intent(lock: RowLock) -> Mode
+    ensures { result ≡ select_intent lock.exclusive }
+{
+    if lock.exclusive {
+        Mode::IntentExclusive
+    } else {
+        Mode::IntentShare
+    }
+}
+
+/// What a select asks for on the row that it names, or else on the table.
+fn select_mode(lock: RowLock) -> Mode
+    ensures { result ≡ select_mode lock.exclusive }
+{
+    if lock.exclusive {
+        Mode::Exclusive
+    } else {
+        Mode::Share
     }
 }
 

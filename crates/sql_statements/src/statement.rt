@@ -51,10 +51,19 @@ pub struct Assignment {
     pub value: Expression,
 }
 
+/// How a select locks the rows that it looks at.
+#[derive(Clone, Copy, PartialEq, Eq)]
+pub struct RowLock {
+    /// Whether it asks for what a change of these rows asks for. It asks for what reading asks for where it does not.
+    pub exclusive: bool,
+    /// Whether its requests refuse to wait.
+    pub nowait: bool,
+}
+
 /// A statement whose tables and columns are numbers, which stand for their places among the declared tables and among the
 /// columns of a table. `Option<Value>` is the key of the row that the statement names: the literal of its first key part.
 pub enum Bound {
-    Select(u16, Option<Value>, Condition, Items<SortKey>, Output),
+    Select(u16, Option<Value>, Condition, Items<SortKey>, Output, RowLock),
     /// New rows, with all columns in their order, and which of them is the table's key, if it has one.
     Insert(u16, Option<u16>, Items<Row>),
     Update(u16, Option<Value>, Items<Assignment>, Condition),
@@ -62,7 +71,8 @@ pub enum Bound {
     Begin,
     Commit,
     Rollback,
-    Lock(u16, Mode),
+    /// A mode on the table, and whether its request refuses to wait.
+    Lock(u16, Mode, bool),
     SetVariable,
 }
 
@@ -70,14 +80,14 @@ pub enum Bound {
 impl Drop for Bound {
     fn drop(self) {
         match self {
-            Bound::Select(_, _b, _c, _d, _e) => {}
+            Bound::Select(_, _b, _c, _d, _e, _) => {}
             Bound::Insert(_, _, _c) => {}
             Bound::Update(_, _b, _c, _d) => {}
             Bound::Delete(_, _b, _c) => {}
             Bound::Begin => {}
             Bound::Commit => {}
             Bound::Rollback => {}
-            Bound::Lock(_, _) => {}
+            Bound::Lock(_, _, _) => {}
             Bound::SetVariable => {}
         }
     }

@@ -49,12 +49,12 @@ of-more : (tables extra : List Table) (n : ℕ) (P : Table → Type 0) → OfTab
 of-more tables extra n P h = (longer tables extra n h.0, subst P (sym (get_or_append_left tables extra no_table n h.0)) h.1)
 
 fits-more : (tables extra : List Table) (b : Bound) → Fits tables b → Fits (tables ++ extra) b
-fits-more tables extra (Select n key c by out) h = of-more tables extra n (λ t. Takes (ColumnOf t) (Select n key c by out)) h
+fits-more tables extra (Select n key c by out l) h = of-more tables extra n (λ t. Takes (ColumnOf t) (Select n key c by out l)) h
 fits-more tables extra (Insert n key rows) h = of-more tables extra n (λ t. (key ≡ key_column t) × All (RowFits t) rows) h
 fits-more tables extra (Update n key sets c) h =
     of-more tables extra n (λ t. Takes (ColumnOf t) (Update n key sets c) × (sets_key (key_column t) sets ≡ false)) h
 fits-more tables extra (Delete n key c) h = of-more tables extra n (λ t. Takes (ColumnOf t) (Delete n key c)) h
-fits-more tables extra (Lock n mode) h = longer tables extra n h
+fits-more tables extra (Lock n mode r) h = longer tables extra n h
 fits-more tables extra Begin h = tt
 fits-more tables extra Commit h = tt
 fits-more tables extra Rollback h = tt
@@ -116,7 +116,7 @@ main-made tables at (tree.Delete n c) = sent-made tables (statement tables at (t
 main-made tables at (tree.Begin start level) =
     sent-made tables (statement tables at (tree.Begin start level)) (statement-fits tables at (tree.Begin start level))
 main-made tables at (tree.Ends word noise) = sent-made tables (statement tables at (tree.Ends word noise)) (statement-fits tables at (tree.Ends word noise))
-main-made tables at (tree.Lock word n mode) = sent-made tables (statement tables at (tree.Lock word n mode)) (statement-fits tables at (tree.Lock word n mode))
+main-made tables at (tree.Lock word n mode r) = sent-made tables (statement tables at (tree.Lock word n mode r)) (statement-fits tables at (tree.Lock word n mode r))
 main-made tables at (tree.Set setting) = sent-made tables (statement tables at (tree.Set setting)) (statement-fits tables at (tree.Set setting))
 
 setup-made : (tables : List Table) (b : BlockTree) → IfBound (MadeBlocks tables) (main_setup tables b)

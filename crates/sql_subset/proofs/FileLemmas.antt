@@ -1,15 +1,15 @@
 -- A file that is bound is ready to run.
 use Rattle.std.proofs.Common.{◌≡◌, refl, sym, ap, subst, ◌∙◌, ℕ, suc, ◌+◌, ◌<◌, ◌≤◌, ◌≢◌, Bool, true, false, cond, List, [], ◌∷◌, ◌++◌, length, map, All}
 use Rattle.std.proofs.Common.{get_or, Option, Some, None, Ok, Err, arith, length-append, append_assoc, drop, drop-cons, add-one}
-use Rattle.std.specs.Prelude.{◌==◌, ◌&&◌, ◌||◌, nat_le, nat_lt, is_ok, bytes_eq}
+use Rattle.std.specs.Prelude.{◌==◌, ◌&&◌, ◌||◌, ◌^◌, nat_le, nat_lt, is_ok, bytes_eq}
 use Rattle.std.proofs.lemmas.List.{length-map, append-nil}
 use Rattle.std.proofs.lemmas.List.Elements.{All-nil, All-cons, All-append, All-map, All-head, All-tail}
 use Rattle.std.proofs.lemmas.Bool.{leb-true, ltb-false, eq-eqb, ne_eqb}
 use Rattle.perm_ranks.specs.declared.TheConstants.{MAX_SESSIONS, MAX_STEPS}
 use Rattle.perm_ranks.specs.declared.error.ShapeError.{ShapeError}
-use Rattle.perm_ranks.specs.declared.error.ShapeError.TheVariants.{Empty, TooManySessions, TooManySteps}
+use Rattle.perm_ranks.specs.declared.error.ShapeError.TheVariants.{Empty, TooManySessions, TooManySteps, TooManyRanks}
 use Rattle.perm_ranks.specs.Shape.{shape_of, has_idle}
-use Rattle.perm_ranks.specs.Words.{total}
+use Rattle.perm_ranks.specs.Words.{total, all_words}
 use Rattle.spec_reader.specs.declared.TheConstants.{MAX_ITEMS, MAX_LINES}
 use Rattle.spec_reader.specs.declared.tree.Session.{Session}
 use Rattle.spec_reader.specs.Views.{session_tree, step_tree}
@@ -197,15 +197,17 @@ pub record IsOrdered (sessions : List SessionTree) (ls : List (List ℕ)) : Type
   pub few_lines : length ls ≤ MAX_LINES
   pub known : All (IsLine (length (step_names sessions))) ls
 
-shape_if : (a b c : Bool) (x y z : ShapeError) (counts : List ℕ) → is_ok (cond a (Err x) (cond b (Err y) (cond c (Err z) (Ok counts)))) ≡ true → c ≡ false
-shape_if true b c x y z counts e = absurd (cc e)
-shape_if false true c x y z counts e = absurd (cc e)
-shape_if false false true x y z counts e = absurd (cc e)
-shape_if false false false x y z counts e = refl
+shape_if : (a b c d : Bool) (x y z w : ShapeError) (counts : List ℕ)
+    → is_ok (cond a (Err x) (cond b (Err y) (cond c (Err z) (cond d (Err w) (Ok counts))))) ≡ true → c ≡ false
+shape_if true b c d x y z w counts e = absurd (cc e)
+shape_if false true c d x y z w counts e = absurd (cc e)
+shape_if false false true d x y z w counts e = absurd (cc e)
+shape_if false false false d x y z w counts e = refl
 
 shape-few : (counts : List ℕ) → is_ok (shape_of counts) ≡ true → total counts ≤ MAX_STEPS
 shape-few counts e = ltb-false MAX_STEPS (total counts) (shape_if (length counts == 0
-    || has_idle counts) (nat_lt MAX_SESSIONS (length counts)) (nat_lt MAX_STEPS (total counts)) Empty TooManySessions TooManySteps counts e)
+    || has_idle counts) (nat_lt MAX_SESSIONS (length counts)) (nat_lt MAX_STEPS (total counts)) (nat_le (2 ^ 63) (length (all_words counts)))
+    Empty TooManySessions TooManySteps TooManyRanks counts e)
 
 limit_of : (ls : List (List ℕ)) (n m : ℕ) → length ls ≡ suc n → m ≤ MAX_LINED_STEPS → m ≤ step_limit ls
 limit_of [] n m e h = absurd (omega arith)

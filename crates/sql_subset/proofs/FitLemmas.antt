@@ -44,7 +44,7 @@ use Rattle.bound_specs.specs.Fits.{AggregateFits, OutputFits, SortKeyFits, Assig
 use Rattle.binding_model.specs.KeyParts.{key_of}
 use Rattle.binding_model.specs.Names.{Name, head, tail, list_of, repeats}
 use Rattle.binding_model.specs.Refusals.{Bind, ◌>>=◌, refuse, unless, with_front, each}
-use Rattle.binding_model.specs.Statements.{numbers_from, places, at_places, rows_miscount, set_columns, sets_key, row_columns, row_values, insert}
+use Rattle.binding_model.specs.Statements.{numbers_from, places, at_places, rows_miscount, set_columns, sets_key, row_columns, row_values, insert, lock_of}
 use Rattle.binding_model.specs.Statements.{aggregate, output, sort_key, sort_keys, select, assignment, update, delete, end_of, statement}
 use Rattle.binding_model.specs.Tables.{key_column, column_number, column, no_table, table_place, table_number, table, type_of, width}
 use Rattle.binding_model.specs.Translation.{value, operand, product, signed, sum_head, sum_tail, expression}
@@ -392,7 +392,7 @@ select-fits tables at s x h =
     then-both (KnownOutput t) (Fits tables) (output t at s.items) _ (output-known t at s.items) (λ out o.
     then-both (All (SortKeyFits (ColumnOf t))) (Fits tables) (sort_keys t at s.order) _ (sorted-known t at s.order) (λ by b.
     then-both (KnownCondition t) (Fits tables) (where_of t at s.where') _ (where-known t at s.where') (λ c k.
-    let made : Bind Bound = Ok (Select x.0 (key_of (key_column t) c) c by out) in
+    let made : Bind Bound = Ok (Select x.0 (key_of (key_column t) c) c by out (lock_of (tree.written_lock s.items s.lock))) in
     unless-passed (Fits tables) (output_mixes t out || condition_mixes t c) at TypeMismatch made (λ e.
     let both = or_false (output_mixes t out) (condition_mixes t c) e in
     of-table tables (λ t'. OutputFits (ColumnOf t') out × (All (SortKeyFits (ColumnOf t')) by × ConditionFits (ColumnOf t') c)) x h
@@ -442,7 +442,7 @@ statement-fits tables at (tree.Update n as' c) = in-table tables at n _ (update-
 statement-fits tables at (tree.Delete n c) = in-table tables at n _ (delete-fits tables at c)
 statement-fits tables at (tree.Begin start level) = tt
 statement-fits tables at (tree.Ends w noise) = end-fits tables w
-statement-fits tables at (tree.Lock w n mode) = in-table tables at n _ (λ x h. h.0)
+statement-fits tables at (tree.Lock w n mode r) = in-table tables at n _ (λ x h. h.0)
 statement-fits tables at (tree.Set setting) = tt
 
 pub bound-fits : (tables : List Table) (at : ℕ) (s : tree.Statement) (b : Bound) → statement tables at s ≡ Ok b → Fits tables b

@@ -31,7 +31,7 @@ use Rattle.bound_specs.specs.Binding.{sent, main_statement, main_at, main_setup,
 use Rattle.bound_specs.specs.Lines.{orders_of}
 use Rattle.binding_model.specs.Names.{Name, head, tail, list_of, repeats}
 use Rattle.binding_model.specs.Refusals.{Bind, ◌>>=◌, refuse, unless, with_front, each, IsNamed}
-use Rattle.binding_model.specs.Statements.{places, at_places, rows_miscount, set_columns, sets_key, row_columns, row_values, insert, aggregate, output, sort_key}
+use Rattle.binding_model.specs.Statements.{places, at_places, rows_miscount, set_columns, sets_key, row_columns, row_values, insert, aggregate, output, sort_key, lock_of}
 use Rattle.binding_model.specs.Statements.{sort_keys, select, assignment, update, delete, statement}
 use Rattle.binding_model.specs.Tables.{create, key_column, column_number, column, no_table, table_number, table}
 use Rattle.binding_model.specs.Translation.{value, operand, product, signed, sum_head, sum_tail, expression, joined, alternatives, parts, atom, where_of}
@@ -174,7 +174,7 @@ select-named : (t : Table) (at n : ℕ) (s : tree.Select) → Named (select t at
 select-named t at n s =
     then-named (output t at s.items) _ (output-named t at s.items) (λ out. then-named (sort_keys t at s.order) _ (sort_keys-named t at s.order) (λ by.
     then-named (where_of t at s.where') _ (where-named t at s.where') (λ c.
-    unless-named (output_mixes t out || condition_mixes t c) at TypeMismatch (Ok (Select n (key_of (key_column t) c) c by out)) tt tt)))
+    unless-named (output_mixes t out || condition_mixes t c) at TypeMismatch (Ok (Select n (key_of (key_column t) c) c by out (lock_of (tree.written_lock s.items s.lock)))) tt tt)))
 
 update-named : (t : Table) (at n : ℕ) (as' : Chain tree.Assignment) (c : Option tree.Condition) → Named (update t at n as' c)
 update-named t at n as' c =
@@ -200,7 +200,7 @@ statement-named tables at (tree.Update n as' c) = then-named (table tables at n)
 statement-named tables at (tree.Delete n c) = then-named (table tables at n) _ (table-named tables at n) (λ x. delete-named x.1 at x.0 c)
 statement-named tables at (tree.Begin start level) = tt
 statement-named tables at (tree.Ends w noise) = tt
-statement-named tables at (tree.Lock w n mode) = then-named (table tables at n) _ (table-named tables at n) (λ x. tt)
+statement-named tables at (tree.Lock w n mode r) = then-named (table tables at n) _ (table-named tables at n) (λ x. tt)
 statement-named tables at (tree.Set setting) = tt
 
 -- ---- declarations
@@ -228,7 +228,7 @@ main-named tables at (tree.Update n as' c) = sent-named tables _ (statement-name
 main-named tables at (tree.Delete n c) = sent-named tables _ (statement-named tables at (tree.Delete n c))
 main-named tables at (tree.Begin start level) = tt
 main-named tables at (tree.Ends w noise) = tt
-main-named tables at (tree.Lock w n mode) = sent-named tables _ (statement-named tables at (tree.Lock w n mode))
+main-named tables at (tree.Lock w n mode r) = sent-named tables _ (statement-named tables at (tree.Lock w n mode r))
 main-named tables at (tree.Set setting) = tt
 
 -- ---- blocks and files

@@ -28,7 +28,7 @@ use Rattle.binding_model.specs.declared.tables.Table.{Table}
 use Rattle.bound_specs.specs.Binding.{read_block, statement_at, bind_block, session_setup, step, BoundSession, session, then_more, declared, sent}
 use Rattle.bound_specs.specs.Binding.{main_statement, main_at, main_setup, offset_in}
 use Rattle.binding_model.specs.Refusals.{Bind, ◌>>=◌, unless, with_front, each}
-use Rattle.binding_model.specs.Statements.{numbers_from, places, at_places, rows_miscount, set_columns, sets_key, row_columns, row_values, insert, output}
+use Rattle.binding_model.specs.Statements.{numbers_from, places, at_places, rows_miscount, set_columns, sets_key, row_columns, row_values, insert, output, lock_of}
 use Rattle.binding_model.specs.Statements.{sort_keys, select, assignment, update, delete, end_of, statement}
 use Rattle.binding_model.specs.Translation.{where_of}
 use Rattle.binding_model.specs.KeyParts.{key_of}
@@ -151,9 +151,9 @@ insert-bound t at n names rows few =
 select-bound : (t : Table) (at n : ℕ) (s : tree.Select) → IfBound IsSent (select t at n s)
 select-bound t at n s =
     then-bound IsSent (output t at s.items) _ (λ out. then-bound IsSent (sort_keys t at s.order) _ (λ by. then-bound IsSent (where_of t at s.where') _ (λ c.
-    unless-bound IsSent (output_mixes t out || condition_mixes t c) at TypeMismatch (Ok (Select n (key_of (key_column t) c) c by out)) (
+    unless-bound IsSent (output_mixes t out || condition_mixes t c) at TypeMismatch (Ok (Select n (key_of (key_column t) c) c by out (lock_of (tree.written_lock s.items s.lock)))) (
       tt,
-      row-short n (key_of (key_column t) c) IntentShare Share,
+      row-short n (key_of (key_column t) c) _ _,
     ))))
 
 update-bound : (t : Table) (at n : ℕ) (as' : Chain tree.Assignment) (c : Option tree.Condition) → IfBound IsSent (update t at n as' c)
@@ -181,7 +181,7 @@ statement-sent tables at (tree.Update n as' c) few = then-bound IsSent (table ta
 statement-sent tables at (tree.Delete n c) few = then-bound IsSent (table tables at n) _ (λ (x : ℕ × Table). delete-bound x.1 at x.0 c)
 statement-sent tables at (tree.Begin start level) few = (tt, omega arith)
 statement-sent tables at (tree.Ends w noise) few = end-sent w
-statement-sent tables at (tree.Lock w n mode) few = then-bound IsSent (table tables at n) _ (λ (x : ℕ × Table). (tt, omega arith))
+statement-sent tables at (tree.Lock w n mode r) few = then-bound IsSent (table tables at n) _ (λ (x : ℕ × Table). (tt, omega arith))
 statement-sent tables at (tree.Set setting) few = (tt, omega arith)
 
 abbrev SentMore : List Table × List Bound → Type 0
@@ -202,7 +202,7 @@ main-sent tables at (tree.Delete n c) few = sent-more tables (statement tables a
 main-sent tables at (tree.Begin start level) few = sent-more tables (statement tables at (tree.Begin start level))
     (statement-sent tables at (tree.Begin start level) few)
 main-sent tables at (tree.Ends w noise) few = sent-more tables (statement tables at (tree.Ends w noise)) (statement-sent tables at (tree.Ends w noise) few)
-main-sent tables at (tree.Lock w n mode) few = sent-more tables (statement tables at (tree.Lock w n mode)) (statement-sent tables at (tree.Lock w n mode) few)
+main-sent tables at (tree.Lock w n mode r) few = sent-more tables (statement tables at (tree.Lock w n mode r)) (statement-sent tables at (tree.Lock w n mode r) few)
 main-sent tables at (tree.Set setting) few = sent-more tables (statement tables at (tree.Set setting)) (statement-sent tables at (tree.Set setting) few)
 
 -- ---- one after another

@@ -6,6 +6,6 @@ mod steps;
 
 pub use quotes::unquoted;
 pub use steps::{
-    at_key, at_sign, at_word, behind, first, inside, name, past_sign, skip_key, skip_sign,
-    skip_word, taken,
+    at_key, at_sign, at_word, behind, first, inside, maybe_nowait, name, past_sign, skip_key,
+    skip_sign, skip_word, taken,
 };

@@ -3,7 +3,7 @@
 ghost use Rattle.std.specs.Prelude.{◌≡◌, ◌≤◌, length, IfOk, Some, None, MatchOption};
 ghost use Rattle.sql_grammar.specs.Tokens.{Sign};
 ghost use Rattle.sql_grammar.specs.Lexing.{key_of, other_of, view, view_token, views};
-ghost use Rattle.sql_grammar.specs.Reading.{first, rest, at, skip, taken, the, name, inside};
+ghost use Rattle.sql_grammar.specs.Reading.{first, rest, at, skip, taken, the, name, inside, maybe_nowait};
 ghost use Rattle.sql_grammar.specs.Views.{Gives, Passed};
 
 use lock_modes::Text;
@@ -137,5 +137,18 @@ pub fn taken<'a, 't, T: Drop>(
     match what {
         Some(x) => Ok((x, behind(tokens))),
         None => Err(Stop::At(Why::CannotStand, first(tokens))),
+    }
+}
+
+/// Whether NOWAIT stands here, and the tokens behind it.
+pub fn maybe_nowait<'a, 't>(tokens: &'t [Placed<'a>]) -> Result<(bool, &'t [Placed<'a>]), Stop<'a>>
+    ensures reads { Gives (λ x. (x.0, views x.1.now)) result (maybe_nowait (views tokens.now)) }
+    ensures shorter { IfOk result (λ x. length x.1.now ≤ length tokens.now) }
+{
+    if at_word(tokens, "nowait") {
+        let rest = skip_word(tokens, "nowait")?;
+        Ok((true, rest))
+    } else {
+        Ok((false, tokens))
     }
 }

@@ -12,6 +12,7 @@ use Rattle.sql_statements.specs.declared.condition.Condition.{Condition}
 use Rattle.sql_statements.specs.declared.statement.Assignment.{Assignment}
 use Rattle.sql_statements.specs.declared.statement.SortKey.{SortKey}
 use Rattle.sql_statements.specs.declared.statement.Output.{Output}
+use Rattle.sql_statements.specs.declared.statement.RowLock.{RowLock}
 use Rattle.sql_statements.specs.declared.statement.Bound.TheVariants.{Select, Insert, Update, Delete, Begin, Commit, Rollback, Lock, SetVariable}
 use Rattle.row_tables.specs.Layers.{Layers, IsOnlyWriterAt}
 use Rattle.row_effects.specs.Effect.{Effect, Gives, Faults, effect, matching, shown, sorted_by, all_assigned, placed, numbered, next_number, or_fault}
@@ -44,10 +45,10 @@ and-true true = refl
 and-true false = refl
 
 module _ (rows : Rows') where
-  pub effect-select : (t : ℕ) (key : Option Value) (c : Condition) (by : List SortKey) (out : Output) → effect (Select t key c by out) rows
+  pub effect-select : (t : ℕ) (key : Option Value) (c : Condition) (by : List SortKey) (out : Output) (l : RowLock) → effect (Select t key c by out l) rows
       ≡ selected by out (matching c (named t key rows))
   unfolding effect
-  effect-select t key c by out = matched-selected by out (matching c (named t key rows))
+  effect-select t key c by out l = matched-selected by out (matching c (named t key rows))
 
   pub effect-update : (t : ℕ) (key : Option Value) (sets : List Assignment) (c : Condition) → effect (Update t key sets c) rows
       ≡ updated sets (matching c (named t key rows))
@@ -67,9 +68,9 @@ module _ (rows : Rows') where
   unfolding effect
   effect-numbered t new = λ i. counted Inserted (numbered t (next_number 1 (entries (keep (λ p. and-true (p.0 == t) i) rows))) new)
 
-  pub effect-locked : (t : ℕ) (m : Mode) → effect (Lock t m) rows ≡ Gives (Locked ∷ []) []
+  pub effect-locked : (t : ℕ) (m : Mode) (n : Bool) → effect (Lock t m n) rows ≡ Gives (Locked ∷ []) []
   unfolding effect
-  effect-locked t m = refl
+  effect-locked t m n = refl
 
   pub effect-set : effect SetVariable rows ≡ Gives (Set ∷ []) []
   unfolding effect

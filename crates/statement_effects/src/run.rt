@@ -44,7 +44,7 @@ fn given(alloc: Global, statement: &Bound, session: u8, store: &Store) -> Result
     ensures { IfOk result (λ given. effect_at given ≡ effect statement.now (sight session store.now)) }
 {
     match statement {
-        Bound::Select(table, key, condition, order, output) => {
+        Bound::Select(table, key, condition, order, output, _) => {
             let found = matching(alloc, store, session, *table, key.as_ref(), condition)?;
             selected(alloc, order.as_slice(), output, found)
         }
@@ -60,7 +60,7 @@ fn given(alloc: Global, statement: &Bound, session: u8, store: &Store) -> Result
             let found = matching(alloc, store, session, *table, key.as_ref(), condition)?;
             deleted(alloc, found)
         }
-        Bound::Lock(_, _) => telling(alloc, Event::Locked, Writes::new(alloc)),
+        Bound::Lock(_, _, _) => telling(alloc, Event::Locked, Writes::new(alloc)),
         Bound::SetVariable => telling(alloc, Event::Set, Writes::new(alloc)),
         Bound::Begin | Bound::Commit | Bound::Rollback => Ok(nothing(alloc)),
     }

@@ -16,7 +16,7 @@ use Rattle.lock_modes.specs.declared.value.Value.TheVariants.{Int, Text}
 use Rattle.transcripts.specs.declared.event.Warning.{Warning}
 use Rattle.transcripts.specs.declared.event.Warning.TheVariants.{InBlock, NoBlock}
 use Rattle.transcripts.specs.declared.event.Fault.{Fault}
-use Rattle.transcripts.specs.declared.event.Fault.TheVariants.{Duplicate, OutOfRange, Deadlock, Aborted}
+use Rattle.transcripts.specs.declared.event.Fault.TheVariants.{Duplicate, OutOfRange, Deadlock, Aborted, Unavailable}
 use Rattle.transcripts.specs.declared.event.Event.{Event}
 use Rattle.transcripts.specs.declared.event.Event.TheVariants.{Sent, Row, Rows, Inserted, Updated, Deleted, Began, Committed, RolledBack, Locked, Set, Warned}
 use Rattle.transcripts.specs.declared.event.Event.TheVariants.{Failed, Waiting, Resumed, Done, NotSent}
@@ -111,7 +111,7 @@ warning_by : ℕ → Warning
 warning_by n = cond (n == 1) InBlock NoBlock
 
 fault_by : ℕ → Fault
-fault_by n = cond (n == 1) Duplicate (cond (n == 2) OutOfRange (cond (n == 3) Deadlock Aborted))
+fault_by n = cond (n == 1) Duplicate (cond (n == 2) OutOfRange (cond (n == 3) Deadlock (cond (n == 4) Aborted Unavailable)))
 
 -- the event of these parts
 pub event_from : ℕ → ℕ → List Value → Event
@@ -153,6 +153,7 @@ rebuilt (Failed Duplicate) = refl
 rebuilt (Failed OutOfRange) = refl
 rebuilt (Failed Deadlock) = refl
 rebuilt (Failed Aborted) = refl
+rebuilt (Failed Unavailable) = refl
 rebuilt Waiting = refl
 rebuilt Resumed = refl
 rebuilt Done = refl

@@ -1,7 +1,7 @@
 -- The numbers that stand for warnings and faults in JSON texts.
 use Rattle.std.specs.Prelude.{ℕ}
 use Rattle.transcripts.specs.declared.event.Fault.{Fault}
-use Rattle.transcripts.specs.declared.event.Fault.TheVariants.{Duplicate, OutOfRange, Deadlock, Aborted}
+use Rattle.transcripts.specs.declared.event.Fault.TheVariants.{Duplicate, OutOfRange, Deadlock, Aborted, Unavailable}
 use Rattle.transcripts.specs.declared.event.Warning.{Warning}
 use Rattle.transcripts.specs.declared.event.Warning.TheVariants.{InBlock, NoBlock}
 
@@ -14,3 +14,4 @@ fault_number Duplicate = 1
 fault_number OutOfRange = 2
 fault_number Deadlock = 3
 fault_number Aborted = 4
+fault_number Unavailable = 5

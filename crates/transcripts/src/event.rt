@@ -13,6 +13,8 @@ pub enum Fault {
     Deadlock,
     /// The transaction block has failed before.
     Aborted,
+    /// The request may not be had at once, and its statement does not wait.
+    Unavailable,
 }
 
 /// What a session is warned of.

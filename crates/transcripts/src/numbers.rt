@@ -15,7 +15,7 @@ pub fn warning_number(warning: Warning) -> u8
     }
 }
 
-/// The number that stands for a fault, from 1 to 4 in the order of `Fault`.
+/// The number that stands for a fault, from 1 to 5 in the order of `Fault`.
 pub fn fault_number(fault: Fault) -> u8
     ensures { result ≡ fault_number fault }
 {
@@ -24,5 +24,6 @@ pub fn fault_number(fault: Fault) -> u8
         Fault::OutOfRange => 2,
         Fault::Deadlock => 3,
         Fault::Aborted => 4,
+        Fault::Unavailable => 5,
     }
 }

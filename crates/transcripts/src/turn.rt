@@ -9,7 +9,7 @@ use std::alloc::{AllocError, Global};
 use std::marker::Model;
 use std::rc::Rc;
 
-/// No more turns than these stand behind one another, since letting go of them goes as deep. A session that sends 24 steps, each of which waits
+/// No more turns than these stand behind one another, since letting go of them goes as deep. A session that sends 28 steps, each of which waits
 /// three times, has half as many.
 const MAX_TURNS: u8 = 200;
 

@@ -3,7 +3,7 @@ use Rattle.std.proofs.lemmas.List.{drop_all, append-nil}
 use Rattle.std.proofs.lemmas.List.Elements.{All-nil, All-push}
 use Rattle.bound_specs.specs.Spec.{line}
 use Rattle.bound_specs.specs.Walking.{queues_at}
-use Rattle.bound_specs.proofs.WalkLemmas.{six-zeros, queues_at-start, walk-takes, walk-skips}
+use Rattle.bound_specs.proofs.WalkLemmas.{eight-zeros, queues_at-start, walk-takes, walk-skips}
 use Rattle.bound_specs.proofs.walking.line_of_word.Goals as goal
 use Rattle.bound_specs.proofs.walking.line_of_word.Goals.{in-Some, in_default}
 
@@ -11,7 +11,7 @@ pub loop-letter-init : goal.loop-letter-init
 loop-letter-init c =
     rw c.new-line.ensures
     (record {
-      so_far = ap (λ q. line q c.args.word.now) (queues_at-start c.args.steps.now 0 c.args.sessions _ six-zeros);
+      so_far = ap (λ q. line q c.args.word.now) (queues_at-start c.args.steps.now 0 c.args.sessions _ eight-zeros);
       short = omega arith;
       known = All-nil (λ k. k < length c.args.steps.now);
     })

@@ -14,11 +14,11 @@ works-else st (inr is) other = is
 works-else Begin (inl is) other = absurd (other refl)
 works-else Commit (inl is) other = cc
 works-else Rollback (inl is) other = cc
-works-else (Select t key w by out) (inl is) other = cc
+works-else (Select t key w by out l) (inl is) other = cc
 works-else (Insert t key new) (inl is) other = cc
 works-else (Update t key sets w) (inl is) other = cc
 works-else (Delete t key w) (inl is) other = cc
-works-else (Lock t m) (inl is) other = cc
+works-else (Lock t m n) (inl is) other = cc
 works-else SetVariable (inl is) other = cc
 
 -- three facts of one answer

@@ -3,5 +3,5 @@ use Rattle.sql_binding.proofs.queries.select_rows.Goals as goal
 
 pub returns-in_err-key : goal.returns-in_err-key
 returns-in_err-key c =
-    let refused = c.selected_key.ensures c.args.number c.args.order in
+    let refused = c.selected_key.ensures c.args.number c.args.order c.args.lock in
     search rules

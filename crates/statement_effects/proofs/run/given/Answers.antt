@@ -18,7 +18,7 @@ returns-in_ok-found-in-Select c =
     let is : selected c.as_slice.result.now s.output c.in_ok-found-in-Select.found ≡ effect c.args.statement.now rows =
     (λ i. selected (c.as_slice.ensures i) s.output ((c.in_ok-found-in-Select.ensures
     ∙ ap (λ o. matching s.condition (named s.table o rows)) c.as_ref.ensures.value) i))
-    ∙ sym (effect-select rows s.table s.key s.condition s.order s.output) ∙ ap (λ (st : Bound). effect st rows) (sym s.is) in
+    ∙ sym (effect-select rows s.table s.key s.condition s.order s.output s.field-5) ∙ ap (λ (st : Bound). effect st rows) (sym s.is) in
     subst (λ (e : Effect). IfOk c.selected.result (λ given. effect_at given ≡ e)) is c.selected.ensures
 
 pub returns-in_ok-found-in-Update : goal.returns-in_ok-found-in-Update
@@ -43,7 +43,7 @@ returns-in_ok-found-in-Delete c =
 pub returns-in-Lock : goal.returns-in-Lock
 returns-in-Lock c =
     subst (λ (e : Effect). IfOk c.telling.result (λ given. effect_at given ≡ e))
-    (ap (Gives (Locked ∷ [])) c.new.ensures ∙ sym (effect-locked (sight c.args.session c.args.store.now) c.in-Lock.field-0 c.in-Lock.field-1)
+    (ap (Gives (Locked ∷ [])) c.new.ensures ∙ sym (effect-locked (sight c.args.session c.args.store.now) c.in-Lock.field-0 c.in-Lock.field-1 c.in-Lock.field-2)
     ∙ ap (λ (st : Bound). effect st (sight c.args.session c.args.store.now)) (sym c.in-Lock.is))
     c.telling.ensures
 
