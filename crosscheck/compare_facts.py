@@ -21,7 +21,7 @@ from refusal import Refusal
 from spec_file import read_spec
 
 MOST_RANKS = 150
-WORDS = ['"ran"', '"swap"', '"waiting"', '"notsent"', *[f'["failed",{kind}]' for kind in range(1, 5)]]
+WORDS = ['"ran"', '"swap"', '"waiting"', '"notsent"', *[f'["failed",{kind}]' for kind in range(1, 6)]]
 WORDS += ['["warned",1]', '["warned",2]']
 
 

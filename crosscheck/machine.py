@@ -19,7 +19,7 @@ GO_TOGETHER = {
     "SIX": {"IS"},
     "X": set(),
 }
-DUPLICATE, OUT_OF_RANGE, DEADLOCK, ABORTED = FAULTS = [("failed", number) for number in range(1, 5)]
+DUPLICATE, OUT_OF_RANGE, DEADLOCK, ABORTED, UNAVAILABLE = FAULTS = [("failed", number) for number in range(1, 6)]
 IN_BLOCK_ALREADY, NO_BLOCK = ("warned", 1), ("warned", 2)
 # An event is a word, or a word and a number or the values of a row, as in the value of an outcome. The lines of some:
 LINES = {
@@ -29,6 +29,7 @@ LINES = {
     OUT_OF_RANGE: "error: integer out of range",
     DEADLOCK: "error: deadlock",
     ABORTED: "error: transaction is aborted",
+    UNAVAILABLE: "error: lock not available",
     IN_BLOCK_ALREADY: "warning: already in a transaction block",
     NO_BLOCK: "warning: no transaction block",
 }
@@ -94,11 +95,16 @@ def plan(tables, statement):
             return [((name,), "X")]
         key = table.columns.index(table.key)
         return [((name,), "IX")] + [((name, row[key]), "X") for row in rows_of(table, statement)]
-    on_table, on_row, alone = ("IS", "S", "S") if isinstance(statement, Select) else ("IX", "X", "X")
+    only_reads = isinstance(statement, Select) and statement.locks != "update"
+    on_table, on_row, alone = ("IS", "S", "S") if only_reads else ("IX", "X", "X")
     keys = key_part(table, statement.where)
     if keys:
         return [((name,), on_table), ((name, keys[0]), on_row)]
     return [((name,), alone)]
+
+
+def refuses_to_wait(statement):
+    return isinstance(statement, Select | Lock) and statement.nowait
 
 
 def in_range(number):
@@ -358,6 +364,8 @@ class World:
                     self.hold(wait)
                     member.requests += 1
                     continue
+                if refuses_to_wait(statement):
+                    return self.fail(session, UNAVAILABLE)
                 self.waits.append(wait)
                 if self.is_in_ring(session):
                     self.waits.pop()

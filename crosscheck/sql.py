@@ -93,6 +93,8 @@ class Select:
     aggregates: list | None  # a column's name for its sum, None for the count
     where: object
     order: list
+    locks: str | None  # "update" or "share", which it is for
+    nowait: bool
 
 
 @dataclass
@@ -112,6 +114,7 @@ class Delete:
 class Lock:
     table: str
     mode: str
+    nowait: bool
 
 
 @dataclass
@@ -348,7 +351,12 @@ class Reader(Tokens):
         if self.take_if("order"):
             self.word("by")
             order = self.listed(lambda _number: self.sort_key())
-        return Select(table, columns, aggregates, where, order)
+        # Aggregates show no row that could be locked: behind them FOR cannot stand.
+        locks = self.word("update", "share") if aggregates is None and self.take_if("for") else None
+        return Select(table, columns, aggregates, where, order, locks, locks is not None and self.nowait())
+
+    def nowait(self):
+        return self.take_if("nowait") is not None
 
     def is_before(self, sign):
         return token_at(self.text, self.peek().end).kind == sign
@@ -408,8 +416,10 @@ class Reader(Tokens):
     def lock(self):
         self.take_if("table")
         table = self.name()
-        if not self.take_if("in"):
-            return Lock(table, "X")
+        mode = self.lock_mode() if self.take_if("in") else "X"
+        return Lock(table, mode, self.nowait())
+
+    def lock_mode(self):
         word = self.word("access", "row", "share", "exclusive")
         if word in ("access", "row"):
             second = self.word("share", "exclusive")
@@ -422,7 +432,7 @@ class Reader(Tokens):
         else:
             mode = "S"
         self.word("mode")
-        return Lock(table, mode)
+        return mode
 
     def setting(self):
         """LOCAL and SESSION may be the name that is set. The reading that gets further decides."""

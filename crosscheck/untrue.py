@@ -31,7 +31,7 @@ def any_event(random, spec, session):
     row = random.sample(shown, random.randrange(4))
     counts = [[word, random.choice([0, 1, U64 - 1])] for word in ("rows", "inserted", "updated", "deleted")]
     plain = ["began", "committed", "rolledback", "locked", "set", "waiting", "resumed", "done"]
-    numbered = [["warned", random.randint(1, 2)], ["failed", random.randint(1, 4)], ["sent", step], ["notsent", step]]
+    numbered = [["warned", random.randint(1, 2)], ["failed", random.randint(1, 5)], ["sent", step], ["notsent", step]]
     return random.choice([*plain, *counts, *numbered, ["row", row], ["row", row]])
 
 
