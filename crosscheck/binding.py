@@ -8,9 +8,10 @@ import sql
 from refusal import Refusal
 from sql import All, Any, Column, Compare, Create, Delete, Insert, Lock, Not, Select, Sum, Update
 
-MAX_SESSIONS = 6
-MAX_STEPS = 24
+MAX_SESSIONS = 8
+MAX_STEPS = 28
 MAX_STEPS_WITH_LINES = 255
+TOO_MANY_RANKS = 2**63
 
 
 class Kind(IntEnum):
@@ -21,6 +22,13 @@ class Kind(IntEnum):
     DUPLICATE_TABLE = 6
     WRONG_COUNT = 7
     SHAPE = 8
+
+
+class ShapeKind(IntEnum):
+    EMPTY = 1
+    TOO_MANY_SESSIONS = 2
+    TOO_MANY_STEPS = 3
+    TOO_MANY_RANKS = 4
 
 
 @dataclass
@@ -76,6 +84,25 @@ def words(counts):
     for count in counts:
         number //= factorial(count)
     return number
+
+
+def shape_fault(counts):
+    """Why no words are ranked that have so many of each letter, if they are not."""
+    if not counts or 0 in counts:
+        return ShapeKind.EMPTY
+    if len(counts) > MAX_SESSIONS:
+        return ShapeKind.TOO_MANY_SESSIONS
+    if sum(counts) > MAX_STEPS:
+        return ShapeKind.TOO_MANY_STEPS
+    return ShapeKind.TOO_MANY_RANKS if words(counts) >= TOO_MANY_RANKS else None
+
+
+def has_shape(text):
+    """Whether a file has not too many sessions and steps, and where its words are ranked not too many of these."""
+    counts = [len(session.steps) for session in text.sessions]
+    if text.has_lines:
+        return len(counts) <= MAX_SESSIONS and sum(counts) <= MAX_STEPS_WITH_LINES
+    return shape_fault(counts) is None
 
 
 def is_text(value):
@@ -214,9 +241,7 @@ def bound(tables, block, declares):
 
 def bind(text):
     """The spec of a file that was read."""
-    steps = sum(len(session.steps) for session in text.sessions)
-    most = MAX_STEPS_WITH_LINES if text.has_lines else MAX_STEPS
-    if len(text.sessions) > MAX_SESSIONS or steps > most:
+    if not has_shape(text):
         raise Refusal("bind", int(Kind.SHAPE), 0)
     tables = {}
     spec = Spec(tables, [bound(tables, block, True) for block in text.setups], [], [], [])

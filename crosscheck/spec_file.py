@@ -7,7 +7,7 @@ from refusal import Refusal
 from tokens import Token, Tokens, is_digit, past_blanks, run_end
 
 MAX_BYTES = 65536
-MAX_ITEMS = 24
+MAX_ITEMS = 28
 MAX_LINES = 4096
 KEYWORDS = {"notices", "permutation", "session", "setup", "step", "teardown"}
 
