@@ -2,13 +2,16 @@
 
 import sys
 
-from binding import bind
+from binding import ShapeKind, bind, shape_fault, words
 from book_file import Kind, NoBook, read_book, text_in_format_1
 from books import answer as book_answer
 from books import book_text, compact, facts_of, leads_to, missing, report
 from facts import Worlds, answer, are_quiet, fact, fact_line, runs, sent, swap_covers, swapped, swaps, word_of
-from machine import outcome_text
+from machine import outcome_text, plan
+from refusal import Refusal
 from spec_file import read_spec
+from sql import Kind as SqlKind
+from sql import Lock, Select, read_sql
 
 ROWS = "setup { CREATE TABLE t (id int PRIMARY KEY, v int); INSERT INTO t VALUES (1, 10), (2, 20); }\n"
 INSERT_AND_READ = ROWS + """
@@ -42,8 +45,37 @@ session b setup { BEGIN; } step b1 { LOCK u; } step b2 { SELECT * FROM t WHERE i
 session c setup { BEGIN; } step c1 { SELECT * FROM u; } step c2 {}
 session d setup { BEGIN; } step d1 { SET x = 1; LOCK t; } step d2 {}
 """
+LOCKED_ROW = ROWS + """
+session a setup { BEGIN; } step a1 { SELECT v FROM t WHERE id = 1 FOR UPDATE; } step a2 { COMMIT; }
+session b setup { BEGIN; } step b1 { SELECT v FROM t WHERE id = 1 FOR SHARE NOWAIT; } step b2 { COMMIT; }
+"""
+SHARED_ROW = LOCKED_ROW.replace("FOR UPDATE", "FOR SHARE")
+REFUSED_LOCKS = ROWS + """
+session a setup { BEGIN; } step a1 { LOCK t IN SHARE MODE; } step a2 { LOCK t NOWAIT; } step a3 { COMMIT; }
+session b setup { BEGIN; } step b1 { LOCK t NOWAIT; } step b2 { LOCK t; } step b3 { SELECT * FROM t FOR UPDATE; } step b4 { LOCK t NOWAIT; }
+session c setup { BEGIN; } step c1 { LOCK t IN ACCESS SHARE MODE; } step c2 { LOCK t IN ACCESS SHARE MODE NOWAIT; }
+"""
+RING_OF_ROWS = ROWS + """
+session a setup { BEGIN; } step a1 { SELECT * FROM t WHERE id = 1 FOR UPDATE; } step a2 { SELECT * FROM t WHERE id = 2 FOR SHARE; }
+session b setup { BEGIN; } step b1 { SELECT * FROM t WHERE id = 2 FOR UPDATE; } step b2 { SELECT * FROM t WHERE id = 1 FOR UPDATE; }
+"""
+NO_RING = RING_OF_ROWS.replace("WHERE id = 1 FOR UPDATE; }\n", "WHERE id = 1 FOR UPDATE NOWAIT; }\n")
+PLAIN_WORDS = """
+setup { CREATE TABLE for (update int PRIMARY KEY, nowait int, share text); INSERT INTO for VALUES (1, 2, 'x'), (2, 1, 'y'); }
+session for step update { SELECT nowait, share FROM for WHERE update > 0 ORDER BY nowait FOR UPDATE NOWAIT; }
+session nowait step share { LOCK for NOWAIT; LOCK TABLE for IN SHARE MODE NOWAIT; SELECT update FROM for FOR SHARE; }
+"""
 TWO_ROWS = ONE_ROW.replace("v + 10 WHERE id = 1", "v + 10 WHERE id = 2")
-LARGE = "".join(f"session s{place} " + "".join(f"step s{place}_{step} {{}} " for step in range(4)) for place in range(6))
+
+
+def empty_steps(counts):
+    """A spec whose sessions have so many empty steps."""
+    steps = ("".join(f"step s{place}_{step} {{}} " for step in range(count)) for place, count in enumerate(counts))
+    return "".join(f"session s{place} {told}" for place, told in enumerate(steps))
+
+
+# As many sessions and steps as there may be, with nearly as many ranks.
+LARGE = empty_steps([2, 8, 3, 1, 6, 2, 4, 2])
 EMPTY_STEP = "session a step s {}"
 EMPTY_BOOK = '{"facts":[[0,1,"ran",0]],"format":2,"outcomes":[[[["sent",0],"done"]]],"spec":"session a step s {}"}\n'
 FALLING_LINE = EMPTY_STEP + " session b step r {} permutation r s permutation r s s"
@@ -260,9 +292,138 @@ def of_runs_in_files():
     yield "a swap where letters rise", read(text.replace('[1,1,"swap",1]', '[1,1,"swap",0]')), Kind.BAD_SWAP
 
 
+def place_of_refusal(function, text):
+    """Who refuses a text, with which number and where; or nothing."""
+    try:
+        function(text)
+    except Refusal as refusal:
+        return refusal.by, refusal.kind, refusal.place
+    return None
+
+
+def of_locked_rows():
+    worlds = worlds_of(LOCKED_ROW)
+    yield "rank 0, session b", transcript(worlds, 0, 1), "step b1/row 10/rows 1/done/step b2/committed/done"
+    yield "rank 1, session a", transcript(worlds, 1, 0), "step a1/row 10/rows 1/done/step a2/committed/done"
+    refused = "step b1/error: lock not available/done/step b2/rolled back/done"
+    yield "rank 1, session b", transcript(worlds, 1, 1), refused
+    yield "rank 1 is run", kinds(worlds, [1]), ["ran"]
+    yield "its value", compact(worlds.outcome(1)[1][:3]), '[["sent",2],["failed",5],"done"]'
+    yield "two that share are quiet", kinds(worlds_of(SHARED_ROW), [1]), [("swap", 1)]
+
+
+def after(worlds, front, session):
+    """A session's lines after steps, with a stroke between them."""
+    world = worlds.after([worlds.spec.step_names.index(name) for name in front.split()])
+    told = [member.transcript if place == session else [] for place, member in enumerate(world.members[:-1])]
+    return "/".join(line.strip() for line in outcome_text(worlds.spec, told).decode().split("\n") if line.startswith("  "))
+
+
+def of_refused_locks():
+    worlds = worlds_of(REFUSED_LOCKS)
+    yield "a lock that is refused", after(worlds, "a1 b1", 1), "step b1/error: lock not available/done"
+    yield "nobody waits behind it", after(worlds, "a1 b1 c1", 2), "step c1/locked/done"
+    yield "a waiter is not passed", after(worlds, "a1 b2 c2", 2), "step c2/error: lock not available/done"
+    yield "but by who holds the table", after(worlds, "a1 b2 a2", 0), "step a1/locked/done/step a2/locked/done"
+    yield "a conversion is refused", after(worlds, "a1 c1 a2", 0), "step a1/locked/done/step a2/error: lock not available/done"
+    yield "what it held is let go", after(worlds, "a1 c1 b2 a2 c2", 2), "step c1/locked/done/step c2/locked/done"
+    yield "who waited goes on", after(worlds, "c1 a1 b2 a2", 1), "step b2/waiting"
+    yield "rows to be updated, of a whole table", after(worlds, "a1 b3 a3", 1), "step b3/waiting/resumed/row 1|10/row 2|20/rows 2/done"
+    yield "a failed block asks for nothing", after(worlds, "a1 b1 b4", 1), "step b1/error: lock not available/done/step b4/error: transaction is aborted/done"
+    yield "who waits is not sent", after(worlds, "a1 b2 b1", 1), "step b2/waiting/not sent b1"
+
+
+def of_rings_of_locked_rows():
+    ring, refused = "step b2/error: deadlock/done", "step b2/error: lock not available/done"
+    for text, told in ((RING_OF_ROWS, ring), (NO_RING, refused)):
+        worlds = worlds_of(text)
+        yield "session b", after(worlds, "a1 b1 a2 b2", 1), f"step b1/row 2|20/rows 1/done/{told}"
+        yield "session a", after(worlds, "a1 b1 a2 b2", 0), "step a1/row 1|10/rows 1/done/step a2/waiting/resumed/row 2|20/rows 1/done"
+
+
+def of_refused_setups():
+    held = ROWS + "session a setup { BEGIN; SELECT * FROM t WHERE id = 1 FOR UPDATE; } step s {}"
+    for setup, refusal in (("LOCK t NOWAIT;", 2), ("LOCK t;", 3), ("SELECT * FROM t FOR SHARE NOWAIT;", 2), ("SELECT * FROM t;", 3)):
+        text = f"{held} session b setup {{ {setup} }} step r {{}}"
+        yield setup, place_of_refusal(worlds_of, text), ("start", refusal, 1)
+
+
+def of_plans():
+    spec = worlds_of(ROWS.replace("}", "CREATE TABLE n (a int, b int); }") + EMPTY_STEP).spec
+    row, table = [(("t",), "IX"), (("t", 2), "X")], [(("t",), "X")]
+    for select, asked in (
+        ("SELECT v FROM t WHERE id = 2 FOR UPDATE", row),
+        ("SELECT v FROM t WHERE v > 0 AND id = 2 ORDER BY v FOR UPDATE NOWAIT", row),
+        ("SELECT v FROM t WHERE 2 = id FOR UPDATE", table),
+        ("SELECT v FROM t FOR UPDATE NOWAIT", table),
+        ("SELECT a FROM n WHERE a = 2 FOR UPDATE", [(("n",), "X")]),
+        ("SELECT v FROM t WHERE id = 2 FOR SHARE", [(("t",), "IS"), (("t", 2), "S")]),
+        ("SELECT v FROM t FOR SHARE NOWAIT", [(("t",), "S")]),
+        ("LOCK t IN ROW EXCLUSIVE MODE NOWAIT", [(("t",), "IX")]),
+        ("LOCK TABLE t NOWAIT", table),
+    ):
+        yield select, plan(spec.tables, read_sql(select.encode())[0]), asked
+
+
+def of_words_that_lock():
+    worlds = worlds_of(PLAIN_WORDS)
+    yield "session for", transcript(worlds, 0, 0), "step update/row 1|'y'/row 2|'x'/rows 2/done"
+    yield "session nowait", transcript(worlds, 0, 1), "step share/locked/locked/row 1/row 2/rows 2/done"
+    read = [read_sql(text)[0] for text in (b"lock nowait nowait", b"LOCK nowait", b"SELECT for FROM for FOR SHARE", b"SELECT for FROM for")]
+    told = [Lock("nowait", "X", True), Lock("nowait", "X", False)]
+    told += [Select("for", ["for"], None, None, [], locks, False) for locks in ("share", None)]
+    yield "names and words", read, told
+    for text, stops in (
+        ("SELECT count(*) FROM t FOR UPDATE", "FOR"),
+        ("SELECT sum(v) FROM t WHERE id = 1 ORDER BY v FOR SHARE NOWAIT", "FOR"),
+        ("SELECT v FROM t NOWAIT", "NOWAIT"),
+        ("SELECT v FROM t FOR NOWAIT", "NOWAIT"),
+        ("SELECT v FROM t FOR UPDATE SHARE", "SHARE"),
+        ("SELECT v FROM t FOR SHARE WHERE id = 1", "WHERE"),
+        ("SELECT v FROM t FOR UPDATE ORDER BY v", "ORDER"),
+        ("SELECT v FROM t ORDER BY FOR UPDATE", "UPDATE"),
+        ("UPDATE t SET v = 1 FOR UPDATE", "FOR"),
+        ("DELETE FROM t NOWAIT", "NOWAIT"),
+        ("LOCK t NOWAIT IN SHARE MODE", "IN"),
+        ("LOCK t IN NOWAIT MODE", "NOWAIT"),
+        ("LOCK t FOR UPDATE", "FOR"),
+    ):
+        yield text, place_of_refusal(read_sql, text.encode()), ("sql", SqlKind.SYNTAX, text.index(stops))
+    for text in ("SELECT v FROM t FOR", "LOCK t IN SHARE"):
+        yield text, place_of_refusal(read_sql, text.encode()), ("sql", SqlKind.SYNTAX, len(text))
+    yield "no statement", place_of_refusal(read_sql, b"NOWAIT"), ("sql", SqlKind.UNSUPPORTED, 0)
+
+
+def of_shapes():
+    numbers = {(2, 2): 6, (3,): 1, (24, 1): 25, (14, 14): 40116600, (28,): 1, (1,) * 8: 40320, (2,) * 8: 81729648000}
+    numbers |= {(4,) * 6: 3246670537110000, (3,) * 8: 369398958888960000, (8, 6, 4, 3, 2, 2, 2, 1): 9116650868204880000}
+    for counts, number in numbers.items():
+        yield f"words of {counts}", (words(counts), shape_fault(counts)), (number, None)
+        yield f"ranks of {counts}", worlds_of(empty_steps(counts)).spec.ranks(), number
+    refused = {(): ShapeKind.EMPTY, (1, 0): ShapeKind.EMPTY, (1,) * 9: ShapeKind.TOO_MANY_SESSIONS, (28, 1): ShapeKind.TOO_MANY_STEPS}
+    refused |= {(4,) * 7: ShapeKind.TOO_MANY_RANKS, (7, 7, 3, 3, 3, 3, 1, 1): ShapeKind.TOO_MANY_RANKS}
+    refused |= {(4,) * 8: ShapeKind.TOO_MANY_STEPS, (4,) * 9: ShapeKind.TOO_MANY_SESSIONS}
+    for counts, kind in refused.items():
+        yield f"no words of {counts}", shape_fault(counts), kind
+        if kind != ShapeKind.EMPTY:
+            yield f"no spec of {counts}", place_of_refusal(worlds_of, empty_steps(counts)), ("bind", 8, 0)
+    yield "the last word of six times four", word_of(worlds_of(empty_steps([4] * 6)).spec, 3246670537110000 - 1), sorted([*range(6)] * 4)[::-1]
+    yield "the last word of the largest", word_of(worlds_of(LARGE).spec, 9116650868204880000 - 1), [7] * 2 + [6] * 4 + [5] * 2 + [4] * 6 + [3] + [2] * 3 + [1] * 8 + [0] * 2
+
+
+def of_lines_of_many_steps():
+    line = EMPTY_STEP + " permutation" + " s" * 28
+    yield "a line of 28 items", len(worlds_of(line).outcome(0)[0]), 56
+    yield "the 29th", place_of_refusal(worlds_of, line + " x"), ("spec", 9, len(line) + 1)
+    for counts, refusal in (((4,) * 7, None), ((1,) * 9, ("bind", 8, 0)), ((128, 127), None), ((128, 128), ("bind", 8, 0))):
+        yield f"lines of {counts}", place_of_refusal(worlds_of, empty_steps(counts) + "permutation s0_0"), refusal
+
+
 def main():
     examples = [of_insert_and_read, of_one_line, of_one_row, of_readers_and_a_writer, of_two_tables]
     examples += [of_two_rows, of_waits_aside, of_an_empty_step, of_a_falling_line]
+    examples += [of_locked_rows, of_refused_locks, of_rings_of_locked_rows, of_refused_setups, of_plans, of_words_that_lock]
+    examples += [of_shapes, of_lines_of_many_steps]
     examples += [of_books, of_books_of_two_ranks, of_false_books, of_book_files, of_runs_in_files]
     compared = differences = 0
     for example in examples:
