@@ -1,7 +1,10 @@
 """Makes spec files from a seed: any statements, sessions that hinder one another, and texts with something wrong in them."""
 
 import re
+from functools import cache
 from random import Random
+
+from binding import words
 
 BIG = ["9223372036854775807", "-9223372036854775808", "4611686018427387904", "3037000500"]
 TEXTS = ["''", "'a'", "'b'", "'aa'", "'A'", "'it''s'", "''''", "'é'", "'a|b'", "'\n'"]
@@ -15,6 +18,16 @@ LOCK_MODES = [
     "EXCLUSIVE",
     "ACCESS EXCLUSIVE",
 ]
+# Words that mean something at the end of a statement, and that may be names everywhere.
+LOCK_WORDS = ["for", "nowait", "update", "share"]
+ROW_LOCKS = [" FOR UPDATE", " FOR UPDATE", " FOR UPDATE", " for update", " FOR SHARE", " For Share"]
+ROW_LOCKS += [" FOR UPDATE NOWAIT", " for update nowait", " FOR SHARE NOWAIT", "\nfor share\nNoWait"]
+# How a SELECT does not end.
+NO_ROW_LOCKS = [" FOR", " NOWAIT", " FOR NOWAIT", " FOR UPDATE SHARE", " FOR SHARE NOWAIT NOWAIT", " FOR UPDATE FOR SHARE"]
+NO_ROW_LOCKS += [" FOR SHARE ORDER BY v", " FOR UPDATE WHERE v = 1", " ORDER BY FOR UPDATE", " FOR KEY SHARE", " FOR UPDATE OF t", " UPDATE"]
+NO_LOCKS = ["LOCK t NOWAIT IN SHARE MODE", "LOCK t IN NOWAIT MODE", "LOCK t IN SHARE NOWAIT", "LOCK t IN SHARE MODE NOWAIT NOWAIT"]
+NO_LOCKS += ["LOCK nowait", "LOCK TABLE NOWAIT NOWAIT", "LOCK NOWAIT t", "LOCK t FOR UPDATE", "NOWAIT", "FOR UPDATE"]
+NO_LOCKS += ["DELETE FROM t NOWAIT", "UPDATE t SET v = 1 FOR UPDATE", "INSERT INTO t VALUES (1, 'a', 2) NOWAIT", "COMMIT NOWAIT"]
 BEGINS = [
     "BEGIN",
     "BEGIN WORK",
@@ -29,10 +42,13 @@ SETTINGS = ["SET x = 1", "SET LOCAL a TO b", "SET SESSION a = 'q'", "SET local =
 MANY_STEPS = {2: [3, 4, 5], 3: [3, 3, 4], 4: [2, 3]}
 FEW_STEPS = {2: [2, 3, 4], 3: [1, 2, 2], 4: [1]}
 SESSION_NAMES = ["s{}", "session_{}", '"session {}"', '"step""{}"']
+MAX_SESSIONS, MAX_STEPS, TOO_MANY_RANKS = 8, 28, 2**63
+# So many shapes on either side of the limit are near it.
+NEAR_SHAPES = 6
 STRAY = (
     "select from where and or not ( ) , * = < - + 1 99999999999999999999 'a' ' \" { } # -- step session setup permutation "
     "teardown notices x t id v primary key table create insert into values begin commit lock in mode share set to local ; $ "
-    "\x0b é \u00a0 order by desc count sum s0_0 s1_0 isolation level"
+    "\x0b é \u00a0 order by desc count sum s0_0 s1_0 isolation level for FOR nowait NOWAIT update share"
 ).split(" ")
 
 
@@ -42,6 +58,22 @@ class Table:
 
     def of_type(self, is_text):
         return [name for name, text in self.columns if text == is_text]
+
+
+def falling(total, most, largest):
+    """The lists of at most so many numbers that do not rise, from the largest one down, and have this sum."""
+    if total == 0:
+        yield []
+    for first in range(min(total, largest), 0, -1) if most else []:
+        yield from ([first, *rest] for rest in falling(total - first, most - 1, first))
+
+
+@cache
+def large_shapes():
+    """Numbers of steps of sessions: those with so few ranks that they are a spec, and those with too many, by these numbers."""
+    shapes = [shape for steps in range(1, MAX_STEPS + 1) for shape in falling(steps, MAX_SESSIONS, steps)]
+    shapes.sort(key=words)
+    return tuple([shape for shape in shapes if (words(shape) < TOO_MANY_RANKS) == is_spec] for is_spec in (True, False))
 
 
 class Maker:
@@ -59,8 +91,12 @@ class Maker:
 
     # any statements
 
+    def names(self, plain, most):
+        """Some names, words of locks among them at times."""
+        return self.random.sample(plain + LOCK_WORDS * self.some(0.3), self.random.randint(1, most))
+
     def table(self, name):
-        names = self.random.sample(["id", "v", "w", "k", "x1", "count", "sum"], self.random.randint(1, 4))
+        names = self.names(["id", "v", "w", "k", "x1", "count", "sum"], 4)
         columns = [(column, self.some(0.25)) for column in names]
         return Table(name, columns, self.one([None] + names * 2))
 
@@ -126,12 +162,22 @@ class Maker:
         names = [name for name, _is_text in table.columns]
         totals = ["count(*)", "COUNT ( * )"] + [f"sum({name})" for name in table.of_type(False)]
         columns = self.many(2, lambda: self.one(names))
-        items = self.one([["*"], columns, columns, self.many(2, lambda: self.one(totals))])
+        has_totals = self.some(0.25)
+        items = self.many(2, lambda: self.one(totals)) if has_totals else self.one([["*"], columns, columns])
         order = ""
         if self.some(0.3):
             keys = self.many(2, lambda: self.one(names) + self.one(["", " ASC", " DESC", " desc"]))
             order = f" ORDER BY {', '.join(keys)}"
-        return f"SELECT {', '.join(items)} FROM {table.name}{self.where(table)}{order}"
+        # Behind totals a lock is a fault.
+        lock = self.row_lock(0.02 if has_totals else 0.45)
+        return f"SELECT {', '.join(items)} FROM {table.name}{self.where(table)}{order}{lock}"
+
+    def row_lock(self, chance):
+        return self.one(ROW_LOCKS) if self.some(chance) else ""
+
+    def lock(self, name, modes):
+        mode = self.one([""] * 2 + [f" IN {mode} MODE" for mode in modes])
+        return f"LOCK {self.one(['', 'TABLE '])}{name}{mode}{self.one(['', '', ' NOWAIT', ' nowait'])}"
 
     def update(self, table):
         others = [column for column in table.columns if column[0] != table.key]
@@ -143,7 +189,7 @@ class Maker:
 
     def statement(self, tables):
         table, kind = self.one(tables), self.random.random()
-        if kind < 0.26:
+        if kind < 0.28:
             return self.select(table)
         if kind < 0.48:
             return self.update(table)
@@ -152,8 +198,7 @@ class Maker:
         if kind < 0.72:
             return f"DELETE FROM {table.name}{self.where(table)}"
         if kind < 0.79:
-            mode = self.one([""] * 2 + [f" IN {mode} MODE" for mode in LOCK_MODES])
-            return f"LOCK {self.one(['', 'TABLE '])}{table.name}{mode}"
+            return self.lock(table.name, LOCK_MODES)
         return self.one(self.one([SETTINGS, BEGINS, BEGINS, COMMITS, COMMITS, ROLLBACKS]))
 
     def block(self, statements):
@@ -168,8 +213,7 @@ class Maker:
         return f"permutation {' '.join(items)}\n"
 
     def any_spec(self):
-        names = self.random.sample(["t", "u", "n", "p", "Tab_1"], self.random.randint(1, 3))
-        tables = [self.table(name) for name in names]
+        tables = [self.table(name) for name in self.names(["t", "u", "n", "p", "Tab_1"], 3)]
         creates = [self.create(table) for table in tables]
         fills = [self.insert(table) for table in tables for _ in range(self.random.randint(0, 2))]
         setups = [creates, fills] if self.some(0.2) else [creates + fills]
@@ -177,12 +221,13 @@ class Maker:
         made += "teardown { anything }\n" if self.some(0.1) else ""
         sessions, steps = self.one([1, 2, 2, 2, 3, 3, 4]), []
         for session in range(sessions):
-            made += f"session {self.one(SESSION_NAMES).format(session)}\n"
+            made += f"session {self.one([*SESSION_NAMES, LOCK_WORDS[session]]).format(session)}\n"
             if self.some(0.65):
                 setup = ["BEGIN"] * self.some(0.9) + [self.statement(tables) for _ in range(self.some(0.12))]
                 made += f"setup {self.block(setup)}\n"
             for number in range(self.one([1, 2] if sessions == 4 else [1, 2, 2, 3])):
-                steps.append(f"s{session}_{number}")
+                is_plain = number or self.some(0.8)
+                steps.append(f"s{session}_{number}" if is_plain else LOCK_WORDS[session])
                 statements = [self.statement(tables) for _ in range(self.one([0, 1, 1, 1, 1, 2, 2, 3]))]
                 made += f"step {steps[-1]} {self.block(statements)}\n"
         if self.some(0.25):
@@ -199,21 +244,29 @@ class Maker:
         other = {"t": " WHERE v > 15", "u": "", "n": " WHERE b = 2"}[table]
         row = {"t": f"({self.random.randint(1, 5)}, 0)", "u": f"('{self.one('abc')}', 7)", "n": "(5, 5)"}[table]
         total = {"t": "count(*), sum(v)", "u": "*", "n": "a"}[table]
-        if kind < 0.2:
-            return f"SELECT * FROM {table}{by_key}"
+        order = {"t": " ORDER BY v DESC", "u": " ORDER BY w, k", "n": " ORDER BY b DESC, a"}[table]
         if kind < 0.3:
-            return f"SELECT {total} FROM {table}"
+            return f"SELECT * FROM {table}{self.one([by_key] * 3 + [other])}{self.one(['', '', order])}{self.row_lock(0.7)}"
+        if kind < 0.36:
+            return f"SELECT {total} FROM {table}{'' if table == 't' else self.row_lock(0.5)}"
         if kind < 0.6:
             return f"UPDATE {table} SET {change}{by_key}"
-        if kind < 0.68:
+        if kind < 0.66:
             return f"UPDATE {table} SET {change}{other}"
-        if kind < 0.78:
+        if kind < 0.75:
             return f"INSERT INTO {table} VALUES {row}"
-        if kind < 0.86:
+        if kind < 0.83:
             return f"DELETE FROM {table}{by_key}"
-        return f"LOCK {table}" + self.one([""] + [f" IN {mode} MODE" for mode in LOCK_MODES[:5]])
+        return self.lock(table, LOCK_MODES[:5])
 
-    def hindering_spec(self, numbers=(2, 3, 3, 4), homes="", steps=MANY_STEPS):
+    def hindering_setup(self, locks):
+        """A session's setup. Where setups lock, some of them are refused."""
+        if not self.some(0.85):
+            return ""
+        lock = f" {self.one([self.lock('t', LOCK_MODES[:5]), f'SELECT * FROM t WHERE id = 1{self.one(ROW_LOCKS)}'])};"
+        return f"setup {{ BEGIN;{lock if locks and self.some(0.2) else ''} }}\n"
+
+    def hindering_spec(self, numbers=(2, 3, 3, 4), homes="", steps=MANY_STEPS, setups_lock=False):
         made = (
             "setup { CREATE TABLE t (id int PRIMARY KEY, v int); CREATE TABLE u (k text PRIMARY KEY, w int);\n"
             "  CREATE TABLE n (a int, b int); INSERT INTO t VALUES (1, 10), (2, 20), (3, 30);\n"
@@ -222,7 +275,7 @@ class Maker:
         sessions = self.one(numbers)
         for session in range(sessions):
             home = self.one(homes) if homes else None
-            made += f"session s{session}\n" + ("setup { BEGIN; }\n" if self.some(0.85) else "")
+            made += f"session s{session}\n{self.hindering_setup(setups_lock)}"
             last = self.one(steps[sessions]) - 1
             for number in range(last + 1):
                 statements = [self.hindering_statement(home) for _ in range(self.one([1, 1, 1, 2]))]
@@ -238,8 +291,8 @@ class Maker:
         return self.hindering_spec([4], "ttun")
 
     def few_spec(self):
-        """So few steps that one book has all their orders."""
-        return self.hindering_spec([2, 2, 3, 4], steps=FEW_STEPS)
+        """So few steps that one book has all their orders. Some sessions hold locks from the start."""
+        return self.hindering_spec([2, 2, 3, 4], steps=FEW_STEPS, setups_lock=True)
 
     # texts with something wrong in them
 
@@ -285,6 +338,9 @@ class Maker:
                 f"SELECT sum({column()}) FROM t ORDER BY {column()}",
                 f"DELETE FROM {self.one(['t', 'nowhere'])} WHERE {column()} = {self.any_value()}",
                 f"CREATE TABLE {self.one('tx')} ({self.one('ab')} int, {self.one('ab')} text, PRIMARY KEY (a))",
+                f"SELECT {self.one([column(), '*'])} FROM {self.one(['t', 'nowhere'])}{self.one(ROW_LOCKS)}",
+                f"SELECT {self.one(['id', 'id', 'count(*)'])} FROM t{self.one(ROW_LOCKS + NO_ROW_LOCKS)}",
+                self.one(NO_LOCKS),
             ]
         )
 
@@ -302,16 +358,32 @@ class Maker:
     def one_step(self, sql):
         return f"setup {{ CREATE TABLE t (id int PRIMARY KEY, v int); }} session a step s {{ {sql} }}"
 
+    def of_shape(self, counts, has_lines):
+        """Sessions with so many empty steps, in any order."""
+        made, steps = "", 0
+        for session, count in enumerate(self.random.sample(counts, len(counts))):
+            made += f"session a{session} {' '.join(f'step s{steps + step} {{}}' for step in range(count))}\n"
+            steps += count
+        return made + "permutation s1 s0\n" * has_lines
+
     def with_sessions(self):
-        return " ".join(f"session a{number} step s{number} {{}}" for number in range(self.near(6)))
+        return self.of_shape([self.one([1, 1, 2, 3])] * self.near(MAX_SESSIONS), self.some(0.3))
 
     def with_steps(self):
-        has_lines = self.some(0.5)
-        steps = " ".join(f"step s{number} {{}}" for number in range(self.near(255 if has_lines else 24)))
-        return f"session a {steps}" + " permutation s1 s0" * has_lines
+        has_lines, sessions = self.some(0.5), self.random.randint(1, 3)
+        steps = self.near(255 if has_lines else MAX_STEPS)
+        few = [self.random.randint(1, 9) for _ in range(sessions - 1)]
+        return self.of_shape([*few, steps - sum(few)], has_lines)
+
+    def with_ranks(self):
+        """As many ranks as there may be, some more or less, or far too many."""
+        fewer, more = large_shapes()
+        shapes = self.one([fewer[-NEAR_SHAPES:], fewer[-NEAR_SHAPES:], more[:NEAR_SHAPES], more[:NEAR_SHAPES], more])
+        return self.of_shape(self.one(shapes), self.some(0.15))
 
     def with_items(self):
-        return f"session a step s {{}} permutation {'s ' * self.near(24)} {self.one(['', 's', 'x', '('])}"
+        items = [self.one(["s"] * 8 + ["s(*)", "r(s notices 2)"]) for _ in range(self.near(28))]
+        return f"session a step s {{}} session b step r {{}} permutation {' '.join(items)} {self.one(['', '', '', 's', 'x', '('])}"
 
     def with_lines(self):
         return "session a step s {} " + "permutation s\n" * self.near(4096) + self.one(["", "permutation", "s", "x"])
@@ -323,7 +395,8 @@ class Maker:
     def with_levels(self):
         opened = [self.one(["(", "(", "NOT "]) for _ in range(self.near(32))]
         closed = ")" * opened.count("(")
-        return self.one_step(f"SELECT * FROM t WHERE {''.join(opened)}v = 1{closed[self.random.randint(0, 1) :]}")
+        lock = self.row_lock(0.3)
+        return self.one_step(f"SELECT * FROM t WHERE {''.join(opened)}v = 1{closed[self.random.randint(0, 1) :]}{lock}")
 
     def with_number(self):
         number = self.one(["", "-", "- "]) + str(2**63 + self.random.randint(-2, 1))
@@ -335,7 +408,7 @@ class Maker:
         return start + "x" * (self.near(65536) - len(start))
 
     def limit_spec(self):
-        forms = [self.with_sessions, self.with_steps, self.with_items, self.with_lines]
+        forms = [self.with_sessions, self.with_steps, self.with_ranks, self.with_items, self.with_lines]
         forms += [self.with_rows, self.with_levels, self.with_number, self.with_bytes]
         return self.one(forms)().encode()
 
@@ -352,6 +425,7 @@ class Maker:
         return self.one(
             [
                 f"SELECT {column}, id FROM t WHERE {other} > {self.random.randint(0, len(names))} ORDER BY {other} DESC",
+                f"SELECT {column} FROM t WHERE id = {self.random.randint(1, 2)}{self.one(ROW_LOCKS)}",
                 f"SELECT sum({column}), count(*) FROM t",
                 f"UPDATE t SET {column} = {other} + 1 WHERE id = {self.random.randint(1, 2)}",
                 f"DELETE FROM t WHERE {column} = {self.random.randint(1, len(names))}",

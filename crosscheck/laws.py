@@ -4,7 +4,7 @@ usage: python3 crosscheck/laws.py KIND FIRST_SEED SEEDS
 
 Of up to twenty ranks of each spec, and of each swap of each of these ranks: it leads to an earlier rank with the same outcome;
 the other ranks that share the letters up to both exchanged have it too, and are a range; both orders of its steps give equal
-worlds, and nobody starts to wait, goes on or is passed over. From each rank the facts lead to a rank that is run, with the
+worlds, and nobody starts to wait, goes on, is passed over or is refused a lock. From each rank the facts lead to a rank that is run, with the
 outcome of the first one run alone. Where all ranks are run, as many steps are sent as their words have different fronts.
 """
 
@@ -16,9 +16,10 @@ from binding import bind
 from compare import WORDS, ended, usage
 from facts import Worlds, fact, ranks_with, sent, swap_covers, swapped, swaps, word_of
 from generate import KINDS, Maker
-from machine import FAILED_BLOCK, OUTSIDE, outcome, outcome_text
+from machine import DEADLOCK, FAILED_BLOCK, OUTSIDE, UNAVAILABLE, outcome, outcome_text, refuses_to_wait
 from refusal import Refusal
 from spec_file import read_spec
+from sql import Select
 
 RANKS_A_SPEC = 20
 RANKS_A_SWAP = 5
@@ -33,13 +34,13 @@ def parts(world):
     return world.committed, world.members, world.held, world.waits
 
 
-def new_words(world, later):
-    """The words of all events that are new in a later world."""
-    return [
-        event if isinstance(event, str) else event[0]
-        for old, new in zip(world.members, later.members)
-        for event in new.transcript[len(old.transcript) :]
-    ]
+def new_events(world, later):
+    """All events that are new in a later world."""
+    return [event for old, new in zip(world.members, later.members) for event in new.transcript[len(old.transcript) :]]
+
+
+def words_of(events):
+    return [event if isinstance(event, str) else event[0] for event in events]
 
 
 def shown_of_swap(worlds, rank, place):
@@ -57,7 +58,12 @@ def shown_of_swap(worlds, rank, place):
         yield "swaps of a step in a failed block"
     if statuses == [OUTSIDE, OUTSIDE]:
         yield "swaps outside blocks"
-    told = new_words(world, worlds.after(line[: place + 2]))
+    statements = [statement for step in line[place : place + 2] for statement in worlds.spec.steps[step][1]]
+    if any(isinstance(statement, Select) and statement.locks for statement in statements):
+        yield "swaps of a step that locks rows for a SELECT"
+    if any(map(refuses_to_wait, statements)):
+        yield "swaps of a step that refuses to wait"
+    told = words_of(new_events(world, worlds.after(line[: place + 2])))
     if "failed" in told:
         yield "swaps of a step that fails"
     if "committed" in told:
@@ -78,8 +84,11 @@ def wrong_in_swap(worlds, rank, place, random):
     after, other = (worlds.after(one) for one in (line[: place + 2], spec.line(lower)[: place + 2]))
     if parts(after) != parts(other):
         yield "gives another world"
-    if any(word in ("waiting", "resumed", "notsent") for word in new_words(before, after)):
+    events = new_events(before, after)
+    if any(word in ("waiting", "resumed", "notsent") for word in words_of(events)):
         yield "is of steps that wait"
+    if DEADLOCK in events or UNAVAILABLE in events:
+        yield "is of steps that are refused a lock"
     covered, front = swap_covers(spec, rank, place), word_of(spec, rank)[: place + 2]
     is_first = fact(worlds, rank, True) == ("swap", place)
     for near in some(random, covered, RANKS_A_SWAP) + [covered.start, covered.stop - 1]:
