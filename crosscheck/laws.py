@@ -4,8 +4,8 @@ usage: python3 crosscheck/laws.py KIND FIRST_SEED SEEDS
 
 Of up to twenty ranks of each spec, and of each swap of each of these ranks: it leads to an earlier rank with the same outcome;
 the other ranks that share the letters up to both exchanged have it too, and are a range; both orders of its steps give equal
-worlds, and nobody starts to wait, goes on, is passed over or is refused a lock. From each rank the facts lead to a rank that is run, with the
-outcome of the first one run alone. Where all ranks are run, as many steps are sent as their words have different fronts.
+worlds, and nobody starts to wait, goes on, is passed over or is refused a lock. From each rank the facts lead to a rank that is run,
+with the outcome of the first one run alone. Where all ranks are run, as many steps are sent as their words have different fronts.
 """
 
 import sys

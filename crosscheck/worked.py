@@ -329,7 +329,8 @@ def of_refused_locks():
     yield "what it held is let go", after(worlds, "a1 c1 b2 a2 c2", 2), "step c1/locked/done/step c2/locked/done"
     yield "who waited goes on", after(worlds, "c1 a1 b2 a2", 1), "step b2/waiting"
     yield "rows to be updated, of a whole table", after(worlds, "a1 b3 a3", 1), "step b3/waiting/resumed/row 1|10/row 2|20/rows 2/done"
-    yield "a failed block asks for nothing", after(worlds, "a1 b1 b4", 1), "step b1/error: lock not available/done/step b4/error: transaction is aborted/done"
+    told = "step b1/error: lock not available/done/step b4/error: transaction is aborted/done"
+    yield "a failed block asks for nothing", after(worlds, "a1 b1 b4", 1), told
     yield "who waits is not sent", after(worlds, "a1 b2 b1", 1), "step b2/waiting/not sent b1"
 
 
@@ -407,8 +408,9 @@ def of_shapes():
         yield f"no words of {counts}", shape_fault(counts), kind
         if kind != ShapeKind.EMPTY:
             yield f"no spec of {counts}", place_of_refusal(worlds_of, empty_steps(counts)), ("bind", 8, 0)
-    yield "the last word of six times four", word_of(worlds_of(empty_steps([4] * 6)).spec, 3246670537110000 - 1), sorted([*range(6)] * 4)[::-1]
-    yield "the last word of the largest", word_of(worlds_of(LARGE).spec, 9116650868204880000 - 1), [7] * 2 + [6] * 4 + [5] * 2 + [4] * 6 + [3] + [2] * 3 + [1] * 8 + [0] * 2
+    for text, number in ((empty_steps([4] * 6), 3246670537110000), (LARGE, 9116650868204880000)):
+        spec = worlds_of(text).spec
+        yield "the last word", word_of(spec, number - 1), sorted(word_of(spec, 0), reverse=True)
 
 
 def of_lines_of_many_steps():
