@@ -9,12 +9,15 @@ import re
 from binding import bind
 from books import compact, leads_to
 from spec_file import read_spec
+from worked import empty_steps
 
 BLANKS = ["", "", "", " ", "\n", "\t", "\r\n "]
 NUMBERS = [0, 1, 2, 3, 5, 255, 256, 15_000_001, 30_000_000, 30_000_001]
 NUMBERS += [2**63 - 1, 2**63, 2**64 - 2, 2**64 - 1, 2**64, -1, -(2**63) - 1]
 VALUES = [*NUMBERS, 0.0, 1.5, True, None, "", "ran", "swap", "done", [], [[]], {}]
 VALUES += [["sent", 0], ["row", []], ["row", [2**63]], ["rows", 2**64], ["failed", 5], ["failed", 6]]
+# Shapes of no spec: one session more than there may be, and too many ranks.
+NO_SPECS = [empty_steps([1] * 9), empty_steps([4] * 7)]
 TOKENS = "[ ] { } , : 0 1 -0 01 1.0 1e0 1e400 18446744073709551615 18446744073709551616 -1 null true NaN Infinity".split(" ")
 TOKENS += ['"', '""', '"ran"', '"swap"', '"done"', '"\\ud800"', '"\\ud83d\\ude00"', '"\\x41"', '"\x01"', "'ran'"]
 TOKENS += ["\ufeff", "\x0b", "/**/"]
@@ -127,7 +130,7 @@ def of_another_spec(random, book):
     cut = text[: random.randrange(len(text) + 1)]
     lines = f"{text}\npermutation s0_0"
     others = ["", cut, text + "\n", "\n" + text, lines, text + " session extra step extra {}", "session a step s {}"]
-    return text_of(book | {"spec": random.choice(others)})
+    return text_of(book | {"spec": random.choice([*others, random.choice(NO_SPECS)])})
 
 
 def with_other_members(random, book):

@@ -38,6 +38,7 @@ BEGINS = [
 COMMITS = ["COMMIT", "END", "COMMIT WORK", "commit transaction"]
 ROLLBACKS = ["ROLLBACK", "ABORT", "rollback work"]
 SETTINGS = ["SET x = 1", "SET LOCAL a TO b", "SET SESSION a = 'q'", "SET local = 1", "SET LOCAL TO TO x"]
+SETTINGS += ["SET for = share", "SET LOCAL nowait TO update"]
 # How many steps a session may have, by the number of sessions.
 MANY_STEPS = {2: [3, 4, 5], 3: [3, 3, 4], 4: [2, 3]}
 FEW_STEPS = {2: [2, 3, 4], 3: [1, 2, 2], 4: [1]}

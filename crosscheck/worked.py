@@ -265,6 +265,8 @@ def of_book_files():
         yield "no spec", read(text.replace(EMPTY_STEP, "")), Kind.BAD_SPEC
         yield "a member too many", read(text.replace('"format"', '"x":0,"format"')), Kind.BAD_FIELD
         yield "a step of no session", read(text.replace('["sent",0]', '["sent",1]')), Kind.BAD_FIELD
+        faults = [read(text.replace('"done"', f'["failed",{number}]')) for number in (5, 6)]
+        yield "the last fault, and one that is none", faults, [(spec, {(0, "ran", b'[[["sent",0],["failed",5]]]')}), Kind.BAD_FIELD]
         yield "a number with a fraction", read(text.replace('["sent",0]', '["sent",0.0]')), Kind.BAD_FIELD
         hidden = [read(text.replace('"format"', f'"format":{value},"format"')) for value in ("3", '"\\ud800"')]
         yield "a member that a later one hides, and one that is no text", hidden, [(spec, facts), Kind.NOT_JSON]
