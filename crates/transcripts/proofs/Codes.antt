@@ -3,7 +3,7 @@ use Rattle.std.specs.Prelude.{◌≡◌, refl, ℕ, ◌<◌, ◌==◌, Bool, tru
 use Rattle.std.proofs.Common.{sym, ap, ◌∙◌, inl, inr, append_assoc, append-nil, arith}
 use Rattle.std.specs.declared.cmp.Ordering.{Ordering}
 use Rattle.std.specs.declared.cmp.Ordering.TheVariants.{Less, Equal, Greater}
-use Rattle.std.specs.Ordering.{nat_cmp, ordering_then, ordering_reverse, is_eq}
+use Rattle.std.specs.Ordering.{nat_cmp, ordering_then, ordering_reverse}
 use Rattle.std.specs.Cmp.Lexicographic.{nat_list_cmp_total}
 use Rattle.std.specs.FinMap.{nat_cmp-IsAntisymmetric, slice_cmp-IsAntisymmetric}
 use Rattle.std.proofs.lemmas.Bool.Decides.{nat_tests}
@@ -21,12 +21,6 @@ pub then-equal : (a : Ordering) → ordering_then a Equal ≡ a
 then-equal Less = refl
 then-equal Equal = refl
 then-equal Greater = refl
-
--- what is told to tie ties
-pub ties : (a : Ordering) → is_eq a ≡ true → a ≡ Equal
-ties Less e = cc
-ties Equal e = refl
-ties Greater e = cc
 
 -- what is decided stays so
 pub then-decided : (a b : Ordering) → (a ≡ Equal → ⊥) → ordering_then a b ≡ a

@@ -6,6 +6,7 @@ mod log;
 mod numbers;
 mod order;
 mod outcome;
+mod same;
 mod turn;
 
 pub use event::{Event, Fault, Warning};

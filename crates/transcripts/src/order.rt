@@ -96,7 +96,7 @@ fn front_order(a: &Event, b: &Event) -> Ordering
 }
 
 /// The place of an event in the table of the format.
-fn kind(event: &Event) -> u8
+pub(crate) fn kind(event: &Event) -> u8
     ensures { result ≡ kind_of event.now }
 {
     match event {
@@ -146,7 +146,7 @@ fn front(event: &Event) -> &'static str
 }
 
 /// The number that an event tells, or 0.
-fn number(event: &Event) -> u64
+pub(crate) fn number(event: &Event) -> u64
     ensures { result ≡ number_of event.now }
 {
     match event {
@@ -170,7 +170,7 @@ fn number(event: &Event) -> u64
 }
 
 /// The values of the row that an event shows, or none.
-fn values(event: &Event) -> &[Value]
+pub(crate) fn values(event: &Event) -> &[Value]
     ensures { result.now ≡ values_of event.now }
 {
     match event {

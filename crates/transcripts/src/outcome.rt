@@ -8,6 +8,7 @@ ghost use Rattle.transcripts.specs.Outcome.{CellFits, EventFits, OutcomeFits};
 
 use crate::event::Event;
 use crate::order::outcome_order;
+use crate::same::are_same_sessions;
 use crate::turn::copied;
 use finite_maps::Fork;
 use lock_modes::Value;
@@ -140,7 +141,7 @@ impl Outcome {
     pub fn is_same(&self, other: &Outcome) -> bool
         ensures { IsTrue result ↔ (self.now ≡ other.now) }
     {
-        self.order(other).is_eq()
+        are_same_sessions(self.sessions(), other.sessions())
     }
 
     /// The order of the bytes of the outcomes' compact JSON texts, which are not made.
