@@ -1,6 +1,7 @@
 -- What is reported, value by value.
-use Rattle.std.proofs.Common.{◌≡◌, refl, sym, subst, ℕ, zero, suc, ◌+◌, ◌-◌, ◌<◌, ◌≤◌, ◌++◌, List, [], ◌∷◌, length, get_or, Option, Some, None, slice_get}
+use Rattle.std.proofs.Common.{◌≡◌, ◌∙◌, ap, refl, sym, subst, ℕ, zero, suc, ◌+◌, ◌-◌, ◌<◌, ◌≤◌, ◌++◌, List, [], length, get_or, Option}
 use Rattle.std.proofs.Common.{arith}
+use Rattle.std.proofs.lemmas.List.{get_or-map, length-map}
 use Rattle.bound_specs.specs.Spec.{Spec, SpecFile, ranks}
 use Rattle.outcome_texts.specs.Counted.{Wrote, Stopped}
 use Rattle.outcome_texts.specs.Text.{rank_text, outcome_text}
@@ -10,6 +11,7 @@ use Rattle.quiet_steps.specs.Swap.{leads_in}
 use Rattle.outcome_books.specs.declared.error.TheConstants.{MAX_REPORTED}
 use Rattle.outcome_books.specs.Entries.{Told, FactSet}
 use Rattle.outcome_books.specs.Books.{Contents, AllRecordable}
+use Rattle.outcome_books.specs.Sweep.{values_of}
 use Rattle.outcome_books.specs.Values.{AreValues}
 use Rattle.outcome_books.proofs.Recordable.{value-own}
 use Rattle.book_answers.specs.Reporting.{values_text, IsReportText, AllOwn}
@@ -24,15 +26,12 @@ values-own spec s leads count values all are r lt =
 
 -- ---- reading values
 
-pub value-at : (values : List Told) (r : ℕ) (o : Told) → Some o ≡ slice_get values r → o ≡ get_or values r []
-value-at [] r o e = cc
-value-at (v ∷ vs) zero o e = cc
-value-at (v ∷ vs) (suc r) o e = value-at vs r o e
+-- the value of a rank is the outcome with its number
+pub value-at : (table : List Told) (numbers : List ℕ) (r : ℕ) → r < length numbers → get_or (values_of table numbers) r [] ≡ get_or table (get_or numbers r 0) []
+value-at table numbers r lt = get_or-map (λ n. get_or table n []) numbers r 0 [] lt
 
-pub none-at : (values : List Told) (r : ℕ) → r < length values → None ≡ slice_get values r → ⊥
-none-at [] r lt e = absurd (omega (arith, lt))
-none-at (v ∷ vs) zero lt e = cc
-none-at (v ∷ vs) (suc r) lt e = none-at vs r (omega (arith, lt)) e
+pub value-counted : (table : List Told) (numbers : List ℕ) → length (values_of table numbers) ≡ length numbers
+value-counted table numbers = length-map numbers (λ n. get_or table n [])
 
 -- ---- texts that stop
 
@@ -43,33 +42,36 @@ module _ {W : Type 0} (contents : W → Option (List ℕ)) (old new : Counted W)
   stopped-within n (suc more) (suc m) e h = stopped-append contents old new _ _ (stopped-within n more m (omega (arith, e)) h)
 
   -- one value more
-  pub value-written : (mid : Counted W) (r : ℕ) (o : Told) → Some o ≡ slice_get values r → Wrote contents old mid (values_text file values r)
+  pub value-written : (mid : Counted W) (r : ℕ) (o : Told) → o ≡ get_or values r [] → Wrote contents old mid (values_text file values r)
       → Wrote contents mid new (rank_text r ++ outcome_text file.session_names file.step_names o) → Wrote contents old new (values_text file values (r + 1))
-  value-written mid r o at before more =
+  value-written mid r o is before more =
       let e : suc r ≡ r + 1 = omega arith in
       subst (λ n. Wrote contents old new (values_text file values n)) e
       (subst (λ v. Wrote contents old new (values_text file values r ++ (rank_text r ++ outcome_text file.session_names file.step_names v)))
-      (value-at values r o at) (wrote-append contents old mid new _ _ before more))
+      is (wrote-append contents old mid new _ _ before more))
 
   -- it stops in the next value
-  pub value-stopped : (mid : Counted W) (r : ℕ) (o : Told) → r < length values → Some o ≡ slice_get values r
+  pub value-stopped : (mid : Counted W) (r count : ℕ) (o : Told) → r < count → o ≡ get_or values r []
       → Wrote contents old mid (values_text file values r) → Stopped contents mid new (rank_text r ++ outcome_text file.session_names file.step_names o)
-      → Stopped contents old new (values_text file values (length values))
-  value-stopped mid r o lt at before stop =
+      → Stopped contents old new (values_text file values count)
+  value-stopped mid r count o lt is before stop =
       let within : Stopped contents old new (values_text file values (suc r)) =
       subst (λ v. Stopped contents old new (values_text file values r ++ (rank_text r ++ outcome_text file.session_names file.step_names v)))
-      (value-at values r o at) (stopped-after contents old mid new _ _ before stop) in
-      let e : length values ≡ length values - suc r + suc r = omega (arith, lt) in
-      stopped-within (suc r) (length values - suc r) (length values) e within
+      is (stopped-after contents old mid new _ _ before stop) in
+      let e : count ≡ count - suc r + suc r = omega (arith, lt) in
+      stopped-within (suc r) (count - suc r) count e within
 
 -- ---- the text of a report
 
 -- of the book's own file
-pub report-text : (book : Contents) (spec : SpecFile) (values : List Told) (P : List ℕ → Type 0) → ranks book.file.run ≤ MAX_REPORTED
-    → AreValues book.facts (leads_in book.file.run) (ranks book.file.run) values → book.file ≡ spec → P (values_text spec values (length values))
-    → (text : List ℕ) × IsReportText book text × P text
-report-text book spec values P few are same h = (
-  values_text book.file values (ranks book.file.run),
-  record { few = few; values = values; are = are; text_is = refl },
-  subst (λ f. P (values_text f values (ranks book.file.run))) (sym same) (subst (λ n. P (values_text spec values n)) are.count_is h),
-)
+pub report-text : (book : Contents) (spec : SpecFile) (table : List Told) (numbers : List ℕ) (values : List Told) (P : List ℕ → Type 0) → ranks book.file.run ≤ MAX_REPORTED
+    → AreValues book.facts (leads_in book.file.run) (ranks book.file.run) values → book.file ≡ spec → values_of table numbers ≡ values
+    → P (values_text spec (values_of table numbers) (length numbers)) → (text : List ℕ) × IsReportText book text × P text
+report-text book spec table numbers values P few are same told h =
+    let count : length numbers ≡ ranks book.file.run = sym (value-counted table numbers) ∙ ap length told ∙ are.count_is in (
+      values_text book.file values (ranks book.file.run),
+      record { few = few; values = values; are = are; text_is = refl },
+      subst (λ f. P (values_text f values (ranks book.file.run))) (sym same)
+          (subst (λ v. P (values_text spec v (ranks book.file.run))) told
+          (subst (λ n. P (values_text spec (values_of table numbers) n)) count h)),
+    )

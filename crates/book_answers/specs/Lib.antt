@@ -1,5 +1,6 @@
 pub mod Finding
 pub mod Joining
 pub mod Reporting
+pub mod Texts
 pub mod Auditing
 pub mod Judging

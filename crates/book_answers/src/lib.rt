@@ -7,6 +7,7 @@ mod joining;
 mod judging;
 mod opener;
 mod reporting;
+mod texts;
 
 pub use auditing::{AuditFault, audit_file};
 pub use finding::Finding;

@@ -1,17 +1,23 @@
 //! The report of a book, rank by rank, and from the file of the book.
 
-ghost use Rattle.std.specs.Prelude.{◌≡◌, ◌<◌, length};
+ghost use Rattle.std.specs.Prelude.{◌≡◌, ◌<◌, ◌++◌, [], length, slice_index_or};
+ghost use Rattle.machine_model.specs.Outcome.{IsOutcomeOf};
 ghost use Rattle.outcome_texts.specs.Counted.{Prints, failures_of};
+ghost use Rattle.outcome_texts.specs.Text.{rank_text, outcome_text};
+ghost use Rattle.outcome_books.specs.Sweep.{values_of, AllBelow};
 ghost use Rattle.book_answers.specs.Reporting.{AllOwn, IsReported, IsFileReported, values_text};
+ghost use Rattle.book_answers.specs.Texts.{AreTexts};
 
 use crate::joining::{FileFault, book_of_file};
 use crate::opener::Opener;
+use crate::texts::Texts;
 use bound_specs::Spec;
-use outcome_books::{Book, Report, ReportError, report};
-use outcome_texts::{Counted, WriteFault};
-use spec_answers::{spec_of, write_one};
+use outcome_books::{Book, ReportError, report};
+use outcome_texts::{Counted, WriteFault, print_rank};
+use spec_answers::spec_of;
 use std::alloc::Global;
 use std::io::Write;
+use transcripts::Outcome;
 
 /// Why a report was not written. The first is tried before the second.
 #[derive(Clone, Copy, PartialEq, Eq)]
@@ -69,26 +75,52 @@ pub fn write_report<W: Write>(
     let Ok(spec) = spec_of(alloc, book.text().as_bytes()) else {
         return Err(ReportFault::Report(ReportError::NoMemory));
     };
-    match write_values(&spec, &values, out) {
+    let (outcomes, numbers) = values.parts();
+    let Ok(mut texts) = Texts::new(alloc, outcomes.len()) else {
+        return Err(ReportFault::Report(ReportError::NoMemory));
+    };
+    match write_values(&spec, outcomes, numbers, &mut texts, out) {
         Ok(()) => Ok(()),
         Err(fault) => Err(ReportFault::Write(fault)),
     }
 }
 
-/// Writes for each rank in order the rank and its value.
+/// Writes for each rank in order the rank and the outcome with its number.
 fn write_values<W: Write>(
     spec: &Spec,
-    values: &Report,
+    outcomes: &[Outcome],
+    numbers: &[usize],
+    texts: &mut Texts,
     out: &mut Counted<W>,
 ) -> Result<(), WriteFault>
     requires countable { failures_of out.old < u64.MAX }
-    requires own { AllOwn spec.now.run values.now }
-    ensures { Prints W.contents out.old out.new result (values_text spec.now values.now (length values.now)) }
+    requires numbered { AllBelow (length outcomes.now) numbers.now }
+    requires own { AllOwn spec.now.run (values_of outcomes.now numbers.now) }
+    requires texts { AreTexts spec.now outcomes.now texts.old }
+    ensures { Prints W.contents out.old out.new result (values_text spec.now (values_of outcomes.now numbers.now) (length numbers.now)) }
 {
-    for rank in 0..values.len() {
-        if let Some(outcome) = values.outcome(rank) {
-            write_one(spec, rank, outcome, out)?;
-        }
+    for rank in 0..numbers.len() {
+        write_value(spec, outcomes, rank as u64, numbers[rank], texts, out)?;
     }
     Ok(())
+}
+
+/// Writes the rank and the outcome with this number.
+fn write_value<W: Write>(
+    spec: &Spec,
+    outcomes: &[Outcome],
+    rank: u64,
+    number: usize,
+    texts: &mut Texts,
+    out: &mut Counted<W>,
+) -> Result<(), WriteFault>
+    requires inside { number < length outcomes.now }
+    requires own { IsOutcomeOf spec.now.run (slice_index_or outcomes.now number []) }
+    requires countable { failures_of out.old < u64.MAX }
+    requires texts { AreTexts spec.now outcomes.now texts.old }
+    ensures written { Prints W.contents out.old out.new result (rank_text rank ++ outcome_text spec.now.session_names spec.now.step_names (slice_index_or outcomes.now number [])) }
+    ensures texts { AreTexts spec.now outcomes.now texts.new }
+{
+    print_rank(rank, out)?;
+    texts.write(spec, outcomes, number, out)
 }

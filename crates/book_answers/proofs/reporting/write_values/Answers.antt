@@ -1,28 +1,45 @@
-use Rattle.std.proofs.Common.{◌+◌, ◌<◌, sym, subst, length}
-use Rattle.outcome_texts.specs.Counted.{Wrote}
+use Rattle.std.proofs.Common.{◌<◌, sym, subst, length}
+use Rattle.machine_model.specs.Outcome.{IsOutcomeOf}
 use Rattle.outcome_texts.proofs.Writing.{prints-stopped}
-use Rattle.book_answers.specs.Reporting.{values_text}
-use Rattle.book_answers.proofs.ReportLemmas.{value-written, value-stopped, none-at}
-use Rattle.book_answers.proofs.reporting.write_values.Goals.{in-Some+in_ok-write_one, in_default}
+use Rattle.outcome_books.specs.Sweep.{values_of}
+use Rattle.outcome_books.proofs.FillLemmas.{below-at}
+use Rattle.book_answers.proofs.ReportLemmas.{value-at, value-counted, value-stopped, value-written}
 use Rattle.book_answers.proofs.reporting.write_values.Goals as goal
 
+-- each number has its outcome
+pub write_value-requires-clause-inside : goal.write_value-requires-clause-inside
+write_value-requires-clause-inside g c =
+    below-at (length c.args.outcomes.now) c.args.numbers.now c.loop-rank.rank 0 c.loop-rank-test.true c.requires.numbered
+
+-- which is the value of the rank
+pub write_value-requires-clause-own : goal.write_value-requires-clause-own
+write_value-requires-clause-own g c =
+    let table = c.args.outcomes.now in
+    let numbers = c.args.numbers.now in
+    let r = c.loop-rank.rank in
+    let inside : r < length (values_of table numbers) = subst (λ n. r < n) (sym (value-counted table numbers)) c.loop-rank-test.true in
+    subst (IsOutcomeOf c.args.spec.now.run) (value-at table numbers r c.loop-rank-test.true) (c.requires.own r inside)
+
 -- a value is not written
-pub returns-in_err-write_one : goal.returns-in_err-write_one
-returns-in_err-write_one g c =
-    let lt : c.loop-rank.rank < length c.args.values.now = subst (λ n. c.loop-rank.rank < n) c.len-rank-end.ensures c.loop-rank-test.true in
+pub returns-in_err-write_value : goal.returns-in_err-write_value
+returns-in_err-write_value g c =
+    let table = c.args.outcomes.now in
+    let numbers = c.args.numbers.now in
+    let r = c.loop-rank.rank in
     prints-stopped _ _ _ _ _
-    (value-stopped g.W.Write.contents _ _ c.args.spec.now c.args.values.now _ c.loop-rank.rank _ lt c.in-Some.ensures c.loop-rank.invariant
-    c.in_err-write_one.ensures)
+    (value-stopped g.W.Write.contents _ _ c.args.spec.now (values_of table numbers) _ r (length numbers) _ c.loop-rank-test.true
+    (sym (value-at table numbers r c.loop-rank-test.true)) c.loop-rank.invariant.written c.in_err-write_value.ensures.written)
     c.from_residual.ensures.0
 
--- one value more: each rank has one
+-- one value more
 pub loop-rank-preserved : goal.loop-rank-preserved
 loop-rank-preserved g c =
-    let lt : c.loop-rank.rank < length c.args.values.now = subst (λ n. c.loop-rank.rank < n) c.len-rank-end.ensures c.loop-rank-test.true in
-    elim c.match-outcome.branch [
-      | in-Some+in_ok-write_one w ↦
-          subst (λ o. Wrote g.W.Write.contents c.args.out.now o (values_text c.args.spec.now c.args.values.now (c.loop-rank.rank + 1))) (sym w.out-is)
-          (value-written g.W.Write.contents _ _ c.args.spec.now c.args.values.now _ c.loop-rank.rank _ w.in-Some.ensures c.loop-rank.invariant
-          w.in_ok-write_one.ensures)
-      | in_default w ↦ absurd (none-at c.args.values.now c.loop-rank.rank lt w.in_default.ensures)
-    ]
+    let table = c.args.outcomes.now in
+    let numbers = c.args.numbers.now in
+    let r = c.loop-rank.rank in
+    record {
+      written =
+          value-written g.W.Write.contents _ _ c.args.spec.now (values_of table numbers) _ r _ (sym (value-at table numbers r c.loop-rank-test.true))
+          c.loop-rank.invariant.written c.in_ok-write_value.ensures.written;
+      texts = c.in_ok-write_value.ensures.texts;
+    }
