@@ -23,7 +23,9 @@ a reader of a key that is inserted | 0 | 2 | yes | ran ran | - | T session a ste
 lines are always run | 0 | 1 | yes | ran | 3 | T session a step a1 { SELECT v FROM t WHERE id = 1; } step a2 { COMMIT; } session b step b1 { UPDATE t SET v = v + 1 WHERE id = 1; } permutation a1(*) b1(a1 notices 1) a1
 lines share what they begin with | 0 | 4 | no | ran ran ran ran | 8 | T session a step a1 {} step a2 {} session b step b1 {} permutation a1 a2 b1 permutation a1 a2 permutation a1 a2 permutation b1 a1 a2 a1 b1
 two blocks that write one row | 0 | 6 | yes | ran ran ran ran ran ran | - | T session a setup { BEGIN; } step a1 { UPDATE t SET v = v + 1 WHERE id = 1; } step a2 { COMMIT; } session b setup { BEGIN; } step b1 { UPDATE t SET v = v + 10 WHERE id = 1; } step b2 { COMMIT; }
-a writer that waits for the readers of a table | 7 | 9 | yes | ran ran | - | T session a setup { BEGIN; } step a1 { SELECT v FROM t WHERE id = 1; } step a2 { SELECT * FROM t; } session b setup { BEGIN; } step b1 { SELECT * FROM t; } step b2 { COMMIT; } session c step c1 { UPDATE t SET v = 5 WHERE id = 2; }";
+a writer that waits for the readers of a table | 7 | 9 | yes | ran ran | - | T session a setup { BEGIN; } step a1 { SELECT v FROM t WHERE id = 1; } step a2 { SELECT * FROM t; } session b setup { BEGIN; } step b1 { SELECT * FROM t; } step b2 { COMMIT; } session c step c1 { UPDATE t SET v = 5 WHERE id = 2; }
+a row read to be written, and one who refuses to wait for it | 0 | 6 | yes | ran ran 2 ran ran ran | - | T session a setup { BEGIN; } step a1 { SELECT v FROM t WHERE id = 1 FOR UPDATE; } step a2 { COMMIT; } session b setup { BEGIN; } step b1 { SELECT v FROM t WHERE id = 1 FOR SHARE NOWAIT; } step b2 { COMMIT; }
+a row that two read for others to read | 0 | 6 | yes | ran 1 2 0 0 1 | - | T session a setup { BEGIN; } step a1 { SELECT v FROM t WHERE id = 1 FOR SHARE; } step a2 { COMMIT; } session b setup { BEGIN; } step b1 { SELECT v FROM t WHERE id = 1 FOR SHARE NOWAIT; } step b2 { COMMIT; }";
 
 /// The spec of a row. None where memory ran out.
 pub(crate) fn bound(alloc: Global, text: &str) -> Option<Spec> {

@@ -140,6 +140,7 @@ c'
   error: integer out of range
   error: deadlock
   error: transaction is aborted
+  error: lock not available
   waiting
   resumed
   done
@@ -208,7 +209,7 @@ fn a_fork_is_equal_and_apart(rt: HostRuntime) -> Result<(), Fail> {
     let first = every_line(rt.alloc())?;
     let other = longer_fork(&first)?;
     assert!(rt;
-        first.events().len() == 22 && other.events().len() == 23,
+        first.events().len() == 23 && other.events().len() == 24,
         "one event more"
     );
     let fork = alone(rt.alloc(), first.fork()?)?;
@@ -421,7 +422,7 @@ fn a_read_says_how_much_it_gave(rt: HostRuntime) -> Result<(), Fail> {
 
 /// The value of the outcome with each event.
 const EVERY_VALUE: &str =
-    r#"[[["sent",0],["row",[7,"it's"]],["row",[-9223372036854775808,"a|b\nc"]],["rows",18446744073709551615],["inserted",0],["updated",10],["deleted",2],"began","committed","rolledback","locked","set",["warned",1],["warned",2],["failed",1],["failed",2],["failed",3],["failed",4],"waiting","resumed","done",["notsent",1]],[]]"#;
+    r#"[[["sent",0],["row",[7,"it's"]],["row",[-9223372036854775808,"a|b\nc"]],["rows",18446744073709551615],["inserted",0],["updated",10],["deleted",2],"began","committed","rolledback","locked","set",["warned",1],["warned",2],["failed",1],["failed",2],["failed",3],["failed",4],["failed",5],"waiting","resumed","done",["notsent",1]],[]]"#;
 
 /// JSON texts, one a line, of outcomes and of none.
 const OUTCOMES: &str = r#"[]
@@ -467,7 +468,7 @@ true
 [[["warned",0]]]
 [[["warned",3]]]
 [[["failed",0]]]
-[[["failed",5]]]
+[[["failed",6]]]
 [[["row",1]]]
 [[["row"]]]
 [[["row",[null]]]]

@@ -1,6 +1,6 @@
 use finite_maps::Fork;
 use lock_modes::{Mode, Place, Text, Value};
-use lock_queues::{Answer, LockTable};
+use lock_queues::{Answer, LockTable, Taken};
 use std::alloc::{AllocError, Global};
 use std::process::Abort;
 use std::test::Fail;
@@ -9,6 +9,8 @@ use std::test::Fail;
 #[derive(Clone, Copy)]
 enum Step {
     Ask(u8, u16, Mode, Answer),
+    /// Asks and refuses to wait.
+    AskNow(u8, u16, Mode, Taken),
     LetGo(u8),
     /// Grants the next wait, if one is ripe.
     Grant(Option<u8>),
@@ -24,6 +26,13 @@ fn play_one(rt: &impl Abort, table: &mut LockTable, step: Step) -> Result<(), Al
             assert!(rt;
                 table.ask(session, Place::Table(number), mode)? == answer,
                 "{session} asks"
+            );
+        }
+        Step::AskNow(session, number, mode, taken) => {
+            assert!(rt; !table.waits(session), "{session} waits");
+            assert!(rt;
+                table.ask_now(session, Place::Table(number), mode)? == taken,
+                "{session} refuses to wait"
             );
         }
         Step::LetGo(session) => table.let_go(session)?,
@@ -252,6 +261,49 @@ fn a_wait_that_closes_a_ring_is_refused(rt: HostRuntime) -> Result<(), Fail> {
     Ok(())
 }
 
+// 1 is refused for the mode of 0 and leaves nothing behind, so 2 does not stand behind it.
+static REFUSES_TO_WAIT: [Step; 5] = [
+    Step::Ask(0, 0, Mode::Share, Answer::Granted),
+    Step::AskNow(1, 0, Mode::Exclusive, Taken::Refused),
+    Step::Waits(1, None),
+    Step::Holds(1, 0, None),
+    Step::Ask(2, 0, Mode::IntentShare, Answer::Granted),
+];
+
+// 2 would fit beside 0, and is refused as long as 1 waits.
+static REFUSES_TO_STAND_BEHIND: [Step; 8] = [
+    Step::Ask(0, 0, Mode::Share, Answer::Granted),
+    Step::Ask(1, 0, Mode::Exclusive, Answer::Waits),
+    Step::AskNow(2, 0, Mode::IntentShare, Taken::Refused),
+    Step::Holds(2, 0, None),
+    Step::LetGo(0),
+    Step::Grant(Some(1)),
+    Step::LetGo(1),
+    Step::AskNow(2, 0, Mode::IntentShare, Taken::Granted),
+];
+
+// 0 holds the table already and passes the wait of 1, where the cover fits beside what 1 holds. A wait of 0 would close a ring.
+static CONVERTS_NOW: [Step; 10] = [
+    Step::Ask(0, 0, Mode::Share, Answer::Granted),
+    Step::Ask(1, 0, Mode::Share, Answer::Granted),
+    Step::Ask(1, 0, Mode::Exclusive, Answer::Waits),
+    Step::AskNow(0, 0, Mode::Exclusive, Taken::Refused),
+    Step::AskNow(0, 0, Mode::IntentExclusive, Taken::Refused),
+    Step::AskNow(0, 0, Mode::IntentShare, Taken::Granted),
+    Step::Holds(0, 0, Some(Mode::Share)),
+    Step::LetGo(1),
+    Step::AskNow(0, 0, Mode::IntentExclusive, Taken::Granted),
+    Step::Holds(0, 0, Some(Mode::ShareIntent)),
+];
+
+#[test]
+fn who_refuses_to_wait_is_refused_where_it_would_wait(rt: HostRuntime) -> Result<(), Fail> {
+    play_anew(&rt, rt.alloc(), &REFUSES_TO_WAIT)?;
+    play_anew(&rt, rt.alloc(), &REFUSES_TO_STAND_BEHIND)?;
+    play_anew(&rt, rt.alloc(), &CONVERTS_NOW)?;
+    Ok(())
+}
+
 // The wait on table 1 came first. A session that lets go gives up its wait too.
 static ARRIVAL: [Step; 13] = [
     Step::Ask(0, 0, Mode::Exclusive, Answer::Granted),
@@ -270,19 +322,22 @@ static ARRIVAL: [Step; 13] = [
 ];
 
 // As many waits as a spec's sessions can have beside the one that is waited for.
-static SIX_WAITS: [Step; 15] = [
-    Step::Ask(6, 0, Mode::Exclusive, Answer::Granted),
+static EIGHT_WAITS: [Step; 18] = [
+    Step::Ask(8, 0, Mode::Exclusive, Answer::Granted),
     Step::Ask(5, 0, Mode::Exclusive, Answer::Waits),
+    Step::Ask(7, 0, Mode::Exclusive, Answer::Waits),
     Step::Ask(0, 0, Mode::Exclusive, Answer::Waits),
     Step::Ask(4, 0, Mode::Exclusive, Answer::Waits),
     Step::Ask(1, 0, Mode::Exclusive, Answer::Waits),
     Step::Ask(3, 0, Mode::Exclusive, Answer::Waits),
+    Step::Ask(6, 0, Mode::Exclusive, Answer::Waits),
     Step::Ask(2, 0, Mode::Exclusive, Answer::Waits),
     Step::Grant(None),
-    Step::LetGo(6),
+    Step::LetGo(8),
     Step::Grant(Some(5)),
     Step::Grant(None),
     Step::LetGo(5),
+    Step::LetGo(7),
     Step::LetGo(0),
     Step::Grant(Some(4)),
     Step::Waits(2, Some(Mode::Exclusive)),
@@ -291,7 +346,7 @@ static SIX_WAITS: [Step; 15] = [
 #[test]
 fn waits_are_granted_as_they_came(rt: HostRuntime) -> Result<(), Fail> {
     play_anew(&rt, rt.alloc(), &ARRIVAL)?;
-    play_anew(&rt, rt.alloc(), &SIX_WAITS)?;
+    play_anew(&rt, rt.alloc(), &EIGHT_WAITS)?;
     Ok(())
 }
 
@@ -415,6 +470,8 @@ fn a_refused_step_leaves_the_table_and_its_forks(rt: HostRuntime) {
         CROSSED.as_slice(),
         CONVERSIONS.as_slice(),
         THROUGH_A_QUEUE.as_slice(),
+        REFUSES_TO_STAND_BEHIND.as_slice(),
+        CONVERTS_NOW.as_slice(),
         ARRIVAL.as_slice(),
     ] {
         if play_all_in_the_end(&rt, rt.alloc(), steps).is_err() {

@@ -11,7 +11,7 @@ fn word_of(rt: &impl Abort, letters: &[u8]) -> Word {
 }
 
 /// Counts that are no shape, each with why.
-static NO_SHAPES: [(&[u8], ShapeError); 14] = [
+static NO_SHAPES: [(&[u8], ShapeError); 15] = [
     (&[], ShapeError::Empty),
     (&[0], ShapeError::Empty),
     (&[29, 0], ShapeError::Empty),
@@ -27,6 +27,8 @@ static NO_SHAPES: [(&[u8], ShapeError); 14] = [
         ShapeError::TooManySteps,
     ),
     (&[4, 4, 4, 4, 4, 4, 4], ShapeError::TooManyRanks),
+    // 15,006,832,704,864,000,000: fewer than 2^64.
+    (&[4, 4, 3, 3, 3, 3, 3, 3], ShapeError::TooManyRanks),
     (&[4, 4, 4, 4, 3, 3, 3, 3], ShapeError::TooManyRanks),
     (&[4, 4, 4, 3, 3, 3, 3, 3], ShapeError::TooManyRanks),
 ];
@@ -241,7 +243,7 @@ fn swaps_exchange_letters_that_fall(rt: HostRuntime) {
 }
 
 /// Refusals, each with its number and its words.
-static REFUSALS: [(ShapeError, u8, &str); 3] = [
+static REFUSALS: [(ShapeError, u8, &str); 4] = [
     (
         ShapeError::Empty,
         1,
@@ -249,6 +251,7 @@ static REFUSALS: [(ShapeError, u8, &str); 3] = [
     ),
     (ShapeError::TooManySessions, 2, "too many sessions"),
     (ShapeError::TooManySteps, 3, "too many steps"),
+    (ShapeError::TooManyRanks, 4, "too many ranks"),
 ];
 
 fn assert_words(
