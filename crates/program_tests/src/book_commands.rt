@@ -24,6 +24,9 @@ three.spec | setup { CREATE TABLE t (id int PRIMARY KEY, v int); INSERT INTO t V
 late.spec | setup { CREATE TABLE t (id int PRIMARY KEY, v int); INSERT INTO t VALUES (1, 10), (2, 20); } setup { INSERT INTO t VALUES (1, 0); } session a step s {}
 large.spec | session a step a1 {} step a2 {} step a3 {} step a4 {} session b step b1 {} step b2 {} step b3 {} step b4 {} session c step c1 {} step c2 {} step c3 {} step c4 {} session d step d1 {} step d2 {} step d3 {} step d4 {} session e step e1 {} step e2 {} step e3 {} step e4 {} session f step f1 {} step f2 {} step f3 {} step f4 {}
 idle.spec | session a step a1 {} step a2 {} step a3 {} session b step b1 {} step b2 {} step b3 {} session c step c1 {} step c2 {} step c3 {}
+eight.spec | session a step a1 {} step a2 {} step a3 {} session b step b1 {} step b2 {} step b3 {} session c step c1 {} step c2 {} step c3 {} session d step d1 {} step d2 {} step d3 {} session e step e1 {} step e2 {} step e3 {} session f step f1 {} step f2 {} step f3 {} session g step g1 {} step g2 {} step g3 {} session h step h1 {} step h2 {} step h3 {}
+long.spec | session a step a1 {} step a2 {} step a3 {} step a4 {} step a5 {} step a6 {} step a7 {} step a8 {} step a9 {} step a10 {} step a11 {} step a12 {} step a13 {} step a14 {} step a15 {} step a16 {} step a17 {} step a18 {} step a19 {} step a20 {} step a21 {} step a22 {} step a23 {} step a24 {} step a25 {} step a26 {} step a27 {} session b step b1 {}
+lined.spec | session a step a1 {} session b step b1 {} session c step c1 {} session d step d1 {} session e step e1 {} session f step f1 {} session g step g1 {} session h step h1 {} permutation h1 g1 f1 e1 d1 c1 b1 a1 h1 g1 f1 e1 d1 c1 b1 a1 h1 g1 f1 e1 d1 c1 b1 a1 h1 g1 f1 e1
 bad.spec | session a
 sql.spec | session a step s {VACUUM t;}
 bind.spec | session a step s {SELECT v FROM u;}
@@ -52,6 +55,11 @@ idle.book | {"facts":[[0,1680,"ran",0]],"format":2,"outcomes":[[[["sent",0],"don
 middle.book | {"facts":[[1,1679,"ran",0]],"format":2,"outcomes":[[[["sent",0],"done",["sent",1],"done",["sent",2],"done"],[["sent",3],"done",["sent",4],"done",["sent",5],"done"],[["sent",6],"done",["sent",7],"done",["sent",8],"done"]]],"spec":"session a step a1 {} step a2 {} step a3 {} session b step b1 {} step b2 {} step b3 {} session c step c1 {} step c2 {} step c3 {}"}
 late.book | {"facts":[],"format":2,"outcomes":[],"spec":"setup { CREATE TABLE t (id int PRIMARY KEY, v int); INSERT INTO t VALUES (1, 10), (2, 20); } setup { INSERT INTO t VALUES (1, 0); } session a step s {}"}
 large.book | {"facts":[],"format":2,"outcomes":[],"spec":"session a step a1 {} step a2 {} step a3 {} step a4 {} session b step b1 {} step b2 {} step b3 {} step b4 {} session c step c1 {} step c2 {} step c3 {} step c4 {} session d step d1 {} step d2 {} step d3 {} step d4 {} session e step e1 {} step e2 {} step e3 {} step e4 {} session f step f1 {} step f2 {} step f3 {} step f4 {}"}
+eight.book | {"facts":[[0,1,"ran",0],[1,1,"swap",20]],"format":2,"outcomes":[[[["sent",0],"done",["sent",1],"done",["sent",2],"done"],[["sent",3],"done",["sent",4],"done",["sent",5],"done"],[["sent",6],"done",["sent",7],"done",["sent",8],"done"],[["sent",9],"done",["sent",10],"done",["sent",11],"done"],[["sent",12],"done",["sent",13],"done",["sent",14],"done"],[["sent",15],"done",["sent",16],"done",["sent",17],"done"],[["sent",18],"done",["sent",19],"done",["sent",20],"done"],[["sent",21],"done",["sent",22],"done",["sent",23],"done"]]],"spec":"session a step a1 {} step a2 {} step a3 {} session b step b1 {} step b2 {} step b3 {} session c step c1 {} step c2 {} step c3 {} session d step d1 {} step d2 {} step d3 {} session e step e1 {} step e2 {} step e3 {} session f step f1 {} step f2 {} step f3 {} session g step g1 {} step g2 {} step g3 {} session h step h1 {} step h2 {} step h3 {}"}
+far.book | {"facts":[[369398958888959998,2,"swap",2]],"format":2,"outcomes":[],"spec":"session a step a1 {} step a2 {} step a3 {} session b step b1 {} step b2 {} step b3 {} session c step c1 {} step c2 {} step c3 {} session d step d1 {} step d2 {} step d3 {} session e step e1 {} step e2 {} step e3 {} session f step f1 {} step f2 {} step f3 {} session g step g1 {} step g2 {} step g3 {} session h step h1 {} step h2 {} step h3 {}"}
+apart.book | {"facts":[[0,1,"ran",0],[1,1,"swap",20],[369398958888959998,2,"swap",2]],"format":2,"outcomes":[[[["sent",0],"done",["sent",1],"done",["sent",2],"done"],[["sent",3],"done",["sent",4],"done",["sent",5],"done"],[["sent",6],"done",["sent",7],"done",["sent",8],"done"],[["sent",9],"done",["sent",10],"done",["sent",11],"done"],[["sent",12],"done",["sent",13],"done",["sent",14],"done"],[["sent",15],"done",["sent",16],"done",["sent",17],"done"],[["sent",18],"done",["sent",19],"done",["sent",20],"done"],[["sent",21],"done",["sent",22],"done",["sent",23],"done"]]],"spec":"session a step a1 {} step a2 {} step a3 {} session b step b1 {} step b2 {} step b3 {} session c step c1 {} step c2 {} step c3 {} session d step d1 {} step d2 {} step d3 {} session e step e1 {} step e2 {} step e3 {} session f step f1 {} step f2 {} step f3 {} session g step g1 {} step g2 {} step g3 {} session h step h1 {} step h2 {} step h3 {}"}
+long.book | {"facts":[[0,1,"ran",0],[1,1,"swap",26],[2,1,"swap",25],[3,1,"swap",24],[4,1,"swap",23],[5,1,"swap",22],[6,1,"swap",21],[7,1,"swap",20],[8,1,"swap",19],[9,1,"swap",18],[10,1,"swap",17],[11,1,"swap",16],[12,1,"swap",15],[13,1,"swap",14],[14,1,"swap",13],[15,1,"swap",12],[16,1,"swap",11],[17,1,"swap",10],[18,1,"swap",9],[19,1,"swap",8],[20,1,"swap",7],[21,1,"swap",6],[22,1,"swap",5],[23,1,"swap",4],[24,1,"swap",3],[25,1,"swap",2],[26,1,"swap",1],[27,1,"swap",0]],"format":2,"outcomes":[[[["sent",0],"done",["sent",1],"done",["sent",2],"done",["sent",3],"done",["sent",4],"done",["sent",5],"done",["sent",6],"done",["sent",7],"done",["sent",8],"done",["sent",9],"done",["sent",10],"done",["sent",11],"done",["sent",12],"done",["sent",13],"done",["sent",14],"done",["sent",15],"done",["sent",16],"done",["sent",17],"done",["sent",18],"done",["sent",19],"done",["sent",20],"done",["sent",21],"done",["sent",22],"done",["sent",23],"done",["sent",24],"done",["sent",25],"done",["sent",26],"done"],[["sent",27],"done"]]],"spec":"session a step a1 {} step a2 {} step a3 {} step a4 {} step a5 {} step a6 {} step a7 {} step a8 {} step a9 {} step a10 {} step a11 {} step a12 {} step a13 {} step a14 {} step a15 {} step a16 {} step a17 {} step a18 {} step a19 {} step a20 {} step a21 {} step a22 {} step a23 {} step a24 {} step a25 {} step a26 {} step a27 {} session b step b1 {}"}
+lined.book | {"facts":[[0,1,"ran",0]],"format":2,"outcomes":[[[["sent",0],"done",["sent",0],"done",["sent",0],"done"],[["sent",1],"done",["sent",1],"done",["sent",1],"done"],[["sent",2],"done",["sent",2],"done",["sent",2],"done"],[["sent",3],"done",["sent",3],"done",["sent",3],"done"],[["sent",4],"done",["sent",4],"done",["sent",4],"done",["sent",4],"done"],[["sent",5],"done",["sent",5],"done",["sent",5],"done",["sent",5],"done"],[["sent",6],"done",["sent",6],"done",["sent",6],"done",["sent",6],"done"],[["sent",7],"done",["sent",7],"done",["sent",7],"done",["sent",7],"done"]]],"spec":"session a step a1 {} session b step b1 {} session c step c1 {} session d step d1 {} session e step e1 {} session f step f1 {} session g step g1 {} session h step h1 {} permutation h1 g1 f1 e1 d1 c1 b1 a1 h1 g1 f1 e1 d1 c1 b1 a1 h1 g1 f1 e1 d1 c1 b1 a1 h1 g1 f1 e1"}
 cut.book | {"facts":[[0,"ran",[[["sent",0],"done"]]]],"format":1,"spec":"session a step s {}"
 field.book | {"facts":[[0,0,"ran",0]],"format":2,"outcomes":[[[["sent",0],"done"]]],"spec":"session a step s {}"}
 version.book | {"facts":[[0,"ran",[[["sent",0],"done"]]]],"format":3,"spec":"session a step s {}"}
@@ -92,7 +100,10 @@ isofarm count lines.spec | 1
 isofarm count fronts.spec | 2
 isofarm count three.spec | 30
 isofarm count large.spec | 3246670537110000
-isofarm count late.spec | 1";
+isofarm count late.spec | 1
+isofarm count eight.spec | 369398958888960000
+isofarm count long.spec | 28
+isofarm count lined.spec | 1";
 
 #[test]
 fn ranks_are_counted(rt: HostRuntime) -> Result<(), Fail> {
@@ -139,7 +150,11 @@ isofarm run fronts.spec 0 2 | fronts.book
 isofarm run two.spec 0 6 | reduced.book
 isofarm run two.spec 0 3 | lower.book
 isofarm run two.spec 3 6 | upper.book
-isofarm run two.spec 0 4 | left.book";
+isofarm run two.spec 0 4 | left.book
+isofarm run eight.spec 0 2 | eight.book
+isofarm run eight.spec 369398958888959998 369398958888960000 | far.book
+isofarm run long.spec 0 28 | long.book
+isofarm run lined.spec 0 1 | lined.book";
 
 #[test]
 fn a_range_gives_the_book_of_its_ranks(rt: HostRuntime) -> Result<(), Fail> {
@@ -189,7 +204,9 @@ isofarm join back.book front.book front.book first.book back.book | first.book
 isofarm join lower.book upper.book | reduced.book
 isofarm join upper.book lower.book | reduced.book
 isofarm join left.book right.book | both.book
-isofarm join right.book left.book | both.book";
+isofarm join right.book left.book | both.book
+isofarm join far.book eight.book | apart.book
+isofarm join long.book long.book | long.book";
 
 #[test]
 fn books_are_joined_to_all_that_they_tell(rt: HostRuntime) -> Result<(), Fail> {
@@ -289,6 +306,8 @@ isofarm run large.spec 3246670533013999 3246670537110000 | 3 | large.spec: shard
 isofarm run large.spec 0 3246670537110001 | 3 | large.spec: shard error 1
 isofarm run large.spec 0 18446744073709551615 | 3 | large.spec: shard error 1
 isofarm run large.spec 4096001 0 | 3 | large.spec: shard error 1
+isofarm run eight.spec 0 4096001 | 3 | eight.spec: shard error 2
+isofarm run eight.spec 369398958888960000 369398958888960001 | 3 | eight.spec: shard error 1
 isofarm run late.spec 0 2 | 3 | late.spec: shard error 1
 isofarm run late.spec 1 0 | 3 | late.spec: shard error 1
 isofarm run late.spec 0 1 | 3 | late.spec: start error 1 at 1
@@ -357,7 +376,8 @@ isofarm report upper.book | 1 | upper.book: missing rank 0
 isofarm report late.book | 1 | late.book: missing rank 0
 isofarm report clash.book | 1 | clash.book: clash at rank 0
 isofarm report old_clash.book | 1 | old_clash.book: clash at rank 0
-isofarm report large.book | 3 | large.book: too many ranks";
+isofarm report large.book | 3 | large.book: too many ranks
+isofarm report eight.book | 3 | eight.book: too many ranks";
 
 #[test]
 fn a_rank_without_one_value_is_told(rt: HostRuntime) -> Result<(), Fail> {
@@ -489,7 +509,9 @@ lines.book | 1 | session a/step a1/row 10/rows 1/done/step a1/row 11/rows 1/done
 reduced.book | 6 | session a/step a1/inserted 1/done/step a2/deleted 1/done/session b/step b1/inserted 1/done/step b2/deleted 1/done
 old_reduced.book | 6 | session a/step a1/inserted 1/done/step a2/deleted 1/done/session b/step b1/inserted 1/done/step b2/deleted 1/done
 every.book | 6 | session a/step a1/inserted 1/done/step a2/deleted 1/done/session b/step b1/inserted 1/done/step b2/deleted 1/done
-both.book | 6 | session a/step a1/inserted 1/done/step a2/deleted 1/done/session b/step b1/inserted 1/done/step b2/deleted 1/done";
+both.book | 6 | session a/step a1/inserted 1/done/step a2/deleted 1/done/session b/step b1/inserted 1/done/step b2/deleted 1/done
+long.book | 28 | session a/step a1/done/step a2/done/step a3/done/step a4/done/step a5/done/step a6/done/step a7/done/step a8/done/step a9/done/step a10/done/step a11/done/step a12/done/step a13/done/step a14/done/step a15/done/step a16/done/step a17/done/step a18/done/step a19/done/step a20/done/step a21/done/step a22/done/step a23/done/step a24/done/step a25/done/step a26/done/step a27/done/session b/step b1/done
+lined.book | 1 | session a/step a1/done/step a1/done/step a1/done/session b/step b1/done/step b1/done/step b1/done/session c/step c1/done/step c1/done/step c1/done/session d/step d1/done/step d1/done/step d1/done/session e/step e1/done/step e1/done/step e1/done/step e1/done/session f/step f1/done/step f1/done/step f1/done/step f1/done/session g/step g1/done/step g1/done/step g1/done/step g1/done/session h/step h1/done/step h1/done/step h1/done/step h1/done";
 
 #[test]
 fn a_report_tells_each_rank(rt: HostRuntime) -> Result<(), Fail> {

@@ -79,6 +79,16 @@ a ring closed by a conversion that goes ahead of an earlier wait | 0 | T setup {
 a woken session closes a ring as it goes on | 0 | T session a setup { BEGIN; } step a1 { UPDATE t SET v = 4 WHERE id = 1; } step a2 { COMMIT; } session b setup { BEGIN; } step b1 { DELETE FROM t WHERE id = 3; } step b2 { UPDATE t SET v = 5 WHERE id = 1; UPDATE t SET v = 5 WHERE id = 2; } session c setup { BEGIN; } step c1 { UPDATE t SET v = 6 WHERE id = 2; } step c2 { DELETE FROM t WHERE id = 3; SELECT * FROM t; } permutation a1 b1 c1 b2 c2 a2 | session a/step a1/updated 1/done/step a2/committed/done/session b/step b1/deleted 0/done/step b2/waiting/resumed/updated 1/error: deadlock/done/session c/step c1/updated 1/done/step c2/waiting/resumed/deleted 0/row 1|4/row 2|6/rows 2/done
 a victim outside a block has no failed block | 0 | T session a setup { BEGIN; } step a1 { UPDATE t SET v = 1 WHERE id = 1; } step a2 { UPDATE t SET v = v + 1 WHERE id = 2; SELECT v FROM t WHERE id = 2; } session b step b1 { UPDATE t SET v = 5 WHERE id = 2; DELETE FROM t WHERE id = 3; UPDATE t SET v = 5 WHERE id = 1; } step b2 { COMMIT; } session c setup { BEGIN; } step c1 { DELETE FROM t WHERE id = 3; } step c2 { COMMIT; } permutation a1 c1 b1 a2 c2 b2 | session a/step a1/updated 1/done/step a2/waiting/resumed/updated 1/row 21/rows 1/done/session b/step b1/updated 1/waiting/resumed/deleted 0/error: deadlock/done/step b2/warning: no transaction block/committed/done/session c/step c1/deleted 0/done/step c2/committed/done";
 
+/// Runs in which a SELECT locks what it reads, and requests refuse to wait.
+const NO_WAITS: &str =
+    "a row that is read to be written is read by nobody else | 1 | T session a setup { BEGIN; } step a1 { SELECT v FROM t WHERE id = 1 FOR UPDATE; } step a2 { UPDATE t SET v = v + 1 WHERE id = 1; COMMIT; } session b step b1 { SELECT v FROM t WHERE id = 1 FOR SHARE; } | session a/step a1/row 10/rows 1/done/step a2/updated 1/committed/done/session b/step b1/waiting/resumed/row 11/rows 1/done
+who refuses to wait and comes second is had where nobody holds | 0 | T session a setup { BEGIN; } step a1 { SELECT v FROM t WHERE id = 1 FOR UPDATE; } step a2 { COMMIT; } session b setup { BEGIN; } step b1 { SELECT v FROM t WHERE id = 1 FOR SHARE NOWAIT; } step b2 { COMMIT; } | session a/step a1/row 10/rows 1/done/step a2/committed/done/session b/step b1/row 10/rows 1/done/step b2/committed/done
+who refuses to wait fails, and its block with it | 1 | T session a setup { BEGIN; } step a1 { SELECT v FROM t WHERE id = 1 FOR UPDATE; } step a2 { COMMIT; } session b setup { BEGIN; } step b1 { SELECT v FROM t WHERE id = 1 FOR SHARE NOWAIT; } step b2 { COMMIT; } | session a/step a1/row 10/rows 1/done/step a2/committed/done/session b/step b1/error: lock not available/done/step b2/rolled back/done
+two who read a row for others to read are both had | 1 | T session a setup { BEGIN; } step a1 { SELECT v FROM t WHERE id = 1 FOR SHARE; } step a2 { COMMIT; } session b setup { BEGIN; } step b1 { SELECT v FROM t WHERE id = 1 FOR SHARE NOWAIT; } step b2 { COMMIT; } | session a/step a1/row 10/rows 1/done/step a2/committed/done/session b/step b1/row 10/rows 1/done/step b2/committed/done
+no ring is looked for where a request refuses to wait | 1 | T session a setup { BEGIN; } step a1 { UPDATE t SET v = 0 WHERE id = 1; } step a2 { UPDATE t SET v = v + 1 WHERE id = 2; } session b setup { BEGIN; } step b1 { UPDATE t SET v = 0 WHERE id = 2; } step b2 { SELECT v FROM t WHERE id = 1 FOR UPDATE NOWAIT; } | session a/step a1/updated 1/done/step a2/waiting/resumed/updated 1/done/session b/step b1/updated 1/done/step b2/error: lock not available/done
+a request that refuses to wait does not pass a waiter that it would fit beside | 0 | T session a setup { BEGIN; } step a1 { LOCK TABLE t IN SHARE MODE; } step a2 { COMMIT; } session b step b1 { UPDATE t SET v = 0; } session c step c1 { SET x = 1; LOCK t IN ROW SHARE MODE NOWAIT; SET x = 2; } step c2 { LOCK t NOWAIT; } permutation a1 b1 c1 a2 c2 | session a/step a1/locked/done/step a2/committed/done/session b/step b1/waiting/resumed/updated 2/done/session c/step c1/set/error: lock not available/done/step c2/locked/done
+setups that refuse to wait and need not | 0 | T setup { BEGIN; LOCK t NOWAIT; SELECT v FROM t FOR UPDATE NOWAIT; COMMIT; } session a setup { BEGIN; SELECT v FROM t WHERE id = 1 FOR UPDATE NOWAIT; } step a1 { COMMIT; } session b setup { BEGIN; SELECT v FROM t WHERE id = 2 FOR UPDATE NOWAIT; } step b1 { COMMIT; } | session a/step a1/committed/done/session b/step b1/committed/done";
+
 /// Starts that are refused: a name, the line, and the spec.
 const REFUSED_STARTS: &str =
     "the second setup fails | start error 1 at 1 | T setup { INSERT INTO t VALUES (1, 0); } session a step s {}
@@ -87,7 +97,9 @@ a setup leaves its block open | start error 1 at 2 | T setup { BEGIN; COMMIT; RO
 a session's setup fails in its block | start error 2 at 1 | T session a setup { BEGIN; } step s {} session b setup { BEGIN; INSERT INTO t VALUES (3, 0), (3, 1); } step u {}
 a session's setup fails before another would wait | start error 2 at 0 | T session a setup { BEGIN; LOCK t; DELETE FROM t WHERE v * 9223372036854775807 > 0; } step s {} session b setup { BEGIN; LOCK t; } step u {}
 a session's setup waits for the lock of another | start error 3 at 1 | T session a setup { BEGIN; LOCK TABLE t; } step s {} session b setup { BEGIN; LOCK TABLE t; } step u {}
-a session's setup waits before a later one would fail | start error 3 at 1 | T session a setup { UPDATE t SET v = 0; BEGIN; } step s {} session b setup { SELECT v FROM t WHERE id = 2; } step u {} session c setup { INSERT INTO t VALUES (1, 0); } step w {}";
+a session's setup waits before a later one would fail | start error 3 at 1 | T session a setup { UPDATE t SET v = 0; BEGIN; } step s {} session b setup { SELECT v FROM t WHERE id = 2; } step u {} session c setup { INSERT INTO t VALUES (1, 0); } step w {}
+a session's setup refuses to wait for the table of another | start error 2 at 1 | T session a setup { BEGIN; LOCK t IN SHARE MODE; } step s {} session b setup { BEGIN; LOCK t IN ROW EXCLUSIVE MODE NOWAIT; } step u {}
+a session's setup refuses to wait for the row of another | start error 2 at 2 | T session a setup { BEGIN; SELECT v FROM t WHERE id = 1 FOR SHARE; } step s {} session b step u {} session c setup { SELECT v FROM t WHERE id = 1 FOR UPDATE NOWAIT; } step w {}";
 
 /// A run: what it shows, its rank, its spec, and what the sessions are told.
 #[derive(Clone, Copy)]
@@ -169,6 +181,11 @@ fn sessions_wait_and_wake_in_their_order(rt: HostRuntime) -> Result<(), Fail> {
 #[test]
 fn who_closes_a_ring_is_its_victim(rt: HostRuntime) -> Result<(), Fail> {
     assert_told(&rt, rt.alloc(), RINGS)
+}
+
+#[test]
+fn who_refuses_to_wait_is_refused_where_it_would_wait(rt: HostRuntime) -> Result<(), Fail> {
+    assert_told(&rt, rt.alloc(), NO_WAITS)
 }
 
 fn assert_refused(

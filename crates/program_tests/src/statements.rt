@@ -6,6 +6,7 @@ use crate::disks::{assert_tells, assert_text, holding, tell};
 use bound_specs::Spec;
 use lock_modes::{Mode, Place, Value};
 use spec_reader::read_spec;
+use sql_statements::nowait;
 use sql_subset::{BindError, Bound, bind, lock_plan};
 use std::alloc::{AllocError, Global};
 use std::process::Abort;
@@ -143,7 +144,8 @@ fn setups_that_do_not_fit_are_refused_at_their_place(rt: HostRuntime) -> Result<
     )
 }
 
-/// Statements over the two tables, each with its lock plan: modes on tables (T) and on the keys of rows (R).
+/// Statements over the two tables, each with its lock plan: modes on tables (T) and on the keys of rows (R), and whether its requests
+/// refuse to wait.
 pub const PLANS: &str = "SELECT * FROM t | S T0
 SELECT * FROM t WHERE id = 2 | IS T0, S R0:2
 SELECT * FROM t WHERE (v > 0) AND id = 2 | IS T0, S R0:2
@@ -163,6 +165,14 @@ SELECT * FROM t WHERE id + 0 = 2 | S T0
 SELECT v, id FROM t WHERE id = 2 ORDER BY v DESC, id | IS T0, S R0:2
 SELECT count(*), sum(v) FROM t WHERE id = 2 | IS T0, S R0:2
 SELECT a FROM u WHERE a = 2 | S T1
+SELECT * FROM t WHERE id = 2 FOR UPDATE | IX T0, X R0:2
+SELECT v, id FROM t WHERE v = 1 AND id = 2 ORDER BY v FOR UPDATE NOWAIT | IX T0, X R0:2 nowait
+SELECT * FROM t FOR UPDATE | X T0
+SELECT v FROM t WHERE id = 2 OR v = 1 FOR UPDATE NOWAIT | X T0 nowait
+SELECT a FROM u WHERE a = 2 FOR UPDATE | X T1
+SELECT v FROM t WHERE id = 2 FOR SHARE | IS T0, S R0:2
+SELECT * FROM t WHERE id = 2 FOR SHARE NOWAIT | IS T0, S R0:2 nowait
+SELECT a FROM u FOR SHARE NOWAIT | S T1 nowait
 INSERT INTO t VALUES (5, 0, 'x'), (4, 0, 'y') | IX T0, X R0:5, X R0:4
 INSERT INTO t (v, b, id) VALUES (5, 'x', 0), (4, 'y', 1) | IX T0, X R0:0, X R0:1
 INSERT INTO u VALUES (1, 'a') | X T1
@@ -182,6 +192,10 @@ LOCK TABLE t IN SHARE MODE | S T0
 LOCK TABLE t IN SHARE ROW EXCLUSIVE MODE | SIX T0
 LOCK TABLE t IN EXCLUSIVE MODE | X T0
 LOCK TABLE t IN ACCESS EXCLUSIVE MODE | X T0
+LOCK t NOWAIT | X T0 nowait
+LOCK TABLE t NOWAIT | X T0 nowait
+LOCK t IN ROW SHARE MODE NOWAIT | IS T0 nowait
+LOCK TABLE t IN SHARE ROW EXCLUSIVE MODE NOWAIT | SIX T0 nowait
 SET a = 1 | 
 SET LOCAL a TO b | 
 BEGIN | 
@@ -221,12 +235,19 @@ fn push_request(
     push_place(text, place)
 }
 
+fn push_nowait(text: &mut String, refuses_to_wait: bool) -> Result<(), AllocError> {
+    if refuses_to_wait {
+        text.push_str(" nowait")?;
+    }
+    Ok(())
+}
+
 fn push_plan(text: &mut String, statement: &Bound) -> Result<(), AllocError>
     requires { HasKeys statement.now }
 {
     for number in 0..u8::MAX {
         let Some((place, mode)) = lock_plan(statement, number) else {
-            return Ok(());
+            return push_nowait(text, nowait(statement));
         };
         push_request(text, number, place, mode)?;
     }

@@ -29,6 +29,10 @@ short.book | {"facts":[[0,1,"ran",0]],"format":2,"outcomes":[[[["sent",0],["inse
 late.book | {"facts":[],"format":2,"outcomes":[],"spec":"setup { CREATE TABLE t (id int PRIMARY KEY, v int); INSERT INTO t VALUES (1, 10), (2, 20); } setup { INSERT INTO t VALUES (1, 0); } session a step s {}"}
 late_ran.book | {"facts":[[0,"ran",[[["sent",0],"done"]]]],"format":1,"spec":"setup { CREATE TABLE t (id int PRIMARY KEY, v int); INSERT INTO t VALUES (1, 10), (2, 20); } setup { INSERT INTO t VALUES (1, 0); } session a step s {}"}
 large.book | {"facts":[],"format":2,"outcomes":[],"spec":"session a step a1 {} step a2 {} step a3 {} step a4 {} session b step b1 {} step b2 {} step b3 {} step b4 {} session c step c1 {} step c2 {} step c3 {} step c4 {} session d step d1 {} step d2 {} step d3 {} step d4 {} session e step e1 {} step e2 {} step e3 {} step e4 {} session f step f1 {} step f2 {} step f3 {} step f4 {}"}
+eight.book | {"facts":[[0,1,"ran",0],[1,1,"swap",20]],"format":2,"outcomes":[[[["sent",0],"done",["sent",1],"done",["sent",2],"done"],[["sent",3],"done",["sent",4],"done",["sent",5],"done"],[["sent",6],"done",["sent",7],"done",["sent",8],"done"],[["sent",9],"done",["sent",10],"done",["sent",11],"done"],[["sent",12],"done",["sent",13],"done",["sent",14],"done"],[["sent",15],"done",["sent",16],"done",["sent",17],"done"],[["sent",18],"done",["sent",19],"done",["sent",20],"done"],[["sent",21],"done",["sent",22],"done",["sent",23],"done"]]],"spec":"session a step a1 {} step a2 {} step a3 {} session b step b1 {} step b2 {} step b3 {} session c step c1 {} step c2 {} step c3 {} session d step d1 {} step d2 {} step d3 {} session e step e1 {} step e2 {} step e3 {} session f step f1 {} step f2 {} step f3 {} session g step g1 {} step g2 {} step g3 {} session h step h1 {} step h2 {} step h3 {}"}
+far.book | {"facts":[[369398958888959998,2,"swap",2]],"format":2,"outcomes":[],"spec":"session a step a1 {} step a2 {} step a3 {} session b step b1 {} step b2 {} step b3 {} session c step c1 {} step c2 {} step c3 {} session d step d1 {} step d2 {} step d3 {} session e step e1 {} step e2 {} step e3 {} session f step f1 {} step f2 {} step f3 {} session g step g1 {} step g2 {} step g3 {} session h step h1 {} step h2 {} step h3 {}"}
+long.book | {"facts":[[0,1,"ran",0],[1,1,"swap",26],[2,1,"swap",25],[3,1,"swap",24],[4,1,"swap",23],[5,1,"swap",22],[6,1,"swap",21],[7,1,"swap",20],[8,1,"swap",19],[9,1,"swap",18],[10,1,"swap",17],[11,1,"swap",16],[12,1,"swap",15],[13,1,"swap",14],[14,1,"swap",13],[15,1,"swap",12],[16,1,"swap",11],[17,1,"swap",10],[18,1,"swap",9],[19,1,"swap",8],[20,1,"swap",7],[21,1,"swap",6],[22,1,"swap",5],[23,1,"swap",4],[24,1,"swap",3],[25,1,"swap",2],[26,1,"swap",1],[27,1,"swap",0]],"format":2,"outcomes":[[[["sent",0],"done",["sent",1],"done",["sent",2],"done",["sent",3],"done",["sent",4],"done",["sent",5],"done",["sent",6],"done",["sent",7],"done",["sent",8],"done",["sent",9],"done",["sent",10],"done",["sent",11],"done",["sent",12],"done",["sent",13],"done",["sent",14],"done",["sent",15],"done",["sent",16],"done",["sent",17],"done",["sent",18],"done",["sent",19],"done",["sent",20],"done",["sent",21],"done",["sent",22],"done",["sent",23],"done",["sent",24],"done",["sent",25],"done",["sent",26],"done"],[["sent",27],"done"]]],"spec":"session a step a1 {} step a2 {} step a3 {} step a4 {} step a5 {} step a6 {} step a7 {} step a8 {} step a9 {} step a10 {} step a11 {} step a12 {} step a13 {} step a14 {} step a15 {} step a16 {} step a17 {} step a18 {} step a19 {} step a20 {} step a21 {} step a22 {} step a23 {} step a24 {} step a25 {} step a26 {} step a27 {} session b step b1 {}"}
+far_false.book | {"facts":[[369398958888959999,1,"ran",0]],"format":2,"outcomes":[[[],[],[],[],[],[],[],[]]],"spec":"session a step a1 {} step a2 {} step a3 {} session b step b1 {} step b2 {} step b3 {} session c step c1 {} step c2 {} step c3 {} session d step d1 {} step d2 {} step d3 {} session e step e1 {} step e2 {} step e3 {} session f step f1 {} step f2 {} step f3 {} session g step g1 {} step g2 {} step g3 {} session h step h1 {} step h2 {} step h3 {}"}
 version.book | {"facts":[[0,"ran",[[["sent",0],"done"]]]],"format":3,"spec":"session a step s {}"}
 text.book | no book"#;
 
@@ -143,11 +147,15 @@ isofarm audit every.book | 0 | true
 isofarm audit short.book | 0 | true
 isofarm audit large.book | 0 | true
 isofarm audit late.book | 0 | true
+isofarm audit eight.book | 0 | true
+isofarm audit far.book | 0 | true
+isofarm audit long.book | 0 | true
 isofarm audit false.book | 1 | false at rank 0
 isofarm audit clash.book | 1 | false at rank 0
 isofarm audit other.book | 1 | false at rank 0
 isofarm audit late_ran.book | 1 | false at rank 0
-isofarm audit swap.book | 1 | false at rank 1";
+isofarm audit swap.book | 1 | false at rank 1
+isofarm audit far_false.book | 1 | false at rank 369398958888959999";
 
 #[test]
 fn an_audit_tells_the_least_rank_with_a_false_fact(rt: HostRuntime) -> Result<(), Fail> {
