@@ -81,11 +81,11 @@ module _ (file : SpecFile) (reduce : Bool) (first : ℕ) where
       subst (λ y. GivesRun y (now given.run.end end (sent + given.sent) left false) (Some given.run)) (ap (λ r. now at end sent r spent) is ∙ here)
       (let r : IsRest file reduce at w None = subst (IsRest file reduce at w) (sym is) standing.rest_is in
       let few = walk-few file reduce first end v walked.walk in
-      let behind = walked.at in
+      let behind = walked.moved.at in
       let sent_few = walked.sent_few in
-      let begin : given.run.first ≡ at = walked.begin ∙ r in
+      let begin : given.run.first ≡ at = walked.moved.begin ∙ r in
       let most : given.sent ≤ most_steps file.run at given.run.fact = subst (λ m. given.sent ≤ most_steps file.run m given.run.fact) begin walked.most in (
-        record { first = begin; some = walked.some; few = omega (arith, few, behind); one = walked.one; facts = walked.facts },
+        record { first = begin; some = walked.moved.some; few = omega (arith, few, behind); one = walked.moved.one; facts = walked.moved.facts },
         record {
           least = omega arith;
           most = omega (arith, most);
@@ -110,14 +110,14 @@ module _ (file : SpecFile) (reduce : Bool) (first : ℕ) where
       → IsStanding file reduce first given.run.end end (sent + given.sent) v left
   stands-after-run at end sent w v rest left given is none standing walked =
       let r : IsRest file reduce at w None = subst (IsRest file reduce at w) (sym is) standing.rest_is in
-      let begin = walked.begin in
-      let some = walked.some in
+      let begin = walked.moved.begin in
+      let some = walked.moved.some in
       let more = walked.sent_few in
       let from = standing.from in
       let sent_few = standing.sent_few in
       record {
         walk = walked.walk;
-        rest_is = subst (IsRest file reduce given.run.end v) (sym none) walked.at;
+        rest_is = subst (IsRest file reduce given.run.end v) (sym none) walked.moved.at;
         from = omega (arith, begin, r, some, from);
         few = standing.few;
         sent_few = omega (arith, begin, r, some, more, from, sent_few);
@@ -129,9 +129,9 @@ module _ (file : SpecFile) (reduce : Bool) (first : ℕ) where
       → AreSent reduce file.run first given.run.end (sent + given.sent)
   sent-after-run at end sent w v rest given is standing walked so_far =
       let r : IsRest file reduce at w None = subst (IsRest file reduce at w) (sym is) standing.rest_is in
-      let begin : given.run.first ≡ at = walked.begin ∙ r in
+      let begin : given.run.first ≡ at = walked.moved.begin ∙ r in
       sent-more reduce file.run first at given.run.end sent (sent + given.sent) standing.from
-      (λ run. walked.one run ∙ ap (λ n. n + 1) begin)
+      (λ run. walked.moved.one run ∙ ap (λ n. n + 1) begin)
       (λ run. ap (λ n. sent + n) (walked.exact run ∙ ap (λ m. new_steps file.run first (m - first)) r)) so_far
 
   pub sent-after-rest : (at end sent : ℕ) (w : Walk) (rest : Option FactRun) (run : FactRun)

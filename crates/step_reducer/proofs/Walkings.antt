@@ -1,36 +1,97 @@
 -- A walk of words or of lines has gone on.
-use Rattle.std.proofs.Common.{◌≡◌, sym, ap, ◌∙◌, subst, ℕ, suc, ◌+◌, ◌-◌, ◌<◌, ◌≤◌, Bool, List, length, arith}
-use Rattle.bound_specs.specs.Spec.{SpecFile, line_of}
+use Rattle.std.proofs.Common.{◌≡◌, refl, sym, ap, ◌∙◌, subst, ℕ, suc, ◌+◌, ◌-◌, ◌<◌, ◌≤◌, Bool, false, List, Some, length, arith}
+use Rattle.bound_specs.specs.Spec.{SpecFile, ranks, line_of}
 use Rattle.step_reducer.specs.declared.fact.Given.{Given}
 use Rattle.step_reducer.specs.declared.word_walk.WordWalk.{WordWalk}
 use Rattle.step_reducer.specs.declared.line_walk.LineWalk.{LineWalk}
+use Rattle.step_reducer.specs.declared.walk.Walk.{Walk}
 use Rattle.step_reducer.specs.declared.walk.Walk.TheVariants.{Words, Lines}
 use Rattle.step_reducer.specs.Fronts.{front, line_before, new_steps, most_steps}
-use Rattle.step_reducer.specs.Walks.{AllHave, HasGiven}
+use Rattle.step_reducer.specs.Walks.{AllHave, IsWalk, HasGiven}
 use Rattle.step_reducer.specs.Lines.{IsLines, HasRun}
-use Rattle.step_reducer.specs.Walking.{IsWords, IsLinesTo, HasWalked}
+use Rattle.step_reducer.specs.Walking.{IsWords, IsLinesTo, IsWalkOf, IsGoing, walk_at, walk_end, moved_to, HasMoved, HasWalked}
+use Rattle.step_reducer.specs.Shardwise.{Shardwise, GivesPart, IsOnward}
 use Rattle.step_reducer.proofs.Sendings.{words-run}
+use Rattle.step_reducer.proofs.Stacks.{stack-later}
+
+-- ---- a walk of a shard is one of the spec, up to the shard's end and maybe further
+
+pub going-of : (file : SpecFile) (reduce : Bool) (first end : ℕ) (w : Walk) → IsWalkOf file reduce first end w → IsGoing file reduce w
+going-of file reduce first end (Words w) is = (is.walk, is.reduce_is)
+going-of file reduce first end (Lines w) is = (is.walk, is.lines)
+
+pub far-enough : (file : SpecFile) (reduce : Bool) (first end : ℕ) (w : Walk) → IsWalkOf file reduce first end w → end ≤ walk_end file w
+far-enough file reduce first end (Words w) is = (let same = is.end_is in omega (arith, same))
+far-enough file reduce first end (Lines w) is = is.known
+
+-- one that may be asked for all ranks
+pub all-ranks : (file : SpecFile) (reduce : Bool) (first : ℕ) (w : Walk) → IsWalkOf file reduce first (ranks file.run) w → walk_end file w ≡ ranks file.run
+all-ranks file reduce first (Words w) is = is.end_is
+all-ranks file reduce first (Lines w) is = refl
+
+-- ---- before a later rank
+
+pub going-later : (file : SpecFile) (reduce : Bool) (rank : ℕ) (w : Walk) → walk_at w ≤ rank → IsGoing file reduce w → IsGoing file reduce (moved_to rank w)
+going-later file reduce rank (Words w) le is = (
+  record {
+    tour = is.0.tour;
+    table = is.0.table;
+    steps = is.0.steps;
+    stack = stack-later w.reduce file (w.at - 1) (rank - 1) w.end w.stack (omega (arith, le)) is.0.stack;
+  },
+  is.1,
+)
+going-later file reduce rank (Lines w) le is = is
+
+pub end-later : (file : SpecFile) (rank : ℕ) (w : Walk) → walk_end file (moved_to rank w) ≡ walk_end file w
+end-later file rank (Words w) = refl
+end-later file rank (Lines w) = refl
+
+pub at-later : (rank : ℕ) (w : Walk) → walk_at (moved_to rank w) ≡ rank
+at-later rank (Words w) = refl
+at-later rank (Lines w) = refl
+
+pub onward-later : (file : SpecFile) (reduce : Bool) (at rank : ℕ) (w : Walk) → at ≤ rank → IsOnward file reduce at w → IsOnward file reduce rank (moved_to rank w)
+onward-later file reduce at rank w le is =
+    let here = is.here in
+    record {
+      going = going-later file reduce rank w (omega (arith, le, here)) is.going;
+      to = end-later file rank w ∙ is.to;
+      here = at-later rank w;
+    }
+
+-- ---- behind what it has given
+
+pub words-moved : (file : SpecFile) (reduce : Bool) (end : ℕ) (w : WordWalk) (given : Given) (v : WordWalk)
+    → IsWalk file w → w.reduce ≡ reduce → HasGiven w.stack.top.world.file end w given v → HasMoved file reduce end (Words w) given (Words v)
+words-moved file reduce end w given v is reduces gave =
+    let gives = subst (λ f. HasGiven f end w given v) is.stack.top.frame.file_is gave in
+    record {
+      going = (gives.walk, gives.reduce ∙ reduces);
+      to = gives.all;
+      begin = gives.first;
+      some = gives.some;
+      few = gives.few;
+      one = λ run. gives.one (reduces ∙ words-run reduce file.run is.tour.words run);
+      at = gives.at;
+      facts = subst (λ b. AllHave b file.run given.run.first given.run.end given.run.fact) reduces gives.facts;
+    }
 
 pub words-walked : (file : SpecFile) (reduce : Bool) (first end : ℕ) (w : WordWalk) (given : Given) (v : WordWalk)
-    → IsWords file reduce first end w → HasGiven w.stack.top.world.file w given v → HasWalked file reduce first end (Words w) given (Words v)
+    → IsWords file reduce first end w → HasGiven w.stack.top.world.file end w given v → HasWalked file reduce first end (Words w) given (Words v)
 words-walked file reduce first end w given v is gave =
-    let gives = subst (λ f. HasGiven f w given v) is.walk.stack.top.frame.file_is gave in
+    let gives = subst (λ f. HasGiven f end w given v) is.walk.stack.top.frame.file_is gave in
     let few = gives.few in
-    let end_is = is.end_is in
     let at = gives.at in
     record {
+      moved = words-moved file reduce end w given v is.walk is.reduce_is gave;
       walk = record {
         walk = gives.walk;
         reduce_is = gives.reduce ∙ is.reduce_is;
-        end_is = gives.end ∙ is.end_is;
-        few = omega (arith, few, end_is, at);
+        end_is = gives.all ∙ is.end_is;
+        few = omega (arith, few, at);
         follows = λ e. (gives.sent first (is.reduce_is ∙ e) (is.follows e)).1;
       };
-      begin = gives.first;
-      some = gives.some;
-      one = λ run. gives.one (is.reduce_is ∙ words-run reduce file.run is.walk.tour.words run);
-      at = gives.at;
-      facts = subst (λ b. AllHave b file.run given.run.first given.run.end given.run.fact) is.reduce_is gives.facts;
       most = gives.most;
       sent_few = gives.sent_few;
       exact = λ run. (let e = words-run reduce file.run is.walk.tour.words run in (gives.sent first (is.reduce_is ∙ e) (is.follows e)).0);
@@ -59,31 +120,61 @@ module _ (file : SpecFile) (first end : ℕ) (w : LineWalk) (given : Given) (v :
       λ k. front (is.line k) (line-at k) in
       omega (arith, sent, len, shared)
 
+pub lines-moved : (file : SpecFile) (reduce : Bool) (end : ℕ) (w : LineWalk) (given : Given) (v : LineWalk)
+    → IsGoing file reduce (Lines w) → w.at < end → HasRun w given v → HasMoved file reduce end (Lines w) given (Lines v)
+lines-moved file reduce end w given v is some ran =
+    let same : w.path.spec.now ≡ file = is.0.file_is in
+    let begin = ran.first in
+    let behind = ran.end in
+    record {
+      going = (subst (λ f. IsLines f v) same ran.lines, is.1);
+      to = refl;
+      begin = ran.first;
+      some = omega (arith, begin, behind);
+      few = omega (arith, behind, some);
+      one = λ run. omega (arith, begin, behind);
+      at = ran.at ∙ sym behind;
+      facts = subst (λ (f : SpecFile). AllHave reduce f.run given.run.first given.run.end given.run.fact) same (ran.facts reduce);
+    }
+
 pub lines-walked : (file : SpecFile) (reduce : Bool) (first end : ℕ) (w : LineWalk) (given : Given) (v : LineWalk)
     → IsLinesTo file first end w → w.at < end → HasRun w given v → HasWalked file reduce first end (Lines w) given (Lines v)
 lines-walked file reduce first end w given v is some ran =
     let same : w.path.spec.now ≡ file = is.walk.file_is in
     let from = is.from in
-    let begin = ran.first in
-    let behind = ran.end in
     let at = ran.at in
     let sent = ran.sent in
     let short = ran.short in
+    let moved = lines-moved file reduce end w given v (is.walk, is.lines) some ran in
     record {
+      moved = moved;
       walk = record {
-        walk = subst (λ f. IsLines f v) same ran.lines;
+        walk = moved.going.0;
         lines = is.lines;
         line = line-next file first end w given v is ran;
         from = omega (arith, from, at);
         few = omega (arith, at, some);
         known = is.known;
       };
-      begin = ran.first;
-      some = omega (arith, begin, behind);
-      one = λ run. omega (arith, begin, behind);
-      at = at ∙ sym behind;
-      facts = subst (λ (f : SpecFile). AllHave reduce f.run given.run.first given.run.end given.run.fact) same (ran.facts reduce);
       most = subst (λ (f : SpecFile). given.sent ≤ most_steps f.run given.run.first given.run.fact) same ran.most;
       sent_few = omega (arith, sent, short);
       exact = λ run. line-sent file first end w given v is ran;
     }
+
+-- ---- a walk that goes on from shard to shard
+
+pub onward-moved : (file : SpecFile) (reduce : Bool) (at end : ℕ) (w : Walk) (given : Given) (v : Walk) → IsOnward file reduce at w
+    → HasMoved file reduce end w given v → IsOnward file reduce given.run.end v
+onward-moved file reduce at end w given v is moved = record { going = moved.going; to = moved.to ∙ is.to; here = moved.at }
+
+-- what it gives, and where it stands then
+pub part-given : (file : SpecFile) (reduce : Bool) (at end : ℕ) (spent : Bool) (w : Walk) (given : Given) (v : Walk) (x : Shardwise) → IsOnward file reduce at w
+    → HasMoved file reduce end w given v → spent ≡ false → (let y : Shardwise = record { file = file; reduce = reduce; at = at; end = end; spent = spent } in y) ≡ x
+    → GivesPart x (record { file = file; reduce = reduce; at = given.run.end; end = end; spent = false }) (Some given.run)
+part-given file reduce at end spent w given v x is moved unspent here =
+    let same : (let y : Shardwise = record { file = file; reduce = reduce; at = at; end = end; spent = false } in y) ≡ x =
+    (λ k. (let y : Shardwise = record { file = file; reduce = reduce; at = at; end = end; spent = sym unspent k } in y)) ∙ here in
+    subst (λ z. GivesPart z (record { file = file; reduce = reduce; at = given.run.end; end = end; spent = false }) (Some given.run)) same (
+      record { first = moved.begin ∙ is.here; some = moved.some; few = moved.few; one = moved.one; facts = moved.facts },
+      refl,
+    )

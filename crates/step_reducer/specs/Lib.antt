@@ -5,4 +5,5 @@ pub mod Walks
 pub mod Paths
 pub mod Lines
 pub mod Walking
+pub mod Shardwise
 pub mod Laws

@@ -105,14 +105,36 @@ abbrev pub IsWalkOf : SpecFile → Bool → ℕ → ℕ → Walk → Type 0
 IsWalkOf file reduce first end (Words w) = IsWords file reduce first end w
 IsWalkOf file reduce first end (Lines w) = IsLinesTo file first end w
 
--- the walk has given the fact of the ranks from where it stood on, and stands behind them
-pub record HasWalked (file : SpecFile) (reduce : Bool) (first end : ℕ) (x : Walk) (given : Given) (y : Walk) : Type 0 where
-  pub walk : IsWalkOf file reduce first end y
+-- a walk of the spec's words or lines, wherever it stands
+abbrev pub IsGoing : SpecFile → Bool → Walk → Type 0
+IsGoing file reduce (Words w) = IsWalk file w × (w.reduce ≡ reduce)
+IsGoing file reduce (Lines w) = IsLines file w × (file.run.lines ≢ [])
+
+-- the end of the ranks that a walk may be asked for
+abbrev pub walk_end : SpecFile → Walk → ℕ
+walk_end file (Words w) = w.end
+walk_end file (Lines w) = ranks file.run
+
+-- the walk before another rank
+abbrev pub moved_to : ℕ → Walk → Walk
+moved_to rank (Words w) = Words (record w { at = rank })
+moved_to rank (Lines w) = Lines (record w { at = rank })
+
+-- the walk has given the fact of ranks from where it stood on, none of them past the end, and stands behind them
+pub record HasMoved (file : SpecFile) (reduce : Bool) (end : ℕ) (x : Walk) (given : Given) (y : Walk) : Type 0 where
+  pub going : IsGoing file reduce y
+  pub to : walk_end file y ≡ walk_end file x
   pub begin : given.run.first ≡ walk_at x
   pub some : given.run.first < given.run.end
+  pub few : given.run.end ≤ end
   pub one : skips reduce file.run ≡ false → given.run.end ≡ given.run.first + 1
   pub at : walk_at y ≡ given.run.end
   pub facts : AllHave reduce file.run given.run.first given.run.end given.run.fact
+
+-- a walk from the first rank up to the end has moved, with the steps sent for that
+pub record HasWalked (file : SpecFile) (reduce : Bool) (first end : ℕ) (x : Walk) (given : Given) (y : Walk) : Type 0 where
+  pub moved : HasMoved file reduce end x given y
+  pub walk : IsWalkOf file reduce first end y
   pub most : given.sent ≤ most_steps file.run given.run.first given.run.fact
   pub sent_few : given.sent ≤ MAX_ITEMS
   pub exact : skips reduce file.run ≡ false → given.sent ≡ new_steps file.run first (walk_at x - first)

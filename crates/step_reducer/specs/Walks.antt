@@ -142,15 +142,15 @@ pub record HasSent (reduce : Bool) (spec : Spec) (at : ℕ) (x : Stack) (found :
   pub all : reduce ≡ false → found.sent ≡ total x.top.block.left
   pub whole : reduce ≡ false → total y.top.block.left ≡ 0
 
--- the walk has given the fact of the ranks from where it stood on, and stands behind them
-pub record HasGiven (file : SpecFile) (x : WordWalk) (given : Given) (y : WordWalk) : Type 0 where
+-- the walk has given the fact of ranks from where it stood on, none of them past the end that was named, and stands behind them
+pub record HasGiven (file : SpecFile) (end : ℕ) (x : WordWalk) (given : Given) (y : WordWalk) : Type 0 where
   pub walk : IsWalk file y
   pub first : given.run.first ≡ x.at
   pub some : given.run.first < given.run.end
-  pub few : given.run.end ≤ x.end
+  pub few : given.run.end ≤ end
   pub facts : AllHave x.reduce file.run given.run.first given.run.end given.run.fact
   pub at : y.at ≡ given.run.end
-  pub end : y.end ≡ x.end
+  pub all : y.end ≡ x.end
   pub reduce : y.reduce ≡ x.reduce
   pub sent_few : given.sent ≤ MAX_ITEMS
   pub most : given.sent ≤ most_steps file.run given.run.first given.run.fact

@@ -1,13 +1,16 @@
 //! A walk of words or of lines.
 
-ghost use Rattle.std.specs.Prelude.{◌≡◌, ◌<◌, IfOk};
-ghost use Rattle.step_reducer.specs.Walking.{walk_at, IsWalkOf, HasWalked};
+ghost use Rattle.std.specs.Prelude.{◌≡◌, ℕ, ◌<◌, ◌≤◌, false, IfOk};
+ghost use Rattle.bound_specs.specs.Spec.{ranks};
+ghost use Rattle.machine_model.specs.Start.{Started, start};
+ghost use Rattle.step_reducer.specs.Walking.{walk_at, walk_end, moved_to, IsGoing, IsWalkOf, HasMoved, HasWalked};
 
 use crate::fact::Given;
 use crate::line_walk::LineWalk;
 use crate::word_walk::WordWalk;
 use bound_specs::Spec;
-use std::alloc::AllocError;
+use session_machine::World;
+use std::alloc::{AllocError, Global};
 
 /// How the ranks are walked.
 pub(crate) enum Walk<'a> {
@@ -26,21 +29,60 @@ impl Drop for Walk<'_> {
 }
 
 impl<'a> Walk<'a> {
-    /// The fact of the next ranks, at least of one.
+    /// A walk in the world of a spec's start, which stands before the first rank and may be asked for those up to the end.
+    pub(crate) fn new(
+        alloc: Global,
+        spec: &'a Spec,
+        world: World<'a>,
+        first: u64,
+        end: u64,
+        reduce: bool,
+    ) -> Result<Walk<'a>, AllocError>
+        requires started { start spec.now.run ≡ Started world.world }
+        requires whole { world.spent ≡ false }
+        requires of_spec { world.file ≡ spec.now }
+        requires order { first ≤ end }
+        requires few { end ≤ ranks spec.now.run }
+        ensures walk { IfOk result (IsWalkOf spec.now reduce first end) }
+        ensures at { IfOk result (λ walk. walk_at walk ≡ first) }
+    {
+        match spec.shape() {
+            Some(shape) => {
+                let walk = WordWalk::new(alloc, spec, shape, world, first, end, reduce)?;
+                Ok(Walk::Words(walk))
+            }
+            None => Ok(Walk::Lines(LineWalk::new(alloc, spec, world, first))),
+        }
+    }
+
+    /// The fact of the next ranks, at least of one, none of them past an end. Of a walk that came from a first rank on, the steps sent
+    /// may be counted.
     pub(crate) fn next_run(
         &mut self,
         spec: &Spec,
         reduce: bool,
-        first: u64,
         end: u64,
     ) -> Result<Given, AllocError>
-        requires walk { IsWalkOf spec.now reduce first end self.old }
+        requires going { IsGoing spec.now reduce self.old }
         requires some { walk_at self.old < end }
-        ensures { IfOk result (λ given. HasWalked spec.now reduce first end self.old given self.new) }
+        requires inside { end ≤ walk_end spec.now self.old }
+        ensures moved { IfOk result (λ given. HasMoved spec.now reduce end self.old given self.new) }
+        ensures walked { IfOk result (λ given. (first : ℕ) → IsWalkOf spec.now reduce first end self.old
+            → HasWalked spec.now reduce first end self.old given self.new) }
     {
         match self {
-            Walk::Words(walk) => walk.next_run(),
+            Walk::Words(walk) => walk.next_run(end),
             Walk::Lines(walk) => walk.next_run(),
+        }
+    }
+
+    /// Goes on before another rank. What the ranks given share with that one stays.
+    pub(crate) fn reach(&mut self, rank: u64)
+        ensures { self.new ≡ moved_to rank self.old }
+    {
+        match self {
+            Walk::Words(walk) => walk.at = rank,
+            Walk::Lines(walk) => walk.at = rank,
         }
     }
 }

@@ -7,13 +7,12 @@ ghost use Rattle.step_reducer.specs.Walking.{begun_at, AreSent, GivesRun, GivesF
 
 use crate::error::WalkError;
 use crate::fact::FactRun;
-use crate::line_walk::LineWalk;
+use crate::start::start_for;
 use crate::walk::Walk;
-use crate::word_walk::WordWalk;
 use bound_specs::Spec;
 use finite_maps::Fork;
-use quiet_steps::{Fact, MAX_RANKS, Shard};
-use session_machine::{RunError, World, not_started};
+use quiet_steps::{Fact, Shard};
+use session_machine::RunError;
 use std::alloc::{AllocError, Global};
 use std::marker::Model;
 
@@ -87,31 +86,8 @@ impl<'a> Walker<'a> {
         ensures started { OnOk result (Starts spec.now.run) }
         ensures begun { IfOk result (λ walker. walker ≡ begun_at spec.now shard reduce) }
     {
-        if shard.first > shard.end {
-            return Err(RunError::OutOfRange);
-        }
-        if shard.end > spec.ranks() {
-            return Err(RunError::OutOfRange);
-        }
-        if shard.end - shard.first > MAX_RANKS {
-            return Err(RunError::TooLong);
-        }
-        let world = match World::start(alloc, spec) {
-            Ok(world) => world,
-            Err(error) => return Err(not_started(error)),
-        };
-        let walk = match spec.shape() {
-            Some(shape) => Walk::Words(WordWalk::new(
-                alloc,
-                spec,
-                shape,
-                world,
-                shard.first,
-                shard.end,
-                reduce,
-            )?),
-            None => Walk::Lines(LineWalk::new(alloc, spec, world, shard.first)),
-        };
+        let world = start_for(alloc, spec, shard)?;
+        let walk = Walk::new(alloc, spec, world, shard.first, shard.end, reduce)?;
         Ok(Walker {
             spec,
             reduce,
@@ -152,9 +128,7 @@ impl<'a> Walker<'a> {
             return Ok(None);
         }
         self.is_spent = true;
-        let given = self
-            .walk
-            .next_run(self.spec, self.reduce, self.first, self.end)?;
+        let given = self.walk.next_run(self.spec, self.reduce, self.end)?;
         self.is_spent = false;
         self.at = given.run.end;
         self.sent += given.sent as u64;

@@ -90,11 +90,12 @@ impl<'a> WordWalk<'a> {
         })
     }
 
-    /// The fact of the next ranks, at least of one.
-    pub(crate) fn next_run(&mut self) -> Result<Given, AllocError>
+    /// The fact of the next ranks, at least of one, none of them past an end. What is kept on the way serves ranks behind that end too.
+    pub(crate) fn next_run(&mut self, end: u64) -> Result<Given, AllocError>
         requires walk { IsWalk self.old.stack.top.world.file self.old }
-        requires some { self.old.at < self.old.end }
-        ensures { IfOk result (λ given. HasGiven self.old.stack.top.world.file self.old given self.new) }
+        requires some { self.old.at < end }
+        requires inside { end ≤ self.old.end }
+        ensures { IfOk result (λ given. HasGiven self.old.stack.top.world.file end self.old given self.new) }
     {
         let first = self.at;
         self.stack.go_back(first);
@@ -104,6 +105,7 @@ impl<'a> WordWalk<'a> {
             self.reduce,
             self.steps,
             first,
+            end,
             self.end,
         )?;
         self.at = found.end;
@@ -118,7 +120,8 @@ impl<'a> WordWalk<'a> {
     }
 }
 
-/// Goes down from a stack that has the rank to the fact of it and of the ranks behind it.
+/// Goes down from a stack that has the rank to the fact of it and of the ranks behind it up to an end. Frames are kept that later
+/// ranks share, of all that the walk goes to.
 fn find(
     stack: &mut Stack<'_>,
     table: &StepTable,
@@ -126,14 +129,16 @@ fn find(
     steps: u8,
     at: u64,
     end: u64,
+    all: u64,
 ) -> Result<Found, AllocError>
     requires tour { IsTour (tour_of stack.old.top.world.file.run reduce) }
     requires table { table.now ≡ queues_of stack.old.top.world.file.run }
     requires steps { steps ≡ total (counts_of (queues_of stack.old.top.world.file.run)) }
     requires some { at < end }
-    requires has { IsAt reduce stack.old.top.world.file at end stack.old }
+    requires inside { end ≤ all }
+    requires has { IsAt reduce stack.old.top.world.file at all stack.old }
     ensures found { IfOk result (IsFound reduce stack.old.top.world.file at end) }
-    ensures has { OnOk result (IsAt reduce stack.old.top.world.file at end stack.new) }
+    ensures has { OnOk result (IsAt reduce stack.old.top.world.file at all stack.new) }
     ensures sent { IfOk result (λ found. HasSent reduce stack.old.top.world.file.run at stack.old found stack.new) }
 {
     let before = stack.top.block.letters_left();
@@ -155,7 +160,7 @@ fn find(
                 sent: before - left,
             });
         }
-        stack.descend(turn, end)?;
+        stack.descend(turn, all)?;
     }
     let outcome = outcome(&stack.top.world)?;
     Ok(Found {

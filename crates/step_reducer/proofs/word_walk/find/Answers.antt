@@ -136,12 +136,14 @@ returns-clause-sent c =
 
 pub letter-smaller : goal.letter-smaller
 letter-smaller c =
-    (c.in_ok-descend.ensures c.args.reduce c.args.stack.now.top.world.file c.args.at c.requires.some c.letter.invariant.at c.turn-turn.ensures
+    (c.in_ok-descend.ensures c.args.reduce c.args.stack.now.top.world.file c.args.at (omega (arith, c.requires.some, c.requires.inside))
+    c.letter.invariant.at c.turn-turn.ensures
     (sym c.is_swap.ensures ∙ c.if-is_swap.false)).less
 
 pub letter-preserved : goal.letter-preserved
 letter-preserved c =
-    let gone = c.in_ok-descend.ensures c.args.reduce c.args.stack.now.top.world.file c.args.at c.requires.some c.letter.invariant.at c.turn-turn.ensures
+    let gone = c.in_ok-descend.ensures c.args.reduce c.args.stack.now.top.world.file c.args.at (omega (arith, c.requires.some, c.requires.inside))
+    c.letter.invariant.at c.turn-turn.ensures
     (sym c.is_swap.ensures ∙ c.if-is_swap.false) in
     let less = gone.less in
     record { at = gone.now; letters = omega (arith, less, c.letter.invariant.letters) }

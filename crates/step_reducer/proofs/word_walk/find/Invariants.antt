@@ -5,7 +5,7 @@ use Rattle.step_reducer.proofs.word_walk.find.Given as goal
 
 abbrev pub invariant-letter : goal.invariant-letter
 invariant-letter l = record {
-  at : IsAt l.reduce l.initial.stack.top.world.file l.at l.end l.stack;
+  at : IsAt l.reduce l.initial.stack.top.world.file l.at l.all l.stack;
   letters : total l.stack.top.block.left ≤ l.before;
 }
 

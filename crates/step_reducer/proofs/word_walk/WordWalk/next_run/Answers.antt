@@ -1,4 +1,4 @@
-use Rattle.std.proofs.Common.{◌≡◌, refl, sym, ap, ◌∙◌, subst, ℕ, ◌+◌, ◌-◌, ◌≤◌, inr, ⊎_elim, arith}
+use Rattle.std.proofs.Common.{◌≡◌, refl, sym, ap, ◌∙◌, subst, ℕ, ◌+◌, ◌-◌, ◌<◌, ◌≤◌, inr, ⊎_elim, arith}
 use Rattle.perm_ranks.specs.Words.{total}
 use Rattle.perm_ranks.specs.Blocks.{HasRank}
 use Rattle.perm_ranks.proofs.CountLemmas.{length-all_words}
@@ -31,37 +31,37 @@ pub find-requires-clause-tour : goal.find-requires-clause-tour
 find-requires-clause-tour c =
     let x = c.args.self.now in
     let file = x.stack.top.world.file in
-    let is = c.go_back.ensures.at x.reduce file x.end c.requires.some (stack-now x file c.requires.walk.stack) in
+    let is = c.go_back.ensures.at x.reduce file x.end (omega (arith, c.requires.some, c.requires.inside)) (stack-now x file c.requires.walk.stack) in
     subst (λ (f : SpecFile). IsTour (tour_of f.run x.reduce)) (sym (back-file x file c.go_back.new.self is)) c.requires.walk.tour
 
 pub find-requires-clause-table : goal.find-requires-clause-table
 find-requires-clause-table c =
     let x = c.args.self.now in
     let file = x.stack.top.world.file in
-    let is = c.go_back.ensures.at x.reduce file x.end c.requires.some (stack-now x file c.requires.walk.stack) in
+    let is = c.go_back.ensures.at x.reduce file x.end (omega (arith, c.requires.some, c.requires.inside)) (stack-now x file c.requires.walk.stack) in
     c.requires.walk.table ∙ ap (λ (f : SpecFile). queues_of f.run) (sym (back-file x file c.go_back.new.self is))
 
 pub find-requires-clause-steps : goal.find-requires-clause-steps
 find-requires-clause-steps c =
     let x = c.args.self.now in
     let file = x.stack.top.world.file in
-    let is = c.go_back.ensures.at x.reduce file x.end c.requires.some (stack-now x file c.requires.walk.stack) in
+    let is = c.go_back.ensures.at x.reduce file x.end (omega (arith, c.requires.some, c.requires.inside)) (stack-now x file c.requires.walk.stack) in
     c.requires.walk.steps ∙ ap (λ (f : SpecFile). total (counts_of (queues_of f.run))) (sym (back-file x file c.go_back.new.self is))
 
 pub find-requires-clause-has : goal.find-requires-clause-has
 find-requires-clause-has c =
     let x = c.args.self.now in
     let file = x.stack.top.world.file in
-    let is = c.go_back.ensures.at x.reduce file x.end c.requires.some (stack-now x file c.requires.walk.stack) in
+    let is = c.go_back.ensures.at x.reduce file x.end (omega (arith, c.requires.some, c.requires.inside)) (stack-now x file c.requires.walk.stack) in
     subst (λ (f : SpecFile). IsAt x.reduce f x.at x.end c.go_back.new.self) (sym (back-file x file c.go_back.new.self is)) is
 
 pub returns : goal.returns
 returns c =
     let x = c.args.self.now in
     let file = x.stack.top.world.file in
-    let is = c.go_back.ensures.at x.reduce file x.end c.requires.some (stack-now x file c.requires.walk.stack) in
+    let is = c.go_back.ensures.at x.reduce file x.end (omega (arith, c.requires.some, c.requires.inside)) (stack-now x file c.requires.walk.stack) in
     let same = back-file x file c.go_back.new.self is in
-    let found = subst (λ (f : SpecFile). IsFound x.reduce f x.at x.end c.in_ok-found.found) same c.in_ok-found.ensures.found in
+    let found = subst (λ (f : SpecFile). IsFound x.reduce f x.at c.args.end c.in_ok-found.found) same c.in_ok-found.ensures.found in
     let some = found.some in
     let sends = subst (λ (f : SpecFile). HasSent x.reduce f.run x.at c.go_back.new.self c.in_ok-found.found c.find.new.stack) same c.in_ok-found.ensures.sent in
     let now = subst (λ (f : SpecFile). IsAt x.reduce f x.at x.end c.find.new.stack) same c.in_ok-found.ensures.has in
@@ -78,14 +78,15 @@ returns c =
       facts = found.facts;
       sent_few = found.sent_few;
       at = refl;
-      end = refl;
+      all = refl;
       reduce = refl;
       most = sends.most;
       one = sends.one;
       sent = λ first run follows. (
           let one = sends.one run in
-          let back = c.go_back.ensures.parted x.reduce file (x.at - 1) x.end c.requires.some c.requires.walk.stack in
-          let new = left-new file x.reduce first x c.go_back.new.self c.requires.walk.tour.words c.requires.some is back follows in
+          let before : x.at < x.end = omega (arith, c.requires.some, c.requires.inside) in
+          let back = c.go_back.ensures.parted x.reduce file (x.at - 1) x.end before c.requires.walk.stack in
+          let new = left-new file x.reduce first x c.go_back.new.self c.requires.walk.tour.words before is back follows in
           let from : first ≤ x.at = ⊎_elim (λ h. (let here = h.0 in omega (arith, here))) (λ h. (let lt = h.0 in omega (arith, lt))) follows in
           (sends.all run ∙ new, inr (omega (arith, from, one), now-behind x.at c.in_ok-found.found.end c.find.new.stack one now.has (sends.whole run))));
     }

@@ -1,0 +1,47 @@
+-- A walk that goes on from shard to shard, between its calls, and what they give.
+use Rattle.std.specs.Prelude.{◌≡◌, ℕ, ◌+◌, ◌<◌, ◌≤◌, Bool, false, Option, Some, None}
+use Rattle.bound_specs.specs.Spec.{SpecFile, ranks}
+use Rattle.quiet_steps.specs.declared.shard.Shard.{Shard}
+use Rattle.step_reducer.specs.declared.fact.FactRun.{FactRun}
+use Rattle.step_reducer.specs.declared.walk.Walk.{Walk}
+use Rattle.step_reducer.specs.Walks.{AllHave}
+use Rattle.step_reducer.specs.Walking.{skips, walk_at, walk_end, IsGoing}
+
+-- the next rank and the end of the shard, and whether memory was refused
+pub record Shardwise : Type 0 where
+  pub file : SpecFile
+  pub reduce : Bool
+  pub at : ℕ
+  pub end : ℕ
+  pub spent : Bool
+
+-- a walk that has given nothing of the shard
+abbrev pub standing_at : SpecFile → Shard → Bool → Shardwise
+standing_at file shard reduce = record { file = file; reduce = reduce; at = shard.first; end = shard.end; spent = false }
+
+-- the fact of some ranks from the next one on, of this one alone where none is skipped
+pub record IsPart (x : Shardwise) (run : FactRun) : Type 0 where
+  pub first : run.first ≡ x.at
+  pub some : run.first < run.end
+  pub few : run.end ≤ x.end
+  pub one : skips x.reduce x.file.run ≡ false → run.end ≡ run.first + 1
+  pub facts : AllHave x.reduce x.file.run run.first run.end run.fact
+
+-- none at the end of the shard alone, where the walk stays; else a run, behind which it stands
+abbrev pub GivesPart : Shardwise → Shardwise → Option FactRun → Type 0
+GivesPart x y None = (x.at ≡ x.end) × (y ≡ x)
+GivesPart x y (Some run) = IsPart x run × (y ≡ record x { at = run.end })
+
+-- ---- what it keeps
+
+-- a walk that stands before this rank and may be asked for all ranks of the spec
+pub record IsOnward (file : SpecFile) (reduce : Bool) (at : ℕ) (w : Walk) : Type 0 where
+  pub going : IsGoing file reduce w
+  pub to : walk_end file w ≡ ranks file.run
+  pub here : walk_at w ≡ at
+
+-- a walk that is not spent stands before the next rank, and the shard is of ranks of the spec
+pub record IsKept (spent : Bool) (file : SpecFile) (reduce : Bool) (at end : ℕ) (w : Walk) : Type 0 where
+  pub walk : spent ≡ false → IsOnward file reduce at w
+  pub order : at ≤ end
+  pub inside : end ≤ ranks file.run
