@@ -1,4 +1,3 @@
-
 use Rattle.sql_queries.proofs.queries.select_of.Goals as goal
 use Rattle.sql_queries.proofs.queries.select_of.Goals.{in-All, in-Columns, in-Aggregates}
 
