@@ -8,7 +8,7 @@ use Rattle.quiet_steps.specs.Facts.{IsFactOf}
 use Rattle.quiet_steps.specs.declared.fact.Fact.{Fact}
 use Rattle.quiet_steps.proofs.TrueFacts.{facts-one}
 use Rattle.step_reducer.specs.Walks.{AllHave}
-use Rattle.step_reducer.specs.Walking.{Walking, IsRun, GivesRun}
+use Rattle.step_reducer.specs.Shardwise.{Shardwise, IsPart, GivesPart}
 use Rattle.step_reducer.specs.declared.fact.FactRun.{FactRun}
 use Rattle.outcome_books.specs.Entries.{Entry, FactSet, entry_cmp, fact_cmp, recorded}
 use Rattle.outcome_books.specs.Runs.{within, repeated}
@@ -84,11 +84,9 @@ stretch-recordable file reduce at end f s ready bound fits all so_far r fact h =
     (or_cases (recorded s r fact) _ (sym (in_union s (from_list (repeated at (end - at) f)) (r, fact)) ∙ h))
 
 -- nothing is gathered yet
-pub begun : (x : Walking) (b : Building) → x.spent ≡ false → b.facts ≡ empty → b.next ≡ 0 → IsGathering x x b
+pub begun : (x : Shardwise) (b : Building) → x.spent ≡ false → b.facts ≡ empty → b.next ≡ 0 → IsGathering x x b
 begun x b whole none next = record {
-  file = refl;
-  reduce = refl;
-  end = refl;
+  same = refl;
   whole = whole;
   from = omega arith;
   next = omega (arith, next);
@@ -97,21 +95,18 @@ begun x b whole none next = record {
 }
 
 -- one more run
-pub gathered-more : (x y z : Walking) (run : FactRun) (b : Building) → IsReady x.file → IsBound x.file.run → IsGathering x y b → IsRun y run
+pub gathered-more : (x y z : Shardwise) (run : FactRun) (b : Building) → IsReady x.file → IsBound x.file.run → IsGathering x y b → IsPart y run
     → z.spent ≡ false
-    → z ≡ record y { at = run.end; sent = z.sent; whole = true } → FactFits run.fact → IsGathering x z (added b run.first run.end run.fact)
+    → z ≡ record y { at = run.end } → FactFits run.fact → IsGathering x z (added b run.first run.end run.fact)
 gathered-more x y z run b ready bound g r whole moved fits =
-    let at : z.at ≡ run.end = ap (λ (w : Walking). w.at) moved in
+    let at : z.at ≡ run.end = ap (λ (w : Shardwise). w.at) moved in
     let some = r.some in
     let first = r.first in
     let from = g.from in
     let all : AllHave x.reduce x.file.run run.first run.end run.fact =
-    subst (λ c. AllHave c x.file.run run.first run.end run.fact) g.reduce
-    (subst (λ (f : SpecFile). AllHave y.reduce f.run run.first run.end run.fact) g.file r.facts) in
+    subst (λ (w : Shardwise). AllHave w.reduce w.file.run run.first run.end run.fact) g.same r.facts in
     record {
-      file = ap (λ (w : Walking). w.file) moved ∙ g.file;
-      reduce = ap (λ (w : Walking). w.reduce) moved ∙ g.reduce;
-      end = ap (λ (w : Walking). w.end) moved ∙ g.end;
+      same = moved ∙ (λ k. (let w : Shardwise = g.same k in record w { at = sym at k }));
       whole = whole;
       from = omega (arith, at, some, first, from);
       next = omega (arith, at, some);
@@ -122,8 +117,8 @@ gathered-more x y z run b ready bound g r whole moved fits =
     }
 
 -- the same of what a call gives, and of the facts after it
-pub grown : (x y z : Walking) (o : Option FactRun) (run : FactRun) (b after : Building) → IsReady x.file → IsBound x.file.run → IsGathering x y b
-    → o ≡ Some run → GivesRun y z o → z.spent ≡ false → FactFits run.fact → after ≡ added b run.first run.end run.fact → IsGathering x z after
+pub grown : (x y z : Shardwise) (o : Option FactRun) (run : FactRun) (b after : Building) → IsReady x.file → IsBound x.file.run → IsGathering x y b
+    → o ≡ Some run → GivesPart y z o → z.spent ≡ false → FactFits run.fact → after ≡ added b run.first run.end run.fact → IsGathering x z after
 grown x y z o run b after ready bound g is gives whole fits now =
-    let r = subst (GivesRun y z) is gives in
-    subst (IsGathering x z) (sym now) (gathered-more x y z run b ready bound g r.0 whole r.2 fits)
+    let r = subst (GivesPart y z) is gives in
+    subst (IsGathering x z) (sym now) (gathered-more x y z run b ready bound g r.0 whole r.1 fits)

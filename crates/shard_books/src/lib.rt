@@ -1,6 +1,6 @@
-//! The book of a shard: the facts that a walker gives, gathered.
+//! The book of a shard: the facts that a walk gives, gathered.
 #![tactic(auto)]
 
 mod shards;
 
-pub use shards::of_shard;
+pub use shards::{of_shard, of_walk};

@@ -13,10 +13,10 @@ use outcome_books::{Book, Builder};
 use quiet_steps::{Fact, Shard};
 use session_machine::RunError;
 use std::alloc::{AllocError, Global};
-use step_reducer::{FactRun, Walker};
+use step_reducer::{FactRun, ShardWalk};
 
 /// The facts of the ranks of a shard, each with its own: when reducing the least swap where the rank has one, and else the
-/// outcome. It is refused as its walker is.
+/// outcome. It is refused as its walk is.
 pub fn of_shard(alloc: Global, spec: &Spec, shard: Shard, reduce: bool) -> Result<Book, RunError>
     ensures refused { IfErr result (IsNotWalked spec.now.run shard) }
     ensures lawful { OnOk result (IsShardOf spec.now.run shard) }
@@ -24,49 +24,51 @@ pub fn of_shard(alloc: Global, spec: &Spec, shard: Shard, reduce: bool) -> Resul
     ensures of_spec { IfOk result (λ book. book.file ≡ spec.now) }
     ensures facts { IfOk result (λ book. AreFactsOf reduce spec.now.run shard.first shard.end book.facts) }
 {
+    let mut walk = ShardWalk::new(alloc, spec, shard, reduce)?;
+    Ok(of_walk(alloc, spec, &mut walk)?)
+}
+
+/// The facts of the ranks that a walk has before it in its shard, behind which it stands then.
+pub fn of_walk(alloc: Global, spec: &Spec, walk: &mut ShardWalk<'_>) -> Result<Book, AllocError>
+    requires whole { walk.old.spent ≡ false }
+    requires of_spec { walk.old.file ≡ spec.now }
+    ensures of_spec { IfOk result (λ book. book.file ≡ spec.now) }
+    ensures facts { IfOk result (λ book. AreFactsOf walk.old.reduce spec.now.run walk.old.at walk.old.end book.facts) }
+    ensures behind { OnOk result (walk.new ≡ record walk.old { at = walk.old.end }) }
+{
     spec.ready();
     let _sessions = spec.sessions();
-    let walker = Walker::new(alloc, spec, shard, reduce)?;
-    let builder = gathered(alloc, walker)?;
-    Ok(Book::of_facts(alloc, spec, builder)?)
+    let builder = facts_before(alloc, walk)?;
+    Book::of_facts(alloc, spec, builder)
 }
 
-/// The facts of the ranks that a walker has before it, with which it ends.
-fn gathered(alloc: Global, mut walker: Walker<'_>) -> Result<Builder, AllocError>
-    requires whole { walker.spent ≡ false }
-    requires bound { IsBound walker.file.run }
-    requires ready { IsReady walker.file }
-    ensures facts { IfOk result (λ builder. AreFactsOf walker.entry.reduce walker.entry.file.run walker.entry.at walker.entry.end builder.facts) }
-    ensures recordable { IfOk result (λ builder. AllRecordable walker.entry.file.run builder.facts) }
-{
-    facts_before(alloc, &mut walker)
-}
-
-/// The facts of the ranks that a walker has before it.
-fn facts_before(alloc: Global, walker: &mut Walker<'_>) -> Result<Builder, AllocError>
-    requires whole { walker.old.spent ≡ false }
-    requires bound { IsBound walker.old.file.run }
-    requires ready { IsReady walker.old.file }
-    ensures facts { IfOk result (λ builder. AreFactsOf walker.old.reduce walker.old.file.run walker.old.at walker.old.end builder.facts) }
-    ensures recordable { IfOk result (λ builder. AllRecordable walker.old.file.run builder.facts) }
+/// The facts of the ranks that a walk has before it in its shard.
+fn facts_before(alloc: Global, walk: &mut ShardWalk<'_>) -> Result<Builder, AllocError>
+    requires whole { walk.old.spent ≡ false }
+    requires bound { IsBound walk.old.file.run }
+    requires ready { IsReady walk.old.file }
+    ensures facts { IfOk result (λ builder. AreFactsOf walk.old.reduce walk.old.file.run walk.old.at walk.old.end builder.facts) }
+    ensures recordable { IfOk result (λ builder. AllRecordable walk.old.file.run builder.facts) }
+    ensures behind { OnOk result (walk.new ≡ record walk.old { at = walk.old.end }) }
 {
     let mut builder = Builder::new(alloc);
-    gather(walker, &mut builder)?;
+    gather(walk, &mut builder)?;
     Ok(builder)
 }
 
-/// Adds the facts of the ranks that a walker has before it to a builder that has none.
-fn gather(walker: &mut Walker<'_>, builder: &mut Builder) -> Result<(), AllocError>
-    requires whole { walker.old.spent ≡ false }
-    requires bound { IsBound walker.old.file.run }
-    requires ready { IsReady walker.old.file }
+/// Adds the facts of the ranks that a walk has before it in its shard to a builder that has none.
+fn gather(walk: &mut ShardWalk<'_>, builder: &mut Builder) -> Result<(), AllocError>
+    requires whole { walk.old.spent ≡ false }
+    requires bound { IsBound walk.old.file.run }
+    requires ready { IsReady walk.old.file }
     requires none { builder.old.facts ≡ empty }
     requires first { builder.old.next ≡ 0 }
-    ensures facts { OnOk result (AreFactsOf walker.old.reduce walker.old.file.run walker.old.at walker.old.end builder.new.facts) }
-    ensures recordable { OnOk result (AllRecordable walker.old.file.run builder.new.facts) }
+    ensures facts { OnOk result (AreFactsOf walk.old.reduce walk.old.file.run walk.old.at walk.old.end builder.new.facts) }
+    ensures recordable { OnOk result (AllRecordable walk.old.file.run builder.new.facts) }
+    ensures behind { OnOk result (walk.new ≡ record walk.old { at = walk.old.end }) }
 {
     'runs: loop {
-        match walker.next_run() {
+        match walk.next_run() {
             Ok(Some(run)) => push(builder, run)?,
             Ok(None) => return Ok(()),
             Err(_) => return Err(AllocError),

@@ -6,5 +6,5 @@ runs-init c = begun _ _ c.requires.whole c.requires.none c.requires.first
 
 pub runs-preserved : goal.runs-preserved
 runs-preserved c =
-    grown c.args.walker.now c.runs.walker c.next_run.new.self _ c.in-Ok-Some.run' c.runs.builder _ c.requires.ready c.requires.bound c.runs.invariant
+    grown c.args.walk.now c.runs.walk c.next_run.new.self _ c.in-Ok-Some.run' c.runs.builder _ c.requires.ready c.requires.bound c.runs.invariant
     c.in-Ok-Some.field-0-is c.in-Ok-Some.ensures.run c.in-Ok-Some.ensures.whole c.push.ensures.fits c.in_ok-push-in-Ok-Some.ensures.added
