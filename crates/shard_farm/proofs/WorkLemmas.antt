@@ -26,7 +26,7 @@ use Rattle.shard_board.specs.Changes.{with_new_claim, with_new_refusal, with_new
 use Rattle.shard_board.specs.Refused.{IsNotDelivered}
 use Rattle.shard_board.proofs.RowLemmas.{at_end}
 use Rattle.shard_farm.specs.declared.worker.Worker.{Worker}
-use Rattle.shard_farm.specs.Working.{AreFactsAt, HasServed, is_marked, IsReady, IsDelivered, IsTrueCall, Serves, HasWorked}
+use Rattle.shard_farm.specs.Working.{AreFactsAt, HasServed, is_marked, IsReady, IsDelivered, IsTrueCall, Serves, HasClaimed, HasWorked}
 
 pub has-push : (m n : ℕ) (xs : List ℕ) → has m (xs ++ n ∷ []) ≡ true → (has m xs ≡ true) ⊎ (n ≡ m)
 has-push m n [] h = ⊎_elim (λ e. inr (eqb-true n m e)) (λ e. absurd (true≢false (sym e))) (or_cases (n == m) false h)
@@ -156,6 +156,15 @@ module _ (reduce : Bool) (spec : Spec) (shards : List Shard) where
       subst (λ (x : ShownSeat). Serves reduce spec shards x (set marks n true)) (sym is)
       (in_vain (with_new_claim s n) (set marks n true) t.1.before n t.0 marked))
       h
+
+  -- the shard that was claimed last is delivered or marked
+  pub served-next : (worker : Worker) (n : ℕ) (after : ShownSeat) (served : Bool) → HasClaimed reduce spec shards worker n
+      → HasServed reduce spec shards worker.seat after n served → Serves reduce spec shards after (set worker.missed.items n (not served))
+  served-next worker n after served has h =
+      goes_on (length shards) has.before worker.seat after worker.missed.items n served refl has.serves has.claim h
+
+  pub marked-next : (worker : Worker) (n : ℕ) → HasClaimed reduce spec shards worker n → Serves reduce spec shards worker.seat (set worker.missed.items n true)
+  marked-next worker n has = served-next worker n worker.seat false has (inl refl)
 
   -- there is no more to claim
   pub ends : (s s' : ShownSeat) (marks : List Bool) → Serves reduce spec shards s marks → s' ≡ with_new_refusal s → HasWorked reduce spec shards s' marks

@@ -3,7 +3,8 @@ use Rattle.std.specs.Prelude.{◌≡◌, ◌⊎◌, ℕ, Bool, true, false, List
 use Rattle.std.specs.List.{range_with_len, list_any}
 use mathlib.Core.Option.{some}
 use lib.ListN.{get_elem?}
-use Rattle.bound_specs.specs.Spec.{Spec}
+use Rattle.bound_specs.specs.Spec.{Spec, SpecFile}
+use Rattle.step_reducer.specs.Shardwise.{Shardwise}
 use Rattle.quiet_steps.specs.declared.shard.Shard.{Shard}
 use Rattle.outcome_books.specs.Entries.{FactSet}
 use Rattle.outcome_books.specs.Building.{AreFactsOf}
@@ -12,7 +13,7 @@ use Rattle.shard_board.specs.declared.history.Call.{Call}
 use Rattle.shard_board.specs.declared.history.Call.TheVariants.{Deliver, Latest}
 use Rattle.shard_board.specs.declared.history.Entry.{Entry}
 use Rattle.shard_board.specs.Shown.{ShownBoard, ShownSeat, has}
-use Rattle.shard_board.specs.Changes.{IsTurn}
+use Rattle.shard_board.specs.Changes.{IsClaim, IsTurn}
 use Rattle.shard_farm.specs.declared.worker.Worker.{Worker}
 
 -- the facts are those of the shard of this number
@@ -39,6 +40,12 @@ pub record IsReady (board : ShownBoard) (worker : Worker) : Type 0 where
   pub starting : IsStarting board worker.seat
   pub blank : worker.missed.items ≡ replicate board.shards false
 
+-- a walk of the spec's shards that was not refused memory
+pub record IsWalkFor (file : SpecFile) (reduce : Bool) (walk : Shardwise) : Type 0 where
+  pub file_is : walk.file ≡ file
+  pub reduce_is : walk.reduce ≡ reduce
+  pub whole : walk.spent ≡ false
+
 -- one of the calls is an accepted delivery of the shard's facts
 abbrev pub IsDelivered : Bool → Spec → List Shard → List Entry → ℕ → Type 0
 IsDelivered reduce spec shards calls n =
@@ -58,6 +65,12 @@ pub record Serves (reduce : Bool) (spec : Spec) (shards : List Shard) (seat : Sh
   pub only : (k : ℕ) (e : Entry) → get_elem? seat.calls k ≡ some e → IsTrueCall reduce spec shards seat.claims marks e.call
   pub marked : (n : ℕ) → is_marked marks n ≡ true → has n seat.claims ≡ true
   pub long : length marks ≡ length shards
+
+-- what was claimed before is served or marked, and one shard more is claimed
+pub record HasClaimed (reduce : Bool) (spec : Spec) (shards : List Shard) (worker : Worker) (n : ℕ) : Type 0 where
+  pub before : ShownSeat
+  pub serves : Serves reduce spec shards before worker.missed.items
+  pub claim : IsClaim (length shards) before worker.seat n
 
 -- and there was no more to claim
 pub record HasWorked (reduce : Bool) (spec : Spec) (shards : List Shard) (seat : ShownSeat) (marks : List Bool) : Type 0 where

@@ -3,6 +3,7 @@
 ghost use Rattle.std.specs.Prelude.{◌≡◌, ◌≤◌, All, vec_len, vec_capacity, length, IfOk};
 ghost use Rattle.std.specs.Thread.{IsSync};
 ghost use Rattle.bound_specs.specs.Binding.{IsFileOf};
+ghost use Rattle.quiet_steps.specs.Shards.{IsShardOf};
 ghost use Rattle.shard_farm.specs.Working.{IsReady, IsStarting, IsDone};
 
 use crate::plan::Plan;
@@ -68,6 +69,7 @@ pub(crate) fn run_all<R: Threads + Wait + Sync, T: Gate + Sync>(
 ) -> Vec<Worker>
     requires shards { length shards.now ≡ board.now.shards }
     requires file { IsFileOf text.now board.now.file }
+    requires lawful { All (IsShardOf board.now.file.run) shards.now }
     requires ready { All (IsReady board.now) workers.items }
     ensures many { (vec_len result ≡ vec_len workers) × (vec_capacity result ≡ vec_capacity workers) }
     ensures done { All (IsDone board.now reduce board.now.file.run shards.now) result.items }
@@ -78,7 +80,7 @@ pub(crate) fn run_all<R: Threads + Wait + Sync, T: Gate + Sync>(
     let (mine, mut others) = thread::join(
         rt,
         || -> Worker
-            requires { IsSync R.row × IsSync T.row × (length shards.now ≡ board.now.shards) × IsFileOf text.now board.now.file × IsReady board.now mine }
+            requires { IsSync R.row × IsSync T.row × (length shards.now ≡ board.now.shards) × IsFileOf text.now board.now.file × All (IsShardOf board.now.file.run) shards.now × IsReady board.now mine }
             ensures { IsDone board.entry.now reduce board.entry.now.file.run shards.entry.now result }
         {
             work(
@@ -95,7 +97,7 @@ pub(crate) fn run_all<R: Threads + Wait + Sync, T: Gate + Sync>(
             )
         },
         || -> Vec<Worker>
-            requires { IsSync R.row × IsSync T.row × (length shards.now ≡ board.now.shards) × IsFileOf text.now board.now.file × All (IsReady board.now) workers.items }
+            requires { IsSync R.row × IsSync T.row × (length shards.now ≡ board.now.shards) × IsFileOf text.now board.now.file × All (IsShardOf board.now.file.run) shards.now × All (IsReady board.now) workers.items }
             ensures { All (IsDone board.entry.now reduce board.entry.now.file.run shards.entry.now) result.items × (vec_len result ≡ vec_len workers) × (vec_capacity result ≡ vec_capacity workers) }
         { run_all(rt, alloc, board, text, shards, reduce, gate, workers) },
     );

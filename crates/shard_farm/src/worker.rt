@@ -1,19 +1,22 @@
 //! One worker.
 
-ghost use Rattle.std.specs.Prelude.{◌≡◌, ◌<◌, length, IfSome};
-ghost use Rattle.bound_specs.specs.Spec.{SpecFile};
+ghost use Rattle.std.specs.Prelude.{◌≡◌, ◌<◌, true, false, All, length, IfSome, OnOk, OnSome};
 ghost use Rattle.bound_specs.specs.Binding.{IsFileOf};
-ghost use Rattle.shard_farm.specs.Working.{is_marked, AreFactsAt, HasServed, IsReady, HasWorked};
+ghost use Rattle.quiet_steps.specs.Shards.{IsShardOf};
+ghost use Rattle.step_reducer.specs.Shardwise.{standing_at};
+ghost use Rattle.shard_farm.specs.Working.{is_marked, AreFactsAt, HasServed, IsReady, IsWalkFor, HasClaimed, Serves, HasWorked};
 
 use crate::plan::Plan;
 use bound_specs::Spec;
 use outcome_books::Book;
+use session_machine::RunError;
 use shard_board::{Board, Gate, Seat};
-use shard_books::of_shard;
+use shard_books::of_walk;
 use spec_reader::read_spec;
 use sql_subset::bind;
 use std::alloc::Global;
 use std::sync::Wait;
+use step_reducer::{Shard, ShardWalk};
 
 /// A worker: its number, its seat at the board, and a mark for each shard that it claimed and did not deliver.
 #[derive(Drop)]
@@ -45,35 +48,71 @@ fn spec_of(alloc: Global, text: &str) -> Option<Spec>
     Some(spec)
 }
 
-/// The book of a shard of the plan. None where memory is wanted.
-fn book_of(alloc: Global, plan: Plan<'_>, number: u32) -> Option<Book>
-    requires { number < length plan.shards.now }
-    ensures { IfSome result (λ book. (file : SpecFile) → IsFileOf plan.entry.text.now file → AreFactsAt plan.entry.reduce file.run plan.entry.shards.now number book.facts) }
+/// Has a walk go on to a shard, or begin anew where it stands behind the first of the shard's ranks.
+fn go_to<'a>(
+    alloc: Global,
+    spec: &'a Spec,
+    walk: &mut ShardWalk<'a>,
+    shard: Shard,
+    reduce: bool,
+) -> Result<(), RunError>
+    requires lawful { IsShardOf spec.now.run shard }
+    requires walk { IsWalkFor spec.now reduce walk.old }
+    ensures { OnOk result (walk.new ≡ standing_at spec.now shard reduce) }
+{
+    if walk.at() <= shard.first {
+        walk.reach(shard);
+        return Ok(());
+    }
+    *walk = ShardWalk::new(alloc, spec, shard, reduce)?;
+    Ok(())
+}
+
+/// The book of a shard of the plan, by a walk of its spec. None where memory is wanted.
+fn book_of<'a>(
+    alloc: Global,
+    plan: Plan<'_>,
+    spec: &'a Spec,
+    walk: &mut ShardWalk<'a>,
+    number: u32,
+) -> Option<Book>
+    requires number { number < length plan.shards.now }
+    requires lawful { All (IsShardOf spec.now.run) plan.shards.now }
+    requires walk { IsWalkFor spec.now plan.reduce walk.old }
+    ensures facts { IfSome result (λ book. AreFactsAt plan.entry.reduce spec.now.run plan.entry.shards.now number book.facts) }
+    ensures walk { OnSome result (IsWalkFor spec.now plan.entry.reduce walk.new) }
 {
     let shard = plan.shards[number as usize];
-    let spec = spec_of(alloc, plan.text)?;
-    let Ok(book) = of_shard(alloc, &spec, shard, plan.reduce) else {
+    let Ok(()) = go_to(alloc, spec, walk, shard, plan.reduce) else {
+        return None;
+    };
+    let Ok(book) = of_walk(alloc, spec, walk) else {
         return None;
     };
     Some(book)
 }
 
 /// Runs a claimed shard and delivers its book. False where memory is wanted for either.
-fn serve<R: Wait>(
+fn serve<'a, R: Wait>(
     rt: &R,
     alloc: Global,
     board: &Board,
     plan: Plan<'_>,
+    spec: &'a Spec,
+    walk: &mut ShardWalk<'a>,
     seat: &mut Seat,
     number: u32,
 ) -> bool
     requires board { seat.old.board ≡ board.now }
     requires shard { number < length plan.shards.now }
-    requires file { IsFileOf plan.text.now board.now.file }
+    requires file { spec.now ≡ board.now.file }
+    requires lawful { All (IsShardOf spec.now.run) plan.shards.now }
+    requires walk { IsWalkFor spec.now plan.reduce walk.old }
     ensures same { seat.new.board ≡ seat.old.board }
     ensures served { HasServed plan.entry.reduce board.now.file.run plan.entry.shards.now seat.old seat.new number result }
+    ensures walk { result ≡ true → IsWalkFor spec.now plan.entry.reduce walk.new }
 {
-    let Some(book) = book_of(alloc, plan, number) else {
+    let Some(book) = book_of(alloc, plan, spec, walk, number) else {
         return false;
     };
     let Ok(_receipt) = board.deliver(rt, seat, number, book) else {
@@ -82,8 +121,59 @@ fn serve<R: Wait>(
     true
 }
 
+/// Serves a claimed shard and claims others behind it, all on one walk of the spec, for as long as there is memory. False where there are
+/// no more to claim. A shard for which memory is wanted is marked, and what is claimed behind it is for a walk that begins anew.
+fn work_on<R: Wait, G: Gate>(
+    rt: &R,
+    alloc: Global,
+    board: &Board,
+    plan: Plan<'_>,
+    gate: &G,
+    spec: &Spec,
+    worker: &mut Worker,
+    first: u32,
+) -> bool
+    requires shards { length plan.shards.now ≡ board.now.shards }
+    requires file { spec.now ≡ board.now.file }
+    requires lawful { All (IsShardOf spec.now.run) plan.shards.now }
+    requires board { worker.old.seat.board ≡ board.now }
+    requires claimed { HasClaimed plan.reduce board.now.file.run plan.shards.now worker.old first }
+    ensures board { worker.new.seat.board ≡ board.now }
+    ensures again { result ≡ true → Serves plan.entry.reduce board.now.file.run plan.entry.shards.now worker.new.seat worker.new.missed.items }
+    ensures worked { result ≡ false → HasWorked plan.entry.reduce board.now.file.run plan.entry.shards.now worker.new.seat worker.new.missed.items }
+{
+    let Ok(mut walk) = ShardWalk::new(alloc, spec, plan.shards[first as usize], plan.reduce) else {
+        worker.missed[first as usize] = true;
+        return true;
+    };
+    let mut number = first;
+    for _ in rt.forever() {
+        let is_served = serve(
+            rt,
+            alloc,
+            board,
+            plan,
+            spec,
+            &mut walk,
+            &mut worker.seat,
+            number,
+        );
+        worker.missed[number as usize] = !is_served;
+        if !is_served {
+            return true;
+        }
+        gate.after(worker.number, number);
+        let Some(next) = board.claim(&mut worker.seat) else {
+            return false;
+        };
+        gate.before(worker.number, next);
+        number = next;
+    }
+    unreachable!()
+}
+
 /// Claims shards until there are no more, runs each and delivers its book. A shard for which memory is wanted is marked, and the work
-/// goes on with the next one.
+/// goes on with the next one, for which the spec is bound and started anew.
 pub(crate) fn work<R: Wait, G: Gate>(
     rt: &R,
     alloc: Global,
@@ -94,6 +184,7 @@ pub(crate) fn work<R: Wait, G: Gate>(
 ) -> Worker
     requires shards { length plan.shards.now ≡ board.now.shards }
     requires file { IsFileOf plan.text.now board.now.file }
+    requires lawful { All (IsShardOf board.now.file.run) plan.shards.now }
     requires ready { IsReady board.now worker }
     ensures board { result.seat.board ≡ board.now }
     ensures worked { HasWorked plan.entry.reduce board.now.file.run plan.entry.shards.now result.seat result.missed.items }
@@ -103,11 +194,35 @@ pub(crate) fn work<R: Wait, G: Gate>(
             return worker;
         };
         gate.before(worker.number, number);
-        let is_served = serve(rt, alloc, board, plan, &mut worker.seat, number);
-        worker.missed[number as usize] = !is_served;
-        if is_served {
-            gate.after(worker.number, number);
+        if !served_or_marked(rt, alloc, board, plan, gate, &mut worker, number) {
+            return worker;
         }
     }
     unreachable!()
+}
+
+/// Binds the spec for a claimed shard, and works on from it. False where there are no more to claim.
+fn served_or_marked<R: Wait, G: Gate>(
+    rt: &R,
+    alloc: Global,
+    board: &Board,
+    plan: Plan<'_>,
+    gate: &G,
+    worker: &mut Worker,
+    number: u32,
+) -> bool
+    requires shards { length plan.shards.now ≡ board.now.shards }
+    requires file { IsFileOf plan.text.now board.now.file }
+    requires lawful { All (IsShardOf board.now.file.run) plan.shards.now }
+    requires board { worker.old.seat.board ≡ board.now }
+    requires claimed { HasClaimed plan.reduce board.now.file.run plan.shards.now worker.old number }
+    ensures board { worker.new.seat.board ≡ board.now }
+    ensures again { result ≡ true → Serves plan.entry.reduce board.now.file.run plan.entry.shards.now worker.new.seat worker.new.missed.items }
+    ensures worked { result ≡ false → HasWorked plan.entry.reduce board.now.file.run plan.entry.shards.now worker.new.seat worker.new.missed.items }
+{
+    let Some(spec) = spec_of(alloc, plan.text) else {
+        worker.missed[number as usize] = true;
+        return true;
+    };
+    work_on(rt, alloc, board, plan, gate, &spec, worker, number)
 }

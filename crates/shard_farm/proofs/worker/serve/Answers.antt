@@ -1,3 +1,6 @@
+use Rattle.std.proofs.Common.{subst}
+use Rattle.bound_specs.specs.Spec.{SpecFile}
+use Rattle.shard_farm.specs.Working.{AreFactsAt}
 use Rattle.shard_farm.proofs.WorkLemmas.{not_served}
 use Rattle.shard_farm.proofs.worker.serve.Goals as goal
 
@@ -9,4 +12,6 @@ returns-in_default-deliver-clause-served g c =
 
 pub returns-clause-served : goal.returns-clause-served
 returns-clause-served g c =
-    (c.in-Some.book.facts, (c.in-Ok._receipt, (c.in-Ok.ensures.turn, c.in-Some.ensures c.args.board.now.file c.requires.file)))
+    let are = subst (λ (f : SpecFile). AreFactsAt c.args.plan.reduce f.run c.args.plan.shards.now c.args.number c.in-Some.book.facts)
+    c.requires.file c.in-Some.ensures.facts in
+    (c.in-Some.book.facts, (c.in-Ok._receipt, (c.in-Ok.ensures.turn, are)))

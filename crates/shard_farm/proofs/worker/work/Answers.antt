@@ -1,28 +1,18 @@
-use Rattle.std.proofs.Common.{◌≡◌, ◌∙◌, ℕ, Option, subst}
+use Rattle.std.proofs.Common.{◌≡◌, sym, ℕ, Option, subst}
 use Rattle.std.specs.Prelude.{MatchOption}
 use Rattle.shard_board.specs.Changes.{IsClaim, with_new_refusal}
-use Rattle.shard_farm.proofs.WorkLemmas.{begins, goes_on, ends}
+use Rattle.shard_farm.proofs.WorkLemmas.{begins, ends}
 use Rattle.shard_farm.proofs.worker.work.Goals as goal
 
 pub loop-init : goal.loop-init
 loop-init g c = record { board = c.requires.ready.starting.board_is; serves = begins _ _ _ _ _ c.requires.ready c.requires.shards }
 
-pub loop-preserved : goal.loop-preserved
-loop-preserved g c =
-    let i = c.loop.invariant in
-    record {
-      board = c.serve-is_served.ensures.same ∙ (c.claim.ensures.same ∙ i.board);
-      serves = goes_on _ _ _ _ _ _ _ _ _ _ c.requires.shards i.serves c.in-Some-claim.ensures.claimed c.serve-is_served.ensures.served;
-    }
-
--- the same where the gate is told
-pub loop-preserved-then-is_served : goal.loop-preserved-then-is_served
-loop-preserved-then-is_served g c =
-    let i = c.loop.invariant in
-    record {
-      board = c.serve-is_served.ensures.same ∙ (c.claim.ensures.same ∙ i.board);
-      serves = goes_on _ _ _ _ _ _ _ _ _ _ c.requires.shards i.serves c.in-Some-claim.ensures.claimed c.serve-is_served.ensures.served;
-    }
+pub served_or_marked-requires-clause-claimed : goal.served_or_marked-requires-clause-claimed
+served_or_marked-requires-clause-claimed g c = record {
+  before = c.loop.worker.seat;
+  serves = c.loop.invariant.serves;
+  claim = subst (λ n. IsClaim n c.loop.worker.seat c.claim.new.seat c.in-Some-claim.number) (sym c.requires.shards) c.in-Some-claim.ensures.claimed;
+}
 
 pub returns-in_default-clause-worked : goal.returns-in_default-clause-worked
 returns-in_default-clause-worked g c =
