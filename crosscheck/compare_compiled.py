@@ -74,7 +74,8 @@ class Pair:
         (self.folder / "all.book").write_bytes(joined)
         self.run(name, "report", "all.book")
         self.run(name, "audit", "every.book")
-        self.run(name, "judge", "all.book", "low.book", "every.book")
+        self.run(name, "judge", "all.book", "every.book")
+        self.run(name, "judge", "low.book", "all.book")
 
 
 def main(seeds):
