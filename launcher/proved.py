@@ -41,9 +41,10 @@ def proved_program(top, kit):
         return None
     os.chdir(top)
     rt.Crate.allowed = rt.handles_of(top)
-    program = next(crate for crate in rt.rtlib.crates_below(top) if crate.name == PROGRAM)
+    crates = rt.rtlib.crates_below(top)
+    program = next(crate for crate in crates if crate.name == PROGRAM)
     kept = rt.Kept([])
-    for crate in rt.rtlib.crates_below(top):
+    for crate in crates:
         if crate in program.below():
             _place, files = kept_files(kept, crate)
             kept.rlibs[crate.name] = hashlib.sha256(repr(files).encode()).hexdigest()
