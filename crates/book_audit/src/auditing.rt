@@ -5,7 +5,7 @@ ghost use Rattle.book_audit.specs.Audit.{IsAudit};
 use crate::error::AuditError;
 use crate::finding::{finding_of, told};
 use crate::pieces::pieces_of;
-use crate::sharing::{all_of, findings_of};
+use crate::sharing::{all_of, findings_of, most_pieces};
 use crate::source::spec_of;
 use outcome_books::Book;
 use std::alloc::Global;
@@ -29,7 +29,7 @@ pub fn audit<R: Threads + Sync>(threads: &R, alloc: Global, book: &Book) -> Resu
     ensures { IsAudit book.now result }
 {
     let (outcomes, runs) = book.parts();
-    let pieces = pieces_of(alloc, runs)?;
+    let pieces = pieces_of(alloc, runs, most_pieces(threads))?;
     book.known();
     let findings = findings_of(threads, alloc, book.text(), outcomes, pieces.as_slice())?;
     told(all_of(findings.as_slice()))

@@ -9,10 +9,10 @@ use sqlite_items::Items;
 use std::alloc::{AllocError, Global};
 use std::mem;
 
-/// How many ranks with an outcome a piece has. Each of them sends a few steps, those that its line does not share with the line before,
-/// so that a piece is some thousand steps and takes milliseconds. It binds and starts the spec for itself and may need a thread of its
-/// own, which costs far less. Pieces are still small enough for each processor to have some until near the end.
-const PIECE: u64 = 1_024;
+/// How many ranks with an outcome a piece has at least, if there are so many. Each of them sends a few steps, those that its line does
+/// not share with the line before, so that such a piece is some thousand steps and takes milliseconds. It binds and starts the spec for
+/// itself and may need a thread of its own, which costs far less where tables are small.
+const LEAST_PIECE: u64 = 1_024;
 
 /// Runs cut into pieces, as far as they are there.
 #[derive(Drop)]
@@ -21,16 +21,24 @@ struct Pieces {
     rest: Items<Run>,
     /// How many ranks of the last piece are tested one by one.
     ranks: u64,
+    /// How many of them end a piece.
+    size: u64,
 }
 
-/// The same runs in pieces, one after the other. Runs of an outcome cost a line for each rank, and long ones are cut. A run of a swap
-/// is tested once for each block of words that share the letters up to the swap, of which it has a few at most: it counts as a rank.
-pub(crate) fn pieces_of(alloc: Global, runs: &[Run]) -> Result<Vec<Items<Run>>, AllocError>
+/// The same runs in as many pieces as are wanted at most, one after the other. Runs of an outcome cost a line for each rank, and long
+/// ones are cut. A run of a swap is tested once for each block of words that share the letters up to the swap, of which it has a few at
+/// most: it counts as a rank.
+pub(crate) fn pieces_of(
+    alloc: Global,
+    runs: &[Run],
+    most: u64,
+) -> Result<Vec<Items<Run>>, AllocError>
     requires sound { (n : ℕ) × AllSound n runs.now }
+    requires some { 1 ≤ most }
     ensures says { IfOk result (λ pieces. SaysAll runs.now (runs_of pieces.items)) }
     ensures sound { IfOk result (λ pieces. (n : ℕ) → AllSound n runs.now → AllSound n (runs_of pieces.items)) }
 {
-    let mut pieces = Pieces::new(alloc);
+    let mut pieces = Pieces::new(alloc, size_for(ranks_of(runs), most));
     for i in 0..runs.len() {
         pieces.add(alloc, runs[i])?;
     }
@@ -38,14 +46,39 @@ pub(crate) fn pieces_of(alloc: Global, runs: &[Run]) -> Result<Vec<Items<Run>>, 
     Ok(pieces.ended)
 }
 
+/// How many ranks of the runs are tested one by one.
+fn ranks_of(runs: &[Run]) -> u64 {
+    let mut ranks: u64 = 0;
+    for i in 0..runs.len() {
+        ranks = ranks.saturating_add(ranks_of_run(runs[i]));
+    }
+    ranks
+}
+
+fn ranks_of_run(run: Run) -> u64 {
+    match run.tag {
+        Tag::Ran(_) => run.end.saturating_sub(run.first),
+        Tag::Swap(_) => 1,
+    }
+}
+
+/// How many ranks end a piece, so that these need no more pieces than are wanted at most, with the last one, which may be empty.
+fn size_for(ranks: u64, most: u64) -> u64
+    requires { 1 ≤ most }
+    ensures { LEAST_PIECE ≤ result }
+{
+    (ranks / most).saturating_add(1).max(LEAST_PIECE)
+}
+
 impl Pieces {
-    fn new(alloc: Global) -> Pieces
+    fn new(alloc: Global, size: u64) -> Pieces
         ensures { runs_in result ≡ [] }
     {
         Pieces {
             ended: Vec::new(alloc),
             rest: Items::new(alloc),
             ranks: 0,
+            size,
         }
     }
 
@@ -61,7 +94,7 @@ impl Pieces {
         }
     }
 
-    /// Adds a run in parts, none of which is longer than a piece.
+    /// Adds a run in parts, each of which ends where its piece does or the run.
     fn add_ranks(&mut self, alloc: Global, run: Run) -> Result<(), AllocError>
         requires { run.first ≤ run.end }
         ensures says { OnOk result (Adds (runs_in self.old) run (runs_in self.new)) }
@@ -69,11 +102,18 @@ impl Pieces {
     {
         let mut first = run.first;
         while first < run.end {
-            let part = front(run, first);
+            let part = front(run, first, self.room());
             self.put(alloc, part, part.end - first)?;
             first = part.end;
         }
         Ok(())
+    }
+
+    /// How many more ranks the last piece takes, one at least.
+    fn room(&self) -> u64
+        ensures { 1 ≤ result }
+    {
+        self.size.saturating_sub(self.ranks).max(1)
     }
 
     /// Puts a run behind those that are there.
@@ -82,7 +122,7 @@ impl Pieces {
     {
         self.rest.push(run)?;
         self.ranks = self.ranks.saturating_add(ranks);
-        if self.ranks < PIECE {
+        if self.ranks < self.size {
             return Ok(());
         }
         self.close(alloc)
@@ -100,9 +140,10 @@ impl Pieces {
     }
 }
 
-/// What a run says from this rank on, of no more ranks than a piece has.
-fn front(run: Run, first: u64) -> Run
-    requires { first < run.end }
+/// What a run says from this rank on, of no more ranks than there is room for.
+fn front(run: Run, first: u64, room: u64) -> Run
+    requires left { first < run.end }
+    requires room { 1 ≤ room }
     ensures tag { result.tag ≡ run.tag }
     ensures first { result.first ≡ first }
     ensures some { first < result.end }
@@ -111,7 +152,7 @@ fn front(run: Run, first: u64) -> Run
     let left = run.end - first;
     Run {
         first,
-        end: first + left.min(PIECE),
+        end: first + left.min(room),
         tag: run.tag,
     }
 }

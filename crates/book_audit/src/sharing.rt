@@ -1,6 +1,6 @@
 //! Pieces of work in threads.
 
-ghost use Rattle.std.specs.Prelude.{◌≡◌, All, IfOk, length};
+ghost use Rattle.std.specs.Prelude.{◌≡◌, ◌≤◌, All, IfOk, length};
 ghost use Rattle.std.specs.List.{AllZip};
 ghost use Rattle.bound_specs.specs.Spec.{SpecFile};
 ghost use Rattle.bound_specs.specs.Binding.{IsFileOf};
@@ -12,11 +12,25 @@ ghost use Rattle.book_audit.specs.declared.finding.Finding.TheVariants as found;
 use crate::finding::{Finding, finding_of};
 use crate::source::bound_spec;
 use outcome_books::Run;
+use rayon::current_num_threads;
 use rayon::prelude::*;
 use sqlite_items::Items;
 use std::alloc::{AllocError, Global};
 use std::thread::Threads;
 use transcripts::Outcome;
+
+/// How many parts `rayon` makes of a list at most, and so how often an audit binds and starts its spec at most.
+const MOST_PIECES: usize = 64;
+
+/// How many pieces there are to be at most: as many as threads can be, two for each processor. A thread keeps the pieces that it is
+/// given, so that more of them would bind and start the spec more often and end no earlier.
+pub(crate) fn most_pieces(threads: &impl Threads) -> u64
+    ensures { 1 ≤ result }
+{
+    current_num_threads(threads)
+        .saturating_mul(2)
+        .min(MOST_PIECES) as u64
+}
 
 /// What is found of each piece, in their order.
 pub(crate) fn findings_of<R: Threads + Sync>(

@@ -12,7 +12,7 @@ use Rattle.book_audit.proofs.Combined.{all-finding, sound-pieces}
 use Rattle.book_audit.proofs.auditing.audit.Goals as goal
 
 pub pieces_of-requires : goal.pieces_of-requires
-pieces_of-requires g c = record { sound = (length c.parts.result.0.now, c.parts.ensures.kept.sound) }
+pieces_of-requires g c = record { sound = (length c.parts.result.0.now, c.parts.ensures.kept.sound); some = c.most_pieces.ensures }
 
 pub findings_of-requires : goal.findings_of-requires
 findings_of-requires g c =

@@ -3,8 +3,8 @@ use Rattle.book_audit.specs.Pieces.{runs_of}
 use Rattle.book_audit.proofs.PieceLemmas.{OnOk-then}
 use Rattle.book_audit.proofs.pieces.Pieces.put.Goals as goal
 
-pub returns-then-self-lt-PIECE : goal.returns-then-self-lt-PIECE
-returns-then-self-lt-PIECE c =
+pub returns-then-self : goal.returns-then-self
+returns-then-self c =
     let x = c.args.self.now in
     ap (λ rest. runs_of x.ended.items ++ rest) c.in_ok-push.ensures.ok ∙ sym (append_assoc (runs_of x.ended.items) x.rest (c.args.run ∷ []))
 
