@@ -5,6 +5,7 @@ pub mod OneForm
 pub mod DataLemmas
 pub mod NumberingLemmas
 pub mod PiecesLemmas
+pub mod CompactLemmas
 pub mod LengthLemmas
 pub mod TextLemmas
 pub mod ItemLemmas

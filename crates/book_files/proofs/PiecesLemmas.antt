@@ -22,7 +22,7 @@ use Rattle.book_files.specs.Writing.{ArePieces}
 
 -- ---- lists
 
-others-text : {X : Type 0} (enc : X → Data) (f : X → List ℕ) → ((x : X) → compact_text (enc x) ≡ f x) → (xs : List X)
+pub others-text : {X : Type 0} (enc : X → Data) (f : X → List ℕ) → ((x : X) → compact_text (enc x) ≡ f x) → (xs : List X)
     → items_text true (items_of (map enc xs)) ≡ flat_map (after_comma f) xs ++ 93 ∷ []
 others-text enc f each [] = refl
 others-text enc f each (x ∷ xs) =

@@ -2,6 +2,7 @@
 #![tactic(auto)]
 
 mod canonical;
+mod compact;
 mod error;
 mod laws;
 mod lengths;

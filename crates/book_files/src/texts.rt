@@ -5,27 +5,32 @@ ghost use Rattle.serde_json.specs.Data.{string};
 ghost use Rattle.serde_json.specs.Written.{compact_text};
 ghost use Rattle.outcome_texts.specs.Json.{outcome_data};
 
-use outcome_texts::outcome_value;
+use crate::compact::push_sessions;
 use serde_json::Value;
 use std::alloc::{AllocError, Global};
 use transcripts::Outcome;
 
-/// The compact text of an outcome's value.
-fn outcome_text(alloc: Global, outcome: &Outcome) -> Result<String, AllocError>
+/// The compact text of an outcome. It is made in a text that is used again, so that it takes no more room than it needs.
+fn outcome_text(
+    alloc: Global,
+    outcome: &Outcome,
+    scratch: &mut String,
+) -> Result<String, AllocError>
     ensures { IfOk result (λ text. string_bytes text ≡ compact_text (outcome_data outcome.now)) }
 {
-    let value = outcome_value(alloc, outcome)?;
-    let text = value.to_string(alloc)?;
-    Ok(text)
+    scratch.clear();
+    push_sessions(outcome.sessions(), scratch)?;
+    String::from_str(alloc, scratch.as_str())
 }
 
 /// The compact texts of outcomes.
 pub(crate) fn outcome_texts(alloc: Global, outcomes: &[Outcome]) -> Result<Vec<String>, AllocError>
     ensures { IfOk result (λ texts. map string_bytes texts.items ≡ map (λ o. compact_text (outcome_data o)) outcomes.now) }
 {
+    let mut scratch = String::new(alloc);
     let mut texts = Vec::with_capacity(alloc, outcomes.len())?;
     for outcome in outcomes {
-        texts.push(outcome_text(alloc, outcome)?)?;
+        texts.push(outcome_text(alloc, outcome, &mut scratch)?)?;
     }
     Ok(texts)
 }

@@ -1,9 +1,13 @@
-use Rattle.std.proofs.Common.{ap, ◌∙◌}
-use Rattle.serde_json.specs.Written.{has_float, compact_text}
-use Rattle.book_files.proofs.DataLemmas.{told-float}
+use Rattle.std.proofs.Common.{◌≡◌, sym, ap, ◌∙◌, subst, ◌++◌}
+use Rattle.std.specs.Prelude.{IfOk, string_bytes}
+use Rattle.book_files.specs.OutcomeTexts.{array_text, session_text}
+use Rattle.book_files.proofs.CompactLemmas.{told-text}
 use Rattle.book_files.proofs.texts.outcome_text.Goals as goal
 
+-- the text was made in an empty one, and is the compact text
 pub returns : goal.returns
 returns c =
-    let is = c.in_ok-value.ensures.value in
-    c.in_ok-text.ensures.text (ap has_float is ∙ told-float c.args.outcome.now) ∙ ap compact_text is
+    let empty = ap (λ before. before ++ array_text session_text c.sessions.result.now) c.clear.ensures.bytes in
+    let made = c.as_str.ensures.value ∙ c.in_ok-push_sessions.ensures ∙ empty ∙ ap (array_text session_text) c.sessions.ensures
+    ∙ sym (told-text c.args.outcome.now) in
+    subst (λ bytes. IfOk c.from_str.result (λ text. string_bytes text ≡ bytes)) made c.from_str.ensures.ok
