@@ -3,8 +3,8 @@ use Rattle.std.proofs.Common.{◌≡◌, ◌≢◌, refl, sym, ap, ◌∙◌, su
 use Rattle.std.proofs.Common.{length, take, get_or, Some, slice_get, arith}
 use Rattle.std.proofs.lemmas.Bool.{false≢true}
 use Rattle.std.specs.List.{AllZip}
-use Rattle.outcome_books.specs.Entries.{Told}
-use Rattle.outcome_books.specs.Sweep.{values_of}
+use Rattle.fact_books.specs.Entries.{Told}
+use Rattle.fact_books.specs.Sweep.{values_of}
 use Rattle.accepted_outputs.specs.Judging.{IsFirstDifference}
 
 some-same : {A : Type 0} (a b : A) → Some a ≡ Some b → a ≡ b

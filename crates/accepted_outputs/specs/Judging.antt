@@ -1,7 +1,7 @@
 -- Judgements of a report by accepted ones: the first that is equal, or else where each of them differs first.
 use Rattle.std.specs.Prelude.{◌≡◌, ◌≢◌, ℕ, ◌<◌, List, length, Option, Some, None, slice_get, All}
 use Rattle.std.specs.List.{AllZip}
-use Rattle.outcome_books.specs.Entries.{Told}
+use Rattle.fact_books.specs.Entries.{Told}
 use Rattle.accepted_outputs.specs.declared.verdict.Verdict.{Verdict}
 use Rattle.accepted_outputs.specs.declared.verdict.Verdict.TheVariants.{Matches, Differs}
 

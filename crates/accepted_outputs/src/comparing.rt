@@ -4,7 +4,7 @@ ghost use Rattle.std.specs.Prelude.{◌≡◌, ◌↔◌, ◌<◌, [], Some, IfO
 ghost use Rattle.accepted_outputs.specs.Judging.{HasFewSessions, IsComparison, IsFirstPlace};
 
 use crate::sessions::first_session;
-use outcome_books::Report;
+use fact_books::Report;
 use std::alloc::{AllocError, Global};
 use transcripts::Outcome;
 

@@ -1,14 +1,14 @@
 //! A report judged by accepted ones.
 
 ghost use Rattle.std.specs.Prelude.{◌≡◌, All, IfOk};
-ghost use Rattle.quiet_steps.specs.Swap.{leads_in};
+ghost use Rattle.rank_facts.specs.Swap.{leads_in};
 ghost use Rattle.bound_specs.specs.Spec.{ranks};
-ghost use Rattle.outcome_books.specs.Values.{AreValues};
+ghost use Rattle.fact_books.specs.Values.{AreValues};
 ghost use Rattle.accepted_outputs.specs.Judging.{HasFewSessions, IsVerdict};
 
 use crate::comparing::first_difference;
 use crate::verdict::{Differences, Verdict};
-use outcome_books::{Book, Report};
+use fact_books::{Book, Report};
 use std::alloc::{AllocError, Global};
 
 /// The first of the accepted reports that is equal to the report. Where none is, for each of them the first rank at which it differs,

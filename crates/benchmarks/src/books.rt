@@ -4,14 +4,14 @@ use crate::facts::{number, refuse};
 use crate::walks::text_of;
 use book_jobs::{Boxed, Job, make};
 use bound_specs::Spec;
-use outcome_books::{Book, Report, ReportError, missing, report};
-use outcome_texts::outcome_value;
+use fact_books::{Book, Report, ReportError, missing, report};
 use session_machine::RunError;
-use spec_answers::{OneFault, spec_of};
+use spec_commands::{OneFault, spec_of};
 use std::alloc::Global;
 use std::io;
 use std::process::ExitCode;
 use step_reducer::Shard;
+use transcripts::outcome_value;
 
 /// The job of a range of ranks: its first rank, its end, and how.
 fn run_of(range: &[String]) -> io::Result<Job> {

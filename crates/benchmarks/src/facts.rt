@@ -2,13 +2,13 @@
 
 use crate::walks::text_of;
 use bound_specs::Spec;
-use iso_farm::fault_at;
-use outcome_texts::outcome_value;
+use program_commands::fault_at;
 use session_machine::RunError;
-use spec_answers::{OneFault, spec_of};
+use spec_commands::{OneFault, spec_of};
 use std::io;
 use std::process::ExitCode;
 use step_reducer::{Fact, Shard, Walker};
+use transcripts::outcome_value;
 
 /// The status of what is refused.
 const REFUSED: u8 = 3;

@@ -3,7 +3,7 @@
 use crate::walks::{refused, spec_of, text_of};
 use book_jobs::{Boxed, Job, make};
 use bound_specs::Spec;
-use outcome_books::{Book, join, report};
+use fact_books::{Book, join, report};
 use std::alloc::Global;
 use std::io;
 use std::time::{Duration, Instant};

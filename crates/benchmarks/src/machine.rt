@@ -4,8 +4,8 @@ ghost use Rattle.std.specs.Prelude.{◌<◌, All, length};
 
 use bound_specs::{Line, Spec};
 use session_machine::{World, run_one};
+use spec_binding::bind;
 use spec_reader::read_spec;
-use sql_subset::bind;
 use std::alloc::Global;
 use std::io;
 use std::time::{Duration, Instant};

@@ -13,8 +13,8 @@ use Rattle.sql_grammar.specs.declared.expression.Literal.TheVariants.{Whole}
 use Rattle.sql_grammar.specs.declared.statement.EndWord.TheVariants.{Abort}
 use Rattle.sql_grammar.specs.declared.statement.Start.TheVariants.{StartWords}
 use Rattle.sql_grammar.specs.declared.statement.TablePart.TheVariants.{Key}
-use Rattle.sql_statements.specs.Plan.{Request, request, plan}
-use Rattle.sql_statements.specs.declared.statement.Bound.TheVariants.{Begin, Rollback}
+use Rattle.bound_statements.specs.Plan.{Request, request, plan}
+use Rattle.bound_statements.specs.declared.statement.Bound.TheVariants.{Begin, Rollback}
 use Rattle.binding_model.specs.declared.error.BindErrorKind.TheVariants.{Sql, UnknownTable, UnknownColumn, KeyChanged, WrongCount}
 use Rattle.binding_model.specs.declared.tables.ColumnType.TheVariants.{Number}
 use Rattle.binding_model.specs.declared.tables.Table.{Table}

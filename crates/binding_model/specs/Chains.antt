@@ -1,9 +1,9 @@
 -- What is told of a chain of AND or of OR, by its parts in their order.
 use Rattle.std.specs.Prelude.{◌≡◌, ℕ, Bool, List, [], ◌∷◌, ◌++◌, map, Option, None}
 use Rattle.lock_modes.specs.declared.value.Value.{Value}
-use Rattle.sql_statements.specs.Conditions.{told}
-use Rattle.sql_statements.specs.declared.condition.Condition.{Condition, Condition-F as Level, more_of-Condition, end_of-Condition}
-use Rattle.sql_statements.specs.declared.condition.Condition.TheVariants.{Always, Compares, Not', And', Or'}
+use Rattle.bound_statements.specs.Conditions.{told}
+use Rattle.bound_statements.specs.declared.condition.Condition.{Condition, Condition-F as Level, more_of-Condition, end_of-Condition}
+use Rattle.bound_statements.specs.declared.condition.Condition.TheVariants.{Always, Compares, Not', And', Or'}
 use Rattle.binding_model.specs.declared.joint.Joint.{Joint}
 use Rattle.binding_model.specs.declared.joint.Joint.TheVariants.{All, Any}
 use Rattle.binding_model.specs.KeyParts.{or_next, key_in}

@@ -1,14 +1,14 @@
 -- The key that a condition names.
 use Rattle.std.specs.Prelude.{ℕ, ◌==◌, List, [], ◌∷◌, Option, Some, None, if◌then◌else◌}
 use Rattle.lock_modes.specs.declared.value.Value.{Value}
-use Rattle.sql_statements.specs.declared.condition.Comparison.{Comparison}
-use Rattle.sql_statements.specs.declared.condition.Comparison.TheVariants.{Same, Differs, Below, AtMost, Above, AtLeast}
-use Rattle.sql_statements.specs.Conditions.{told}
-use Rattle.sql_statements.specs.declared.condition.Condition.{Condition, Condition-F as Level}
-use Rattle.sql_statements.specs.declared.expression.Expression.{Expression}
-use Rattle.sql_statements.specs.declared.expression.Operand.{Operand}
-use Rattle.sql_statements.specs.declared.expression.Operand.TheVariants.{Literal, Column}
-use Rattle.sql_statements.specs.declared.expression.SignedProduct.{SignedProduct}
+use Rattle.bound_statements.specs.declared.condition.Comparison.{Comparison}
+use Rattle.bound_statements.specs.declared.condition.Comparison.TheVariants.{Same, Differs, Below, AtMost, Above, AtLeast}
+use Rattle.bound_statements.specs.Conditions.{told}
+use Rattle.bound_statements.specs.declared.condition.Condition.{Condition, Condition-F as Level}
+use Rattle.bound_statements.specs.declared.expression.Expression.{Expression}
+use Rattle.bound_statements.specs.declared.expression.Operand.{Operand}
+use Rattle.bound_statements.specs.declared.expression.Operand.TheVariants.{Literal, Column}
+use Rattle.bound_statements.specs.declared.expression.SignedProduct.{SignedProduct}
 
 -- an operand that stands alone
 abbrev pub single_of : Operand → List Operand → List SignedProduct → Option Operand

@@ -22,18 +22,18 @@ use Rattle.sql_grammar.specs.declared.statement.RowLock.{RowLock as WrittenLock}
 use Rattle.sql_grammar.specs.declared.statement.SortKey.{SortKey as Sorted}
 use Rattle.sql_grammar.specs.declared.statement.Strength.TheVariants.{Share, Exclusive}
 use Rattle.sql_grammar.specs.declared.error.SqlErrorKind.TheVariants.{NotHere}
-use Rattle.sql_statements.specs.declared.statement.Aggregate.{Aggregate}
-use Rattle.sql_statements.specs.declared.statement.Aggregate.TheVariants as aggregates
-use Rattle.sql_statements.specs.declared.statement.Assignment.{Assignment}
-use Rattle.sql_statements.specs.declared.statement.Bound.{Bound}
-use Rattle.sql_statements.specs.declared.statement.Bound.TheVariants.{Select, Insert, Update, Delete, Begin, Commit, Rollback, Lock, SetVariable}
-use Rattle.sql_statements.specs.declared.condition.Condition.{Condition}
-use Rattle.sql_statements.specs.declared.statement.Order.{Order}
-use Rattle.sql_statements.specs.declared.statement.Order.TheVariants.{Rises, Falls}
-use Rattle.sql_statements.specs.declared.statement.Output.{Output}
-use Rattle.sql_statements.specs.declared.statement.Output.TheVariants.{Columns, Aggregates}
-use Rattle.sql_statements.specs.declared.statement.RowLock.{RowLock}
-use Rattle.sql_statements.specs.declared.statement.SortKey.{SortKey}
+use Rattle.bound_statements.specs.declared.statement.Aggregate.{Aggregate}
+use Rattle.bound_statements.specs.declared.statement.Aggregate.TheVariants as aggregates
+use Rattle.bound_statements.specs.declared.statement.Assignment.{Assignment}
+use Rattle.bound_statements.specs.declared.statement.Bound.{Bound}
+use Rattle.bound_statements.specs.declared.statement.Bound.TheVariants.{Select, Insert, Update, Delete, Begin, Commit, Rollback, Lock, SetVariable}
+use Rattle.bound_statements.specs.declared.condition.Condition.{Condition}
+use Rattle.bound_statements.specs.declared.statement.Order.{Order}
+use Rattle.bound_statements.specs.declared.statement.Order.TheVariants.{Rises, Falls}
+use Rattle.bound_statements.specs.declared.statement.Output.{Output}
+use Rattle.bound_statements.specs.declared.statement.Output.TheVariants.{Columns, Aggregates}
+use Rattle.bound_statements.specs.declared.statement.RowLock.{RowLock}
+use Rattle.bound_statements.specs.declared.statement.SortKey.{SortKey}
 use Rattle.binding_model.specs.declared.error.BindErrorKind.TheVariants.{Sql, TypeMismatch, KeyChanged, WrongCount}
 use Rattle.binding_model.specs.declared.tables.Table.{Table}
 use Rattle.binding_model.specs.KeyParts.{key_of}

@@ -14,18 +14,18 @@ use Rattle.sql_grammar.specs.declared.expression.Factor.TheVariants as factor
 use Rattle.sql_grammar.specs.declared.expression.Literal.{Literal}
 use Rattle.sql_grammar.specs.declared.expression.Literal.TheVariants.{Whole, Quoted}
 use Rattle.sql_grammar.specs.declared.error.SqlErrorKind.TheVariants.{NumberTooLarge}
-use Rattle.sql_statements.specs.Conditions.{negation, conjunction, disjunction}
-use Rattle.sql_statements.specs.declared.condition.Comparison.{Comparison}
-use Rattle.sql_statements.specs.declared.condition.Comparison.TheVariants.{Same, Differs, Below, AtMost, Above, AtLeast}
-use Rattle.sql_statements.specs.declared.condition.Condition.{Condition}
-use Rattle.sql_statements.specs.declared.condition.Condition.TheVariants.{Always, Compares}
-use Rattle.sql_statements.specs.declared.expression.AddSign.{AddSign}
-use Rattle.sql_statements.specs.declared.expression.AddSign.TheVariants as sign
-use Rattle.sql_statements.specs.declared.expression.Expression.{Expression}
-use Rattle.sql_statements.specs.declared.expression.Operand.{Operand}
-use Rattle.sql_statements.specs.declared.expression.Operand.TheVariants as operands
-use Rattle.sql_statements.specs.declared.expression.Product.{Product}
-use Rattle.sql_statements.specs.declared.expression.SignedProduct.{SignedProduct}
+use Rattle.bound_statements.specs.Conditions.{negation, conjunction, disjunction}
+use Rattle.bound_statements.specs.declared.condition.Comparison.{Comparison}
+use Rattle.bound_statements.specs.declared.condition.Comparison.TheVariants.{Same, Differs, Below, AtMost, Above, AtLeast}
+use Rattle.bound_statements.specs.declared.condition.Condition.{Condition}
+use Rattle.bound_statements.specs.declared.condition.Condition.TheVariants.{Always, Compares}
+use Rattle.bound_statements.specs.declared.expression.AddSign.{AddSign}
+use Rattle.bound_statements.specs.declared.expression.AddSign.TheVariants as sign
+use Rattle.bound_statements.specs.declared.expression.Expression.{Expression}
+use Rattle.bound_statements.specs.declared.expression.Operand.{Operand}
+use Rattle.bound_statements.specs.declared.expression.Operand.TheVariants as operands
+use Rattle.bound_statements.specs.declared.expression.Product.{Product}
+use Rattle.bound_statements.specs.declared.expression.SignedProduct.{SignedProduct}
 use Rattle.binding_model.specs.declared.error.BindErrorKind.TheVariants.{Sql}
 use Rattle.binding_model.specs.declared.joint.Joint.{Joint}
 use Rattle.binding_model.specs.declared.joint.Joint.TheVariants.{All, Any}

@@ -3,18 +3,18 @@ use Rattle.std.specs.Prelude.{ℕ, Bool, true, false, ◌||◌, List, [], ◌∷
 use Rattle.std.specs.List.{list_any}
 use Rattle.lock_modes.specs.declared.value.Value.{Value}
 use Rattle.lock_modes.specs.declared.value.Value.TheVariants as value
-use Rattle.sql_statements.specs.Conditions.{told}
-use Rattle.sql_statements.specs.declared.condition.Condition.{Condition, Condition-F as Level}
-use Rattle.sql_statements.specs.declared.expression.Expression.{Expression}
-use Rattle.sql_statements.specs.declared.expression.Operand.{Operand}
-use Rattle.sql_statements.specs.declared.expression.Operand.TheVariants.{Literal, Column}
-use Rattle.sql_statements.specs.declared.expression.Product.{Product}
-use Rattle.sql_statements.specs.declared.expression.SignedProduct.{SignedProduct}
-use Rattle.sql_statements.specs.declared.statement.Aggregate.{Aggregate}
-use Rattle.sql_statements.specs.declared.statement.Aggregate.TheVariants.{Count, Sum}
-use Rattle.sql_statements.specs.declared.statement.Assignment.{Assignment}
-use Rattle.sql_statements.specs.declared.statement.Output.{Output}
-use Rattle.sql_statements.specs.declared.statement.Output.TheVariants.{Columns, Aggregates}
+use Rattle.bound_statements.specs.Conditions.{told}
+use Rattle.bound_statements.specs.declared.condition.Condition.{Condition, Condition-F as Level}
+use Rattle.bound_statements.specs.declared.expression.Expression.{Expression}
+use Rattle.bound_statements.specs.declared.expression.Operand.{Operand}
+use Rattle.bound_statements.specs.declared.expression.Operand.TheVariants.{Literal, Column}
+use Rattle.bound_statements.specs.declared.expression.Product.{Product}
+use Rattle.bound_statements.specs.declared.expression.SignedProduct.{SignedProduct}
+use Rattle.bound_statements.specs.declared.statement.Aggregate.{Aggregate}
+use Rattle.bound_statements.specs.declared.statement.Aggregate.TheVariants.{Count, Sum}
+use Rattle.bound_statements.specs.declared.statement.Assignment.{Assignment}
+use Rattle.bound_statements.specs.declared.statement.Output.{Output}
+use Rattle.bound_statements.specs.declared.statement.Output.TheVariants.{Columns, Aggregates}
 use Rattle.binding_model.specs.declared.tables.ColumnType.{ColumnType}
 use Rattle.binding_model.specs.declared.tables.ColumnType.TheVariants.{Number, Text}
 use Rattle.binding_model.specs.declared.tables.Table.{Table}

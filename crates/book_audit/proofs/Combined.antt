@@ -6,10 +6,10 @@ use Rattle.std.proofs.lemmas.List.Folds.{list_any-append}
 use Rattle.std.proofs.lemmas.List.Elements.{All-nil, All-cons}
 use Rattle.std.specs.List.{AllZip}
 use Rattle.bound_specs.specs.Spec.{Spec}
-use Rattle.quiet_steps.specs.Values.{Facts}
-use Rattle.outcome_books.specs.declared.run.Run.{Run}
-use Rattle.outcome_books.specs.Runs.{Table, has, AllSound}
-use Rattle.outcome_books.proofs.RunLemmas.{or_true_right}
+use Rattle.rank_facts.specs.Values.{Facts}
+use Rattle.fact_books.specs.declared.run.Run.{Run}
+use Rattle.fact_books.specs.Runs.{Table, has, AllSound}
+use Rattle.fact_books.proofs.RunLemmas.{or_true_right}
 use Rattle.book_audit.specs.declared.finding.Finding.{Finding}
 use Rattle.book_audit.specs.declared.finding.Finding.TheVariants.{AllTrue as EachTrue, False, NoMemory}
 use Rattle.book_audit.specs.Findings.{said, AllTrueBelow, IsLeast, IsFinding}

@@ -3,16 +3,16 @@ use Rattle.std.proofs.Common.{◌≡◌, refl, sym, ap, ◌∙◌, subst, ℕ, �
 use Rattle.std.specs.Cmp.{eq_by_cmp_equiv}
 use Rattle.std.specs.FinSet.{contains}
 use Rattle.bound_specs.specs.Spec.{Spec}
-use Rattle.quiet_steps.specs.Facts.{IsTrueAt}
-use Rattle.quiet_steps.specs.Values.{Facts}
-use Rattle.quiet_steps.specs.declared.fact.Fact.{Fact}
-use Rattle.outcome_books.specs.declared.run.Run.{Run}
-use Rattle.outcome_books.specs.Entries.{FactSet, recorded}
-use Rattle.outcome_books.specs.Runs.{Table, fact_in, has}
-use Rattle.outcome_books.specs.Books.{facts_in}
-use Rattle.outcome_books.proofs.Orders.{fact_total, tied_facts}
-use Rattle.outcome_books.proofs.RunLemmas.{both_true, and_true, or_true_right, within-true, within-from}
-use Rattle.outcome_books.proofs.SetLemmas.{contains-runs}
+use Rattle.rank_facts.specs.Facts.{IsTrueAt}
+use Rattle.rank_facts.specs.Values.{Facts}
+use Rattle.rank_facts.specs.declared.fact.Fact.{Fact}
+use Rattle.fact_books.specs.declared.run.Run.{Run}
+use Rattle.fact_books.specs.Entries.{FactSet, recorded}
+use Rattle.fact_books.specs.Runs.{Table, fact_in, has}
+use Rattle.fact_books.specs.Books.{facts_in}
+use Rattle.fact_books.proofs.Orders.{fact_total, tied_facts}
+use Rattle.fact_books.proofs.RunLemmas.{both_true, and_true, or_true_right, within-true, within-from}
+use Rattle.fact_books.proofs.SetLemmas.{contains-runs}
 use Rattle.book_audit.specs.declared.finding.Finding.{Finding}
 use Rattle.book_audit.specs.Audit.{IsLeastFalse}
 use Rattle.book_audit.specs.Findings.{said, with_said, limit, first_of, IsFirstFalse, AllTrueBelow, IsLeast, IsFinding}

@@ -5,10 +5,10 @@ use Rattle.std.proofs.Math.Bool.{or_assoc, or-false}
 use Rattle.std.proofs.lemmas.List.Folds.{list_any-append}
 use Rattle.std.specs.List.{list_any}
 use Rattle.std.specs.Result.{OnOk}
-use Rattle.outcome_books.specs.declared.run.Run.{Run}
-use Rattle.outcome_books.specs.Entries.{Entry}
-use Rattle.outcome_books.specs.Runs.{Table, has, Adds, AllSound, KeepsSound}
-use Rattle.outcome_books.proofs.RunLemmas.{both_true, within-true, has-grown, AllSound-push}
+use Rattle.fact_books.specs.declared.run.Run.{Run}
+use Rattle.fact_books.specs.Entries.{Entry}
+use Rattle.fact_books.specs.Runs.{Table, has, Adds, AllSound, KeepsSound}
+use Rattle.fact_books.proofs.RunLemmas.{both_true, within-true, has-grown, AllSound-push}
 use Rattle.book_audit.specs.Pieces.{runs_of}
 
 pub runs_of-append : (xs ys : List (List Run)) → runs_of (xs ++ ys) ≡ runs_of xs ++ runs_of ys

@@ -8,11 +8,11 @@ use Rattle.bound_specs.specs.Spec.{Spec, ranks, ranks_by, line_of, counts_of, qu
 use Rattle.transcripts.specs.declared.event.Event.{Event}
 use Rattle.machine_model.specs.World.{World, send_all, outcome_of}
 use Rattle.machine_model.specs.Start.{Start, Started, SetupFailed, SessionSetupFailed, SessionSetupWaits, start}
-use Rattle.quiet_steps.specs.Swap.{falls_at, word_of, are_quiet_at}
-use Rattle.quiet_steps.specs.Facts.{IsTrueAt}
-use Rattle.quiet_steps.specs.declared.fact.Fact.{Fact}
-use Rattle.quiet_steps.specs.declared.fact.Fact.TheVariants.{Ran, Swap}
-use Rattle.quiet_steps.proofs.Leading.{outcome-started}
+use Rattle.rank_facts.specs.Swap.{falls_at, word_of, are_quiet_at}
+use Rattle.rank_facts.specs.Facts.{IsTrueAt}
+use Rattle.rank_facts.specs.declared.fact.Fact.{Fact}
+use Rattle.rank_facts.specs.declared.fact.Fact.TheVariants.{Ran, Swap}
+use Rattle.rank_facts.proofs.Leading.{outcome-started}
 use Rattle.step_reducer.proofs.Covering.{swap-covers}
 use Rattle.step_reducer.proofs.Partings.{line-length}
 use Rattle.step_reducer.proofs.Prefixes.{falls-short}

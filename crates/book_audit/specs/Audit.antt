@@ -1,11 +1,11 @@
 -- What an audit of a book tells: that each of its facts is true, or the least rank with one that is not.
 use Rattle.std.specs.Prelude.{◌≡◌, ℕ, ◌<◌, true, Result, Ok, Err, ⊤}
 use Rattle.bound_specs.specs.Spec.{Spec}
-use Rattle.quiet_steps.specs.Facts.{IsTrueAt}
-use Rattle.quiet_steps.specs.Values.{Facts, AllTrue}
-use Rattle.quiet_steps.specs.declared.fact.Fact.{Fact}
-use Rattle.outcome_books.specs.Entries.{recorded}
-use Rattle.outcome_books.specs.Books.{Contents}
+use Rattle.rank_facts.specs.Facts.{IsTrueAt}
+use Rattle.rank_facts.specs.Values.{Facts, AllTrue}
+use Rattle.rank_facts.specs.declared.fact.Fact.{Fact}
+use Rattle.fact_books.specs.Entries.{recorded}
+use Rattle.fact_books.specs.Books.{Contents}
 use Rattle.book_audit.specs.declared.error.AuditError.{AuditError}
 use Rattle.book_audit.specs.declared.error.AuditError.TheVariants.{False, NoMemory}
 

@@ -2,11 +2,11 @@
 use Rattle.std.specs.Prelude.{◌≡◌, ℕ, ◌<◌, ◌≤◌, min, true, ◌||◌, List, Option, Some, None}
 use Rattle.std.specs.List.{list_any}
 use Rattle.bound_specs.specs.Spec.{Spec}
-use Rattle.quiet_steps.specs.Facts.{IsTrueAt}
-use Rattle.quiet_steps.specs.Values.{Facts, AllTrue}
-use Rattle.quiet_steps.specs.declared.fact.Fact.{Fact}
-use Rattle.outcome_books.specs.declared.run.Run.{Run}
-use Rattle.outcome_books.specs.Runs.{Table, has}
+use Rattle.rank_facts.specs.Facts.{IsTrueAt}
+use Rattle.rank_facts.specs.Values.{Facts, AllTrue}
+use Rattle.rank_facts.specs.declared.fact.Fact.{Fact}
+use Rattle.fact_books.specs.declared.run.Run.{Run}
+use Rattle.fact_books.specs.Runs.{Table, has}
 use Rattle.book_audit.specs.declared.finding.Finding.{Finding}
 use Rattle.book_audit.specs.declared.finding.Finding.TheVariants.{AllTrue as EachTrue, False, NoMemory}
 use Rattle.book_audit.specs.Audit.{HasFalse}

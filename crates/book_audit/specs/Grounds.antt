@@ -5,8 +5,8 @@ use Rattle.perm_ranks.specs.Blocks.{Block, HasRank, IsBlockOf, end_of}
 use Rattle.bound_specs.specs.Spec.{Spec, SpecFile}
 use Rattle.machine_model.specs.World.{World}
 use Rattle.machine_model.specs.Start.{Started, start}
-use Rattle.quiet_steps.specs.Facts.{IsTrueAt}
-use Rattle.quiet_steps.specs.declared.fact.Fact.{Fact}
+use Rattle.rank_facts.specs.Facts.{IsTrueAt}
+use Rattle.rank_facts.specs.declared.fact.Fact.{Fact}
 use Rattle.step_reducer.specs.Paths.{IsPath}
 use Rattle.book_audit.specs.declared.ground.Ground.{Ground}
 use Rattle.book_audit.specs.declared.ground.Ground.TheVariants as ground

@@ -1,9 +1,9 @@
 -- Runs in pieces, and what is found of all of them.
 use Rattle.std.specs.Prelude.{◌≡◌, min, List, [], ◌∷◌, ◌++◌}
 use Rattle.std.specs.List.{list_any}
-use Rattle.outcome_books.specs.declared.run.Run.{Run}
-use Rattle.outcome_books.specs.Runs.{Table, has}
-use Rattle.outcome_books.specs.Entries.{Entry}
+use Rattle.fact_books.specs.declared.run.Run.{Run}
+use Rattle.fact_books.specs.Runs.{Table, has}
+use Rattle.fact_books.specs.Entries.{Entry}
 use Rattle.book_audit.specs.declared.finding.Finding.{Finding}
 use Rattle.book_audit.specs.declared.finding.Finding.TheVariants.{AllTrue, False, NoMemory}
 use Rattle.book_audit.specs.declared.pieces.Pieces.{Pieces}

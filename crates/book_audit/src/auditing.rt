@@ -7,7 +7,7 @@ use crate::finding::{finding_of, told};
 use crate::pieces::pieces_of;
 use crate::sharing::{all_of, findings_of, most_pieces};
 use crate::source::spec_of;
-use outcome_books::Book;
+use fact_books::Book;
 use std::alloc::Global;
 use std::thread::Threads;
 

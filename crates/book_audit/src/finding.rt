@@ -1,10 +1,10 @@
 //! What a piece of work finds.
 
 ghost use Rattle.std.specs.Prelude.{◌≡◌, ◌<◌, length, min, IfOk, OnOk};
-ghost use Rattle.quiet_steps.specs.Values.{Facts};
-ghost use Rattle.outcome_books.specs.Runs.{AllSound, IsSound};
-ghost use Rattle.outcome_books.specs.Books.{Contents};
-ghost use Rattle.outcome_books.specs.Entries.{recorded};
+ghost use Rattle.rank_facts.specs.Values.{Facts};
+ghost use Rattle.fact_books.specs.Runs.{AllSound, IsSound};
+ghost use Rattle.fact_books.specs.Books.{Contents};
+ghost use Rattle.fact_books.specs.Entries.{recorded};
 ghost use Rattle.book_audit.specs.Audit.{IsAudit};
 ghost use Rattle.book_audit.specs.Grounds.{IsGround};
 ghost use Rattle.book_audit.specs.Findings.{IsFinding, IsLeast, said, with_said, limit, first_of};
@@ -12,7 +12,7 @@ ghost use Rattle.book_audit.specs.Findings.{IsFinding, IsLeast, said, with_said,
 use crate::error::AuditError;
 use crate::ground::Ground;
 use bound_specs::Spec;
-use outcome_books::Run;
+use fact_books::Run;
 use std::alloc::{AllocError, Global};
 use transcripts::Outcome;
 

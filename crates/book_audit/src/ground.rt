@@ -1,15 +1,15 @@
 //! Whether facts of a spec are true, whether it starts or not.
 
 ghost use Rattle.std.specs.Prelude.{◌≡◌, ◌<◌, length, IfOk, OnOk};
-ghost use Rattle.quiet_steps.specs.declared.fact.Fact.TheVariants as fact;
-ghost use Rattle.outcome_books.specs.Runs.{IsNumbered, fact_in};
+ghost use Rattle.rank_facts.specs.declared.fact.Fact.TheVariants as fact;
+ghost use Rattle.fact_books.specs.Runs.{IsNumbered, fact_in};
 ghost use Rattle.step_reducer.specs.Paths.{IsPath};
 ghost use Rattle.book_audit.specs.Grounds.{IsGround, IsTrueUntil};
 ghost use Rattle.book_audit.specs.Findings.{IsFirstFalse};
 
 use crate::testing::{is_ran, swap_until};
 use bound_specs::Spec;
-use outcome_books::{Run, Tag};
+use fact_books::{Run, Tag};
 use session_machine::{StartError, World};
 use std::alloc::{AllocError, Global};
 use step_reducer::Path;

@@ -1,10 +1,10 @@
 //! Runs cut into pieces of about equal work.
 
 ghost use Rattle.std.specs.Prelude.{◌≡◌, ℕ, ◌++◌, ◌∷◌, ◌<◌, ◌≤◌, [], IfOk, OnOk};
-ghost use Rattle.outcome_books.specs.Runs.{Adds, AllSound, IsSound, KeepsSound};
+ghost use Rattle.fact_books.specs.Runs.{Adds, AllSound, IsSound, KeepsSound};
 ghost use Rattle.book_audit.specs.Pieces.{runs_of, runs_in, SaysAll};
 
-use outcome_books::{Run, Tag};
+use fact_books::{Run, Tag};
 use sqlite_items::Items;
 use std::alloc::{AllocError, Global};
 use std::mem;

@@ -4,14 +4,14 @@ ghost use Rattle.std.specs.Prelude.{◌≡◌, ◌≤◌, All, IfOk, length};
 ghost use Rattle.std.specs.List.{AllZip};
 ghost use Rattle.bound_specs.specs.Spec.{SpecFile};
 ghost use Rattle.bound_specs.specs.Binding.{IsFileOf};
-ghost use Rattle.outcome_books.specs.Runs.{AllSound};
+ghost use Rattle.fact_books.specs.Runs.{AllSound};
 ghost use Rattle.book_audit.specs.Findings.{IsFinding, said};
 ghost use Rattle.book_audit.specs.Pieces.{both, all_of};
 ghost use Rattle.book_audit.specs.declared.finding.Finding.TheVariants as found;
 
 use crate::finding::{Finding, finding_of};
 use crate::source::bound_spec;
-use outcome_books::Run;
+use fact_books::Run;
 use rayon::current_num_threads;
 use rayon::prelude::*;
 use sqlite_items::Items;

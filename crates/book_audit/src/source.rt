@@ -5,9 +5,9 @@ ghost use Rattle.bound_specs.specs.Spec.{SpecFile};
 ghost use Rattle.bound_specs.specs.Binding.{IsFileOf};
 
 use bound_specs::Spec;
-use outcome_books::Book;
+use fact_books::Book;
+use spec_binding::bind;
 use spec_reader::read_spec;
-use sql_subset::bind;
 use std::alloc::{AllocError, Global};
 
 /// The spec of a book.

@@ -2,9 +2,9 @@
 
 ghost use Rattle.std.specs.Prelude.{◌≡◌, ◌↔◌, ◌+◌, ◌<◌, ◌≤◌, length, IfOk, OnOk, IsTrue};
 ghost use Rattle.bound_specs.specs.Spec.{ranks, line_of};
-ghost use Rattle.quiet_steps.specs.Facts.{IsTrueAt};
-ghost use Rattle.quiet_steps.specs.Swap.{are_quiet_at};
-ghost use Rattle.quiet_steps.specs.declared.fact.Fact.TheVariants as fact;
+ghost use Rattle.rank_facts.specs.Facts.{IsTrueAt};
+ghost use Rattle.rank_facts.specs.Swap.{are_quiet_at};
+ghost use Rattle.rank_facts.specs.declared.fact.Fact.TheVariants as fact;
 ghost use Rattle.step_reducer.specs.Paths.{IsPath};
 ghost use Rattle.step_reducer.specs.Reduced.{first_world};
 ghost use Rattle.perm_ranks.specs.Words.{all_words, total};

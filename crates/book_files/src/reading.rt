@@ -1,13 +1,108 @@
-//! What the JSON value of a book file says: its parts, and the book that they make of the spec that its text names.
+//! A book from the bytes of its file.
 
-mod facts;
-mod form;
-mod laws;
-mod outcomes;
-mod parts;
-mod runs;
+ghost use Rattle.std.specs.Prelude.{◌≡◌, ◌≢◌, ◌+◌, ◌<◌, IfErr, IfSome};
+ghost use Rattle.serde_json.specs.View.{view};
+ghost use Rattle.transcripts.specs.Counted.{failures_of, unread};
+ghost use Rattle.book_format.specs.declared.error.BookError.TheVariants as book_error;
+ghost use Rattle.book_format.specs.Reading.{Given, Gives, Meets};
+ghost use Rattle.book_format.specs.ReadingBooks.{IsBookFile, IsBookOf, IsBookValue, IsFactsBook, IsReadOf, IsRunsBook, IsValueOf, read_faults_of};
 
-pub use facts::{FactParts, book_of_facts, fact_parts};
-pub use form::{RunParts, book_of_runs, run_parts};
-pub use laws::forms_read_back;
-pub use parts::{Version, version_of};
+use crate::spec_of_text::spec_of_text;
+use book_format::{
+    BookError, MAX_TEXT, Version, book_of_facts, book_of_runs, fact_parts, run_parts, version_of,
+};
+use fact_books::Book;
+use serde_json::Value as Json;
+use std::alloc::Global;
+use std::io::Read;
+use transcripts::{Counted, ReadError};
+
+/// The book that an input is the file of: of runs that have one fact, or of facts one by one. The input is read to its end, or up to
+/// one byte past the longest file; any error of a read is a read fault at once.
+pub fn read_book<R: Read>(alloc: Global, input: &mut Counted<R>) -> Result<Book, BookError>
+    requires { failures_of input.old < u64.MAX }
+    ensures book { IfSome (unread R.remaining input.old) (λ bytes. IsReadOf bytes result) }
+    ensures failures { failures_of input.new ≡ failures_of input.old + read_faults_of result }
+{
+    match input.read_up_to(alloc, MAX_TEXT as usize + 1) {
+        Ok(bytes) => book_of_bytes(alloc, bytes),
+        Err(ReadError::Fault) => Err(BookError::ReadFault),
+        Err(ReadError::NoMemory) => Err(BookError::NoMemory),
+    }
+}
+
+/// The book that bytes are.
+fn book_of_bytes(alloc: Global, bytes: Vec<u8>) -> Result<Book, BookError>
+    ensures book { Meets (λ book. book) (IsBookFile bytes.items) result }
+    ensures plain { IfErr result (λ e. e ≢ book_error.ReadFault) }
+{
+    if bytes.len() > MAX_TEXT as usize {
+        return Err(BookError::TooLarge);
+    }
+    match value_of_bytes(alloc, bytes) {
+        Ok(value) => book_of_value(alloc, &value),
+        Err(error) => Err(error),
+    }
+}
+
+/// The JSON value that bytes are the text of. The bytes are let go before the value is looked at.
+fn value_of_bytes(alloc: Global, bytes: Vec<u8>) -> Result<Json, BookError>
+    ensures { Meets view (Given book_error.NotJson (IsValueOf bytes.items) Gives) result }
+{
+    match Json::from_slice(alloc, bytes.as_slice()) {
+        Ok(value) => Ok(value),
+        Err(error) => {
+            if error.is_memory() {
+                return Err(BookError::NoMemory);
+            }
+            Err(BookError::NotJson)
+        }
+    }
+}
+
+/// The book that a JSON value is.
+fn book_of_value(alloc: Global, value: &Json) -> Result<Book, BookError>
+    ensures { Meets (λ book. book) (IsBookValue (view value.now)) result }
+{
+    match version_of(value) {
+        Some(version) => book_of_version(alloc, version, value),
+        None => Err(BookError::BadField),
+    }
+}
+
+/// The book that a JSON value is by its format.
+fn book_of_version(alloc: Global, version: Version, value: &Json) -> Result<Book, BookError>
+    ensures { Meets (λ book. book) (IsBookOf version (view value.now)) result }
+{
+    match version {
+        Version::Facts => facts_book(alloc, value),
+        Version::Runs => runs_book(alloc, value),
+        Version::Other => Err(BookError::BadVersion),
+    }
+}
+
+/// The book of facts that a value is.
+fn facts_book(alloc: Global, value: &Json) -> Result<Book, BookError>
+    ensures { Meets (λ book. book) (IsFactsBook (view value.now)) result }
+{
+    let Some(parts) = fact_parts(value) else {
+        return Err(BookError::BadField);
+    };
+    match spec_of_text(alloc, parts.text) {
+        Ok(spec) => book_of_facts(alloc, &spec, parts.facts),
+        Err(error) => Err(error),
+    }
+}
+
+/// The book of runs that a value is.
+fn runs_book(alloc: Global, value: &Json) -> Result<Book, BookError>
+    ensures { Meets (λ book. book) (IsRunsBook (view value.now)) result }
+{
+    let Some(parts) = run_parts(value) else {
+        return Err(BookError::BadField);
+    };
+    match spec_of_text(alloc, parts.text) {
+        Ok(spec) => book_of_runs(alloc, &spec, parts.facts, parts.outcomes),
+        Err(error) => Err(error),
+    }
+}

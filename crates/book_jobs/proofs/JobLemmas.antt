@@ -6,25 +6,25 @@ use Rattle.std.proofs.lemmas.List.{take_more, take-append-drop}
 use Rattle.std.specs.FinSet.{union, empty, contains-empty}
 use Rattle.bound_specs.specs.Spec.{Spec}
 use Rattle.machine_model.specs.Start.{start}
-use Rattle.quiet_steps.specs.declared.fact.Fact.{Fact}
+use Rattle.rank_facts.specs.declared.fact.Fact.{Fact}
 use Rattle.session_machine.specs.Running.{IsNotRunBy}
 use Rattle.session_machine.specs.declared.error.RunError.{RunError}
 use Rattle.session_machine.specs.declared.error.RunError.TheVariants as run_error
-use Rattle.quiet_steps.specs.declared.shard.Shard.{Shard}
-use Rattle.quiet_steps.specs.Shards.{IsShardOf}
+use Rattle.rank_facts.specs.declared.shard.Shard.{Shard}
+use Rattle.rank_facts.specs.Shards.{IsShardOf}
 use Rattle.step_reducer.specs.Walking.{IsNotWalked}
 use Rattle.book_jobs.specs.declared.job.Job.{Job, more_of-Job, end_of-Job, Run, Join'}
 use Rattle.book_jobs.specs.declared.job.TheConstants.{MAX_LEVELS}
 use Rattle.book_jobs.specs.declared.leaves.Leaf.{Leaf}
 use Rattle.book_jobs.specs.declared.leaves.Pending.{Pending}
-use Rattle.outcome_books.specs.Entries.{FactSet, entry_cmp, recorded}
-use Rattle.outcome_books.specs.Books.{Contents, joined}
-use Rattle.outcome_books.specs.Building.{AreFactsOf}
+use Rattle.fact_books.specs.Entries.{FactSet, entry_cmp, recorded}
+use Rattle.fact_books.specs.Books.{Contents, joined}
+use Rattle.fact_books.specs.Building.{AreFactsOf}
 use Rattle.book_jobs.specs.JobTrees.{join_of, leaves, levels, parts}
 use Rattle.book_jobs.specs.Jobs.{HasFactIn, InLeaves, AreLeafFacts, AllLawful, IsJobOf, IsOutside, IsFirstOutside, IsNotMade}
 use Rattle.book_jobs.specs.Jobs.{leaves_in, parts_in, AllWithin, IsFolding}
 use Rattle.book_jobs.specs.Laws.{IsOneOf, SameLeavesMakeSameFacts}
-use Rattle.outcome_books.proofs.SetLemmas.{in_union, same_facts}
+use Rattle.fact_books.proofs.SetLemmas.{in_union, same_facts}
 
 -- ---- the parts that are pending
 

@@ -1,6 +1,6 @@
 -- Jobs: the shards that they run, and how deep they are.
 use Rattle.std.specs.Prelude.{◌≡◌, ℕ, suc, ◌+◌, max, Bool, List, [], ◌∷◌, ◌++◌}
-use Rattle.quiet_steps.specs.declared.shard.Shard.{Shard}
+use Rattle.rank_facts.specs.declared.shard.Shard.{Shard}
 use Rattle.book_jobs.specs.declared.leaves.Leaf.{Leaf}
 use Rattle.book_jobs.specs.declared.job.Job.{Job, more_of-Job, end_of-Job, Run, Join'}
 use Rattle.book_jobs.specs.declared.job.Parts.{Parts}

@@ -2,19 +2,19 @@
 use Rattle.std.specs.Prelude.{◌≡◌, ◌↔◌, ℕ, ◌+◌, ◌<◌, ◌≤◌, true, List, [], ◌∷◌, ◌++◌, ◌⊎◌}
 use Rattle.bound_specs.specs.Spec.{Spec, ranks}
 use Rattle.machine_model.specs.Start.{start}
-use Rattle.quiet_steps.specs.Facts.{IsFactOf}
-use Rattle.quiet_steps.specs.declared.fact.Fact.{Fact}
+use Rattle.rank_facts.specs.Facts.{IsFactOf}
+use Rattle.rank_facts.specs.declared.fact.Fact.{Fact}
 use Rattle.session_machine.specs.Running.{IsNotRunBy}
 use Rattle.session_machine.specs.declared.error.RunError.{RunError}
 use Rattle.session_machine.specs.declared.error.RunError.TheVariants as run_error
-use Rattle.quiet_steps.specs.declared.shard.Shard.{Shard}
-use Rattle.quiet_steps.specs.declared.shard.TheConstants.{MAX_RANKS}
-use Rattle.quiet_steps.specs.Shards.{IsShardOf}
+use Rattle.rank_facts.specs.declared.shard.Shard.{Shard}
+use Rattle.rank_facts.specs.declared.shard.TheConstants.{MAX_RANKS}
+use Rattle.rank_facts.specs.Shards.{IsShardOf}
 use Rattle.book_jobs.specs.declared.job.Job.{Job}
 use Rattle.book_jobs.specs.declared.job.TheConstants.{MAX_LEVELS}
 use Rattle.book_jobs.specs.declared.leaves.Leaf.{Leaf}
 use Rattle.book_jobs.specs.declared.leaves.Pending.{Pending}
-use Rattle.outcome_books.specs.Entries.{FactSet, recorded}
+use Rattle.fact_books.specs.Entries.{FactSet, recorded}
 use Rattle.book_jobs.specs.JobTrees.{leaves, levels, parts}
 
 -- the shard has the rank, with that fact under its flag

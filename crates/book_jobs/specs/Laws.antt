@@ -1,7 +1,7 @@
 -- What decides the facts of a job.
 use Rattle.std.specs.Prelude.{◌≡◌, List, [], ◌∷◌, ◌⊎◌}
 use Rattle.bound_specs.specs.Spec.{Spec}
-use Rattle.outcome_books.specs.Entries.{FactSet}
+use Rattle.fact_books.specs.Entries.{FactSet}
 use Rattle.book_jobs.specs.declared.job.Job.{Job}
 use Rattle.book_jobs.specs.declared.leaves.Leaf.{Leaf}
 use Rattle.book_jobs.specs.JobTrees.{leaves}

@@ -4,7 +4,7 @@ ghost use Rattle.std.specs.Prelude.{◌≡◌, ◌<◌};
 ghost use Rattle.book_jobs.specs.JobTrees.{join_of, weight, AreParts};
 
 use crate::boxed::Boxed;
-use quiet_steps::Shard;
+use rank_facts::Shard;
 
 /// The levels of a job, at most: a shard that is run has one, and a join one more than its deeper part.
 pub const MAX_LEVELS: u64 = 1_000;

@@ -5,7 +5,7 @@ ghost use Rattle.book_jobs.specs.declared.job.TheConstants.{MAX_LEVELS};
 ghost use Rattle.book_jobs.specs.JobTrees.{leaves, levels};
 
 use crate::job::{Job, MAX_LEVELS};
-use quiet_steps::Shard;
+use rank_facts::Shard;
 use std::alloc::{AllocError, Global};
 
 /// A shard to be run, and whether it is reduced.

@@ -3,15 +3,15 @@
 ghost use Rattle.std.specs.Prelude.{◌≡◌, ◌<◌, IfOk, IfErr, OnOk, MatchOption, length, [], ◌∷◌};
 ghost use Rattle.machine_model.specs.Start.{start};
 ghost use Rattle.session_machine.specs.Running.{IsNotRunBy};
-ghost use Rattle.quiet_steps.specs.Shards.{IsShardOf};
+ghost use Rattle.rank_facts.specs.Shards.{IsShardOf};
 ghost use Rattle.step_reducer.specs.Walking.{Starts};
 ghost use Rattle.book_jobs.specs.Jobs.{AreJobFacts, AreLeafFacts, AllLawful, IsJobOf, IsOutside, IsFirstOutside, IsNotMade};
 
 use crate::job::Job;
 use crate::leaves::{Leaf, leaves_of};
 use bound_specs::Spec;
-use outcome_books::{Book, union};
-use quiet_steps::{MAX_RANKS, Shard};
+use fact_books::{Book, union};
+use rank_facts::{MAX_RANKS, Shard};
 use session_machine::RunError;
 use shard_books::of_shard;
 use std::alloc::Global;

@@ -6,7 +6,7 @@ use crate::six_ranks::{assert_same, assert_six, made};
 use crate::texts::DISJOINT;
 use crate::walks::bound;
 use bound_specs::Spec;
-use outcome_books::Book;
+use fact_books::Book;
 use shard_board::{
     Board, BoardError, DeliverError, DeliverErrorKind, LatestError, MAX_TURNS, Receipt, Seat,
 };

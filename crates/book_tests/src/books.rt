@@ -4,7 +4,7 @@ use crate::asserts::assert_text;
 use crate::walks::bound;
 use book_jobs::{Boxed, Job, make};
 use bound_specs::Spec;
-use outcome_books::{Book, JoinError, Report, ReportError, join, missing, report};
+use fact_books::{Book, JoinError, Report, ReportError, join, missing, report};
 use session_machine::{RunError, run_one};
 use std::alloc::Global;
 use std::process::Abort;

@@ -2,14 +2,14 @@
 //! `rt try --test --fail-alloc` too.
 use crate::asserts::assert_text;
 use crate::texts::{DISJOINT, SAME_OUTCOME};
-use book_files::BookError;
-use book_reading::read_book;
-use outcome_books::{Book, missing, report};
-use outcome_texts::Counted;
+use book_files::read_book;
+use book_format::BookError;
+use fact_books::{Book, missing, report};
 use std::alloc::Global;
 use std::io::{self, Read};
 use std::process::Abort;
 use std::test::Fail;
+use transcripts::Counted;
 
 /// Gives a byte a call, up to a call that fails, if one does.
 #[derive(Drop)]

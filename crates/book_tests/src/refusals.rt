@@ -9,7 +9,7 @@ use crate::six_ranks::{assert_six, made};
 use crate::texts::DISJOINT;
 use crate::walks::bound;
 use bound_specs::Spec;
-use outcome_books::{Book, join};
+use fact_books::{Book, join};
 use session_machine::StartError;
 use shard_board::{Board, DeliverError, DeliverErrorKind, Receipt, Seat};
 use shard_farm::{FarmError, Gate, OpenGate, ShardNumbers, Unfinished, farm_run};

@@ -2,7 +2,7 @@
 use crate::written_books::{assert_book, bytes_of};
 use book_jobs::{Job, make};
 use bound_specs::Spec;
-use outcome_books::Book;
+use fact_books::Book;
 use std::alloc::Global;
 use std::process::Abort;
 use step_reducer::Shard;

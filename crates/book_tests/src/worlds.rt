@@ -4,13 +4,12 @@ use crate::asserts::assert_text;
 use crate::texts::TABLE;
 use bound_specs::Spec;
 use lock_modes::{Mode, Place, Value};
-use outcome_texts::{Counted, Names, print};
 use session_machine::{RunError, SendError, StartError, World, run_one};
+use spec_binding::bind;
 use spec_reader::read_spec;
-use sql_subset::bind;
 use std::alloc::Global;
 use std::process::Abort;
-use transcripts::Outcome;
+use transcripts::{Counted, Names, Outcome, print};
 
 /// The spec of two rows and these sessions. None where memory ran out.
 fn spec_where_memory(alloc: Global, sessions: &str) -> Option<Spec> {

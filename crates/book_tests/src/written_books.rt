@@ -2,14 +2,14 @@
 use crate::asserts::assert_text;
 use crate::books::{book_of, job_of};
 use crate::walks::bound;
-use book_files::{WriteError, write_book};
+use book_format::{WriteError, write_book};
 use book_jobs::make;
-use outcome_books::{Book, join};
-use outcome_texts::Counted;
+use fact_books::{Book, join};
 use std::alloc::Global;
 use std::io::{self, Write};
 use std::process::Abort;
 use std::test::Fail;
+use transcripts::Counted;
 
 /// Whether bytes are the text; else they are shown.
 fn assert_bytes(rt: &impl Abort, bytes: &[u8], want: &str, name: &str) {

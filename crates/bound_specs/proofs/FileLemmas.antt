@@ -3,7 +3,7 @@ use Rattle.std.proofs.Common.{◌≡◌, refl, sym, ap, subst, ◌∙◌, ℕ, s
 use Rattle.std.proofs.lemmas.List.{length-map}
 use Rattle.spec_reader.specs.Tree.{SpecTree}
 use Rattle.spec_reader.proofs.Verdict.{one_tree}
-use Rattle.sql_statements.specs.declared.statement.Bound.{Bound}
+use Rattle.bound_statements.specs.declared.statement.Bound.{Bound}
 use Rattle.binding_model.specs.Refusals.{Bind, ◌>>=◌, with_front, each}
 use Rattle.bound_specs.specs.Spec.{Step, SpecFile, EachStep, IsBound}
 use Rattle.bound_specs.specs.Lines.{orders_of}

@@ -6,7 +6,7 @@ use Rattle.sql_grammar.specs.Tree as tree
 use Rattle.sql_grammar.specs.Grammar.{Fault}
 use Rattle.sql_grammar.specs.Lexing.{token_list}
 use Rattle.sql_grammar.specs.Text.{StatementAt, statements_from}
-use Rattle.sql_statements.specs.declared.statement.Bound.{Bound}
+use Rattle.bound_statements.specs.declared.statement.Bound.{Bound}
 use Rattle.binding_model.specs.declared.error.BindErrorKind.TheVariants.{Sql, Shape}
 use Rattle.binding_model.specs.declared.tables.Table.{Table}
 use Rattle.bound_specs.specs.Lines.{step_names, session_names, orders_of}

@@ -2,21 +2,21 @@
 use Rattle.std.specs.Prelude.{◌≡◌, ℕ, ◌<◌, ⊤, false, All, List, [], ◌∷◌, length, get_or, pos}
 use Rattle.lock_modes.specs.declared.value.Value.{Value}
 use Rattle.lock_modes.specs.declared.value.Value.TheVariants.{Int}
-use Rattle.sql_statements.specs.declared.condition.Condition.{Condition, more_of-Condition, end_of-Condition}
-use Rattle.sql_statements.specs.declared.condition.Condition.TheVariants.{Always, Compares, Not', And', Or'}
-use Rattle.sql_statements.specs.declared.expression.Expression.{Expression}
-use Rattle.sql_statements.specs.declared.expression.Operand.{Operand}
-use Rattle.sql_statements.specs.declared.expression.Operand.TheVariants.{Literal, Column}
-use Rattle.sql_statements.specs.declared.expression.Product.{Product}
-use Rattle.sql_statements.specs.declared.expression.SignedProduct.{SignedProduct}
-use Rattle.sql_statements.specs.declared.statement.Aggregate.{Aggregate}
-use Rattle.sql_statements.specs.declared.statement.Aggregate.TheVariants.{Count, Sum}
-use Rattle.sql_statements.specs.declared.statement.Assignment.{Assignment}
-use Rattle.sql_statements.specs.declared.statement.Bound.{Bound}
-use Rattle.sql_statements.specs.declared.statement.Bound.TheVariants.{Select, Insert, Update, Delete, Begin, Commit, Rollback, Lock, SetVariable}
-use Rattle.sql_statements.specs.declared.statement.Output.{Output}
-use Rattle.sql_statements.specs.declared.statement.Output.TheVariants.{Columns, Aggregates}
-use Rattle.sql_statements.specs.declared.statement.SortKey.{SortKey}
+use Rattle.bound_statements.specs.declared.condition.Condition.{Condition, more_of-Condition, end_of-Condition}
+use Rattle.bound_statements.specs.declared.condition.Condition.TheVariants.{Always, Compares, Not', And', Or'}
+use Rattle.bound_statements.specs.declared.expression.Expression.{Expression}
+use Rattle.bound_statements.specs.declared.expression.Operand.{Operand}
+use Rattle.bound_statements.specs.declared.expression.Operand.TheVariants.{Literal, Column}
+use Rattle.bound_statements.specs.declared.expression.Product.{Product}
+use Rattle.bound_statements.specs.declared.expression.SignedProduct.{SignedProduct}
+use Rattle.bound_statements.specs.declared.statement.Aggregate.{Aggregate}
+use Rattle.bound_statements.specs.declared.statement.Aggregate.TheVariants.{Count, Sum}
+use Rattle.bound_statements.specs.declared.statement.Assignment.{Assignment}
+use Rattle.bound_statements.specs.declared.statement.Bound.{Bound}
+use Rattle.bound_statements.specs.declared.statement.Bound.TheVariants.{Select, Insert, Update, Delete, Begin, Commit, Rollback, Lock, SetVariable}
+use Rattle.bound_statements.specs.declared.statement.Output.{Output}
+use Rattle.bound_statements.specs.declared.statement.Output.TheVariants.{Columns, Aggregates}
+use Rattle.bound_statements.specs.declared.statement.SortKey.{SortKey}
 use Rattle.binding_model.specs.declared.tables.ColumnType.{ColumnType}
 use Rattle.binding_model.specs.declared.tables.ColumnType.TheVariants.{Number}
 use Rattle.binding_model.specs.declared.tables.Table.{Table}

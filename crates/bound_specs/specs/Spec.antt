@@ -3,8 +3,8 @@ use Rattle.std.specs.Prelude.{ℕ, zero, suc, ◌==◌, List, [], ◌∷◌, len
 use Rattle.perm_ranks.specs.declared.TheConstants.{MAX_SESSIONS, MAX_STEPS}
 use Rattle.perm_ranks.specs.Words.{Word, all_words, word_at}
 use Rattle.spec_reader.specs.declared.TheConstants.{MAX_ITEMS, MAX_LINES}
-use Rattle.sql_statements.specs.declared.statement.Bound.{Bound}
-use Rattle.sql_statements.specs.Plan.{HasKeys, IsShort}
+use Rattle.bound_statements.specs.declared.statement.Bound.{Bound}
+use Rattle.bound_statements.specs.Plan.{HasKeys, IsShort}
 use Rattle.bound_specs.specs.declared.TheConstants.{MAX_LINED_STEPS}
 
 -- a step of the file

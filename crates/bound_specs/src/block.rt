@@ -1,6 +1,6 @@
 ghost use Rattle.std.specs.Prelude.{◌≡◌};
 
-use sql_statements::Bound;
+use bound_statements::Bound;
 use std::marker::Model;
 
 /// The statements of a setup or a step in their order, seen by contracts as their list.
@@ -12,8 +12,8 @@ pub struct Block {
 impl Model for Block {
     ghost use Rattle.std.specs.Prelude.{List};
     ghost use Rattle.std.specs.Coded.{codes};
-    ghost use Rattle.sql_statements.specs.declared.statement.Bound.{Bound as One};
-    ghost use Rattle.sql_statements.specs.contracts.statement.Bound as bound;
+    ghost use Rattle.bound_statements.specs.declared.statement.Bound.{Bound as One};
+    ghost use Rattle.bound_statements.specs.contracts.statement.Bound as bound;
 
     ghost Value = { List One };
 
@@ -47,7 +47,7 @@ pub struct Step {
 impl Model for Step {
     ghost use Rattle.std.specs.Coded.{codes};
     ghost use Rattle.bound_specs.specs.Spec.{Step as OfSpec};
-    ghost use Rattle.sql_statements.specs.contracts.statement.Bound as bound;
+    ghost use Rattle.bound_statements.specs.contracts.statement.Bound as bound;
 
     ghost Value = { OfSpec };
 

@@ -1,16 +1,16 @@
 ghost use Rattle.std.specs.Prelude.{◌≡◌, ◌≢◌, ◌<◌, ◌≤◌, ◌↔◌, [], length, get_or, All, IsTrue, IsSome, IfSome};
 ghost use Rattle.perm_ranks.specs.declared.TheConstants.{MAX_SESSIONS};
 ghost use Rattle.bound_specs.specs.Spec.{no_step, counts_of, queues_of, ranks, line_of, AllHaveKeys, AllAreShort, IsBound, IsReady};
-ghost use Rattle.sql_statements.specs.Plan.{HasKeys, IsShort};
+ghost use Rattle.bound_statements.specs.Plan.{HasKeys, IsShort};
 ghost use Rattle.bound_specs.specs.Binding.{IsFileOf};
 ghost use Rattle.bound_specs.specs.Views.{file_of as file_of_parts, IsKept as IsKeptBy};
 
 use crate::block::{Block, Step};
 use crate::orders::{Line, Orders, copied};
 use crate::walking::line_of_word;
+use bound_statements::Bound;
 use lock_modes::Text;
 use perm_ranks::Shape;
-use sql_statements::Bound;
 use std::marker::Model;
 
 /// What a spec is made of: its text, its names, how many sessions it has, and what they send in which orders.
@@ -56,7 +56,7 @@ impl Drop for Spec {
 impl Model for Spec {
     ghost use Rattle.std.specs.Coded.{codes};
     ghost use Rattle.bound_specs.specs.Spec.{SpecFile};
-    ghost use Rattle.sql_statements.specs.contracts.statement.Bound as bound;
+    ghost use Rattle.bound_statements.specs.contracts.statement.Bound as bound;
 
     ghost Value = { SpecFile };
 

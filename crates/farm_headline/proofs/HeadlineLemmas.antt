@@ -11,34 +11,34 @@ use Rattle.machine_model.specs.Start.{Start, Started, SetupFailed, SessionSetupF
 use Rattle.machine_model.specs.World.{send_all, outcome_of}
 use Rattle.serial_history.specs.Serial.{IsSerial}
 use Rattle.serial_history.proofs.StartsTold.{bound-serial, bound-shown}
-use Rattle.quiet_steps.specs.Facts.{IsTrueAt, IsFactOf, fact_of, fact_from}
-use Rattle.quiet_steps.specs.Swap.{leads_in}
-use Rattle.quiet_steps.specs.Values.{ran, swap, AllTrue}
-use Rattle.quiet_steps.specs.declared.fact.Fact.{Fact}
-use Rattle.quiet_steps.specs.declared.fact.Fact.TheVariants.{Ran, Swap}
-use Rattle.quiet_steps.proofs.Leading.{leads-down}
-use Rattle.quiet_steps.proofs.TrueFacts.{facts-one, of_start}
-use Rattle.quiet_steps.specs.declared.shard.Shard.{Shard}
+use Rattle.rank_facts.specs.Facts.{IsTrueAt, IsFactOf, fact_of, fact_from}
+use Rattle.rank_facts.specs.Swap.{leads_in}
+use Rattle.rank_facts.specs.Values.{ran, swap, AllTrue}
+use Rattle.rank_facts.specs.declared.fact.Fact.{Fact}
+use Rattle.rank_facts.specs.declared.fact.Fact.TheVariants.{Ran, Swap}
+use Rattle.rank_facts.proofs.Leading.{leads-down}
+use Rattle.rank_facts.proofs.TrueFacts.{facts-one, of_start}
+use Rattle.rank_facts.specs.declared.shard.Shard.{Shard}
 use Rattle.step_reducer.specs.Walking.{Starts}
 use Rattle.transcripts.specs.declared.event.Event.{Event}
-use Rattle.outcome_texts.specs.declared.counted.Counted.{Counted}
-use Rattle.outcome_books.specs.declared.error.ReportError.{ReportError}
-use Rattle.outcome_books.specs.declared.error.ReportError.TheVariants.{TooMany, Missing, Clash, NoMemory}
+use Rattle.transcripts.specs.declared.counted.Counted.{Counted}
+use Rattle.fact_books.specs.declared.error.ReportError.{ReportError}
+use Rattle.fact_books.specs.declared.error.ReportError.TheVariants.{TooMany, Missing, Clash, NoMemory}
 use Rattle.book_jobs.specs.declared.job.Job.{Job, more_of-Job, end_of-Job, Run, Join'}
-use Rattle.outcome_books.specs.Entries.{FactSet, recorded}
-use Rattle.outcome_books.specs.Books.{Contents, joined, AllRecordable}
+use Rattle.fact_books.specs.Entries.{FactSet, recorded}
+use Rattle.fact_books.specs.Books.{Contents, joined, AllRecordable}
 use Rattle.book_jobs.specs.JobTrees.{leaves}
 use Rattle.book_jobs.specs.Jobs.{InLeaves, AreJobFacts, IsJobOf}
-use Rattle.outcome_books.specs.Values.{IsMissing, IsNotReported}
-use Rattle.outcome_books.proofs.SetLemmas.{in_union, same_facts}
+use Rattle.fact_books.specs.Values.{IsMissing, IsNotReported}
+use Rattle.fact_books.proofs.SetLemmas.{in_union, same_facts}
 use Rattle.bound_specs.proofs.FileLemmas.{file-is-bound}
 use Rattle.shard_board.specs.Changes.{IsPlanOf}
 use Rattle.shard_farm.specs.Farming.{InShards, AreShardFacts}
 use Rattle.shard_farm.proofs.CrewLemmas.{inside}
-use Rattle.book_answers.specs.declared.reporting.ReportFault.{ReportFault}
-use Rattle.book_answers.specs.declared.reporting.ReportFault.TheVariants.{Report, Write}
-use Rattle.book_answers.specs.Reporting.{IsReportText, IsReported}
-use Rattle.range_shards.specs.Cutting.{IsInOne}
+use Rattle.book_commands.specs.declared.reporting.ReportFault.{ReportFault}
+use Rattle.book_commands.specs.declared.reporting.ReportFault.TheVariants.{Report, Write}
+use Rattle.book_commands.specs.Reporting.{IsReportText, IsReported}
+use Rattle.range_progress.specs.Cutting.{IsInOne}
 use Rattle.farm_headline.specs.declared.headline.Plan.{Plan}
 use Rattle.farm_headline.specs.declared.headline.HeadlineFault.{HeadlineFault}
 use Rattle.farm_headline.specs.declared.headline.HeadlineFault.TheVariants as fault_of

@@ -2,11 +2,11 @@
 use Rattle.std.proofs.Common.{sym, ◌∙◌, ℕ, Bool, ⊎_elim}
 use Rattle.std.proofs.lemmas.Bool.{or_cases}
 use Rattle.bound_specs.specs.Spec.{Spec}
-use Rattle.quiet_steps.specs.Facts.{IsFactOf, IsTrueAt}
-use Rattle.quiet_steps.specs.declared.fact.Fact.{Fact}
-use Rattle.quiet_steps.specs.declared.fact.Fact.TheVariants.{Ran, Swap}
-use Rattle.outcome_books.specs.Entries.{recorded}
-use Rattle.outcome_books.proofs.SetLemmas.{in_union}
+use Rattle.rank_facts.specs.Facts.{IsFactOf, IsTrueAt}
+use Rattle.rank_facts.specs.declared.fact.Fact.{Fact}
+use Rattle.rank_facts.specs.declared.fact.Fact.TheVariants.{Ran, Swap}
+use Rattle.fact_books.specs.Entries.{recorded}
+use Rattle.fact_books.proofs.SetLemmas.{in_union}
 use Rattle.farm_headline.specs.Laws.{RangesAreTrue, JoinsStayTrue}
 
 pub fact-true : (reduce : Bool) (spec : Spec) (r : ℕ) (fact : Fact) → IsFactOf reduce spec r fact → IsTrueAt spec r fact

@@ -3,17 +3,17 @@ use Rattle.std.proofs.Common.{◌≡◌, refl, sym, subst, ◌∙◌, ℕ, zero,
 use Rattle.std.proofs.Common.{arith}
 use Rattle.bound_specs.specs.Spec.{ranks}
 use Rattle.bound_specs.specs.Binding.{IsFileOf}
-use Rattle.outcome_texts.specs.Text.{rank_text, outcome_text}
-use Rattle.quiet_steps.specs.Swap.{leads_in}
-use Rattle.quiet_steps.specs.Values.{AllTrue, CoverEachRank, TellTheMachine}
-use Rattle.quiet_steps.proofs.TrueValues.{tell-the-machine}
-use Rattle.outcome_books.specs.declared.error.ReportError.TheVariants.{Missing, Clash}
-use Rattle.outcome_books.specs.Entries.{Told, recorded}
-use Rattle.outcome_books.specs.Books.{Contents}
-use Rattle.outcome_books.specs.Values.{AreValues, IsNotReported}
+use Rattle.transcripts.specs.Text.{rank_text, outcome_text}
+use Rattle.rank_facts.specs.Swap.{leads_in}
+use Rattle.rank_facts.specs.Values.{AllTrue, CoverEachRank, TellTheMachine}
+use Rattle.rank_facts.proofs.TrueValues.{tell-the-machine}
+use Rattle.fact_books.specs.declared.error.ReportError.TheVariants.{Missing, Clash}
+use Rattle.fact_books.specs.Entries.{Told, recorded}
+use Rattle.fact_books.specs.Books.{Contents}
+use Rattle.fact_books.specs.Values.{AreValues, IsNotReported}
 use Rattle.bound_specs.proofs.FileLemmas.{file-is-bound}
-use Rattle.spec_answers.specs.One.{IsAnswer}
-use Rattle.book_answers.specs.Reporting.{values_text, IsReportText}
+use Rattle.spec_commands.specs.One.{IsAnswer}
+use Rattle.book_commands.specs.Reporting.{values_text, IsReportText}
 use Rattle.farm_headline.specs.Laws.{AreAnswers, ReportsAreTheMachines, CoveringReports}
 
 module _ (book : Contents) (is : IsFileOf book.file.text book.file) (all : AllTrue book.file.run (recorded book.facts)) where

@@ -5,27 +5,27 @@ use lib.ListN.{get_elem?}
 use Rattle.bound_specs.specs.Spec.{Spec, SpecFile, ranks, line_of}
 use Rattle.bound_specs.specs.Binding.{IsFileOf}
 use Rattle.machine_model.specs.Outcome.{outcome_of_line}
-use Rattle.quiet_steps.specs.declared.fact.Fact.{Fact}
+use Rattle.rank_facts.specs.declared.fact.Fact.{Fact}
 use Rattle.serial_history.specs.Serial.{IsSerial}
-use Rattle.quiet_steps.specs.declared.shard.Shard.{Shard}
+use Rattle.rank_facts.specs.declared.shard.Shard.{Shard}
 use Rattle.step_reducer.specs.Walking.{Starts}
 use Rattle.transcripts.specs.declared.event.Event.{Event}
-use Rattle.outcome_texts.specs.Counted.{Wrote, Stopped}
-use Rattle.outcome_texts.specs.declared.counted.Counted.{Counted}
-use Rattle.outcome_books.specs.declared.error.ReportError.{ReportError}
-use Rattle.outcome_books.specs.declared.error.ReportError.TheVariants.{TooMany, Missing, Clash, NoMemory}
+use Rattle.transcripts.specs.Counted.{Wrote, Stopped}
+use Rattle.transcripts.specs.declared.counted.Counted.{Counted}
+use Rattle.fact_books.specs.declared.error.ReportError.{ReportError}
+use Rattle.fact_books.specs.declared.error.ReportError.TheVariants.{TooMany, Missing, Clash, NoMemory}
 use Rattle.book_jobs.specs.declared.job.Job.{Job}
-use Rattle.outcome_books.specs.Entries.{recorded}
-use Rattle.outcome_books.specs.Books.{Contents, joined}
+use Rattle.fact_books.specs.Entries.{recorded}
+use Rattle.fact_books.specs.Books.{Contents, joined}
 use Rattle.book_jobs.specs.JobTrees.{folded, leaves}
 use Rattle.book_jobs.specs.Jobs.{InLeaves, IsJobOf, IsNotMade}
-use Rattle.outcome_books.specs.Values.{IsNotReported}
+use Rattle.fact_books.specs.Values.{IsNotReported}
 use Rattle.shard_board.specs.Changes.{IsPlanOf}
 use Rattle.shard_farm.specs.Farming.{InShards, AreShardFacts, IsNotFarmed}
-use Rattle.spec_answers.specs.SpecFiles.{IsNoSpec}
-use Rattle.book_answers.specs.declared.reporting.ReportFault.TheVariants.{Report, Write}
-use Rattle.book_answers.specs.Reporting.{IsReportText}
-use Rattle.range_shards.specs.Cutting.{IsInOne}
+use Rattle.spec_commands.specs.SpecFiles.{IsNoSpec}
+use Rattle.book_commands.specs.declared.reporting.ReportFault.TheVariants.{Report, Write}
+use Rattle.book_commands.specs.Reporting.{IsReportText}
+use Rattle.range_progress.specs.Cutting.{IsInOne}
 use Rattle.farm_headline.specs.declared.headline.Plan.{Plan}
 use Rattle.farm_headline.specs.declared.headline.HeadlineFault.{HeadlineFault}
 use Rattle.farm_headline.specs.declared.headline.HeadlineFault.TheVariants as fault_of

@@ -3,14 +3,14 @@ use Rattle.std.specs.Prelude.{◌≡◌, ℕ, zero, suc, ◌++◌, Bool, List, [
 use Rattle.std.specs.FinSet.{union}
 use Rattle.bound_specs.specs.Spec.{Spec, SpecFile, ranks}
 use Rattle.bound_specs.specs.Binding.{IsFileOf}
-use Rattle.quiet_steps.specs.Values.{AllTrue, CoverEachRank}
-use Rattle.outcome_books.specs.declared.error.ReportError.TheVariants.{Missing, Clash}
-use Rattle.outcome_books.specs.Entries.{FactSet, recorded}
-use Rattle.outcome_books.specs.Books.{Contents}
-use Rattle.outcome_books.specs.Building.{AreFactsOf}
-use Rattle.outcome_books.specs.Values.{IsNotReported}
-use Rattle.spec_answers.specs.One.{IsAnswer}
-use Rattle.book_answers.specs.Reporting.{IsReportText}
+use Rattle.rank_facts.specs.Values.{AllTrue, CoverEachRank}
+use Rattle.fact_books.specs.declared.error.ReportError.TheVariants.{Missing, Clash}
+use Rattle.fact_books.specs.Entries.{FactSet, recorded}
+use Rattle.fact_books.specs.Books.{Contents}
+use Rattle.fact_books.specs.Building.{AreFactsOf}
+use Rattle.fact_books.specs.Values.{IsNotReported}
+use Rattle.spec_commands.specs.One.{IsAnswer}
+use Rattle.book_commands.specs.Reporting.{IsReportText}
 
 -- the text is what the sequential machine tells of the first ranks in order
 abbrev pub AreAnswers : SpecFile → ℕ → List ℕ → Type 0

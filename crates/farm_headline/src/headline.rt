@@ -1,23 +1,23 @@
 //! All that the farm promises, as the contract of one call: from the bytes of a spec to its report, over any shards, joins and workers.
 
 ghost use Rattle.std.specs.Prelude.{◌≡◌, ◌<◌};
-ghost use Rattle.outcome_texts.specs.Counted.{failures_of};
-ghost use Rattle.outcome_books.specs.Laws.{JoinsCommute, JoinsAssociate, JoinsRepeat};
+ghost use Rattle.transcripts.specs.Counted.{failures_of};
+ghost use Rattle.fact_books.specs.Laws.{JoinsCommute, JoinsAssociate, JoinsRepeat};
 ghost use Rattle.farm_headline.specs.Headline.{AreRunsReported, AreRun, IsNextRun, IsJoinedWith};
 
-use book_answers::{ReportFault, write_report};
+use book_commands::{ReportFault, write_report};
 use book_jobs::{Job, make};
 use bound_specs::Spec;
-use outcome_books::{Book, JoinError, join, joins_are_unions};
-use outcome_texts::Counted;
+use fact_books::{Book, JoinError, join, joins_are_unions};
 use session_machine::RunError;
 use shard_farm::{FarmError, Gate, farm_run};
-use spec_answers::{SpecFault, spec_of};
+use spec_commands::{SpecFault, spec_of};
 use std::alloc::Global;
 use std::io::Write;
 use std::sync::Wait;
 use std::thread::Threads;
 use step_reducer::Shard;
+use transcripts::Counted;
 
 /// Shards that workers run.
 #[derive(Drop)]

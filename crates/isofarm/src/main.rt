@@ -1,8 +1,7 @@
 //! The program `isofarm`: hands the real world to the farm's library.
 #![tactic(auto)]
 
-use iso_farm::{Opener, run, tell_words_fault};
-use outcome_texts::Counted;
+use program_commands::{Opener, run, tell_words_fault};
 use std::alloc::Global;
 use std::env;
 use std::fs::File;
@@ -11,6 +10,7 @@ use std::process::ExitCode;
 use std::sync::Wait;
 use std::thread::Threads;
 use std::time::Clock;
+use transcripts::Counted;
 
 /// The files of the machine.
 #[derive(Drop)]

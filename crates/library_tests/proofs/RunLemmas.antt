@@ -1,11 +1,11 @@
 -- A table that one session alone has written, behind a statement of that session.
 use Rattle.std.proofs.Common.{◌≡◌, sym, subst}
 use Rattle.row_tables.specs.Layers.{Layers, sight}
-use Rattle.sql_statements.specs.declared.statement.Bound.{Bound}
-use Rattle.row_effects.specs.Effect.{effect}
-use Rattle.statement_effects.specs.Alone.{IsAlone}
-use Rattle.statement_effects.specs.Run.{left_by}
-use Rattle.statement_effects.proofs.AloneLemmas.{left_by-alone}
+use Rattle.bound_statements.specs.declared.statement.Bound.{Bound}
+use Rattle.statement_evaluation.specs.Effect.{effect}
+use Rattle.statement_execution.specs.Alone.{IsAlone}
+use Rattle.statement_execution.specs.Run.{left_by}
+use Rattle.statement_execution.proofs.AloneLemmas.{left_by-alone}
 
 -- what a statement leaves of it is written by that session alone
 pub left-alone : (s : Bound) (l new : Layers) → new ≡ left_by 0 (effect s (sight 0 l)) l → IsAlone l → IsAlone new

@@ -1,7 +1,7 @@
 use bound_specs::Spec;
+use bound_statements::{Bound, Output};
+use spec_binding::{BindError, BindErrorKind, bind};
 use spec_reader::read_spec;
-use sql_statements::{Bound, Output};
-use sql_subset::{BindError, BindErrorKind, bind};
 use std::alloc::{AllocError, Global};
 use std::fmt::Write;
 use std::test::Fail;

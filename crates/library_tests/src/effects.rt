@@ -1,20 +1,19 @@
 ghost use Rattle.std.specs.Prelude.{OnOk};
-ghost use Rattle.statement_effects.specs.Alone.{IsAlone};
+ghost use Rattle.statement_execution.specs.Alone.{IsAlone};
 
 use crate::asserts::assert_text;
-use lock_modes::{Mode, Row, Text, Value};
-use outcome_texts::{Counted, Names, print};
-use row_tables::Store;
-use sql_statements::{
+use bound_statements::{
     AddSign, Aggregate, Assignment, Bound, Comparison, Condition, Expression, Operand, Order,
     Output, Product, RowLock, SignedProduct, SortKey,
 };
+use lock_modes::{Mode, Row, Text, Value};
+use row_tables::Store;
 use sqlite_items::{Boxed, Items};
-use statement_effects::run_statement;
+use statement_execution::run_statement;
 use std::alloc::{AllocError, Global};
 use std::process::Abort;
 use std::test::Fail;
-use transcripts::{Event, Log, Outcome, Transcript};
+use transcripts::{Counted, Event, Log, Names, Outcome, Transcript, print};
 
 /// A value of a row.
 #[derive(Clone, Copy)]

@@ -1,13 +1,9 @@
 ghost use Rattle.std.specs.Prelude.{◌≡◌, ◌<◌};
-ghost use Rattle.outcome_texts.specs.Counted.{failures_of};
+ghost use Rattle.transcripts.specs.Counted.{failures_of};
 
 use crate::asserts::assert_text;
 use finite_maps::Fork;
 use lock_modes::{Row, Text, Value};
-use outcome_texts::{
-    Counted, Names, ReadError, ReadFault, ValueError, WriteFault, outcome_of_value, outcome_value,
-    print, print_rank,
-};
 use serde_json::Value as Json;
 use std::alloc::{AllocError, Global};
 use std::cmp::Ordering;
@@ -15,7 +11,10 @@ use std::io;
 use std::io::{Read, Write};
 use std::process::Abort;
 use std::test::Fail;
-use transcripts::{Event, Fault, Log, Outcome, Transcript, Warning};
+use transcripts::{
+    Counted, Event, Fault, Log, Names, Outcome, ReadError, ReadFault, Transcript, ValueError,
+    Warning, WriteFault, outcome_of_value, outcome_value, print, print_rank,
+};
 
 fn texts(alloc: Global, names: &[&str]) -> Result<Vec<Text>, AllocError> {
     let mut texts = Vec::new(alloc);

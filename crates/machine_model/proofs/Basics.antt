@@ -2,7 +2,7 @@
 use Rattle.std.proofs.Common.{◌≡◌, ◌≢◌, refl, sym, ◌∙◌, ℕ, arith, Bool, true, false, cond, not, ◌&&◌, ◌||◌, List, [], ◌∷◌, ◌++◌, filter, ◌⊎◌, inl, inr}
 use Rattle.std.proofs.Common.{true≢false}
 use Rattle.std.specs.List.{list_any, list_all}
-use Rattle.row_effects.proofs.ListLemmas.{Each, Each-map}
+use Rattle.statement_evaluation.proofs.ListLemmas.{Each, Each-map}
 
 pub Each-left : {A : Type 0} (P : A → Type 0) (xs ys : List A) → Each P (xs ++ ys) → Each P xs
 Each-left P [] ys p = tt

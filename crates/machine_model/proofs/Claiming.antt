@@ -5,13 +5,13 @@ use Rattle.finite_maps.specs.Map.{same_key-true, same_key-refl, get}
 use Rattle.lock_modes.specs.RowPlace.{RowPlace}
 use Rattle.lock_modes.specs.Resource.{resource_order, same_resource}
 use Rattle.lock_modes.specs.Mode.{same_mode}
-use Rattle.sql_statements.specs.Plan.{Request}
+use Rattle.bound_statements.specs.Plan.{Request}
 use Rattle.machine_model.specs.Session.{Held}
 use Rattle.machine_model.specs.Claims.{Claims, may_write, claims_of, is_mode}
 use Rattle.lock_modes.specs.declared.mode.Mode.{Mode}
 use Rattle.lock_modes.specs.declared.resource.Resource.{Resource}
 use Rattle.machine_model.proofs.Basics.{both_true, and_true, or_true_left, or_true_right, some_passes, either_true}
-use Rattle.row_effects.proofs.ListLemmas.{Each, Each-map}
+use Rattle.statement_evaluation.proofs.ListLemmas.{Each, Each-map}
 use Rattle.machine_model.proofs.Effects.{Claimed}
 use Rattle.lock_modes.specs.declared.mode.Mode.TheVariants.{IntentExclusive, ShareIntent, Exclusive}
 use Rattle.lock_modes.specs.declared.resource.Resource.TheVariants.{Table, Row as RowOf}

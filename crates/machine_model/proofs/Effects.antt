@@ -5,11 +5,11 @@ use Rattle.lock_modes.specs.RowPlace.{RowPlace}
 use Rattle.lock_modes.specs.Rows.{Rows', Write}
 use Rattle.lock_modes.specs.Resource.{resource_order, same_resource}
 use Rattle.lock_modes.specs.Mode.{compatible}
-use Rattle.sql_statements.specs.Plan.{Tuple, Request, request, plan, opened, asks_on, reads_table, writes_in, is_exclusive, looks_at, key_at}
-use Rattle.row_effects.specs.Effect.{visible, Effect, Gives, Faults, effect, matching, all_assigned, placed, or_fault, counted}
+use Rattle.bound_statements.specs.Plan.{Tuple, Request, request, plan, opened, asks_on, reads_table, writes_in, is_exclusive, looks_at, key_at}
+use Rattle.statement_evaluation.specs.Effect.{visible, Effect, Gives, Faults, effect, matching, all_assigned, placed, or_fault, counted}
 use Rattle.machine_model.specs.Claims.{Claims, may_write}
-use Rattle.sql_statements.specs.declared.statement.Assignment.{Assignment}
-use Rattle.sql_statements.specs.declared.condition.Condition.{Condition}
+use Rattle.bound_statements.specs.declared.statement.Assignment.{Assignment}
+use Rattle.bound_statements.specs.declared.condition.Condition.{Condition}
 use Rattle.transcripts.specs.declared.event.Fault.TheVariants.{Duplicate, OutOfRange}
 use Rattle.transcripts.specs.declared.event.Event.TheVariants.{Inserted, Updated, Deleted}
 use Rattle.lock_modes.specs.declared.value.Value.{Value}
@@ -17,13 +17,13 @@ use Rattle.lock_modes.specs.declared.mode.Mode.{Mode}
 use Rattle.lock_modes.specs.declared.mode.Mode.TheVariants.{IntentShare, IntentExclusive, Share, ShareIntent, Exclusive}
 use Rattle.lock_modes.specs.declared.resource.Resource.{Resource}
 use Rattle.lock_modes.specs.declared.resource.Resource.TheVariants.{Table, Row as RowOf}
-use Rattle.sql_statements.specs.declared.statement.Bound.{Bound}
-use Rattle.sql_statements.specs.declared.statement.Bound.TheVariants.{Select, Insert, Update, Delete, Begin, Commit, Rollback, Lock, SetVariable}
+use Rattle.bound_statements.specs.declared.statement.Bound.{Bound}
+use Rattle.bound_statements.specs.declared.statement.Bound.TheVariants.{Select, Insert, Update, Delete, Begin, Commit, Rollback, Lock, SetVariable}
 use Rattle.machine_model.proofs.Basics.{some_passes, both_true, and_true, either_true, or_true_left, or_true_right, not_both, known}
-use Rattle.row_effects.proofs.ListLemmas.{Each, Each-map}
+use Rattle.statement_evaluation.proofs.ListLemmas.{Each, Each-map}
 use Rattle.machine_model.proofs.Looks.{looked-opened, writable}
 use Rattle.machine_model.proofs.Footprint.{ReadsOff, WritesUnder}
-use Rattle.row_effects.proofs.WriteLemmas.{OnGives, each-kept, each-any, each-placed, each-numbered, on-or_fault, on-selected, updated-each, deleted-each}
+use Rattle.statement_evaluation.proofs.WriteLemmas.{OnGives, each-kept, each-any, each-placed, each-numbered, on-or_fault, on-selected, updated-each, deleted-each}
 
 asks_on-map : (P : Request → Type 0) (f g : Mode → Bool) → ((q : Request) → P q → f q.mode ≡ true → g q.mode ≡ true) → (qs : List Request) (r : Resource)
     → Each P qs → asks_on qs r f ≡ true → asks_on qs r g ≡ true

@@ -3,9 +3,9 @@ use Rattle.std.proofs.Common.{◌≡◌, refl, sym, ap, ◌∙◌, subst, Bool, 
 use Rattle.finite_maps.specs.Map.{same_key, same_key-true, get, insert, get-insert, get-keep, empty, get-empty, same_map}
 use Rattle.lock_modes.specs.RowPlace.{RowPlace, place_order}
 use Rattle.lock_modes.specs.Rows.{Rows', Write}
-use Rattle.sql_statements.specs.Plan.{Tuple, plan, opened, looks_at}
+use Rattle.bound_statements.specs.Plan.{Tuple, plan, opened, looks_at}
 use Rattle.row_tables.specs.Overlay.{Overlay, lay, written}
-use Rattle.row_effects.specs.Effect.{visible, Effect, Gives, Faults, effect, effect_on}
+use Rattle.statement_evaluation.specs.Effect.{visible, Effect, Gives, Faults, effect, effect_on}
 use Rattle.row_tables.proofs.OverlayLemmas.{over, get-lay}
 use Rattle.machine_model.specs.Session.{Task, Ask, Do, Session, Performed, Goes, Fails, Kind, Begins, Commits, RollsBack, Works, kind, perform, perform_by}
 use Rattle.machine_model.specs.Session.{worked}
@@ -16,12 +16,12 @@ use Rattle.transcripts.specs.declared.event.Fault.{Fault}
 use Rattle.transcripts.specs.declared.event.Fault.TheVariants.{Aborted}
 use Rattle.machine_model.specs.declared.status.Status.{Status}
 use Rattle.machine_model.specs.declared.status.Status.TheVariants.{Outside, InBlock, Broken}
-use Rattle.sql_statements.specs.declared.statement.Bound.{Bound}
+use Rattle.bound_statements.specs.declared.statement.Bound.{Bound}
 use Rattle.machine_model.proofs.Basics.{not_both}
-use Rattle.row_effects.proofs.ListLemmas.{Each}
+use Rattle.statement_evaluation.proofs.ListLemmas.{Each}
 use Rattle.machine_model.proofs.Looks.{looked-opened}
 use Rattle.machine_model.proofs.Solo.{OnGoes}
-use Rattle.row_effects.proofs.WriteLemmas.{OnGives}
+use Rattle.statement_evaluation.proofs.WriteLemmas.{OnGives}
 
 -- ---- a statement reads what it looks at, so what its plan opens
 

@@ -6,9 +6,9 @@ use Rattle.lock_modes.specs.RowPlace.{place_order}
 use Rattle.lock_modes.specs.Rows.{Rows', Write}
 use Rattle.lock_modes.specs.Resource.{resource_order}
 use Rattle.lock_queues.specs.Locks.{fits, wanted, may_have, closes_ring}
-use Rattle.sql_statements.specs.Plan.{Tuple, Request, request, plan}
+use Rattle.bound_statements.specs.Plan.{Tuple, Request, request, plan}
 use Rattle.row_tables.specs.Overlay.{Overlay, written}
-use Rattle.row_effects.specs.Effect.{Effect, Gives, Faults, effect}
+use Rattle.statement_evaluation.specs.Effect.{Effect, Gives, Faults, effect}
 use Rattle.machine_model.specs.Session.{Task, Ask, Do, Session, Held, Performed, Goes, Fails, Kind, Begins, Commits, RollsBack, Works, kind, perform}
 use Rattle.machine_model.specs.Session.{perform_by, worked}
 use Rattle.machine_model.specs.Go.{Scene, Run, replied, taking, go, stopped, failed, finished_by, is_broken, held_up, look_with, waiting_with}
@@ -21,14 +21,14 @@ use Rattle.transcripts.specs.declared.event.Fault.TheVariants.{Aborted, Deadlock
 use Rattle.lock_modes.specs.declared.resource.Resource.{Resource}
 use Rattle.machine_model.specs.declared.status.Status.{Status}
 use Rattle.machine_model.specs.declared.status.Status.TheVariants.{Outside, InBlock, Broken}
-use Rattle.sql_statements.specs.declared.statement.Bound.{Bound}
+use Rattle.bound_statements.specs.declared.statement.Bound.{Bound}
 use Rattle.machine_model.proofs.Looks.{writable}
 use Rattle.machine_model.proofs.Basics.{both_true}
-use Rattle.row_effects.proofs.ListLemmas.{Each}
+use Rattle.statement_evaluation.proofs.ListLemmas.{Each}
 use Rattle.machine_model.specs.Footprint.{HeldFits}
 use Rattle.machine_model.proofs.Solo.{OnGoes, held-fits-empty, perform-held}
 use Rattle.machine_model.proofs.Footprint.{OverlayUnder-written}
-use Rattle.row_effects.proofs.WriteLemmas.{OnGives}
+use Rattle.statement_evaluation.proofs.WriteLemmas.{OnGives}
 use Rattle.machine_model.proofs.Effects.{effect-writable, on-gives-map}
 use Rattle.machine_model.proofs.Stronger.{stronger-taking, under-stronger, holds-stronger, covers-taking, holds-plan, writable-can, can-may}
 

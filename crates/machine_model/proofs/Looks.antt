@@ -5,12 +5,12 @@ use Rattle.finite_maps.specs.Map.{same_key-true, same_key-refl}
 use Rattle.lock_modes.specs.RowPlace.{RowPlace}
 use Rattle.lock_modes.specs.Value.{value_order}
 use Rattle.lock_modes.specs.Resource.{resource_order, same_resource}
-use Rattle.sql_statements.specs.Plan.{Tuple, request, Request, plan, opened, asks_on, reads_table, writes_in, is_exclusive, key_at, at_key, looks_at, select_intent, select_mode}
+use Rattle.bound_statements.specs.Plan.{Tuple, request, Request, plan, opened, asks_on, reads_table, writes_in, is_exclusive, key_at, at_key, looks_at, select_intent, select_mode}
 use Rattle.lock_modes.specs.declared.mode.Mode.{Mode}
 use Rattle.lock_modes.specs.declared.mode.Mode.TheVariants.{IntentShare, IntentExclusive, Share, Exclusive}
 use Rattle.lock_modes.specs.declared.resource.Resource.TheVariants.{Table, Row as RowOf}
-use Rattle.sql_statements.specs.declared.statement.Bound.{Bound}
-use Rattle.sql_statements.specs.declared.statement.Bound.TheVariants.{Select, Insert, Update, Delete, Begin, Commit, Rollback, Lock, SetVariable}
+use Rattle.bound_statements.specs.declared.statement.Bound.{Bound}
+use Rattle.bound_statements.specs.declared.statement.Bound.TheVariants.{Select, Insert, Update, Delete, Begin, Commit, Rollback, Lock, SetVariable}
 use Rattle.lock_modes.specs.declared.value.Value.{Value}
 use Rattle.machine_model.proofs.Basics.{both_true, and_true, either_true, or_true_left, or_true_right}
 

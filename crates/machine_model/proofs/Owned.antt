@@ -5,7 +5,7 @@ use Rattle.std.proofs.lemmas.List.{get_or_past, get_or_default}
 use Rattle.std.proofs.Common.{◌≡◌, ◌≢◌, refl, sym, ap, ◌∙◌, subst, ℕ, zero, suc, ◌<◌, ◌≤◌, Bool, true, false, List, [], ◌∷◌, ◌++◌, length, map, take, set}
 use Rattle.std.proofs.Common.{get_or, Option, Some, None, ◌⊎◌, ⊎_elim, arith, inl, inr, length-set, get_or-set_same, get_or-set_other, not, ◌||◌}
 use Rattle.lock_queues.specs.Locks.{Spot, next_grant, waits_now}
-use Rattle.sql_statements.specs.declared.statement.Bound.{Bound}
+use Rattle.bound_statements.specs.declared.statement.Bound.{Bound}
 use Rattle.bound_specs.specs.Spec.{Spec, Step, no_step, IsBound}
 use Rattle.transcripts.specs.Outcome.{HasStep}
 use Rattle.transcripts.specs.declared.event.Event.{Event}
@@ -16,7 +16,7 @@ use Rattle.transcripts.specs.declared.event.Fault.TheVariants.{Aborted}
 use Rattle.transcripts.specs.declared.event.Warning.TheVariants.{InBlock as AlreadyInBlock, NoBlock}
 use Rattle.lock_modes.specs.Rows.{Rows'}
 use Rattle.row_tables.specs.Overlay.{lay}
-use Rattle.row_effects.specs.Effect.{Effect, Gives, Faults, effect}
+use Rattle.statement_evaluation.specs.Effect.{Effect, Gives, Faults, effect}
 use Rattle.machine_model.specs.declared.status.Status.{Status}
 use Rattle.machine_model.specs.declared.status.Status.TheVariants.{Outside, InBlock, Broken}
 use Rattle.machine_model.specs.Events.{is_effect}

@@ -12,13 +12,13 @@ use Rattle.lock_modes.specs.Rows.{Tuple, Rows'}
 use Rattle.lock_modes.specs.declared.value.Value.{Value}
 use Rattle.lock_modes.specs.declared.value.Value.TheVariants.{Int, Text}
 use Rattle.row_tables.proofs.UndoLemmas.{front, back}
-use Rattle.sql_statements.specs.declared.statement.Bound.{Bound}
-use Rattle.sql_statements.specs.declared.statement.Bound.TheVariants.{Insert}
+use Rattle.bound_statements.specs.declared.statement.Bound.{Bound}
+use Rattle.bound_statements.specs.declared.statement.Bound.TheVariants.{Insert}
 use Rattle.binding_model.specs.declared.tables.Table.{Table}
 use Rattle.bound_specs.specs.Fits.{Fits}
 use Rattle.binding_model.specs.Tables.{no_table, key_column}
-use Rattle.row_effects.specs.Effect.{visible, next_number}
-use Rattle.row_effects.proofs.ListLemmas.{Each, Each-map}
+use Rattle.statement_evaluation.specs.Effect.{visible, next_number}
+use Rattle.statement_evaluation.proofs.ListLemmas.{Each, Each-map}
 use Rattle.machine_model.specs.Typed.{LiesAt, EntryFits, RowsFit}
 use Rattle.machine_model.proofs.Takings.{each-all, all-each, IsOf, seen-fits}
 

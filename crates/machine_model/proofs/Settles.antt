@@ -11,7 +11,7 @@ use Rattle.lock_modes.specs.Mode.{compatible}
 use Rattle.lock_queues.specs.declared.wait.Wait.{Wait}
 use Rattle.lock_queues.specs.Locks.{Spot, Look, fits, wanted, wanted_by, waits_for, closes_ring, way_below, waits_now, is_ripe, first_ripe, next_grant}
 use Rattle.lock_queues.specs.Locks.{spots_from}
-use Rattle.sql_statements.specs.Plan.{Request, request, plan, nowait}
+use Rattle.bound_statements.specs.Plan.{Request, request, plan, nowait}
 use Rattle.machine_model.specs.Session.{Task, Do, asks, tasks_of, Session, note}
 use Rattle.machine_model.specs.Go.{Run, look_with, taking, go}
 use Rattle.machine_model.specs.World.{World, fresh, session_at, look_of, scene_of, placed_back, goes, granted, settle, settle_for, left_of, left_to_do, noted}
@@ -21,7 +21,7 @@ use Rattle.machine_model.specs.Sound.{HeldTogether, NoRing, HoldsAll, IsIn, here
 use Rattle.lock_modes.specs.declared.mode.Mode.{Mode}
 use Rattle.transcripts.specs.declared.event.Event.TheVariants.{Sent, NotSent, Resumed}
 use Rattle.lock_modes.specs.declared.resource.Resource.{Resource}
-use Rattle.sql_statements.specs.declared.statement.Bound.{Bound}
+use Rattle.bound_statements.specs.declared.statement.Bound.{Bound}
 use Rattle.machine_model.proofs.Basics.{both_true, known, not_both, cases-eq}
 use Rattle.machine_model.specs.Footprint.{HeldFits}
 use Rattle.lock_queues.proofs.Rings.{no-ring-past, no-way-from, way-is-found, edge-from, no-edge-from, edge-put, edge-off}

@@ -6,7 +6,7 @@ use Rattle.lock_modes.specs.Resource.{resource_order}
 use Rattle.lock_modes.specs.Mode.{cover}
 use Rattle.lock_modes.specs.Rows.{Rows'}
 use Rattle.lock_queues.specs.Locks.{Look, fits, fits_with, wanted, all_below, may_have}
-use Rattle.row_effects.specs.Effect.{Effect, Gives, Faults}
+use Rattle.statement_evaluation.specs.Effect.{Effect, Gives, Faults}
 use Rattle.machine_model.specs.Session.{Task, Ask, Do, Session, Held, Performed, Goes, Fails, Kind, Begins, Commits, RollsBack, Works, kind, perform}
 use Rattle.machine_model.specs.Session.{perform_by, worked}
 use Rattle.machine_model.specs.Go.{Scene, Run, Stop, replied, taking, go, solo, stopped, failed, finished_by, is_broken, held_up}
@@ -17,7 +17,7 @@ use Rattle.machine_model.specs.Footprint.{EachAsk, HeldFits, IsFree}
 use Rattle.transcripts.specs.declared.event.Fault.TheVariants.{Aborted}
 use Rattle.machine_model.specs.declared.status.Status.{Status}
 use Rattle.machine_model.specs.declared.status.Status.TheVariants.{Outside, InBlock, Broken}
-use Rattle.sql_statements.specs.declared.statement.Bound.{Bound}
+use Rattle.bound_statements.specs.declared.statement.Bound.{Bound}
 use Rattle.machine_model.proofs.Basics.{both_true, and_true, or_true_right}
 use Rattle.lock_modes.proofs.ModeLaws.{compatible-cover}
 

@@ -14,7 +14,7 @@ use Rattle.machine_model.specs.Start.{after_setup, forgotten, has_failed, is_out
 use Rattle.machine_model.specs.Sound.{Way, one, more, Steady, Sound, UnderLocks}
 use Rattle.lock_modes.specs.declared.mode.Mode.{Mode}
 use Rattle.lock_modes.specs.declared.resource.Resource.{Resource}
-use Rattle.sql_statements.specs.declared.statement.Bound.{Bound}
+use Rattle.bound_statements.specs.declared.statement.Bound.{Bound}
 use Rattle.machine_model.proofs.Basics.{not_both, or_true_left, or_true_right, cases-eq}
 use Rattle.machine_model.specs.Footprint.{EachAsk, IsFree}
 use Rattle.machine_model.proofs.Solo.{go-solo, all_below-true}

@@ -5,7 +5,7 @@ use Rattle.lock_modes.specs.RowPlace.{RowPlace}
 use Rattle.lock_modes.specs.Resource.{resource_order, same_resource}
 use Rattle.lock_modes.specs.Mode.{cover, AtLeast}
 use Rattle.lock_queues.specs.Locks.{wanted}
-use Rattle.sql_statements.specs.Plan.{Request, asks_on, writes_in, is_exclusive}
+use Rattle.bound_statements.specs.Plan.{Request, asks_on, writes_in, is_exclusive}
 use Rattle.machine_model.specs.Session.{Held}
 use Rattle.row_tables.specs.Overlay.{Overlay}
 use Rattle.machine_model.specs.Claims.{may_write, claims_of}
@@ -19,7 +19,7 @@ use Rattle.machine_model.proofs.Basics.{both_true, and_true, either_true, or_tru
 use Rattle.machine_model.proofs.Effects.{exclusive-is}
 use Rattle.machine_model.proofs.Claiming.{claims-held, claims-cases}
 use Rattle.lock_modes.proofs.ModeLaws.{cover-right, cover-more, at-least-refl, at-least-trans}
-use Rattle.sql_statements.proofs.PlanModes.{exclusive-up, writes-up}
+use Rattle.bound_statements.proofs.PlanModes.{exclusive-up, writes-up}
 
 -- ---- what a session may write by what it holds
 

@@ -14,24 +14,24 @@ use Rattle.lock_modes.specs.Rows.{Tuple, Rows', Write}
 use Rattle.lock_modes.specs.declared.value.Value.{Value}
 use Rattle.lock_modes.specs.declared.value.Value.TheVariants.{Int, Text}
 use Rattle.row_tables.specs.Overlay.{Overlay, laid, lay_entries, lay, written}
-use Rattle.sql_statements.specs.Plan.{key_at, at_key, looks_at}
-use Rattle.sql_statements.specs.declared.condition.Condition.{Condition, more_of-Condition, end_of-Condition}
-use Rattle.sql_statements.specs.declared.condition.Condition.TheVariants.{Always, Compares, Not', And', Or'}
-use Rattle.sql_statements.specs.declared.expression.AddSign.{AddSign}
-use Rattle.sql_statements.specs.declared.expression.AddSign.TheVariants.{Plus, Minus}
-use Rattle.sql_statements.specs.declared.expression.Expression.{Expression}
-use Rattle.sql_statements.specs.declared.expression.Operand.{Operand}
-use Rattle.sql_statements.specs.declared.expression.Operand.TheVariants.{Literal, Column}
-use Rattle.sql_statements.specs.declared.expression.Product.{Product}
-use Rattle.sql_statements.specs.declared.expression.SignedProduct.{SignedProduct}
-use Rattle.sql_statements.specs.declared.statement.Aggregate.{Aggregate}
-use Rattle.sql_statements.specs.declared.statement.Aggregate.TheVariants.{Count, Sum}
-use Rattle.sql_statements.specs.declared.statement.Assignment.{Assignment}
-use Rattle.sql_statements.specs.declared.statement.Bound.{Bound}
-use Rattle.sql_statements.specs.declared.statement.Bound.TheVariants.{Select, Insert, Update, Delete, Begin, Commit, Rollback, Lock, SetVariable}
-use Rattle.sql_statements.specs.declared.statement.Output.{Output}
-use Rattle.sql_statements.specs.declared.statement.Output.TheVariants.{Columns, Aggregates}
-use Rattle.sql_statements.specs.declared.statement.SortKey.{SortKey}
+use Rattle.bound_statements.specs.Plan.{key_at, at_key, looks_at}
+use Rattle.bound_statements.specs.declared.condition.Condition.{Condition, more_of-Condition, end_of-Condition}
+use Rattle.bound_statements.specs.declared.condition.Condition.TheVariants.{Always, Compares, Not', And', Or'}
+use Rattle.bound_statements.specs.declared.expression.AddSign.{AddSign}
+use Rattle.bound_statements.specs.declared.expression.AddSign.TheVariants.{Plus, Minus}
+use Rattle.bound_statements.specs.declared.expression.Expression.{Expression}
+use Rattle.bound_statements.specs.declared.expression.Operand.{Operand}
+use Rattle.bound_statements.specs.declared.expression.Operand.TheVariants.{Literal, Column}
+use Rattle.bound_statements.specs.declared.expression.Product.{Product}
+use Rattle.bound_statements.specs.declared.expression.SignedProduct.{SignedProduct}
+use Rattle.bound_statements.specs.declared.statement.Aggregate.{Aggregate}
+use Rattle.bound_statements.specs.declared.statement.Aggregate.TheVariants.{Count, Sum}
+use Rattle.bound_statements.specs.declared.statement.Assignment.{Assignment}
+use Rattle.bound_statements.specs.declared.statement.Bound.{Bound}
+use Rattle.bound_statements.specs.declared.statement.Bound.TheVariants.{Select, Insert, Update, Delete, Begin, Commit, Rollback, Lock, SetVariable}
+use Rattle.bound_statements.specs.declared.statement.Output.{Output}
+use Rattle.bound_statements.specs.declared.statement.Output.TheVariants.{Columns, Aggregates}
+use Rattle.bound_statements.specs.declared.statement.SortKey.{SortKey}
 use Rattle.binding_model.specs.declared.tables.ColumnType.{ColumnType}
 use Rattle.binding_model.specs.declared.tables.ColumnType.TheVariants.{Number}
 use Rattle.binding_model.specs.declared.tables.Table.{Table}
@@ -43,12 +43,12 @@ use Rattle.binding_model.specs.Tables.{no_table, key_column, type_of, width}
 use Rattle.binding_model.specs.Types.{value_type}
 use Rattle.transcripts.specs.declared.event.Fault.TheVariants.{Duplicate, OutOfRange}
 use Rattle.transcripts.specs.declared.event.Event.TheVariants.{Inserted, Updated, Deleted}
-use Rattle.row_effects.specs.Evaluate.{in_range, checked, on_numbers, operand_value, times_each, product_value, plus_or_minus, plus_each, value_of}
-use Rattle.row_effects.specs.Effect.{visible, Effect, Gives, Faults, effect, matching, assigned, all_assigned, placed, next_number, numbered, or_fault}
-use Rattle.row_effects.specs.Effect.{counted}
-use Rattle.row_effects.proofs.ListLemmas.{Each, Each-map, Each-at}
-use Rattle.row_effects.proofs.WriteLemmas.{OnSome, OnGives, leaves, any-some, each-kept, each-any, each-matching, each-all_assigned, each-placed}
-use Rattle.row_effects.proofs.WriteLemmas.{each-deleted, on-or_fault, on-matched, on-selected}
+use Rattle.statement_evaluation.specs.Evaluate.{in_range, checked, on_numbers, operand_value, times_each, product_value, plus_or_minus, plus_each, value_of}
+use Rattle.statement_evaluation.specs.Effect.{visible, Effect, Gives, Faults, effect, matching, assigned, all_assigned, placed, next_number, numbered, or_fault}
+use Rattle.statement_evaluation.specs.Effect.{counted}
+use Rattle.statement_evaluation.proofs.ListLemmas.{Each, Each-map, Each-at}
+use Rattle.statement_evaluation.proofs.WriteLemmas.{OnSome, OnGives, leaves, any-some, each-kept, each-any, each-matching, each-all_assigned, each-placed}
+use Rattle.statement_evaluation.proofs.WriteLemmas.{each-deleted, on-or_fault, on-matched, on-selected}
 use Rattle.machine_model.specs.Typed.{LiesAt, EntryFits, RowsFit, LeftFits}
 use Rattle.machine_model.proofs.Basics.{cases-eq, both_true}
 

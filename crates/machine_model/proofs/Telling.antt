@@ -3,18 +3,18 @@ use Rattle.std.proofs.Common.{◌≡◌, refl, ℕ, true, List, [], ◌∷◌, �
 use Rattle.finite_maps.specs.Map.{entries}
 use Rattle.lock_modes.specs.RowPlace.{RowPlace}
 use Rattle.lock_modes.specs.Rows.{Rows', Write}
-use Rattle.sql_statements.specs.Plan.{Tuple}
-use Rattle.row_effects.specs.Effect.{Effect, Gives, Faults, effect, visible, matching, sorted_by, shown, projected, all_aggregated, all_assigned, placed}
-use Rattle.row_effects.specs.Effect.{or_fault, counted}
+use Rattle.bound_statements.specs.Plan.{Tuple}
+use Rattle.statement_evaluation.specs.Effect.{Effect, Gives, Faults, effect, visible, matching, sorted_by, shown, projected, all_aggregated, all_assigned, placed}
+use Rattle.statement_evaluation.specs.Effect.{or_fault, counted}
 use Rattle.machine_model.specs.Events.{is_effect}
 use Rattle.transcripts.specs.declared.event.Event.{Event}
 use Rattle.transcripts.specs.declared.event.Event.TheVariants.{Row as RowEvent, Rows, Inserted, Updated, Deleted}
 use Rattle.transcripts.specs.declared.event.Fault.{Fault}
 use Rattle.transcripts.specs.declared.event.Fault.TheVariants.{OutOfRange, Duplicate}
-use Rattle.sql_statements.specs.declared.statement.Output.{Output}
-use Rattle.sql_statements.specs.declared.statement.Output.TheVariants.{Columns, Aggregates}
-use Rattle.sql_statements.specs.declared.statement.Bound.{Bound}
-use Rattle.sql_statements.specs.declared.statement.Bound.TheVariants.{Select, Insert, Update, Delete, Begin, Commit, Rollback, Lock, SetVariable}
+use Rattle.bound_statements.specs.declared.statement.Output.{Output}
+use Rattle.bound_statements.specs.declared.statement.Output.TheVariants.{Columns, Aggregates}
+use Rattle.bound_statements.specs.declared.statement.Bound.{Bound}
+use Rattle.bound_statements.specs.declared.statement.Bound.TheVariants.{Select, Insert, Update, Delete, Begin, Commit, Rollback, Lock, SetVariable}
 use Rattle.lock_modes.specs.declared.value.Value.{Value}
 
 abbrev pub AllEffects : List Event → Type 0

@@ -9,17 +9,17 @@ use Rattle.lock_modes.specs.RowPlace.{place_order}
 use Rattle.lock_modes.specs.Rows.{Tuple, Rows'}
 use Rattle.lock_queues.specs.Locks.{Spot, next_grant, waits_now}
 use Rattle.row_tables.specs.Overlay.{lay}
-use Rattle.sql_statements.specs.Plan.{Request, plan, nowait}
-use Rattle.sql_statements.specs.declared.statement.Bound.{Bound}
+use Rattle.bound_statements.specs.Plan.{Request, plan, nowait}
+use Rattle.bound_statements.specs.declared.statement.Bound.{Bound}
 use Rattle.binding_model.specs.declared.tables.Table.{Table}
 use Rattle.bound_specs.specs.Fits.{Fits, SpecFits}
 use Rattle.bound_specs.specs.Spec.{Spec, Step, no_step}
 use Rattle.transcripts.specs.declared.event.Fault.{Fault}
 use Rattle.transcripts.specs.declared.event.Fault.TheVariants.{Aborted}
 use Rattle.transcripts.specs.declared.event.Event.TheVariants.{Sent, Resumed, NotSent}
-use Rattle.row_effects.specs.Effect.{Effect, Gives, Faults, effect}
-use Rattle.row_effects.proofs.ListLemmas.{Each}
-use Rattle.row_effects.proofs.WriteLemmas.{OnGives}
+use Rattle.statement_evaluation.specs.Effect.{Effect, Gives, Faults, effect}
+use Rattle.statement_evaluation.proofs.ListLemmas.{Each}
+use Rattle.statement_evaluation.proofs.WriteLemmas.{OnGives}
 use Rattle.machine_model.specs.declared.status.Status.{Status}
 use Rattle.machine_model.specs.declared.status.Status.TheVariants.{Outside, InBlock, Broken}
 use Rattle.machine_model.specs.Session.{Task, Ask, Do, Session, Kind, Begins, Commits, RollsBack, Works, kind, note, asks, tasks_of, Performed, Goes, Fails}

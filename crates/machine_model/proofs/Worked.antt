@@ -1,7 +1,7 @@
 -- Worked runs of the machine, computed.
 use Rattle.std.proofs.Common.{◌≡◌, refl, ℕ, true, false, List, [], ◌∷◌, Some, None, pos}
 use Rattle.finite_maps.specs.Map.{get, insert, keep, remove, entries, empty}
-use Rattle.row_effects.specs.Effect.{effect}
+use Rattle.statement_evaluation.specs.Effect.{effect}
 use Rattle.row_tables.specs.Overlay.{lay}
 use Rattle.bound_specs.specs.Spec.{Step, Spec}
 use Rattle.machine_model.specs.Start.{Started, start}
@@ -14,19 +14,19 @@ use Rattle.transcripts.specs.declared.event.Event.TheVariants.{Sent, Row as RowE
 use Rattle.transcripts.specs.declared.event.Event.TheVariants.{Failed, Waiting, Resumed, Done, NotSent}
 use Rattle.transcripts.specs.declared.event.Warning.TheVariants.{NoBlock}
 use Rattle.transcripts.specs.declared.event.Fault.TheVariants.{Duplicate, OutOfRange, Deadlock, Aborted, Unavailable}
-use Rattle.sql_statements.specs.declared.expression.Operand.{Operand}
-use Rattle.sql_statements.specs.declared.expression.Operand.TheVariants.{Literal, Column}
-use Rattle.sql_statements.specs.declared.expression.AddSign.TheVariants.{Plus}
-use Rattle.sql_statements.specs.declared.expression.Expression.{Expression}
-use Rattle.sql_statements.specs.declared.condition.Comparison.TheVariants.{Same}
-use Rattle.sql_statements.specs.declared.condition.Condition.{Condition}
-use Rattle.sql_statements.specs.declared.condition.Condition.TheVariants.{Always, Compares}
-use Rattle.sql_statements.specs.declared.statement.Aggregate.TheVariants.{Count, Sum}
-use Rattle.sql_statements.specs.declared.statement.Order.TheVariants.{Falls}
-use Rattle.sql_statements.specs.declared.statement.Output.TheVariants.{Columns, Aggregates}
-use Rattle.sql_statements.specs.declared.statement.RowLock.{RowLock}
-use Rattle.sql_statements.specs.declared.statement.Bound.{Bound}
-use Rattle.sql_statements.specs.declared.statement.Bound.TheVariants.{Select, Insert, Update, Delete, Begin, Commit, Rollback, Lock}
+use Rattle.bound_statements.specs.declared.expression.Operand.{Operand}
+use Rattle.bound_statements.specs.declared.expression.Operand.TheVariants.{Literal, Column}
+use Rattle.bound_statements.specs.declared.expression.AddSign.TheVariants.{Plus}
+use Rattle.bound_statements.specs.declared.expression.Expression.{Expression}
+use Rattle.bound_statements.specs.declared.condition.Comparison.TheVariants.{Same}
+use Rattle.bound_statements.specs.declared.condition.Condition.{Condition}
+use Rattle.bound_statements.specs.declared.condition.Condition.TheVariants.{Always, Compares}
+use Rattle.bound_statements.specs.declared.statement.Aggregate.TheVariants.{Count, Sum}
+use Rattle.bound_statements.specs.declared.statement.Order.TheVariants.{Falls}
+use Rattle.bound_statements.specs.declared.statement.Output.TheVariants.{Columns, Aggregates}
+use Rattle.bound_statements.specs.declared.statement.RowLock.{RowLock}
+use Rattle.bound_statements.specs.declared.statement.Bound.{Bound}
+use Rattle.bound_statements.specs.declared.statement.Bound.TheVariants.{Select, Insert, Update, Delete, Begin, Commit, Rollback, Lock}
 
 abbrev pub number : ℕ → Value
 number n = Int (pos n)

@@ -5,13 +5,13 @@ use Rattle.lock_modes.specs.RowPlace.{RowPlace}
 use Rattle.finite_maps.specs.Map.{get}
 use Rattle.lock_modes.specs.Mode.{same_mode}
 use Rattle.lock_modes.specs.Resource.{same_resource}
-use Rattle.sql_statements.specs.Plan.{Request, plan}
+use Rattle.bound_statements.specs.Plan.{Request, plan}
 use Rattle.machine_model.specs.Session.{Held}
 use Rattle.lock_modes.specs.declared.mode.Mode.{Mode}
 use Rattle.lock_modes.specs.declared.mode.Mode.TheVariants.{IntentExclusive, ShareIntent, Exclusive}
 use Rattle.lock_modes.specs.declared.resource.Resource.{Resource}
 use Rattle.lock_modes.specs.declared.resource.Resource.TheVariants.{Table, Row as RowOf}
-use Rattle.sql_statements.specs.declared.statement.Bound.{Bound}
+use Rattle.bound_statements.specs.declared.statement.Bound.{Bound}
 
 abbrev pub Claims : Type 0
 Claims = Resource → Mode → Bool

@@ -4,12 +4,12 @@ use Rattle.finite_maps.specs.Map.{get}
 use Rattle.lock_modes.specs.RowPlace.{RowPlace}
 use Rattle.lock_modes.specs.Rows.{Rows'}
 use Rattle.lock_queues.specs.Locks.{fits, nobody_waits, may_have}
-use Rattle.sql_statements.specs.Plan.{plan, opened}
+use Rattle.bound_statements.specs.Plan.{plan, opened}
 use Rattle.machine_model.specs.Session.{Task, Ask, Do, Session, Held, Goes, Fails, perform}
 use Rattle.machine_model.specs.Go.{Scene, Stop, taking, is_broken}
 use Rattle.lock_modes.specs.declared.mode.Mode.{Mode}
 use Rattle.lock_modes.specs.declared.resource.Resource.{Resource}
-use Rattle.sql_statements.specs.declared.statement.Bound.{Bound}
+use Rattle.bound_statements.specs.declared.statement.Bound.{Bound}
 
 abbrev pub EachAsk : (Resource → Mode → Type 0) → List Task → Type 0
 EachAsk P [] = Unit {0}

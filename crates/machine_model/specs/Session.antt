@@ -3,9 +3,9 @@ use Rattle.std.specs.Prelude.{Bool, List, [], ◌∷◌, ◌++◌}
 use Rattle.finite_maps.specs.Map.{Map, empty}
 use Rattle.lock_modes.specs.Resource.{resource_order}
 use Rattle.lock_modes.specs.Rows.{Rows'}
-use Rattle.sql_statements.specs.Plan.{Request, plan, nowait}
+use Rattle.bound_statements.specs.Plan.{Request, plan, nowait}
 use Rattle.row_tables.specs.Overlay.{Overlay, lay, written}
-use Rattle.row_effects.specs.Effect.{Effect, Gives, Faults, effect}
+use Rattle.statement_evaluation.specs.Effect.{Effect, Gives, Faults, effect}
 use Rattle.lock_modes.specs.declared.mode.Mode.{Mode}
 use Rattle.lock_modes.specs.declared.resource.Resource.{Resource}
 use Rattle.transcripts.specs.declared.event.Fault.{Fault}
@@ -15,8 +15,8 @@ use Rattle.transcripts.specs.declared.event.Event.{Event}
 use Rattle.transcripts.specs.declared.event.Event.TheVariants.{Began, Committed, RolledBack, Warned}
 use Rattle.machine_model.specs.declared.status.Status.{Status}
 use Rattle.machine_model.specs.declared.status.Status.TheVariants.{Outside, InBlock, Broken}
-use Rattle.sql_statements.specs.declared.statement.Bound.{Bound}
-use Rattle.sql_statements.specs.declared.statement.Bound.TheVariants.{Select, Insert, Update, Delete, Begin, Commit, Rollback, Lock, SetVariable}
+use Rattle.bound_statements.specs.declared.statement.Bound.{Bound}
+use Rattle.bound_statements.specs.declared.statement.Bound.TheVariants.{Select, Insert, Update, Delete, Begin, Commit, Rollback, Lock, SetVariable}
 
 -- a step is its requests and its statements, each statement behind its requests; the requests of a statement wait, or all refuse to
 pub data Task : Type 0 where

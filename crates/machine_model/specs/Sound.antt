@@ -6,7 +6,7 @@ use Rattle.lock_modes.specs.Mode.{AtLeast}
 use Rattle.lock_queues.specs.declared.wait.Wait.{Wait}
 use Rattle.lock_queues.specs.Locks.{next_grant, waits_for}
 pub use Rattle.lock_queues.specs.Sound.{Way, one, more, NoRing, HeldTogether, EachWait, Distinct}
-use Rattle.sql_statements.specs.Plan.{Tuple, Request, request, plan}
+use Rattle.bound_statements.specs.Plan.{Tuple, Request, request, plan}
 use Rattle.machine_model.specs.World.{World, look_of, session_at}
 use Rattle.row_tables.specs.Overlay.{Overlay}
 use Rattle.machine_model.specs.Session.{Held, Task, Ask, Do}

@@ -7,14 +7,14 @@ use Rattle.lock_modes.specs.Rows.{Tuple, Rows'}
 use Rattle.lock_modes.specs.declared.value.Value.{Value}
 use Rattle.lock_modes.specs.declared.value.Value.TheVariants.{Int}
 use Rattle.row_tables.specs.Overlay.{lay}
-use Rattle.sql_statements.specs.Plan.{key_at}
-use Rattle.sql_statements.specs.declared.statement.Bound.{Bound}
-use Rattle.sql_statements.specs.declared.statement.Bound.TheVariants.{Insert}
+use Rattle.bound_statements.specs.Plan.{key_at}
+use Rattle.bound_statements.specs.declared.statement.Bound.{Bound}
+use Rattle.bound_statements.specs.declared.statement.Bound.TheVariants.{Insert}
 use Rattle.binding_model.specs.declared.tables.Table.{Table}
 use Rattle.bound_specs.specs.Fits.{OfTable, RowFits, ValueIn, Takes, Fits, SpecFits}
 use Rattle.bound_specs.specs.Spec.{Spec}
 use Rattle.binding_model.specs.Tables.{key_column}
-use Rattle.row_effects.specs.Effect.{visible, next_number}
+use Rattle.statement_evaluation.specs.Effect.{visible, next_number}
 use Rattle.machine_model.specs.Start.{Started, start}
 use Rattle.machine_model.specs.Session.{Session, Task, Ask, Do, Goes, Fails, perform}
 use Rattle.machine_model.specs.Go.{taking}

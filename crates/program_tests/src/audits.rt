@@ -1,15 +1,15 @@
 //! Audits in threads and on one thread, which answer the same. The test without memory is to be read under `rt try --test --fail-alloc`
 //! too.
 use book_audit::{AuditError, audit, audit_plain};
-use book_files::BookError;
-use book_reading::read_book;
+use book_files::read_book;
+use book_format::BookError;
 use book_tests::{DISJOINT, SAME_OUTCOME};
-use outcome_books::{Book, report};
-use outcome_texts::Counted;
+use fact_books::{Book, report};
 use std::alloc::Global;
 use std::process::Abort;
 use std::test::Fail;
 use std::thread::Threads;
+use transcripts::Counted;
 
 fn read(alloc: Global, text: &str) -> Result<Book, BookError> {
     read_book(alloc, &mut Counted::new(text.as_bytes()))

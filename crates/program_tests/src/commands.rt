@@ -1,8 +1,7 @@
 //! The words of the command line: what each writes, and with which status.
 use crate::disks::{Disk, assert_tells, assert_text, holding, tell};
 use book_tests::words_of;
-use iso_farm::{MAX_SPEC_READ, Opener, run, tell_words_fault};
-use outcome_texts::Counted;
+use program_commands::{MAX_SPEC_READ, Opener, run, tell_words_fault};
 use std::alloc::{AllocError, Global};
 use std::io::{self, Write};
 use std::process::Abort;
@@ -10,6 +9,7 @@ use std::sync::Wait;
 use std::test::Fail;
 use std::thread::Threads;
 use std::time::Clock;
+use transcripts::Counted;
 
 pub const FIRST: &str =
     "setup { CREATE TABLE t (id int PRIMARY KEY, v int); INSERT INTO t VALUES (1, 10), (2, 20); }

@@ -1,13 +1,13 @@
 //! What the program tells, run over a disk with one file.
 use book_tests::{Told, words_of};
-use iso_farm::{Opener, run};
-use outcome_texts::Counted;
+use program_commands::{Opener, run};
 use std::alloc::{AllocError, Global};
 use std::io::{self, Read};
 use std::process::Abort;
 use std::sync::Wait;
 use std::thread::Threads;
 use std::time::Clock;
+use transcripts::Counted;
 
 // Gives a byte a call, up to a call that fails, if one does.
 #[derive(Drop)]

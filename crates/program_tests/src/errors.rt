@@ -1,6 +1,6 @@
 //! The words of the libraries' errors, which are those of the fault lines.
-use iso_farm::ProgramFault;
-use outcome_books::{JoinError, ReportError};
+use fact_books::{JoinError, ReportError};
+use program_commands::ProgramFault;
 use std::alloc::Global;
 use std::fmt::Display;
 use std::process::Abort;

@@ -1,10 +1,9 @@
 //! What jobs and plans of one spec tell together, from its bytes to its report.
 use crate::disks::assert_text;
-use book_answers::ReportFault;
+use book_commands::ReportFault;
 use book_jobs::{Boxed, Job};
+use fact_books::ReportError;
 use farm_headline::{HeadlineFault, Plan, report_of_runs};
-use outcome_books::ReportError;
-use outcome_texts::Counted;
 use session_machine::RunError;
 use shard_farm::{FarmError, OpenGate};
 use std::alloc::{AllocError, Global};
@@ -13,6 +12,7 @@ use std::sync::Wait;
 use std::test::Fail;
 use std::thread::Threads;
 use step_reducer::Shard;
+use transcripts::Counted;
 
 /// Two sessions that never meet: of their six orders each tells the same.
 const APART: &str =

@@ -5,7 +5,7 @@ use crate::runs::{RUNS, Run, lines_of, run_of};
 use crate::statements::{PLANS, REFUSED_STEPS, bound_step, plans_of, refusal_of};
 use book_tests::{Told, spec_of};
 use bound_specs::Spec;
-use sql_subset::{BindError, BindErrorKind};
+use spec_binding::{BindError, BindErrorKind};
 use std::alloc::Global;
 use std::process::Abort;
 use std::sync::Wait;

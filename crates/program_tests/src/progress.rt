@@ -2,8 +2,7 @@
 use crate::commands::BrokenPipe;
 use crate::disks::{assert_text, holding, told_by};
 use book_tests::{Told, words_of};
-use iso_farm::run;
-use outcome_texts::Counted;
+use program_commands::run;
 use std::alloc::{AllocError, Global};
 use std::io;
 use std::process::Abort;
@@ -13,6 +12,7 @@ use std::sync::atomic::Ordering::SeqCst;
 use std::test::Fail;
 use std::thread::Threads;
 use std::time::{Clock, Duration};
+use transcripts::Counted;
 
 /// 8! / (2! 2! 2! 2!) = 2,520 orders, which are three shards.
 const FOUR: &str =

@@ -1,6 +1,6 @@
 //! A disk whose files stand in rows.
 use crate::disks::{Disk, FileReader};
-use iso_farm::Opener;
+use program_commands::Opener;
 
 /// The path and the text of a file in rows.
 pub fn file_of<'a>(rows: &'a str, path: &str) -> Option<(&'a str, &'a str)> {

@@ -1,13 +1,13 @@
 //! What statements are refused for, and the locks they ask for.
 ghost use Rattle.std.specs.Prelude.{All};
-ghost use Rattle.sql_statements.specs.Plan.{HasKeys};
+ghost use Rattle.bound_statements.specs.Plan.{HasKeys};
 
 use crate::disks::{assert_tells, assert_text, holding, tell};
 use bound_specs::Spec;
+use bound_statements::nowait;
 use lock_modes::{Mode, Place, Value};
+use spec_binding::{BindError, Bound, bind, lock_plan};
 use spec_reader::read_spec;
-use sql_statements::nowait;
-use sql_subset::{BindError, Bound, bind, lock_plan};
 use std::alloc::{AllocError, Global};
 use std::process::Abort;
 use std::sync::Wait;

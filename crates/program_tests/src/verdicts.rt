@@ -2,8 +2,7 @@
 //! `rt try --test --fail-alloc` too.
 use crate::shelf::Shelf;
 use book_tests::{Told, words_of};
-use iso_farm::run;
-use outcome_texts::Counted;
+use program_commands::run;
 use std::alloc::{AllocError, Global};
 use std::io::{self, Write};
 use std::process::Abort;
@@ -11,6 +10,7 @@ use std::sync::Wait;
 use std::test::Fail;
 use std::thread::Threads;
 use std::time::Clock;
+use transcripts::Counted;
 
 /// Files: a path and a text. `other` differs from `first` in session b at rank 0; `swap` has a false swap at rank 1; `short` is of a spec with
 /// one permutation, which tells what each of `every` does.

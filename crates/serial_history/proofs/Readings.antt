@@ -1,6 +1,6 @@
 -- A transcript read event by event.
 use Rattle.std.proofs.Common.{◌≡◌, ◌≢◌, refl, sym, ap, ◌∙◌, subst, Bool, true, false, cond, List, [], ◌∷◌, ◌++◌, append_assoc, append-nil}
-use Rattle.row_effects.specs.Effect.{Gives}
+use Rattle.statement_evaluation.specs.Effect.{Gives}
 use Rattle.lock_modes.specs.Rows.{Write}
 use Rattle.transcripts.specs.declared.event.Event.{Event}
 use Rattle.transcripts.specs.declared.event.Event.TheVariants.{Sent, Row as RowEvent, Rows, Inserted, Updated, Deleted, Began, Committed, RolledBack, Locked}

@@ -6,8 +6,8 @@ use Rattle.lock_modes.specs.Rows.{Rows', Write}
 use Rattle.lock_modes.specs.Mode.{compatible, AtLeast}
 use Rattle.lock_queues.specs.Locks.{may_have, closes_ring}
 use Rattle.row_tables.specs.Overlay.{Overlay, lay, written}
-use Rattle.row_effects.specs.Effect.{Effect, Gives, Faults, effect}
-use Rattle.sql_statements.specs.Plan.{Request, request, plan, opened, asks_on, reads_table}
+use Rattle.statement_evaluation.specs.Effect.{Effect, Gives, Faults, effect}
+use Rattle.bound_statements.specs.Plan.{Request, request, plan, opened, asks_on, reads_table}
 use Rattle.machine_model.specs.Session.{Task, Ask, Do, Session, Held, Performed, Goes, Fails, Kind, Begins, Commits, RollsBack, Works, kind, perform}
 use Rattle.machine_model.specs.Session.{perform_by, worked}
 use Rattle.machine_model.specs.Go.{replied, Scene, Run, taking, go, stopped, failed, finished_by, is_broken, held_up, look_with, waiting_with}
@@ -23,7 +23,7 @@ use Rattle.lock_modes.specs.declared.resource.Resource.{Resource}
 use Rattle.lock_modes.specs.declared.resource.Resource.TheVariants.{Table, Row as RowOf}
 use Rattle.machine_model.specs.declared.status.Status.{Status}
 use Rattle.machine_model.specs.declared.status.Status.TheVariants.{Outside, InBlock, Broken}
-use Rattle.sql_statements.specs.declared.statement.Bound.{Bound}
+use Rattle.bound_statements.specs.declared.statement.Bound.{Bound}
 use Rattle.machine_model.proofs.Basics.{both_true, either_true, known}
 use Rattle.machine_model.specs.Footprint.{HeldFits}
 use Rattle.machine_model.proofs.Solo.{OnGoes, held-fits-empty, perform-held}

@@ -5,7 +5,7 @@ use Rattle.finite_maps.specs.Map.{get}
 use Rattle.lock_queues.specs.Locks.{Spot, may_have, closes_ring, answered, next_grant, waits_now}
 use Rattle.lock_modes.specs.Rows.{Rows'}
 use Rattle.row_tables.specs.Overlay.{lay}
-use Rattle.row_effects.specs.Effect.{Effect, Gives, Faults, effect}
+use Rattle.statement_evaluation.specs.Effect.{Effect, Gives, Faults, effect}
 use Rattle.machine_model.specs.Session.{Task, Ask, Do, Session, Performed, Goes, Fails, Kind, Begins, Commits, RollsBack, Works, kind, perform, perform_by}
 use Rattle.machine_model.specs.Session.{worked, note, tasks_of}
 use Rattle.machine_model.specs.Go.{replied, Scene, Run, taking, is_broken, failed, finished_by, stopped, go, held_up, look_with, waiting_with}
@@ -24,7 +24,7 @@ use Rattle.transcripts.specs.declared.event.Fault.{Fault}
 use Rattle.transcripts.specs.declared.event.Fault.TheVariants.{Deadlock, Aborted, Unavailable}
 use Rattle.machine_model.specs.declared.status.Status.{Status}
 use Rattle.machine_model.specs.declared.status.Status.TheVariants.{Outside, InBlock, Broken}
-use Rattle.sql_statements.specs.declared.statement.Bound.{Bound}
+use Rattle.bound_statements.specs.declared.statement.Bound.{Bound}
 use Rattle.machine_model.proofs.Basics.{known, cases-eq}
 use Rattle.machine_model.proofs.Solo.{OnGoes}
 use Rattle.machine_model.proofs.Settles.{Grant, next-grant, session-there, session-other, goes-steady, granted-steady, entering-granted, entering, steady-of}

@@ -18,7 +18,7 @@ use Rattle.transcripts.specs.declared.event.Fault.TheVariants.{Aborted}
 use Rattle.lock_modes.specs.declared.mode.Mode.{Mode}
 use Rattle.machine_model.specs.declared.status.Status.{Status}
 use Rattle.machine_model.specs.declared.status.Status.TheVariants.{Outside, InBlock, Broken}
-use Rattle.sql_statements.specs.declared.statement.Bound.{Bound}
+use Rattle.bound_statements.specs.declared.statement.Bound.{Bound}
 use Rattle.machine_model.proofs.Solo.{go-solo}
 use Rattle.machine_model.proofs.Basics.{cases-eq}
 use Rattle.machine_model.proofs.Fitting.{together-fits}

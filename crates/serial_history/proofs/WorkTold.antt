@@ -3,17 +3,17 @@ use Rattle.std.proofs.Common.{◌≡◌, ◌≢◌, refl, ℕ, Bool, true, false
 use Rattle.finite_maps.specs.Map.{entries}
 use Rattle.lock_modes.specs.RowPlace.{RowPlace}
 use Rattle.lock_modes.specs.Rows.{Rows', Write}
-use Rattle.sql_statements.specs.Plan.{Tuple}
-use Rattle.row_effects.specs.Effect.{Effect, Gives, Faults, effect, visible, matching, sorted_by, shown, projected, all_aggregated, all_assigned, placed}
-use Rattle.row_effects.specs.Effect.{or_fault, counted}
+use Rattle.bound_statements.specs.Plan.{Tuple}
+use Rattle.statement_evaluation.specs.Effect.{Effect, Gives, Faults, effect, visible, matching, sorted_by, shown, projected, all_aggregated, all_assigned, placed}
+use Rattle.statement_evaluation.specs.Effect.{or_fault, counted}
 use Rattle.transcripts.specs.declared.event.Event.{Event}
 use Rattle.transcripts.specs.declared.event.Event.TheVariants.{Row as RowEvent, Rows, Inserted, Updated, Deleted}
 use Rattle.transcripts.specs.declared.event.Fault.{Fault}
 use Rattle.transcripts.specs.declared.event.Fault.TheVariants.{OutOfRange, Duplicate}
-use Rattle.sql_statements.specs.declared.statement.Output.{Output}
-use Rattle.sql_statements.specs.declared.statement.Output.TheVariants.{Columns, Aggregates}
-use Rattle.sql_statements.specs.declared.statement.Bound.{Bound}
-use Rattle.sql_statements.specs.declared.statement.Bound.TheVariants.{Select, Insert, Update, Delete, Begin, Commit, Rollback, Lock, SetVariable}
+use Rattle.bound_statements.specs.declared.statement.Output.{Output}
+use Rattle.bound_statements.specs.declared.statement.Output.TheVariants.{Columns, Aggregates}
+use Rattle.bound_statements.specs.declared.statement.Bound.{Bound}
+use Rattle.bound_statements.specs.declared.statement.Bound.TheVariants.{Select, Insert, Update, Delete, Begin, Commit, Rollback, Lock, SetVariable}
 use Rattle.lock_modes.specs.declared.value.Value.{Value}
 use Rattle.serial_history.specs.Reading.{is_data, Reading, read}
 use Rattle.serial_history.specs.Serial.{is_work}

@@ -1,15 +1,15 @@
 -- Worked histories of the machine, computed.
 use Rattle.std.proofs.Common.{◌≡◌, refl, ℕ, true, false, List, [], ◌∷◌, Some, map}
 use Rattle.finite_maps.specs.Map.{get, insert, keep, remove, entries, empty}
-use Rattle.row_effects.specs.Effect.{effect}
+use Rattle.statement_evaluation.specs.Effect.{effect}
 use Rattle.row_tables.specs.Overlay.{lay}
 use Rattle.bound_specs.specs.Spec.{Spec}
 use Rattle.machine_model.specs.Start.{Started, start}
 use Rattle.machine_model.specs.World.{send_all, session_at}
 use Rattle.transcripts.specs.declared.event.Event.TheVariants.{Row as RowEvent, Rows, Updated}
-use Rattle.sql_statements.specs.declared.statement.Output.TheVariants.{Columns}
-use Rattle.sql_statements.specs.declared.statement.Bound.{Bound}
-use Rattle.sql_statements.specs.declared.statement.Bound.TheVariants.{Select, Begin, Commit, Lock, SetVariable}
+use Rattle.bound_statements.specs.declared.statement.Output.TheVariants.{Columns}
+use Rattle.bound_statements.specs.declared.statement.Bound.{Bound}
+use Rattle.bound_statements.specs.declared.statement.Bound.TheVariants.{Select, Begin, Commit, Lock, SetVariable}
 use Rattle.lock_modes.specs.declared.mode.Mode.TheVariants.{Share}
 use Rattle.machine_model.specs.declared.status.Status.TheVariants.{Outside, InBlock, Broken}
 use Rattle.machine_model.proofs.Worked.{number, id_is, step, two_rows, adds, sets, in_blocks, all_rows, shares}

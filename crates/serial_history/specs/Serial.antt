@@ -4,10 +4,10 @@ use Rattle.std.specs.Prelude.{◌≡◌, ◌≢◌, ℕ, zero, suc, Bool, true, 
 use Rattle.finite_maps.specs.Map.{empty}
 use Rattle.lock_queues.specs.Locks.{Spot, next_grant, waits_now}
 use Rattle.machine_model.specs.Sound.{HoldsAll}
-use Rattle.sql_statements.specs.Plan.{plan}
+use Rattle.bound_statements.specs.Plan.{plan}
 use Rattle.lock_modes.specs.Rows.{Rows', Write}
 use Rattle.row_tables.specs.Overlay.{Overlay, lay, written}
-use Rattle.row_effects.specs.Effect.{Effect, Gives, Faults, effect}
+use Rattle.statement_evaluation.specs.Effect.{Effect, Gives, Faults, effect}
 use Rattle.machine_model.specs.Session.{Task, Ask, Do, Session, Held, Goes, Fails, Kind, Begins, Commits, RollsBack, Works, kind, perform, tasks_of, note, ended}
 use Rattle.machine_model.specs.Go.{Scene, taking, is_broken, reply_in}
 use Rattle.machine_model.specs.declared.reply.Reply.TheVariants.{Had, Waits, Refused}
@@ -18,8 +18,8 @@ use Rattle.transcripts.specs.declared.event.Event.{Event}
 use Rattle.transcripts.specs.declared.event.Event.TheVariants.{Sent, Resumed}
 use Rattle.machine_model.specs.declared.status.Status.{Status}
 use Rattle.machine_model.specs.declared.status.Status.TheVariants.{Outside, InBlock, Broken}
-use Rattle.sql_statements.specs.declared.statement.Bound.{Bound}
-use Rattle.sql_statements.specs.declared.statement.Bound.TheVariants.{Select, Insert, Update, Delete, Begin, Commit, Rollback, Lock, SetVariable}
+use Rattle.bound_statements.specs.declared.statement.Bound.{Bound}
+use Rattle.bound_statements.specs.declared.statement.Bound.TheVariants.{Select, Insert, Update, Delete, Begin, Commit, Rollback, Lock, SetVariable}
 use Rattle.serial_history.specs.Reading.{Closed, Reading, nothing_read, read}
 
 -- a statement that was done, and what it told

@@ -13,10 +13,10 @@ use Rattle.lock_queues.specs.declared.answer.Answer.{Answer}
 use Rattle.lock_queues.specs.declared.answer.Answer.TheVariants.{Granted, Waits, Ring}
 use Rattle.lock_queues.proofs.Bounded.{tests-decide}
 use Rattle.lock_queues.proofs.Slices.{get-slice}
-use Rattle.sql_statements.specs.Plan.{Tuple, Request, plan}
-use Rattle.sql_statements.specs.declared.statement.Bound.{Bound}
+use Rattle.bound_statements.specs.Plan.{Tuple, Request, plan}
+use Rattle.bound_statements.specs.declared.statement.Bound.{Bound}
 use Rattle.row_tables.specs.Layers.{Layers, overlay_of}
-use Rattle.statement_effects.specs.Run.{SeesAlone}
+use Rattle.statement_execution.specs.Run.{SeesAlone}
 use Rattle.machine_model.specs.Session.{Held, Session}
 use Rattle.machine_model.specs.Go.{Scene, replied, reply_in, look_with, waiting_with}
 use Rattle.machine_model.specs.declared.reply.Reply.{Reply}
@@ -27,7 +27,7 @@ use Rattle.session_machine.specs.Going.{IsScene, IsReply}
 use Rattle.machine_model.specs.Claims.{claims_of}
 use Rattle.machine_model.specs.Sound.{HeldTogether, UnderLocks, HoldsAll}
 use Rattle.machine_model.proofs.Basics.{both_true, or_true_left, not_both, cases-eq}
-use Rattle.row_effects.proofs.ListLemmas.{Each}
+use Rattle.statement_evaluation.proofs.ListLemmas.{Each}
 use Rattle.machine_model.proofs.Claiming.{claims-asked, claims-cases}
 use Rattle.machine_model.proofs.Effects.{Friends, reads-off}
 use Rattle.machine_model.proofs.Looks.{looked-opened}

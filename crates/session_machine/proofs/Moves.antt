@@ -8,14 +8,14 @@ use Rattle.lock_modes.specs.Rows.{Rows'}
 use Rattle.lock_queues.specs.Locks.{waits_now}
 use Rattle.lock_queues.specs.LockTable.{Locks, look_in, taken, let_go, slice}
 use Rattle.lock_queues.proofs.Slices.{get-slice}
-use Rattle.sql_statements.specs.declared.statement.Bound.{Bound}
+use Rattle.bound_statements.specs.declared.statement.Bound.{Bound}
 use Rattle.transcripts.specs.declared.event.Fault.{Fault}
 use Rattle.transcripts.specs.declared.event.Fault.TheVariants.{Aborted}
 use Rattle.transcripts.specs.declared.event.Event.{Event}
 use Rattle.transcripts.specs.declared.event.Event.TheVariants.{Done, Warned, Committed, RolledBack}
 use Rattle.transcripts.specs.declared.event.Warning.TheVariants.{NoBlock}
-use Rattle.row_effects.specs.Effect.{Effect, Gives, Faults, effect}
-use Rattle.statement_effects.specs.Run.{events_of, fault_of, left_by}
+use Rattle.statement_evaluation.specs.Effect.{Effect, Gives, Faults, effect}
+use Rattle.statement_execution.specs.Run.{events_of, fault_of, left_by}
 use Rattle.row_tables.specs.Layers.{Layers, sight, undone, kept}
 use Rattle.session_machine.specs.declared.session.SessionState.{SessionState}
 use Rattle.machine_model.specs.declared.status.Status.{Status}

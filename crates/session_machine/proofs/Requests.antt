@@ -5,8 +5,8 @@ use Rattle.std.proofs.lemmas.Option.{slice_get_cases}
 use Rattle.std.proofs.Common.{◌≡◌, refl, sym, ◌∙◌, subst, ℕ, suc, ◌+◌, ◌<◌, ◌≤◌, false, List, [], ◌∷◌, length, drop, drop-cons, add-one, Some, None, ◌⊎◌, inl}
 use Rattle.std.proofs.Common.{inr}
 use Rattle.lock_queues.specs.LockTable.{Locks, taken, slice}
-use Rattle.sql_statements.specs.Plan.{Request, plan, nowait}
-use Rattle.sql_statements.specs.declared.statement.Bound.{Bound}
+use Rattle.bound_statements.specs.Plan.{Request, plan, nowait}
+use Rattle.bound_statements.specs.declared.statement.Bound.{Bound}
 use Rattle.machine_model.specs.Session.{Do, asks}
 use Rattle.machine_model.specs.Sound.{HoldsAll, Backed}
 use Rattle.session_machine.specs.Going.{IsToAsk}

@@ -11,7 +11,7 @@ use Rattle.lock_queues.specs.Locks.{waits_now, next_grant}
 use Rattle.lock_queues.specs.LockTable.{Locks, holding_order, no_locks, slice}
 use Rattle.row_tables.specs.Overlay.{Overlay}
 use Rattle.row_tables.specs.Layers.{Layers, session_order, overlay_of, no_rows}
-use Rattle.sql_statements.specs.declared.statement.Bound.{Bound}
+use Rattle.bound_statements.specs.declared.statement.Bound.{Bound}
 use Rattle.machine_model.specs.declared.status.Status.TheVariants.{Outside}
 use Rattle.session_machine.specs.declared.session.SessionState.{SessionState}
 use Rattle.session_machine.specs.declared.stepping.Point.{Point}

@@ -14,8 +14,8 @@ use Rattle.lock_queues.proofs.Slices.{get-slice, slice-insert, slice-insert_othe
 use Rattle.row_tables.specs.Overlay.{written}
 use Rattle.row_tables.specs.Layers.{Layers, session_order, overlay_of, wrote, undone, kept}
 use Rattle.row_tables.proofs.LayersLemmas.{overlay_of-wrote, overlay_of-undone, overlay_of-kept}
-use Rattle.row_effects.specs.Effect.{Effect, Gives, Faults}
-use Rattle.statement_effects.specs.Run.{wrote_each, left_by}
+use Rattle.statement_evaluation.specs.Effect.{Effect, Gives, Faults}
+use Rattle.statement_execution.specs.Run.{wrote_each, left_by}
 use Rattle.machine_model.specs.Session.{Session}
 use Rattle.machine_model.specs.Go.{taking}
 use Rattle.machine_model.specs.World.{fresh, session_at, look_of}

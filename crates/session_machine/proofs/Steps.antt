@@ -4,8 +4,8 @@ use Rattle.lock_queues.specs.Locks.{waits_now}
 use Rattle.lock_queues.specs.LockTable.{Locks, slice}
 use Rattle.row_tables.specs.Overlay.{Overlay}
 use Rattle.row_tables.specs.Layers.{Layers, overlay_of}
-use Rattle.sql_statements.specs.Plan.{Request, plan, nowait}
-use Rattle.sql_statements.specs.declared.statement.Bound.{Bound}
+use Rattle.bound_statements.specs.Plan.{Request, plan, nowait}
+use Rattle.bound_statements.specs.declared.statement.Bound.{Bound}
 use Rattle.machine_model.specs.Session.{Held, Task, Do, asks, tasks_of}
 use Rattle.machine_model.specs.Sound.{UnderLocks, Backed}
 use Rattle.session_machine.specs.State.{SameOthers}

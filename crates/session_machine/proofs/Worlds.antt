@@ -13,7 +13,7 @@ use Rattle.lock_queues.specs.Sound.{EachWait}
 use Rattle.lock_queues.proofs.Slices.{get-slice}
 use Rattle.lock_queues.proofs.Bounded.{tests-decide}
 use Rattle.row_tables.specs.Layers.{Layers, overlay_of}
-use Rattle.sql_statements.specs.declared.statement.Bound.{Bound}
+use Rattle.bound_statements.specs.declared.statement.Bound.{Bound}
 use Rattle.transcripts.specs.declared.event.Event.TheVariants.{Sent, Resumed, NotSent}
 use Rattle.machine_model.specs.Session.{Task, Session, note, tasks_of}
 use Rattle.machine_model.specs.Go.{Run, taking}

@@ -8,8 +8,8 @@ use Rattle.lock_queues.specs.Rules.{MayHave, IsAnswer}
 use Rattle.lock_queues.specs.declared.answer.Answer.TheVariants as answer
 use Rattle.lock_queues.specs.Laws.{IsBelow}
 use Rattle.row_tables.specs.Layers.{Layers, overlay_of, undone, kept}
-use Rattle.sql_statements.specs.Plan.{Request, plan, nowait}
-use Rattle.sql_statements.specs.declared.statement.Bound.{Bound}
+use Rattle.bound_statements.specs.Plan.{Request, plan, nowait}
+use Rattle.bound_statements.specs.declared.statement.Bound.{Bound}
 use Rattle.transcripts.specs.declared.event.Fault.{Fault}
 use Rattle.transcripts.specs.declared.event.Fault.TheVariants.{Deadlock, Unavailable}
 use Rattle.transcripts.specs.declared.event.Event.{Event}

@@ -1,7 +1,7 @@
 -- Setups on a stage, before any step is sent: how each of them ends, and the stage between them.
 use Rattle.std.specs.Prelude.{◌≡◌, ℕ, suc, Bool, true, false, List, [], length, All}
 use Rattle.lock_queues.specs.Locks.{waits_now}
-use Rattle.sql_statements.specs.declared.statement.Bound.{Bound}
+use Rattle.bound_statements.specs.declared.statement.Bound.{Bound}
 use Rattle.session_machine.specs.declared.stage.Stage.{Stage}
 use Rattle.session_machine.specs.declared.setups.SetUp.{SetUp}
 use Rattle.session_machine.specs.declared.setups.SetUp.TheVariants as end

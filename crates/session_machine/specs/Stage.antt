@@ -7,7 +7,7 @@ use Rattle.lock_queues.specs.Laws.{IsBelow}
 use Rattle.row_tables.specs.Layers.{Layers, overlay_of, no_rows}
 use Rattle.machine_model.specs.Outcome.{TellsOwn}
 use Rattle.transcripts.specs.declared.event.Event.{Event}
-use Rattle.sql_statements.specs.declared.statement.Bound.{Bound}
+use Rattle.bound_statements.specs.declared.statement.Bound.{Bound}
 use Rattle.bound_specs.specs.Spec.{Step, no_step}
 use Rattle.machine_model.specs.declared.status.Status.TheVariants.{Outside}
 use Rattle.session_machine.specs.declared.stepping.Point.{Point}

@@ -3,15 +3,15 @@
 ghost use Rattle.std.specs.Prelude.{◌≡◌, false, IfOk};
 ghost use Rattle.lock_modes.specs.Resource.{resource_at};
 ghost use Rattle.lock_queues.specs.Locks.{waits_now};
-ghost use Rattle.sql_statements.specs.Plan.{HasKeys, IsShort};
-ghost use Rattle.sql_statements.specs.Plan as plan;
+ghost use Rattle.bound_statements.specs.Plan.{HasKeys, IsShort};
+ghost use Rattle.bound_statements.specs.Plan as plan;
 ghost use Rattle.session_machine.specs.Going.{IsToAsk, Asks, HasAll, Queues, IsReply, after_reply};
 
 use crate::session::SessionState;
+use bound_statements::{Bound, lock_plan, nowait};
 use lock_modes::{Mode, Place};
 use lock_queues::{Answer, LockTable, Taken};
 use machine_model::Reply;
-use sql_statements::{Bound, lock_plan, nowait};
 use std::alloc::AllocError;
 use transcripts::Fault;
 

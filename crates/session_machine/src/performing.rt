@@ -3,16 +3,16 @@
 ghost use Rattle.std.specs.Prelude.{◌≡◌, ◌⊎◌, false, IfOk, OnOk};
 ghost use Rattle.lock_queues.specs.Locks.{waits_now};
 ghost use Rattle.lock_queues.specs.LockTable.{Locks};
-ghost use Rattle.statement_effects.specs.Run.{SeesAlone};
+ghost use Rattle.statement_execution.specs.Run.{SeesAlone};
 ghost use Rattle.machine_model.specs.Session.{Begins, Works, kind};
 ghost use Rattle.session_machine.specs.Going.{standing, Does};
 
 use crate::blocks::{begin, commit, roll_back};
 use crate::session::SessionState;
+use bound_statements::Bound;
 use lock_queues::LockTable;
 use row_tables::Store;
-use sql_statements::Bound;
-use statement_effects::run_statement;
+use statement_execution::run_statement;
 use std::alloc::{AllocError, Global};
 use transcripts::Fault;
 

@@ -2,7 +2,7 @@
 
 ghost use Rattle.std.specs.Prelude.{◌≡◌, ◌<◌, ◌≤◌, ◌+◌, [], length, suc, All, is_some, IfOk, IfErr, OnOk};
 ghost use Rattle.std.specs.List.{list_any};
-ghost use Rattle.sql_statements.specs.Plan.{HasKeys, IsShort};
+ghost use Rattle.bound_statements.specs.Plan.{HasKeys, IsShort};
 ghost use Rattle.bound_specs.specs.Spec.{AllHaveKeys, AllAreShort};
 ghost use Rattle.machine_model.specs.Start.{Started, is_failure, is_outside, main_setups, session_setups};
 ghost use Rattle.session_machine.specs.Running.{IsRefusedBy};

@@ -1,16 +1,16 @@
 //! A session goes on in its step until it ends or a request waits.
 
 ghost use Rattle.std.specs.Prelude.{◌≡◌, All, IfOk, is_some};
-ghost use Rattle.sql_statements.specs.Plan.{HasKeys, IsShort};
+ghost use Rattle.bound_statements.specs.Plan.{HasKeys, IsShort};
 ghost use Rattle.session_machine.specs.Going.{standing, IsToGo, GoesUntil, WaitsIf};
 
 use crate::asking::{Asked, ask_all};
 use crate::blocks::{fail, finish};
 use crate::performing::perform;
 use crate::session::SessionState;
+use bound_statements::Bound;
 use lock_queues::LockTable;
 use row_tables::Store;
-use sql_statements::Bound;
 use std::alloc::{AllocError, Global};
 use transcripts::Event;
 

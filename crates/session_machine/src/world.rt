@@ -47,7 +47,7 @@ impl<'a> Model for World<'a> {
     ghost use Rattle.lock_modes.specs.contracts.value.Value as value;
     ghost use Rattle.lock_modes.specs.contracts.resource.Resource as resource;
     ghost use Rattle.lock_queues.specs.contracts.wait.Wait as waiting;
-    ghost use Rattle.sql_statements.specs.contracts.statement.Bound as bound;
+    ghost use Rattle.bound_statements.specs.contracts.statement.Bound as bound;
     ghost use Rattle.transcripts.specs.contracts.event.Event as event;
     ghost use Rattle.session_machine.specs.Stage.{world_in, IsSettledUnless};
     ghost use Rattle.session_machine.specs.Running.{Running};

@@ -1,7 +1,7 @@
 -- The seats are gathered, and the table closed.
 use Rattle.std.proofs.Common.{◌≡◌, ℕ, zero, suc, ◌+◌, ◌<◌, Bool, true, false, cond, List, [], ◌∷◌, ◌++◌, length, get_or, Some, refl, sym, ap, ◌∙◌, subst, inl}
 use Rattle.std.proofs.Common.{inr, ⊎_elim, arith}
-use Rattle.outcome_books.specs.Books.{Contents}
+use Rattle.fact_books.specs.Books.{Contents}
 use Rattle.std.specs.Prelude.{min}
 use mathlib.Core.Option.{Option as Home, some, none, some-ne-none, some-injective}
 use mathlib.Core.Logic.{dite}

@@ -2,9 +2,9 @@
 use Rattle.std.proofs.Common.{◌≡◌, ℕ, suc, ◌+◌, Bool, true, false, ◌||◌, List, [], ◌∷◌, ◌++◌, length, Some, None, refl, sym, ap, ◌∙◌, subst, arith}
 use mathlib.Core.List.{IsPrefix}
 use Rattle.std.specs.FinSet.{union, empty, contains, contains-empty}
-use Rattle.outcome_books.specs.Entries.{Entry as Told, FactSet, entry_cmp, recorded}
-use Rattle.outcome_books.specs.Books.{Contents, joined}
-use Rattle.outcome_books.proofs.SetLemmas.{in_union, same_facts}
+use Rattle.fact_books.specs.Entries.{Entry as Told, FactSet, entry_cmp, recorded}
+use Rattle.fact_books.specs.Books.{Contents, joined}
+use Rattle.fact_books.proofs.SetLemmas.{in_union, same_facts}
 use Rattle.shard_board.specs.declared.history.Call.{Call}
 use Rattle.shard_board.specs.declared.history.Call.TheVariants.{Deliver, Latest}
 use Rattle.shard_board.specs.declared.history.Entry.{Entry}

@@ -2,7 +2,7 @@
 use Rattle.std.proofs.Common.{◌≡◌, ◌≢◌, ℕ, suc, ◌+◌, Bool, true, false, cond, List, [], ◌∷◌, ◌++◌, length, refl, sym, ap, ◌∙◌, subst, arith, eq-eqb, ne_eqb}
 use Rattle.std.proofs.Common.{append_assoc}
 use Rattle.std.specs.FinSet.{empty}
-use Rattle.outcome_books.specs.Entries.{FactSet}
+use Rattle.fact_books.specs.Entries.{FactSet}
 use Rattle.std.specs.Prelude.{◌==◌}
 use mathlib.Core.List.{IsPrefix}
 use Rattle.std.proofs.lemmas.List.{append-nil}

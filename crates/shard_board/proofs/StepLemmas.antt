@@ -1,7 +1,7 @@
 -- The steps of a turn keep the rule.
 use Rattle.std.proofs.Common.{◌≡◌, ℕ, ◌+◌, ◌%◌, ◌<◌, ◌≤◌, true, false, List, [], ◌∷◌, length, set, get_or, Some, None, refl, sym, ap, ◌∙◌, subst, arith}
 use Rattle.std.proofs.Common.{length-set, get_or-set_same, get_or-set_other}
-use Rattle.outcome_books.specs.Books.{Contents}
+use Rattle.fact_books.specs.Books.{Contents}
 use Rattle.shard_board.specs.declared.error.TheConstants.{MAX_TURNS}
 use mathlib.Core.Option.{Option as Home, some, none}
 use mathlib.Core.Logic.{dite}

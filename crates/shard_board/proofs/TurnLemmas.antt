@@ -1,6 +1,6 @@
 -- A turn from its start to its end.
 use Rattle.std.proofs.Common.{◌≡◌, ℕ, List, [], ◌∷◌, length, Some, None, sym, ap, ◌∙◌, subst}
-use Rattle.outcome_books.specs.Books.{Contents}
+use Rattle.fact_books.specs.Books.{Contents}
 use Rattle.shard_board.specs.declared.rule.Plan.{Plan}
 use Rattle.atomic_table.specs.Table.{Me, rest}
 use Rattle.shard_board.specs.declared.history.Call.{Call}

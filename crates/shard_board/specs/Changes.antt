@@ -4,8 +4,8 @@ use mathlib.Core.Option.{some}
 use mathlib.Core.List.{IsPrefix}
 use lib.ListN.{get_elem?}
 use Rattle.bound_specs.specs.Spec.{Spec}
-use Rattle.quiet_steps.specs.declared.shard.Shard.{Shard}
-use Rattle.quiet_steps.specs.Shards.{IsShardOf}
+use Rattle.rank_facts.specs.declared.shard.Shard.{Shard}
+use Rattle.rank_facts.specs.Shards.{IsShardOf}
 use Rattle.shard_board.specs.declared.error.TheConstants.{MAX_SHARDS, MAX_SEATS, MAX_TURNS}
 use Rattle.shard_board.specs.declared.history.Call.{Call}
 use Rattle.shard_board.specs.declared.history.Entry.{Entry}

@@ -5,7 +5,7 @@ use mathlib.Core.List.{IsPrefix}
 use lib.ListN.{get_elem?}
 use Rattle.atomic_table.specs.Table.{Me}
 use Rattle.atomic_table.specs.Seated.{TableId}
-use Rattle.outcome_books.specs.Books.{Contents}
+use Rattle.fact_books.specs.Books.{Contents}
 use Rattle.shard_board.specs.declared.history.Entry.{Entry}
 use Rattle.shard_board.specs.declared.rule.Part.{Part}
 use Rattle.shard_board.specs.declared.rule.View.{View}

@@ -1,9 +1,9 @@
 -- The history of a board: its turns, one behind the other, as one thread would have made them.
 use Rattle.std.specs.Prelude.{◌≡◌, ℕ, suc, ◌==◌, cond, List, [], ◌∷◌, Option, Some, None, true}
 use Rattle.std.specs.FinSet.{union, empty}
-use Rattle.quiet_steps.specs.declared.fact.Fact.{Fact}
-use Rattle.outcome_books.specs.Entries.{FactSet, recorded}
-use Rattle.outcome_books.specs.Books.{Contents}
+use Rattle.rank_facts.specs.declared.fact.Fact.{Fact}
+use Rattle.fact_books.specs.Entries.{FactSet, recorded}
+use Rattle.fact_books.specs.Books.{Contents}
 use Rattle.shard_board.specs.declared.history.Call.{Call}
 use Rattle.shard_board.specs.declared.history.Call.TheVariants.{Deliver, Latest}
 use Rattle.shard_board.specs.declared.history.Entry.{Entry}

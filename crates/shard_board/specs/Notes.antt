@@ -3,7 +3,7 @@ use Rattle.std.specs.Prelude.{◌≡◌, ℕ, false, List, [], ◌∷◌, ◌++�
 use mathlib.Core.List.{IsPrefix}
 use Rattle.atomic_table.specs.Table.{Me, Step}
 use Rattle.bound_specs.specs.Spec.{Spec, SpecFile}
-use Rattle.outcome_books.specs.Books.{empty_book}
+use Rattle.fact_books.specs.Books.{empty_book}
 use Rattle.shard_board.specs.declared.history.Entry.{Entry}
 use Rattle.shard_board.specs.declared.rule.Part.{Part}
 use Rattle.shard_board.specs.declared.rule.Plan.{Plan}

@@ -1,8 +1,8 @@
 -- When a call is refused, and what stands then.
 use Rattle.std.specs.Prelude.{◌≡◌, ◌≢◌, ℕ, true, false, List, length, None}
 use Rattle.bound_specs.specs.Spec.{Spec}
-use Rattle.quiet_steps.specs.declared.shard.Shard.{Shard}
-use Rattle.outcome_books.specs.Books.{Contents}
+use Rattle.rank_facts.specs.declared.shard.Shard.{Shard}
+use Rattle.fact_books.specs.Books.{Contents}
 use Rattle.shard_board.specs.declared.error.TheConstants.{MAX_TURNS}
 use Rattle.shard_board.specs.declared.error.BoardError.{BoardError}
 use Rattle.shard_board.specs.declared.error.BoardError.TheVariants as board_error

@@ -1,6 +1,6 @@
 -- Sums over what the views of a board's table have.
 use Rattle.std.specs.Prelude.{ℕ, ◌+◌, Bool, cond, List, [], ◌∷◌, Option}
-use Rattle.outcome_books.specs.Books.{Contents}
+use Rattle.fact_books.specs.Books.{Contents}
 use Rattle.shard_board.specs.declared.rule.Part.{Part}
 use Rattle.shard_board.specs.declared.rule.View.{View}
 

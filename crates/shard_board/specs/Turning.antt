@@ -4,8 +4,8 @@ use mathlib.Core.Option.{Option as Home, some, none}
 use mathlib.Core.List.{IsPrefix}
 use lib.ListN.{get_elem?}
 use Rattle.atomic_table.specs.Table.{Me, Step}
-use Rattle.outcome_books.specs.Entries.{FactSet}
-use Rattle.outcome_books.specs.Books.{Contents, empty_book}
+use Rattle.fact_books.specs.Entries.{FactSet}
+use Rattle.fact_books.specs.Books.{Contents, empty_book}
 use Rattle.shard_board.specs.declared.error.TheConstants.{MAX_TURNS}
 use Rattle.shard_board.specs.declared.history.Call.TheVariants.{Latest}
 use Rattle.shard_board.specs.declared.history.Entry.{Entry}

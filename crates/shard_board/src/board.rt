@@ -1,7 +1,7 @@
 //! Boards.
 
 ghost use Rattle.std.specs.Prelude.{◌≡◌, ◌↔◌, ◌≤◌, true, All, vec_len, length, IfOk, IfErr, OnOk};
-ghost use Rattle.quiet_steps.specs.Shards.{IsShardOf};
+ghost use Rattle.rank_facts.specs.Shards.{IsShardOf};
 ghost use Rattle.shard_board.specs.Changes.{IsPlanOf, IsRowOf};
 ghost use Rattle.shard_board.specs.Refused.{IsNoBoard};
 
@@ -10,8 +10,8 @@ use crate::rule::{Plan, Words};
 use crate::seat::Seat;
 use crate::seating::place_all;
 use bound_specs::Spec;
-use outcome_books::Book;
-use quiet_steps::{MAX_RANKS, Shard};
+use fact_books::Book;
+use rank_facts::{MAX_RANKS, Shard};
 use std::alloc::{AllocError, Global};
 use std::marker::Model;
 

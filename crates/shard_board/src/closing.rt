@@ -8,7 +8,7 @@ use crate::board::Board;
 use crate::plays::Gather;
 use crate::rule::{NEXT, Place, SERVING, Words};
 use crate::seat::Seat;
-use outcome_books::Book;
+use fact_books::Book;
 
 /// What a board comes to.
 #[derive(Drop)]

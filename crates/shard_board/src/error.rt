@@ -3,7 +3,7 @@
 ghost use Rattle.std.specs.Prelude.{◌≡◌};
 ghost use Rattle.shard_board.specs.declared.error.BoardError.TheVariants as board_error;
 
-use outcome_books::Book;
+use fact_books::Book;
 use std::alloc::AllocError;
 use std::fmt;
 

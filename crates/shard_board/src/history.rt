@@ -17,8 +17,8 @@ pub struct Facts;
 impl Model for Facts {
     ghost use Rattle.std.specs.Coded.{codes};
     ghost use Rattle.std.specs.FinSet as set;
-    ghost use Rattle.quiet_steps.specs.contracts.fact.Fact as fact;
-    ghost use Rattle.outcome_books.specs.Entries.{FactSet};
+    ghost use Rattle.rank_facts.specs.contracts.fact.Fact as fact;
+    ghost use Rattle.fact_books.specs.Entries.{FactSet};
 
     ghost Value = { FactSet };
 

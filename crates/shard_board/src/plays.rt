@@ -3,7 +3,7 @@
 use crate::history::Entry;
 use crate::rule::View;
 use atomic_table::{Join, Play, Split};
-use outcome_books::Book;
+use fact_books::Book;
 use std::marker::{Brand, PhantomData};
 
 /// A claim: the next number.

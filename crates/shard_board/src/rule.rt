@@ -5,7 +5,7 @@
 
 use crate::history::Entry;
 use atomic_table::{Seat, Table, TableRule};
-use outcome_books::Book;
+use fact_books::Book;
 use std::alloc::Global;
 use std::collections::LinkedList;
 

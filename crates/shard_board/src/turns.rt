@@ -12,7 +12,7 @@ use crate::history::{Call, Receipt};
 use crate::plays::{Await, End, Queue, Said};
 use crate::rule::{Place, SERVING, TICKET, Words};
 use crate::seat::Seat;
-use outcome_books::{Book, join};
+use fact_books::{Book, join};
 use std::marker::Brand;
 use std::sync::Wait;
 use std::thread;

@@ -11,13 +11,13 @@ use Rattle.machine_model.specs.World.{send_all, outcome_of}
 use Rattle.machine_model.specs.Start.{Start, Started, SetupFailed, SessionSetupFailed, SessionSetupWaits, start}
 use Rattle.machine_model.specs.Outcome.{IsOutcomeOf, outcome_of_line}
 use Rattle.machine_model.proofs.Owned.{lines-own}
-use Rattle.quiet_steps.specs.Facts.{IsFactOf}
-use Rattle.quiet_steps.specs.declared.fact.Fact.{Fact}
-use Rattle.quiet_steps.specs.declared.fact.Fact.TheVariants.{Ran, Swap}
-use Rattle.quiet_steps.proofs.Leading.{swaps-hold}
-use Rattle.outcome_books.specs.Entries.{Told}
-use Rattle.outcome_books.specs.Books.{IsRecordable}
-use Rattle.outcome_books.specs.Building.{FactFits}
+use Rattle.rank_facts.specs.Facts.{IsFactOf}
+use Rattle.rank_facts.specs.declared.fact.Fact.{Fact}
+use Rattle.rank_facts.specs.declared.fact.Fact.TheVariants.{Ran, Swap}
+use Rattle.rank_facts.proofs.Leading.{swaps-hold}
+use Rattle.fact_books.specs.Entries.{Told}
+use Rattle.fact_books.specs.Books.{IsRecordable}
+use Rattle.fact_books.specs.Building.{FactFits}
 
 -- ---- a line's steps are steps of the spec
 

@@ -4,20 +4,20 @@ use Rattle.std.proofs.lemmas.Bool.{or_cases, or_left, or_right}
 use Rattle.std.specs.Ordering.{eq_by_cmp}
 use Rattle.std.specs.FinSet.{union, from_list, empty, contains-from_list, contains-empty}
 use Rattle.bound_specs.specs.Spec.{Spec, SpecFile, IsBound, IsReady}
-use Rattle.quiet_steps.specs.Facts.{IsFactOf}
-use Rattle.quiet_steps.specs.declared.fact.Fact.{Fact}
-use Rattle.quiet_steps.proofs.TrueFacts.{facts-one}
+use Rattle.rank_facts.specs.Facts.{IsFactOf}
+use Rattle.rank_facts.specs.declared.fact.Fact.{Fact}
+use Rattle.rank_facts.proofs.TrueFacts.{facts-one}
 use Rattle.step_reducer.specs.Walks.{AllHave}
 use Rattle.step_reducer.specs.Shardwise.{Shardwise, IsPart, GivesPart}
 use Rattle.step_reducer.specs.declared.fact.FactRun.{FactRun}
-use Rattle.outcome_books.specs.Entries.{Entry, FactSet, entry_cmp, fact_cmp, recorded}
-use Rattle.outcome_books.specs.Runs.{within, repeated}
-use Rattle.outcome_books.specs.Books.{AllRecordable}
-use Rattle.outcome_books.specs.Building.{Building, added, AreFactsOf, FactFits}
-use Rattle.outcome_books.proofs.Orders.{entry_total, tied_facts}
-use Rattle.outcome_books.proofs.RunLemmas.{both_true, and_true, within-true, within-from}
-use Rattle.outcome_books.proofs.SetLemmas.{in_union, any-repeated, stretch}
-use Rattle.outcome_books.proofs.GapLemmas.{same_fact}
+use Rattle.fact_books.specs.Entries.{Entry, FactSet, entry_cmp, fact_cmp, recorded}
+use Rattle.fact_books.specs.Runs.{within, repeated}
+use Rattle.fact_books.specs.Books.{AllRecordable}
+use Rattle.fact_books.specs.Building.{Building, added, AreFactsOf, FactFits}
+use Rattle.fact_books.proofs.Orders.{entry_total, tied_facts}
+use Rattle.fact_books.proofs.RunLemmas.{both_true, and_true, within-true, within-from}
+use Rattle.fact_books.proofs.SetLemmas.{in_union, any-repeated, stretch}
+use Rattle.fact_books.proofs.GapLemmas.{same_fact}
 use Rattle.shard_books.specs.Gathering.{IsGathering}
 use Rattle.shard_books.proofs.Recordable.{fact-recordable}
 

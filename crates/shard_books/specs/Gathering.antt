@@ -1,8 +1,8 @@
 -- The facts of a shard as its walk gives them.
 use Rattle.std.specs.Prelude.{◌≡◌, ◌≤◌, false}
 use Rattle.step_reducer.specs.Shardwise.{Shardwise}
-use Rattle.outcome_books.specs.Books.{AllRecordable}
-use Rattle.outcome_books.specs.Building.{Building, AreFactsOf}
+use Rattle.fact_books.specs.Books.{AllRecordable}
+use Rattle.fact_books.specs.Building.{Building, AreFactsOf}
 
 -- the facts of the ranks that the walk has passed since it stood there are gathered
 pub record IsGathering (begun walk : Shardwise) (b : Building) : Type 0 where

@@ -3,14 +3,14 @@
 ghost use Rattle.std.specs.Prelude.{◌≡◌, ◌<◌, ◌≤◌, false, IfOk, IfErr, OnOk};
 ghost use Rattle.std.specs.FinSet.{empty};
 ghost use Rattle.bound_specs.specs.Spec.{IsBound, IsReady};
-ghost use Rattle.quiet_steps.specs.Shards.{IsShardOf};
+ghost use Rattle.rank_facts.specs.Shards.{IsShardOf};
 ghost use Rattle.step_reducer.specs.Walking.{IsNotWalked, Starts};
-ghost use Rattle.outcome_books.specs.Books.{AllRecordable};
-ghost use Rattle.outcome_books.specs.Building.{added, AreFactsOf, FactFits};
+ghost use Rattle.fact_books.specs.Books.{AllRecordable};
+ghost use Rattle.fact_books.specs.Building.{added, AreFactsOf, FactFits};
 
 use bound_specs::Spec;
-use outcome_books::{Book, Builder};
-use quiet_steps::{Fact, Shard};
+use fact_books::{Book, Builder};
+use rank_facts::{Fact, Shard};
 use session_machine::RunError;
 use std::alloc::{AllocError, Global};
 use step_reducer::{FactRun, ShardWalk};

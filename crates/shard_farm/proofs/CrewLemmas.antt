@@ -4,7 +4,7 @@ use Rattle.std.proofs.Common.{All}
 use mathlib.Core.Option.{some, some-ne-none, some-injective}
 use lib.ListN.{get_elem?}
 use Rattle.bound_specs.specs.Spec.{Spec}
-use Rattle.quiet_steps.specs.declared.shard.Shard.{Shard}
+use Rattle.rank_facts.specs.declared.shard.Shard.{Shard}
 use Rattle.shard_board.specs.Shown.{ShownBoard, ShownSeat}
 use Rattle.shard_board.specs.Changes.{IsRowOf}
 use Rattle.shard_farm.specs.declared.worker.Worker.{Worker}

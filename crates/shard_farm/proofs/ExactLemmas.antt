@@ -11,11 +11,11 @@ use mathlib.Core.Logic.{dite}
 use native.Mathlib.Decide.{ℕ_discrete}
 use lib.ListN.{get_elem?}
 use Rattle.bound_specs.specs.Spec.{Spec}
-use Rattle.quiet_steps.specs.declared.fact.Fact.{Fact}
-use Rattle.quiet_steps.specs.declared.shard.Shard.{Shard}
-use Rattle.outcome_books.specs.Entries.{FactSet, entry_cmp, recorded}
-use Rattle.outcome_books.specs.Books.{Contents}
-use Rattle.outcome_books.proofs.SetLemmas.{in_union}
+use Rattle.rank_facts.specs.declared.fact.Fact.{Fact}
+use Rattle.rank_facts.specs.declared.shard.Shard.{Shard}
+use Rattle.fact_books.specs.Entries.{FactSet, entry_cmp, recorded}
+use Rattle.fact_books.specs.Books.{Contents}
+use Rattle.fact_books.proofs.SetLemmas.{in_union}
 use Rattle.shard_board.specs.declared.history.Call.{Call}
 use Rattle.shard_board.specs.declared.history.Call.TheVariants.{Deliver, Latest}
 use Rattle.shard_board.specs.declared.history.Entry.{Entry}

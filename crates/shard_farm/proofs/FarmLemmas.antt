@@ -1,8 +1,8 @@
 -- From what was left out to the whole.
 use Rattle.std.proofs.Common.{◌≡◌, Bool, ℕ, List, [], ap}
 use Rattle.bound_specs.specs.Spec.{Spec}
-use Rattle.quiet_steps.specs.declared.shard.Shard.{Shard}
-use Rattle.outcome_books.specs.Entries.{FactSet}
+use Rattle.rank_facts.specs.declared.shard.Shard.{Shard}
+use Rattle.fact_books.specs.Entries.{FactSet}
 use Rattle.shard_board.specs.Shown.{has}
 use Rattle.shard_farm.specs.Farming.{AreShardFacts, AreFactsBut}
 

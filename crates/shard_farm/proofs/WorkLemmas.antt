@@ -11,9 +11,9 @@ use native.Mathlib.Decide.{ℕ_discrete}
 use lib.ListN.{get_elem?}
 use Rattle.atomic_table.proofs.Lists.{at_longer, at_last}
 use Rattle.bound_specs.specs.Spec.{Spec}
-use Rattle.quiet_steps.specs.declared.shard.Shard.{Shard}
-use Rattle.outcome_books.specs.Entries.{FactSet}
-use Rattle.outcome_books.specs.Books.{Contents}
+use Rattle.rank_facts.specs.declared.shard.Shard.{Shard}
+use Rattle.fact_books.specs.Entries.{FactSet}
+use Rattle.fact_books.specs.Books.{Contents}
 use Rattle.shard_board.specs.declared.error.DeliverErrorKind.{DeliverErrorKind}
 use Rattle.shard_board.specs.declared.error.DeliverErrorKind.TheVariants as deliver_error
 use Rattle.shard_board.specs.declared.history.Receipt.{Receipt}

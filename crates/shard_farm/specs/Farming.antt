@@ -5,13 +5,13 @@ use mathlib.Core.Option.{some}
 use lib.ListN.{get_elem?}
 use Rattle.bound_specs.specs.Spec.{Spec, SpecFile}
 use Rattle.machine_model.specs.Start.{start}
-use Rattle.quiet_steps.specs.Facts.{IsFactOf}
-use Rattle.quiet_steps.specs.declared.fact.Fact.{Fact}
+use Rattle.rank_facts.specs.Facts.{IsFactOf}
+use Rattle.rank_facts.specs.declared.fact.Fact.{Fact}
 use Rattle.session_machine.specs.Running.{IsNotRunBy}
 use Rattle.session_machine.specs.declared.error.RunError.TheVariants as run_error
-use Rattle.quiet_steps.specs.declared.shard.Shard.{Shard}
+use Rattle.rank_facts.specs.declared.shard.Shard.{Shard}
 use Rattle.step_reducer.specs.Walking.{Starts}
-use Rattle.outcome_books.specs.Entries.{FactSet, recorded}
+use Rattle.fact_books.specs.Entries.{FactSet, recorded}
 use Rattle.shard_board.specs.Shown.{has}
 use Rattle.shard_board.specs.Changes.{IsPlanOf}
 use Rattle.shard_farm.specs.declared.error.Unfinished.{Unfinished}

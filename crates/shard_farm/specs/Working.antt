@@ -5,9 +5,9 @@ use mathlib.Core.Option.{some}
 use lib.ListN.{get_elem?}
 use Rattle.bound_specs.specs.Spec.{Spec, SpecFile}
 use Rattle.step_reducer.specs.Shardwise.{Shardwise}
-use Rattle.quiet_steps.specs.declared.shard.Shard.{Shard}
-use Rattle.outcome_books.specs.Entries.{FactSet}
-use Rattle.outcome_books.specs.Building.{AreFactsOf}
+use Rattle.rank_facts.specs.declared.shard.Shard.{Shard}
+use Rattle.fact_books.specs.Entries.{FactSet}
+use Rattle.fact_books.specs.Building.{AreFactsOf}
 use Rattle.shard_board.specs.declared.history.Receipt.{Receipt}
 use Rattle.shard_board.specs.declared.history.Call.{Call}
 use Rattle.shard_board.specs.declared.history.Call.TheVariants.{Deliver, Latest}

@@ -1,7 +1,7 @@
 //! Why a plan is not run whole.
 
 use crate::numbers::ShardNumbers;
-use outcome_books::Book;
+use fact_books::Book;
 use session_machine::StartError;
 use std::fmt;
 

@@ -12,7 +12,7 @@ use crate::crew::{run_all, workers_of};
 use crate::error::{FarmError, Unfinished};
 use crate::plan::Plan;
 use bound_specs::Spec;
-use outcome_books::Book;
+use fact_books::Book;
 use session_machine::{RunError, World, not_started};
 use shard_board::{Board, Gate, is_plan};
 use std::alloc::{AllocError, Global};

@@ -2,18 +2,18 @@
 
 ghost use Rattle.std.specs.Prelude.{◌≡◌, ◌<◌, true, false, All, length, IfSome, OnOk, OnSome};
 ghost use Rattle.bound_specs.specs.Binding.{IsFileOf};
-ghost use Rattle.quiet_steps.specs.Shards.{IsShardOf};
+ghost use Rattle.rank_facts.specs.Shards.{IsShardOf};
 ghost use Rattle.step_reducer.specs.Shardwise.{standing_at};
 ghost use Rattle.shard_farm.specs.Working.{is_marked, AreFactsAt, HasServed, IsReady, IsWalkFor, HasClaimed, Serves, HasWorked};
 
 use crate::plan::Plan;
 use bound_specs::Spec;
-use outcome_books::Book;
+use fact_books::Book;
 use session_machine::RunError;
 use shard_board::{Board, Gate, Seat};
 use shard_books::of_walk;
+use spec_binding::bind;
 use spec_reader::read_spec;
-use sql_subset::bind;
 use std::alloc::Global;
 use std::sync::Wait;
 use step_reducer::{Shard, ShardWalk};

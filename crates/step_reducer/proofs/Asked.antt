@@ -3,8 +3,8 @@ use Rattle.std.specs.List.{slice_get, list_all}
 use Rattle.std.proofs.Common.{◌≡◌, sym, ap, ◌∙◌, ℕ, ◌+◌, ◌<◌, ◌≤◌, Bool, true, false, ◌&&◌, List, ◌∷◌, length, drop, drop-cons, add-one, get_or, Some, None}
 use Rattle.std.proofs.lemmas.List.{drop_all}
 use Rattle.std.proofs.lemmas.List.Folds.{list_all-append}
-use Rattle.sql_statements.specs.Plan.{Request, plan}
-use Rattle.sql_statements.specs.declared.statement.Bound.{Bound}
+use Rattle.bound_statements.specs.Plan.{Request, plan}
+use Rattle.bound_statements.specs.declared.statement.Bound.{Bound}
 use Rattle.machine_model.specs.Claims.{plans}
 use Rattle.session_machine.proofs.Requests.{plan-ends, plan-next}
 

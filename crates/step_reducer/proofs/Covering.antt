@@ -4,8 +4,8 @@ use Rattle.perm_ranks.specs.Words.{Word, word_at}
 use Rattle.perm_ranks.specs.Blocks.{Block, HasRank, IsBlockOf}
 use Rattle.bound_specs.specs.Spec.{Spec, Queues, counts_of, queues_of}
 use Rattle.machine_model.specs.World.{World}
-use Rattle.quiet_steps.specs.Swap.{IsSwap, quiet_at, falls_at, word_of}
-use Rattle.quiet_steps.proofs.Lines.{spec-letters}
+use Rattle.rank_facts.specs.Swap.{IsSwap, quiet_at, falls_at, word_of}
+use Rattle.rank_facts.proofs.Lines.{spec-letters}
 use Rattle.step_reducer.proofs.Prefixes.{falls-front, quiet-front}
 
 module _ (spec : Spec) (w : World) (shared : Word) (block : Block) (is : IsBlockOf (counts_of (queues_of spec)) shared block) where

@@ -15,11 +15,11 @@ use Rattle.machine_model.specs.World.{World, outcome_of}
 use Rattle.machine_model.specs.Start.{Started}
 use Rattle.machine_model.specs.Outcome.{outcome_of_line}
 use Rattle.machine_model.proofs.Basics.{both_true, and_true}
-use Rattle.quiet_steps.specs.Swap.{IsSwap, quiet_at, falls_at, word_of}
-use Rattle.quiet_steps.specs.Facts.{IsTrueAt, IsFactOf}
-use Rattle.quiet_steps.specs.declared.fact.Fact.TheVariants.{Ran, Swap}
-use Rattle.quiet_steps.proofs.Leading.{outcome-started}
-use Rattle.quiet_steps.proofs.Lines.{spec-letters}
+use Rattle.rank_facts.specs.Swap.{IsSwap, quiet_at, falls_at, word_of}
+use Rattle.rank_facts.specs.Facts.{IsTrueAt, IsFactOf}
+use Rattle.rank_facts.specs.declared.fact.Fact.TheVariants.{Ran, Swap}
+use Rattle.rank_facts.proofs.Leading.{outcome-started}
+use Rattle.rank_facts.proofs.Lines.{spec-letters}
 use Rattle.step_reducer.specs.Reduced.{Tour, world_after, has_swap, IsTour, IsPlace}
 use Rattle.step_reducer.proofs.Prefixes.{falls-short}
 

@@ -6,15 +6,15 @@ use Rattle.bound_specs.specs.Spec.{Spec, SpecFile, ranks, line_of, counts_of, qu
 use Rattle.machine_model.specs.World.{World, blank, send_all, outcome_of}
 use Rattle.machine_model.specs.Start.{Started, start}
 use Rattle.machine_model.specs.Outcome.{outcome_of_line}
-use Rattle.quiet_steps.specs.Facts.{IsFactOf}
-use Rattle.quiet_steps.specs.declared.fact.Fact.TheVariants.{Ran}
+use Rattle.rank_facts.specs.Facts.{IsFactOf}
+use Rattle.rank_facts.specs.declared.fact.Fact.TheVariants.{Ran}
 use Rattle.transcripts.specs.declared.event.Event.{Event}
 use Rattle.step_reducer.specs.Reduced.{tour_of, first_world, IsTour, IsPlace}
 use Rattle.step_reducer.specs.declared.frame.Frame.{Frame}
 use Rattle.step_reducer.specs.declared.word_walk.WordWalk.{WordWalk}
 use Rattle.step_reducer.specs.Walks.{lowest, AreAbove}
 use Rattle.step_reducer.specs.Walking.{IsWords}
-use Rattle.quiet_steps.proofs.Leading.{outcome-started}
+use Rattle.rank_facts.proofs.Leading.{outcome-started}
 use Rattle.step_reducer.proofs.Places.{place-first}
 
 pub first-is : (spec : Spec) (w : World) → start spec ≡ Started w → first_world spec ≡ w

@@ -1,8 +1,8 @@
 -- What a walker gives, and where it stands then.
 use Rattle.std.proofs.Common.{◌≡◌, ◌≢◌, refl, sym, ap, ◌∙◌, subst, ℕ, suc, ◌+◌, ◌-◌, ◌*◌, ◌≤◌, Bool, true, false, Option, Some, None, arith}
 use Rattle.bound_specs.specs.Spec.{Spec, SpecFile}
-use Rattle.quiet_steps.specs.Facts.{IsFactOf}
-use Rattle.quiet_steps.specs.declared.fact.Fact.{Fact}
+use Rattle.rank_facts.specs.Facts.{IsFactOf}
+use Rattle.rank_facts.specs.declared.fact.Fact.{Fact}
 use Rattle.spec_reader.specs.declared.TheConstants.{MAX_ITEMS}
 use Rattle.step_reducer.specs.declared.fact.FactRun.{FactRun}
 use Rattle.step_reducer.specs.declared.fact.Given.{Given}

@@ -6,8 +6,8 @@ use Rattle.std.proofs.Math.Seq.{get_or-append_seam}
 use Rattle.std.proofs.lemmas.List.{get_or_past}
 use Rattle.bound_specs.specs.Spec.{Step, no_step}
 use Rattle.machine_model.specs.World.{World}
-use Rattle.quiet_steps.specs.Quiet.{is_quiet}
-use Rattle.quiet_steps.specs.Swap.{quiet_heads}
+use Rattle.rank_facts.specs.Quiet.{is_quiet}
+use Rattle.rank_facts.specs.Swap.{quiet_heads}
 use Rattle.session_machine.specs.Running.{Running}
 use Rattle.step_reducer.specs.Pairs.{is_quiet_in}
 use Rattle.step_reducer.specs.Reduced.{is_pair}

@@ -9,8 +9,8 @@ use Rattle.perm_ranks.proofs.PlaceLemmas.{place_of-taken}
 use Rattle.perm_ranks.proofs.WordLemmas.{Takes, done, takes, takes-length, words-take, each-at, entry-place, place-is, all_words-rise}
 use Rattle.bound_specs.specs.Spec.{no_step, Spec, Queues, line, line_by, line_of, counts_of, queues_of}
 use Rattle.machine_model.specs.World.{World}
-use Rattle.quiet_steps.proofs.Lines.{counts-set}
-use Rattle.quiet_steps.proofs.Swaps.{line-at}
+use Rattle.rank_facts.proofs.Lines.{counts-set}
+use Rattle.rank_facts.proofs.Swaps.{line-at}
 use Rattle.step_reducer.specs.Fronts.{front}
 use Rattle.step_reducer.specs.Reduced.{rest_after, tour_of, LeftOf, IsPlace}
 use Rattle.step_reducer.proofs.FactsAt.{begins}

@@ -8,7 +8,7 @@ use Rattle.perm_ranks.specs.Blocks.{Block, narrowed, IsBlockOf}
 use Rattle.perm_ranks.proofs.BlockLemmas.{block-narrowed}
 use Rattle.bound_specs.specs.Spec.{Step, Queues, line, counts_of, queues_of}
 use Rattle.machine_model.specs.World.{World, send, send_all}
-use Rattle.quiet_steps.specs.Swap.{quiet_heads, quiet_at, falls_at}
+use Rattle.rank_facts.specs.Swap.{quiet_heads, quiet_at, falls_at}
 use Rattle.step_reducer.specs.Reduced.{Tour, rest_after, world_after, has_swap, is_pair, LeftOf, IsPlace}
 use Rattle.step_reducer.proofs.Prefixes.{past, past-is, falls-behind, quiet-behind}
 

@@ -5,8 +5,8 @@ use Rattle.perm_ranks.specs.Words.{Word}
 use Rattle.perm_ranks.specs.Swapped.{exchanged}
 use Rattle.bound_specs.specs.Spec.{Step, Queues, line}
 use Rattle.machine_model.specs.World.{World, send, send_all}
-use Rattle.quiet_steps.specs.Swap.{quiet_at, falls_at}
-use Rattle.quiet_steps.proofs.Lines.{is_some-map}
+use Rattle.rank_facts.specs.Swap.{quiet_at, falls_at}
+use Rattle.rank_facts.proofs.Lines.{is_some-map}
 use Rattle.step_reducer.specs.Reduced.{rest_after}
 
 -- ---- what lies in front of the place

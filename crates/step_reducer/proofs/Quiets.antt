@@ -8,17 +8,17 @@ use Rattle.lock_modes.specs.declared.resource.Resource.{Resource}
 use Rattle.lock_queues.specs.declared.wait.Wait.{Wait}
 use Rattle.lock_queues.specs.Locks.{all_below, wanted_by, waits_now}
 use Rattle.lock_queues.specs.Sound.{EachWait, Distinct}
-use Rattle.sql_statements.specs.Plan.{Request}
-use Rattle.sql_statements.specs.declared.statement.Bound.{Bound}
+use Rattle.bound_statements.specs.Plan.{Request}
+use Rattle.bound_statements.specs.declared.statement.Bound.{Bound}
 use Rattle.bound_specs.specs.Spec.{Step}
 use Rattle.machine_model.specs.World.{World, look_of}
 use Rattle.session_machine.specs.Running.{Running, held_in, wait_in}
-use Rattle.quiet_steps.specs.Quiet.{is_quiet, all_fit, all_fit_together, undisturbed}
+use Rattle.rank_facts.specs.Quiet.{is_quiet, all_fit, all_fit_together, undisturbed}
 use Rattle.machine_model.specs.Claims.{plans}
 use Rattle.session_machine.specs.Running.{IsKnown}
 use Rattle.bound_specs.specs.Spec.{no_step}
-use Rattle.quiet_steps.proofs.FromQuiet.{quiet-commute}
-use Rattle.quiet_steps.proofs.Calm.{quiet-calm}
+use Rattle.rank_facts.proofs.FromQuiet.{quiet-commute}
+use Rattle.rank_facts.proofs.Calm.{quiet-calm}
 use Rattle.step_reducer.specs.Pairs.{clear_of, is_quiet_in, session_of, HaveOneEnd, AreCalm}
 
 -- ---- a test of each session

@@ -3,7 +3,7 @@ use Rattle.std.proofs.Common.{◌≡◌, sym, ap, ◌∙◌, ℕ, suc, ◌+◌, 
 use Rattle.perm_ranks.specs.Words.{total}
 use Rattle.perm_ranks.specs.Blocks.{Block, HasRank, end_of, narrowed}
 use Rattle.bound_specs.specs.Spec.{Spec, SpecFile, line_of, counts_of, queues_of}
-use Rattle.quiet_steps.specs.Facts.{has_no_lines}
+use Rattle.rank_facts.specs.Facts.{has_no_lines}
 use Rattle.step_reducer.specs.declared.stack.Stack.{Stack}
 use Rattle.step_reducer.specs.declared.word_walk.WordWalk.{WordWalk}
 use Rattle.step_reducer.specs.Fronts.{front, new_steps}

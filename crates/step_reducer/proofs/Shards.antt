@@ -3,8 +3,8 @@ use Rattle.std.proofs.Common.{◌≡◌, sym, ap, ◌∙◌, subst, ℕ, ◌+◌
 use Rattle.std.proofs.Math.ListN.{get_or-append}
 use Rattle.std.proofs.Math.Seq.{get_or-append_seam}
 use Rattle.bound_specs.specs.Spec.{Spec}
-use Rattle.quiet_steps.specs.Facts.{IsFactOf}
-use Rattle.quiet_steps.specs.declared.fact.Fact.{Fact}
+use Rattle.rank_facts.specs.Facts.{IsFactOf}
+use Rattle.rank_facts.specs.declared.fact.Fact.{Fact}
 use Rattle.step_reducer.specs.Walking.{AreFacts}
 
 pub facts-push : (reduce : Bool) (spec : Spec) (first n : ℕ) (facts : List (ℕ × Fact)) (p : ℕ × Fact) → AreFacts reduce spec first n facts → p.0 ≡ first + n

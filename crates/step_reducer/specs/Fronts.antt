@@ -1,8 +1,8 @@
 -- How much two lines share, and the steps sent for lines that share what they can.
 use Rattle.std.specs.Prelude.{◌≡◌, ℕ, zero, suc, ◌+◌, ◌-◌, ◌==◌, cond, List, [], ◌∷◌, length}
 use Rattle.bound_specs.specs.Spec.{Spec, line_of}
-use Rattle.quiet_steps.specs.declared.fact.Fact.{Fact}
-use Rattle.quiet_steps.specs.declared.fact.Fact.TheVariants.{Ran, Swap}
+use Rattle.rank_facts.specs.declared.fact.Fact.{Fact}
+use Rattle.rank_facts.specs.declared.fact.Fact.TheVariants.{Ran, Swap}
 
 -- how many items the lists begin with alike
 abbrev pub front : List ℕ → List ℕ → ℕ

@@ -4,7 +4,7 @@ use Rattle.perm_ranks.specs.Words.{Word}
 use Rattle.perm_ranks.specs.Blocks.{Block, HasRank, IsBlockOf}
 use Rattle.bound_specs.specs.Spec.{Spec, counts_of, queues_of}
 use Rattle.machine_model.specs.World.{World}
-use Rattle.quiet_steps.specs.Swap.{IsSwap}
+use Rattle.rank_facts.specs.Swap.{IsSwap}
 
 -- a swap at a place of the word of a rank is one of each rank of the block whose words share the letters up to the one behind the place
 abbrev pub SwapsCoverBlocks : Type 0

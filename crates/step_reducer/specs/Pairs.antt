@@ -3,12 +3,12 @@ use Rattle.std.specs.Prelude.{◌≡◌, ◌≢◌, ℕ, Bool, true, false, not,
 use Rattle.std.specs.List.{list_all}
 use Rattle.lock_modes.specs.Resource.{same_resource}
 use Rattle.lock_queues.specs.declared.wait.Wait.{Wait}
-use Rattle.sql_statements.specs.Plan.{Request}
+use Rattle.bound_statements.specs.Plan.{Request}
 use Rattle.machine_model.specs.World.{World, look_of, send, session_at}
-use Rattle.sql_statements.specs.Plan.{HasKeys, IsShort}
-use Rattle.sql_statements.specs.declared.statement.Bound.{Bound}
+use Rattle.bound_statements.specs.Plan.{HasKeys, IsShort}
+use Rattle.bound_statements.specs.declared.statement.Bound.{Bound}
 use Rattle.bound_specs.specs.Spec.{no_step}
-use Rattle.quiet_steps.specs.Quiet.{is_quiet, SentCalmly}
+use Rattle.rank_facts.specs.Quiet.{is_quiet, SentCalmly}
 use Rattle.session_machine.specs.Running.{Running, IsKnown}
 
 -- the steps with these numbers are quiet in the world; in one that is spent nothing is

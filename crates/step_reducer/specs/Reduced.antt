@@ -5,7 +5,7 @@ use Rattle.perm_ranks.specs.Blocks.{Block, IsBlockOf}
 use Rattle.bound_specs.specs.Spec.{Step, Spec, Queues, line, counts_of, queues_of}
 use Rattle.machine_model.specs.World.{World, blank, send_all}
 use Rattle.machine_model.specs.Start.{Started, start}
-use Rattle.quiet_steps.specs.Swap.{quiet_heads, quiet_at, falls_at}
+use Rattle.rank_facts.specs.Swap.{quiet_heads, quiet_at, falls_at}
 
 -- a spec, a world, and whether the ranks are reduced
 pub record Tour : Type 0 where

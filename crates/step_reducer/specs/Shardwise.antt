@@ -1,7 +1,7 @@
 -- A walk that goes on from shard to shard, between its calls, and what they give.
 use Rattle.std.specs.Prelude.{◌≡◌, ℕ, ◌+◌, ◌<◌, ◌≤◌, Bool, false, Option, Some, None}
 use Rattle.bound_specs.specs.Spec.{SpecFile, ranks}
-use Rattle.quiet_steps.specs.declared.shard.Shard.{Shard}
+use Rattle.rank_facts.specs.declared.shard.Shard.{Shard}
 use Rattle.step_reducer.specs.declared.fact.FactRun.{FactRun}
 use Rattle.step_reducer.specs.declared.walk.Walk.{Walk}
 use Rattle.step_reducer.specs.Walks.{AllHave}

@@ -1,17 +1,17 @@
 -- A walker between its calls, and what they give.
 use Rattle.std.specs.Prelude.{◌≡◌, ◌≢◌, ℕ, ◌+◌, ◌-◌, ◌*◌, [], ◌<◌, ◌≤◌, Bool, true, false, ◌&&◌, Option, Some, None, List, length, get_or, ◌⊎◌}
-use Rattle.quiet_steps.specs.declared.shard.TheConstants.{MAX_RANKS}
+use Rattle.rank_facts.specs.declared.shard.TheConstants.{MAX_RANKS}
 use Rattle.spec_reader.specs.declared.TheConstants.{MAX_ITEMS}
 use Rattle.bound_specs.specs.Spec.{Spec, SpecFile, ranks}
 use Rattle.machine_model.specs.World.{World}
 use Rattle.machine_model.specs.Start.{Started, start}
-use Rattle.quiet_steps.specs.Facts.{IsFactOf, has_no_lines}
-use Rattle.quiet_steps.specs.declared.fact.Fact.{Fact}
+use Rattle.rank_facts.specs.Facts.{IsFactOf, has_no_lines}
+use Rattle.rank_facts.specs.declared.fact.Fact.{Fact}
 use Rattle.session_machine.specs.Running.{IsNotRunBy}
 use Rattle.session_machine.specs.declared.error.RunError.{RunError}
 use Rattle.session_machine.specs.declared.error.RunError.TheVariants as run_error
-use Rattle.quiet_steps.specs.declared.shard.Shard.{Shard}
-use Rattle.quiet_steps.specs.Shards.{IsShardOf}
+use Rattle.rank_facts.specs.declared.shard.Shard.{Shard}
+use Rattle.rank_facts.specs.Shards.{IsShardOf}
 use Rattle.step_reducer.specs.declared.fact.FactRun.{FactRun}
 use Rattle.step_reducer.specs.declared.fact.Given.{Given}
 use Rattle.step_reducer.specs.declared.word_walk.WordWalk.{WordWalk}

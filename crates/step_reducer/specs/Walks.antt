@@ -5,8 +5,8 @@ use Rattle.perm_ranks.specs.Blocks.{Block, HasRank, end_of, narrowed}
 use Rattle.spec_reader.specs.declared.TheConstants.{MAX_ITEMS}
 use Rattle.bound_specs.specs.Spec.{Spec, SpecFile, counts_of, queues_of}
 use Rattle.machine_model.specs.World.{send}
-use Rattle.quiet_steps.specs.Facts.{IsFactOf}
-use Rattle.quiet_steps.specs.declared.fact.Fact.{Fact}
+use Rattle.rank_facts.specs.Facts.{IsFactOf}
+use Rattle.rank_facts.specs.declared.fact.Fact.{Fact}
 use Rattle.step_reducer.specs.Fronts.{new_steps, most_steps}
 use Rattle.step_reducer.specs.Reduced.{tour_of, IsTour, IsPlace}
 use Rattle.step_reducer.specs.declared.frame.Frame.{Frame}

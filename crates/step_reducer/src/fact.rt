@@ -1,6 +1,6 @@
 //! Facts of ranks in runs.
 
-use quiet_steps::Fact;
+use rank_facts::Fact;
 
 /// One fact of each rank from `first` up to but not `end`.
 #[derive(Drop)]

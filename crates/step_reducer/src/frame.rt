@@ -4,7 +4,7 @@ ghost use Rattle.std.specs.Prelude.{◌≡◌, ℕ, ◌<◌, ◌≤◌, true, fa
 ghost use Rattle.perm_ranks.specs.Words.{Word, total};
 ghost use Rattle.perm_ranks.specs.Blocks.{HasRank};
 ghost use Rattle.bound_specs.specs.Spec.{queues_of};
-ghost use Rattle.quiet_steps.specs.Swap.{quiet_heads};
+ghost use Rattle.rank_facts.specs.Swap.{quiet_heads};
 ghost use Rattle.step_reducer.specs.Reduced.{is_pair, LeftOf};
 ghost use Rattle.step_reducer.specs.Walks.{IsFrame, IsSame, IsTurn, IsCovered, HasTurned};
 

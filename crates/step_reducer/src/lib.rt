@@ -23,6 +23,6 @@ pub use fact::FactRun;
 pub use laws::swaps_cover_blocks;
 pub use pairs::quiet;
 pub use path::Path;
-pub use quiet_steps::{Fact, MAX_RANKS, Shard};
+pub use rank_facts::{Fact, MAX_RANKS, Shard};
 pub use shard_walk::ShardWalk;
 pub use walker::{Walker, run_shard};

@@ -8,7 +8,7 @@ ghost use Rattle.step_reducer.specs.Lines.{IsLines, HasRun};
 use crate::fact::{FactRun, Given};
 use crate::path::Path;
 use bound_specs::Spec;
-use quiet_steps::Fact;
+use rank_facts::Fact;
 use session_machine::World;
 use std::alloc::{AllocError, Global};
 

@@ -5,16 +5,16 @@ ghost use Rattle.std.specs.List.{find, list_all};
 ghost use Rattle.lock_modes.specs.Resource.{resource_at, same_resource};
 ghost use Rattle.lock_queues.specs.declared.wait.Wait.{Wait};
 ghost use Rattle.lock_queues.specs.Locks as locks;
-ghost use Rattle.sql_statements.specs.Plan.{Request, request, plan, HasKeys, IsShort};
+ghost use Rattle.bound_statements.specs.Plan.{Request, request, plan, HasKeys, IsShort};
 ghost use Rattle.machine_model.specs.World.{look_of};
-ghost use Rattle.quiet_steps.specs.Quiet as spec;
+ghost use Rattle.rank_facts.specs.Quiet as spec;
 ghost use Rattle.machine_model.specs.Claims.{plans};
-ghost use Rattle.quiet_steps.specs.Quiet.{fit_together};
+ghost use Rattle.rank_facts.specs.Quiet.{fit_together};
 ghost use Rattle.step_reducer.specs.Pairs.{clear_of, is_quiet_in, HaveOneEnd, AreCalm, IsWhole, AreBound};
 
+use bound_statements::{Bound, lock_plan};
 use lock_modes::{Mode, Place, compatible};
 use session_machine::World;
-use sql_statements::{Bound, lock_plan};
 
 /// Whether two steps of different sessions are quiet in the world: neither session waits; each mode that one of the steps asks is
 /// compatible with all modes that other sessions hold there and with each that the other step asks there; and nobody waits where

@@ -2,7 +2,7 @@
 
 ghost use Rattle.std.specs.Prelude.{◌≡◌, ◌↔◌, ◌≤◌, true, false, IfOk, IfErr, OnOk, OnErr, IsErrOf};
 ghost use Rattle.step_reducer.specs.declared.error.WalkError.TheVariants as walk_error;
-ghost use Rattle.quiet_steps.specs.Shards.{IsShardOf};
+ghost use Rattle.rank_facts.specs.Shards.{IsShardOf};
 ghost use Rattle.step_reducer.specs.Walking.{IsNotWalked, Starts};
 ghost use Rattle.step_reducer.specs.Shardwise.{standing_at, GivesPart};
 
@@ -11,7 +11,7 @@ use crate::fact::FactRun;
 use crate::start::start_for;
 use crate::walk::Walk;
 use bound_specs::Spec;
-use quiet_steps::Shard;
+use rank_facts::Shard;
 use session_machine::RunError;
 use std::alloc::Global;
 use std::marker::Model;
@@ -44,7 +44,7 @@ impl Drop for ShardWalk<'_> {
 
 impl<'a> Model for ShardWalk<'a> {
     ghost use Rattle.std.specs.Coded.{codes};
-    ghost use Rattle.sql_statements.specs.contracts.statement.Bound as bound;
+    ghost use Rattle.bound_statements.specs.contracts.statement.Bound as bound;
     ghost use Rattle.step_reducer.specs.Shardwise.{Shardwise, IsKept};
 
     ghost Value = { Shardwise };

@@ -2,11 +2,11 @@
 
 ghost use Rattle.std.specs.Prelude.{◌≡◌, false, IfOk, IfErr, OnOk};
 ghost use Rattle.machine_model.specs.Start.{Started, start};
-ghost use Rattle.quiet_steps.specs.Shards.{IsShardOf};
+ghost use Rattle.rank_facts.specs.Shards.{IsShardOf};
 ghost use Rattle.step_reducer.specs.Walking.{IsNotWalked};
 
 use bound_specs::Spec;
-use quiet_steps::{MAX_RANKS, Shard};
+use rank_facts::{MAX_RANKS, Shard};
 use session_machine::{RunError, World, not_started};
 use std::alloc::Global;
 

@@ -2,7 +2,7 @@
 
 ghost use Rattle.std.specs.Prelude.{◌≡◌, ◌↔◌, ◌-◌, ◌++◌, [], ◌∷◌, true, false, IfOk, IfErr, OnOk, OnErr, IsErrOf, ◌≤◌};
 ghost use Rattle.step_reducer.specs.declared.error.WalkError.TheVariants as walk_error;
-ghost use Rattle.quiet_steps.specs.Shards.{IsShardOf};
+ghost use Rattle.rank_facts.specs.Shards.{IsShardOf};
 ghost use Rattle.step_reducer.specs.Walking.{begun_at, AreSent, GivesRun, GivesFact, HasStopped, IsNotWalked, Starts, AreFacts};
 
 use crate::error::WalkError;
@@ -11,7 +11,7 @@ use crate::start::start_for;
 use crate::walk::Walk;
 use bound_specs::Spec;
 use finite_maps::Fork;
-use quiet_steps::{Fact, Shard};
+use rank_facts::{Fact, Shard};
 use session_machine::RunError;
 use std::alloc::{AllocError, Global};
 use std::marker::Model;
@@ -50,7 +50,7 @@ impl Drop for Walker<'_> {
 
 impl<'a> Model for Walker<'a> {
     ghost use Rattle.std.specs.Coded.{codes};
-    ghost use Rattle.sql_statements.specs.contracts.statement.Bound as bound;
+    ghost use Rattle.bound_statements.specs.contracts.statement.Bound as bound;
     ghost use Rattle.step_reducer.specs.Walking.{Walking, is_whole, AreSent, IsStandingUnless};
 
     ghost Value = { Walking };

@@ -15,7 +15,7 @@ use crate::step_table::StepTable;
 use crate::worlds::outcome;
 use bound_specs::Spec;
 use perm_ranks::Shape;
-use quiet_steps::Fact;
+use rank_facts::Fact;
 use session_machine::World;
 use std::alloc::{AllocError, Global};
 

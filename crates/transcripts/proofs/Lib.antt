@@ -8,3 +8,6 @@ pub mod EventOrder
 pub mod SideBySide
 pub mod OutcomeOrder
 pub mod Worked
+pub mod Writing
+pub mod JsonLaws
+pub mod CompactText

@@ -4,3 +4,8 @@ pub mod Log
 pub mod Turned
 pub mod Compact
 pub mod EventParts
+pub mod Counted
+pub mod Names
+pub mod Text
+pub mod Json
+pub mod JsonReading

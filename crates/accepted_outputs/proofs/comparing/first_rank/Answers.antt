@@ -1,7 +1,7 @@
 use Rattle.std.proofs.Common.{◌≡◌, ◌+◌, sym, ap, ◌∙◌, List, length, arith}
 use Rattle.std.proofs.lemmas.Bool.{false≢true}
-use Rattle.outcome_books.specs.Entries.{Told}
-use Rattle.outcome_books.proofs.FillLemmas.{below-at}
+use Rattle.fact_books.specs.Entries.{Told}
+use Rattle.fact_books.proofs.FillLemmas.{below-at}
 use Rattle.accepted_outputs.proofs.Places.{agree-all, ended-alike, one-more, many, same-values, apart-values}
 use Rattle.accepted_outputs.proofs.comparing.first_rank.Goals as goal
 

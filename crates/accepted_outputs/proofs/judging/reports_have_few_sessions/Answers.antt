@@ -1,8 +1,8 @@
 use Rattle.std.proofs.Common.{subst, ◌<◌, [], length, get_or, arith}
-use Rattle.quiet_steps.specs.Swap.{leads_in}
-use Rattle.outcome_books.specs.Entries.{Told}
-use Rattle.sql_subset.proofs.FileLemmas.{file-is-ready}
-use Rattle.outcome_books.proofs.Recordable.{value-own}
+use Rattle.rank_facts.specs.Swap.{leads_in}
+use Rattle.fact_books.specs.Entries.{Told}
+use Rattle.spec_binding.proofs.FileLemmas.{file-is-ready}
+use Rattle.fact_books.proofs.Recordable.{value-own}
 use Rattle.accepted_outputs.proofs.Places.{whichever}
 use Rattle.accepted_outputs.proofs.judging.reports_have_few_sessions.Goals as goal
 

@@ -2,8 +2,8 @@ use Rattle.std.proofs.Common.{sym, ap, ◌∙◌, subst, length, All}
 use denote.Param.Send.{sendable}
 use Rattle.std.specs.List.{AllZip}
 use Rattle.bound_specs.specs.Binding.{IsFileOf}
-use Rattle.outcome_books.specs.Runs.{AllSound}
-use Rattle.outcome_books.specs.Entries.{recorded}
+use Rattle.fact_books.specs.Runs.{AllSound}
+use Rattle.fact_books.specs.Entries.{recorded}
 use Rattle.book_audit.specs.Findings.{said, IsFinding}
 use Rattle.book_audit.specs.Pieces.{runs_of, all_of}
 use Rattle.book_audit.specs.declared.finding.Finding.TheVariants as found

@@ -1,6 +1,6 @@
 use Rattle.std.proofs.Common.{subst}
 use Rattle.bound_specs.specs.Spec.{SpecFile}
-use Rattle.outcome_books.specs.Entries.{recorded}
+use Rattle.fact_books.specs.Entries.{recorded}
 use Rattle.book_audit.specs.Findings.{said, IsFinding}
 use Rattle.book_audit.proofs.Least.{finding-same, said-recorded}
 use Rattle.book_audit.proofs.auditing.audit_plain.Goals as goal

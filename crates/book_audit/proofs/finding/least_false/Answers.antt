@@ -1,9 +1,9 @@
 use Rattle.std.proofs.Common.{◌+◌, sym, length, take, get_or}
 use Rattle.std.proofs.lemmas.List.Folds.{list_any_more}
-use Rattle.outcome_books.specs.declared.run.Run.{Run}
-use Rattle.outcome_books.specs.declared.run.Tag.TheVariants.{Ran}
-use Rattle.outcome_books.specs.Runs.{has}
-use Rattle.outcome_books.proofs.RunLemmas.{AllSound-at}
+use Rattle.fact_books.specs.declared.run.Run.{Run}
+use Rattle.fact_books.specs.declared.run.Tag.TheVariants.{Ran}
+use Rattle.fact_books.specs.Runs.{has}
+use Rattle.fact_books.proofs.RunLemmas.{AllSound-at}
 use Rattle.book_audit.specs.Findings.{said, with_said}
 use Rattle.book_audit.proofs.Least.{least-same}
 use Rattle.book_audit.proofs.finding.least_false.Goals as goal

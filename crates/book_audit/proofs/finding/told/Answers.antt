@@ -1,5 +1,5 @@
 use Rattle.std.proofs.Common.{subst}
-use Rattle.outcome_books.specs.Entries.{recorded}
+use Rattle.fact_books.specs.Entries.{recorded}
 use Rattle.book_audit.specs.Findings.{IsFinding}
 use Rattle.book_audit.proofs.Least.{least-false}
 use Rattle.book_audit.proofs.finding.told.Goals as goal

@@ -1,5 +1,5 @@
 use Rattle.std.proofs.Common.{sym, subst}
-use Rattle.outcome_books.specs.Runs.{fact_in}
+use Rattle.fact_books.specs.Runs.{fact_in}
 use Rattle.book_audit.specs.Findings.{IsFirstFalse, IsLeast, with_said}
 use Rattle.book_audit.proofs.Least.{with-run}
 use Rattle.book_audit.proofs.finding.with_run.Goals as goal

@@ -2,10 +2,10 @@ use Rattle.std.proofs.Common.{sym, ap, ◌∙◌, subst, ◌||◌, ◌++◌, get
 use Rattle.std.proofs.lemmas.List.{take_all}
 use Rattle.std.proofs.lemmas.List.Folds.{list_any_more}
 use Rattle.std.specs.List.{list_any}
-use Rattle.outcome_books.specs.declared.run.Run.{Run}
-use Rattle.outcome_books.specs.declared.run.Tag.TheVariants.{Ran}
-use Rattle.outcome_books.specs.Runs.{has, AllSound}
-use Rattle.outcome_books.proofs.RunLemmas.{AllSound-at}
+use Rattle.fact_books.specs.declared.run.Run.{Run}
+use Rattle.fact_books.specs.declared.run.Tag.TheVariants.{Ran}
+use Rattle.fact_books.specs.Runs.{has, AllSound}
+use Rattle.fact_books.proofs.RunLemmas.{AllSound-at}
 use Rattle.book_audit.specs.Pieces.{runs_of}
 use Rattle.book_audit.proofs.pieces.pieces_of.Goals as goal
 

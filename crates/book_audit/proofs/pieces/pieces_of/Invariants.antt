@@ -1,5 +1,5 @@
 use Rattle.std.proofs.Common.{ℕ, take}
-use Rattle.outcome_books.specs.Runs.{AllSound}
+use Rattle.fact_books.specs.Runs.{AllSound}
 use Rattle.book_audit.specs.Pieces.{runs_in, SaysAll}
 use Rattle.book_audit.proofs.pieces.pieces_of.Given as goal
 

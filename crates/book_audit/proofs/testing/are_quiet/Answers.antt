@@ -1,7 +1,7 @@
 use Rattle.std.proofs.Common.{◌≡◌, sym, ap, ◌∙◌, subst, ℕ, suc, ◌+◌, ◌<◌, List, length, take, get_or, arith, add-one}
 use Rattle.bound_specs.specs.Spec.{SpecFile, no_step, line_of}
 use Rattle.machine_model.specs.World.{send_all}
-use Rattle.quiet_steps.specs.Quiet.{is_quiet}
+use Rattle.rank_facts.specs.Quiet.{is_quiet}
 use Rattle.session_machine.specs.Running.{Running}
 use Rattle.step_reducer.specs.Reduced.{first_world}
 use Rattle.step_reducer.specs.Pairs.{is_quiet_in}

@@ -1,7 +1,7 @@
 use Rattle.std.proofs.Common.{◌≡◌, refl, sym, ap, ◌∙◌, subst, ◌<◌, true, [], length}
 use Rattle.perm_ranks.specs.Words.{all_words, word_at}
 use Rattle.bound_specs.specs.Spec.{SpecFile, counts_of, queues_of}
-use Rattle.quiet_steps.specs.Swap.{falls_at, word_of}
+use Rattle.rank_facts.specs.Swap.{falls_at, word_of}
 use Rattle.step_reducer.specs.Reduced.{first_world}
 use Rattle.book_audit.specs.Grounds.{AreAlikeTo}
 use Rattle.book_audit.proofs.Tests.{falls-where, falls-inside, line-inside, in-ranks, swap-from, swap-alike}

@@ -1,4 +1,4 @@
-use Rattle.statement_effects.proofs.AloneLemmas.{sees-alone}
+use Rattle.statement_execution.proofs.AloneLemmas.{sees-alone}
 use Rattle.library_tests.proofs.RunLemmas.{left-alone}
 use Rattle.library_tests.proofs.effects.run.Goals as goal
 

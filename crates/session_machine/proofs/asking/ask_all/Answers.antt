@@ -2,7 +2,7 @@ use Rattle.std.proofs.lemmas.List.{drop_all}
 use Rattle.std.proofs.Common.{◌+◌, ◌≤◌, sym, ap, ◌∙◌, subst, drop, [], true, length, arith}
 use Rattle.lock_modes.specs.Resource.{resource_at}
 use Rattle.machine_model.specs.declared.reply.Reply.TheVariants.{Had, Waits, Refused}
-use Rattle.sql_statements.specs.Plan.{request, plan, nowait}
+use Rattle.bound_statements.specs.Plan.{request, plan, nowait}
 use Rattle.transcripts.specs.declared.event.Fault.TheVariants.{Aborted}
 use Rattle.lock_queues.specs.LockTable.{Locks, queued}
 use Rattle.row_tables.specs.Layers.{no_rows}

@@ -1,6 +1,6 @@
 use Rattle.std.proofs.Common.{drop, List}
 use Rattle.row_tables.specs.Layers.{Layers}
-use Rattle.sql_statements.specs.Plan.{plan, nowait}
+use Rattle.bound_statements.specs.Plan.{plan, nowait}
 use Rattle.machine_model.specs.Session.{Task, asks}
 use Rattle.session_machine.specs.Going.{standing, IsToAsk, GoesOnTo}
 use Rattle.session_machine.proofs.asking.ask_all.Given as goal

@@ -1,7 +1,7 @@
 use Rattle.std.proofs.Common.{◌≡◌, ◌+◌, List, suc, sym, ap, ◌∙◌, subst, length, drop, All, [], ◌∷◌, drop-cons, add-one, ⊎_elim, arith}
 use Rattle.std.proofs.lemmas.List.Elements.{All-get_or}
-use Rattle.sql_statements.specs.declared.statement.Bound.{Bound}
-use Rattle.sql_statements.specs.Plan.{HasKeys, IsShort}
+use Rattle.bound_statements.specs.declared.statement.Bound.{Bound}
+use Rattle.bound_statements.specs.Plan.{HasKeys, IsShort}
 use Rattle.session_machine.specs.declared.setups.SetUp.TheVariants.{Open, Closed, Failed, Waits}
 use Rattle.machine_model.specs.Start.{session_setups}
 use Rattle.session_machine.specs.Stage.{world_in}

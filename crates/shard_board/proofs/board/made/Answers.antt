@@ -1,7 +1,7 @@
 use Rattle.std.proofs.Common.{◌≡◌, List, [], ◌∷◌, Some, sym, ap, ◌∙◌, subst, arith}
 use Rattle.std.specs.FinSet.{empty}
 use Rattle.atomic_table.specs.Table.{opening}
-use Rattle.outcome_books.specs.Books.{Contents}
+use Rattle.fact_books.specs.Books.{Contents}
 use Rattle.shard_board.specs.declared.rule.Plan.{Plan}
 use Rattle.shard_board.specs.Sums.{Slot}
 use Rattle.shard_board.specs.Claiming.{Kept, first_view}

@@ -1,5 +1,5 @@
 use Rattle.std.proofs.Common.{◌≡◌, Some, None, sym, ap, ◌∙◌}
-use Rattle.outcome_books.specs.Books.{Contents}
+use Rattle.fact_books.specs.Books.{Contents}
 use Rattle.atomic_table.specs.Table.{Me}
 use Rattle.shard_board.specs.declared.rule.View.{View}
 use Rattle.shard_board.specs.declared.history.Call.{Call}

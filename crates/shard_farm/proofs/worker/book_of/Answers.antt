@@ -1,6 +1,6 @@
 use Rattle.std.proofs.Common.{subst}
 use Rattle.step_reducer.specs.Shardwise.{Shardwise}
-use Rattle.outcome_books.specs.Building.{AreFactsOf}
+use Rattle.fact_books.specs.Building.{AreFactsOf}
 use Rattle.shard_farm.proofs.CrewLemmas.{found_at}
 use Rattle.shard_farm.proofs.worker.book_of.Goals as goal
 

@@ -1,7 +1,7 @@
 use Rattle.std.proofs.Common.{All, sym, subst}
 use Rattle.bound_specs.specs.Spec.{SpecFile}
 use Rattle.bound_specs.proofs.FileLemmas.{one-file}
-use Rattle.quiet_steps.specs.Shards.{IsShardOf}
+use Rattle.rank_facts.specs.Shards.{IsShardOf}
 use Rattle.shard_farm.proofs.WorkLemmas.{marked-next}
 use Rattle.shard_farm.proofs.worker.served_or_marked.Goals as goal
 

@@ -1,6 +1,6 @@
 use Rattle.std.proofs.Common.{◌≡◌, sym, ap, ◌∙◌, ℕ, suc, ◌-◌, List, [], ◌∷◌, length, drop, get_or, arith, le-ltb}
 use Rattle.std.proofs.lemmas.List.{drop_all}
-use Rattle.quiet_steps.specs.Swap.{quiet_heads}
+use Rattle.rank_facts.specs.Swap.{quiet_heads}
 use Rattle.step_reducer.proofs.Listed.{quiet-whole}
 use Rattle.step_reducer.proofs.Tables.{step-known}
 use Rattle.step_reducer.proofs.frame.is_quiet_beside.Goals as goal

@@ -1,6 +1,6 @@
 use Rattle.std.proofs.Common.{◌≡◌, sym, ap, ◌∙◌, subst, ℕ, suc, ◌+◌, ◌<◌, ◌≤◌, List, [], ◌∷◌, ◌++◌, length, get_or, arith, length-append, false}
 use Rattle.bound_specs.specs.Spec.{SpecFile}
-use Rattle.quiet_steps.specs.Swap.{quiet_heads}
+use Rattle.rank_facts.specs.Swap.{quiet_heads}
 use Rattle.step_reducer.proofs.Listed.{listed-push, listed-all}
 use Rattle.step_reducer.proofs.Tables.{session-known}
 use Rattle.step_reducer.proofs.frame.swaps_with.Goals as goal

@@ -1,5 +1,5 @@
 use Rattle.std.proofs.Common.{◌≡◌, ℕ, ◌<◌, false, List, [], ◌∷◌, get_or, length}
-use Rattle.quiet_steps.specs.Swap.{quiet_heads}
+use Rattle.rank_facts.specs.Swap.{quiet_heads}
 use Rattle.step_reducer.specs.Reduced.{LeftOf}
 use Rattle.step_reducer.proofs.frame.swaps_with.Given as goal
 

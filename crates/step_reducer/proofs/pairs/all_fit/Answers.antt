@@ -1,7 +1,7 @@
 use Rattle.std.proofs.Common.{◌≡◌, sym, ◌∙◌, length, true, false}
 use Rattle.std.specs.List.{list_all}
 use Rattle.lock_queues.specs.Locks.{fits}
-use Rattle.sql_statements.specs.Plan.{Request, plan}
+use Rattle.bound_statements.specs.Plan.{Request, plan}
 use Rattle.machine_model.specs.World.{look_of}
 use Rattle.step_reducer.proofs.Asked.{all-true, all-false, all-end}
 use Rattle.step_reducer.proofs.pairs.all_fit.Goals as goal

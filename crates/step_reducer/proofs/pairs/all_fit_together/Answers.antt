@@ -1,8 +1,8 @@
 use Rattle.std.proofs.Common.{◌≡◌, sym, ◌∙◌, true, false}
 use Rattle.std.specs.List.{list_all}
-use Rattle.sql_statements.specs.Plan.{Request, plan}
+use Rattle.bound_statements.specs.Plan.{Request, plan}
 use Rattle.machine_model.specs.Claims.{plans}
-use Rattle.quiet_steps.specs.Quiet.{fit_together}
+use Rattle.rank_facts.specs.Quiet.{fit_together}
 use Rattle.step_reducer.proofs.Asked.{all-true, all-false, all-end}
 use Rattle.step_reducer.proofs.pairs.all_fit_together.Goals as goal
 

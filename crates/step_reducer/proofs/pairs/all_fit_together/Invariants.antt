@@ -1,7 +1,7 @@
 use Rattle.std.specs.List.{list_all}
-use Rattle.sql_statements.specs.Plan.{Request}
+use Rattle.bound_statements.specs.Plan.{Request}
 use Rattle.machine_model.specs.Claims.{plans}
-use Rattle.quiet_steps.specs.Quiet.{fit_together}
+use Rattle.rank_facts.specs.Quiet.{fit_together}
 use Rattle.step_reducer.proofs.Asked.{AllSoFar}
 use Rattle.step_reducer.proofs.pairs.all_fit_together.Given as goal
 

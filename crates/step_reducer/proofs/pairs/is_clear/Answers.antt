@@ -2,7 +2,7 @@ use Rattle.std.proofs.Common.{◌≡◌, sym, ap, ◌∙◌, true, false, not, �
 use Rattle.std.specs.List.{find, list_all}
 use Rattle.lock_modes.specs.Resource.{resource_at, same_resource}
 use Rattle.lock_queues.specs.declared.wait.Wait.{Wait}
-use Rattle.sql_statements.specs.Plan.{Request}
+use Rattle.bound_statements.specs.Plan.{Request}
 use Rattle.machine_model.specs.World.{look_of}
 use Rattle.machine_model.specs.Claims.{plans}
 use Rattle.step_reducer.proofs.Quiets.{clear-none, clear-some, wait-whole, held-whole}

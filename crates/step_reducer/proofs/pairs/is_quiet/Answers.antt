@@ -2,7 +2,7 @@ use Rattle.std.proofs.Common.{◌≡◌, sym, ap, ◌∙◌, false, not, ◌==�
 use Rattle.lock_queues.specs.Locks.{waits_now}
 use Rattle.bound_specs.specs.Spec.{SpecFile, no_step}
 use Rattle.machine_model.specs.Claims.{plans}
-use Rattle.quiet_steps.specs.Quiet.{all_fit, all_fit_together, undisturbed}
+use Rattle.rank_facts.specs.Quiet.{all_fit, all_fit_together, undisturbed}
 use Rattle.step_reducer.specs.Pairs.{is_quiet_in}
 use Rattle.step_reducer.proofs.Listed.{quiet-whole}
 use Rattle.step_reducer.proofs.Quiets.{parts, quiet-parts, stop1, stop2, stop3, stop4, stop5, stop6, stop7, go7}

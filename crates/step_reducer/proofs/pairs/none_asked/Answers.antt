@@ -1,7 +1,7 @@
 use Rattle.std.proofs.Common.{◌≡◌, sym, ◌∙◌, not, true, false}
 use Rattle.std.specs.List.{list_all}
 use Rattle.lock_modes.specs.Resource.{resource_at, same_resource}
-use Rattle.sql_statements.specs.Plan.{Request, plan}
+use Rattle.bound_statements.specs.Plan.{Request, plan}
 use Rattle.step_reducer.proofs.Asked.{all-true, all-false, all-end}
 use Rattle.step_reducer.proofs.pairs.none_asked.Goals as goal
 

@@ -1,6 +1,6 @@
 use Rattle.std.proofs.Common.{◌≡◌, sym, ap, ◌∙◌, not, arith, true, false}
 use Rattle.lock_modes.specs.Resource.{resource_at, same_resource}
-use Rattle.sql_statements.specs.Plan.{Request, request, plan}
+use Rattle.bound_statements.specs.Plan.{Request, request, plan}
 use Rattle.step_reducer.proofs.Asked.{on-true, on-false, on-none, on-end}
 use Rattle.step_reducer.proofs.pairs.none_asked_by.Goals as goal
 

@@ -1,6 +1,6 @@
 use Rattle.std.proofs.Common.{not}
 use Rattle.lock_modes.specs.Resource.{resource_at, same_resource}
-use Rattle.sql_statements.specs.Plan.{Request, plan}
+use Rattle.bound_statements.specs.Plan.{Request, plan}
 use Rattle.step_reducer.proofs.Asked.{SoFar}
 use Rattle.step_reducer.proofs.pairs.none_asked_by.Given as goal
 

@@ -1,6 +1,6 @@
 use Rattle.std.proofs.Common.{◌≡◌, sym, ap, ◌∙◌, ◌<◌, true, get_or, arith}
 use Rattle.bound_specs.specs.Spec.{SpecFile, no_step}
-use Rattle.quiet_steps.proofs.Mutual.{quiet-mutual}
+use Rattle.rank_facts.proofs.Mutual.{quiet-mutual}
 use Rattle.step_reducer.specs.Pairs.{is_quiet_in, session_of}
 use Rattle.step_reducer.proofs.Listed.{quiet-whole}
 use Rattle.step_reducer.proofs.Quiets.{quiet-unspent, one-end, calm}

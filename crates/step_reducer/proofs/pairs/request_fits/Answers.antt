@@ -1,8 +1,8 @@
 use Rattle.std.proofs.Common.{◌≡◌, sym, ◌∙◌, true, false}
 use Rattle.std.specs.List.{list_all}
 use Rattle.lock_modes.specs.Resource.{resource_at}
-use Rattle.sql_statements.specs.Plan.{request, plan}
-use Rattle.quiet_steps.specs.Quiet.{fit_together}
+use Rattle.bound_statements.specs.Plan.{request, plan}
+use Rattle.rank_facts.specs.Quiet.{fit_together}
 use Rattle.step_reducer.proofs.Asked.{all-true, all-false, all-end}
 use Rattle.step_reducer.proofs.pairs.request_fits.Goals as goal
 

@@ -1,8 +1,8 @@
 use Rattle.std.proofs.Common.{◌≡◌, sym, ◌∙◌, not, arith, true, false, ◌||◌}
 use Rattle.lock_modes.specs.Resource.{resource_at}
 use Rattle.lock_modes.specs.Mode.{compatible}
-use Rattle.sql_statements.specs.Plan.{request, plan}
-use Rattle.quiet_steps.specs.Quiet.{fit_together}
+use Rattle.bound_statements.specs.Plan.{request, plan}
+use Rattle.rank_facts.specs.Quiet.{fit_together}
 use Rattle.step_reducer.proofs.Asked.{on-true, on-false, on-none, on-end}
 use Rattle.step_reducer.proofs.pairs.request_fits_one.Goals as goal
 use Rattle.step_reducer.proofs.pairs.request_fits_one.Goals.{else-is_same-via-then-is_same+else-not-compatible, else-is_same-via-else-is_same}

@@ -1,6 +1,6 @@
 use Rattle.lock_modes.specs.Resource.{resource_at}
-use Rattle.sql_statements.specs.Plan.{request, plan}
-use Rattle.quiet_steps.specs.Quiet.{fit_together}
+use Rattle.bound_statements.specs.Plan.{request, plan}
+use Rattle.rank_facts.specs.Quiet.{fit_together}
 use Rattle.step_reducer.proofs.Asked.{SoFar}
 use Rattle.step_reducer.proofs.pairs.request_fits_one.Given as goal
 

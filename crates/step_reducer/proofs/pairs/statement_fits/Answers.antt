@@ -1,7 +1,7 @@
 use Rattle.std.proofs.Common.{◌≡◌, sym, ◌∙◌, length, arith, true, false}
 use Rattle.lock_modes.specs.Resource.{resource_at}
 use Rattle.lock_queues.specs.Locks.{fits}
-use Rattle.sql_statements.specs.Plan.{Request, request, plan}
+use Rattle.bound_statements.specs.Plan.{Request, request, plan}
 use Rattle.machine_model.specs.World.{look_of}
 use Rattle.step_reducer.proofs.Asked.{on-true, on-false, on-none, on-end}
 use Rattle.step_reducer.proofs.pairs.statement_fits.Goals as goal

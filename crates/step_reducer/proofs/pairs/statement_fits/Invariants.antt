@@ -1,6 +1,6 @@
 use Rattle.std.proofs.Common.{length}
 use Rattle.lock_queues.specs.Locks.{fits}
-use Rattle.sql_statements.specs.Plan.{Request, plan}
+use Rattle.bound_statements.specs.Plan.{Request, plan}
 use Rattle.machine_model.specs.World.{look_of}
 use Rattle.step_reducer.proofs.Asked.{SoFar}
 use Rattle.step_reducer.proofs.pairs.statement_fits.Given as goal

@@ -1,9 +1,9 @@
 use Rattle.std.proofs.Common.{◌≡◌, sym, ◌∙◌, arith, true, false}
 use Rattle.std.specs.List.{list_all}
 use Rattle.lock_modes.specs.Resource.{resource_at}
-use Rattle.sql_statements.specs.Plan.{Request, request, plan}
+use Rattle.bound_statements.specs.Plan.{Request, request, plan}
 use Rattle.machine_model.specs.Claims.{plans}
-use Rattle.quiet_steps.specs.Quiet.{fit_together}
+use Rattle.rank_facts.specs.Quiet.{fit_together}
 use Rattle.step_reducer.proofs.Asked.{on-true, on-false, on-none, on-end}
 use Rattle.step_reducer.proofs.pairs.statement_fits_beside.Goals as goal
 

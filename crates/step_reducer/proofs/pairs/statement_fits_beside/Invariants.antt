@@ -1,7 +1,7 @@
 use Rattle.std.specs.List.{list_all}
-use Rattle.sql_statements.specs.Plan.{Request, plan}
+use Rattle.bound_statements.specs.Plan.{Request, plan}
 use Rattle.machine_model.specs.Claims.{plans}
-use Rattle.quiet_steps.specs.Quiet.{fit_together}
+use Rattle.rank_facts.specs.Quiet.{fit_together}
 use Rattle.step_reducer.proofs.Asked.{SoFar}
 use Rattle.step_reducer.proofs.pairs.statement_fits_beside.Given as goal
 

@@ -2,7 +2,7 @@ use Rattle.std.proofs.Common.{◌≡◌, refl, sym, ap, ◌∙◌, ℕ, ◌<◌,
 use Rattle.std.specs.List.{find, list_all}
 use Rattle.lock_modes.specs.Resource.{same_resource}
 use Rattle.lock_queues.specs.declared.wait.Wait.{Wait}
-use Rattle.sql_statements.specs.Plan.{Request}
+use Rattle.bound_statements.specs.Plan.{Request}
 use Rattle.bound_specs.specs.Spec.{SpecFile}
 use Rattle.machine_model.specs.World.{look_of}
 use Rattle.machine_model.specs.Claims.{plans}

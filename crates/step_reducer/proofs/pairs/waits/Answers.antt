@@ -1,6 +1,6 @@
 use Rattle.std.proofs.Common.{sym, ap, ◌∙◌, ◌==◌, is_some}
 use Rattle.lock_queues.specs.declared.wait.Wait.{Wait}
-use Rattle.quiet_steps.proofs.Lines.{is_some-map}
+use Rattle.rank_facts.proofs.Lines.{is_some-map}
 use Rattle.step_reducer.proofs.Quiets.{wait-whole, found-any}
 use Rattle.step_reducer.proofs.pairs.waits.Goals as goal
 

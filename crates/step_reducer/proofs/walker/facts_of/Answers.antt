@@ -1,6 +1,6 @@
 use Rattle.std.proofs.Common.{◌≡◌, sym, ap, ◌∙◌, subst, ◌+◌, ◌-◌, ◌≤◌, ◌++◌, ◌∷◌, [], arith}
 use Rattle.bound_specs.specs.Spec.{SpecFile}
-use Rattle.quiet_steps.specs.Facts.{IsFactOf}
+use Rattle.rank_facts.specs.Facts.{IsFactOf}
 use Rattle.step_reducer.specs.Walking.{Walking, GivesFact, AreFacts}
 use Rattle.step_reducer.proofs.Shards.{facts-push}
 use Rattle.step_reducer.proofs.walker.facts_of.Goals as goal

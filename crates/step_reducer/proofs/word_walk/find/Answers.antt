@@ -4,8 +4,8 @@ use Rattle.perm_ranks.specs.Blocks.{HasRank, end_of}
 use Rattle.perm_ranks.proofs.CountLemmas.{length-all_words}
 use Rattle.bound_specs.specs.Spec.{Spec, SpecFile}
 use Rattle.machine_model.specs.World.{send, outcome_of}
-use Rattle.quiet_steps.specs.Facts.{IsFactOf}
-use Rattle.quiet_steps.specs.declared.fact.Fact.TheVariants.{Ran, Swap}
+use Rattle.rank_facts.specs.Facts.{IsFactOf}
+use Rattle.rank_facts.specs.declared.fact.Fact.TheVariants.{Ran, Swap}
 use Rattle.step_reducer.specs.Reduced.{tour_of}
 use Rattle.step_reducer.proofs.FactsAt.{swap-within, swap-all, ran-at}
 use Rattle.step_reducer.proofs.Partings.{line-length}

@@ -1,5 +1,5 @@
 use Rattle.std.proofs.Common.{subst, ◌<◌, ◌≤◌, Some, ◌⊎◌, ⊎_elim, arith}
-use Rattle.outcome_books.specs.Runs.{fact_in}
+use Rattle.fact_books.specs.Runs.{fact_in}
 use Rattle.book_audit.specs.Grounds.{IsTrueUntil}
 use Rattle.book_audit.proofs.ground.Ground.first_false.Goals as goal
 

@@ -1,6 +1,6 @@
 use Rattle.std.proofs.Common.{ℕ, ◌-◌, ◌<◌, ◌≤◌}
-use Rattle.quiet_steps.specs.Facts.{IsTrueAt}
-use Rattle.outcome_books.specs.Runs.{fact_in}
+use Rattle.rank_facts.specs.Facts.{IsTrueAt}
+use Rattle.fact_books.specs.Runs.{fact_in}
 use Rattle.book_audit.specs.Grounds.{IsGround}
 use Rattle.book_audit.proofs.ground.Ground.first_false.Given as goal
 

@@ -1,5 +1,5 @@
 use Rattle.std.proofs.Common.{◌≡◌, sym, subst, arith}
-use Rattle.outcome_books.specs.Runs.{Adds, IsNumbered}
+use Rattle.fact_books.specs.Runs.{Adds, IsNumbered}
 use Rattle.book_audit.specs.Pieces.{runs_in}
 use Rattle.book_audit.proofs.PieceLemmas.{up_to, adds-no_rank, adds-part, sound-last}
 use Rattle.book_audit.proofs.pieces.Pieces.add_ranks.Goals as goal

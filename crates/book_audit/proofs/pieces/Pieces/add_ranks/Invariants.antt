@@ -1,5 +1,5 @@
 use Rattle.std.proofs.Common.{ℕ, ◌-◌, ◌≤◌}
-use Rattle.outcome_books.specs.Runs.{Adds, AllSound, IsNumbered}
+use Rattle.fact_books.specs.Runs.{Adds, AllSound, IsNumbered}
 use Rattle.book_audit.specs.Pieces.{runs_in}
 use Rattle.book_audit.proofs.PieceLemmas.{up_to}
 use Rattle.book_audit.proofs.pieces.Pieces.add_ranks.Given as goal

@@ -1,5 +1,5 @@
 use Rattle.std.proofs.Common.{◌≡◌, ap, ◌∙◌, ◌++◌, ◌∷◌, [], List}
-use Rattle.outcome_books.specs.declared.run.Run.{Run}
+use Rattle.fact_books.specs.declared.run.Run.{Run}
 use Rattle.book_audit.specs.Pieces.{runs_of}
 use Rattle.book_audit.proofs.PieceLemmas.{runs_of-ended}
 use Rattle.book_audit.proofs.pieces.Pieces.close.Goals as goal

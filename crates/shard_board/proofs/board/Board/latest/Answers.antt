@@ -1,5 +1,5 @@
 use Rattle.std.proofs.Common.{◌<◌, Option, Some, None, sym, subst, arith, length}
-use Rattle.outcome_books.specs.Books.{Contents}
+use Rattle.fact_books.specs.Books.{Contents}
 use Rattle.shard_board.specs.declared.error.TheConstants.{MAX_TURNS}
 use Rattle.shard_board.specs.declared.history.Call.TheVariants.{Latest}
 use Rattle.shard_board.specs.History.{entry, facts_given}

@@ -1,7 +1,7 @@
 use Rattle.std.proofs.Common.{◌≡◌, refl, ℕ, Some, sym, ap, ◌∙◌, subst, List, length, arith}
 use Rattle.machine_model.specs.World.{send_all, outcome_of}
-use Rattle.quiet_steps.specs.Facts.{IsFactOf}
-use Rattle.quiet_steps.specs.declared.fact.Fact.TheVariants.{Ran}
+use Rattle.rank_facts.specs.Facts.{IsFactOf}
+use Rattle.rank_facts.specs.declared.fact.Fact.TheVariants.{Ran}
 use Rattle.step_reducer.specs.Fronts.{front}
 use Rattle.step_reducer.specs.Reduced.{first_world}
 use Rattle.step_reducer.proofs.FrontLemmas.{front-new}

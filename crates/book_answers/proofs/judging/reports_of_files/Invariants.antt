@@ -1,9 +1,0 @@
-use Rattle.std.proofs.Common.{All, map, take}
-use Rattle.accepted_outputs.specs.Judging.{HasFewSessions}
-use Rattle.book_answers.specs.Judging.{AreReports}
-use Rattle.book_answers.proofs.judging.reports_of_files.Given as goal
-
--- the files before this one are reported
-abbrev pub invariant-loop-place : goal.invariant-loop-place
-invariant-loop-place g l =
-    AreReports (g.O.Opener.bytes l.opener) (take l.place (map (λ p. p.now) l.paths)) l.reports.items × All HasFewSessions l.reports.items

@@ -1,5 +1,0 @@
-use Rattle.book_files.proofs.OneForm.{one-text}
-use Rattle.book_files.proofs.laws.books_have_one_text.Goals as goal
-
-pub returns : goal.returns
-returns c = one-text

@@ -1,5 +1,0 @@
-use Rattle.book_files.proofs.TextLemmas.{text-read}
-use Rattle.book_files.proofs.laws.texts_read_as_values.Goals as goal
-
-pub returns : goal.returns
-returns c = text-read

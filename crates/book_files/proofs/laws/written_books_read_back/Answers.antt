@@ -1,5 +1,0 @@
-use Rattle.book_files.proofs.BackLemmas.{text-back}
-use Rattle.book_files.proofs.laws.written_books_read_back.Goals as goal
-
-pub returns : goal.returns
-returns c = text-back

@@ -1,6 +1,0 @@
-use Rattle.book_files.proofs.NumberingLemmas.{AreFlaggedTo}
-use Rattle.book_files.proofs.one_form.flagged.Given as goal
-
--- the first outcomes are looked at
-abbrev pub invariant-loop-n : goal.invariant-loop-n
-invariant-loop-n l = AreFlaggedTo l.outcomes l.flags l.n l.out.items

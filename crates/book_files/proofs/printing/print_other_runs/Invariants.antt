@@ -1,8 +1,0 @@
-use Rattle.std.specs.Prelude.{flat_map, take}
-use Rattle.outcome_texts.specs.Counted.{Wrote}
-use Rattle.book_files.specs.Pieces.{run_text, after_comma}
-use Rattle.book_files.proofs.printing.print_other_runs.Given as goal
-
--- the first runs are written
-abbrev pub invariant-loop-run : goal.invariant-loop-run
-invariant-loop-run g l = Wrote g.W.Write.contents l.fn.out l.out (flat_map (after_comma run_text) (take l.run-index l.runs))

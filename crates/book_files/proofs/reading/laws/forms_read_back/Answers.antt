@@ -1,5 +1,0 @@
-use Rattle.book_files.proofs.FormsBack.{forms-back}
-use Rattle.book_files.proofs.reading.laws.forms_read_back.Goals as goal
-
-pub returns : goal.returns
-returns c = forms-back

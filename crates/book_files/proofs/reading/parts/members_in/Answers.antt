@@ -1,7 +1,0 @@
-use Rattle.std.proofs.Common.{sym, ap, ◌∙◌}
-use Rattle.book_files.specs.ReadingBooks.{count_if}
-use Rattle.book_files.proofs.ItemLemmas.{count-members}
-use Rattle.book_files.proofs.reading.parts.members_in.Goals as goal
-
-pub returns-in-Some : goal.returns-in-Some
-returns-in-Some c = c.len.ensures.len ∙ sym (count-members c.in-Some.members.now.entries) ∙ ap count_if c.in-Some.ensures

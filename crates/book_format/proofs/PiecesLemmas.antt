@@ -1,0 +1,123 @@
+-- A book's text is the pieces in which it is written.
+use Rattle.std.proofs.Common.{◌≡◌, refl, sym, ap, ◌∙◌, ℕ, ◌-◌, true, false, List, [], ◌∷◌, ◌++◌, map, codes, append_assoc}
+use Rattle.std.specs.Prelude.{decimal, flat_map, string_bytes}
+use Rattle.std.specs.Fmt.{digits}
+use Rattle.std.specs.List.{join_by}
+use Rattle.std.specs.declared.string.String.{String}
+use Rattle.json.specs.Print.{quoted, escape_byte}
+use Rattle.serde_json.specs.Data.{Data, string}
+use Rattle.serde_json.specs.View.{items_of}
+use Rattle.serde_json.specs.Written.{compact_text, items_text}
+use Rattle.transcripts.specs.Json.{list, whole, outcome_data}
+use Rattle.fact_books.specs.declared.run.Run.{Run}
+use Rattle.fact_books.specs.declared.run.Tag.{Tag}
+use Rattle.fact_books.specs.declared.run.Tag.TheVariants.{Ran, Swap}
+use Rattle.fact_books.specs.Runs.{Table}
+use Rattle.fact_books.specs.Books.{Contents}
+use Rattle.book_format.specs.Forms.{IsForm, tag_number}
+use Rattle.book_format.specs.BookText.{tag_data, run_data, book_data, book_text}
+use Rattle.book_format.specs.declared.pieces.Pieces.{Pieces}
+use Rattle.book_format.specs.Pieces.{tag_front, run_text, after_comma, pieces_text}
+use Rattle.book_format.specs.Writing.{ArePieces}
+
+-- ---- lists
+
+pub others-text : {X : Type 0} (enc : X → Data) (f : X → List ℕ) → ((x : X) → compact_text (enc x) ≡ f x) → (xs : List X)
+    → items_text true (items_of (map enc xs)) ≡ flat_map (after_comma f) xs ++ 93 ∷ []
+others-text enc f each [] = refl
+others-text enc f each (x ∷ xs) =
+    (λ i. 44 ∷ (each x i ++ others-text enc f each xs i)) ∙ sym (append_assoc (after_comma f x) (flat_map (after_comma f) xs) (93 ∷ []))
+
+items-text : {X : Type 0} (enc : X → Data) (f : X → List ℕ) → ((x : X) → compact_text (enc x) ≡ f x) → (xs : List X)
+    → items_text false (items_of (map enc xs)) ≡ join_by f (codes ",") xs ++ 93 ∷ []
+items-text enc f each [] = refl
+items-text enc f each (x ∷ xs) =
+    (λ i. each x i ++ others-text enc f each xs i) ∙ sym (append_assoc (f x) (flat_map (after_comma f) xs) (93 ∷ []))
+
+-- lists whose items have the same texts
+others-same : {X Y : Type 0} (f : X → List ℕ) (g : Y → List ℕ) (xs : List X) (ys : List Y) → map f xs ≡ map g ys
+    → flat_map (after_comma f) xs ≡ flat_map (after_comma g) ys
+others-same f g xs ys e = whole f xs ∙ ap (flat_map (after_comma (λ (t : List ℕ). t))) e ∙ sym (whole g ys)
+  where
+    whole : {X : Type 0} (f : X → List ℕ) (xs : List X) → flat_map (after_comma f) xs ≡ flat_map (after_comma (λ (t : List ℕ). t)) (map f xs)
+    whole f [] = refl
+    whole f (x ∷ xs) = ap (λ l. after_comma f x ++ l) (whole f xs)
+
+joined-same : {X Y : Type 0} (f : X → List ℕ) (g : Y → List ℕ) (xs : List X) (ys : List Y) → map f xs ≡ map g ys
+    → join_by f (codes ",") xs ≡ join_by g (codes ",") ys
+joined-same f g xs ys e = whole f xs ∙ ap (join_by (λ (t : List ℕ). t) (codes ",")) e ∙ sym (whole g ys)
+  where
+    whole : {X : Type 0} (f : X → List ℕ) (xs : List X) → join_by f (codes ",") xs ≡ join_by (λ (t : List ℕ). t) (codes ",") (map f xs)
+    whole f [] = refl
+    whole f (x ∷ xs) = ap (λ l. f x ++ l) (others-same f (λ (t : List ℕ). t) xs (map f xs) (id-map (map f xs)))
+      where
+        id-map : (ts : List (List ℕ)) → ts ≡ map (λ (t : List ℕ). t) ts
+        id-map [] = refl
+        id-map (t ∷ ts) = ap (λ l. t ∷ l) (id-map ts)
+
+-- ---- a run
+
+four : (p q r s : List ℕ) → ((p ++ q) ++ r) ++ s ≡ p ++ (q ++ (r ++ s))
+four p q r s = append_assoc (p ++ q) r s ∙ append_assoc p q (r ++ s)
+
+tagged-text : (first count : ℕ) (tag : Tag) → compact_text (list (whole first ∷ whole count ∷ tag_data tag))
+    ≡ (codes "[" ++ decimal first) ++ (codes "," ++ decimal count) ++ (tag_front tag ++ decimal (tag_number tag)) ++ codes "]"
+unfolding escape_byte
+tagged-text first count (Ran n) = sym (four (codes "[" ++ decimal first) (codes "," ++ decimal count) (codes ",\"ran\"," ++ decimal n) (codes "]"))
+tagged-text first count (Swap k) = sym (four (codes "[" ++ decimal first) (codes "," ++ decimal count) (codes ",\"swap\"," ++ decimal k) (codes "]"))
+
+run-text : (run : Run) → compact_text (run_data run) ≡ run_text run
+run-text run = tagged-text run.first (run.end - run.first) run.tag
+
+-- ---- the whole
+
+past : (a s t : List ℕ) (x : ℕ) → ((a ++ x ∷ []) ++ s) ++ t ≡ a ++ (x ∷ (s ++ t))
+past a s t x = ap (λ h. h ++ t) (append_assoc a (x ∷ []) s) ∙ append_assoc a (x ∷ s) t
+
+-- the members, with the lists' texts in their places
+data-text : (text : List ℕ) (table : Table) (runs : List Run) → compact_text (book_data text table runs)
+    ≡ codes "{\"facts\":[" ++ (items_text false (items_of (map run_data runs)) ++ (codes ",\"format\":2,\"outcomes\":["
+    ++ (items_text false (items_of (map outcome_data table)) ++ (codes ",\"spec\":" ++ (quoted text ++ codes "}")))))
+unfolding escape_byte digits
+data-text text table runs = refl
+
+-- and these texts without their closing brackets
+laid-out : (a b c : List ℕ)
+    → (codes "{\"facts\":[" ++ ((a ++ 93 ∷ []) ++ (codes ",\"format\":2,\"outcomes\":[" ++ ((b ++ 93 ∷ []) ++ (codes ",\"spec\":" ++
+    (c ++ codes "}")))))) ++ 10 ∷ []
+    ≡ (codes "{\"facts\":[" ++ a) ++ (codes "],\"format\":2,\"outcomes\":[" ++ b) ++ (codes "],\"spec\":" ++ c ++ codes "}\n")
+laid-out a b c =
+    ap (λ h. codes "{\"facts\":[" ++ h)
+    (past a (codes ",\"format\":2,\"outcomes\":[" ++ ((b ++ 93 ∷ []) ++ (codes ",\"spec\":" ++ (c ++ codes "}")))) (10 ∷ []) 93
+    ∙ ap (λ h. a ++ (codes "],\"format\":2,\"outcomes\":[" ++ h))
+    (past b (codes ",\"spec\":" ++ (c ++ codes "}")) (10 ∷ []) 93
+    ∙ ap (λ h. b ++ (codes "],\"spec\":" ++ h)) (append_assoc c (codes "}") (10 ∷ [])))
+    ∙ sym (append_assoc a (codes "],\"format\":2,\"outcomes\":[" ++ b) (codes "],\"spec\":" ++ c ++ codes "}\n")))
+
+pub pieces-text : (text : List ℕ) (table : Table) (runs : List Run) {A : Type 0} (texts : List (String A)) (q : List ℕ)
+    → map string_bytes texts ≡ map (λ o. compact_text (outcome_data o)) table → q ≡ compact_text (string text)
+    → pieces_text runs texts q ≡ book_text text table runs
+pieces-text text table runs texts q each whole =
+    let back = sym whole in
+    let names = sym (joined-same string_bytes (λ o. compact_text (outcome_data o)) texts table each) in
+    sym (
+    ap (λ h. h ++ 10 ∷ []) (data-text text table runs)
+    ∙ (λ i. (codes "{\"facts\":[" ++ (items-text run_data run_text run-text runs i ++ (codes ",\"format\":2,\"outcomes\":["
+    ++ (items-text outcome_data (λ o. compact_text (outcome_data o)) (λ o. refl) table i ++ (codes ",\"spec\":" ++ (back i ++ codes "}")))))) ++ 10 ∷ [])
+    ∙ (λ i. (codes "{\"facts\":[" ++ ((join_by run_text (codes ",") runs ++ 93 ∷ []) ++ (codes ",\"format\":2,\"outcomes\":["
+    ++ ((names i ++ 93 ∷ []) ++ (codes ",\"spec\":" ++ (q ++ codes "}")))))) ++ 10 ∷ [])
+    ∙ laid-out (join_by run_text (codes ",") runs) (join_by string_bytes (codes ",") texts) q)
+
+-- the pieces of the one form
+pub are-pieces : (book : Contents) (table : Table) (pieces : Pieces) → IsForm book.facts table pieces.runs.items
+    → map string_bytes pieces.texts.items ≡ map (λ o. compact_text (outcome_data o)) table → string_bytes pieces.quoted ≡ compact_text (string book.file.text)
+    → ArePieces book pieces
+are-pieces book table pieces form each whole = record {
+  text = record {
+    table = table;
+    runs = pieces.runs.items;
+    form = form;
+    text_is = pieces-text book.file.text table pieces.runs.items pieces.texts.items (string_bytes pieces.quoted) each whole;
+  };
+  runs_are = refl;
+}

@@ -1,0 +1,14 @@
+use Rattle.std.specs.Prelude.{codes}
+use Rattle.std.specs.List.{join_by}
+use Rattle.transcripts.proofs.Writing.{prints-after, prints-stopped, stopped-append}
+use Rattle.book_format.specs.Pieces.{run_text}
+use Rattle.book_format.proofs.printing.print_facts.Goals as goal
+
+pub returns-in_err-write_str : goal.returns-in_err-write_str
+returns-in_err-write_str g c =
+    prints-stopped _ _ _ _ _ (stopped-append _ _ _ (codes "{\"facts\":[") (join_by run_text (codes ",") c.args.runs.now) c.in_err-write_str.ensures)
+    c.from_residual.ensures.0
+
+pub returns : goal.returns
+returns g c =
+    prints-after _ _ _ _ _ (codes "{\"facts\":[") (join_by run_text (codes ",") c.args.runs.now) c.in_ok-write_str.ensures c.print_runs.ensures

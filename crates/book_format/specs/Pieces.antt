@@ -1,0 +1,39 @@
+-- A book's text in the pieces in which it is written.
+use Rattle.std.specs.Prelude.{ℕ, ◌-◌, List, ◌++◌, codes, decimal, string_bytes}
+use Rattle.std.specs.List.{join_by}
+use Rattle.std.specs.declared.string.String.{String}
+use Rattle.fact_books.specs.declared.run.Run.{Run}
+use Rattle.fact_books.specs.declared.run.Tag.{Tag}
+use Rattle.fact_books.specs.declared.run.Tag.TheVariants.{Ran, Swap}
+use Rattle.book_format.specs.declared.pieces.Pieces.{Pieces}
+use Rattle.book_format.specs.Forms.{tag_number}
+
+-- what stands before the number in a run's text
+abbrev pub tag_front : Tag → List ℕ
+tag_front (Ran n) = codes ",\"ran\","
+tag_front (Swap k) = codes ",\"swap\","
+
+abbrev pub run_text : Run → List ℕ
+run_text run =
+    (codes "[" ++ decimal run.first) ++ (codes "," ++ decimal (run.end - run.first)) ++ (tag_front run.tag ++ decimal (tag_number run.tag)) ++ codes "]"
+
+abbrev pub after_comma : {X : Type 0} → (X → List ℕ) → X → List ℕ
+after_comma f x = codes "," ++ f x
+
+-- the members up to the runs
+abbrev pub facts_text : List Run → List ℕ
+facts_text runs = codes "{\"facts\":[" ++ join_by run_text (codes ",") runs
+
+-- and up to the outcomes, whose texts these are
+abbrev pub outcomes_text : {A : Type 0} → List (String A) → List ℕ
+outcomes_text texts = codes "],\"format\":2,\"outcomes\":[" ++ join_by string_bytes (codes ",") texts
+
+-- and the spec's text, which is quoted, with a line feed
+abbrev pub spec_text : List ℕ → List ℕ
+spec_text quoted = codes "],\"spec\":" ++ quoted ++ codes "}\n"
+
+abbrev pub pieces_text : {A : Type 0} → List Run → List (String A) → List ℕ → List ℕ
+pieces_text runs texts quoted = facts_text runs ++ outcomes_text texts ++ spec_text quoted
+
+abbrev pub text_in : Pieces → List ℕ
+text_in pieces = pieces_text pieces.runs.items pieces.texts.items (string_bytes pieces.quoted)

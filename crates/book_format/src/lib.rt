@@ -1,0 +1,25 @@
+//! Book files: each book has one text, which is written; and what the value of a file says of a spec.
+#![tactic(auto)]
+
+mod canonical;
+mod compact;
+mod error;
+mod laws;
+mod lengths;
+mod one_form;
+mod pieces;
+mod printing;
+mod reading;
+mod texts;
+mod write_error;
+mod writing;
+
+pub use error::BookError;
+pub use laws::{books_have_one_text, texts_read_as_values, written_books_read_back};
+pub use pieces::{MAX_FACTS, MAX_TEXT};
+pub use reading::{
+    FactParts, RunParts, Version, book_of_facts, book_of_runs, fact_parts, forms_read_back,
+    run_parts, version_of,
+};
+pub use write_error::WriteError;
+pub use writing::write_book;

@@ -1,0 +1,13 @@
+//! What the JSON value of a book file says: its parts, and the book that they make of the spec that its text names.
+
+mod facts;
+mod form;
+mod laws;
+mod outcomes;
+mod parts;
+mod runs;
+
+pub use facts::{FactParts, book_of_facts, fact_parts};
+pub use form::{RunParts, book_of_runs, run_parts};
+pub use laws::forms_read_back;
+pub use parts::{Version, version_of};

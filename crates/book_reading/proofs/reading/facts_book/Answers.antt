@@ -1,9 +1,0 @@
-use Rattle.serde_json.specs.View.{view, items_view}
-use Rattle.book_reading.proofs.BookLaws.{by-facts}
-use Rattle.book_reading.proofs.reading.facts_book.Goals as goal
-
-pub returns-in-Ok : goal.returns-in-Ok
-returns-in-Ok c =
-    let parts = c.in-Some.parts in
-    by-facts (view c.args.value.now) (record { facts = items_view parts.facts.now; text = parts.text.now })
-    c.in-Ok.spec c.book_of_facts.result c.in-Some.ensures c.in-Ok.ensures c.book_of_facts.ensures

@@ -1,0 +1,338 @@
+//! What the words of a command line ask for.
+
+use clap::error::ErrorKind;
+use clap::{Arg, ArgAction, ArgMatches, Command, Error, value_parser};
+use range_progress::Workers;
+use std::alloc::{AllocError, Global};
+
+/// The version of the program. From which commit and with which kit it was built is known to what builds it alone.
+const VERSION: &str = "0.1.0";
+
+/// The books of a join, and the accepted books of a judgement, at most.
+const MAX_BOOKS: usize = 1_000;
+
+/// What the words ask for.
+#[derive(Drop)]
+pub enum Asked<'a> {
+    /// One permutation of the spec at a path.
+    One {
+        path: &'a str,
+        rank: u64,
+    },
+    /// Whether the file at a path is a spec, and how much it has.
+    Check {
+        path: &'a str,
+    },
+    /// The number of permutations of the spec at a path.
+    Count {
+        path: &'a str,
+    },
+    /// The book of the ranks from the first up to but not the end, and whether it is told how far that is.
+    Run {
+        path: &'a str,
+        first: u64,
+        end: u64,
+        every: bool,
+        workers: Workers,
+        progress: bool,
+    },
+    /// The join of the books at some paths.
+    Join {
+        paths: Vec<&'a str>,
+    },
+    /// The report of the book at a path.
+    Report {
+        path: &'a str,
+    },
+    /// Whether each fact of the book at a path is true.
+    Audit {
+        path: &'a str,
+    },
+    /// The report of the book at a path, beside those of accepted books.
+    Judge {
+        path: &'a str,
+        accepted: Vec<&'a str>,
+    },
+}
+
+/// What the words ask for, the first of which is the program's name.
+pub fn parse_words<'a>(alloc: Global, words: &'a [String]) -> Result<Asked<'a>, Error> {
+    let matches = command(alloc)?.try_get_matches_from(words)?;
+    match asked_of(alloc, &matches)? {
+        Some(asked) => Ok(asked),
+        None => Err(no_command(alloc)?),
+    }
+}
+
+/// The fault of words that ask for nothing.
+fn no_command(alloc: Global) -> Result<Error, AllocError> {
+    command(alloc)?.error(ErrorKind::MissingSubcommand, "no command")
+}
+
+/// A word that a command takes.
+#[derive(Clone, Copy, Drop)]
+enum Word {
+    Spec,
+    Rank,
+    First,
+    End,
+    Every,
+    Workers,
+    Progress,
+    Books,
+    Book,
+    Accepted,
+}
+
+/// A command: its name, what it does, and its words in their order.
+#[derive(Clone, Copy, Drop)]
+struct Row {
+    name: &'static str,
+    about: &'static str,
+    words: &'static [Word],
+}
+
+static COMMANDS: [Row; 8] = [
+    Row {
+        name: "check",
+        about: "Prints how much a spec has, or where it is wrong and why",
+        words: &[Word::Spec],
+    },
+    Row {
+        name: "one",
+        about: "Runs one permutation and prints what each session saw",
+        words: &[Word::Spec, Word::Rank],
+    },
+    Row {
+        name: "count",
+        about: "Prints how many permutations a spec has",
+        words: &[Word::Spec],
+    },
+    Row {
+        name: "run",
+        about: "Runs a range of permutations and prints the book of what they show",
+        words: &[
+            Word::Spec,
+            Word::First,
+            Word::End,
+            Word::Every,
+            Word::Workers,
+            Word::Progress,
+        ],
+    },
+    Row {
+        name: "join",
+        about: "Prints one book with the facts of all",
+        words: &[Word::Books],
+    },
+    Row {
+        name: "report",
+        about: "Prints what each session saw in each permutation",
+        words: &[Word::Book],
+    },
+    Row {
+        name: "audit",
+        about: "Tests each fact of a book again, and prints the first permutation with a false one",
+        words: &[Word::Book],
+    },
+    Row {
+        name: "judge",
+        about: "Prints which accepted book tells the same, or where each differs first",
+        words: &[Word::Book, Word::Accepted],
+    },
+];
+
+/// The commands and their words.
+fn command<'a>(alloc: Global) -> Result<Command<'a>, AllocError> {
+    let mut command = Command::new(alloc, "isofarm")
+        .about("Runs the steps of SQL sessions in their orders, under two-phase locking")
+        .version(VERSION)
+        .subcommand_required(true);
+    for row in &COMMANDS {
+        command = with(command, command_of(alloc, row))?;
+    }
+    Ok(command)
+}
+
+/// The command with one more below it.
+fn with<'a>(
+    command: Command<'a>,
+    below: Result<Command<'a>, AllocError>,
+) -> Result<Command<'a>, AllocError> {
+    match below {
+        Ok(below) => command.subcommand(below),
+        Err(error) => Err(error),
+    }
+}
+
+/// The command of a row.
+fn command_of<'a>(alloc: Global, row: &'static Row) -> Result<Command<'a>, AllocError> {
+    let mut command = Command::new(alloc, row.name).about(row.about);
+    for word in row.words {
+        command = command.arg(arg_of(alloc, *word))?;
+    }
+    Ok(command)
+}
+
+fn arg_of<'a>(alloc: Global, word: Word) -> Arg<'a> {
+    match word {
+        Word::Spec => spec_word(alloc),
+        Word::Rank => number_word(alloc, "RANK", "The number of a permutation, from 0"),
+        Word::First => number_word(alloc, "FIRST", "The number of the first permutation"),
+        Word::End => number_word(
+            alloc,
+            "END",
+            "The number behind that of the last permutation",
+        ),
+        Word::Every => every_word(alloc),
+        Word::Workers => workers_word(alloc),
+        Word::Progress => progress_word(alloc),
+        Word::Books => books_word(alloc, "BOOK", "Book files of one spec"),
+        Word::Book => book_word(alloc),
+        Word::Accepted => books_word(
+            alloc,
+            "ACCEPTED",
+            "Book files of outcomes that are accepted",
+        ),
+    }
+}
+
+fn every_word<'a>(alloc: Global) -> Arg<'a> {
+    Arg::new(alloc, "every")
+        .long("every")
+        .action(ArgAction::SetTrue)
+        .help("Runs every permutation, and skips none that a smaller one covers")
+}
+
+fn workers_word<'a>(alloc: Global) -> Arg<'a> {
+    Arg::new(alloc, "workers")
+        .long("workers")
+        .value_name("N")
+        .action(ArgAction::Set)
+        .value_parser(value_parser!(u8).range(1..=16))
+        .default_value("4")
+        .help("How many workers run it, from 1 to 16")
+}
+
+fn progress_word<'a>(alloc: Global) -> Arg<'a> {
+    Arg::new(alloc, "progress")
+        .long("progress")
+        .action(ArgAction::SetTrue)
+        .help("Tells on standard error how far it is")
+}
+
+fn books_word<'a>(alloc: Global, name: &'a str, help: &'a str) -> Arg<'a> {
+    Arg::new(alloc, name)
+        .required(true)
+        .action(ArgAction::Append)
+        .num_args(1..=MAX_BOOKS)
+        .help(help)
+}
+
+fn book_word<'a>(alloc: Global) -> Arg<'a> {
+    Arg::new(alloc, "BOOK")
+        .required(true)
+        .action(ArgAction::Set)
+        .help("A book file")
+}
+
+fn spec_word<'a>(alloc: Global) -> Arg<'a> {
+    Arg::new(alloc, "SPEC")
+        .required(true)
+        .action(ArgAction::Set)
+        .help("A spec file")
+}
+
+fn number_word<'a>(alloc: Global, name: &'a str, help: &'a str) -> Arg<'a> {
+    Arg::new(alloc, name)
+        .required(true)
+        .action(ArgAction::Set)
+        .value_parser(value_parser!(u64))
+        .help(help)
+}
+
+fn asked_of<'a>(alloc: Global, matches: &ArgMatches<'a>) -> Result<Option<Asked<'a>>, AllocError> {
+    let Some((name, words)) = matches.subcommand() else {
+        return Ok(None);
+    };
+    match name {
+        "check" => Ok(check_of_words(words)),
+        "one" => Ok(one_of_words(words)),
+        "count" => Ok(count_of_words(words)),
+        "run" => Ok(run_of_words(words)),
+        "join" => join_of_words(alloc, words),
+        "report" => Ok(report_of_words(words)),
+        "audit" => Ok(audit_of_words(words)),
+        "judge" => judge_of_words(alloc, words),
+        _ => Ok(None),
+    }
+}
+
+fn check_of_words<'a>(words: &ArgMatches<'a>) -> Option<Asked<'a>> {
+    let path = words.get_str("SPEC")?;
+    Some(Asked::Check { path })
+}
+
+fn one_of_words<'a>(words: &ArgMatches<'a>) -> Option<Asked<'a>> {
+    let path = words.get_str("SPEC")?;
+    let rank = words.get_one::<u64>("RANK")?;
+    Some(Asked::One { path, rank })
+}
+
+fn count_of_words<'a>(words: &ArgMatches<'a>) -> Option<Asked<'a>> {
+    let path = words.get_str("SPEC")?;
+    Some(Asked::Count { path })
+}
+
+fn run_of_words<'a>(words: &ArgMatches<'a>) -> Option<Asked<'a>> {
+    let path = words.get_str("SPEC")?;
+    let first = words.get_one::<u64>("FIRST")?;
+    let end = words.get_one::<u64>("END")?;
+    let workers = Workers::of(words.get_one::<u8>("workers")?)?;
+    Some(Asked::Run {
+        path,
+        first,
+        end,
+        every: words.get_flag("every"),
+        workers,
+        progress: words.get_flag("progress"),
+    })
+}
+
+fn join_of_words<'a>(
+    alloc: Global,
+    words: &ArgMatches<'a>,
+) -> Result<Option<Asked<'a>>, AllocError> {
+    match words.get_strs("BOOK") {
+        Some(paths) => Ok(Some(Asked::Join {
+            paths: Vec::from_slice(alloc, paths)?,
+        })),
+        None => Ok(None),
+    }
+}
+
+fn report_of_words<'a>(words: &ArgMatches<'a>) -> Option<Asked<'a>> {
+    let path = words.get_str("BOOK")?;
+    Some(Asked::Report { path })
+}
+
+fn audit_of_words<'a>(words: &ArgMatches<'a>) -> Option<Asked<'a>> {
+    let path = words.get_str("BOOK")?;
+    Some(Asked::Audit { path })
+}
+
+fn judge_of_words<'a>(
+    alloc: Global,
+    words: &ArgMatches<'a>,
+) -> Result<Option<Asked<'a>>, AllocError> {
+    let Some(path) = words.get_str("BOOK") else {
+        return Ok(None);
+    };
+    match words.get_strs("ACCEPTED") {
+        Some(accepted) => Ok(Some(Asked::Judge {
+            path,
+            accepted: Vec::from_slice(alloc, accepted)?,
+        })),
+        None => Ok(None),
+    }
+}

@@ -1,0 +1,100 @@
+//! A set of facts that grows by runs in the order of ranks.
+
+ghost use Rattle.std.specs.Prelude.{◌≡◌, ◌<◌, ◌≤◌, OnOk, OnErr, IfOk, length};
+ghost use Rattle.std.specs.FinSet as set;
+ghost use Rattle.fact_books.specs.Runs.{fact_in, IsNumbered};
+ghost use Rattle.fact_books.specs.Tables.{Extends};
+ghost use Rattle.fact_books.specs.Books.{IsKept};
+ghost use Rattle.fact_books.specs.Building.{added, built_of};
+
+use crate::run::{Run, Tag, add_run};
+use crate::table::Table;
+use rank_facts::Fact;
+use std::alloc::{AllocError, Global};
+use std::marker::Model;
+
+/// Facts of ranks up to `next`.
+pub struct Builder {
+    table: Table,
+    runs: Vec<Run>,
+    next: u64,
+}
+
+// Written out and not derived, so that who owns one calls this and does not let its parts go one by one.
+impl Drop for Builder {
+    fn drop(self) {
+        let Builder {
+            table: _table,
+            runs: _runs,
+            next: _,
+        } = self;
+    }
+}
+
+impl Model for Builder {
+    ghost use Rattle.std.specs.Coded.{codes};
+    ghost use Rattle.std.specs.FinSet as set;
+    ghost use Rattle.rank_facts.specs.contracts.fact.Fact as fact;
+    ghost use Rattle.fact_books.specs.Building.{Building, built_of, IsBuilt};
+
+    ghost Value = { Building };
+
+    ghost coded = { Prim.hlevel (codes, set.code, fact.the_row.coded) };
+
+    ghost view = { λ b. built_of b.table b.runs.items b.next };
+
+    ghost invariant = { λ b. IsBuilt b.table b.runs.items b.next };
+}
+
+impl Builder {
+    /// No facts yet.
+    pub fn new(alloc: Global) -> Builder
+        ensures facts { result.facts ≡ set.empty }
+        ensures next { result.next ≡ 0 }
+    {
+        Builder {
+            table: Table::new(alloc),
+            runs: Vec::new(alloc),
+            next: 0,
+        }
+    }
+
+    /// Adds the fact at each rank from `first` up to but not `end`, at the cost of one. A rank may get several facts.
+    pub fn push(&mut self, first: u64, end: u64, fact: &Fact) -> Result<(), AllocError>
+        requires in_order { self.old.next ≤ first }
+        requires some { first < end }
+        ensures ok { OnOk result (self.new ≡ added self.old first end fact.now) }
+        ensures err { OnErr result (self.new ≡ self.old) }
+    {
+        let tag = tag_of(&mut self.table, fact)?;
+        let last = self.runs.len().saturating_sub(1);
+        add_run(&mut self.runs, last, Run { first, end, tag })?;
+        self.next = first;
+        Ok(())
+    }
+
+    /// The table and the runs.
+    pub(crate) fn into_parts(self) -> (Table, Vec<Run>)
+        ensures is { built_of result.0 result.1.items self.next ≡ self }
+        ensures kept { IsKept result.0 result.1.items }
+    {
+        let Builder {
+            table,
+            runs,
+            next: _,
+        } = self;
+        (table, runs)
+    }
+}
+
+/// The tag that stands for the fact.
+fn tag_of(table: &mut Table, fact: &Fact) -> Result<Tag, AllocError>
+    ensures fact { IfOk result (λ tag. fact_in table.new tag ≡ fact.now) }
+    ensures numbered { IfOk result (λ tag. IsNumbered (length table.new) tag) }
+    ensures extends { Extends table.old table.new }
+{
+    match fact {
+        Fact::Ran(outcome) => Ok(Tag::Ran(table.number(outcome)?)),
+        Fact::Swap(place) => Ok(Tag::Swap(*place)),
+    }
+}

@@ -1,0 +1,51 @@
+//! A refusal of a file, as people read it.
+
+ghost use Rattle.std.specs.Prelude.{◌≡◌, [], ◌∷◌, IfOk, string_bytes};
+ghost use Rattle.fault_texts.specs.Explanations.{blank, explanation};
+
+use crate::place::{is_start, place_of};
+use std::alloc::{AllocError, Global};
+
+/// Where a file is refused, by line and column; its line there; a mark under the place; and what is wrong. Each stands on a line, and the last
+/// one has no end. Bytes of the line that are no text are shown as U+FFFD.
+pub fn explained(
+    alloc: Global,
+    path: &str,
+    text: &[u8],
+    offset: usize,
+    sentence: &str,
+) -> Result<String, AllocError>
+    ensures { IfOk result (λ told. string_bytes told ≡ explanation path.now text.now offset sentence.now) }
+{
+    let place = place_of(text, offset);
+    let line = String::from_utf8_lossy(alloc, &text[place.begin..place.end])?;
+    let blank = blank_of(alloc, &text[place.begin..place.at])?;
+    format!(in alloc;
+        "{path}:{}:{}\n{line}\n{blank}^\n{sentence}",
+        place.line, place.column
+    )
+}
+
+/// White space as wide as the characters of these bytes: tabs as they are, and a space for each other one.
+fn blank_of(alloc: Global, front: &[u8]) -> Result<String, AllocError>
+    ensures { IfOk result (λ white. string_bytes white ≡ blank front.now) }
+{
+    let mut white = String::new(alloc);
+    for byte in front {
+        white.push_str(blank_for(*byte))?;
+    }
+    Ok(white)
+}
+
+/// What stands in the mark's line for a byte.
+fn blank_for(byte: u8) -> &'static str
+    ensures { result.now ≡ blank (byte ∷ []) }
+{
+    if byte == b'\t' {
+        return "\t";
+    }
+    if is_start(byte) {
+        return " ";
+    }
+    ""
+}

@@ -1,6 +1,0 @@
-use Rattle.std.proofs.Common.{take}
-use Rattle.outcome_books.specs.Sweep.{OnlyRan}
-use Rattle.outcome_books.proofs.judging.only_ran.Given as goal
-
-abbrev pub invariant-loop-i : goal.invariant-loop-i
-invariant-loop-i l = OnlyRan (take l.i l.active)

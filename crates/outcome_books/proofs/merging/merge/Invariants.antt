@@ -1,9 +1,0 @@
-use Rattle.std.proofs.Common.{◌+◌, ◌-◌, length}
-use Rattle.outcome_books.specs.Runs.{IsMerging}
-use Rattle.outcome_books.proofs.merging.merge.Given as goal
-
-abbrev pub invariant-runs : goal.invariant-runs
-invariant-runs l = IsMerging l.left l.i l.right l.j l.out.items
-
-abbrev pub decreases-runs : goal.decreases-runs
-decreases-runs l = (length l.left - l.i) + (length l.right - l.j)

@@ -1,6 +1,0 @@
-use Rattle.std.proofs.Common.{◌≡◌, map, take}
-use Rattle.outcome_books.specs.Runs.{renamed}
-use Rattle.outcome_books.proofs.merging.renumber.Given as goal
-
-abbrev pub invariant-loop-run : goal.invariant-loop-run
-invariant-loop-run l = l.out.items ≡ map (renamed l.numbers) (take l.run-index l.runs)

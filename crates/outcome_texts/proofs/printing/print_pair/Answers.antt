@@ -1,6 +1,0 @@
-use Rattle.outcome_texts.proofs.Writing.{prints-after}
-use Rattle.outcome_texts.proofs.printing.print_pair.Goals as goal
-
--- the second part follows the first
-pub returns : goal.returns
-returns g c = prints-after _ _ _ _ _ _ _ c.in_ok-write_str.ensures c.write_str-2.ensures

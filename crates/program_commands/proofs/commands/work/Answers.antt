@@ -1,0 +1,35 @@
+use Rattle.std.proofs.Common.{◌≡◌, ◌⊎◌, [], sym, subst, map, Ok, Bor, List, ℕ}
+use Rattle.book_commands.specs.declared.finding.Finding.TheVariants.{Good}
+use Rattle.book_commands.specs.Joining.{IsJoinRun}
+use Rattle.book_commands.specs.Judging.{IsJudgeRun}
+use Rattle.program_commands.specs.Status.{join_status, judge_status}
+use Rattle.program_commands.specs.Commands.{IsDone, IsFound, IsTold}
+use Rattle.program_commands.proofs.commands.work.Goals as goal
+
+pub returns-in-One-clause-done : goal.returns-in-One-clause-done
+returns-in-One-clause-done g c =
+    subst (λ a. IsDone (g.O.Opener.bytes c.args.opener.now) g.W.Write.contents c.args.out.now c.one_of_file.new.out a c.one_of_file.result) (sym c.in-One.is)
+    c.one_of_file.ensures.done
+
+pub returns-in-Run-clause-done : goal.returns-in-Run-clause-done
+returns-in-Run-clause-done g c =
+    subst (λ a. IsDone (g.O.Opener.bytes c.args.opener.now) g.W.Write.contents c.args.out.now c.range_of_file.new.out a c.range_of_file.result)
+    (sym c.in-Run.is)
+    c.range_of_file.ensures.done
+
+pub returns-in-Join-clause-done : goal.returns-in-Join-clause-done
+returns-in-Join-clause-done g c =
+    subst (λ a. IsDone (g.O.Opener.bytes c.args.opener.now) g.W.Write.contents c.args.out.now c.join_of_files.new.out a c.join_of_files.result)
+    (sym c.in-Join.is)
+    (subst (λ ps. ((ps ≡ []) × (c.join_of_files.new.out ≡ c.args.out.now) × (c.join_of_files.result ≡ Ok Good))
+    ⊎ IsTold (IsJoinRun (g.O.Opener.bytes c.args.opener.now) (map (λ (p : Bor (List ℕ)). p.now) ps) g.W.Write.contents c.args.out.now
+    c.join_of_files.new.out) join_status
+    c.join_of_files.result) c.as_slice.ensures.value c.join_of_files.ensures.done)
+
+pub returns-in-Judge-clause-done : goal.returns-in-Judge-clause-done
+returns-in-Judge-clause-done g c =
+    subst (λ a. IsDone (g.O.Opener.bytes c.args.opener.now) g.W.Write.contents c.args.out.now c.judge_of_files.new.out a c.judge_of_files.result)
+    (sym c.in-Judge.is)
+    (subst (λ ps. IsFound (IsJudgeRun (g.O.Opener.bytes c.args.opener.now) c.in-Judge.path.now (map (λ (p : Bor (List ℕ)). p.now) ps)
+    g.W.Write.contents c.args.out.now
+    c.judge_of_files.new.out) judge_status c.judge_of_files.result) c.as_slice-in-Judge.ensures.value c.judge_of_files.ensures.done)

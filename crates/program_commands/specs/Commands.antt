@@ -1,0 +1,114 @@
+-- What the program does for what is asked.
+use Rattle.std.specs.Prelude.{◌≡◌, ℕ, ◌+◌, ◌⊎◌, Bool, false, not, List, [], map, take, Option, Result, Ok, Err, IfSome, ⊤}
+use Rattle.std.specs.Io.KnownBytes.{Keeps}
+use Rattle.transcripts.specs.Counted.{Wrote, Stopped, written, failures_of}
+use Rattle.transcripts.specs.declared.counted.Counted.{Counted}
+use Rattle.command_line.specs.declared.words.Asked.{Asked}
+use Rattle.command_line.specs.declared.words.Asked.TheVariants.{Check, One, Count, Run, Join, Report, Audit, Judge}
+use Rattle.spec_commands.specs.One.{IsOneRun}
+use Rattle.spec_commands.specs.Counting.{IsChecked, IsCounted}
+use Rattle.book_commands.specs.declared.finding.Finding.{Finding}
+use Rattle.book_commands.specs.declared.finding.Finding.TheVariants.{Good}
+use Rattle.book_commands.specs.Finding.{finding_status}
+use Rattle.book_commands.specs.Joining.{Files, IsJoinRun}
+use Rattle.book_commands.specs.Reporting.{IsFileReported}
+use Rattle.book_commands.specs.Auditing.{IsAuditRun}
+use Rattle.book_commands.specs.Judging.{IsJudgeRun}
+use Rattle.range_commands.specs.Ranges.{IsRangeRun}
+use Rattle.program_commands.specs.declared.files.TheConstants.{MAX_SPEC_READ}
+use Rattle.fault_texts.specs.declared.fault.ProgramFault.{ProgramFault}
+use Rattle.fault_texts.specs.declared.fault.ProgramFault.TheVariants.{NoMemory, Read, Write}
+use Rattle.fault_texts.specs.Status.{status_of}
+use Rattle.program_commands.specs.Status.{one_status, count_status, range_status, join_status, report_status, audit_status, judge_status}
+
+-- what a call finds is the program's answer, and a refusal is told with its status
+abbrev pub IsFound : {E : Type 0} → (Result Finding E → Type 0) → (E → ℕ) → Result Finding ProgramFault → Type 0
+IsFound Runs status (Ok finding) = Runs (Ok finding)
+IsFound {E} Runs status (Err fault) = (error : E) × Runs (Err error) × (status_of fault ≡ status error)
+
+-- the same of a call that only writes: nothing is amiss where it is done
+abbrev pub IsTold : {E : Type 0} → (Result ⊤ E → Type 0) → (E → ℕ) → Result Finding ProgramFault → Type 0
+IsTold Runs status (Ok finding) = (finding ≡ Good) × Runs (Ok tt)
+IsTold {E} Runs status (Err fault) = (error : E) × Runs (Err error) × (status_of fault ≡ status error)
+
+-- a call over the bytes of a spec file: the file's own, where they are known, as far as a spec file is read
+abbrev pub IsCalled : {E : Type 0} → Option (List ℕ) → (List ℕ → Result ⊤ E → Type 0) → (E → ℕ) → Result Finding ProgramFault → Type 0
+IsCalled known Runs status result = (bytes : List ℕ) × IfSome known (λ all. bytes ≡ take MAX_SPEC_READ all) × IsTold (Runs bytes) status result
+
+-- memory ran out, or the file at the path was not opened or not read
+abbrev pub IsReadFault : List ℕ → ProgramFault → Type 0
+IsReadFault path NoMemory = Unit {0}
+IsReadFault path (Read told) = told.now ≡ path
+IsReadFault path fault = ⊥
+
+-- a file that is not read is told so, and nothing is written
+abbrev pub IsUnread : {W : Type 0} → List ℕ → Counted W → Counted W → Result Finding ProgramFault → Type 0
+IsUnread path old new (Ok finding) = ⊥
+IsUnread path old new (Err fault) = (new ≡ old) × IsReadFault path fault
+
+-- what is asked for is done
+abbrev pub IsDone : Files → {W : Type 0} → (W → Option (List ℕ)) → Counted W → Counted W → Asked → Result Finding ProgramFault → Type 0
+IsDone files contents old new (One path rank) result =
+    IsUnread path.now old new result ⊎ IsCalled (files path.now) (λ bytes. IsOneRun contents old new bytes rank) one_status result
+IsDone files contents old new (Check path) result = IsUnread path.now old new result ⊎ IsCalled (files path.now) (IsChecked contents old new) count_status result
+IsDone files contents old new (Count path) result = IsUnread path.now old new result ⊎ IsCalled (files path.now) (IsCounted contents old new) count_status result
+IsDone files contents old new (Run path first end every workers progress) result =
+    IsUnread path.now old new result ⊎ IsCalled (files path.now) (λ bytes. IsRangeRun contents old new bytes first end (not every)) range_status result
+IsDone files contents old new (Join paths) result =
+    ((paths.items ≡ []) × (new ≡ old) × (result ≡ Ok Good)) ⊎ IsTold (IsJoinRun files (map (λ p. p.now) paths.items) contents old new) join_status result
+IsDone files contents old new (Report path) result = IsTold (IsFileReported (files path.now) contents old new) report_status result
+IsDone files contents old new (Audit path) result = IsFound (IsAuditRun (files path.now) contents old new) audit_status result
+IsDone files contents old new (Judge path accepted) result =
+    IsFound (IsJudgeRun files path.now (map (λ p. p.now) accepted.items) contents old new) judge_status result
+
+-- a flush that does not fail: the bytes that are known to be written stay so, and no call has failed; what a device has got of them is not known
+abbrev pub IsFlushed : {W : Type 0} → (W → Option (List ℕ)) → Counted W → Counted W → Type 0
+IsFlushed contents old new = Keeps (written contents old) (written contents new) × (failures_of new ≡ failures_of old)
+
+-- where the work is done there is a flush, and the answer stays; a fault of the flush is a write fault, and a fault of the work is passed on as it is
+abbrev pub IsPassedOn : {W X : Type 0} → (W → Option (List ℕ)) → Counted W → Counted W → Result X ProgramFault → Result X ProgramFault → Type 0
+IsPassedOn contents old new (Err fault) result = (new ≡ old) × (result ≡ Err fault)
+IsPassedOn contents old new (Ok answer) (Ok given) = (given ≡ answer) × IsFlushed contents old new
+IsPassedOn contents old new (Ok answer) (Err fault) =
+    Keeps (written contents old) (written contents new) × (failures_of new ≡ failures_of old + 1) × (fault ≡ Write)
+
+-- what is asked for is done, and where that is no fault, a flush follows
+abbrev pub IsAnswered : Files → {W : Type 0} → (W → Option (List ℕ)) → Counted W → Counted W → Asked → Result Finding ProgramFault → Type 0
+IsAnswered files {W} contents old new asked result =
+    (work : Result Finding ProgramFault) × (between : Counted W) × IsDone files contents old between asked work × IsPassedOn contents between new work result
+
+-- whether it is asked to be told how far a run is
+abbrev pub tells_progress : Asked → Bool
+tells_progress (One path rank) = false
+tells_progress (Check path) = false
+tells_progress (Count path) = false
+tells_progress (Run path first end every workers progress) = progress
+tells_progress (Join paths) = false
+tells_progress (Report path) = false
+tells_progress (Audit path) = false
+tells_progress (Judge path accepted) = false
+
+-- With which status the program ends. Where nothing is to be told on the way only a fault is told; where there is no memory for its line, that is
+-- told in its place
+abbrev pub IsEnd : {E : Type 0} → Asked → Counted E → Counted E → Result Finding ProgramFault → ℕ → Type 0
+IsEnd asked old new (Ok finding) status = (tells_progress asked ≡ false → new ≡ old) × (status ≡ finding_status finding)
+IsEnd asked old new (Err fault) status = (status ≡ status_of fault) ⊎ (status ≡ 4)
+
+-- a text is written in part, or it is written whole and the flush fails
+abbrev pub IsCut : {W : Type 0} → (W → Option (List ℕ)) → Counted W → Counted W → List ℕ → Type 0
+IsCut {W} contents old new text =
+    Stopped contents old new text
+    ⊎ ((between : Counted W) × Wrote contents old between text × IsPassedOn {X = ⊤} contents between new (Ok tt) (Err Write))
+
+-- words that ask for nothing: help is written and flushed; or nothing is written, and the words' fault is told, or that memory ran out; or help is cut
+-- by a write fault, which is told, or that there is no memory to tell it
+abbrev pub IsUsage : {W : Type 0} → (W → Option (List ℕ)) → Counted W → Counted W → ℕ → Type 0
+IsUsage {W} contents old new status =
+    ((status ≡ 0) × ((text : List ℕ) × (between : Counted W) × Wrote contents old between text × IsFlushed contents between new))
+    ⊎ (((new ≡ old) × ((status ≡ 2) ⊎ (status ≡ 4))) ⊎ (((text : List ℕ) × IsCut contents old new text) × ((status ≡ 5) ⊎ (status ≡ 4))))
+
+-- what the program does for some words: what these ask, or else their usage. What words ask has no definition
+abbrev pub IsRun : Files → {W E : Type 0} → (W → Option (List ℕ)) → Counted W → Counted W → Counted E → Counted E → ℕ → Type 0
+IsRun files contents old new told now status =
+    ((asked : Asked) × (result : Result Finding ProgramFault) × IsAnswered files contents old new asked result × IsEnd asked told now result status)
+    ⊎ IsUsage contents old new status

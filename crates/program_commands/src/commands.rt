@@ -1,0 +1,375 @@
+//! What the program does for the words of a command line.
+
+ghost use Rattle.std.specs.Prelude.{◌≡◌, ◌<◌, ◌⊎◌, [], map, Ok, OnOk, IfErr, false};
+ghost use Rattle.transcripts.specs.Counted.{Wrote, failures_of};
+ghost use Rattle.transcripts.specs.declared.counted.Counted.{Counted};
+ghost use Rattle.spec_commands.specs.One.{IsOneRun};
+ghost use Rattle.spec_commands.specs.Counting.{IsChecked, IsCounted};
+ghost use Rattle.book_commands.specs.Finding.{finding_status};
+ghost use Rattle.book_commands.specs.Joining.{IsJoinRun};
+ghost use Rattle.book_commands.specs.Reporting.{IsFileReported};
+ghost use Rattle.book_commands.specs.Auditing.{IsAuditRun};
+ghost use Rattle.book_commands.specs.Judging.{IsJudgeRun};
+ghost use Rattle.book_commands.specs.declared.finding.Finding.TheVariants.{Good};
+ghost use Rattle.range_commands.specs.Ranges.{IsRangeRun};
+ghost use Rattle.fault_texts.specs.Status.{status_of};
+ghost use Rattle.program_commands.specs.Status.{one_status, count_status, range_status, join_status, report_status, audit_status, judge_status};
+ghost use Rattle.fault_texts.specs.declared.fault.ProgramFault.TheVariants.{Write as WriteFault};
+ghost use Rattle.program_commands.specs.Commands.{IsAnswered, IsCut, IsDone, IsCalled, IsFlushed, IsFound, IsPassedOn, IsRun, IsTold, IsUnread, IsUsage, tells_progress};
+
+use crate::faults::{
+    audit_fault, count_fault, explained_fault, fault_at, join_fault, judge_fault, range_fault,
+    report_fault,
+};
+use crate::files::read_spec_file;
+use book_commands::{Finding, Opener, audit_file, join_files, judge_files, report_file};
+use clap::Error;
+use clap::error::ErrorKind;
+use command_line::{Asked, parse_words};
+use fault_texts::ProgramFault;
+use range_commands::run_told;
+use range_progress::{Workers, say};
+use spec_commands::{CountFault, check, count, one};
+use std::alloc::Global;
+use std::io::{self, Write};
+use std::sync::Wait;
+use std::thread::Threads;
+use std::time::Clock;
+use transcripts::Counted;
+
+/// Does what the words ask, the first of which is the program's name. What is asked for goes to `out`; faults go to `err`, and so does how far a
+/// run is, where that is asked for. The answer is the exit status: 0 good, 1 where a rank has not exactly one value, a fact is false or no
+/// accepted report is equal, 2 for a fault of the command line, 3 for what is refused, 4 for want of memory, 5 for a read or write fault.
+pub fn run<R: Threads + Wait + Clock + Sync, O: Opener, W: Write, E: Write + Send>(
+    rt: &R,
+    alloc: Global,
+    words: &[String],
+    opener: &O,
+    out: &mut Counted<W>,
+    err: &mut Counted<E>,
+) -> u8
+    requires { failures_of out.old ≡ 0 }
+    ensures { IsRun (O.bytes opener.now) W.contents out.old out.new err.old err.new result }
+{
+    let asked = match parse_words(alloc, words) {
+        Ok(asked) => asked,
+        Err(error) => return tell_usage(alloc, &error, out, err),
+    };
+    match answer(rt, alloc, &asked, opener, out, err) {
+        Ok(finding) => finding.status(),
+        Err(fault) => tell_fault(alloc, &fault, err),
+    }
+}
+
+/// Does what is asked. Where that is done, nothing of it is held back. Only a run that is to tell how far it is writes to `err`.
+pub fn answer<'a, R: Threads + Wait + Clock + Sync, O: Opener, W: Write, E: Write + Send>(
+    rt: &R,
+    alloc: Global,
+    asked: &Asked<'a>,
+    opener: &O,
+    out: &mut Counted<W>,
+    err: &mut Counted<E>,
+) -> Result<Finding, ProgramFault<'a>>
+    requires { failures_of out.old ≡ 0 }
+    ensures answer { IsAnswered (O.bytes opener.now) W.contents out.old out.new asked.now result }
+    ensures quiet { tells_progress asked.now ≡ false → err.new ≡ err.old }
+{
+    match work(rt, alloc, asked, opener, out, err) {
+        Ok(finding) => flushed(finding, out),
+        Err(fault) => Err(fault),
+    }
+}
+
+/// Writes what is asked for; some of it may be held back.
+fn work<'a, R: Threads + Wait + Clock + Sync, O: Opener, W: Write, E: Write + Send>(
+    rt: &R,
+    alloc: Global,
+    asked: &Asked<'a>,
+    opener: &O,
+    out: &mut Counted<W>,
+    err: &mut Counted<E>,
+) -> Result<Finding, ProgramFault<'a>>
+    requires { failures_of out.old ≡ 0 }
+    ensures done { IsDone (O.bytes opener.now) W.contents out.old out.new asked.now result }
+    ensures failures { OnOk result (failures_of out.new ≡ 0) }
+    ensures quiet { tells_progress asked.now ≡ false → err.new ≡ err.old }
+{
+    match asked {
+        Asked::One { path, rank } => one_of_file(alloc, path, *rank, opener, out),
+        Asked::Check { path } => check_of_file(alloc, path, opener, out),
+        Asked::Count { path } => count_of_file(alloc, path, opener, out),
+        Asked::Run {
+            path,
+            first,
+            end,
+            every,
+            workers,
+            progress,
+        } => range_of_file(
+            rt, alloc, path, *first, *end, !*every, workers, *progress, opener, out, err,
+        ),
+        Asked::Join { paths } => join_of_files(alloc, paths.as_slice(), opener, out),
+        Asked::Report { path } => report_of_file(alloc, path, opener, out),
+        Asked::Audit { path } => audit_of_file(rt, alloc, path, opener, out),
+        Asked::Judge { path, accepted } => {
+            judge_of_files(alloc, path, accepted.as_slice(), opener, out)
+        }
+    }
+}
+
+fn one_of_file<'a, O: Opener, W: Write>(
+    alloc: Global,
+    path: &'a str,
+    rank: u64,
+    opener: &O,
+    out: &mut Counted<W>,
+) -> Result<Finding, ProgramFault<'a>>
+    requires { failures_of out.old ≡ 0 }
+    ensures done { IsUnread path.now out.old out.new result ⊎ IsCalled (O.bytes opener.now path.now) (λ bytes. IsOneRun W.contents out.old out.new bytes rank) one_status result }
+    ensures failures { OnOk result (failures_of out.new ≡ 0) }
+{
+    let bytes = match read_spec_file(alloc, opener, path) {
+        Ok(bytes) => bytes,
+        Err(fault) => return Err(fault),
+    };
+    match one(alloc, bytes.as_slice(), rank, out) {
+        Ok(()) => Ok(Finding::Good),
+        Err(fault) => Err(fault_at(path, fault)),
+    }
+}
+
+fn check_of_file<'a, O: Opener, W: Write>(
+    alloc: Global,
+    path: &'a str,
+    opener: &O,
+    out: &mut Counted<W>,
+) -> Result<Finding, ProgramFault<'a>>
+    requires { failures_of out.old ≡ 0 }
+    ensures done { IsUnread path.now out.old out.new result ⊎ IsCalled (O.bytes opener.now path.now) (IsChecked W.contents out.old out.new) count_status result }
+    ensures failures { OnOk result (failures_of out.new ≡ 0) }
+{
+    let bytes = match read_spec_file(alloc, opener, path) {
+        Ok(bytes) => bytes,
+        Err(fault) => return Err(fault),
+    };
+    match check(alloc, bytes.as_slice(), out) {
+        Ok(()) => Ok(Finding::Good),
+        Err(CountFault::Spec(fault)) => Err(explained_fault(alloc, path, bytes.as_slice(), fault)),
+        Err(CountFault::Write(_)) => Err(ProgramFault::Write),
+    }
+}
+
+fn count_of_file<'a, O: Opener, W: Write>(
+    alloc: Global,
+    path: &'a str,
+    opener: &O,
+    out: &mut Counted<W>,
+) -> Result<Finding, ProgramFault<'a>>
+    requires { failures_of out.old ≡ 0 }
+    ensures done { IsUnread path.now out.old out.new result ⊎ IsCalled (O.bytes opener.now path.now) (IsCounted W.contents out.old out.new) count_status result }
+    ensures failures { OnOk result (failures_of out.new ≡ 0) }
+{
+    let bytes = match read_spec_file(alloc, opener, path) {
+        Ok(bytes) => bytes,
+        Err(fault) => return Err(fault),
+    };
+    match count(alloc, bytes.as_slice(), out) {
+        Ok(()) => Ok(Finding::Good),
+        Err(fault) => Err(count_fault(path, fault)),
+    }
+}
+
+fn range_of_file<'a, R: Threads + Wait + Clock + Sync, O: Opener, W: Write, E: Write + Send>(
+    rt: &R,
+    alloc: Global,
+    path: &'a str,
+    first: u64,
+    end: u64,
+    reduce: bool,
+    workers: &Workers,
+    is_told: bool,
+    opener: &O,
+    out: &mut Counted<W>,
+    err: &mut Counted<E>,
+) -> Result<Finding, ProgramFault<'a>>
+    requires { failures_of out.old ≡ 0 }
+    ensures done { IsUnread path.now out.old out.new result ⊎ IsCalled (O.bytes opener.now path.now) (λ bytes. IsRangeRun W.contents out.old out.new bytes first end reduce) range_status result }
+    ensures failures { OnOk result (failures_of out.new ≡ 0) }
+    ensures quiet { is_told ≡ false → err.new ≡ err.old }
+{
+    let bytes = match read_spec_file(alloc, opener, path) {
+        Ok(bytes) => bytes,
+        Err(fault) => return Err(fault),
+    };
+    match run_told(
+        rt,
+        alloc,
+        bytes.as_slice(),
+        first,
+        end,
+        reduce,
+        workers,
+        is_told,
+        out,
+        err,
+    ) {
+        Ok(()) => Ok(Finding::Good),
+        Err(fault) => Err(range_fault(path, fault)),
+    }
+}
+
+/// No books are no join: the command line asks for one at least.
+fn join_of_files<'a, O: Opener, W: Write>(
+    alloc: Global,
+    paths: &[&'a str],
+    opener: &O,
+    out: &mut Counted<W>,
+) -> Result<Finding, ProgramFault<'a>>
+    requires { failures_of out.old ≡ 0 }
+    ensures done { ((paths.now ≡ []) × (out.new ≡ out.old) × (result ≡ Ok Good))
+        ⊎ IsTold (IsJoinRun (O.bytes opener.now) (map (λ p. p.now) paths.now) W.contents out.old out.new) join_status result }
+    ensures failures { OnOk result (failures_of out.new ≡ 0) }
+{
+    if paths.is_empty() {
+        return Ok(Finding::Good);
+    }
+    match join_files(alloc, opener, paths, out) {
+        Ok(()) => Ok(Finding::Good),
+        Err(fault) => Err(join_fault(paths, fault)),
+    }
+}
+
+fn report_of_file<'a, O: Opener, W: Write>(
+    alloc: Global,
+    path: &'a str,
+    opener: &O,
+    out: &mut Counted<W>,
+) -> Result<Finding, ProgramFault<'a>>
+    requires { failures_of out.old ≡ 0 }
+    ensures done { IsTold (IsFileReported (O.bytes opener.now path.now) W.contents out.old out.new) report_status result }
+    ensures failures { OnOk result (failures_of out.new ≡ 0) }
+{
+    match report_file(alloc, opener, path, out) {
+        Ok(()) => Ok(Finding::Good),
+        Err(fault) => Err(report_fault(path, fault)),
+    }
+}
+
+fn audit_of_file<'a, R: Threads + Sync, O: Opener, W: Write>(
+    threads: &R,
+    alloc: Global,
+    path: &'a str,
+    opener: &O,
+    out: &mut Counted<W>,
+) -> Result<Finding, ProgramFault<'a>>
+    requires { failures_of out.old ≡ 0 }
+    ensures done { IsFound (IsAuditRun (O.bytes opener.now path.now) W.contents out.old out.new) audit_status result }
+    ensures failures { OnOk result (failures_of out.new ≡ 0) }
+{
+    match audit_file(threads, alloc, opener, path, out) {
+        Ok(finding) => Ok(finding),
+        Err(fault) => Err(audit_fault(path, fault)),
+    }
+}
+
+fn judge_of_files<'a, O: Opener, W: Write>(
+    alloc: Global,
+    path: &'a str,
+    accepted: &[&'a str],
+    opener: &O,
+    out: &mut Counted<W>,
+) -> Result<Finding, ProgramFault<'a>>
+    requires { failures_of out.old ≡ 0 }
+    ensures done { IsFound (IsJudgeRun (O.bytes opener.now) path.now (map (λ p. p.now) accepted.now) W.contents out.old out.new) judge_status result }
+    ensures failures { OnOk result (failures_of out.new ≡ 0) }
+{
+    match judge_files(alloc, opener, path, accepted, out) {
+        Ok(finding) => Ok(finding),
+        Err(fault) => Err(judge_fault(path, accepted, fault)),
+    }
+}
+
+/// Writes a text, with nothing held back.
+fn written<'a, W: Write>(text: &str, out: &mut Counted<W>) -> Result<(), ProgramFault<'a>>
+    requires { failures_of out.old ≡ 0 }
+    ensures whole { OnOk result ((between : Counted W) × Wrote W.contents out.old between text.now × IsFlushed W.contents between out.new) }
+    ensures fault { IfErr result (λ fault. (fault ≡ WriteFault) × IsCut W.contents out.old out.new text.now) }
+{
+    match out.write_str(text) {
+        Ok(()) => flushed((), out),
+        Err(_fault) => Err(ProgramFault::Write),
+    }
+}
+
+/// Has everything written that is held back, and then gives the answer.
+fn flushed<'a, X: Copy, W: Write>(answer: X, out: &mut Counted<W>) -> Result<X, ProgramFault<'a>>
+    requires { failures_of out.old < u64.MAX }
+    ensures { IsPassedOn W.contents out.old out.new (Ok answer) result }
+{
+    match out.flush() {
+        Ok(()) => Ok(answer),
+        Err(_fault) => Err(ProgramFault::Write),
+    }
+}
+
+/// Writes the fault's line and gives its status. Where there is no memory for the line, that is told in its place.
+fn tell_fault<E: Write>(alloc: Global, fault: &ProgramFault<'_>, err: &mut Counted<E>) -> u8
+    ensures { (result ≡ status_of fault.now) ⊎ (result ≡ 4) }
+{
+    match format!(in alloc; "{fault}\n") {
+        Ok(line) => {
+            say(line.as_str(), err);
+            fault.status()
+        }
+        Err(_) => tell_no_memory(err),
+    }
+}
+
+/// Writes that memory ran out, without any, and gives the status.
+fn tell_no_memory<E: Write>(err: &mut Counted<E>) -> u8
+    ensures { result ≡ 4 }
+{
+    say("isofarm: no memory\n", err);
+    4
+}
+
+/// Tells why the words of the command line, or the room to hold output back, were not had, and gives the exit status: 2 where a word
+/// is no UTF-8, 4 for want of memory.
+pub fn tell_words_fault<E: Write>(error: &io::Error, err: &mut Counted<E>) -> u8
+    ensures { (result ≡ 2) ⊎ (result ≡ 4) }
+{
+    if matches!(error.kind(), io::ErrorKind::InvalidData) {
+        say(
+            "error: invalid UTF-8 was detected in one or more arguments\n",
+            err,
+        );
+        return 2;
+    }
+    tell_no_memory(err)
+}
+
+/// Writes what the command line's fault or the help says, and gives the status.
+fn tell_usage<W: Write, E: Write>(
+    alloc: Global,
+    error: &Error,
+    out: &mut Counted<W>,
+    err: &mut Counted<E>,
+) -> u8
+    requires { failures_of out.old ≡ 0 }
+    ensures { IsUsage W.contents out.old out.new result }
+{
+    let Ok(text) = format!(in alloc; "{error}") else {
+        return tell_fault(alloc, &ProgramFault::NoMemory, err);
+    };
+    if matches!(error.kind(), ErrorKind::OutOfMemory) {
+        return tell_fault(alloc, &ProgramFault::NoMemory, err);
+    }
+    if error.use_stderr() {
+        say(text.as_str(), err);
+        return 2;
+    }
+    match written(text.as_str(), out) {
+        Ok(()) => 0,
+        Err(fault) => tell_fault(alloc, &fault, err),
+    }
+}

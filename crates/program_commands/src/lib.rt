@@ -1,0 +1,12 @@
+//! The farm as a library: what each command of the program does, over words, files and two writers.
+#![tactic(auto)]
+
+mod commands;
+mod faults;
+mod files;
+
+pub use book_commands::Opener;
+pub use commands::{answer, run, tell_words_fault};
+pub use fault_texts::ProgramFault;
+pub use faults::fault_at;
+pub use files::MAX_SPEC_READ;

@@ -1,5 +1,0 @@
-use Rattle.machine_model.proofs.Looks.{looked-opened}
-use Rattle.quiet_steps.proofs.laws.plans_open.Goals as goal
-
-pub returns : goal.returns
-returns c = looked-opened

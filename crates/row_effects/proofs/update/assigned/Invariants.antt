@@ -1,7 +1,0 @@
-use Rattle.std.proofs.Common.{◌≡◌, drop}
-use Rattle.row_effects.specs.Effect.{assigned}
-use Rattle.row_effects.proofs.update.assigned.Given as goal
-
--- with the columns that are left set too, it is the new row
-abbrev pub invariant-loop-assignment : goal.invariant-loop-assignment
-invariant-loop-assignment l = assigned l.old (drop l.assignment-index l.sets) l.values.items ≡ assigned l.old l.sets l.old

@@ -1,0 +1,34 @@
+//! A spec from the bytes of its file.
+
+ghost use Rattle.std.specs.Prelude.{IfErr, IfOk};
+ghost use Rattle.bound_specs.specs.Binding.{IsFileOf};
+ghost use Rattle.spec_commands.specs.SpecFiles.{IsNoSpec};
+
+use bound_specs::Spec;
+use spec_binding::{BindError, bind};
+use spec_reader::{SpecError, read_spec};
+use std::alloc::Global;
+
+/// Why bytes are no spec file. The first is tried before the second, but for want of memory.
+#[derive(Clone, Copy, PartialEq, Eq)]
+pub enum SpecFault {
+    /// The bytes are no spec.
+    Text(SpecError),
+    /// The statements of the spec are refused.
+    Binding(BindError),
+}
+
+/// The spec that bytes are the file of.
+pub fn spec_of(alloc: Global, bytes: &[u8]) -> Result<Spec, SpecFault>
+    ensures file { IfOk result (λ spec. IsFileOf bytes.now spec) }
+    ensures refused { IfErr result (IsNoSpec bytes.now) }
+{
+    let text = match read_spec(alloc, bytes) {
+        Ok(text) => text,
+        Err(error) => return Err(SpecFault::Text(error)),
+    };
+    match bind(alloc, &text) {
+        Ok(spec) => Ok(spec),
+        Err(error) => Err(SpecFault::Binding(error)),
+    }
+}

@@ -1,4 +1,0 @@
-use Rattle.sql_binding.proofs.joining.+joined_in.Given as goal
-
-abbrev pub decreases-joined_in : goal.decreases-joined_in
-decreases-joined_in l = l.turns

@@ -1,9 +1,0 @@
-use Rattle.std.proofs.Common.{◌≡◌, ◌++◌, List}
-use Rattle.sql_statements.specs.declared.condition.Condition.{Condition}
-use Rattle.binding_model.specs.Names.{maybe}
-use Rattle.binding_model.specs.Translation.{paired}
-use Rattle.sql_binding.proofs.joining.paired.Given as goal
-
-abbrev pub invariant-loop-part : goal.invariant-loop-part
-invariant-loop-part l = (rest : List Condition) →
-    l.pairs.items ++ paired l.joint (maybe l.waiting ++ rest) ≡ paired l.joint (l.yielded ++ rest)

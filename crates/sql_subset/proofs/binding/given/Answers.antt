@@ -1,7 +1,0 @@
-use Rattle.std.proofs.Common.{ap, length, map, arith}
-use Rattle.spec_reader.specs.Views.{session_tree}
-use Rattle.sql_subset.proofs.FileLemmas.{length-step_names}
-use Rattle.sql_subset.proofs.binding.given.Goals as goal
-
-pub some_lines-requires-clause-few : goal.some_lines-requires-clause-few
-some_lines-requires-clause-few c = omega (arith, ap length c.requires.names, length-step_names (map session_tree c.args.sessions.now), c.in-Some.ensures)

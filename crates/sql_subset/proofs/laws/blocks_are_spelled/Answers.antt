@@ -1,5 +1,0 @@
-use Rattle.sql_subset.proofs.ReadLemmas.{spelled-is, refused-is, fault-not}
-use Rattle.sql_subset.proofs.laws.blocks_are_spelled.Goals as goal
-
-pub returns : goal.returns
-returns c = record { spelled = spelled-is; refused = refused-is; memory = fault-not }

@@ -1,5 +1,0 @@
-use Rattle.bound_specs.proofs.FileLemmas.{one-file}
-use Rattle.sql_subset.proofs.laws.one_file.Goals as goal
-
-pub returns : goal.returns
-returns c = one-file

@@ -1,6 +1,0 @@
-use Rattle.std.proofs.Common.{subst}
-use Rattle.sql_subset.proofs.MemoryLemmas.{Named, file-named}
-use Rattle.sql_subset.proofs.laws.refusals_are_named.Goals as goal
-
-pub returns : goal.returns
-returns c = λ text tree e told. subst Named told (file-named text tree)

@@ -1,7 +1,0 @@
-use Rattle.std.proofs.Common.{◌≡◌, drop, ◌++◌}
-use Rattle.row_effects.specs.Effect.{numbered}
-use Rattle.statement_effects.proofs.insert.numbered_from.Given as goal
-
--- with those that are left they are all
-abbrev pub invariant-loop-row : goal.invariant-loop-row
-invariant-loop-row l = l.writes ++ numbered l.table l.number (drop l.row-index l.new) ≡ numbered l.table l.first l.new

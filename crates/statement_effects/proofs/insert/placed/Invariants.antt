@@ -1,7 +1,0 @@
-use Rattle.std.proofs.Common.{drop}
-use Rattle.row_tables.specs.Layers.{sight}
-use Rattle.statement_effects.proofs.PlaceLemmas.{Placing}
-use Rattle.statement_effects.proofs.insert.placed.Given as goal
-
-abbrev pub invariant-loop-row : goal.invariant-loop-row
-invariant-loop-row l = Placing l.table l.key_column (sight l.session l.store) l.new (drop l.row-index l.new) l.writes l.keys
