@@ -13,7 +13,7 @@ pub(crate) fn refused() -> io::Error {
 }
 
 pub(crate) fn spec_of(alloc: Global, text: &[u8]) -> io::Result<Spec> {
-    match spec_commands::spec_of(alloc, text) {
+    match spec_binding::spec_of(alloc, text) {
         Ok(spec) => Ok(spec),
         Err(_) => Err(refused()),
     }

@@ -6,7 +6,7 @@ use crate::error::AuditError;
 use crate::finding::{finding_of, told};
 use crate::pieces::pieces_of;
 use crate::sharing::{all_of, findings_of, most_pieces};
-use crate::source::spec_of;
+use crate::source::spec_of_book;
 use fact_books::Book;
 use std::alloc::Global;
 use std::thread::Threads;
@@ -19,7 +19,7 @@ pub fn audit_plain(alloc: Global, book: &Book) -> Result<(), AuditError>
     ensures { IsAudit book.now result }
 {
     let (outcomes, runs) = book.parts();
-    let spec = spec_of(alloc, book)?;
+    let spec = spec_of_book(alloc, book)?;
     told(finding_of(alloc, &spec, outcomes, runs))
 }
 

@@ -6,12 +6,11 @@ ghost use Rattle.bound_specs.specs.Binding.{IsFileOf};
 
 use bound_specs::Spec;
 use fact_books::Book;
-use spec_binding::bind;
-use spec_reader::read_spec;
+use spec_binding::spec_of;
 use std::alloc::{AllocError, Global};
 
 /// The spec of a book.
-pub(crate) fn spec_of(alloc: Global, book: &Book) -> Result<Spec, AllocError>
+pub(crate) fn spec_of_book(alloc: Global, book: &Book) -> Result<Spec, AllocError>
     ensures { IfOk result (λ spec. spec ≡ book.now.file) }
 {
     book.known();
@@ -23,10 +22,7 @@ pub(crate) fn spec_of(alloc: Global, book: &Book) -> Result<Spec, AllocError>
 pub(crate) fn bound_spec(alloc: Global, text: &str) -> Result<Spec, AllocError>
     ensures { IfOk result (λ spec. (file : SpecFile) → IsFileOf text.now file → spec ≡ file) }
 {
-    let Ok(read) = read_spec(alloc, text.as_bytes()) else {
-        return Err(AllocError);
-    };
-    let Ok(spec) = bind(alloc, &read) else {
+    let Ok(spec) = spec_of(alloc, text.as_bytes()) else {
         return Err(AllocError);
     };
     Ok(spec)

@@ -6,7 +6,7 @@ use Rattle.fact_books.specs.Books.{Contents}
 use Rattle.book_audit.specs.Audit.{IsAudit}
 use Rattle.book_audit.specs.declared.error.AuditError.{AuditError}
 use Rattle.book_audit.specs.declared.error.AuditError.TheVariants.{False}
-use Rattle.spec_commands.specs.Counting.{number_line}
+use Rattle.transcripts.specs.Lines.{number_line}
 use Rattle.book_commands.specs.declared.finding.Finding.{Finding}
 use Rattle.book_commands.specs.declared.finding.Finding.TheVariants.{Good, Bad}
 use Rattle.book_commands.specs.declared.auditing.AuditFault.{AuditFault}

@@ -12,7 +12,7 @@ use Rattle.fact_books.specs.Values.{AreValues, IsNotReported}
 use Rattle.accepted_outputs.specs.Judging.{IsVerdict}
 use Rattle.accepted_outputs.specs.declared.verdict.Verdict.{Verdict}
 use Rattle.accepted_outputs.specs.declared.verdict.Verdict.TheVariants.{Matches, Differs}
-use Rattle.spec_commands.specs.Counting.{number_line}
+use Rattle.transcripts.specs.Lines.{number_line}
 use Rattle.book_commands.specs.declared.finding.Finding.{Finding}
 use Rattle.book_commands.specs.declared.finding.Finding.TheVariants.{Good, Bad}
 use Rattle.book_commands.specs.declared.judging.NoReport.{NoReport}

@@ -10,11 +10,10 @@ use crate::joining::{FileFault, book_of_file};
 use crate::opener::Opener;
 use book_audit::{AuditError, audit};
 use fact_books::Book;
-use spec_commands::write_count;
 use std::alloc::{AllocError, Global};
 use std::io::Write;
 use std::thread::Threads;
-use transcripts::{Counted, WriteFault};
+use transcripts::{Counted, WriteFault, write_count};
 
 /// Why what an audit tells was not written. Each is tried before those below it, but for want of memory.
 #[derive(Clone, Copy, PartialEq, Eq)]

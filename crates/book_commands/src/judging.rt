@@ -11,10 +11,9 @@ use crate::opener::Opener;
 use accepted_outputs::{Verdict, judge, reports_have_few_sessions};
 use fact_books::{Report, ReportError, report};
 use itoa::Buffer;
-use spec_commands::{write_count, write_number};
 use std::alloc::Global;
 use std::io::Write;
-use transcripts::{Counted, WriteFault};
+use transcripts::{Counted, WriteFault, write_count, write_number};
 
 /// Why the file at a path gives no report. The first is tried before the second.
 #[derive(Clone, Copy, PartialEq, Eq)]

@@ -13,7 +13,7 @@ use crate::opener::Opener;
 use crate::texts::Texts;
 use bound_specs::Spec;
 use fact_books::{Book, ReportError, report};
-use spec_commands::spec_of;
+use spec_binding::spec_of;
 use std::alloc::Global;
 use std::io::Write;
 use transcripts::{Counted, Outcome, WriteFault, print_rank};

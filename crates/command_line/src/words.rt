@@ -2,14 +2,17 @@
 
 use clap::error::ErrorKind;
 use clap::{Arg, ArgAction, ArgMatches, Command, Error, value_parser};
-use range_progress::Workers;
+use shard_board::{MAX_SEATS, Workers};
 use std::alloc::{AllocError, Global};
 
 /// The version of the program. From which commit and with which kit it was built is known to what builds it alone.
 const VERSION: &str = "0.1.0";
 
 /// The books of a join, and the accepted books of a judgement, at most.
-const MAX_BOOKS: usize = 1_000;
+pub const MAX_BOOKS: usize = 1_000;
+
+/// How many workers run a range where the words name no number.
+const DEFAULT_WORKERS: &str = "4";
 
 /// What the words ask for.
 #[derive(Drop)]
@@ -69,6 +72,19 @@ fn no_command(alloc: Global) -> Result<Error, AllocError> {
     command(alloc)?.error(ErrorKind::MissingSubcommand, "no command")
 }
 
+/// A command.
+#[derive(Clone, Copy, Drop)]
+enum Name {
+    Check,
+    One,
+    Count,
+    Run,
+    Join,
+    Report,
+    Audit,
+    Judge,
+}
+
 /// A word that a command takes.
 #[derive(Clone, Copy, Drop)]
 enum Word {
@@ -84,32 +100,37 @@ enum Word {
     Accepted,
 }
 
-/// A command: its name, what it does, and its words in their order.
+/// A command as the command line has it: how it is spelled, what it does, and its words in their order.
 #[derive(Clone, Copy, Drop)]
 struct Row {
-    name: &'static str,
+    name: Name,
+    spelled: &'static str,
     about: &'static str,
     words: &'static [Word],
 }
 
 static COMMANDS: [Row; 8] = [
     Row {
-        name: "check",
+        name: Name::Check,
+        spelled: "check",
         about: "Prints how much a spec has, or where it is wrong and why",
         words: &[Word::Spec],
     },
     Row {
-        name: "one",
+        name: Name::One,
+        spelled: "one",
         about: "Runs one permutation and prints what each session saw",
         words: &[Word::Spec, Word::Rank],
     },
     Row {
-        name: "count",
+        name: Name::Count,
+        spelled: "count",
         about: "Prints how many permutations a spec has",
         words: &[Word::Spec],
     },
     Row {
-        name: "run",
+        name: Name::Run,
+        spelled: "run",
         about: "Runs a range of permutations and prints the book of what they show",
         words: &[
             Word::Spec,
@@ -121,22 +142,26 @@ static COMMANDS: [Row; 8] = [
         ],
     },
     Row {
-        name: "join",
+        name: Name::Join,
+        spelled: "join",
         about: "Prints one book with the facts of all",
         words: &[Word::Books],
     },
     Row {
-        name: "report",
+        name: Name::Report,
+        spelled: "report",
         about: "Prints what each session saw in each permutation",
         words: &[Word::Book],
     },
     Row {
-        name: "audit",
+        name: Name::Audit,
+        spelled: "audit",
         about: "Tests each fact of a book again, and prints the first permutation with a false one",
         words: &[Word::Book],
     },
     Row {
-        name: "judge",
+        name: Name::Judge,
+        spelled: "judge",
         about: "Prints which accepted book tells the same, or where each differs first",
         words: &[Word::Book, Word::Accepted],
     },
@@ -167,7 +192,7 @@ fn with<'a>(
 
 /// The command of a row.
 fn command_of<'a>(alloc: Global, row: &'static Row) -> Result<Command<'a>, AllocError> {
-    let mut command = Command::new(alloc, row.name).about(row.about);
+    let mut command = Command::new(alloc, row.spelled).about(row.about);
     for word in row.words {
         command = command.arg(arg_of(alloc, *word))?;
     }
@@ -209,8 +234,8 @@ fn workers_word<'a>(alloc: Global) -> Arg<'a> {
         .long("workers")
         .value_name("N")
         .action(ArgAction::Set)
-        .value_parser(value_parser!(u8).range(1..=16))
-        .default_value("4")
+        .value_parser(value_parser!(u8).range(1..=i64::from(MAX_SEATS)))
+        .default_value(DEFAULT_WORKERS)
         .help("How many workers run it, from 1 to 16")
 }
 
@@ -251,20 +276,32 @@ fn number_word<'a>(alloc: Global, name: &'a str, help: &'a str) -> Arg<'a> {
         .help(help)
 }
 
+/// The command that is spelled so.
+fn name_of(spelled: &str) -> Option<Name> {
+    for row in &COMMANDS {
+        if row.spelled == spelled {
+            return Some(row.name);
+        }
+    }
+    None
+}
+
 fn asked_of<'a>(alloc: Global, matches: &ArgMatches<'a>) -> Result<Option<Asked<'a>>, AllocError> {
-    let Some((name, words)) = matches.subcommand() else {
+    let Some((spelled, words)) = matches.subcommand() else {
+        return Ok(None);
+    };
+    let Some(name) = name_of(spelled) else {
         return Ok(None);
     };
     match name {
-        "check" => Ok(check_of_words(words)),
-        "one" => Ok(one_of_words(words)),
-        "count" => Ok(count_of_words(words)),
-        "run" => Ok(run_of_words(words)),
-        "join" => join_of_words(alloc, words),
-        "report" => Ok(report_of_words(words)),
-        "audit" => Ok(audit_of_words(words)),
-        "judge" => judge_of_words(alloc, words),
-        _ => Ok(None),
+        Name::Check => Ok(check_of_words(words)),
+        Name::One => Ok(one_of_words(words)),
+        Name::Count => Ok(count_of_words(words)),
+        Name::Run => Ok(run_of_words(words)),
+        Name::Join => join_of_words(alloc, words),
+        Name::Report => Ok(report_of_words(words)),
+        Name::Audit => Ok(audit_of_words(words)),
+        Name::Judge => judge_of_words(alloc, words),
     }
 }
 

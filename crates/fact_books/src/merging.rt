@@ -4,13 +4,14 @@ ghost use Rattle.std.specs.Prelude.{◌≡◌, IfOk, length, map, ◌≤◌, ◌
 ghost use Rattle.fact_books.specs.Runs.{AddsAll, KeepsAllSound, KeepsAllFrom, firsts, IsRising, AllSound, LeftIsNext, RightIsNext, renamed};
 
 use crate::run::{Run, Tag, add_run};
+use rank_facts::MAX_PLACES;
 use std::alloc::{AllocError, Global};
 
 /// Where the last run of each tag went, so that a run can grow there. Nothing depends on its answers.
 #[derive(Drop)]
 struct Hints {
     ran: Vec<usize>,
-    swap: [usize; 256],
+    swap: [usize; MAX_PLACES],
 }
 
 impl Hints {
@@ -65,7 +66,7 @@ pub(crate) fn merge(
 {
     let mut hints = Hints {
         ran: vec![in alloc; usize::MAX; outcomes]?,
-        swap: [usize::MAX; 256],
+        swap: [usize::MAX; MAX_PLACES],
     };
     let mut out = Vec::new(alloc);
     let mut i = 0;

@@ -22,7 +22,7 @@ use Rattle.book_jobs.specs.Jobs.{InLeaves, IsJobOf, IsNotMade}
 use Rattle.fact_books.specs.Values.{IsNotReported}
 use Rattle.shard_board.specs.Changes.{IsPlanOf}
 use Rattle.shard_farm.specs.Farming.{InShards, AreShardFacts, IsNotFarmed}
-use Rattle.spec_commands.specs.SpecFiles.{IsNoSpec}
+use Rattle.spec_binding.specs.SpecFiles.{IsNoSpec}
 use Rattle.book_commands.specs.declared.reporting.ReportFault.TheVariants.{Report, Write}
 use Rattle.book_commands.specs.Reporting.{IsReportText}
 use Rattle.range_progress.specs.Cutting.{IsInOne}

@@ -11,7 +11,7 @@ use bound_specs::Spec;
 use fact_books::{Book, JoinError, join, joins_are_unions};
 use session_machine::RunError;
 use shard_farm::{FarmError, Gate, farm_run};
-use spec_commands::{SpecFault, spec_of};
+use spec_binding::{SpecFault, spec_of};
 use std::alloc::Global;
 use std::io::Write;
 use std::sync::Wait;

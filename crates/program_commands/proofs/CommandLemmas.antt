@@ -4,10 +4,10 @@ use Rattle.std.proofs.Common.{◌≡◌, refl, List, ℕ, Option, Result, Ok, Er
 use Rattle.transcripts.specs.Counted.{Wrote}
 use Rattle.transcripts.specs.declared.counted.Counted.{Counted}
 use Rattle.spec_reader.specs.declared.error.Kind.TheVariants.{NoMemory}
-use Rattle.spec_commands.specs.declared.spec.SpecFault.{SpecFault}
-use Rattle.spec_commands.specs.declared.spec.SpecFault.TheVariants.{Text}
+use Rattle.spec_binding.specs.declared.spec.SpecFault.{SpecFault}
+use Rattle.spec_binding.specs.declared.spec.SpecFault.TheVariants.{Text}
 use Rattle.spec_commands.specs.declared.counting.CountFault.TheVariants.{Spec}
-use Rattle.spec_commands.specs.SpecFiles.{IsNoSpec}
+use Rattle.spec_binding.specs.SpecFiles.{IsNoSpec}
 use Rattle.spec_commands.specs.Counting.{IsChecked}
 use Rattle.fault_texts.specs.declared.fault.ProgramFault.{ProgramFault}
 use Rattle.fault_texts.specs.declared.fault.ProgramFault.TheVariants.{Write}

@@ -14,8 +14,8 @@ use Rattle.book_format.specs.declared.error.BookError.{BookError}
 use Rattle.book_format.specs.declared.error.BookError.TheVariants as book_error
 use Rattle.book_format.specs.declared.write_error.WriteError.{WriteError}
 use Rattle.book_format.specs.declared.write_error.WriteError.TheVariants as write_error
-use Rattle.spec_commands.specs.declared.spec.SpecFault.{SpecFault}
-use Rattle.spec_commands.specs.declared.spec.SpecFault.TheVariants as spec_fault
+use Rattle.spec_binding.specs.declared.spec.SpecFault.{SpecFault}
+use Rattle.spec_binding.specs.declared.spec.SpecFault.TheVariants as spec_fault
 use Rattle.spec_commands.specs.declared.single.OneFault.{OneFault}
 use Rattle.spec_commands.specs.declared.single.OneFault.TheVariants as one_fault
 use Rattle.spec_commands.specs.declared.counting.CountFault.{CountFault}

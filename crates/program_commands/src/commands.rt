@@ -28,14 +28,14 @@ use clap::error::ErrorKind;
 use command_line::{Asked, parse_words};
 use fault_texts::ProgramFault;
 use range_commands::run_told;
-use range_progress::{Workers, say};
+use shard_board::Workers;
 use spec_commands::{CountFault, check, count, one};
 use std::alloc::Global;
 use std::io::{self, Write};
 use std::sync::Wait;
 use std::thread::Threads;
 use std::time::Clock;
-use transcripts::Counted;
+use transcripts::{Counted, say};
 
 /// Does what the words ask, the first of which is the program's name. What is asked for goes to `out`; faults go to `err`, and so does how far a
 /// run is, where that is asked for. The answer is the exit status: 0 good, 1 where a rank has not exactly one value, a fact is false or no

@@ -15,8 +15,8 @@ use fact_books::ReportError;
 use fault_texts::{ProgramFault, binding_sentence, explained, text_sentence};
 use range_commands::RangeFault;
 use session_machine::{RunError, StartError};
-use spec_binding::{BindError, BindErrorKind};
-use spec_commands::{CountFault, OneFault, SpecFault};
+use spec_binding::{BindError, BindErrorKind, SpecFault};
+use spec_commands::{CountFault, OneFault};
 use spec_reader::{SpecError, SpecErrorKind};
 use std::alloc::{AllocError, Global};
 

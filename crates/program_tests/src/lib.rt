@@ -8,8 +8,6 @@
 #[cfg(test)]
 mod audits;
 #[cfg(test)]
-mod book_commands;
-#[cfg(test)]
 mod checks;
 #[cfg(test)]
 mod commands;
@@ -21,6 +19,8 @@ mod errors;
 mod headlines;
 #[cfg(test)]
 mod memory;
+#[cfg(test)]
+mod over_books;
 #[cfg(test)]
 mod progress;
 #[cfg(test)]

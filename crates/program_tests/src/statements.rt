@@ -4,9 +4,9 @@ ghost use Rattle.bound_statements.specs.Plan.{HasKeys};
 
 use crate::disks::{assert_tells, assert_text, holding, tell};
 use bound_specs::Spec;
-use bound_statements::nowait;
+use bound_statements::{Bound, lock_plan, nowait};
 use lock_modes::{Mode, Place, Value};
-use spec_binding::{BindError, Bound, bind, lock_plan};
+use spec_binding::{BindError, bind};
 use spec_reader::read_spec;
 use std::alloc::{AllocError, Global};
 use std::process::Abort;

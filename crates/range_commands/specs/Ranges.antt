@@ -13,7 +13,7 @@ use Rattle.shard_farm.specs.declared.error.FarmError.TheVariants as farm_error
 use Rattle.fact_books.specs.Books.{Contents}
 use Rattle.fact_books.specs.Building.{AreFactsOf}
 use Rattle.book_format.specs.Writing.{IsWritten}
-use Rattle.spec_commands.specs.SpecFiles.{IsNoSpec}
+use Rattle.spec_binding.specs.SpecFiles.{IsNoSpec}
 use Rattle.range_commands.specs.declared.ranges.RangeFault.{RangeFault}
 use Rattle.range_commands.specs.declared.ranges.RangeFault.TheVariants as range_fault
 use Rattle.range_commands.specs.declared.ranges.TheConstants.{MAX_RANGE}

@@ -9,10 +9,11 @@ ghost use Rattle.range_commands.specs.Ranges.{IsRangeOf, IsOutsideRange, IsNoRan
 use book_format::{WriteError, write_book};
 use bound_specs::Spec;
 use fact_books::Book;
-use range_progress::{Progress, Workers, shards_of};
+use range_progress::{Progress, shards_of};
 use session_machine::RunError;
+use shard_board::Workers;
 use shard_farm::{FarmError, Gate, OpenGate, farm_run};
-use spec_commands::{SpecFault, spec_of};
+use spec_binding::{SpecFault, spec_of};
 use std::alloc::Global;
 use std::io::Write;
 use std::sync::Wait;

@@ -7,14 +7,13 @@ ghost use Rattle.range_progress.specs.declared.progress.TheConstants.{GAP_NANOS}
 
 use crate::cutting::SHARD_RANKS;
 use crate::headway::Headway;
-use crate::telling::say;
 use shard_board::Gate;
 use std::alloc::{AllocError, Global};
 use std::io::Write;
 use std::sync::Mutex;
 use std::sync::atomic::{AtomicU64, Ordering};
 use std::time::{Clock, Duration, Instant};
-use transcripts::Counted;
+use transcripts::{Counted, say};
 
 // An eighth of a second, so that no second has more than ten lines, the last one of a run among them.
 const GAP_NANOS: u64 = 125_000_000;

@@ -11,4 +11,4 @@ pub use laws::{
     plans_open, quiet_is_mutual, quiet_steps_are_calm, quiet_steps_commute, steps_have_footprints,
     steps_have_footprints_until, swap_keeps_worlds, swaps_hold, swaps_lead_down,
 };
-pub use shard::{MAX_RANKS, Shard};
+pub use shard::{MAX_PLACES, MAX_RANKS, Shard};

@@ -13,6 +13,7 @@ mod rule;
 mod seat;
 mod seating;
 mod turns;
+mod workers;
 
 pub use board::{Board, is_plan};
 pub use closing::Closed;
@@ -22,3 +23,4 @@ pub use error::{
 pub use gate::{Gate, OpenGate};
 pub use history::{Call, Entry, Facts, Receipt};
 pub use seat::{Note, Seat};
+pub use workers::Workers;

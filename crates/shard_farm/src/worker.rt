@@ -12,8 +12,7 @@ use fact_books::Book;
 use session_machine::RunError;
 use shard_board::{Board, Gate, Seat};
 use shard_books::of_walk;
-use spec_binding::bind;
-use spec_reader::read_spec;
+use spec_binding::spec_of;
 use std::alloc::Global;
 use std::sync::Wait;
 use step_reducer::{Shard, ShardWalk};
@@ -33,19 +32,6 @@ impl Worker {
     {
         number < self.missed.len() && self.missed[number]
     }
-}
-
-/// The spec of a text. None where memory is wanted, or the text is none.
-fn spec_of(alloc: Global, text: &str) -> Option<Spec>
-    ensures { IfSome result (λ spec. IsFileOf text.now spec) }
-{
-    let Ok(read) = read_spec(alloc, text.as_bytes()) else {
-        return None;
-    };
-    let Ok(spec) = bind(alloc, &read) else {
-        return None;
-    };
-    Some(spec)
 }
 
 /// Has a walk go on to a shard, or begin anew where it stands behind the first of the shard's ranks.
@@ -220,7 +206,7 @@ fn served_or_marked<R: Wait, G: Gate>(
     ensures again { result ≡ true → Serves plan.entry.reduce board.now.file.run plan.entry.shards.now worker.new.seat worker.new.missed.items }
     ensures worked { result ≡ false → HasWorked plan.entry.reduce board.now.file.run plan.entry.shards.now worker.new.seat worker.new.missed.items }
 {
-    let Some(spec) = spec_of(alloc, plan.text) else {
+    let Ok(spec) = spec_of(alloc, plan.text.as_bytes()) else {
         worker.missed[number as usize] = true;
         return true;
     };

@@ -1,15 +1,13 @@
 -- What the program writes for how much a spec has.
-use Rattle.std.specs.Prelude.{◌≡◌, ℕ, ◌++◌, List, length, codes, decimal, Option, Result, Ok, Err, ⊤}
+use Rattle.std.specs.Prelude.{◌≡◌, ℕ, ◌++◌, List, length, codes, Option, Result, Ok, Err, ⊤}
 use Rattle.bound_specs.specs.Spec.{SpecFile, ranks}
 use Rattle.bound_specs.specs.Binding.{IsFileOf}
 use Rattle.transcripts.specs.Counted.{Wrote, Stopped}
+use Rattle.transcripts.specs.Lines.{number_line}
 use Rattle.transcripts.specs.declared.counted.Counted.{Counted}
 use Rattle.spec_commands.specs.declared.counting.CountFault.{CountFault}
 use Rattle.spec_commands.specs.declared.counting.CountFault.TheVariants.{Spec, Write}
-use Rattle.spec_commands.specs.SpecFiles.{IsNoSpec}
-
-abbrev pub number_line : ℕ → List ℕ
-number_line n = decimal n ++ codes "\n"
+use Rattle.spec_binding.specs.SpecFiles.{IsNoSpec}
 
 -- the number of the spec's permutations is written, or a front of it; or nothing, where the bytes are no spec file
 abbrev pub IsCounted : {W : Type 0} → (W → Option (List ℕ)) → Counted W → Counted W → List ℕ → Result ⊤ CountFault → Type 0

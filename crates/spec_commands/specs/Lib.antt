@@ -1,3 +1,2 @@
-pub mod SpecFiles
 pub mod One
 pub mod Counting

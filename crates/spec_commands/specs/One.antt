@@ -11,7 +11,7 @@ use Rattle.machine_model.specs.Outcome.{outcome_of_line}
 use Rattle.session_machine.specs.Running.{IsNotRunBy}
 use Rattle.spec_commands.specs.declared.single.OneFault.{OneFault}
 use Rattle.spec_commands.specs.declared.single.OneFault.TheVariants.{Spec, OutOfRange, Run, Write}
-use Rattle.spec_commands.specs.SpecFiles.{IsNoSpec}
+use Rattle.spec_binding.specs.SpecFiles.{IsNoSpec}
 
 -- the text tells the rank and then the outcome of its line, by the sequential machine
 pub record IsAnswer (file : SpecFile) (rank : ℕ) (text : List ℕ) : Type 0 where

@@ -1,16 +1,15 @@
 //! How much a spec has, from its bytes to the text.
 
-ghost use Rattle.std.specs.Prelude.{◌≡◌, ◌<◌, ◌++◌, length};
+ghost use Rattle.std.specs.Prelude.{◌≡◌, ◌<◌, length};
 ghost use Rattle.bound_specs.specs.Spec.{ranks};
 ghost use Rattle.transcripts.specs.Counted.{Prints, failures_of};
-ghost use Rattle.spec_commands.specs.Counting.{IsChecked, IsCounted, counts_lines, number_line};
+ghost use Rattle.spec_commands.specs.Counting.{IsChecked, IsCounted, counts_lines};
 
-use crate::spec::{SpecFault, spec_of};
 use bound_specs::Spec;
-use itoa::Buffer;
+use spec_binding::{SpecFault, spec_of};
 use std::alloc::Global;
 use std::io::Write;
-use transcripts::{Counted, WriteFault};
+use transcripts::{Counted, WriteFault, write_count, write_number};
 
 /// Why it was not written how much a spec has. The first is tried before the second.
 #[derive(Clone, Copy, PartialEq, Eq)]
@@ -79,26 +78,4 @@ fn write_counts<W: Write>(counts: Counts, out: &mut Counted<W>) -> Result<(), Wr
     write_count("sessions ", counts.sessions, out)?;
     write_count("steps ", counts.steps, out)?;
     write_count("ranks ", counts.ranks, out)
-}
-
-/// Writes a number behind its word, on a line of its own. Where a write fails, a front of the line may be written.
-pub fn write_count<W: Write>(
-    word: &str,
-    number: u64,
-    out: &mut Counted<W>,
-) -> Result<(), WriteFault>
-    requires { failures_of out.old < u64.MAX }
-    ensures { Prints W.contents out.old out.new result (word.now ++ number_line number) }
-{
-    out.write_str(word)?;
-    write_number(number, out)
-}
-
-/// Writes a number on a line of its own. Where a write fails, a front of the line may be written.
-pub fn write_number<W: Write>(number: u64, out: &mut Counted<W>) -> Result<(), WriteFault>
-    requires { failures_of out.old < u64.MAX }
-    ensures { Prints W.contents out.old out.new result (number_line number) }
-{
-    out.write_str(Buffer::new().format(number))?;
-    out.write_str("\n")
 }

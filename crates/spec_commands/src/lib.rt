@@ -3,8 +3,6 @@
 
 mod counting;
 mod single;
-mod spec;
 
-pub use counting::{CountFault, check, count, write_count, write_number};
+pub use counting::{CountFault, check, count};
 pub use single::{OneFault, one, one_of, write_one};
-pub use spec::{SpecFault, spec_of};

@@ -6,9 +6,9 @@ ghost use Rattle.transcripts.specs.Counted.{Wrote, Prints, failures_of};
 ghost use Rattle.transcripts.specs.Text.{rank_text, outcome_text};
 ghost use Rattle.spec_commands.specs.One.{IsAnswer, IsAnswerOf, IsRefused, IsRefusedOf, Leaves, faults_of};
 
-use crate::spec::{SpecFault, spec_of};
 use bound_specs::Spec;
 use session_machine::{RunError, run_one};
+use spec_binding::{SpecFault, spec_of};
 use std::alloc::Global;
 use std::io::Write;
 use transcripts::{Counted, Names, Outcome, WriteFault, print, print_rank};

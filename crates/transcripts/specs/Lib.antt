@@ -7,5 +7,6 @@ pub mod EventParts
 pub mod Counted
 pub mod Names
 pub mod Text
+pub mod Lines
 pub mod Json
 pub mod JsonReading

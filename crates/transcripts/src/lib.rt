@@ -4,6 +4,7 @@
 mod counted;
 mod error;
 mod event;
+mod lines;
 mod log;
 mod names;
 mod numbers;
@@ -12,16 +13,19 @@ mod order;
 mod outcome;
 mod printing;
 mod same;
+mod telling;
 mod to_value;
 mod turn;
 
 pub use counted::{Counted, ReadError, ReadFault, WriteFault};
 pub use error::ValueError;
 pub use event::{Event, Fault, Warning};
+pub use lines::{write_count, write_number};
 pub use log::Log;
 pub use names::Names;
 pub use numbers::{fault_number, warning_number};
 pub use of_value::outcome_of_value;
 pub use outcome::{Outcome, Transcript};
 pub use printing::{print, print_rank};
+pub use telling::say;
 pub use to_value::outcome_value;

@@ -1,6 +1,6 @@
 use Rattle.std.proofs.Common.{List, ℕ, ◌++◌, codes, decimal}
 use Rattle.transcripts.proofs.Writing.{prints-after, prints-stopped, stopped-append, stopped-after}
-use Rattle.spec_commands.specs.Counting.{number_line}
+use Rattle.transcripts.specs.Lines.{number_line}
 use Rattle.book_commands.proofs.judging.write_difference.Goals as goal
 
 abbrev front : ℕ → List ℕ

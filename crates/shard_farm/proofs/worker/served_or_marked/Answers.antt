@@ -11,9 +11,9 @@ returns-in_default-clause-again g c = λ _. marked-next _ _ _ _ _ c.requires.cla
 
 -- the text is of one file
 pub work_on-requires-clause-file : goal.work_on-requires-clause-file
-work_on-requires-clause-file g c = one-file c.args.plan.text.now c.in-Some.spec c.args.board.now.file c.in-Some.ensures c.requires.file
+work_on-requires-clause-file g c = one-file c.args.plan.text.now c.in-Ok.spec c.args.board.now.file c.in-Ok.ensures.file c.requires.file
 
 pub work_on-requires-clause-lawful : goal.work_on-requires-clause-lawful
 work_on-requires-clause-lawful g c =
     subst (λ (f : SpecFile). All (IsShardOf f.run) c.args.plan.shards.now)
-    (sym (one-file c.args.plan.text.now c.in-Some.spec c.args.board.now.file c.in-Some.ensures c.requires.file)) c.requires.lawful
+    (sym (one-file c.args.plan.text.now c.in-Ok.spec c.args.board.now.file c.in-Ok.ensures.file c.requires.file)) c.requires.lawful

@@ -1,6 +1,6 @@
 use Rattle.std.proofs.Common.{List, ℕ, ◌++◌, codes}
 use Rattle.transcripts.proofs.Writing.{prints-after, prints-stopped, stopped-append, stopped-after}
-use Rattle.spec_commands.specs.Counting.{number_line}
+use Rattle.transcripts.specs.Lines.{number_line}
 use Rattle.spec_commands.proofs.counting.write_counts.Goals as goal
 
 abbrev sessions : ℕ → List ℕ

@@ -4,8 +4,8 @@ use Rattle.spec_reader.specs.Tree.{SpecTree}
 use Rattle.spec_reader.specs.Text.{IsSpec, Explains}
 use Rattle.bound_specs.specs.Binding.{bound_file}
 use Rattle.binding_model.specs.declared.error.BindErrorKind.TheVariants.{NoMemory}
-use Rattle.spec_commands.specs.declared.spec.SpecFault.{SpecFault}
-use Rattle.spec_commands.specs.declared.spec.SpecFault.TheVariants.{Text, Binding}
+use Rattle.spec_binding.specs.declared.spec.SpecFault.{SpecFault}
+use Rattle.spec_binding.specs.declared.spec.SpecFault.TheVariants.{Text, Binding}
 
 -- why bytes are no spec file: reading refuses them, or binding does, or memory ran out
 abbrev pub IsNoSpec : List ℕ → SpecFault → Type 0

@@ -1,6 +1,6 @@
 use Rattle.transcripts.proofs.Writing.{prints-after}
-use Rattle.spec_commands.specs.Counting.{number_line}
-use Rattle.spec_commands.proofs.counting.write_count.Goals as goal
+use Rattle.transcripts.specs.Lines.{number_line}
+use Rattle.transcripts.proofs.lines.write_count.Goals as goal
 
 pub returns : goal.returns
 returns g c =

@@ -1,6 +1,6 @@
 use Rattle.std.proofs.Common.{sym, subst}
 use Rattle.bound_specs.specs.Binding.{IsFileOf}
-use Rattle.book_audit.proofs.source.spec_of.Goals as goal
+use Rattle.book_audit.proofs.source.spec_of_book.Goals as goal
 
 pub returns : goal.returns
 returns c =

@@ -2,10 +2,11 @@
 
 ghost use Rattle.std.specs.Prelude.{IfErr, IfOk};
 ghost use Rattle.bound_specs.specs.Binding.{IsFileOf};
-ghost use Rattle.spec_commands.specs.SpecFiles.{IsNoSpec};
+ghost use Rattle.spec_binding.specs.SpecFiles.{IsNoSpec};
 
+use crate::binding::bind;
+use binding_model::BindError;
 use bound_specs::Spec;
-use spec_binding::{BindError, bind};
 use spec_reader::{SpecError, read_spec};
 use std::alloc::Global;
 

@@ -1,7 +1,7 @@
 //! What is told on standard error.
 
+use crate::Counted;
 use std::io::Write;
-use transcripts::Counted;
 
 /// Writes a text where faults are told, as far as that takes it: there is nowhere to tell a fault of that.
 pub fn say<E: Write>(text: &str, err: &mut Counted<E>) {

@@ -3,7 +3,7 @@
 ghost use Rattle.std.specs.Prelude.{◌≡◌, ◌↔◌, ◌<◌, ◌≤◌, ◌⊎◌, None, IfSome};
 ghost use Rattle.shard_board.specs.declared.error.TheConstants.{MAX_SEATS};
 
-use shard_board::MAX_SEATS;
+use crate::error::MAX_SEATS;
 use std::marker::Model;
 
 /// A number of workers, from 1 to 16, seen by contracts as that number.
