@@ -81,6 +81,6 @@ fn alike_to(shape: &Shape, rank: u64, place: u8) -> u64
     requires letters { place + 2 ≤ total shape.now }
     ensures { AreAlikeTo shape.now rank place result }
 {
-    let _letters = shape.block().letters_left();
+    let _letters = shape.block().letters_left(); // for the proof
     shared_block(shape, rank, place + 2).end()
 }

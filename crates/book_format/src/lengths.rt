@@ -40,7 +40,7 @@ fn widths(run: &Run)
 fn width(number: u64)
     ensures { number < 2 ^ 64 }
 {
-    let _number = number;
+    let _number = number; // for the proof
 }
 
 /// How many facts the runs have, or the largest number where there are more.

@@ -82,14 +82,14 @@ impl Spec {
     pub fn known(&self)
         ensures { IsFileOf self.now.text self.now }
     {
-        let _text = &self.parts.text;
+        let _text = &self.parts.text; // for the proof
     }
 
     /// What every spec keeps: it is ready to be run.
     pub fn ready(&self)
         ensures { IsReady self.now }
     {
-        let _text = &self.parts.text;
+        let _text = &self.parts.text; // for the proof
     }
 
     /// The text of the file.

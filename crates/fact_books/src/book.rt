@@ -65,7 +65,7 @@ impl Book {
         ensures file { IsFileOf self.now.file.text self.now.file }
         ensures facts { AllRecordable self.now.file.run self.now.facts }
     {
-        let _runs = &self.runs;
+        let _runs = &self.runs; // for the proof
     }
 
     /// The text of the spec.

@@ -164,7 +164,7 @@ impl LockTable {
     pub fn known(&self)
         ensures { IsSound self.now }
     {
-        let _held = &self.held;
+        let _held = &self.held; // for the proof
     }
 
     /// What the session waits for, if it waits: the resource, and the mode that it is to get there.

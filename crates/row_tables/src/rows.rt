@@ -71,7 +71,7 @@ impl Rows {
             Some(rows) => rows,
             None => &self.no_rows,
         };
-        let _in_order = rows.len();
+        let _in_order = rows.len(); // for the proof
         rows
     }
 

@@ -53,7 +53,7 @@ impl UndoList {
     pub fn iter(&self) -> Iter<'_, RowPlace, Left>
         ensures { result ≡ map.entries self.now }
     {
-        let _in_order = self.places.len();
+        let _in_order = self.places.len(); // for the proof
         self.places.iter()
     }
 

@@ -148,7 +148,7 @@ impl World<'_> {
         ensures known { self.now.spent ≡ false → IsKnown self.now }
         ensures bound { IsBound self.now.file.run }
     {
-        let _sessions = self.spec.sessions();
+        let _sessions = self.spec.sessions(); // for the proof
     }
 
     /// Whether an earlier step was refused memory.

@@ -37,7 +37,7 @@ pub fn of_walk(alloc: Global, spec: &Spec, walk: &mut ShardWalk<'_>) -> Result<B
     ensures behind { OnOk result (walk.new ≡ record walk.old { at = walk.old.end }) }
 {
     spec.ready();
-    let _sessions = spec.sessions();
+    let _sessions = spec.sessions(); // for the proof
     let builder = facts_before(alloc, walk)?;
     Book::of_facts(alloc, spec, builder)
 }
@@ -94,7 +94,7 @@ fn known_fact(fact: &Fact)
     match fact {
         Fact::Ran(outcome) => outcome.known(),
         Fact::Swap(place) => {
-            let _place = *place;
+            let _place = *place; // for the proof
         }
     }
 }

@@ -114,7 +114,7 @@ fn swaps_with(block: &Block, world: &World<'_>, table: &StepTable, letter: u8, s
         → ((a : ℕ) → LeftOf (get_or table.now a []) (get_or block.now.left a 0) (get_or rest a []))
         → (b : ℕ) → get_or result.items b false ≡ is_pair true world.now.file.run.steps world.now.world rest letter b }
 {
-    let _sessions = world.spec().sessions();
+    let _sessions = world.spec().sessions(); // for the proof
     let mut swaps = Swaps::new();
     for smaller in 0..letter {
         swaps.push(is_quiet_beside(block, world, table, step, smaller));

@@ -43,7 +43,7 @@ impl<'a> LineWalk<'a> {
         ensures { IfOk result (λ given. HasRun self.old given self.new) }
     {
         let spec = self.path.spec;
-        let _ranks = spec.ranks();
+        let _ranks = spec.ranks(); // for the proof
         let first = self.at;
         let Some(line) = spec.line(first) else {
             unreachable!()

@@ -29,8 +29,8 @@ pub fn quiet(world: &World<'_>, step: u8, other: u8) -> bool
     ensures calm { IsTrue result → AreCalm world.now step other × AreCalm world.now other step }
 {
     world.known();
-    let _own = world.spec().session_of(step);
-    let _other = world.spec().session_of(other);
+    let _own = world.spec().session_of(step); // for the proof
+    let _other = world.spec().session_of(other); // for the proof
     is_quiet(world, step, other)
 }
 

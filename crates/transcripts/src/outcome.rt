@@ -230,13 +230,13 @@ fn known_event(event: &Event)
     match event {
         Event::Row(row) => known_row(row.values()),
         Event::Sent(step) | Event::NotSent(step) => {
-            let _step = *step;
+            let _step = *step; // for the proof
         }
         Event::Rows(count)
         | Event::Inserted(count)
         | Event::Updated(count)
         | Event::Deleted(count) => {
-            let _count = *count;
+            let _count = *count; // for the proof
         }
         Event::Began
         | Event::Committed
@@ -264,7 +264,7 @@ fn known_value(value: &Value)
 {
     match value {
         Value::Int(number) => {
-            let _number = *number;
+            let _number = *number; // for the proof
         }
         Value::Text(_) => {}
     }
