@@ -18,6 +18,8 @@ mod errors;
 #[cfg(test)]
 mod headlines;
 #[cfg(test)]
+mod limits;
+#[cfg(test)]
 mod memory;
 #[cfg(test)]
 mod over_books;
