@@ -56,7 +56,7 @@ fn every_other(alloc: Global, ranks: u64, length: u64, side: u64) -> io::Result<
 }
 
 /// Tells how long a stage took that is over.
-fn print_since(rt: &HostRuntime, name: &str, start: Instant) -> io::Result<()> {
+pub(crate) fn print_since(rt: &HostRuntime, name: &str, start: Instant) -> io::Result<()> {
     print_stage(rt, name, start.elapsed(rt)?)
 }
 

@@ -1,6 +1,7 @@
 //! Prints how long operations on maps take, beside the standard library's (`benchmarks maps`), how fast the machine is (`benchmarks machine`), and how fast a
 //! walker gives facts (`benchmarks reduce SPEC RANKS`, or `benchmarks every SPEC RANKS`), or how fast books are made, joined and reported
-//! (`benchmarks join SPEC LENGTH`). Without words it prints what it measures of maps.
+//! (`benchmarks join SPEC LENGTH`), or how fast the first ranks are run, and their book written, read and reported (`benchmarks range SPEC END`).
+//! Without words it prints what it measures of maps and of ranges.
 //! `benchmarks SPEC FIRST END reduce|every|sent` prints the facts of these ranks, and `benchmarks books SPEC {FIRST END reduce|every}` what
 //! the joined books of these ranges tell, for `crosscheck`.
 #![tactic(auto)]
@@ -9,12 +10,15 @@ mod books;
 mod facts;
 mod joins;
 mod machine;
+mod ranges;
 mod walks;
 
 use finite_maps::Fork;
 use std::alloc::{AllocError, Global};
 use std::collections::BTreeMap;
 use std::process::ExitCode;
+use std::sync::Wait;
+use std::thread::Threads;
 use std::time::{Duration, Instant};
 use std::{env, io};
 use version_tree::VMap;
@@ -168,11 +172,20 @@ fn maps(rt: &HostRuntime) -> io::Result<()> {
     Ok(())
 }
 
-fn measure(rt: &HostRuntime, words: &[String]) -> io::Result<()> {
+fn measure<R: Threads + Wait + Sync>(
+    rt: &HostRuntime,
+    threads: &R,
+    words: &[String],
+) -> io::Result<()> {
     if let [_program, how, path, length] = words
         && how.as_str() == "join"
     {
         return joins::print_books(rt, path.as_str(), length.as_str());
+    }
+    if let [_program, how, path, end] = words
+        && how.as_str() == "range"
+    {
+        return ranges::print_range(rt, threads, path.as_str(), end.as_str());
     }
     if let [_program, how, path, most] = words {
         return walks::print_walk(rt, path.as_str(), most.as_str(), how.as_str() == "reduce");
@@ -182,11 +195,16 @@ fn measure(rt: &HostRuntime, words: &[String]) -> io::Result<()> {
     } else if words.iter().any(|word| word.as_str() == "machine") {
         machine::print_speeds(rt)
     } else {
-        println!(rt; "maps: put, get, without and fork of 10, 1,000 and 100,000 keys")
+        println!(rt; "maps: put, get, without and fork of 10, 1,000 and 100,000 keys")?;
+        ranges::print_small(rt, threads)
     }
 }
 
-fn run(rt: &HostRuntime, words: &[String]) -> io::Result<ExitCode> {
+fn run<R: Threads + Wait + Sync>(
+    rt: &HostRuntime,
+    threads: &R,
+    words: &[String],
+) -> io::Result<ExitCode> {
     if let [_program, books, path, ranges @ ..] = words
         && books.as_str() == "books"
     {
@@ -201,11 +219,11 @@ fn run(rt: &HostRuntime, words: &[String]) -> io::Result<ExitCode> {
             how.as_str(),
         );
     }
-    measure(rt, words)?;
+    measure(rt, threads, words)?;
     Ok(ExitCode::SUCCESS)
 }
 
 fn main(rt: HostRuntime) -> io::Result<ExitCode> {
     let words: Vec<String> = env::args(&rt)?.collect(rt.alloc())?;
-    run(&rt, &words)
+    run(&rt, &rt, &words)
 }

@@ -8,10 +8,11 @@ ghost use Rattle.transcripts.specs.Text.{outcome_text};
 ghost use Rattle.bound_specs.specs.Spec.{SpecFile};
 
 use bound_specs::Spec;
+use spec_commands::write_outcome;
 use std::alloc::{AllocError, Global};
 use std::io;
 use std::io::Write;
-use transcripts::{Counted, Names, Outcome, WriteFault, print};
+use transcripts::{Counted, Outcome, WriteFault};
 
 /// How many bytes of texts are kept; their room, which grows by doubling, may be twice as much. Outcomes that come again are few,
 /// and take less. But a report may have a million different ones, and its text is never in memory as a whole.
@@ -132,21 +133,4 @@ fn text_of(alloc: Global, spec: &Spec, outcome: &Outcome, room: usize) -> (Optio
         }
         Err(_) => (None, 0),
     }
-}
-
-/// Writes an outcome of the spec. Where a write fails, a front of the text may be written.
-fn write_outcome<W: Write>(
-    spec: &Spec,
-    outcome: &Outcome,
-    out: &mut Counted<W>,
-) -> Result<(), WriteFault>
-    requires own { IsOutcomeOf spec.now.run outcome.now }
-    requires countable { failures_of out.old < u64.MAX }
-    ensures { Prints W.contents out.old out.new result (outcome_text spec.now.session_names spec.now.step_names outcome.now) }
-{
-    let names = Names {
-        sessions: spec.session_names(),
-        steps: spec.step_names(),
-    };
-    print(outcome, &names, out)
 }

@@ -73,9 +73,7 @@ impl LockTable {
         ensures change { IfOk result (λ answer. self.new ≡ rule.after self.old session (resource_at place.entry) mode answer) }
         ensures kept { OnErr result (self.new ≡ self.old) }
     {
-        if may_have(&self.held, &self.waits, session, place, mode) {
-            let wanted = wanted_mode(self.held.mode_of(session, place), mode);
-            self.held.give(session, place, wanted)?;
+        if self.ask_now(session, place, mode)? == Taken::Granted {
             return Ok(Answer::Granted);
         }
         let resource = place.to_resource()?;

@@ -5,4 +5,4 @@ mod counting;
 mod single;
 
 pub use counting::{CountFault, check, count};
-pub use single::{OneFault, one, one_of, write_one};
+pub use single::{OneFault, one, one_of, write_outcome};

@@ -72,7 +72,7 @@ pub fn one_of<W: Write>(
 }
 
 /// Writes the rank and an outcome of the spec. Where a write fails, a front of the text may be written.
-pub fn write_one<W: Write>(
+fn write_one<W: Write>(
     spec: &Spec,
     rank: u64,
     outcome: &Outcome,
@@ -82,10 +82,23 @@ pub fn write_one<W: Write>(
     requires own { IsOutcomeOf spec.now.run outcome.now }
     ensures { Prints W.contents out.old out.new result (rank_text rank ++ outcome_text spec.now.session_names spec.now.step_names outcome.now) }
 {
+    print_rank(rank, out)?;
+    write_outcome(spec, outcome, out)
+}
+
+/// Writes an outcome of the spec. Where a write fails, a front of the text may be written.
+pub fn write_outcome<W: Write>(
+    spec: &Spec,
+    outcome: &Outcome,
+    out: &mut Counted<W>,
+) -> Result<(), WriteFault>
+    requires own { IsOutcomeOf spec.now.run outcome.now }
+    requires countable { failures_of out.old < u64.MAX }
+    ensures { Prints W.contents out.old out.new result (outcome_text spec.now.session_names spec.now.step_names outcome.now) }
+{
     let names = Names {
         sessions: spec.session_names(),
         steps: spec.step_names(),
     };
-    print_rank(rank, out)?;
     print(outcome, &names, out)
 }

@@ -2,7 +2,7 @@ use Rattle.std.proofs.Common.{◌≡◌, sym, subst, length, arith}
 use Rattle.std.specs.List.{All}
 use Rattle.transcripts.specs.Outcome.{HasStep}
 use Rattle.machine_model.proofs.Owned.{outcome-named}
-use Rattle.book_commands.proofs.texts.write_outcome.Goals as goal
+use Rattle.spec_commands.proofs.single.write_outcome.Goals as goal
 
 -- an outcome of the spec names its sessions and its steps alone
 pub print-requires-clause-named : goal.print-requires-clause-named
