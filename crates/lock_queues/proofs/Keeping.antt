@@ -263,6 +263,12 @@ pub ask_now-sound : (l : Locks) (i : ℕ) (r : Resource) (m : Mode) (a : Taken) 
 ask_now-sound l i r m at_once.Granted s free is = taken-sound l i r m s free is
 ask_now-sound l i r m at_once.Refused s free is = s
 
+-- who does not wait does not wait behind a request that refuses to
+pub waits-no-more : (l : Locks) (i : ℕ) (r : Resource) (m : Mode) (a : Taken) → waits_now l.waits i ≡ false
+    → waits_now (after_now l i r m a).waits i ≡ false
+waits-no-more l i r m at_once.Granted free = free
+waits-no-more l i r m at_once.Refused free = free
+
 pub let_go-sound : (l : Locks) (i : ℕ) → IsSound l → IsSound (let_go l i)
 let_go-sound l i s = record {
   together = together-keep l.held i s.together;

@@ -1,38 +1,21 @@
 use Rattle.std.proofs.Common.{◌≡◌, ◌∙◌, subst, sym, ap, false, [], ◌∷◌, ◌++◌}
 use Rattle.std.proofs.lemmas.Bool.{both_ways}
-use Rattle.finite_maps.specs.Map.{insert}
 use Rattle.lock_modes.specs.Resource.{resource_at}
 use Rattle.lock_queues.specs.Locks as locks
-use Rattle.lock_queues.specs.LockTable.{Locks, taken, queued}
+use Rattle.lock_queues.specs.LockTable.{Locks, queued}
 use Rattle.lock_queues.specs.Sound.{IsSound}
-use Rattle.lock_queues.specs.Rules.{MayHave, IsInRing}
-use Rattle.lock_queues.proofs.Keeping.{kept-sound, taken-sound, queued-sound}
+use Rattle.lock_queues.specs.Rules.{IsInRing}
+use Rattle.lock_queues.proofs.Keeping.{queued-sound, waits-no-more}
 use Rattle.lock_queues.proofs.table.LockTable.ask.Goals as goal
-
--- without memory all is as it was
-pub invariant_of-self : goal.invariant_of-self
-invariant_of-self c = kept-sound _ _ c.in_err-give.ensures.kept c.self.invariant
-
-pub invariant_of-self-then-may_have : goal.invariant_of-self-then-may_have
-invariant_of-self-then-may_have c =
-    let l : Locks = record { held = c.self.inside.held; waits = c.self.inside.waits.items } in
-    let i = c.args.session in
-    let r = resource_at c.args.place in
-    let free = subst (λ (t : Locks). locks.waits_now t.waits i ≡ false) (sym c.self.view_is) c.requires in
-    let had : MayHave l i r c.args.mode =
-    subst (λ ws. MayHave (record { held = l.held; waits = ws }) i r c.args.mode) c.deref.ensures.value (c.may_have.ensures.0 c.if-may_have.true) in
-    let mode = c.wanted_mode-wanted.ensures ∙ ap (λ o. locks.wanted o c.args.mode) c.mode_of.ensures in
-    let held = c.in_ok-give.ensures.given ∙ ap (λ m. insert l.held (i, r) m) mode in
-    let e : ◌≡◌ {A = Locks} (taken l i r c.args.mode) (record { held = c.give.new.self; waits = c.self.inside.waits.items }) =
-    (λ k. record { held = sym held k; waits = l.waits }) in
-    subst IsSound e (taken-sound l i r c.args.mode c.self.invariant free had)
 
 pub invariant_of-self-else-is_in_ring : goal.invariant_of-self-else-is_in_ring
 invariant_of-self-else-is_in_ring c =
     let l : Locks = record { held = c.self.inside.held; waits = c.self.inside.waits.items } in
     let i = c.args.session in
     let r = resource_at c.args.place in
-    let free = subst (λ (t : Locks). locks.waits_now t.waits i ≡ false) (sym c.self.view_is) c.requires in
+    let free : locks.waits_now l.waits i ≡ false =
+    subst (λ (t : Locks). locks.waits_now t.waits i ≡ false) (sym c.in_ok-ask_now.ensures.change ∙ sym c.self.view_is)
+    (waits-no-more c.args.self.now i r c.args.mode c.in_ok-ask_now.field-0 c.requires) in
     let queue : c.push.new.self.items ≡ (queued l i r c.args.mode).waits =
     c.in_ok-push.ensures.items ∙ ap (λ q. l.waits ++ record { session = i; resource = q; mode = c.args.mode } ∷ []) c.in_ok-resource.ensures in
     let none : IsInRing (queued l i r c.args.mode) i → ⊥ =
@@ -40,7 +23,7 @@ invariant_of-self-else-is_in_ring c =
       held = l.held;
       waits =
           ws;
-    }) i) (sym queue ∙ sym c.deref-2.ensures.value) ring))) in
+    }) i) (sym queue ∙ sym c.deref.ensures.value) ring))) in
     let e : ◌≡◌ {A = Locks} (queued l i r c.args.mode) (record { held = c.self.inside.held; waits = c.push.new.self.items }) =
     (λ k. record { held = l.held; waits = sym queue k }) in
     subst IsSound e (queued-sound l i r c.args.mode c.self.invariant free none)
