@@ -19,9 +19,11 @@ pub(crate) fn fingerprint(outcome: &Outcome) -> u64 {
 fn hash_transcript(transcript: &Transcript, hasher: &mut FoldHasher) {
     hasher.write_usize(transcript.events().len());
     for event in transcript.events() {
-        hasher.write_u64(word_of(event));
-        if let Event::Row(row) = event {
-            hash_values(row.values(), hasher);
+        match event {
+            Event::Row(row) => hash_values(row.values(), hasher),
+            // Nearly each step has one, and their number is in that of all events.
+            Event::Done => {}
+            _ => hasher.write_u64(word_of(event)),
         }
     }
 }

@@ -1,6 +1,7 @@
 ghost use Rattle.std.specs.Prelude.{◌≡◌, ◌==◌, ◌↔◌, ℕ, not, true, false, IfOk, OnOk, OnErr, IsTrue, MatchOption};
 ghost use Rattle.std.specs.List.{filter, find, position};
 ghost use Rattle.std.specs.Option.{option_copied, option_map};
+ghost use Rattle.finite_maps.specs.Map.{get};
 ghost use Rattle.lock_modes.specs.Resource.{resource_at};
 ghost use Rattle.lock_queues.specs.Locks as locks;
 ghost use Rattle.lock_queues.specs.LockTable as spec;
@@ -102,8 +103,9 @@ impl LockTable {
         ensures change { IfOk result (λ answer. self.new ≡ rule.after_now self.old session (resource_at place.entry) mode answer) }
         ensures kept { OnErr result (self.new ≡ self.old) }
     {
-        if may_have(&self.held, &self.waits, session, place, mode) {
-            let wanted = wanted_mode(self.held.mode_of(session, place), mode);
+        let own = self.held.mode_of(session, place);
+        if may_have(&self.held, &self.waits, own, session, place, mode) {
+            let wanted = wanted_mode(own, mode);
             self.held.give(session, place, wanted)?;
             return Ok(Taken::Granted);
         }
@@ -187,11 +189,18 @@ impl Fork for LockTable {
     }
 }
 
-/// Whether a session may have a mode at once.
-fn may_have(held: &Held, waits: &[Wait], session: u8, place: Place<'_>, mode: Mode) -> bool
+/// Whether a session that holds this may have a mode at once.
+fn may_have(
+    held: &Held,
+    waits: &[Wait],
+    own: Option<Mode>,
+    session: u8,
+    place: Place<'_>,
+    mode: Mode,
+) -> bool
+    requires { own ≡ get held.now (session, resource_at place) }
     ensures { IsTrue result ↔ rule.MayHave (record { held = held.now; waits = waits.now }) session (resource_at place.entry) mode }
 {
-    let own = held.mode_of(session, place);
     (own.is_some() || nobody_waits(waits, place))
         && held.fits(session, place, wanted_mode(own, mode))
 }

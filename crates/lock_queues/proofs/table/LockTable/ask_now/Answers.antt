@@ -20,7 +20,7 @@ invariant_of-self-then-may_have c =
     let free = subst (λ (t : Locks). locks.waits_now t.waits i ≡ false) (sym c.self.view_is) c.requires in
     let had : MayHave l i r c.args.mode =
     subst (λ ws. MayHave (record { held = l.held; waits = ws }) i r c.args.mode) c.deref.ensures.value (c.may_have.ensures.0 c.if-may_have.true) in
-    let mode = c.wanted_mode-wanted.ensures ∙ ap (λ o. locks.wanted o c.args.mode) c.mode_of.ensures in
+    let mode = c.wanted_mode-wanted.ensures ∙ ap (λ o. locks.wanted o c.args.mode) c.mode_of-own.ensures in
     let held = c.in_ok-give.ensures.given ∙ ap (λ m. insert l.held (i, r) m) mode in
     let e : ◌≡◌ {A = Locks} (taken l i r c.args.mode) (record { held = c.give.new.self; waits = c.self.inside.waits.items }) =
     (λ k. record { held = sym held k; waits = l.waits }) in
