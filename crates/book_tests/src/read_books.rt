@@ -5,35 +5,11 @@ use crate::texts::{DISJOINT, SAME_OUTCOME};
 use book_files::read_book;
 use book_format::BookError;
 use fact_books::{Book, missing, report};
+use library_tests::ByteReader;
 use std::alloc::Global;
-use std::io::{self, Read};
 use std::process::Abort;
 use std::test::Fail;
 use transcripts::Counted;
-
-/// Gives a byte a call, up to a call that fails, if one does.
-#[derive(Drop)]
-struct ByteReader<'a> {
-    text: &'a [u8],
-    calls_left: Option<usize>,
-}
-
-impl Read for ByteReader<'_> {
-    fn read(&mut self, buf: &mut [u8]) -> io::Result<usize> {
-        if self.calls_left == Some(0) {
-            return Err(io::Error::from(io::ErrorKind::Interrupted));
-        }
-        self.calls_left = self.calls_left.map(|left| left.saturating_sub(1));
-        match (self.text.split_first(), buf.first_mut()) {
-            (Some((byte, rest)), Some(place)) => {
-                *place = *byte;
-                self.text = rest;
-                Ok(1)
-            }
-            _ => Ok(0),
-        }
-    }
-}
 
 /// The book that a text is, read byte by byte up to a call that fails, if one does.
 fn read(alloc: Global, text: &[u8], calls_left: Option<usize>) -> Result<Book, BookError> {

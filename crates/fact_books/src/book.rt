@@ -14,6 +14,17 @@ use std::sync::Arc;
 
 /// A spec with its text, and a finite set of ranks with facts; a rank may have several. Contracts see these two, so that books with
 /// equal sets are equal.
+///
+/// ```text
+/// ranks   0   1   2   3   4   5   6 ..      table
+/// runs    [ 0 )                             0: the outcome of ranks 0 and 3
+///             [ swap at 1   )               1: that of rank 4
+///                         [ 0 )
+///                             [ 1 )
+/// ```
+///
+/// A run says the same of each rank from its first one up to its end: the outcome with a number in the table, or a swap at a place. Runs
+/// rise by their first ranks, and may overlap.
 pub struct Book {
     pub(crate) about: Arc<About>,
     pub(crate) table: Table,

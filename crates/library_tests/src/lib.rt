@@ -20,6 +20,7 @@ mod outcomes;
 mod queues;
 #[cfg(test)]
 mod ranks;
+mod readers;
 #[cfg(test)]
 mod sizes;
 #[cfg(test)]
@@ -32,4 +33,5 @@ mod texts;
 #[cfg(test)]
 mod trees;
 
+pub use readers::ByteReader;
 pub use texts::repeated;

@@ -2,13 +2,14 @@ ghost use Rattle.std.specs.Prelude.{◌≡◌, ◌<◌};
 ghost use Rattle.transcripts.specs.Counted.{failures_of};
 
 use crate::asserts::assert_text;
+use crate::readers::ByteReader;
 use finite_maps::Fork;
 use lock_modes::{Row, Text, Value};
 use serde_json::Value as Json;
 use std::alloc::{AllocError, Global};
 use std::cmp::Ordering;
 use std::io;
-use std::io::{Read, Write};
+use std::io::Write;
 use std::process::Abort;
 use std::test::Fail;
 use transcripts::{
@@ -313,30 +314,6 @@ fn what_is_held_in_memory_does_not_fail(rt: HostRuntime) {
     assert!(rt; held.failures() == 0);
 }
 
-// Gives a byte a call, up to a call that fails, if one does.
-#[derive(Drop)]
-struct FailingReader<'a> {
-    text: &'a [u8],
-    calls_left: Option<usize>,
-}
-
-impl Read for FailingReader<'_> {
-    fn read(&mut self, buf: &mut [u8]) -> io::Result<usize> {
-        if self.calls_left == Some(0) {
-            return Err(io::Error::from(io::ErrorKind::Interrupted));
-        }
-        self.calls_left = self.calls_left.map(|left| left.saturating_sub(1));
-        match (self.text.split_first(), buf.first_mut()) {
-            (Some((byte, rest)), Some(place)) => {
-                *place = *byte;
-                self.text = rest;
-                Ok(1)
-            }
-            _ => Ok(0),
-        }
-    }
-}
-
 /// What is read of five bytes up to a limit, and what is left.
 static LIMITS: [(usize, &str, &str); 4] = [
     (0, "", "abcde"),
@@ -352,7 +329,7 @@ fn assert_read_up_to(
     want: &str,
     rest: &str,
 ) -> Result<(), ReadError> {
-    let mut input = Counted::new(FailingReader {
+    let mut input = Counted::new(ByteReader {
         text: b"abcde",
         calls_left: None,
     });
@@ -385,7 +362,7 @@ fn reading_stops_at_the_end_or_the_limit(rt: HostRuntime) {
 }
 
 fn assert_read_fails(rt: &impl Abort, alloc: Global, calls: usize) {
-    let mut input = Counted::new(FailingReader {
+    let mut input = Counted::new(ByteReader {
         text: b"abcde",
         calls_left: Some(calls),
     });

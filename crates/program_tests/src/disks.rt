@@ -1,37 +1,13 @@
 //! What the program tells, run over a disk with one file.
 use book_tests::{Told, words_of};
+use library_tests::ByteReader;
 use program_commands::{Opener, run};
 use std::alloc::{AllocError, Global};
-use std::io::{self, Read};
 use std::process::Abort;
 use std::sync::Wait;
 use std::thread::Threads;
 use std::time::Clock;
 use transcripts::Counted;
-
-// Gives a byte a call, up to a call that fails, if one does.
-#[derive(Drop)]
-pub struct FileReader<'a> {
-    text: &'a [u8],
-    calls_left: Option<usize>,
-}
-
-impl Read for FileReader<'_> {
-    fn read(&mut self, buf: &mut [u8]) -> io::Result<usize> {
-        if self.calls_left == Some(0) {
-            return Err(io::Error::from(io::ErrorKind::Interrupted));
-        }
-        self.calls_left = self.calls_left.map(|left| left.saturating_sub(1));
-        match (self.text.split_first(), buf.first_mut()) {
-            (Some((byte, rest)), Some(place)) => {
-                *place = *byte;
-                self.text = rest;
-                Ok(1)
-            }
-            _ => Ok(0),
-        }
-    }
-}
 
 // A disk with one file, whose reader may fail at a call.
 #[derive(Drop)]
@@ -42,13 +18,13 @@ pub struct Disk<'a> {
 }
 
 impl<'a> Opener for Disk<'a> {
-    type Reader = FileReader<'a>;
+    type Reader = ByteReader<'a>;
 
-    fn open(&self, path: &str) -> Option<FileReader<'a>> {
+    fn open(&self, path: &str) -> Option<ByteReader<'a>> {
         if path != self.path {
             return None;
         }
-        Some(FileReader {
+        Some(ByteReader {
             text: self.text,
             calls_left: self.calls_left,
         })

@@ -1,5 +1,6 @@
 //! A disk whose files stand in rows.
-use crate::disks::{Disk, FileReader};
+use crate::disks::Disk;
+use library_tests::ByteReader;
 use program_commands::Opener;
 
 /// The path and the text of a file in rows.
@@ -20,9 +21,9 @@ pub struct Shelf<'a> {
 }
 
 impl<'a> Opener for Shelf<'a> {
-    type Reader = FileReader<'a>;
+    type Reader = ByteReader<'a>;
 
-    fn open(&self, path: &str) -> Option<FileReader<'a>> {
+    fn open(&self, path: &str) -> Option<ByteReader<'a>> {
         let (name, text) = file_of(self.rows, path)?;
         let file = Disk {
             path: name,

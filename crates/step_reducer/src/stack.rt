@@ -8,6 +8,13 @@ use crate::frame::{Frame, Turn};
 use std::alloc::AllocError;
 
 /// The frame of the longest prefix, and below it frames of shorter ones that later words share.
+///
+/// ```text
+/// word     a   b   b   a   c ..
+/// top      [ a b b a ]            the world behind these four steps, and which next letters make a swap with the last one
+/// below    [ a b ]                a later word begins so
+///          [ ]                    the start, while a later word is left
+/// ```
 pub(crate) struct Stack<'a> {
     pub(crate) below: Vec<Frame<'a>>,
     pub(crate) top: Frame<'a>,
