@@ -1,0 +1,141 @@
+//! INSERT.
+
+ghost use Rattle.std.specs.Prelude.{◌≡◌, ◌≤◌, ◌+◌, suc, length, IfOk, codes};
+ghost use Rattle.sql_grammar.specs.Lexing.{views};
+ghost use Rattle.sql_grammar.specs.Tokens.{Sign};
+ghost use Rattle.sql_grammar.specs.Reading.{with_commas, name, names_part, optional, literal, row, insert};
+ghost use Rattle.sql_grammar.specs.Views.{Gives, chain_of, chain_by, option_by, view_insert};
+
+use crate::steps::{at_sign, first, name, past_sign, skip_key, skip_sign, skip_word};
+use crate::values::literal;
+use lock_modes::Text;
+use sql_grammar::{Chain, Insert, Limit, Literal, MAX_ROWS, Placed, Stop, Why};
+use sqlite_items::Items;
+use std::alloc::Global;
+
+/// Names with commas between them.
+pub(crate) fn names<'a, 't>(
+    alloc: Global,
+    tokens: &'t [Placed<'a>],
+) -> Result<(Chain<Text>, &'t [Placed<'a>]), Stop<'a>>
+    ensures reads { Gives (λ x. (chain_of x.0, views x.1.now)) result (with_commas (λ k. name) (views tokens.now)) }
+    ensures shorter { IfOk result (λ x. length x.1.now ≤ length tokens.now) }
+{
+    let (first, mut rest) = name(alloc, tokens)?;
+    let mut more = Vec::new(alloc);
+    'commas: while let Some(after) = past_sign(rest, ",") {
+        let (next, behind) = name(alloc, after)?;
+        more.push(next)?;
+        rest = behind;
+    }
+    let more = Items::from_vec(more);
+    Ok((Chain { first, more }, rest))
+}
+
+fn names_part<'a, 't>(
+    alloc: Global,
+    tokens: &'t [Placed<'a>],
+) -> Result<(Chain<Text>, &'t [Placed<'a>]), Stop<'a>>
+    ensures reads { Gives (λ x. (chain_of x.0, views x.1.now)) result (names_part (views tokens.now)) }
+    ensures shorter { IfOk result (λ x. length x.1.now ≤ length tokens.now) }
+{
+    let rest = skip_sign(tokens, "(")?;
+    let (names, rest) = names(alloc, rest)?;
+    let rest = skip_sign(rest, ")")?;
+    Ok((names, rest))
+}
+
+fn maybe_names<'a, 't>(
+    alloc: Global,
+    tokens: &'t [Placed<'a>],
+) -> Result<(Option<Chain<Text>>, &'t [Placed<'a>]), Stop<'a>>
+    ensures reads { Gives (λ x. (option_by chain_of x.0, views x.1.now)) result (optional (Sign (codes "(")) names_part (views tokens.now)) }
+    ensures shorter { IfOk result (λ x. length x.1.now ≤ length tokens.now) }
+{
+    if at_sign(tokens, "(") {
+        let (names, rest) = names_part(alloc, tokens)?;
+        Ok((Some(names), rest))
+    } else {
+        Ok((None, tokens))
+    }
+}
+
+/// Values with commas between them.
+fn literals<'a, 't>(
+    alloc: Global,
+    tokens: &'t [Placed<'a>],
+) -> Result<(Chain<Literal>, &'t [Placed<'a>]), Stop<'a>>
+    ensures reads { Gives (λ x. (chain_of x.0, views x.1.now)) result (with_commas (λ i. literal) (views tokens.now)) }
+    ensures shorter { IfOk result (λ x. length x.1.now ≤ length tokens.now) }
+{
+    let (first, mut rest) = literal(alloc, tokens)?;
+    let mut more = Vec::new(alloc);
+    'commas: while let Some(after) = past_sign(rest, ",") {
+        let (next, behind) = literal(alloc, after)?;
+        more.push(next)?;
+        rest = behind;
+    }
+    let more = Items::from_vec(more);
+    Ok((Chain { first, more }, rest))
+}
+
+/// The row of this number, from 0.
+fn row<'a, 't>(
+    alloc: Global,
+    number: usize,
+    tokens: &'t [Placed<'a>],
+) -> Result<(Chain<Literal>, &'t [Placed<'a>]), Stop<'a>>
+    ensures reads { Gives (λ x. (chain_of x.0, views x.1.now)) result (row number (views tokens.now)) }
+    ensures shorter { IfOk result (λ x. length x.1.now ≤ length tokens.now) }
+{
+    if at_sign(tokens, "(") && number >= MAX_ROWS {
+        return Err(Stop::At(Why::Passes(Limit::TooLarge), first(tokens)));
+    }
+    let rest = skip_sign(tokens, "(")?;
+    let (row, rest) = literals(alloc, rest)?;
+    let rest = skip_sign(rest, ")")?;
+    Ok((row, rest))
+}
+
+/// Rows with commas between them.
+fn rows<'a, 't>(
+    alloc: Global,
+    tokens: &'t [Placed<'a>],
+) -> Result<(Chain<Chain<Literal>>, &'t [Placed<'a>]), Stop<'a>>
+    ensures reads { Gives (λ x. (chain_by chain_of x.0, views x.1.now)) result (with_commas row (views tokens.now)) }
+    ensures shorter { IfOk result (λ x. length x.1.now ≤ length tokens.now) }
+{
+    let (first, mut rest) = row(alloc, 0, tokens)?;
+    let mut more = Vec::new(alloc);
+    'commas: while let Some(after) = past_sign(rest, ",") {
+        let (next, behind) = row(alloc, more.len() + 1, after)?;
+        more.push(next)?;
+        rest = behind;
+    }
+    let more = Items::from_vec(more);
+    Ok((Chain { first, more }, rest))
+}
+
+/// An INSERT, and the tokens behind it. It stops at a token that cannot stand there or passes a limit, or for want of memory.
+pub(crate) fn insert<'a, 't>(
+    alloc: Global,
+    tokens: &'t [Placed<'a>],
+) -> Result<(Insert, &'t [Placed<'a>]), Stop<'a>>
+    ensures reads { Gives (λ x. (view_insert x.0, views x.1.now)) result (insert (views tokens.now)) }
+    ensures shorter { IfOk result (λ x. length x.1.now ≤ length tokens.now) }
+{
+    let rest = skip_word(tokens, "insert")?;
+    let rest = skip_key(rest, "into")?;
+    let (table, rest) = name(alloc, rest)?;
+    let (columns, rest) = maybe_names(alloc, rest)?;
+    let rest = skip_key(rest, "values")?;
+    let (rows, rest) = rows(alloc, rest)?;
+    Ok((
+        Insert {
+            table,
+            columns,
+            rows,
+        },
+        rest,
+    ))
+}
