@@ -2,14 +2,15 @@
 
 ghost use Rattle.std.specs.Prelude.{◌≡◌, ◌≤◌, length, IfOk};
 ghost use Rattle.sql_grammar.specs.Lexing.{views};
-ghost use Rattle.sql_grammar.specs.Reading.{with_commas, assignment, update, delete};
-ghost use Rattle.sql_grammar.specs.Views.{Gives, chain_by, view_assignment, view_update, view_delete};
+ghost use Rattle.sql_grammar.specs.Tree as tree;
+ghost use Rattle.sql_grammar.specs.Reading.{assignment, update, delete};
+ghost use Rattle.sql_grammar.specs.Views.{Gives, view_assignment, view_update, view_delete};
 
 use crate::conditions::maybe_where;
-use crate::steps::{name, past_sign, skip_key, skip_sign, skip_word};
+use crate::lists::{Item, chain};
+use crate::steps::{name, skip_key, skip_sign, skip_word};
 use crate::values::sum;
-use sql_grammar::{Assignment, Chain, Delete, Placed, Stop, Update};
-use sqlite_items::Items;
+use sql_grammar::{Assignment, Delete, Placed, Stop, Update};
 use std::alloc::Global;
 
 fn assignment<'a, 't>(
@@ -25,22 +26,20 @@ fn assignment<'a, 't>(
     Ok((Assignment { column, value }, rest))
 }
 
-fn assignments<'a, 't>(
-    alloc: Global,
-    tokens: &'t [Placed<'a>],
-) -> Result<(Chain<Assignment>, &'t [Placed<'a>]), Stop<'a>>
-    ensures reads { Gives (λ x. (chain_by view_assignment x.0, views x.1.now)) result (with_commas (λ k. assignment) (views tokens.now)) }
-    ensures shorter { IfOk result (λ x. length x.1.now ≤ length tokens.now) }
-{
-    let (first, mut rest) = assignment(alloc, tokens)?;
-    let mut more = Vec::new(alloc);
-    'commas: while let Some(after) = past_sign(rest, ",") {
-        let (next, behind) = assignment(alloc, after)?;
-        more.push(next)?;
-        rest = behind;
+impl Item for Assignment {
+    ghost Seen = { tree.Assignment };
+
+    ghost view = { view_assignment };
+
+    ghost rule = { λ k. assignment };
+
+    fn read<'a, 't>(
+        alloc: Global,
+        _number: usize,
+        tokens: &'t [Placed<'a>],
+    ) -> Result<(Assignment, &'t [Placed<'a>]), Stop<'a>> {
+        assignment(alloc, tokens)
     }
-    let more = Items::from_vec(more);
-    Ok((Chain { first, more }, rest))
 }
 
 /// An UPDATE, and the tokens behind it. It stops at a token that cannot stand there or passes a limit, or for want of memory.
@@ -54,7 +53,7 @@ pub(crate) fn update<'a, 't>(
     let rest = skip_word(tokens, "update")?;
     let (table, rest) = name(alloc, rest)?;
     let rest = skip_key(rest, "set")?;
-    let (assignments, rest) = assignments(alloc, rest)?;
+    let (assignments, rest) = chain::<Assignment>(alloc, ",", rest)?;
     let (condition, rest) = maybe_where(alloc, rest)?;
     Ok((
         Update {

@@ -3,6 +3,7 @@
 
 mod changes;
 mod conditions;
+mod lists;
 mod locks;
 mod queries;
 mod quotes;

@@ -3,22 +3,23 @@
 ghost use Rattle.std.specs.Prelude.{◌≡◌, ◌≤◌, length, IfOk, codes};
 ghost use Rattle.sql_grammar.specs.Lexing.{view_token, views};
 ghost use Rattle.sql_grammar.specs.Tokens.{Key, Word};
-ghost use Rattle.sql_grammar.specs.Reading.{with_commas, count_all, sum_of, aggregate, at_aggregate, items, direction, maybe_direction, sort_key, order_part, optional, row_lock, locked_for, lock_part, select};
+ghost use Rattle.sql_grammar.specs.declared.statement.Aggregate.{Aggregate};
+ghost use Rattle.sql_grammar.specs.declared.statement.SortKey.{SortKey};
+ghost use Rattle.sql_grammar.specs.Reading.{count_all, sum_of, aggregate, at_aggregate, items, direction, maybe_direction, sort_key, order_part, optional, row_lock, locked_for, lock_part, select};
 ghost use Rattle.sql_grammar.specs.Views.{Gives, chain_of, option_by, view_condition, view_selected, view_select};
 ghost use Rattle.sql_reader.specs.Selecting as selecting;
 
 use crate::conditions::maybe_where;
-use crate::rows::names;
+use crate::lists::{Item, chain};
 use crate::steps::{
-    at_key, at_sign, at_word, behind, first, maybe_nowait, name, past_sign, skip_key, skip_sign,
-    skip_word, taken,
+    at_key, at_sign, at_word, behind, first, maybe_nowait, name, skip_key, skip_sign, skip_word,
+    taken,
 };
 use lock_modes::Text;
 use sql_grammar::{
     Aggregate, Chain, Condition, Direction, LockedFor, Placed, RowLock, Select, Selected, SortKey,
     Stop, Token,
 };
-use sqlite_items::Items;
 use std::alloc::Global;
 
 fn count_all<'a, 't>(tokens: &'t [Placed<'a>]) -> Result<(Aggregate, &'t [Placed<'a>]), Stop<'a>>
@@ -60,22 +61,20 @@ fn aggregate<'a, 't>(
     }
 }
 
-fn aggregates<'a, 't>(
-    alloc: Global,
-    tokens: &'t [Placed<'a>],
-) -> Result<(Chain<Aggregate>, &'t [Placed<'a>]), Stop<'a>>
-    ensures reads { Gives (λ x. (chain_of x.0, views x.1.now)) result (with_commas (λ k. aggregate) (views tokens.now)) }
-    ensures shorter { IfOk result (λ x. length x.1.now ≤ length tokens.now) }
-{
-    let (first, mut rest) = aggregate(alloc, tokens)?;
-    let mut more = Vec::new(alloc);
-    'commas: while let Some(after) = past_sign(rest, ",") {
-        let (next, behind) = aggregate(alloc, after)?;
-        more.push(next)?;
-        rest = behind;
+impl Item for Aggregate {
+    ghost Seen = { Aggregate };
+
+    ghost view = { λ x. x };
+
+    ghost rule = { λ k. aggregate };
+
+    fn read<'a, 't>(
+        alloc: Global,
+        _number: usize,
+        tokens: &'t [Placed<'a>],
+    ) -> Result<(Aggregate, &'t [Placed<'a>]), Stop<'a>> {
+        aggregate(alloc, tokens)
     }
-    let more = Items::from_vec(more);
-    Ok((Chain { first, more }, rest))
 }
 
 /// Whether `count` or `sum` stands here with a parenthesis behind it.
@@ -96,10 +95,10 @@ fn items<'a, 't>(
         let rest = skip_sign(tokens, "*")?;
         Ok((Selected::All(None), rest))
     } else if at_aggregate(tokens) {
-        let (aggregates, rest) = aggregates(alloc, tokens)?;
+        let (aggregates, rest) = chain::<Aggregate>(alloc, ",", tokens)?;
         Ok((Selected::Aggregates(aggregates), rest))
     } else {
-        let (columns, rest) = names(alloc, tokens)?;
+        let (columns, rest) = chain::<Text>(alloc, ",", tokens)?;
         Ok((Selected::Columns(columns, None), rest))
     }
 }
@@ -140,22 +139,20 @@ fn sort_key<'a, 't>(
     Ok((SortKey { column, direction }, rest))
 }
 
-fn sort_keys<'a, 't>(
-    alloc: Global,
-    tokens: &'t [Placed<'a>],
-) -> Result<(Chain<SortKey>, &'t [Placed<'a>]), Stop<'a>>
-    ensures reads { Gives (λ x. (chain_of x.0, views x.1.now)) result (with_commas (λ k. sort_key) (views tokens.now)) }
-    ensures shorter { IfOk result (λ x. length x.1.now ≤ length tokens.now) }
-{
-    let (first, mut rest) = sort_key(alloc, tokens)?;
-    let mut more = Vec::new(alloc);
-    'commas: while let Some(after) = past_sign(rest, ",") {
-        let (next, behind) = sort_key(alloc, after)?;
-        more.push(next)?;
-        rest = behind;
+impl Item for SortKey {
+    ghost Seen = { SortKey };
+
+    ghost view = { λ x. x };
+
+    ghost rule = { λ k. sort_key };
+
+    fn read<'a, 't>(
+        alloc: Global,
+        _number: usize,
+        tokens: &'t [Placed<'a>],
+    ) -> Result<(SortKey, &'t [Placed<'a>]), Stop<'a>> {
+        sort_key(alloc, tokens)
     }
-    let more = Items::from_vec(more);
-    Ok((Chain { first, more }, rest))
 }
 
 fn order_part<'a, 't>(
@@ -167,7 +164,7 @@ fn order_part<'a, 't>(
 {
     let rest = skip_key(tokens, "order")?;
     let rest = skip_key(rest, "by")?;
-    sort_keys(alloc, rest)
+    chain::<SortKey>(alloc, ",", rest)
 }
 
 fn maybe_order<'a, 't>(

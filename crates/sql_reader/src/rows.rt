@@ -3,34 +3,17 @@
 ghost use Rattle.std.specs.Prelude.{◌≡◌, ◌≤◌, ◌+◌, suc, length, IfOk, codes};
 ghost use Rattle.sql_grammar.specs.Lexing.{views};
 ghost use Rattle.sql_grammar.specs.Tokens.{Sign};
-ghost use Rattle.sql_grammar.specs.Reading.{with_commas, name, names_part, optional, literal, row, insert};
-ghost use Rattle.sql_grammar.specs.Views.{Gives, chain_of, chain_by, option_by, view_insert};
+ghost use Rattle.sql_grammar.specs.Tree as tree;
+ghost use Rattle.sql_grammar.specs.declared.expression.Literal.{Literal};
+ghost use Rattle.sql_grammar.specs.Reading.{names_part, optional, literal, row, insert};
+ghost use Rattle.sql_grammar.specs.Views.{Gives, chain_of, option_by, view_insert};
 
-use crate::steps::{at_sign, first, name, past_sign, skip_key, skip_sign, skip_word};
+use crate::lists::{Item, chain};
+use crate::steps::{at_sign, first, name, skip_key, skip_sign, skip_word};
 use crate::values::literal;
 use lock_modes::Text;
 use sql_grammar::{Chain, Insert, Limit, Literal, MAX_ROWS, Placed, Stop, Why};
-use sqlite_items::Items;
 use std::alloc::Global;
-
-/// Names with commas between them.
-pub(crate) fn names<'a, 't>(
-    alloc: Global,
-    tokens: &'t [Placed<'a>],
-) -> Result<(Chain<Text>, &'t [Placed<'a>]), Stop<'a>>
-    ensures reads { Gives (λ x. (chain_of x.0, views x.1.now)) result (with_commas (λ k. name) (views tokens.now)) }
-    ensures shorter { IfOk result (λ x. length x.1.now ≤ length tokens.now) }
-{
-    let (first, mut rest) = name(alloc, tokens)?;
-    let mut more = Vec::new(alloc);
-    'commas: while let Some(after) = past_sign(rest, ",") {
-        let (next, behind) = name(alloc, after)?;
-        more.push(next)?;
-        rest = behind;
-    }
-    let more = Items::from_vec(more);
-    Ok((Chain { first, more }, rest))
-}
 
 fn names_part<'a, 't>(
     alloc: Global,
@@ -40,7 +23,7 @@ fn names_part<'a, 't>(
     ensures shorter { IfOk result (λ x. length x.1.now ≤ length tokens.now) }
 {
     let rest = skip_sign(tokens, "(")?;
-    let (names, rest) = names(alloc, rest)?;
+    let (names, rest) = chain::<Text>(alloc, ",", rest)?;
     let rest = skip_sign(rest, ")")?;
     Ok((names, rest))
 }
@@ -60,23 +43,20 @@ fn maybe_names<'a, 't>(
     }
 }
 
-/// Values with commas between them.
-fn literals<'a, 't>(
-    alloc: Global,
-    tokens: &'t [Placed<'a>],
-) -> Result<(Chain<Literal>, &'t [Placed<'a>]), Stop<'a>>
-    ensures reads { Gives (λ x. (chain_of x.0, views x.1.now)) result (with_commas (λ i. literal) (views tokens.now)) }
-    ensures shorter { IfOk result (λ x. length x.1.now ≤ length tokens.now) }
-{
-    let (first, mut rest) = literal(alloc, tokens)?;
-    let mut more = Vec::new(alloc);
-    'commas: while let Some(after) = past_sign(rest, ",") {
-        let (next, behind) = literal(alloc, after)?;
-        more.push(next)?;
-        rest = behind;
+impl Item for Literal {
+    ghost Seen = { Literal };
+
+    ghost view = { λ x. x };
+
+    ghost rule = { λ k. literal };
+
+    fn read<'a, 't>(
+        alloc: Global,
+        _number: usize,
+        tokens: &'t [Placed<'a>],
+    ) -> Result<(Literal, &'t [Placed<'a>]), Stop<'a>> {
+        literal(alloc, tokens)
     }
-    let more = Items::from_vec(more);
-    Ok((Chain { first, more }, rest))
 }
 
 /// The row of this number, from 0.
@@ -92,28 +72,25 @@ fn row<'a, 't>(
         return Err(Stop::At(Why::Passes(Limit::TooLarge), first(tokens)));
     }
     let rest = skip_sign(tokens, "(")?;
-    let (row, rest) = literals(alloc, rest)?;
+    let (row, rest) = chain::<Literal>(alloc, ",", rest)?;
     let rest = skip_sign(rest, ")")?;
     Ok((row, rest))
 }
 
-/// Rows with commas between them.
-fn rows<'a, 't>(
-    alloc: Global,
-    tokens: &'t [Placed<'a>],
-) -> Result<(Chain<Chain<Literal>>, &'t [Placed<'a>]), Stop<'a>>
-    ensures reads { Gives (λ x. (chain_by chain_of x.0, views x.1.now)) result (with_commas row (views tokens.now)) }
-    ensures shorter { IfOk result (λ x. length x.1.now ≤ length tokens.now) }
-{
-    let (first, mut rest) = row(alloc, 0, tokens)?;
-    let mut more = Vec::new(alloc);
-    'commas: while let Some(after) = past_sign(rest, ",") {
-        let (next, behind) = row(alloc, more.len() + 1, after)?;
-        more.push(next)?;
-        rest = behind;
+impl Item for Chain<Literal> {
+    ghost Seen = { tree.Chain Literal };
+
+    ghost view = { chain_of };
+
+    ghost rule = { row };
+
+    fn read<'a, 't>(
+        alloc: Global,
+        number: usize,
+        tokens: &'t [Placed<'a>],
+    ) -> Result<(Chain<Literal>, &'t [Placed<'a>]), Stop<'a>> {
+        row(alloc, number, tokens)
     }
-    let more = Items::from_vec(more);
-    Ok((Chain { first, more }, rest))
 }
 
 /// An INSERT, and the tokens behind it. It stops at a token that cannot stand there or passes a limit, or for want of memory.
@@ -129,7 +106,7 @@ pub(crate) fn insert<'a, 't>(
     let (table, rest) = name(alloc, rest)?;
     let (columns, rest) = maybe_names(alloc, rest)?;
     let rest = skip_key(rest, "values")?;
-    let (rows, rest) = rows(alloc, rest)?;
+    let (rows, rest) = chain::<Chain<Literal>>(alloc, ",", rest)?;
     Ok((
         Insert {
             table,

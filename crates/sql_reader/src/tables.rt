@@ -2,11 +2,13 @@
 
 ghost use Rattle.std.specs.Prelude.{◌≡◌, ◌≤◌, ◌<◌, suc, length, option_map, IfOk, IfSome};
 ghost use Rattle.sql_grammar.specs.Lexing.{view_token, views};
-ghost use Rattle.sql_grammar.specs.Reading.{begins_property, next_property, property, many, type_word, column_part, key_part, table_part, create, with_commas};
-ghost use Rattle.sql_grammar.specs.Views.{Gives, chain_of, view_create};
+ghost use Rattle.sql_grammar.specs.declared.statement.TablePart.{TablePart};
+ghost use Rattle.sql_grammar.specs.Reading.{begins_property, next_property, property, many, type_word, column_part, key_part, table_part, create};
+ghost use Rattle.sql_grammar.specs.Views.{Gives, view_create};
 
-use crate::steps::{at_key, first, name, past_sign, skip_key, skip_sign, skip_word, taken};
-use sql_grammar::{Chain, CreateTable, Placed, Property, Stop, TablePart, Token, TypeWord};
+use crate::lists::{Item, chain};
+use crate::steps::{at_key, first, name, skip_key, skip_sign, skip_word, taken};
+use sql_grammar::{CreateTable, Placed, Property, Stop, TablePart, Token, TypeWord};
 use sqlite_items::Items;
 use std::alloc::Global;
 
@@ -112,22 +114,20 @@ fn table_part<'a, 't>(
     }
 }
 
-fn table_parts<'a, 't>(
-    alloc: Global,
-    tokens: &'t [Placed<'a>],
-) -> Result<(Chain<TablePart>, &'t [Placed<'a>]), Stop<'a>>
-    ensures reads { Gives (λ x. (chain_of x.0, views x.1.now)) result (with_commas (λ k. table_part) (views tokens.now)) }
-    ensures shorter { IfOk result (λ x. length x.1.now ≤ length tokens.now) }
-{
-    let (first, mut rest) = table_part(alloc, tokens)?;
-    let mut more = Vec::new(alloc);
-    'commas: while let Some(after) = past_sign(rest, ",") {
-        let (next, behind) = table_part(alloc, after)?;
-        more.push(next)?;
-        rest = behind;
+impl Item for TablePart {
+    ghost Seen = { TablePart };
+
+    ghost view = { λ x. x };
+
+    ghost rule = { λ k. table_part };
+
+    fn read<'a, 't>(
+        alloc: Global,
+        _number: usize,
+        tokens: &'t [Placed<'a>],
+    ) -> Result<(TablePart, &'t [Placed<'a>]), Stop<'a>> {
+        table_part(alloc, tokens)
     }
-    let more = Items::from_vec(more);
-    Ok((Chain { first, more }, rest))
 }
 
 /// A CREATE TABLE, and the tokens behind it. It stops at a token that cannot stand there, or for want of memory.
@@ -142,7 +142,7 @@ pub(crate) fn create<'a, 't>(
     let rest = skip_key(rest, "table")?;
     let (table, rest) = name(alloc, rest)?;
     let rest = skip_sign(rest, "(")?;
-    let (parts, rest) = table_parts(alloc, rest)?;
+    let (parts, rest) = chain::<TablePart>(alloc, ",", rest)?;
     let rest = skip_sign(rest, ")")?;
     Ok((CreateTable { table, parts }, rest))
 }

@@ -3,11 +3,13 @@
 ghost use Rattle.std.specs.Prelude.{◌≡◌, ◌≤◌, length, IfOk, None, MatchOption};
 ghost use Rattle.sql_grammar.specs.Lexing.{view_token, views};
 ghost use Rattle.sql_grammar.specs.Grammar.{fits};
+ghost use Rattle.sql_grammar.specs.declared.expression.Factor.{Factor};
 ghost use Rattle.sql_grammar.specs.Reading.{first, whole, quoted_text, literal, factor, term, add_sign, sum};
 ghost use Rattle.sql_grammar.specs.Views.{Gives, Passed, chain_of, view_sum};
 
+use crate::lists::{Item, chain};
 use crate::quotes::unquoted;
-use crate::steps::{at_sign, behind, first, name, past_sign, skip_sign};
+use crate::steps::{at_sign, behind, first, name, skip_sign};
 use sql_grammar::{
     AddSign, Chain, Factor, Limit, Literal, Placed, SignedTerm, Stop, Sum, Token, Why,
 };
@@ -96,6 +98,22 @@ pub(crate) fn factor<'a, 't>(
     }
 }
 
+impl Item for Factor {
+    ghost Seen = { Factor };
+
+    ghost view = { λ x. x };
+
+    ghost rule = { λ k. factor };
+
+    fn read<'a, 't>(
+        alloc: Global,
+        _number: usize,
+        tokens: &'t [Placed<'a>],
+    ) -> Result<(Factor, &'t [Placed<'a>]), Stop<'a>> {
+        factor(alloc, tokens)
+    }
+}
+
 /// Factors with `*` between them.
 fn term<'a, 't>(
     alloc: Global,
@@ -104,15 +122,7 @@ fn term<'a, 't>(
     ensures reads { Gives (λ x. (chain_of x.0, views x.1.now)) result (term (views tokens.now)) }
     ensures shorter { IfOk result (λ x. length x.1.now ≤ length tokens.now) }
 {
-    let (first, mut rest) = factor(alloc, tokens)?;
-    let mut more = Vec::new(alloc);
-    'commas: while let Some(after) = past_sign(rest, "*") {
-        let (next, behind) = factor(alloc, after)?;
-        more.push(next)?;
-        rest = behind;
-    }
-    let more = Items::from_vec(more);
-    Ok((Chain { first, more }, rest))
+    chain::<Factor>(alloc, "*", tokens)
 }
 
 fn add_sign(token: &Token) -> Option<AddSign>
