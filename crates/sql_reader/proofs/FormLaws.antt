@@ -8,8 +8,12 @@ use Rattle.sql_grammar.specs.Grammar as grammar
 use Rattle.sql_grammar.specs.Reading.{first, inside}
 use Rattle.sql_grammar.specs.Reading as reading
 use Rattle.sql_reader.proofs.Laws.{Stops, HasEnd, Agrees, Heads, choice, both, also}
-use Rattle.sql_reader.proofs.StatementLaws.{CreateIndex, create_law, InsertIndex, insert_law, SelectIndex, tree_select, select_law, UpdateIndex}
-use Rattle.sql_reader.proofs.StatementLaws.{update_law, DeleteIndex, delete_law, BeginIndex, begin_law, EndIndex, ends_law, LockIndex, lock_law}
+use Rattle.sql_reader.proofs.TableLaws.{CreateIndex, create_law}
+use Rattle.sql_reader.proofs.InsertLaws.{InsertIndex, insert_law}
+use Rattle.sql_reader.proofs.QueryLaws.{SelectIndex, tree_select, select_law}
+use Rattle.sql_reader.proofs.ChangeLaws.{UpdateIndex, update_law, DeleteIndex, delete_law}
+use Rattle.sql_reader.proofs.TransactionLaws.{BeginIndex, begin_law, EndIndex, ends_law}
+use Rattle.sql_reader.proofs.LockLaws.{LockIndex, lock_law}
 use Rattle.sql_reader.proofs.SettingLaws.{set_law}
 use Rattle.sql_grammar.specs.declared.statement.Setting.{Setting}
 use Rattle.sql_grammar.specs.declared.statement.Start.TheVariants.{BeginWord, StartWords}

@@ -1,5 +1,6 @@
 -- Each rule that is one token.
-use Rattle.std.proofs.Common.{◌≡◌, Bool, true, false, List, [], ◌∷◌, Some, None, refl, sym, ap, ◌∙◌, cond}
+use Rattle.std.proofs.Common.{◌≡◌, Option, Bool, true, false, List, [], ◌∷◌, Some, None, refl, sym, ap, ◌∙◌, cond}
+use Rattle.std.specs.Prelude.{is_some}
 use Rattle.std.specs.List.{AllByRecursion}
 use Rattle.std.proofs.lemmas.Slice.Eq.{bytes_eq-Decides}
 use Rattle.sql_grammar.specs.Tokens.{Token, Key, Word, Sign, End, Placed, is, is_last}
@@ -52,3 +53,8 @@ one_of token_of table some ok again inside on ts ends = one (which table) token_
 
 pub the-none : (w t : Token) → is w t ≡ false → the w t ≡ None
 the-none w t e = rw e refl
+
+-- what a test finds nothing in is nothing
+pub none_of : {A : Type 0} (o : Option A) → is_some o ≡ false → o ≡ None
+none_of None e = refl
+none_of (Some x) e = absurd cc

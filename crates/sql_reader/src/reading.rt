@@ -9,14 +9,18 @@ ghost use Rattle.sql_grammar.specs.Reading.{first, other_form, form, begins_begi
 ghost use Rattle.sql_grammar.specs.Text.{StatementAt, IsSpelled, Explains, AllHaveFewRows, at_offset, fault_at, next_statement, statements_from, pushed, seen, failure_of, Tells};
 ghost use Rattle.sql_grammar.specs.Views.{Gives, option_by, view_form};
 
+use crate::changes::{delete, update};
+use crate::locks::lock;
+use crate::queries::select;
+use crate::rows::insert;
+use crate::settings::set;
+use crate::steps::{at_key, at_sign, at_word, behind, first, inside};
+use crate::tables::create;
+use crate::transactions::{begin, end_word, ends};
 use byte_runs::tokens_of;
-use sql_changes::{delete, set, update};
-use sql_forms::{begin, create, end_word, ends, lock};
 use sql_grammar::{
     Failure, Form, Limit, Placed, SqlError, SqlErrorKind, Statement, Stop, Token, Why, quoted_len,
 };
-use sql_queries::{insert, select};
-use sql_words::{at_key, at_sign, at_word, behind, first, inside};
 use std::alloc::{AllocError, Global};
 
 fn begins_begin(tokens: &[Placed]) -> bool
