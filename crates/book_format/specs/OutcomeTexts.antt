@@ -1,7 +1,7 @@
 -- The compact JSON text of an outcome, by cases of its events.
 use Rattle.std.specs.Prelude.{ℕ, ◌≤◌, ◌≢◌, List, [], ◌∷◌, ◌++◌, codes, decimal, flat_map}
 use Rattle.std.specs.Fmt.{signed_decimal}
-use Rattle.json.specs.Print.{quoted}
+use Rattle.json.specs.Print as json
 use Rattle.lock_modes.specs.declared.value.Value.{Value}
 use Rattle.lock_modes.specs.declared.value.Value.TheVariants.{Int, Text}
 use Rattle.transcripts.specs.declared.event.Event.{Event}
@@ -21,7 +21,7 @@ array_text item (x ∷ xs) = codes "[" ++ (item x ++ others_text item xs)
 -- a value of a row: a number, or a string with the shortest escapes
 abbrev pub cell_text : Value → List ℕ
 cell_text (Int number) = signed_decimal number
-cell_text (Text text) = quoted text
+cell_text (Text text) = json.quoted text
 
 abbrev pub row_text : List Value → List ℕ
 row_text values = codes "[\"row\"," ++ (array_text cell_text values ++ codes "]")
