@@ -82,10 +82,14 @@ span-back n run known lt = on run.tag known
 abbrev AllEarlier : List Run → List Run → Type 0
 AllEarlier before runs = (x y : Run) → IsIn x before → IsIn y runs → IsLater x y
 
-next-back : (spec : Spec) (n : ℕ) (before : List Run) (facts : ℕ) (run : Run) → ((x : Run) → IsIn x before → IsLater x run) → IsLawful spec n run
+pub next-past : (spec : Spec) (n : ℕ) (before : List Run) (facts : ℕ) (run : Run) → IsPast before run → IsLawful spec n run
     → facts + (run.end - run.first) ≤ MAX_FACTS → IsNextRun spec n before facts (run_data run) (Ok run)
-next-back spec n before facts run earlier is few =
-    inl (span_of run, span-back n run is.tag is.some, inl (few, inl (below, inl (led, inl (past, ap Ok (sym same))))))
+next-past spec n before facts run past is few =
+    inl (
+      span_of run,
+      span-back n run is.tag is.some,
+      inl (few, inl (below, inl (led, inl (subst (IsPast before) (sym same) past, ap Ok (sym same))))),
+    )
   where
     whole : run.first + (run.end - run.first) ≡ run.end
     whole = let some = is.some in omega (arith, some)
@@ -99,11 +103,15 @@ next-back spec n before facts run earlier is few =
     led : IsLed spec run.first (run.first + (run.end - run.first)) run.tag
     led = subst (λ e. IsLed spec run.first e run.tag) (sym whole) is.led
 
-    past : IsPast before (run_of (span_of run))
-    past = subst (IsPast before) (sym same) (record {
+next-back : (spec : Spec) (n : ℕ) (before : List Run) (facts : ℕ) (run : Run) → ((x : Run) → IsIn x before → IsLater x run) → IsLawful spec n run
+    → facts + (run.end - run.first) ≤ MAX_FACTS → IsNextRun spec n before facts (run_data run) (Ok run)
+next-back spec n before facts run earlier is few =
+    next-past spec n before facts run
+    (record {
       after = λ l e. (earlier l (last-in before l e)).later;
       apart = EachRun-all _ before (λ x i. (earlier x i).apart);
     })
+    is few
 
 runs-back : (spec : Spec) (n : ℕ) (before : List Run) (facts : ℕ) (runs : List Run) → AllEarlier before runs → Rises IsLater runs
     → EachRun (IsLawful spec n) runs

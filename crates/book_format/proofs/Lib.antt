@@ -18,3 +18,4 @@ pub mod Steps
 pub mod BackLemmas
 pub mod FormsBack
 pub mod Utf8Lemmas
+pub mod TextBooks

@@ -17,7 +17,7 @@ use Rattle.fact_books.specs.Books.{Contents}
 use Rattle.book_format.specs.Forms.{IsForm, tag_number}
 use Rattle.book_format.specs.BookText.{tag_data, run_data, book_data, book_text}
 use Rattle.book_format.specs.declared.pieces.Pieces.{Pieces}
-use Rattle.book_format.specs.Pieces.{tag_front, run_text, after_comma, pieces_text}
+use Rattle.book_format.specs.Pieces.{tag_front, run_text, after_comma, told_text, facts_text, spec_text, pieces_text, parts_text}
 use Rattle.book_format.specs.Writing.{ArePieces}
 
 -- ---- lists
@@ -94,19 +94,22 @@ laid-out a b c =
     ∙ ap (λ h. b ++ (codes "],\"spec\":" ++ h)) (append_assoc c (codes "}") (10 ∷ [])))
     ∙ sym (append_assoc a (codes "],\"format\":2,\"outcomes\":[" ++ b) (codes "],\"spec\":" ++ c ++ codes "}\n")))
 
+pub parts-text : (text : List ℕ) (table : Table) (runs : List Run) (q : List ℕ) → q ≡ compact_text (string text)
+    → parts_text runs table q ≡ book_text text table runs
+parts-text text table runs q whole =
+    let back = sym whole in
+    sym (
+    ap (λ h. h ++ 10 ∷ []) (data-text text table runs)
+    ∙ (λ i. (codes "{\"facts\":[" ++ (items-text run_data run_text run-text runs i ++ (codes ",\"format\":2,\"outcomes\":["
+    ++ (items-text outcome_data told_text (λ o. refl) table i ++ (codes ",\"spec\":" ++ (back i ++ codes "}")))))) ++ 10 ∷ [])
+    ∙ laid-out (join_by run_text (codes ",") runs) (join_by told_text (codes ",") table) q)
+
 pub pieces-text : (text : List ℕ) (table : Table) (runs : List Run) {A : Type 0} (texts : List (String A)) (q : List ℕ)
     → map string_bytes texts ≡ map (λ o. compact_text (outcome_data o)) table → q ≡ compact_text (string text)
     → pieces_text runs texts q ≡ book_text text table runs
 pieces-text text table runs texts q each whole =
-    let back = sym whole in
-    let names = sym (joined-same string_bytes (λ o. compact_text (outcome_data o)) texts table each) in
-    sym (
-    ap (λ h. h ++ 10 ∷ []) (data-text text table runs)
-    ∙ (λ i. (codes "{\"facts\":[" ++ (items-text run_data run_text run-text runs i ++ (codes ",\"format\":2,\"outcomes\":["
-    ++ (items-text outcome_data (λ o. compact_text (outcome_data o)) (λ o. refl) table i ++ (codes ",\"spec\":" ++ (back i ++ codes "}")))))) ++ 10 ∷ [])
-    ∙ (λ i. (codes "{\"facts\":[" ++ ((join_by run_text (codes ",") runs ++ 93 ∷ []) ++ (codes ",\"format\":2,\"outcomes\":["
-    ++ ((names i ++ 93 ∷ []) ++ (codes ",\"spec\":" ++ (q ++ codes "}")))))) ++ 10 ∷ [])
-    ∙ laid-out (join_by run_text (codes ",") runs) (join_by string_bytes (codes ",") texts) q)
+    ap (λ t. facts_text runs ++ (codes "],\"format\":2,\"outcomes\":[" ++ t) ++ spec_text q) (joined-same string_bytes told_text texts table each)
+    ∙ parts-text text table runs q whole
 
 -- the pieces of the one form
 pub are-pieces : (book : Contents) (table : Table) (pieces : Pieces) → IsForm book.facts table pieces.runs.items

@@ -2,9 +2,13 @@
 use Rattle.std.specs.Prelude.{ℕ, ◌-◌, List, ◌++◌, codes, decimal, string_bytes}
 use Rattle.std.specs.List.{join_by}
 use Rattle.std.specs.declared.string.String.{String}
+use Rattle.serde_json.specs.Written.{compact_text}
+use Rattle.transcripts.specs.Json.{outcome_data}
 use Rattle.fact_books.specs.declared.run.Run.{Run}
 use Rattle.fact_books.specs.declared.run.Tag.{Tag}
 use Rattle.fact_books.specs.declared.run.Tag.TheVariants.{Ran, Swap}
+use Rattle.fact_books.specs.Entries.{Told}
+use Rattle.fact_books.specs.Runs.{Table}
 use Rattle.book_format.specs.declared.pieces.Pieces.{Pieces}
 use Rattle.book_format.specs.Forms.{tag_number}
 
@@ -20,6 +24,10 @@ run_text run =
 abbrev pub after_comma : {X : Type 0} → (X → List ℕ) → X → List ℕ
 after_comma f x = codes "," ++ f x
 
+-- the text of an outcome
+abbrev pub told_text : Told → List ℕ
+told_text outcome = compact_text (outcome_data outcome)
+
 -- the members up to the runs
 abbrev pub facts_text : List Run → List ℕ
 facts_text runs = codes "{\"facts\":[" ++ join_by run_text (codes ",") runs
@@ -27,6 +35,10 @@ facts_text runs = codes "{\"facts\":[" ++ join_by run_text (codes ",") runs
 -- and up to the outcomes, whose texts these are
 abbrev pub outcomes_text : {A : Type 0} → List (String A) → List ℕ
 outcomes_text texts = codes "],\"format\":2,\"outcomes\":[" ++ join_by string_bytes (codes ",") texts
+
+-- the same of outcomes
+abbrev pub table_text : Table → List ℕ
+table_text table = codes "],\"format\":2,\"outcomes\":[" ++ join_by told_text (codes ",") table
 
 -- and the spec's text, which is quoted, with a line feed
 abbrev pub spec_text : List ℕ → List ℕ
@@ -37,3 +49,7 @@ pieces_text runs texts quoted = facts_text runs ++ outcomes_text texts ++ spec_t
 
 abbrev pub text_in : Pieces → List ℕ
 text_in pieces = pieces_text pieces.runs.items pieces.texts.items (string_bytes pieces.quoted)
+
+-- the text of runs, of outcomes, and of a spec's text, which is quoted
+abbrev pub parts_text : List Run → Table → List ℕ → List ℕ
+parts_text runs table quoted = facts_text runs ++ table_text table ++ spec_text quoted

@@ -3,6 +3,7 @@
 
 mod canonical;
 mod compact;
+mod comparing;
 mod error;
 mod laws;
 mod lengths;
@@ -14,6 +15,7 @@ mod texts;
 mod write_error;
 mod writing;
 
+pub use comparing::book_of_text;
 pub use error::BookError;
 pub use laws::{books_have_one_text, texts_read_as_values, written_books_read_back};
 pub use pieces::{MAX_FACTS, MAX_TEXT};

@@ -23,7 +23,7 @@ pub(crate) fn print_book<W: Write>(pieces: &Pieces, out: &mut Counted<W>) -> Res
     print_spec(pieces.quoted.as_str(), out)
 }
 
-fn print_facts<W: Write>(runs: &[Run], out: &mut Counted<W>) -> Result<(), WriteFault>
+pub(crate) fn print_facts<W: Write>(runs: &[Run], out: &mut Counted<W>) -> Result<(), WriteFault>
     requires { failures_of out.old < u64.MAX }
     ensures { Prints W.contents out.old out.new result (facts_text runs.now) }
 {
@@ -105,7 +105,7 @@ fn print_other_texts<W: Write>(texts: &[String], out: &mut Counted<W>) -> Result
     Ok(())
 }
 
-fn print_spec<W: Write>(quoted: &str, out: &mut Counted<W>) -> Result<(), WriteFault>
+pub(crate) fn print_spec<W: Write>(quoted: &str, out: &mut Counted<W>) -> Result<(), WriteFault>
     requires { failures_of out.old < u64.MAX }
     ensures { Prints W.contents out.old out.new result (spec_text quoted.now) }
 {

@@ -1,6 +1,6 @@
 //! The texts of outcomes and of a spec in a book's text.
 
-ghost use Rattle.std.specs.Prelude.{◌≡◌, IfOk, map, string_bytes};
+ghost use Rattle.std.specs.Prelude.{◌≡◌, IfOk, OnOk, map, string_bytes};
 ghost use Rattle.serde_json.specs.Data.{string};
 ghost use Rattle.serde_json.specs.Written.{compact_text};
 ghost use Rattle.transcripts.specs.Json.{outcome_data};
@@ -10,6 +10,14 @@ use serde_json::Value;
 use std::alloc::{AllocError, Global};
 use transcripts::Outcome;
 
+/// Makes a text that of an outcome.
+pub(crate) fn make_text(outcome: &Outcome, text: &mut String) -> Result<(), AllocError>
+    ensures { OnOk result (string_bytes text.new ≡ compact_text (outcome_data outcome.now)) }
+{
+    text.clear();
+    push_sessions(outcome.sessions(), text)
+}
+
 /// The compact text of an outcome. It is made in a text that is used again, so that it takes no more room than it needs.
 fn outcome_text(
     alloc: Global,
@@ -18,8 +26,7 @@ fn outcome_text(
 ) -> Result<String, AllocError>
     ensures { IfOk result (λ text. string_bytes text ≡ compact_text (outcome_data outcome.now)) }
 {
-    scratch.clear();
-    push_sessions(outcome.sessions(), scratch)?;
+    make_text(outcome, scratch)?;
     String::from_str(alloc, scratch.as_str())
 }
 

@@ -52,7 +52,7 @@ fn next_outcome(
 }
 
 /// Whether the text of an outcome comes after that of the last one.
-fn stands_after(before: &[Outcome], outcome: &Outcome) -> bool
+pub(crate) fn stands_after(before: &[Outcome], outcome: &Outcome) -> bool
     ensures { IsTrue result ↔ StandsAfter ComesBefore before.now outcome.now }
 {
     match before.last() {
@@ -79,7 +79,7 @@ pub(crate) fn outcome_of(alloc: Global, spec: &Spec, value: &Json) -> Result<Out
 }
 
 /// Whether there is a transcript for each session, which names steps of that session alone.
-fn is_outcome_of(spec: &Spec, sessions: &[Transcript]) -> bool
+pub(crate) fn is_outcome_of(spec: &Spec, sessions: &[Transcript]) -> bool
     ensures { IsTrue result ↔ IsOutcomeOf spec.now.run sessions.now }
 {
     let count = spec.sessions();

@@ -43,7 +43,7 @@ impl Drop for Ends {
 }
 
 impl Ends {
-    fn new(alloc: Global, outcomes: usize) -> Result<Ends, AllocError>
+    pub(crate) fn new(alloc: Global, outcomes: usize) -> Result<Ends, AllocError>
         ensures { IfOk result (λ ends. AreEnds outcomes ends []) }
     {
         Ok(Ends {
@@ -64,7 +64,7 @@ impl Ends {
     }
 
     /// Notes a run that neither overlaps nor touches one that says the same.
-    fn note(&mut self, run: Run)
+    pub(crate) fn note(&mut self, run: Run)
         requires tag { IsTagOf (length self.old.ran.items) run.tag }
         requires places { length self.old.swap.items ≡ 256 }
         requires some { run.first < run.end }
@@ -87,7 +87,7 @@ impl Ends {
     }
 
     /// Whether each outcome is named by a run.
-    fn all_named(&self) -> bool
+    pub(crate) fn all_named(&self) -> bool
         ensures { IsTrue result ↔ ((n : ℕ) → n < length self.now.ran.items → slice_index self.now.ran.items n ≢ 0) }
     {
         for end in &self.ran {
@@ -175,7 +175,7 @@ fn is_within(span: &Span, ranks: u64) -> bool
 }
 
 /// Whether a swap leads to a rank from each of the run's ranks.
-fn is_led(spec: &Spec, run: &Run) -> bool
+pub(crate) fn is_led(spec: &Spec, run: &Run) -> bool
     ensures { IsTrue result ↔ IsLed spec.now.run run.now.first run.now.end run.now.tag }
 {
     match run.tag {
@@ -185,7 +185,7 @@ fn is_led(spec: &Spec, run: &Run) -> bool
 }
 
 /// Whether a run stands after the last one, and apart from those that say the same.
-fn is_past(outcomes: usize, before: &[Run], ends: &Ends, run: &Run) -> bool
+pub(crate) fn is_past(outcomes: usize, before: &[Run], ends: &Ends, run: &Run) -> bool
     requires tag { IsTagOf outcomes run.now.tag }
     requires ends { AreEnds outcomes ends.now before.now }
     ensures { IsTrue result ↔ IsPast before.now run.now }
