@@ -1,8 +1,9 @@
 //! A spec from the bytes of its file.
 
-ghost use Rattle.std.specs.Prelude.{IfErr, IfOk};
+ghost use Rattle.std.specs.Prelude.{◌≡◌, IfErr, IfOk, MatchResult};
 ghost use Rattle.bound_specs.specs.Binding.{IsFileOf};
-ghost use Rattle.spec_binding.specs.SpecFiles.{IsNoSpec};
+ghost use Rattle.bound_specs.specs.Spec.{SpecFile};
+ghost use Rattle.spec_binding.specs.SpecFiles.{IsMemory, IsNoSpec};
 
 use crate::binding::bind;
 use binding_model::BindError;
@@ -22,6 +23,8 @@ pub enum SpecFault {
 /// The spec that bytes are the file of.
 pub fn spec_of(alloc: Global, bytes: &[u8]) -> Result<Spec, SpecFault>
     ensures file { IfOk result (λ spec. IsFileOf bytes.now spec) }
+    // A spec file is bound, to its spec, unless memory runs out.
+    ensures complete { (file : SpecFile) → IsFileOf bytes.now file → MatchResult result (λ spec. spec ≡ file) IsMemory }
     ensures refused { IfErr result (IsNoSpec bytes.now) }
 {
     let text = match read_spec(alloc, bytes) {
