@@ -13,7 +13,6 @@ to refuse the function. --check builds nothing: it looks whether all that the fi
 """
 
 import argparse
-import os
 import re
 import shutil
 import signal
@@ -29,6 +28,7 @@ TOP = Path(__file__).resolve().parent.parent
 FOLDER = TOP / "wrong_bodies"
 PARTS = ["crates", "crates.txt", "HANDLES"]
 LINES_TOLD = 5
+SECONDS_TO_END = 20
 SLOWLY = ["nice", "-n", "15"]
 
 
@@ -69,22 +69,18 @@ def bodies():
 
 
 def changed(body, top):
-    """The files of a body as they stand, and as they are with it; and what cannot be changed."""
-    before, after, faults = {}, {}, []
+    """The texts of the files that a body changes, with it; and what cannot be changed."""
+    texts, faults = {}, []
     for file, old, new in body.changes:
         path = top / file
         if not re.fullmatch(r"crates/\w+/src/[\w/]+\.rt", file) or not path.is_file():
-            faults.append(f"there is no {file}")
+            faults.append(f"names {file}, which is not there")
             continue
-        before.setdefault(path, path.read_text())
-        text = after.get(path, before[path])
-        if text.count(old) != 1:
-            faults.append(f"stands {text.count(old)} times in {file}: {old.strip()}")
-        elif old == new:
-            faults.append("changes nothing")
-        else:
-            after[path] = text.replace(old, new)
-    return before, after, faults
+        text = texts.get(path, path.read_text())
+        if text.count(old) != 1 or old == new:
+            faults.append(f"wants to change what stands {text.count(old)} times in {file}: {old.strip()}")
+        texts[path] = text.replace(old, new)
+    return texts, faults
 
 
 def contract_of(crate, path):
@@ -106,14 +102,14 @@ def is_test(crate, path):
 
 def faults_of(body):
     """What a file names that is not there."""
-    faults = body.faults + changed(body, TOP)[2]
+    faults = body.faults + changed(body, TOP)[1]
     match body.test, body.clause:
         case [crate, path], []:
-            faults += [] if is_test(crate, path) else [f"there is no test {path} in {crate}"]
+            faults += [] if is_test(crate, path) else [f"names the test {path}, which is not in {crate}"]
         case [], [crate, path, *labels]:
             said = [f"ensures {label} {{" for label in labels] or ["ensures "]
             heads = contract_of(crate, path)
-            faults += [] if any(words in head for head in heads for words in said) else [f"{crate} has no clause {path} {' '.join(labels)}"]
+            faults += [] if any(words in head for head in heads for words in said) else [f"names the clause {' '.join([path, *labels])}, which is not in {crate}"]
         case _:
             faults.append("names neither a test nor a clause")
     return [f"wrong_bodies/{body.name}.edit {fault}" for fault in faults]
@@ -129,48 +125,55 @@ def check(all_bodies):
     return 1 if faults else 0
 
 
-def lines_of(words, folder):
-    """The lines that a command prints, both outputs in one. It is ended with all that it started when nobody reads on."""
-    ran = subprocess.Popen(words, cwd=folder, stdin=subprocess.DEVNULL, stdout=subprocess.PIPE, stderr=subprocess.STDOUT, text=True, start_new_session=True)
+def run(words, folder):
+    """What a command prints, both outputs in one, and its status. Where this is stopped the command is told to end what it started."""
+    ran = subprocess.Popen(
+        [*SLOWLY, *words], cwd=folder, stdin=subprocess.DEVNULL, stdout=subprocess.PIPE, stderr=subprocess.STDOUT, text=True, start_new_session=True
+    )
     try:
-        yield from ran.stdout
-        yield f"status={ran.wait()}\n"
+        text, _nothing = ran.communicate()
+        return text.splitlines(), ran.returncode
     finally:
-        try:
-            os.killpg(ran.pid, signal.SIGKILL)
-        except ProcessLookupError:
-            pass
-        ran.wait()
+        if ran.poll() is None:
+            ran.terminate()
+            ran.wait(SECONDS_TO_END)
 
 
 def tested(crate, test, top):
-    """Whether a test fails, or none where it was not run, and the lines up to there."""
-    lines = []
-    for line in lines_of([*SLOWLY, "rt", "try", "--test", "--", test], top / "crates" / crate):
-        lines.append(line)
-        if ended := re.match(rf"test {re.escape(test)} \.\.\. (.*)", line):
-            return ended[1].strip() != "ok", lines
-    return None, lines
+    """Whether a test fails, or none where it was not run; and what was printed."""
+    lines, _status = run(["rt", "try", "--test", "--", test], top / "crates" / crate)
+    ends = [line.rsplit(" ", 1)[1] for line in lines if line.startswith(f"test {test} ... ")]
+    return (ends[0] != "ok" if ends else None), lines
 
 
-def proved(crate, path, top):
-    """Whether a check refuses a function, and the lines of it."""
-    lines = list(lines_of([*SLOWLY, "rt", "check", "--only", path], top / "crates" / crate))
-    return lines[-1] != "status=0\n", lines
+def refused(crate, path, top):
+    """Whether a check refuses a function, and what it printed."""
+    lines, status = run(["rt", "check", "--only", path], top / "crates" / crate)
+    return status != 0, lines
 
 
-def tried(body, top):
-    """Whether a body is told in the copy, which is afterwards as it was."""
-    before, after, faults = changed(body, top)
-    if faults + body.faults:
-        return None, faults + body.faults
+def with_body(files, look, *arguments):
+    """What a look finds while these are the texts of the files."""
+    before = {path: path.read_text() for path in files}
     try:
-        for path, text in after.items():
+        for path, text in files.items():
             path.write_text(text)
-        return tested(*body.test, top) if body.test else proved(*body.clause[:2], top)
+        return look(*arguments)
     finally:
         for path, text in before.items():
             path.write_text(text)
+
+
+def tried(body, top):
+    """Whether a body is told in the copy, or none where that is not known, and what was printed."""
+    files, faults = changed(body, top)
+    if faults + body.faults:
+        return None, faults + body.faults
+    if body.test:
+        return with_body(files, tested, *body.test, top)
+    # Without the body the function has to be proved, or a refusal says nothing of it.
+    is_refused, lines = refused(*body.clause[:2], top)
+    return (None, lines) if is_refused else with_body(files, refused, *body.clause[:2], top)
 
 
 def tell(body, top):
@@ -238,5 +241,6 @@ def stop(_number, _frame):
 
 
 if __name__ == "__main__":
+    signal.signal(signal.SIGINT, stop)
     signal.signal(signal.SIGTERM, stop)
     sys.exit(main())
