@@ -135,7 +135,7 @@ def crates():
 def is_there(name, known):
     """Whether there is such a file or folder, or whether the words name none. `*` stands for anything, and capitals for a name."""
     first, _slash, rest = name.partition("/")
-    if not rest or "/out/" in name or ".." in name or re.search(r"(^|/)[A-Z_]+(/|\.|$)", name.replace("README", "")):
+    if not rest or "/out/" in name or ".." in name or re.search(r"(^|/)[A-Z_]+(/|\.(?!md)|$)", name):
         return True
     if first in known and rest.split("/")[0] in ("src", "specs", "proofs", "must-fail"):
         name = f"crates/{name}"
