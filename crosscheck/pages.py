@@ -1,4 +1,4 @@
-"""Runs the commands that the pages show, and compares what they print with what stands below them.
+"""Runs the commands that the pages show, and compares what they print with what stands below them; and looks what the pages name.
 
 usage: python3 crosscheck/pages.py [PAGE..]
 
@@ -6,6 +6,9 @@ A command is a line of a code block behind `$ `, and what it prints stands on th
 nothing but commands each of them has to end well. A block whose first line is `# NAME.spec: ..` is that file, for the blocks below
 it. A block is left out where it names a spec that is not there; then it may show no output. One that runs jobs under GNU parallel is
 left out where that is not there.
+
+Without words it looks at all pages besides: each law of a `laws.rt` is named in PROMISES, each row of a table follows a head, each file that
+a page names is there, and ARCHITECTURE has a row for each crate of crates.txt and for no other.
 """
 
 import os
@@ -20,6 +23,7 @@ from compare import PROGRAM, ended
 
 TOP = Path(__file__).resolve().parent.parent
 PAGES = ["README.md", "docs/GUIDE.md", "docs/DIFFERENCES.md", "docs/FARM.md", "examples/README.md"]
+FOLDERS = ["crates", "docs", "crosscheck", "examples", "farm", "launcher", "wrong_bodies"]
 
 
 def blocks_of(page):
@@ -107,13 +111,89 @@ def looked_at(page, folder):
             yield True, list(differences_in(place, commands, shows, folder))
 
 
+def text_lines(page):
+    """The lines of a page that stand in no code block, with their numbers; in place of a code block there is an empty line."""
+    is_code = False
+    for number, line in enumerate(page.read_text().split("\n"), 1):
+        is_code ^= line.startswith("```")
+        yield number, "" if is_code or line.startswith("```") else line
+
+
+def rows_without_head(page):
+    """The first row of each table whose second line is not that of a head."""
+    lines = [(0, ""), *text_lines(page), (0, "")]
+    for (_, before), (number, line), (_, after) in zip(lines, lines[1:], lines[2:]):
+        if line.startswith("|") and not before.startswith("|") and not re.fullmatch(r"\|( *:?-+:? *\|)+", after):
+            yield f"{page.relative_to(TOP)}, line {number}: a row of a table follows no head"
+
+
+def crates():
+    lines = (TOP / "crates.txt").read_text().splitlines()
+    return {line.split(":")[0].split()[0] for line in lines if line and not line.startswith("#")}
+
+
+def is_there(name, known):
+    """Whether there is such a file or folder, or whether the words name none. `*` stands for anything, and capitals for a name."""
+    first, _slash, rest = name.partition("/")
+    if not rest or "/out/" in name or ".." in name or re.search(r"(^|/)[A-Z_]+(/|\.(?!md)|$)", name):
+        return True
+    if first in known and rest.split("/")[0] in ("src", "specs", "proofs", "must-fail"):
+        name = f"crates/{name}"
+    elif first not in FOLDERS:
+        return True
+    return any(any(TOP.glob(name.rstrip("/") + ending)) for ending in ("", ".rt", ".antt"))
+
+
+def is_linked(page, to):
+    """Whether there is such a file, and in it such a heading."""
+    name, _hash, heading = to.partition("#")
+    file = page.parent / name if name else page
+    if not file.exists() or not heading:
+        return file.exists()
+    heads = [line.lstrip("#").strip().lower() for _number, line in text_lines(file) if line.startswith("#")]
+    return heading in [re.sub(r"[^\w -]", "", head).replace(" ", "-") for head in heads]
+
+
+def files_not_there(page, known):
+    for number, line in text_lines(page):
+        linked = [to for to in re.findall(r"\]\(([^)]+)\)", line) if "://" not in to]
+        named = [words.split()[0] for words in re.findall(r"`([^`]+)`", line) if words.split()]
+        lost = [to for to in linked if not is_linked(page, to)] + [name for name in named if not is_there(name, known)]
+        yield from (f"{page.relative_to(TOP)}, line {number}: there is no {name}" for name in lost)
+
+
+def laws_not_named():
+    promises = (TOP / "docs/PROMISES.md").read_text()
+    for file in sorted(TOP.glob("crates/*/src/**/laws.rt")):
+        for law in re.findall(r"^pub fn (\w+)", file.read_text(), re.M):
+            if f"`{law}`" not in promises:
+                yield f"docs/PROMISES.md: does not name the law {law} of {file.relative_to(TOP)}"
+
+
+def crates_without_row(known):
+    cells = [line.split("|")[1] for _number, line in text_lines(TOP / "docs/ARCHITECTURE.md") if line.startswith("| `")]
+    rows = [name for cell in cells for name in re.findall(r"`(\w+)`", cell)]
+    yield from (f"docs/ARCHITECTURE.md: has no row for the crate {name}" for name in sorted(known - set(rows)))
+    yield from (f"docs/ARCHITECTURE.md: has {rows.count(name)} rows for {name}" for name in sorted(set(rows)) if name not in known or rows.count(name) > 1)
+
+
+def lost_in_pages():
+    """What the pages name and is not there, and what they leave out."""
+    known, pages = crates(), [TOP / "README.md", *sorted(TOP.glob("docs/*.md")), *sorted(TOP.glob("[a-z]*/README.md"))]
+    for page in pages:
+        yield from rows_without_head(page)
+        yield from files_not_there(page, known)
+    yield from laws_not_named()
+    yield from crates_without_row(known)
+
+
 def main(*names):
     blocks = []
     for name in names or PAGES:
         with TemporaryDirectory() as folder:
             folder_for_pages(Path(folder))
             blocks += looked_at(TOP / name, Path(folder))
-    found = [difference for _was_run, differences in blocks for difference in differences]
+    found = [difference for _was_run, differences in blocks for difference in differences] + ([] if names else list(lost_in_pages()))
     print("".join(f"{difference}\n" for difference in found), end="")
     ran = sum(was_run for was_run, _differences in blocks)
     print(f"{ran} blocks run, {len(blocks) - ran} left out, {len(found)} differences")
