@@ -14,6 +14,7 @@ use crate::error::BookError;
 use crate::pieces::MAX_FACTS;
 use bound_specs::Spec;
 use fact_books::{Run, Tag, leads_along};
+use rank_facts::MAX_PLACES;
 use serde_json::Value as Json;
 use std::alloc::{AllocError, Global};
 use std::cmp::Ordering;
@@ -48,7 +49,7 @@ impl Ends {
     {
         Ok(Ends {
             ran: zeros(alloc, outcomes)?,
-            swap: zeros(alloc, 256)?,
+            swap: zeros(alloc, MAX_PLACES)?,
         })
     }
 
@@ -281,7 +282,7 @@ fn ran_of(number: u64, outcomes: usize) -> Option<Tag>
 fn swap_of(number: u64) -> Option<Tag>
     ensures { result ≡ cond (nat_lt number 256) (Some (Tag.Swap number)) None }
 {
-    if number < 256 {
+    if number < MAX_PLACES as u64 {
         Some(Tag::Swap(number as u8))
     } else {
         None
