@@ -113,10 +113,12 @@ value-plain : (d : Data) → IsPlain (IsBookValue d)
 value-plain d e (inl (n, format, is)) = version-plain (version_with n) d e is
 value-plain d e (inr (none, is)) = plain-refusal {X = Contents} BadField (λ f. cc) e is
 
-pub plain-value : (d : Data) (r : Read Contents) → Meets (λ book. book) (IsBookValue d) r → IfErr r (λ e. e ≢ ReadFault)
-plain-value d (Ok book) is = tt
-plain-value d (Err e) (inl is) = value-plain d e is
-plain-value d (Err e) (inr memory) = λ fault. (let f : NoMemory ≡ ReadFault = sym memory ∙ fault in cc)
+-- no refusal of a value is a read fault
+pub plain-json : (bytes : List ℕ) (r : Read Contents) → Meets (λ book. book) (Given NotJson (IsValueOf bytes) IsBookValue) r → IfErr r (λ e. e ≢ ReadFault)
+plain-json bytes (Ok book) is = tt
+plain-json bytes (Err e) (inl (inl (d, read, is))) = value-plain d e is
+plain-json bytes (Err e) (inl (inr (none, is))) = plain-refusal {X = Contents} NotJson (λ f. cc) e is
+plain-json bytes (Err e) (inr memory) = λ fault. (let f : NoMemory ≡ ReadFault = sym memory ∙ fault in cc)
 
 -- how many reads fail where no refusal is a read fault
 pub no-faults : (e : BookError) → e ≢ ReadFault → fault_count e ≡ 0

@@ -8,6 +8,7 @@ ghost use Rattle.book_format.specs.Reading.{Given, Gives, Meets};
 ghost use Rattle.book_format.specs.ReadingBooks.{IsBookFile, IsBookOf, IsBookValue, IsFactsBook, IsReadOf, IsRunsBook, IsValueOf, read_faults_of};
 
 use crate::spec_of_text::spec_of_text;
+use crate::written::written_book;
 use book_format::{
     BookError, MAX_TEXT, Version, book_of_facts, book_of_runs, fact_parts, run_parts, version_of,
 };
@@ -39,6 +40,18 @@ fn book_of_bytes(alloc: Global, bytes: Vec<u8>) -> Result<Book, BookError>
     if bytes.len() > MAX_TEXT as usize {
         return Err(BookError::TooLarge);
     }
+    let mut bytes = bytes;
+    bytes.shrink_to_fit();
+    match written_book(alloc, bytes.as_slice()) {
+        Some(book) => Ok(book),
+        None => book_of_json(alloc, bytes),
+    }
+}
+
+/// The book that bytes are by their JSON value, which is in memory as a whole.
+fn book_of_json(alloc: Global, bytes: Vec<u8>) -> Result<Book, BookError>
+    ensures { Meets (λ book. book) (Given book_error.NotJson (IsValueOf bytes.items) IsBookValue) result }
+{
     match value_of_bytes(alloc, bytes) {
         Ok(value) => book_of_value(alloc, &value),
         Err(error) => Err(error),

@@ -1,0 +1,127 @@
+//! The book of bytes that were written of one. They are read in one pass, without a JSON value, as what the writer lays out; and what
+//! comes of that is a book only if its text is these bytes.
+
+ghost use Rattle.std.specs.Prelude.{Ok, IfSome};
+ghost use Rattle.book_format.specs.ReadingBooks.{IsBookFile};
+
+use crate::cursor::Cursor;
+use crate::outcomes::outcome_at;
+use crate::rows::Rows;
+use crate::spec_of_text::spec_of_text;
+use book_format::book_of_text;
+use fact_books::{Book, Run, Tag};
+use serde_json::Value as Json;
+use std::alloc::Global;
+use std::str;
+use transcripts::Outcome;
+
+/// A run has so many bytes at least: `[0,1,"ran",0]`.
+const MIN_RUN: usize = 13;
+
+/// The book that bytes are the one text of. There may be none for want of memory too.
+pub(crate) fn written_book(alloc: Global, bytes: &[u8]) -> Option<Book>
+    ensures { IfSome result (λ book. IsBookFile bytes.now (Ok book)) }
+{
+    let mut cursor = Cursor::new(bytes);
+    let runs = runs_at(alloc, &mut cursor)?;
+    let outcomes = outcomes_at(alloc, &mut cursor)?;
+    let text = spec_at(alloc, &mut cursor)?;
+    let spec = spec_of_text(alloc, text.as_str()).ok()?;
+    book_of_text(alloc, bytes, &spec, outcomes, runs).ok()?
+}
+
+/// The runs that a text begins with.
+fn runs_at(alloc: Global, cursor: &mut Cursor<'_>) -> Option<Vec<Run>> {
+    if !cursor.passes(b"{\"facts\":[") {
+        return None;
+    }
+    // Each run has one opening bracket, and the first letter of the next member's name is in none.
+    let count = cursor.count(b'[', b'f').min(cursor.len() / MIN_RUN);
+    let mut runs = Vec::with_capacity(alloc, count).ok()?;
+    if cursor.passes(b"]") {
+        return Some(runs);
+    }
+    for _ in 0..cursor.len() {
+        runs.push(run_at(cursor)?).ok()?;
+        if !cursor.passes(b",") {
+            break;
+        }
+    }
+    if !cursor.passes(b"]") {
+        return None;
+    }
+    Some(runs)
+}
+
+/// The run that is next.
+fn run_at(cursor: &mut Cursor<'_>) -> Option<Run> {
+    if !cursor.passes(b"[") {
+        return None;
+    }
+    let first = cursor.number()?;
+    if !cursor.passes(b",") {
+        return None;
+    }
+    let end = first.checked_add(cursor.number()?)?;
+    let tag = tag_at(cursor)?;
+    if !cursor.passes(b"]") {
+        return None;
+    }
+    Some(Run { first, end, tag })
+}
+
+/// The tag that is next, behind a comma.
+fn tag_at(cursor: &mut Cursor<'_>) -> Option<Tag> {
+    if cursor.passes(b",\"swap\",") {
+        let place = u8::try_from(cursor.number()?).ok()?;
+        return Some(Tag::Swap(place));
+    }
+    if cursor.passes(b",\"ran\",") {
+        let number = usize::try_from(cursor.number()?).ok()?;
+        return Some(Tag::Ran(number));
+    }
+    None
+}
+
+/// The outcomes behind the runs.
+fn outcomes_at(alloc: Global, cursor: &mut Cursor<'_>) -> Option<Vec<Outcome>> {
+    if !cursor.passes(b",\"format\":2,\"outcomes\":[") {
+        return None;
+    }
+    let mut rows = Rows::new(alloc, cursor.len()).ok()?;
+    let mut outcomes = Vec::new(alloc);
+    if cursor.passes(b"]") {
+        return Some(outcomes);
+    }
+    for _ in 0..cursor.len() {
+        outcomes.push(outcome_at(alloc, cursor, &mut rows)?).ok()?;
+        if !cursor.passes(b",") {
+            break;
+        }
+    }
+    if !cursor.passes(b"]") {
+        return None;
+    }
+    Some(outcomes)
+}
+
+/// The text of the spec, behind the outcomes.
+fn spec_at(alloc: Global, cursor: &mut Cursor<'_>) -> Option<String> {
+    if !cursor.passes(b",\"spec\":\"") {
+        return None;
+    }
+    let (text, _) = cursor.quoted()?;
+    text_of_quoted(alloc, text)
+}
+
+/// The text that stands between quotes so.
+pub(crate) fn text_of_quoted(alloc: Global, text: &[u8]) -> Option<String> {
+    let mut quoted = String::new(alloc);
+    quoted.push_str("\"").ok()?;
+    quoted.push_str(str::from_utf8(text).ok()?).ok()?;
+    quoted.push_str("\"").ok()?;
+    match Json::from_str(alloc, quoted.as_str()).ok()? {
+        Json::String(text) => Some(text),
+        _ => None,
+    }
+}
