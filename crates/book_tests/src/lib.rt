@@ -16,6 +16,8 @@ mod farms;
 #[cfg(test)]
 mod gates;
 #[cfg(test)]
+mod one_text;
+#[cfg(test)]
 mod read_books;
 #[cfg(test)]
 mod refusals;

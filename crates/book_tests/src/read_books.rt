@@ -17,7 +17,7 @@ fn read(alloc: Global, text: &[u8], calls_left: Option<usize>) -> Result<Book, B
 }
 
 /// What a reading tells: the least rank without a fact and the report, or the refusal.
-fn told(alloc: Global, text: &[u8]) -> Option<String> {
+pub(crate) fn told(alloc: Global, text: &[u8]) -> Option<String> {
     match read(alloc, text, None) {
         Ok(book) => told_of(alloc, &book),
         Err(error) => format!(in alloc; "{error}").ok(),
