@@ -1,6 +1,6 @@
 use Rattle.std.proofs.Common.{All, sym, subst}
 use Rattle.bound_specs.specs.Spec.{SpecFile}
-use Rattle.bound_specs.proofs.FileLemmas.{one-file}
+use Rattle.bound_specs.specs.Binding.{IsFileOf}
 use Rattle.rank_facts.specs.Shards.{IsShardOf}
 use Rattle.shard_farm.proofs.WorkLemmas.{marked-next}
 use Rattle.shard_farm.proofs.worker.served_or_marked.Goals as goal
@@ -11,9 +11,11 @@ returns-in_default-clause-again g c = λ _. marked-next _ _ _ _ _ c.requires.cla
 
 -- the text is of one file
 pub work_on-requires-clause-file : goal.work_on-requires-clause-file
-work_on-requires-clause-file g c = one-file c.args.plan.text.now c.in-Ok.spec c.args.board.now.file c.in-Ok.ensures.file c.requires.file
+work_on-requires-clause-file g c =
+    c.in-Ok.ensures.complete c.args.board.now.file (subst (λ text. IsFileOf text c.args.board.now.file) (sym c.as_bytes.ensures.value) c.requires.file)
 
 pub work_on-requires-clause-lawful : goal.work_on-requires-clause-lawful
 work_on-requires-clause-lawful g c =
+    let file = c.args.board.now.file in
     subst (λ (f : SpecFile). All (IsShardOf f.run) c.args.plan.shards.now)
-    (sym (one-file c.args.plan.text.now c.in-Ok.spec c.args.board.now.file c.in-Ok.ensures.file c.requires.file)) c.requires.lawful
+    (sym (c.in-Ok.ensures.complete file (subst (λ text. IsFileOf text file) (sym c.as_bytes.ensures.value) c.requires.file))) c.requires.lawful
