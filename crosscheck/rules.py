@@ -48,9 +48,9 @@ ANSWERS = {one: re.compile(pattern.replace(b"%(n)s", N.encode()), re.DOTALL) for
 def fault_told(words, status, line):
     """The fault that a line tells, as a match and the path that it names; none where no such fault has this status and these words."""
     for fault_status, text, is_named, commands in FAULTS:
-        for path in {word for word in words[1:] if is_named} or [""]:
-            told = re.fullmatch(f"isofarm: {re.escape(f'{path}: ' if is_named else '')}{text}\n", line)
-            if told and status == fault_status and words[0] in commands and bool(path) == is_named:
+        for path in {*words[1:]} if is_named else {None}:
+            told = re.fullmatch(f"isofarm: {re.escape(f'{path}: ') if is_named else ''}{text}\n", line)
+            if told and status == fault_status and words[0] in commands:
                 return told, path
     return None
 
