@@ -65,10 +65,7 @@ def wrong_in_fault(words, status, error, bytes_of):
     places = b""
     if words[0] == "check" and "place" in told.groupdict():
         _status, _out, error = without_sentence((status, b"", error))
-        try:
-            places = place_lines(bytes_of(path), int(told["place"]), path)
-        except UnicodeDecodeError:
-            return "the place is within a character"
+        places = place_lines(bytes_of(path), int(told["place"]), path)
     return None if error == line + places else "standard error has other lines behind the fault line"
 
 
