@@ -66,7 +66,8 @@ def wrong_in_fault(words, status, error, bytes_of):
     if words[0] == "check" and "place" in told.groupdict():
         _status, _out, error = without_sentence((status, b"", error))
         places = place_lines(bytes_of(path), int(told["place"]), path)
-    return None if error == line + places else "standard error has other lines behind the fault line"
+    first = places.split(b"\n")[0].decode()
+    return None if error == line + places else f"behind the fault line stands something else than {f'the place {first}' if first else 'nothing'}"
 
 
 def progress_of(words, error, seconds):
