@@ -23,9 +23,11 @@ def place_lines(text, place, path):
     before, behind = text[:place], text[place:READ]
     front = before.split(b"\n")[-1]
     line = front + behind.split(b"\n")[0]
-    blank = "".join("\t" if character == "\t" else " " for character in front.decode())
+    # Before the place bytes are no UTF-8 only where the file is too long.
+    characters = front.decode(errors="replace")
+    blank = "".join("\t" if character == "\t" else " " for character in characters)
     number = 1 + before.count(b"\n")
-    return f"{path}:{number}:{1 + len(front.decode())}\n{line.decode(errors='replace')}\n{blank}^\n".encode()
+    return f"{path}:{number}:{1 + len(characters)}\n{line.decode(errors='replace')}\n{blank}^\n".encode()
 
 
 def without_sentence(answer):

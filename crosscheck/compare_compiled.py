@@ -1,8 +1,8 @@
 """Compares the program that `./isofarm` compiles without its proof with the proved one, byte for byte.
 
-usage: python3 crosscheck/compare_compiled.py SEEDS
+usage: python3 crosscheck/compare_compiled.py FIRST_SEED SEEDS
 
-On the examples, and on so many specs of each kind made from seeds: `check`, `count` and `one`, and, where there are orders, books reduced
+On the examples, and on specs of each kind made from the seeds: `check`, `count` and `one`, and, where there are orders, books reduced
 and not, and what the other commands tell of these.
 """
 
@@ -21,12 +21,12 @@ COMPILED = {"ISOFARM_COMPILED": "1"}
 MOST_RANKS = 300
 
 
-def specs(seeds):
+def specs(first, seeds):
     """Specs, each with its name."""
     for path in sorted(EXAMPLES.glob("*.spec")):
         yield path.name, path.read_bytes()
     for kind, make in KINDS.items():
-        for seed in range(1, seeds + 1):
+        for seed in range(first, first + seeds):
             yield f"{kind}, seed {seed}", make(Maker(seed))
 
 
@@ -78,10 +78,10 @@ class Pair:
         self.run(name, "judge", "low.book", "all.book")
 
 
-def main(seeds):
+def main(first, seeds):
     with TemporaryDirectory() as folder:
         pair = Pair(Path(folder))
-        for name, text in specs(seeds):
+        for name, text in specs(first, seeds):
             pair.look(name, text)
     print(f"{pair.counts.total()} runs, {pair.differences} differences; what was run:")
     for words, number in sorted(pair.counts.items()):
@@ -90,7 +90,7 @@ def main(seeds):
 
 
 if __name__ == "__main__":
-    if len(sys.argv) != 2:
+    if len(sys.argv) != 3:
         sys.exit(__doc__)
     os.environ.pop("ISOFARM_COMPILED", None)
-    sys.exit(ended(main, int(sys.argv[1])))
+    sys.exit(ended(main, int(sys.argv[1]), int(sys.argv[2])))

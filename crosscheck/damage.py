@@ -5,6 +5,7 @@ a book: that is for a reader to say.
 """
 
 import re
+from functools import wraps
 
 from binding import bind
 from books import compact, leads_to
@@ -68,33 +69,39 @@ def spelled(random, book):
 # ---- other bytes
 
 
-def with_other_bytes(random, book):
-    text = bytearray(text_of(book))
+def with_other_bytes(random, text):
+    text = bytearray(text)
     for _ in range(random.choice([1, 1, 2, 3])):
         text[random.randrange(len(text))] = random.choice([random.randrange(256), *b'0123456789[]{},:"\\'])
     return bytes(text)
 
 
-def with_a_flipped_bit(random, book):
-    text = bytearray(text_of(book))
+def with_a_flipped_bit(random, text):
+    text = bytearray(text)
     text[random.randrange(len(text))] ^= 1 << random.randrange(8)
     return bytes(text)
 
 
-def cut_off(random, book):
-    text = text_of(book)
+def cut_off(random, text):
     return text[: random.choice([0, 1, len(text) - 2, len(text) - 1, random.randrange(len(text))])]
 
 
-def cut_out(random, book):
-    text = text_of(book)
+def cut_out(random, text):
     start, end = sorted(random.randrange(len(text)) for _ in range(2))
     return text[:start] + text[random.choice([start + 1, end]) :]
 
 
-def grown(random, book):
-    text = text_of(book)
+def grown(random, text):
     return text + random.choice([b"\n\n", b" ", b"\x00", b"\x0b", b"}", b",", b"null", text])
+
+
+# What is done to the bytes of any file that has some.
+DAMAGES_OF_BYTES = [with_other_bytes, with_a_flipped_bit, cut_off, cut_out, grown]
+
+
+def of_bytes(damage):
+    """The same, of the text of a book."""
+    return wraps(damage)(lambda random, book: damage(random, text_of(book)))
 
 
 def in_another_encoding(random, book):
@@ -285,7 +292,7 @@ def with_an_outcome_of_other_sessions(random, book):
     return text_of(book | {"facts": [[other if value is outcome else value for value in fact] for fact in book["facts"]]})
 
 
-DAMAGES = [with_other_bytes, with_a_flipped_bit, cut_off, cut_out, grown, in_another_encoding, too_deep, with_other_tokens]
+DAMAGES = [*map(of_bytes, DAMAGES_OF_BYTES), in_another_encoding, too_deep, with_other_tokens]
 DAMAGES += [of_another_format, of_another_spec, with_other_members, with_a_hidden_member, with_a_later_member]
 DAMAGES += [with_a_swap_that_leads_nowhere, with_an_outcome_of_other_sessions]
 DAMAGES += [with_a_changed_fact, with_a_changed_outcome, with_another_number, with_facts_in_another_order]

@@ -2,7 +2,7 @@
 
 import re
 from functools import cache
-from random import Random
+from random import Random, SystemRandom
 
 from binding import words
 
@@ -458,3 +458,8 @@ KINDS = {
     "limits": Maker.limit_spec,
     "wide": Maker.wide_spec,
 }
+
+
+def fresh_seed():
+    """A seed that nobody knows before."""
+    return SystemRandom().randrange(10**9)

@@ -1,0 +1,116 @@
+"""What holds of each run of the program, whatever it is given: its status, its two outputs, its memory and its time."""
+
+import re
+
+from checks import place_lines, without_sentence
+from compare import PROGRESS
+from streams import progress_fault
+from watch import MOST_MEMORY
+
+MOST_SECONDS = 10
+N = "(?:0|[1-9][0-9]*)"
+OF_SPECS, OF_BOOKS, OF_REPORTS = {"one", "check", "count", "run"}, {"join", "report", "audit", "judge"}, {"report", "judge"}
+COMMANDS = OF_SPECS | OF_BOOKS
+NAMED, UNNAMED = True, False
+# A fault: its status, its text, whether a path stands before it, and the commands that tell it. There is memory, so that none lacks it.
+FAULTS = [
+    (3, f"(?P<by>spec) error [1-9] at (?P<place>{N})", NAMED, OF_SPECS),
+    (3, f"(?P<by>sql) error [1-7] at (?P<place>{N})", NAMED, OF_SPECS),
+    (3, f"(?P<by>bind) error [2-8] at (?P<place>{N})", NAMED, OF_SPECS),
+    (3, f"start error [1-3] at {N}", NAMED, {"one", "run"}),
+    (3, "rank out of range", NAMED, {"one"}),
+    (3, "shard error [12]", NAMED, {"run"}),
+    (3, "book error [1-8]", NAMED, OF_BOOKS),
+    (3, "book error 8", UNNAMED, {"run", "join"}),
+    (3, "books of different specs", NAMED, {"join"}),
+    (3, "too many ranks", NAMED, OF_REPORTS),
+    (1, f"(?:missing|clash at) rank {N}", NAMED, OF_REPORTS),
+    (5, "read fault", NAMED, COMMANDS),
+    (5, "write fault", UNNAMED, COMMANDS),
+]
+BOOK = rb'\{"facts":\[.*\],"format":2,"outcomes":\[.*\],"spec":".*"\}\n'
+# What stands on standard output where no fault is told.
+ANSWERS = {
+    ("one", 0): rb"rank %(n)s\nsession .+\n",
+    ("check", 0): rb"sessions %(n)s\nsteps %(n)s\nranks %(n)s\n",
+    ("count", 0): rb"%(n)s\n",
+    ("run", 0): BOOK,
+    ("join", 0): BOOK,
+    ("report", 0): rb"rank 0\nsession .+\n",
+    ("audit", 0): rb"true\n",
+    ("audit", 1): rb"false at rank %(n)s\n",
+    ("judge", 0): rb"matches %(n)s\n",
+    ("judge", 1): rb"(?:%(n)s differs at rank %(n)s session [0-7]\n)+",
+}
+ANSWERS = {one: re.compile(pattern.replace(b"%(n)s", N.encode()), re.DOTALL) for one, pattern in ANSWERS.items()}
+
+
+def fault_told(words, status, line):
+    """The fault that a line tells, as a match and the path that it names; none where no such fault has this status and these words."""
+    for fault_status, text, is_named, commands in FAULTS:
+        for path in {*words[1:]} if is_named else {None}:
+            told = re.fullmatch(f"isofarm: {re.escape(f'{path}: ') if is_named else ''}{text}\n", line)
+            if told and status == fault_status and words[0] in commands:
+                return told, path
+    return None
+
+
+def wrong_in_fault(words, status, error, bytes_of):
+    """What is wrong with standard error where a fault is told."""
+    line = error.split(b"\n")[0] + b"\n"
+    found = fault_told(words, status, line.decode(errors="replace"))
+    if not found:
+        return "the first line of standard error is no fault line of this command and status"
+    told, path = found
+    places = b""
+    if words[0] == "check" and "place" in told.groupdict():
+        _status, _out, error = without_sentence((status, b"", error))
+        places = place_lines(bytes_of(path), int(told["place"]), path)
+    first = places.split(b"\n")[0].decode()
+    return None if error == line + places else f"behind the fault line stands something else than {f'the place {first}' if first else 'nothing'}"
+
+
+def progress_of(words, error, seconds):
+    """Standard error without the lines of progress, and what is wrong with these."""
+    rest = PROGRESS.sub(b"", error)
+    if rest == error and rest:
+        return rest, None
+    ends = [int(word) for word in words[2:] if word.isdigit()][:2]
+    lines = error.removesuffix(rest)
+    return rest, progress_fault(lines, *ends, seconds)
+
+
+def wrong_in_answer(words, ran, bytes_of):
+    """What is wrong with the status and the outputs of a run."""
+    status, out, error = ran.told
+    if status == 2:
+        return None if not out and error.startswith(b"error: ") and error.endswith(b"\n") else "status 2, but no such lines"
+    if status not in (0, 1, 3, 5):
+        return f"status {status} is none that this run may have"
+    if "--progress" in words:
+        error, wrong = progress_of(words, error, ran.seconds)
+        if wrong:
+            return f"progress: {wrong}"
+    if error:
+        if status == 0:
+            return "something stands on standard error behind status 0"
+        if out and error != b"isofarm: write fault\n":
+            return "something stands on standard output beside a fault"
+        return wrong_in_fault(words, status, error, bytes_of)
+    pattern = ANSWERS.get((words[0], status))
+    if not pattern:
+        return f"status {status} without a fault line"
+    return None if pattern.fullmatch(out) else "standard output has another form"
+
+
+def wrong_in(words, ran, bytes_of):
+    """What is wrong with a run, or nothing. `bytes_of` gives the bytes of a file."""
+    if ran.is_stopped:
+        return "it did not end"
+    if ran.told[0] < 0:
+        return f"signal {-ran.told[0]}"
+    if ran.memory > MOST_MEMORY:
+        return f"it took {ran.memory} bytes of memory"
+    if ran.processor_seconds > MOST_SECONDS:
+        return f"it took {ran.processor_seconds:.1f} processor seconds"
+    return wrong_in_answer(words, ran, bytes_of)

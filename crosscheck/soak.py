@@ -1,0 +1,345 @@
+"""Gives specs and books made from a seed, whole and damaged, to all commands of the program, for so many minutes.
+
+usage: python3 crosscheck/soak.py MINUTES [SEED] [--jobs N]
+
+The seed is SEED, or a fresh one; it is printed first. As many jobs run side by side as there are cores, or N. Each makes one set of files
+after another: a spec of some kind, its text with other bytes, books of its ranks, and damaged ones. Of every run holds what `rules.py`
+says, and of some runs that they tell the same; of one set in four, and of short files, the answers are those of this second
+implementation. A set ends with its first finding, whose files are left in `out/soak/SEED-NUMBER`, with the command lines in `command` and
+what was told in `told`. The last lines count what was made and told. The exit status is 1 where there is a finding. Ctrl-C ends it, with
+the counts so far.
+"""
+
+import json
+import multiprocessing
+import os
+import resource
+import shlex
+import shutil
+import signal
+import sys
+import traceback
+from argparse import ArgumentParser, RawDescriptionHelpFormatter
+from collections import Counter
+from concurrent.futures import ProcessPoolExecutor, as_completed
+from pathlib import Path
+from random import Random
+from tempfile import TemporaryDirectory
+from time import monotonic
+
+import compare
+import compare_files
+import compare_hostile
+from books import compact
+from checks import checked, without_sentence
+from compare import PROGRAM, difference, fault_of
+from damage import DAMAGES_OF_BYTES
+from generate import KINDS, Maker, fresh_seed
+from rules import wrong_in
+from streams import NO_COMMANDS, WRITE_FAULT
+from watch import Watch
+
+KEPT = Path(__file__).resolve().parent.parent / "out/soak"
+# One set in so many is compared, and of its files books have so many ranks.
+COMPARED, RANKS_COMPARED = 4, 30
+# In the other sets the files are compared that are read here in no time: specs and books of so many bytes, books of so many ranks.
+BYTES_OF_SPECS, BYTES_OF_BOOKS, RANKS_OF_BOOKS = 2_000, 4_000, 1_000
+DAMAGED_SPECS, DAMAGED_BOOKS = 6, 10
+# How long ranges are. Some have several shards.
+RANGES = [0, 1, 2, 20, 20, 40, 40, 300, 3_000]
+# An audit runs each order of a book, so no book with more of them is audited.
+MOST_AUDITED = 20_000
+# A program that asks for more lacks memory, and the machine has to have some left.
+MOST_ADDRESSES = 4 << 30
+MOST_KEPT_BY_A_JOB = 25
+STOP = multiprocessing.Event()
+
+
+class Found(Exception):
+    """What is wrong with a run. The arguments are that, and the runs that show it."""
+
+
+class Ended(Exception):
+    """The time is over."""
+
+
+def facts_in(book):
+    """The facts of a book that the program has written."""
+    outcomes = [compact(outcome).encode() for outcome in book["outcomes"]]
+    return {
+        (rank, word, outcomes[value] if word == "ran" else value)
+        for first, count, word, value in book["facts"]
+        for rank in range(first, first + count)
+    }
+
+
+def ranks_run(book):
+    """How many orders an audit of a book runs."""
+    return sum(count for _first, count, word, _value in json.loads(book)["facts"] if word == "ran")
+
+
+def first_line(ran):
+    """What a run tells but for the lines behind the first on standard error."""
+    return ran.status, ran.out, ran.error.split(b"\n")[0]
+
+
+class Soak:
+    """A job: makes one set of files after another in this folder, and runs the program on them."""
+
+    def __init__(self, seed, deadline):
+        self.seed, self.deadline, self.watch = seed, deadline, Watch()
+        self.counts, self.told, self.random = Counter(), Counter(), None
+
+    def put(self, name, text):
+        Path(name).write_bytes(text)
+        return name
+
+    def run(self, *words, want=None):
+        if monotonic() > self.deadline or STOP.is_set():
+            raise Ended
+        ran = self.watch.run(*map(str, words))
+        self.counts.update(["runs"] + ["compared"] * (want is not None))
+        wrong = wrong_in(ran.words, ran, lambda path: Path(path).read_bytes())
+        self.hold(not wrong, wrong, ran)
+        self.told[self.kind_of(ran)] += 1
+        if want is not None:
+            got = without_sentence(ran.told) if words[0] == "check" else ran.told
+            self.hold(got == want, lambda: difference(want, got), ran)
+        return ran
+
+    def hold(self, holds, what, *runs):
+        if not holds:
+            raise Found(what if isinstance(what, str) else what(), runs)
+
+    def hold_same(self, told, what, *runs):
+        """Answers have to be equal."""
+        self.hold(all(one == told[0] for one in told), what, *runs)
+
+    @staticmethod
+    def kind_of(ran):
+        command = ran.words[0] if ran.words and ran.status != 2 else "words"
+        has_fault = ran.error.startswith(b"isofarm: ") and "--progress" not in ran.words and ran.status not in (0, 2)
+        return f"{command}, status {ran.status}{f': {fault_of(ran.error)}' if has_fault else ''}"
+
+    # specs
+
+    def spec(self, path, text):
+        """Gives a spec to the commands that read one. The number of its ranks is given, and whether it starts; no number where it is refused."""
+        self.put(path, text)
+        want = checked(text, path) if len(text) <= BYTES_OF_SPECS else None
+        check, count = self.run("check", path, want=want), self.run("count", path)
+        one, run = self.run("one", path, 0), self.run("run", path, 0, 1)
+        if count.status:
+            told = [first_line(ran) for ran in (check, count, one, run)]
+            self.hold_same(told, "the commands tell different faults of a spec", check, count, one, run)
+            return None, False
+        self.hold(check.out.endswith(b"\nranks " + count.out), "check and count tell different numbers", check, count)
+        self.hold_same([(ran.status, ran.error) for ran in (one, run)], "one and run tell different starts", one, run)
+        return int(count.out), one.status == 0
+
+    def orders(self, path, number, starts):
+        """Orders of a spec, at the ends, anywhere and past the end, and ranges that there are not."""
+        for rank in {0, number - 1, self.random.randrange(number)}:
+            self.hold((ran := self.run("one", path, rank)).status == (0 if starts else 3), "an order is not there", ran)
+        for rank in self.random.sample([number, number + 1, 2**32, 2**63, 2**64 - 1], 2):
+            self.hold(rank < number or (ran := self.run("one", path, rank)).status == 3, "an order is there that is none", ran)
+        for ends in compare_files.no_ranges(self.random, number):
+            self.hold((ran := self.run("run", path, *ends)).status == 3, "a range is there that is none", ran)
+
+    # books
+
+    def workers(self):
+        return ["--workers", self.random.randint(1, 16)] if self.random.random() < 0.5 else []
+
+    def part(self, name, path, *words):
+        """A run of a range, and the path of its book."""
+        ran = self.run("run", path, *words, *self.workers())
+        self.hold(ran.status == 0, "a range is not run", ran)
+        return ran, self.put(name, ran.out)
+
+    def books(self, path, number):
+        """Books of a range, in one run and in two, of some workers and others: what is told of them. The range's book is given."""
+        few = min(number, self.random.choice(RANGES))
+        first = self.random.choice([0, 0, number - few, self.random.randint(0, number - few)])
+        end, middle = first + few, self.random.randint(first, first + few)
+        (ran, whole), (again, _path) = self.part("whole.book", path, first, end), self.part("again.book", path, first, end, "--progress")
+        (_low, low), (_high, high) = self.part("low.book", path, first, middle), self.part("high.book", path, middle, end)
+        every_ran, every = self.part("every.book", path, first, end, "--every")
+        joined, alone = self.run("join", high, low, high), self.run("join", whole)
+        self.hold_same([one.out for one in (ran, again, joined, alone)], "books of a range differ", ran, again, joined, alone)
+        for book in (whole, every):
+            self.hold((audit := self.run("audit", book)).out == b"true\n", "a book of a run is not true", audit)
+        self.reports(path, number, (first, end), whole, every)
+        self.fronts(*self.random.choice([ran.words, joined.words, every_ran.words]))
+        return whole
+
+    def reports(self, path, number, ends, whole, every):
+        """What is reported of the book of a range, reduced and not."""
+        report, judge, other = self.run("report", whole), self.run("judge", whole, every), self.run("report", every)
+        if number > 1_000_000:
+            told = "too many ranks"
+        else:
+            told = f"missing rank {0 if ends[0] else ends[1]}" if ends != (0, number) else None
+        if told:
+            line = f"isofarm: {whole}: {told}\n".encode()
+            self.hold_same([report.told, judge.told, (report.status, b"", line)], f"a report does not tell {told}", report, judge)
+            return
+        self.hold(judge.told == (0, b"matches 0\n", b""), "the orders that are skipped tell something else", judge)
+        self.hold_same([report.told, other.told], "the orders that are skipped are reported with something else", report, other)
+        one = self.run("one", path, self.random.randrange(number))
+        self.hold(one.out in report.out, "an order is not reported as it is told alone", one, report)
+        self.fronts(*report.words)
+
+    def fronts(self, *words):
+        """Where standard output takes a few bytes, it has a front of the answer."""
+        whole, short = self.run(*words), self.watch.run(*words, into_short_file=True)
+        is_whole = short.told == whole.told and len(whole.out) <= 1024
+        is_front = short.status == 5 and short.error == WRITE_FAULT and whole.out.startswith(short.out) and short.out != whole.out
+        self.counts["runs"] += 1
+        self.hold(is_whole or is_front, "an output that takes a few bytes has no front of the answer", short, whole)
+
+    def hostile(self, book, text, facts):
+        """The bytes of a damaged or untrue book."""
+        if self.random.random() < 0.5:
+            return self.random.choice(DAMAGES_OF_BYTES)(self.random, book)
+        return compare_hostile.hostile(self.random, text, facts)[1]
+
+    def file(self, path, text, whole, number):
+        """Gives a file that may be a book to the commands that read one, alone and beside a book of a spec with so many ranks."""
+        self.put(path, text)
+        is_small = len(text) <= BYTES_OF_BOOKS and number <= RANKS_OF_BOOKS
+        join = self.run("join", path, want=compare_files.joining(path)[1] if is_small else None)
+        report = self.run("report", path)
+        if join.status:
+            audit, judge, beside = self.run("audit", path), self.run("judge", path, path), self.run("join", whole, path)
+            runs = (join, report, audit, judge, beside)
+            self.hold_same([ran.told for ran in runs], "the commands tell different faults of a book", *runs)
+            return
+        joined = self.put(f"joined_{path}", join.out)
+        again, report_again, beside = self.run("join", joined), self.run("report", joined), self.run("join", joined, path, joined)
+        self.hold_same([join.out, again.out, beside.out], "a joined book is joined to another one", join, again, beside)
+        is_same = report.told == report_again.told or report_again.error == report.error.replace(path.encode(), joined.encode(), 1)
+        self.hold(is_same, "a joined book has another report", report, report_again)
+        judge = self.run("judge", path, joined)
+        self.hold(judge.told == (report.told if report.status else (0, b"matches 0\n", b"")), "a report is not equal to itself", judge, report)
+        if ranks_run(join.out) <= MOST_AUDITED:
+            audits = self.run("audit", path), self.run("audit", joined)
+            self.hold_same([ran.told for ran in audits], "a joined book is true where it was not", *audits)
+        for words in (["join", whole, path], ["judge", whole, path], ["judge", path, whole, joined]):
+            self.run(*words)
+
+    # sets
+
+    def whole_set(self, make, maker):
+        """A spec and its books, as they are and damaged."""
+        text = make(maker)
+        path = "made.spec"
+        number, starts = self.spec(path, text)
+        for place in range(DAMAGED_SPECS):
+            self.spec(f"damaged{place}.spec", self.random.choice(DAMAGES_OF_BYTES)(self.random, text))
+        self.run(*self.random.choice([["count"], ["join"], ["report"], ["one", "made.spec"]]), *["nothing"] * self.random.randint(0, 2))
+        faults = self.run(*self.random.choice(NO_COMMANDS).split())
+        self.hold(faults.status == 2, "faults of a command line are none", faults)
+        if number is not None:
+            self.orders(path, number, starts)
+        if not starts:
+            return
+        whole = self.books(path, number)
+        book = Path(whole).read_bytes()
+        facts = compare_files.some_of(self.random, facts_in(json.loads(book)), RANKS_COMPARED)
+        for place in range(DAMAGED_BOOKS):
+            self.file(f"hostile{place}.book", self.hostile(book, text, facts), whole, number)
+
+    def compared_set(self, make, maker):
+        """The answers of this second implementation, of a spec, of its books or of hostile ones."""
+        kind, look = self.random.randrange(3), lambda _name, words, want: self.run(*words, want=want)
+        if kind == 0:
+            compare_hostile.of_seed(self.random.randrange(10**9), Path(), look, Counter())
+            return
+        text = make(maker)
+        path = self.put("made.spec", text)
+        runs = compare.runs(text, self.random.random(), path)
+        runs = runs if kind == 1 else compare_files.of_spec(self.random, Path(), text, path, RANKS_COMPARED)
+        for words, want in runs:
+            look("", words, want)
+
+    def one_set(self, number):
+        name = f"{self.seed}-{number}"
+        self.random = Random(name)
+        make = self.random.choice([*KINDS.values()])
+        work = self.compared_set if number % COMPARED == 0 else self.whole_set
+        try:
+            work(make, Maker(name))
+        except Found as found:
+            self.keep(name, *found.args)
+        except Ended:
+            pass
+        except Exception:
+            self.keep(name, f"the soak itself fails: {traceback.format_exc()}", [])
+        made = os.listdir()
+        self.counts["files"] += len(made)
+        for file in made:
+            os.unlink(file)
+
+    def keep(self, name, what, runs):
+        """Leaves the files that some runs read, with the command lines and what was told."""
+        self.counts["findings"] += 1
+        if self.counts["findings"] > MOST_KEPT_BY_A_JOB:
+            return
+        folder = KEPT / name
+        shutil.rmtree(folder, ignore_errors=True)
+        folder.mkdir(parents=True)
+        for file in os.listdir():
+            if not runs or any(file in ran.words for ran in runs):
+                shutil.copy(file, folder)
+        commands = [f"isofarm {shlex.join(ran.words)}\n" for ran in runs]
+        (folder / "command").write_text("".join(commands))
+        told = [f"$ {line}status {ran.status}, standard error:\n".encode() + ran.error + b"standard output:\n" + ran.out for line, ran in zip(commands, runs)]
+        (folder / "told").write_bytes(b"\n".join([what.encode(errors="replace"), *told]))
+        print(f"{folder}: {what.splitlines()[0][:300]}\n  {''.join(commands)[:300]}", end="" if commands else "\n", flush=True)
+
+
+def job(seed, place, jobs, deadline):
+    """The sets of one job, and what they counted."""
+    resource.setrlimit(resource.RLIMIT_AS, (MOST_ADDRESSES, MOST_ADDRESSES))
+    soak = Soak(seed, deadline)
+    with TemporaryDirectory() as folder:
+        Path(folder, "files").mkdir()
+        os.chdir(Path(folder, "files"))
+        while monotonic() < deadline and not STOP.is_set():
+            soak.one_set(place)
+            place += jobs
+        os.chdir("/")
+    return soak.counts, soak.told
+
+
+def stop(_signal, _frame):
+    STOP.set()
+
+
+def main(minutes, seed, jobs):
+    began, counts, told = monotonic(), Counter(), Counter()
+    print(f"seed {seed}", flush=True)
+    # The jobs and the programs that they run leave Ctrl-C to this process.
+    signal.signal(signal.SIGINT, signal.SIG_IGN)
+    with ProcessPoolExecutor(jobs, multiprocessing.get_context("fork")) as pool:
+        running = [pool.submit(job, seed, place, jobs, began + 60 * minutes) for place in range(jobs)]
+        for one in (signal.SIGINT, signal.SIGTERM):
+            signal.signal(one, stop)
+        for done in as_completed(running):
+            counts, told = counts + done.result()[0], told + done.result()[1]
+    made = [f"{counts[what]} {what}" for what in ("files", "runs", "compared", "findings")]
+    print(f"{', '.join(made)}; seed {seed}, {monotonic() - began:.0f} seconds; what was told:")
+    for word, number in sorted(told.items()):
+        print(f"  {number:7} {word}")
+    return 1 if counts["findings"] else 0
+
+
+if __name__ == "__main__":
+    words = "python3 crosscheck/soak.py MINUTES [SEED] [--jobs N]"
+    parser = ArgumentParser(description=__doc__, usage=words, formatter_class=RawDescriptionHelpFormatter)
+    parser.add_argument("minutes", type=float, metavar="MINUTES")
+    parser.add_argument("seed", type=int, nargs="?", default=fresh_seed(), metavar="SEED")
+    parser.add_argument("--jobs", type=int, default=len(os.sched_getaffinity(0)), metavar="N")
+    asked = parser.parse_args()
+    sys.exit(compare.ended(main, asked.minutes, asked.seed, asked.jobs))
