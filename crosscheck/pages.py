@@ -177,6 +177,31 @@ def crates_without_row(known):
     yield from (f"docs/ARCHITECTURE.md: has {rows.count(name)} rows for {name}" for name in sorted(set(rows)) if name not in known or rows.count(name) > 1)
 
 
+def wings():
+    """Of each wing, by the crate that is its door, its crates with what they stand on."""
+    found, door = {}, None
+    for line in (TOP / "crates.txt").read_text().splitlines():
+        if line.startswith("#"):
+            head = re.search(r"\((\w+)\)\.$", line)
+            door = head and head.group(1)
+        elif line and door:
+            name, uses = line.split(":")
+            found.setdefault(door, {})[name] = set(uses.split())
+    return found
+
+
+def wings_out_of_row():
+    """What stands on a wing that the picture of the wings does not have in a lower row."""
+    page = "docs/ARCHITECTURE.md"
+    picture = (TOP / page).read_text().split("## The wings")[1].split("```")[1]
+    rows = {name: number for number, line in enumerate(picture.splitlines()) for name in re.findall(r"\w+", line)}
+    wing_of = {name: door for door, parts in wings().items() for name in parts}
+    yield from (f"{page}: has no row for the wing {door}" for door in wings() if door not in rows)
+    for door, parts in wings().items():
+        below = {wing_of[name] for uses in parts.values() for name in uses if name in wing_of} - {door}
+        yield from (f"{page}: {door} stands on {other}, which is not in a lower row" for other in sorted(below) if rows.get(other, 0) <= rows.get(door, 0))
+
+
 def lost_in_pages():
     """What the pages name and is not there, and what they leave out."""
     known, pages = crates(), [TOP / "README.md", *sorted(TOP.glob("docs/*.md")), *sorted(TOP.glob("[a-z]*/README.md"))]
@@ -185,6 +210,7 @@ def lost_in_pages():
         yield from files_not_there(page, known)
     yield from laws_not_named()
     yield from crates_without_row(known)
+    yield from wings_out_of_row()
 
 
 def main(*names):

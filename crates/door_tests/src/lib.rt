@@ -1,4 +1,4 @@
-//! Each public call once, by its path at the door of its wing.
+//! Each call that a caller of the library needs, once, by its path at the door of its wing.
 #![tactic(auto)]
 
 #[cfg(test)]
