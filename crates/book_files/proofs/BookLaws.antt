@@ -21,6 +21,14 @@ use Rattle.book_format.proofs.ReadLemmas.{IsPlain, meets-map, plain-refusal, sam
 use Rattle.book_format.proofs.RunLaws.{of-plain}
 use Rattle.book_format.proofs.FactLaws.{entries-plain}
 
+-- what is told of a text that is not bound, where a spec file is refused for want of memory alone
+pub spec-told : (text : List ℕ) (e : BookError) (M : Type 0) → ((file : SpecFile) → IsFileOf text file → M)
+    → (M × (e ≡ NoMemory)) ⊎ ((M → ⊥) × (e ≡ BadSpec)) → IsSpecText text (Err e) ⊎ (e ≡ NoMemory)
+spec-told text e M only (inl (memory, is)) = inr is
+spec-told text e M only (inr (other, is)) =
+    let same : ◌≡◌ {A = Read SpecFile} (Err e) (Err BadSpec) = (λ i. Err (is i)) in
+    inl (inr ((λ file bound. other (only file bound)), same))
+
 facts-plain : (d : Data) → IsPlain (IsFactsBook d)
 facts-plain d e (inl (parts, told, inl (file, is_file, inl (entries, are, is)))) = absurd (cc)
 facts-plain d e (inl (parts, told, inl (file, is_file, inr (f, refused, is)))) =
