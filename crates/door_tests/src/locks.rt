@@ -1,13 +1,21 @@
 //! The doors of modes and of locks.
 use lock_modes::{Mode, Place, Resource, Value};
 use lock_queues::{Answer, LockTable};
-use std::alloc::{AllocError, Global};
+use std::alloc::AllocError;
 use std::process::Abort;
 use std::test::Fail;
 use version_tree::Fork;
 
+/// Whether a place that is owned is the same.
+fn is_owned(place: Place<'_>) -> Result<bool, AllocError> {
+    let resource: Resource = place.to_resource()?;
+    Ok(resource.place().is_same(place))
+}
+
 #[test]
 fn modes_go_together_or_are_covered(rt: HostRuntime) -> Result<(), Fail> {
+    let is_owned = is_owned(Place::Row(0, &Value::Int(1)))?;
+    assert!(rt; is_owned, "the same place, owned");
     assert!(rt;
         lock_modes::compatible(Mode::Share, Mode::IntentShare),
         "IS beside S"
@@ -16,9 +24,6 @@ fn modes_go_together_or_are_covered(rt: HostRuntime) -> Result<(), Fail> {
         lock_modes::cover(Mode::Share, Mode::IntentExclusive) == Mode::ShareIntent,
         "S with IX is SIX"
     );
-    let place = Place::Row(0, &Value::Int(1));
-    let resource: Resource = place.to_resource()?;
-    assert!(rt; resource.place().is_same(place), "the same place, owned");
     Ok(())
 }
 
@@ -27,39 +32,37 @@ fn ask(rt: &impl Abort, locks: &mut LockTable, session: u8) -> Result<Answer, Al
     locks.ask(session, Place::Table(0), Mode::Exclusive)
 }
 
-/// The first session holds the table, and the second waits for it.
-fn held(rt: &impl Abort, alloc: Global) -> Result<LockTable, AllocError> {
-    let mut locks = LockTable::new(alloc);
-    assert!(rt;
-        ask(rt, &mut locks, 0)? == Answer::Granted,
-        "nobody holds it"
-    );
-    assert!(rt;
-        ask(rt, &mut locks, 1)? == Answer::Waits,
-        "the first holds it"
-    );
-    Ok(locks)
+/// The first wait is granted, if one is ripe.
+fn go_on(locks: &mut LockTable) -> Result<(), AllocError> {
+    match locks.next_grant() {
+        Some(session) => locks.grant(session),
+        None => Ok(()),
+    }
 }
 
-/// The first wait is granted, if one is ripe.
-fn go_on(locks: &mut LockTable) -> Result<Option<u8>, AllocError> {
-    let Some(session) = locks.next_grant() else {
-        return Ok(None);
-    };
-    locks.grant(session)?;
-    Ok(Some(session))
+fn waits_in_fork(locks: &LockTable) -> Result<bool, AllocError> {
+    let fork = locks.fork()?;
+    Ok(fork.waits(1))
+}
+
+/// The first session holds the table, the second waits for it, and goes on when the first lets go.
+fn play(rt: &impl Abort, locks: &mut LockTable) -> Result<[bool; 3], AllocError> {
+    let is_granted = ask(rt, locks, 0)? == Answer::Granted;
+    let waits = ask(rt, locks, 1)? == Answer::Waits;
+    let forked = waits_in_fork(locks)?;
+    locks.let_go(0)?;
+    go_on(locks)?;
+    Ok([is_granted, waits, forked])
 }
 
 #[test]
 fn locks_are_asked_let_go_and_granted(rt: HostRuntime) -> Result<(), Fail> {
-    let mut locks = held(&rt, rt.alloc())?;
-    let before = locks.fork()?;
-    locks.let_go(0)?;
-    assert_eq!(rt; go_on(&mut locks)?, Some(1));
+    let mut locks = LockTable::new(rt.alloc());
+    let played = play(&rt, &mut locks)?;
+    let held = locks.holds(1, Place::Table(0));
     assert!(rt;
-        locks.holds(1, Place::Table(0)) == Some(Mode::Exclusive),
+        played == [true; 3] && held == Some(Mode::Exclusive),
         "the second holds it now"
     );
-    assert!(rt; before.waits(1), "the fork stays");
     Ok(())
 }

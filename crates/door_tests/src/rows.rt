@@ -1,4 +1,6 @@
 //! The door of rows.
+ghost use Rattle.library_tests.specs.Owned.{HasOwners};
+
 use lock_modes::{Row, Value};
 use row_tables::Store;
 use std::alloc::{AllocError, Global};
@@ -6,24 +8,39 @@ use std::process::Abort;
 use std::test::Fail;
 use version_tree::Fork;
 
-fn row(alloc: Global) -> Result<Row, AllocError> {
-    Row::from_values(vec![in alloc; Value::Int(7)]?)
+fn empty(alloc: Global) -> Store
+    ensures { HasOwners result }
+{
+    Store::new(alloc)
 }
 
-/// No table of a new store has a row.
-fn assert_empty(rt: &impl Abort, alloc: Global) {
-    let store = Store::new(alloc);
-    assert!(rt; store.read(0, 0, &Value::Int(1)).is_none(), "no row");
-    assert!(rt; store.scan(0, 0).next().is_none(), "no rows");
+/// Whether the first session sees no row in the first table.
+fn is_empty(store: &Store) -> bool
+    requires { HasOwners store.now }
+{
+    store.read(0, 0, &Value::Int(1)).is_none() && store.scan(0, 0).next().is_none()
+}
+
+/// The first session writes a row into the first table.
+fn is_written(alloc: Global, store: &mut Store) -> Result<(), AllocError>
+    requires { HasOwners store.old }
+{
+    let row = Row::from_values(vec![in alloc; Value::Int(7)]?)?;
+    store.write(0, 0, Value::Int(1), Some(row))
+}
+
+fn end(store: &mut Store) -> Result<(), AllocError> {
+    let _before = store.fork()?;
+    store.undo(0)?;
+    store.keep(0);
+    Ok(())
 }
 
 #[test]
 fn rows_are_written_undone_and_kept(rt: HostRuntime) -> Result<(), Fail> {
-    assert_empty(&rt, rt.alloc());
-    let mut store = Store::new(rt.alloc());
-    store.write(0, 0, Value::Int(1), Some(row(rt.alloc())?))?;
-    let _before = store.fork()?;
-    store.undo(0)?;
-    store.keep(0);
+    let mut store = empty(rt.alloc());
+    assert!(rt; is_empty(&store), "no rows");
+    is_written(rt.alloc(), &mut store)?;
+    end(&mut store)?;
     Ok(())
 }
