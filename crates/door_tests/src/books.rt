@@ -1,6 +1,4 @@
 //! The doors of books and of judgements.
-ghost use Rattle.accepted_outputs.specs.Judging.{HasFewSessions};
-
 use crate::specs::{TEXT, bound};
 use accepted_outputs::Verdict;
 use outcome_books::{Book, Job, Report};
@@ -54,19 +52,12 @@ fn outcomes(report: &Report) -> Option<u64> {
     Some(report.len())
 }
 
-/// Whether no report is accepted where there is none. None where memory ran out.
-fn differs(alloc: Global, report: &Report) -> Option<bool>
-    requires { HasFewSessions report.now }
-{
-    let verdict = accepted_outputs::judge(alloc, report, &[]).ok()?;
-    Some(matches!(&verdict, Verdict::Differs(_)))
-}
-
-/// Whether the report has both ranks, and is judged. None where memory ran out.
+/// Whether the report has both ranks, and differs from none where none is accepted. None where memory ran out.
 fn is_reported(alloc: Global, book: &Book) -> Option<bool> {
     let report = outcome_books::report(alloc, book).ok()?;
     accepted_outputs::reports_have_few_sessions(book, &report);
-    Some(outcomes(&report) == Some(2) && differs(alloc, &report)?)
+    let verdict = accepted_outputs::judge(alloc, &report, &[]).ok()?;
+    Some(outcomes(&report) == Some(2) && matches!(&verdict, Verdict::Differs(_)))
 }
 
 /// Whether a book has its spec's text and both ranks, each fact true. None where memory ran out.

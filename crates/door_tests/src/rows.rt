@@ -1,5 +1,6 @@
 //! The door of rows.
-ghost use Rattle.library_tests.specs.Owned.{HasOwners};
+ghost use Rattle.std.specs.Prelude.{◌≡◌};
+ghost use Rattle.row_tables.specs.Layers.{no_rows};
 
 use lock_modes::{Row, Value};
 use row_tables::Store;
@@ -9,21 +10,21 @@ use std::test::Fail;
 use version_tree::Fork;
 
 fn empty(alloc: Global) -> Store
-    ensures { HasOwners result }
+    ensures { result ≡ no_rows }
 {
     Store::new(alloc)
 }
 
 /// Whether the first session sees no row in the first table.
 fn is_empty(store: &Store) -> bool
-    requires { HasOwners store.now }
+    requires { store.now ≡ no_rows }
 {
     store.read(0, 0, &Value::Int(1)).is_none() && store.scan(0, 0).next().is_none()
 }
 
 /// The first session writes a row into the first table.
 fn is_written(alloc: Global, store: &mut Store) -> Result<(), AllocError>
-    requires { HasOwners store.old }
+    requires { store.old ≡ no_rows }
 {
     let row = Row::from_values(vec![in alloc; Value::Int(7)]?)?;
     store.write(0, 0, Value::Int(1), Some(row))
