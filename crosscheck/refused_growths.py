@@ -27,6 +27,7 @@ from pathlib import Path
 from random import Random
 from tempfile import TemporaryDirectory
 
+from compare import ended
 from wrong_bodies import run, stop
 
 TOP = Path(__file__).resolve().parent.parent
@@ -110,7 +111,7 @@ def sum_of_sources(kit):
     found = hashlib.sha256()
     for path in [*sorted(TOP.glob("crates/*/src/**/*.rt")), TOP / "crates.txt", TOP / "HANDLES", kit / "KIT-ID"]:
         if path.is_file():
-            found.update(f"{path.name} {path.stat().st_size}\n".encode() + path.read_bytes())
+            found.update(f"{path} {path.stat().st_size}\n".encode() + path.read_bytes())
     return found.hexdigest()[:16]
 
 
@@ -214,8 +215,8 @@ def growths_of(test):
 
 def failures(test, numbers):
     """Each of these N with which a test fails, with its status and what it printed."""
-    ended = [(number, *refused(test, number)) for number in numbers]
-    return [it for it in ended if it[1] != 0]
+    ends = [(number, *refused(test, number)) for number in numbers]
+    return [it for it in ends if it[1] != 0]
 
 
 def lines_of(text):
@@ -315,5 +316,6 @@ def main():
 
 
 if __name__ == "__main__":
+    signal.signal(signal.SIGINT, stop)
     signal.signal(signal.SIGTERM, stop)
-    sys.exit(main())
+    sys.exit(ended(main))
