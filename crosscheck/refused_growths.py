@@ -134,9 +134,9 @@ def kit_that_keeps(kit, room):
 def built(crate, kit, room):
     """The bytes of the program of a crate's tests."""
     words = [str(kit_that_keeps(kit, room) / "bin/rt"), "try", "--test", "--fail-alloc", str(NUMBER), "--", TESTS[crate][0]]
-    lines, _status = run(words, TOP / "crates" / crate)
+    lines, status = run(words, TOP / "crates" / crate)
     if not (room / "program").is_file():
-        lines = [line for line in lines if line.strip()] or ["rt says nothing"]
+        lines = [line for line in lines if line.strip()] or [f"rt ended with {status} and said nothing"]
         raise Unfit(f"is not built: {next((line for line in lines if 'error' in line), lines[-1])}")
     return (room / "program").read_bytes()
 
