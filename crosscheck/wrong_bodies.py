@@ -128,7 +128,7 @@ def check(all_bodies):
 def run(words, folder):
     """What a command prints, both outputs in one, and its status. Where this is stopped the command is told to end what it started."""
     ran = subprocess.Popen(
-        [*SLOWLY, *words], cwd=folder, stdin=subprocess.DEVNULL, stdout=subprocess.PIPE, stderr=subprocess.STDOUT, text=True, start_new_session=True
+        words, cwd=folder, stdin=subprocess.DEVNULL, stdout=subprocess.PIPE, stderr=subprocess.STDOUT, text=True, start_new_session=True
     )
     try:
         text, _nothing = ran.communicate()
@@ -141,14 +141,14 @@ def run(words, folder):
 
 def tested(crate, test, top):
     """Whether a test fails, or none where it was not run; and what was printed."""
-    lines, _status = run(["rt", "try", "--test", "--", test], top / "crates" / crate)
+    lines, _status = run([*SLOWLY, "rt", "try", "--test", "--", test], top / "crates" / crate)
     ends = [line.rsplit(" ", 1)[1] for line in lines if line.startswith(f"test {test} ... ")]
     return (ends[0] != "ok" if ends else None), lines
 
 
 def refused(crate, path, top):
     """Whether a check refuses a function, and what it printed."""
-    lines, status = run(["rt", "check", "--only", path], top / "crates" / crate)
+    lines, status = run([*SLOWLY, "rt", "check", "--only", path], top / "crates" / crate)
     return status != 0, lines
 
 
