@@ -21,7 +21,7 @@ from binding import MAX_SESSIONS, MAX_STEPS, ShapeKind, bind, shape_fault
 from binding import words as number_of_words
 from checks import checked, without_sentence
 from facts import shared
-from generate import KINDS, LOCK_WORDS, Maker
+from generate import ALWAYS, KINDS, LOCK_WORDS, Maker
 from machine import DEADLOCK, LINES, UNAVAILABLE, outcome, outcome_text, refuses_to_wait
 from refusal import Refusal
 from spec_file import MAX_ITEMS, read_spec
@@ -207,13 +207,20 @@ def compare(program, runs_of, kind_of_output, kind, first, seeds, shown_of=lambd
     What a text shows besides is counted too."""
     with TemporaryDirectory() as folder:
         comparison = Comparison(program, folder, kind_of_output)
-        for seed in range(first, first + seeds):
-            text = KINDS[kind](Maker(seed))
+        for name, seed, text in texts_of(kind, first, seeds):
             Path(folder, "made.spec").write_bytes(text)
             for words, want in runs_of(text, seed, "made.spec"):
-                comparison.look(f"seed {seed}", words, want)
+                comparison.look(name, words, want)
             comparison.counts.update(shown_of(text, seed))
     return comparison.end()
+
+
+def texts_of(kind, first, seeds):
+    """The specs that belong to each comparison of the kind, and those of the seeds, each with a name and the seed by which its runs are chosen."""
+    for number, text in enumerate(ALWAYS.get(kind, [])):
+        yield f"spec {number} of {len(text)} bytes", number, text
+    for seed in range(first, first + seeds):
+        yield f"seed {seed}", seed, KINDS[kind](Maker(seed))
 
 
 def usage(text):

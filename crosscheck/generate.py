@@ -448,6 +448,15 @@ class Maker:
         return f"setup {self.block(setup)}\n{steps}".encode()
 
 
+def of_length(length, front=b"session a step s {} #"):
+    """A spec of so many bytes."""
+    return front + b"x" * (length - len(front))
+
+
+# The specs that belong to each comparison of a kind, before those of its seeds: lengths round the longest, and bytes in front of its end that
+# are no text.
+ALWAYS = {"limits": [*map(of_length, range(65_535, 65_539)), of_length(65_537, b"session a step s {} #\x80\x80\xe2\x82")]}
+
 KINDS = {
     "any": Maker.any_spec,
     "hindering": Maker.hindering_spec,

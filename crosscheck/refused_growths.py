@@ -1,15 +1,14 @@
 """Refuses tests each growth in turn, one in each run.
 
-usage: python3 crosscheck/refused_growths.py [--most M] [--jobs N] [CRATE..] [TEST..]
-       python3 crosscheck/refused_growths.py --seed N [--count K] [--most M] [--jobs N]
+usage: python3 crosscheck/refused_growths.py [--most M] [--seed N] [--count K] [--jobs N] [CRATE..] [TEST..]
 
 Some tests accept the full answer or the named refusal, and then read what stands. `rt try --test --fail-alloc N` runs tests so that growth N is
 refused, and compiles them anew for each N. Here the tests of a crate are compiled once, with a number for N that stands nowhere else in
 the program; each run has its own number in that place. Each test is run for N = 1, 2, 3 .. up to the growths that it makes and one more, and
 has to pass each time. How many it makes is found by the same program with an unlawful instruction where it would refuse. Those of the
-crates CRATE and those named MODULE::TEST are run, without names all; with a seed, K tests of one crate (3). Where a test makes more than M
-growths it is refused the first M, or by the seed some M of all. The programs are kept in out/refused_growths while sources and kit stay the
-same. The exit status is 1 where a test fails.
+crates CRATE and those named MODULE::TEST are run, without names all; with --count K of them, by the seed. Where a test makes more than M
+growths it is refused M of them: those that the seed takes, or without one the first. The programs are kept in out/refused_growths while sources and kit
+stay the same. The exit status is 1 where a test fails.
 """
 
 import argparse
@@ -282,16 +281,15 @@ def tell(crate, tests, asked):
 
 def wanted(asked):
     """The tests to be run, by crate."""
-    if asked.seed is not None:
-        chance = Random(asked.seed)
-        crate = chance.choice([*TESTS])
-        return {crate: chance.sample(TESTS[crate], min(asked.count, len(TESTS[crate])))}
-    all_names = [*TESTS, *(test for tests in TESTS.values() for test in tests)]
+    tests_of = {test: crate for crate, tests in TESTS.items() for test in tests}
     for name in asked.names:
-        if name not in all_names:
+        if name not in TESTS and name not in tests_of:
             sys.exit(f"refused_growths.py: there is no {name}")
-    chosen = {crate: [test for test in tests if not asked.names or {crate, test} & {*asked.names}] for crate, tests in TESTS.items()}
-    return {crate: tests for crate, tests in chosen.items() if tests}
+    chosen = [test for test, crate in tests_of.items() if not asked.names or {crate, test} & {*asked.names}]
+    if asked.count is not None:
+        taken = Random(asked.seed).sample(chosen, min(asked.count, len(chosen)))
+        chosen = [test for test in chosen if test in taken]
+    return {crate: tests for crate in TESTS if (tests := [test for test in chosen if tests_of[test] == crate])}
 
 
 def main():
@@ -299,7 +297,7 @@ def main():
     words.add_argument("--most", type=int, default=1_000_000)
     words.add_argument("--jobs", type=int, default=os.cpu_count())
     words.add_argument("--seed", type=int)
-    words.add_argument("--count", type=int, default=3)
+    words.add_argument("--count", type=int)
     words.add_argument("names", nargs="*")
     asked = words.parse_args()
     runs = failed = 0

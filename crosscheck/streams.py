@@ -27,7 +27,9 @@ BOOK_OF_ONE = book_text(SPEC, {fact for fact in FACTS if fact[0] == 1}).encode()
 FILES = {
     "first.spec": SPEC,
     "large.spec": LARGE.encode(),
+    "long.spec": LARGE.encode() + b" #" + b"x" * 20_000,
     "mark.spec": MARK + SPEC,
+    "two words.spec": SPEC,
     "all.book": BOOK,
     "one.book": BOOK_OF_ONE,
     "mark.book": MARK + BOOK,
@@ -44,7 +46,16 @@ NO_COMMANDS += [f"join{' all.book' * 1001}", "report", "report all.book all.book
 NO_COMMANDS += [f"run first.spec 0 1 --workers{number}" for number in ("", " 0", " 17", " x", " -1", " 4294967297")]
 NO_COMMANDS += ["audit", "audit all.book all.book", "judge", "judge all.book", f"judge{' all.book' * 1002}"]
 WRITE_FAULT = b"isofarm: write fault\n"
+TRY_HELP = b"\nFor more information, try '--help'.\n"
+NAME = PROGRAM.name.encode()
+USAGES = {
+    "run first.spec 0 1 --workers 17": b"error: invalid value '17' for '--workers <N>': 17 is not in 1..=16\n" + TRY_HELP,
+    "": b"error: '" + NAME + b"' requires a subcommand but one was not provided\n"
+    b"  [subcommands: check, one, count, run, join, report, audit, judge, help]\n\nUsage: " + NAME + b" <COMMAND>\n" + TRY_HELP,
+}
 SHARD = 1_000
+# Seconds that a run here takes at most.
+LONGEST = 60
 
 
 def line(status, text):
@@ -90,6 +101,10 @@ def answers():
     yield from unread()
     yield from marked()
     yield from far()
+    yield ["count", "two words.spec"], (0, b"2\n", b"")
+    yield ["one", "two words.spec", "2"], line(3, "two words.spec: rank out of range")
+    yield ["count", "no file"], line(5, "no file: read fault")
+    yield from ((text.split(), (2, b"", usage)) for text, usage in USAGES.items())
     yield ["join", "one.book", "all.book"], (0, BOOK, b"")
     yield ["report", "one.book"], line(1, "one.book: missing rank 0")
     yield ["judge", "all.book", "one.book"], line(1, "one.book: missing rank 0")
@@ -141,6 +156,10 @@ def progress_in(folder):
     status, error = told_into("run first.spec 0 2 --progress", folder, "> /dev/full")
     is_right = (status, PROGRESS.sub(b"", error, count=1)) == (5, WRITE_FAULT) and error != WRITE_FAULT
     yield None if is_right else f"progress beside a write fault: was told {status} {error}"
+    # This book is longer than what is held back of it, so that its first write fails before the last line of progress.
+    status, error = told_into(f"run long.spec 0 {3 * SHARD} --progress", folder, "> /dev/full")
+    is_right = status == 5 and error.endswith(WRITE_FAULT) and not progress_fault(error[: -len(WRITE_FAULT)], 0, 3 * SHARD, LONGEST)
+    yield None if is_right else f"progress of a long book beside a write fault: was told {status} {error}"
     got = told(PROGRAM, ["run", "first.spec", "0", "3", "--progress"], folder, {})
     want = line(3, "first.spec: shard error 1")
     yield f"progress of a refused range: {difference(want, got)}" if got != want else None

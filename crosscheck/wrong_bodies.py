@@ -5,10 +5,10 @@ usage: python3 crosscheck/wrong_bodies.py [--seed N] [--count K] [NAME..]
        python3 crosscheck/wrong_bodies.py --check
 
 Each file of wrong_bodies/ is a wrong body: wrong_bodies/CRATE/NAME.edit has lines `file:`, `old:` and `new:` as an edit of must-fail/ has,
-its files named from the top, and a line `test: CRATE MODULE::TEST` or, where no test tells it, `clause: CRATE MODULE::FUNCTION LABEL`, without
-LABEL where the clause has none. A NAME is that of the file, or CRATE/NAME. Without names some that a test tells are tried, K of them (3), taken by
-the seed N, which is printed. One body at a time is put into the copy, and `rt try --test` builds it and runs the named test, which
-takes one to three minutes. A body that a clause alone tells is tried where --prove stands before its name: then `rt check --only` has
+its files named from the top, and a line `test: CRATE MODULE::TEST`, or `growths: CRATE MODULE::TEST` where the test tells it only when it is refused
+its growths in turn, or, where no test tells it, `clause: CRATE MODULE::FUNCTION LABEL`, without LABEL where the clause has none. A NAME is that
+of the file, or CRATE/NAME. Without names some that a test tells are tried, K of them (3), taken by the seed N, which is printed. One body at a time is
+put into the copy, and `rt try --test` builds it and runs the named test, which takes one to three minutes; refused_growths.py does so for growths. A body that a clause alone tells is tried where --prove stands before its name: then `rt check --only` has
 to refuse the function. --check builds nothing: it looks whether all that the files name is there. The exit status is 1 where a body is not told.
 """
 
@@ -26,7 +26,7 @@ from tempfile import TemporaryDirectory
 
 TOP = Path(__file__).resolve().parent.parent
 FOLDER = TOP / "wrong_bodies"
-PARTS = ["crates", "crates.txt", "HANDLES"]
+PARTS = ["crates", "crosscheck", "crates.txt", "HANDLES"]
 LINES_TOLD = 5
 SECONDS_TO_END = 20
 SLOWLY = ["nice", "-n", "15"]
@@ -35,9 +35,11 @@ SLOWLY = ["nice", "-n", "15"]
 @dataclass
 class Body:
     name: str
-    # The words behind `test:` or `clause:`.
+    # The words behind `test:` or `growths:`, or those behind `clause:`.
     test: list
     clause: list
+    # Whether the test is refused its growths.
+    is_refused: bool
     # Each a path from the top, what stands there, and what is put in its place.
     changes: list
     faults: list
@@ -45,11 +47,12 @@ class Body:
 
 def body_of(path):
     """What a file says, with the lines that it should not have."""
-    body, file, old = Body(f"{path.parent.name}/{path.stem}", [], [], [], []), None, None
+    body, file, old = Body(f"{path.parent.name}/{path.stem}", [], [], False, [], []), None, None
     for line in path.read_text().splitlines():
         key, _colon, text = line.partition(": ")
-        if key in ("test", "clause") and not body.test + body.clause:
-            setattr(body, key, text.split())
+        if key in ("test", "growths", "clause") and not body.test + body.clause:
+            setattr(body, "clause" if key == "clause" else "test", text.split())
+            body.is_refused = key == "growths"
         elif key == "file":
             file = text
         elif key == "old" and file and old is None:
@@ -146,6 +149,13 @@ def tested(crate, test, top):
     return (ends[0] != "ok" if ends else None), lines
 
 
+def tested_without_memory(_crate, test, top):
+    """Whether a test fails with one of its growths refused, or none where it was not run; and what was printed."""
+    lines, _status = run([*SLOWLY, sys.executable, "crosscheck/refused_growths.py", "--jobs", "1", test], top)
+    ends = [line.split(" ", 1)[0] for line in lines if f" {test}: " in line]
+    return (ends[0] == "FAILED" if ends else None), lines
+
+
 def refused(crate, path, top):
     """Whether a check refuses a function, and what it printed."""
     lines, status = run([*SLOWLY, "rt", "check", "--only", path], top / "crates" / crate)
@@ -170,7 +180,7 @@ def tried(body, top):
     if faults + body.faults:
         return None, faults + body.faults
     if body.test:
-        return with_body(files, tested, *body.test, top)
+        return with_body(files, tested_without_memory if body.is_refused else tested, *body.test, top)
     # Without the body the function has to be proved, or a refusal says nothing of it.
     is_refused, lines = refused(*body.clause[:2], top)
     return (None, lines) if is_refused else with_body(files, refused, *body.clause[:2], top)

@@ -1,34 +1,27 @@
 //! Where two reports differ first.
 
-ghost use Rattle.std.specs.Prelude.{◌≡◌, ◌↔◌, ◌<◌, [], Some, IfOk, IfSome, IsTrue, length, slice_index_or};
+ghost use Rattle.std.specs.Prelude.{◌≡◌, ◌↔◌, ◌<◌, [], Some, IfSome, IsTrue, length, slice_index_or};
 ghost use Rattle.accepted_outputs.specs.Judging.{HasFewSessions, IsComparison, IsFirstPlace};
 
 use crate::sessions::first_session;
 use fact_books::Report;
-use std::alloc::{AllocError, Global};
 use transcripts::Outcome;
 
 /// The first rank at which two reports differ, and there the first session that does. None where they are equal.
-pub(crate) fn first_difference(
-    alloc: Global,
-    report: &Report,
-    other: &Report,
-) -> Result<Option<(u64, u8)>, AllocError>
+pub(crate) fn first_difference(report: &Report, other: &Report) -> Option<(u64, u8)>
     requires report { HasFewSessions report.now }
     requires other { HasFewSessions other.now }
-    ensures { IfOk result (IsComparison report.now other.now) }
+    ensures { IsComparison report.now other.now result }
 {
-    let Some(rank) = first_rank(report, other) else {
-        return Ok(None);
-    };
+    let rank = first_rank(report, other)?;
     let Some(told) = report.outcome(rank) else {
-        return Ok(Some((rank, 0)));
+        return Some((rank, 0));
     };
     let Some(accepted) = other.outcome(rank) else {
-        return Ok(Some((rank, 0)));
+        return Some((rank, 0));
     };
-    let session = first_session(alloc, told.sessions(), accepted.sessions())?;
-    Ok(Some((rank, session)))
+    let session = first_session(told.sessions(), accepted.sessions());
+    Some((rank, session))
 }
 
 /// The first rank at which two reports differ. Where the ranks before one had the same two outcomes, they are not compared again.

@@ -22,7 +22,7 @@ pub fn judge(alloc: Global, report: &Report, accepted: &[Report]) -> Result<Verd
 {
     let mut places = Vec::new(alloc);
     for index in 0..accepted.len() {
-        match first_difference(alloc, report, &accepted[index])? {
+        match first_difference(report, &accepted[index]) {
             None => return Ok(Verdict::Matches(index)),
             Some(place) => places.push(place)?,
         }

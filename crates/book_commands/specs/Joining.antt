@@ -1,8 +1,9 @@
 -- Books from files, and what the program writes for their join.
-use Rattle.std.specs.Prelude.{◌≡◌, ◌≢◌, ℕ, zero, suc, ◌<◌, List, [], length, get_or, Option, Result, Ok, Err, IfSome, ⊤}
+use Rattle.std.specs.Prelude.{◌≡◌, ◌≢◌, ℕ, zero, suc, ◌<◌, List, [], length, get_or, Option, None, Result, Ok, Err, IfSome, ⊤}
 use Rattle.transcripts.specs.declared.counted.Counted.{Counted}
 use Rattle.bound_specs.specs.Binding.{IsFileOf}
 use Rattle.fact_books.specs.Books.{Contents, joined, AllRecordable}
+use Rattle.book_format.specs.declared.error.BookError.TheVariants.{ReadFault}
 use Rattle.book_format.specs.ReadingBooks.{IsReadOf}
 use Rattle.book_format.specs.Writing.{IsWritten}
 use Rattle.book_commands.specs.declared.joining.FileFault.{FileFault}
@@ -15,12 +16,12 @@ abbrev pub Files : Type 0
 Files = List ℕ → Option (List ℕ)
 
 -- a book is one of the spec that its text binds to, with facts that may stand in its books; and the answer is what the file's bytes are as a book,
--- where they are known
+-- where they are known: such a file is opened and read, unless memory runs out
 abbrev pub IsFileBook : Option (List ℕ) → Result Contents FileFault → Type 0
 IsFileBook bytes (Ok book) =
     IsFileOf book.file.text book.file × AllRecordable book.file.run book.facts × IfSome bytes (λ known. IsReadOf known (Ok book))
-IsFileBook bytes (Err (Book error)) = IfSome bytes (λ known. IsReadOf known (Err error))
-IsFileBook bytes (Err Unopened) = Unit {0}
+IsFileBook bytes (Err (Book error)) = IfSome bytes (λ known. IsReadOf known (Err error) × (error ≢ ReadFault))
+IsFileBook bytes (Err Unopened) = bytes ≡ None
 
 abbrev pub bytes_at : Files → List (List ℕ) → ℕ → Option (List ℕ)
 bytes_at files paths i = files (get_or paths i [])

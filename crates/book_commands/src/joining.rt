@@ -1,10 +1,11 @@
 //! Books from their files, and the text of their join.
 
-ghost use Rattle.std.specs.Prelude.{◌<◌, length, map};
+ghost use Rattle.std.specs.Prelude.{◌≡◌, ◌<◌, ◌⊎◌, true, length, map};
 ghost use Rattle.transcripts.specs.Counted.{failures_of};
+ghost use Rattle.book_format.specs.declared.error.BookError.TheVariants.{NoMemory as BookMemory, ReadFault};
 ghost use Rattle.book_commands.specs.Joining.{IsFileBook, IsJoinRun, IsJoined, IsNext};
 
-use crate::opener::Opener;
+use crate::opener::{FileReader, Opener};
 use book_files::read_book;
 use book_format::{BookError, WriteError, write_book};
 use fact_books::{Book, JoinError, join};
@@ -103,11 +104,34 @@ pub(crate) fn book_of_file<O: Opener>(
     let Some(reader) = opener.open(path) else {
         return Err(FileFault::Unopened);
     };
-    match read_book(alloc, &mut Counted::new(reader)) {
+    let mut input = Counted::new(reader);
+    match read_book(alloc, &mut input) {
         Ok(book) => {
             book.known();
             Ok(book)
         }
-        Err(error) => Err(FileFault::Book(error)),
+        Err(error) => Err(FileFault::Book(told_of(error, &input.into_inner()))),
     }
+}
+
+/// Why a reader gave no book. A read fault is told of one that has failed alone; that of no other is one is known to the reader of books, and
+/// not from its contract.
+fn told_of<R: FileReader>(error: BookError, reader: &R) -> BookError
+    ensures same { (result ≡ error) ⊎ (result ≡ BookMemory) }
+    ensures fault { result ≡ ReadFault → R.may_fail ≡ true }
+{
+    match error {
+        BookError::ReadFault => read_fault_of(reader.has_failed()),
+        other => other,
+    }
+}
+
+fn read_fault_of(has_failed: bool) -> BookError
+    ensures same { (result ≡ ReadFault) ⊎ (result ≡ BookMemory) }
+    ensures fault { result ≡ ReadFault → has_failed ≡ true }
+{
+    if has_failed {
+        return BookError::ReadFault;
+    }
+    BookError::NoMemory
 }

@@ -13,5 +13,5 @@ pub use auditing::{AuditFault, audit_file};
 pub use finding::Finding;
 pub use joining::{FileFault, JoinFault, join_files};
 pub use judging::{JudgeFault, NoReport, judge_files};
-pub use opener::Opener;
+pub use opener::{FileReader, Opener, Watched};
 pub use reporting::{ReportFault, ReportFileFault, report_file, write_report};

@@ -16,7 +16,12 @@ use Rattle.book_format.specs.declared.reading.parts.Version.TheVariants.{Facts, 
 use Rattle.book_format.specs.declared.pieces.TheConstants.{MAX_TEXT}
 use Rattle.book_format.specs.Reading.{Read, Unless, Given, Meets}
 use Rattle.book_format.specs.ReadingBooks.{format_in, version_with, FactParts, RunParts, fact_parts, run_parts, IsFactsOf, IsRunsOf, IsSpecText, IsFactsBook}
-use Rattle.book_format.specs.ReadingBooks.{IsRunsBook, IsBookOf, IsBookValue, IsValueOf, IsBookFile, fault_count, IsReadOf}
+use Rattle.std.specs.Io.KnownBytes.{Consumes}
+use Rattle.transcripts.specs.declared.counted.ReadError.TheVariants.{Fault}
+use Rattle.transcripts.specs.declared.counted.ReadError.TheVariants as read_error
+use Rattle.transcripts.specs.Counted.{IsShortOf, LosesFront}
+use Rattle.book_format.specs.Compacting.{AreAlike}
+use Rattle.book_format.specs.ReadingBooks.{AreTakenFor, IsRunsBook, IsBookOf, IsBookValue, IsValueOf, IsBookFile, fault_count, IsReadOf}
 use Rattle.book_format.proofs.ReadLemmas.{IsPlain, meets-map, plain-refusal, same-error, outcomes-plain}
 use Rattle.book_format.proofs.RunLaws.{of-plain}
 use Rattle.book_format.proofs.FactLaws.{entries-plain}
@@ -140,3 +145,55 @@ no-faults BadSwap apart = refl
 no-faults TooLarge apart = refl
 no-faults NoMemory apart = refl
 no-faults ReadFault apart = absurd (apart refl)
+
+-- ---- bytes that are laid out anew
+
+alike-given : (a b : List ℕ) (r : Read Contents) → AreAlike a b → Given NotJson (IsValueOf b) IsBookValue r → Given NotJson (IsValueOf a) IsBookValue r
+alike-given a b r alike (inl (d, value, is)) = inl (d, (alike d).1 value, is)
+alike-given a b r alike (inr (none, is)) = inr ((λ d value. none d ((alike d).0 value)), is)
+
+-- bytes of one value are one book
+pub alike-json : (a b : List ℕ) (r : Read Contents) → AreAlike a b → Meets (λ book. book) (Given NotJson (IsValueOf b) IsBookValue) r
+    → Meets (λ book. book) (Given NotJson (IsValueOf a) IsBookValue) r
+alike-json a b (Ok book) alike is = alike-given a b (Ok book) alike is
+alike-json a b (Err e) alike (inl is) = inl (alike-given a b (Err e) alike is)
+alike-json a b (Err e) alike (inr memory) = inr memory
+
+-- a book of bytes is one of their value
+pub by-value : (bytes : List ℕ) (book : Contents) → IsBookFile bytes (Ok book) → Given NotJson (IsValueOf bytes) IsBookValue (Ok book)
+by-value bytes book (inl (few, is)) = is
+by-value bytes book (inr (long, is)) = absurd (cc)
+
+-- ---- how many bytes are taken
+
+all-taken : (r : Read Contents) → IfErr r (λ e. e ≢ ReadFault) → AreTakenFor r (MAX_TEXT + 1)
+all-taken (Ok book) apart = refl
+all-taken (Err NotJson) apart = refl
+all-taken (Err BadField) apart = refl
+all-taken (Err BadVersion) apart = refl
+all-taken (Err BadSpec) apart = refl
+all-taken (Err BadRank) apart = refl
+all-taken (Err OutOfOrder) apart = refl
+all-taken (Err BadSwap) apart = refl
+all-taken (Err TooLarge) apart = refl
+all-taken (Err NoMemory) apart = omega arith
+all-taken (Err ReadFault) apart = absurd (apart refl)
+
+-- what is read to its end, or up to one byte past the longest file
+pub taken-whole : (old new : Option (List ℕ)) (bytes : List ℕ) (r : Read Contents) → IfSome old (λ all. bytes ≡ take (MAX_TEXT + 1) all)
+    → Consumes old new bytes → IfErr r (λ e. e ≢ ReadFault) → LosesFront old new (AreTakenFor r)
+taken-whole None new bytes r first took apart = tt
+taken-whole (Some all) new bytes r first took apart =
+    (MAX_TEXT + 1, all-taken r apart, subst (λ bs. Consumes (Some all) new bs) first took)
+
+loses-so : (old new : Option (List ℕ)) (P Q : ℕ → Type 0) → ((n : ℕ) → P n → Q n) → LosesFront old new P → LosesFront old new Q
+loses-so None new P Q each lost = tt
+loses-so (Some all) new P Q each (n, p, took) = (n, each n p, took)
+
+-- what is taken before a read fails
+pub taken-fault : (old new : Option (List ℕ)) → LosesFront old new (IsShortOf Fault (MAX_TEXT + 1)) → LosesFront old new (AreTakenFor (Err ReadFault))
+taken-fault old new lost = loses-so old new (IsShortOf Fault (MAX_TEXT + 1)) (AreTakenFor (Err ReadFault)) (λ n short. omega (arith, short)) lost
+
+-- and before memory runs out
+pub taken-short : (old new : Option (List ℕ)) → LosesFront old new (IsShortOf read_error.NoMemory (MAX_TEXT + 1)) → LosesFront old new (AreTakenFor (Err NoMemory))
+taken-short old new lost = loses-so old new (IsShortOf read_error.NoMemory (MAX_TEXT + 1)) (AreTakenFor (Err NoMemory)) (λ n short. short) lost

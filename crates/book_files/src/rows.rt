@@ -9,7 +9,7 @@ use std::hash::{FoldHasher, Hasher};
 use std::str;
 
 /// How many rows are kept at most.
-const MAX_ROWS: usize = 1024;
+const MAX_ROWS: usize = 65_536;
 
 /// A row, and the text that it was read from.
 #[derive(Drop)]

@@ -19,3 +19,5 @@ pub mod BackLemmas
 pub mod FormsBack
 pub mod Utf8Lemmas
 pub mod TextBooks
+pub mod OneBook
+pub mod CopyLemmas

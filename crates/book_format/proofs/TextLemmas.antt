@@ -120,7 +120,7 @@ lex-line c (t ∷ ts) h =
     ∙ ap (λ l. token_lexemes t ++ l) (lex-line (ends t) ts h.1) ∙ sym (lex-token t rest h.0 (λ e. ap (λ b. ends_word (print_from b ts)) e ∙ value-ends ts)))
     ∙ sym (lex-separator (c && begins t) _)
 
-tokens-line : (ts : List Token) → ArePrintable ts → tokens (print ts ++ 10 ∷ []) ≡ ts
+pub tokens-line : (ts : List Token) → ArePrintable ts → tokens (print ts ++ 10 ∷ []) ≡ ts
 tokens-line ts h = ap (punctuate fresh) (lex-line false ts h) ∙ tokens-print ts h
 
 -- ---- values

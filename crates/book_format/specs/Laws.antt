@@ -9,11 +9,16 @@ use Rattle.fact_books.specs.Books.{Contents, AllRecordable}
 use Rattle.book_format.specs.Forms.{tag_number}
 use Rattle.book_format.specs.declared.pieces.TheConstants.{MAX_TEXT, MAX_FACTS}
 use Rattle.book_format.specs.BookText.{IsTextOf, book_data, book_text, total_of}
+use Rattle.book_format.specs.Reading.{Read}
 use Rattle.book_format.specs.ReadingBooks.{IsBookFile}
 
 -- a book has one text at most
 abbrev pub BooksHaveOneText : Type 0
 BooksHaveOneText = (a b : List ℕ) (book : Contents) → IsTextOf a book → IsTextOf b book → a ≡ b
+
+-- bytes are one book at most, or are refused for one reason
+abbrev pub BytesAreOneBook : Type 0
+BytesAreOneBook = (bytes : List ℕ) (a b : Read Contents) → IsBookFile bytes a → IsBookFile bytes b → a ≡ b
 
 -- the numbers of a run have 64 bits
 abbrev pub RunFits : Run → Type 0

@@ -11,3 +11,4 @@ pub mod ReadingRuns
 pub mod ReadingFacts
 pub mod ReadingBooks
 pub mod ReadingLaws
+pub mod Compacting

@@ -1,5 +1,5 @@
 -- What bytes are as a book, or why they are none: the first refusal.
-use Rattle.std.specs.Prelude.{◌≡◌, ℕ, suc, ◌≤◌, ◌⊎◌, ◌==◌, cond, List, [], length, codes, Option, Some, None, option_and_then, option_map}
+use Rattle.std.specs.Prelude.{◌≡◌, ℕ, suc, ◌+◌, ◌≤◌, ◌⊎◌, ◌==◌, cond, List, [], length, codes, Option, Some, None, option_and_then, option_map}
 use Rattle.std.specs.Prelude.{Ok, Err, IsUtf8, string_bytes}
 use Rattle.std.specs.FinSet.{from_list}
 use Rattle.serde_json.specs.Data.{Data, Items, Members, no_members, member}
@@ -131,3 +131,17 @@ read_faults_of (Err e) = fault_count e
 abbrev pub IsReadOf : List ℕ → Read Contents → Type 0
 IsReadOf bytes (Ok book) = IsBookFile bytes (Ok book)
 IsReadOf bytes (Err e) = IsBookFile bytes (Err e) ⊎ ((e ≡ NoMemory) ⊎ (e ≡ ReadFault))
+
+-- how many bytes are taken for an answer: all, or one more than a file may have, unless memory ran out or a read failed
+abbrev pub AreTakenFor : Read Contents → ℕ → Type 0
+AreTakenFor (Ok book) n = n ≡ MAX_TEXT + 1
+AreTakenFor (Err NotJson) n = n ≡ MAX_TEXT + 1
+AreTakenFor (Err BadField) n = n ≡ MAX_TEXT + 1
+AreTakenFor (Err BadVersion) n = n ≡ MAX_TEXT + 1
+AreTakenFor (Err BadSpec) n = n ≡ MAX_TEXT + 1
+AreTakenFor (Err BadRank) n = n ≡ MAX_TEXT + 1
+AreTakenFor (Err OutOfOrder) n = n ≡ MAX_TEXT + 1
+AreTakenFor (Err BadSwap) n = n ≡ MAX_TEXT + 1
+AreTakenFor (Err TooLarge) n = n ≡ MAX_TEXT + 1
+AreTakenFor (Err NoMemory) n = n ≤ MAX_TEXT + 1
+AreTakenFor (Err ReadFault) n = n ≤ MAX_TEXT

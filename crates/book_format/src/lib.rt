@@ -3,6 +3,7 @@
 
 mod canonical;
 mod compact;
+mod compacting;
 mod comparing;
 mod error;
 mod laws;
@@ -15,9 +16,12 @@ mod texts;
 mod write_error;
 mod writing;
 
+pub use compacting::compacted;
 pub use comparing::book_of_text;
 pub use error::BookError;
-pub use laws::{books_have_one_text, texts_read_as_values, written_books_read_back};
+pub use laws::{
+    books_have_one_text, bytes_are_one_book, texts_read_as_values, written_books_read_back,
+};
 pub use pieces::{MAX_FACTS, MAX_TEXT};
 pub use reading::{
     FactParts, RunParts, Version, book_of_facts, book_of_runs, fact_parts, forms_read_back,

@@ -1,5 +1,5 @@
 //! Farms by their calls: the book of a plan by few and many workers, workers that go on while others are held, and what is refused.
-use crate::gates::{Hold, Holding};
+use crate::gates::{HOLDINGS, Hold, Holding};
 use crate::six_ranks::{assert_same, assert_six, made};
 use crate::texts::DISJOINT;
 use crate::walks::bound;
@@ -46,25 +46,6 @@ fn any_workers_give_the_book_of_the_ranks(rt: HostRuntime) -> Result<(), Fail> {
     Ok(())
 }
 
-/// The first two shards are held until both are claimed; then one of them until all others were delivered.
-static HOLDINGS: [Holding; 3] = [
-    Holding {
-        held: 3,
-        before: 3,
-        after: 0,
-    },
-    Holding {
-        held: 1,
-        before: 0,
-        after: 14,
-    },
-    Holding {
-        held: 2,
-        before: 0,
-        after: 13,
-    },
-];
-
 /// Two workers, of which a gate holds one while the other works. None where no book is made.
 fn assert_let_go<R: Threads + Wait + Abort + Clock + Sync>(
     rt: &R,
@@ -85,6 +66,8 @@ fn assert_let_go<R: Threads + Wait + Abort + Clock + Sync>(
         15,
         "each shard is told when it is delivered"
     );
+    assert_eq!(rt; gate.workers.load(SeqCst), 3, "the workers' numbers");
+    assert_eq!(rt; gate.strays.load(SeqCst), 0, "another worker's shard");
     Some(())
 }
 

@@ -13,7 +13,6 @@ mod boards;
 mod books;
 #[cfg(test)]
 mod farms;
-#[cfg(test)]
 mod gates;
 #[cfg(test)]
 mod one_text;
@@ -32,5 +31,6 @@ mod worlds;
 #[cfg(test)]
 mod written_books;
 
+pub use gates::{HOLDINGS, HOLDS_NONE, Hold, Holding, bit};
 pub use texts::{DISJOINT, SAME_OUTCOME, TABLE, spec_of, words_of};
 pub use told::Told;

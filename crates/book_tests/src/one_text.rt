@@ -2,7 +2,7 @@
 //! makes it another one, which says the same.
 use crate::asserts::assert_text;
 use crate::read_books::told;
-use std::alloc::Global;
+use std::alloc::{AllocError, Global};
 use std::process::Abort;
 use std::test::Fail;
 
@@ -26,6 +26,46 @@ fn assert_written(rt: &impl Abort, alloc: Global, row: &str) -> Result<(), Fail>
     let text = format!(in alloc; "{front}\n")?;
     let got = told(alloc, text.as_bytes()).ok_or("memory")?;
     assert_text(rt, &got, want, &text);
+    Ok(())
+}
+
+/// The text with white space around each sign that stands in no string.
+fn spaced(alloc: Global, text: &str) -> Result<Vec<u8>, AllocError> {
+    let mut out = Vec::new(alloc);
+    let mut is_quoted = false;
+    let mut is_escaped = false;
+    for byte in text.as_bytes() {
+        let is_sign = !is_quoted && b"{}[],:".contains(byte);
+        if is_sign {
+            out.extend_from_slice(b" \t")?;
+        }
+        out.push(*byte)?;
+        if is_sign {
+            out.extend_from_slice(b"\r\n")?;
+        }
+        if *byte == b'"' && !is_escaped {
+            is_quoted = !is_quoted;
+        }
+        is_escaped = *byte == b'\\' && !is_escaped;
+    }
+    Ok(out)
+}
+
+fn assert_laid_out_anew(rt: &impl Abort, alloc: Global, row: &str) -> Result<(), Fail> {
+    let (want, text) = row.split_once(" | ").ok_or("a text")?;
+    let got = told(alloc, text.as_bytes()).ok_or("memory")?;
+    assert_text(rt, &got, want, "without a line feed");
+    let longer = spaced(alloc, text)?;
+    let got = told(alloc, longer.as_slice()).ok_or("memory")?;
+    assert_text(rt, &got, want, "with white space");
+    Ok(())
+}
+
+#[test]
+fn a_text_that_is_laid_out_anew_says_the_same(rt: HostRuntime) -> Result<(), Fail> {
+    for row in TEXTS.lines() {
+        assert_laid_out_anew(&rt, rt.alloc(), row)?;
+    }
     Ok(())
 }
 

@@ -1,5 +1,13 @@
 //! What the words of a command line ask for.
 
+ghost use Rattle.std.specs.Prelude.{◌≡◌, IfOk, IfErr, map, string_bytes};
+ghost use Rattle.clap.specs.Words.{kind_of};
+ghost use Rattle.clap.specs.declared.error.ErrorKind.TheVariants.{OutOfMemory};
+ghost use Rattle.command_line.specs.Lines.{AsksFor, IsLine, Line};
+
+use crate::names::{Name, name_of};
+use crate::paths::Paths;
+use crate::plain::plain_line;
 use clap::error::ErrorKind;
 use clap::{Arg, ArgAction, ArgMatches, Command, Error, value_parser};
 use shard_board::{MAX_SEATS, Workers};
@@ -12,7 +20,10 @@ const VERSION: &str = "0.1.0";
 pub const MAX_BOOKS: usize = 1_000;
 
 /// How many workers run a range where the words name no number.
-const DEFAULT_WORKERS: &str = "4";
+pub const DEFAULT_WORKERS: u8 = 4;
+
+/// The same number, as `clap` takes it.
+const DEFAULT_WORKERS_WORD: &str = "4";
 
 /// What the words ask for.
 #[derive(Drop)]
@@ -39,9 +50,9 @@ pub enum Asked<'a> {
         workers: Workers,
         progress: bool,
     },
-    /// The join of the books at some paths.
+    /// The join of the books at one path or more.
     Join {
-        paths: Vec<&'a str>,
+        paths: Paths<'a>,
     },
     /// The report of the book at a path.
     Report {
@@ -59,7 +70,18 @@ pub enum Asked<'a> {
 }
 
 /// What the words ask for, the first of which is the program's name.
-pub fn parse_words<'a>(alloc: Global, words: &'a [String]) -> Result<Asked<'a>, Error> {
+pub fn parse_words<'a>(alloc: Global, words: &'a [String]) -> Result<Asked<'a>, Error>
+    ensures asked { IfOk result (λ asked. (line : Line) → IsLine (map string_bytes words.now) line → AsksFor line asked) }
+    ensures refused { IfErr result (λ e. (line : Line) → IsLine (map string_bytes words.now) line → kind_of e ≡ OutOfMemory) }
+{
+    match plain_line(alloc, words)? {
+        Some(asked) => Ok(asked),
+        None => other_line(alloc, words),
+    }
+}
+
+/// What words ask for that are no plain line.
+fn other_line<'a>(alloc: Global, words: &'a [String]) -> Result<Asked<'a>, Error> {
     let matches = command(alloc)?.try_get_matches_from(words)?;
     match asked_of(alloc, &matches)? {
         Some(asked) => Ok(asked),
@@ -70,19 +92,6 @@ pub fn parse_words<'a>(alloc: Global, words: &'a [String]) -> Result<Asked<'a>, 
 /// The fault of words that ask for nothing.
 fn no_command(alloc: Global) -> Result<Error, AllocError> {
     command(alloc)?.error(ErrorKind::MissingSubcommand, "no command")
-}
-
-/// A command.
-#[derive(Clone, Copy, Drop)]
-enum Name {
-    Check,
-    One,
-    Count,
-    Run,
-    Join,
-    Report,
-    Audit,
-    Judge,
 }
 
 /// A word that a command takes.
@@ -103,7 +112,6 @@ enum Word {
 /// A command as the command line has it: how it is spelled, what it does, and its words in their order.
 #[derive(Clone, Copy, Drop)]
 struct Row {
-    name: Name,
     spelled: &'static str,
     about: &'static str,
     words: &'static [Word],
@@ -111,25 +119,21 @@ struct Row {
 
 static COMMANDS: [Row; 8] = [
     Row {
-        name: Name::Check,
         spelled: "check",
         about: "Prints how much a spec has, or where it is wrong and why",
         words: &[Word::Spec],
     },
     Row {
-        name: Name::One,
         spelled: "one",
         about: "Runs one permutation and prints what each session saw",
         words: &[Word::Spec, Word::Rank],
     },
     Row {
-        name: Name::Count,
         spelled: "count",
         about: "Prints how many permutations a spec has",
         words: &[Word::Spec],
     },
     Row {
-        name: Name::Run,
         spelled: "run",
         about: "Runs a range of permutations and prints the book of what they show",
         words: &[
@@ -142,25 +146,21 @@ static COMMANDS: [Row; 8] = [
         ],
     },
     Row {
-        name: Name::Join,
         spelled: "join",
         about: "Prints one book with the facts of all",
         words: &[Word::Books],
     },
     Row {
-        name: Name::Report,
         spelled: "report",
         about: "Prints what each session saw in each permutation",
         words: &[Word::Book],
     },
     Row {
-        name: Name::Audit,
         spelled: "audit",
         about: "Tests each fact of a book again, and prints the first permutation with a false one",
         words: &[Word::Book],
     },
     Row {
-        name: Name::Judge,
         spelled: "judge",
         about: "Prints which accepted book tells the same, or where each differs first",
         words: &[Word::Book, Word::Accepted],
@@ -235,7 +235,7 @@ fn workers_word<'a>(alloc: Global) -> Arg<'a> {
         .value_name("N")
         .action(ArgAction::Set)
         .value_parser(value_parser!(u8).range(1..=i64::from(MAX_SEATS)))
-        .default_value(DEFAULT_WORKERS)
+        .default_value(DEFAULT_WORKERS_WORD)
         .help("How many workers run it, from 1 to 16")
 }
 
@@ -274,16 +274,6 @@ fn number_word<'a>(alloc: Global, name: &'a str, help: &'a str) -> Arg<'a> {
         .action(ArgAction::Set)
         .value_parser(value_parser!(u64))
         .help(help)
-}
-
-/// The command that is spelled so.
-fn name_of(spelled: &str) -> Option<Name> {
-    for row in &COMMANDS {
-        if row.spelled == spelled {
-            return Some(row.name);
-        }
-    }
-    None
 }
 
 fn asked_of<'a>(alloc: Global, matches: &ArgMatches<'a>) -> Result<Option<Asked<'a>>, AllocError> {
@@ -340,10 +330,12 @@ fn join_of_words<'a>(
     alloc: Global,
     words: &ArgMatches<'a>,
 ) -> Result<Option<Asked<'a>>, AllocError> {
-    match words.get_strs("BOOK") {
-        Some(paths) => Ok(Some(Asked::Join {
-            paths: Vec::from_slice(alloc, paths)?,
-        })),
+    let Some(books) = words.get_strs("BOOK") else {
+        return Ok(None);
+    };
+    let books = Vec::from_slice(alloc, books)?;
+    match Paths::of(books) {
+        Some(paths) => Ok(Some(Asked::Join { paths })),
         None => Ok(None),
     }
 }

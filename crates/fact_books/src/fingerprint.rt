@@ -21,8 +21,8 @@ fn hash_transcript(transcript: &Transcript, hasher: &mut FoldHasher) {
     for event in transcript.events() {
         match event {
             Event::Row(row) => hash_values(row.values(), hasher),
-            // Nearly each step has one, and their number is in that of all events.
-            Event::Done => {}
+            // A session sends its steps in their order, and nearly each is done: what is left of both is in the number of all events.
+            Event::Sent(_) | Event::Done => {}
             _ => hasher.write_u64(word_of(event)),
         }
     }

@@ -1,3 +1,7 @@
 pub mod RangeLemmas
+pub mod RunLemmas
 pub mod TrueReports
+pub mod SerialOutcomes
+pub mod JoinLemmas
 pub mod HeadlineLemmas
+pub mod FarmLemmas

@@ -1,16 +1,19 @@
 -- Reports of true facts.
-use Rattle.std.proofs.Common.{◌≡◌, refl, sym, subst, ◌∙◌, ℕ, zero, suc, ◌≤◌, ◌++◌, List, [], get_or, Some}
+use Rattle.std.proofs.Common.{◌≡◌, refl, sym, subst, ◌∙◌, ℕ, zero, suc, ◌≤◌, ◌++◌, true, List, [], get_or, Some}
 use Rattle.std.proofs.Common.{arith}
 use Rattle.bound_specs.specs.Spec.{ranks}
 use Rattle.bound_specs.specs.Binding.{IsFileOf}
 use Rattle.transcripts.specs.Text.{rank_text, outcome_text}
 use Rattle.rank_facts.specs.Swap.{leads_in}
-use Rattle.rank_facts.specs.Values.{AllTrue, CoverEachRank, TellTheMachine}
+use Rattle.rank_facts.specs.Values.{ran, swap, AllTrue, CoverEachRank, TellTheMachine}
+use Rattle.rank_facts.specs.declared.fact.Fact.{Fact}
+use Rattle.rank_facts.specs.declared.fact.Fact.TheVariants.{Ran, Swap}
+use Rattle.rank_facts.proofs.Leading.{leads-down}
 use Rattle.rank_facts.proofs.TrueValues.{tell-the-machine}
 use Rattle.fact_books.specs.declared.error.ReportError.TheVariants.{Missing, Clash}
 use Rattle.fact_books.specs.Entries.{Told, recorded}
-use Rattle.fact_books.specs.Books.{Contents}
-use Rattle.fact_books.specs.Values.{AreValues, IsNotReported}
+use Rattle.fact_books.specs.Books.{Contents, AllRecordable}
+use Rattle.fact_books.specs.Values.{AreValues, IsMissing, IsNotReported}
 use Rattle.bound_specs.proofs.FileLemmas.{file-is-bound}
 use Rattle.spec_commands.specs.One.{IsAnswer}
 use Rattle.book_commands.specs.Reporting.{values_text, IsReportText}
@@ -52,3 +55,12 @@ reports-are book text is all h = report-answers book is all text h
 
 pub covering : CoveringReports
 covering book r is all = (none-clash book is all r, λ covers. none-missing book is all covers r)
+
+-- a rank that has a fact is not told as missing: where that is a swap, each smaller rank has a value
+pub told-none-missing : (book : Contents) → AllRecordable book.file.run book.facts → (r : ℕ)
+    → IsMissing book.facts (leads_in book.file.run) (ranks book.file.run) r → (fact : Fact) → recorded book.facts r fact ≡ true → ⊥
+told-none-missing book lawful r m (Ran outcome) has = m.none outcome (ran has)
+told-none-missing book lawful r m (Swap k) has =
+    let leads = (lawful r (Swap k) has).2 in
+    let below = m.below leads.0 (leads-down book.file.run r k leads.0 leads.1) in
+    m.none below.0 (swap has leads.1 below.1.value)

@@ -1,8 +1,11 @@
 -- The laws of what is run, joined and reported.
-use Rattle.std.specs.Prelude.{◌≡◌, ℕ, zero, suc, ◌++◌, Bool, List, []}
+use Rattle.std.specs.Prelude.{◌≡◌, ℕ, zero, suc, ◌++◌, Bool, List, [], Some}
 use Rattle.std.specs.FinSet.{union}
-use Rattle.bound_specs.specs.Spec.{Spec, SpecFile, ranks}
+use Rattle.bound_specs.specs.Spec.{Spec, SpecFile, ranks, line_of}
 use Rattle.bound_specs.specs.Binding.{IsFileOf}
+use Rattle.machine_model.specs.Outcome.{outcome_of_line}
+use Rattle.serial_history.specs.Serial.{IsSerial}
+use Rattle.transcripts.specs.declared.event.Event.{Event}
 use Rattle.rank_facts.specs.Values.{AllTrue, CoverEachRank}
 use Rattle.fact_books.specs.declared.error.ReportError.TheVariants.{Missing, Clash}
 use Rattle.fact_books.specs.Entries.{FactSet, recorded}
@@ -16,6 +19,11 @@ use Rattle.book_commands.specs.Reporting.{IsReportText}
 abbrev pub AreAnswers : SpecFile → ℕ → List ℕ → Type 0
 AreAnswers file zero text = text ≡ []
 AreAnswers file (suc n) text = (before answer : List ℕ) × AreAnswers file n before × IsAnswer file n answer × (text ≡ before ++ answer)
+
+-- whatever the sequential machine tells of a rank, the transactions that are committed there behave as when they are run one after another in the order
+-- of their commits
+abbrev pub AreSerial : Spec → Type 0
+AreSerial spec = (r : ℕ) (outcome : List (List Event)) → outcome_of_line spec (line_of spec r) ≡ Some outcome → IsSerial spec (line_of spec r) outcome
 
 -- the facts of a range are true
 abbrev pub RangesAreTrue : Type 0
@@ -34,3 +42,7 @@ ReportsAreTheMachines = (book : Contents) (text : List ℕ) → IsFileOf book.fi
 abbrev pub CoveringReports : Type 0
 CoveringReports = (book : Contents) (r : ℕ) → IsFileOf book.file.text book.file → AllTrue book.file.run (recorded book.facts)
     → (IsNotReported book (Clash r) → ⊥) × (CoverEachRank book.file.run (recorded book.facts) → IsNotReported book (Missing r) → ⊥)
+
+-- the outcomes of a spec that its text binds to are serial
+abbrev pub OutcomesAreSerial : Type 0
+OutcomesAreSerial = (file : SpecFile) → IsFileOf file.text file → AreSerial file.run

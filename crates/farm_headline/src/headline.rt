@@ -3,7 +3,8 @@
 ghost use Rattle.std.specs.Prelude.{◌≡◌, ◌<◌};
 ghost use Rattle.transcripts.specs.Counted.{failures_of};
 ghost use Rattle.fact_books.specs.Laws.{JoinsCommute, JoinsAssociate, JoinsRepeat};
-ghost use Rattle.farm_headline.specs.Headline.{AreRunsReported, AreRun, IsNextRun, IsJoinedWith};
+ghost use Rattle.farm_headline.specs.Headline.{AreRunsReported};
+ghost use Rattle.farm_headline.specs.Gathering.{AreRun, IsFarmed, IsNextRun, IsJoinedWith};
 
 use book_commands::{ReportFault, write_report};
 use book_jobs::{Job, make};
@@ -116,6 +117,23 @@ fn with_plan<R: Threads + Wait + Sync, G: Gate + Sync>(
     requires { book.now.file ≡ spec.now }
     ensures { IsNextRun spec.now plan.now place book.now result }
 {
+    match farmed(rt, alloc, spec, plan, place, gate) {
+        Ok(next) => joined(book, &next),
+        Err(fault) => Err(fault),
+    }
+}
+
+/// The facts of a plan, which is at this place.
+pub(crate) fn farmed<R: Threads + Wait + Sync, G: Gate + Sync>(
+    rt: &R,
+    alloc: Global,
+    spec: &Spec,
+    plan: &Plan,
+    place: usize,
+    gate: &G,
+) -> Result<Book, HeadlineFault>
+    ensures { IsFarmed spec.now plan.now place result }
+{
     let farmed = farm_run(
         rt,
         alloc,
@@ -126,13 +144,13 @@ fn with_plan<R: Threads + Wait + Sync, G: Gate + Sync>(
         gate,
     );
     match farmed {
-        Ok(next) => joined(book, &next),
+        Ok(book) => Ok(book),
         Err(error) => Err(HeadlineFault::Plan { place, error }),
     }
 }
 
 /// The join of two books of one spec.
-fn joined(book: &Book, next: &Book) -> Result<Book, HeadlineFault>
+pub(crate) fn joined(book: &Book, next: &Book) -> Result<Book, HeadlineFault>
     requires { book.now.file ≡ next.now.file }
     ensures { IsJoinedWith book.now next.now result }
 {

@@ -1,10 +1,9 @@
 -- White space in place of characters.
-use Rattle.std.proofs.Common.{◌≡◌, refl, sym, ap, ◌∙◌, ℕ, List, [], ◌∷◌, ◌++◌, map, ◌==◌, Bool, true, false, cond, arith}
+use Rattle.std.proofs.Common.{◌≡◌, sym, ap, ◌∙◌, ℕ, List, [], ◌∷◌, ◌++◌, map, ◌==◌, Bool, true, false, cond, arith}
 use Rattle.std.proofs.lemmas.List.{map-append}
 use Rattle.std.proofs.lemmas.List.Elements.{filter-append}
 use Rattle.std.specs.List.{filter}
-use Rattle.fault_texts.specs.Places.{is_start}
-use Rattle.fault_texts.specs.Explanations.{blank}
+use Rattle.fault_texts.specs.Explanations.{blank, is_start}
 
 abbrev white : ℕ → ℕ
 white b = cond (b == 9) 9 32

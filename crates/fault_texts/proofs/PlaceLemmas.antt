@@ -1,10 +1,10 @@
 -- One byte more in front of a place.
-use Rattle.std.proofs.Common.{◌≡◌, refl, sym, ap, subst, ◌∙◌, ℕ, suc, ◌+◌, ◌≤◌, List, [], ◌∷◌, ◌++◌, length, reverse, Bool, true, false, not, cond, arith}
+use Rattle.std.proofs.Common.{◌≡◌, sym, ap, subst, ◌∙◌, ℕ, suc, ◌+◌, ◌≤◌, List, [], ◌∷◌, ◌++◌, length, reverse, Bool, true, false, not, cond, arith}
 use Rattle.std.proofs.lemmas.List.{reverse-append, length_push}
 use Rattle.std.proofs.lemmas.List.Sums.{take_while-cons, prefix_len-le-length}
 use Rattle.std.proofs.lemmas.List.Folds.{length-prefix_len}
-use Rattle.std.specs.List.{take_while, prefix_len}
-use Rattle.fault_texts.specs.Places.{is_line_end, is_start, count, first_line, last_line, front}
+use Rattle.std.specs.List.{prefix_len}
+use Rattle.fault_texts.specs.Places.{is_line_end, count, first_line, last_line, front}
 use Rattle.fault_texts.specs.declared.place.Front.{Front}
 
 -- one that passes counts, and one that does not pass does not
@@ -41,46 +41,28 @@ last-goes-on bs b is =
     ∙ reverse-append (b ∷ []) (first_line (reverse bs))
 
 -- a record of equal numbers
-told-by : (before : List ℕ) (line column bytes : ℕ) → line ≡ count is_line_end before + 1 → column ≡ count is_start (last_line before) + 1
-    → bytes ≡ length (last_line before) → ◌≡◌ {A = Front} record { line = line; column = column; bytes = bytes } (front before)
-told-by before line column bytes l c b = λ i. record { line = l i; column = c i; bytes = b i }
+told-by : (before : List ℕ) (line bytes : ℕ) → line ≡ count is_line_end before + 1 → bytes ≡ length (last_line before)
+    → ◌≡◌ {A = Front} record { line = line; bytes = bytes } (front before)
+told-by before line bytes l b = λ i. record { line = l i; bytes = b i }
 
--- the line ends, or it goes on with a character, or with the rest of one
+-- the line ends, or it goes on
 pub front-ends : (before : List ℕ) (f : Front) (b : ℕ) → is_line_end b ≡ true → f ≡ front before
-    → ◌≡◌ {A = Front} record { line = f.line + 1; column = 1; bytes = 0 } (front (before ++ b ∷ []))
+    → ◌≡◌ {A = Front} record { line = f.line + 1; bytes = 0 } (front (before ++ b ∷ []))
 front-ends before f b is e =
     let line : f.line ≡ count is_line_end before + 1 = ap (λ (g : Front). g.line) e in
     let lines : count is_line_end (before ++ b ∷ []) ≡ suc (count is_line_end before) = count-yes is_line_end before b is in
     let empty : [] ≡ last_line (before ++ b ∷ []) = sym (last-ends before b is) in
-    told-by (before ++ b ∷ []) (f.line + 1) 1 0 (omega (arith, line, lines)) (ap (λ (bs : List ℕ). count is_start bs + 1) empty)
-    (ap (λ (bs : List ℕ). length bs) empty)
+    told-by (before ++ b ∷ []) (f.line + 1) 0 (omega (arith, line, lines)) (ap (λ (bs : List ℕ). length bs) empty)
 
-pub front-starts : (before : List ℕ) (f : Front) (b : ℕ) → is_line_end b ≡ false → is_start b ≡ true → f ≡ front before
-    → ◌≡◌ {A = Front} record { line = f.line; column = f.column + 1; bytes = f.bytes + 1 } (front (before ++ b ∷ []))
-front-starts before f b is starts e =
+pub front-goes-on : (before : List ℕ) (f : Front) (b : ℕ) → is_line_end b ≡ false → f ≡ front before
+    → ◌≡◌ {A = Front} record { line = f.line; bytes = f.bytes + 1 } (front (before ++ b ∷ []))
+front-goes-on before f b is e =
     let line : f.line ≡ count is_line_end before + 1 = ap (λ (g : Front). g.line) e in
-    let column : f.column ≡ count is_start (last_line before) + 1 = ap (λ (g : Front). g.column) e in
     let bytes : f.bytes ≡ length (last_line before) = ap (λ (g : Front). g.bytes) e in
     let lines : count is_line_end (before ++ b ∷ []) ≡ count is_line_end before = count-no is_line_end before b is in
-    let more : count is_start (last_line before ++ b ∷ []) ≡ suc (count is_start (last_line before)) = count-yes is_start (last_line before) b starts in
     let line_is : last_line before ++ b ∷ [] ≡ last_line (before ++ b ∷ []) = sym (last-goes-on before b is) in
     let longer : length (last_line before ++ b ∷ []) ≡ length (last_line before) + 1 = length_push (last_line before) b in
-    told-by (before ++ b ∷ []) f.line (f.column + 1) (f.bytes + 1) (omega (arith, line, lines))
-    (subst (λ (bs : List ℕ). f.column + 1 ≡ count is_start bs + 1) line_is (omega (arith, column, more)))
-    (subst (λ (bs : List ℕ). f.bytes + 1 ≡ length bs) line_is (omega (arith, bytes, longer)))
-
-pub front-goes-on : (before : List ℕ) (f : Front) (b : ℕ) → is_line_end b ≡ false → is_start b ≡ false → f ≡ front before
-    → ◌≡◌ {A = Front} record { line = f.line; column = f.column; bytes = f.bytes + 1 } (front (before ++ b ∷ []))
-front-goes-on before f b is starts e =
-    let line : f.line ≡ count is_line_end before + 1 = ap (λ (g : Front). g.line) e in
-    let column : f.column ≡ count is_start (last_line before) + 1 = ap (λ (g : Front). g.column) e in
-    let bytes : f.bytes ≡ length (last_line before) = ap (λ (g : Front). g.bytes) e in
-    let lines : count is_line_end (before ++ b ∷ []) ≡ count is_line_end before = count-no is_line_end before b is in
-    let same : count is_start (last_line before ++ b ∷ []) ≡ count is_start (last_line before) = count-no is_start (last_line before) b starts in
-    let line_is : last_line before ++ b ∷ [] ≡ last_line (before ++ b ∷ []) = sym (last-goes-on before b is) in
-    let longer : length (last_line before ++ b ∷ []) ≡ length (last_line before) + 1 = length_push (last_line before) b in
-    told-by (before ++ b ∷ []) f.line f.column (f.bytes + 1) (omega (arith, line, lines))
-    (subst (λ (bs : List ℕ). f.column ≡ count is_start bs + 1) line_is (omega (arith, column, same)))
+    told-by (before ++ b ∷ []) f.line (f.bytes + 1) (omega (arith, line, lines))
     (subst (λ (bs : List ℕ). f.bytes + 1 ≡ length bs) line_is (omega (arith, bytes, longer)))
 
 -- which byte it is

@@ -1,5 +1,5 @@
--- Where a byte of a text stands, as people count.
-use Rattle.std.specs.Prelude.{ℕ, suc, Bool, not, ◌||◌, ◌+◌, ◌-◌, ◌==◌, nat_lt, nat_le, List, [], ◌∷◌, length, take, drop, reverse, cond}
+-- Where a byte of a text stands.
+use Rattle.std.specs.Prelude.{ℕ, suc, Bool, not, ◌+◌, ◌-◌, ◌==◌, List, [], ◌∷◌, length, take, drop, reverse, cond}
 use Rattle.std.specs.List.{take_while}
 use Rattle.fault_texts.specs.declared.place.Place.{Place}
 use Rattle.fault_texts.specs.declared.place.Front.{Front}
@@ -7,10 +7,6 @@ use Rattle.fault_texts.specs.declared.place.Front.{Front}
 -- a line feed ends a line
 abbrev pub is_line_end : ℕ → Bool
 is_line_end b = b == 10
-
--- a character begins with such a byte
-abbrev pub is_start : ℕ → Bool
-is_start b = nat_lt b 128 || nat_le 192 b
 
 -- how many of these bytes pass the test
 abbrev pub count : (ℕ → Bool) → List ℕ → ℕ
@@ -24,15 +20,14 @@ first_line text = take_while (λ b. not (is_line_end b)) text
 abbrev pub last_line : List ℕ → List ℕ
 last_line text = reverse (first_line (reverse text))
 
--- the number of the line in which these bytes end, that of the character that comes next, and how many of them stand on that line
+-- the number of the line in which these bytes end, and how many of them stand on that line
 abbrev pub front : List ℕ → Front
-front before = record { line = count is_line_end before + 1; column = count is_start (last_line before) + 1; bytes = length (last_line before) }
+front before = record { line = count is_line_end before + 1; bytes = length (last_line before) }
 
--- the place between two parts of a text: line and column, and the bytes in front of its line, of itself and of the line's end
+-- the place between two parts of a text: its line, and the bytes in front of that, of itself and of the line's end
 abbrev pub between : List ℕ → List ℕ → Place
 between before behind = record {
   line = (front before).line;
-  column = (front before).column;
   begin = length before - (front before).bytes;
   at = length before;
   end = length before + length (first_line behind);

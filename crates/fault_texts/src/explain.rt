@@ -1,13 +1,14 @@
 //! A refusal of a file, as people read it.
 
 ghost use Rattle.std.specs.Prelude.{◌≡◌, [], ◌∷◌, IfOk, string_bytes};
-ghost use Rattle.fault_texts.specs.Explanations.{blank, explanation};
+ghost use Rattle.std.specs.Str.Lossy.{utf8_lossy};
+ghost use Rattle.fault_texts.specs.Explanations.{blank, explanation, is_start};
 
-use crate::place::{is_start, place_of};
+use crate::place::place_of;
 use std::alloc::{AllocError, Global};
 
 /// Where a file is refused, by line and column; its line there; a mark under the place; and what is wrong. Each stands on a line, and the last
-/// one has no end. Bytes of the line that are no text are shown as U+FFFD.
+/// one has no end. Bytes of the line that are no text are shown as U+FFFD, and columns count the characters that are shown.
 pub fn explained(
     alloc: Global,
     path: &str,
@@ -19,11 +20,20 @@ pub fn explained(
 {
     let place = place_of(text, offset);
     let line = String::from_utf8_lossy(alloc, &text[place.begin..place.end])?;
-    let blank = blank_of(alloc, &text[place.begin..place.at])?;
+    let blank = shown_blank(alloc, &text[place.begin..place.at])?;
     format!(in alloc;
         "{path}:{}:{}\n{line}\n{blank}^\n{sentence}",
-        place.line, place.column
+        place.line,
+        blank.len() + 1
     )
+}
+
+/// White space as wide as these bytes when they are shown.
+fn shown_blank(alloc: Global, front: &[u8]) -> Result<String, AllocError>
+    ensures { IfOk result (λ white. string_bytes white ≡ blank (utf8_lossy front.now)) }
+{
+    let shown = String::from_utf8_lossy(alloc, front)?;
+    blank_of(alloc, shown.as_bytes())
 }
 
 /// White space as wide as the characters of these bytes: tabs as they are, and a space for each other one.
@@ -48,4 +58,11 @@ fn blank_for(byte: u8) -> &'static str
         return " ";
     }
     ""
+}
+
+/// Whether a character begins with this byte.
+fn is_start(byte: u8) -> bool
+    ensures { result ≡ is_start byte }
+{
+    byte < 128 || byte >= 192
 }

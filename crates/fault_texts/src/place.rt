@@ -1,7 +1,7 @@
 //! Where a byte of a text stands, as people count.
 
 ghost use Rattle.std.specs.Prelude.{◌≡◌, ◌≤◌, ◌<◌, ◌+◌, ◌^◌, ℕ, List, [], ◌∷◌, ◌++◌, length, drop};
-ghost use Rattle.fault_texts.specs.Places.{first_line, front, is_start, place};
+ghost use Rattle.fault_texts.specs.Places.{first_line, front, place};
 
 use byte_runs::{Class, run_len};
 
@@ -10,8 +10,6 @@ use byte_runs::{Class, run_len};
 pub struct Place {
     /// The number of the line, from 1.
     pub line: usize,
-    /// The number of the character in the line, from 1; at the line's end one more than it has.
-    pub column: usize,
     /// The bytes in front of the line.
     pub begin: usize,
     /// The bytes in front of the place.
@@ -25,8 +23,6 @@ pub struct Place {
 struct Front {
     /// The number of the line that they end in.
     line: usize,
-    /// The number of the character that comes behind them.
-    column: usize,
     /// How many of them stand on that line.
     bytes: usize,
 }
@@ -40,7 +36,6 @@ pub fn place_of(text: &[u8], offset: usize) -> Place
     let front = front_of(before);
     Place {
         line: front.line,
-        column: front.column,
         begin: before.len() - front.bytes,
         at: before.len(),
         end: before.len() + line_len(behind),
@@ -60,11 +55,7 @@ fn front_of(before: &[u8]) -> Front
     ensures front { result ≡ front before.now }
     ensures bytes { result.bytes ≤ length before.now }
 {
-    let mut front = Front {
-        line: 1,
-        column: 1,
-        bytes: 0,
-    };
+    let mut front = Front { line: 1, bytes: 0 };
     for byte in before {
         front = front.with(*byte);
     }
@@ -74,35 +65,19 @@ fn front_of(before: &[u8]) -> Front
 impl Front {
     /// What these bytes and one more tell.
     fn with(self, byte: u8) -> Front
-        requires small { (self.line < 2 ^ 63) × (self.column < 2 ^ 63) × (self.bytes < 2 ^ 63) }
+        requires small { (self.line < 2 ^ 63) × (self.bytes < 2 ^ 63) }
         ensures told { (before : List ℕ) → self ≡ front before → result ≡ front (before ++ byte ∷ []) }
-        ensures small { (n : ℕ) → self.line ≤ n → self.column ≤ n → self.bytes ≤ n → (result.line ≤ n + 1) × (result.column ≤ n + 1) × (result.bytes ≤ n + 1) }
+        ensures small { (n : ℕ) → self.line ≤ n → self.bytes ≤ n → (result.line ≤ n + 1) × (result.bytes ≤ n + 1) }
     {
         if byte == b'\n' {
             return Front {
                 line: self.line + 1,
-                column: 1,
                 bytes: 0,
-            };
-        }
-        if is_start(byte) {
-            return Front {
-                line: self.line,
-                column: self.column + 1,
-                bytes: self.bytes + 1,
             };
         }
         Front {
             line: self.line,
-            column: self.column,
             bytes: self.bytes + 1,
         }
     }
-}
-
-/// Whether a character begins with this byte.
-pub(crate) fn is_start(byte: u8) -> bool
-    ensures { result ≡ is_start byte }
-{
-    byte < 128 || byte >= 192
 }

@@ -1,11 +1,11 @@
 //! The program `isofarm`: hands the real world to the farm's library.
 #![tactic(auto)]
 
-use program_commands::{Opener, run, tell_words_fault};
+use program_commands::{FileReader, Opener, run, tell_words_fault};
 use std::alloc::Global;
 use std::env;
 use std::fs::File;
-use std::io::{self, BufWriter, Write};
+use std::io::{self, BufWriter, Read, Write};
 use std::process::ExitCode;
 use std::sync::Wait;
 use std::thread::Threads;
@@ -19,10 +19,41 @@ struct Disk<'a> {
 }
 
 impl Opener for Disk<'_> {
-    type Reader = File;
+    type Reader = OpenFile;
 
-    fn open(&self, path: &str) -> Option<File> {
-        File::open(self.rt, path).ok()
+    fn open(&self, path: &str) -> Option<OpenFile> {
+        match File::open(self.rt, path) {
+            Ok(file) => Some(OpenFile {
+                file,
+                has_failed: false,
+            }),
+            Err(_) => None,
+        }
+    }
+}
+
+/// A file that is read, and whether a read of it has failed.
+#[derive(Drop)]
+struct OpenFile {
+    file: File,
+    has_failed: bool,
+}
+
+impl Read for OpenFile {
+    fn read(&mut self, buf: &mut [u8]) -> io::Result<usize> {
+        match self.file.read(buf) {
+            Ok(count) => Ok(count),
+            Err(error) => {
+                self.has_failed = true;
+                Err(error)
+            }
+        }
+    }
+}
+
+impl FileReader for OpenFile {
+    fn has_failed(&self) -> bool {
+        self.has_failed
     }
 }
 

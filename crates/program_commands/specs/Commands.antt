@@ -1,8 +1,9 @@
 -- What the program does for what is asked.
-use Rattle.std.specs.Prelude.{◌≡◌, ℕ, ◌+◌, ◌⊎◌, Bool, false, not, List, [], map, take, Option, Result, Ok, Err, IfSome, ⊤}
+use Rattle.std.specs.Prelude.{◌≡◌, ℕ, ◌+◌, ◌⊎◌, Bool, false, not, List, map, take, Option, None, Some, Result, Ok, Err, IfSome, ⊤}
 use Rattle.std.specs.Io.KnownBytes.{Keeps}
 use Rattle.transcripts.specs.Counted.{Wrote, Stopped, written, failures_of}
 use Rattle.transcripts.specs.declared.counted.Counted.{Counted}
+use Rattle.command_line.specs.Lines.{Line, IsLine, AsksFor}
 use Rattle.command_line.specs.declared.words.Asked.{Asked}
 use Rattle.command_line.specs.declared.words.Asked.TheVariants.{Check, One, Count, Run, Join, Report, Audit, Judge}
 use Rattle.spec_commands.specs.One.{IsOneRun}
@@ -19,47 +20,54 @@ use Rattle.program_commands.specs.declared.files.TheConstants.{MAX_SPEC_READ}
 use Rattle.fault_texts.specs.declared.fault.ProgramFault.{ProgramFault}
 use Rattle.fault_texts.specs.declared.fault.ProgramFault.TheVariants.{NoMemory, Read, Write}
 use Rattle.fault_texts.specs.Status.{status_of}
-use Rattle.program_commands.specs.Status.{one_status, count_status, range_status, join_status, report_status, audit_status, judge_status}
+use Rattle.program_commands.specs.Faults.{one_told, count_told, range_told, join_told, report_told, audit_told, judge_told, IsCheckTold}
 
--- what a call finds is the program's answer, and a refusal is told with its status
-abbrev pub IsFound : {E : Type 0} → (Result Finding E → Type 0) → (E → ℕ) → Result Finding ProgramFault → Type 0
-IsFound Runs status (Ok finding) = Runs (Ok finding)
-IsFound {E} Runs status (Err fault) = (error : E) × Runs (Err error) × (status_of fault ≡ status error)
+-- what a call finds is the program's answer, and what it refuses is told
+abbrev pub IsFound : {E : Type 0} → (Result Finding E → Type 0) → (E → ProgramFault → Type 0) → Result Finding ProgramFault → Type 0
+IsFound Runs Tells (Ok finding) = Runs (Ok finding)
+IsFound {E} Runs Tells (Err fault) = (error : E) × Runs (Err error) × Tells error fault
 
 -- the same of a call that only writes: nothing is amiss where it is done
-abbrev pub IsTold : {E : Type 0} → (Result ⊤ E → Type 0) → (E → ℕ) → Result Finding ProgramFault → Type 0
-IsTold Runs status (Ok finding) = (finding ≡ Good) × Runs (Ok tt)
-IsTold {E} Runs status (Err fault) = (error : E) × Runs (Err error) × (status_of fault ≡ status error)
+abbrev pub IsTold : {E : Type 0} → (Result ⊤ E → Type 0) → (E → ProgramFault → Type 0) → Result Finding ProgramFault → Type 0
+IsTold Runs Tells (Ok finding) = (finding ≡ Good) × Runs (Ok tt)
+IsTold {E} Runs Tells (Err fault) = (error : E) × Runs (Err error) × Tells error fault
 
 -- a call over the bytes of a spec file: the file's own, where they are known, as far as a spec file is read
-abbrev pub IsCalled : {E : Type 0} → Option (List ℕ) → (List ℕ → Result ⊤ E → Type 0) → (E → ℕ) → Result Finding ProgramFault → Type 0
-IsCalled known Runs status result = (bytes : List ℕ) × IfSome known (λ all. bytes ≡ take MAX_SPEC_READ all) × IsTold (Runs bytes) status result
+abbrev pub IsCalled : {E : Type 0} → Option (List ℕ) → (List ℕ → Result ⊤ E → Type 0) → (List ℕ → E → ProgramFault → Type 0) → Result Finding ProgramFault → Type 0
+IsCalled known Runs Tells result = (bytes : List ℕ) × IfSome known (λ all. bytes ≡ take MAX_SPEC_READ all) × IsTold (Runs bytes) (Tells bytes) result
 
--- memory ran out, or the file at the path was not opened or not read
-abbrev pub IsReadFault : List ℕ → ProgramFault → Type 0
-IsReadFault path NoMemory = Unit {0}
-IsReadFault path (Read told) = told.now ≡ path
-IsReadFault path fault = ⊥
+-- memory ran out; or the file at the path, whose bytes are not known then, was not opened or not read
+abbrev pub IsReadFault : Option (List ℕ) → List ℕ → ProgramFault → Type 0
+IsReadFault known path NoMemory = Unit {0}
+IsReadFault known path (Read told) = (told.now ≡ path) × (known ≡ None)
+IsReadFault known path fault = ⊥
 
 -- a file that is not read is told so, and nothing is written
-abbrev pub IsUnread : {W : Type 0} → List ℕ → Counted W → Counted W → Result Finding ProgramFault → Type 0
-IsUnread path old new (Ok finding) = ⊥
-IsUnread path old new (Err fault) = (new ≡ old) × IsReadFault path fault
+abbrev pub IsUnread : {W : Type 0} → Option (List ℕ) → List ℕ → Counted W → Counted W → Result Finding ProgramFault → Type 0
+IsUnread known path old new (Ok finding) = ⊥
+IsUnread known path old new (Err fault) = (new ≡ old) × IsReadFault known path fault
 
 -- what is asked for is done
 abbrev pub IsDone : Files → {W : Type 0} → (W → Option (List ℕ)) → Counted W → Counted W → Asked → Result Finding ProgramFault → Type 0
 IsDone files contents old new (One path rank) result =
-    IsUnread path.now old new result ⊎ IsCalled (files path.now) (λ bytes. IsOneRun contents old new bytes rank) one_status result
-IsDone files contents old new (Check path) result = IsUnread path.now old new result ⊎ IsCalled (files path.now) (IsChecked contents old new) count_status result
-IsDone files contents old new (Count path) result = IsUnread path.now old new result ⊎ IsCalled (files path.now) (IsCounted contents old new) count_status result
+    IsUnread (files path.now) path.now old new result
+    ⊎ IsCalled (files path.now) (λ bytes. IsOneRun contents old new bytes rank) (λ bytes error told. told ≡ one_told path error) result
+IsDone files contents old new (Check path) result =
+    IsUnread (files path.now) path.now old new result ⊎ IsCalled (files path.now) (IsChecked contents old new) (IsCheckTold path) result
+IsDone files contents old new (Count path) result =
+    IsUnread (files path.now) path.now old new result
+    ⊎ IsCalled (files path.now) (IsCounted contents old new) (λ bytes error told. told ≡ count_told path error) result
 IsDone files contents old new (Run path first end every workers progress) result =
-    IsUnread path.now old new result ⊎ IsCalled (files path.now) (λ bytes. IsRangeRun contents old new bytes first end (not every)) range_status result
+    IsUnread (files path.now) path.now old new result
+    ⊎ IsCalled (files path.now) (λ bytes. IsRangeRun contents old new bytes first end (not every)) (λ bytes error told. told ≡ range_told path error) result
 IsDone files contents old new (Join paths) result =
-    ((paths.items ≡ []) × (new ≡ old) × (result ≡ Ok Good)) ⊎ IsTold (IsJoinRun files (map (λ p. p.now) paths.items) contents old new) join_status result
-IsDone files contents old new (Report path) result = IsTold (IsFileReported (files path.now) contents old new) report_status result
-IsDone files contents old new (Audit path) result = IsFound (IsAuditRun (files path.now) contents old new) audit_status result
+    IsTold (IsJoinRun files (map (λ p. p.now) paths) contents old new) (λ error told. join_told paths error ≡ Some told) result
+IsDone files contents old new (Report path) result =
+    IsTold (IsFileReported (files path.now) contents old new) (λ error told. told ≡ report_told path error) result
+IsDone files contents old new (Audit path) result =
+    IsFound (IsAuditRun (files path.now) contents old new) (λ error told. told ≡ audit_told path error) result
 IsDone files contents old new (Judge path accepted) result =
-    IsFound (IsJudgeRun files path.now (map (λ p. p.now) accepted.items) contents old new) judge_status result
+    IsFound (IsJudgeRun files path.now (map (λ p. p.now) accepted.items) contents old new) (λ error told. judge_told path accepted.items error ≡ Some told) result
 
 -- a flush that does not fail: the bytes that are known to be written stay so, and no call has failed; what a device has got of them is not known
 abbrev pub IsFlushed : {W : Type 0} → (W → Option (List ℕ)) → Counted W → Counted W → Type 0
@@ -107,8 +115,10 @@ IsUsage {W} contents old new status =
     ((status ≡ 0) × ((text : List ℕ) × (between : Counted W) × Wrote contents old between text × IsFlushed contents between new))
     ⊎ (((new ≡ old) × ((status ≡ 2) ⊎ (status ≡ 4))) ⊎ (((text : List ℕ) × IsCut contents old new text) × ((status ≡ 5) ⊎ (status ≡ 4))))
 
--- what the program does for some words: what these ask, or else their usage. What words ask has no definition
-abbrev pub IsRun : Files → {W E : Type 0} → (W → Option (List ℕ)) → Counted W → Counted W → Counted E → Counted E → ℕ → Type 0
-IsRun files contents old new told now status =
-    ((asked : Asked) × (result : Result Finding ProgramFault) × IsAnswered files contents old new asked result × IsEnd asked told now result status)
-    ⊎ IsUsage contents old new status
+-- what the program does for some words: what these ask, or else their usage. What a plain line asks is defined, and such a line ends without being
+-- done for want of memory alone
+abbrev pub IsRun : Files → List (List ℕ) → {W E : Type 0} → (W → Option (List ℕ)) → Counted W → Counted W → Counted E → Counted E → ℕ → Type 0
+IsRun files words contents old new told now status =
+    ((asked : Asked) × (result : Result Finding ProgramFault) × ((line : Line) → IsLine words line → AsksFor line asked)
+    × IsAnswered files contents old new asked result × IsEnd asked told now result status)
+    ⊎ (IsUsage contents old new status × ((line : Line) → IsLine words line → (new ≡ old) × (status ≡ 4)))

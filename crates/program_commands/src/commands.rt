@@ -1,6 +1,8 @@
 //! What the program does for the words of a command line.
 
-ghost use Rattle.std.specs.Prelude.{◌≡◌, ◌<◌, ◌⊎◌, [], map, Ok, OnOk, IfErr, false};
+ghost use Rattle.std.specs.Prelude.{◌≡◌, ◌<◌, ◌⊎◌, length, map, Ok, Some, OnOk, IfErr, false, string_bytes};
+ghost use Rattle.clap.specs.Words.{kind_of};
+ghost use Rattle.clap.specs.declared.error.ErrorKind.TheVariants.{OutOfMemory};
 ghost use Rattle.transcripts.specs.Counted.{Wrote, failures_of};
 ghost use Rattle.transcripts.specs.declared.counted.Counted.{Counted};
 ghost use Rattle.spec_commands.specs.One.{IsOneRun};
@@ -10,10 +12,9 @@ ghost use Rattle.book_commands.specs.Joining.{IsJoinRun};
 ghost use Rattle.book_commands.specs.Reporting.{IsFileReported};
 ghost use Rattle.book_commands.specs.Auditing.{IsAuditRun};
 ghost use Rattle.book_commands.specs.Judging.{IsJudgeRun};
-ghost use Rattle.book_commands.specs.declared.finding.Finding.TheVariants.{Good};
 ghost use Rattle.range_commands.specs.Ranges.{IsRangeRun};
 ghost use Rattle.fault_texts.specs.Status.{status_of};
-ghost use Rattle.program_commands.specs.Status.{one_status, count_status, range_status, join_status, report_status, audit_status, judge_status};
+ghost use Rattle.program_commands.specs.Faults.{one_told, count_told, range_told, join_told, report_told, audit_told, judge_told, IsCheckTold};
 ghost use Rattle.fault_texts.specs.declared.fault.ProgramFault.TheVariants.{Write as WriteFault};
 ghost use Rattle.program_commands.specs.Commands.{IsAnswered, IsCut, IsDone, IsCalled, IsFlushed, IsFound, IsPassedOn, IsRun, IsTold, IsUnread, IsUsage, tells_progress};
 
@@ -49,7 +50,7 @@ pub fn run<R: Threads + Wait + Clock + Sync, O: Opener, W: Write, E: Write + Sen
     err: &mut Counted<E>,
 ) -> u8
     requires { failures_of out.old ≡ 0 }
-    ensures { IsRun (O.bytes opener.now) W.contents out.old out.new err.old err.new result }
+    ensures { IsRun (O.bytes opener.now) (map string_bytes words.now) W.contents out.old out.new err.old err.new result }
 {
     let asked = match parse_words(alloc, words) {
         Ok(asked) => asked,
@@ -125,7 +126,7 @@ fn one_of_file<'a, O: Opener, W: Write>(
     out: &mut Counted<W>,
 ) -> Result<Finding, ProgramFault<'a>>
     requires { failures_of out.old ≡ 0 }
-    ensures done { IsUnread path.now out.old out.new result ⊎ IsCalled (O.bytes opener.now path.now) (λ bytes. IsOneRun W.contents out.old out.new bytes rank) one_status result }
+    ensures done { IsUnread (O.bytes opener.now path.now) path.now out.old out.new result ⊎ IsCalled (O.bytes opener.now path.now) (λ bytes. IsOneRun W.contents out.old out.new bytes rank) (λ bytes error told. told ≡ one_told path.entry error) result }
     ensures failures { OnOk result (failures_of out.new ≡ 0) }
 {
     let bytes = match read_spec_file(alloc, opener, path) {
@@ -145,7 +146,7 @@ fn check_of_file<'a, O: Opener, W: Write>(
     out: &mut Counted<W>,
 ) -> Result<Finding, ProgramFault<'a>>
     requires { failures_of out.old ≡ 0 }
-    ensures done { IsUnread path.now out.old out.new result ⊎ IsCalled (O.bytes opener.now path.now) (IsChecked W.contents out.old out.new) count_status result }
+    ensures done { IsUnread (O.bytes opener.now path.now) path.now out.old out.new result ⊎ IsCalled (O.bytes opener.now path.now) (IsChecked W.contents out.old out.new) (IsCheckTold path.entry) result }
     ensures failures { OnOk result (failures_of out.new ≡ 0) }
 {
     let bytes = match read_spec_file(alloc, opener, path) {
@@ -166,7 +167,7 @@ fn count_of_file<'a, O: Opener, W: Write>(
     out: &mut Counted<W>,
 ) -> Result<Finding, ProgramFault<'a>>
     requires { failures_of out.old ≡ 0 }
-    ensures done { IsUnread path.now out.old out.new result ⊎ IsCalled (O.bytes opener.now path.now) (IsCounted W.contents out.old out.new) count_status result }
+    ensures done { IsUnread (O.bytes opener.now path.now) path.now out.old out.new result ⊎ IsCalled (O.bytes opener.now path.now) (IsCounted W.contents out.old out.new) (λ bytes error told. told ≡ count_told path.entry error) result }
     ensures failures { OnOk result (failures_of out.new ≡ 0) }
 {
     let bytes = match read_spec_file(alloc, opener, path) {
@@ -193,7 +194,7 @@ fn range_of_file<'a, R: Threads + Wait + Clock + Sync, O: Opener, W: Write, E: W
     err: &mut Counted<E>,
 ) -> Result<Finding, ProgramFault<'a>>
     requires { failures_of out.old ≡ 0 }
-    ensures done { IsUnread path.now out.old out.new result ⊎ IsCalled (O.bytes opener.now path.now) (λ bytes. IsRangeRun W.contents out.old out.new bytes first end reduce) range_status result }
+    ensures done { IsUnread (O.bytes opener.now path.now) path.now out.old out.new result ⊎ IsCalled (O.bytes opener.now path.now) (λ bytes. IsRangeRun W.contents out.old out.new bytes first end reduce) (λ bytes error told. told ≡ range_told path.entry error) result }
     ensures failures { OnOk result (failures_of out.new ≡ 0) }
     ensures quiet { is_told ≡ false → err.new ≡ err.old }
 {
@@ -218,21 +219,17 @@ fn range_of_file<'a, R: Threads + Wait + Clock + Sync, O: Opener, W: Write, E: W
     }
 }
 
-/// No books are no join: the command line asks for one at least.
 fn join_of_files<'a, O: Opener, W: Write>(
     alloc: Global,
     paths: &[&'a str],
     opener: &O,
     out: &mut Counted<W>,
 ) -> Result<Finding, ProgramFault<'a>>
-    requires { failures_of out.old ≡ 0 }
-    ensures done { ((paths.now ≡ []) × (out.new ≡ out.old) × (result ≡ Ok Good))
-        ⊎ IsTold (IsJoinRun (O.bytes opener.now) (map (λ p. p.now) paths.now) W.contents out.old out.new) join_status result }
+    requires some { 0 < length paths.now }
+    requires fresh { failures_of out.old ≡ 0 }
+    ensures done { IsTold (IsJoinRun (O.bytes opener.now) (map (λ p. p.now) paths.now) W.contents out.old out.new) (λ error told. join_told paths.now error ≡ Some told) result }
     ensures failures { OnOk result (failures_of out.new ≡ 0) }
 {
-    if paths.is_empty() {
-        return Ok(Finding::Good);
-    }
     match join_files(alloc, opener, paths, out) {
         Ok(()) => Ok(Finding::Good),
         Err(fault) => Err(join_fault(paths, fault)),
@@ -246,7 +243,7 @@ fn report_of_file<'a, O: Opener, W: Write>(
     out: &mut Counted<W>,
 ) -> Result<Finding, ProgramFault<'a>>
     requires { failures_of out.old ≡ 0 }
-    ensures done { IsTold (IsFileReported (O.bytes opener.now path.now) W.contents out.old out.new) report_status result }
+    ensures done { IsTold (IsFileReported (O.bytes opener.now path.now) W.contents out.old out.new) (λ error told. told ≡ report_told path.entry error) result }
     ensures failures { OnOk result (failures_of out.new ≡ 0) }
 {
     match report_file(alloc, opener, path, out) {
@@ -263,7 +260,7 @@ fn audit_of_file<'a, R: Threads + Sync, O: Opener, W: Write>(
     out: &mut Counted<W>,
 ) -> Result<Finding, ProgramFault<'a>>
     requires { failures_of out.old ≡ 0 }
-    ensures done { IsFound (IsAuditRun (O.bytes opener.now path.now) W.contents out.old out.new) audit_status result }
+    ensures done { IsFound (IsAuditRun (O.bytes opener.now path.now) W.contents out.old out.new) (λ error told. told ≡ audit_told path.entry error) result }
     ensures failures { OnOk result (failures_of out.new ≡ 0) }
 {
     match audit_file(threads, alloc, opener, path, out) {
@@ -280,7 +277,7 @@ fn judge_of_files<'a, O: Opener, W: Write>(
     out: &mut Counted<W>,
 ) -> Result<Finding, ProgramFault<'a>>
     requires { failures_of out.old ≡ 0 }
-    ensures done { IsFound (IsJudgeRun (O.bytes opener.now) path.now (map (λ p. p.now) accepted.now) W.contents out.old out.new) judge_status result }
+    ensures done { IsFound (IsJudgeRun (O.bytes opener.now) path.now (map (λ p. p.now) accepted.now) W.contents out.old out.new) (λ error told. judge_told path.entry accepted.now error ≡ Some told) result }
     ensures failures { OnOk result (failures_of out.new ≡ 0) }
 {
     match judge_files(alloc, opener, path, accepted, out) {
@@ -356,7 +353,8 @@ fn tell_usage<W: Write, E: Write>(
     err: &mut Counted<E>,
 ) -> u8
     requires { failures_of out.old ≡ 0 }
-    ensures { IsUsage W.contents out.old out.new result }
+    ensures usage { IsUsage W.contents out.old out.new result }
+    ensures memory { kind_of error.now ≡ OutOfMemory → (out.new ≡ out.old) × (result ≡ 4) }
 {
     let Ok(text) = format!(in alloc; "{error}") else {
         return tell_fault(alloc, &ProgramFault::NoMemory, err);

@@ -1,11 +1,11 @@
 //! The program's faults for the faults of its calls.
 
-ghost use Rattle.std.specs.Prelude.{◌≡◌, ◌⊎◌, length};
+ghost use Rattle.std.specs.Prelude.{◌≡◌, ◌++◌, ◌<◌, List, ℕ, Some, IfOk, codes, length, slice_get, string_bytes};
 ghost use Rattle.book_commands.specs.Joining.{IsPlaced};
 ghost use Rattle.book_commands.specs.Judging.{IsAcceptedPlace};
-ghost use Rattle.fault_texts.specs.Status.{status_of};
-ghost use Rattle.program_commands.specs.Status.{one_status, count_status, range_status, join_status, report_status, audit_status, judge_status, no_report_status};
-ghost use Rattle.program_commands.specs.Status.{values_status, file_status, write_status, spec_status, text_status, binding_status, run_status, start_status};
+ghost use Rattle.fault_texts.specs.Explanations.{explanation};
+ghost use Rattle.program_commands.specs.Faults.{IsExplained, offset_of, one_told, count_told, range_told, join_told, report_told, audit_told, judge_told, no_report_told};
+ghost use Rattle.program_commands.specs.Faults.{values_told, file_told, book_told, write_told, spec_told, text_told, binding_told, run_told, start_told};
 
 use book_commands::{
     AuditFault, FileFault, JoinFault, JudgeFault, NoReport, ReportFault, ReportFileFault,
@@ -22,7 +22,7 @@ use std::alloc::{AllocError, Global};
 
 /// The program's fault for a fault of one permutation of the file at a path.
 pub fn fault_at(path: &str, fault: OneFault) -> ProgramFault<'_>
-    ensures { status_of result ≡ one_status fault }
+    ensures { result ≡ one_told path.entry fault }
 {
     match fault {
         OneFault::Spec(fault) => spec_fault(path, fault),
@@ -33,7 +33,7 @@ pub fn fault_at(path: &str, fault: OneFault) -> ProgramFault<'_>
 }
 
 pub(crate) fn count_fault(path: &str, fault: CountFault) -> ProgramFault<'_>
-    ensures { status_of result ≡ count_status fault }
+    ensures { result ≡ count_told path.entry fault }
 {
     match fault {
         CountFault::Spec(fault) => spec_fault(path, fault),
@@ -49,13 +49,24 @@ pub(crate) fn explained_fault<'a>(
     text: &[u8],
     fault: SpecFault,
 ) -> ProgramFault<'a>
-    ensures { (status_of result ≡ spec_status fault) ⊎ (status_of result ≡ 4) }
+    ensures { IsExplained path.entry text.now fault result }
 {
-    let line = spec_fault(path, fault);
-    if line.status() != 3 {
-        return line;
+    match spec_fault(path, fault) {
+        ProgramFault::NoMemory => ProgramFault::NoMemory,
+        line => explained_line(alloc, &line, path, text, fault),
     }
-    match with_explanation(alloc, &line, path, text, fault) {
+}
+
+fn explained_line<'a>(
+    alloc: Global,
+    line: &ProgramFault<'_>,
+    path: &'a str,
+    text: &[u8],
+    fault: SpecFault,
+) -> ProgramFault<'a>
+    ensures { IsExplained path.entry text.now fault result }
+{
+    match with_explanation(alloc, line, path, text, fault) {
         Ok(told) => ProgramFault::Explained { told },
         Err(_) => ProgramFault::NoMemory,
     }
@@ -68,17 +79,27 @@ fn with_explanation(
     path: &str,
     text: &[u8],
     fault: SpecFault,
-) -> Result<String, AllocError> {
-    let (offset, sentence) = match fault {
-        SpecFault::Text(error) => (error.offset, text_sentence(error.kind)),
-        SpecFault::Binding(error) => (error.offset, binding_sentence(error.kind)),
-    };
+) -> Result<String, AllocError>
+    ensures { IfOk result (λ told. (line sentence : List ℕ) × (string_bytes told ≡ line ++ (codes "\n" ++ explanation path.now text.now (offset_of fault) sentence))) }
+{
+    let (offset, sentence) = place_of(fault);
     let explanation = explained(alloc, path, text, offset, sentence)?;
+    let line = format!(in alloc; "{line}")?;
     format!(in alloc; "{line}\n{explanation}")
 }
 
+/// Where a spec's fault is, and what is wrong there.
+fn place_of(fault: SpecFault) -> (usize, &'static str)
+    ensures { result.0 ≡ offset_of fault }
+{
+    match fault {
+        SpecFault::Text(error) => (error.offset, text_sentence(error.kind)),
+        SpecFault::Binding(error) => (error.offset, binding_sentence(error.kind)),
+    }
+}
+
 pub(crate) fn range_fault(path: &str, fault: RangeFault) -> ProgramFault<'_>
-    ensures { status_of result ≡ range_status fault }
+    ensures { result ≡ range_told path.entry fault }
 {
     match fault {
         RangeFault::Spec(fault) => spec_fault(path, fault),
@@ -89,18 +110,28 @@ pub(crate) fn range_fault(path: &str, fault: RangeFault) -> ProgramFault<'_>
 
 pub(crate) fn join_fault<'a>(paths: &[&'a str], fault: JoinFault) -> ProgramFault<'a>
     requires { IsPlaced (length paths.now) fault }
-    ensures { status_of result ≡ join_status fault }
+    ensures { join_told paths.now fault ≡ Some result }
 {
     match fault {
-        JoinFault::File { place, fault } => file_fault(paths[place], fault),
-        JoinFault::OtherSpec { place } => ProgramFault::OtherSpec { path: paths[place] },
+        JoinFault::File { place, fault } => file_fault(path_at(paths, place), fault),
+        JoinFault::OtherSpec { place } => ProgramFault::OtherSpec {
+            path: path_at(paths, place),
+        },
         JoinFault::NoMemory => ProgramFault::NoMemory,
         JoinFault::Write(error) => write_fault(error),
     }
 }
 
+/// The path at a place.
+fn path_at<'a>(paths: &[&'a str], place: usize) -> &'a str
+    requires { place < length paths.now }
+    ensures { slice_get paths.now place ≡ Some result }
+{
+    paths[place]
+}
+
 pub(crate) fn report_fault(path: &str, fault: ReportFileFault) -> ProgramFault<'_>
-    ensures { status_of result ≡ report_status fault }
+    ensures { result ≡ report_told path.entry fault }
 {
     match fault {
         ReportFileFault::File(fault) => file_fault(path, fault),
@@ -110,7 +141,7 @@ pub(crate) fn report_fault(path: &str, fault: ReportFileFault) -> ProgramFault<'
 }
 
 pub(crate) fn audit_fault(path: &str, fault: AuditFault) -> ProgramFault<'_>
-    ensures { status_of result ≡ audit_status fault }
+    ensures { result ≡ audit_told path.entry fault }
 {
     match fault {
         AuditFault::File(fault) => file_fault(path, fault),
@@ -125,18 +156,18 @@ pub(crate) fn judge_fault<'a>(
     fault: JudgeFault,
 ) -> ProgramFault<'a>
     requires { IsAcceptedPlace (length accepted.now) fault }
-    ensures { status_of result ≡ judge_status fault }
+    ensures { judge_told path.entry accepted.now fault ≡ Some result }
 {
     match fault {
         JudgeFault::Book(fault) => no_report_fault(path, fault),
-        JudgeFault::Accepted { place, fault } => no_report_fault(accepted[place], fault),
+        JudgeFault::Accepted { place, fault } => no_report_fault(path_at(accepted, place), fault),
         JudgeFault::NoMemory => ProgramFault::NoMemory,
         JudgeFault::Write(_) => ProgramFault::Write,
     }
 }
 
 fn no_report_fault(path: &str, fault: NoReport) -> ProgramFault<'_>
-    ensures { status_of result ≡ no_report_status fault }
+    ensures { result ≡ no_report_told path.entry fault }
 {
     match fault {
         NoReport::File(fault) => file_fault(path, fault),
@@ -145,7 +176,7 @@ fn no_report_fault(path: &str, fault: NoReport) -> ProgramFault<'_>
 }
 
 fn values_fault(path: &str, error: ReportError) -> ProgramFault<'_>
-    ensures { status_of result ≡ values_status error }
+    ensures { result ≡ values_told path.entry error }
 {
     match error {
         ReportError::TooMany => ProgramFault::TooManyRanks { path },
@@ -156,12 +187,22 @@ fn values_fault(path: &str, error: ReportError) -> ProgramFault<'_>
 }
 
 fn file_fault(path: &str, fault: FileFault) -> ProgramFault<'_>
-    ensures { status_of result ≡ file_status fault }
+    ensures { result ≡ file_told path.entry fault }
 {
     match fault {
-        FileFault::Unopened | FileFault::Book(BookError::ReadFault) => ProgramFault::Read { path },
-        FileFault::Book(BookError::NoMemory) => ProgramFault::NoMemory,
-        FileFault::Book(error) => ProgramFault::Book {
+        FileFault::Unopened => ProgramFault::Read { path },
+        FileFault::Book(error) => book_fault(path, error),
+    }
+}
+
+#[tactic(auto, using(crate::proofs::FaultLemmas::book_other))]
+fn book_fault(path: &str, error: BookError) -> ProgramFault<'_>
+    ensures { result ≡ book_told path.entry error }
+{
+    match error {
+        BookError::NoMemory => ProgramFault::NoMemory,
+        BookError::ReadFault => ProgramFault::Read { path },
+        error => ProgramFault::Book {
             path,
             kind: error.number(),
         },
@@ -169,7 +210,7 @@ fn file_fault(path: &str, fault: FileFault) -> ProgramFault<'_>
 }
 
 fn write_fault<'a>(error: WriteError) -> ProgramFault<'a>
-    ensures { status_of result ≡ write_status error }
+    ensures { result ≡ write_told error }
 {
     match error {
         WriteError::TooLarge => ProgramFault::BookTooLarge,
@@ -179,7 +220,7 @@ fn write_fault<'a>(error: WriteError) -> ProgramFault<'a>
 }
 
 fn spec_fault(path: &str, fault: SpecFault) -> ProgramFault<'_>
-    ensures { status_of result ≡ spec_status fault }
+    ensures { result ≡ spec_told path.entry fault }
 {
     match fault {
         SpecFault::Text(error) => text_fault(path, error),
@@ -187,8 +228,9 @@ fn spec_fault(path: &str, fault: SpecFault) -> ProgramFault<'_>
     }
 }
 
+#[tactic(auto, using(crate::proofs::FaultLemmas::text_other))]
 fn text_fault(path: &str, error: SpecError) -> ProgramFault<'_>
-    ensures { status_of result ≡ text_status error.kind }
+    ensures { result ≡ text_told path.entry error.offset error.kind }
 {
     match error.kind {
         SpecErrorKind::NoMemory => ProgramFault::NoMemory,
@@ -200,8 +242,9 @@ fn text_fault(path: &str, error: SpecError) -> ProgramFault<'_>
     }
 }
 
+#[tactic(auto, using(crate::proofs::FaultLemmas::binding_other))]
 fn bind_fault(path: &str, error: BindError) -> ProgramFault<'_>
-    ensures { status_of result ≡ binding_status error.kind }
+    ensures { result ≡ binding_told path.entry error.offset error.kind }
 {
     let offset = error.offset as u64;
     match error.kind {
@@ -220,7 +263,7 @@ fn bind_fault(path: &str, error: BindError) -> ProgramFault<'_>
 }
 
 fn run_fault(path: &str, error: RunError) -> ProgramFault<'_>
-    ensures { status_of result ≡ run_status error }
+    ensures { result ≡ run_told path.entry error }
 {
     match error {
         RunError::OutOfRange => ProgramFault::Shard { path, kind: 1 },
@@ -231,7 +274,7 @@ fn run_fault(path: &str, error: RunError) -> ProgramFault<'_>
 }
 
 fn start_fault(path: &str, error: StartError) -> ProgramFault<'_>
-    ensures { status_of result ≡ start_status error }
+    ensures { result ≡ start_told path.entry error }
 {
     let kind = error.number();
     match error {

@@ -5,7 +5,7 @@ mod commands;
 mod faults;
 mod files;
 
-pub use book_commands::Opener;
+pub use book_commands::{FileReader, Opener, Watched};
 pub use commands::{answer, run, tell_words_fault};
 pub use fault_texts::ProgramFault;
 pub use faults::fault_at;

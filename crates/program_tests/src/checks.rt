@@ -71,6 +71,21 @@ fn a_check_tells_bytes_that_are_no_text(rt: HostRuntime) -> Result<(), Fail> {
     Ok(())
 }
 
+/// A file that is too long is refused before it is seen whether it is text. Its byte 65,536 stands on the second line, behind two bytes that
+/// are no text.
+#[test]
+fn columns_count_what_is_shown_for_bytes_that_are_no_text(rt: HostRuntime) -> Result<(), Fail> {
+    let mut text = vec![in rt.alloc(); b' '; 65_532]?;
+    text.extend_from_slice(b"\n#\x80\x80x")?;
+    assert_explained(
+        &rt,
+        rt.alloc(),
+        &text,
+        "spec error 9 at 65536\nfirst.spec:2:4\n#\u{fffd}\u{fffd}x\n   ^\nThe file is too large: it has 65,536 bytes and 4,096 permutation lines at most, and a line 28 steps.\n",
+    )?;
+    Ok(())
+}
+
 #[test]
 fn a_check_tells_where_a_text_is_wrong(rt: HostRuntime) -> Result<(), Fail> {
     for (text, want) in &WRONG_TEXTS {

@@ -1,7 +1,7 @@
 //! What the program tells, run over a disk with one file.
 use book_tests::{Told, words_of};
 use library_tests::ByteReader;
-use program_commands::{Opener, run};
+use program_commands::{Opener, Watched, run};
 use std::alloc::{AllocError, Global};
 use std::process::Abort;
 use std::sync::Wait;
@@ -18,16 +18,16 @@ pub struct Disk<'a> {
 }
 
 impl<'a> Opener for Disk<'a> {
-    type Reader = ByteReader<'a>;
+    type Reader = Watched<ByteReader<'a>>;
 
-    fn open(&self, path: &str) -> Option<ByteReader<'a>> {
+    fn open(&self, path: &str) -> Option<Watched<ByteReader<'a>>> {
         if path != self.path {
             return None;
         }
-        Some(ByteReader {
+        Some(Watched::new(ByteReader {
             text: self.text,
             calls_left: self.calls_left,
-        })
+        }))
     }
 }
 

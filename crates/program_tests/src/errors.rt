@@ -47,6 +47,14 @@ fn a_spent_walker_is_told_from_want_of_memory(rt: HostRuntime) -> Result<(), Fai
 }
 
 #[test]
+fn a_book_that_is_too_large_to_be_written_has_no_path(rt: HostRuntime) -> Result<(), Fail> {
+    let fault = ProgramFault::BookTooLarge;
+    assert_words(&rt, rt.alloc(), &fault, "isofarm: book error 8")?;
+    assert!(rt; fault.status() == 3, "a book to be written");
+    Ok(())
+}
+
+#[test]
 fn want_of_memory_ends_with_four(rt: HostRuntime) {
     let fault = ProgramFault::NoMemory;
     assert!(rt; fault.status() == 4, "want of memory");

@@ -3,9 +3,10 @@ use crate::disks::assert_text;
 use book_commands::ReportFault;
 use book_jobs::{Boxed, Job};
 use fact_books::ReportError;
-use farm_headline::{HeadlineFault, Plan, report_of_runs};
+use farm_headline::{HeadlineFault, Plan, report_of_runs, report_of_two_farms};
 use session_machine::RunError;
 use shard_farm::{FarmError, OpenGate};
+use spec_binding::spec_of;
 use std::alloc::{AllocError, Global};
 use std::process::Abort;
 use std::sync::Wait;
@@ -90,20 +91,25 @@ fn told(
     Ok((told, out.into_inner()))
 }
 
+/// What the six orders tell.
+fn six_told(alloc: Global) -> Result<String, AllocError> {
+    let mut text = String::new(alloc);
+    for rank in 0..6u64 {
+        let one = format!(in alloc; "rank {rank}\n{TOLD}")?;
+        text.push_str(&one)?;
+    }
+    Ok(text)
+}
+
 /// The runs tell each of the six orders.
 fn assert_reported(
     rt: &(impl Abort + Threads + Wait + Sync),
     alloc: Global,
     runs: &Runs,
 ) -> Result<(), Fail> {
-    let mut want = String::new(alloc);
-    for rank in 0..6u64 {
-        let one = format!(in alloc; "rank {rank}\n{TOLD}")?;
-        want.push_str(&one)?;
-    }
     let (told, out) = told(rt, alloc, APART, runs)?;
     assert!(rt; told.is_ok());
-    assert_text(rt, &out, &want, "the report");
+    assert_text(rt, &out, &six_told(alloc)?, "the report");
     Ok(())
 }
 
@@ -136,6 +142,43 @@ fn runs_that_cover_each_rank_are_reported(rt: HostRuntime) -> Result<(), Fail> {
     for runs in &COVERING {
         assert_reported(&rt, rt.alloc(), runs)?;
     }
+    Ok(())
+}
+
+/// What two farms tell together of `APART`, and what was written.
+fn told_of_two(
+    rt: &(impl Abort + Threads + Wait + Sync),
+    alloc: Global,
+    ranks: [(u64, u64); 2],
+) -> Result<(Result<(), HeadlineFault>, Vec<u8>), AllocError> {
+    let Ok(spec) = spec_of(alloc, APART.as_bytes()) else {
+        panic!(rt; "no spec");
+    };
+    let [first, second] = ranks;
+    let first = Plan {
+        shards: Vec::from_slice(alloc, &[shard(first)])?,
+        reduce: true,
+        workers: 2,
+    };
+    let second = Plan {
+        shards: Vec::from_slice(alloc, &[shard(second)])?,
+        reduce: false,
+        workers: 1,
+    };
+    let mut out = Counted::new(Vec::new(alloc));
+    let told = report_of_two_farms(rt, alloc, &spec, &first, &second, &OpenGate, &mut out);
+    Ok((told, out.into_inner()))
+}
+
+#[test]
+fn two_farms_are_reported_together(rt: HostRuntime) -> Result<(), Fail> {
+    let alloc = rt.alloc();
+    let (told, out) = told_of_two(&rt, alloc, [(3, 6), (0, 4)])?;
+    assert!(rt; told.is_ok());
+    assert_text(&rt, &out, &six_told(alloc)?, "the report of two farms");
+    let (told, out) = told_of_two(&rt, alloc, [(0, 2), (3, 6)])?;
+    assert_eq!(rt; name_of(&told), "rank 2 is missing");
+    assert_text(&rt, &out, "", "a rank that neither runs");
     Ok(())
 }
 

@@ -33,3 +33,5 @@ mod shelf;
 mod statements;
 #[cfg(test)]
 mod verdicts;
+#[cfg(test)]
+mod workers;

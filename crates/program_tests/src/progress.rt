@@ -4,7 +4,7 @@ use crate::disks::{assert_text, holding, told_by};
 use book_tests::{Told, words_of};
 use program_commands::run;
 use std::alloc::{AllocError, Global};
-use std::io;
+use std::io::{self, Write};
 use std::process::Abort;
 use std::sync::Wait;
 use std::sync::atomic::AtomicU64;
@@ -171,6 +171,58 @@ fn progress_that_nobody_takes_leaves_the_book(rt: HostRuntime) -> Result<(), Fai
     let (status, book) = tell_broken(&rt, alloc, "isofarm run first.spec 0 2520 --progress")?;
     let plain = tell_by(&rt, alloc, "isofarm run first.spec 0 2520", None)?;
     assert!(rt; !book.is_empty() && book.as_slice() == plain.out.as_slice());
+    assert_eq!(rt; status, 0);
+    Ok(())
+}
+
+// Fails at its first write, and takes what comes then.
+#[derive(Drop)]
+struct FailsOnce {
+    text: Vec<u8>,
+    has_failed: bool,
+}
+
+impl Write for FailsOnce {
+    fn write(&mut self, buf: &[u8]) -> io::Result<usize> {
+        if !self.has_failed {
+            self.has_failed = true;
+            return Err(io::Error::from(io::ErrorKind::BrokenPipe));
+        }
+        match self.text.extend_from_slice(buf) {
+            Ok(()) => Ok(buf.len()),
+            Err(_) => Err(io::Error::from(io::ErrorKind::OutOfMemory)),
+        }
+    }
+
+    fn flush(&mut self) -> io::Result<()> {
+        Ok(())
+    }
+}
+
+#[test]
+fn a_line_that_is_not_taken_leaves_the_next(rt: HostRuntime) -> Result<(), Fail> {
+    let alloc = rt.alloc();
+    let words = words_of(
+        alloc,
+        "isofarm run first.spec 1500 2520 --workers 1 --progress",
+    )?;
+    let timed = Timed {
+        threads: &rt,
+        millis: Some(10_000),
+        readings: AtomicU64::new(0),
+    };
+    let mut out = Counted::new(Vec::new(alloc));
+    let mut err = Counted::new(FailsOnce {
+        text: Vec::new(alloc),
+        has_failed: false,
+    });
+    let disk = holding(FOUR.as_bytes());
+    let status = run(&timed, alloc, &words, &disk, &mut out, &mut err);
+    let want = lines_of(
+        alloc,
+        "2 of 2 shards, 1020 of 1020 ranks, 20.0/2 of 2 shards, 1020 of 1020 ranks, 30.0",
+    )?;
+    assert_text(&rt, &err.into_inner().text, &want, "standard error");
     assert_eq!(rt; status, 0);
     Ok(())
 }

@@ -1,7 +1,7 @@
 //! A disk whose files stand in rows.
 use crate::disks::Disk;
 use library_tests::ByteReader;
-use program_commands::Opener;
+use program_commands::{Opener, Watched};
 
 /// The path and the text of a file in rows.
 pub fn file_of<'a>(rows: &'a str, path: &str) -> Option<(&'a str, &'a str)> {
@@ -21,9 +21,9 @@ pub struct Shelf<'a> {
 }
 
 impl<'a> Opener for Shelf<'a> {
-    type Reader = ByteReader<'a>;
+    type Reader = Watched<ByteReader<'a>>;
 
-    fn open(&self, path: &str) -> Option<ByteReader<'a>> {
+    fn open(&self, path: &str) -> Option<Watched<ByteReader<'a>>> {
         let (name, text) = file_of(self.rows, path)?;
         let file = Disk {
             path: name,

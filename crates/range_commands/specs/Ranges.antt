@@ -55,7 +55,14 @@ IsRangeRun contents old new bytes first end reduce (Err (range_fault.Write error
 
 -- ---- what the code keeps
 
+-- the plan that was refused is lawful: it does not start, or memory ran out
+abbrev pub IsOfLawfulPlan : FarmError → Type 0
+IsOfLawfulPlan farm_error.BadPlan = ⊥
+IsOfLawfulPlan error = Unit {0}
+
 -- what a run of shards is refused with, told as that of a range
 abbrev pub IsToldOf : FarmError → RunError → Type 0
+IsToldOf farm_error.BadPlan told = ⊥
 IsToldOf (farm_error.Start error) told = told ≡ run_error.Start error
-IsToldOf error told = told ≡ run_error.NoMemory
+IsToldOf farm_error.NotStarted told = told ≡ run_error.NoMemory
+IsToldOf (farm_error.NoMemory left) told = told ≡ run_error.NoMemory

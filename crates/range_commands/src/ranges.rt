@@ -4,7 +4,7 @@ ghost use Rattle.std.specs.Prelude.{◌≡◌, ◌<◌, ◌≤◌, IfErr, IfOk, 
 ghost use Rattle.step_reducer.specs.Walking.{Starts};
 ghost use Rattle.fact_books.specs.Building.{AreFactsOf};
 ghost use Rattle.transcripts.specs.Counted.{failures_of};
-ghost use Rattle.range_commands.specs.Ranges.{IsRangeOf, IsOutsideRange, IsNoRange, IsRangeRun, IsToldOf};
+ghost use Rattle.range_commands.specs.Ranges.{IsRangeOf, IsOutsideRange, IsNoRange, IsRangeRun, IsOfLawfulPlan, IsToldOf};
 
 use book_format::{WriteError, write_book};
 use bound_specs::Spec;
@@ -132,11 +132,13 @@ pub fn book_of_range<R: Threads + Wait + Sync, G: Gate + Sync>(
 
 /// Why a range is not run, whose shards are a lawful plan.
 fn not_run(error: FarmError) -> RunError
+    requires { IsOfLawfulPlan error }
     ensures { IsToldOf error result }
 {
     match error {
+        FarmError::BadPlan => unreachable!(),
         FarmError::Start(error) => RunError::Start(error),
-        FarmError::BadPlan | FarmError::NotStarted | FarmError::NoMemory(_) => RunError::NoMemory,
+        FarmError::NotStarted | FarmError::NoMemory(_) => RunError::NoMemory,
     }
 }
 

@@ -1,3 +1,4 @@
+pub mod Commits
 pub mod Readings
 pub mod Replays
 pub mod SerialLine

@@ -5,7 +5,7 @@ use Rattle.machine_model.specs.Start.{Started, start}
 use Rattle.machine_model.specs.World.{World, send_all}
 use Rattle.machine_model.specs.Sound.{Sound}
 use Rattle.lock_modes.specs.Rows.{Rows'}
-use Rattle.serial_history.specs.Serial.{History, Told, Shown, after_setups, send_all_told, first_rows, start_told}
+use Rattle.serial_history.specs.Serial.{History, Transaction, Told, Shown, after_setups, send_all_told, first_rows, start_told}
 use Rattle.serial_history.specs.Reading.{Reading, read, told_in, data_of}
 use Rattle.transcripts.specs.declared.event.Event.{Event}
 use Rattle.machine_model.specs.Laws.{IsOf}
@@ -23,6 +23,12 @@ abbrev pub SpecsAreSerial : Type 0
 SpecsAreSerial =
     (spec : Spec) (w : World) (ks : List ℕ) → IsBound spec → start spec ≡ Started w
     → Told (first_rows spec) (send_all spec.steps w ks) (send_all_told spec.steps w ks (start_told spec))
+
+-- the commits of a line's front are a front of the line's commits: they stand in the order in which they come, whosever they are
+abbrev pub CommitsStayInOrder : Type 0
+CommitsStayInOrder =
+    (steps : List Step) (w : World) (ks more : List ℕ) (h : History)
+    → (later : List Transaction) × ((send_all_told steps w (ks ++ more) h).commits ≡ (send_all_told steps w ks h).commits ++ later)
 
 -- the history of a line is that of its transcripts: each, read from where its session stood, tells its status, the data events of its open
 -- transaction, and those of each that ended, with whether it was committed; and the session's commits are those that it ended by a commit

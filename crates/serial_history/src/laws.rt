@@ -1,6 +1,6 @@
 //! The laws of histories, each the contract of a function that does nothing.
 
-ghost use Rattle.serial_history.specs.Laws.{LinesAreSerial, SpecsAreSerial, HistoriesShow, SpecsShow, ReadingsKeepData};
+ghost use Rattle.serial_history.specs.Laws.{CommitsStayInOrder, LinesAreSerial, SpecsAreSerial, HistoriesShow, SpecsShow, ReadingsKeepData};
 
 /// Every line is a serial run of its commits, and its open transactions run again.
 pub fn lines_are_serial()
@@ -10,6 +10,11 @@ pub fn lines_are_serial()
 /// From the start of a spec, every line is a serial run of its commits, and its open transactions run again.
 pub fn specs_are_serial()
     ensures { SpecsAreSerial }
+{}
+
+/// The commits of a line's front are a front of the line's commits, so that all commits stand in the order in which they come.
+pub fn commits_stay_in_order()
+    ensures { CommitsStayInOrder }
 {}
 
 /// Reading each transcript to its end tells the session's status, the data events of its open transaction, and those of each that ended, in

@@ -46,11 +46,22 @@ pub record HasAllBut (reduce : Bool) (file : SpecFile) (shards : List Shard) (le
   pub of_spec : left.book.file ≡ file
   pub facts : AreFactsBut reduce file.run shards left.missing left.book.facts
 
--- why a plan is not run whole: the first of these that fits, but for want of memory. Before the first shard that may come in place of a refused start;
--- behind it some shard is missing
+-- why a run of a plan does not begin: the first of these that fits, but for want of memory, which may come in place of a refused start
+abbrev pub IsNotBegun : Spec → List Shard → ℕ → FarmError → Type 0
+IsNotBegun spec shards workers farm_error.BadPlan = IsPlanOf spec shards workers → ⊥
+IsNotBegun spec shards workers (farm_error.Start error) = IsPlanOf spec shards workers × IsNotRunBy (run_error.Start error) (start spec)
+IsNotBegun spec shards workers farm_error.NotStarted = IsPlanOf spec shards workers
+IsNotBegun spec shards workers (farm_error.NoMemory left) = ⊥
+
+-- what else than a book comes of a run that has begun: what it left, where some shard is missing
+abbrev pub IsLeft : Bool → SpecFile → List Shard → FarmError → Type 0
+IsLeft reduce file shards (farm_error.NoMemory left) = (left.missing ≢ []) × HasAllBut reduce file shards left
+IsLeft reduce file shards farm_error.NotStarted = ⊥
+IsLeft reduce file shards (farm_error.Start error) = ⊥
+IsLeft reduce file shards farm_error.BadPlan = ⊥
+
+-- why a plan is not run whole: its run does not begin, or it has begun and left some shard missing
 abbrev pub IsNotFarmed : Bool → SpecFile → List Shard → ℕ → FarmError → Type 0
-IsNotFarmed reduce file shards workers farm_error.BadPlan = IsPlanOf file.run shards workers → ⊥
-IsNotFarmed reduce file shards workers (farm_error.Start error) = IsPlanOf file.run shards workers × IsNotRunBy (run_error.Start error) (start file.run)
-IsNotFarmed reduce file shards workers farm_error.NotStarted = IsPlanOf file.run shards workers
 IsNotFarmed reduce file shards workers (farm_error.NoMemory left) =
-    IsPlanOf file.run shards workers × Starts file.run × (left.missing ≢ []) × HasAllBut reduce file shards left
+    IsPlanOf file.run shards workers × Starts file.run × IsLeft reduce file shards (farm_error.NoMemory left)
+IsNotFarmed reduce file shards workers error = IsNotBegun file.run shards workers error

@@ -1,11 +1,13 @@
 -- What a worker is before it works, and what it has done.
-use Rattle.std.specs.Prelude.{◌≡◌, ◌⊎◌, ℕ, Bool, true, false, List, [], length, replicate, filter, slice_index_or, Some, None}
+use Rattle.std.specs.Prelude.{◌≡◌, ◌⊎◌, ℕ, ◌<◌, ◌≤◌, All, vec_len, vec_capacity, Bool, true, false, List, [], length, replicate, filter, slice_index_or, Some, None}
 use Rattle.std.specs.List.{range_with_len, list_any}
 use mathlib.Core.Option.{some}
 use lib.ListN.{get_elem?}
 use Rattle.bound_specs.specs.Spec.{Spec, SpecFile}
 use Rattle.step_reducer.specs.Shardwise.{Shardwise}
+use Rattle.step_reducer.specs.Walking.{Starts}
 use Rattle.rank_facts.specs.declared.shard.Shard.{Shard}
+use Rattle.rank_facts.specs.Shards.{IsShardOf}
 use Rattle.fact_books.specs.Entries.{FactSet}
 use Rattle.fact_books.specs.Building.{AreFactsOf}
 use Rattle.shard_board.specs.declared.history.Receipt.{Receipt}
@@ -13,8 +15,16 @@ use Rattle.shard_board.specs.declared.history.Call.{Call}
 use Rattle.shard_board.specs.declared.history.Call.TheVariants.{Deliver, Latest}
 use Rattle.shard_board.specs.declared.history.Entry.{Entry}
 use Rattle.shard_board.specs.Shown.{ShownBoard, ShownSeat, has}
-use Rattle.shard_board.specs.Changes.{IsClaim, IsTurn}
+use Rattle.shard_board.specs.declared.error.TheConstants.{MAX_SHARDS}
+use Rattle.shard_board.specs.Changes.{IsClaim, IsTurn, MayTurn}
 use Rattle.shard_farm.specs.declared.worker.Worker.{Worker}
+use Rattle.shard_farm.specs.declared.reserving.Reserved.{Reserved}
+
+-- the spec starts, and these are shards of it, not too many
+pub record AreRunnable (spec : Spec) (shards : List Shard) : Type 0 where
+  pub started : Starts spec
+  pub lawful : All (IsShardOf spec) shards
+  pub few : length shards ≤ MAX_SHARDS
 
 -- the facts are those of the shard of this number
 abbrev pub AreFactsAt : Bool → Spec → List Shard → ℕ → FactSet → Type 0
@@ -40,11 +50,28 @@ pub record IsReady (board : ShownBoard) (worker : Worker) : Type 0 where
   pub starting : IsStarting board worker.seat
   pub blank : worker.missed.items ≡ replicate board.shards false
 
+-- all that a run of the shards needs: a board of the spec, of which nothing is claimed, a worker for each seat, and room for all numbers and all seats
+pub record IsReserved (file : SpecFile) (shards : List Shard) (r : Reserved) : Type 0 where
+  pub of_spec : r.board.file ≡ file
+  pub of_shards : r.board.shards ≡ length shards
+  pub some_seat : 1 ≤ r.board.seats
+  pub many : vec_len r.workers ≡ r.board.seats
+  pub ready : All (IsReady r.board) r.workers.items
+  pub no_number : r.numbers.items ≡ []
+  pub numbers : length shards ≤ vec_capacity r.numbers
+  pub no_seat : r.seats.items ≡ []
+  pub seats : vec_len r.workers ≤ vec_capacity r.seats
+
 -- a walk of the spec's shards that was not refused memory
 pub record IsWalkFor (file : SpecFile) (reduce : Bool) (walk : Shardwise) : Type 0 where
   pub file_is : walk.file ≡ file
   pub reduce_is : walk.reduce ≡ reduce
   pub whole : walk.spent ≡ false
+
+-- the seat claimed the shard, and has not had all its turns
+pub record MayServe (seat : ShownSeat) (n : ℕ) : Type 0 where
+  pub claimed : has n seat.claims ≡ true
+  pub turns : MayTurn seat
 
 -- one of the calls is an accepted delivery of the shard's facts
 abbrev pub IsDelivered : Bool → Spec → List Shard → List Entry → ℕ → Type 0
@@ -59,12 +86,15 @@ IsTrueCall reduce spec shards claims marks (Deliver n facts (Some r)) =
 IsTrueCall reduce spec shards claims marks (Deliver n facts None) = Unit {0}
 IsTrueCall reduce spec shards claims marks (Latest reply) = Unit {0}
 
--- each shard that the seat claimed was delivered or has a mark, and nothing else was delivered or has one
+-- each shard that the seat claimed was delivered or has a mark, never both, and nothing else was delivered or has one. It took a turn for each
+-- claim at most, and what it claimed is below any number that all claims are below
 pub record Serves (reduce : Bool) (spec : Spec) (shards : List Shard) (seat : ShownSeat) (marks : List Bool) : Type 0 where
   pub each : (n : ℕ) → has n seat.claims ≡ true → (is_marked marks n ≡ true) ⊎ IsDelivered reduce spec shards seat.calls n
   pub only : (k : ℕ) (e : Entry) → get_elem? seat.calls k ≡ some e → IsTrueCall reduce spec shards seat.claims marks e.call
   pub marked : (n : ℕ) → is_marked marks n ≡ true → has n seat.claims ≡ true
   pub long : length marks ≡ length shards
+  pub turns : length seat.calls ≤ length seat.claims
+  pub few : (n : ℕ) → All (λ x. x < n) seat.claims → length seat.claims ≤ n
 
 -- what was claimed before is served or marked, and one shard more is claimed
 pub record HasClaimed (reduce : Bool) (spec : Spec) (shards : List Shard) (worker : Worker) (n : ℕ) : Type 0 where

@@ -11,7 +11,7 @@ use crate::plan::Plan;
 use crate::worker::Worker;
 use shard_board::{Board, MAX_SHARDS, Seat};
 
-/// Closes the board of workers that are done: its book, and the numbers of the shards that nobody delivered.
+/// Closes the board of workers that are done: its book, and the numbers of the shards that one of them has marked.
 pub(crate) fn closed(
     board: Board,
     plan: Plan<'_>,
@@ -25,7 +25,8 @@ pub(crate) fn closed(
     requires done { All (IsDone board plan.reduce board.file.run plan.shards.now) workers.items }
     requires numbers { (numbers.items ≡ []) × (length plan.shards.now ≤ vec_capacity numbers) }
     requires seats { (seats.items ≡ []) × (vec_len workers ≤ vec_capacity seats) }
-    ensures { HasAllBut plan.entry.reduce board.file plan.entry.shards.now result }
+    ensures left { HasAllBut plan.entry.reduce board.file plan.entry.shards.now result }
+    ensures named { result.missing ≡ numbers_missed workers.items (length plan.entry.shards.now) }
 {
     let missing = missing_in(workers.as_slice(), plan.shards.len(), numbers);
     let seats = seats_of(workers, seats);

@@ -3,8 +3,7 @@
 ghost use Rattle.std.specs.Prelude.{◌≡◌, ◌≤◌, All, vec_len, vec_capacity, length, IfOk};
 ghost use Rattle.std.specs.Thread.{IsSync};
 ghost use Rattle.bound_specs.specs.Binding.{IsFileOf};
-ghost use Rattle.rank_facts.specs.Shards.{IsShardOf};
-ghost use Rattle.shard_farm.specs.Working.{IsReady, IsStarting, IsDone};
+ghost use Rattle.shard_farm.specs.Working.{AreRunnable, IsReady, IsStarting, IsDone};
 
 use crate::plan::Plan;
 use crate::worker::{Worker, work};
@@ -69,7 +68,7 @@ pub(crate) fn run_all<R: Threads + Wait + Sync, T: Gate + Sync>(
 ) -> Vec<Worker>
     requires shards { length shards.now ≡ board.now.shards }
     requires file { IsFileOf text.now board.now.file }
-    requires lawful { All (IsShardOf board.now.file.run) shards.now }
+    requires runnable { AreRunnable board.now.file.run shards.now }
     requires ready { All (IsReady board.now) workers.items }
     ensures many { (vec_len result ≡ vec_len workers) × (vec_capacity result ≡ vec_capacity workers) }
     ensures done { All (IsDone board.now reduce board.now.file.run shards.now) result.items }
@@ -80,7 +79,7 @@ pub(crate) fn run_all<R: Threads + Wait + Sync, T: Gate + Sync>(
     let (mine, mut others) = thread::join(
         rt,
         || -> Worker
-            requires { IsSync R.row × IsSync T.row × (length shards.now ≡ board.now.shards) × IsFileOf text.now board.now.file × All (IsShardOf board.now.file.run) shards.now × IsReady board.now mine }
+            requires { IsSync R.row × IsSync T.row × (length shards.now ≡ board.now.shards) × IsFileOf text.now board.now.file × AreRunnable board.now.file.run shards.now × IsReady board.now mine }
             ensures { IsDone board.entry.now reduce board.entry.now.file.run shards.entry.now result }
         {
             work(
@@ -97,7 +96,7 @@ pub(crate) fn run_all<R: Threads + Wait + Sync, T: Gate + Sync>(
             )
         },
         || -> Vec<Worker>
-            requires { IsSync R.row × IsSync T.row × (length shards.now ≡ board.now.shards) × IsFileOf text.now board.now.file × All (IsShardOf board.now.file.run) shards.now × All (IsReady board.now) workers.items }
+            requires { IsSync R.row × IsSync T.row × (length shards.now ≡ board.now.shards) × IsFileOf text.now board.now.file × AreRunnable board.now.file.run shards.now × All (IsReady board.now) workers.items }
             ensures { All (IsDone board.entry.now reduce board.entry.now.file.run shards.entry.now) result.items × (vec_len result ≡ vec_len workers) × (vec_capacity result ≡ vec_capacity workers) }
         { run_all(rt, alloc, board, text, shards, reduce, gate, workers) },
     );

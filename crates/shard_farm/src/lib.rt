@@ -7,6 +7,7 @@ mod error;
 mod farm;
 mod numbers;
 mod plan;
+mod reserving;
 mod worker;
 
 pub use error::{FarmError, Unfinished};

@@ -1,19 +1,24 @@
 //! One worker.
 
-ghost use Rattle.std.specs.Prelude.{◌≡◌, ◌<◌, true, false, All, length, IfSome, OnOk, OnSome};
+ghost use Rattle.std.specs.Prelude.{◌≡◌, ◌<◌, true, false, length, IfOk, OnOk};
+ghost use Rattle.bound_specs.specs.Spec.{SpecFile};
 ghost use Rattle.bound_specs.specs.Binding.{IsFileOf};
+ghost use Rattle.spec_binding.specs.SpecFiles.{IsMemory};
 ghost use Rattle.rank_facts.specs.Shards.{IsShardOf};
+ghost use Rattle.session_machine.specs.declared.error.RunError.TheVariants as run_error;
 ghost use Rattle.step_reducer.specs.Shardwise.{standing_at};
-ghost use Rattle.shard_farm.specs.Working.{is_marked, AreFactsAt, HasServed, IsReady, IsWalkFor, HasClaimed, Serves, HasWorked};
+ghost use Rattle.step_reducer.specs.Walking.{Starts};
+ghost use Rattle.shard_board.specs.declared.error.DeliverErrorKind.TheVariants as deliver_error;
+ghost use Rattle.shard_farm.specs.Working.{is_marked, AreRunnable, AreFactsAt, HasServed, IsReady, IsWalkFor, MayServe, HasClaimed, Serves, HasWorked};
 
 use crate::plan::Plan;
 use bound_specs::Spec;
 use fact_books::Book;
 use session_machine::RunError;
-use shard_board::{Board, Gate, Seat};
+use shard_board::{Board, DeliverErrorKind, Gate, Seat};
 use shard_books::of_walk;
-use spec_binding::spec_of;
-use std::alloc::Global;
+use spec_binding::{SpecFault, spec_of};
+use std::alloc::{AllocError, Global};
 use std::sync::Wait;
 use step_reducer::{Shard, ShardWalk};
 
@@ -34,6 +39,48 @@ impl Worker {
     }
 }
 
+/// The spec of a text that was bound before, so that only memory can be wanted for it.
+fn bound_again(alloc: Global, text: &str) -> Result<Spec, AllocError>
+    requires known { (file : SpecFile) × IsFileOf text.now file }
+    ensures { (file : SpecFile) → IsFileOf text.now file → IfOk result (λ spec. spec ≡ file) }
+{
+    match spec_of(alloc, text.as_bytes()) {
+        Ok(spec) => Ok(spec),
+        Err(fault) => Err(not_bound(fault)),
+    }
+}
+
+/// A refusal of a spec file that has no other reason than want of memory.
+fn not_bound(_fault: SpecFault) -> AllocError
+    requires { IsMemory _fault }
+{
+    AllocError
+}
+
+/// A walk at the first rank of a shard of a spec that starts, so that only memory can be wanted for it.
+fn walk_at<'a>(
+    alloc: Global,
+    spec: &'a Spec,
+    shard: Shard,
+    reduce: bool,
+) -> Result<ShardWalk<'a>, AllocError>
+    requires started { Starts spec.now.run }
+    requires lawful { IsShardOf spec.now.run shard }
+    ensures { IfOk result (λ walk. walk ≡ standing_at spec.now shard reduce) }
+{
+    match ShardWalk::new(alloc, spec, shard, reduce) {
+        Ok(walk) => Ok(walk),
+        Err(error) => Err(not_walked(error)),
+    }
+}
+
+/// A refusal of a walk that has no other reason than want of memory.
+fn not_walked(_error: RunError) -> AllocError
+    requires { _error ≡ run_error.NoMemory }
+{
+    AllocError
+}
+
 /// Has a walk go on to a shard, or begin anew where it stands behind the first of the shard's ranks.
 fn go_to<'a>(
     alloc: Global,
@@ -41,7 +88,8 @@ fn go_to<'a>(
     walk: &mut ShardWalk<'a>,
     shard: Shard,
     reduce: bool,
-) -> Result<(), RunError>
+) -> Result<(), AllocError>
+    requires started { Starts spec.now.run }
     requires lawful { IsShardOf spec.now.run shard }
     requires walk { IsWalkFor spec.now reduce walk.old }
     ensures { OnOk result (walk.new ≡ standing_at spec.now shard reduce) }
@@ -50,32 +98,33 @@ fn go_to<'a>(
         walk.reach(shard);
         return Ok(());
     }
-    *walk = ShardWalk::new(alloc, spec, shard, reduce)?;
+    *walk = walk_at(alloc, spec, shard, reduce)?;
     Ok(())
 }
 
-/// The book of a shard of the plan, by a walk of its spec. None where memory is wanted.
+/// The book of a shard of the plan, by a walk of its spec.
 fn book_of<'a>(
     alloc: Global,
     plan: Plan<'_>,
     spec: &'a Spec,
     walk: &mut ShardWalk<'a>,
     number: u32,
-) -> Option<Book>
+) -> Result<Book, AllocError>
     requires number { number < length plan.shards.now }
-    requires lawful { All (IsShardOf spec.now.run) plan.shards.now }
+    requires runnable { AreRunnable spec.now.run plan.shards.now }
     requires walk { IsWalkFor spec.now plan.reduce walk.old }
-    ensures facts { IfSome result (λ book. AreFactsAt plan.entry.reduce spec.now.run plan.entry.shards.now number book.facts) }
-    ensures walk { OnSome result (IsWalkFor spec.now plan.entry.reduce walk.new) }
+    ensures of_spec { IfOk result (λ book. book.file ≡ spec.now) }
+    ensures facts { IfOk result (λ book. AreFactsAt plan.entry.reduce spec.now.run plan.entry.shards.now number book.facts) }
+    ensures walk { OnOk result (IsWalkFor spec.now plan.entry.reduce walk.new) }
 {
     let shard = plan.shards[number as usize];
     let Ok(()) = go_to(alloc, spec, walk, shard, plan.reduce) else {
-        return None;
+        return Err(AllocError);
     };
     let Ok(book) = of_walk(alloc, spec, walk) else {
-        return None;
+        return Err(AllocError);
     };
-    Some(book)
+    Ok(book)
 }
 
 /// Runs a claimed shard and delivers its book. False where memory is wanted for either.
@@ -91,21 +140,30 @@ fn serve<'a, R: Wait>(
 ) -> bool
     requires board { seat.old.board ≡ board.now }
     requires shard { number < length plan.shards.now }
+    requires may { MayServe seat.old number }
     requires file { spec.now ≡ board.now.file }
-    requires lawful { All (IsShardOf spec.now.run) plan.shards.now }
+    requires runnable { AreRunnable spec.now.run plan.shards.now }
     requires walk { IsWalkFor spec.now plan.reduce walk.old }
     ensures same { seat.new.board ≡ seat.old.board }
     ensures served { HasServed plan.entry.reduce board.now.file.run plan.entry.shards.now seat.old seat.new number result }
     ensures walk { result ≡ true → IsWalkFor spec.now plan.entry.reduce walk.new }
 {
-    let Some(book) = book_of(alloc, plan, spec, walk, number) else {
+    let Ok(book) = book_of(alloc, plan, spec, walk, number) else {
         return false;
     };
-    let Ok(_receipt) = board.deliver(rt, seat, number, book) else {
-        return false;
-    };
-    true
+    match board.deliver(rt, seat, number, book) {
+        Ok(_receipt) => true,
+        Err(refused) => {
+            wants_memory(refused.kind);
+            false
+        }
+    }
 }
+
+/// A refusal of a delivery that has no other reason than want of memory.
+fn wants_memory(_kind: DeliverErrorKind)
+    requires { _kind ≡ deliver_error.NoMemory }
+{}
 
 /// Serves a claimed shard and claims others behind it, all on one walk of the spec, for as long as there is memory. False where there are
 /// no more to claim. A shard for which memory is wanted is marked, and what is claimed behind it is for a walk that begins anew.
@@ -121,14 +179,14 @@ fn work_on<R: Wait, G: Gate>(
 ) -> bool
     requires shards { length plan.shards.now ≡ board.now.shards }
     requires file { spec.now ≡ board.now.file }
-    requires lawful { All (IsShardOf spec.now.run) plan.shards.now }
+    requires runnable { AreRunnable spec.now.run plan.shards.now }
     requires board { worker.old.seat.board ≡ board.now }
     requires claimed { HasClaimed plan.reduce board.now.file.run plan.shards.now worker.old first }
     ensures board { worker.new.seat.board ≡ board.now }
     ensures again { result ≡ true → Serves plan.entry.reduce board.now.file.run plan.entry.shards.now worker.new.seat worker.new.missed.items }
     ensures worked { result ≡ false → HasWorked plan.entry.reduce board.now.file.run plan.entry.shards.now worker.new.seat worker.new.missed.items }
 {
-    let Ok(mut walk) = ShardWalk::new(alloc, spec, plan.shards[first as usize], plan.reduce) else {
+    let Ok(mut walk) = walk_at(alloc, spec, plan.shards[first as usize], plan.reduce) else {
         worker.missed[first as usize] = true;
         return true;
     };
@@ -170,7 +228,7 @@ pub(crate) fn work<R: Wait, G: Gate>(
 ) -> Worker
     requires shards { length plan.shards.now ≡ board.now.shards }
     requires file { IsFileOf plan.text.now board.now.file }
-    requires lawful { All (IsShardOf board.now.file.run) plan.shards.now }
+    requires runnable { AreRunnable board.now.file.run plan.shards.now }
     requires ready { IsReady board.now worker }
     ensures board { result.seat.board ≡ board.now }
     ensures worked { HasWorked plan.entry.reduce board.now.file.run plan.entry.shards.now result.seat result.missed.items }
@@ -199,14 +257,14 @@ fn served_or_marked<R: Wait, G: Gate>(
 ) -> bool
     requires shards { length plan.shards.now ≡ board.now.shards }
     requires file { IsFileOf plan.text.now board.now.file }
-    requires lawful { All (IsShardOf board.now.file.run) plan.shards.now }
+    requires runnable { AreRunnable board.now.file.run plan.shards.now }
     requires board { worker.old.seat.board ≡ board.now }
     requires claimed { HasClaimed plan.reduce board.now.file.run plan.shards.now worker.old number }
     ensures board { worker.new.seat.board ≡ board.now }
     ensures again { result ≡ true → Serves plan.entry.reduce board.now.file.run plan.entry.shards.now worker.new.seat worker.new.missed.items }
     ensures worked { result ≡ false → HasWorked plan.entry.reduce board.now.file.run plan.entry.shards.now worker.new.seat worker.new.missed.items }
 {
-    let Ok(spec) = spec_of(alloc, plan.text.as_bytes()) else {
+    let Ok(spec) = bound_again(alloc, plan.text) else {
         worker.missed[number as usize] = true;
         return true;
     };

@@ -8,6 +8,7 @@ pub mod EventOrder
 pub mod SideBySide
 pub mod OutcomeOrder
 pub mod Worked
+pub mod Reading
 pub mod Writing
 pub mod JsonLaws
 pub mod CompactText

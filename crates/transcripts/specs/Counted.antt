@@ -1,6 +1,6 @@
 -- A reader or writer behind a count of failed calls: what it holds, and what a call leaves.
-use Rattle.std.specs.Prelude.{◌≡◌, ℕ, ◌+◌, ◌<◌, ◌≤◌, List, length, take, Option, Result, Ok, Err, MatchResult}
-use Rattle.std.specs.Io.KnownBytes.{Appends}
+use Rattle.std.specs.Prelude.{◌≡◌, ℕ, ◌+◌, ◌<◌, ◌≤◌, List, length, take, Option, Some, None, Result, Ok, Err, MatchResult, ⊤}
+use Rattle.std.specs.Io.KnownBytes.{Appends, Consumes}
 use Rattle.transcripts.specs.declared.counted.Counted.{Counted}
 use Rattle.transcripts.specs.declared.counted.ReadError.{ReadError}
 use Rattle.transcripts.specs.declared.counted.ReadError.TheVariants.{Fault, NoMemory}
@@ -31,6 +31,16 @@ abbrev pub read_faults_of : {X : Type 0} → Result X ReadError → ℕ
 read_faults_of (Ok x) = 0
 read_faults_of (Err Fault) = 1
 read_faults_of (Err NoMemory) = 0
+
+-- a read that fails has taken fewer bytes than its limit, and one for which memory is wanted no more
+abbrev pub IsShortOf : ReadError → ℕ → ℕ → Type 0
+IsShortOf Fault limit n = n < limit
+IsShortOf NoMemory limit n = n ≤ limit
+
+-- known bytes lost a front for which no answer was given
+abbrev pub LosesFront : Option (List ℕ) → Option (List ℕ) → (ℕ → Type 0) → Type 0
+LosesFront None new IsLen = ⊤
+LosesFront (Some all) new IsLen = (n : ℕ) × IsLen n × Consumes (Some all) new (take n all)
 
 -- known bytes grow by a front of the text, which is not the whole text
 abbrev pub AppendsFront : Option (List ℕ) → Option (List ℕ) → List ℕ → Type 0

@@ -1,7 +1,7 @@
-ghost use Rattle.std.specs.Prelude.{◌≡◌, ◌+◌, ◌<◌, ◌≤◌, length, take, vec_len, IfOk, IfSome};
+ghost use Rattle.std.specs.Prelude.{◌≡◌, ◌+◌, ◌<◌, ◌≤◌, length, take, vec_len, IfErr, IfOk, IfSome};
 ghost use Rattle.std.specs.Io.{ReadsAtMost};
 ghost use Rattle.std.specs.Io.KnownBytes.{Consumes, Keeps, ReadConsumes};
-ghost use Rattle.transcripts.specs.Counted.{inner_of, failures_of, written, unread, faults_of, read_faults_of, Prints, Takes};
+ghost use Rattle.transcripts.specs.Counted.{inner_of, failures_of, written, unread, faults_of, read_faults_of, IsShortOf, LosesFront, Prints, Takes};
 
 use std::alloc::{AllocError, Global};
 use std::io;
@@ -159,6 +159,7 @@ impl<R: io::Read> Counted<R> {
         ensures first { IfOk result (λ bytes. IfSome (unread R.remaining self.old) (λ all. bytes.items ≡ take limit all)) }
         ensures rest { IfOk result (λ bytes. Consumes (unread R.remaining self.old) (unread R.remaining self.new) bytes.items) }
         ensures short { IfOk result (λ bytes. vec_len bytes ≤ limit) }
+        ensures taken { IfErr result (λ e. LosesFront (unread R.remaining self.old) (unread R.remaining self.new) (IsShortOf e limit)) }
         ensures failures { failures_of self.new ≡ failures_of self.old + read_faults_of result }
     {
         let mut bytes = Vec::new(alloc);

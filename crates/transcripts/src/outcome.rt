@@ -8,7 +8,7 @@ ghost use Rattle.transcripts.specs.Outcome.{CellFits, EventFits, OutcomeFits};
 
 use crate::event::Event;
 use crate::order::outcome_order;
-use crate::same::are_same_sessions;
+use crate::same::{are_same_events, are_same_sessions};
 use crate::turn::copied;
 use finite_maps::Fork;
 use lock_modes::Value;
@@ -75,6 +75,13 @@ impl Transcript {
             self.events.push_reserved(event.fork()?);
         }
         Ok(())
+    }
+
+    /// Whether both sessions are told the same.
+    pub fn is_same(&self, other: &Transcript) -> bool
+        ensures { IsTrue result ↔ (self.now ≡ other.now) }
+    {
+        are_same_events(self.events(), other.events())
     }
 
     /// The events in order.

@@ -23,7 +23,7 @@ pub(crate) fn are_same_sessions(a: &[Transcript], b: &[Transcript]) -> bool
 }
 
 /// Whether two lists of events are the same.
-fn are_same_events(a: &[Event], b: &[Event]) -> bool
+pub(crate) fn are_same_events(a: &[Event], b: &[Event]) -> bool
     ensures { IsTrue result ↔ (a.now ≡ b.now) }
 {
     if a.len() != b.len() {

@@ -9,7 +9,7 @@ use Rattle.accepted_outputs.proofs.judging.judge.Goals as goal
 pub returns-in-None : goal.returns-in-None
 returns-in-None c =
     let other = c.index-accepted-index.result in
-    let equal : c.args.report.now ≡ other = subst (IsComparison c.args.report.now other) c.in-None.is c.in_ok-first_difference.ensures in (
+    let equal : c.args.report.now ≡ other = subst (IsComparison c.args.report.now other) c.in-None.is c.first_difference.ensures in (
       there-is c.args.accepted.now c.loop-index.index other c.loop-index-test.true ∙ ap (λ r. Some r) (sym c.index-accepted-index.is ∙ sym equal),
       λ n lt e. none-equal c.args.report.now (take c.loop-index.index c.args.accepted.now) c.loop-index.places.items c.loop-index.invariant n
           (taken-there c.args.accepted.now c.loop-index.index n lt ∙ e),
@@ -20,7 +20,7 @@ loop-index-preserved c =
     let report = c.args.report.now in
     let other = c.index-accepted-index.result in
     let earlier = take c.loop-index.index c.args.accepted.now in
-    let differs : IsFirstDifference report other c.in-Some.place = subst (IsComparison report other) c.in-Some.is c.in_ok-first_difference.ensures in
+    let differs : IsFirstDifference report other c.in-Some.place = subst (IsComparison report other) c.in-Some.is c.first_difference.ensures in
     let more = take_more c.args.accepted.now c.loop-index.index other c.loop-index-test.true ∙ ap (λ r. earlier ++ r ∷ []) (sym c.index-accepted-index.is) in
     subst (AllZip (IsFirstDifference report) (take (c.loop-index.index + 1) c.args.accepted.now)) (sym c.in_ok-push-in-Some.ensures.items)
     (subst (λ front. AllZip (IsFirstDifference report) front (c.loop-index.places.items ++ c.in-Some.place ∷ [])) (sym more)

@@ -1,4 +1,4 @@
-use Rattle.farm_headline.specs.Headline.{HoldsTheFirst}
+use Rattle.farm_headline.specs.Gathering.{HoldsTheFirst}
 use Rattle.farm_headline.proofs.headline.book_of_runs.Given as goal
 
 -- the book has the job's facts and those of the plans before this one

@@ -1,4 +1,4 @@
-use Rattle.std.proofs.Common.{◌≡◌, sym, ◌∙◌}
+use Rattle.std.proofs.Common.{sym, ◌∙◌}
 use Rattle.fault_texts.proofs.BlankLemmas.{blank-tab, blank-space, blank-rest}
 use Rattle.fault_texts.proofs.explain.blank_for.Goals as goal
 

@@ -1,4 +1,4 @@
-use Rattle.std.proofs.Common.{◌≡◌, sym, ◌∙◌, ◌≤◌, subst, length}
+use Rattle.std.proofs.Common.{sym, ◌∙◌, ◌≤◌, subst, length}
 use Rattle.fault_texts.proofs.PlaceLemmas.{line-within, line-length}
 use Rattle.fault_texts.proofs.place.line_len.Goals as goal
 

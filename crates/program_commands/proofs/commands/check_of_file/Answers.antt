@@ -1,6 +1,7 @@
-use Rattle.std.proofs.Common.{refl, sym, ap, subst, inl, inr, Ok, Err}
+use Rattle.std.proofs.Common.{refl, sym, subst, inl, inr, Ok, Err}
 use Rattle.spec_commands.specs.Counting.{IsChecked}
-use Rattle.program_commands.specs.Status.{count_status}
+use Rattle.fault_texts.specs.declared.fault.ProgramFault.TheVariants.{Write}
+use Rattle.program_commands.specs.Faults.{IsCheckTold}
 use Rattle.program_commands.proofs.commands.check_of_file.Goals as goal
 
 pub returns-in-Err-clause-done : goal.returns-in-Err-clause-done
@@ -22,6 +23,6 @@ returns-clause-done g c =
       (
         c.in-Err-Write.field-0,
         subst (λ b. IsChecked g.W.Write.contents c.args.out.now c.check.new.out b (Err c.in-Err-Write.field-0)) c.as_slice.ensures.value c.in-Err-Write.ensures,
-        sym (ap count_status c.in-Err-Write.field-0-is),
+        subst (λ f. IsCheckTold c.args.path c.in-Ok.bytes.items f Write) (sym c.in-Err-Write.field-0-is) refl,
       ),
     )

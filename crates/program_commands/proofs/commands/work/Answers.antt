@@ -1,8 +1,7 @@
-use Rattle.std.proofs.Common.{◌≡◌, ◌⊎◌, [], sym, subst, map, Ok, Bor, List, ℕ}
-use Rattle.book_commands.specs.declared.finding.Finding.TheVariants.{Good}
+use Rattle.std.proofs.Common.{◌≡◌, sym, subst, map, Some, Bor, List, ℕ}
 use Rattle.book_commands.specs.Joining.{IsJoinRun}
 use Rattle.book_commands.specs.Judging.{IsJudgeRun}
-use Rattle.program_commands.specs.Status.{join_status, judge_status}
+use Rattle.program_commands.specs.Faults.{join_told, judge_told}
 use Rattle.program_commands.specs.Commands.{IsDone, IsFound, IsTold}
 use Rattle.program_commands.proofs.commands.work.Goals as goal
 
@@ -21,10 +20,9 @@ pub returns-in-Join-clause-done : goal.returns-in-Join-clause-done
 returns-in-Join-clause-done g c =
     subst (λ a. IsDone (g.O.Opener.bytes c.args.opener.now) g.W.Write.contents c.args.out.now c.join_of_files.new.out a c.join_of_files.result)
     (sym c.in-Join.is)
-    (subst (λ ps. ((ps ≡ []) × (c.join_of_files.new.out ≡ c.args.out.now) × (c.join_of_files.result ≡ Ok Good))
-    ⊎ IsTold (IsJoinRun (g.O.Opener.bytes c.args.opener.now) (map (λ (p : Bor (List ℕ)). p.now) ps) g.W.Write.contents c.args.out.now
-    c.join_of_files.new.out) join_status
-    c.join_of_files.result) c.as_slice.ensures.value c.join_of_files.ensures.done)
+    (subst (λ ps. IsTold (IsJoinRun (g.O.Opener.bytes c.args.opener.now) (map (λ (p : Bor (List ℕ)). p.now) ps) g.W.Write.contents c.args.out.now
+    c.join_of_files.new.out) (λ error told. join_told ps error ≡ Some told)
+    c.join_of_files.result) c.as_slice.ensures.all c.join_of_files.ensures.done)
 
 pub returns-in-Judge-clause-done : goal.returns-in-Judge-clause-done
 returns-in-Judge-clause-done g c =
@@ -32,4 +30,5 @@ returns-in-Judge-clause-done g c =
     (sym c.in-Judge.is)
     (subst (λ ps. IsFound (IsJudgeRun (g.O.Opener.bytes c.args.opener.now) c.in-Judge.path.now (map (λ (p : Bor (List ℕ)). p.now) ps)
     g.W.Write.contents c.args.out.now
-    c.judge_of_files.new.out) judge_status c.judge_of_files.result) c.as_slice-in-Judge.ensures.value c.judge_of_files.ensures.done)
+    c.judge_of_files.new.out) (λ error told. judge_told c.in-Judge.path ps error ≡ Some told) c.judge_of_files.result)
+    c.as_slice-in-Judge.ensures.value c.judge_of_files.ensures.done)

@@ -14,8 +14,14 @@ pub close-book-requires-clause-seats : goal.close-book-requires-clause-seats
 close-book-requires-clause-seats c =
     subst (λ (l : List ShownSeat). All (λ (s : ShownSeat). s.board ≡ c.args.board) l) (sym c.seats_of-seats.ensures) (all_of_board _ _ _ _ _ c.requires.done)
 
-pub returns : goal.returns
-returns c =
+-- what is named is marked
+pub returns-clause-named : goal.returns-clause-named
+returns-clause-named c =
+    let count : ℕ = length c.args.plan.shards.now in
+    c.missing_in-missing.ensures ∙ ap (λ (l : List Worker). numbers_missed l count) c.as_slice.ensures.value
+
+pub returns-clause-left : goal.returns-clause-left
+returns-clause-left c =
     let plan = c.args.plan in
     let ws = c.args.workers.items in
     let count : ℕ = length plan.shards.now in

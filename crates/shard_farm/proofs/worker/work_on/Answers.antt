@@ -1,12 +1,16 @@
 use Rattle.std.proofs.Common.{◌≡◌, ◌∙◌, sym, ℕ, Option, subst}
 use Rattle.std.specs.Prelude.{MatchOption}
 use Rattle.shard_board.specs.Changes.{IsClaim, with_new_refusal}
-use Rattle.shard_farm.proofs.WorkLemmas.{served-next, marked-next, ends}
+use Rattle.shard_farm.proofs.WorkLemmas.{may-serve, served-next, marked-next, ends}
 use Rattle.shard_farm.proofs.worker.work_on.Goals as goal
 
 -- the walk is not begun
 pub returns-in_default-clause-again : goal.returns-in_default-clause-again
 returns-in_default-clause-again g c = λ _. marked-next _ _ _ _ _ c.requires.claimed
+
+-- the shard that was claimed last may be delivered
+pub serve-is_served-requires-clause-may : goal.serve-is_served-requires-clause-may
+serve-is_served-requires-clause-may g c = may-serve _ _ _ _ _ c.requires.runnable.few c.loop.invariant.claimed
 
 -- memory is wanted for a shard
 pub returns-then-not-is_served-clause-again : goal.returns-then-not-is_served-clause-again

@@ -1,0 +1,10 @@
+use Rattle.std.proofs.Common.{subst, Ok}
+use Rattle.book_format.specs.ReadingBooks.{IsBookFile}
+use Rattle.book_files.proofs.BookLaws.{alike-json, by-value}
+use Rattle.book_files.proofs.reading.book_of_few.Goals as goal
+
+pub returns-in-Some : goal.returns-in-Some
+returns-in-Some c = by-value c.args.bytes.items c.in-Some.book (subst (λ bs. IsBookFile bs (Ok c.in-Some.book)) c.as_slice.ensures.value c.in-Some.ensures)
+
+pub returns-in-None : goal.returns-in-None
+returns-in-None c = alike-json c.args.bytes.items c.laid_out.result.items c.book_of_text.result c.laid_out.ensures c.book_of_text.ensures

@@ -1,0 +1,109 @@
+-- Plain lines: a command and its words, without flags; and what each asks for.
+use Rattle.std.specs.Prelude.{◌≡◌, ◌==◌, ◌<◌, ◌≤◌, ℕ, ◌^◌, Bool, true, false, not, List, [], ◌∷◌, length, map, codes, decimal, Option, Some, None, cond}
+use Rattle.std.specs.List.{list_all}
+use Rattle.std.specs.Str.{bytes_eq}
+use Rattle.command_line.specs.declared.words.TheConstants.{MAX_BOOKS, DEFAULT_WORKERS}
+use Rattle.command_line.specs.declared.words.Asked.{Asked}
+use Rattle.command_line.specs.declared.words.Asked.TheVariants as asked
+use Rattle.command_line.specs.declared.names.Name.{Name}
+use Rattle.command_line.specs.declared.names.Name.TheVariants as name
+
+-- a command with what its words give
+pub data Line : Type 0 where
+  Check : (path : List ℕ) → Line
+  One : (path : List ℕ) (rank : ℕ) → Line
+  Count : (path : List ℕ) → Line
+  Run : (path : List ℕ) (first end : ℕ) → Line
+  Join : (paths : List (List ℕ)) → Line
+  Report : (path : List ℕ) → Line
+  Audit : (path : List ℕ) → Line
+  Judge : (path : List ℕ) (accepted : List (List ℕ)) → Line
+
+-- how the command is spelled
+abbrev pub command : Line → List ℕ
+command (Check path) = codes "check"
+command (One path rank) = codes "one"
+command (Count path) = codes "count"
+command (Run path first end) = codes "run"
+command (Join paths) = codes "join"
+command (Report path) = codes "report"
+command (Audit path) = codes "audit"
+command (Judge path accepted) = codes "judge"
+
+-- the words behind it, with numbers in decimal
+abbrev pub arguments : Line → List (List ℕ)
+arguments (Check path) = path ∷ []
+arguments (One path rank) = path ∷ decimal rank ∷ []
+arguments (Count path) = path ∷ []
+arguments (Run path first end) = path ∷ decimal first ∷ decimal end ∷ []
+arguments (Join paths) = paths
+arguments (Report path) = path ∷ []
+arguments (Audit path) = path ∷ []
+arguments (Judge path accepted) = path ∷ accepted
+
+-- one book at least, and not too many
+abbrev pub AreBooks : List (List ℕ) → Type 0
+AreBooks paths = (0 < length paths) × (length paths ≤ MAX_BOOKS)
+
+-- numbers have 64 bits
+abbrev pub Fits : Line → Type 0
+Fits (Check path) = Unit {0}
+Fits (One path rank) = rank < 2 ^ 64
+Fits (Count path) = Unit {0}
+Fits (Run path first end) = (first < 2 ^ 64) × (end < 2 ^ 64)
+Fits (Join paths) = AreBooks paths
+Fits (Report path) = Unit {0}
+Fits (Audit path) = Unit {0}
+Fits (Judge path accepted) = AreBooks accepted
+
+-- a word that is no flag: a flag begins with a hyphen
+abbrev pub is_plain : List ℕ → Bool
+is_plain [] = true
+is_plain (b ∷ bs) = not (b == 45)
+
+-- the words are the line: the program's name, the command, and its words, of which none is a flag
+pub record IsLine (words : List (List ℕ)) (line : Line) : Type 0 where
+  pub program : List ℕ
+  pub words_are : words ≡ program ∷ command line ∷ arguments line
+  pub plain : list_all is_plain (arguments line) ≡ true
+  pub fits : Fits line
+
+-- what the line asks for
+abbrev pub AsksFor : Line → Asked → Type 0
+AsksFor (Check path) (asked.Check p) = p.now ≡ path
+AsksFor (One path rank) (asked.One p r) = (p.now ≡ path) × (r ≡ rank)
+AsksFor (Count path) (asked.Count p) = p.now ≡ path
+AsksFor (Run path first end) (asked.Run p f e every workers progress) =
+    (p.now ≡ path) × (f ≡ first) × (e ≡ end) × (every ≡ false) × (workers ≡ DEFAULT_WORKERS) × (progress ≡ false)
+AsksFor (Join paths) (asked.Join ps) = map (λ p. p.now) ps ≡ paths
+AsksFor (Report path) (asked.Report p) = p.now ≡ path
+AsksFor (Audit path) (asked.Audit p) = p.now ≡ path
+AsksFor (Judge path accepted) (asked.Judge p ps) = (p.now ≡ path) × (map (λ q. q.now) ps.items ≡ accepted)
+AsksFor line asked = ⊥
+
+-- ---- what the code keeps
+
+-- the command that is spelled so
+abbrev pub name_in : List ℕ → Option Name
+name_in word = cond (bytes_eq word (codes "check")) (Some name.Check) (cond (bytes_eq word (codes "one")) (Some name.One)
+    (cond (bytes_eq word (codes "count")) (Some name.Count) (cond (bytes_eq word (codes "run")) (Some name.Run)
+    (cond (bytes_eq word (codes "join")) (Some name.Join) (cond (bytes_eq word (codes "report")) (Some name.Report)
+    (cond (bytes_eq word (codes "audit")) (Some name.Audit) (cond (bytes_eq word (codes "judge")) (Some name.Judge) None)))))))
+
+-- the command of a line
+abbrev pub named : Line → Name
+named (Check path) = name.Check
+named (One path rank) = name.One
+named (Count path) = name.Count
+named (Run path first end) = name.Run
+named (Join paths) = name.Join
+named (Report path) = name.Report
+named (Audit path) = name.Audit
+named (Judge path accepted) = name.Judge
+
+-- the command and the words behind it are those of the line
+pub record IsBehind (word : List ℕ) (rest : List (List ℕ)) (line : Line) : Type 0 where
+  pub word_is : word ≡ command line
+  pub rest_is : rest ≡ arguments line
+  pub plain : list_all is_plain (arguments line) ≡ true
+  pub fits : Fits line

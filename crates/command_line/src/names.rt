@@ -1,0 +1,34 @@
+//! The commands by their names.
+
+ghost use Rattle.std.specs.Prelude.{◌≡◌};
+ghost use Rattle.command_line.specs.Lines.{name_in};
+
+/// A command.
+#[derive(Clone, Copy, Drop)]
+pub(crate) enum Name {
+    Check,
+    One,
+    Count,
+    Run,
+    Join,
+    Report,
+    Audit,
+    Judge,
+}
+
+/// The command that is spelled so.
+pub(crate) fn name_of(spelled: &str) -> Option<Name>
+    ensures { result ≡ name_in spelled.now }
+{
+    match spelled {
+        "check" => Some(Name::Check),
+        "one" => Some(Name::One),
+        "count" => Some(Name::Count),
+        "run" => Some(Name::Run),
+        "join" => Some(Name::Join),
+        "report" => Some(Name::Report),
+        "audit" => Some(Name::Audit),
+        "judge" => Some(Name::Judge),
+        _ => None,
+    }
+}

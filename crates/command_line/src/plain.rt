@@ -1,0 +1,203 @@
+//! Plain lines: a command and its words, without flags. They are read here, and all others by `clap`.
+
+ghost use Rattle.std.specs.Prelude.{◌≡◌, ◌<◌, ◌^◌, ℕ, List, [], ◌∷◌, Some, IfOk, decimal, map, string_bytes};
+ghost use Rattle.std.specs.List.{list_all};
+ghost use Rattle.std.specs.Option.{IsSomeAnd};
+ghost use Rattle.command_line.specs.Lines.{AsksFor, AreBooks, Fits, IsBehind, IsLine, Line, arguments, is_plain, named};
+ghost use Rattle.command_line.specs.Lines.{Check, One, Count, Run, Join, Report, Audit, Judge};
+
+use crate::names::{Name, name_of};
+use crate::paths::Paths;
+use crate::words::{Asked, DEFAULT_WORKERS, MAX_BOOKS};
+use shard_board::Workers;
+use std::alloc::{AllocError, Global};
+
+/// What a plain line asks for, none where the words are no such line. The first of them is the program's name.
+pub(crate) fn plain_line<'a>(
+    alloc: Global,
+    words: &'a [String],
+) -> Result<Option<Asked<'a>>, AllocError>
+    ensures { IfOk result (λ asked. (line : Line) → IsLine (map string_bytes words.now) line → IsSomeAnd asked (AsksFor line)) }
+{
+    match words {
+        [_program, command, rest @ ..] => line_behind(alloc, command, rest),
+        _ => Ok(None),
+    }
+}
+
+/// What a command and the words behind it ask for.
+fn line_behind<'a>(
+    alloc: Global,
+    command: &str,
+    rest: &'a [String],
+) -> Result<Option<Asked<'a>>, AllocError>
+    ensures { IfOk result (λ asked. (line : Line) → IsBehind command.now (map string_bytes rest.now) line → IsSomeAnd asked (AsksFor line)) }
+{
+    if !are_plain(rest) {
+        return Ok(None);
+    }
+    match name_of(command) {
+        Some(name) => line_of(alloc, name, rest),
+        None => Ok(None),
+    }
+}
+
+/// Whether no word is a flag.
+fn are_plain(words: &[String]) -> bool
+    ensures { result ≡ list_all is_plain (map string_bytes words.now) }
+{
+    for word in words {
+        if !is_plain(word) {
+            return false;
+        }
+    }
+    true
+}
+
+/// Whether a word is no flag.
+fn is_plain(word: &str) -> bool
+    ensures { result ≡ is_plain word.now }
+{
+    match word.as_bytes() {
+        [first, ..] => *first != b'-',
+        [] => true,
+    }
+}
+
+/// What the words behind a command ask for.
+fn line_of<'a>(
+    alloc: Global,
+    name: Name,
+    rest: &'a [String],
+) -> Result<Option<Asked<'a>>, AllocError>
+    ensures { IfOk result (λ asked. (line : Line) → named line ≡ name → map string_bytes rest.now ≡ arguments line → Fits line → IsSomeAnd asked (AsksFor line)) }
+{
+    match name {
+        Name::Check => Ok(check_line(rest)),
+        Name::One => Ok(one_line(rest)),
+        Name::Count => Ok(count_line(rest)),
+        Name::Run => Ok(run_line(rest)),
+        Name::Join => join_line(alloc, rest),
+        Name::Report => Ok(report_line(rest)),
+        Name::Audit => Ok(audit_line(rest)),
+        Name::Judge => judge_line(alloc, rest),
+    }
+}
+
+fn check_line<'a>(rest: &'a [String]) -> Option<Asked<'a>>
+    ensures { (path : List ℕ) → map string_bytes rest.now ≡ path ∷ [] → IsSomeAnd result (AsksFor (Check path)) }
+{
+    match rest {
+        [path] => Some(Asked::Check { path }),
+        _ => None,
+    }
+}
+
+fn one_line<'a>(rest: &'a [String]) -> Option<Asked<'a>>
+    ensures { (path : List ℕ) (rank : ℕ) → rank < 2 ^ 64 → map string_bytes rest.now ≡ path ∷ decimal rank ∷ [] → IsSomeAnd result (AsksFor (One path rank)) }
+{
+    match rest {
+        [path, rank] => Some(Asked::One {
+            path,
+            rank: number_of(rank)?,
+        }),
+        _ => None,
+    }
+}
+
+fn count_line<'a>(rest: &'a [String]) -> Option<Asked<'a>>
+    ensures { (path : List ℕ) → map string_bytes rest.now ≡ path ∷ [] → IsSomeAnd result (AsksFor (Count path)) }
+{
+    match rest {
+        [path] => Some(Asked::Count { path }),
+        _ => None,
+    }
+}
+
+fn run_line<'a>(rest: &'a [String]) -> Option<Asked<'a>>
+    ensures { (path : List ℕ) (first end : ℕ) → first < 2 ^ 64 → end < 2 ^ 64 → map string_bytes rest.now ≡ path ∷ decimal first ∷ decimal end ∷ [] → IsSomeAnd result (AsksFor (Run path first end)) }
+{
+    match rest {
+        [path, first, end] => Some(Asked::Run {
+            path,
+            first: number_of(first)?,
+            end: number_of(end)?,
+            every: false,
+            workers: Workers::of(DEFAULT_WORKERS)?,
+            progress: false,
+        }),
+        _ => None,
+    }
+}
+
+fn join_line<'a>(alloc: Global, rest: &'a [String]) -> Result<Option<Asked<'a>>, AllocError>
+    ensures { IfOk result (λ asked. (paths : List (List ℕ)) → AreBooks paths → map string_bytes rest.now ≡ paths → IsSomeAnd asked (AsksFor (Join paths))) }
+{
+    if rest.len() > MAX_BOOKS {
+        return Ok(None);
+    }
+    let books = books_of(alloc, rest)?;
+    match Paths::of(books) {
+        Some(paths) => Ok(Some(Asked::Join { paths })),
+        None => Ok(None),
+    }
+}
+
+fn report_line<'a>(rest: &'a [String]) -> Option<Asked<'a>>
+    ensures { (path : List ℕ) → map string_bytes rest.now ≡ path ∷ [] → IsSomeAnd result (AsksFor (Report path)) }
+{
+    match rest {
+        [path] => Some(Asked::Report { path }),
+        _ => None,
+    }
+}
+
+fn audit_line<'a>(rest: &'a [String]) -> Option<Asked<'a>>
+    ensures { (path : List ℕ) → map string_bytes rest.now ≡ path ∷ [] → IsSomeAnd result (AsksFor (Audit path)) }
+{
+    match rest {
+        [path] => Some(Asked::Audit { path }),
+        _ => None,
+    }
+}
+
+fn judge_line<'a>(alloc: Global, rest: &'a [String]) -> Result<Option<Asked<'a>>, AllocError>
+    ensures { IfOk result (λ asked. (path : List ℕ) (accepted : List (List ℕ)) → AreBooks accepted → map string_bytes rest.now ≡ path ∷ accepted → IsSomeAnd asked (AsksFor (Judge path accepted))) }
+{
+    match rest {
+        [path, books @ ..] => accepted_line(alloc, path, books),
+        _ => Ok(None),
+    }
+}
+
+fn accepted_line<'a>(
+    alloc: Global,
+    path: &'a str,
+    books: &'a [String],
+) -> Result<Option<Asked<'a>>, AllocError>
+    ensures { IfOk result (λ asked. AreBooks (map string_bytes books.now) → IsSomeAnd asked (AsksFor (Judge path.now (map string_bytes books.now)))) }
+{
+    if books.is_empty() || books.len() > MAX_BOOKS {
+        return Ok(None);
+    }
+    let accepted = books_of(alloc, books)?;
+    Ok(Some(Asked::Judge { path, accepted }))
+}
+
+/// The number that a word is, in decimal.
+fn number_of(word: &str) -> Option<u64>
+    ensures { (number : ℕ) → number < 2 ^ 64 → word.now ≡ decimal number → result ≡ Some number }
+{
+    word.parse::<u64>().ok()
+}
+
+/// The words as paths.
+fn books_of<'a>(alloc: Global, words: &'a [String]) -> Result<Vec<&'a str>, AllocError>
+    ensures { IfOk result (λ paths. map (λ p. p.now) paths.items ≡ map string_bytes words.now) }
+{
+    let mut paths = Vec::new(alloc);
+    for word in words {
+        paths.push(word.as_str())?;
+    }
+    Ok(paths)
+}

@@ -1,5 +1,0 @@
-use Rattle.shard_farm.proofs.CrewLemmas.{all_starting}
-use Rattle.shard_farm.proofs.farm.run_plan.Goals as goal
-
-pub workers_of-requires-clause-fresh : goal.workers_of-requires-clause-fresh
-workers_of-requires-clause-fresh g c = all_starting c.in-Ok.board c.in-Ok.seats.items c.in-Ok.ensures.fresh
