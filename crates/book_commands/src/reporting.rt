@@ -2,6 +2,7 @@
 
 ghost use Rattle.std.specs.Prelude.{◌≡◌, ◌<◌, ◌++◌, [], length, slice_index_or};
 ghost use Rattle.machine_model.specs.Outcome.{IsOutcomeOf};
+ghost use Rattle.spec_binding.specs.SpecFiles.{IsMemory};
 ghost use Rattle.transcripts.specs.Counted.{Prints, failures_of};
 ghost use Rattle.transcripts.specs.Text.{rank_text, outcome_text};
 ghost use Rattle.fact_books.specs.Sweep.{values_of, AllBelow};
@@ -13,7 +14,7 @@ use crate::opener::Opener;
 use crate::texts::Texts;
 use bound_specs::Spec;
 use fact_books::{Book, ReportError, report};
-use spec_binding::spec_of;
+use spec_binding::{SpecFault, spec_of};
 use std::alloc::Global;
 use std::io::Write;
 use transcripts::{Counted, Outcome, WriteFault, print_rank};
@@ -70,9 +71,12 @@ pub fn write_report<W: Write>(
         Ok(values) => values,
         Err(error) => return Err(ReportFault::Report(error)),
     };
-    // The text was bound when the book was made, so that only want of memory can refuse it.
-    let Ok(spec) = spec_of(alloc, book.text().as_bytes()) else {
-        return Err(ReportFault::Report(ReportError::NoMemory));
+    let spec = match spec_of(alloc, book.text().as_bytes()) {
+        Ok(spec) => spec,
+        Err(fault) => {
+            wants_memory(fault);
+            return Err(ReportFault::Report(ReportError::NoMemory));
+        }
     };
     let (outcomes, numbers) = values.parts();
     let Ok(mut texts) = Texts::new(alloc, outcomes.len()) else {
@@ -83,6 +87,11 @@ pub fn write_report<W: Write>(
         Err(fault) => Err(ReportFault::Write(fault)),
     }
 }
+
+/// A refusal of a text that was bound before, when the book was made: it has no other reason than want of memory.
+fn wants_memory(_fault: SpecFault)
+    requires { IsMemory _fault }
+{}
 
 /// Writes for each rank in order the rank and the outcome with its number.
 fn write_values<W: Write>(

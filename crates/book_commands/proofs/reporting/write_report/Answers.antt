@@ -35,3 +35,9 @@ returns g c =
     (Stopped g.W.Write.contents c.args.out.now c.write_values.new.out)
     c.in-Ok.ensures.few c.in-Ok.ensures.values same c.parts.ensures.values
     c.in-Err-write_values.ensures
+
+-- the text binds to the book's spec
+pub wants_memory-requires : goal.wants_memory-requires
+wants_memory-requires g c =
+    let text = c.as_bytes.ensures.value ∙ c.text.ensures in
+    c.in-Err-spec_of.ensures.complete c.args.book.now.file (subst (λ t. IsFileOf t c.args.book.now.file) (sym text) c.known.ensures.file)
