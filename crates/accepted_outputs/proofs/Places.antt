@@ -37,12 +37,6 @@ there-is [] n d lt = absurd (omega (arith, lt))
 there-is (x ∷ xs) zero d lt = refl
 there-is (x ∷ xs) (suc n) d lt = there-is xs n d (omega (arith, lt))
 
--- an item is read alike, whatever would stand for one that is not there
-pub whichever : {A : Type 0} (xs : List A) (n : ℕ) (c d : A) → n < length xs → get_or xs n c ≡ get_or xs n d
-whichever [] n c d lt = absurd (omega (arith, lt))
-whichever (x ∷ xs) zero c d lt = refl
-whichever (x ∷ xs) (suc n) c d lt = whichever xs n c d (omega (arith, lt))
-
 -- lists that agree up to a place and there agree up to the next
 pub one-more : {A : Type 0} (xs ys : List A) (n m : ℕ) → m ≡ suc n → ((k : ℕ) → k < n → slice_get xs k ≡ slice_get ys k) → slice_get xs n ≡ slice_get ys n
     → (k : ℕ) → k < m → slice_get xs k ≡ slice_get ys k

@@ -1,5 +1,5 @@
 -- Judgements of a report by accepted ones: the first that is equal, or else where each of them differs first.
-use Rattle.std.specs.Prelude.{◌≡◌, ◌≢◌, ℕ, ◌<◌, List, length, Option, Some, None, slice_get, All}
+use Rattle.std.specs.Prelude.{◌≡◌, ◌≢◌, ℕ, ◌<◌, List, Option, Some, None, slice_get}
 use Rattle.std.specs.List.{AllZip}
 use Rattle.fact_books.specs.Entries.{Told}
 use Rattle.accepted_outputs.specs.declared.verdict.Verdict.{Verdict}
@@ -25,10 +25,6 @@ pub record IsFirstDifference (report other : List Told) (difference : ℕ × ℕ
 abbrev pub IsVerdict : List Told → List (List Told) → Verdict → Type 0
 IsVerdict report accepted (Matches index) = (slice_get accepted index ≡ Some report) × ((n : ℕ) → n < index → slice_get accepted n ≢ Some report)
 IsVerdict report accepted (Differs differences) = AllZip (IsFirstDifference report) accepted differences
-
--- each outcome has so few sessions that their numbers fit a byte
-abbrev pub HasFewSessions : List Told → Type 0
-HasFewSessions report = All (λ told. length told < 256) report
 
 -- ---- steps on the way
 

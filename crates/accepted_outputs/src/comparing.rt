@@ -1,7 +1,7 @@
 //! Where two reports differ first.
 
 ghost use Rattle.std.specs.Prelude.{◌≡◌, ◌↔◌, ◌<◌, [], Some, IfSome, IsTrue, length, slice_index_or};
-ghost use Rattle.accepted_outputs.specs.Judging.{HasFewSessions, IsComparison, IsFirstPlace};
+ghost use Rattle.accepted_outputs.specs.Judging.{IsComparison, IsFirstPlace};
 
 use crate::sessions::first_session;
 use fact_books::Report;
@@ -9,10 +9,10 @@ use transcripts::Outcome;
 
 /// The first rank at which two reports differ, and there the first session that does. None where they are equal.
 pub(crate) fn first_difference(report: &Report, other: &Report) -> Option<(u64, u8)>
-    requires report { HasFewSessions report.now }
-    requires other { HasFewSessions other.now }
     ensures { IsComparison report.now other.now result }
 {
+    report.known();
+    other.known();
     let rank = first_rank(report, other)?;
     let Some(told) = report.outcome(rank) else {
         return Some((rank, 0));

@@ -1,14 +1,11 @@
 //! A report judged by accepted ones.
 
-ghost use Rattle.std.specs.Prelude.{◌≡◌, All, IfOk};
-ghost use Rattle.rank_facts.specs.Swap.{leads_in};
-ghost use Rattle.bound_specs.specs.Spec.{ranks};
-ghost use Rattle.fact_books.specs.Values.{AreValues};
-ghost use Rattle.accepted_outputs.specs.Judging.{HasFewSessions, IsVerdict};
+ghost use Rattle.std.specs.Prelude.{IfOk};
+ghost use Rattle.accepted_outputs.specs.Judging.{IsVerdict};
 
 use crate::comparing::first_difference;
 use crate::verdict::{Differences, Verdict};
-use fact_books::{Book, Report};
+use fact_books::Report;
 use std::alloc::{AllocError, Global};
 
 /// The first of the accepted reports that is equal to the report. Where none is, for each of them the first rank at which it differs,
@@ -16,8 +13,6 @@ use std::alloc::{AllocError, Global};
 /// rank behind that end differs, in session 0; where one outcome has more sessions, the first that the other lacks differs. Memory
 /// is all that can be refused. Two outcomes that stand side by side at ranks that follow one another are compared once.
 pub fn judge(alloc: Global, report: &Report, accepted: &[Report]) -> Result<Verdict, AllocError>
-    requires report { HasFewSessions report.now }
-    requires accepted { All HasFewSessions accepted.now }
     ensures { IfOk result (IsVerdict report.now accepted.now) }
 {
     let mut places = Vec::new(alloc);
@@ -28,12 +23,4 @@ pub fn judge(alloc: Global, report: &Report, accepted: &[Report]) -> Result<Verd
         }
     }
     Ok(Verdict::Differs(Differences::from_vec(places)))
-}
-
-/// Each outcome that a book reports has few enough sessions to be judged.
-pub fn reports_have_few_sessions(book: &Book, report: &Report)
-    requires { AreValues book.now.facts (leads_in book.now.file.run) (ranks book.now.file.run) report.now }
-    ensures { HasFewSessions report.now }
-{
-    book.known();
 }

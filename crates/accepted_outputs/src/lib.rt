@@ -6,5 +6,5 @@ mod judging;
 mod sessions;
 mod verdict;
 
-pub use judging::{judge, reports_have_few_sessions};
+pub use judging::judge;
 pub use verdict::{Differences, Verdict};

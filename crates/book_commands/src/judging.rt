@@ -1,14 +1,13 @@
 //! The report of the book in a file, judged by those of accepted books.
 
 ghost use Rattle.std.specs.Prelude.{◌≡◌, ◌<◌, ◌++◌, All, IfOk, IfErr, decimal, length, map};
-ghost use Rattle.accepted_outputs.specs.Judging.{HasFewSessions};
 ghost use Rattle.transcripts.specs.Counted.{Prints, failures_of};
 ghost use Rattle.book_commands.specs.Judging.{AreReports, IsFileReport, IsJudged, IsJudgeRun, IsNotAccepted, difference_line, difference_lines, finding_of, verdict_text};
 
 use crate::finding::Finding;
 use crate::joining::{FileFault, book_of_file};
 use crate::opener::Opener;
-use accepted_outputs::{Verdict, judge, reports_have_few_sessions};
+use accepted_outputs::{Verdict, judge};
 use fact_books::{Report, ReportError, report};
 use itoa::Buffer;
 use std::alloc::Global;
@@ -89,7 +88,6 @@ fn reports_of_files<O: Opener>(
     paths: &[&str],
 ) -> Result<Vec<Report>, JudgeFault>
     ensures reports { IfOk result (λ reports. AreReports (O.bytes opener.now) (map (λ p. p.now) paths.now) reports.items) }
-    ensures few { IfOk result (λ reports. All HasFewSessions reports.items) }
     ensures refused { IfErr result (IsNotAccepted (O.bytes opener.now) (map (λ p. p.now) paths.now)) }
 {
     let mut reports = Vec::new(alloc);
@@ -108,17 +106,13 @@ fn reports_of_files<O: Opener>(
 /// The report of the book at a path.
 fn report_of_file<O: Opener>(alloc: Global, opener: &O, path: &str) -> Result<Report, NoReport>
     ensures report { IsFileReport (O.bytes opener.now path.now) result }
-    ensures few { IfOk result HasFewSessions }
 {
     let book = match book_of_file(alloc, opener, path) {
         Ok(book) => book,
         Err(fault) => return Err(NoReport::File(fault)),
     };
     match report(alloc, &book) {
-        Ok(values) => {
-            reports_have_few_sessions(&book, &values);
-            Ok(values)
-        }
+        Ok(values) => Ok(values),
         Err(error) => Err(NoReport::Report(error)),
     }
 }

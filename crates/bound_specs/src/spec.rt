@@ -1,13 +1,14 @@
-ghost use Rattle.std.specs.Prelude.{◌≡◌, ◌≢◌, ◌<◌, ◌≤◌, ◌↔◌, [], length, get_or, All, IsTrue, IsSome, IfSome};
+ghost use Rattle.std.specs.Prelude.{◌≡◌, ◌≢◌, ◌+◌, ◌<◌, ◌≤◌, ◌↔◌, [], ◌∷◌, length, get_or, All, IsTrue, IsSome, IfSome, MatchOption};
 ghost use Rattle.perm_ranks.specs.declared.TheConstants.{MAX_SESSIONS};
 ghost use Rattle.bound_specs.specs.Spec.{no_step, counts_of, queues_of, ranks, line_of, AllHaveKeys, AllAreShort, IsBound, IsReady};
 ghost use Rattle.bound_statements.specs.Plan.{HasKeys, IsShort};
 ghost use Rattle.bound_specs.specs.Binding.{IsFileOf};
+ghost use Rattle.bound_specs.specs.Walking.{steps_from};
 ghost use Rattle.bound_specs.specs.Views.{file_of as file_of_parts, IsKept as IsKeptBy};
 
 use crate::block::{Block, Step};
 use crate::orders::{Line, Orders, copied};
-use crate::walking::line_of_word;
+use crate::walking::{line_of_word, step_from};
 use bound_statements::Bound;
 use lock_modes::Text;
 use perm_ranks::Shape;
@@ -122,6 +123,16 @@ impl Spec {
         ensures known { result < self.now.run.sessions }
     {
         self.parts.steps[step as usize].session()
+    }
+
+    /// The first step of a session from this number on, if it has one there.
+    pub fn step_from(&self, session: u8, from: u8) -> Option<u8>
+        ensures next { MatchOption result
+            (steps_from session from self.now.run.steps ≡ [])
+            (λ k. steps_from session from self.now.run.steps ≡ k ∷ steps_from session (k + 1) self.now.run.steps) }
+        ensures known { IfSome result (λ k. k < length self.now.run.steps) }
+    {
+        step_from(&self.parts.steps, session, from)
     }
 
     /// The name of a session as the file writes it, with each doubled quote once.

@@ -47,7 +47,7 @@ fn take_step(steps: &[Step], sessions: u8, next: &mut [u8; MAX_SESSIONS], letter
 }
 
 // The session's first step from this number on.
-fn step_from(steps: &[Step], session: u8, from: u8) -> Option<u8>
+pub(crate) fn step_from(steps: &[Step], session: u8, from: u8) -> Option<u8>
     requires { length steps.now ≤ MAX_LINED_STEPS }
     ensures next { MatchOption result (steps_from session from steps.now ≡ []) (λ k. steps_from session from steps.now ≡ k ∷ steps_from session (k + 1) steps.now) }
     ensures known { MatchOption result (Unit {0}) (λ k. k < length steps.now) }

@@ -18,6 +18,7 @@ use Rattle.fact_books.specs.Books.{contents_of, HasFact, facts_in, file_of, IsBo
 use Rattle.fact_books.specs.Values.{AreValues, IsMissing, IsNotReported, IsCovering}
 use Rattle.fact_books.specs.Sweep.{leads_of, IsStop, values_of}
 use Rattle.fact_books.proofs.GapLemmas.{has-below, none-at}
+use Rattle.fact_books.proofs.Recordable.{whichever}
 use Rattle.bound_specs.proofs.FileLemmas.{file-is-bound}
 
 -- a shape leads where its spec does
@@ -136,9 +137,4 @@ outcome-at t done values rank n o d is lt at got below = ap Some (got ∙ defaul
     at-rank t (x ∷ xs) (suc rank) h n e = at-rank t xs rank (omega (arith, h)) n e
 
 pub default-at : (given numbers : List ℕ) (rank : ℕ) → given ≡ numbers → rank < length numbers → get_or given rank 0 ≡ get_or numbers rank (get_or given rank 0)
-default-at given numbers rank is lt = ap (λ l. get_or l rank 0) is ∙ default numbers rank lt 0 (get_or given rank 0)
-  where
-    default : (xs : List ℕ) (i : ℕ) → i < length xs → (c d : ℕ) → get_or xs i c ≡ get_or xs i d
-    default [] i h c d = absurd (omega (arith, h))
-    default (x ∷ xs) zero h c d = refl
-    default (x ∷ xs) (suc i) h c d = default xs i (omega (arith, h)) c d
+default-at given numbers rank is lt = ap (λ l. get_or l rank 0) is ∙ whichever numbers rank 0 (get_or given rank 0) lt

@@ -20,7 +20,7 @@ use Rattle.fact_books.specs.declared.error.ReportError.{ReportError}
 use Rattle.fact_books.specs.declared.error.ReportError.TheVariants.{TooMany, Missing, Clash, NoMemory}
 use Rattle.fact_books.specs.Entries.{Told, Entry, FactSet, fact_cmp}
 use Rattle.fact_books.specs.Runs.{Table, fact_in, has, firsts, AllTo, AllSound}
-use Rattle.fact_books.specs.Values.{Leads, HasOne, IsMissing, IsClash}
+use Rattle.fact_books.specs.Values.{Leads, HasFewSessions, HasOne, IsMissing, IsClash}
 
 -- the rank that an exchange leads to; between lines nothing leads
 abbrev pub leads_of : Option (List ℕ) → Leads
@@ -51,6 +51,11 @@ values_of t numbers = map (λ n. slice_index_or t n []) numbers
 abbrev pub AllBelow : ℕ → List ℕ → Type 0
 AllBelow n [] = Unit {0}
 AllBelow n (x ∷ xs) = (x < n) × AllBelow n xs
+
+-- what a report keeps: each number is one of an outcome, and the values have few sessions
+pub record IsReport (outcomes : Table) (numbers : List ℕ) : Type 0 where
+  pub numbered : AllBelow (length outcomes) numbers
+  pub few : HasFewSessions (values_of outcomes numbers)
 
 -- ---- where runs lead
 

@@ -1,5 +1,5 @@
 -- What a set of facts reports: the one value of each rank, or the least rank that has none or several.
-use Rattle.std.specs.Prelude.{◌≡◌, ℕ, ◌<◌, ◌≤◌, List, [], Option, Some, Result, Ok, Err, length, slice_index_or}
+use Rattle.std.specs.Prelude.{◌≡◌, ℕ, ◌<◌, ◌≤◌, List, [], Option, Some, Result, Ok, Err, length, slice_index_or, All}
 use Rattle.bound_specs.specs.Spec.{line_of, ranks}
 use Rattle.machine_model.specs.Outcome.{outcome_of_line}
 use Rattle.rank_facts.specs.Swap.{leads_in}
@@ -27,6 +27,10 @@ OneBelow facts leads n = (r : ℕ) → r < n → (o : Told) × HasOne facts lead
 pub record AreValues (facts : FactSet) (leads : Leads) (count : ℕ) (values : List Told) : Type 0 where
   pub count_is : length values ≡ count
   pub each : (r : ℕ) → r < count → HasOne facts leads r (slice_index_or values r [])
+
+-- each outcome has so few sessions that their numbers fit a byte
+abbrev pub HasFewSessions : List Told → Type 0
+HasFewSessions report = All (λ told. length told < 256) report
 
 -- this is the least of so many ranks that has not exactly one value, and it has none
 pub record IsMissing (facts : FactSet) (leads : Leads) (count r : ℕ) : Type 0 where

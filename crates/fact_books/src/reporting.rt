@@ -1,12 +1,12 @@
 //! The report of a book.
 
-ghost use Rattle.std.specs.Prelude.{◌≡◌, ◌≤◌, IfOk, IfErr, OnOk};
+ghost use Rattle.std.specs.Prelude.{◌≡◌, ◌≤◌, List, IfOk, IfErr, OnOk};
 ghost use Rattle.rank_facts.specs.Swap.{leads_in};
 ghost use Rattle.rank_facts.specs.Values.{AllTrue};
 ghost use Rattle.bound_specs.specs.Spec.{ranks};
-ghost use Rattle.fact_books.specs.Entries.{recorded};
+ghost use Rattle.fact_books.specs.Entries.{Told, recorded};
 ghost use Rattle.fact_books.specs.Books.{IsKept, facts_in};
-ghost use Rattle.fact_books.specs.Values.{AreValues, IsNotReported, IsCovering};
+ghost use Rattle.fact_books.specs.Values.{AreValues, HasFewSessions, IsNotReported, IsCovering};
 ghost use Rattle.fact_books.specs.Sweep.{leads_of, IsStop};
 ghost use Rattle.fact_books.specs.declared.error.TheConstants.{MAX_REPORTED};
 
@@ -50,6 +50,7 @@ fn report_of(
     ranks: u64,
 ) -> Result<Report, ReportError>
     requires kept { IsKept outcomes.now runs.now }
+    requires few { (values : List Told) → AreValues (facts_in outcomes.now runs.now) (leads_of shape.now) ranks values → HasFewSessions values }
     ensures values { IfOk result (AreValues (facts_in outcomes.now runs.now) (leads_of shape.now) ranks) }
     ensures stop { IfErr result (IsStop (facts_in outcomes.now runs.now) (leads_of shape.now) ranks) }
 {

@@ -2,7 +2,8 @@
 
 ghost use Rattle.std.specs.Prelude.{◌≡◌, length, slice_get};
 ghost use Rattle.std.specs.Option.{option_copied};
-ghost use Rattle.fact_books.specs.Sweep.{values_of, AllBelow};
+ghost use Rattle.fact_books.specs.Values.{HasFewSessions};
+ghost use Rattle.fact_books.specs.Sweep.{values_of, AllBelow, IsReport};
 
 use std::marker::Model;
 use transcripts::Outcome;
@@ -24,23 +25,30 @@ impl Drop for Report {
 }
 
 impl Model for Report {
-    ghost use Rattle.std.specs.Prelude.{List, length};
+    ghost use Rattle.std.specs.Prelude.{List};
     ghost use Rattle.fact_books.specs.Entries.{Told};
-    ghost use Rattle.fact_books.specs.Sweep.{values_of, AllBelow};
+    ghost use Rattle.fact_books.specs.Sweep.{values_of, IsReport};
 
     ghost Value = { List Told };
 
     ghost view = { λ r. values_of r.outcomes.items r.numbers.items };
 
-    ghost invariant = { λ r. AllBelow (length r.outcomes.items) r.numbers.items };
+    ghost invariant = { λ r. IsReport r.outcomes.items r.numbers.items };
 }
 
 impl Report {
     pub(crate) fn from_parts(outcomes: Vec<Outcome>, numbers: Vec<usize>) -> Report
-        requires { AllBelow (length outcomes.items) numbers.items }
+        requires { IsReport outcomes.items numbers.items }
         ensures { result ≡ values_of outcomes.items numbers.items }
     {
         Report { outcomes, numbers }
+    }
+
+    /// What every report keeps: its outcomes have so few sessions that a byte has the number of each.
+    pub fn known(&self)
+        ensures { HasFewSessions self.now }
+    {
+        let _numbers = &self.numbers; // for the proof
     }
 
     /// How many ranks there are.

@@ -3,5 +3,6 @@ pub mod RunLemmas
 pub mod TrueReports
 pub mod SerialOutcomes
 pub mod JoinLemmas
+pub mod LeftLemmas
 pub mod HeadlineLemmas
 pub mod FarmLemmas

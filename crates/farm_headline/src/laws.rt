@@ -1,7 +1,7 @@
 //! The laws of what is run, joined and reported, each the contract of a function that does nothing.
 
 ghost use Rattle.farm_headline.specs.Headline.{RunsAreTrue, RunsCover, NoRunIsMissing};
-ghost use Rattle.farm_headline.specs.Joins.{JobsHold, FarmsHold, RangesHold, RunsHold, JoinsHold, RunsDecide};
+ghost use Rattle.farm_headline.specs.Joins.{JobsHold, FarmsHold, LeftsHold, RangesHold, RunsHold, JoinsHold, RunsDecide};
 ghost use Rattle.farm_headline.specs.Laws.{RangesAreTrue, JoinsStayTrue, ReportsAreTheMachines, CoveringReports, OutcomesAreSerial};
 
 /// Whatever ranges are run, whichever way they cover or overlap each other, and however their books are joined: what is reported is
@@ -15,10 +15,11 @@ pub fn reports_are_the_machines()
 {}
 
 /// What was run decides the book, and so its report: neither the order, the grouping and the number of shards and of joins nor the workers do. Books of
-/// jobs, of farms, of ranges, and of jobs with plans may be joined in any tree.
+/// jobs, of farms, whole or without shards for which memory was refused, of ranges, and of jobs with plans may be joined in any tree.
 pub fn runs_decide()
     ensures job { JobsHold }
     ensures farm { FarmsHold }
+    ensures left { LeftsHold }
     ensures range { RangesHold }
     ensures alone { RunsHold }
     ensures joins { JoinsHold }

@@ -1,5 +1,5 @@
 -- Which fault the program tells for what a call refuses of the file at a path.
-use Rattle.std.specs.Prelude.{◌≡◌, ℕ, ◌++◌, List, codes, Option, Some, option_map, string_bytes, slice_get}
+use Rattle.std.specs.Prelude.{◌≡◌, ◌≢◌, ℕ, ◌++◌, List, codes, Option, Some, option_map, string_bytes, slice_get}
 use Rattle.std.specs.Borrow.{Bor}
 use Rattle.spec_reader.specs.declared.error.Kind.{Kind as SpecErrorKind}
 use Rattle.spec_reader.specs.declared.error.Kind.TheVariants as spec_kind
@@ -143,10 +143,12 @@ abbrev pub offset_of : SpecFault → ℕ
 offset_of (spec_fault.Text error) = error.offset
 offset_of (spec_fault.Binding error) = error.offset
 
--- what a check tells of a file that is no spec: some line and behind it where in the file that is and what is wrong, or that memory ran out
+-- what a check tells of a file that is no spec: some line and behind it where in the file that is and what is wrong; or that memory ran out, as it
+-- always does where that is the fault
 abbrev pub IsExplained : Path → List ℕ → SpecFault → ProgramFault → Type 0
 IsExplained path text fault (Explained told) =
-    (line sentence : List ℕ) × (string_bytes told ≡ line ++ (codes "\n" ++ explanation path.now text (offset_of fault) sentence))
+    (spec_told path fault ≢ NoMemory)
+    × ((line sentence : List ℕ) × (string_bytes told ≡ line ++ (codes "\n" ++ explanation path.now text (offset_of fault) sentence)))
 IsExplained path text fault told = told ≡ NoMemory
 
 abbrev pub IsCheckTold : Path → List ℕ → CountFault → ProgramFault → Type 0

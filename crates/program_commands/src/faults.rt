@@ -1,9 +1,10 @@
 //! The program's faults for the faults of its calls.
 
-ghost use Rattle.std.specs.Prelude.{◌≡◌, ◌++◌, ◌<◌, List, ℕ, Some, IfOk, codes, length, slice_get, string_bytes};
+ghost use Rattle.std.specs.Prelude.{◌≡◌, ◌≢◌, ◌++◌, ◌<◌, List, ℕ, Some, IfOk, codes, length, slice_get, string_bytes};
 ghost use Rattle.book_commands.specs.Joining.{IsPlaced};
 ghost use Rattle.book_commands.specs.Judging.{IsAcceptedPlace};
 ghost use Rattle.fault_texts.specs.Explanations.{explanation};
+ghost use Rattle.fault_texts.specs.declared.fault.ProgramFault.TheVariants.{NoMemory};
 ghost use Rattle.program_commands.specs.Faults.{IsExplained, offset_of, one_told, count_told, range_told, join_told, report_told, audit_told, judge_told, no_report_told};
 ghost use Rattle.program_commands.specs.Faults.{values_told, file_told, book_told, write_told, spec_told, text_told, binding_told, run_told, start_told};
 
@@ -64,6 +65,7 @@ fn explained_line<'a>(
     text: &[u8],
     fault: SpecFault,
 ) -> ProgramFault<'a>
+    requires { spec_told path.entry fault ≢ NoMemory }
     ensures { IsExplained path.entry text.now fault result }
 {
     match with_explanation(alloc, line, path, text, fault) {

@@ -67,6 +67,8 @@ spec.book | {"facts":[[0,"ran",[[["sent",0],"done"]]]],"format":1,"spec":""}
 rank.book | {"facts":[[0,2,"ran",0]],"format":2,"outcomes":[[[["sent",0],"done"]]],"spec":"session a step s {}"}
 order.book | {"facts":[[0,"ran",[[["sent",0],"done"]]],[0,"ran",[[["sent",0],"done"]]]],"format":1,"spec":"session a step s {}"}
 swap.book | {"facts":[[0,"swap",0]],"format":1,"spec":"session a step s {}"}
+half.book | {"facts":[[0,30000000,"ran",0]],"format":2,"outcomes":[[["done"],["done"],["done"],["done"],["done"],["done"]]],"spec":"session a step a1 {} step a2 {} step a3 {} step a4 {} session b step b1 {} step b2 {} step b3 {} step b4 {} session c step c1 {} step c2 {} step c3 {} step c4 {} session d step d1 {} step d2 {} step d3 {} step d4 {} session e step e1 {} step e2 {} step e3 {} step e4 {} session f step f1 {} step f2 {} step f3 {} step f4 {}"}
+rest.book | {"facts":[[30000000,1,"ran",0]],"format":2,"outcomes":[[["done"],["done"],["done"],["done"],["done"],["done"]]],"spec":"session a step a1 {} step a2 {} step a3 {} step a4 {} session b step b1 {} step b2 {} step b3 {} step b4 {} session c step c1 {} step c2 {} step c3 {} step c4 {} session d step d1 {} step d2 {} step d3 {} step d4 {} session e step e1 {} step e2 {} step e3 {} step e4 {} session f step f1 {} step f2 {} step f3 {} step f4 {}"}
 size.book | {"facts":[[0,30000001,"ran",0]],"format":2,"outcomes":[[[["sent",0],"done"]]],"spec":"session a step s {}"}"#;
 
 /// What a line of words tells over the files.
@@ -190,6 +192,7 @@ fn a_range_gives_the_same_book_by_any_number_of_workers(rt: HostRuntime) -> Resu
 
 /// A line, and the file that has the joined book.
 const JOINS: &str = "isofarm join e.book | e.book
+isofarm join half.book half.book | half.book
 isofarm join none.book | none.book
 isofarm join first.book | first.book
 isofarm join both.book | both.book
@@ -360,7 +363,9 @@ isofarm join spec.book no.book | 3 | spec.book: book error 4
 isofarm join e.book e.book rank.book cut.book | 3 | rank.book: book error 5
 isofarm join order.book cut.book | 3 | order.book: book error 6
 isofarm join e.book swap.book | 3 | swap.book: book error 7
-isofarm join e.book size.book | 3 | size.book: book error 8";
+isofarm join e.book size.book | 3 | size.book: book error 8
+isofarm join half.book rest.book | 3 | book error 8
+isofarm join rest.book half.book | 3 | book error 8";
 
 #[test]
 fn what_is_no_book_is_told_by_its_refusal(rt: HostRuntime) -> Result<(), Fail> {

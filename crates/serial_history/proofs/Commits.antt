@@ -16,22 +16,19 @@ use Rattle.machine_model.specs.World.{World, session_at, look_of, scene_of, gran
 use Rattle.machine_model.specs.declared.status.Status.{Status}
 use Rattle.machine_model.specs.declared.status.Status.TheVariants.{Outside, InBlock, Broken}
 use Rattle.transcripts.specs.declared.event.Event.TheVariants.{Sent, Resumed}
+use Rattle.serial_history.specs.Laws.{ComeFirst}
 use Rattle.serial_history.specs.Serial.{Transaction, Tally, History, commit_of, ended_well, dropped, did, tally_by, tally_end, go_tally, tally_of, goes_told, granted_told, settle_told, send_told, send_all_told}
 
--- the second list goes on where the first one ends
-abbrev GoesOn : List Transaction → List Transaction → Type 0
-GoesOn xs ys = (zs : List Transaction) × (ys ≡ xs ++ zs)
-
-stays : (xs : List Transaction) → GoesOn xs xs
+stays : (xs : List Transaction) → ComeFirst xs xs
 stays xs = ([], sym (append-nil xs))
 
 abbrev Adds : Tally → Tally → Type 0
-Adds t u = GoesOn t.commits u.commits
+Adds t u = ComeFirst t.commits u.commits
 
 abbrev Grows : History → History → Type 0
-Grows h g = GoesOn h.commits g.commits
+Grows h g = ComeFirst h.commits g.commits
 
-then-on : (xs ys zs : List Transaction) → GoesOn xs ys → GoesOn ys zs → GoesOn xs zs
+then-on : (xs ys zs : List Transaction) → ComeFirst xs ys → ComeFirst ys zs → ComeFirst xs zs
 then-on xs ys zs p q = (p.0 ++ q.0, q.1 ∙ ap (λ (l : List Transaction). l ++ q.0) p.1 ∙ append_assoc xs p.0 q.0)
 
 did-on : (st : Bound) (e : Effect) (t : Tally) → Adds t (did st e t)
@@ -95,7 +92,7 @@ go-on e i s rows [] t = end-on s.status t
 go-on e i s rows (Ask nowait r m ∷ ts) t = asked-on e i s rows nowait r m ts t (go-on e i (taking s r m) rows ts t)
 go-on e i s rows (Do st ∷ ts) t = done-on e i s rows st ts t (λ s2 rows2 u. go-on e i s2 rows2 ts u)
 
-goes-on : (w : World) (i : ℕ) (s : Session) (ts : List Task) (h : History) → Grows h (goes_told w i s ts h)
+pub goes-on : (w : World) (i : ℕ) (s : Session) (ts : List Task) (h : History) → Grows h (goes_told w i s ts h)
 goes-on w i s ts h = go-on (scene_of w) i s w.rows ts (tally_of h i)
 
 granted-on : (w : World) (spot : Spot) (h : History) → Grows h (granted_told w spot h)
@@ -111,7 +108,7 @@ next-on n w h None rest = stays h.commits
 next-on n w h (Some spot) rest =
     then-on h.commits (granted_told w spot h).commits (settle_told n (granted w spot) (granted_told w spot h)).commits (granted-on w spot h) (rest spot)
 
-settle-on : (n : ℕ) (w : World) (h : History) → Grows h (settle_told n w h)
+pub settle-on : (n : ℕ) (w : World) (h : History) → Grows h (settle_told n w h)
 settle-on zero w h = stays h.commits
 settle-on (suc n) w h =
     next-on n w h (next_grant (length w.sessions) (look_of w) w.waits) (λ spot. settle-on n (granted w spot) (granted_told w spot h))
@@ -138,6 +135,6 @@ all-on steps w (k ∷ ks) h =
 
 -- the commits of a line's front are a front of the line's commits
 pub front-first : (steps : List Step) (w : World) (ks more : List ℕ) (h : History)
-    → GoesOn (send_all_told steps w ks h).commits (send_all_told steps w (ks ++ more) h).commits
+    → ComeFirst (send_all_told steps w ks h).commits (send_all_told steps w (ks ++ more) h).commits
 front-first steps w [] more h = all-on steps w more h
 front-first steps w (k ∷ ks) more h = front-first steps (send steps w k) ks more (send_told steps w k h)

@@ -2,10 +2,11 @@
 use Rattle.std.specs.Prelude.{◌≡◌, ℕ, List, ◌++◌}
 use Rattle.bound_specs.specs.Spec.{Spec, Step, IsBound}
 use Rattle.machine_model.specs.Start.{Started, start}
+use Rattle.machine_model.specs.Session.{Session, Task}
 use Rattle.machine_model.specs.World.{World, send_all}
 use Rattle.machine_model.specs.Sound.{Sound}
 use Rattle.lock_modes.specs.Rows.{Rows'}
-use Rattle.serial_history.specs.Serial.{History, Transaction, Told, Shown, after_setups, send_all_told, first_rows, start_told}
+use Rattle.serial_history.specs.Serial.{History, Transaction, Told, Shown, after_setups, goes_told, settle_told, send_all_told, first_rows, start_told}
 use Rattle.serial_history.specs.Reading.{Reading, read, told_in, data_of}
 use Rattle.transcripts.specs.declared.event.Event.{Event}
 use Rattle.machine_model.specs.Laws.{IsOf}
@@ -24,11 +25,17 @@ SpecsAreSerial =
     (spec : Spec) (w : World) (ks : List ℕ) → IsBound spec → start spec ≡ Started w
     → Told (first_rows spec) (send_all spec.steps w ks) (send_all_told spec.steps w ks (start_told spec))
 
--- the commits of a line's front are a front of the line's commits: they stand in the order in which they come, whosever they are
-abbrev pub CommitsStayInOrder : Type 0
-CommitsStayInOrder =
-    (steps : List Step) (w : World) (ks more : List ℕ) (h : History)
-    → (later : List Transaction) × ((send_all_told steps w (ks ++ more) h).commits ≡ (send_all_told steps w ks h).commits ++ later)
+-- these commits stand first, in their order, and the others come behind them
+abbrev pub ComeFirst : List Transaction → List Transaction → Type 0
+ComeFirst earlier all = (later : List Transaction) × (all ≡ earlier ++ later)
+
+-- commits stand in the order in which they come, whosever they are: those of a line's front come first in the line's, and within a step those that
+-- there are come before those of the session that goes on, and they before those of the waits that are granted then, one after another
+pub record CommitsStayInOrder : Type 0 where
+  pub fronts : (steps : List Step) (w : World) (ks more : List ℕ) (h : History)
+      → ComeFirst (send_all_told steps w ks h).commits (send_all_told steps w (ks ++ more) h).commits
+  pub going : (w : World) (i : ℕ) (s : Session) (ts : List Task) (h : History) → ComeFirst h.commits (goes_told w i s ts h).commits
+  pub granting : (n : ℕ) (w : World) (h : History) → ComeFirst h.commits (settle_told n w h).commits
 
 -- the history of a line is that of its transcripts: each, read from where its session stood, tells its status, the data events of its open
 -- transaction, and those of each that ended, with whether it was committed; and the session's commits are those that it ended by a commit

@@ -12,7 +12,8 @@ pub fn specs_are_serial()
     ensures { SpecsAreSerial }
 {}
 
-/// The commits of a line's front are a front of the line's commits, so that all commits stand in the order in which they come.
+/// All commits stand in the order in which they come: those of a line's front first, and within a step those of the session that goes on, and then those
+/// of each wait that is granted, in turn.
 pub fn commits_stay_in_order()
     ensures { CommitsStayInOrder }
 {}

@@ -37,7 +37,7 @@ abbrev pub IsShortOf : ReadError → ℕ → ℕ → Type 0
 IsShortOf Fault limit n = n < limit
 IsShortOf NoMemory limit n = n ≤ limit
 
--- known bytes lost a front for which no answer was given
+-- where the bytes to come are known, a front of so many is taken off them, whatever the answer says of it
 abbrev pub LosesFront : Option (List ℕ) → Option (List ℕ) → (ℕ → Type 0) → Type 0
 LosesFront None new IsLen = ⊤
 LosesFront (Some all) new IsLen = (n : ℕ) × IsLen n × Consumes (Some all) new (take n all)

@@ -1,7 +1,5 @@
-use Rattle.std.proofs.Common.{◌+◌, ◌<◌, sym, subst, length, map, take, arith, All, Ok, Bor, List, [], get_or, ℕ}
+use Rattle.std.proofs.Common.{◌+◌, ◌<◌, sym, subst, length, map, take, arith, Ok, Bor, List, [], get_or, ℕ}
 use Rattle.std.proofs.lemmas.List.{get_or-map, length-map}
-use Rattle.std.proofs.lemmas.List.Elements.{All-push}
-use Rattle.accepted_outputs.specs.Judging.{HasFewSessions}
 use Rattle.book_commands.specs.Judging.{AreReports, IsFileReport}
 use Rattle.book_commands.proofs.JudgeLemmas.{report-more}
 use Rattle.book_commands.proofs.judging.reports_of_files.Goals as goal
@@ -16,9 +14,6 @@ loop-place-preserved g c =
     let is : IsFileReport (files (get_or paths c.loop-place.place [])) (Ok c.in-Ok.next) =
     subst (λ p. IsFileReport (files p) (Ok c.in-Ok.next))
     (sym {A = List ℕ} (get_or-map (λ (p : Bor (List ℕ)). p.now) c.args.paths.now c.loop-place.place _ _ c.loop-place-test.true))
-    c.in-Ok.ensures.report in (
-      subst (AreReports files (take (c.loop-place.place + 1) paths)) (sym c.in-Ok-push.ensures.items)
-          (report-more files paths c.loop-place.place c.loop-place.reports.items c.in-Ok.next lt c.loop-place.invariant.0 is),
-      subst (All HasFewSessions) (sym c.in-Ok-push.ensures.items)
-          (All-push HasFewSessions c.loop-place.reports.items c.in-Ok.next c.loop-place.invariant.1 c.in-Ok.ensures.few),
-    )
+    c.in-Ok.ensures in
+    subst (AreReports files (take (c.loop-place.place + 1) paths)) (sym c.in-Ok-push.ensures.items)
+    (report-more files paths c.loop-place.place c.loop-place.reports.items c.in-Ok.next lt c.loop-place.invariant is)

@@ -1,4 +1,4 @@
-use Rattle.std.proofs.Common.{ap, subst, arith}
+use Rattle.std.proofs.Common.{ap, subst, arith, Ok}
 use Rattle.std.specs.Result.{IfOk, IfErr}
 use Rattle.bound_specs.specs.Spec.{ranks}
 use Rattle.rank_facts.specs.Swap.{leads_in}
@@ -7,8 +7,15 @@ use Rattle.fact_books.specs.declared.about.About.{About}
 use Rattle.fact_books.specs.Entries.{recorded}
 use Rattle.fact_books.specs.Books.{Contents}
 use Rattle.fact_books.specs.Values.{AreValues, IsNotReported, IsCovering}
+use Rattle.fact_books.proofs.Recordable.{few-told}
 use Rattle.fact_books.proofs.ReportLemmas.{values-answered, stop-answered, covering-answered}
 use Rattle.fact_books.proofs.reporting.report.Goals as goal
+
+pub report_of-requires-clause-few : goal.report_of-requires-clause-few
+report_of-requires-clause-few c = λ values are.
+    few-told _ _ _ c.book.invariant.about_is.is_file c.book.invariant.recordable values
+    (values-answered _ _ _ c.book.invariant _ _ _ _ c.outcomes.ensures c.as_slice.ensures.value (ap (λ (a : About). a.shape) c.deref-2.ensures)
+    (ap (λ (a : About). a.ranks) c.deref-3.ensures) (Ok values) are)
 
 pub returns-clause-values : goal.returns-clause-values
 returns-clause-values c =

@@ -1,17 +1,15 @@
-use Rattle.farm_headline.proofs.FarmLemmas.{told-serial, told-answers, not-reported}
+use Rattle.farm_headline.proofs.FarmLemmas.{told-of-both, not-reported}
 use Rattle.farm_headline.proofs.farms.report_of_two_farms.Goals as goal
 
 -- the report is written: by the laws on what is run, and on reports of true facts
 pub returns-in-Ok-write_report : goal.returns-in-Ok-write_report
 returns-in-Ok-write_report g c =
-    let file = c.args.spec.now in
-    let a = c.args.first.now in
-    let b = c.args.second.now in
-    let own = c.known.ensures.file in
     let told = c.in-Ok-write_report.ensures in
     let laws = c.reports_are_the_machines.ensures in (
-      told-serial file a b c.in-Ok.book own c.in-Ok.ensures laws.serial,
-      (told.0, told-answers file a b c.in-Ok.book own c.in-Ok.ensures c.runs_are_true.ensures.truth laws.reports told.0 told.1, told.2),
+      told.0,
+      told-of-both c.args.spec.now c.args.first.now c.args.second.now c.in-Ok.book c.known.ensures.file c.in-Ok.ensures c.runs_are_true.ensures.truth
+          laws.reports laws.serial told.0 told.1,
+      told.2,
     )
 
 -- it is not
@@ -19,11 +17,6 @@ pub returns : goal.returns
 returns g c =
     let runs = c.runs_are_true.ensures in
     let laws = c.reports_are_the_machines.ensures in
-    not-reported c.args.spec.now c.args.first.now c.args.second.now c.in-Ok.book c.known.ensures.file c.in-Ok.ensures c.known.ensures.facts runs.truth runs.missing
-    laws.covering
-    g.W.Write.contents
-    c.args.out.now
-    c.write_report.new.out
-    c.in-Err-write_report.fault
-    laws.reports
+    not-reported c.args.spec.now c.args.first.now c.args.second.now c.in-Ok.book c.known.ensures.file c.in-Ok.ensures runs.truth c.known.ensures.facts
+    runs.missing laws.covering g.W.Write.contents c.args.out.now c.write_report.new.out c.in-Err-write_report.fault laws.reports laws.serial
     c.in-Err-write_report.ensures

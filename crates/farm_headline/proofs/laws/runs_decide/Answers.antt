@@ -1,4 +1,5 @@
 use Rattle.farm_headline.proofs.JoinLemmas.{jobs-hold, farms-hold, ranges-hold, runs-hold, joins-hold, runs-decide}
+use Rattle.farm_headline.proofs.LeftLemmas.{lefts-hold}
 use Rattle.farm_headline.proofs.laws.runs_decide.Goals as goal
 
 pub returns-clause-job : goal.returns-clause-job
@@ -6,6 +7,9 @@ returns-clause-job c = jobs-hold
 
 pub returns-clause-farm : goal.returns-clause-farm
 returns-clause-farm c = farms-hold
+
+pub returns-clause-left : goal.returns-clause-left
+returns-clause-left c = lefts-hold
 
 pub returns-clause-range : goal.returns-clause-range
 returns-clause-range c = ranges-hold

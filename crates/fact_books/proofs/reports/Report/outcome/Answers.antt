@@ -11,7 +11,7 @@ bounds-outcomes-n c =
     let few : c.args.rank < length c.as_slice-numbers.result.now = omega (arith, long, c.len.ensures, c.if-rank-len.false) in
     subst (λ os. get_or c.as_slice-numbers.result.now c.args.rank 0 < length os) (sym c.as_slice-outcomes.ensures.value)
     (below-at (length c.self.inside.outcomes.items) c.as_slice-numbers.result.now c.args.rank 0 few
-    (subst (AllBelow (length c.self.inside.outcomes.items)) (sym numbers) c.self.invariant))
+    (subst (AllBelow (length c.self.inside.outcomes.items)) (sym numbers) c.self.invariant.numbered))
 
 pub offset_bounds-outcomes-n : goal.offset_bounds-outcomes-n
 offset_bounds-outcomes-n c =
@@ -21,7 +21,7 @@ offset_bounds-outcomes-n c =
     let lt : get_or c.as_slice-numbers.result.now c.args.rank 0 < length c.as_slice-outcomes.result.now =
     subst (λ os. get_or c.as_slice-numbers.result.now c.args.rank 0 < length os) (sym c.as_slice-outcomes.ensures.value)
     (below-at (length c.self.inside.outcomes.items) c.as_slice-numbers.result.now c.args.rank 0 few
-    (subst (AllBelow (length c.self.inside.outcomes.items)) (sym numbers) c.self.invariant)) in
+    (subst (AllBelow (length c.self.inside.outcomes.items)) (sym numbers) c.self.invariant.numbered)) in
     search rules
 
 pub returns : goal.returns
@@ -35,4 +35,4 @@ returns c =
     c.self.view_is few (default-at c.as_slice-numbers.result.now c.self.inside.numbers.items c.args.rank numbers few)
     (c.index-outcomes-n.is ∙ ap (λ os. get_or os (get_or c.as_slice-numbers.result.now c.args.rank 0) c.index-outcomes-n.result) outcomes)
     (subst (λ ns. get_or ns c.args.rank 0 < length c.self.inside.outcomes.items) (sym numbers)
-    (below-at (length c.self.inside.outcomes.items) c.self.inside.numbers.items c.args.rank 0 few c.self.invariant))
+    (below-at (length c.self.inside.outcomes.items) c.self.inside.numbers.items c.args.rank 0 few c.self.invariant.numbered))
