@@ -52,8 +52,12 @@ one-new c old (e ∷ es) x m = at (same_edges old (e ∷ es)) refl m
   where
     here : same_edges old (e ∷ es) ≡ false → x ≡ record { session = c; edges = e ∷ es } → IsNew c old (e ∷ es) x
     here is k =
-        subst (IsNew c old (e ∷ es)) (sym k)
-        (refl, refl, (λ h. let y : e ∷ es ≡ [] = h in cc), (λ h. both_ways (same_edges old (e ∷ es)) is (subst (λ z. same_edges old z ≡ true) h (edges-refl old))))
+        subst (IsNew c old (e ∷ es)) (sym k) (
+          refl,
+          refl,
+          (λ h. let y : e ∷ es ≡ [] = h in cc),
+          (λ h. both_ways (same_edges old (e ∷ es)) is (subst (λ z. same_edges old z ≡ true) h (edges-refl old))),
+        )
 
     at : (b : Bool) → same_edges old (e ∷ es) ≡ b → Among x (cond b [] (record { session = c; edges = e ∷ es } ∷ [])) → IsNew c old (e ∷ es) x
     at true is k = absurd k

@@ -10,14 +10,17 @@ use Rattle.lock_modes.specs.RowPlace.{RowPlace}
 use Rattle.lock_modes.specs.Rows.{Rows', Tuple, Write}
 use Rattle.finite_maps.specs.Map.{entries}
 use Rattle.row_tables.specs.Overlay.{lay}
-use Rattle.statement_evaluation.specs.Effect.{Effect, Gives, Faults, effect, shown, all_aggregated, or_fault, matching, visible, sorted_by, placed, all_assigned, counted}
+use Rattle.statement_evaluation.specs.Effect.{Effect, Gives, Faults, effect, shown, all_aggregated, or_fault, matching, visible, sorted_by, placed}
+use Rattle.statement_evaluation.specs.Effect.{all_assigned, counted}
 use Rattle.bound_specs.specs.Spec.{Step, no_step}
 use Rattle.bound_statements.specs.declared.statement.Output.{Output}
 use Rattle.bound_statements.specs.declared.statement.Output.TheVariants.{Columns, Aggregates}
 use Rattle.bound_statements.specs.declared.statement.Bound.{Bound}
 use Rattle.bound_statements.specs.declared.statement.Bound.TheVariants.{Select, Insert, Update, Delete, Begin, Commit, Rollback, Lock, SetVariable}
 use Rattle.transcripts.specs.declared.event.Event.{Event}
-use Rattle.transcripts.specs.declared.event.Event.TheVariants.{Sent, Inserted, Updated, Deleted, Began, Committed, RolledBack, Warned, Failed, Waiting, Resumed, Done, NotSent}
+use Rattle.transcripts.specs.declared.event.Event.TheVariants.{Sent, Row as RowEvent, Rows, Inserted, Updated, Deleted, Began, Committed, RolledBack}
+use Rattle.transcripts.specs.declared.event.Event.TheVariants.{Warned, Failed, Waiting}
+use Rattle.transcripts.specs.declared.event.Event.TheVariants.{Resumed, Done, NotSent}
 use Rattle.transcripts.specs.declared.event.Fault.{Fault}
 use Rattle.transcripts.specs.declared.event.Fault.TheVariants.{Duplicate, OutOfRange, Deadlock, Aborted, Unavailable}
 use Rattle.transcripts.specs.declared.event.Warning.TheVariants.{InBlock as AlreadyInBlock, NoBlock}
@@ -26,7 +29,8 @@ use Rattle.machine_model.specs.declared.reply.Reply.TheVariants.{Had, Waits, Ref
 use Rattle.machine_model.specs.declared.status.Status.{Status}
 use Rattle.machine_model.specs.declared.status.Status.TheVariants.{Outside, InBlock, Broken}
 use Rattle.machine_model.specs.Events.{is_effect}
-use Rattle.machine_model.specs.Session.{Session, Task, Ask, Do, Performed, Goes, Fails, Kind, Begins, Commits, RollsBack, Works, kind, perform, perform_by, worked}
+use Rattle.machine_model.specs.Session.{Session, Task, Ask, Do, Performed, Goes, Fails, Kind, Begins, Commits, RollsBack, Works, kind, perform, perform_by}
+use Rattle.machine_model.specs.Session.{worked}
 use Rattle.machine_model.specs.Session.{tasks_of}
 use Rattle.machine_model.specs.Go.{Scene, Run, go, taking, is_broken, replied, reply_in, look_with, waiting_with, finished_by, stopped, failed, held_up}
 use Rattle.machine_model.specs.World.{World, session_at, look_of, scene_of}
@@ -35,7 +39,8 @@ use Rattle.machine_model.proofs.Telling.{AllEffects, TellsEffects, effect-tells}
 use Rattle.machine_model.proofs.Settles.{entering-granted, idle-each}
 use Rattle.lock_queues.specs.Reasons.{Want, Among}
 use Rattle.lock_queues.specs.Rings.{Hop, ring_told}
-use Rattle.line_moments.specs.Moments.{Sends, GoesOn, Skips, Going, behind, line_goings, go_ring, ring_refused, told_only, holding, without, ending_by, Loses, moment_of, ring_by}
+use Rattle.line_moments.specs.Moments.{Sends, GoesOn, Skips, Going, behind, line_goings, go_ring, ring_refused, told_only, holding, without, ending_by}
+use Rattle.line_moments.specs.Moments.{Loses, moment_of, ring_by}
 use Rattle.line_moments.specs.Moments.{want_in, session_by, events_by}
 use Rattle.lock_queues.proofs.Edges.{among-parts, among-right, want-waits}
 use Rattle.line_moments.proofs.Losing.{loses-is, replied-ring}
@@ -57,8 +62,7 @@ shown-no (Aggregates each) es = on (all_aggregated each es)
   where
     on : (o : Option (List Value)) → NoRingIn (elim o [
       | None ↦ Faults OutOfRange
-      | Some vs ↦ Gives (Rattle.transcripts.specs.declared.event.Event.TheVariants.Row vs
-          ∷ Rattle.transcripts.specs.declared.event.Event.TheVariants.Rows 1 ∷ []) []
+      | Some vs ↦ Gives (RowEvent vs ∷ Rows 1 ∷ []) []
     ])
     on None = range-no
     on (Some vs) = tt
@@ -186,7 +190,8 @@ go-lost e i s rows (Ask nowait r m ∷ ts) l = at (is_broken s.status) (reply_in
     at false Had is k rec = rec k
     at false Waits is k rec = inl (lost-push s.transcript Waiting (λ e. cc) k)
     at false (Refused f) is k rec =
-        ⊎_elim (λ h. inl (lost-fault s.transcript f h k)) (λ h. inr h) (refused-by _ nowait _ f (ring_told e.count (look_with e i s.held) (waiting_with e i r m) i) is)
+        ⊎_elim (λ h. inl (lost-fault s.transcript f h k)) (λ h. inr h)
+        (refused-by _ nowait _ f (ring_told e.count (look_with e i s.held) (waiting_with e i r m) i) is)
 go-lost e i s rows (Do st ∷ ts) l = at (perform s rows st) (perform_by-none s.status (kind st) s rows st) l (λ s2 rows2. go-lost e i s2 rows2 ts)
   where
     at : (p : Performed) → NoneNew s.transcript p
@@ -244,6 +249,10 @@ wants-none : (o : Option Want) → ((want : Want) → o ≡ Some want → ⊥) �
 wants-none None h = refl
 wants-none (Some x) h = absurd (h x refl)
 
+-- nothing is told of who does not wait
+wants-nothing : (v : World) (i : ℕ) → EachWait (λ u. u.session ≢ i) v.waits → want_in v i ≡ None
+wants-nothing v i idle = wants-none _ (λ want e. not-idle v.waits i (want-waits (length v.sessions) (look_of v) v.waits i want e) idle)
+
 loses-by : (o : Option Want) (r : Option (List Hop)) (hs : List Hop) → o ≡ None → r ≡ Some hs → ending_by o r ≡ Loses hs
 loses-by o r hs p q = ap (λ x. ending_by x r) p ∙ ap (ending_by None) q
 
@@ -251,23 +260,19 @@ abbrev Told : List Step → Going → Type 0
 Told steps g = Lost (moment_of steps g).events ↔ ((hs : List Hop) × ((moment_of steps g).ending ≡ Loses hs))
 
 -- a session that goes, in a world where it does not wait
-going-told : (steps : List Step) (g : Going) (w : World) (t : List Event) (u : Session) (ts : List Task) → EachWait (λ v. v.session ≢ session_by steps g.cause) w.waits
+going-told : (steps : List Step) (g : Going) (w : World) (t : List Event) (u : Session) (ts : List Task)
+    → EachWait (λ v. v.session ≢ session_by steps g.cause) w.waits
     → (Lost u.transcript → ⊥) → events_by steps g.world g.cause ≡ (go (scene_of w) (session_by steps g.cause) u w.rows ts).session.transcript
     → ring_by steps g.world g.cause ≡ go_ring (scene_of w) (session_by steps g.cause) u w.rows ts
     → (behind steps g).waits ≡ (go (scene_of w) (session_by steps g.cause) (before t u) w.rows ts).waits → Told steps g
 going-told steps g w t u ts idle none events ring waits = (to, from)
   where
-    i : ℕ
-    i = session_by steps g.cause
-
-    run : Run
-    run = go (scene_of w) i u w.rows ts
-
     found : Lost (go (scene_of w) (session_by steps g.cause) u w.rows ts).session.transcript
         → RingIn (scene_of w) (session_by steps g.cause) u w.rows ts
     found m = ⊎_elim (λ h. absurd (none h)) (λ h. h) (go-lost (scene_of w) (session_by steps g.cause) u w.rows ts m)
 
-    to : Lost (events_by steps g.world g.cause) → (hs : List Hop) × (ending_by (want_in (behind steps g) (session_by steps g.cause)) (ring_by steps g.world g.cause) ≡ Loses hs)
+    to : Lost (events_by steps g.world g.cause)
+        → (hs : List Hop) × (ending_by (want_in (behind steps g) (session_by steps g.cause)) (ring_by steps g.world g.cause) ≡ Loses hs)
     to m =
         let r = found (subst Lost events m) in
         let same : (behind steps g).waits ≡ w.waits =
@@ -275,8 +280,7 @@ going-told steps g w t u ts idle none events ring waits = (to, from)
         ∙ (go-told (scene_of w) (session_by steps g.cause) u w.rows ts r.0 r.1).1 in (
           r.0,
           loses-by (want_in (behind steps g) (session_by steps g.cause)) (ring_by steps g.world g.cause) r.0
-              (wants-none _ (λ want e. not-idle w.waits (session_by steps g.cause)
-              (subst (λ ws. waits_now ws (session_by steps g.cause) ≡ true) same (want-waits (length (behind steps g).sessions) (look_of (behind steps g)) (behind steps g).waits (session_by steps g.cause) want e)) idle))
+              (wants-nothing (behind steps g) (session_by steps g.cause) (subst (EachWait (λ v. v.session ≢ session_by steps g.cause)) (sym same) idle))
               (ring ∙ r.1),
         )
 

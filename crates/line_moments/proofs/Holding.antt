@@ -1,5 +1,6 @@
 -- What each session holds, changed by what it got and let go, is what it holds then.
-use Rattle.std.proofs.Common.{◌≡◌, ◌≢◌, refl, sym, ap, ◌∙◌, subst, ℕ, zero, suc, ◌<◌, Bool, true, false, cond, ◌==◌, List, [], ◌∷◌, ◌++◌, length, map, set}
+use Rattle.std.proofs.Common.{◌≡◌, ◌≢◌, refl, sym, ap, ◌∙◌, ℕ, zero, suc, ◌<◌, Bool, true, false, cond, ◌==◌, List, [], ◌∷◌, ◌++◌, length, map, set}
+use Rattle.std.proofs.Common.{append_assoc}
 use Rattle.std.proofs.Common.{get_or, Option, Some, None, ⊎_elim, eqb-true, eq-eqb, get_or-set_same, get_or-set_other}
 use Rattle.finite_maps.specs.Map.{get, insert, empty, entries, same_list}
 use Rattle.lock_modes.specs.declared.mode.Mode.{Mode}
@@ -16,7 +17,8 @@ use Rattle.machine_model.specs.declared.reply.Reply.{Reply}
 use Rattle.machine_model.specs.declared.reply.Reply.TheVariants.{Had as IsHad, Waits, Refused}
 use Rattle.machine_model.specs.declared.status.Status.{Status}
 use Rattle.machine_model.specs.declared.status.Status.TheVariants.{Outside, InBlock, Broken}
-use Rattle.machine_model.specs.Session.{Session, Held, Task, Ask, Do, Performed, Goes, Fails, Kind, Begins, Commits, RollsBack, Works, kind, perform, perform_by}
+use Rattle.machine_model.specs.Session.{Session, Held, Task, Ask, Do, Performed, Goes, Fails, Kind, Begins, Commits, RollsBack, Works, kind, perform}
+use Rattle.machine_model.specs.Session.{perform_by}
 use Rattle.machine_model.specs.Session.{worked, note, tasks_of}
 use Rattle.machine_model.specs.Go.{Scene, Run, go, taking, is_broken, reply_in, finished_by, stopped, failed, held_up}
 use Rattle.machine_model.specs.World.{World, fresh, session_at, look_of, scene_of, granted, settle_for, settle, left_to_do, send, send_all}
@@ -202,7 +204,7 @@ changes-append steps c [] hs = refl
 changes-append steps c (g ∷ gs) hs =
     let cs = its_part (session_by steps g.cause) (changes_by steps g.world g.cause) c in
     ap (λ x. cs ++ x) (changes-append steps c gs hs)
-    ∙ sym (Rattle.std.proofs.Common.append_assoc cs (changes_to c (map (moment_of steps) gs)) (changes_to c (map (moment_of steps) hs)))
+    ∙ sym (append_assoc cs (changes_to c (map (moment_of steps) gs)) (changes_to c (map (moment_of steps) hs)))
 
 pub line-holds : (steps : List Step) (w : World) (ks : List ℕ) → Sound w → ((k : ℕ) → (get_or steps k no_step).session < length w.sessions)
     → (c : ℕ) → (session_at (send_all steps w ks) c).held ≡ changed (session_at w c).held (changes_to c (line_moments steps w ks))

@@ -22,7 +22,8 @@ use Rattle.machine_model.specs.World.{World, session_at, scene_of}
 use Rattle.machine_model.specs.Sound.{Sound}
 use Rattle.machine_model.proofs.Settles.{Entering, entering, entering-granted, steady-of}
 use Rattle.line_moments.specs.Moments.{Change, Had, let_go, changed, did_changes, go_changes, changes_by, Sends, GoesOn, Skips, Going, behind, line_goings}
-use Rattle.line_moments.specs.Moments.{go_ring, ring_refused, told_only, holding, without, ending_by, Loses, moment_of, ring_by, want_in, session_by, scene_by, IsLost}
+use Rattle.line_moments.specs.Moments.{go_ring, ring_refused, told_only, holding, without, ending_by, Loses, moment_of, ring_by, want_in, session_by}
+use Rattle.line_moments.specs.Moments.{scene_by, IsLost}
 use Rattle.line_moments.proofs.Holding.{HeldAfter, did-changed, changed-append}
 use Rattle.line_moments.proofs.Waiting.{line-each}
 

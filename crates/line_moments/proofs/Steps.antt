@@ -1,6 +1,7 @@
 -- Each moment of a line is of a step of its session.
 use Rattle.std.specs.List.{All}
-use Rattle.std.proofs.Common.{◌≡◌, ◌≢◌, refl, sym, ap, ◌∙◌, subst, ℕ, zero, suc, ◌<◌, Bool, true, false, ◌||◌, ◌==◌, List, [], ◌∷◌, ◌++◌, length, get_or, Option}
+use Rattle.std.proofs.Common.{◌≡◌, ◌≢◌, refl, sym, ap, ◌∙◌, subst, ℕ, zero, suc, ◌<◌, Bool, true, false, ◌||◌, ◌==◌, List, [], ◌∷◌, ◌++◌, length, get_or}
+use Rattle.std.proofs.Common.{Option}
 use Rattle.std.proofs.Common.{Some, None, ⊎_elim, arith, eqb-true, eq-eqb, get_or-set_same, get_or-set_other}
 use Rattle.std.proofs.lemmas.Bool.{or_cases, or_left, or_right}
 use Rattle.lock_queues.specs.declared.wait.Wait.{Wait}
@@ -12,7 +13,8 @@ use Rattle.statement_evaluation.specs.Effect.{Effect, Gives, Faults, effect}
 use Rattle.bound_specs.specs.Spec.{Step, no_step}
 use Rattle.bound_statements.specs.declared.statement.Bound.{Bound}
 use Rattle.transcripts.specs.declared.event.Event.{Event}
-use Rattle.transcripts.specs.declared.event.Event.TheVariants.{Sent, Row as RowEvent, Rows, Inserted, Updated, Deleted, Began, Committed, RolledBack, Locked, Set}
+use Rattle.transcripts.specs.declared.event.Event.TheVariants.{Sent, Row as RowEvent, Rows, Inserted, Updated, Deleted, Began, Committed, RolledBack}
+use Rattle.transcripts.specs.declared.event.Event.TheVariants.{Locked, Set}
 use Rattle.transcripts.specs.declared.event.Event.TheVariants.{Warned, Failed, Waiting, Resumed, Done, NotSent}
 use Rattle.transcripts.specs.declared.event.Fault.{Fault}
 use Rattle.transcripts.specs.declared.event.Fault.TheVariants.{Aborted}
@@ -23,7 +25,8 @@ use Rattle.machine_model.specs.declared.status.Status.{Status}
 use Rattle.machine_model.specs.declared.status.Status.TheVariants.{Outside, InBlock, Broken}
 use Rattle.machine_model.specs.Events.{is_effect}
 use Rattle.machine_model.specs.Outcome.{IsOwnStep}
-use Rattle.machine_model.specs.Session.{Session, Task, Ask, Do, Performed, Goes, Fails, Kind, Begins, Commits, RollsBack, Works, kind, perform, perform_by, worked, note}
+use Rattle.machine_model.specs.Session.{Session, Task, Ask, Do, Performed, Goes, Fails, Kind, Begins, Commits, RollsBack, Works, kind, perform, perform_by}
+use Rattle.machine_model.specs.Session.{worked, note}
 use Rattle.machine_model.specs.Session.{tasks_of}
 use Rattle.machine_model.specs.Go.{Scene, Run, go, taking, is_broken, reply_in, finished_by, stopped, failed, held_up}
 use Rattle.machine_model.specs.World.{World, fresh, session_at, look_of, scene_of, goes, granted, settle_for, settle, left_to_do, send, send_all}

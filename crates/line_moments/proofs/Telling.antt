@@ -3,7 +3,7 @@ use Rattle.std.proofs.Common.{◌≡◌, ◌≢◌, refl, sym, ap, ◌∙◌, �
 use Rattle.std.proofs.Common.{get_or, Option, Some, None, ⊎_elim, append_assoc, append-nil, eqb-true, eq-eqb}
 use Rattle.lock_queues.specs.Locks.{Spot, next_grant, waits_now}
 use Rattle.lock_modes.specs.Rows.{Rows'}
-use Rattle.row_tables.specs.Overlay.{lay}
+use Rattle.row_tables.specs.Overlay.{lay, written}
 use Rattle.statement_evaluation.specs.Effect.{Effect, Gives, Faults, effect}
 use Rattle.bound_specs.specs.Spec.{Step, no_step}
 use Rattle.bound_statements.specs.declared.statement.Bound.{Bound}
@@ -16,9 +16,9 @@ use Rattle.machine_model.specs.declared.reply.Reply.{Reply}
 use Rattle.machine_model.specs.declared.reply.Reply.TheVariants.{Had, Waits, Refused}
 use Rattle.machine_model.specs.declared.status.Status.{Status}
 use Rattle.machine_model.specs.declared.status.Status.TheVariants.{Outside, InBlock, Broken}
-use Rattle.machine_model.specs.Session.{Session, Task, Ask, Do, Performed, Goes, Fails, Kind, Begins, Commits, RollsBack, Works, kind, perform, perform_by, worked, note}
-use Rattle.machine_model.specs.Session.{tasks_of}
-use Rattle.machine_model.specs.Go.{Scene, Run, Stop, go, taking, is_broken, reply_in, finished_by, stopped, failed, held_up}
+use Rattle.machine_model.specs.Session.{Session, Task, Ask, Do, Performed, Goes, Fails, Kind, Begins, Commits, RollsBack, Works, kind, perform, perform_by}
+use Rattle.machine_model.specs.Session.{worked, note, tasks_of, ended, released}
+use Rattle.machine_model.specs.Go.{Scene, Run, go, taking, is_broken, reply_in, finished_by, stopped, failed, held_up, broken_off, waiting_with}
 use Rattle.std.proofs.Common.{take, ◌≤◌, arith, get_or-set_same, get_or-set_other}
 use Rattle.machine_model.specs.World.{fresh, outcome_of}
 use Rattle.machine_model.specs.Sound.{Steady, Sound}
@@ -53,7 +53,7 @@ push2 t u d e = ap (λ x. x ++ e ∷ []) (push t u d) ∙ push t (u ++ d ∷ [])
 
 worked-before : (t : List Event) (s : Session) (rows : Rows') (f : Effect) → worked (before t s) rows f ≡ before_done t (worked s rows f)
 worked-before t s rows (Gives events writes) =
-    ap (λ x. Goes (record s { overlay = Rattle.row_tables.specs.Overlay.written writes s.overlay; transcript = x }) rows) (append_assoc t s.transcript events)
+    ap (λ x. Goes (record s { overlay = written writes s.overlay; transcript = x }) rows) (append_assoc t s.transcript events)
 worked-before t s rows (Faults f) = refl
 
 perform_by-before : (t : List Event) (b : Status) (k : Kind) (s : Session) (rows : Rows') (st : Bound)
@@ -62,17 +62,17 @@ perform_by-before t Outside Begins s rows st = ap (λ x. Goes (record s { status
 perform_by-before t InBlock Begins s rows st = ap (λ x. Goes (record s { transcript = x }) rows) (push2 t s.transcript (Warned AlreadyInBlock) Began)
 perform_by-before t Broken Begins s rows st = refl
 perform_by-before t Outside Commits s rows st =
-    ap (λ x. Goes (record (Rattle.machine_model.specs.Session.ended s) { transcript = x }) (lay s.overlay rows)) (push2 t s.transcript (Warned NoBlock) Committed)
+    ap (λ x. Goes (record (ended s) { transcript = x }) (lay s.overlay rows)) (push2 t s.transcript (Warned NoBlock) Committed)
 perform_by-before t InBlock Commits s rows st =
-    ap (λ x. Goes (record (Rattle.machine_model.specs.Session.ended s) { transcript = x }) (lay s.overlay rows)) (push t s.transcript Committed)
+    ap (λ x. Goes (record (ended s) { transcript = x }) (lay s.overlay rows)) (push t s.transcript Committed)
 perform_by-before t Broken Commits s rows st =
-    ap (λ x. Goes (record (Rattle.machine_model.specs.Session.ended s) { transcript = x }) rows) (push t s.transcript RolledBack)
+    ap (λ x. Goes (record (ended s) { transcript = x }) rows) (push t s.transcript RolledBack)
 perform_by-before t Outside RollsBack s rows st =
-    ap (λ x. Goes (record (Rattle.machine_model.specs.Session.ended s) { transcript = x }) rows) (push2 t s.transcript (Warned NoBlock) RolledBack)
+    ap (λ x. Goes (record (ended s) { transcript = x }) rows) (push2 t s.transcript (Warned NoBlock) RolledBack)
 perform_by-before t InBlock RollsBack s rows st =
-    ap (λ x. Goes (record (Rattle.machine_model.specs.Session.ended s) { transcript = x }) rows) (push t s.transcript RolledBack)
+    ap (λ x. Goes (record (ended s) { transcript = x }) rows) (push t s.transcript RolledBack)
 perform_by-before t Broken RollsBack s rows st =
-    ap (λ x. Goes (record (Rattle.machine_model.specs.Session.ended s) { transcript = x }) rows) (push t s.transcript RolledBack)
+    ap (λ x. Goes (record (ended s) { transcript = x }) rows) (push t s.transcript RolledBack)
 perform_by-before t Outside Works s rows st = worked-before t s rows (effect st (lay s.overlay rows))
 perform_by-before t InBlock Works s rows st = worked-before t s rows (effect st (lay s.overlay rows))
 perform_by-before t Broken Works s rows st = refl
@@ -80,13 +80,13 @@ perform_by-before t Broken Works s rows st = refl
 failed-before : (t : List Event) (e : Scene) (s : Session) (rows : Rows') (f : Fault)
     → stopped e (failed (before t s) rows f) ≡ before_run t (stopped e (failed s rows f))
 failed-before t e s rows f =
-    ap (λ x. let r : Run = stopped e (record { session = record (Rattle.machine_model.specs.Go.broken_off s f) { transcript = x }; rows = rows }) in r)
+    ap (λ x. let r : Run = stopped e (record { session = record (broken_off s f) { transcript = x }; rows = rows }) in r)
     (append_assoc t s.transcript (Failed f ∷ Done ∷ []))
 
 finished-before : (t : List Event) (e : Scene) (b : Status) (s : Session) (rows : Rows')
     → stopped e (finished_by b (before t s) rows) ≡ before_run t (stopped e (finished_by b s rows))
 finished-before t e Outside s rows =
-    ap (λ x. let r : Run = stopped e (record { session = record (Rattle.machine_model.specs.Session.released s) { transcript = x }; rows = lay s.overlay rows }) in r)
+    ap (λ x. let r : Run = stopped e (record { session = record (released s) { transcript = x }; rows = lay s.overlay rows }) in r)
     (push t s.transcript Done)
 finished-before t e InBlock s rows =
     ap (λ x. let r : Run = stopped e (record { session = record s { transcript = x }; rows = rows }) in r) (push t s.transcript Done)
@@ -114,8 +114,8 @@ go-before t e i s rows (Ask nowait r m ∷ ts) = at (is_broken s.status) (reply_
     at true a rec = failed-before t e s rows Aborted
     at false Had rec = rec
     at false Waits rec =
-        ap (λ x. let r : Run = record { session = record s { rest = ts; transcript = x }; rows = rows; waits = Rattle.machine_model.specs.Go.waiting_with e i r m }
-        in r) (push t s.transcript Waiting)
+        ap (λ x. let y : Run = record { session = record s { rest = ts; transcript = x }; rows = rows; waits = waiting_with e i r m } in y)
+        (push t s.transcript Waiting)
     at false (Refused f) rec = failed-before t e s rows f
 go-before t e i s rows (Do st ∷ ts) = at (perform (before t s) rows st) (perform s rows st) (perform_by-before t s.status (kind st) s rows st)
     (λ s2 rows2. go-before t e i s2 rows2 ts)

@@ -10,7 +10,8 @@ use Rattle.machine_model.specs.Laws.{IsOf}
 use Rattle.machine_model.specs.Start.{Started, start}
 use Rattle.machine_model.specs.Sound.{Sound}
 use Rattle.machine_model.specs.World.{World, look_of, session_at, send_all, outcome_of}
-use Rattle.line_moments.specs.Moments.{Going, behind, line_goings, line_moments, told_to, told_by, Leads, moment_of, session_by, Awaits, want_in, Loses, scene_by, IsLost, changes_to, changed, IsTrue, Still, edges_in, KnowsSteps, IsOfStep}
+use Rattle.line_moments.specs.Moments.{Going, behind, line_goings, line_moments, told_to, told_by, Leads, moment_of, session_by, Awaits, want_in, Loses}
+use Rattle.line_moments.specs.Moments.{scene_by, IsLost, changes_to, changed, IsTrue, Still, edges_in, KnowsSteps, IsOfStep}
 
 -- the moments of a line lead from its first world to its last, each going on where the one before it left the world
 abbrev pub MomentsLead : Type 0

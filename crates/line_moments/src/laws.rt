@@ -1,6 +1,7 @@
 //! The laws of moments, each the contract of a function that does nothing.
 
-ghost use Rattle.line_moments.specs.Laws.{MomentsLead, MomentsTell, MomentsAreOutcomes, WantsAreExact, MomentsWait, MomentsLose, MomentsHold, MomentsAreTrue, RingsAreTold, StillIsExact, MomentsAreOfSteps, SpecsMomentsAreOfSteps};
+ghost use Rattle.line_moments.specs.Laws.{MomentsLead, MomentsTell, MomentsAreOutcomes, WantsAreExact, MomentsWait, MomentsLose, MomentsHold};
+ghost use Rattle.line_moments.specs.Laws.{MomentsAreTrue, RingsAreTold, StillIsExact, MomentsAreOfSteps, SpecsMomentsAreOfSteps};
 
 /// The moments of a line lead from its first world to its last.
 pub fn moments_lead()

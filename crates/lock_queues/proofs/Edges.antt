@@ -11,9 +11,9 @@ use Rattle.lock_modes.specs.Resource.{same_resource}
 use Rattle.lock_queues.specs.declared.wait.Wait.{Wait}
 use Rattle.lock_queues.specs.Locks.{Spot, Look, fits_with, wanted_by, converts, ahead, spots_from, spots, holds_up, waits_now}
 use Rattle.lock_queues.specs.Rules.{IsSpot}
-use Rattle.lock_queues.specs.Sound.{EachWait, Distinct, IsSound}
-use Rattle.lock_queues.specs.LockTable.{Locks, look_in}
-use Rattle.lock_queues.specs.Laws.{IsBelow, ReasonsAreExact}
+use Rattle.lock_queues.specs.Sound.{EachWait, Distinct}
+use Rattle.lock_queues.specs.LockTable.{look_in}
+use Rattle.lock_queues.specs.Laws.{ReasonsAreExact}
 use Rattle.lock_queues.proofs.Ahead.{any-append}
 use Rattle.lock_queues.proofs.Rings.{edge-from}
 use Rattle.lock_queues.proofs.WaitLists.{wait-append, wait-filter, wait-left, wait-right}
@@ -170,7 +170,8 @@ held-all : (b : ℕ) (wants : Mode) (o : Option Mode) (m : Mode) → o ≡ Some 
     → Among {A = Edge} (record { session = b; reason = Holds m }) (held_edges b wants o)
 held-all b wants o m is no_fit =
     subst (λ x. Among {A = Edge} (record { session = b; reason = Holds m }) (held_edges b wants x)) (sym is)
-    (subst (λ c. Among {A = Edge} (record { session = b; reason = Holds m }) (cond c [] (record { session = b; reason = Holds m } ∷ []))) (sym no_fit) (inl refl))
+    (subst (λ c. Among {A = Edge} (record { session = b; reason = Holds m }) (cond c [] (record { session = b; reason = Holds m } ∷ [])))
+    (sym no_fit) (inl refl))
 
 ahead-all : (look : Look) (b : ℕ) (vs : List Wait) (v : Wait) → Among v vs → v.session ≡ b
     → Among {A = Edge} (record { session = b; reason = Ahead (wanted_by look v) }) (ahead_edges look b vs)
@@ -196,7 +197,8 @@ edge-all look s b r ne why =
     (sym (false_from_ne_true (s.wait.session == b) (λ h. ne (eqb-true s.wait.session b h)))) (by r why)
   where
     by : (r : Reason) → IsReason look s b r
-        → Among {A = Edge} (record { session = b; reason = r }) (held_edges b (wanted_by look s.wait) (look b s.wait.resource) ++ ahead_edges look b (ahead look s))
+        → Among {A = Edge} (record { session = b; reason = r })
+        (held_edges b (wanted_by look s.wait) (look b s.wait.resource) ++ ahead_edges look b (ahead look s))
     by (Holds m) why = among-left _ _ _ (held-all b (wanted_by look s.wait) (look b s.wait.resource) m why.0 why.1)
     by (Ahead m) why =
         among-right _ (held_edges b (wanted_by look s.wait) (look b s.wait.resource)) _
