@@ -6,7 +6,7 @@ use Rattle.std.proofs.Common.{Some, None, ⊎_elim, arith, eqb-true, eq-eqb, get
 use Rattle.std.proofs.lemmas.Bool.{or_cases, or_left, or_right}
 use Rattle.lock_queues.specs.declared.wait.Wait.{Wait}
 use Rattle.lock_queues.specs.Locks.{Spot, next_grant, waits_now}
-use Rattle.lock_queues.proofs.Ahead.{any-append}
+use Rattle.std.proofs.lemmas.List.Folds.{list_any-append}
 use Rattle.lock_modes.specs.Rows.{Rows'}
 use Rattle.row_tables.specs.Overlay.{lay}
 use Rattle.statement_evaluation.specs.Effect.{Effect, Gives, Faults, effect}
@@ -159,7 +159,7 @@ waits-before w i c s ts en ne h = ⊎_elim same more (run w i s ts en).ends
     more p =
         let v : Wait = record { session = i; resource = p.resource; mode = p.mode } in
         let k : (waits_now w.waits c || waits_now (v ∷ []) c) ≡ true =
-        sym (any-append (λ (x : Wait). x.session == c) w.waits (v ∷ [])) ∙ subst (λ ws. waits_now ws c ≡ true) p.waits h in
+        sym (list_any-append (λ (x : Wait). x.session == c) w.waits (v ∷ [])) ∙ subst (λ ws. waits_now ws c ≡ true) p.waits h in
         ⊎_elim (λ x. x)
         (λ x. absurd (⊎_elim (λ y. ne (sym (eqb-true i c y))) (λ y. let z : false ≡ true = y in cc) (or_cases (i == c) false x)))
         (or_cases (waits_now w.waits c) _ k)
@@ -183,7 +183,7 @@ goes-knows steps w i s ts en own others c h = ⊎_elim there other (cases-eq c i
 spot-waits : (w : World) (spot : Spot) → Grant (length w.sessions) (look_of w) w.waits spot → waits_now w.waits spot.wait.session ≡ true
 spot-waits w spot g =
     subst (λ ws. waits_now ws spot.wait.session ≡ true) (sym g.splits)
-    (any-append (λ (x : Wait). x.session == spot.wait.session) spot.before (spot.wait ∷ spot.after)
+    (list_any-append (λ (x : Wait). x.session == spot.wait.session) spot.before (spot.wait ∷ spot.after)
     ∙ or_right (waits_now spot.before spot.wait.session) _ (or_left _ _ (eq-eqb spot.wait.session spot.wait.session refl)))
 
 -- who waits without the spot waits
@@ -191,9 +191,9 @@ rest-waits : (w : World) (spot : Spot) (c : ℕ) → Grant (length w.sessions) (
     → waits_now w.waits c ≡ true
 rest-waits w spot c g h =
     subst (λ ws. waits_now ws c ≡ true) (sym g.splits)
-    (any-append (λ (x : Wait). x.session == c) spot.before (spot.wait ∷ spot.after)
+    (list_any-append (λ (x : Wait). x.session == c) spot.before (spot.wait ∷ spot.after)
     ∙ ⊎_elim (λ k. or_left _ _ k) (λ k. or_right (waits_now spot.before c) _ (or_right (spot.wait.session == c) _ k))
-    (or_cases (waits_now spot.before c) _ (sym (any-append (λ (x : Wait). x.session == c) spot.before spot.after) ∙ h)))
+    (or_cases (waits_now spot.before c) _ (sym (list_any-append (λ (x : Wait). x.session == c) spot.before spot.after) ∙ h)))
 
 granted-knows : (steps : List Step) (w : World) (spot : Spot) → Steady w → Grant (length w.sessions) (look_of w) w.waits spot → KnowsSteps steps w
     → KnowsSteps steps (granted w spot)

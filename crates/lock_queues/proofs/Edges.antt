@@ -14,7 +14,6 @@ use Rattle.lock_queues.specs.Rules.{IsSpot}
 use Rattle.lock_queues.specs.Sound.{EachWait, Distinct}
 use Rattle.lock_queues.specs.LockTable.{look_in}
 use Rattle.lock_queues.specs.Laws.{ReasonsAreExact}
-use Rattle.lock_queues.proofs.Ahead.{any-append}
 use Rattle.lock_queues.proofs.Rings.{edge-from}
 use Rattle.lock_queues.proofs.WaitLists.{wait-append, wait-filter, wait-left, wait-right}
 use Rattle.lock_queues.specs.Reasons.{Reason, Holds, Ahead, Edge, held_edges, ahead_edges, edges_to, edges_below, spot_of, Want, want_at, want_by, want_of}
@@ -345,7 +344,7 @@ want-waits count look waits a want e = at (spot_of a (spots waits)) refl e
     at (Some s) is k =
         let p = spot-is a [] waits s is in
         subst (λ ws. waits_now ws a ≡ true) p.0
-        (any-append (λ (v : Wait). v.session == a) s.before (s.wait ∷ s.after)
+        (list_any-append (λ (v : Wait). v.session == a) s.before (s.wait ∷ s.after)
         ∙ or_right (waits_now s.before a) _ (or_left _ _ (eq-eqb s.wait.session a p.1)))
 
 module _ (count : ℕ) (look : Look) (waits : List Wait) (distinct : Distinct waits) (holders : (c : ℕ) (r : Resource) (m : Mode) → look c r ≡ Some m → c < count)
