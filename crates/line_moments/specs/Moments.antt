@@ -133,7 +133,8 @@ pub data Manner : Type 0 where
   IsResumed : Manner
   IsNotSent : Manner
 
--- the session's step has ended, it waits, or it lost a deadlock. A request that refuses to wait ends the step as any other fault does
+-- the session's step has ended, by its last statement or by a fault, as where a request is refused that refuses to wait; it waits; or it lost a
+-- deadlock
 pub data Ending : Type 0 where
   Ended : Ending
   Awaits : (want : Want) → Ending
