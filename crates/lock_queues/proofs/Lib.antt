@@ -11,4 +11,7 @@ pub mod WaitLists
 pub mod Keeping
 pub mod Waiters
 pub mod Bounded
+pub mod Edges
+pub mod Finding
+pub mod Hops
 pub mod Worked

@@ -1,14 +1,17 @@
 -- The laws of the lock table.
-use Rattle.std.specs.Prelude.{◌≡◌, ℕ, ◌<◌, ◌≤◌, true, false, Some, None}
+use Rattle.std.specs.Prelude.{◌≡◌, ◌↔◌, ℕ, ◌<◌, ◌≤◌, true, false, List, Some, None}
 use Rattle.lock_modes.specs.Mode.{cover}
 use Rattle.lock_modes.specs.declared.mode.Mode.{Mode}
 use Rattle.lock_modes.specs.declared.resource.Resource.{Resource}
 use Rattle.lock_queues.specs.declared.answer.Answer.{Answer}
 use Rattle.lock_queues.specs.declared.answer.Taken.{Taken}
-use Rattle.lock_queues.specs.Locks.{Spot, waits_now}
+use Rattle.lock_queues.specs.declared.wait.Wait.{Wait}
+use Rattle.lock_queues.specs.Locks.{Look, Spot, waits_now, waits_for, closes_ring}
 use Rattle.lock_queues.specs.LockTable.{Locks, no_locks, look_in, taken, ask, ask_now, let_go, to_grant, grant}
 use Rattle.lock_queues.specs.Sound.{Way, EachWait, edges, IsSound}
 use Rattle.lock_queues.specs.Rules.{MayHave, IsAnswer, after, IsTaken, after_now, IsNext, NothingRipe}
+use Rattle.lock_queues.specs.Reasons.{Want, want_of, IsExact}
+use Rattle.lock_queues.specs.Rings.{ring_of, IsRing}
 
 -- modes of different sessions stay compatible, no session waits twice, and no ring comes, whatever is asked, granted and let go
 pub record StaysSound : Type 0 where
@@ -44,3 +47,15 @@ pub record TestsDecide (count : ℕ) (l : Locks) : Type 0 where
 
 abbrev pub TestsDecideBelow : Type 0
 TestsDecideBelow = (count : ℕ) (l : Locks) → IsBelow count l → TestsDecide count l
+
+-- of a sound table whose sessions are below a number, something is told of whoever waits and of nobody else, and what is told is exact
+abbrev pub ReasonsAreExact : Type 0
+ReasonsAreExact = (count : ℕ) (l : Locks) → IsSound l → IsBelow count l → (a : ℕ)
+    → ((waits_now l.waits a ≡ true) ↔ ((want : Want) × (want_of count (look_in l) l.waits a ≡ Some want)))
+    × ((want : Want) → want_of count (look_in l) l.waits a ≡ Some want → IsExact (look_in l) l.waits a want)
+
+-- where a wait closes a ring, the ring that is computed is a shortest one, no session twice
+abbrev pub RingsAreFound : Type 0
+RingsAreFound =
+    (count : ℕ) (look : Look) (waits : List Wait) (i : ℕ) → i < count → closes_ring count look waits i ≡ true
+    → IsRing (waits_for look waits) count i (ring_of (waits_for look waits) count i)

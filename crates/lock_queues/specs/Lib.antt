@@ -2,6 +2,8 @@ pub mod Locks
 pub mod LockTable
 pub mod Sound
 pub mod Rules
+pub mod Reasons
+pub mod Rings
 pub mod Laws
 pub mod Queue
 pub mod Search

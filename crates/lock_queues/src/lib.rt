@@ -11,6 +11,9 @@ mod table;
 mod wait;
 
 pub use answer::{Answer, Taken};
-pub use laws::{covered_modes_are_had, tables_stay_sound, tests_decide, waiters_reach};
+pub use laws::{
+    covered_modes_are_had, reasons_are_exact, rings_are_found, tables_stay_sound, tests_decide,
+    waiters_reach,
+};
 pub use table::LockTable;
 pub use wait::Wait;

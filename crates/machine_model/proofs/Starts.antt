@@ -157,7 +157,8 @@ sessions-idle n i w (block ∷ blocks) le a =
     at false true is rec = tt
     at false false is rec = rec is
 
-start-idle : (spec : Spec) → length spec.session_setups ≤ spec.sessions → OnStarted (start spec) (IsIdle (suc spec.sessions))
+-- nobody waits where a spec starts
+pub start-idle : (spec : Spec) → length spec.session_setups ≤ spec.sessions → OnStarted (start spec) (IsIdle (suc spec.sessions))
 start-idle spec le = then' (main_setups spec.sessions 0 (first_world spec.sessions) spec.setups)
     (main-alone spec.sessions (suc spec.sessions) 0 (first_world spec.sessions) spec.setups (omega arith) first)
   where

@@ -1,0 +1,11 @@
+pub mod Leading
+pub mod Telling
+pub mod Waiting
+pub mod Losing
+pub mod Holding
+pub mod Failing
+pub mod Behind
+pub mod Changing
+pub mod Worked
+pub mod Steps
+pub mod Started

@@ -1,0 +1,292 @@
+-- Worked moments, computed.
+use Rattle.std.proofs.Common.{◌≡◌, refl, ℕ, true, false, List, [], ◌∷◌, Option, Some, None}
+use Rattle.finite_maps.specs.Map.{get, insert, keep, remove, entries, empty}
+use Rattle.lock_modes.specs.declared.mode.Mode.{Mode}
+use Rattle.lock_modes.specs.declared.mode.Mode.TheVariants.{IntentShare, IntentExclusive, Share, Exclusive}
+use Rattle.lock_modes.specs.declared.resource.Resource.{Resource}
+use Rattle.lock_modes.specs.declared.resource.Resource.TheVariants.{Table, Row as RowOf}
+use Rattle.lock_modes.specs.declared.value.Value.{Value}
+use Rattle.lock_modes.specs.Rows.{Tuple}
+use Rattle.lock_queues.specs.Reasons.{Edge, Holds, Ahead}
+use Rattle.lock_queues.specs.Rings.{Hop}
+use Rattle.row_tables.specs.Overlay.{lay}
+use Rattle.statement_evaluation.specs.Effect.{effect}
+use Rattle.binding_model.specs.Tables.{no_table}
+use Rattle.bound_specs.specs.Spec.{Spec}
+use Rattle.bound_statements.specs.declared.statement.Bound.TheVariants.{Begin, Commit}
+use Rattle.transcripts.specs.declared.event.Event.TheVariants.{Sent, Row as RowEvent, Rows, Updated, Committed, Failed, Waiting, Resumed, Done, NotSent}
+use Rattle.transcripts.specs.declared.event.Fault.TheVariants.{Deadlock, Unavailable}
+use Rattle.machine_model.specs.declared.status.Status.TheVariants.{Outside, InBlock, Broken}
+use Rattle.machine_model.specs.Start.{Started, start}
+use Rattle.machine_model.proofs.Worked.{number, step, in_blocks, two_rows, sets, reads_one, waits_row, ring_row, not_waiting_row, ring_or_not}
+use Rattle.line_moments.specs.Moments.{Moment, line_moments, IsSent, IsResumed, IsNotSent, Ending, Ended, Awaits, Loses, Had, LetGo, Still}
+use Rattle.line_moments.specs.Left.{Left, Shown, Standing, HasEnded, IsOpen, StillWaits, shown}
+
+abbrev told : Spec → List ℕ → List Moment
+told spec ks = elim (start spec) [ Started w ↦ line_moments spec.steps w ks | _ ↦ [] ]
+
+-- row k of table 0
+abbrev row : ℕ → Resource
+row k = RowOf 0 (number k)
+
+abbrev holds : ℕ → Mode → Edge
+holds c m = record { session = c; reason = Holds m }
+
+abbrev is_ahead : ℕ → Mode → Edge
+is_ahead c m = record { session = c; reason = Ahead m }
+
+-- a mode is wanted where nothing is held
+abbrev awaits : Resource → Mode → List Edge → Ending
+awaits r m es = Awaits (record { resource = r; mode = m; asked = m; has = None; edges = es })
+
+-- session a waits for an exclusive lock, for session b
+abbrev hop : ℕ → ℕ → ℕ → Hop
+hop a k b = record { session = a; resource = row k; mode = Exclusive; edge = holds b Exclusive }
+
+-- a waiter goes on when the holder commits, and a step sent to it meanwhile is not sent
+waits_row_is : told waits_row (0 ∷ 2 ∷ 3 ∷ 1 ∷ [])
+    ≡ record {
+      session = 0;
+      manner = IsSent;
+      step = Some 0;
+      events = Sent 0 ∷ Updated 1 ∷ Done ∷ [];
+      changes = Had (Table 0) IntentExclusive ∷ Had (row 1) Exclusive ∷ [];
+      status = InBlock;
+      ending = Ended;
+      still = [];
+    }
+    ∷ record {
+      session = 1;
+      manner = IsSent;
+      step = Some 2;
+      events = Sent 2 ∷ Waiting ∷ [];
+      changes = Had (Table 0) IntentExclusive ∷ [];
+      status = InBlock;
+      ending = awaits (row 1) Exclusive (holds 0 Exclusive ∷ []);
+      still = [];
+    }
+    ∷ record {
+      session = 1;
+      manner = IsNotSent;
+      step = Some 3;
+      events = NotSent 3 ∷ [];
+      changes = [];
+      status = InBlock;
+      ending = awaits (row 1) Exclusive (holds 0 Exclusive ∷ []);
+      still = [];
+    }
+    ∷ record {
+      session = 0;
+      manner = IsSent;
+      step = Some 1;
+      events = Sent 1 ∷ Committed ∷ Done ∷ [];
+      changes = LetGo ∷ [];
+      status = Outside;
+      ending = Ended;
+      still = [];
+    }
+    ∷ record {
+      session = 1;
+      manner = IsResumed;
+      step = Some 2;
+      events = Resumed ∷ Updated 1 ∷ Done ∷ [];
+      changes = Had (row 1) Exclusive ∷ [];
+      status = InBlock;
+      ending = Ended;
+      still = [];
+    }
+    ∷ []
+unfolding get insert keep remove entries empty effect lay
+waits_row_is = refl
+
+-- the request that would close a ring is refused, the ring is told, and the victim's locks wake the other
+ring_row_is : told ring_row (0 ∷ 2 ∷ 1 ∷ 3 ∷ [])
+    ≡ record {
+      session = 0;
+      manner = IsSent;
+      step = Some 0;
+      events = Sent 0 ∷ Updated 1 ∷ Done ∷ [];
+      changes = Had (Table 0) IntentExclusive ∷ Had (row 1) Exclusive ∷ [];
+      status = InBlock;
+      ending = Ended;
+      still = [];
+    }
+    ∷ record {
+      session = 1;
+      manner = IsSent;
+      step = Some 2;
+      events = Sent 2 ∷ Updated 1 ∷ Done ∷ [];
+      changes = Had (Table 0) IntentExclusive ∷ Had (row 2) Exclusive ∷ [];
+      status = InBlock;
+      ending = Ended;
+      still = [];
+    }
+    ∷ record {
+      session = 0;
+      manner = IsSent;
+      step = Some 1;
+      events = Sent 1 ∷ Waiting ∷ [];
+      changes = Had (Table 0) IntentExclusive ∷ [];
+      status = InBlock;
+      ending = awaits (row 2) Exclusive (holds 1 Exclusive ∷ []);
+      still = [];
+    }
+    ∷ record {
+      session = 1;
+      manner = IsSent;
+      step = Some 3;
+      events = Sent 3 ∷ Failed Deadlock ∷ Done ∷ [];
+      changes = Had (Table 0) IntentExclusive ∷ LetGo ∷ [];
+      status = Broken;
+      ending = Loses (hop 1 1 0 ∷ hop 0 2 1 ∷ []);
+      still = [];
+    }
+    ∷ record {
+      session = 0;
+      manner = IsResumed;
+      step = Some 1;
+      events = Resumed ∷ Updated 1 ∷ Done ∷ [];
+      changes = Had (row 2) Exclusive ∷ [];
+      status = InBlock;
+      ending = Ended;
+      still = [];
+    }
+    ∷ []
+unfolding get insert keep remove entries empty effect lay
+ring_row_is = refl
+
+-- two writers of one row behind a third: the second waits for the first's wait, and then for what it holds
+abbrev queue_row : Spec
+queue_row =
+    record {
+      sessions = 3;
+      steps = step 0 (sets 1 5) ∷ step 0 Commit ∷ step 1 (sets 1 6) ∷ step 2 (sets 1 7) ∷ [];
+      setups = two_rows ∷ [];
+      lines = [];
+      session_setups = (Begin ∷ []) ∷ (Begin ∷ []) ∷ [] ∷ [];
+    }
+
+abbrev endings : List Moment → List (Ending × List Still)
+endings [] = []
+endings (m ∷ ms) = (m.ending, m.still) ∷ endings ms
+
+queue_row_is : endings (told queue_row (0 ∷ 2 ∷ 3 ∷ 1 ∷ []))
+    ≡ (Ended, []) ∷ (awaits (row 1) Exclusive (holds 0 Exclusive ∷ []), [])
+    ∷ (awaits (row 1) Exclusive (holds 0 Exclusive ∷ is_ahead 1 Exclusive ∷ []), [])
+    ∷ (Ended, record { session = 2; edges = is_ahead 1 Exclusive ∷ [] } ∷ [])
+    ∷ (Ended, record { session = 2; edges = holds 1 Exclusive ∷ [] } ∷ []) ∷ []
+unfolding get insert keep remove entries empty effect lay
+queue_row_is = refl
+
+-- a read FOR UPDATE waits for the row that another one has locked, and reads it once that one has committed
+abbrev locking_row : Spec
+locking_row =
+    in_blocks 2 (step 0 (reads_one (record { exclusive = true; nowait = false })) ∷ step 0 Commit
+    ∷ step 1 (reads_one (record { exclusive = true; nowait = false })) ∷ [])
+
+locking_row_is : told locking_row (0 ∷ 2 ∷ 1 ∷ [])
+    ≡ record {
+      session = 0;
+      manner = IsSent;
+      step = Some 0;
+      events = Sent 0 ∷ RowEvent (number 10 ∷ []) ∷ Rows 1 ∷ Done ∷ [];
+      changes = Had (Table 0) IntentExclusive ∷ Had (row 1) Exclusive ∷ [];
+      status = InBlock;
+      ending = Ended;
+      still = [];
+    }
+    ∷ record {
+      session = 1;
+      manner = IsSent;
+      step = Some 2;
+      events = Sent 2 ∷ Waiting ∷ [];
+      changes = Had (Table 0) IntentExclusive ∷ [];
+      status = InBlock;
+      ending = awaits (row 1) Exclusive (holds 0 Exclusive ∷ []);
+      still = [];
+    }
+    ∷ record {
+      session = 0;
+      manner = IsSent;
+      step = Some 1;
+      events = Sent 1 ∷ Committed ∷ Done ∷ [];
+      changes = LetGo ∷ [];
+      status = Outside;
+      ending = Ended;
+      still = [];
+    }
+    ∷ record {
+      session = 1;
+      manner = IsResumed;
+      step = Some 2;
+      events = Resumed ∷ RowEvent (number 10 ∷ []) ∷ Rows 1 ∷ Done ∷ [];
+      changes = Had (row 1) Exclusive ∷ [];
+      status = InBlock;
+      ending = Ended;
+      still = [];
+    }
+    ∷ []
+unfolding get insert keep remove entries empty effect lay
+locking_row_is = refl
+
+-- a read that refuses to wait fails at once where the row is locked: it is no wait, and lets go of the table too, which it had
+not_waiting_row_is : told not_waiting_row (0 ∷ 2 ∷ [])
+    ≡ record {
+      session = 0;
+      manner = IsSent;
+      step = Some 0;
+      events = Sent 0 ∷ RowEvent (number 10 ∷ []) ∷ Rows 1 ∷ Done ∷ [];
+      changes = Had (Table 0) IntentExclusive ∷ Had (row 1) Exclusive ∷ [];
+      status = InBlock;
+      ending = Ended;
+      still = [];
+    }
+    ∷ record {
+      session = 1;
+      manner = IsSent;
+      step = Some 2;
+      events = Sent 2 ∷ Failed Unavailable ∷ Done ∷ [];
+      changes = Had (Table 0) IntentShare ∷ LetGo ∷ [];
+      status = Broken;
+      ending = Ended;
+      still = [];
+    }
+    ∷ []
+unfolding get insert keep remove entries empty effect lay
+not_waiting_row_is = refl
+
+-- nor is a ring told where the wait that was refused would have closed one; what is let go wakes the other
+ring_or_not_is : endings (told ring_or_not (0 ∷ 2 ∷ 1 ∷ 3 ∷ []))
+    ≡ (Ended, []) ∷ (Ended, [])
+    ∷ (Awaits (record { resource = Table 0; mode = Exclusive; asked = Exclusive; has = Some Share; edges = holds 1 Share ∷ [] }), [])
+    ∷ (Ended, []) ∷ (Ended, []) ∷ []
+unfolding get insert keep remove entries empty effect lay
+ring_or_not_is = refl
+
+-- ---- what lines leave
+
+abbrev shows : Spec → List ℕ → Option Shown
+shows spec ks = shown (no_table ∷ []) spec ks
+
+abbrev left_rows : List Left → List (List (Value × Tuple))
+left_rows [] = []
+left_rows (x ∷ xs) = x.rows ∷ left_rows xs
+
+abbrev ends : Option Shown → List (List (Value × Tuple)) × List Standing
+ends None = ([], [])
+ends (Some x) = (left_rows x.left, x.standings)
+
+-- the rows of the one that has committed, in key order, and not of the one that is open
+waits_row_left : ends (shows waits_row (0 ∷ 2 ∷ 3 ∷ 1 ∷ []))
+    ≡ (((number 1, number 1 ∷ number 11 ∷ []) ∷ (number 2, number 2 ∷ number 20 ∷ []) ∷ []) ∷ [], HasEnded ∷ IsOpen ∷ [])
+unfolding get insert keep remove entries empty effect lay
+waits_row_left = refl
+
+-- of a line that stops while a session waits
+waits_row_stops : ends (shows waits_row (0 ∷ 2 ∷ []))
+    ≡ (
+      ((number 1, number 1 ∷ number 10 ∷ []) ∷ (number 2, number 2 ∷ number 20 ∷ []) ∷ []) ∷ [],
+      IsOpen ∷ StillWaits (record { resource = row 1; mode = Exclusive; asked = Exclusive; has = None; edges = holds 0 Exclusive ∷ [] }) ∷ [],
+    )
+unfolding get insert keep remove entries empty effect lay
+waits_row_stops = refl

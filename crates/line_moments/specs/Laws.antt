@@ -1,0 +1,88 @@
+-- The laws of moments.
+use Rattle.std.specs.Prelude.{◌≡◌, ◌≢◌, ◌↔◌, [], ℕ, ◌<◌, true, ◌++◌, List, length, All, Some}
+use Rattle.lock_queues.specs.Locks.{waits_now}
+use Rattle.lock_queues.specs.Reasons.{Edge, Want, Among, IsExact}
+use Rattle.lock_queues.specs.Rings.{Hop}
+use Rattle.transcripts.specs.declared.event.Event.TheVariants.{Failed}
+use Rattle.transcripts.specs.declared.event.Fault.TheVariants.{Deadlock}
+use Rattle.bound_specs.specs.Spec.{Spec, Step, IsBound}
+use Rattle.machine_model.specs.Laws.{IsOf}
+use Rattle.machine_model.specs.Start.{Started, start}
+use Rattle.machine_model.specs.Sound.{Sound}
+use Rattle.machine_model.specs.World.{World, look_of, session_at, send_all, outcome_of}
+use Rattle.line_moments.specs.Moments.{Going, behind, line_goings, line_moments, told_to, told_by, Leads, moment_of, session_by, Awaits, want_in, Loses}
+use Rattle.line_moments.specs.Moments.{scene_by, IsLost, changes_to, changed, IsTrue, Still, edges_in, KnowsSteps, IsOfStep}
+
+-- the moments of a line lead from its first world to its last, each going on where the one before it left the world
+abbrev pub MomentsLead : Type 0
+MomentsLead = (steps : List Step) (w : World) (ks : List ℕ) → Leads steps w (line_goings steps w ks) (send_all steps w ks)
+
+-- what each session is told in its moments, in their order, is what its transcript grows by
+abbrev pub MomentsTell : Type 0
+MomentsTell =
+    (steps : List Step) (w : World) (ks : List ℕ) → Sound w → ((k : ℕ) → IsOf steps w k)
+    → (c : ℕ) → (session_at (send_all steps w ks) c).transcript ≡ (session_at w c).transcript ++ told_to c (line_moments steps w ks)
+
+-- from the start of a spec: what each session is told in its moments is the outcome of the line
+abbrev pub MomentsAreOutcomes : Type 0
+MomentsAreOutcomes =
+    (spec : Spec) (w : World) (ks : List ℕ) → IsBound spec → start spec ≡ Started w
+    → outcome_of spec.sessions (send_all spec.steps w ks) ≡ told_by spec.sessions (line_moments spec.steps w ks)
+
+-- in a sound world something is told of whoever waits and of nobody else, and what is told is exact
+abbrev pub WantsAreExact : Type 0
+WantsAreExact =
+    (w : World) → Sound w → (a : ℕ)
+    → ((waits_now w.waits a ≡ true) ↔ ((want : Want) × (want_in w a ≡ Some want)))
+    × ((want : Want) → want_in w a ≡ Some want → IsExact (look_of w) w.waits a want)
+
+-- a moment of a line ends with a wait exactly where its session waits in the world behind it, and what is told of the wait is exact there
+abbrev pub MomentsWait : Type 0
+MomentsWait =
+    (steps : List Step) (w : World) (ks : List ℕ) → Sound w → ((k : ℕ) → IsOf steps w k) → (g : Going) → Among g (line_goings steps w ks)
+    → ((waits_now (behind steps g).waits (session_by steps g.cause) ≡ true) ↔ ((want : Want) × ((moment_of steps g).ending ≡ Awaits want)))
+    × ((want : Want) → (moment_of steps g).ending ≡ Awaits want → IsExact (look_of (behind steps g)) (behind steps g).waits (session_by steps g.cause) want)
+
+-- a moment of a line that ends with a deadlock tells a ring that the refused wait would have closed, with what the session held then
+abbrev pub MomentsLose : Type 0
+MomentsLose =
+    (steps : List Step) (w : World) (ks : List ℕ) → Sound w → ((k : ℕ) → IsOf steps w k) → (g : Going) → Among g (line_goings steps w ks)
+    → (hops : List Hop) → (moment_of steps g).ending ≡ Loses hops
+    → IsLost (scene_by g.world g.cause) (session_by steps g.cause) (session_at g.world (session_by steps g.cause)).held (moment_of steps g).changes hops
+
+-- what each session holds, changed by what it got and let go in its moments, is what it holds behind them
+abbrev pub MomentsHold : Type 0
+MomentsHold =
+    (steps : List Step) (w : World) (ks : List ℕ) → Sound w → ((k : ℕ) → IsOf steps w k)
+    → (c : ℕ) → (session_at (send_all steps w ks) c).held ≡ changed (session_at w c).held (changes_to c (line_moments steps w ks))
+
+-- each moment of a line is true of the world behind it
+abbrev pub MomentsAreTrue : Type 0
+MomentsAreTrue =
+    (steps : List Step) (w : World) (ks : List ℕ) → Sound w → ((k : ℕ) → IsOf steps w k) → (g : Going) → Among g (line_goings steps w ks)
+    → IsTrue steps g
+
+-- a moment of a line tells a ring exactly where it tells of a deadlock
+abbrev pub RingsAreTold : Type 0
+RingsAreTold =
+    (steps : List Step) (w : World) (ks : List ℕ) → Sound w → ((k : ℕ) → IsOf steps w k) → (g : Going) → Among g (line_goings steps w ks)
+    → Among (Failed Deadlock) (moment_of steps g).events ↔ ((hops : List Hop) × ((moment_of steps g).ending ≡ Loses hops))
+
+-- a moment tells of another session that it still waits, and for whom, exactly where it waits for somebody and for others than before
+abbrev pub StillIsExact : Type 0
+StillIsExact =
+    (steps : List Step) (g : Going) (c : ℕ) (es : List Edge)
+    → Among {A = Still} (record { session = c; edges = es }) (moment_of steps g).still
+    ↔ ((c < length (behind steps g).sessions) × (c ≢ session_by steps g.cause) × (es ≡ edges_in (behind steps g) c) × (es ≢ []) × (edges_in g.world c ≢ es))
+
+-- each moment of a line is of a step of its session, where that is so of whoever waits before it, as of nobody when a spec starts
+abbrev pub MomentsAreOfSteps : Type 0
+MomentsAreOfSteps =
+    (steps : List Step) (w : World) (ks : List ℕ) → Sound w → ((k : ℕ) → IsOf steps w k) → All (λ k. k < length steps) ks → KnowsSteps steps w
+    → ((g : Going) → Among g (line_goings steps w ks) → IsOfStep steps g) × KnowsSteps steps (send_all steps w ks)
+
+-- each moment of a line of a spec is of a step of its session
+abbrev pub SpecsMomentsAreOfSteps : Type 0
+SpecsMomentsAreOfSteps =
+    (spec : Spec) (w : World) (ks : List ℕ) → IsBound spec → start spec ≡ Started w → All (λ k. k < length spec.steps) ks
+    → (g : Going) → Among g (line_goings spec.steps w ks) → IsOfStep spec.steps g

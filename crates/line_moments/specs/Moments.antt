@@ -1,0 +1,356 @@
+-- The moments of a line: each time a session goes, from where its step is sent or goes on to where it ends or has to wait, and each step that
+-- is not sent.
+use Rattle.std.specs.Prelude.{◌≡◌, ℕ, zero, suc, Bool, true, false, cond, ◌==◌, List, [], ◌∷◌, ◌++◌, length, map, get_or, Option, Some, None}
+use Rattle.finite_maps.specs.Map.{get, insert, empty, entries}
+use Rattle.lock_modes.specs.declared.mode.Mode.{Mode}
+use Rattle.lock_modes.specs.declared.resource.Resource.{Resource}
+use Rattle.lock_modes.specs.Rows.{Rows'}
+use Rattle.lock_queues.specs.Locks.{Spot, next_grant, waits_now, wanted, may_have, closes_ring}
+use Rattle.lock_queues.specs.Reasons.{Edge, same_edges, Want, want_of}
+use Rattle.lock_queues.specs.Rings.{Hop, ring_told, IsRingTold}
+use Rattle.bound_specs.specs.Spec.{Step, no_step}
+use Rattle.transcripts.specs.declared.event.Event.{Event}
+use Rattle.transcripts.specs.declared.event.Event.TheVariants.{Sent, Row as RowEvent, Rows, Inserted, Updated, Deleted, Began, Committed, RolledBack}
+use Rattle.transcripts.specs.declared.event.Event.TheVariants.{Locked, Set, Warned, Failed, Waiting, Resumed, Done, NotSent}
+use Rattle.machine_model.specs.declared.status.Status.{Status}
+use Rattle.machine_model.specs.declared.status.Status.TheVariants.{Outside, InBlock, Broken}
+use Rattle.machine_model.specs.declared.reply.Reply.TheVariants.{Had as IsHad, Waits, Refused}
+use Rattle.machine_model.specs.Session.{Session, Task, Ask, Do, Goes, Fails, Held, Kind, Begins, Commits, RollsBack, Works, kind, perform, note, tasks_of}
+use Rattle.machine_model.specs.Go.{Scene, go, taking, is_broken, reply_in, look_with, waiting_with}
+use Rattle.machine_model.specs.World.{World, session_at, look_of, scene_of, goes, granted, left_to_do, noted, send}
+use Rattle.machine_model.specs.Outcome.{IsOwnStep}
+
+-- ---- who goes, and why, in the order of going
+
+-- a step is sent, a wait is granted, or a step is not sent
+pub data Cause : Type 0 where
+  Sends : (step : ℕ) → Cause
+  GoesOn : (spot : Spot) → Cause
+  Skips : (step : ℕ) → Cause
+
+-- one session going, in the world before it
+pub record Going : Type 0 where
+  pub world : World
+  pub cause : Cause
+
+-- the world after it
+abbrev pub behind_by : List Step → World → Cause → World
+behind_by steps w (Sends k) =
+    goes w (get_or steps k no_step).session (note (session_at w (get_or steps k no_step).session) (Sent k)) (tasks_of (get_or steps k no_step).statements)
+behind_by steps w (GoesOn spot) = granted w spot
+behind_by steps w (Skips k) = noted w (get_or steps k no_step).session (NotSent k)
+
+abbrev pub behind : List Step → Going → World
+behind steps g = behind_by steps g.world g.cause
+
+-- the waits that are granted while one is ripe
+abbrev pub settle_goings : ℕ → World → List Going
+settle_goings zero w = []
+settle_goings (suc n) w =
+    elim (next_grant (length w.sessions) (look_of w) w.waits) [
+      | None ↦ []
+      | Some spot ↦ record { world = w; cause = GoesOn spot } ∷ settle_goings n (granted w spot)
+    ]
+
+-- of the step numbered k, sent
+abbrev pub goings : List Step → World → ℕ → List Going
+goings steps w k =
+    elim (waits_now w.waits (get_or steps k no_step).session) [
+      | true ↦ record { world = w; cause = Skips k } ∷ []
+      | false ↦ record { world = w; cause = Sends k } ∷ settle_goings (left_to_do (behind_by steps w (Sends k))) (behind_by steps w (Sends k))
+    ]
+
+-- of a line
+abbrev pub line_goings : List Step → World → List ℕ → List Going
+line_goings steps w [] = []
+line_goings steps w (k ∷ ks) = goings steps w k ++ line_goings steps (send steps w k) ks
+
+-- ---- what a session does while it goes
+
+-- a mode is held there from now on, or nothing is held any more
+pub data Change : Type 0 where
+  Had : (resource : Resource) (mode : Mode) → Change
+  LetGo : Change
+
+-- a transaction that ends lets go of what it holds, if it holds anything
+abbrev pub let_go_by : List (Resource × Mode) → List Change
+let_go_by [] = []
+let_go_by (x ∷ xs) = LetGo ∷ []
+
+abbrev pub let_go : Held → List Change
+let_go h = let_go_by (entries h)
+
+-- at the end of a step
+abbrev pub end_changes : Status → Held → List Change
+end_changes Outside h = let_go h
+end_changes InBlock h = []
+end_changes Broken h = []
+
+-- behind a statement that goes
+abbrev pub did_changes : Kind → Held → List Change
+did_changes Begins h = []
+did_changes Commits h = let_go h
+did_changes RollsBack h = let_go h
+did_changes Works h = []
+
+-- the locks had and let go, in order
+abbrev pub go_changes : Scene → ℕ → Session → Rows' → List Task → List Change
+go_changes e i s rows [] = end_changes s.status s.held
+go_changes e i s rows (Ask nowait r m ∷ ts) =
+    elim (is_broken s.status) [
+      | true ↦ let_go s.held
+      | false ↦ elim (reply_in e i s nowait r m) [
+        | IsHad ↦ Had r (wanted (get s.held r) m) ∷ go_changes e i (taking s r m) rows ts
+        | Waits ↦ []
+        | Refused f ↦ let_go s.held
+      ]
+    ]
+go_changes e i s rows (Do st ∷ ts) =
+    elim (perform s rows st) [ Goes s2 rows2 ↦ did_changes (kind st) s.held ++ go_changes e i s2 rows2 ts | Fails f ↦ let_go s.held ]
+
+-- the ring that the wait of a refused request would close; a request that refuses to wait closes none
+abbrev pub ring_refused : Scene → ℕ → Held → Bool → Resource → Mode → Option (List Hop)
+ring_refused e i held nowait r m = elim nowait [ true ↦ None | false ↦ Some (ring_told e.count (look_with e i held) (waiting_with e i r m) i) ]
+
+-- the ring by which the session is refused a request
+abbrev pub go_ring : Scene → ℕ → Session → Rows' → List Task → Option (List Hop)
+go_ring e i s rows [] = None
+go_ring e i s rows (Ask nowait r m ∷ ts) =
+    elim (is_broken s.status) [
+      | true ↦ None
+      | false ↦ elim (reply_in e i s nowait r m) [
+        | IsHad ↦ go_ring e i (taking s r m) rows ts
+        | Waits ↦ None
+        | Refused f ↦ ring_refused e i s.held nowait r m
+      ]
+    ]
+go_ring e i s rows (Do st ∷ ts) = elim (perform s rows st) [ Goes s2 rows2 ↦ go_ring e i s2 rows2 ts | Fails f ↦ None ]
+
+-- ---- a moment
+
+pub data Manner : Type 0 where
+  IsSent : Manner
+  IsResumed : Manner
+  IsNotSent : Manner
+
+-- the session's step has ended, by its last statement or by a fault, as where a request is refused that refuses to wait; it waits; or it lost a
+-- deadlock
+pub data Ending : Type 0 where
+  Ended : Ending
+  Awaits : (want : Want) → Ending
+  Loses : (ring : List Hop) → Ending
+
+-- a session that goes on waiting, for others than before
+pub record Still : Type 0 where
+  pub session : ℕ
+  pub edges : List Edge
+
+pub record Moment : Type 0 where
+  pub session : ℕ
+  pub manner : Manner
+  pub step : Option ℕ
+  pub events : List Event
+  pub changes : List Change
+  pub status : Status
+  pub ending : Ending
+  pub still : List Still
+
+abbrev pub sent_step : Event → Option ℕ
+sent_step (Sent k) = Some k
+sent_step (RowEvent r) = None
+sent_step (Rows n) = None
+sent_step (Inserted n) = None
+sent_step (Updated n) = None
+sent_step (Deleted n) = None
+sent_step Began = None
+sent_step Committed = None
+sent_step RolledBack = None
+sent_step Locked = None
+sent_step Set = None
+sent_step (Warned w) = None
+sent_step (Failed f) = None
+sent_step Waiting = None
+sent_step Resumed = None
+sent_step Done = None
+sent_step (NotSent k) = None
+
+-- the step that was sent last
+abbrev pub last_sent : Option ℕ → List Event → Option ℕ
+last_sent k [] = k
+last_sent k (e ∷ es) = last_sent (elim (sent_step e) [ None ↦ k | Some n ↦ Some n ]) es
+
+abbrev pub session_by : List Step → Cause → ℕ
+session_by steps (Sends k) = (get_or steps k no_step).session
+session_by steps (GoesOn spot) = spot.wait.session
+session_by steps (Skips k) = (get_or steps k no_step).session
+
+abbrev pub manner_by : Cause → Manner
+manner_by (Sends k) = IsSent
+manner_by (GoesOn spot) = IsResumed
+manner_by (Skips k) = IsNotSent
+
+abbrev pub step_by : World → Cause → Option ℕ
+step_by w (Sends k) = Some k
+step_by w (GoesOn spot) = last_sent None (session_at w spot.wait.session).transcript
+step_by w (Skips k) = Some k
+
+-- the session with nothing told but this
+abbrev pub told_only : Session → Event → Session
+told_only s e = record s { transcript = e ∷ [] }
+
+-- the session whose wait is granted
+abbrev pub holding : World → Spot → Session
+holding w spot = record (taking (session_at w spot.wait.session) spot.wait.resource spot.wait.mode) { rest = [] }
+
+-- the world without that wait
+abbrev pub without : World → Spot → World
+without w spot = record w { waits = spot.before ++ spot.after }
+
+-- what the session was told
+abbrev pub events_by : List Step → World → Cause → List Event
+events_by steps w (Sends k) =
+    let st = get_or steps k no_step in
+    (go (scene_of w) st.session (told_only (session_at w st.session) (Sent k)) w.rows (tasks_of st.statements)).session.transcript
+events_by steps w (GoesOn spot) =
+    let i = spot.wait.session in
+    (go (scene_of (without w spot)) i (told_only (holding w spot) Resumed) w.rows (session_at w i).rest).session.transcript
+events_by steps w (Skips k) = NotSent k ∷ []
+
+-- the locks that it got and let go
+abbrev pub changes_by : List Step → World → Cause → List Change
+changes_by steps w (Sends k) =
+    let st = get_or steps k no_step in go_changes (scene_of w) st.session (told_only (session_at w st.session) (Sent k)) w.rows (tasks_of st.statements)
+changes_by steps w (GoesOn spot) =
+    let i = spot.wait.session in
+    Had spot.wait.resource (wanted (get (session_at w i).held spot.wait.resource) spot.wait.mode)
+    ∷ go_changes (scene_of (without w spot)) i (told_only (holding w spot) Resumed) w.rows (session_at w i).rest
+changes_by steps w (Skips k) = []
+
+-- the ring by which it lost a deadlock
+abbrev pub ring_by : List Step → World → Cause → Option (List Hop)
+ring_by steps w (Sends k) =
+    let st = get_or steps k no_step in go_ring (scene_of w) st.session (told_only (session_at w st.session) (Sent k)) w.rows (tasks_of st.statements)
+ring_by steps w (GoesOn spot) =
+    let i = spot.wait.session in go_ring (scene_of (without w spot)) i (told_only (holding w spot) Resumed) w.rows (session_at w i).rest
+ring_by steps w (Skips k) = None
+
+-- what the session waits for in the world
+abbrev pub want_in : World → ℕ → Option Want
+want_in w i = want_of (length w.sessions) (look_of w) w.waits i
+
+-- whom the session waits for in the world
+abbrev pub edges_in : World → ℕ → List Edge
+edges_in w c = elim (want_in w c) [ None ↦ [] | Some want ↦ want.edges ]
+
+-- the edges, if there are any and they are others than before
+abbrev pub changed_edges : ℕ → List Edge → List Edge → List Still
+changed_edges c old [] = []
+changed_edges c old (e ∷ es) = cond (same_edges old (e ∷ es)) [] (record { session = c; edges = e ∷ es } ∷ [])
+
+-- of the sessions below the number but i, those that wait for others in v than in w
+abbrev pub still_below : ℕ → ℕ → World → World → List Still
+still_below zero i w v = []
+still_below (suc n) i w v = still_below n i w v ++ cond (n == i) [] (changed_edges n (edges_in w n) (edges_in v n))
+
+abbrev pub ending_by : Option Want → Option (List Hop) → Ending
+ending_by (Some want) ring = Awaits want
+ending_by None None = Ended
+ending_by None (Some ring) = Loses ring
+
+abbrev pub moment_of : List Step → Going → Moment
+moment_of steps g =
+    let i = session_by steps g.cause in
+    let v = behind steps g in
+    record {
+      session = i;
+      manner = manner_by g.cause;
+      step = step_by g.world g.cause;
+      events = events_by steps g.world g.cause;
+      changes = changes_by steps g.world g.cause;
+      status = (session_at v i).status;
+      ending = ending_by (want_in v i) (ring_by steps g.world g.cause);
+      still = still_below (length v.sessions) i g.world v;
+    }
+
+-- the moments of the step numbered k, sent
+abbrev pub moments : List Step → World → ℕ → List Moment
+moments steps w k = map (moment_of steps) (goings steps w k)
+
+-- the moments of a line
+abbrev pub line_moments : List Step → World → List ℕ → List Moment
+line_moments steps w ks = map (moment_of steps) (line_goings steps w ks)
+
+-- ---- moments forgotten
+
+-- what the session was told in these moments
+abbrev pub told_to : ℕ → List Moment → List Event
+told_to c [] = []
+told_to c (m ∷ ms) = cond (m.session == c) m.events [] ++ told_to c ms
+
+-- what each of the sessions below the number was told
+abbrev pub told_by : ℕ → List Moment → List (List Event)
+told_by zero ms = []
+told_by (suc n) ms = told_by n ms ++ told_to n ms ∷ []
+
+-- the locks that the session got and let go in these moments
+abbrev pub changes_to : ℕ → List Moment → List Change
+changes_to c [] = []
+changes_to c (m ∷ ms) = cond (m.session == c) m.changes [] ++ changes_to c ms
+
+-- what is held after these changes
+abbrev pub changed : Held → List Change → Held
+changed h [] = h
+changed h (Had r m ∷ cs) = changed (insert h r m) cs
+changed h (LetGo ∷ cs) = changed empty cs
+
+-- why it goes then
+abbrev pub IsDue : List Step → World → Cause → Type 0
+IsDue steps w (Sends k) = waits_now w.waits (get_or steps k no_step).session ≡ false
+IsDue steps w (GoesOn spot) = next_grant (length w.sessions) (look_of w) w.waits ≡ Some spot
+IsDue steps w (Skips k) = waits_now w.waits (get_or steps k no_step).session ≡ true
+
+-- one goes behind the other, each when it is due, from the one world to the other
+abbrev pub Leads : List Step → World → List Going → World → Type 0
+Leads steps w [] v = w ≡ v
+Leads steps w (g ∷ gs) v = (g.world ≡ w) × IsDue steps w g.cause × Leads steps (behind_by steps w g.cause) gs v
+
+-- ---- what is told of each going
+
+-- in the world behind it each session was told what it was told before, and its own what the moment tells; and each holds what it held before,
+-- its own with what it got and let go
+pub record IsTrue (steps : List Step) (g : Going) : Type 0 where
+  pub told : (c : ℕ) → (session_at (behind steps g) c).transcript
+      ≡ (session_at g.world c).transcript ++ cond (session_by steps g.cause == c) (events_by steps g.world g.cause) []
+  pub held : (c : ℕ) → (session_at (behind steps g) c).held
+      ≡ changed (session_at g.world c).held (cond (session_by steps g.cause == c) (changes_by steps g.world g.cause) [])
+
+-- ---- what is told of a deadlock
+
+-- what the others hold and wait for while it goes
+abbrev pub scene_by : World → Cause → Scene
+scene_by w (Sends k) = scene_of w
+scene_by w (GoesOn spot) = scene_of (without w spot)
+scene_by w (Skips k) = scene_of w
+
+-- in the scene a session that began with some modes held, and then got and let go as told, was refused a request that it could not have: its wait
+-- there would have closed a ring, and the ring that is told is one. All that it held then it let go
+pub record IsLost (e : Scene) (i : ℕ) (began : Held) (changes : List Change) (hops : List Hop) : Type 0 where
+  pub held : Held
+  pub resource : Resource
+  pub mode : Mode
+  pub before : List Change
+  pub changes_are : changes ≡ before ++ let_go held
+  pub held_is : changed began before ≡ held
+  pub refused : may_have e.count e.look e.waits i (get held resource) resource mode ≡ false
+  pub closes : closes_ring e.count (look_with e i held) (waiting_with e i resource mode) i ≡ true
+  pub told : IsRingTold e.count (look_with e i held) (waiting_with e i resource mode) i hops
+
+-- ---- the steps of moments
+
+-- the step of each session that waits is known, and is one of its own
+abbrev pub KnowsSteps : List Step → World → Type 0
+KnowsSteps steps w = (c : ℕ) → waits_now w.waits c ≡ true → (k : ℕ) × (last_sent None (session_at w c).transcript ≡ Some k) × IsOwnStep steps c k
+
+-- the moment is of a step of its session
+abbrev pub IsOfStep : List Step → Going → Type 0
+IsOfStep steps g = (k : ℕ) × (step_by g.world g.cause ≡ Some k) × IsOwnStep steps (session_by steps g.cause) k

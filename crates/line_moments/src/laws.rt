@@ -1,0 +1,64 @@
+//! The laws of moments, each the contract of a function that does nothing.
+
+ghost use Rattle.line_moments.specs.Laws.{MomentsLead, MomentsTell, MomentsAreOutcomes, WantsAreExact, MomentsWait, MomentsLose, MomentsHold};
+ghost use Rattle.line_moments.specs.Laws.{MomentsAreTrue, RingsAreTold, StillIsExact, MomentsAreOfSteps, SpecsMomentsAreOfSteps};
+
+/// The moments of a line lead from its first world to its last.
+pub fn moments_lead()
+    ensures { MomentsLead }
+{}
+
+/// What each session is told in its moments is what its transcript grows by.
+pub fn moments_tell()
+    ensures { MomentsTell }
+{}
+
+/// From the start of a spec, what each session is told in its moments is the outcome of the line.
+pub fn moments_are_outcomes()
+    ensures { MomentsAreOutcomes }
+{}
+
+/// In a sound world something is told of whoever waits and of nobody else, and what is told is exact.
+pub fn wants_are_exact()
+    ensures { WantsAreExact }
+{}
+
+/// A moment ends with a wait exactly where its session waits in the world behind it, and what is told of the wait is exact there.
+pub fn moments_wait()
+    ensures { MomentsWait }
+{}
+
+/// A moment that ends with a deadlock tells a ring that the refused wait would have closed.
+pub fn moments_lose()
+    ensures { MomentsLose }
+{}
+
+/// What each session holds, changed by its moments, is what it holds behind them.
+pub fn moments_hold()
+    ensures { MomentsHold }
+{}
+
+/// Each moment is true of the world behind it.
+pub fn moments_are_true()
+    ensures { MomentsAreTrue }
+{}
+
+/// A moment tells a ring exactly where it tells of a deadlock.
+pub fn rings_are_told()
+    ensures { RingsAreTold }
+{}
+
+/// A moment tells of another session that it still waits exactly where it waits for others than before.
+pub fn still_is_exact()
+    ensures { StillIsExact }
+{}
+
+/// Each moment is of a step of its session.
+pub fn moments_are_of_steps()
+    ensures { MomentsAreOfSteps }
+{}
+
+/// From the start of a spec, each moment is of a step of its session.
+pub fn specs_moments_are_of_steps()
+    ensures { SpecsMomentsAreOfSteps }
+{}

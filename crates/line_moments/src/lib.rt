@@ -1,0 +1,10 @@
+//! The moments of a line: what each session does each time it goes on, why it waits, and by which ring it loses a deadlock.
+#![tactic(auto)]
+
+mod laws;
+
+pub use laws::{
+    moments_are_of_steps, moments_are_outcomes, moments_are_true, moments_hold, moments_lead,
+    moments_lose, moments_tell, moments_wait, rings_are_told, specs_moments_are_of_steps,
+    still_is_exact, wants_are_exact,
+};
