@@ -3,8 +3,20 @@ use Rattle.std.proofs.Common.{◌≡◌, refl, append_assoc, add-one, ◌++◌, 
 use Rattle.std.proofs.Common.{arith, drop-cons, get_or-set_other, get_or-set_same}
 use Rattle.std.proofs.lemmas.List.{get_or_past}
 use Rattle.perm_ranks.specs.Words.{Word}
-use Rattle.bound_specs.specs.Spec.{Step, Queues, line, queues_from}
+use Rattle.bound_specs.specs.Spec.{Step, Queues, line, counts_of, queues_from}
 use Rattle.bound_specs.specs.Walking.{steps_from, queues_at}
+
+-- the count of a queue is its length
+pub get_or-counts : (q : Queues) (i : ℕ) → get_or (counts_of q) i 0 ≡ length (get_or q i [])
+get_or-counts [] i = refl
+get_or-counts (ks ∷ q) zero = refl
+get_or-counts (ks ∷ q) (suc i) = get_or-counts q i
+
+-- the counts of queues of which one is changed
+pub counts-set : (q : Queues) (i : ℕ) (ks : List ℕ) → counts_of (set q i ks) ≡ set (counts_of q) i (length ks)
+counts-set [] i ks = refl
+counts-set (l ∷ q) zero ks = refl
+counts-set (l ∷ q) (suc i) ks = ap (λ ns. length l ∷ ns) (counts-set q i ks)
 
 -- a letter takes the head of its queue
 pub line-takes : (q : Queues) (i k : ℕ) (ks : List ℕ) (word : Word) → get_or q i [] ≡ k ∷ ks → line q (i ∷ word) ≡ k ∷ line (set q i ks) word

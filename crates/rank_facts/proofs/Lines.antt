@@ -6,6 +6,7 @@ use Rattle.perm_ranks.specs.Words.{Word, all_words, total, word_at}
 use Rattle.perm_ranks.specs.Swapped.{exchanged}
 use Rattle.perm_ranks.proofs.WordLemmas.{Takes, done, takes, words-take, each-at}
 use Rattle.bound_specs.specs.Spec.{Step, no_step, Spec, Queues, line, line_by, counts_of, queues_of}
+use Rattle.bound_specs.proofs.WalkLemmas.{get_or-counts, counts-set}
 use Rattle.machine_model.specs.World.{World, send, send_all}
 use Rattle.machine_model.proofs.Basics.{known}
 use Rattle.rank_facts.specs.Quiet.{is_quiet}
@@ -16,17 +17,6 @@ use Rattle.rank_facts.proofs.Swaps.{line-at, line-two}
 abbrev pub Served : Queues → Word → Type 0
 Served q [] = Unit {0}
 Served q (a ∷ word) = (x : ℕ) × ((xs : List ℕ) × ((get_or q a [] ≡ x ∷ xs) × Served (set q a xs) word))
-
-get_or-counts : (q : Queues) (i : ℕ) → get_or (counts_of q) i 0 ≡ length (get_or q i [])
-get_or-counts [] i = refl
-get_or-counts (ks ∷ q) zero = refl
-get_or-counts (ks ∷ q) (suc i) = get_or-counts q i
-
--- the counts of queues of which one is changed
-pub counts-set : (q : Queues) (i : ℕ) (ks : List ℕ) → counts_of (set q i ks) ≡ set (counts_of q) i (length ks)
-counts-set [] i ks = refl
-counts-set (l ∷ q) zero ks = refl
-counts-set (l ∷ q) (suc i) ks = ap (λ ns. length l ∷ ns) (counts-set q i ks)
 
 takes-served : (n : ℕ) (counts : List ℕ) (v : Word) → Takes n counts v → (q : Queues) → counts_of q ≡ counts → Served q v
 takes-served _ counts _ done q e = tt

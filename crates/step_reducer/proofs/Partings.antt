@@ -8,14 +8,13 @@ use Rattle.perm_ranks.proofs.BlockLemmas.{block-narrowed, some-total}
 use Rattle.perm_ranks.proofs.PlaceLemmas.{place_of-taken}
 use Rattle.perm_ranks.proofs.WordLemmas.{Takes, done, takes, takes-length, words-take, each-at, entry-place, place-is, all_words-rise}
 use Rattle.bound_specs.specs.Spec.{no_step, Spec, Queues, line, line_by, line_of, counts_of, queues_of}
+use Rattle.bound_specs.proofs.WalkLemmas.{get_or-counts, counts-set}
 use Rattle.machine_model.specs.World.{World}
-use Rattle.rank_facts.proofs.Lines.{counts-set}
 use Rattle.rank_facts.proofs.Swaps.{line-at}
 use Rattle.step_reducer.specs.Fronts.{front}
 use Rattle.step_reducer.specs.Reduced.{rest_after, tour_of, LeftOf, IsPlace}
 use Rattle.step_reducer.proofs.FactsAt.{begins}
 use Rattle.step_reducer.proofs.FrontLemmas.{front-behind, front-apart}
-use Rattle.step_reducer.proofs.Places.{count-at}
 use Rattle.step_reducer.proofs.Tables.{step-owned, drop-some}
 
 -- ---- the line of a word by its front
@@ -50,7 +49,7 @@ line-takes _ counts _ done q e = refl
 line-takes _ counts _ (takes {n = n} {i = i} {c = c} {v = v} lt is t) q e = at (get_or q i []) refl (λ p f. line-takes n (set counts i c) v t p f)
   where
     many : length (get_or q i []) ≡ suc c
-    many = sym (count-at q i) ∙ ap (λ ns. get_or ns i 0) e ∙ is
+    many = sym (get_or-counts q i) ∙ ap (λ ns. get_or ns i 0) e ∙ is
 
     at : (l : List ℕ) → get_or q i [] ≡ l → ((p : Queues) → counts_of p ≡ set counts i c → length (line p v) ≡ n) → length (line q (i ∷ v)) ≡ suc n
     at [] h rec = absurd (let bad : 0 ≡ suc c = sym (ap length h) ∙ many in omega (arith, bad))

@@ -7,6 +7,7 @@ use Rattle.perm_ranks.specs.Counting.{taken}
 use Rattle.perm_ranks.specs.Blocks.{Block, narrowed, IsBlockOf}
 use Rattle.perm_ranks.proofs.BlockLemmas.{block-narrowed}
 use Rattle.bound_specs.specs.Spec.{Step, Queues, line, counts_of, queues_of}
+use Rattle.bound_specs.proofs.WalkLemmas.{get_or-counts}
 use Rattle.machine_model.specs.World.{World, send, send_all}
 use Rattle.rank_facts.specs.Swap.{quiet_heads, quiet_at, falls_at}
 use Rattle.step_reducer.specs.Reduced.{Tour, rest_after, world_after, has_swap, is_pair, LeftOf, IsPlace}
@@ -132,18 +133,12 @@ left-push q counts p a k ks some rests left b = subst (λ r. LeftOf (get_or q b 
 
 -- ---- places
 
-pub count-at : (q : Queues) (a : ℕ) → get_or (counts_of q) a 0 ≡ length (get_or q a [])
-count-at [] zero = refl
-count-at [] (suc a) = refl
-count-at (ks ∷ q) zero = refl
-count-at (ks ∷ q) (suc a) = count-at q a
-
 pub place-first : (t : Tour) (block : Block) → IsBlockOf (counts_of (queues_of t.spec)) [] block → block.left ≡ counts_of (queues_of t.spec)
     → IsPlace t [] block t.world []
 place-first t block is all = record {
   ranks = is;
   world_is = refl;
-  left = λ a. (let same : get_or block.left a 0 ≡ length (get_or (queues_of t.spec) a []) = ap (λ c. get_or c a 0) all ∙ count-at (queues_of t.spec) a in
+  left = λ a. (let same : get_or block.left a 0 ≡ length (get_or (queues_of t.spec) a []) = ap (λ c. get_or c a 0) all ∙ get_or-counts (queues_of t.spec) a in
       let none : length (get_or (queues_of t.spec) a []) - get_or block.left a 0 ≡ 0 = omega arith in
       let few : get_or block.left a 0 ≤ length (get_or (queues_of t.spec) a []) = omega arith in
       (few, ap (λ n. drop n (get_or (queues_of t.spec) a [])) (sym none)));

@@ -1,0 +1,3 @@
+pub mod Queues
+pub mod Sending
+pub mod Names

@@ -1,0 +1,2 @@
+-- Names and numbers of steps.
+use Rattle.std.proofs.Common.{◌≡◌}
