@@ -25,27 +25,27 @@ head-later : (i : ℕ) (s : Step) (ss : List Step) (d : ℕ) → (s.session == i
 head-later i s ss d e h = record { inside = (let lt = h.inside in omega (arith, lt)); own = h.own; others = others }
   where
     others : (l : ℕ) → l < suc d → session_of (s ∷ ss) l ≢ i
-    others zero lt same = false≢true (sym e ∙ eq-eqb s.session i same)
+    others zero lt = λ same. false≢true (sym e ∙ eq-eqb s.session i same)
     others (suc l) lt = h.others l (omega (arith, lt))
 
 pub head-at : (i k : ℕ) (ss : List Step) (m : ℕ) (ms : List ℕ) → steps_of i k ss ≡ m ∷ ms → (d : ℕ) × (m ≡ k + d) × IsHead i ss d
 head-at i k [] m ms e = cc
-head-at i k (s ∷ ss) m ms e = by (s.session == i) refl e
+head-at i k (s ∷ ss) m ms e = by (s.session == i) refl e (λ h. head-at i (suc k) ss m ms h)
   where
     by : (b : Bool) → (s.session == i) ≡ b → cond b (k ∷ steps_of i (suc k) ss) (steps_of i (suc k) ss) ≡ m ∷ ms
-        → (d : ℕ) × (m ≡ k + d) × IsHead i (s ∷ ss) d
-    by true is h = let same : k ≡ m = cc in (0, omega (arith, same), head-here i s ss is)
-    by false is h = let x = head-at i (suc k) ss m ms h in let far = x.1 in (suc x.0, omega (arith, far), head-later i s ss x.0 is x.2)
+        → (steps_of i (suc k) ss ≡ m ∷ ms → (d : ℕ) × (m ≡ suc k + d) × IsHead i ss d) → (d : ℕ) × (m ≡ k + d) × IsHead i (s ∷ ss) d
+    by true is h rest = let same : k ≡ m = cc in (0, omega (arith, same), head-here i s ss is)
+    by false is h rest = let x = rest h in let far = x.1 in (suc x.0, omega (arith, far), head-later i s ss x.0 is x.2)
 
 none-at : (i k : ℕ) (ss : List Step) → steps_of i k ss ≡ [] → (l : ℕ) → l < length ss → session_of ss l ≢ i
 none-at i k [] e l lt = absurd (omega (arith, lt))
-none-at i k (s ∷ ss) e l lt = by (s.session == i) refl e l lt
+none-at i k (s ∷ ss) e l lt = by (s.session == i) refl e l lt (λ h n in'. none-at i (suc k) ss h n in')
   where
     by : (b : Bool) → (s.session == i) ≡ b → cond b (k ∷ steps_of i (suc k) ss) (steps_of i (suc k) ss) ≡ [] → (l : ℕ) → l < suc (length ss)
-        → session_of (s ∷ ss) l ≢ i
-    by true is h l lt = cc
-    by false is h zero lt same = false≢true (sym is ∙ eq-eqb s.session i same)
-    by false is h (suc l) lt = none-at i (suc k) ss h l (omega (arith, lt))
+        → (steps_of i (suc k) ss ≡ [] → (n : ℕ) → n < length ss → session_of ss n ≢ i) → session_of (s ∷ ss) l ≢ i
+    by true is h l lt rest = cc
+    by false is h zero lt rest = λ same. false≢true (sym is ∙ eq-eqb s.session i same)
+    by false is h (suc l) lt rest = rest h l (omega (arith, lt))
 
 -- the session's first step from a number on
 pub record IsNext (i from : ℕ) (steps : List Step) (m : ℕ) : Type 0 where

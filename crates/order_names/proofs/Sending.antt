@@ -1,6 +1,6 @@
 -- How far an order is gone through, step by step: which words begin like it, and what is still to be sent.
 use Rattle.std.proofs.Common.{◌≡◌, ◌≢◌, refl, sym, ap, ◌∙◌, subst, ℕ, zero, suc, ◌+◌, ◌-◌, ◌<◌, ◌≤◌, ◌⊎◌, ⊎_elim, Bool, true, List, [], ◌∷◌, ◌++◌, length, take, drop, set, get_or}
-use Rattle.std.proofs.Common.{Option, Some, None, arith, append_assoc, append-nil, drop-cons, get_or-set_other, get_or-set_same, length-set}
+use Rattle.std.proofs.Common.{Option, Some, None, MatchOption, arith, append_assoc, append-nil, drop-cons, get_or-set_other, get_or-set_same, length-set}
 use Rattle.std.proofs.lemmas.List.{take_more, take_all, drop_all}
 use Rattle.perm_ranks.specs.Words.{Word, total, all_words, word_at, words_of, word_less}
 use Rattle.perm_ranks.specs.Counting.{taken}
@@ -12,8 +12,9 @@ use Rattle.bound_specs.specs.Spec.{Spec, Step, no_step, Queues, line, line_by, l
 use Rattle.bound_specs.specs.Walking.{steps_from, queues_at}
 use Rattle.bound_specs.proofs.WalkLemmas.{get_or-counts, counts-set, get_or-queues_at, get_or-queues_at-past, queues_at-set, queues_at-start, line-next}
 use Rattle.order_names.specs.Orders.{session_of}
-use Rattle.order_names.specs.Steps.{IsRankOfLine, IsNoLine, IsSent, IsStepInTurn, AreStepsInTurn, IsWrongLine, IsLeftOut}
-use Rattle.order_names.specs.declared.error.OrderError.TheVariants.{Again, OutOfTurn, LeftOut}
+use Rattle.order_names.specs.Steps.{IsRankOfLine, IsNoLine, IsSent, IsStepInTurn, AreStepsInTurn, IsWrongLine, IsWrongAt}
+use Rattle.order_names.specs.declared.error.OrderError.{OrderError}
+use Rattle.order_names.specs.declared.error.OrderError.TheVariants.{UnknownStep, Again, OutOfTurn, LeftOut, NoLine, NoMemory}
 use Rattle.order_names.proofs.Queues.{IsFirst, IsNext, next-is, none-next, first-letter, no-letter, empty-total}
 
 abbrev pub counts_in : Spec → List ℕ
@@ -77,13 +78,13 @@ module _ (run : Spec) (words : run.lines ≡ []) where
       }
 
   module _ (order next : List ℕ) (place : ℕ) (block : Block) (h : Sending run order place next block) where
-    q : Queues
+    abbrev q : Queues
     q = left_at run next
 
     -- ---- the next step
 
     module _ (inside : place < length order) (few : run.sessions ≤ 8) (i : ℕ) (some : i < run.sessions) (own : session_of run.steps (get_or order place 0) ≡ i) where
-      step : ℕ
+      abbrev step : ℕ
       step = get_or order place 0
 
       abbrev Heads : ℕ → Type 0
@@ -92,7 +93,7 @@ module _ (run : Spec) (words : run.lines ≡ []) where
 
       -- a rank of the order has the step as its session's next one
       heads : (r : ℕ) → r < length (all_words (counts_in run)) → line_of run r ≡ order → Heads r
-      heads r lt e = (f, (x, (same, ap (λ j. steps_from j (get_or next j 0) run.steps) (sym same) ∙ here)))
+      heads r lt e = (f, (x, same, ap (λ j. steps_from j (get_or next j 0) run.steps) (sym same) ∙ here))
         where
           f : Follows run order place h.shared q r
           f = h.follows r lt e
@@ -117,7 +118,7 @@ module _ (run : Spec) (words : run.lines ≡ []) where
       pub no-rank : ((more : List ℕ) → steps_from i (get_or next i 0) run.steps ≡ step ∷ more → ⊥) → IsNoLine run order
       no-rank other r lt e =
           let x = heads r (let all = ranks-are in omega (arith, all, lt)) e in
-          other x.1.0.more x.1.1.1
+          other x.1.0.more x.1.2
 
       pub wrong-turn : (due : ℕ) (more : List ℕ) → steps_from i (get_or next i 0) run.steps ≡ due ∷ more → due < step
           → IsWrongLine run.steps order (OutOfTurn place due)
@@ -156,6 +157,44 @@ module _ (run : Spec) (words : run.lines ≡ []) where
           cases : (step < get_or next i 0) ⊎ (get_or next i 0 ≤ step)
           cases = grind arith
 
+      -- what is due of the session by the code
+      abbrev IsDue : Option ℕ → Type 0
+      IsDue due = MatchOption due (steps_from i (get_or next i 0) run.steps ≡ [])
+          (λ k. steps_from i (get_or next i 0) run.steps ≡ k ∷ steps_from i (k + 1) run.steps)
+
+      pub wrong-found : (error : OrderError) (due : Option ℕ) → IsDue due → IsWrongAt place step due (Some error) → step < length run.steps
+          → IsWrongLine run.steps order error × IsNoLine run order
+      wrong-found (UnknownStep p) due is w known = absurd w
+      wrong-found (Again p) None is w known = (
+        subst (λ n. IsWrongLine run.steps order (Again n)) (sym w.0) (wrong-again known None (λ d f. cc) (λ f. is) w.1),
+        no-rank (λ more f. (let bad : [] ≡ step ∷ more = sym is ∙ f in cc)),
+      )
+      wrong-found (Again p) (Some d) is w known = (
+        subst (λ n. IsWrongLine run.steps order (Again n)) (sym w.0)
+            (wrong-again known (Some d) (λ c f. (let same : d ≡ c = cc in
+            (steps_from i (d + 1) run.steps, is ∙ ap (λ k. k ∷ steps_from i (d + 1) run.steps) same))) (λ f. cc) w.1),
+        no-rank (λ more f. (let two : d ∷ steps_from i (d + 1) run.steps ≡ step ∷ more = sym is ∙ f in
+            let same : d ≡ step = cc in let less = w.1 d refl in omega (arith, same, less))),
+      )
+      wrong-found (OutOfTurn p c) None is w known = absurd (let bad = w.1 in cc)
+      wrong-found (OutOfTurn p c) (Some d) is w known =
+          let some : Some d ≡ Some c = w.1 in
+          let due_is : d ≡ c = cc in
+          let less = w.2 in
+          let here : steps_from i (get_or next i 0) run.steps ≡ c ∷ steps_from i (d + 1) run.steps = is ∙ ap (λ k. k ∷ steps_from i (d + 1) run.steps) due_is in (
+            subst (λ n. IsWrongLine run.steps order (OutOfTurn n c)) (sym w.0) (wrong-turn c (steps_from i (d + 1) run.steps) here less),
+            no-rank (λ more f. (let two : c ∷ steps_from i (d + 1) run.steps ≡ step ∷ more = sym here ∙ f in
+                let same : c ≡ step = cc in omega (arith, same, less))),
+          )
+      wrong-found (LeftOut d) due is w known = absurd w
+      wrong-found NoLine due is w known = absurd w
+      wrong-found NoMemory due is w known = absurd w
+
+      pub due-found : (due : Option ℕ) → IsDue due → due ≡ Some step → steps_from i (get_or next i 0) run.steps ≡ step ∷ steps_from i (step + 1) run.steps
+      due-found None is e = absurd (cc e)
+      due-found (Some d) is e =
+          let same : d ≡ step = cc in subst (λ k. steps_from i (get_or next i 0) run.steps ≡ k ∷ steps_from i (k + 1) run.steps) same is
+
       module _ (known : step < length run.steps) (e : steps_from i (get_or next i 0) run.steps ≡ step ∷ steps_from i (step + 1) run.steps) where
         queue : get_or q i [] ≡ step ∷ steps_from i (step + 1) run.steps
         queue = get_or-queues_at run.steps 0 run.sessions i i next some (omega arith) ∙ e
@@ -172,7 +211,7 @@ module _ (run : Spec) (words : run.lines ≡ []) where
         fits : i < length next
         fits = let eight = h.eight in omega (arith, eight, some, few)
 
-        after : List ℕ
+        abbrev after : List ℕ
         after = set next i (step + 1)
 
         queues-after : left_at run after ≡ set q i (steps_from i (step + 1) run.steps)
@@ -199,13 +238,13 @@ module _ (run : Spec) (words : run.lines ≡ []) where
             by x =
                 let f = x.0 in
                 let first = x.1.0 in
-                let tails : step ∷ first.more ≡ step ∷ steps_from i (step + 1) run.steps = sym x.1.1.1 ∙ e in
+                let tails : step ∷ first.more ≡ step ∷ steps_from i (step + 1) run.steps = sym x.1.2 ∙ e in
                 let more : first.more ≡ steps_from i (step + 1) run.steps = cc tails in
-                let queues : set q first.letter first.more ≡ left_at run after = (λ k. set q (x.1.1.0 k) (more k)) ∙ sym queues-after in
+                let queues : set q first.letter first.more ≡ left_at run after = (λ k. set q (x.1.1 k) (more k)) ∙ sym queues-after in
                 let one : suc place ≡ place + 1 = omega arith in
                 record {
                   word = first.word;
-                  word_is = f.word_is ∙ ap (λ w. h.shared ++ w) first.word_is ∙ ap (λ j. h.shared ++ j ∷ first.word) x.1.1.0
+                  word_is = f.word_is ∙ ap (λ w. h.shared ++ w) first.word_is ∙ ap (λ j. h.shared ++ j ∷ first.word) x.1.1
                       ∙ sym (append_assoc h.shared (i ∷ []) first.word);
                   left = first.left;
                   taken = subst (λ p. Takes first.left (counts_of p) first.word) queues first.taken;
@@ -213,7 +252,7 @@ module _ (run : Spec) (words : run.lines ≡ []) where
                 }
 
         weaker : (k : ℕ) → IsSent order place k → IsSent order (place + 1) k
-        weaker k x = let lt = x.1.0 in (x.0, (omega (arith, lt), x.1.1))
+        weaker k x = let lt = x.1 in (x.0, omega (arith, lt), x.2)
 
         sent-after : (k : ℕ) → k < length run.steps → k < get_or after (session_of run.steps k) 0 → IsSent order (place + 1) k
         sent-after k in_steps lt = ⊎_elim mine others cases
@@ -229,7 +268,7 @@ module _ (run : Spec) (words : run.lines ≡ []) where
 
             mine : session_of run.steps k ≡ i → IsSent order (place + 1) k
             mine is = ⊎_elim (λ l. weaker k (h.sent k in_steps (let old : get_or next (session_of run.steps k) 0 ≡ get_or next i 0 = ap (λ j. get_or next j 0) is in
-                omega (arith, old, l)))) (λ le. ⊎_elim (λ s. (place, (omega arith, sym s))) (λ less. absurd (is-next.first k le less is)) last) before
+                omega (arith, old, l)))) (λ le. ⊎_elim (λ s. (place, omega arith, sym s)) (λ less. absurd (is-next.first k le less is)) last) before
               where
                 now : get_or after (session_of run.steps k) 0 ≡ step + 1
                 now = ap (λ j. get_or after j 0) is ∙ get_or-set_same next i (step + 1) 0 fits
@@ -250,16 +289,16 @@ module _ (run : Spec) (words : run.lines ≡ []) where
             cases = grind arith
 
             split : (x.0 < place) ⊎ (x.0 ≡ place)
-            split = let lt = x.1.0 in grind (arith, lt)
+            split = let lt = x.1 in grind (arith, lt)
 
             it : x.0 ≡ place → k ≡ step
-            it same = sym x.1.1 ∙ ap (λ p. get_or order p 0) same
+            it same = sym x.2 ∙ ap (λ p. get_or order p 0) same
 
             mine : session_of run.steps k ≡ i → k < get_or after (session_of run.steps k) 0
             mine is =
                 let there : get_or after (session_of run.steps k) 0 ≡ step + 1 = ap (λ j. get_or after j 0) is ∙ now in
                 ⊎_elim
-                (λ lt. (let old = h.unsent k (x.0, (lt, x.1.1)) in
+                (λ lt. (let old = h.unsent k (x.0, lt, x.2) in
                 let was : get_or next (session_of run.steps k) 0 ≡ get_or next i 0 = ap (λ j. get_or next j 0) is in
                 let le = is-next.behind in omega (arith, there, old, was, le)))
                 (λ same. (let here = it same in omega (arith, there, here))) split
@@ -268,7 +307,7 @@ module _ (run : Spec) (words : run.lines ≡ []) where
             others ne =
                 let same : get_or after (session_of run.steps k) 0 ≡ get_or next (session_of run.steps k) 0 =
                 get_or-set_other next i (session_of run.steps k) (step + 1) 0 ne in
-                ⊎_elim (λ lt. (let old = h.unsent k (x.0, (lt, x.1.1)) in omega (arith, same, old)))
+                ⊎_elim (λ lt. (let old = h.unsent k (x.0, lt, x.2) in omega (arith, same, old)))
                 (λ here. absurd (ne (ap (session_of run.steps) (it here) ∙ own))) split
 
         turn-here : IsStepInTurn run.steps order place
@@ -327,7 +366,7 @@ module _ (run : Spec) (words : run.lines ≡ []) where
             subst (AreStepsInTurn run.steps order) all h.turns,
             n.known,
             λ s. (
-                let was = h.unsent due (let le = s.1.0 in (s.0, (omega (arith, le, all), s.1.1))) in
+                let was = h.unsent due (let le = s.1 in (s.0, omega (arith, le, all), s.2)) in
                 let at : get_or next (session_of run.steps due) 0 ≡ get_or next j 0 = ap (λ k. get_or next k 0) n.own in
                 let le = n.behind in
                 absurd (omega (arith, was, at, le))),
@@ -347,7 +386,8 @@ module _ (run : Spec) (words : run.lines ≡ []) where
 
       module _ (none : (j : ℕ) → j < run.sessions → steps_from j (get_or next j 0) run.steps ≡ []) where
         no-letters : total block.left ≡ 0
-        no-letters = left-total ∙ empty-total 0 run.sessions next run.steps none
+        no-letters = left-total ∙ empty-total 0 run.sessions next run.steps (λ i lt. (let same : 0 + i ≡ i = omega arith in
+            ap (λ m. steps_from m (get_or next m 0) run.steps) same ∙ none i lt))
 
         one-word : all_words block.left ≡ [] ∷ []
         one-word = ap (λ n. words_of n block.left) no-letters

@@ -1,5 +1,5 @@
 -- Orders by the names of their steps: the rank of an order, or what is wrong with one that has none.
-use Rattle.std.specs.Prelude.{◌≡◌, ◌≢◌, ℕ, ◌<◌, List, [], length, get_or, map, ⊥}
+use Rattle.std.specs.Prelude.{◌≡◌, ◌≢◌, ℕ, ◌<◌, List, [], length, get_or, map}
 use Rattle.std.specs.List.{AllZip}
 use Rattle.bound_specs.specs.Spec.{SpecFile, Step, no_step, ranks, line_of}
 use Rattle.order_names.specs.declared.error.OrderError.{OrderError}

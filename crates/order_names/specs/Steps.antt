@@ -1,5 +1,5 @@
 -- Orders by the numbers of their steps.
-use Rattle.std.specs.Prelude.{◌≡◌, ℕ, ◌<◌, List, [], ◌∷◌, length, get_or, Option, Some, None, ⊥}
+use Rattle.std.specs.Prelude.{◌≡◌, ℕ, ◌<◌, List, [], ◌∷◌, length, get_or, Option, Some, None}
 use Rattle.bound_specs.specs.Spec.{Spec, Step, ranks, line_of}
 use Rattle.bound_specs.specs.Walking.{steps_from}
 use Rattle.order_names.specs.Orders.{session_of}

@@ -1,6 +1,6 @@
 //! The rank of an order that is told by the names of its steps.
 
-ghost use Rattle.std.specs.Prelude.{◌≡◌, ◌<◌, ⊥, ℕ, IfOk, IfErr, MatchOption, length, map};
+ghost use Rattle.std.specs.Prelude.{ℕ, IfOk, IfErr, MatchOption, map};
 ghost use Rattle.std.specs.List.{AllZip};
 ghost use Rattle.order_names.specs.Orders.{IsRankOf, IsRefused, IsStepNamed};
 
@@ -38,9 +38,9 @@ fn steps_of(alloc: Global, spec: &Spec, names: &[&str]) -> Result<Vec<u8>, Order
         let Some(step) = step_named(spec, names[place]) else {
             return Err(OrderError::UnknownStep(place));
         };
-        if steps.push(step).is_err() {
+        let Ok(()) = steps.push(step) else {
             return Err(OrderError::NoMemory);
-        }
+        };
     }
     Ok(steps)
 }
