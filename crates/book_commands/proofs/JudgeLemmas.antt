@@ -5,7 +5,8 @@ use Rattle.transcripts.specs.Counted.{Wrote, Stopped}
 use Rattle.transcripts.specs.declared.counted.Counted.{Counted}
 use Rattle.transcripts.proofs.Writing.{stopped-append, stopped-after}
 use Rattle.fact_books.specs.Entries.{Told}
-use Rattle.accepted_outputs.proofs.Places.{whichever, zip-push}
+use Rattle.fact_books.proofs.Recordable.{whichever}
+use Rattle.accepted_outputs.proofs.Places.{zip-push}
 use Rattle.book_commands.specs.Joining.{Files, bytes_at}
 use Rattle.book_commands.specs.Judging.{AreReports, IsFileReport, difference_line, difference_lines}
 

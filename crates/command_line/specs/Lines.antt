@@ -2,7 +2,7 @@
 use Rattle.std.specs.Prelude.{◌≡◌, ◌==◌, ◌<◌, ◌≤◌, ℕ, ◌^◌, Bool, true, false, not, List, [], ◌∷◌, length, map, codes, decimal, Option, Some, None, cond}
 use Rattle.std.specs.List.{list_all}
 use Rattle.std.specs.Str.{bytes_eq}
-use Rattle.command_line.specs.declared.words.TheConstants.{MAX_BOOKS, DEFAULT_WORKERS}
+use Rattle.command_line.specs.declared.words.TheConstants.{MAX_BOOKS, MAX_NAMES, DEFAULT_WORKERS}
 use Rattle.command_line.specs.declared.words.Asked.{Asked}
 use Rattle.command_line.specs.declared.words.Asked.TheVariants as asked
 use Rattle.command_line.specs.declared.names.Name.{Name}
@@ -13,6 +13,8 @@ pub data Line : Type 0 where
   Check : (path : List ℕ) → Line
   One : (path : List ℕ) (rank : ℕ) → Line
   Count : (path : List ℕ) → Line
+  Rank : (path : List ℕ) (names : List (List ℕ)) → Line
+  Order : (path : List ℕ) (rank : ℕ) → Line
   Run : (path : List ℕ) (first end : ℕ) → Line
   Join : (paths : List (List ℕ)) → Line
   Report : (path : List ℕ) → Line
@@ -24,6 +26,8 @@ abbrev pub command : Line → List ℕ
 command (Check path) = codes "check"
 command (One path rank) = codes "one"
 command (Count path) = codes "count"
+command (Rank path names) = codes "rank"
+command (Order path rank) = codes "order"
 command (Run path first end) = codes "run"
 command (Join paths) = codes "join"
 command (Report path) = codes "report"
@@ -35,6 +39,8 @@ abbrev pub arguments : Line → List (List ℕ)
 arguments (Check path) = path ∷ []
 arguments (One path rank) = path ∷ decimal rank ∷ []
 arguments (Count path) = path ∷ []
+arguments (Rank path names) = path ∷ names
+arguments (Order path rank) = path ∷ decimal rank ∷ []
 arguments (Run path first end) = path ∷ decimal first ∷ decimal end ∷ []
 arguments (Join paths) = paths
 arguments (Report path) = path ∷ []
@@ -45,11 +51,17 @@ arguments (Judge path accepted) = path ∷ accepted
 abbrev pub AreBooks : List (List ℕ) → Type 0
 AreBooks paths = (0 < length paths) × (length paths ≤ MAX_BOOKS)
 
--- numbers have 64 bits
+-- one name at least, and not too many
+abbrev pub AreNames : List (List ℕ) → Type 0
+AreNames names = (0 < length names) × (length names ≤ MAX_NAMES)
+
+-- numbers have 64 bits, and books and names are so many
 abbrev pub Fits : Line → Type 0
 Fits (Check path) = Unit {0}
 Fits (One path rank) = rank < 2 ^ 64
 Fits (Count path) = Unit {0}
+Fits (Rank path names) = AreNames names
+Fits (Order path rank) = rank < 2 ^ 64
 Fits (Run path first end) = (first < 2 ^ 64) × (end < 2 ^ 64)
 Fits (Join paths) = AreBooks paths
 Fits (Report path) = Unit {0}
@@ -73,6 +85,8 @@ abbrev pub AsksFor : Line → Asked → Type 0
 AsksFor (Check path) (asked.Check p) = p.now ≡ path
 AsksFor (One path rank) (asked.One p r) = (p.now ≡ path) × (r ≡ rank)
 AsksFor (Count path) (asked.Count p) = p.now ≡ path
+AsksFor (Rank path names) (asked.Rank p ns) = (p.now ≡ path) × (map (λ n. n.now) ns.items ≡ names)
+AsksFor (Order path rank) (asked.Order p r) = (p.now ≡ path) × (r ≡ rank)
 AsksFor (Run path first end) (asked.Run p f e every workers progress) =
     (p.now ≡ path) × (f ≡ first) × (e ≡ end) × (every ≡ false) × (workers ≡ DEFAULT_WORKERS) × (progress ≡ false)
 AsksFor (Join paths) (asked.Join ps) = map (λ p. p.now) ps ≡ paths
@@ -86,15 +100,18 @@ AsksFor line asked = ⊥
 -- the command that is spelled so
 abbrev pub name_in : List ℕ → Option Name
 name_in word = cond (bytes_eq word (codes "check")) (Some name.Check) (cond (bytes_eq word (codes "one")) (Some name.One)
-    (cond (bytes_eq word (codes "count")) (Some name.Count) (cond (bytes_eq word (codes "run")) (Some name.Run)
+    (cond (bytes_eq word (codes "count")) (Some name.Count) (cond (bytes_eq word (codes "rank")) (Some name.Rank)
+    (cond (bytes_eq word (codes "order")) (Some name.Order) (cond (bytes_eq word (codes "run")) (Some name.Run)
     (cond (bytes_eq word (codes "join")) (Some name.Join) (cond (bytes_eq word (codes "report")) (Some name.Report)
-    (cond (bytes_eq word (codes "audit")) (Some name.Audit) (cond (bytes_eq word (codes "judge")) (Some name.Judge) None)))))))
+    (cond (bytes_eq word (codes "audit")) (Some name.Audit) (cond (bytes_eq word (codes "judge")) (Some name.Judge) None)))))))))
 
 -- the command of a line
 abbrev pub named : Line → Name
 named (Check path) = name.Check
 named (One path rank) = name.One
 named (Count path) = name.Count
+named (Rank path names) = name.Rank
+named (Order path rank) = name.Order
 named (Run path first end) = name.Run
 named (Join paths) = name.Join
 named (Report path) = name.Report

@@ -3,12 +3,12 @@
 ghost use Rattle.std.specs.Prelude.{◌≡◌, ◌<◌, ◌^◌, ℕ, List, [], ◌∷◌, Some, IfOk, decimal, map, string_bytes};
 ghost use Rattle.std.specs.List.{list_all};
 ghost use Rattle.std.specs.Option.{IsSomeAnd};
-ghost use Rattle.command_line.specs.Lines.{AsksFor, AreBooks, Fits, IsBehind, IsLine, Line, arguments, is_plain, named};
-ghost use Rattle.command_line.specs.Lines.{Check, One, Count, Run, Join, Report, Audit, Judge};
+ghost use Rattle.command_line.specs.Lines.{AsksFor, AreBooks, AreNames, Fits, IsBehind, IsLine, Line, arguments, is_plain, named};
+ghost use Rattle.command_line.specs.Lines.{Check, One, Count, Rank, Order, Run, Join, Report, Audit, Judge};
 
 use crate::names::{Name, name_of};
 use crate::paths::Paths;
-use crate::words::{Asked, DEFAULT_WORKERS, MAX_BOOKS};
+use crate::words::{Asked, DEFAULT_WORKERS, MAX_BOOKS, MAX_NAMES};
 use shard_board::Workers;
 use std::alloc::{AllocError, Global};
 
@@ -76,6 +76,8 @@ fn line_of<'a>(
         Name::Check => Ok(check_line(rest)),
         Name::One => Ok(one_line(rest)),
         Name::Count => Ok(count_line(rest)),
+        Name::Rank => rank_line(alloc, rest),
+        Name::Order => Ok(order_line(rest)),
         Name::Run => Ok(run_line(rest)),
         Name::Join => join_line(alloc, rest),
         Name::Report => Ok(report_line(rest)),
@@ -114,6 +116,41 @@ fn count_line<'a>(rest: &'a [String]) -> Option<Asked<'a>>
     }
 }
 
+fn rank_line<'a>(alloc: Global, rest: &'a [String]) -> Result<Option<Asked<'a>>, AllocError>
+    ensures { IfOk result (λ asked. (path : List ℕ) (names : List (List ℕ)) → AreNames names → map string_bytes rest.now ≡ path ∷ names → IsSomeAnd asked (AsksFor (Rank path names))) }
+{
+    match rest {
+        [path, names @ ..] => named_line(alloc, path, names),
+        _ => Ok(None),
+    }
+}
+
+fn named_line<'a>(
+    alloc: Global,
+    path: &'a str,
+    names: &'a [String],
+) -> Result<Option<Asked<'a>>, AllocError>
+    ensures { IfOk result (λ asked. AreNames (map string_bytes names.now) → IsSomeAnd asked (AsksFor (Rank path.now (map string_bytes names.now)))) }
+{
+    if names.is_empty() || names.len() > MAX_NAMES {
+        return Ok(None);
+    }
+    let names = words_of(alloc, names)?;
+    Ok(Some(Asked::Rank { path, names }))
+}
+
+fn order_line<'a>(rest: &'a [String]) -> Option<Asked<'a>>
+    ensures { (path : List ℕ) (rank : ℕ) → rank < 2 ^ 64 → map string_bytes rest.now ≡ path ∷ decimal rank ∷ [] → IsSomeAnd result (AsksFor (Order path rank)) }
+{
+    match rest {
+        [path, rank] => Some(Asked::Order {
+            path,
+            rank: number_of(rank)?,
+        }),
+        _ => None,
+    }
+}
+
 fn run_line<'a>(rest: &'a [String]) -> Option<Asked<'a>>
     ensures { (path : List ℕ) (first end : ℕ) → first < 2 ^ 64 → end < 2 ^ 64 → map string_bytes rest.now ≡ path ∷ decimal first ∷ decimal end ∷ [] → IsSomeAnd result (AsksFor (Run path first end)) }
 {
@@ -136,7 +173,7 @@ fn join_line<'a>(alloc: Global, rest: &'a [String]) -> Result<Option<Asked<'a>>,
     if rest.len() > MAX_BOOKS {
         return Ok(None);
     }
-    let books = books_of(alloc, rest)?;
+    let books = words_of(alloc, rest)?;
     match Paths::of(books) {
         Some(paths) => Ok(Some(Asked::Join { paths })),
         None => Ok(None),
@@ -180,7 +217,7 @@ fn accepted_line<'a>(
     if books.is_empty() || books.len() > MAX_BOOKS {
         return Ok(None);
     }
-    let accepted = books_of(alloc, books)?;
+    let accepted = words_of(alloc, books)?;
     Ok(Some(Asked::Judge { path, accepted }))
 }
 
@@ -191,13 +228,13 @@ fn number_of(word: &str) -> Option<u64>
     word.parse::<u64>().ok()
 }
 
-/// The words as paths.
-fn books_of<'a>(alloc: Global, words: &'a [String]) -> Result<Vec<&'a str>, AllocError>
-    ensures { IfOk result (λ paths. map (λ p. p.now) paths.items ≡ map string_bytes words.now) }
+/// The words, borrowed.
+fn words_of<'a>(alloc: Global, words: &'a [String]) -> Result<Vec<&'a str>, AllocError>
+    ensures { IfOk result (λ lent. map (λ w. w.now) lent.items ≡ map string_bytes words.now) }
 {
-    let mut paths = Vec::new(alloc);
+    let mut lent = Vec::new(alloc);
     for word in words {
-        paths.push(word.as_str())?;
+        lent.push(word.as_str())?;
     }
-    Ok(paths)
+    Ok(lent)
 }

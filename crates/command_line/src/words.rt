@@ -19,6 +19,9 @@ const VERSION: &str = "0.1.0";
 /// The books of a join, and the accepted books of a judgement, at most.
 pub const MAX_BOOKS: usize = 1_000;
 
+/// The names of an order, at most. A spec has orders of far fewer.
+pub const MAX_NAMES: usize = 1_000;
+
 /// How many workers run a range where the words name no number.
 pub const DEFAULT_WORKERS: u8 = 4;
 
@@ -40,6 +43,16 @@ pub enum Asked<'a> {
     /// The number of permutations of the spec at a path.
     Count {
         path: &'a str,
+    },
+    /// The rank of the order of steps with these names, in the spec at a path.
+    Rank {
+        path: &'a str,
+        names: Vec<&'a str>,
+    },
+    /// The names of the steps of a permutation of the spec at a path.
+    Order {
+        path: &'a str,
+        rank: u64,
     },
     /// The book of the ranks from the first up to but not the end, and whether it is told how far that is.
     Run {
@@ -99,6 +112,7 @@ fn no_command(alloc: Global) -> Result<Error, AllocError> {
 enum Word {
     Spec,
     Rank,
+    Names,
     First,
     End,
     Every,
@@ -117,7 +131,7 @@ struct Row {
     words: &'static [Word],
 }
 
-static COMMANDS: [Row; 8] = [
+static COMMANDS: [Row; 10] = [
     Row {
         spelled: "check",
         about: "Prints how much a spec has, or where it is wrong and why",
@@ -132,6 +146,16 @@ static COMMANDS: [Row; 8] = [
         spelled: "count",
         about: "Prints how many permutations a spec has",
         words: &[Word::Spec],
+    },
+    Row {
+        spelled: "rank",
+        about: "Prints the number of the permutation with these steps",
+        words: &[Word::Spec, Word::Names],
+    },
+    Row {
+        spelled: "order",
+        about: "Prints the steps of a permutation",
+        words: &[Word::Spec, Word::Rank],
     },
     Row {
         spelled: "run",
@@ -203,6 +227,7 @@ fn arg_of<'a>(alloc: Global, word: Word) -> Arg<'a> {
     match word {
         Word::Spec => spec_word(alloc),
         Word::Rank => number_word(alloc, "RANK", "The number of a permutation, from 0"),
+        Word::Names => names_word(alloc),
         Word::First => number_word(alloc, "FIRST", "The number of the first permutation"),
         Word::End => number_word(
             alloc,
@@ -254,6 +279,14 @@ fn books_word<'a>(alloc: Global, name: &'a str, help: &'a str) -> Arg<'a> {
         .help(help)
 }
 
+fn names_word<'a>(alloc: Global) -> Arg<'a> {
+    Arg::new(alloc, "STEP")
+        .required(true)
+        .action(ArgAction::Append)
+        .num_args(1..=MAX_NAMES)
+        .help("The names of the steps, in their order")
+}
+
 fn book_word<'a>(alloc: Global) -> Arg<'a> {
     Arg::new(alloc, "BOOK")
         .required(true)
@@ -287,6 +320,8 @@ fn asked_of<'a>(alloc: Global, matches: &ArgMatches<'a>) -> Result<Option<Asked<
         Name::Check => Ok(check_of_words(words)),
         Name::One => Ok(one_of_words(words)),
         Name::Count => Ok(count_of_words(words)),
+        Name::Rank => rank_of_words(alloc, words),
+        Name::Order => Ok(order_of_words(words)),
         Name::Run => Ok(run_of_words(words)),
         Name::Join => join_of_words(alloc, words),
         Name::Report => Ok(report_of_words(words)),
@@ -309,6 +344,28 @@ fn one_of_words<'a>(words: &ArgMatches<'a>) -> Option<Asked<'a>> {
 fn count_of_words<'a>(words: &ArgMatches<'a>) -> Option<Asked<'a>> {
     let path = words.get_str("SPEC")?;
     Some(Asked::Count { path })
+}
+
+fn rank_of_words<'a>(
+    alloc: Global,
+    words: &ArgMatches<'a>,
+) -> Result<Option<Asked<'a>>, AllocError> {
+    let Some(path) = words.get_str("SPEC") else {
+        return Ok(None);
+    };
+    match words.get_strs("STEP") {
+        Some(names) => Ok(Some(Asked::Rank {
+            path,
+            names: Vec::from_slice(alloc, names)?,
+        })),
+        None => Ok(None),
+    }
+}
+
+fn order_of_words<'a>(words: &ArgMatches<'a>) -> Option<Asked<'a>> {
+    let path = words.get_str("SPEC")?;
+    let rank = words.get_one::<u64>("RANK")?;
+    Some(Asked::Order { path, rank })
 }
 
 fn run_of_words<'a>(words: &ArgMatches<'a>) -> Option<Asked<'a>> {

@@ -2,6 +2,7 @@
 use Rattle.std.specs.Prelude.{ℕ}
 use Rattle.fault_texts.specs.declared.fault.ProgramFault.{ProgramFault}
 use Rattle.fault_texts.specs.declared.fault.ProgramFault.TheVariants.{Spec, Sql, Bind, Start, RankOutOfRange, Shard, Book, BookTooLarge, OtherSpec}
+use Rattle.fault_texts.specs.declared.fault.ProgramFault.TheVariants.{NoStep, Twice, OutOfTurn, LeftOut, NoLine}
 use Rattle.fault_texts.specs.declared.fault.ProgramFault.TheVariants.{TooManyRanks, Explained, Missing, Clash, NoMemory, Read, Write}
 
 -- a rank without exactly one value is told by 1, what is refused by 3, want of memory by 4, and a read or write fault by 5
@@ -11,6 +12,11 @@ status_of (Sql path kind offset) = 3
 status_of (Bind path kind offset) = 3
 status_of (Start path kind number) = 3
 status_of (RankOutOfRange path) = 3
+status_of (NoStep path name) = 3
+status_of (Twice path name) = 3
+status_of (OutOfTurn path name due) = 3
+status_of (LeftOut path due) = 3
+status_of (NoLine path) = 3
 status_of (Shard path kind) = 3
 status_of (Book path kind) = 3
 status_of BookTooLarge = 3

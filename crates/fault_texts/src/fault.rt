@@ -41,6 +41,36 @@ pub enum ProgramFault<'a> {
     RankOutOfRange {
         path: &'a str,
     },
+    /// No step of the spec has this name.
+    #[error("isofarm: {path}: no step {name:?}")]
+    NoStep {
+        path: &'a str,
+        name: &'a str,
+    },
+    /// The order has the step of this name twice.
+    #[error("isofarm: {path}: step {name:?} twice")]
+    Twice {
+        path: &'a str,
+        name: &'a str,
+    },
+    /// The order has a step before an earlier one of its session, which is due.
+    #[error("isofarm: {path}: step {name:?} before {due:?}")]
+    OutOfTurn {
+        path: &'a str,
+        name: &'a str,
+        due: String,
+    },
+    /// The order leaves out the step of this name.
+    #[error("isofarm: {path}: step {due:?} left out")]
+    LeftOut {
+        path: &'a str,
+        due: String,
+    },
+    /// The order is none of the spec's permutation lines.
+    #[error("isofarm: {path}: no such line")]
+    NoLine {
+        path: &'a str,
+    },
     /// The range is none of the spec, or too long.
     #[error("isofarm: {path}: shard error {kind}")]
     Shard {
@@ -108,6 +138,11 @@ impl ProgramFault<'_> {
             | ProgramFault::Bind { .. }
             | ProgramFault::Start { .. }
             | ProgramFault::RankOutOfRange { .. }
+            | ProgramFault::NoStep { .. }
+            | ProgramFault::Twice { .. }
+            | ProgramFault::OutOfTurn { .. }
+            | ProgramFault::LeftOut { .. }
+            | ProgramFault::NoLine { .. }
             | ProgramFault::Shard { .. }
             | ProgramFault::Book { .. }
             | ProgramFault::BookTooLarge

@@ -1,3 +1,4 @@
 pub mod Queues
 pub mod Sending
 pub mod Names
+pub mod Spelled

@@ -1,2 +1,3 @@
 pub mod Orders
 pub mod Steps
+pub mod Spelling

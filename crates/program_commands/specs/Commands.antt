@@ -5,9 +5,10 @@ use Rattle.transcripts.specs.Counted.{Wrote, Stopped, written, failures_of}
 use Rattle.transcripts.specs.declared.counted.Counted.{Counted}
 use Rattle.command_line.specs.Lines.{Line, IsLine, AsksFor}
 use Rattle.command_line.specs.declared.words.Asked.{Asked}
-use Rattle.command_line.specs.declared.words.Asked.TheVariants.{Check, One, Count, Run, Join, Report, Audit, Judge}
+use Rattle.command_line.specs.declared.words.Asked.TheVariants.{Check, One, Count, Rank, Order, Run, Join, Report, Audit, Judge}
 use Rattle.spec_commands.specs.One.{IsOneRun}
 use Rattle.spec_commands.specs.Counting.{IsChecked, IsCounted}
+use Rattle.spec_commands.specs.Ordering.{IsOrdered, IsRanked}
 use Rattle.book_commands.specs.declared.finding.Finding.{Finding}
 use Rattle.book_commands.specs.declared.finding.Finding.TheVariants.{Good}
 use Rattle.book_commands.specs.Finding.{finding_status}
@@ -20,7 +21,7 @@ use Rattle.program_commands.specs.declared.files.TheConstants.{MAX_SPEC_READ}
 use Rattle.fault_texts.specs.declared.fault.ProgramFault.{ProgramFault}
 use Rattle.fault_texts.specs.declared.fault.ProgramFault.TheVariants.{NoMemory, Read, Write}
 use Rattle.fault_texts.specs.Status.{status_of}
-use Rattle.program_commands.specs.Faults.{one_told, count_told, range_told, join_told, report_told, audit_told, judge_told, IsCheckTold}
+use Rattle.program_commands.specs.Faults.{one_told, count_told, rank_told, order_told, range_told, join_told, report_told, audit_told, judge_told, IsCheckTold}
 
 -- what a call finds is the program's answer, and what it refuses is told
 abbrev pub IsFound : {E : Type 0} → (Result Finding E → Type 0) → (E → ProgramFault → Type 0) → Result Finding ProgramFault → Type 0
@@ -57,6 +58,13 @@ IsDone files contents old new (Check path) result =
 IsDone files contents old new (Count path) result =
     IsUnread (files path.now) path.now old new result
     ⊎ IsCalled (files path.now) (IsCounted contents old new) (λ bytes error told. told ≡ count_told path error) result
+IsDone files contents old new (Rank path names) result =
+    IsUnread (files path.now) path.now old new result
+    ⊎ IsCalled (files path.now) (λ bytes. IsRanked contents old new bytes (map (λ n. n.now) names.items))
+    (λ bytes error told. rank_told path names.items error ≡ Some told) result
+IsDone files contents old new (Order path rank) result =
+    IsUnread (files path.now) path.now old new result
+    ⊎ IsCalled (files path.now) (λ bytes. IsOrdered contents old new bytes rank) (λ bytes error told. told ≡ order_told path error) result
 IsDone files contents old new (Run path first end every workers progress) result =
     IsUnread (files path.now) path.now old new result
     ⊎ IsCalled (files path.now) (λ bytes. IsRangeRun contents old new bytes first end (not every)) (λ bytes error told. told ≡ range_told path error) result
@@ -90,6 +98,8 @@ abbrev pub tells_progress : Asked → Bool
 tells_progress (One path rank) = false
 tells_progress (Check path) = false
 tells_progress (Count path) = false
+tells_progress (Rank path names) = false
+tells_progress (Order path rank) = false
 tells_progress (Run path first end every workers progress) = progress
 tells_progress (Join paths) = false
 tells_progress (Report path) = false

@@ -24,6 +24,10 @@ use Rattle.spec_binding.specs.declared.spec.SpecFault.{SpecFault}
 use Rattle.spec_binding.specs.declared.spec.SpecFault.TheVariants as spec_fault
 use Rattle.spec_commands.specs.declared.single.OneFault.{OneFault}
 use Rattle.spec_commands.specs.declared.single.OneFault.TheVariants as one_fault
+use Rattle.spec_commands.specs.declared.ordering.RankFault.{RankFault}
+use Rattle.spec_commands.specs.declared.ordering.RankFault.TheVariants as rank_fault
+use Rattle.spec_commands.specs.declared.ordering.OrderFault.{OrderFault}
+use Rattle.spec_commands.specs.declared.ordering.OrderFault.TheVariants as order_fault
 use Rattle.spec_commands.specs.declared.counting.CountFault.{CountFault}
 use Rattle.spec_commands.specs.declared.counting.CountFault.TheVariants as count_fault
 use Rattle.book_commands.specs.declared.joining.FileFault.{FileFault}
@@ -45,6 +49,7 @@ use Rattle.fault_texts.specs.Explanations.{explanation}
 use Rattle.fault_texts.specs.declared.fault.ProgramFault.{ProgramFault}
 use Rattle.fault_texts.specs.declared.fault.ProgramFault.TheVariants.{Spec, Sql, Bind, Start, RankOutOfRange, Shard, Book, BookTooLarge, OtherSpec}
 use Rattle.fault_texts.specs.declared.fault.ProgramFault.TheVariants.{TooManyRanks, Explained, Missing, Clash, NoMemory, Read, Write}
+use Rattle.fault_texts.specs.declared.fault.ProgramFault.TheVariants.{NoStep, Twice, OutOfTurn, LeftOut, NoLine}
 
 -- a path as the words have it
 abbrev pub Path : Type 0
@@ -85,6 +90,23 @@ one_told path (one_fault.Write fault) = Write
 abbrev pub count_told : Path → CountFault → ProgramFault
 count_told path (count_fault.Spec fault) = spec_told path fault
 count_told path (count_fault.Write fault) = Write
+
+-- of the name at a place that is told
+abbrev pub rank_told : Path → List Path → RankFault → Option ProgramFault
+rank_told path names (rank_fault.Spec fault) = Some (spec_told path fault)
+rank_told path names (rank_fault.UnknownStep place) = option_map (λ name. NoStep path name) (slice_get names place)
+rank_told path names (rank_fault.Again place) = option_map (λ name. Twice path name) (slice_get names place)
+rank_told path names (rank_fault.OutOfTurn place due) = option_map (λ name. OutOfTurn path name due) (slice_get names place)
+rank_told path names (rank_fault.LeftOut due) = Some (LeftOut path due)
+rank_told path names rank_fault.NoLine = Some (NoLine path)
+rank_told path names rank_fault.NoMemory = Some NoMemory
+rank_told path names (rank_fault.Write fault) = Some Write
+
+abbrev pub order_told : Path → OrderFault → ProgramFault
+order_told path (order_fault.Spec fault) = spec_told path fault
+order_told path order_fault.OutOfRange = RankOutOfRange path
+order_told path order_fault.NoMemory = NoMemory
+order_told path (order_fault.Write fault) = Write
 
 abbrev pub write_told : WriteError → ProgramFault
 write_told write_error.TooLarge = BookTooLarge

@@ -7,6 +7,7 @@ ghost use Rattle.transcripts.specs.Counted.{Wrote, failures_of};
 ghost use Rattle.transcripts.specs.declared.counted.Counted.{Counted};
 ghost use Rattle.spec_commands.specs.One.{IsOneRun};
 ghost use Rattle.spec_commands.specs.Counting.{IsChecked, IsCounted};
+ghost use Rattle.spec_commands.specs.Ordering.{IsOrdered, IsRanked};
 ghost use Rattle.book_commands.specs.Finding.{finding_status};
 ghost use Rattle.book_commands.specs.Joining.{IsJoinRun};
 ghost use Rattle.book_commands.specs.Reporting.{IsFileReported};
@@ -14,13 +15,13 @@ ghost use Rattle.book_commands.specs.Auditing.{IsAuditRun};
 ghost use Rattle.book_commands.specs.Judging.{IsJudgeRun};
 ghost use Rattle.range_commands.specs.Ranges.{IsRangeRun};
 ghost use Rattle.fault_texts.specs.Status.{status_of};
-ghost use Rattle.program_commands.specs.Faults.{one_told, count_told, range_told, join_told, report_told, audit_told, judge_told, IsCheckTold};
+ghost use Rattle.program_commands.specs.Faults.{one_told, count_told, rank_told, order_told, range_told, join_told, report_told, audit_told, judge_told, IsCheckTold};
 ghost use Rattle.fault_texts.specs.declared.fault.ProgramFault.TheVariants.{Write as WriteFault};
 ghost use Rattle.program_commands.specs.Commands.{IsAnswered, IsCut, IsDone, IsCalled, IsFlushed, IsFound, IsPassedOn, IsRun, IsTold, IsUnread, IsUsage, tells_progress};
 
 use crate::faults::{
-    audit_fault, count_fault, explained_fault, fault_at, join_fault, judge_fault, range_fault,
-    report_fault,
+    audit_fault, count_fault, explained_fault, fault_at, join_fault, judge_fault, order_fault,
+    range_fault, rank_fault, report_fault,
 };
 use crate::files::read_spec_file;
 use book_commands::{Finding, Opener, audit_file, join_files, judge_files, report_file};
@@ -30,7 +31,7 @@ use command_line::{Asked, parse_words};
 use fault_texts::ProgramFault;
 use range_commands::run_told;
 use shard_board::Workers;
-use spec_commands::{CountFault, check, count, one};
+use spec_commands::{CountFault, check, count, one, order, rank};
 use std::alloc::Global;
 use std::io::{self, Write};
 use std::sync::Wait;
@@ -99,6 +100,8 @@ fn work<'a, R: Threads + Wait + Clock + Sync, O: Opener, W: Write, E: Write + Se
         Asked::One { path, rank } => one_of_file(alloc, path, *rank, opener, out),
         Asked::Check { path } => check_of_file(alloc, path, opener, out),
         Asked::Count { path } => count_of_file(alloc, path, opener, out),
+        Asked::Rank { path, names } => rank_of_file(alloc, path, names.as_slice(), opener, out),
+        Asked::Order { path, rank } => order_of_file(alloc, path, *rank, opener, out),
         Asked::Run {
             path,
             first,
@@ -177,6 +180,48 @@ fn count_of_file<'a, O: Opener, W: Write>(
     match count(alloc, bytes.as_slice(), out) {
         Ok(()) => Ok(Finding::Good),
         Err(fault) => Err(count_fault(path, fault)),
+    }
+}
+
+fn rank_of_file<'a, O: Opener, W: Write>(
+    alloc: Global,
+    path: &'a str,
+    names: &[&'a str],
+    opener: &O,
+    out: &mut Counted<W>,
+) -> Result<Finding, ProgramFault<'a>>
+    requires { failures_of out.old ≡ 0 }
+    ensures done { IsUnread (O.bytes opener.now path.now) path.now out.old out.new result ⊎ IsCalled (O.bytes opener.now path.now) (λ bytes. IsRanked W.contents out.old out.new bytes (map (λ p. p.now) names.now)) (λ bytes error told. rank_told path.entry names.now error ≡ Some told) result }
+    ensures failures { OnOk result (failures_of out.new ≡ 0) }
+{
+    let bytes = match read_spec_file(alloc, opener, path) {
+        Ok(bytes) => bytes,
+        Err(fault) => return Err(fault),
+    };
+    match rank(alloc, bytes.as_slice(), names, out) {
+        Ok(()) => Ok(Finding::Good),
+        Err(fault) => Err(rank_fault(path, names, fault)),
+    }
+}
+
+fn order_of_file<'a, O: Opener, W: Write>(
+    alloc: Global,
+    path: &'a str,
+    rank: u64,
+    opener: &O,
+    out: &mut Counted<W>,
+) -> Result<Finding, ProgramFault<'a>>
+    requires { failures_of out.old ≡ 0 }
+    ensures done { IsUnread (O.bytes opener.now path.now) path.now out.old out.new result ⊎ IsCalled (O.bytes opener.now path.now) (λ bytes. IsOrdered W.contents out.old out.new bytes rank) (λ bytes error told. told ≡ order_told path.entry error) result }
+    ensures failures { OnOk result (failures_of out.new ≡ 0) }
+{
+    let bytes = match read_spec_file(alloc, opener, path) {
+        Ok(bytes) => bytes,
+        Err(fault) => return Err(fault),
+    };
+    match order(alloc, bytes.as_slice(), rank, out) {
+        Ok(()) => Ok(Finding::Good),
+        Err(fault) => Err(order_fault(path, fault)),
     }
 }
 

@@ -1,11 +1,12 @@
 //! The program's faults for the faults of its calls.
 
 ghost use Rattle.std.specs.Prelude.{◌≡◌, ◌≢◌, ◌++◌, ◌<◌, List, ℕ, Some, IfOk, codes, length, slice_get, string_bytes};
+ghost use Rattle.spec_commands.specs.Ordering.{IsNamePlace};
 ghost use Rattle.book_commands.specs.Joining.{IsPlaced};
 ghost use Rattle.book_commands.specs.Judging.{IsAcceptedPlace};
 ghost use Rattle.fault_texts.specs.Explanations.{explanation};
 ghost use Rattle.fault_texts.specs.declared.fault.ProgramFault.TheVariants.{NoMemory};
-ghost use Rattle.program_commands.specs.Faults.{IsExplained, offset_of, one_told, count_told, range_told, join_told, report_told, audit_told, judge_told, no_report_told};
+ghost use Rattle.program_commands.specs.Faults.{IsExplained, offset_of, one_told, count_told, rank_told, order_told, range_told, join_told, report_told, audit_told, judge_told, no_report_told};
 ghost use Rattle.program_commands.specs.Faults.{values_told, file_told, book_told, write_told, spec_told, text_told, binding_told, run_told, start_told};
 
 use book_commands::{
@@ -17,7 +18,7 @@ use fault_texts::{ProgramFault, binding_sentence, explained, text_sentence};
 use range_commands::RangeFault;
 use session_machine::{RunError, StartError};
 use spec_binding::{BindError, BindErrorKind, SpecFault};
-use spec_commands::{CountFault, OneFault};
+use spec_commands::{CountFault, OneFault, OrderFault, RankFault};
 use spec_reader::{SpecError, SpecErrorKind};
 use std::alloc::{AllocError, Global};
 
@@ -100,6 +101,43 @@ fn place_of(fault: SpecFault) -> (usize, &'static str)
     }
 }
 
+pub(crate) fn rank_fault<'a>(path: &'a str, names: &[&'a str], fault: RankFault) -> ProgramFault<'a>
+    requires { IsNamePlace (length names.now) fault }
+    ensures { rank_told path.entry names.now fault ≡ Some result }
+{
+    match fault {
+        RankFault::Spec(fault) => spec_fault(path, fault),
+        RankFault::UnknownStep(place) => ProgramFault::NoStep {
+            path,
+            name: word_at(names, place),
+        },
+        RankFault::Again(place) => ProgramFault::Twice {
+            path,
+            name: word_at(names, place),
+        },
+        RankFault::OutOfTurn { place, due } => ProgramFault::OutOfTurn {
+            path,
+            name: word_at(names, place),
+            due,
+        },
+        RankFault::LeftOut(due) => ProgramFault::LeftOut { path, due },
+        RankFault::NoLine => ProgramFault::NoLine { path },
+        RankFault::NoMemory => ProgramFault::NoMemory,
+        RankFault::Write(_) => ProgramFault::Write,
+    }
+}
+
+pub(crate) fn order_fault(path: &str, fault: OrderFault) -> ProgramFault<'_>
+    ensures { result ≡ order_told path.entry fault }
+{
+    match fault {
+        OrderFault::Spec(fault) => spec_fault(path, fault),
+        OrderFault::OutOfRange => ProgramFault::RankOutOfRange { path },
+        OrderFault::NoMemory => ProgramFault::NoMemory,
+        OrderFault::Write(_) => ProgramFault::Write,
+    }
+}
+
 pub(crate) fn range_fault(path: &str, fault: RangeFault) -> ProgramFault<'_>
     ensures { result ≡ range_told path.entry fault }
 {
@@ -115,9 +153,9 @@ pub(crate) fn join_fault<'a>(paths: &[&'a str], fault: JoinFault) -> ProgramFaul
     ensures { join_told paths.now fault ≡ Some result }
 {
     match fault {
-        JoinFault::File { place, fault } => file_fault(path_at(paths, place), fault),
+        JoinFault::File { place, fault } => file_fault(word_at(paths, place), fault),
         JoinFault::OtherSpec { place } => ProgramFault::OtherSpec {
-            path: path_at(paths, place),
+            path: word_at(paths, place),
         },
         JoinFault::NoMemory => ProgramFault::NoMemory,
         JoinFault::Write(error) => write_fault(error),
@@ -162,7 +200,7 @@ pub(crate) fn judge_fault<'a>(
 {
     match fault {
         JudgeFault::Book(fault) => no_report_fault(path, fault),
-        JudgeFault::Accepted { place, fault } => no_report_fault(path_at(accepted, place), fault),
+        JudgeFault::Accepted { place, fault } => no_report_fault(word_at(accepted, place), fault),
         JudgeFault::NoMemory => ProgramFault::NoMemory,
         JudgeFault::Write(_) => ProgramFault::Write,
     }

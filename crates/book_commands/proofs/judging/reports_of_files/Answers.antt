@@ -14,6 +14,6 @@ loop-place-preserved g c =
     let is : IsFileReport (files (get_or paths c.loop-place.place [])) (Ok c.in-Ok.next) =
     subst (λ p. IsFileReport (files p) (Ok c.in-Ok.next))
     (sym {A = List ℕ} (get_or-map (λ (p : Bor (List ℕ)). p.now) c.args.paths.now c.loop-place.place _ _ c.loop-place-test.true))
-    c.in-Ok.ensures in
+    c.in-Ok.ensures.report in
     subst (AreReports files (take (c.loop-place.place + 1) paths)) (sym c.in-Ok-push.ensures.items)
     (report-more files paths c.loop-place.place c.loop-place.reports.items c.in-Ok.next lt c.loop-place.invariant is)
