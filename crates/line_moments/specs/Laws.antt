@@ -1,5 +1,5 @@
 -- The laws of moments.
-use Rattle.std.specs.Prelude.{◌≡◌, ◌≢◌, ◌↔◌, [], ℕ, ◌<◌, true, ◌++◌, List, length, All, Some}
+use Rattle.std.specs.Prelude.{◌≡◌, ◌≢◌, ◌↔◌, ℕ, ◌<◌, true, ◌++◌, List, [], ◌∷◌, length, All, Some}
 use Rattle.lock_queues.specs.Locks.{waits_now}
 use Rattle.lock_queues.specs.Reasons.{Edge, Want, Among, IsExact}
 use Rattle.lock_queues.specs.Rings.{Hop}
@@ -8,14 +8,24 @@ use Rattle.transcripts.specs.declared.event.Fault.TheVariants.{Deadlock}
 use Rattle.bound_specs.specs.Spec.{Spec, Step, IsBound}
 use Rattle.machine_model.specs.Laws.{IsOf}
 use Rattle.machine_model.specs.Start.{Started, start}
-use Rattle.machine_model.specs.Sound.{Sound}
-use Rattle.machine_model.specs.World.{World, look_of, session_at, send_all, outcome_of}
-use Rattle.line_moments.specs.Moments.{Going, behind, line_goings, line_moments, told_to, told_by, Leads, moment_of, session_by, Awaits, want_in, Loses}
+use Rattle.machine_model.specs.Sound.{Steady, Sound}
+use Rattle.machine_model.specs.World.{World, look_of, session_at, send, send_all, outcome_of}
+use Rattle.line_moments.specs.Moments.{Going, behind, line_goings, moments, line_moments, new_steps, told_to, told_by, Leads, moment_of, session_by, Awaits, want_in, Loses}
 use Rattle.line_moments.specs.Moments.{scene_by, IsLost, changes_to, changed, IsTrue, Still, edges_in, KnowsSteps, IsOfStep}
 
--- the moments of a line lead from its first world to its last, each going on where the one before it left the world
+-- the moments of a line lead from its first world to its last, each when it is due and where the one before it left the world; and the steps that
+-- come in them are those of the line, in its order
 abbrev pub MomentsLead : Type 0
-MomentsLead = (steps : List Step) (w : World) (ks : List ℕ) → Leads steps w (line_goings steps w ks) (send_all steps w ks)
+MomentsLead =
+    (steps : List Step) (w : World) (ks : List ℕ) → Sound w → ((k : ℕ) → IsOf steps w k)
+    → Leads steps w (line_goings steps w ks) (send_all steps w ks) × (new_steps (line_goings steps w ks) ≡ ks)
+
+-- the moments of a line are those of its first step, and then those of the rest of it from the world behind that step
+abbrev pub MomentsAreInTurn : Type 0
+MomentsAreInTurn =
+    (steps : List Step) (w : World)
+    → (line_moments steps w [] ≡ [])
+    × ((k : ℕ) (ks : List ℕ) → line_moments steps w (k ∷ ks) ≡ moments steps w k ++ line_moments steps (send steps w k) ks)
 
 -- what each session is told in its moments, in their order, is what its transcript grows by
 abbrev pub MomentsTell : Type 0
@@ -29,10 +39,10 @@ MomentsAreOutcomes =
     (spec : Spec) (w : World) (ks : List ℕ) → IsBound spec → start spec ≡ Started w
     → outcome_of spec.sessions (send_all spec.steps w ks) ≡ told_by spec.sessions (line_moments spec.steps w ks)
 
--- in a sound world something is told of whoever waits and of nobody else, and what is told is exact
+-- in a steady world, where waits may be ripe, something is told of whoever waits and of nobody else, and what is told is exact
 abbrev pub WantsAreExact : Type 0
 WantsAreExact =
-    (w : World) → Sound w → (a : ℕ)
+    (w : World) → Steady w → (a : ℕ)
     → ((waits_now w.waits a ≡ true) ↔ ((want : Want) × (want_in w a ≡ Some want)))
     × ((want : Want) → want_in w a ≡ Some want → IsExact (look_of w) w.waits a want)
 
@@ -68,7 +78,7 @@ RingsAreTold =
     (steps : List Step) (w : World) (ks : List ℕ) → Sound w → ((k : ℕ) → IsOf steps w k) → (g : Going) → Among g (line_goings steps w ks)
     → Among (Failed Deadlock) (moment_of steps g).events ↔ ((hops : List Hop) × ((moment_of steps g).ending ≡ Loses hops))
 
--- a moment tells of another session that it still waits, and for whom, exactly where it waits for somebody and for others than before
+-- a moment tells of another session that it still waits, and for whom, exactly where it waits for somebody and for other reasons than before
 abbrev pub StillIsExact : Type 0
 StillIsExact =
     (steps : List Step) (g : Going) (c : ℕ) (es : List Edge)

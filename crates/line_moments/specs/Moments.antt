@@ -1,10 +1,11 @@
 -- The moments of a line: each time a session goes, from where its step is sent or goes on to where it ends or has to wait, and each step that
 -- is not sent.
-use Rattle.std.specs.Prelude.{◌≡◌, ℕ, zero, suc, Bool, true, false, cond, ◌==◌, List, [], ◌∷◌, ◌++◌, length, map, get_or, Option, Some, None}
+use Rattle.std.specs.Prelude.{◌≡◌, ◌≢◌, not, filter, ℕ, zero, suc, Bool, true, false, cond, ◌==◌, List, [], ◌∷◌, ◌++◌, length, map, get_or, Option, Some, None}
 use Rattle.finite_maps.specs.Map.{get, insert, empty, entries}
 use Rattle.lock_modes.specs.declared.mode.Mode.{Mode}
 use Rattle.lock_modes.specs.declared.resource.Resource.{Resource}
 use Rattle.lock_modes.specs.Rows.{Rows'}
+use Rattle.lock_queues.specs.declared.wait.Wait.{Wait}
 use Rattle.lock_queues.specs.Locks.{Spot, next_grant, waits_now, wanted, may_have, closes_ring}
 use Rattle.lock_queues.specs.Reasons.{Edge, same_edges, Want, want_of}
 use Rattle.lock_queues.specs.Rings.{Hop, ring_told, IsRingTold}
@@ -18,6 +19,7 @@ use Rattle.machine_model.specs.declared.reply.Reply.TheVariants.{Had as IsHad, W
 use Rattle.machine_model.specs.Session.{Session, Task, Ask, Do, Goes, Fails, Held, Kind, Begins, Commits, RollsBack, Works, kind, perform, note, tasks_of}
 use Rattle.machine_model.specs.Go.{Scene, go, taking, is_broken, reply_in, look_with, waiting_with}
 use Rattle.machine_model.specs.World.{World, session_at, look_of, scene_of, goes, granted, left_to_do, noted, send}
+use Rattle.machine_model.specs.Sound.{Steady}
 use Rattle.machine_model.specs.Outcome.{IsOwnStep}
 
 -- ---- who goes, and why, in the order of going
@@ -67,7 +69,7 @@ line_goings steps w (k ∷ ks) = goings steps w k ++ line_goings steps (send ste
 
 -- ---- what a session does while it goes
 
--- a mode is held there from now on, or nothing is held any more
+-- a request is had, and the mode is held there from now on, though it may have been held before; or nothing is held any more
 pub data Change : Type 0 where
   Had : (resource : Resource) (mode : Mode) → Change
   LetGo : Change
@@ -93,7 +95,7 @@ did_changes Commits h = let_go h
 did_changes RollsBack h = let_go h
 did_changes Works h = []
 
--- the locks had and let go, in order
+-- the requests that are had and the locks let go, in order
 abbrev pub go_changes : Scene → ℕ → Session → Rows' → List Task → List Change
 go_changes e i s rows [] = end_changes s.status s.held
 go_changes e i s rows (Ask nowait r m ∷ ts) =
@@ -140,7 +142,7 @@ pub data Ending : Type 0 where
   Awaits : (want : Want) → Ending
   Loses : (ring : List Hop) → Ending
 
--- a session that goes on waiting, for others than before
+-- a session that goes on waiting, for other reasons than before
 pub record Still : Type 0 where
   pub session : ℕ
   pub edges : List Edge
@@ -242,12 +244,12 @@ want_in w i = want_of (length w.sessions) (look_of w) w.waits i
 abbrev pub edges_in : World → ℕ → List Edge
 edges_in w c = elim (want_in w c) [ None ↦ [] | Some want ↦ want.edges ]
 
--- the edges, if there are any and they are others than before
+-- the edges, if there are any and they are other ones than before
 abbrev pub changed_edges : ℕ → List Edge → List Edge → List Still
 changed_edges c old [] = []
 changed_edges c old (e ∷ es) = cond (same_edges old (e ∷ es)) [] (record { session = c; edges = e ∷ es } ∷ [])
 
--- of the sessions below the number but i, those that wait for others in v than in w
+-- of the sessions below the number but i, those that wait for other reasons in v than in w
 abbrev pub still_below : ℕ → ℕ → World → World → List Still
 still_below zero i w v = []
 still_below (suc n) i w v = still_below n i w v ++ cond (n == i) [] (changed_edges n (edges_in w n) (edges_in v n))
@@ -303,11 +305,26 @@ changed h [] = h
 changed h (Had r m ∷ cs) = changed (insert h r m) cs
 changed h (LetGo ∷ cs) = changed empty cs
 
--- why it goes then
+-- no wait is ripe
+abbrev pub IsSettled : World → Type 0
+IsSettled w = next_grant (length w.sessions) (look_of w) w.waits ≡ None
+
+-- why it goes then: its wait is the next to be granted; or nothing is ripe and a step comes, of a session that does not wait, or of one that does
 abbrev pub IsDue : List Step → World → Cause → Type 0
-IsDue steps w (Sends k) = waits_now w.waits (get_or steps k no_step).session ≡ false
+IsDue steps w (Sends k) = (waits_now w.waits (get_or steps k no_step).session ≡ false) × IsSettled w
 IsDue steps w (GoesOn spot) = next_grant (length w.sessions) (look_of w) w.waits ≡ Some spot
-IsDue steps w (Skips k) = waits_now w.waits (get_or steps k no_step).session ≡ true
+IsDue steps w (Skips k) = (waits_now w.waits (get_or steps k no_step).session ≡ true) × IsSettled w
+
+-- the step that comes, if one does
+abbrev pub new_step : Cause → List ℕ
+new_step (Sends k) = k ∷ []
+new_step (GoesOn spot) = []
+new_step (Skips k) = k ∷ []
+
+-- the steps that come, in their order
+abbrev pub new_steps : List Going → List ℕ
+new_steps [] = []
+new_steps (g ∷ gs) = new_step g.cause ++ new_steps gs
 
 -- one goes behind the other, each when it is due, from the one world to the other
 abbrev pub Leads : List Step → World → List Going → World → Type 0
@@ -316,13 +333,29 @@ Leads steps w (g ∷ gs) v = (g.world ≡ w) × IsDue steps w g.cause × Leads s
 
 -- ---- what is told of each going
 
--- in the world behind it each session was told what it was told before, and its own what the moment tells; and each holds what it held before,
--- its own with what it got and let go
+-- what a moment tells first: that its step is sent, that its session goes on, or that its step is not sent, which is all it tells
+abbrev pub Opens : Manner → Option ℕ → List Event → Type 0
+Opens IsSent step es = (k : ℕ) × (rest : List Event) × (step ≡ Some k) × (es ≡ Sent k ∷ rest)
+Opens IsResumed step es = (rest : List Event) × (es ≡ Resumed ∷ rest)
+Opens IsNotSent step es = (k : ℕ) × (step ≡ Some k) × (es ≡ NotSent k ∷ [])
+
+-- the waits of the other sessions, in their order
+abbrev pub waits_but : ℕ → List Wait → List Wait
+waits_but i waits = filter (λ w. not (w.session == i)) waits
+
+-- in the world behind it, which is steady, each session was told what it was told before, and its own what the moment tells; each holds what it held
+-- before, its own with what it got and let go; its own stands as the moment tells; and nothing is changed of the others, nor of their waits
 pub record IsTrue (steps : List Step) (g : Going) : Type 0 where
+  pub steady : Steady (behind steps g)
+  pub opens : Opens (moment_of steps g).manner (moment_of steps g).step (moment_of steps g).events
   pub told : (c : ℕ) → (session_at (behind steps g) c).transcript
-      ≡ (session_at g.world c).transcript ++ cond (session_by steps g.cause == c) (events_by steps g.world g.cause) []
+      ≡ (session_at g.world c).transcript ++ cond (session_by steps g.cause == c) (moment_of steps g).events []
   pub held : (c : ℕ) → (session_at (behind steps g) c).held
-      ≡ changed (session_at g.world c).held (cond (session_by steps g.cause == c) (changes_by steps g.world g.cause) [])
+      ≡ changed (session_at g.world c).held (cond (session_by steps g.cause == c) (moment_of steps g).changes [])
+  pub status : (session_at (behind steps g) (session_by steps g.cause)).status ≡ (moment_of steps g).status
+  pub count : length (behind steps g).sessions ≡ length g.world.sessions
+  pub others : (c : ℕ) → c ≢ session_by steps g.cause → session_at (behind steps g) c ≡ session_at g.world c
+  pub waits : waits_but (session_by steps g.cause) (behind steps g).waits ≡ waits_but (session_by steps g.cause) g.world.waits
 
 -- ---- what is told of a deadlock
 

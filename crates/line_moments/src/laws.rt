@@ -1,11 +1,16 @@
 //! The laws of moments, each the contract of a function that does nothing.
 
-ghost use Rattle.line_moments.specs.Laws.{MomentsLead, MomentsTell, MomentsAreOutcomes, WantsAreExact, MomentsWait, MomentsLose, MomentsHold};
+ghost use Rattle.line_moments.specs.Laws.{MomentsLead, MomentsAreInTurn, MomentsTell, MomentsAreOutcomes, WantsAreExact, MomentsWait, MomentsLose, MomentsHold};
 ghost use Rattle.line_moments.specs.Laws.{MomentsAreTrue, RingsAreTold, StillIsExact, MomentsAreOfSteps, SpecsMomentsAreOfSteps};
 
-/// The moments of a line lead from its first world to its last.
+/// The moments of a line lead from its first world to its last, each when it is due, by the steps of the line in their order.
 pub fn moments_lead()
     ensures { MomentsLead }
+{}
+
+/// The moments of a line are those of its steps, one step after another.
+pub fn moments_are_in_turn()
+    ensures { MomentsAreInTurn }
 {}
 
 /// What each session is told in its moments is what its transcript grows by.
@@ -18,7 +23,7 @@ pub fn moments_are_outcomes()
     ensures { MomentsAreOutcomes }
 {}
 
-/// In a sound world something is told of whoever waits and of nobody else, and what is told is exact.
+/// In a steady world, also where waits are ripe, something is told of whoever waits and of nobody else, and what is told is exact.
 pub fn wants_are_exact()
     ensures { WantsAreExact }
 {}
@@ -38,7 +43,7 @@ pub fn moments_hold()
     ensures { MomentsHold }
 {}
 
-/// Each moment is true of the world behind it.
+/// Each moment is true of the world behind it, where nothing is changed of the other sessions.
 pub fn moments_are_true()
     ensures { MomentsAreTrue }
 {}
@@ -48,7 +53,7 @@ pub fn rings_are_told()
     ensures { RingsAreTold }
 {}
 
-/// A moment tells of another session that it still waits exactly where it waits for others than before.
+/// A moment tells of another session that it still waits exactly where it waits for other reasons than before.
 pub fn still_is_exact()
     ensures { StillIsExact }
 {}
