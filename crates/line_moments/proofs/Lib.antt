@@ -9,3 +9,4 @@ pub mod Changing
 pub mod Worked
 pub mod Steps
 pub mod Started
+pub mod Resuming

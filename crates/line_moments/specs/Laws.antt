@@ -1,6 +1,6 @@
 -- The laws of moments.
-use Rattle.std.specs.Prelude.{◌≡◌, ◌≢◌, ◌↔◌, ℕ, ◌<◌, true, ◌++◌, List, [], ◌∷◌, length, All, Some}
-use Rattle.lock_queues.specs.Locks.{waits_now}
+use Rattle.std.specs.Prelude.{◌≡◌, ◌≢◌, ◌↔◌, ℕ, ◌<◌, true, ◌++◌, List, [], ◌∷◌, length, All, Some, None}
+use Rattle.lock_queues.specs.Locks.{Spot, waits_now}
 use Rattle.lock_queues.specs.Reasons.{Edge, Want, Among, IsExact}
 use Rattle.lock_queues.specs.Rings.{Hop}
 use Rattle.transcripts.specs.declared.event.Event.TheVariants.{Failed}
@@ -11,7 +11,8 @@ use Rattle.machine_model.specs.Start.{Started, start}
 use Rattle.machine_model.specs.Sound.{Steady, Sound}
 use Rattle.machine_model.specs.World.{World, look_of, session_at, send, send_all, outcome_of}
 use Rattle.line_moments.specs.Moments.{Going, behind, line_goings, moments, line_moments, new_steps, told_to, told_by, Leads, moment_of, session_by, Awaits, want_in, Loses}
-use Rattle.line_moments.specs.Moments.{scene_by, IsLost, changes_to, changed, IsTrue, Still, edges_in, KnowsSteps, IsOfStep}
+use Rattle.line_moments.specs.Moments.{scene_by, IsLost, changes_to, changed, IsTrue, Still, edges_in, KnowsSteps, IsOfStep, GoesOn}
+use Rattle.line_moments.specs.Moments.{step_by, step_after, sent_to, ended_last}
 
 -- the moments of a line lead from its first world to its last, each when it is due and where the one before it left the world; and the steps that
 -- come in them are those of the line, in its order
@@ -96,3 +97,19 @@ abbrev pub SpecsMomentsAreOfSteps : Type 0
 SpecsMomentsAreOfSteps =
     (spec : Spec) (w : World) (ks : List ℕ) → IsBound spec → start spec ≡ Started w → All (λ k. k < length spec.steps) ks
     → (g : Going) → Among g (line_goings spec.steps w ks) → IsOfStep spec.steps g
+
+-- a moment is of the step that comes, or where its session goes on of the step that it was sent last
+abbrev pub StepsAreTold : Type 0
+StepsAreTold =
+    (steps : List Step) (w : World) (ks : List ℕ) → Sound w → ((k : ℕ) → IsOf steps w k)
+    → (before : List Going) (g : Going) (after : List Going) → line_goings steps w ks ≡ before ++ g ∷ after
+    → (moment_of steps g).step ≡ step_after steps w before g.cause
+
+-- in a line of a spec a session goes on where its last moment before ended with a wait, and with the step that was sent to it last in that line
+abbrev pub WaitersGoOn : Type 0
+WaitersGoOn =
+    (spec : Spec) (w : World) (ks : List ℕ) → IsBound spec → start spec ≡ Started w
+    → (before : List Going) (v : World) (spot : Spot) (after : List Going)
+    → line_goings spec.steps w ks ≡ before ++ record { world = v; cause = GoesOn spot } ∷ after
+    → (step_by v (GoesOn spot) ≡ sent_to spec.steps spot.wait.session None before)
+    × ((want : Want) × (ended_last spec.steps spot.wait.session None before ≡ Some (Awaits want)))

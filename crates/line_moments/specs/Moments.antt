@@ -387,3 +387,25 @@ KnowsSteps steps w = (c : ℕ) → waits_now w.waits c ≡ true → (k : ℕ) ×
 -- the moment is of a step of its session
 abbrev pub IsOfStep : List Step → Going → Type 0
 IsOfStep steps g = (k : ℕ) × (step_by g.world g.cause ≡ Some k) × IsOwnStep steps (session_by steps g.cause) k
+
+-- the step that the session was sent last: this one, or the one that the going sends it
+abbrev pub sent_by : List Step → ℕ → Option ℕ → Cause → Option ℕ
+sent_by steps c last (Sends k) = cond ((get_or steps k no_step).session == c) (Some k) last
+sent_by steps c last (GoesOn spot) = last
+sent_by steps c last (Skips k) = last
+
+-- behind these goings
+abbrev pub sent_to : List Step → ℕ → Option ℕ → List Going → Option ℕ
+sent_to steps c last [] = last
+sent_to steps c last (g ∷ gs) = sent_to steps c (sent_by steps c last g.cause) gs
+
+-- the step of a moment behind these goings from the world: the one that comes, or where its session goes on the one that it was sent last
+abbrev pub step_after : List Step → World → List Going → Cause → Option ℕ
+step_after steps w before (Sends k) = Some k
+step_after steps w before (GoesOn spot) = sent_to steps spot.wait.session (last_sent None (session_at w spot.wait.session).transcript) before
+step_after steps w before (Skips k) = Some k
+
+-- how the session's last moment ended: so, or as it did in the last of its goings
+abbrev pub ended_last : List Step → ℕ → Option Ending → List Going → Option Ending
+ended_last steps c last [] = last
+ended_last steps c last (g ∷ gs) = ended_last steps c (cond (session_by steps g.cause == c) (Some (moment_of steps g).ending) last) gs

@@ -2,6 +2,7 @@
 
 ghost use Rattle.line_moments.specs.Laws.{MomentsLead, MomentsAreInTurn, MomentsTell, MomentsAreOutcomes, WantsAreExact, MomentsWait, MomentsLose, MomentsHold};
 ghost use Rattle.line_moments.specs.Laws.{MomentsAreTrue, RingsAreTold, StillIsExact, MomentsAreOfSteps, SpecsMomentsAreOfSteps};
+ghost use Rattle.line_moments.specs.Laws.{StepsAreTold, WaitersGoOn};
 
 /// The moments of a line lead from its first world to its last, each when it is due, by the steps of the line in their order.
 pub fn moments_lead()
@@ -66,4 +67,14 @@ pub fn moments_are_of_steps()
 /// From the start of a spec, each moment is of a step of its session.
 pub fn specs_moments_are_of_steps()
     ensures { SpecsMomentsAreOfSteps }
+{}
+
+/// Each moment is of the step that comes, or where its session goes on of the step that it was sent last.
+pub fn steps_are_told()
+    ensures { StepsAreTold }
+{}
+
+/// In a line of a spec a session goes on where its last moment ended with a wait, with the step that it was sent last.
+pub fn waiters_go_on()
+    ensures { WaitersGoOn }
 {}
