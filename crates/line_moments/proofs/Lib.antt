@@ -10,3 +10,4 @@ pub mod Worked
 pub mod Steps
 pub mod Started
 pub mod Resuming
+pub mod Asking

@@ -12,7 +12,7 @@ use Rattle.machine_model.specs.Sound.{Steady, Sound}
 use Rattle.machine_model.specs.World.{World, look_of, session_at, send, send_all, outcome_of}
 use Rattle.line_moments.specs.Moments.{Going, behind, line_goings, moments, line_moments, new_steps, told_to, told_by, Leads, moment_of, session_by, Awaits, want_in, Loses}
 use Rattle.line_moments.specs.Moments.{scene_by, IsLost, changes_to, changed, IsTrue, Still, edges_in, KnowsSteps, IsOfStep, GoesOn}
-use Rattle.line_moments.specs.Moments.{step_by, step_after, sent_to, ended_last}
+use Rattle.line_moments.specs.Moments.{Change, granted_by, held_from, tasks_by, AreAskedBy, step_by, step_after, sent_to, ended_last}
 
 -- the moments of a line lead from its first world to its last, each when it is due and where the one before it left the world; and the steps that
 -- come in them are those of the line, in its order
@@ -54,12 +54,20 @@ MomentsWait =
     → ((waits_now (behind steps g).waits (session_by steps g.cause) ≡ true) ↔ ((want : Want) × ((moment_of steps g).ending ≡ Awaits want)))
     × ((want : Want) → (moment_of steps g).ending ≡ Awaits want → IsExact (look_of (behind steps g)) (behind steps g).waits (session_by steps g.cause) want)
 
--- a moment of a line that ends with a deadlock tells a ring that the refused wait would have closed, with what the session held then
+-- the locks that a moment of a line tells are those that its session asked for, and no others
+abbrev pub LocksAreAsked : Type 0
+LocksAreAsked =
+    (steps : List Step) (w : World) (ks : List ℕ) → Sound w → ((k : ℕ) → IsOf steps w k) → (g : Going) → Among g (line_goings steps w ks)
+    → AreAskedBy steps g.world g.cause
+
+-- a moment of a line that ends with a deadlock tells a ring that the wait of a request would have closed, with what the session held then: behind the
+-- lock of its granted wait it tells the locks up to that request
 abbrev pub MomentsLose : Type 0
 MomentsLose =
     (steps : List Step) (w : World) (ks : List ℕ) → Sound w → ((k : ℕ) → IsOf steps w k) → (g : Going) → Among g (line_goings steps w ks)
     → (hops : List Hop) → (moment_of steps g).ending ≡ Loses hops
-    → IsLost (scene_by g.world g.cause) (session_by steps g.cause) (session_at g.world (session_by steps g.cause)).held (moment_of steps g).changes hops
+    → (changes : List Change) × ((moment_of steps g).changes ≡ granted_by g.world g.cause ++ changes)
+    × IsLost (scene_by g.world g.cause) (session_by steps g.cause) (held_from steps g.world g.cause) (tasks_by steps g.world g.cause) changes hops
 
 -- what each session holds, changed by what it got and let go in its moments, is what it holds behind them
 abbrev pub MomentsHold : Type 0

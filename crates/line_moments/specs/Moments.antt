@@ -1,6 +1,8 @@
 -- The moments of a line: each time a session goes, from where its step is sent or goes on to where it ends or has to wait, and each step that
 -- is not sent.
 use Rattle.std.specs.Prelude.{◌≡◌, ◌≢◌, not, filter, ℕ, zero, suc, Bool, true, false, cond, ◌==◌, List, [], ◌∷◌, ◌++◌, length, map, get_or, Option, Some, None}
+use Rattle.std.specs.Prelude.{⊤}
+use Rattle.std.specs.List.{list_any}
 use Rattle.finite_maps.specs.Map.{get, insert, empty, entries}
 use Rattle.lock_modes.specs.declared.mode.Mode.{Mode}
 use Rattle.lock_modes.specs.declared.resource.Resource.{Resource}
@@ -20,6 +22,7 @@ use Rattle.machine_model.specs.Session.{Session, Task, Ask, Do, Goes, Fails, Hel
 use Rattle.machine_model.specs.Go.{Scene, go, taking, is_broken, reply_in, look_with, waiting_with}
 use Rattle.machine_model.specs.World.{World, session_at, look_of, scene_of, goes, granted, left_to_do, noted, send}
 use Rattle.machine_model.specs.Sound.{Steady}
+use Rattle.machine_model.specs.Start.{is_failure}
 use Rattle.machine_model.specs.Outcome.{IsOwnStep}
 
 -- ---- who goes, and why, in the order of going
@@ -357,6 +360,84 @@ pub record IsTrue (steps : List Step) (g : Going) : Type 0 where
   pub others : (c : ℕ) → c ≢ session_by steps g.cause → session_at (behind steps g) c ≡ session_at g.world c
   pub waits : waits_but (session_by steps g.cause) (behind steps g).waits ≡ waits_but (session_by steps g.cause) g.world.waits
 
+-- ---- the locks of a moment
+
+-- the lock of the wait that is granted
+abbrev pub granted_by : World → Cause → List Change
+granted_by w (Sends k) = []
+granted_by w (GoesOn spot) = Had spot.wait.resource (wanted (get (session_at w spot.wait.session).held spot.wait.resource) spot.wait.mode) ∷ []
+granted_by w (Skips k) = []
+
+-- what its session holds when it goes on
+abbrev pub held_from : List Step → World → Cause → Held
+held_from steps w cause = changed (session_at w (session_by steps cause)).held (granted_by w cause)
+
+-- the tasks that it goes on with
+abbrev pub tasks_by : List Step → World → Cause → List Task
+tasks_by steps w (Sends k) = tasks_of (get_or steps k no_step).statements
+tasks_by steps w (GoesOn spot) = (session_at w spot.wait.session).rest
+tasks_by steps w (Skips k) = []
+
+-- the changes of tasks that are all done: each request is had, in the mode that covers what it asks and what is held there, and a statement that ends a
+-- transaction lets go of what is held
+abbrev pub changes_along : Held → List Task → List Change
+changes_along h [] = []
+changes_along h (Ask nowait r m ∷ ts) = Had r (wanted (get h r) m) ∷ changes_along (insert h r (wanted (get h r) m)) ts
+changes_along h (Do st ∷ ts) = did_changes (kind st) h ++ changes_along (changed h (did_changes (kind st) h)) ts
+
+-- where a session stops along its tasks: behind the last one, at a request that waits, or at a task that fails
+pub data Halt : Type 0 where
+  AtEnd : Halt
+  AtWait : (resource : Resource) (mode : Mode) (rest : List Task) → Halt
+  AtFault : (task : Task) (rest : List Task) → Halt
+
+-- the tasks that are not done
+abbrev pub left_at : Halt → List Task
+left_at AtEnd = []
+left_at (AtWait resource mode rest) = Ask false resource mode ∷ rest
+left_at (AtFault task rest) = task ∷ rest
+
+-- what is let go there, by a session of this status that holds so much
+abbrev pub let_go_at : Halt → Status → Held → List Change
+let_go_at AtEnd status h = end_changes status h
+let_go_at (AtWait resource mode rest) status h = []
+let_go_at (AtFault task rest) status h = let_go h
+
+-- a fault is told
+abbrev pub tells_fault : List Event → Bool
+tells_fault es = list_any is_failure es
+
+-- what is seen of it there: its wait came last, with what is left to do behind it; or it was told of a fault; or neither
+abbrev pub IsSeenAt : World → ℕ → List Event → Halt → Type 0
+IsSeenAt v i es AtEnd = (waits_now v.waits i ≡ false) × (tells_fault es ≡ false)
+IsSeenAt v i es (AtWait resource mode rest) =
+    (waits : List Wait) × (v.waits ≡ waits ++ record { session = i; resource = resource; mode = mode } ∷ []) × ((session_at v i).rest ≡ rest)
+    × (tells_fault es ≡ false)
+IsSeenAt v i es (AtFault task rest) = (waits_now v.waits i ≡ false) × (tells_fault es ≡ true)
+
+-- wherever something is let go, something is held
+abbrev pub LetsGoOfHeld : Held → List Change → Type 0
+LetsGoOfHeld h [] = ⊤
+LetsGoOfHeld h (Had r m ∷ cs) = LetsGoOfHeld (insert h r m) cs
+LetsGoOfHeld h (LetGo ∷ cs) = (entries h ≢ []) × LetsGoOfHeld empty cs
+
+-- behind the lock of the wait that was granted, the locks that are told are those of the requests of the tasks, in their order, up to where the session
+-- stops; and what is let go was held
+pub record AreAsked (steps : List Step) (g : Going) : Type 0 where
+  pub done : List Task
+  pub halt : Halt
+  pub tasks : tasks_by steps g.world g.cause ≡ done ++ left_at halt
+  pub changes : (moment_of steps g).changes ≡ granted_by g.world g.cause ++ (changes_along (held_from steps g.world g.cause) done
+      ++ let_go_at halt (moment_of steps g).status (changed (held_from steps g.world g.cause) (changes_along (held_from steps g.world g.cause) done)))
+  pub seen : IsSeenAt (behind steps g) (session_by steps g.cause) (moment_of steps g).events halt
+  pub held : LetsGoOfHeld (session_at g.world (session_by steps g.cause)).held (moment_of steps g).changes
+
+-- and a step that is not sent changes no lock
+abbrev pub AreAskedBy : List Step → World → Cause → Type 0
+AreAskedBy steps w (Sends k) = AreAsked steps (record { world = w; cause = Sends k })
+AreAskedBy steps w (GoesOn spot) = AreAsked steps (record { world = w; cause = GoesOn spot })
+AreAskedBy steps w (Skips k) = (moment_of steps (record { world = w; cause = Skips k })).changes ≡ []
+
 -- ---- what is told of a deadlock
 
 -- what the others hold and wait for while it goes
@@ -365,15 +446,17 @@ scene_by w (Sends k) = scene_of w
 scene_by w (GoesOn spot) = scene_of (without w spot)
 scene_by w (Skips k) = scene_of w
 
--- in the scene a session that began with some modes held, and then got and let go as told, was refused a request that it could not have: its wait
--- there would have closed a ring, and the ring that is told is one. All that it held then it let go
-pub record IsLost (e : Scene) (i : ℕ) (began : Held) (changes : List Change) (hops : List Hop) : Type 0 where
-  pub held : Held
+-- in the scene a session went on with these tasks and so many locks: the first ones were done, and behind them stood a request, which would have
+-- waited. It could not be had, and its wait would have closed a ring, which is the one that is told. All that the session held then it let go
+pub record IsLost (e : Scene) (i : ℕ) (began : Held) (tasks : List Task) (changes : List Change) (hops : List Hop) : Type 0 where
+  pub done : List Task
   pub resource : Resource
   pub mode : Mode
-  pub before : List Change
-  pub changes_are : changes ≡ before ++ let_go held
-  pub held_is : changed began before ≡ held
+  pub rest : List Task
+  pub asked : tasks ≡ done ++ Ask false resource mode ∷ rest
+  pub held : Held
+  pub held_is : held ≡ changed began (changes_along began done)
+  pub changes_are : changes ≡ changes_along began done ++ let_go held
   pub refused : may_have e.count e.look e.waits i (get held resource) resource mode ≡ false
   pub closes : closes_ring e.count (look_with e i held) (waiting_with e i resource mode) i ≡ true
   pub told : IsRingTold e.count (look_with e i held) (waiting_with e i resource mode) i hops

@@ -2,7 +2,7 @@
 
 ghost use Rattle.line_moments.specs.Laws.{MomentsLead, MomentsAreInTurn, MomentsTell, MomentsAreOutcomes, WantsAreExact, MomentsWait, MomentsLose, MomentsHold};
 ghost use Rattle.line_moments.specs.Laws.{MomentsAreTrue, RingsAreTold, StillIsExact, MomentsAreOfSteps, SpecsMomentsAreOfSteps};
-ghost use Rattle.line_moments.specs.Laws.{StepsAreTold, WaitersGoOn};
+ghost use Rattle.line_moments.specs.Laws.{LocksAreAsked, StepsAreTold, WaitersGoOn};
 
 /// The moments of a line lead from its first world to its last, each when it is due, by the steps of the line in their order.
 pub fn moments_lead()
@@ -34,7 +34,12 @@ pub fn moments_wait()
     ensures { MomentsWait }
 {}
 
-/// A moment that ends with a deadlock tells a ring that the refused wait would have closed.
+/// The locks that a moment tells are those that its session asked for, in their order, and no others.
+pub fn locks_are_asked()
+    ensures { LocksAreAsked }
+{}
+
+/// A moment that ends with a deadlock tells a ring that the wait of a request of its step would have closed.
 pub fn moments_lose()
     ensures { MomentsLose }
 {}
