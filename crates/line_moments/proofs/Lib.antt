@@ -11,3 +11,4 @@ pub mod Steps
 pub mod Started
 pub mod Resuming
 pub mod Asking
+pub mod Leaving

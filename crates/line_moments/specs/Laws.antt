@@ -6,11 +6,15 @@ use Rattle.lock_queues.specs.Rings.{Hop}
 use Rattle.transcripts.specs.declared.event.Event.TheVariants.{Failed}
 use Rattle.transcripts.specs.declared.event.Fault.TheVariants.{Deadlock}
 use Rattle.bound_specs.specs.Spec.{Spec, Step, IsBound}
+use Rattle.bound_specs.specs.Fits.{SpecFits}
+use Rattle.binding_model.specs.declared.tables.Table.{Table}
+use Rattle.machine_model.specs.Typed.{RowsFit}
 use Rattle.machine_model.specs.Laws.{IsOf}
 use Rattle.machine_model.specs.Start.{Started, start}
 use Rattle.machine_model.specs.Sound.{Steady, Sound}
 use Rattle.machine_model.specs.World.{World, look_of, session_at, send, send_all, outcome_of}
 use Rattle.line_moments.specs.Moments.{Going, behind, line_goings, moments, line_moments, new_steps, told_to, told_by, Leads, moment_of, session_by, Awaits, want_in, Loses}
+use Rattle.line_moments.specs.Left.{left_in, standings, Shown, shown, IsLeftIn, AreStanding, IsShown}
 use Rattle.line_moments.specs.Moments.{scene_by, IsLost, changes_to, changed, IsTrue, Still, edges_in, KnowsSteps, IsOfStep, GoesOn}
 use Rattle.line_moments.specs.Moments.{Change, granted_by, held_from, tasks_by, AreAskedBy, step_by, step_after, sent_to, ended_last}
 
@@ -121,3 +125,19 @@ WaitersGoOn =
     → line_goings spec.steps w ks ≡ before ++ record { world = v; cause = GoesOn spot } ∷ after
     → (step_by v (GoesOn spot) ≡ sent_to spec.steps spot.wait.session None before)
     × ((want : Want) × (ended_last spec.steps spot.wait.session None before ≡ Some (Awaits want)))
+
+-- in a steady world each session stands as is told
+abbrev pub StandingsAreExact : Type 0
+StandingsAreExact = (n : ℕ) (w : World) → Steady w → AreStanding n w (standings n w)
+
+-- of a world whose rows fit the tables the committed rows of each table are told, and no others
+abbrev pub LeftIsExact : Type 0
+LeftIsExact = (tables : List Table) (w : World) → RowsFit tables w.rows → IsLeftIn tables w (left_in tables w)
+
+-- where the statements of a spec fit the tables something is shown of a line exactly where the spec starts, and what is shown is true of the worlds that
+-- the line begins with and ends in
+abbrev pub ShownIsTrue : Type 0
+ShownIsTrue =
+    (tables : List Table) (spec : Spec) (line : List ℕ) → IsBound spec → SpecFits tables spec
+    → (((x : Shown) × (shown tables spec line ≡ Some x)) ↔ ((w : World) × (start spec ≡ Started w)))
+    × ((x : Shown) → shown tables spec line ≡ Some x → IsShown tables spec line x)

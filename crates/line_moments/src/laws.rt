@@ -2,7 +2,7 @@
 
 ghost use Rattle.line_moments.specs.Laws.{MomentsLead, MomentsAreInTurn, MomentsTell, MomentsAreOutcomes, WantsAreExact, MomentsWait, MomentsLose, MomentsHold};
 ghost use Rattle.line_moments.specs.Laws.{MomentsAreTrue, RingsAreTold, StillIsExact, MomentsAreOfSteps, SpecsMomentsAreOfSteps};
-ghost use Rattle.line_moments.specs.Laws.{LocksAreAsked, StepsAreTold, WaitersGoOn};
+ghost use Rattle.line_moments.specs.Laws.{LocksAreAsked, StepsAreTold, WaitersGoOn, StandingsAreExact, LeftIsExact, ShownIsTrue};
 
 /// The moments of a line lead from its first world to its last, each when it is due, by the steps of the line in their order.
 pub fn moments_lead()
@@ -82,4 +82,19 @@ pub fn steps_are_told()
 /// In a line of a spec a session goes on where its last moment ended with a wait, with the step that it was sent last.
 pub fn waiters_go_on()
     ensures { WaitersGoOn }
+{}
+
+/// In a steady world each session stands as is told.
+pub fn standings_are_exact()
+    ensures { StandingsAreExact }
+{}
+
+/// Of a world whose rows fit the tables the committed rows of each table are told, and no others.
+pub fn left_is_exact()
+    ensures { LeftIsExact }
+{}
+
+/// What is shown of a line is true of the worlds that it begins with and ends in.
+pub fn shown_is_true()
+    ensures { ShownIsTrue }
 {}
