@@ -1,5 +1,5 @@
 -- What is told of the world that a line leaves, and of the one that it begins with, is true.
-use Rattle.std.proofs.Common.{◌≡◌, refl, sym, ap, ◌∙◌, subst, ℕ, zero, suc, ◌+◌, ◌<◌, Bool, true, false, cond, ◌&&◌, List, [], ◌∷◌, ◌++◌, length, get_or}
+use Rattle.std.proofs.Common.{◌≡◌, refl, sym, ap, ◌∙◌, subst, ℕ, zero, suc, ◌+◌, ◌<◌, Bool, true, false, cond, ◌&&◌, List, [], ◌∷◌, ◌++◌, length, map, get_or}
 use Rattle.std.proofs.Common.{Option, Some, None, ◌⊎◌, inl, inr, ⊎_elim, ◌↔◌, arith}
 use Rattle.std.specs.Prelude.{T}
 use Rattle.std.specs.Ordering.{eq_by_cmp, is_eq, is_lt}
@@ -32,8 +32,8 @@ use Rattle.machine_model.specs.World.{World, session_at, send_all}
 use Rattle.machine_model.proofs.Owned.{lines-sound}
 use Rattle.machine_model.proofs.Takings.{each-all, all-each}
 use Rattle.machine_model.proofs.Typed.{worlds-fit}
-use Rattle.line_moments.specs.Laws.{StandingsAreExact, LeftIsExact, ShownIsTrue}
-use Rattle.line_moments.specs.Left.{left_from, no_left, KeysRise, IsLeftOf, IsLeftIn, HasEnded, standing_by, standing_of, standings}
+use Rattle.line_moments.specs.Laws.{StandingsAreExact, LeftIsExact, ShownIsTrue, FilesAreShown}
+use Rattle.line_moments.specs.Left.{Left, left_from, no_left, KeysRise, IsLeftOf, IsLeftIn, HasEnded, standing_by, standing_of, standings}
 use Rattle.line_moments.specs.Left.{IsStanding, Begun, begun_of, begun, IsBegun, AreBegun, Shown, shown_from, IsShown}
 use Rattle.line_moments.specs.Moments.{want_in}
 use Rattle.line_moments.proofs.Waiting.{wants-exact}
@@ -263,3 +263,28 @@ shown-true tables spec line bound fits = ((shows (start spec) refl, starts (star
     true-of (SetupFailed n) is x k = absurd (let y : None ≡ Some x = k in cc)
     true-of (SessionSetupFailed n) is x k = absurd (let y : None ≡ Some x = k in cc)
     true-of (SessionSetupWaits n) is x k = absurd (let y : None ≡ Some x = k in cc)
+
+-- ---- a line of a spec file
+
+from-tables : (tables : List Table) (k : ℕ) (w : World) → map (λ (l : Left). l.table) (left_from k tables w) ≡ tables
+from-tables [] k w = refl
+from-tables (t ∷ ts) k w = ap (λ x. t ∷ x) (from-tables ts (suc k) w)
+
+abbrev TellsTables : List Table → Shown → Type 0
+TellsTables tables x = (map (λ (l : Left). l.table) x.first ≡ tables) × (map (λ (l : Left). l.table) x.left ≡ tables)
+
+pub files-shown : FilesAreShown
+files-shown text file line x of bound fits = (
+  (shown-true of.tables file.run line bound fits).1 x of.shows,
+  (tells (start file.run) of.shows).0,
+  (tells (start file.run) of.shows).1,
+)
+  where
+    tells : (s : Start) → (let o : Option Shown = elim s [ Started w ↦ Some (shown_from of.tables file.run w line) | _ ↦ None ] in o) ≡ Some x
+        → TellsTables of.tables x
+    tells (Started w) k =
+        let same : shown_from of.tables file.run w line ≡ x = (let y : Some (shown_from of.tables file.run w line) ≡ Some x = k in cc) in
+        subst (TellsTables of.tables) same (from-tables of.tables 0 w, from-tables of.tables 0 (send_all file.run.steps w line))
+    tells (SetupFailed n) k = absurd (let y : None ≡ Some x = k in cc)
+    tells (SessionSetupFailed n) k = absurd (let y : None ≡ Some x = k in cc)
+    tells (SessionSetupWaits n) k = absurd (let y : None ≡ Some x = k in cc)

@@ -1,11 +1,11 @@
 -- The laws of moments.
-use Rattle.std.specs.Prelude.{◌≡◌, ◌≢◌, ◌↔◌, ℕ, ◌<◌, true, ◌++◌, List, [], ◌∷◌, length, All, Some, None}
+use Rattle.std.specs.Prelude.{◌≡◌, ◌≢◌, ◌↔◌, ℕ, ◌<◌, true, ◌++◌, List, [], ◌∷◌, length, map, All, Some, None}
 use Rattle.lock_queues.specs.Locks.{Spot, waits_now}
 use Rattle.lock_queues.specs.Reasons.{Edge, Want, Among, IsExact}
 use Rattle.lock_queues.specs.Rings.{Hop}
 use Rattle.transcripts.specs.declared.event.Event.TheVariants.{Failed}
 use Rattle.transcripts.specs.declared.event.Fault.TheVariants.{Deadlock}
-use Rattle.bound_specs.specs.Spec.{Spec, Step, IsBound}
+use Rattle.bound_specs.specs.Spec.{Spec, SpecFile, Step, IsBound}
 use Rattle.bound_specs.specs.Fits.{SpecFits}
 use Rattle.binding_model.specs.declared.tables.Table.{Table}
 use Rattle.machine_model.specs.Typed.{RowsFit}
@@ -14,7 +14,7 @@ use Rattle.machine_model.specs.Start.{Started, start}
 use Rattle.machine_model.specs.Sound.{Steady, Sound}
 use Rattle.machine_model.specs.World.{World, look_of, session_at, send, send_all, outcome_of}
 use Rattle.line_moments.specs.Moments.{Going, behind, line_goings, moments, line_moments, new_steps, told_to, told_by, Leads, moment_of, session_by, Awaits, want_in, Loses}
-use Rattle.line_moments.specs.Left.{left_in, standings, Shown, shown, IsLeftIn, AreStanding, IsShown}
+use Rattle.line_moments.specs.Left.{left_in, standings, Shown, shown, IsLeftIn, AreStanding, Left, IsShown, IsShownOf}
 use Rattle.line_moments.specs.Moments.{scene_by, IsLost, changes_to, changed, IsTrue, Still, edges_in, KnowsSteps, IsOfStep, GoesOn}
 use Rattle.line_moments.specs.Moments.{Change, granted_by, held_from, tasks_by, AreAskedBy, step_by, step_after, sent_to, ended_last}
 
@@ -141,3 +141,9 @@ ShownIsTrue =
     (tables : List Table) (spec : Spec) (line : List ℕ) → IsBound spec → SpecFits tables spec
     → (((x : Shown) × (shown tables spec line ≡ Some x)) ↔ ((w : World) × (start spec ≡ Started w)))
     × ((x : Shown) → shown tables spec line ≡ Some x → IsShown tables spec line x)
+
+-- of a line of a spec file, whose statements fit the tables that its main setups declare, there is shown what is left of each of these, in their order
+abbrev pub FilesAreShown : Type 0
+FilesAreShown =
+    (text : List ℕ) (file : SpecFile) (line : List ℕ) (x : Shown) → (of : IsShownOf text file line x) → IsBound file.run → SpecFits of.tables file.run
+    → IsShown of.tables file.run line x × (map (λ (l : Left). l.table) x.first ≡ of.tables) × (map (λ (l : Left). l.table) x.left ≡ of.tables)

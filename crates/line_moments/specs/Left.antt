@@ -1,5 +1,5 @@
 -- What a line begins with and what it leaves: how each session stands, what it holds, and the committed rows of each declared table.
-use Rattle.std.specs.Prelude.{◌≡◌, ◌↔◌, ℕ, zero, suc, ◌<◌, true, false, ⊤, All, List, [], ◌∷◌, ◌++◌, length, get_or, Option, Some, None}
+use Rattle.std.specs.Prelude.{◌≡◌, ◌↔◌, ℕ, zero, suc, ◌<◌, true, false, ⊤, All, List, [], ◌∷◌, ◌++◌, length, get_or, Option, Some, None, Ok}
 use Rattle.std.specs.declared.cmp.Ordering.{Ordering}
 use Rattle.std.specs.declared.cmp.Ordering.TheVariants.{Less}
 use Rattle.finite_maps.specs.Map.{entries, get}
@@ -20,7 +20,9 @@ use Rattle.machine_model.specs.declared.status.Status.TheVariants.{Outside, InBl
 use Rattle.machine_model.specs.World.{World, look_of, session_at, send_all}
 use Rattle.machine_model.specs.Start.{Started, start}
 use Rattle.machine_model.specs.Typed.{LiesAt}
-use Rattle.bound_specs.specs.Spec.{Spec}
+use Rattle.bound_specs.specs.Spec.{Spec, SpecFile}
+use Rattle.bound_specs.specs.Binding.{IsFileOf, declared, main_setup}
+use Rattle.bound_statements.specs.declared.statement.Bound.{Bound}
 use Rattle.lock_queues.specs.Reasons.{Want, Among, IsExact}
 use Rattle.line_moments.specs.Moments.{Moment, line_moments, want_in}
 
@@ -161,3 +163,11 @@ pub record IsShown (tables : List Table) (spec : Spec) (line : List ℕ) (x : Sh
   pub moments : x.moments ≡ line_moments spec.steps world line
   pub left : IsLeftIn tables (send_all spec.steps world line) x.left
   pub standings : AreStanding spec.sessions (send_all spec.steps world line) x.standings
+
+-- what is shown of a line of a spec file, with the tables that its main setups declare
+pub record IsShownOf (text : List ℕ) (file : SpecFile) (line : List ℕ) (x : Shown) : Type 0 where
+  pub is : IsFileOf text file
+  pub tables : List Table
+  pub blocks : List (List Bound)
+  pub declares : declared main_setup [] is.tree.front.setups ≡ Ok (tables, blocks)
+  pub shows : shown tables file.run line ≡ Some x

@@ -2,7 +2,7 @@
 
 ghost use Rattle.line_moments.specs.Laws.{MomentsLead, MomentsAreInTurn, MomentsTell, MomentsAreOutcomes, WantsAreExact, MomentsWait, MomentsLose, MomentsHold};
 ghost use Rattle.line_moments.specs.Laws.{MomentsAreTrue, RingsAreTold, StillIsExact, MomentsAreOfSteps, SpecsMomentsAreOfSteps};
-ghost use Rattle.line_moments.specs.Laws.{LocksAreAsked, StepsAreTold, WaitersGoOn, StandingsAreExact, LeftIsExact, ShownIsTrue};
+ghost use Rattle.line_moments.specs.Laws.{LocksAreAsked, StepsAreTold, WaitersGoOn, StandingsAreExact, LeftIsExact, ShownIsTrue, FilesAreShown};
 
 /// The moments of a line lead from its first world to its last, each when it is due, by the steps of the line in their order.
 pub fn moments_lead()
@@ -97,4 +97,9 @@ pub fn left_is_exact()
 /// What is shown of a line is true of the worlds that it begins with and ends in.
 pub fn shown_is_true()
     ensures { ShownIsTrue }
+{}
+
+/// What is shown of a line of a spec file tells what is left of each table that its main setups declare, in their order.
+pub fn files_are_shown()
+    ensures { FilesAreShown }
 {}
