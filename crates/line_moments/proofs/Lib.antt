@@ -12,3 +12,4 @@ pub mod Started
 pub mod Resuming
 pub mod Asking
 pub mod Leaving
+pub mod StillWaiting

@@ -98,6 +98,13 @@ StillIsExact =
     → Among {A = Still} (record { session = c; edges = es }) (moment_of steps g).still
     ↔ ((c < length (behind steps g).sessions) × (c ≢ session_by steps g.cause) × (es ≡ edges_in (behind steps g) c) × (es ≢ []) × (edges_in g.world c ≢ es))
 
+-- the reasons that a moment of a line tells of another session are all those of its wait in the world behind the moment, and no others
+abbrev pub StillWaitsAreExact : Type 0
+StillWaitsAreExact =
+    (steps : List Step) (w : World) (ks : List ℕ) → Sound w → ((k : ℕ) → IsOf steps w k) → (g : Going) → Among g (line_goings steps w ks)
+    → (x : Still) → Among x (moment_of steps g).still
+    → (want : Want) × IsExact (look_of (behind steps g)) (behind steps g).waits x.session want × (x.edges ≡ want.edges)
+
 -- each moment of a line is of a step of its session, where that is so of whoever waits before it, as of nobody when a spec starts
 abbrev pub MomentsAreOfSteps : Type 0
 MomentsAreOfSteps =
@@ -117,14 +124,15 @@ StepsAreTold =
     → (before : List Going) (g : Going) (after : List Going) → line_goings steps w ks ≡ before ++ g ∷ after
     → (moment_of steps g).step ≡ step_after steps w before g.cause
 
--- in a line of a spec a session goes on where its last moment before ended with a wait, and with the step that was sent to it last in that line
+-- in a line of a spec a session goes on where its last moment before ended with that wait, and with the step that was sent to it last in that line
 abbrev pub WaitersGoOn : Type 0
 WaitersGoOn =
     (spec : Spec) (w : World) (ks : List ℕ) → IsBound spec → start spec ≡ Started w
     → (before : List Going) (v : World) (spot : Spot) (after : List Going)
     → line_goings spec.steps w ks ≡ before ++ record { world = v; cause = GoesOn spot } ∷ after
     → (step_by v (GoesOn spot) ≡ sent_to spec.steps spot.wait.session None before)
-    × ((want : Want) × (ended_last spec.steps spot.wait.session None before ≡ Some (Awaits want)))
+    × ((want : Want) × (ended_last spec.steps spot.wait.session None before ≡ Some (Awaits want)) × (want.resource ≡ spot.wait.resource)
+    × (want.asked ≡ spot.wait.mode))
 
 -- in a steady world each session stands as is told
 abbrev pub StandingsAreExact : Type 0

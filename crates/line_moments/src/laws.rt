@@ -2,7 +2,7 @@
 
 ghost use Rattle.line_moments.specs.Laws.{MomentsLead, MomentsAreInTurn, MomentsTell, MomentsAreOutcomes, WantsAreExact, MomentsWait, MomentsLose, MomentsHold};
 ghost use Rattle.line_moments.specs.Laws.{MomentsAreTrue, RingsAreTold, StillIsExact, MomentsAreOfSteps, SpecsMomentsAreOfSteps};
-ghost use Rattle.line_moments.specs.Laws.{LocksAreAsked, StepsAreTold, WaitersGoOn, StandingsAreExact, LeftIsExact, ShownIsTrue, FilesAreShown};
+ghost use Rattle.line_moments.specs.Laws.{LocksAreAsked, StepsAreTold, WaitersGoOn, StandingsAreExact, LeftIsExact, ShownIsTrue, FilesAreShown, StillWaitsAreExact};
 
 /// The moments of a line lead from its first world to its last, each when it is due, by the steps of the line in their order.
 pub fn moments_lead()
@@ -64,6 +64,11 @@ pub fn still_is_exact()
     ensures { StillIsExact }
 {}
 
+/// The reasons that a moment tells of another session are those of its wait in the world behind the moment.
+pub fn still_waits_are_exact()
+    ensures { StillWaitsAreExact }
+{}
+
 /// Each moment is of a step of its session.
 pub fn moments_are_of_steps()
     ensures { MomentsAreOfSteps }
@@ -79,7 +84,7 @@ pub fn steps_are_told()
     ensures { StepsAreTold }
 {}
 
-/// In a line of a spec a session goes on where its last moment ended with a wait, with the step that it was sent last.
+/// In a line of a spec a session goes on where its last moment ended with that wait, with the step that it was sent last.
 pub fn waiters_go_on()
     ensures { WaitersGoOn }
 {}
