@@ -1,7 +1,7 @@
 -- The moments of a line: each time a session goes, from where its step is sent or goes on to where it ends or has to wait, and each step that
 -- is not sent.
 use Rattle.std.specs.Prelude.{◌≡◌, ◌≢◌, not, filter, ℕ, zero, suc, Bool, true, false, cond, ◌==◌, List, [], ◌∷◌, ◌++◌, length, map, get_or, Option, Some, None}
-use Rattle.std.specs.Prelude.{⊤}
+use Rattle.std.specs.Prelude.{⊤, ◌⊎◌}
 use Rattle.std.specs.List.{list_any}
 use Rattle.finite_maps.specs.Map.{get, insert, empty, entries}
 use Rattle.lock_modes.specs.declared.mode.Mode.{Mode}
@@ -13,6 +13,7 @@ use Rattle.lock_queues.specs.Reasons.{Edge, same_edges, Want, want_of}
 use Rattle.lock_queues.specs.Rings.{Hop, ring_told, IsRingTold}
 use Rattle.bound_specs.specs.Spec.{Step, no_step}
 use Rattle.transcripts.specs.declared.event.Event.{Event}
+use Rattle.transcripts.specs.declared.event.Fault.{Fault}
 use Rattle.transcripts.specs.declared.event.Event.TheVariants.{Sent, Row as RowEvent, Rows, Inserted, Updated, Deleted, Began, Committed, RolledBack}
 use Rattle.transcripts.specs.declared.event.Event.TheVariants.{Locked, Set, Warned, Failed, Waiting, Resumed, Done, NotSent}
 use Rattle.machine_model.specs.declared.status.Status.{Status}
@@ -415,18 +416,48 @@ IsSeenAt v i es (AtWait resource mode rest) =
     × (tells_fault es ≡ false)
 IsSeenAt v i es (AtFault task rest) = (waits_now v.waits i ≡ false) × (tells_fault es ≡ true)
 
+-- what the others hold and wait for while it goes
+abbrev pub scene_by : World → Cause → Scene
+scene_by w (Sends k) = scene_of w
+scene_by w (GoesOn spot) = scene_of (without w spot)
+scene_by w (Skips k) = scene_of w
+
+-- the session when it goes on, told nothing but that
+abbrev pub going_by : List Step → World → Cause → Session
+going_by steps w (Sends k) = told_only (session_at w (get_or steps k no_step).session) (Sent k)
+going_by steps w (GoesOn spot) = told_only (holding w spot) Resumed
+going_by steps w (Skips k) = told_only (session_at w (get_or steps k no_step).session) (NotSent k)
+
+-- it does the tasks one after another, and comes from the one state to the other: each request may be had, and each statement goes
+abbrev pub Does : Scene → ℕ → Session → Rows' → List Task → Session → Rows' → Type 0
+Does e i s rows [] s2 rows2 = (s ≡ s2) × (rows ≡ rows2)
+Does e i s rows (Ask nowait r m ∷ ts) s2 rows2 =
+    (is_broken s.status ≡ false) × (may_have e.count e.look e.waits i (get s.held r) r m ≡ true) × Does e i (taking s r m) rows ts s2 rows2
+Does e i s rows (Do st ∷ ts) s2 rows2 = (s3 : Session) × (rows3 : Rows') × (perform s rows st ≡ Goes s3 rows3) × Does e i s3 rows3 ts s2 rows2
+
+-- in this state it can do no more: nothing is left; or the request has to wait; or the task fails, a request in a failed block or by a refusal
+abbrev pub StopsAt : Scene → ℕ → Session → Rows' → Halt → Type 0
+StopsAt e i s rows AtEnd = ⊤
+StopsAt e i s rows (AtWait resource mode rest) = (is_broken s.status ≡ false) × (reply_in e i s false resource mode ≡ Waits)
+StopsAt e i s rows (AtFault (Ask nowait r m) rest) = (is_broken s.status ≡ true) ⊎ ((f : Fault) × (reply_in e i s nowait r m ≡ Refused f))
+StopsAt e i s rows (AtFault (Do st) rest) = (f : Fault) × (perform s rows st ≡ Fails f)
+
 -- wherever something is let go, something is held
 abbrev pub LetsGoOfHeld : Held → List Change → Type 0
 LetsGoOfHeld h [] = ⊤
 LetsGoOfHeld h (Had r m ∷ cs) = LetsGoOfHeld (insert h r m) cs
 LetsGoOfHeld h (LetGo ∷ cs) = (entries h ≢ []) × LetsGoOfHeld empty cs
 
--- behind the lock of the wait that was granted, the locks that are told are those of the requests of the tasks, in their order, up to where the session
--- stops; and what is let go was held
+-- the session does its tasks, the first of them before the others, up to where it stops. Behind the lock of the wait that was granted, the locks that
+-- are told are those of the requests that it had on that way, in their order; and what is let go was held
 pub record AreAsked (steps : List Step) (g : Going) : Type 0 where
   pub done : List Task
   pub halt : Halt
   pub tasks : tasks_by steps g.world g.cause ≡ done ++ left_at halt
+  pub session : Session
+  pub rows : Rows'
+  pub does : Does (scene_by g.world g.cause) (session_by steps g.cause) (going_by steps g.world g.cause) g.world.rows done session rows
+  pub stops : StopsAt (scene_by g.world g.cause) (session_by steps g.cause) session rows halt
   pub changes : (moment_of steps g).changes ≡ granted_by g.world g.cause ++ (changes_along (held_from steps g.world g.cause) done
       ++ let_go_at halt (moment_of steps g).status (changed (held_from steps g.world g.cause) (changes_along (held_from steps g.world g.cause) done)))
   pub seen : IsSeenAt (behind steps g) (session_by steps g.cause) (moment_of steps g).events halt
@@ -439,12 +470,6 @@ AreAskedBy steps w (GoesOn spot) = AreAsked steps (record { world = w; cause = G
 AreAskedBy steps w (Skips k) = (moment_of steps (record { world = w; cause = Skips k })).changes ≡ []
 
 -- ---- what is told of a deadlock
-
--- what the others hold and wait for while it goes
-abbrev pub scene_by : World → Cause → Scene
-scene_by w (Sends k) = scene_of w
-scene_by w (GoesOn spot) = scene_of (without w spot)
-scene_by w (Skips k) = scene_of w
 
 -- in the scene a session went on with these tasks and so many locks: the first ones were done, and behind them stood a request, which would have
 -- waited. It could not be had, and its wait would have closed a ring, which is the one that is told. All that the session held then it let go
