@@ -39,6 +39,7 @@ use Rattle.line_moments.specs.Moments.{changed, session_by, events_by, changes_b
 use Rattle.line_moments.specs.Moments.{scene_by, going_by, Does, StopsAt, Halt, AtEnd, AtWait, AtFault, left_at, let_go_at, tells_fault, IsSeenAt, LetsGoOfHeld, AreAsked, AreAskedBy}
 use Rattle.line_moments.proofs.Telling.{before, go-before}
 use Rattle.line_moments.proofs.Holding.{HeldAfter, did-changed, changed-append}
+use Rattle.line_moments.proofs.Losing.{had-may}
 use Rattle.line_moments.proofs.Waiting.{line-each}
 
 -- ---- what is let go was held
@@ -246,13 +247,6 @@ waits-no : (had nowait closes : Bool) → replied had nowait closes ≡ Waits �
 waits-no true nowait closes e = absurd (let x : IsHad ≡ Waits = e in cc)
 waits-no false true closes e = absurd (let x : Refused _ ≡ Waits = e in cc)
 waits-no false false closes e = refl
-
--- what is had may be had
-had-may : (had nowait closes : Bool) → replied had nowait closes ≡ IsHad → had ≡ true
-had-may true nowait closes e = refl
-had-may false true closes e = absurd (let x : Refused _ ≡ IsHad = e in cc)
-had-may false false true e = absurd (let x : Refused _ ≡ IsHad = e in cc)
-had-may false false false e = absurd (let x : Waits ≡ IsHad = e in cc)
 
 go-along : (e : Scene) (i : ℕ) (s : Session) (rows : Rows') (ts : List Task) → Along e i s rows ts (go_changes e i s rows ts) (go e i s rows ts)
 go-along e i s rows [] = end-along e i s rows

@@ -16,7 +16,7 @@ use Rattle.machine_model.specs.World.{World, look_of, session_at, send, send_all
 use Rattle.line_moments.specs.Moments.{Going, behind, line_goings, moments, line_moments, new_steps, told_to, told_by, Leads, moment_of, session_by, Awaits, want_in, Loses}
 use Rattle.line_moments.specs.Left.{left_in, standings, Shown, shown, IsLeftIn, AreStanding, Left, IsShown, IsShownOf}
 use Rattle.line_moments.specs.Moments.{scene_by, IsLost, changes_to, changed, IsTrue, Still, edges_in, KnowsSteps, IsOfStep, GoesOn}
-use Rattle.line_moments.specs.Moments.{Change, granted_by, held_from, tasks_by, AreAskedBy, step_by, step_after, sent_to, ended_last}
+use Rattle.line_moments.specs.Moments.{Change, granted_by, going_by, tasks_by, AreAskedBy, step_by, step_after, sent_to, ended_last}
 
 -- the moments of a line lead from its first world to its last, each when it is due and where the one before it left the world; and the steps that
 -- come in them are those of the line, in its order
@@ -71,7 +71,7 @@ MomentsLose =
     (steps : List Step) (w : World) (ks : List ℕ) → Sound w → ((k : ℕ) → IsOf steps w k) → (g : Going) → Among g (line_goings steps w ks)
     → (hops : List Hop) → (moment_of steps g).ending ≡ Loses hops
     → (changes : List Change) × ((moment_of steps g).changes ≡ granted_by g.world g.cause ++ changes)
-    × IsLost (scene_by g.world g.cause) (session_by steps g.cause) (held_from steps g.world g.cause) (tasks_by steps g.world g.cause) changes hops
+    × IsLost (scene_by g.world g.cause) (session_by steps g.cause) (going_by steps g.world g.cause) g.world.rows (tasks_by steps g.world g.cause) changes hops
 
 -- what each session holds, changed by what it got and let go in its moments, is what it holds behind them
 abbrev pub MomentsHold : Type 0

@@ -471,20 +471,22 @@ AreAskedBy steps w (Skips k) = (moment_of steps (record { world = w; cause = Ski
 
 -- ---- what is told of a deadlock
 
--- in the scene a session went on with these tasks and so many locks: the first ones were done, and behind them stood a request, which would have
--- waited. It could not be had, and its wait would have closed a ring, which is the one that is told. All that the session held then it let go
-pub record IsLost (e : Scene) (i : ℕ) (began : Held) (tasks : List Task) (changes : List Change) (hops : List Hop) : Type 0 where
+-- in the scene a session went on with these tasks: it did the first ones, and behind them stood a request, which would have waited. It could not be had,
+-- and its wait would have closed a ring, which is the one that is told. All that the session held then it let go
+pub record IsLost (e : Scene) (i : ℕ) (s : Session) (rows : Rows') (tasks : List Task) (changes : List Change) (hops : List Hop) : Type 0 where
   pub done : List Task
   pub resource : Resource
   pub mode : Mode
   pub rest : List Task
   pub asked : tasks ≡ done ++ Ask false resource mode ∷ rest
-  pub held : Held
-  pub held_is : held ≡ changed began (changes_along began done)
-  pub changes_are : changes ≡ changes_along began done ++ let_go held
-  pub refused : may_have e.count e.look e.waits i (get held resource) resource mode ≡ false
-  pub closes : closes_ring e.count (look_with e i held) (waiting_with e i resource mode) i ≡ true
-  pub told : IsRingTold e.count (look_with e i held) (waiting_with e i resource mode) i hops
+  pub session : Session
+  pub there : Rows'
+  pub does : Does e i s rows done session there
+  pub refused : may_have e.count e.look e.waits i (get session.held resource) resource mode ≡ false
+  pub closes : closes_ring e.count (look_with e i session.held) (waiting_with e i resource mode) i ≡ true
+  pub told : IsRingTold e.count (look_with e i session.held) (waiting_with e i resource mode) i hops
+  pub held : session.held ≡ changed s.held (changes_along s.held done)
+  pub changes_are : changes ≡ changes_along s.held done ++ let_go session.held
 
 -- ---- the steps of moments
 
