@@ -11,8 +11,8 @@ use Rattle.machine_model.specs.Go.{Run, go}
 use Rattle.machine_model.specs.World.{World, fresh, session_at, look_of, scene_of, goes, granted}
 use Rattle.machine_model.specs.Sound.{Steady, Sound}
 use Rattle.machine_model.proofs.Kept.{Pending}
-use Rattle.machine_model.proofs.Settles.{Grant, Entering, run, session-other, goes-count, goes-steady, granted-steady, touched-steady, entering, entering-granted}
-use Rattle.machine_model.proofs.Settles.{steady-of}
+use Rattle.machine_model.proofs.Settles.{Grant, Entering, run, session-other, goes-count, goes-steady, granted-steady, touched-steady}
+use Rattle.machine_model.proofs.Settles.{entering, entering-granted, steady-of}
 use Rattle.lock_queues.specs.Reasons.{Among}
 use Rattle.line_moments.specs.Moments.{Going, line_goings, told_only, holding, without, waits_but, IsTrue}
 use Rattle.line_moments.proofs.Telling.{put-grows, goes-grows, granted-grows, go-before}

@@ -8,13 +8,15 @@ use Rattle.transcripts.specs.declared.event.Fault.TheVariants.{Deadlock}
 use Rattle.bound_specs.specs.Spec.{Spec, SpecFile, Step, IsBound}
 use Rattle.bound_specs.specs.Fits.{SpecFits}
 use Rattle.binding_model.specs.declared.tables.Table.{Table}
+use Rattle.binding_model.specs.Tables.{key_column}
 use Rattle.machine_model.specs.Typed.{RowsFit}
 use Rattle.machine_model.specs.Laws.{IsOf}
 use Rattle.machine_model.specs.Start.{Started, start}
 use Rattle.machine_model.specs.Sound.{Steady, Sound}
 use Rattle.machine_model.specs.World.{World, look_of, session_at, send, send_all, outcome_of}
-use Rattle.line_moments.specs.Moments.{Going, behind, line_goings, moments, line_moments, new_steps, told_to, told_by, Leads, moment_of, session_by, Awaits, want_in, Loses}
-use Rattle.line_moments.specs.Left.{left_in, standings, Shown, shown, IsLeftIn, AreStanding, Left, IsShown, IsShownOf}
+use Rattle.line_moments.specs.Moments.{Going, behind, line_goings, moments, line_moments, new_steps, told_to, told_by, Leads, moment_of, session_by}
+use Rattle.line_moments.specs.Moments.{Awaits, want_in, Loses}
+use Rattle.line_moments.specs.Left.{left_in, LeaveSame, standings, Shown, shown, IsLeftIn, AreStanding, Left, IsShown, IsShownOf}
 use Rattle.line_moments.specs.Moments.{scene_by, IsLost, changes_to, changed, IsTrue, Still, edges_in, KnowsSteps, IsOfStep, GoesOn}
 use Rattle.line_moments.specs.Moments.{Change, granted_by, going_by, tasks_by, AreAskedBy, step_by, step_after, sent_to, ended_last}
 
@@ -141,6 +143,12 @@ StandingsAreExact = (n : ℕ) (w : World) → Steady w → AreStanding n w (stan
 -- of a world whose rows fit the tables the committed rows of each table are told, and no others
 abbrev pub LeftIsExact : Type 0
 LeftIsExact = (tables : List Table) (w : World) → RowsFit tables w.rows → IsLeftIn tables w (left_in tables w)
+
+-- where every table has a key, worlds that leave the same rows, whatever their keys, have the same committed rows
+abbrev pub KeysTellRows : Type 0
+KeysTellRows =
+    (tables : List Table) (v w : World) → RowsFit tables v.rows → RowsFit tables w.rows → All (λ t. (key : ℕ) × (key_column t ≡ Some key)) tables
+    → LeaveSame (left_in tables v) (left_in tables w) → v.rows ≡ w.rows
 
 -- where the statements of a spec fit the tables something is shown of a line exactly where the spec starts, and what is shown is true of the worlds that
 -- the line begins with and ends in

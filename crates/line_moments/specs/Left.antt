@@ -45,11 +45,14 @@ abbrev pub tuples_of : List (Value × Tuple) → List Tuple
 tuples_of [] = []
 tuples_of (e ∷ es) = e.1 ∷ tuples_of es
 
--- the rows of each table as its readers see them: worlds that leave the same here have left the same, though rows of a table without a key may lie at
--- other numbers, which nobody sees
+-- the rows of each table as its readers see them
 abbrev pub rows_alone : List Left → List (List Tuple)
 rows_alone [] = []
 rows_alone (x ∷ xs) = tuples_of x.rows ∷ rows_alone xs
+
+-- the same is left, though rows of a table without a key may lie at other numbers, which nobody sees
+abbrev pub LeaveSame : List Left → List Left → Type 0
+LeaveSame xs ys = rows_alone xs ≡ rows_alone ys
 
 -- how a session stands: it is outside a transaction, is in one, is in a failed block, or waits
 pub data Standing : Type 0 where

@@ -2,7 +2,8 @@
 
 ghost use Rattle.line_moments.specs.Laws.{MomentsLead, MomentsAreInTurn, MomentsTell, MomentsAreOutcomes, WantsAreExact, MomentsWait, MomentsLose, MomentsHold};
 ghost use Rattle.line_moments.specs.Laws.{MomentsAreTrue, RingsAreTold, StillIsExact, MomentsAreOfSteps, SpecsMomentsAreOfSteps};
-ghost use Rattle.line_moments.specs.Laws.{LocksAreAsked, StepsAreTold, WaitersGoOn, StandingsAreExact, LeftIsExact, ShownIsTrue, FilesAreShown, StillWaitsAreExact};
+ghost use Rattle.line_moments.specs.Laws.{LocksAreAsked, StepsAreTold, WaitersGoOn, StillWaitsAreExact};
+ghost use Rattle.line_moments.specs.Laws.{StandingsAreExact, LeftIsExact, KeysTellRows, ShownIsTrue, FilesAreShown};
 
 /// The moments of a line lead from its first world to its last, each when it is due, by the steps of the line in their order.
 pub fn moments_lead()
@@ -97,6 +98,11 @@ pub fn standings_are_exact()
 /// Of a world whose rows fit the tables the committed rows of each table are told, and no others.
 pub fn left_is_exact()
     ensures { LeftIsExact }
+{}
+
+/// Where every table has a key, two worlds whose tables have the same rows have the same committed rows.
+pub fn keys_tell_rows()
+    ensures { KeysTellRows }
 {}
 
 /// What is shown of a line is true of the worlds that it begins with and ends in.
