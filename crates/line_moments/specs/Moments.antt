@@ -353,13 +353,13 @@ pub record IsTrue (steps : List Step) (g : Going) : Type 0 where
   pub steady : Steady (behind steps g)
   pub opens : Opens (moment_of steps g).manner (moment_of steps g).step (moment_of steps g).events
   pub told : (c : ℕ) → (session_at (behind steps g) c).transcript
-      ≡ (session_at g.world c).transcript ++ cond (session_by steps g.cause == c) (moment_of steps g).events []
+      ≡ (session_at g.world c).transcript ++ cond ((moment_of steps g).session == c) (moment_of steps g).events []
   pub held : (c : ℕ) → (session_at (behind steps g) c).held
-      ≡ changed (session_at g.world c).held (cond (session_by steps g.cause == c) (moment_of steps g).changes [])
-  pub status : (session_at (behind steps g) (session_by steps g.cause)).status ≡ (moment_of steps g).status
+      ≡ changed (session_at g.world c).held (cond ((moment_of steps g).session == c) (moment_of steps g).changes [])
+  pub status : (session_at (behind steps g) (moment_of steps g).session).status ≡ (moment_of steps g).status
   pub count : length (behind steps g).sessions ≡ length g.world.sessions
-  pub others : (c : ℕ) → c ≢ session_by steps g.cause → session_at (behind steps g) c ≡ session_at g.world c
-  pub waits : waits_but (session_by steps g.cause) (behind steps g).waits ≡ waits_but (session_by steps g.cause) g.world.waits
+  pub others : (c : ℕ) → c ≢ (moment_of steps g).session → session_at (behind steps g) c ≡ session_at g.world c
+  pub waits : waits_but (moment_of steps g).session (behind steps g).waits ≡ waits_but (moment_of steps g).session g.world.waits
 
 -- ---- the locks of a moment
 
@@ -422,7 +422,7 @@ scene_by w (Sends k) = scene_of w
 scene_by w (GoesOn spot) = scene_of (without w spot)
 scene_by w (Skips k) = scene_of w
 
--- the session when it goes on, told nothing but that
+-- the session when it goes on, with nothing told but that
 abbrev pub going_by : List Step → World → Cause → Session
 going_by steps w (Sends k) = told_only (session_at w (get_or steps k no_step).session) (Sent k)
 going_by steps w (GoesOn spot) = told_only (holding w spot) Resumed
@@ -498,13 +498,13 @@ KnowsSteps steps w = (c : ℕ) → waits_now w.waits c ≡ true → (k : ℕ) ×
 abbrev pub IsOfStep : List Step → Going → Type 0
 IsOfStep steps g = (k : ℕ) × (step_by g.world g.cause ≡ Some k) × IsOwnStep steps (session_by steps g.cause) k
 
--- the step that the session was sent last: this one, or the one that the going sends it
+-- the step that the session was sent last, behind a going: the one that this sends it, or else the one before
 abbrev pub sent_by : List Step → ℕ → Option ℕ → Cause → Option ℕ
 sent_by steps c last (Sends k) = cond ((get_or steps k no_step).session == c) (Some k) last
 sent_by steps c last (GoesOn spot) = last
 sent_by steps c last (Skips k) = last
 
--- behind these goings
+-- and behind these goings
 abbrev pub sent_to : List Step → ℕ → Option ℕ → List Going → Option ℕ
 sent_to steps c last [] = last
 sent_to steps c last (g ∷ gs) = sent_to steps c (sent_by steps c last g.cause) gs
@@ -515,7 +515,7 @@ step_after steps w before (Sends k) = Some k
 step_after steps w before (GoesOn spot) = sent_to steps spot.wait.session (last_sent None (session_at w spot.wait.session).transcript) before
 step_after steps w before (Skips k) = Some k
 
--- how the session's last moment ended: so, or as it did in the last of its goings
+-- how the last of the session's moments ended behind these goings
 abbrev pub ended_last : List Step → ℕ → Option Ending → List Going → Option Ending
 ended_last steps c last [] = last
 ended_last steps c last (g ∷ gs) = ended_last steps c (cond (session_by steps g.cause == c) (Some (moment_of steps g).ending) last) gs
