@@ -1,4 +1,4 @@
-use Rattle.line_moments.proofs.Leaving.{files-shown}
+use Rattle.line_moments.proofs.Showing.{files-shown}
 use Rattle.line_moments.proofs.laws.files_are_shown.Goals as goal
 
 pub returns : goal.returns
