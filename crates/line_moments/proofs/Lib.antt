@@ -9,3 +9,10 @@ pub mod Changing
 pub mod Worked
 pub mod Steps
 pub mod Started
+pub mod Resuming
+pub mod Asking
+pub mod KeyOrder
+pub mod Leaving
+pub mod Standing
+pub mod Showing
+pub mod StillWaiting

@@ -44,12 +44,12 @@ use Rattle.lock_queues.proofs.Edges.{among-parts}
 
 -- ---- the step that was sent last
 
-last-append : (x : Option ℕ) (es fs : List Event) → last_sent x (es ++ fs) ≡ last_sent (last_sent x es) fs
+pub last-append : (x : Option ℕ) (es fs : List Event) → last_sent x (es ++ fs) ≡ last_sent (last_sent x es) fs
 last-append x [] fs = refl
 last-append x (e ∷ es) fs = last-append _ es fs
 
 -- what is no step leaves it
-last-push : (t : List Event) (e : Event) → sent_step e ≡ None → last_sent None (t ++ e ∷ []) ≡ last_sent None t
+pub last-push : (t : List Event) (e : Event) → sent_step e ≡ None → last_sent None (t ++ e ∷ []) ≡ last_sent None t
 last-push t e is =
     last-append None t (e ∷ [])
     ∙ ap (λ o. let x : Option ℕ = elim o [ None ↦ last_sent None t | Some n ↦ Some n ] in x) is
@@ -112,7 +112,7 @@ finished-last InBlock s rows = last-push s.transcript Done refl
 finished-last Broken s rows = last-push s.transcript Done refl
 
 -- going notes no step
-go-last : (e : Scene) (i : ℕ) (s : Session) (rows : Rows') (ts : List Task)
+pub go-last : (e : Scene) (i : ℕ) (s : Session) (rows : Rows') (ts : List Task)
     → last_sent None (go e i s rows ts).session.transcript ≡ last_sent None s.transcript
 go-last e i s rows [] = finished-last s.status s rows
 go-last e i s rows (Ask nowait r m ∷ ts) = at (is_broken s.status) (reply_in e i s nowait r m) (go-last e i (taking s r m) rows ts)
@@ -180,7 +180,7 @@ goes-knows steps w i s ts en own others c h = ⊎_elim there other (cases-eq c i
         (others c ne (waits-before w i c s ts en ne h))
 
 -- who has a spot waits
-spot-waits : (w : World) (spot : Spot) → Grant (length w.sessions) (look_of w) w.waits spot → waits_now w.waits spot.wait.session ≡ true
+pub spot-waits : (w : World) (spot : Spot) → Grant (length w.sessions) (look_of w) w.waits spot → waits_now w.waits spot.wait.session ≡ true
 spot-waits w spot g =
     subst (λ ws. waits_now ws spot.wait.session ≡ true) (sym g.splits)
     (list_any-append (λ (x : Wait). x.session == spot.wait.session) spot.before (spot.wait ∷ spot.after)
@@ -225,7 +225,7 @@ settle-steps steps (suc n) w st knows = at (next_grant (length w.sessions) (look
         )
 
 -- a step that is not sent is not the last that was sent
-skipped-last : (steps : List Step) (w : World) (k : ℕ) → (get_or steps k no_step).session < length w.sessions → (c : ℕ)
+pub skipped-last : (steps : List Step) (w : World) (k : ℕ) → (get_or steps k no_step).session < length w.sessions → (c : ℕ)
     → last_sent None (session_at (behind_by steps w (Skips k)) c).transcript ≡ last_sent None (session_at w c).transcript
 skipped-last steps w k lt c =
     let i = (get_or steps k no_step).session in

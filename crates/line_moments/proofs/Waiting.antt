@@ -26,9 +26,9 @@ wait-exact w a want st e =
     (wait-map (Ready w) (λ v. v.session < length w.sessions) (λ v r. r.known) w.waits st.ready) a want e
 
 pub wants-exact : WantsAreExact
-wants-exact w sound a = (
+wants-exact w st a = (
   ((λ h. want-found (length w.sessions) (look_of w) w.waits a h), (λ x. want-waits (length w.sessions) (look_of w) w.waits a x.0 x.1)),
-  (λ want e. wait-exact w a want (steady-of w sound) e),
+  (λ want e. wait-exact w a want st e),
 )
 
 -- ---- each going of a line

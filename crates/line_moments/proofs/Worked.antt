@@ -13,14 +13,14 @@ use Rattle.row_tables.specs.Overlay.{lay}
 use Rattle.statement_evaluation.specs.Effect.{effect}
 use Rattle.binding_model.specs.Tables.{no_table}
 use Rattle.bound_specs.specs.Spec.{Spec}
-use Rattle.bound_statements.specs.declared.statement.Bound.TheVariants.{Begin, Commit}
+use Rattle.bound_statements.specs.declared.statement.Bound.TheVariants.{Insert, Delete, Begin, Commit}
 use Rattle.transcripts.specs.declared.event.Event.TheVariants.{Sent, Row as RowEvent, Rows, Updated, Committed, Failed, Waiting, Resumed, Done, NotSent}
 use Rattle.transcripts.specs.declared.event.Fault.TheVariants.{Deadlock, Unavailable}
 use Rattle.machine_model.specs.declared.status.Status.TheVariants.{Outside, InBlock, Broken}
 use Rattle.machine_model.specs.Start.{Started, start}
-use Rattle.machine_model.proofs.Worked.{number, step, in_blocks, two_rows, sets, reads_one, waits_row, ring_row, not_waiting_row, ring_or_not}
+use Rattle.machine_model.proofs.Worked.{number, id_is, step, in_blocks, two_rows, sets, reads_one, waits_row, ring_row, not_waiting_row, ring_or_not}
 use Rattle.line_moments.specs.Moments.{Moment, line_moments, IsSent, IsResumed, IsNotSent, Ending, Ended, Awaits, Loses, Had, LetGo, Still}
-use Rattle.line_moments.specs.Left.{Left, Shown, Standing, HasEnded, IsOpen, StillWaits, shown}
+use Rattle.line_moments.specs.Left.{Left, Shown, Standing, HasEnded, IsOpen, StillWaits, shown, rows_alone, LeaveSame}
 
 abbrev told : Spec → List ℕ → List Moment
 told spec ks = elim (start spec) [ Started w ↦ line_moments spec.steps w ks | _ ↦ [] ]
@@ -290,3 +290,39 @@ waits_row_stops : ends (shows waits_row (0 ∷ 2 ∷ []))
     )
 unfolding get insert keep remove entries empty effect lay
 waits_row_stops = refl
+
+-- what the setups left: the rows as they were before the line
+abbrev firsts : Option Shown → List (List Tuple)
+firsts None = []
+firsts (Some x) = rows_alone x.first
+
+waits_row_begins : firsts (shows waits_row (0 ∷ 2 ∷ [])) ≡ ((number 1 ∷ number 10 ∷ []) ∷ (number 2 ∷ number 20 ∷ []) ∷ []) ∷ []
+unfolding get insert keep remove entries empty effect lay
+waits_row_begins = refl
+
+-- in a table without a key a row's number is past those that are there when it comes: orders that put it at other numbers leave the same
+abbrev keyless : Spec
+keyless =
+    record {
+      sessions = 2;
+      steps = step 0 (Insert 0 None ((number 5 ∷ []) ∷ [])) ∷ step 0 (Delete 0 None (id_is 5)) ∷ step 1 (Insert 0 None ((number 6 ∷ []) ∷ [])) ∷ [];
+      setups = [];
+      lines = [];
+      session_setups = [] ∷ [] ∷ [];
+    }
+
+keyless_before : ends (shows keyless (0 ∷ 1 ∷ 2 ∷ [])) ≡ (((number 1, number 6 ∷ []) ∷ []) ∷ [], HasEnded ∷ HasEnded ∷ [])
+unfolding get insert keep remove entries empty effect lay
+keyless_before = refl
+
+keyless_between : ends (shows keyless (0 ∷ 2 ∷ 1 ∷ [])) ≡ (((number 2, number 6 ∷ []) ∷ []) ∷ [], HasEnded ∷ HasEnded ∷ [])
+unfolding get insert keep remove entries empty effect lay
+keyless_between = refl
+
+abbrev lasts : Option Shown → List Left
+lasts None = []
+lasts (Some x) = x.left
+
+keyless_same : LeaveSame (lasts (shows keyless (0 ∷ 1 ∷ 2 ∷ []))) (lasts (shows keyless (0 ∷ 2 ∷ 1 ∷ [])))
+unfolding get insert keep remove entries empty effect lay
+keyless_same = refl

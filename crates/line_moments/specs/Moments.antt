@@ -1,15 +1,19 @@
 -- The moments of a line: each time a session goes, from where its step is sent or goes on to where it ends or has to wait, and each step that
 -- is not sent.
-use Rattle.std.specs.Prelude.{◌≡◌, ℕ, zero, suc, Bool, true, false, cond, ◌==◌, List, [], ◌∷◌, ◌++◌, length, map, get_or, Option, Some, None}
+use Rattle.std.specs.Prelude.{◌≡◌, ◌≢◌, not, filter, ℕ, zero, suc, Bool, true, false, cond, ◌==◌, List, [], ◌∷◌, ◌++◌, length, map, get_or, Option, Some, None}
+use Rattle.std.specs.Prelude.{⊤, ◌⊎◌}
+use Rattle.std.specs.List.{list_any}
 use Rattle.finite_maps.specs.Map.{get, insert, empty, entries}
 use Rattle.lock_modes.specs.declared.mode.Mode.{Mode}
 use Rattle.lock_modes.specs.declared.resource.Resource.{Resource}
 use Rattle.lock_modes.specs.Rows.{Rows'}
+use Rattle.lock_queues.specs.declared.wait.Wait.{Wait}
 use Rattle.lock_queues.specs.Locks.{Spot, next_grant, waits_now, wanted, may_have, closes_ring}
 use Rattle.lock_queues.specs.Reasons.{Edge, same_edges, Want, want_of}
 use Rattle.lock_queues.specs.Rings.{Hop, ring_told, IsRingTold}
 use Rattle.bound_specs.specs.Spec.{Step, no_step}
 use Rattle.transcripts.specs.declared.event.Event.{Event}
+use Rattle.transcripts.specs.declared.event.Fault.{Fault}
 use Rattle.transcripts.specs.declared.event.Event.TheVariants.{Sent, Row as RowEvent, Rows, Inserted, Updated, Deleted, Began, Committed, RolledBack}
 use Rattle.transcripts.specs.declared.event.Event.TheVariants.{Locked, Set, Warned, Failed, Waiting, Resumed, Done, NotSent}
 use Rattle.machine_model.specs.declared.status.Status.{Status}
@@ -18,6 +22,8 @@ use Rattle.machine_model.specs.declared.reply.Reply.TheVariants.{Had as IsHad, W
 use Rattle.machine_model.specs.Session.{Session, Task, Ask, Do, Goes, Fails, Held, Kind, Begins, Commits, RollsBack, Works, kind, perform, note, tasks_of}
 use Rattle.machine_model.specs.Go.{Scene, go, taking, is_broken, reply_in, look_with, waiting_with}
 use Rattle.machine_model.specs.World.{World, session_at, look_of, scene_of, goes, granted, left_to_do, noted, send}
+use Rattle.machine_model.specs.Sound.{Steady}
+use Rattle.machine_model.specs.Start.{is_failure}
 use Rattle.machine_model.specs.Outcome.{IsOwnStep}
 
 -- ---- who goes, and why, in the order of going
@@ -67,7 +73,7 @@ line_goings steps w (k ∷ ks) = goings steps w k ++ line_goings steps (send ste
 
 -- ---- what a session does while it goes
 
--- a mode is held there from now on, or nothing is held any more
+-- a request is had, and the mode is held there from now on, though it may have been held before; or nothing is held any more
 pub data Change : Type 0 where
   Had : (resource : Resource) (mode : Mode) → Change
   LetGo : Change
@@ -93,7 +99,7 @@ did_changes Commits h = let_go h
 did_changes RollsBack h = let_go h
 did_changes Works h = []
 
--- the locks had and let go, in order
+-- the requests that are had and the locks let go, in order
 abbrev pub go_changes : Scene → ℕ → Session → Rows' → List Task → List Change
 go_changes e i s rows [] = end_changes s.status s.held
 go_changes e i s rows (Ask nowait r m ∷ ts) =
@@ -140,7 +146,7 @@ pub data Ending : Type 0 where
   Awaits : (want : Want) → Ending
   Loses : (ring : List Hop) → Ending
 
--- a session that goes on waiting, for others than before
+-- a session that goes on waiting, for other reasons than before
 pub record Still : Type 0 where
   pub session : ℕ
   pub edges : List Edge
@@ -242,12 +248,12 @@ want_in w i = want_of (length w.sessions) (look_of w) w.waits i
 abbrev pub edges_in : World → ℕ → List Edge
 edges_in w c = elim (want_in w c) [ None ↦ [] | Some want ↦ want.edges ]
 
--- the edges, if there are any and they are others than before
+-- the edges, if there are any and they are other ones than before
 abbrev pub changed_edges : ℕ → List Edge → List Edge → List Still
 changed_edges c old [] = []
 changed_edges c old (e ∷ es) = cond (same_edges old (e ∷ es)) [] (record { session = c; edges = e ∷ es } ∷ [])
 
--- of the sessions below the number but i, those that wait for others in v than in w
+-- of the sessions below the number but i, those that wait for other reasons in v than in w
 abbrev pub still_below : ℕ → ℕ → World → World → List Still
 still_below zero i w v = []
 still_below (suc n) i w v = still_below n i w v ++ cond (n == i) [] (changed_edges n (edges_in w n) (edges_in v n))
@@ -303,11 +309,26 @@ changed h [] = h
 changed h (Had r m ∷ cs) = changed (insert h r m) cs
 changed h (LetGo ∷ cs) = changed empty cs
 
--- why it goes then
+-- no wait is ripe
+abbrev pub IsSettled : World → Type 0
+IsSettled w = next_grant (length w.sessions) (look_of w) w.waits ≡ None
+
+-- why it goes then: its wait is the next to be granted; or nothing is ripe and a step comes, of a session that does not wait, or of one that does
 abbrev pub IsDue : List Step → World → Cause → Type 0
-IsDue steps w (Sends k) = waits_now w.waits (get_or steps k no_step).session ≡ false
+IsDue steps w (Sends k) = (waits_now w.waits (get_or steps k no_step).session ≡ false) × IsSettled w
 IsDue steps w (GoesOn spot) = next_grant (length w.sessions) (look_of w) w.waits ≡ Some spot
-IsDue steps w (Skips k) = waits_now w.waits (get_or steps k no_step).session ≡ true
+IsDue steps w (Skips k) = (waits_now w.waits (get_or steps k no_step).session ≡ true) × IsSettled w
+
+-- the step that comes, if one does
+abbrev pub new_step : Cause → List ℕ
+new_step (Sends k) = k ∷ []
+new_step (GoesOn spot) = []
+new_step (Skips k) = k ∷ []
+
+-- the steps that come, in their order
+abbrev pub new_steps : List Going → List ℕ
+new_steps [] = []
+new_steps (g ∷ gs) = new_step g.cause ++ new_steps gs
 
 -- one goes behind the other, each when it is due, from the one world to the other
 abbrev pub Leads : List Step → World → List Going → World → Type 0
@@ -316,15 +337,84 @@ Leads steps w (g ∷ gs) v = (g.world ≡ w) × IsDue steps w g.cause × Leads s
 
 -- ---- what is told of each going
 
--- in the world behind it each session was told what it was told before, and its own what the moment tells; and each holds what it held before,
--- its own with what it got and let go
-pub record IsTrue (steps : List Step) (g : Going) : Type 0 where
-  pub told : (c : ℕ) → (session_at (behind steps g) c).transcript
-      ≡ (session_at g.world c).transcript ++ cond (session_by steps g.cause == c) (events_by steps g.world g.cause) []
-  pub held : (c : ℕ) → (session_at (behind steps g) c).held
-      ≡ changed (session_at g.world c).held (cond (session_by steps g.cause == c) (changes_by steps g.world g.cause) [])
+-- what a moment tells first: that its step is sent, that its session goes on, or that its step is not sent, which is all it tells
+abbrev pub Opens : Manner → Option ℕ → List Event → Type 0
+Opens IsSent step es = (k : ℕ) × (rest : List Event) × (step ≡ Some k) × (es ≡ Sent k ∷ rest)
+Opens IsResumed step es = (rest : List Event) × (es ≡ Resumed ∷ rest)
+Opens IsNotSent step es = (k : ℕ) × (step ≡ Some k) × (es ≡ NotSent k ∷ [])
 
--- ---- what is told of a deadlock
+-- the waits of the other sessions, in their order
+abbrev pub waits_but : ℕ → List Wait → List Wait
+waits_but i waits = filter (λ w. not (w.session == i)) waits
+
+-- in the world behind it, which is steady, each session was told what it was told before, and its own what the moment tells; each holds what it held
+-- before, its own with what it got and let go; its own stands as the moment tells; and nothing is changed of the others, nor of their waits
+pub record IsTrue (steps : List Step) (g : Going) : Type 0 where
+  pub steady : Steady (behind steps g)
+  pub opens : Opens (moment_of steps g).manner (moment_of steps g).step (moment_of steps g).events
+  pub told : (c : ℕ) → (session_at (behind steps g) c).transcript
+      ≡ (session_at g.world c).transcript ++ cond ((moment_of steps g).session == c) (moment_of steps g).events []
+  pub held : (c : ℕ) → (session_at (behind steps g) c).held
+      ≡ changed (session_at g.world c).held (cond ((moment_of steps g).session == c) (moment_of steps g).changes [])
+  pub status : (session_at (behind steps g) (moment_of steps g).session).status ≡ (moment_of steps g).status
+  pub count : length (behind steps g).sessions ≡ length g.world.sessions
+  pub others : (c : ℕ) → c ≢ (moment_of steps g).session → session_at (behind steps g) c ≡ session_at g.world c
+  pub waits : waits_but (moment_of steps g).session (behind steps g).waits ≡ waits_but (moment_of steps g).session g.world.waits
+
+-- ---- the locks of a moment
+
+-- the lock of the wait that is granted
+abbrev pub granted_by : World → Cause → List Change
+granted_by w (Sends k) = []
+granted_by w (GoesOn spot) = Had spot.wait.resource (wanted (get (session_at w spot.wait.session).held spot.wait.resource) spot.wait.mode) ∷ []
+granted_by w (Skips k) = []
+
+-- what its session holds when it goes on
+abbrev pub held_from : List Step → World → Cause → Held
+held_from steps w cause = changed (session_at w (session_by steps cause)).held (granted_by w cause)
+
+-- the tasks that it goes on with
+abbrev pub tasks_by : List Step → World → Cause → List Task
+tasks_by steps w (Sends k) = tasks_of (get_or steps k no_step).statements
+tasks_by steps w (GoesOn spot) = (session_at w spot.wait.session).rest
+tasks_by steps w (Skips k) = []
+
+-- the changes of tasks that are all done: each request is had, in the mode that covers what it asks and what is held there, and a statement that ends a
+-- transaction lets go of what is held
+abbrev pub changes_along : Held → List Task → List Change
+changes_along h [] = []
+changes_along h (Ask nowait r m ∷ ts) = Had r (wanted (get h r) m) ∷ changes_along (insert h r (wanted (get h r) m)) ts
+changes_along h (Do st ∷ ts) = did_changes (kind st) h ++ changes_along (changed h (did_changes (kind st) h)) ts
+
+-- where a session stops along its tasks: behind the last one, at a request that waits, or at a task that fails
+pub data Halt : Type 0 where
+  AtEnd : Halt
+  AtWait : (resource : Resource) (mode : Mode) (rest : List Task) → Halt
+  AtFault : (task : Task) (rest : List Task) → Halt
+
+-- the tasks that are not done
+abbrev pub left_at : Halt → List Task
+left_at AtEnd = []
+left_at (AtWait resource mode rest) = Ask false resource mode ∷ rest
+left_at (AtFault task rest) = task ∷ rest
+
+-- what is let go there, by a session of this status that holds so much
+abbrev pub let_go_at : Halt → Status → Held → List Change
+let_go_at AtEnd status h = end_changes status h
+let_go_at (AtWait resource mode rest) status h = []
+let_go_at (AtFault task rest) status h = let_go h
+
+-- a fault is told
+abbrev pub tells_fault : List Event → Bool
+tells_fault es = list_any is_failure es
+
+-- what is seen of it there: its wait came last, with what is left to do behind it; or it was told of a fault; or neither
+abbrev pub IsSeenAt : World → ℕ → List Event → Halt → Type 0
+IsSeenAt v i es AtEnd = (waits_now v.waits i ≡ false) × (tells_fault es ≡ false)
+IsSeenAt v i es (AtWait resource mode rest) =
+    (waits : List Wait) × (v.waits ≡ waits ++ record { session = i; resource = resource; mode = mode } ∷ []) × ((session_at v i).rest ≡ rest)
+    × (tells_fault es ≡ false)
+IsSeenAt v i es (AtFault task rest) = (waits_now v.waits i ≡ false) × (tells_fault es ≡ true)
 
 -- what the others hold and wait for while it goes
 abbrev pub scene_by : World → Cause → Scene
@@ -332,18 +422,71 @@ scene_by w (Sends k) = scene_of w
 scene_by w (GoesOn spot) = scene_of (without w spot)
 scene_by w (Skips k) = scene_of w
 
--- in the scene a session that began with some modes held, and then got and let go as told, was refused a request that it could not have: its wait
--- there would have closed a ring, and the ring that is told is one. All that it held then it let go
-pub record IsLost (e : Scene) (i : ℕ) (began : Held) (changes : List Change) (hops : List Hop) : Type 0 where
-  pub held : Held
+-- the session when it goes on, with nothing told but that
+abbrev pub going_by : List Step → World → Cause → Session
+going_by steps w (Sends k) = told_only (session_at w (get_or steps k no_step).session) (Sent k)
+going_by steps w (GoesOn spot) = told_only (holding w spot) Resumed
+going_by steps w (Skips k) = told_only (session_at w (get_or steps k no_step).session) (NotSent k)
+
+-- it does the tasks one after another, and comes from the one state to the other: each request may be had, and each statement goes
+abbrev pub Does : Scene → ℕ → Session → Rows' → List Task → Session → Rows' → Type 0
+Does e i s rows [] s2 rows2 = (s ≡ s2) × (rows ≡ rows2)
+Does e i s rows (Ask nowait r m ∷ ts) s2 rows2 =
+    (is_broken s.status ≡ false) × (may_have e.count e.look e.waits i (get s.held r) r m ≡ true) × Does e i (taking s r m) rows ts s2 rows2
+Does e i s rows (Do st ∷ ts) s2 rows2 = (s3 : Session) × (rows3 : Rows') × (perform s rows st ≡ Goes s3 rows3) × Does e i s3 rows3 ts s2 rows2
+
+-- in this state it can do no more: nothing is left; or the request has to wait; or the task fails, a request in a failed block or by a refusal
+abbrev pub StopsAt : Scene → ℕ → Session → Rows' → Halt → Type 0
+StopsAt e i s rows AtEnd = ⊤
+StopsAt e i s rows (AtWait resource mode rest) = (is_broken s.status ≡ false) × (reply_in e i s false resource mode ≡ Waits)
+StopsAt e i s rows (AtFault (Ask nowait r m) rest) = (is_broken s.status ≡ true) ⊎ ((f : Fault) × (reply_in e i s nowait r m ≡ Refused f))
+StopsAt e i s rows (AtFault (Do st) rest) = (f : Fault) × (perform s rows st ≡ Fails f)
+
+-- wherever something is let go, something is held
+abbrev pub LetsGoOfHeld : Held → List Change → Type 0
+LetsGoOfHeld h [] = ⊤
+LetsGoOfHeld h (Had r m ∷ cs) = LetsGoOfHeld (insert h r m) cs
+LetsGoOfHeld h (LetGo ∷ cs) = (entries h ≢ []) × LetsGoOfHeld empty cs
+
+-- the session does its tasks, the first of them before the others, up to where it stops. Behind the lock of the wait that was granted, the locks that
+-- are told are those of the requests that it had on that way, in their order; and what is let go was held
+pub record AreAsked (steps : List Step) (g : Going) : Type 0 where
+  pub done : List Task
+  pub halt : Halt
+  pub tasks : tasks_by steps g.world g.cause ≡ done ++ left_at halt
+  pub session : Session
+  pub rows : Rows'
+  pub does : Does (scene_by g.world g.cause) (session_by steps g.cause) (going_by steps g.world g.cause) g.world.rows done session rows
+  pub stops : StopsAt (scene_by g.world g.cause) (session_by steps g.cause) session rows halt
+  pub changes : (moment_of steps g).changes ≡ granted_by g.world g.cause ++ (changes_along (held_from steps g.world g.cause) done
+      ++ let_go_at halt (moment_of steps g).status (changed (held_from steps g.world g.cause) (changes_along (held_from steps g.world g.cause) done)))
+  pub seen : IsSeenAt (behind steps g) (session_by steps g.cause) (moment_of steps g).events halt
+  pub held : LetsGoOfHeld (session_at g.world (session_by steps g.cause)).held (moment_of steps g).changes
+
+-- and a step that is not sent changes no lock
+abbrev pub AreAskedBy : List Step → World → Cause → Type 0
+AreAskedBy steps w (Sends k) = AreAsked steps (record { world = w; cause = Sends k })
+AreAskedBy steps w (GoesOn spot) = AreAsked steps (record { world = w; cause = GoesOn spot })
+AreAskedBy steps w (Skips k) = (moment_of steps (record { world = w; cause = Skips k })).changes ≡ []
+
+-- ---- what is told of a deadlock
+
+-- in the scene a session went on with these tasks: it did the first ones, and behind them stood a request, which would have waited. It could not be had,
+-- and its wait would have closed a ring, which is the one that is told. All that the session held then it let go
+pub record IsLost (e : Scene) (i : ℕ) (s : Session) (rows : Rows') (tasks : List Task) (changes : List Change) (hops : List Hop) : Type 0 where
+  pub done : List Task
   pub resource : Resource
   pub mode : Mode
-  pub before : List Change
-  pub changes_are : changes ≡ before ++ let_go held
-  pub held_is : changed began before ≡ held
-  pub refused : may_have e.count e.look e.waits i (get held resource) resource mode ≡ false
-  pub closes : closes_ring e.count (look_with e i held) (waiting_with e i resource mode) i ≡ true
-  pub told : IsRingTold e.count (look_with e i held) (waiting_with e i resource mode) i hops
+  pub rest : List Task
+  pub asked : tasks ≡ done ++ Ask false resource mode ∷ rest
+  pub session : Session
+  pub there : Rows'
+  pub does : Does e i s rows done session there
+  pub refused : may_have e.count e.look e.waits i (get session.held resource) resource mode ≡ false
+  pub closes : closes_ring e.count (look_with e i session.held) (waiting_with e i resource mode) i ≡ true
+  pub told : IsRingTold e.count (look_with e i session.held) (waiting_with e i resource mode) i hops
+  pub held : session.held ≡ changed s.held (changes_along s.held done)
+  pub changes_are : changes ≡ changes_along s.held done ++ let_go session.held
 
 -- ---- the steps of moments
 
@@ -354,3 +497,25 @@ KnowsSteps steps w = (c : ℕ) → waits_now w.waits c ≡ true → (k : ℕ) ×
 -- the moment is of a step of its session
 abbrev pub IsOfStep : List Step → Going → Type 0
 IsOfStep steps g = (k : ℕ) × (step_by g.world g.cause ≡ Some k) × IsOwnStep steps (session_by steps g.cause) k
+
+-- the step that the session was sent last, behind a going: the one that this sends it, or else the one before
+abbrev pub sent_by : List Step → ℕ → Option ℕ → Cause → Option ℕ
+sent_by steps c last (Sends k) = cond ((get_or steps k no_step).session == c) (Some k) last
+sent_by steps c last (GoesOn spot) = last
+sent_by steps c last (Skips k) = last
+
+-- and behind these goings
+abbrev pub sent_to : List Step → ℕ → Option ℕ → List Going → Option ℕ
+sent_to steps c last [] = last
+sent_to steps c last (g ∷ gs) = sent_to steps c (sent_by steps c last g.cause) gs
+
+-- the step of a moment behind these goings from the world: the one that comes, or where its session goes on the one that it was sent last
+abbrev pub step_after : List Step → World → List Going → Cause → Option ℕ
+step_after steps w before (Sends k) = Some k
+step_after steps w before (GoesOn spot) = sent_to steps spot.wait.session (last_sent None (session_at w spot.wait.session).transcript) before
+step_after steps w before (Skips k) = Some k
+
+-- how the last of the session's moments ended behind these goings
+abbrev pub ended_last : List Step → ℕ → Option Ending → List Going → Option Ending
+ended_last steps c last [] = last
+ended_last steps c last (g ∷ gs) = ended_last steps c (cond (session_by steps g.cause == c) (Some (moment_of steps g).ending) last) gs

@@ -4,7 +4,9 @@
 mod laws;
 
 pub use laws::{
+    files_are_shown, keys_tell_rows, left_is_exact, locks_are_asked, moments_are_in_turn,
     moments_are_of_steps, moments_are_outcomes, moments_are_true, moments_hold, moments_lead,
-    moments_lose, moments_tell, moments_wait, rings_are_told, specs_moments_are_of_steps,
-    still_is_exact, wants_are_exact,
+    moments_lose, moments_tell, moments_wait, rings_are_told, shown_is_true,
+    specs_moments_are_of_steps, standings_are_exact, steps_are_told, still_is_exact,
+    still_waits_are_exact, waiters_go_on, wants_are_exact,
 };

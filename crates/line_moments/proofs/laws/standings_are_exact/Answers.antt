@@ -1,0 +1,5 @@
+use Rattle.line_moments.proofs.Standing.{standings-exact}
+use Rattle.line_moments.proofs.laws.standings_are_exact.Goals as goal
+
+pub returns : goal.returns
+returns c = standings-exact
