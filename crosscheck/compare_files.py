@@ -2,7 +2,7 @@
 
 usage: python3 crosscheck/compare_files.py KIND FIRST_SEED SEEDS
 
-`count` and `run` are given each spec, `join`, `report`, `audit` and `judge` books of its ranks: in both formats and any spelling, with facts that are
+`count`, `rank`, `order` and `run` are given each spec, `join`, `report`, `audit` and `judge` books of its ranks: in both formats and any spelling, with facts that are
 not true, of different specs, damaged as `damage.py` does, and files that are not there.
 """
 
@@ -20,6 +20,7 @@ from compare_books import MOST_RANKS, cut
 from damage import DAMAGES, spelled
 from facts import Worlds
 from generate import KINDS
+from orders import NoOrder, order_text, orders, rank_of
 from refusal import Refusal
 from untrue import false_fact, outcomes_of, spec_of
 from worked import EMPTY_BOOK, LARGE
@@ -67,6 +68,20 @@ def worlds_of(text):
 
 def count(text, path):
     return b"%d\n" % understood(spec_of, text, path).ranks()
+
+
+def rank(text, path, names):
+    try:
+        return b"%d\n" % rank_of(understood(spec_of, text, path), names)
+    except NoOrder as wrong:
+        raise fault(3, path, wrong.args[0]) from None
+
+
+def order(text, path, number):
+    spec = understood(spec_of, text, path)
+    if number >= spec.ranks():
+        raise fault(3, path, "rank out of range")
+    return order_text(spec, number).encode()
 
 
 def run(text, path, first, end, how):
@@ -250,6 +265,14 @@ def of_damaged_books(random, folder, text, facts):
             yield joining(*paths) if command is joining else command(damaged)
 
 
+def of_orders(random, text, path, spec):
+    """Orders by names, and those of ranks."""
+    for number in {0, spec.ranks() - 1, random.randrange(spec.ranks()), spec.ranks(), U64 - 1}:
+        yield ["order", path, str(number)], answer(order, text, path, number)
+    for names in orders(random, spec):
+        yield ["rank", path, "--", *names], answer(rank, text, path, names)
+
+
 def of_spec(random, folder, text, path, most):
     """Runs of all commands on a spec: some of its ranks, and books of them."""
     yield ["count", path], answer(count, text, path)
@@ -257,7 +280,10 @@ def of_spec(random, folder, text, path, most):
         spec = spec_of(text)
     except Refusal:
         yield running(random, text, path, *random.choice([(0, 1), (1, 0)]), "reduce")
+        yield ["order", path, "0"], answer(order, text, path, 0)
+        yield ["rank", path, "s"], answer(rank, text, path, ["s"])
         return
+    yield from of_orders(random, text, path, spec)
     shards = shards_of(random, spec.ranks(), most)
     yield from (running(random, text, path, *shard) for shard in shards)
     refused = [(*ends, random.choice(["reduce", "every"])) for ends in no_ranges(random, spec.ranks())]
@@ -293,7 +319,7 @@ def kind_of(out):
     if told:
         return told
     if not out.startswith(b"{"):
-        return ["a number of ranks"]
+        return ["a number"] if out.strip().isdigit() else ["an order"]
     facts = out.split(b',"format":2')[0]
     return ["a book"] + [f"a book: {word}" for word in ("ran", "swap") if f',"{word}",'.encode() in facts]
 

@@ -13,6 +13,7 @@ the counts so far.
 import json
 import multiprocessing
 import os
+import re
 import resource
 import shlex
 import shutil
@@ -53,6 +54,12 @@ MOST_AUDITED = 20_000
 MOST_ADDRESSES = 4 << 30
 MOST_KEPT_BY_A_JOB = 25
 STOP = multiprocessing.Event()
+
+
+def names_in(line):
+    """The names of a line of them."""
+    found = re.findall(rb'"((?:[^"]|"")*)"|([^ "\n]+)', line)
+    return [(quoted.replace(b'""', b'"') or plain).decode() for quoted, plain in found]
 
 
 class Found(Exception):
@@ -141,6 +148,13 @@ class Soak:
         """Orders of a spec, at the ends, anywhere and past the end, and ranges that there are not."""
         for rank in {0, number - 1, self.random.randrange(number)}:
             self.hold((ran := self.run("one", path, rank)).status == (0 if starts else 3), "an order is not there", ran)
+            self.hold((ran := self.run("order", path, rank)).status == 0, "an order is not told", ran)
+            names = names_in(ran.out)
+            if any("\0" in name for name in names):
+                continue
+            again = self.run("rank", path, "--", *names)
+            self.hold(again.status == 0 and int(again.out) <= rank, "an order has no rank, or a later one", ran, again)
+            self.run("rank", path, "--", *self.random.sample(names, self.random.randint(1, len(names))))
         for rank in self.random.sample([number, number + 1, 2**32, 2**63, 2**64 - 1], 2):
             self.hold(rank < number or (ran := self.run("one", path, rank)).status == 3, "an order is there that is none", ran)
         for ends in compare_files.no_ranges(self.random, number):

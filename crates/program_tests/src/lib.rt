@@ -22,6 +22,8 @@ mod limits;
 #[cfg(test)]
 mod memory;
 #[cfg(test)]
+mod orders;
+#[cfg(test)]
 mod over_books;
 #[cfg(test)]
 mod progress;
