@@ -162,12 +162,12 @@ pub(crate) fn join_fault<'a>(paths: &[&'a str], fault: JoinFault) -> ProgramFaul
     }
 }
 
-/// The path at a place.
-fn path_at<'a>(paths: &[&'a str], place: usize) -> &'a str
-    requires { place < length paths.now }
-    ensures { slice_get paths.now place ≡ Some result }
+/// The word at a place.
+fn word_at<'a>(words: &[&'a str], place: usize) -> &'a str
+    requires { place < length words.now }
+    ensures { slice_get words.now place ≡ Some result }
 {
-    paths[place]
+    words[place]
 }
 
 pub(crate) fn report_fault(path: &str, fault: ReportFileFault) -> ProgramFault<'_>
