@@ -162,8 +162,8 @@ def kind_of(out):
 
 
 def fault_of(error):
-    """What a fault line tells, without the place."""
-    line = error.decode(errors="replace").split("\n")[0]
+    """What a fault line tells, without the place and the names of steps."""
+    line = re.sub(r'"(?:[^"\\]|\\.)*"', "NAME", error.decode(errors="replace").split("\n")[0])
     return re.split(r" at \d|(?<=rank) \d", line.rsplit(": ", 1)[1])[0].strip()
 
 

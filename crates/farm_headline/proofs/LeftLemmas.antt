@@ -28,30 +28,29 @@ here true first rest shard e at = cc
 here false first rest shard e at = (zero, at)
 
 into : (missing : List ℕ) (n : ℕ) (shards : List Shard) (shard : Shard) → IsOther missing n shards shard → IsThere (others missing n shards) shard
-into missing n [] shard (k, (at, out)) = absurd (some-ne-none shard (sym at))
-into missing n (s ∷ ss) shard (zero, (at, out)) =
+into missing n [] shard (k, at, out) = absurd (some-ne-none shard (sym at))
+into missing n (s ∷ ss) shard (zero, at, out) =
     let same : n + 0 ≡ n = omega arith in
     here (has n missing) s (others missing (suc n) ss) shard (sym (ap (λ m. has m missing) same) ∙ out) at
-into missing n (s ∷ ss) shard (suc k, (at, out)) =
+into missing n (s ∷ ss) shard (suc k, at, out) =
     let same : n + suc k ≡ suc n + k = omega arith in
-    behind (has n missing) s (others missing (suc n) ss) shard
-    (into missing (suc n) ss shard (k, (at, sym (ap (λ m. has m missing) same) ∙ out)))
+    behind (has n missing) s (others missing (suc n) ss) shard (into missing (suc n) ss shard (k, at, sym (ap (λ m. has m missing) same) ∙ out))
 
 later : (missing : List ℕ) (n : ℕ) (s : Shard) (ss : List Shard) (shard : Shard) → IsOther missing (suc n) ss shard → IsOther missing n (s ∷ ss) shard
-later missing n s ss shard (k, (at, out)) =
-    let same : n + suc k ≡ suc n + k = omega arith in (suc k, (at, ap (λ m. has m missing) same ∙ out))
+later missing n s ss shard (k, at, out) =
+    let same : n + suc k ≡ suc n + k = omega arith in (suc k, at, ap (λ m. has m missing) same ∙ out)
+
+-- the first of them, or one behind it
+one-of : (missing : List ℕ) (n : ℕ) (s : Shard) (ss : List Shard) (shard : Shard) (b : Bool) → has n missing ≡ b
+    → (IsThere (others missing (suc n) ss) shard → IsOther missing (suc n) ss shard)
+    → IsThere (cond b (others missing (suc n) ss) (s ∷ others missing (suc n) ss)) shard → IsOther missing n (s ∷ ss) shard
+one-of missing n s ss shard true e rest x = later missing n s ss shard (rest x)
+one-of missing n s ss shard false e rest (zero, at) = let same : n + 0 ≡ n = omega arith in (zero, at, ap (λ m. has m missing) same ∙ e)
+one-of missing n s ss shard false e rest (suc k, at) = later missing n s ss shard (rest (k, at))
 
 from : (missing : List ℕ) (n : ℕ) (shards : List Shard) (shard : Shard) → IsThere (others missing n shards) shard → IsOther missing n shards shard
 from missing n [] shard h = absurd (some-ne-none shard (sym h.1))
-from missing n (s ∷ ss) shard h = by (has n missing) refl h
-  where
-    first : has n missing ≡ false → (k : ℕ) → get_elem? (s ∷ others missing (suc n) ss) k ≡ some shard → IsOther missing n (s ∷ ss) shard
-    first out zero at = let same : n + 0 ≡ n = omega arith in (zero, (at, ap (λ m. has m missing) same ∙ out))
-    first out (suc k) at = later missing n s ss shard (from missing (suc n) ss shard (k, at))
-
-    by : (b : Bool) → has n missing ≡ b → IsThere (cond b (others missing (suc n) ss) (s ∷ others missing (suc n) ss)) shard → IsOther missing n (s ∷ ss) shard
-    by true e x = later missing n s ss shard (from missing (suc n) ss shard x)
-    by false e x = first e x.0 x.1
+from missing n (s ∷ ss) shard h = one-of missing n s ss shard (has n missing) refl (from missing (suc n) ss shard) h
 
 pub lefts-hold : LeftsHold
 lefts-hold file reduce shards left is =
@@ -60,9 +59,9 @@ lefts-hold file reduce shards left is =
   where
     in-others : (r : ℕ) (fact : Fact) → InShardsBut reduce file.run shards left.missing r fact
         → InShards reduce file.run (others left.missing 0 shards) r fact
-    in-others r fact (k, (shard, (at, (out, has_it)))) = let x = into left.missing 0 shards shard (k, (at, out)) in (x.0, (shard, (x.1, has_it)))
+    in-others r fact (k, (shard, (at, (out, has_it)))) = let x = into left.missing 0 shards shard (k, at, out) in (x.0, (shard, (x.1, has_it)))
 
     in-all : (r : ℕ) (fact : Fact) → InShards reduce file.run (others left.missing 0 shards) r fact
         → InShardsBut reduce file.run shards left.missing r fact
     in-all r fact (k, (shard, (at, has_it))) =
-        let x = from left.missing 0 shards shard (k, at) in (x.0, (shard, (x.1.0, (x.1.1, has_it))))
+        let x = from left.missing 0 shards shard (k, at) in (x.0, (shard, (x.1, (x.2, has_it))))
