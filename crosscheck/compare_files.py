@@ -265,12 +265,15 @@ def of_damaged_books(random, folder, text, facts):
             yield joining(*paths) if command is joining else command(damaged)
 
 
-def of_orders(random, text, path, spec):
-    """Orders by names, and those of ranks."""
+def of_orders(random, folder, text, path, spec):
+    """Orders by names, those of ranks, and one put behind the spec as a permutation line."""
     for number in {0, spec.ranks() - 1, random.randrange(spec.ranks()), spec.ranks(), U64 - 1}:
         yield ["order", path, str(number)], answer(order, text, path, number)
     for names in orders(random, spec):
         yield ["rank", path, "--", *names], answer(rank, text, path, names)
+    lined = text + b"\npermutation " + order_text(spec, random.randrange(spec.ranks())).encode()
+    lined_path = put(folder, "lined", lined)
+    yield ["order", lined_path, str(len(spec.lines or []))], answer(order, lined, lined_path, len(spec.lines or []))
 
 
 def of_spec(random, folder, text, path, most):
@@ -283,7 +286,7 @@ def of_spec(random, folder, text, path, most):
         yield ["order", path, "0"], answer(order, text, path, 0)
         yield ["rank", path, "s"], answer(rank, text, path, ["s"])
         return
-    yield from of_orders(random, text, path, spec)
+    yield from of_orders(random, folder, text, path, spec)
     shards = shards_of(random, spec.ranks(), most)
     yield from (running(random, text, path, *shard) for shard in shards)
     refused = [(*ends, random.choice(["reduce", "every"])) for ends in no_ranges(random, spec.ranks())]

@@ -113,6 +113,7 @@ isofarm rank two.spec b1 a2 a1 b2 | 3 | two.spec: step "a2" before "a1"
 isofarm rank two.spec a1 b2 b2 | 3 | two.spec: step "b2" before "b1"
 isofarm rank two.spec a1 b1 b2 | 3 | two.spec: step "a2" left out
 isofarm rank two.spec a1 a2 | 3 | two.spec: step "b1" left out
+isofarm rank two.spec b1 | 3 | two.spec: step "a1" left out
 isofarm rank lines.spec a1 a2 b1 | 3 | lines.spec: no such line
 isofarm rank lines.spec a1 b1 | 3 | lines.spec: no such line
 isofarm rank lines.spec a1 b1 a1 a1 | 3 | lines.spec: no such line
