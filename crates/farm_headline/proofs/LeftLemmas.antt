@@ -59,9 +59,14 @@ lefts-hold file reduce shards left is =
   where
     in-others : (r : ℕ) (fact : Fact) → InShardsBut reduce file.run shards left.missing r fact
         → InShards reduce file.run (others left.missing 0 shards) r fact
-    in-others r fact (k, (shard, (at, (out, has_it)))) = let x = into left.missing 0 shards shard (k, at, out) in (x.0, (shard, (x.1, has_it)))
+    in-others r fact (k, (shard, (at, (out, has_it)))) =
+        let same : 0 + k ≡ k = omega arith in
+        let x = into left.missing 0 shards shard (k, at, ap (λ m. has m left.missing) same ∙ out) in
+        (x.0, (shard, (x.1, has_it)))
 
     in-all : (r : ℕ) (fact : Fact) → InShards reduce file.run (others left.missing 0 shards) r fact
         → InShardsBut reduce file.run shards left.missing r fact
     in-all r fact (k, (shard, (at, has_it))) =
-        let x = from left.missing 0 shards shard (k, at) in (x.0, (shard, (x.1, (x.2, has_it))))
+        let x = from left.missing 0 shards shard (k, at) in
+        let same : 0 + x.0 ≡ x.0 = omega arith in
+        (x.0, (shard, (x.1, (sym (ap (λ m. has m left.missing) same) ∙ x.2, has_it))))
