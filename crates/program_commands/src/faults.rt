@@ -66,7 +66,7 @@ fn explained_line<'a>(
     text: &[u8],
     fault: SpecFault,
 ) -> ProgramFault<'a>
-    requires { spec_told path.entry fault ≢ NoMemory }
+    requires { spec_told path fault ≢ NoMemory }
     ensures { IsExplained path.entry text.now fault result }
 {
     match with_explanation(alloc, line, path, text, fault) {

@@ -1,14 +1,31 @@
-use Rattle.std.proofs.Common.{◌≡◌, sym, subst, map, Some, Bor, List, ℕ}
+use Rattle.std.proofs.Common.{◌≡◌, ◌⊎◌, sym, subst, map, Some, Bor, List, ℕ}
+use Rattle.spec_commands.specs.Ordering.{IsRanked}
 use Rattle.book_commands.specs.Joining.{IsJoinRun}
 use Rattle.book_commands.specs.Judging.{IsJudgeRun}
-use Rattle.program_commands.specs.Faults.{join_told, judge_told}
-use Rattle.program_commands.specs.Commands.{IsDone, IsFound, IsTold}
+use Rattle.program_commands.specs.Faults.{rank_told, join_told, judge_told}
+use Rattle.program_commands.specs.Commands.{IsCalled, IsDone, IsFound, IsTold, IsUnread}
 use Rattle.program_commands.proofs.commands.work.Goals as goal
 
 pub returns-in-One-clause-done : goal.returns-in-One-clause-done
 returns-in-One-clause-done g c =
     subst (λ a. IsDone (g.O.Opener.bytes c.args.opener.now) g.W.Write.contents c.args.out.now c.one_of_file.new.out a c.one_of_file.result) (sym c.in-One.is)
     c.one_of_file.ensures.done
+
+pub returns-in-Rank-clause-done : goal.returns-in-Rank-clause-done
+returns-in-Rank-clause-done g c =
+    subst (λ a. IsDone (g.O.Opener.bytes c.args.opener.now) g.W.Write.contents c.args.out.now c.rank_of_file.new.out a c.rank_of_file.result)
+    (sym c.in-Rank.is)
+    (subst (λ ns. IsUnread (g.O.Opener.bytes c.args.opener.now c.in-Rank.path.now) c.in-Rank.path.now c.args.out.now c.rank_of_file.new.out c.rank_of_file.result
+    ⊎ IsCalled (g.O.Opener.bytes c.args.opener.now c.in-Rank.path.now)
+    (λ bytes. IsRanked g.W.Write.contents c.args.out.now c.rank_of_file.new.out bytes (map (λ (n : Bor (List ℕ)). n.now) ns))
+    (λ bytes error told. rank_told c.in-Rank.path ns error ≡ Some told) c.rank_of_file.result)
+    c.as_slice.ensures.value c.rank_of_file.ensures.done)
+
+pub returns-in-Order-clause-done : goal.returns-in-Order-clause-done
+returns-in-Order-clause-done g c =
+    subst (λ a. IsDone (g.O.Opener.bytes c.args.opener.now) g.W.Write.contents c.args.out.now c.order_of_file.new.out a c.order_of_file.result)
+    (sym c.in-Order.is)
+    c.order_of_file.ensures.done
 
 pub returns-in-Run-clause-done : goal.returns-in-Run-clause-done
 returns-in-Run-clause-done g c =
@@ -22,7 +39,7 @@ returns-in-Join-clause-done g c =
     (sym c.in-Join.is)
     (subst (λ ps. IsTold (IsJoinRun (g.O.Opener.bytes c.args.opener.now) (map (λ (p : Bor (List ℕ)). p.now) ps) g.W.Write.contents c.args.out.now
     c.join_of_files.new.out) (λ error told. join_told ps error ≡ Some told)
-    c.join_of_files.result) c.as_slice.ensures.all c.join_of_files.ensures.done)
+    c.join_of_files.result) c.as_slice-in-Join.ensures.all c.join_of_files.ensures.done)
 
 pub returns-in-Judge-clause-done : goal.returns-in-Judge-clause-done
 returns-in-Judge-clause-done g c =
