@@ -3,7 +3,6 @@ use Rattle.std.proofs.Common.{◌≡◌, refl, sym, ap, subst, ℕ, zero, suc, �
 use Rattle.std.proofs.Common.{None, inl, inr, ⊎_elim, ◌↔◌}
 use Rattle.lock_queues.specs.Locks.{Spot, next_grant, waits_now}
 use Rattle.lock_queues.specs.Reasons.{Want, Among, IsExact}
-use Rattle.lock_queues.specs.Rings.{Hop}
 use Rattle.lock_queues.proofs.WaitLists.{wait-map}
 use Rattle.lock_queues.proofs.Edges.{among-parts, want-found, want-waits, want-exact}
 use Rattle.bound_specs.specs.Spec.{Step, no_step}
@@ -15,7 +14,7 @@ use Rattle.machine_model.specs.Sound.{Steady, Sound, Ready}
 use Rattle.machine_model.proofs.Settles.{Grant, next-grant, granted-steady, entering, goes-steady, steady-of, send-sound, session-known, touched-steady}
 use Rattle.machine_model.proofs.Counts.{send-fitting}
 use Rattle.line_moments.specs.Moments.{Sends, GoesOn, Skips, Going, behind, behind_by, settle_goings, goings, line_goings, want_in}
-use Rattle.line_moments.specs.Moments.{Awaits, ending_by, session_by, ring_by, moment_of}
+use Rattle.line_moments.specs.Moments.{Refusal, Closes, Wants, Awaits, ending_by, session_by, refusal_by, moment_of}
 use Rattle.line_moments.specs.Laws.{WantsAreExact}
 
 -- ---- one world
@@ -106,10 +105,11 @@ behind-steady steps = line-each steps (λ g. Steady (behind steps g))
     let i = (get_or steps k no_step).session in
     touched-steady w i (note (session_at w i) (NotSent k)) (record { overlay = refl; held = refl; rest = refl }) (steady-of w sound))
 
-awaits-is : (o : Option Want) (r : Option (List Hop)) (want : Want) → ending_by o r ≡ Awaits want → o ≡ Some want
+awaits-is : (o : Option Want) (r : Option Refusal) (want : Want) → ending_by o r ≡ Awaits want → o ≡ Some want
 awaits-is (Some x) r want e = cc
 awaits-is None None want e = cc
-awaits-is None (Some h) want e = cc
+awaits-is None (Some (Closes ring)) want e = cc
+awaits-is None (Some (Wants own)) want e = cc
 
 pub moments-wait : (steps : List Step) (w : World) (ks : List ℕ) → Sound w → ((k : ℕ) → (get_or steps k no_step).session < length w.sessions) → (g : Going)
     → Among g (line_goings steps w ks)
@@ -118,7 +118,7 @@ pub moments-wait : (steps : List Step) (w : World) (ks : List ℕ) → Sound w �
 moments-wait steps w ks sound fit g m =
     let v = behind steps g in
     let i = session_by steps g.cause in
-    let r = ring_by steps g.world g.cause in (
+    let r = refusal_by steps g.world g.cause in (
       (
         λ h. (let x = want-found (length v.sessions) (look_of v) v.waits i h in (x.0, ap (λ o. ending_by o r) x.1)),
         λ x. want-waits (length v.sessions) (look_of v) v.waits i x.0 (awaits-is (want_in v i) r x.0 x.1),

@@ -19,7 +19,7 @@ use Rattle.transcripts.specs.declared.event.Fault.TheVariants.{Deadlock, Unavail
 use Rattle.machine_model.specs.declared.status.Status.TheVariants.{Outside, InBlock, Broken}
 use Rattle.machine_model.specs.Start.{Started, start}
 use Rattle.machine_model.proofs.Worked.{number, id_is, step, in_blocks, two_rows, sets, reads_one, waits_row, ring_row, not_waiting_row, ring_or_not}
-use Rattle.line_moments.specs.Moments.{Moment, line_moments, IsSent, IsResumed, IsNotSent, Ending, Ended, Awaits, Loses, Had, LetGo, Still}
+use Rattle.line_moments.specs.Moments.{Moment, line_moments, IsSent, IsResumed, IsNotSent, Ending, Ended, Awaits, Loses, Lacks, Had, LetGo, Still}
 use Rattle.line_moments.specs.Left.{Left, Shown, Standing, HasEnded, IsOpen, StillWaits, shown, rows_alone, LeaveSame}
 
 abbrev told : Spec → List ℕ → List Moment
@@ -38,6 +38,10 @@ is_ahead c m = record { session = c; reason = Ahead m }
 -- a mode is wanted where nothing is held
 abbrev awaits : Resource → Mode → List Edge → Ending
 awaits r m es = Awaits (record { resource = r; mode = m; asked = m; has = None; edges = es })
+
+-- so is one by a request that refuses to wait
+abbrev lacks : Resource → Mode → List Edge → Ending
+lacks r m es = Lacks (record { resource = r; mode = m; asked = m; has = None; edges = es })
 
 -- session a waits for an exclusive lock, for session b
 abbrev hop : ℕ → ℕ → ℕ → Hop
@@ -229,7 +233,7 @@ locking_row_is : told locking_row (0 ∷ 2 ∷ 1 ∷ [])
 unfolding get insert keep remove entries empty effect lay
 locking_row_is = refl
 
--- a read that refuses to wait fails at once where the row is locked: it is no wait, and lets go of the table too, which it had
+-- a read that refuses to wait fails at once where the row is locked: it tells who has it, and lets go of the table too, which it had
 not_waiting_row_is : told not_waiting_row (0 ∷ 2 ∷ [])
     ≡ record {
       session = 0;
@@ -248,7 +252,7 @@ not_waiting_row_is : told not_waiting_row (0 ∷ 2 ∷ [])
       events = Sent 2 ∷ Failed Unavailable ∷ Done ∷ [];
       changes = Had (Table 0) IntentShare ∷ LetGo ∷ [];
       status = Broken;
-      ending = Ended;
+      ending = lacks (row 1) Share (holds 0 Exclusive ∷ []);
       still = [];
     }
     ∷ []
@@ -259,7 +263,8 @@ not_waiting_row_is = refl
 ring_or_not_is : endings (told ring_or_not (0 ∷ 2 ∷ 1 ∷ 3 ∷ []))
     ≡ (Ended, []) ∷ (Ended, [])
     ∷ (Awaits (record { resource = Table 0; mode = Exclusive; asked = Exclusive; has = Some Share; edges = holds 1 Share ∷ [] }), [])
-    ∷ (Ended, []) ∷ (Ended, []) ∷ []
+    ∷ (Lacks (record { resource = Table 0; mode = Exclusive; asked = Exclusive; has = Some Share; edges = holds 0 Share ∷ is_ahead 0 Exclusive ∷ [] }), [])
+    ∷ (Ended, []) ∷ []
 unfolding get insert keep remove entries empty effect lay
 ring_or_not_is = refl
 

@@ -4,7 +4,7 @@ use Rattle.lock_queues.specs.Locks.{Spot, waits_now}
 use Rattle.lock_queues.specs.Reasons.{Edge, Want, Among, IsExact}
 use Rattle.lock_queues.specs.Rings.{Hop}
 use Rattle.transcripts.specs.declared.event.Event.TheVariants.{Failed}
-use Rattle.transcripts.specs.declared.event.Fault.TheVariants.{Deadlock}
+use Rattle.transcripts.specs.declared.event.Fault.TheVariants.{Deadlock, Unavailable}
 use Rattle.bound_specs.specs.Spec.{Spec, SpecFile, Step, IsBound}
 use Rattle.bound_specs.specs.Fits.{SpecFits}
 use Rattle.binding_model.specs.declared.tables.Table.{Table}
@@ -15,9 +15,9 @@ use Rattle.machine_model.specs.Start.{Started, start}
 use Rattle.machine_model.specs.Sound.{Steady, Sound}
 use Rattle.machine_model.specs.World.{World, look_of, session_at, send, send_all, outcome_of}
 use Rattle.line_moments.specs.Moments.{Going, behind, line_goings, moments, line_moments, new_steps, told_to, told_by, Leads, moment_of, session_by}
-use Rattle.line_moments.specs.Moments.{Awaits, want_in, Loses}
+use Rattle.line_moments.specs.Moments.{Awaits, want_in, Loses, Lacks}
 use Rattle.line_moments.specs.Left.{left_in, LeaveSame, standings, Shown, shown, IsLeftIn, AreStanding, Left, IsShown, IsShownOf}
-use Rattle.line_moments.specs.Moments.{scene_by, IsLost, changes_to, changed, IsTrue, Still, edges_in, KnowsSteps, IsOfStep, GoesOn}
+use Rattle.line_moments.specs.Moments.{scene_by, IsLost, IsLacking, changes_to, changed, IsTrue, Still, edges_in, KnowsSteps, IsOfStep, GoesOn}
 use Rattle.line_moments.specs.Moments.{Change, granted_by, going_by, tasks_by, AreAskedBy, step_by, step_after, sent_to, ended_last}
 
 -- the moments of a line lead from its first world to its last, each when it is due and where the one before it left the world; and the steps that
@@ -75,6 +75,15 @@ MomentsLose =
     → (changes : List Change) × ((moment_of steps g).changes ≡ granted_by g.world g.cause ++ changes)
     × IsLost (scene_by g.world g.cause) (session_by steps g.cause) (going_by steps g.world g.cause) g.world.rows (tasks_by steps g.world g.cause) changes hops
 
+-- a moment of a line that ends with a lack tells what a request wanted that refuses to wait, and why it could not be had, with what the session held then:
+-- behind the lock of its granted wait it tells the locks up to that request
+abbrev pub MomentsLack : Type 0
+MomentsLack =
+    (steps : List Step) (w : World) (ks : List ℕ) → Sound w → ((k : ℕ) → IsOf steps w k) → (g : Going) → Among g (line_goings steps w ks)
+    → (want : Want) → (moment_of steps g).ending ≡ Lacks want
+    → (changes : List Change) × ((moment_of steps g).changes ≡ granted_by g.world g.cause ++ changes)
+    × IsLacking (scene_by g.world g.cause) (session_by steps g.cause) (going_by steps g.world g.cause) g.world.rows (tasks_by steps g.world g.cause) changes want
+
 -- what each session holds, changed by what it got and let go in its moments, is what it holds behind them
 abbrev pub MomentsHold : Type 0
 MomentsHold =
@@ -92,6 +101,12 @@ abbrev pub RingsAreTold : Type 0
 RingsAreTold =
     (steps : List Step) (w : World) (ks : List ℕ) → Sound w → ((k : ℕ) → IsOf steps w k) → (g : Going) → Among g (line_goings steps w ks)
     → Among (Failed Deadlock) (moment_of steps g).events ↔ ((hops : List Hop) × ((moment_of steps g).ending ≡ Loses hops))
+
+-- and a lack exactly where it tells that a lock was not available
+abbrev pub LacksAreTold : Type 0
+LacksAreTold =
+    (steps : List Step) (w : World) (ks : List ℕ) → Sound w → ((k : ℕ) → IsOf steps w k) → (g : Going) → Among g (line_goings steps w ks)
+    → Among (Failed Unavailable) (moment_of steps g).events ↔ ((want : Want) × ((moment_of steps g).ending ≡ Lacks want))
 
 -- a moment tells of another session that it still waits, and for whom, exactly where it waits for somebody and for other reasons than before
 abbrev pub StillIsExact : Type 0

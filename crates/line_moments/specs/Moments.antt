@@ -9,7 +9,7 @@ use Rattle.lock_modes.specs.declared.resource.Resource.{Resource}
 use Rattle.lock_modes.specs.Rows.{Rows'}
 use Rattle.lock_queues.specs.declared.wait.Wait.{Wait}
 use Rattle.lock_queues.specs.Locks.{Spot, next_grant, waits_now, wanted, may_have, closes_ring}
-use Rattle.lock_queues.specs.Reasons.{Edge, same_edges, Want, want_of}
+use Rattle.lock_queues.specs.Reasons.{Edge, same_edges, Want, want_at, want_of, IsExact}
 use Rattle.lock_queues.specs.Rings.{Hop, ring_told, IsRingTold}
 use Rattle.bound_specs.specs.Spec.{Step, no_step}
 use Rattle.transcripts.specs.declared.event.Event.{Event}
@@ -114,23 +114,36 @@ go_changes e i s rows (Ask nowait r m ∷ ts) =
 go_changes e i s rows (Do st ∷ ts) =
     elim (perform s rows st) [ Goes s2 rows2 ↦ did_changes (kind st) s.held ++ go_changes e i s2 rows2 ts | Fails f ↦ let_go s.held ]
 
--- the ring that the wait of a refused request would close; a request that refuses to wait closes none
-abbrev pub ring_refused : Scene → ℕ → Held → Bool → Resource → Mode → Option (List Hop)
-ring_refused e i held nowait r m = elim nowait [ true ↦ None | false ↦ Some (ring_told e.count (look_with e i held) (waiting_with e i r m) i) ]
+-- why a request is refused: its wait would close a ring, or it refuses to wait for what it wants
+pub data Refusal : Type 0 where
+  Closes : (ring : List Hop) → Refusal
+  Wants : (want : Want) → Refusal
 
--- the ring by which the session is refused a request
-abbrev pub go_ring : Scene → ℕ → Session → Rows' → List Task → Option (List Hop)
-go_ring e i s rows [] = None
-go_ring e i s rows (Ask nowait r m ∷ ts) =
+-- the request as a wait behind all others
+abbrev pub last_spot : Scene → ℕ → Resource → Mode → Spot
+last_spot e i r m = record { before = e.waits; wait = record { session = i; resource = r; mode = m }; after = [] }
+
+-- of a request that is refused: where it refuses to wait, what its wait would want, and whom it would wait for
+abbrev pub refusal : Scene → ℕ → Held → Bool → Resource → Mode → Refusal
+refusal e i held nowait r m =
+    elim nowait [
+      | true ↦ Wants (want_at e.count (look_with e i held) (last_spot e i r m))
+      | false ↦ Closes (ring_told e.count (look_with e i held) (waiting_with e i r m) i)
+    ]
+
+-- why the session is refused a request, if it is
+abbrev pub go_refusal : Scene → ℕ → Session → Rows' → List Task → Option Refusal
+go_refusal e i s rows [] = None
+go_refusal e i s rows (Ask nowait r m ∷ ts) =
     elim (is_broken s.status) [
       | true ↦ None
       | false ↦ elim (reply_in e i s nowait r m) [
-        | IsHad ↦ go_ring e i (taking s r m) rows ts
+        | IsHad ↦ go_refusal e i (taking s r m) rows ts
         | Waits ↦ None
-        | Refused f ↦ ring_refused e i s.held nowait r m
+        | Refused f ↦ Some (refusal e i s.held nowait r m)
       ]
     ]
-go_ring e i s rows (Do st ∷ ts) = elim (perform s rows st) [ Goes s2 rows2 ↦ go_ring e i s2 rows2 ts | Fails f ↦ None ]
+go_refusal e i s rows (Do st ∷ ts) = elim (perform s rows st) [ Goes s2 rows2 ↦ go_refusal e i s2 rows2 ts | Fails f ↦ None ]
 
 -- ---- a moment
 
@@ -139,12 +152,13 @@ pub data Manner : Type 0 where
   IsResumed : Manner
   IsNotSent : Manner
 
--- the session's step has ended, by its last statement or by a fault, as where a request is refused that refuses to wait; it waits; or it lost a
--- deadlock
+-- the session's step has ended, by its last statement or by another fault than these; it waits; it lost a deadlock; or it lacks what a request wanted
+-- that refuses to wait
 pub data Ending : Type 0 where
   Ended : Ending
   Awaits : (want : Want) → Ending
   Loses : (ring : List Hop) → Ending
+  Lacks : (want : Want) → Ending
 
 -- a session that goes on waiting, for other reasons than before
 pub record Still : Type 0 where
@@ -232,13 +246,13 @@ changes_by steps w (GoesOn spot) =
     ∷ go_changes (scene_of (without w spot)) i (told_only (holding w spot) Resumed) w.rows (session_at w i).rest
 changes_by steps w (Skips k) = []
 
--- the ring by which it lost a deadlock
-abbrev pub ring_by : List Step → World → Cause → Option (List Hop)
-ring_by steps w (Sends k) =
-    let st = get_or steps k no_step in go_ring (scene_of w) st.session (told_only (session_at w st.session) (Sent k)) w.rows (tasks_of st.statements)
-ring_by steps w (GoesOn spot) =
-    let i = spot.wait.session in go_ring (scene_of (without w spot)) i (told_only (holding w spot) Resumed) w.rows (session_at w i).rest
-ring_by steps w (Skips k) = None
+-- why it was refused a request, if it was
+abbrev pub refusal_by : List Step → World → Cause → Option Refusal
+refusal_by steps w (Sends k) =
+    let st = get_or steps k no_step in go_refusal (scene_of w) st.session (told_only (session_at w st.session) (Sent k)) w.rows (tasks_of st.statements)
+refusal_by steps w (GoesOn spot) =
+    let i = spot.wait.session in go_refusal (scene_of (without w spot)) i (told_only (holding w spot) Resumed) w.rows (session_at w i).rest
+refusal_by steps w (Skips k) = None
 
 -- what the session waits for in the world
 abbrev pub want_in : World → ℕ → Option Want
@@ -258,10 +272,11 @@ abbrev pub still_below : ℕ → ℕ → World → World → List Still
 still_below zero i w v = []
 still_below (suc n) i w v = still_below n i w v ++ cond (n == i) [] (changed_edges n (edges_in w n) (edges_in v n))
 
-abbrev pub ending_by : Option Want → Option (List Hop) → Ending
-ending_by (Some want) ring = Awaits want
+abbrev pub ending_by : Option Want → Option Refusal → Ending
+ending_by (Some want) refusal = Awaits want
 ending_by None None = Ended
-ending_by None (Some ring) = Loses ring
+ending_by None (Some (Closes ring)) = Loses ring
+ending_by None (Some (Wants want)) = Lacks want
 
 abbrev pub moment_of : List Step → Going → Moment
 moment_of steps g =
@@ -274,7 +289,7 @@ moment_of steps g =
       events = events_by steps g.world g.cause;
       changes = changes_by steps g.world g.cause;
       status = (session_at v i).status;
-      ending = ending_by (want_in v i) (ring_by steps g.world g.cause);
+      ending = ending_by (want_in v i) (refusal_by steps g.world g.cause);
       still = still_below (length v.sessions) i g.world v;
     }
 
@@ -469,7 +484,7 @@ AreAskedBy steps w (Sends k) = AreAsked steps (record { world = w; cause = Sends
 AreAskedBy steps w (GoesOn spot) = AreAsked steps (record { world = w; cause = GoesOn spot })
 AreAskedBy steps w (Skips k) = (moment_of steps (record { world = w; cause = Skips k })).changes ≡ []
 
--- ---- what is told of a deadlock
+-- ---- what is told of a refused request
 
 -- in the scene a session went on with these tasks: it did the first ones, and behind them stood a request, which would have waited. It could not be had,
 -- and its wait would have closed a ring, which is the one that is told. All that the session held then it let go
@@ -485,6 +500,27 @@ pub record IsLost (e : Scene) (i : ℕ) (s : Session) (rows : Rows') (tasks : Li
   pub refused : may_have e.count e.look e.waits i (get session.held resource) resource mode ≡ false
   pub closes : closes_ring e.count (look_with e i session.held) (waiting_with e i resource mode) i ≡ true
   pub told : IsRingTold e.count (look_with e i session.held) (waiting_with e i resource mode) i hops
+  pub held : session.held ≡ changed s.held (changes_along s.held done)
+  pub changes_are : changes ≡ changes_along s.held done ++ let_go session.held
+
+-- in the same way it came to a request that refuses to wait, and that could not be had. What is told is of that request, and its mode the one that covers
+-- what was asked and what was held there. Had it waited, its wait would have come last: each reason of that wait is told, and no other
+pub record IsLacking (e : Scene) (i : ℕ) (s : Session) (rows : Rows') (tasks : List Task) (changes : List Change) (want : Want) : Type 0 where
+  pub done : List Task
+  pub resource : Resource
+  pub mode : Mode
+  pub rest : List Task
+  pub asked : tasks ≡ done ++ Ask true resource mode ∷ rest
+  pub session : Session
+  pub there : Rows'
+  pub does : Does e i s rows done session there
+  pub refused : may_have e.count e.look e.waits i (get session.held resource) resource mode ≡ false
+  pub told_resource : want.resource ≡ resource
+  pub told_mode : want.mode ≡ wanted (get session.held resource) mode
+  pub told_asked : want.asked ≡ mode
+  pub told_has : want.has ≡ get session.held resource
+  pub exact : IsExact (look_with e i session.held) (waiting_with e i resource mode) i want
+  pub last : exact.spot ≡ last_spot e i resource mode
   pub held : session.held ≡ changed s.held (changes_along s.held done)
   pub changes_are : changes ≡ changes_along s.held done ++ let_go session.held
 

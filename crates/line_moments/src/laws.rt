@@ -1,7 +1,7 @@
 //! The laws of moments, each the contract of a function that does nothing.
 
-ghost use Rattle.line_moments.specs.Laws.{MomentsLead, MomentsAreInTurn, MomentsTell, MomentsAreOutcomes, WantsAreExact, MomentsWait, MomentsLose, MomentsHold};
-ghost use Rattle.line_moments.specs.Laws.{MomentsAreTrue, RingsAreTold, StillIsExact, MomentsAreOfSteps, SpecsMomentsAreOfSteps};
+ghost use Rattle.line_moments.specs.Laws.{MomentsLead, MomentsAreInTurn, MomentsTell, MomentsAreOutcomes, WantsAreExact, MomentsWait, MomentsLose, MomentsLack};
+ghost use Rattle.line_moments.specs.Laws.{MomentsHold, MomentsAreTrue, RingsAreTold, LacksAreTold, StillIsExact, MomentsAreOfSteps, SpecsMomentsAreOfSteps};
 ghost use Rattle.line_moments.specs.Laws.{LocksAreAsked, StepsAreTold, WaitersGoOn, StillWaitsAreExact};
 ghost use Rattle.line_moments.specs.Laws.{StandingsAreExact, LeftIsExact, KeysTellRows, ShownIsTrue, FilesAreShown};
 
@@ -45,6 +45,11 @@ pub fn moments_lose()
     ensures { MomentsLose }
 {}
 
+/// A moment that ends with a lack tells what a request of its step wanted that refuses to wait, and exactly why it could not be had.
+pub fn moments_lack()
+    ensures { MomentsLack }
+{}
+
 /// What each session holds, changed by its moments, is what it holds behind them.
 pub fn moments_hold()
     ensures { MomentsHold }
@@ -58,6 +63,11 @@ pub fn moments_are_true()
 /// A moment tells a ring exactly where it tells of a deadlock.
 pub fn rings_are_told()
     ensures { RingsAreTold }
+{}
+
+/// A moment tells a lack exactly where it tells that a lock was not available.
+pub fn lacks_are_told()
+    ensures { LacksAreTold }
 {}
 
 /// A moment tells of another session that it still waits exactly where it waits for other reasons than before.
