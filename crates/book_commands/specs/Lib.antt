@@ -4,3 +4,4 @@ pub mod Reporting
 pub mod Texts
 pub mod Auditing
 pub mod Judging
+pub mod Holding

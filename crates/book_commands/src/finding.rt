@@ -8,7 +8,7 @@ ghost use Rattle.book_commands.specs.Finding.{finding_status};
 pub enum Finding {
     /// What was asked for is written, and nothing is amiss.
     Good,
-    /// A book has a false fact, or its report is equal to none of the accepted ones.
+    /// A book has a false fact, or does not hold a range, or its report is equal to none of the accepted ones.
     Bad,
 }
 

@@ -1,8 +1,9 @@
-//! What is answered from book files: their join, and the report, the audit and the judgement of a book.
+//! What is answered from book files: their join, and the report, the audit and the judgement of a book, and whether it holds a range.
 #![tactic(auto)]
 
 mod auditing;
 mod finding;
+mod holding;
 mod joining;
 mod judging;
 mod opener;
@@ -11,6 +12,7 @@ mod texts;
 
 pub use auditing::{AuditFault, audit_file};
 pub use finding::Finding;
+pub use holding::{HoldFault, Holding, hold_file};
 pub use joining::{FileFault, JoinFault, join_files};
 pub use judging::{JudgeFault, NoReport, judge_files};
 pub use opener::{FileReader, Opener, Watched};

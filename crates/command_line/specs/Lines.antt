@@ -17,6 +17,7 @@ pub data Line : Type 0 where
   Order : (path : List ℕ) (rank : ℕ) → Line
   Run : (path : List ℕ) (first end : ℕ) → Line
   Join : (paths : List (List ℕ)) → Line
+  Holds : (path spec : List ℕ) (first end : ℕ) → Line
   Report : (path : List ℕ) → Line
   Audit : (path : List ℕ) → Line
   Judge : (path : List ℕ) (accepted : List (List ℕ)) → Line
@@ -30,6 +31,7 @@ command (Rank path names) = codes "rank"
 command (Order path rank) = codes "order"
 command (Run path first end) = codes "run"
 command (Join paths) = codes "join"
+command (Holds path spec first end) = codes "holds"
 command (Report path) = codes "report"
 command (Audit path) = codes "audit"
 command (Judge path accepted) = codes "judge"
@@ -43,6 +45,7 @@ arguments (Rank path names) = path ∷ names
 arguments (Order path rank) = path ∷ decimal rank ∷ []
 arguments (Run path first end) = path ∷ decimal first ∷ decimal end ∷ []
 arguments (Join paths) = paths
+arguments (Holds path spec first end) = path ∷ spec ∷ decimal first ∷ decimal end ∷ []
 arguments (Report path) = path ∷ []
 arguments (Audit path) = path ∷ []
 arguments (Judge path accepted) = path ∷ accepted
@@ -64,6 +67,7 @@ Fits (Rank path names) = AreNames names
 Fits (Order path rank) = rank < 2 ^ 64
 Fits (Run path first end) = (first < 2 ^ 64) × (end < 2 ^ 64)
 Fits (Join paths) = AreBooks paths
+Fits (Holds path spec first end) = (first < 2 ^ 64) × (end < 2 ^ 64)
 Fits (Report path) = Unit {0}
 Fits (Audit path) = Unit {0}
 Fits (Judge path accepted) = AreBooks accepted
@@ -90,6 +94,7 @@ AsksFor (Order path rank) (asked.Order p r) = (p.now ≡ path) × (r ≡ rank)
 AsksFor (Run path first end) (asked.Run p f e every workers progress) =
     (p.now ≡ path) × (f ≡ first) × (e ≡ end) × (every ≡ false) × (workers ≡ DEFAULT_WORKERS) × (progress ≡ false)
 AsksFor (Join paths) (asked.Join ps) = map (λ p. p.now) ps ≡ paths
+AsksFor (Holds path spec first end) (asked.Holds p s f e) = (p.now ≡ path) × (s.now ≡ spec) × (f ≡ first) × (e ≡ end)
 AsksFor (Report path) (asked.Report p) = p.now ≡ path
 AsksFor (Audit path) (asked.Audit p) = p.now ≡ path
 AsksFor (Judge path accepted) (asked.Judge p ps) = (p.now ≡ path) × (map (λ q. q.now) ps.items ≡ accepted)
@@ -102,8 +107,9 @@ abbrev pub name_in : List ℕ → Option Name
 name_in word = cond (bytes_eq word (codes "check")) (Some name.Check) (cond (bytes_eq word (codes "one")) (Some name.One)
     (cond (bytes_eq word (codes "count")) (Some name.Count) (cond (bytes_eq word (codes "rank")) (Some name.Rank)
     (cond (bytes_eq word (codes "order")) (Some name.Order) (cond (bytes_eq word (codes "run")) (Some name.Run)
-    (cond (bytes_eq word (codes "join")) (Some name.Join) (cond (bytes_eq word (codes "report")) (Some name.Report)
-    (cond (bytes_eq word (codes "audit")) (Some name.Audit) (cond (bytes_eq word (codes "judge")) (Some name.Judge) None)))))))))
+    (cond (bytes_eq word (codes "join")) (Some name.Join) (cond (bytes_eq word (codes "holds")) (Some name.Holds)
+    (cond (bytes_eq word (codes "report")) (Some name.Report) (cond (bytes_eq word (codes "audit")) (Some name.Audit)
+    (cond (bytes_eq word (codes "judge")) (Some name.Judge) None))))))))))
 
 -- the command of a line
 abbrev pub named : Line → Name
@@ -114,6 +120,7 @@ named (Rank path names) = name.Rank
 named (Order path rank) = name.Order
 named (Run path first end) = name.Run
 named (Join paths) = name.Join
+named (Holds path spec first end) = name.Holds
 named (Report path) = name.Report
 named (Audit path) = name.Audit
 named (Judge path accepted) = name.Judge

@@ -4,7 +4,7 @@ ghost use Rattle.std.specs.Prelude.{◌≡◌, ◌<◌, ◌^◌, ℕ, List, [], 
 ghost use Rattle.std.specs.List.{list_all};
 ghost use Rattle.std.specs.Option.{IsSomeAnd};
 ghost use Rattle.command_line.specs.Lines.{AsksFor, AreBooks, AreNames, Fits, IsBehind, IsLine, Line, arguments, is_plain, named};
-ghost use Rattle.command_line.specs.Lines.{Check, One, Count, Rank, Order, Run, Join, Report, Audit, Judge};
+ghost use Rattle.command_line.specs.Lines.{Check, One, Count, Rank, Order, Run, Join, Holds, Report, Audit, Judge};
 
 use crate::names::{Name, name_of};
 use crate::paths::Paths;
@@ -80,6 +80,7 @@ fn line_of<'a>(
         Name::Order => Ok(order_line(rest)),
         Name::Run => Ok(run_line(rest)),
         Name::Join => join_line(alloc, rest),
+        Name::Holds => Ok(holds_line(rest)),
         Name::Report => Ok(report_line(rest)),
         Name::Audit => Ok(audit_line(rest)),
         Name::Judge => judge_line(alloc, rest),
@@ -177,6 +178,20 @@ fn join_line<'a>(alloc: Global, rest: &'a [String]) -> Result<Option<Asked<'a>>,
     match Paths::of(books) {
         Some(paths) => Ok(Some(Asked::Join { paths })),
         None => Ok(None),
+    }
+}
+
+fn holds_line<'a>(rest: &'a [String]) -> Option<Asked<'a>>
+    ensures { (path spec : List ℕ) (first end : ℕ) → first < 2 ^ 64 → end < 2 ^ 64 → map string_bytes rest.now ≡ path ∷ spec ∷ decimal first ∷ decimal end ∷ [] → IsSomeAnd result (AsksFor (Holds path spec first end)) }
+{
+    match rest {
+        [path, spec, first, end] => Some(Asked::Holds {
+            path,
+            spec,
+            first: number_of(first)?,
+            end: number_of(end)?,
+        }),
+        _ => None,
     }
 }
 

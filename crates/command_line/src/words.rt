@@ -67,6 +67,13 @@ pub enum Asked<'a> {
     Join {
         paths: Paths<'a>,
     },
+    /// Whether the book at a path is of the spec at another, and has a fact of each rank from the first up to but not the end.
+    Holds {
+        path: &'a str,
+        spec: &'a str,
+        first: u64,
+        end: u64,
+    },
     /// The report of the book at a path.
     Report {
         path: &'a str,
@@ -131,7 +138,7 @@ struct Row {
     words: &'static [Word],
 }
 
-static COMMANDS: [Row; 10] = [
+static COMMANDS: [Row; 11] = [
     Row {
         spelled: "check",
         about: "Prints how much a spec has, or where it is wrong and why",
@@ -173,6 +180,11 @@ static COMMANDS: [Row; 10] = [
         spelled: "join",
         about: "Prints one book with the facts of all",
         words: &[Word::Books],
+    },
+    Row {
+        spelled: "holds",
+        about: "Prints whether a book is of a spec and has a fact of each permutation of a range",
+        words: &[Word::Book, Word::Spec, Word::First, Word::End],
     },
     Row {
         spelled: "report",
@@ -324,6 +336,7 @@ fn asked_of<'a>(alloc: Global, matches: &ArgMatches<'a>) -> Result<Option<Asked<
         Name::Order => Ok(order_of_words(words)),
         Name::Run => Ok(run_of_words(words)),
         Name::Join => join_of_words(alloc, words),
+        Name::Holds => Ok(holds_of_words(words)),
         Name::Report => Ok(report_of_words(words)),
         Name::Audit => Ok(audit_of_words(words)),
         Name::Judge => judge_of_words(alloc, words),
@@ -395,6 +408,19 @@ fn join_of_words<'a>(
         Some(paths) => Ok(Some(Asked::Join { paths })),
         None => Ok(None),
     }
+}
+
+fn holds_of_words<'a>(words: &ArgMatches<'a>) -> Option<Asked<'a>> {
+    let path = words.get_str("BOOK")?;
+    let spec = words.get_str("SPEC")?;
+    let first = words.get_one::<u64>("FIRST")?;
+    let end = words.get_one::<u64>("END")?;
+    Some(Asked::Holds {
+        path,
+        spec,
+        first,
+        end,
+    })
 }
 
 fn report_of_words<'a>(words: &ArgMatches<'a>) -> Option<Asked<'a>> {

@@ -9,7 +9,7 @@ use Rattle.fact_books.specs.declared.run.Run.{Run}
 use Rattle.fact_books.specs.Entries.{fact_cmp}
 use Rattle.fact_books.proofs.Orders.{fact_total}
 use Rattle.fact_books.specs.Runs.{Table, fact_in, within, has, firsts, AllFrom, IsRising, first_gap}
-use Rattle.fact_books.specs.Books.{HasFact, IsLeastMissing, facts_in}
+use Rattle.fact_books.specs.Books.{HasFact, IsFirstMissing, IsLeastMissing, facts_in}
 use Rattle.fact_books.proofs.RunLemmas.{both_true, and_true, within-true, within-from, or_true_right}
 use Rattle.fact_books.proofs.SetLemmas.{contains-runs}
 
@@ -76,13 +76,20 @@ is-gap next (run ∷ runs) rises = by (ltb next run.first) refl (is-gap (max nex
         late r l m false d = or_true_right (covers r run) _ (g.covered r (let h : run.end ≤ r = ltb-false r run.end d in omega arith) m)
 
 -- the gap is the least rank without a fact, where it is one of the ranks
+pub first-missing : (t : Table) (runs : List Run) → IsRising (firsts runs) → (from : ℕ) → IsFirstMissing (facts_in t runs) from (first_gap from runs)
+first-missing t runs rises from =
+    let gap = is-gap from runs rises in
+    record {
+      up = gap.up;
+      none = λ f. gap.uncovered (has-covered t runs _ f.0 (sym (contains-runs t runs (first_gap from runs, f.0)) ∙ f.1));
+      below = λ r le lt. (let x = covered-has t runs r (gap.covered r le lt) in (x.0, contains-runs t runs (r, x.0) ∙ x.1));
+    }
+
 pub has-below : (t : Table) (runs : List Run) → IsRising (firsts runs) → (r : ℕ) → r < first_gap 0 runs → HasFact (facts_in t runs) r
-has-below t runs rises r lt =
-    let x = covered-has t runs r ((is-gap 0 runs rises).covered r (omega arith) lt) in
-    (x.0, contains-runs t runs (r, x.0) ∙ x.1)
+has-below t runs rises r lt = (first-missing t runs rises 0).below r (omega arith) lt
 
 pub none-at : (t : Table) (runs : List Run) → IsRising (firsts runs) → HasFact (facts_in t runs) (first_gap 0 runs) → ⊥
-none-at t runs rises f = (is-gap 0 runs rises).uncovered (has-covered t runs _ f.0 (sym (contains-runs t runs (first_gap 0 runs, f.0)) ∙ f.1))
+none-at t runs rises = (first-missing t runs rises 0).none
 
 pub is-missing : (t : Table) (runs : List Run) (ranks : ℕ) → IsRising (firsts runs) → first_gap 0 runs < ranks
     → IsLeastMissing (facts_in t runs) ranks (Some (first_gap 0 runs))

@@ -1,5 +1,5 @@
 -- Books: a spec with its text and a finite set of facts; what is joined, and the least rank without a fact.
-use Rattle.std.specs.Prelude.{◌≡◌, ℕ, ◌<◌, List, length, Option, Some, None, true, string_bytes}
+use Rattle.std.specs.Prelude.{◌≡◌, ℕ, ◌<◌, ◌≤◌, List, length, Option, Some, None, true, string_bytes}
 use Rattle.std.specs.FinSet.{union, from_list, empty}
 use Rattle.bound_specs.specs.Spec.{Spec, SpecFile, ranks}
 use Rattle.bound_specs.specs.Binding.{IsFileOf}
@@ -41,6 +41,12 @@ HasFact facts r = (fact : Fact) × (recorded facts r fact ≡ true)
 abbrev pub IsLeastMissing : FactSet → ℕ → Option ℕ → Type 0
 IsLeastMissing facts ranks None = (r : ℕ) → r < ranks → HasFact facts r
 IsLeastMissing facts ranks (Some m) = (m < ranks) × (HasFact facts m → ⊥) × ((r : ℕ) → r < m → HasFact facts r)
+
+-- the least number from one on that has no fact
+pub record IsFirstMissing (facts : FactSet) (from m : ℕ) : Type 0 where
+  pub up : from ≤ m
+  pub none : HasFact facts m → ⊥
+  pub below : (r : ℕ) → from ≤ r → r < m → HasFact facts r
 
 -- ---- what a book keeps
 

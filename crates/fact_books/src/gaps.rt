@@ -3,7 +3,7 @@
 ghost use Rattle.std.specs.Prelude.{◌≡◌};
 ghost use Rattle.bound_specs.specs.Spec.{ranks};
 ghost use Rattle.fact_books.specs.Runs.{first_gap as gap_of};
-ghost use Rattle.fact_books.specs.Books.{IsLeastMissing};
+ghost use Rattle.fact_books.specs.Books.{IsFirstMissing, IsLeastMissing};
 
 use crate::book::Book;
 use crate::run::Run;
@@ -12,7 +12,7 @@ use crate::run::Run;
 pub fn missing(book: &Book) -> Option<u64>
     ensures { IsLeastMissing book.now.facts (ranks book.now.file.run) result }
 {
-    let gap = first_gap(book.runs.as_slice());
+    let gap = first_gap(book.runs.as_slice(), 0);
     if gap < book.about.ranks {
         Some(gap)
     } else {
@@ -20,11 +20,18 @@ pub fn missing(book: &Book) -> Option<u64>
     }
 }
 
-/// The first rank that no run covers.
-fn first_gap(runs: &[Run]) -> u64
-    ensures { result ≡ gap_of 0 runs.now }
+/// The least number, from this one on, that has no fact: a rank, or behind the last one.
+pub fn missing_from(book: &Book, from: u64) -> u64
+    ensures { IsFirstMissing book.now.facts from result }
 {
-    let mut next = 0;
+    first_gap(book.runs.as_slice(), from)
+}
+
+/// The first rank, from this one on, that no run covers.
+fn first_gap(runs: &[Run], from: u64) -> u64
+    ensures { result ≡ gap_of from runs.now }
+{
+    let mut next = from;
     for run in runs {
         if next < run.first {
             return next;

@@ -25,7 +25,7 @@ mod table;
 pub use book::Book;
 pub use builder::Builder;
 pub use error::{JoinError, MAX_REPORTED, ReportError};
-pub use gaps::missing;
+pub use gaps::{missing, missing_from};
 pub use joining::{join, union};
 pub use laws::{facts_decide_report, joins_are_unions};
 pub use merging::renumber;

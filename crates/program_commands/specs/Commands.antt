@@ -5,7 +5,7 @@ use Rattle.transcripts.specs.Counted.{Wrote, Stopped, written, failures_of}
 use Rattle.transcripts.specs.declared.counted.Counted.{Counted}
 use Rattle.command_line.specs.Lines.{Line, IsLine, AsksFor}
 use Rattle.command_line.specs.declared.words.Asked.{Asked}
-use Rattle.command_line.specs.declared.words.Asked.TheVariants.{Check, One, Count, Rank, Order, Run, Join, Report, Audit, Judge}
+use Rattle.command_line.specs.declared.words.Asked.TheVariants.{Check, One, Count, Rank, Order, Run, Join, Holds, Report, Audit, Judge}
 use Rattle.spec_commands.specs.One.{IsOneRun}
 use Rattle.spec_commands.specs.Counting.{IsChecked, IsCounted}
 use Rattle.spec_commands.specs.Ordering.{IsOrdered, IsRanked}
@@ -16,12 +16,13 @@ use Rattle.book_commands.specs.Joining.{Files, IsJoinRun}
 use Rattle.book_commands.specs.Reporting.{IsFileReported}
 use Rattle.book_commands.specs.Auditing.{IsAuditRun}
 use Rattle.book_commands.specs.Judging.{IsJudgeRun}
+use Rattle.book_commands.specs.Holding.{IsHoldRun}
 use Rattle.range_commands.specs.Ranges.{IsRangeRun}
 use Rattle.program_commands.specs.declared.files.TheConstants.{MAX_SPEC_READ}
 use Rattle.fault_texts.specs.declared.fault.ProgramFault.{ProgramFault}
 use Rattle.fault_texts.specs.declared.fault.ProgramFault.TheVariants.{NoMemory, Read, Write}
 use Rattle.fault_texts.specs.Status.{status_of}
-use Rattle.program_commands.specs.Faults.{one_told, count_told, rank_told, order_told, range_told, join_told, report_told, audit_told, judge_told, IsCheckTold}
+use Rattle.program_commands.specs.Faults.{one_told, count_told, rank_told, order_told, range_told, join_told, report_told, audit_told, hold_told, judge_told, IsCheckTold}
 
 -- what a call finds is the program's answer, and what it refuses is told
 abbrev pub IsFound : {E : Type 0} → (Result Finding E → Type 0) → (E → ProgramFault → Type 0) → Result Finding ProgramFault → Type 0
@@ -42,6 +43,10 @@ abbrev pub IsReadFault : Option (List ℕ) → List ℕ → ProgramFault → Typ
 IsReadFault known path NoMemory = Unit {0}
 IsReadFault known path (Read told) = (told.now ≡ path) × (known ≡ None)
 IsReadFault known path fault = ⊥
+
+-- the same of a call that finds something over the bytes of a spec file
+abbrev pub IsFoundBy : {E : Type 0} → Option (List ℕ) → (List ℕ → Result Finding E → Type 0) → (E → ProgramFault → Type 0) → Result Finding ProgramFault → Type 0
+IsFoundBy known Runs Tells result = (bytes : List ℕ) × IfSome known (λ all. bytes ≡ take MAX_SPEC_READ all) × IsFound (Runs bytes) Tells result
 
 -- a file that is not read is told so, and nothing is written
 abbrev pub IsUnread : {W : Type 0} → Option (List ℕ) → List ℕ → Counted W → Counted W → Result Finding ProgramFault → Type 0
@@ -70,6 +75,9 @@ IsDone files contents old new (Run path first end every workers progress) result
     ⊎ IsCalled (files path.now) (λ bytes. IsRangeRun contents old new bytes first end (not every)) (λ bytes error told. told ≡ range_told path error) result
 IsDone files contents old new (Join paths) result =
     IsTold (IsJoinRun files (map (λ p. p.now) paths) contents old new) (λ error told. join_told paths error ≡ Some told) result
+IsDone files contents old new (Holds path spec first end) result =
+    IsUnread (files spec.now) spec.now old new result
+    ⊎ IsFoundBy (files spec.now) (λ bytes. IsHoldRun (files path.now) bytes first end contents old new) (λ error told. told ≡ hold_told path error) result
 IsDone files contents old new (Report path) result =
     IsTold (IsFileReported (files path.now) contents old new) (λ error told. told ≡ report_told path error) result
 IsDone files contents old new (Audit path) result =
@@ -102,6 +110,7 @@ tells_progress (Rank path names) = false
 tells_progress (Order path rank) = false
 tells_progress (Run path first end every workers progress) = progress
 tells_progress (Join paths) = false
+tells_progress (Holds path spec first end) = false
 tells_progress (Report path) = false
 tells_progress (Audit path) = false
 tells_progress (Judge path accepted) = false

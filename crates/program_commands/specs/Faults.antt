@@ -39,6 +39,8 @@ use Rattle.book_commands.specs.declared.reporting.ReportFileFault.{ReportFileFau
 use Rattle.book_commands.specs.declared.reporting.ReportFileFault.TheVariants as report_fault
 use Rattle.book_commands.specs.declared.auditing.AuditFault.{AuditFault}
 use Rattle.book_commands.specs.declared.auditing.AuditFault.TheVariants as audit_fault
+use Rattle.book_commands.specs.declared.holding.HoldFault.{HoldFault}
+use Rattle.book_commands.specs.declared.holding.HoldFault.TheVariants as hold_fault
 use Rattle.book_commands.specs.declared.judging.NoReport.{NoReport}
 use Rattle.book_commands.specs.declared.judging.NoReport.TheVariants as no_report
 use Rattle.book_commands.specs.declared.judging.JudgeFault.{JudgeFault}
@@ -149,6 +151,10 @@ abbrev pub audit_told : Path → AuditFault → ProgramFault
 audit_told path (audit_fault.File fault) = file_told path fault
 audit_told path audit_fault.NoMemory = NoMemory
 audit_told path (audit_fault.Write fault) = Write
+
+abbrev pub hold_told : Path → HoldFault → ProgramFault
+hold_told path (hold_fault.File fault) = file_told path fault
+hold_told path (hold_fault.Write fault) = Write
 
 abbrev pub no_report_told : Path → NoReport → ProgramFault
 no_report_told path (no_report.File fault) = file_told path fault

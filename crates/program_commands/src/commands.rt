@@ -13,18 +13,19 @@ ghost use Rattle.book_commands.specs.Joining.{IsJoinRun};
 ghost use Rattle.book_commands.specs.Reporting.{IsFileReported};
 ghost use Rattle.book_commands.specs.Auditing.{IsAuditRun};
 ghost use Rattle.book_commands.specs.Judging.{IsJudgeRun};
+ghost use Rattle.book_commands.specs.Holding.{IsHoldRun};
 ghost use Rattle.range_commands.specs.Ranges.{IsRangeRun};
 ghost use Rattle.fault_texts.specs.Status.{status_of};
-ghost use Rattle.program_commands.specs.Faults.{one_told, count_told, rank_told, order_told, range_told, join_told, report_told, audit_told, judge_told, IsCheckTold};
+ghost use Rattle.program_commands.specs.Faults.{one_told, count_told, rank_told, order_told, range_told, join_told, report_told, audit_told, hold_told, judge_told, IsCheckTold};
 ghost use Rattle.fault_texts.specs.declared.fault.ProgramFault.TheVariants.{Write as WriteFault};
-ghost use Rattle.program_commands.specs.Commands.{IsAnswered, IsCut, IsDone, IsCalled, IsFlushed, IsFound, IsPassedOn, IsRun, IsTold, IsUnread, IsUsage, tells_progress};
+ghost use Rattle.program_commands.specs.Commands.{IsAnswered, IsCut, IsDone, IsCalled, IsFlushed, IsFound, IsFoundBy, IsPassedOn, IsRun, IsTold, IsUnread, IsUsage, tells_progress};
 
 use crate::faults::{
-    audit_fault, count_fault, explained_fault, fault_at, join_fault, judge_fault, order_fault,
-    range_fault, rank_fault, report_fault,
+    audit_fault, count_fault, explained_fault, fault_at, hold_fault, join_fault, judge_fault,
+    order_fault, range_fault, rank_fault, report_fault,
 };
 use crate::files::read_spec_file;
-use book_commands::{Finding, Opener, audit_file, join_files, judge_files, report_file};
+use book_commands::{Finding, Opener, audit_file, hold_file, join_files, judge_files, report_file};
 use clap::Error;
 use clap::error::ErrorKind;
 use command_line::{Asked, parse_words};
@@ -113,6 +114,12 @@ fn work<'a, R: Threads + Wait + Clock + Sync, O: Opener, W: Write, E: Write + Se
             rt, alloc, path, *first, *end, !*every, workers, *progress, opener, out, err,
         ),
         Asked::Join { paths } => join_of_files(alloc, paths.as_slice(), opener, out),
+        Asked::Holds {
+            path,
+            spec,
+            first,
+            end,
+        } => holding_of_file(alloc, path, spec, *first, *end, opener, out),
         Asked::Report { path } => report_of_file(alloc, path, opener, out),
         Asked::Audit { path } => audit_of_file(rt, alloc, path, opener, out),
         Asked::Judge { path, accepted } => {
@@ -278,6 +285,29 @@ fn join_of_files<'a, O: Opener, W: Write>(
     match join_files(alloc, opener, paths, out) {
         Ok(()) => Ok(Finding::Good),
         Err(fault) => Err(join_fault(paths, fault)),
+    }
+}
+
+fn holding_of_file<'a, O: Opener, W: Write>(
+    alloc: Global,
+    path: &'a str,
+    spec: &'a str,
+    first: u64,
+    end: u64,
+    opener: &O,
+    out: &mut Counted<W>,
+) -> Result<Finding, ProgramFault<'a>>
+    requires { failures_of out.old ≡ 0 }
+    ensures done { IsUnread (O.bytes opener.now spec.now) spec.now out.old out.new result ⊎ IsFoundBy (O.bytes opener.now spec.now) (λ bytes. IsHoldRun (O.bytes opener.now path.now) bytes first end W.contents out.old out.new) (λ error told. told ≡ hold_told path.entry error) result }
+    ensures failures { OnOk result (failures_of out.new ≡ 0) }
+{
+    let bytes = match read_spec_file(alloc, opener, spec) {
+        Ok(bytes) => bytes,
+        Err(fault) => return Err(fault),
+    };
+    match hold_file(alloc, opener, path, bytes.as_slice(), first, end, out) {
+        Ok(finding) => Ok(finding),
+        Err(fault) => Err(hold_fault(path, fault)),
     }
 }
 

@@ -6,11 +6,11 @@ ghost use Rattle.book_commands.specs.Joining.{IsPlaced};
 ghost use Rattle.book_commands.specs.Judging.{IsAcceptedPlace};
 ghost use Rattle.fault_texts.specs.Explanations.{explanation};
 ghost use Rattle.fault_texts.specs.declared.fault.ProgramFault.TheVariants.{NoMemory};
-ghost use Rattle.program_commands.specs.Faults.{IsExplained, offset_of, one_told, count_told, rank_told, order_told, range_told, join_told, report_told, audit_told, judge_told, no_report_told};
+ghost use Rattle.program_commands.specs.Faults.{IsExplained, offset_of, one_told, count_told, rank_told, order_told, range_told, join_told, report_told, audit_told, hold_told, judge_told, no_report_told};
 ghost use Rattle.program_commands.specs.Faults.{values_told, file_told, book_told, write_told, spec_told, text_told, binding_told, run_told, start_told};
 
 use book_commands::{
-    AuditFault, FileFault, JoinFault, JudgeFault, NoReport, ReportFault, ReportFileFault,
+    AuditFault, FileFault, HoldFault, JoinFault, JudgeFault, NoReport, ReportFault, ReportFileFault,
 };
 use book_format::{BookError, WriteError};
 use fact_books::ReportError;
@@ -187,6 +187,15 @@ pub(crate) fn audit_fault(path: &str, fault: AuditFault) -> ProgramFault<'_>
         AuditFault::File(fault) => file_fault(path, fault),
         AuditFault::NoMemory => ProgramFault::NoMemory,
         AuditFault::Write(_) => ProgramFault::Write,
+    }
+}
+
+pub(crate) fn hold_fault(path: &str, fault: HoldFault) -> ProgramFault<'_>
+    ensures { result ≡ hold_told path.entry fault }
+{
+    match fault {
+        HoldFault::File(fault) => file_fault(path, fault),
+        HoldFault::Write(_) => ProgramFault::Write,
     }
 }
 

@@ -41,6 +41,12 @@ returns-in-Join-clause-done g c =
     c.join_of_files.new.out) (λ error told. join_told ps error ≡ Some told)
     c.join_of_files.result) c.as_slice-in-Join.ensures.all c.join_of_files.ensures.done)
 
+pub returns-in-Holds-clause-done : goal.returns-in-Holds-clause-done
+returns-in-Holds-clause-done g c =
+    subst (λ a. IsDone (g.O.Opener.bytes c.args.opener.now) g.W.Write.contents c.args.out.now c.holding_of_file.new.out a c.holding_of_file.result)
+    (sym c.in-Holds.is)
+    c.holding_of_file.ensures.done
+
 pub returns-in-Judge-clause-done : goal.returns-in-Judge-clause-done
 returns-in-Judge-clause-done g c =
     subst (λ a. IsDone (g.O.Opener.bytes c.args.opener.now) g.W.Write.contents c.args.out.now c.judge_of_files.new.out a c.judge_of_files.result)
