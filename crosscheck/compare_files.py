@@ -2,7 +2,7 @@
 
 usage: python3 crosscheck/compare_files.py KIND FIRST_SEED SEEDS
 
-`count`, `rank`, `order` and `run` are given each spec, `join`, `report`, `audit` and `judge` books of its ranks: in both formats and any spelling, with facts that are
+`count`, `rank`, `order` and `run` are given each spec, `join`, `holds`, `report`, `audit` and `judge` books of its ranks: in both formats and any spelling, with facts that are
 not true, of different specs, damaged as `damage.py` does, and files that are not there.
 """
 
@@ -31,7 +31,7 @@ RANKS_OF_DAMAGED = 12
 DAMAGED_A_SPEC = 12
 MOST_BOOKS = 1000
 U64 = 2**64
-VERDICTS = {b"true\n": "an audit: true", b"false at rank": "an audit: false", b"matches ": "a verdict: matches", b" differs at ": "a verdict: differs"}
+VERDICTS = {b"missing rank": "a range that is not held", b"another spec": "a range of another spec", b"true\n": "true", b"false at rank": "an audit: false", b"matches ": "a verdict: matches", b" differs at ": "a verdict: differs"}
 
 
 # ---- what the commands tell
@@ -124,6 +124,21 @@ def reported_at(path):
 def report_of(path):
     text, facts, _told = reported_at(path)
     return report_text(spec_of(text), facts)
+
+
+def holds(book_path, spec_path, first, end):
+    try:
+        text = Path(spec_path).read_bytes()
+    except OSError:
+        raise fault(5, spec_path, "read fault") from None
+    spec, facts = book_at(book_path)
+    if spec != text:
+        raise Fault(1, b"another spec\n", b"")
+    known = {fact[0] for fact in facts}
+    for number in range(first, end):
+        if number not in known:
+            raise Fault(1, b"missing rank %d\n" % number, b"")
+    return b"true\n"
 
 
 def audit(path):
@@ -221,6 +236,12 @@ def of_books(random, folder, text, parts):
     yield from (reporting(path) for path in (whole, random.choice(paths)))
     yield auditing(random.choice([whole, *paths]))
     yield judging(whole, *random.choices([whole, whole, *paths], k=random.randint(1, 3)))
+    spec_path = put(folder, "spec", random.choice([text, text, text, text + b"#"]))
+    ranks = sorted(fact[0] for facts in parts for fact in facts) or [0]
+    for path in (whole, random.choice(paths)):
+        first = max(0, random.choice(ranks) - random.randint(0, 1))
+        words = path, spec_path, first, random.choice([first, first + 1, ranks[-1] + 1, ranks[-1] + 2, random.choice(ranks)])
+        yield ["holds", *map(str, words)], answer(holds, *words)
 
 
 def of_false_books(random, folder, text, facts):

@@ -26,6 +26,7 @@ OF_BOOKS = ["rank deadlock.spec a1 b1 a2", "rank deadlock.spec a2 a1", "order de
 OF_BOOKS += ["check deadlock.spec", "check wrong.spec", "count deadlock.spec", "run deadlock.spec 0 20", "run deadlock.spec 0 21"]
 OF_BOOKS += ["join low.book high.book", "join all.book wrong.spec", "report all.book", "report low.book", "run deadlock.spec 0 20 --workers 1"]
 OF_BOOKS += ["run deadlock.spec 0 20 --workers 1 --progress"]
+OF_BOOKS += ["holds low.book deadlock.spec 0 9", "holds low.book deadlock.spec 0 10", "holds low.book wrong.spec 0 1"]
 OF_BOOKS += ["audit all.book", "audit wrong.spec", "judge all.book all.book", "judge all.book low.book"]
 
 

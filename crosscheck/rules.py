@@ -11,7 +11,7 @@ MOST_SECONDS = 10
 N = "(?:0|[1-9][0-9]*)"
 # A name in quotes, in which a quote and a backslash are marked.
 NAME = r'"(?:[^"\\]|\\.)*"'
-OF_SPECS, OF_BOOKS, OF_REPORTS = {"one", "check", "count", "rank", "order", "run"}, {"join", "report", "audit", "judge"}, {"report", "judge"}
+OF_SPECS, OF_BOOKS, OF_REPORTS = {"one", "check", "count", "rank", "order", "run"}, {"join", "holds", "report", "audit", "judge"}, {"report", "judge"}
 COMMANDS = OF_SPECS | OF_BOOKS
 NAMED, UNNAMED = True, False
 # A fault: its status, its text, whether a path stands before it, and the commands that tell it. There is memory, so that none lacks it.
@@ -43,6 +43,8 @@ ANSWERS = {
     ("order", 0): rb"[^ \n][^\n]*\n",
     ("run", 0): BOOK,
     ("join", 0): BOOK,
+    ("holds", 0): rb"true\n",
+    ("holds", 1): rb"another spec\n|missing rank %(n)s\n",
     ("report", 0): rb"rank 0\nsession .+\n",
     ("audit", 0): rb"true\n",
     ("audit", 1): rb"false at rank %(n)s\n",

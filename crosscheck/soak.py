@@ -181,6 +181,8 @@ class Soak:
         every_ran, every = self.part("every.book", path, first, end, "--every")
         joined, alone = self.run("join", high, low, high), self.run("join", whole)
         self.hold_same([one.out for one in (ran, again, joined, alone)], "books of a range differ", ran, again, joined, alone)
+        self.hold(self.run("holds", whole, path, first, end).status == 0, "a book of a range does not hold it", ran)
+        self.hold(self.run("holds", whole, path, first, end + 1).status == 1, "a book of a range holds one more", ran)
         for book in (whole, every):
             self.hold((audit := self.run("audit", book)).out == b"true\n", "a book of a run is not true", audit)
         self.reports(path, number, (first, end), whole, every)

@@ -347,6 +347,56 @@ fn the_first_book_of_another_spec_is_told(rt: HostRuntime) -> Result<(), Fail> {
     assert_each_refused(&rt, rt.alloc(), OTHER_SPECS)
 }
 
+/// A line, its status, and what is written: whether a book is of the spec's text and has a fact of each rank of a range.
+const HOLDS: &str = "isofarm holds e.book e.spec 0 1 | 0 | true
+isofarm holds old_e.book e.spec 0 1 | 0 | true
+isofarm holds clash.book e.spec 0 1 | 0 | true
+isofarm holds none.book e.spec 0 0 | 0 | true
+isofarm holds none.book e.spec 0 1 | 1 | missing rank 0
+isofarm holds e.book e.spec 0 2 | 1 | missing rank 1
+isofarm holds e.book first.spec 0 1 | 1 | another spec
+isofarm holds e.book first.spec 0 0 | 1 | another spec
+isofarm holds first.book first.spec 0 2 | 0 | true
+isofarm holds back.book first.spec 1 2 | 0 | true
+isofarm holds back.book first.spec 0 2 | 1 | missing rank 0
+isofarm holds front.book first.spec 0 2 | 1 | missing rank 1
+isofarm holds gap.book two.spec 3 6 | 0 | true
+isofarm holds gap.book two.spec 0 6 | 1 | missing rank 2
+isofarm holds gap.book two.spec 2 3 | 1 | missing rank 2
+isofarm holds gap.book two.spec 0 2 | 0 | true
+isofarm holds both.book two.spec 0 6 | 0 | true
+isofarm holds both.book two.spec 3 18446744073709551615 | 1 | missing rank 6
+isofarm holds far.book eight.spec 369398958888959998 369398958888960000 | 0 | true
+isofarm holds far.book eight.spec 369398958888959997 369398958888960000 | 1 | missing rank 369398958888959997
+isofarm holds bad.spec e.spec 0 1 | 3 | bad.spec: book error 1
+isofarm holds no.book e.spec 0 1 | 5 | no.book: read fault
+isofarm holds no.book no.spec 0 1 | 5 | no.spec: read fault";
+
+/// A row of a table: what stands behind the status is written where that is 0 or 1, and is else the fault.
+fn assert_holds(
+    rt: &(impl Abort + Threads + Wait + Clock + Sync),
+    alloc: Global,
+    row: &str,
+) -> Result<(), Fail> {
+    let refused = refused_of(row).ok_or("a line, a status and a text")?;
+    if refused.status > 1 {
+        return assert_refused(rt, alloc, row);
+    }
+    let want = format!(in alloc; "{}\n", refused.told)?;
+    let told = tell_of_files(rt, alloc, refused.line)?;
+    let want = (refused.status, want.as_str(), "");
+    assert_told(rt, &told, want, refused.line);
+    Ok(())
+}
+
+#[test]
+fn a_book_holds_ranges_of_its_own_spec(rt: HostRuntime) -> Result<(), Fail> {
+    for row in HOLDS.lines() {
+        assert_holds(&rt, rt.alloc(), row)?;
+    }
+    Ok(())
+}
+
 /// Files that are no books, alone and among others: the first one is told.
 const NO_BOOKS: &str = "isofarm report cut.book | 3 | cut.book: book error 1
 isofarm report field.book | 3 | field.book: book error 2
