@@ -1,11 +1,11 @@
 -- Where the ranks of a block lead.
-use Rattle.std.proofs.Common.{◌≡◌, refl, sym, ap, ◌∙◌, subst, ◌↔◌, ℕ, zero, suc, ◌+◌, ◌<◌, Bool, true, false, cond, nat_lt, List, [], ◌∷◌, ◌++◌, length}
+use Rattle.std.proofs.Common.{◌≡◌, refl, sym, ap, ◌∙◌, subst, ℕ, zero, suc, ◌+◌, ◌<◌, Bool, true, false, cond, nat_lt, [], ◌∷◌, ◌++◌, length}
 use Rattle.std.proofs.Common.{Option, Some, None, option_map, arith}
 use Rattle.perm_ranks.specs.Words.{Word, all_words, word_at}
 use Rattle.perm_ranks.specs.Blocks.{Block, IsBlockOf}
 use Rattle.perm_ranks.specs.Swapped.{exchanged}
-use Rattle.bound_specs.specs.Spec.{Spec, counts_of, queues_of, ranks, ranks_by}
-use Rattle.rank_facts.specs.Swap.{leads_in, word_of}
+use Rattle.bound_specs.specs.Spec.{Spec, counts_of, queues_of, ranks_by}
+use Rattle.rank_facts.specs.Swap.{leads_in}
 use Rattle.rank_facts.proofs.Leading.{leads-exchanged}
 
 -- letters that are exchanged in a word are so with more behind it

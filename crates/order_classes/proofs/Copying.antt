@@ -1,13 +1,13 @@
 -- A run of ranks that show what smaller ranks do, added to classes.
-use Rattle.std.proofs.Common.{◌≡◌, refl, sym, ap, ◌∙◌, subst, ℕ, zero, suc, ◌+◌, ◌-◌, ◌<◌, ◌≤◌, Bool, true, false, cond, nat_lt, ◌||◌, List, [], ◌∷◌, ◌++◌}
-use Rattle.std.proofs.Common.{map, length, Option, Some, None, option_map, ◌⊎◌, inl, inr, ⊎_elim, arith}
+use Rattle.std.proofs.Common.{◌≡◌, refl, sym, ap, ◌∙◌, subst, ℕ, suc, ◌+◌, ◌-◌, ◌<◌, ◌≤◌, Bool, true, false, cond, nat_lt, List, [], ◌∷◌}
+use Rattle.std.proofs.Common.{map, ◌⊎◌, inl, inr, ⊎_elim, arith}
 use Rattle.std.proofs.lemmas.Bool.{or_cases, or_left, or_right, ltb-true, lt-ltb}
 use Rattle.lock_queues.specs.Reasons.{Among}
 use Rattle.order_classes.specs.Classes.{Run, in_run, in_runs, AreApart, Class, IsClass, AllLater, LeastsRise, IsClasses}
-use Rattle.order_classes.specs.Growing.{extended, wider}
-use Rattle.order_classes.specs.Copying.{later_of, earlier_of, with_moved, with_all_moved, copied}
+use Rattle.order_classes.specs.Growing.{wider}
+use Rattle.order_classes.specs.Copying.{later_of, earlier_of, with_all_moved, copied}
 use Rattle.order_classes.proofs.Runs.{run-parts, run-from}
-use Rattle.order_classes.proofs.Growing.{extended-old, extended-new, ends-of-class, keep-class, widen-class}
+use Rattle.order_classes.proofs.Growing.{extended-old, extended-new, ends-of-class, widen-class}
 
 not-less : (x y : ℕ) → nat_lt x y ≡ false → y ≤ x
 not-less x y e =

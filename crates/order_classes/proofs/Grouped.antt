@@ -1,5 +1,5 @@
 -- What was found gives the classes.
-use Rattle.std.proofs.Common.{◌≡◌, sym, ◌∙◌, subst, ◌↔◌, ℕ, List}
+use Rattle.std.proofs.Common.{subst, ◌↔◌, ℕ, List}
 use Rattle.binding_model.specs.declared.tables.Table.{Table}
 use Rattle.bound_specs.specs.Spec.{Spec, IsBound}
 use Rattle.rank_facts.specs.Swap.{leads_in}

@@ -1,5 +1,5 @@
 -- Classes of a spec: once, whole, and joined by answers.
-use Rattle.std.proofs.Common.{◌≡◌, refl, sym, ap, ◌∙◌, subst, ◌↔◌, ℕ, ◌+◌, ◌<◌, ◌≤◌, Bool, true, List, [], length, Option, Some, None, option_map}
+use Rattle.std.proofs.Common.{◌≡◌, sym, ap, ◌∙◌, subst, ◌↔◌, ℕ, ◌+◌, ◌<◌, ◌≤◌, Bool, true, List, [], length, Option, Some, option_map}
 use Rattle.binding_model.specs.declared.tables.Table.{Table}
 use Rattle.bound_specs.specs.Spec.{Spec}
 use Rattle.lock_queues.specs.Reasons.{Among}

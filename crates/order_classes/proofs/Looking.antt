@@ -4,7 +4,7 @@ use Rattle.std.proofs.Common.{Some, None, option_map, arith, eqb-true, eq-eqb}
 use Rattle.std.specs.Ordering.{nat_cmp, eq_by_cmp}
 use Rattle.std.specs.Cmp.{unsigned_tied}
 use Rattle.std.specs.FinMap.Entries.{where_key}
-use Rattle.finite_maps.specs.Map.{Map, entries, keep, same_list}
+use Rattle.finite_maps.specs.Map.{entries, keep, same_list}
 use Rattle.lock_modes.specs.RowPlace.{RowPlace, place_cmp}
 use Rattle.lock_modes.specs.Rows.{Tuple, Rows'}
 use Rattle.lock_modes.specs.declared.value.Value.{Value}
@@ -12,7 +12,7 @@ use Rattle.row_tables.specs.Layers.{rows_in, rows_of}
 use Rattle.bound_statements.specs.declared.statement.Bound.{Bound}
 use Rattle.bound_statements.specs.declared.statement.Bound.TheVariants.{Select, Insert, Update, Delete, Begin, Commit, Rollback, Lock, SetVariable}
 use Rattle.bound_statements.specs.Plan.{looks_at, at_key}
-use Rattle.statement_evaluation.specs.Effect.{Effect, effect, effect_on, visible}
+use Rattle.statement_evaluation.specs.Effect.{effect, effect_on}
 use Rattle.binding_model.specs.declared.tables.Table.{Table}
 use Rattle.bound_specs.specs.Spec.{Spec, line_of}
 use Rattle.machine_model.specs.World.{World}

@@ -1,13 +1,13 @@
 -- The orders of sessions are all lists that have each session once.
-use Rattle.std.proofs.Common.{◌≡◌, ◌≢◌, refl, sym, ap, ◌∙◌, subst, ◌↔◌, ℕ, zero, suc, ◌+◌, ◌<◌, ◌≤◌, Bool, true, false, cond, ◌==◌, List, [], ◌∷◌, length}
+use Rattle.std.proofs.Common.{◌≡◌, ◌≢◌, refl, sym, ap, ◌∙◌, subst, ◌↔◌, ℕ, zero, suc, ◌<◌, ◌≤◌, cond, ◌==◌, List, [], ◌∷◌, length}
 use Rattle.std.proofs.Common.{set, get_or, replicate, ◌⊎◌, inl, inr, ⊎_elim, arith, eq-eqb, eqb-true, get_or-set_other}
 use Rattle.std.proofs.lemmas.List.{get_or_past}
 use Rattle.std.proofs.lemmas.Bool.{false_from_ne_true}
-use Rattle.perm_ranks.specs.Words.{Word, total, all_words, words_of}
+use Rattle.perm_ranks.specs.Words.{Word, total, all_words}
 use Rattle.perm_ranks.proofs.WordLemmas.{In, here, there, Takes, done, takes, words-take, takes-in}
 use Rattle.lock_queues.specs.Reasons.{Among}
 use Rattle.order_classes.specs.Letters.{times, session_orders, IsOrder}
-use Rattle.order_classes.proofs.Serial.{total-set, set-length, zeros, all-zero, same-here, each-among}
+use Rattle.order_classes.proofs.Serial.{total-set, zeros, all-zero, same-here, each-among}
 
 once : (i j : ℕ) → i ≡ j → ◌≡◌ {A = ℕ} (cond (i == j) 1 0) 1
 once i j e = ap (λ b. cond b 1 0) (eq-eqb i j e)

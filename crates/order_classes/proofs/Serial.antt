@@ -1,7 +1,7 @@
 -- Each order of sessions, each whole, is the line of a rank.
-use Rattle.std.proofs.Common.{◌≡◌, ◌≢◌, refl, sym, ap, ◌∙◌, subst, ℕ, zero, suc, ◌+◌, ◌<◌, ◌≤◌, Bool, true, false, List, [], ◌∷◌, ◌++◌, length, set, get_or}
-use Rattle.std.proofs.Common.{replicate, Option, Some, None, ◌⊎◌, inl, inr, ⊎_elim, arith, get_or-set_same, get_or-set_other}
-use Rattle.perm_ranks.specs.Words.{Word, total, all_words, words_of, word_at, place_of}
+use Rattle.std.proofs.Common.{◌≡◌, ◌≢◌, refl, sym, ap, ◌∙◌, subst, ℕ, zero, suc, ◌+◌, ◌<◌, List, [], ◌∷◌, ◌++◌, length, set, get_or}
+use Rattle.std.proofs.Common.{replicate, ◌⊎◌, inl, inr, ⊎_elim, arith, get_or-set_same, get_or-set_other}
+use Rattle.perm_ranks.specs.Words.{Word, total, all_words}
 use Rattle.perm_ranks.proofs.TruthLemmas.{Each}
 use Rattle.perm_ranks.proofs.WordLemmas.{Takes, done, takes, words-take, takes-in, in-place, place-is}
 use Rattle.bound_specs.specs.Spec.{Step, Spec, Queues, queues_from, line, line_by, line_of, ranks, ranks_by, counts_of, queues_of}

@@ -1,8 +1,8 @@
 -- A true swap keeps the world behind the line, and so what is shown.
-use Rattle.std.proofs.Common.{◌≡◌, refl, sym, ap, ◌∙◌, subst, ℕ, zero, suc, ◌<◌, ◌≤◌, List, [], length, Option, Some, None, option_map, ⊎_elim, inl, inr, ◌⊎◌}
+use Rattle.std.proofs.Common.{◌≡◌, sym, ap, ◌∙◌, subst, ℕ, zero, suc, ◌<◌, List, [], length, Option, Some, None, option_map, inl, inr, ◌⊎◌}
 use Rattle.std.proofs.Common.{arith}
 use Rattle.perm_ranks.specs.Words.{all_words}
-use Rattle.bound_specs.specs.Spec.{Spec, Queues, line_by, line_of, ranks, ranks_by, counts_of, queues_of, IsBound}
+use Rattle.bound_specs.specs.Spec.{Spec, Queues, line_by, line_of, ranks_by, counts_of, queues_of, IsBound}
 use Rattle.binding_model.specs.declared.tables.Table.{Table}
 use Rattle.machine_model.specs.World.{World, send_all}
 use Rattle.machine_model.specs.Start.{Start, Started, start}

@@ -1,7 +1,7 @@
 -- A range has its classes once.
-use Rattle.std.proofs.Common.{◌≡◌, refl, sym, ap, ◌∙◌, subst, ℕ, zero, suc, ◌<◌, ◌≤◌, Bool, true, false, List, [], ◌∷◌, ◌⊎◌, inl, inr, ⊎_elim, arith}
+use Rattle.std.proofs.Common.{◌≡◌, refl, sym, ap, ◌∙◌, subst, ℕ, ◌<◌, ◌≤◌, true, List, [], ◌∷◌, inl, inr, arith}
 use Rattle.lock_queues.specs.Reasons.{Among}
-use Rattle.order_classes.specs.Classes.{Run, in_runs, ranks_in, Class, IsClass, AllLater, LeastsRise, IsClasses}
+use Rattle.order_classes.specs.Classes.{in_runs, ranks_in, Class, AllLater, LeastsRise, IsClasses}
 use Rattle.order_classes.proofs.Runs.{bool-same, runs-same}
 
 module _ {A : Type 0} where

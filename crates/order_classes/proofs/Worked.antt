@@ -1,5 +1,5 @@
 -- Worked classes, computed.
-use Rattle.std.proofs.Common.{◌≡◌, refl, ℕ, Bool, true, false, ◌==◌, List, [], ◌∷◌, map, length, Option, Some, None, option_map}
+use Rattle.std.proofs.Common.{◌≡◌, refl, ℕ, Bool, true, false, ◌==◌, List, [], ◌∷◌, map, Option, Some, None, option_map}
 use Rattle.finite_maps.specs.Map.{get, insert, keep, remove, entries, empty}
 use Rattle.statement_evaluation.specs.Effect.{effect}
 use Rattle.row_tables.specs.Overlay.{lay}
@@ -11,15 +11,15 @@ use Rattle.bound_statements.specs.declared.statement.Output.TheVariants.{Columns
 use Rattle.bound_statements.specs.declared.statement.Bound.{Bound}
 use Rattle.bound_statements.specs.declared.statement.Bound.TheVariants.{Select}
 use Rattle.transcripts.specs.declared.event.Event.{Event}
-use Rattle.transcripts.specs.declared.event.Event.TheVariants.{Sent, Row as RowEvent, Rows, Updated, Done, Waiting}
+use Rattle.transcripts.specs.declared.event.Event.TheVariants.{Sent, Row as RowEvent, Rows, Updated, Done}
 use Rattle.binding_model.specs.Tables.{no_table}
-use Rattle.bound_specs.specs.Spec.{Spec, line_of}
+use Rattle.bound_specs.specs.Spec.{Spec}
 use Rattle.machine_model.proofs.Worked.{number, step, two_rows, sets, shares, waits_row}
 use Rattle.line_moments.specs.Left.{Left}
-use Rattle.order_classes.specs.Shows.{Rest, HasEnded, IsOpen, StillWaits, Shows, shows_of_line, shows_at}
+use Rattle.order_classes.specs.Shows.{Rest, HasEnded, Shows, shows_of_line, shows_at}
 use Rattle.order_classes.specs.Letters.{Answers, answers_of, answers_at, session_orders, serial_line, letter_w, letter_d, letter_e, letter_n, letter_s}
 use Rattle.order_classes.specs.Looks.{look_at, one_row}
-use Rattle.order_classes.specs.Classes.{Run, Class}
+use Rattle.order_classes.specs.Classes.{Run}
 use Rattle.order_classes.specs.Growing.{grown}
 use Rattle.order_classes.specs.Copying.{copied}
 

@@ -1,14 +1,13 @@
 -- What a SELECT sees of the rows that are left, and what is expected of it.
-use Rattle.std.specs.Prelude.{◌≡◌, ℕ, ◌<◌, List, [], ◌∷◌, length, Option, Some, option_map}
+use Rattle.std.specs.Prelude.{◌≡◌, ℕ, ◌<◌, List, [], ◌∷◌, Option, Some, option_map}
 use Rattle.lock_modes.specs.declared.value.Value.{Value}
 use Rattle.transcripts.specs.declared.event.Event.TheVariants.{Row as RowEvent, Rows}
 use Rattle.bound_statements.specs.declared.statement.Bound.{Bound}
-use Rattle.bound_statements.specs.declared.statement.Bound.TheVariants.{Select, Insert, Update, Delete, Begin, Commit, Rollback, Lock, SetVariable}
+use Rattle.bound_statements.specs.declared.statement.Bound.TheVariants.{Select}
 use Rattle.statement_evaluation.specs.Effect.{Effect, Gives, effect}
-use Rattle.binding_model.specs.declared.tables.Table.{Table}
 use Rattle.bound_specs.specs.Spec.{Spec, line_of}
 use Rattle.machine_model.specs.World.{World}
-use Rattle.order_classes.specs.Shows.{Shows, world_of_line, shows_at}
+use Rattle.order_classes.specs.Shows.{Shows, world_of_line}
 use Rattle.order_classes.specs.Classes.{Class}
 
 -- a SELECT of one of so many tables
