@@ -14,9 +14,9 @@ use Rattle.transcripts.specs.declared.event.Event.{Event}
 use Rattle.transcripts.specs.declared.event.Event.TheVariants.{Sent, Row as RowEvent, Rows, Updated, Done}
 use Rattle.binding_model.specs.Tables.{no_table}
 use Rattle.bound_specs.specs.Spec.{Spec}
-use Rattle.machine_model.proofs.Worked.{number, step, two_rows, sets, shares, waits_row}
+use Rattle.machine_model.proofs.Worked.{number, step, two_rows, sets, shares, in_blocks, waits_row, not_waiting_row, ring_row}
 use Rattle.line_moments.specs.Left.{Left}
-use Rattle.order_classes.specs.Shows.{Rest, HasEnded, Shows, shows_of_line, shows_at}
+use Rattle.order_classes.specs.Shows.{Rest, HasEnded, IsOpen, StillWaits, Shows, shows_of_line, shows_at}
 use Rattle.order_classes.specs.Letters.{Answers, answers_of, answers_at, session_orders, serial_line, letter_w, letter_d, letter_e, letter_n, letter_s}
 use Rattle.order_classes.specs.Looks.{look_at, one_row}
 use Rattle.order_classes.specs.Classes.{Run}
@@ -97,6 +97,28 @@ letters spec r = option_map (λ (s : Shows). (letter_w s, letter_d s, letter_e s
 waits_row_letters : letters waits_row 2 ≡ Some (true, false, false, true, false)
 unfolding get insert keep remove entries empty effect lay
 waits_row_letters = refl
+
+-- in two blocks that nobody ends, the second session waits to the end
+abbrev stays : Spec
+stays = in_blocks 2 (step 0 (sets 1 5) ∷ step 1 (sets 1 6) ∷ [])
+
+stays_letters : letters stays 0 ≡ Some (true, false, false, false, true)
+unfolding get insert keep remove entries empty effect lay
+stays_letters = refl
+
+stays_rests : option_map (λ (s : Shows). s.rests) (shows_at (no_table ∷ []) stays 0) ≡ Some (IsOpen ∷ StillWaits ∷ [])
+unfolding get insert keep remove entries empty effect lay
+stays_rests = refl
+
+-- where a lock may not be had at once, that is another error
+refused_letters : letters not_waiting_row 1 ≡ Some (false, false, true, false, false)
+unfolding get insert keep remove entries empty effect lay
+refused_letters = refl
+
+-- a deadlock is none
+ring_letters : letters ring_row 1 ≡ Some (true, true, false, false, false)
+unfolding get insert keep remove entries empty effect lay
+ring_letters = refl
 
 orders_of_3 : session_orders 3 ≡ (0 ∷ 1 ∷ 2 ∷ []) ∷ (0 ∷ 2 ∷ 1 ∷ []) ∷ (1 ∷ 0 ∷ 2 ∷ []) ∷ (1 ∷ 2 ∷ 0 ∷ []) ∷ (2 ∷ 0 ∷ 1 ∷ []) ∷ (2 ∷ 1 ∷ 0 ∷ []) ∷ []
 orders_of_3 = refl

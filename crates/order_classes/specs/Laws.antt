@@ -1,5 +1,5 @@
 -- The laws of classes.
-use Rattle.std.specs.Prelude.{◌≡◌, ◌↔◌, ℕ, ◌+◌, ◌<◌, ◌≤◌, Bool, true, List, [], length, Some}
+use Rattle.std.specs.Prelude.{◌≡◌, ◌≢◌, ◌↔◌, ℕ, ◌+◌, ◌<◌, ◌≤◌, Bool, true, List, [], length, Some}
 use Rattle.binding_model.specs.declared.tables.Table.{Table}
 use Rattle.bound_statements.specs.declared.statement.Bound.{Bound}
 use Rattle.bound_specs.specs.Spec.{Spec, line_of, ranks, IsBound, counts_of, queues_of}
@@ -12,7 +12,7 @@ use Rattle.rank_facts.specs.declared.fact.Fact.TheVariants.{Swap}
 use Rattle.lock_queues.specs.Reasons.{Among}
 use Rattle.order_classes.specs.Shows.{Shows, world_of_line, shows_at}
 use Rattle.order_classes.specs.Classes.{Class, in_runs, IsNumber}
-use Rattle.order_classes.specs.Letters.{Answers, answers_of, session_orders, IsOrder, serial_line}
+use Rattle.order_classes.specs.Letters.{Answers, answers_of, answers_at, session_orders, IsOrder, serial_line, IsSerialRank, LetterR}
 use Rattle.order_classes.specs.Growing.{grown, TellsSame}
 use Rattle.order_classes.specs.Copying.{copied}
 use Rattle.order_classes.specs.Grouping.{Found, IsShown, IsFound, CoversTo, Reaches, AreClasses, AreAnswerClasses, AreGrouped}
@@ -107,6 +107,12 @@ SerialOrdersAreRanks =
 -- the orders of sessions are all lists that have each session once
 abbrev pub SessionOrdersAreAll : Type 0
 SessionOrdersAreAll = (sessions : ℕ) (order : List ℕ) → Among order (session_orders sessions) ↔ IsOrder sessions order
+
+-- R is told exactly of what no rank answers that runs the sessions one behind the other, each whole
+abbrev pub LetterRIsExact : Type 0
+LetterRIsExact =
+    (tables : List Table) (spec : Spec) (s : Shows) → spec.lines ≡ []
+    → LetterR tables spec s ↔ ((r : ℕ) → r < ranks spec → IsSerialRank spec r → answers_at tables spec r ≢ Some (answers_of s))
 
 -- ---- by runs
 

@@ -8,7 +8,7 @@ use Rattle.transcripts.specs.declared.event.Event.TheVariants.{Set, Warned, Fail
 use Rattle.transcripts.specs.declared.event.Fault.{Fault}
 use Rattle.transcripts.specs.declared.event.Fault.TheVariants.{Duplicate, OutOfRange, Deadlock, Aborted, Unavailable}
 use Rattle.binding_model.specs.declared.tables.Table.{Table}
-use Rattle.bound_specs.specs.Spec.{Spec, line, counts_of, queues_of}
+use Rattle.bound_specs.specs.Spec.{Spec, line, line_of, counts_of, queues_of}
 use Rattle.line_moments.specs.Left.{Left}
 use Rattle.lock_queues.specs.Reasons.{Among}
 use Rattle.order_classes.specs.Shows.{Rest, HasEnded, IsOpen, HasFailed, StillWaits, Shows, shows_of_line, shows_at}
@@ -144,3 +144,7 @@ pub record IsNotSerial (tables : List Table) (spec : Spec) (a : Answers) : Type 
 
 abbrev pub LetterR : List Table → Spec → Shows → Type 0
 LetterR tables spec s = IsNotSerial tables spec (answers_of s)
+
+-- the line of the rank is such an order
+abbrev pub IsSerialRank : Spec → ℕ → Type 0
+IsSerialRank spec r = (order : List ℕ) × IsOrder spec.sessions order × (line_of spec r ≡ serial_line spec order)

@@ -2,7 +2,8 @@
 
 ghost use Rattle.order_classes.specs.Laws.{SwapsKeepWorlds, SwapsKeepShows, ChainsKeepShows, ClassesAreUnique, AnswerClassesAreUnique, ClassesAreWhole};
 ghost use Rattle.order_classes.specs.Laws.{ClassesAreDisjoint, CountsAreNumbers, AnswersJoinClasses, CoversReach, FoundIsGrouped, ShowsLookAlike};
-ghost use Rattle.order_classes.specs.Laws.{ClassesLookAlike, SerialOrdersAreRanks, SessionOrdersAreAll, ClassesBegin, ClassesGrow, ClassesCopy, BlocksLead};
+ghost use Rattle.order_classes.specs.Laws.{ClassesLookAlike, SerialOrdersAreRanks, SessionOrdersAreAll, LetterRIsExact, ClassesBegin, ClassesGrow, ClassesCopy};
+ghost use Rattle.order_classes.specs.Laws.{BlocksLead};
 
 /// A true swap leads to a smaller rank with the same world behind its line.
 pub fn swaps_keep_worlds()
@@ -97,4 +98,9 @@ pub fn counts_are_numbers()
 /// The orders of sessions are all lists that have each session once.
 pub fn session_orders_are_all()
     ensures { SessionOrdersAreAll }
+{}
+
+/// R is told exactly of what no rank answers that runs the sessions one behind the other, each whole.
+pub fn letter_r_is_exact()
+    ensures { LetterRIsExact }
 {}
