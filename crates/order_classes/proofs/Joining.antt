@@ -1,5 +1,5 @@
 -- Classes of a spec: once, whole, and joined by answers.
-use Rattle.std.proofs.Common.{◌≡◌, sym, ap, ◌∙◌, subst, ◌↔◌, ℕ, ◌+◌, ◌<◌, ◌≤◌, Bool, true, List, [], length, Option, Some, option_map}
+use Rattle.std.proofs.Common.{◌≡◌, sym, ap, ◌∙◌, subst, ◌↔◌, ℕ, ◌+◌, ◌<◌, ◌≤◌, Bool, true, List, [], Option, Some, option_map}
 use Rattle.binding_model.specs.declared.tables.Table.{Table}
 use Rattle.bound_specs.specs.Spec.{Spec}
 use Rattle.lock_queues.specs.Reasons.{Among}
@@ -68,7 +68,7 @@ module _ (tables : List Table) (spec : Spec) where
           (x.0, x.1, x.2, one-answers r (answers_of x.0.shows) d.shows (answers-from r x.0.shows v.2) w.2)),
     )
 
-    pub classes-look : (cs : List (Class Shows)) (st : Bound) → AreClasses tables spec first end cs → IsLook (length tables) st → (c : Class Shows)
+    pub classes-look : (cs : List (Class Shows)) (st : Bound) → AreClasses tables spec first end cs → IsLook tables st → (c : Class Shows)
         → Among c cs → (r : ℕ) → in_runs c.runs r ≡ true → look_at spec st r ≡ look_at spec st c.least
     classes-look cs st is look c m r h =
         let own = is.each c m in

@@ -4,18 +4,17 @@ use Rattle.finite_maps.specs.Map.{get, insert, keep, remove, entries, empty}
 use Rattle.statement_evaluation.specs.Effect.{effect}
 use Rattle.row_tables.specs.Overlay.{lay}
 use Rattle.lock_modes.specs.Rows.{Tuple}
-use Rattle.lock_modes.specs.declared.value.Value.{Value}
 use Rattle.bound_statements.specs.declared.condition.Condition.TheVariants.{Always}
 use Rattle.bound_statements.specs.declared.statement.Aggregate.TheVariants.{Sum}
 use Rattle.bound_statements.specs.declared.statement.Output.TheVariants.{Columns, Aggregates}
 use Rattle.bound_statements.specs.declared.statement.Bound.{Bound}
-use Rattle.bound_statements.specs.declared.statement.Bound.TheVariants.{Select}
+use Rattle.bound_statements.specs.declared.statement.Bound.TheVariants.{Select, Insert, Delete}
 use Rattle.transcripts.specs.declared.event.Event.{Event}
 use Rattle.transcripts.specs.declared.event.Event.TheVariants.{Sent, Row as RowEvent, Rows, Updated, Done}
 use Rattle.binding_model.specs.Tables.{no_table}
 use Rattle.bound_specs.specs.Spec.{Spec}
-use Rattle.machine_model.proofs.Worked.{number, step, two_rows, sets, shares, in_blocks, waits_row, not_waiting_row, ring_row}
-use Rattle.line_moments.specs.Left.{Left}
+use Rattle.machine_model.proofs.Worked.{number, step, two_rows, sets, id_is, shares, in_blocks, waits_row, not_waiting_row, ring_row}
+use Rattle.line_moments.specs.Left.{rows_alone}
 use Rattle.order_classes.specs.Shows.{Rest, HasEnded, IsOpen, StillWaits, Shows, shows_of_line, shows_at}
 use Rattle.order_classes.specs.Letters.{Answers, answers_of, answers_at, session_orders, serial_line, letter_w, letter_d, letter_e, letter_n, letter_s}
 use Rattle.order_classes.specs.Looks.{look_at, one_row}
@@ -23,20 +22,16 @@ use Rattle.order_classes.specs.Classes.{Run}
 use Rattle.order_classes.specs.Growing.{grown}
 use Rattle.order_classes.specs.Copying.{copied}
 
-abbrev rows_left : List Left → List (List (Value × Tuple))
-rows_left [] = []
-rows_left (x ∷ xs) = x.rows ∷ rows_left xs
-
-abbrev shown : Spec → ℕ → Option (List (List Event) × List (List (Value × Tuple)) × List Rest)
-shown spec r = option_map (λ (s : Shows). (s.told, rows_left s.left, s.rests)) (shows_at (no_table ∷ []) spec r)
+abbrev shown : Spec → ℕ → Option (List (List Event) × List (List Tuple) × List Rest)
+shown spec r = option_map (λ (s : Shows). (s.told, rows_alone s.left, s.rests)) (shows_at (no_table ∷ []) spec r)
 
 -- ---- two blind updates: one outcome, two classes
 
 abbrev blind : Spec
 blind = record { sessions = 2; steps = step 0 (sets 1 5) ∷ step 1 (sets 1 6) ∷ []; setups = two_rows ∷ []; lines = []; session_setups = [] }
 
-abbrev leaves : ℕ → List (List (Value × Tuple))
-leaves v = ((number 1, number 1 ∷ number v ∷ []) ∷ (number 2, number 2 ∷ number 20 ∷ []) ∷ []) ∷ []
+abbrev leaves : ℕ → List (List Tuple)
+leaves v = ((number 1 ∷ number v ∷ []) ∷ (number 2 ∷ number 20 ∷ []) ∷ []) ∷ []
 
 abbrev blind_told : List (List Event)
 blind_told = (Sent 0 ∷ Updated 1 ∷ Done ∷ []) ∷ (Sent 1 ∷ Updated 1 ∷ Done ∷ []) ∷ []
@@ -72,8 +67,8 @@ lost =
       session_setups = [];
     }
 
-abbrev answers : Option Answers → Option (List (List Event) × List (List (Value × Tuple)))
-answers = option_map (λ (a : Answers). (a.told, rows_left a.left))
+abbrev answers : Option Answers → Option (List (List Event) × List (List Tuple))
+answers = option_map (λ (a : Answers). (a.told, rows_alone a.left))
 
 abbrev saw : ℕ → List Event
 saw v = RowEvent (number v ∷ []) ∷ Rows 1 ∷ Updated 1 ∷ []
@@ -87,6 +82,26 @@ lost_serial = refl
 lost_1 : answers (answers_at (no_table ∷ []) lost 1) ≡ Some (saw 10 ∷ saw 10 ∷ [], leaves 12)
 unfolding get insert keep remove entries empty effect lay
 lost_1 = refl
+
+-- ---- a table without a key: a row at another number is seen alike
+
+abbrev keyless : Spec
+keyless =
+    record {
+      sessions = 2;
+      steps = step 0 (Insert 0 None ((number 5 ∷ []) ∷ [])) ∷ step 0 (Delete 0 None (id_is 5)) ∷ step 1 (Insert 0 None ((number 6 ∷ []) ∷ [])) ∷ [];
+      setups = [];
+      lines = [];
+      session_setups = [] ∷ [] ∷ [];
+    }
+
+keyless_leaves : option_map (λ (s : Shows). rows_alone s.left) (shows_at (no_table ∷ []) keyless 1) ≡ Some (((number 6 ∷ []) ∷ []) ∷ [])
+unfolding get insert keep remove entries empty effect lay
+keyless_leaves = refl
+
+keyless_same : shows_at (no_table ∷ []) keyless 0 ≡ shows_at (no_table ∷ []) keyless 1
+unfolding get insert keep remove entries empty effect lay
+keyless_same = refl
 
 -- ---- letters
 

@@ -89,14 +89,14 @@ FoundIsGrouped =
 -- ranks that show the same look the same
 abbrev pub ShowsLookAlike : Type 0
 ShowsLookAlike =
-    (tables : List Table) (spec : Spec) (st : Bound) (r other : ℕ) → IsLook (length tables) st
+    (tables : List Table) (spec : Spec) (st : Bound) (r other : ℕ) → IsLook tables st
     → shows_at tables spec r ≡ shows_at tables spec other → look_at spec st r ≡ look_at spec st other
 
 -- so a class looks as its least rank does
 abbrev pub ClassesLookAlike : Type 0
 ClassesLookAlike =
     (tables : List Table) (spec : Spec) (first end : ℕ) (cs : List (Class Shows)) (st : Bound) → AreClasses tables spec first end cs
-    → IsLook (length tables) st → (c : Class Shows) → Among c cs → (r : ℕ) → in_runs c.runs r ≡ true → look_at spec st r ≡ look_at spec st c.least
+    → IsLook tables st → (c : Class Shows) → Among c cs → (r : ℕ) → in_runs c.runs r ≡ true → look_at spec st r ≡ look_at spec st c.least
 
 -- each order of the sessions, each whole, is the line of a rank: R compares with ranks of the spec
 abbrev pub SerialOrdersAreRanks : Type 0
