@@ -1,5 +1,5 @@
 -- The laws of classes.
-use Rattle.std.specs.Prelude.{◌≡◌, ◌≢◌, ◌↔◌, ℕ, ◌+◌, ◌<◌, ◌≤◌, Bool, true, List, [], length, Some}
+use Rattle.std.specs.Prelude.{◌≡◌, ◌≢◌, ◌↔◌, ℕ, ◌+◌, ◌<◌, ◌≤◌, Bool, true, List, [], length, map, Some}
 use Rattle.binding_model.specs.declared.tables.Table.{Table}
 use Rattle.bound_statements.specs.declared.statement.Bound.{Bound}
 use Rattle.bound_specs.specs.Spec.{Spec, line_of, ranks, IsBound, counts_of, queues_of}
@@ -10,13 +10,22 @@ use Rattle.rank_facts.specs.Facts.{IsTrueAt}
 use Rattle.rank_facts.specs.Swap.{leads_in}
 use Rattle.rank_facts.specs.declared.fact.Fact.TheVariants.{Swap}
 use Rattle.lock_queues.specs.Reasons.{Among}
-use Rattle.order_classes.specs.Shows.{Shows, world_of_line, shows_at}
+use Rattle.machine_model.specs.World.{World}
+use Rattle.machine_model.specs.Typed.{RowsFit}
+use Rattle.line_moments.specs.Left.{left_in, LeaveSame}
+use Rattle.order_classes.specs.Shows.{seen, Shows, world_of_line, shows_at}
 use Rattle.order_classes.specs.Classes.{Class, in_runs, IsNumber}
 use Rattle.order_classes.specs.Letters.{Answers, answers_of, answers_at, session_orders, IsOrder, serial_line, IsSerialRank, LetterR}
 use Rattle.order_classes.specs.Growing.{grown, TellsSame}
 use Rattle.order_classes.specs.Copying.{copied}
 use Rattle.order_classes.specs.Grouping.{Found, IsShown, IsFound, CoversTo, Reaches, AreClasses, AreAnswerClasses, AreGrouped}
 use Rattle.order_classes.specs.Looks.{IsLook, look_at}
+
+-- of worlds whose rows fit the tables the same is seen exactly where they leave the same
+abbrev pub LeftIsSeen : Type 0
+LeftIsSeen =
+    (tables : List Table) (v w : World) → RowsFit tables v.rows → RowsFit tables w.rows
+    → (map seen (left_in tables v) ≡ map seen (left_in tables w)) ↔ LeaveSame (left_in tables v) (left_in tables w)
 
 -- a true swap leads to a smaller rank with the same world behind its line
 abbrev pub SwapsKeepWorlds : Type 0

@@ -3,7 +3,12 @@
 ghost use Rattle.order_classes.specs.Laws.{SwapsKeepWorlds, SwapsKeepShows, ChainsKeepShows, ClassesAreUnique, AnswerClassesAreUnique, ClassesAreWhole};
 ghost use Rattle.order_classes.specs.Laws.{ClassesAreDisjoint, CountsAreNumbers, AnswersJoinClasses, CoversReach, FoundIsGrouped, ShowsLookAlike};
 ghost use Rattle.order_classes.specs.Laws.{ClassesLookAlike, SerialOrdersAreRanks, SessionOrdersAreAll, LetterRIsExact, ClassesBegin, ClassesGrow, ClassesCopy};
-ghost use Rattle.order_classes.specs.Laws.{BlocksLead};
+ghost use Rattle.order_classes.specs.Laws.{BlocksLead, LeftIsSeen};
+
+/// Where rows fit their tables, the same is seen of them exactly where the same is left.
+pub fn left_is_seen()
+    ensures { LeftIsSeen }
+{}
 
 /// A true swap leads to a smaller rank with the same world behind its line.
 pub fn swaps_keep_worlds()
