@@ -76,12 +76,12 @@ lie-all P Q (e ∷ es) a = (a.0.1, lie-all P Q es a.1)
 lie-in : (tables : List Table) (w : World) → RowsFit tables w.rows → AllLie w 0 tables
 lie-in tables w fits =
     all-lie w 0 tables (λ n m lt is.
-        let t = get_or tables n no_table in
-        let P : Entry → Type 0 = λ e. RowFits t e.1 in
-        let Q : Entry → Type 0 = λ e. LiesAt (key_column t) e.0 e.1 in
-        let rows = (get_or (left_in tables w) n no_left).rows in
-        subst (Lie (key_column t)) (left-at tables 0 n m w lt is)
-        (lie-all P Q rows (all-each (λ e. P e × Q e) rows (((left-exact tables w fits).each n lt).fit))))
+    let t = get_or tables n no_table in
+    let P : Entry → Type 0 = λ e. RowFits t e.1 in
+    let Q : Entry → Type 0 = λ e. LiesAt (key_column t) e.0 e.1 in
+    let rows = (get_or (left_in tables w) n no_left).rows in
+    subst (Lie (key_column t)) (left-at tables 0 n m w lt is)
+    (lie-all P Q rows (all-each (λ e. P e × Q e) rows (((left-exact tables w fits).each n lt).fit))))
 
 lefts-seen : (ts : List Table) (k : ℕ) (v w : World) → AllLie v k ts → AllLie w k ts → rows_alone (left_from k ts v) ≡ rows_alone (left_from k ts w)
     → map seen (left_from k ts v) ≡ map seen (left_from k ts w)
