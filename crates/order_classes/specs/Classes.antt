@@ -1,0 +1,67 @@
+-- Classes of ranks by what they show.
+use Rattle.std.specs.Prelude.{◌≡◌, ◌↔◌, length, ℕ, suc, ◌+◌, ◌-◌, ◌<◌, ◌≤◌, Bool, true, false, ◌&&◌, ◌||◌, nat_le, nat_lt, List, [], ◌∷◌}
+use Rattle.lock_queues.specs.Reasons.{Among}
+
+-- ranks from the first up to but not the end
+pub record Run : Type 0 where
+  pub first : ℕ
+  pub end : ℕ
+
+abbrev pub in_run : Run → ℕ → Bool
+in_run run r = nat_le run.first r && nat_lt r run.end
+
+abbrev pub in_runs : List Run → ℕ → Bool
+in_runs [] r = false
+in_runs (run ∷ runs) r = in_run run r || in_runs runs r
+
+-- how many ranks they have
+abbrev pub ranks_in : List Run → ℕ
+ranks_in [] = 0
+ranks_in (run ∷ runs) = (run.end - run.first) + ranks_in runs
+
+-- from this rank on: they rise, each has a rank, and between two of them there is one that neither has
+abbrev pub AreApart : ℕ → List Run → Type 0
+AreApart low [] = Unit {0}
+AreApart low (run ∷ runs) = (low ≤ run.first) × (run.first < run.end) × AreApart (suc run.end) runs
+
+pub record Class (A : Type 0) : Type 0 where
+  pub least : ℕ
+  pub count : ℕ
+  pub runs : List Run
+  pub shows : A
+
+-- ranks of the range, of which each shows what the class does, with the least of them and their number
+pub record IsClass {A : Type 0} (show : ℕ → A → Type 0) (first end : ℕ) (c : Class A) : Type 0 where
+  pub apart : AreApart 0 c.runs
+  pub within : (r : ℕ) → in_runs c.runs r ≡ true → (first ≤ r) × (r < end) × show r c.shows
+  pub has_least : in_runs c.runs c.least ≡ true
+  pub is_least : (r : ℕ) → in_runs c.runs r ≡ true → c.least ≤ r
+  pub count : c.count ≡ ranks_in c.runs
+
+abbrev pub AllLater : {A : Type 0} → ℕ → List (Class A) → Type 0
+AllLater n [] = Unit {0}
+AllLater n (c ∷ cs) = (n < c.least) × AllLater n cs
+
+-- in the order of their least ranks
+abbrev pub LeastsRise : {A : Type 0} → List (Class A) → Type 0
+LeastsRise [] = Unit {0}
+LeastsRise (c ∷ cs) = AllLater c.least cs × LeastsRise cs
+
+-- the classes of the ranks from the first up to but not the end: equal within, together the range, two that show the same are one, in order
+pub record IsClasses {A : Type 0} (show : ℕ → A → Type 0) (first end : ℕ) (cs : List (Class A)) : Type 0 where
+  pub each : (c : Class A) → Among c cs → IsClass show first end c
+  pub together : (r : ℕ) → first ≤ r → r < end → (c : Class A) × Among c cs × (in_runs c.runs r ≡ true)
+  pub between : (c d : Class A) → Among c cs → Among d cs → c.shows ≡ d.shows → c ≡ d
+  pub rise : LeastsRise cs
+
+-- the numbers rise from the first on
+abbrev pub RiseFrom : ℕ → List ℕ → Type 0
+RiseFrom low [] = Unit {0}
+RiseFrom low (r ∷ rs) = (low ≤ r) × RiseFrom (suc r) rs
+
+-- so many ranks pass the test
+pub record IsNumber (test : ℕ → Bool) (n : ℕ) : Type 0 where
+  pub ranks : List ℕ
+  pub rise : RiseFrom 0 ranks
+  pub has : (r : ℕ) → Among r ranks ↔ (test r ≡ true)
+  pub count : length ranks ≡ n
