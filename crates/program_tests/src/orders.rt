@@ -1,6 +1,7 @@
 //! Orders by the names of their steps: which rank each has, what is wrong with those that have none, and how they are written. The test without memory
 //! is to be read under `rt try --test --fail-alloc` too.
 use crate::disks::{assert_told, told_by};
+use crate::memory::assert_front;
 use crate::shelf::Shelf;
 use book_tests::{Told, words_of};
 use std::alloc::{AllocError, Global};
@@ -139,31 +140,29 @@ fn what_is_wrong_with_an_order_is_told(rt: HostRuntime) -> Result<(), Fail> {
     Ok(())
 }
 
-/// Asserts that the words write this line, or nothing, where memory ran out, which is told.
-fn assert_line_or_nothing(
+/// Asserts that the words write this text, or a front of it, where memory ran out.
+fn assert_front_of(
     rt: &(impl Abort + Threads + Wait + Clock + Sync),
     alloc: Global,
     words: &str,
-    line: &str,
+    text: &str,
 ) {
-    let Ok(told) = tell(rt, alloc, words) else {
-        return;
-    };
-    match told.texts() {
-        Some((0, out, "")) => assert!(rt; out.strip_suffix("\n") == Some(line), "{words}"),
-        texts => assert_eq!(rt; texts, Some((4, "", "isofarm: no memory\n")), "{words}"),
+    if let Ok(told) = tell(rt, alloc, words) {
+        assert_front(rt, &told, text, words);
     }
 }
 
 #[test]
 fn an_order_and_its_rank_are_told_unless_memory_runs_out(rt: HostRuntime) {
-    assert_line_or_nothing(
-        &rt,
-        rt.alloc(),
-        "isofarm order quoted.spec 0",
-        "\"step\" \"9\" \"a\"\"b\" Ä$1 \"-\" Setup",
-    );
-    assert_line_or_nothing(&rt, rt.alloc(), "isofarm order two.spec 4", "b1 a1 b2 a2");
-    assert_line_or_nothing(&rt, rt.alloc(), "isofarm rank two.spec b1 a1 b2 a2", "4");
-    assert_line_or_nothing(&rt, rt.alloc(), "isofarm rank lines.spec b1", "2");
+    for (words, text) in [
+        (
+            "isofarm order quoted.spec 0",
+            "\"step\" \"9\" \"a\"\"b\" Ä$1 \"-\" Setup\n",
+        ),
+        ("isofarm order two.spec 4", "b1 a1 b2 a2\n"),
+        ("isofarm rank two.spec b1 a1 b2 a2", "4\n"),
+        ("isofarm rank lines.spec b1", "2\n"),
+    ] {
+        assert_front_of(&rt, rt.alloc(), words, text);
+    }
 }
