@@ -1,7 +1,9 @@
 -- What is known of ranks from runs and swaps, and the classes that it gives.
-use Rattle.std.specs.Prelude.{◌≡◌, ℕ, ◌<◌, ◌≤◌, ◌⊎◌, Option, Some, List}
+use Rattle.std.specs.Prelude.{◌≡◌, ℕ, ◌<◌, ◌≤◌, ◌⊎◌, Option, Some, List, [], Ok}
 use Rattle.binding_model.specs.declared.tables.Table.{Table}
-use Rattle.bound_specs.specs.Spec.{Spec}
+use Rattle.bound_statements.specs.declared.statement.Bound.{Bound}
+use Rattle.bound_specs.specs.Spec.{Spec, SpecFile, ranks}
+use Rattle.bound_specs.specs.Binding.{IsFileOf, declared, main_setup}
 use Rattle.rank_facts.specs.Facts.{IsTrueAt}
 use Rattle.rank_facts.specs.Swap.{leads_in}
 use Rattle.rank_facts.specs.declared.fact.Fact.TheVariants.{Swap}
@@ -50,3 +52,11 @@ AreAnswerClasses tables spec first end cs = IsClasses (AnswersAt tables spec) fi
 -- the grouping by what was found
 abbrev pub AreGrouped : Spec → Found → ℕ → ℕ → List (Class Shows) → Type 0
 AreGrouped spec found first end cs = IsClasses (IsShown found (leads_in spec)) first end cs
+
+-- the classes of all ranks of a spec file, with the tables that its main setups declare
+pub record AreClassesOf (text : List ℕ) (file : SpecFile) (cs : List (Class Shows)) : Type 0 where
+  pub is : IsFileOf text file
+  pub tables : List Table
+  pub blocks : List (List Bound)
+  pub declares : declared main_setup [] is.tree.front.setups ≡ Ok (tables, blocks)
+  pub classes : AreClasses tables file.run 0 (ranks file.run) cs

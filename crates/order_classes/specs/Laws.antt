@@ -2,7 +2,7 @@
 use Rattle.std.specs.Prelude.{◌≡◌, ◌≢◌, ◌↔◌, ℕ, ◌+◌, ◌<◌, ◌≤◌, Bool, true, List, [], length, map, Some}
 use Rattle.binding_model.specs.declared.tables.Table.{Table}
 use Rattle.bound_statements.specs.declared.statement.Bound.{Bound}
-use Rattle.bound_specs.specs.Spec.{Spec, line_of, ranks, IsBound, counts_of, queues_of}
+use Rattle.bound_specs.specs.Spec.{Spec, SpecFile, line_of, ranks, IsBound, counts_of, queues_of}
 use Rattle.perm_ranks.specs.Words.{Word, all_words}
 use Rattle.perm_ranks.specs.Blocks.{Block, IsBlockOf}
 use Rattle.perm_ranks.specs.Swapped.{exchanged}
@@ -18,7 +18,7 @@ use Rattle.order_classes.specs.Classes.{Class, in_runs, IsNumber}
 use Rattle.order_classes.specs.Letters.{Answers, answers_of, answers_at, session_orders, IsOrder, serial_line, IsSerialRank, LetterR}
 use Rattle.order_classes.specs.Growing.{grown, TellsSame}
 use Rattle.order_classes.specs.Copying.{copied}
-use Rattle.order_classes.specs.Grouping.{Found, IsShown, IsFound, CoversTo, Reaches, AreClasses, AreAnswerClasses, AreGrouped}
+use Rattle.order_classes.specs.Grouping.{Found, IsShown, IsFound, CoversTo, Reaches, AreClasses, AreAnswerClasses, AreGrouped, AreClassesOf}
 use Rattle.order_classes.specs.Looks.{IsLook, look_at}
 
 -- of worlds whose rows fit the tables the same is seen exactly where they leave the same
@@ -149,3 +149,13 @@ BlocksLead =
     (spec : Spec) (k : ℕ) (shared other : Word) (x y : Block) → spec.lines ≡ []
     → IsBlockOf (counts_of (queues_of spec)) shared x → IsBlockOf (counts_of (queues_of spec)) other y → x.left ≡ y.left
     → exchanged k shared ≡ Some other → (i : ℕ) → i < length (all_words x.left) → leads_in spec (x.first + i) k ≡ Some (y.first + i)
+
+-- ---- of a file
+
+-- each rank of a file's spec is in exactly one of its classes, and each rank of a class is one of the spec that shows what the class does
+abbrev pub FilesAreClassed : Type 0
+FilesAreClassed =
+    (text : List ℕ) (file : SpecFile) (cs : List (Class Shows)) → (are : AreClassesOf text file cs)
+    → ((r : ℕ) → r < ranks file.run
+    → (c : Class Shows) × Among c cs × (in_runs c.runs r ≡ true) × ((d : Class Shows) → Among d cs → in_runs d.runs r ≡ true → d ≡ c))
+    × ((c : Class Shows) → Among c cs → (r : ℕ) → in_runs c.runs r ≡ true → (r < ranks file.run) × (shows_at are.tables file.run r ≡ Some c.shows))

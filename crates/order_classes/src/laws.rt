@@ -3,7 +3,7 @@
 ghost use Rattle.order_classes.specs.Laws.{SwapsKeepWorlds, SwapsKeepShows, ChainsKeepShows, ClassesAreUnique, AnswerClassesAreUnique, ClassesAreWhole};
 ghost use Rattle.order_classes.specs.Laws.{ClassesAreDisjoint, CountsAreNumbers, AnswersJoinClasses, CoversReach, FoundIsGrouped, ShowsLookAlike};
 ghost use Rattle.order_classes.specs.Laws.{ClassesLookAlike, SerialOrdersAreRanks, SessionOrdersAreAll, LetterRIsExact, ClassesBegin, ClassesGrow, ClassesCopy};
-ghost use Rattle.order_classes.specs.Laws.{BlocksLead, LeftIsSeen};
+ghost use Rattle.order_classes.specs.Laws.{BlocksLead, LeftIsSeen, FilesAreClassed};
 
 /// Where rows fit their tables, the same is seen of them exactly where the same is left.
 pub fn left_is_seen()
@@ -108,4 +108,9 @@ pub fn session_orders_are_all()
 /// R is told exactly of what no rank answers that runs the sessions one behind the other, each whole.
 pub fn letter_r_is_exact()
     ensures { LetterRIsExact }
+{}
+
+/// Each rank of a file's spec is in exactly one of its classes.
+pub fn files_are_classed()
+    ensures { FilesAreClassed }
 {}
