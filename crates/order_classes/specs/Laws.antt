@@ -9,6 +9,7 @@ use Rattle.perm_ranks.specs.Swapped.{exchanged}
 use Rattle.rank_facts.specs.Facts.{IsTrueAt}
 use Rattle.rank_facts.specs.Swap.{leads_in}
 use Rattle.rank_facts.specs.declared.fact.Fact.TheVariants.{Swap}
+use Rattle.lock_modes.specs.declared.value.Value.{Value}
 use Rattle.lock_queues.specs.Reasons.{Among}
 use Rattle.machine_model.specs.World.{World}
 use Rattle.machine_model.specs.Typed.{RowsFit}
@@ -19,7 +20,7 @@ use Rattle.order_classes.specs.Letters.{Answers, answers_of, answers_at, session
 use Rattle.order_classes.specs.Growing.{grown, TellsSame}
 use Rattle.order_classes.specs.Copying.{copied}
 use Rattle.order_classes.specs.Grouping.{Found, IsShown, IsFound, CoversTo, Reaches, AreClasses, AreAnswerClasses, AreGrouped, AreClassesOf}
-use Rattle.order_classes.specs.Looks.{IsLook, look_at}
+use Rattle.order_classes.specs.Looks.{IsLook, look_at, Meets, IsFirstMiss}
 
 -- of worlds whose rows fit the tables the same is seen exactly where they leave the same
 abbrev pub LeftIsSeen : Type 0
@@ -106,6 +107,17 @@ abbrev pub ClassesLookAlike : Type 0
 ClassesLookAlike =
     (tables : List Table) (spec : Spec) (first end : ℕ) (cs : List (Class Shows)) (st : Bound) → AreClasses tables spec first end cs
     → IsLook tables st → (c : Class Shows) → Among c cs → (r : ℕ) → in_runs c.runs r ≡ true → look_at spec st r ≡ look_at spec st c.least
+
+-- each rank meets an expectation exactly where each class's least does; and where one does not, the least such rank is that of the first such class
+abbrev pub ExpectationsAreDecided : Type 0
+ExpectationsAreDecided =
+    (tables : List Table) (spec : Spec) (first end : ℕ) (cs : List (Class Shows)) (st : Bound) (vs : List Value) → AreClasses tables spec first end cs
+    → IsLook tables st
+    → (((r : ℕ) → first ≤ r → r < end → Meets spec st vs r) ↔ ((c : Class Shows) → Among c cs → Meets spec st vs c.least))
+    × ((c : Class Shows) → Among c cs
+    → IsFirstMiss spec st vs first end c.least
+    ↔ ((Meets spec st vs c.least → ⊥) × ((d : Class Shows) → Among d cs → d.least < c.least → Meets spec st vs d.least)))
+    × ((r : ℕ) → IsFirstMiss spec st vs first end r → (c : Class Shows) × Among c cs × (c.least ≡ r))
 
 -- each order of the sessions, each whole, is the line of a rank: R compares with ranks of the spec
 abbrev pub SerialOrdersAreRanks : Type 0

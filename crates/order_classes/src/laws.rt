@@ -3,7 +3,7 @@
 ghost use Rattle.order_classes.specs.Laws.{SwapsKeepWorlds, SwapsKeepShows, ChainsKeepShows, ClassesAreUnique, AnswerClassesAreUnique, ClassesAreWhole};
 ghost use Rattle.order_classes.specs.Laws.{ClassesAreDisjoint, CountsAreNumbers, AnswersJoinClasses, CoversReach, FoundIsGrouped, ShowsLookAlike};
 ghost use Rattle.order_classes.specs.Laws.{ClassesLookAlike, SerialOrdersAreRanks, SessionOrdersAreAll, LetterRIsExact, ClassesBegin, ClassesGrow, ClassesCopy};
-ghost use Rattle.order_classes.specs.Laws.{BlocksLead, LeftIsSeen, FilesAreClassed};
+ghost use Rattle.order_classes.specs.Laws.{BlocksLead, LeftIsSeen, FilesAreClassed, ExpectationsAreDecided};
 
 /// Where rows fit their tables, the same is seen of them exactly where the same is left.
 pub fn left_is_seen()
@@ -113,4 +113,9 @@ pub fn letter_r_is_exact()
 /// Each rank of a file's spec is in exactly one of its classes.
 pub fn files_are_classed()
     ensures { FilesAreClassed }
+{}
+
+/// What is expected of each rank is decided by the least ranks of classes.
+pub fn expectations_are_decided()
+    ensures { ExpectationsAreDecided }
 {}
