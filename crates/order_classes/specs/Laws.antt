@@ -10,13 +10,16 @@ use Rattle.rank_facts.specs.Facts.{IsTrueAt}
 use Rattle.rank_facts.specs.Swap.{leads_in}
 use Rattle.rank_facts.specs.declared.fact.Fact.TheVariants.{Swap}
 use Rattle.lock_modes.specs.declared.value.Value.{Value}
+use Rattle.lock_queues.specs.Locks.{waits_now}
 use Rattle.lock_queues.specs.Reasons.{Among}
-use Rattle.machine_model.specs.World.{World}
+use Rattle.machine_model.specs.World.{World, session_at}
 use Rattle.machine_model.specs.Typed.{RowsFit}
 use Rattle.line_moments.specs.Left.{left_in, LeaveSame}
-use Rattle.order_classes.specs.Shows.{seen, Shows, world_of_line, shows_at}
+use Rattle.transcripts.specs.declared.event.Event.{Event}
+use Rattle.order_classes.specs.Shows.{seen, Shows, shows_in, world_of_line, shows_at}
 use Rattle.order_classes.specs.Classes.{Class, in_runs, IsNumber}
 use Rattle.order_classes.specs.Letters.{Answers, answers_of, answers_at, session_orders, IsOrder, serial_line, IsSerialRank, LetterR}
+use Rattle.order_classes.specs.Letters.{is_wait, is_deadlock, is_other_error, is_unsent, letter_w, letter_d, letter_e, letter_n, letter_s}
 use Rattle.order_classes.specs.Growing.{grown, TellsSame}
 use Rattle.order_classes.specs.Copying.{copied}
 use Rattle.order_classes.specs.Grouping.{Found, IsShown, IsFound, CoversTo, Reaches, AreClasses, AreAnswerClasses, AreGrouped, AreClassesOf}
@@ -171,3 +174,24 @@ FilesAreClassed =
     → ((r : ℕ) → r < ranks file.run
     → (c : Class Shows) × Among c cs × (in_runs c.runs r ≡ true) × ((d : Class Shows) → Among d cs → in_runs d.runs r ≡ true → d ≡ c))
     × ((c : Class Shows) → Among c cs → (r : ℕ) → in_runs c.runs r ≡ true → (r < ranks file.run) × (shows_at are.tables file.run r ≡ Some c.shows))
+
+-- ---- letters
+
+-- S is told exactly where a session still waits in the world behind the line
+abbrev pub LetterSIsExact : Type 0
+LetterSIsExact =
+    (tables : List Table) (sessions : ℕ) (w : World)
+    → (letter_s (shows_in tables sessions w) ≡ true) ↔ ((i : ℕ) × (i < sessions) × (waits_now w.waits i ≡ true))
+
+-- one of so many sessions is told such a thing
+abbrev pub IsTold : (Event → Bool) → ℕ → World → Type 0
+IsTold test sessions w = (i : ℕ) × (i < sessions) × (e : Event) × Among e (session_at w i).transcript × (test e ≡ true)
+
+-- W, D, E and N are told exactly where a session is told a wait, a deadlock, another error of its own, or that a step is not sent
+abbrev pub LettersAreTold : Type 0
+LettersAreTold =
+    (tables : List Table) (sessions : ℕ) (w : World)
+    → ((letter_w (shows_in tables sessions w) ≡ true) ↔ IsTold is_wait sessions w)
+    × ((letter_d (shows_in tables sessions w) ≡ true) ↔ IsTold is_deadlock sessions w)
+    × ((letter_e (shows_in tables sessions w) ≡ true) ↔ IsTold is_other_error sessions w)
+    × ((letter_n (shows_in tables sessions w) ≡ true) ↔ IsTold is_unsent sessions w)

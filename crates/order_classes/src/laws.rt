@@ -3,7 +3,7 @@
 ghost use Rattle.order_classes.specs.Laws.{SwapsKeepWorlds, SwapsKeepShows, ChainsKeepShows, ClassesAreUnique, AnswerClassesAreUnique, ClassesAreWhole};
 ghost use Rattle.order_classes.specs.Laws.{ClassesAreDisjoint, CountsAreNumbers, AnswersJoinClasses, CoversReach, FoundIsGrouped, ShowsLookAlike};
 ghost use Rattle.order_classes.specs.Laws.{ClassesLookAlike, SerialOrdersAreRanks, SessionOrdersAreAll, LetterRIsExact, ClassesBegin, ClassesGrow, ClassesCopy};
-ghost use Rattle.order_classes.specs.Laws.{BlocksLead, LeftIsSeen, FilesAreClassed, ExpectationsAreDecided};
+ghost use Rattle.order_classes.specs.Laws.{BlocksLead, LeftIsSeen, FilesAreClassed, ExpectationsAreDecided, LetterSIsExact, LettersAreTold};
 
 /// Where rows fit their tables, the same is seen of them exactly where the same is left.
 pub fn left_is_seen()
@@ -118,4 +118,14 @@ pub fn files_are_classed()
 /// What is expected of each rank is decided by the least ranks of classes.
 pub fn expectations_are_decided()
     ensures { ExpectationsAreDecided }
+{}
+
+/// S is told exactly where a session still waits at the end.
+pub fn letter_s_is_exact()
+    ensures { LetterSIsExact }
+{}
+
+/// W, D, E and N are told exactly where a session is told such a thing.
+pub fn letters_are_told()
+    ensures { LettersAreTold }
 {}
