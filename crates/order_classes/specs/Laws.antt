@@ -1,5 +1,5 @@
 -- The laws of classes.
-use Rattle.std.specs.Prelude.{◌≡◌, ◌≢◌, ◌↔◌, ℕ, ◌+◌, ◌<◌, ◌≤◌, Bool, true, List, [], length, map, Some}
+use Rattle.std.specs.Prelude.{◌≡◌, ◌≢◌, ◌↔◌, ℕ, ◌+◌, ◌-◌, ◌<◌, ◌≤◌, Bool, true, List, [], length, map, Some}
 use Rattle.binding_model.specs.declared.tables.Table.{Table}
 use Rattle.bound_statements.specs.declared.statement.Bound.{Bound}
 use Rattle.bound_specs.specs.Spec.{Spec, SpecFile, line_of, ranks, IsBound, counts_of, queues_of}
@@ -17,12 +17,12 @@ use Rattle.machine_model.specs.Typed.{RowsFit}
 use Rattle.line_moments.specs.Left.{left_in, LeaveSame}
 use Rattle.transcripts.specs.declared.event.Event.{Event}
 use Rattle.order_classes.specs.Shows.{seen, Shows, shows_in, world_of_line, shows_at}
-use Rattle.order_classes.specs.Classes.{Class, in_runs, IsNumber}
+use Rattle.order_classes.specs.Classes.{Class, in_runs, IsNumber, total_in}
 use Rattle.order_classes.specs.Letters.{Answers, answers_of, answers_at, session_orders, IsOrder, serial_line, IsSerialRank, LetterR}
 use Rattle.order_classes.specs.Letters.{is_wait, is_deadlock, is_other_error, is_unsent, letter_w, letter_d, letter_e, letter_n, letter_s}
 use Rattle.order_classes.specs.Growing.{grown, TellsSame}
 use Rattle.order_classes.specs.Copying.{copied}
-use Rattle.order_classes.specs.Grouping.{Found, IsShown, IsFound, CoversTo, Reaches, AreClasses, AreAnswerClasses, AreGrouped, AreClassesOf}
+use Rattle.order_classes.specs.Grouping.{Found, IsShown, IsFound, CoversTo, Reaches, passes_at, AreClasses, AreAnswerClasses, AreGrouped, AreClassesOf}
 use Rattle.order_classes.specs.Looks.{IsLook, look_at, Meets, IsFirstMiss}
 
 -- of worlds whose rows fit the tables the same is seen exactly where they leave the same
@@ -76,6 +76,18 @@ abbrev pub CountsAreNumbers : Type 0
 CountsAreNumbers =
     (tables : List Table) (spec : Spec) (first end : ℕ) (cs : List (Class Shows)) → AreClasses tables spec first end cs
     → (c : Class Shows) → Among c cs → IsNumber (in_runs c.runs) c.count
+
+-- so many ranks of a range show what passes a test as the classes that pass it have together
+abbrev pub TotalsAreNumbers : Type 0
+TotalsAreNumbers =
+    (tables : List Table) (spec : Spec) (first end : ℕ) (cs : List (Class Shows)) (test : Shows → Bool) → AreClasses tables spec first end cs
+    → IsNumber (passes_at tables spec first end test) (total_in test cs)
+
+-- all counts together are the number of ranks of the range
+abbrev pub CountsAddUp : Type 0
+CountsAddUp =
+    (tables : List Table) (spec : Spec) (first end : ℕ) (cs : List (Class Shows)) → AreClasses tables spec first end cs
+    → total_in (λ s. true) cs ≡ end - first
 
 -- each class is whole in one class by answers, and each of these has no rank but those of such classes
 abbrev pub AnswersJoinClasses : Type 0

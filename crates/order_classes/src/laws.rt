@@ -4,6 +4,7 @@ ghost use Rattle.order_classes.specs.Laws.{SwapsKeepWorlds, SwapsKeepShows, Chai
 ghost use Rattle.order_classes.specs.Laws.{ClassesAreDisjoint, CountsAreNumbers, AnswersJoinClasses, CoversReach, FoundIsGrouped, ShowsLookAlike};
 ghost use Rattle.order_classes.specs.Laws.{ClassesLookAlike, SerialOrdersAreRanks, SessionOrdersAreAll, LetterRIsExact, ClassesBegin, ClassesGrow, ClassesCopy};
 ghost use Rattle.order_classes.specs.Laws.{BlocksLead, LeftIsSeen, FilesAreClassed, ExpectationsAreDecided, LetterSIsExact, LettersAreTold};
+ghost use Rattle.order_classes.specs.Laws.{TotalsAreNumbers, CountsAddUp};
 
 /// Where rows fit their tables, the same is seen of them exactly where the same is left.
 pub fn left_is_seen()
@@ -128,4 +129,14 @@ pub fn letter_s_is_exact()
 /// W, D, E and N are told exactly where a session is told such a thing.
 pub fn letters_are_told()
     ensures { LettersAreTold }
+{}
+
+/// So many ranks show what passes a test as the classes that pass it have together.
+pub fn totals_are_numbers()
+    ensures { TotalsAreNumbers }
+{}
+
+/// All counts together are the number of ranks of the range.
+pub fn counts_add_up()
+    ensures { CountsAddUp }
 {}
