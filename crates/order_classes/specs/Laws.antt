@@ -179,13 +179,15 @@ BlocksLead =
 
 -- ---- of a file
 
--- each rank of a file's spec is in exactly one of its classes, and each rank of a class is one of the spec that shows what the class does
+-- each rank of a file's spec is in exactly one of its classes, each rank of a class is one of the spec that shows what the class does,
+-- and all counts together are the number of its ranks
 abbrev pub FilesAreClassed : Type 0
 FilesAreClassed =
     (text : List ℕ) (file : SpecFile) (cs : List (Class Shows)) → (are : AreClassesOf text file cs)
     → ((r : ℕ) → r < ranks file.run
     → (c : Class Shows) × Among c cs × (in_runs c.runs r ≡ true) × ((d : Class Shows) → Among d cs → in_runs d.runs r ≡ true → d ≡ c))
     × ((c : Class Shows) → Among c cs → (r : ℕ) → in_runs c.runs r ≡ true → (r < ranks file.run) × (shows_at are.tables file.run r ≡ Some c.shows))
+    × (total_in (λ s. true) cs ≡ ranks file.run)
 
 -- ---- letters
 
