@@ -1,5 +1,5 @@
 -- Classes of ranks by what they show.
-use Rattle.std.specs.Prelude.{◌≡◌, ◌↔◌, length, ℕ, suc, ◌+◌, ◌-◌, ◌<◌, ◌≤◌, Bool, true, false, ◌&&◌, ◌||◌, nat_le, nat_lt, List, [], ◌∷◌}
+use Rattle.std.specs.Prelude.{◌≡◌, ◌↔◌, length, ℕ, suc, ◌+◌, ◌-◌, ◌<◌, ◌≤◌, Bool, true, false, ◌&&◌, ◌||◌, nat_le, nat_lt, cond, List, [], ◌∷◌}
 use Rattle.lock_queues.specs.Reasons.{Among}
 
 -- ranks from the first up to but not the end
@@ -65,3 +65,8 @@ pub record IsNumber (test : ℕ → Bool) (n : ℕ) : Type 0 where
   pub rise : RiseFrom 0 ranks
   pub has : (r : ℕ) → Among r ranks ↔ (test r ≡ true)
   pub count : length ranks ≡ n
+
+-- the counts of the classes that pass the test, added up
+abbrev pub total_in : {A : Type 0} → (A → Bool) → List (Class A) → ℕ
+total_in test [] = 0
+total_in test (c ∷ cs) = cond (test c.shows) c.count 0 + total_in test cs

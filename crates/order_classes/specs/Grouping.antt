@@ -1,13 +1,15 @@
 -- What is known of ranks from runs and swaps, and the classes that it gives.
-use Rattle.std.specs.Prelude.{◌≡◌, ℕ, ◌<◌, ◌≤◌, ◌⊎◌, Option, Some, List}
+use Rattle.std.specs.Prelude.{◌≡◌, ℕ, ◌<◌, ◌≤◌, ◌⊎◌, Bool, false, ◌&&◌, Option, Some, None, List, [], Ok}
 use Rattle.binding_model.specs.declared.tables.Table.{Table}
-use Rattle.bound_specs.specs.Spec.{Spec}
+use Rattle.bound_statements.specs.declared.statement.Bound.{Bound}
+use Rattle.bound_specs.specs.Spec.{Spec, SpecFile, ranks}
+use Rattle.bound_specs.specs.Binding.{IsFileOf, declared, main_setup}
 use Rattle.rank_facts.specs.Facts.{IsTrueAt}
 use Rattle.rank_facts.specs.Swap.{leads_in}
 use Rattle.rank_facts.specs.declared.fact.Fact.TheVariants.{Swap}
 use Rattle.order_classes.specs.Shows.{Shows, shows_at}
 use Rattle.order_classes.specs.Letters.{Answers, answers_at}
-use Rattle.order_classes.specs.Classes.{Class, IsClasses}
+use Rattle.order_classes.specs.Classes.{in_run, Class, IsClasses}
 
 -- what was found at ranks: what those that were run show, and a swap of others
 pub record Found : Type 0 where
@@ -43,6 +45,14 @@ AnswersAt tables spec r a = answers_at tables spec r ≡ Some a
 abbrev pub AreClasses : List Table → Spec → ℕ → ℕ → List (Class Shows) → Type 0
 AreClasses tables spec first end cs = IsClasses (ShowsAt tables spec) first end cs
 
+-- the rank is one of the range, and what it shows passes the test
+abbrev pub passes : (Shows → Bool) → Option Shows → Bool
+passes test None = false
+passes test (Some s) = test s
+
+abbrev pub passes_at : List Table → Spec → ℕ → ℕ → (Shows → Bool) → ℕ → Bool
+passes_at tables spec first end test r = in_run (record { first = first; end = end }) r && passes test (shows_at tables spec r)
+
 -- the coarser ones, by answers
 abbrev pub AreAnswerClasses : List Table → Spec → ℕ → ℕ → List (Class Answers) → Type 0
 AreAnswerClasses tables spec first end cs = IsClasses (AnswersAt tables spec) first end cs
@@ -50,3 +60,11 @@ AreAnswerClasses tables spec first end cs = IsClasses (AnswersAt tables spec) fi
 -- the grouping by what was found
 abbrev pub AreGrouped : Spec → Found → ℕ → ℕ → List (Class Shows) → Type 0
 AreGrouped spec found first end cs = IsClasses (IsShown found (leads_in spec)) first end cs
+
+-- the classes of all ranks of a spec file, with the tables that its main setups declare
+pub record AreClassesOf (text : List ℕ) (file : SpecFile) (cs : List (Class Shows)) : Type 0 where
+  pub is : IsFileOf text file
+  pub tables : List Table
+  pub blocks : List (List Bound)
+  pub declares : declared main_setup [] is.tree.front.setups ≡ Ok (tables, blocks)
+  pub classes : AreClasses tables file.run 0 (ranks file.run) cs

@@ -1,25 +1,29 @@
 -- The laws of classes.
-use Rattle.std.specs.Prelude.{◌≡◌, ◌≢◌, ◌↔◌, ℕ, ◌+◌, ◌<◌, ◌≤◌, Bool, true, List, [], length, map, Some}
+use Rattle.std.specs.Prelude.{◌≡◌, ◌≢◌, ◌↔◌, ℕ, ◌+◌, ◌-◌, ◌<◌, ◌≤◌, Bool, true, List, [], length, map, Some}
 use Rattle.binding_model.specs.declared.tables.Table.{Table}
 use Rattle.bound_statements.specs.declared.statement.Bound.{Bound}
-use Rattle.bound_specs.specs.Spec.{Spec, line_of, ranks, IsBound, counts_of, queues_of}
+use Rattle.bound_specs.specs.Spec.{Spec, SpecFile, line_of, ranks, IsBound, counts_of, queues_of}
 use Rattle.perm_ranks.specs.Words.{Word, all_words}
 use Rattle.perm_ranks.specs.Blocks.{Block, IsBlockOf}
 use Rattle.perm_ranks.specs.Swapped.{exchanged}
 use Rattle.rank_facts.specs.Facts.{IsTrueAt}
 use Rattle.rank_facts.specs.Swap.{leads_in}
 use Rattle.rank_facts.specs.declared.fact.Fact.TheVariants.{Swap}
+use Rattle.lock_modes.specs.declared.value.Value.{Value}
+use Rattle.lock_queues.specs.Locks.{waits_now}
 use Rattle.lock_queues.specs.Reasons.{Among}
-use Rattle.machine_model.specs.World.{World}
+use Rattle.machine_model.specs.World.{World, session_at}
 use Rattle.machine_model.specs.Typed.{RowsFit}
 use Rattle.line_moments.specs.Left.{left_in, LeaveSame}
-use Rattle.order_classes.specs.Shows.{seen, Shows, world_of_line, shows_at}
-use Rattle.order_classes.specs.Classes.{Class, in_runs, IsNumber}
+use Rattle.transcripts.specs.declared.event.Event.{Event}
+use Rattle.order_classes.specs.Shows.{seen, Shows, shows_in, world_of_line, shows_at}
+use Rattle.order_classes.specs.Classes.{Class, in_runs, IsNumber, total_in}
 use Rattle.order_classes.specs.Letters.{Answers, answers_of, answers_at, session_orders, IsOrder, serial_line, IsSerialRank, LetterR}
+use Rattle.order_classes.specs.Letters.{is_wait, is_deadlock, is_other_error, is_unsent, letter_w, letter_d, letter_e, letter_n, letter_s}
 use Rattle.order_classes.specs.Growing.{grown, TellsSame}
 use Rattle.order_classes.specs.Copying.{copied}
-use Rattle.order_classes.specs.Grouping.{Found, IsShown, IsFound, CoversTo, Reaches, AreClasses, AreAnswerClasses, AreGrouped}
-use Rattle.order_classes.specs.Looks.{IsLook, look_at}
+use Rattle.order_classes.specs.Grouping.{Found, IsShown, IsFound, CoversTo, Reaches, passes_at, AreClasses, AreAnswerClasses, AreGrouped, AreClassesOf}
+use Rattle.order_classes.specs.Looks.{IsLook, look_at, Meets, IsFirstMiss}
 
 -- of worlds whose rows fit the tables the same is seen exactly where they leave the same
 abbrev pub LeftIsSeen : Type 0
@@ -73,6 +77,18 @@ CountsAreNumbers =
     (tables : List Table) (spec : Spec) (first end : ℕ) (cs : List (Class Shows)) → AreClasses tables spec first end cs
     → (c : Class Shows) → Among c cs → IsNumber (in_runs c.runs) c.count
 
+-- so many ranks of a range show what passes a test as the classes that pass it have together
+abbrev pub TotalsAreNumbers : Type 0
+TotalsAreNumbers =
+    (tables : List Table) (spec : Spec) (first end : ℕ) (cs : List (Class Shows)) (test : Shows → Bool) → AreClasses tables spec first end cs
+    → IsNumber (passes_at tables spec first end test) (total_in test cs)
+
+-- all counts together are the number of ranks of the range
+abbrev pub CountsAddUp : Type 0
+CountsAddUp =
+    (tables : List Table) (spec : Spec) (first end : ℕ) (cs : List (Class Shows)) → AreClasses tables spec first end cs
+    → total_in (λ s. true) cs ≡ end - first
+
 -- each class is whole in one class by answers, and each of these has no rank but those of such classes
 abbrev pub AnswersJoinClasses : Type 0
 AnswersJoinClasses =
@@ -106,6 +122,17 @@ abbrev pub ClassesLookAlike : Type 0
 ClassesLookAlike =
     (tables : List Table) (spec : Spec) (first end : ℕ) (cs : List (Class Shows)) (st : Bound) → AreClasses tables spec first end cs
     → IsLook tables st → (c : Class Shows) → Among c cs → (r : ℕ) → in_runs c.runs r ≡ true → look_at spec st r ≡ look_at spec st c.least
+
+-- each rank meets an expectation exactly where each class's least does; and where one does not, the least such rank is that of the first such class
+abbrev pub ExpectationsAreDecided : Type 0
+ExpectationsAreDecided =
+    (tables : List Table) (spec : Spec) (first end : ℕ) (cs : List (Class Shows)) (st : Bound) (vs : List Value) → AreClasses tables spec first end cs
+    → IsLook tables st
+    → (((r : ℕ) → first ≤ r → r < end → Meets spec st vs r) ↔ ((c : Class Shows) → Among c cs → Meets spec st vs c.least))
+    × ((c : Class Shows) → Among c cs
+    → IsFirstMiss spec st vs first end c.least
+    ↔ ((Meets spec st vs c.least → ⊥) × ((d : Class Shows) → Among d cs → d.least < c.least → Meets spec st vs d.least)))
+    × ((r : ℕ) → IsFirstMiss spec st vs first end r → (c : Class Shows) × Among c cs × (c.least ≡ r))
 
 -- each order of the sessions, each whole, is the line of a rank: R compares with ranks of the spec
 abbrev pub SerialOrdersAreRanks : Type 0
@@ -149,3 +176,36 @@ BlocksLead =
     (spec : Spec) (k : ℕ) (shared other : Word) (x y : Block) → spec.lines ≡ []
     → IsBlockOf (counts_of (queues_of spec)) shared x → IsBlockOf (counts_of (queues_of spec)) other y → x.left ≡ y.left
     → exchanged k shared ≡ Some other → (i : ℕ) → i < length (all_words x.left) → leads_in spec (x.first + i) k ≡ Some (y.first + i)
+
+-- ---- of a file
+
+-- each rank of a file's spec is in exactly one of its classes, each rank of a class is one of the spec that shows what the class does,
+-- and all counts together are the number of its ranks
+abbrev pub FilesAreClassed : Type 0
+FilesAreClassed =
+    (text : List ℕ) (file : SpecFile) (cs : List (Class Shows)) → (are : AreClassesOf text file cs)
+    → ((r : ℕ) → r < ranks file.run
+    → (c : Class Shows) × Among c cs × (in_runs c.runs r ≡ true) × ((d : Class Shows) → Among d cs → in_runs d.runs r ≡ true → d ≡ c))
+    × ((c : Class Shows) → Among c cs → (r : ℕ) → in_runs c.runs r ≡ true → (r < ranks file.run) × (shows_at are.tables file.run r ≡ Some c.shows))
+    × (total_in (λ s. true) cs ≡ ranks file.run)
+
+-- ---- letters
+
+-- S is told exactly where a session still waits in the world behind the line
+abbrev pub LetterSIsExact : Type 0
+LetterSIsExact =
+    (tables : List Table) (sessions : ℕ) (w : World)
+    → (letter_s (shows_in tables sessions w) ≡ true) ↔ ((i : ℕ) × (i < sessions) × (waits_now w.waits i ≡ true))
+
+-- one of so many sessions is told such a thing
+abbrev pub IsTold : (Event → Bool) → ℕ → World → Type 0
+IsTold test sessions w = (i : ℕ) × (i < sessions) × (e : Event) × Among e (session_at w i).transcript × (test e ≡ true)
+
+-- W, D, E and N are told exactly where a session is told a wait, a deadlock, another error of its own, or that a step is not sent
+abbrev pub LettersAreTold : Type 0
+LettersAreTold =
+    (tables : List Table) (sessions : ℕ) (w : World)
+    → ((letter_w (shows_in tables sessions w) ≡ true) ↔ IsTold is_wait sessions w)
+    × ((letter_d (shows_in tables sessions w) ≡ true) ↔ IsTold is_deadlock sessions w)
+    × ((letter_e (shows_in tables sessions w) ≡ true) ↔ IsTold is_other_error sessions w)
+    × ((letter_n (shows_in tables sessions w) ≡ true) ↔ IsTold is_unsent sessions w)

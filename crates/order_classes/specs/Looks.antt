@@ -1,5 +1,5 @@
 -- What a SELECT sees of the rows that are left, and what is expected of it.
-use Rattle.std.specs.Prelude.{◌≡◌, ℕ, ◌<◌, List, [], ◌∷◌, length, get_or, Option, Some, None, option_map}
+use Rattle.std.specs.Prelude.{◌≡◌, ℕ, ◌<◌, ◌≤◌, List, [], ◌∷◌, length, get_or, Option, Some, None, option_map}
 use Rattle.lock_modes.specs.declared.value.Value.{Value}
 use Rattle.transcripts.specs.declared.event.Event.TheVariants.{Row as RowEvent, Rows}
 use Rattle.bound_statements.specs.declared.statement.Bound.{Bound}
@@ -40,3 +40,10 @@ Meets spec st vs r = look_at spec st r ≡ Some (one_row vs)
 -- a class looks so: its least rank does
 abbrev pub LooksLike : Spec → Bound → Class Shows → Effect → Type 0
 LooksLike spec st c e = look_at spec st c.least ≡ Some e
+
+-- the least rank of the range that does not meet it
+pub record IsFirstMiss (spec : Spec) (st : Bound) (vs : List Value) (first end r : ℕ) : Type 0 where
+  pub from : first ≤ r
+  pub less : r < end
+  pub misses : Meets spec st vs r → ⊥
+  pub below : (q : ℕ) → first ≤ q → q < r → Meets spec st vs q

@@ -3,7 +3,8 @@
 ghost use Rattle.order_classes.specs.Laws.{SwapsKeepWorlds, SwapsKeepShows, ChainsKeepShows, ClassesAreUnique, AnswerClassesAreUnique, ClassesAreWhole};
 ghost use Rattle.order_classes.specs.Laws.{ClassesAreDisjoint, CountsAreNumbers, AnswersJoinClasses, CoversReach, FoundIsGrouped, ShowsLookAlike};
 ghost use Rattle.order_classes.specs.Laws.{ClassesLookAlike, SerialOrdersAreRanks, SessionOrdersAreAll, LetterRIsExact, ClassesBegin, ClassesGrow, ClassesCopy};
-ghost use Rattle.order_classes.specs.Laws.{BlocksLead, LeftIsSeen};
+ghost use Rattle.order_classes.specs.Laws.{BlocksLead, LeftIsSeen, FilesAreClassed, ExpectationsAreDecided, LetterSIsExact, LettersAreTold};
+ghost use Rattle.order_classes.specs.Laws.{TotalsAreNumbers, CountsAddUp};
 
 /// Where rows fit their tables, the same is seen of them exactly where the same is left.
 pub fn left_is_seen()
@@ -108,4 +109,34 @@ pub fn session_orders_are_all()
 /// R is told exactly of what no rank answers that runs the sessions one behind the other, each whole.
 pub fn letter_r_is_exact()
     ensures { LetterRIsExact }
+{}
+
+/// Each rank of a file's spec is in exactly one of its classes.
+pub fn files_are_classed()
+    ensures { FilesAreClassed }
+{}
+
+/// What is expected of each rank is decided by the least ranks of classes.
+pub fn expectations_are_decided()
+    ensures { ExpectationsAreDecided }
+{}
+
+/// S is told exactly where a session still waits at the end.
+pub fn letter_s_is_exact()
+    ensures { LetterSIsExact }
+{}
+
+/// W, D, E and N are told exactly where a session is told such a thing.
+pub fn letters_are_told()
+    ensures { LettersAreTold }
+{}
+
+/// So many ranks show what passes a test as the classes that pass it have together.
+pub fn totals_are_numbers()
+    ensures { TotalsAreNumbers }
+{}
+
+/// All counts together are the number of ranks of the range.
+pub fn counts_add_up()
+    ensures { CountsAddUp }
 {}

@@ -1,0 +1,5 @@
+use Rattle.order_classes.proofs.Totals.{total-number}
+use Rattle.order_classes.proofs.laws.totals_are_numbers.Goals as goal
+
+pub returns : goal.returns
+returns c = λ tables spec first end cs test are. total-number tables spec first end cs are test
