@@ -6,7 +6,10 @@ use Rattle.lock_modes.proofs.ModeLaws.{same_mode-true, same_mode-refl}
 use Rattle.bound_specs.specs.Spec.{Step}
 use Rattle.machine_model.specs.World.{World}
 use Rattle.machine_model.proofs.Basics.{known}
-use Rattle.lock_queues.specs.Reasons.{Reason, Holds, Ahead, Edge, same_reason, same_edges, Among}
+use Rattle.lock_queues.specs.declared.reason.Reason.{Reason}
+use Rattle.lock_queues.specs.declared.reason.Reason.TheVariants.{Holds, Ahead}
+use Rattle.lock_queues.specs.declared.reason.Edge.{Edge}
+use Rattle.lock_queues.specs.Reasons.{same_reason, same_edges, Among}
 use Rattle.line_moments.specs.Moments.{Going, Still, edges_in, changed_edges, still_below, behind, session_by, moment_of}
 use Rattle.lock_queues.proofs.Edges.{among-left, among-right, among-parts}
 

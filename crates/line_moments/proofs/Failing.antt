@@ -38,7 +38,7 @@ use Rattle.machine_model.specs.Sound.{Sound}
 use Rattle.machine_model.proofs.Telling.{AllEffects, TellsEffects, effect-tells}
 use Rattle.machine_model.proofs.Settles.{entering-granted, idle-each}
 use Rattle.lock_queues.specs.Reasons.{Want, Among}
-use Rattle.lock_queues.specs.Rings.{Hop}
+use Rattle.lock_queues.specs.declared.told.Hop.{Hop}
 use Rattle.line_moments.specs.Moments.{Refusal, Closes, Wants, Sends, GoesOn, Going, behind, line_goings, refusal, go_refusal, told_only, holding}
 use Rattle.line_moments.specs.Moments.{without}
 use Rattle.line_moments.specs.Moments.{ending_by, Loses, Lacks, moment_of, refusal_by, want_in, session_by, events_by}

@@ -11,7 +11,8 @@ use Rattle.lock_queues.specs.Locks.{Look, Spot, spots_from, wanted, closes_ring,
 use Rattle.lock_queues.specs.Rules.{IsSpot}
 use Rattle.lock_queues.specs.Sound.{Distinct, EachWait}
 use Rattle.lock_queues.specs.Reasons.{Want, want_at, want_by, spot_of, Among, IsExact}
-use Rattle.lock_queues.specs.Rings.{Hop, ring_told, IsRingTold}
+use Rattle.lock_queues.specs.declared.told.Hop.{Hop}
+use Rattle.lock_queues.specs.Rings.{ring_told, IsRingTold}
 use Rattle.lock_queues.proofs.WaitLists.{distinct-push, distinct-without, wait-append, wait-left, wait-map}
 use Rattle.lock_queues.proofs.Edges.{want-exact}
 use Rattle.lock_queues.proofs.Hops.{ring-told}

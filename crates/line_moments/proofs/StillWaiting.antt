@@ -1,6 +1,7 @@
 -- What a moment tells of another session's wait is exact in the world behind the moment.
 use Rattle.std.proofs.Common.{◌≡◌, ◌≢◌, refl, ℕ, List, [], Option, Some, None}
-use Rattle.lock_queues.specs.Reasons.{Edge, Want, IsExact}
+use Rattle.lock_queues.specs.declared.reason.Edge.{Edge}
+use Rattle.lock_queues.specs.Reasons.{Want, IsExact}
 use Rattle.machine_model.specs.World.{World, look_of}
 use Rattle.machine_model.specs.Sound.{Steady}
 use Rattle.line_moments.specs.Laws.{StillWaitsAreExact}

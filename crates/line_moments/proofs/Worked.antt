@@ -7,8 +7,9 @@ use Rattle.lock_modes.specs.declared.resource.Resource.{Resource}
 use Rattle.lock_modes.specs.declared.resource.Resource.TheVariants.{Table, Row as RowOf}
 use Rattle.lock_modes.specs.declared.value.Value.{Value}
 use Rattle.lock_modes.specs.Rows.{Tuple}
-use Rattle.lock_queues.specs.Reasons.{Edge, Holds, Ahead}
-use Rattle.lock_queues.specs.Rings.{Hop}
+use Rattle.lock_queues.specs.declared.reason.Reason.TheVariants.{Holds, Ahead}
+use Rattle.lock_queues.specs.declared.reason.Edge.{Edge}
+use Rattle.lock_queues.specs.declared.told.Hop.{Hop}
 use Rattle.row_tables.specs.Overlay.{lay}
 use Rattle.statement_evaluation.specs.Effect.{effect}
 use Rattle.binding_model.specs.Tables.{no_table}

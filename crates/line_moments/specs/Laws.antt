@@ -1,8 +1,9 @@
 -- The laws of moments.
 use Rattle.std.specs.Prelude.{◌≡◌, ◌≢◌, ◌↔◌, ℕ, ◌<◌, true, ◌++◌, List, [], ◌∷◌, length, map, All, Some, None}
 use Rattle.lock_queues.specs.Locks.{Spot, waits_now}
-use Rattle.lock_queues.specs.Reasons.{Edge, Want, Among, IsExact}
-use Rattle.lock_queues.specs.Rings.{Hop}
+use Rattle.lock_queues.specs.declared.reason.Edge.{Edge}
+use Rattle.lock_queues.specs.Reasons.{Want, Among, IsExact}
+use Rattle.lock_queues.specs.declared.told.Hop.{Hop}
 use Rattle.transcripts.specs.declared.event.Event.TheVariants.{Failed}
 use Rattle.transcripts.specs.declared.event.Fault.TheVariants.{Deadlock, Unavailable}
 use Rattle.bound_specs.specs.Spec.{Spec, SpecFile, Step, IsBound}

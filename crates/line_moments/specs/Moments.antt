@@ -9,8 +9,10 @@ use Rattle.lock_modes.specs.declared.resource.Resource.{Resource}
 use Rattle.lock_modes.specs.Rows.{Rows'}
 use Rattle.lock_queues.specs.declared.wait.Wait.{Wait}
 use Rattle.lock_queues.specs.Locks.{Spot, next_grant, waits_now, wanted, may_have, closes_ring}
-use Rattle.lock_queues.specs.Reasons.{Edge, same_edges, Want, want_at, want_of, IsExact}
-use Rattle.lock_queues.specs.Rings.{Hop, ring_told, IsRingTold}
+use Rattle.lock_queues.specs.declared.reason.Edge.{Edge}
+use Rattle.lock_queues.specs.Reasons.{same_edges, Want, want_at, want_of, IsExact}
+use Rattle.lock_queues.specs.declared.told.Hop.{Hop}
+use Rattle.lock_queues.specs.Rings.{ring_told, IsRingTold}
 use Rattle.bound_specs.specs.Spec.{Step, no_step}
 use Rattle.transcripts.specs.declared.event.Event.{Event}
 use Rattle.transcripts.specs.declared.event.Fault.{Fault}

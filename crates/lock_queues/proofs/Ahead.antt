@@ -91,7 +91,7 @@ module _ (look : Look) (b : ℕ) where
   one-ahead w earlier v = (v.session == b) && is_ahead look w earlier v
 
   -- a session's wait is ahead where it is so before or after
-  ahead-any : (s : Spot) → list_any (λ (w : Wait). w.session == b) (ahead look s)
+  pub ahead-any : (s : Spot) → list_any (λ (w : Wait). w.session == b) (ahead look s)
       ≡ (list_any (one-ahead s.wait true) s.before || list_any (one-ahead s.wait false) s.after)
   ahead-any s = at (converts look s.wait)
     where

@@ -15,7 +15,7 @@ pub record IsFirst (n : ℕ) (test : ℕ → Bool) (k : ℕ) : Type 0 where
   pub passes : test k ≡ true
   pub least : (j : ℕ) → j < k → test j ≡ false
 
-first-none : (n : ℕ) (test : ℕ → Bool) → first_below n test ≡ None → (j : ℕ) → j < n → test j ≡ false
+pub first-none : (n : ℕ) (test : ℕ → Bool) → first_below n test ≡ None → (j : ℕ) → j < n → test j ≡ false
 first-none zero test e j lt = absurd (omega (arith, lt))
 first-none (suc n) test e j lt = at (first_below n test) refl e (first-none n test)
   where
@@ -61,7 +61,7 @@ leads-from : (b x : Bool) → b ≡ true → x ≡ true → (let y : Bool = elim
 leads-from true x p q = q
 leads-from false x p q = p
 
-leads-parts : (b x : Bool) → (let y : Bool = elim b [ true ↦ x | false ↦ false ] in y) ≡ true → (b ≡ true) × (x ≡ true)
+pub leads-parts : (b x : Bool) → (let y : Bool = elim b [ true ↦ x | false ↦ false ] in y) ≡ true → (b ≡ true) × (x ≡ true)
 leads-parts true x p = (refl, p)
 leads-parts false x p = absurd (let y : false ≡ true = p in cc)
 
@@ -84,7 +84,7 @@ module _ (edge : ℕ → ℕ → Bool) (count : ℕ) where
     pub rest : reaches edge count n d b ≡ true
     pub least : (j : ℕ) → j < d → next n a b j ≡ false
 
-  reaches-next : (n a b : ℕ) → reaches edge count (suc n) a b ≡ true → (d : ℕ) × IsNext n a b d
+  pub reaches-next : (n a b : ℕ) → reaches edge count (suc n) a b ≡ true → (d : ℕ) × IsNext n a b d
   reaches-next n a b h = at (first_below count (next n a b)) refl h
     where
       at : (o : Option ℕ) → first_below count (next n a b) ≡ o → is_some o ≡ true → (d : ℕ) × IsNext n a b d
@@ -106,7 +106,7 @@ module _ (edge : ℕ → ℕ → Bool) (count : ℕ) where
       reaches-step k a b r.0 x.below x.edge_is (reaches-join n m k r.0 c b (omega (arith, is)) x.rest q)
 
   -- what the test for a ring finds is reached
-  way-reaches : (n a b : ℕ) → n ≤ count → b < count → way_below edge n a b ≡ true
+  pub way-reaches : (n a b : ℕ) → n ≤ count → b < count → way_below edge n a b ≡ true
       → (m : ℕ) × (m < longest n) × (reaches edge count (suc m) a b ≡ true)
   way-reaches zero a b le lt h = (0, omega arith, reaches-step 0 a b b lt h (eq-eqb b b refl))
   way-reaches (suc n) a b le lt h =
@@ -127,7 +127,7 @@ module _ (edge : ℕ → ℕ → Bool) (count : ℕ) where
 
   -- ---- the sessions of a way
 
-  stops-next : (n a b d : ℕ) → IsNext n a b d → stops edge count (suc n) a b ≡ a ∷ stops edge count n d b
+  pub stops-next : (n a b d : ℕ) → IsNext n a b d → stops edge count (suc n) a b ≡ a ∷ stops edge count n d b
   stops-next n a b d x = ap (λ o. let xs : List ℕ = a ∷ elim o [ None ↦ [] | Some c ↦ stops edge count n c b ] in xs) x.first
 
   -- they go along the edges

@@ -12,6 +12,8 @@ pub mod Keeping
 pub mod Waiters
 pub mod Bounded
 pub mod Edges
+pub mod Telling
+pub mod Walking
 pub mod Finding
 pub mod Hops
 pub mod Worked

@@ -3,9 +3,11 @@ pub mod LockTable
 pub mod Sound
 pub mod Rules
 pub mod Reasons
+pub mod Sides
 pub mod Rings
 pub mod Laws
 pub mod Queue
 pub mod Search
+pub mod Walks
 pub mod Tabulate
 pub mod Records

@@ -4,19 +4,12 @@ use Rattle.std.specs.List.{list_any}
 use Rattle.lock_modes.specs.declared.mode.Mode.{Mode}
 use Rattle.lock_modes.specs.declared.resource.Resource.{Resource}
 use Rattle.lock_modes.specs.Mode.{compatible, same_mode}
+pub use Rattle.lock_queues.specs.declared.reason.Reason.{Reason}
+pub use Rattle.lock_queues.specs.declared.reason.Reason.TheVariants.{Holds, Ahead}
+pub use Rattle.lock_queues.specs.declared.reason.Edge.{Edge}
 use Rattle.lock_queues.specs.declared.wait.Wait.{Wait}
 use Rattle.lock_queues.specs.Locks.{Look, Spot, spots, ahead, wanted_by, waits_for}
 use Rattle.lock_queues.specs.Rules.{IsSpot}
-
--- the mode that a session holds there, or the mode that its wait ahead wants
-pub data Reason : Type 0 where
-  Holds : (mode : Mode) → Reason
-  Ahead : (mode : Mode) → Reason
-
--- a session that is waited for, and why
-pub record Edge : Type 0 where
-  pub session : ℕ
-  pub reason : Reason
 
 -- what session b holds there, where the wanted mode does not fit beside it
 abbrev pub held_edges : ℕ → Mode → Option Mode → List Edge

@@ -1,7 +1,6 @@
 -- The ring that a wait closes: of the shortest ones the least by its sessions, from the victim on.
 use Rattle.std.specs.Prelude.{◌≡◌, ◌⊎◌, ℕ, zero, suc, ◌+◌, ◌<◌, ◌≤◌, length, Bool, true, false, ◌==◌, cond, List, [], ◌∷◌, ◌++◌, Option, Some, None, is_some}
-use Rattle.lock_modes.specs.declared.mode.Mode.{Mode}
-use Rattle.lock_modes.specs.declared.resource.Resource.{Resource}
+pub use Rattle.lock_queues.specs.declared.told.Hop.{Hop}
 use Rattle.lock_queues.specs.declared.wait.Wait.{Wait}
 use Rattle.lock_queues.specs.Locks.{Look, Spot, spots, waits_for, wanted_by}
 use Rattle.lock_queues.specs.Rules.{IsSpot}
@@ -35,13 +34,6 @@ longest (suc n) = longest n + longest n
 abbrev pub ring_of : (ℕ → ℕ → Bool) → ℕ → ℕ → List ℕ
 ring_of edge count i =
     elim (first_below (longest count) (λ n. reaches edge count (suc n) i i)) [ None ↦ [] | Some n ↦ stops edge count (suc n) i i ]
-
--- one edge of a ring, with what is waited for
-pub record Hop : Type 0 where
-  pub session : ℕ
-  pub resource : Resource
-  pub mode : Mode
-  pub edge : Edge
 
 abbrev pub hop_by : Look → Spot → List Edge → List Hop
 hop_by look s [] = []

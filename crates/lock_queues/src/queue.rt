@@ -1,10 +1,11 @@
 //! Who is ahead of whom, and which wait is the next to be granted.
 
-ghost use Rattle.std.specs.Prelude.{◌≡◌, ◌↔◌, ◌<◌, ◌≤◌, ℕ, IsTrue, length, MatchOption};
-ghost use Rattle.std.specs.List.{list_any};
+ghost use Rattle.std.specs.Prelude.{◌≡◌, ◌↔◌, ◌<◌, ◌≤◌, ◌==◌, ℕ, IsTrue, length, MatchOption};
+ghost use Rattle.std.specs.List.{list_any, position};
 ghost use Rattle.lock_queues.specs.Locks as locks;
 ghost use Rattle.lock_queues.specs.Queue as queue;
 ghost use Rattle.lock_queues.specs.LockTable.{look_at};
+ghost use Rattle.lock_queues.specs.Reasons.{spot_of};
 ghost use Rattle.lock_queues.specs.Rules.{IsSpot, IsRipe, IsNextOf, NothingRipe};
 
 use crate::held::Held;
@@ -120,4 +121,21 @@ pub fn next_ripe(held: &Held, waits: &[Wait]) -> Option<u8>
         }
     }
     None
+}
+
+/// Where the session's wait stands, if it waits.
+pub fn place_of(waits: &[Wait], session: u8) -> Option<usize>
+    ensures { result ≡ position (λ (w : locks.Wait). w.session == session) waits.now }
+{
+    waits.iter().position(|wait| wait.session == session)
+}
+
+/// The session's wait, if it waits, with those before it and after it.
+pub fn find_spot(waits: &[Wait], session: u8) -> Option<Spot<'_>>
+    ensures { result ≡ spot_of session (locks.spots waits.now) }
+{
+    match place_of(waits, session) {
+        None => None,
+        Some(index) => Some(Spot::at(waits, index)),
+    }
 }

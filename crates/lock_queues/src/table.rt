@@ -1,18 +1,22 @@
-ghost use Rattle.std.specs.Prelude.{◌≡◌, ◌==◌, ◌↔◌, ℕ, not, true, false, IfOk, OnOk, OnErr, IsTrue, MatchOption};
-ghost use Rattle.std.specs.List.{filter, find, position};
+ghost use Rattle.std.specs.Prelude.{◌≡◌, ◌==◌, ◌↔◌, ◌<◌, ℕ, not, true, false, IfOk, OnOk, OnErr, IsTrue, MatchOption};
+ghost use Rattle.std.specs.List.{filter, find};
 ghost use Rattle.std.specs.Option.{option_copied, option_map};
 ghost use Rattle.finite_maps.specs.Map.{get};
 ghost use Rattle.lock_modes.specs.Resource.{resource_at};
 ghost use Rattle.lock_queues.specs.Locks as locks;
 ghost use Rattle.lock_queues.specs.LockTable as spec;
+ghost use Rattle.lock_queues.specs.Reasons as reasons;
+ghost use Rattle.lock_queues.specs.Rings as rings;
 ghost use Rattle.lock_queues.specs.Rules as rule;
 ghost use Rattle.lock_queues.specs.Sound.{Distinct, IsSound};
 
 use crate::answer::{Answer, Taken};
 use crate::held::Held;
-use crate::queue::{next_ripe, wanted, wanted_mode};
+use crate::queue::{find_spot, next_ripe, place_of, wanted, wanted_mode};
 use crate::ring::is_in_ring;
+use crate::told::{Hop, ring_of};
 use crate::wait::Wait;
+use crate::want::{Want, want_at};
 use finite_maps::Fork;
 use lock_modes::{Mode, Place};
 use std::alloc::{AllocError, Global};
@@ -176,6 +180,43 @@ impl LockTable {
             Some(wait) => Some((wait.resource.place(), wanted(&self.held, wait))),
         }
     }
+
+    /// What the session wants, if it waits, and whom of the sessions below the count it waits for, in their order, and
+    /// why. It fails for want of memory alone.
+    pub fn want_of(&self, alloc: Global, session: u8, count: u8) -> Result<Option<Want>, AllocError>
+        ensures { IfOk result (λ want. want ≡ reasons.want_of count (spec.look_in self.now) self.now.waits session) }
+    {
+        match find_spot(&self.waits, session) {
+            None => Ok(None),
+            Some(spot) => Ok(Some(want_at(alloc, &self.held, &spot, count)?)),
+        }
+    }
+
+    /// The ring that the session's wait would close, told edge by edge: of the shortest ones the least by its sessions, from
+    /// this session on. It fails for want of memory alone.
+    pub fn ring(
+        &self,
+        alloc: Global,
+        session: u8,
+        place: Place<'_>,
+        mode: Mode,
+        count: u8,
+    ) -> Result<Vec<Hop>, AllocError>
+        requires free { locks.waits_now self.now.waits session ≡ false }
+        requires below { session < count }
+        requires closes { locks.closes_ring count (spec.look_in self.now) (spec.queued self.now session (resource_at place) mode).waits session ≡ true }
+        ensures { IfOk result (λ hops. hops.items
+            ≡ rings.ring_told count (spec.look_in self.now) (spec.queued self.now session (resource_at place.entry) mode).waits session) }
+    {
+        let mut waits = fork_waits(alloc, &self.waits)?;
+        let resource = place.to_resource()?;
+        waits.push(Wait {
+            session,
+            resource,
+            mode,
+        })?;
+        ring_of(alloc, &self.held, &waits, session, count)
+    }
 }
 
 impl Fork for LockTable {
@@ -187,6 +228,16 @@ impl Fork for LockTable {
         }
         Ok(LockTable { held, waits })
     }
+}
+
+fn fork_waits(alloc: Global, waits: &[Wait]) -> Result<Vec<Wait>, AllocError>
+    ensures { IfOk result (λ copies. copies.items ≡ waits.now) }
+{
+    let mut copies = Vec::new(alloc);
+    for wait in waits {
+        copies.push(wait.fork()?)?;
+    }
+    Ok(copies)
 }
 
 /// Whether a session that holds this may have a mode at once.
@@ -215,12 +266,6 @@ fn find_wait(waits: &[Wait], session: u8) -> Option<&Wait>
     ensures { option_copied result ≡ find (λ (w : locks.Wait). w.session == session) waits.now }
 {
     waits.iter().find(|wait| wait.session == session)
-}
-
-fn place_of(waits: &[Wait], session: u8) -> Option<usize>
-    ensures { result ≡ position (λ (w : locks.Wait). w.session == session) waits.now }
-{
-    waits.iter().position(|wait| wait.session == session)
 }
 
 /// Takes out the wait of a session, if it has one.
