@@ -34,7 +34,9 @@ use Rattle.machine_model.proofs.Basics.{known}
 use Rattle.machine_model.proofs.Telling.{AllEffects, TellsEffects, effect-tells}
 use Rattle.machine_model.proofs.Settles.{entering, entering-granted, steady-of, session-there}
 use Rattle.line_moments.specs.Laws.{LocksAreAsked}
-use Rattle.line_moments.specs.Moments.{Sends, GoesOn, Going, behind, Change, Had, LetGo, let_go_by, let_go, end_changes, did_changes, go_changes}
+use Rattle.line_moments.specs.declared.moment.Change.{Change}
+use Rattle.line_moments.specs.declared.moment.Change.TheVariants.{Had, LetGo}
+use Rattle.line_moments.specs.Moments.{Sends, GoesOn, Going, behind, let_go_by, let_go, end_changes, did_changes, go_changes}
 use Rattle.line_moments.specs.Moments.{changed, session_by, events_by, changes_by, told_only, holding, without, granted_by, held_from, tasks_by, changes_along}
 use Rattle.line_moments.specs.Moments.{scene_by, going_by, Does, StopsAt, Halt, AtEnd, AtWait, AtFault, left_at, let_go_at, tells_fault}
 use Rattle.line_moments.specs.Moments.{IsSeenAt, LetsGoOfHeld, AreAsked, AreAskedBy}

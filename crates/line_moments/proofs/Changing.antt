@@ -10,7 +10,8 @@ use Rattle.lock_queues.specs.declared.reason.Reason.{Reason}
 use Rattle.lock_queues.specs.declared.reason.Reason.TheVariants.{Holds, Ahead}
 use Rattle.lock_queues.specs.declared.reason.Edge.{Edge}
 use Rattle.lock_queues.specs.Reasons.{same_reason, same_edges, Among}
-use Rattle.line_moments.specs.Moments.{Going, Still, edges_in, changed_edges, still_below, behind, session_by, moment_of}
+use Rattle.line_moments.specs.declared.moment.Still.{Still}
+use Rattle.line_moments.specs.Moments.{Going, edges_in, changed_edges, still_below, behind, session_by, moment_of}
 use Rattle.lock_queues.proofs.Edges.{among-left, among-right, among-parts}
 
 -- ---- the test of edges

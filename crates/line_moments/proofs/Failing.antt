@@ -39,9 +39,12 @@ use Rattle.machine_model.proofs.Telling.{AllEffects, TellsEffects, effect-tells}
 use Rattle.machine_model.proofs.Settles.{entering-granted, idle-each}
 use Rattle.lock_queues.specs.Reasons.{Want, Among}
 use Rattle.lock_queues.specs.declared.told.Hop.{Hop}
-use Rattle.line_moments.specs.Moments.{Refusal, Closes, Wants, Sends, GoesOn, Going, behind, line_goings, refusal, go_refusal, told_only, holding}
+use Rattle.line_moments.specs.declared.moment.Refusal.{Refusal}
+use Rattle.line_moments.specs.declared.moment.Refusal.TheVariants.{Closes, Wants}
+use Rattle.line_moments.specs.Moments.{Sends, GoesOn, Going, behind, line_goings, refusal, go_refusal, told_only, holding}
 use Rattle.line_moments.specs.Moments.{without}
-use Rattle.line_moments.specs.Moments.{ending_by, Loses, Lacks, moment_of, refusal_by, want_in, session_by, events_by}
+use Rattle.line_moments.specs.declared.moment.Ending.TheVariants.{Loses, Lacks}
+use Rattle.line_moments.specs.Moments.{ending_by, moment_of, refusal_by, want_in, session_by, events_by}
 use Rattle.line_moments.specs.Laws.{RingsAreTold, LacksAreTold}
 use Rattle.lock_queues.proofs.Edges.{among-parts, among-right, want-waits}
 use Rattle.line_moments.proofs.Losing.{loses-is, lacks-is}

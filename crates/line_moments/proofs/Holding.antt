@@ -26,7 +26,9 @@ use Rattle.machine_model.specs.Sound.{Steady, Sound}
 use Rattle.machine_model.proofs.Basics.{known, cases-eq}
 use Rattle.machine_model.proofs.Settles.{Grant, next-grant, entering-granted, granted-steady, entering, goes-steady, steady-of, send-sound}
 use Rattle.machine_model.proofs.Counts.{send-fitting}
-use Rattle.line_moments.specs.Moments.{Sends, GoesOn, Skips, Going, Change, Had, LetGo, let_go_by, let_go, end_changes, did_changes, go_changes}
+use Rattle.line_moments.specs.declared.moment.Change.{Change}
+use Rattle.line_moments.specs.declared.moment.Change.TheVariants.{Had, LetGo}
+use Rattle.line_moments.specs.Moments.{Sends, GoesOn, Skips, Going, let_go_by, let_go, end_changes, did_changes, go_changes}
 use Rattle.line_moments.specs.Moments.{behind_by, settle_goings, goings, line_goings, moments, line_moments, moment_of, session_by, changes_by, told_only}
 use Rattle.line_moments.specs.Moments.{holding, without, changes_to, changed}
 use Rattle.line_moments.proofs.Telling.{before, go-before}

@@ -26,8 +26,13 @@ use Rattle.machine_model.specs.Go.{Scene, taking, is_broken, replied, reply_in, 
 use Rattle.machine_model.specs.World.{World, session_at, look_of, scene_of}
 use Rattle.machine_model.specs.Sound.{Sound, Ready}
 use Rattle.machine_model.proofs.Settles.{Entering, entering, entering-granted, steady-of, session-known}
-use Rattle.line_moments.specs.Moments.{Change, Had, let_go, changed, did_changes, go_changes, Going, behind, line_goings}
-use Rattle.line_moments.specs.Moments.{Refusal, Closes, Wants, last_spot, refusal, go_refusal, refusal_by, told_only, holding, without, ending_by, Loses, Lacks}
+use Rattle.line_moments.specs.declared.moment.Change.{Change}
+use Rattle.line_moments.specs.declared.moment.Change.TheVariants.{Had}
+use Rattle.line_moments.specs.Moments.{let_go, changed, did_changes, go_changes, Going, behind, line_goings}
+use Rattle.line_moments.specs.declared.moment.Refusal.{Refusal}
+use Rattle.line_moments.specs.declared.moment.Refusal.TheVariants.{Closes, Wants}
+use Rattle.line_moments.specs.declared.moment.Ending.TheVariants.{Loses, Lacks}
+use Rattle.line_moments.specs.Moments.{last_spot, refusal, go_refusal, refusal_by, told_only, holding, without, ending_by}
 use Rattle.line_moments.specs.Moments.{moment_of, want_in, session_by, scene_by, IsLost, IsLacking, changes_along, granted_by, going_by, Does, tasks_by}
 use Rattle.line_moments.specs.Laws.{MomentsLose, MomentsLack}
 use Rattle.bound_statements.specs.declared.statement.Bound.{Bound}

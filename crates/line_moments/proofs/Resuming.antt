@@ -21,7 +21,9 @@ use Rattle.machine_model.proofs.Owned.{start-silent}
 use Rattle.machine_model.proofs.Settles.{next-grant, session-there, session-other, entering-granted}
 use Rattle.machine_model.proofs.Starts.{OnStarted, start-idle, start-sound}
 use Rattle.line_moments.specs.Laws.{StepsAreTold, WaitersGoOn}
-use Rattle.line_moments.specs.Moments.{Cause, Sends, GoesOn, Skips, Going, behind, behind_by, line_goings, Leads, IsTrue, Ending, Awaits, moment_of}
+use Rattle.line_moments.specs.declared.moment.Ending.{Ending}
+use Rattle.line_moments.specs.declared.moment.Ending.TheVariants.{Awaits}
+use Rattle.line_moments.specs.Moments.{Cause, Sends, GoesOn, Skips, Going, behind, behind_by, line_goings, Leads, IsTrue, moment_of}
 use Rattle.line_moments.specs.Moments.{session_by, last_sent, step_by, sent_by, sent_to, step_after, ended_last, waits_but, holding, without}
 use Rattle.line_moments.proofs.Behind.{moments-true}
 use Rattle.line_moments.proofs.Leading.{moments-lead}

@@ -8,8 +8,10 @@ use Rattle.machine_model.specs.World.{World, send_all}
 use Rattle.machine_model.proofs.Owned.{lines-sound}
 use Rattle.machine_model.proofs.Typed.{worlds-fit}
 use Rattle.line_moments.specs.Laws.{ShownIsTrue, FilesAreShown}
-use Rattle.line_moments.specs.Left.{Left, left_from}
-use Rattle.line_moments.specs.Left.{Shown, shown_from, IsShown}
+use Rattle.line_moments.specs.declared.shown.Left.{Left}
+use Rattle.line_moments.specs.Left.{left_from}
+use Rattle.line_moments.specs.declared.shown.Shown.{Shown}
+use Rattle.line_moments.specs.Left.{shown_from, IsShown}
 use Rattle.line_moments.proofs.Leaving.{left-in}
 use Rattle.line_moments.proofs.Standing.{standings-exact, begun-are}
 

@@ -13,9 +13,10 @@ use Rattle.machine_model.specs.declared.status.Status.TheVariants.{Outside, InBl
 use Rattle.machine_model.specs.Sound.{Steady}
 use Rattle.machine_model.specs.World.{World, session_at}
 use Rattle.line_moments.specs.Laws.{StandingsAreExact}
-use Rattle.line_moments.specs.Left.{HasEnded}
+use Rattle.line_moments.specs.declared.shown.Standing.TheVariants.{HasEnded}
 use Rattle.line_moments.specs.Left.{standing_by, standing_of, standings}
-use Rattle.line_moments.specs.Left.{IsStanding, Begun, begun_of, begun, IsBegun, AreBegun}
+use Rattle.line_moments.specs.declared.shown.Begun.{Begun}
+use Rattle.line_moments.specs.Left.{IsStanding, begun_of, begun, IsBegun, AreBegun}
 use Rattle.line_moments.specs.Moments.{want_in}
 use Rattle.line_moments.proofs.Waiting.{wants-exact}
 use Rattle.line_moments.proofs.KeyOrder.{entries-are, entries-rise}

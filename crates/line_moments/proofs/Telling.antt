@@ -24,7 +24,8 @@ use Rattle.machine_model.specs.World.{fresh, outcome_of}
 use Rattle.machine_model.specs.Sound.{Steady, Sound}
 use Rattle.machine_model.specs.Start.{Started, start}
 use Rattle.bound_specs.specs.Spec.{Spec, IsBound}
-use Rattle.line_moments.specs.Moments.{Sends, GoesOn, Skips, Going, Moment, behind_by, settle_goings, goings, line_goings, moments, line_moments}
+use Rattle.line_moments.specs.declared.moment.Moment.{Moment}
+use Rattle.line_moments.specs.Moments.{Sends, GoesOn, Skips, Going, behind_by, settle_goings, goings, line_goings, moments, line_moments}
 use Rattle.line_moments.specs.Moments.{moment_of, session_by, events_by, told_only, holding, without, told_to, told_by}
 use Rattle.machine_model.proofs.Basics.{known, cases-eq}
 use Rattle.machine_model.proofs.Settles.{Grant, next-grant, entering-granted, granted-steady, entering, goes-steady, steady-of, send-sound}

@@ -14,7 +14,10 @@ use Rattle.machine_model.specs.Sound.{Steady, Sound, Ready}
 use Rattle.machine_model.proofs.Settles.{Grant, next-grant, granted-steady, entering, goes-steady, steady-of, send-sound, session-known, touched-steady}
 use Rattle.machine_model.proofs.Counts.{send-fitting}
 use Rattle.line_moments.specs.Moments.{Sends, GoesOn, Skips, Going, behind, behind_by, settle_goings, goings, line_goings, want_in}
-use Rattle.line_moments.specs.Moments.{Refusal, Closes, Wants, Awaits, ending_by, session_by, refusal_by, moment_of}
+use Rattle.line_moments.specs.declared.moment.Refusal.{Refusal}
+use Rattle.line_moments.specs.declared.moment.Refusal.TheVariants.{Closes, Wants}
+use Rattle.line_moments.specs.declared.moment.Ending.TheVariants.{Awaits}
+use Rattle.line_moments.specs.Moments.{ending_by, session_by, refusal_by, moment_of}
 use Rattle.line_moments.specs.Laws.{WantsAreExact}
 
 -- ---- one world

@@ -20,8 +20,18 @@ use Rattle.transcripts.specs.declared.event.Fault.TheVariants.{Deadlock, Unavail
 use Rattle.machine_model.specs.declared.status.Status.TheVariants.{Outside, InBlock, Broken}
 use Rattle.machine_model.specs.Start.{Started, start}
 use Rattle.machine_model.proofs.Worked.{number, id_is, step, in_blocks, two_rows, sets, reads_one, waits_row, ring_row, not_waiting_row, ring_or_not}
-use Rattle.line_moments.specs.Moments.{Moment, line_moments, IsSent, IsResumed, IsNotSent, Ending, Ended, Awaits, Loses, Lacks, Had, LetGo, Still}
-use Rattle.line_moments.specs.Left.{Left, Shown, Standing, HasEnded, IsOpen, StillWaits, shown, rows_alone, LeaveSame}
+use Rattle.line_moments.specs.declared.moment.Moment.{Moment}
+use Rattle.line_moments.specs.declared.moment.Manner.TheVariants.{IsSent, IsResumed, IsNotSent}
+use Rattle.line_moments.specs.declared.moment.Ending.{Ending}
+use Rattle.line_moments.specs.declared.moment.Ending.TheVariants.{Ended, Awaits, Loses, Lacks}
+use Rattle.line_moments.specs.declared.moment.Change.TheVariants.{Had, LetGo}
+use Rattle.line_moments.specs.declared.moment.Still.{Still}
+use Rattle.line_moments.specs.Moments.{line_moments}
+use Rattle.line_moments.specs.declared.shown.Left.{Left}
+use Rattle.line_moments.specs.declared.shown.Shown.{Shown}
+use Rattle.line_moments.specs.declared.shown.Standing.{Standing}
+use Rattle.line_moments.specs.declared.shown.Standing.TheVariants.{HasEnded, IsOpen, StillWaits}
+use Rattle.line_moments.specs.Left.{shown, rows_alone, LeaveSame}
 
 abbrev told : Spec → List ℕ → List Moment
 told spec ks = elim (start spec) [ Started w ↦ line_moments spec.steps w ks | _ ↦ [] ]

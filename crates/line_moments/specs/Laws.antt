@@ -16,10 +16,15 @@ use Rattle.machine_model.specs.Start.{Started, start}
 use Rattle.machine_model.specs.Sound.{Steady, Sound}
 use Rattle.machine_model.specs.World.{World, look_of, session_at, send, send_all, outcome_of}
 use Rattle.line_moments.specs.Moments.{Going, behind, line_goings, moments, line_moments, new_steps, told_to, told_by, Leads, moment_of, session_by}
-use Rattle.line_moments.specs.Moments.{Awaits, want_in, Loses, Lacks}
-use Rattle.line_moments.specs.Left.{left_in, LeaveSame, standings, Shown, shown, IsLeftIn, AreStanding, Left, IsShown, IsShownOf}
-use Rattle.line_moments.specs.Moments.{scene_by, IsLost, IsLacking, changes_to, changed, IsTrue, Still, edges_in, KnowsSteps, IsOfStep, GoesOn}
-use Rattle.line_moments.specs.Moments.{Change, granted_by, going_by, tasks_by, AreAskedBy, step_by, step_after, sent_to, ended_last}
+use Rattle.line_moments.specs.declared.moment.Ending.TheVariants.{Awaits, Loses, Lacks}
+use Rattle.line_moments.specs.Moments.{want_in}
+use Rattle.line_moments.specs.declared.shown.Shown.{Shown}
+use Rattle.line_moments.specs.declared.shown.Left.{Left}
+use Rattle.line_moments.specs.Left.{left_in, LeaveSame, standings, shown, IsLeftIn, AreStanding, IsShown, IsShownOf}
+use Rattle.line_moments.specs.declared.moment.Still.{Still}
+use Rattle.line_moments.specs.Moments.{scene_by, IsLost, IsLacking, changes_to, changed, IsTrue, edges_in, KnowsSteps, IsOfStep, GoesOn}
+use Rattle.line_moments.specs.declared.moment.Change.{Change}
+use Rattle.line_moments.specs.Moments.{granted_by, going_by, tasks_by, AreAskedBy, step_by, step_after, sent_to, ended_last}
 
 -- the moments of a line lead from its first world to its last, each when it is due and where the one before it left the world; and the steps that
 -- come in them are those of the line, in its order

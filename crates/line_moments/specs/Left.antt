@@ -24,13 +24,13 @@ use Rattle.bound_specs.specs.Spec.{Spec, SpecFile}
 use Rattle.bound_specs.specs.Binding.{IsFileOf, declared, main_setup}
 use Rattle.bound_statements.specs.declared.statement.Bound.{Bound}
 use Rattle.lock_queues.specs.Reasons.{Want, Among, IsExact}
-use Rattle.line_moments.specs.Moments.{Moment, line_moments, want_in}
-
--- a declared table with its committed rows, in the order of their keys; a table without a key keeps its rows at numbers, in the order in which they were
--- inserted
-pub record Left : Type 0 where
-  pub table : Table
-  pub rows : List (Value × Tuple)
+use Rattle.line_moments.specs.Moments.{line_moments, want_in}
+use Rattle.line_moments.specs.declared.moment.Moment.{Moment}
+use Rattle.line_moments.specs.declared.shown.Left.{Left}
+use Rattle.line_moments.specs.declared.shown.Standing.{Standing}
+use Rattle.line_moments.specs.declared.shown.Standing.TheVariants.{HasEnded, IsOpen, HasFailed, StillWaits}
+use Rattle.line_moments.specs.declared.shown.Begun.{Begun}
+use Rattle.line_moments.specs.declared.shown.Shown.{Shown}
 
 -- of the tables numbered from n on
 abbrev pub left_from : ℕ → List Table → World → List Left
@@ -54,13 +54,6 @@ rows_alone (x ∷ xs) = tuples_of x.rows ∷ rows_alone xs
 abbrev pub LeaveSame : List Left → List Left → Type 0
 LeaveSame xs ys = rows_alone xs ≡ rows_alone ys
 
--- how a session stands: it is outside a transaction, is in one, is in a failed block, or waits
-pub data Standing : Type 0 where
-  HasEnded : Standing
-  IsOpen : Standing
-  HasFailed : Standing
-  StillWaits : (want : Want) → Standing
-
 abbrev pub standing_by : Option Want → Status → Standing
 standing_by (Some want) status = StillWaits want
 standing_by None Outside = HasEnded
@@ -75,11 +68,6 @@ abbrev pub standings : ℕ → World → List Standing
 standings zero w = []
 standings (suc n) w = standings n w ++ standing_of w n ∷ []
 
--- how a session stands before the first step, and what it holds, in the order of resources
-pub record Begun : Type 0 where
-  pub status : Status
-  pub locks : List (Resource × Mode)
-
 abbrev pub begun_of : World → ℕ → Begun
 begun_of w i = record { status = (session_at w i).status; locks = entries (session_at w i).held }
 
@@ -87,14 +75,6 @@ begun_of w i = record { status = (session_at w i).status; locks = entries (sessi
 abbrev pub begun : ℕ → World → List Begun
 begun zero w = []
 begun (suc n) w = begun n w ++ begun_of w n ∷ []
-
--- what show tells: how sessions stand at the start, what the setups left, the moments of the line, and what it leaves
-pub record Shown : Type 0 where
-  pub begun : List Begun
-  pub first : List Left
-  pub moments : List Moment
-  pub left : List Left
-  pub standings : List Standing
 
 abbrev pub shown_from : List Table → Spec → World → List ℕ → Shown
 shown_from tables spec w line =

@@ -27,6 +27,16 @@ use Rattle.machine_model.specs.World.{World, session_at, look_of, scene_of, goes
 use Rattle.machine_model.specs.Sound.{Steady}
 use Rattle.machine_model.specs.Start.{is_failure}
 use Rattle.machine_model.specs.Outcome.{IsOwnStep}
+use Rattle.line_moments.specs.declared.moment.Change.{Change}
+use Rattle.line_moments.specs.declared.moment.Change.TheVariants.{Had, LetGo}
+use Rattle.line_moments.specs.declared.moment.Refusal.{Refusal}
+use Rattle.line_moments.specs.declared.moment.Refusal.TheVariants.{Closes, Wants}
+use Rattle.line_moments.specs.declared.moment.Manner.{Manner}
+use Rattle.line_moments.specs.declared.moment.Manner.TheVariants.{IsSent, IsResumed, IsNotSent}
+use Rattle.line_moments.specs.declared.moment.Ending.{Ending}
+use Rattle.line_moments.specs.declared.moment.Ending.TheVariants.{Ended, Awaits, Loses, Lacks}
+use Rattle.line_moments.specs.declared.moment.Still.{Still}
+use Rattle.line_moments.specs.declared.moment.Moment.{Moment}
 
 -- ---- who goes, and why, in the order of going
 
@@ -75,11 +85,6 @@ line_goings steps w (k ∷ ks) = goings steps w k ++ line_goings steps (send ste
 
 -- ---- what a session does while it goes
 
--- a request is had, and the mode is held there from now on, though it may have been held before; or nothing is held any more
-pub data Change : Type 0 where
-  Had : (resource : Resource) (mode : Mode) → Change
-  LetGo : Change
-
 -- a transaction that ends lets go of what it holds, if it holds anything
 abbrev pub let_go_by : List (Resource × Mode) → List Change
 let_go_by [] = []
@@ -116,11 +121,6 @@ go_changes e i s rows (Ask nowait r m ∷ ts) =
 go_changes e i s rows (Do st ∷ ts) =
     elim (perform s rows st) [ Goes s2 rows2 ↦ did_changes (kind st) s.held ++ go_changes e i s2 rows2 ts | Fails f ↦ let_go s.held ]
 
--- why a request is refused: its wait would close a ring, or it refuses to wait for what it wants
-pub data Refusal : Type 0 where
-  Closes : (ring : List Hop) → Refusal
-  Wants : (want : Want) → Refusal
-
 -- the request as a wait behind all others
 abbrev pub last_spot : Scene → ℕ → Resource → Mode → Spot
 last_spot e i r m = record { before = e.waits; wait = record { session = i; resource = r; mode = m }; after = [] }
@@ -148,34 +148,6 @@ go_refusal e i s rows (Ask nowait r m ∷ ts) =
 go_refusal e i s rows (Do st ∷ ts) = elim (perform s rows st) [ Goes s2 rows2 ↦ go_refusal e i s2 rows2 ts | Fails f ↦ None ]
 
 -- ---- a moment
-
-pub data Manner : Type 0 where
-  IsSent : Manner
-  IsResumed : Manner
-  IsNotSent : Manner
-
--- the session's step has ended, by its last statement or by another fault than these; it waits; it lost a deadlock; or it lacks what a request wanted
--- that refuses to wait
-pub data Ending : Type 0 where
-  Ended : Ending
-  Awaits : (want : Want) → Ending
-  Loses : (ring : List Hop) → Ending
-  Lacks : (want : Want) → Ending
-
--- a session that goes on waiting, for other reasons than before
-pub record Still : Type 0 where
-  pub session : ℕ
-  pub edges : List Edge
-
-pub record Moment : Type 0 where
-  pub session : ℕ
-  pub manner : Manner
-  pub step : Option ℕ
-  pub events : List Event
-  pub changes : List Change
-  pub status : Status
-  pub ending : Ending
-  pub still : List Still
 
 abbrev pub sent_step : Event → Option ℕ
 sent_step (Sent k) = Some k

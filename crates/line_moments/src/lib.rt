@@ -2,6 +2,8 @@
 #![tactic(auto)]
 
 mod laws;
+mod moment;
+mod shown;
 
 pub use laws::{
     files_are_shown, keys_tell_rows, lacks_are_told, left_is_exact, locks_are_asked,
@@ -10,3 +12,5 @@ pub use laws::{
     rings_are_told, shown_is_true, specs_moments_are_of_steps, standings_are_exact, steps_are_told,
     still_is_exact, still_waits_are_exact, waiters_go_on, wants_are_exact,
 };
+pub use moment::{Change, Ending, Manner, Moment, Refusal, Still};
+pub use shown::{Begun, Left, Shown, Standing};

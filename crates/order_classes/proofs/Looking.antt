@@ -29,7 +29,8 @@ use Rattle.binding_model.specs.Tables.{no_table, key_column}
 use Rattle.binding_model.specs.declared.tables.Table.{Table}
 use Rattle.bound_specs.specs.Spec.{Spec, line_of}
 use Rattle.machine_model.specs.World.{World}
-use Rattle.line_moments.specs.Left.{Left, left_from, left_in}
+use Rattle.line_moments.specs.declared.shown.Left.{Left}
+use Rattle.line_moments.specs.Left.{left_from, left_in}
 use Rattle.order_classes.specs.Shows.{unnumbered, seen_by, seen, Shows, shows_in, world_of_line, shows_at}
 use Rattle.order_classes.specs.Looks.{HasKeyFor, IsLook, look_in, look_at}
 use Rattle.order_classes.proofs.Runs.{bool-same}

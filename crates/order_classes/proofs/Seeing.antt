@@ -12,7 +12,8 @@ use Rattle.bound_specs.specs.Fits.{RowFits}
 use Rattle.machine_model.specs.Typed.{LiesAt, RowsFit}
 use Rattle.machine_model.specs.World.{World}
 use Rattle.machine_model.proofs.Takings.{all-each}
-use Rattle.line_moments.specs.Left.{Left, left_from, left_in, no_left, tuples_of, rows_alone}
+use Rattle.line_moments.specs.declared.shown.Left.{Left}
+use Rattle.line_moments.specs.Left.{left_from, left_in, no_left, tuples_of, rows_alone}
 use Rattle.line_moments.proofs.Leaving.{left-exact}
 use Rattle.order_classes.specs.Laws.{LeftIsSeen}
 use Rattle.order_classes.specs.Shows.{seen_by, seen}

@@ -13,7 +13,8 @@ use Rattle.machine_model.specs.declared.status.Status.TheVariants.{Outside, InBl
 use Rattle.machine_model.specs.Session.{Session}
 use Rattle.machine_model.specs.World.{World, look_of, session_at, fresh}
 use Rattle.line_moments.specs.Moments.{want_in}
-use Rattle.line_moments.specs.Left.{Standing, standing_by, standing_of, standings}
+use Rattle.line_moments.specs.declared.shown.Standing.{Standing}
+use Rattle.line_moments.specs.Left.{standing_by, standing_of, standings}
 use Rattle.order_classes.specs.Shows.{rest_of, shows_in}
 use Rattle.order_classes.specs.Letters.{is_waiting, is_wait, is_deadlock, is_other_error, is_unsent, tells, letter_s}
 use Rattle.order_classes.specs.Laws.{IsTold, LettersAreTold}

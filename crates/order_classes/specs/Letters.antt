@@ -9,7 +9,7 @@ use Rattle.transcripts.specs.declared.event.Fault.{Fault}
 use Rattle.transcripts.specs.declared.event.Fault.TheVariants.{Duplicate, OutOfRange, Deadlock, Aborted, Unavailable}
 use Rattle.binding_model.specs.declared.tables.Table.{Table}
 use Rattle.bound_specs.specs.Spec.{Spec, line, line_of, counts_of, queues_of}
-use Rattle.line_moments.specs.Left.{Left}
+use Rattle.line_moments.specs.declared.shown.Left.{Left}
 use Rattle.lock_queues.specs.Reasons.{Among}
 use Rattle.order_classes.specs.Shows.{Rest, HasEnded, IsOpen, HasFailed, StillWaits, Shows, shows_of_line, shows_at}
 

@@ -194,7 +194,7 @@ fn each_setup(
 }
 
 /// The main setups of a file, which declare its tables.
-pub(crate) fn setups(
+pub fn setups(
     alloc: Global,
     tables: &mut Vec<Table>,
     blocks: &[BlockText],

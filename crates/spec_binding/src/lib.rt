@@ -9,6 +9,7 @@ mod spec;
 
 pub use binding::bind;
 pub use binding_model::{BindError, BindErrorKind};
+pub use blocks::setups;
 pub use laws::{
     blocks_are_spelled, bound_files_fit, bound_statements_fit, one_file, refusals_are_named,
 };
