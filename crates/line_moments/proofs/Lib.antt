@@ -13,6 +13,6 @@ pub mod Resuming
 pub mod Asking
 pub mod KeyOrder
 pub mod Leaving
-pub mod Standing
+pub mod Stands
 pub mod Showing
 pub mod StillWaiting

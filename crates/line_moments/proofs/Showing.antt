@@ -13,7 +13,7 @@ use Rattle.line_moments.specs.Left.{left_from}
 use Rattle.line_moments.specs.declared.shown.Shown.{Shown}
 use Rattle.line_moments.specs.Left.{shown_from, IsShown}
 use Rattle.line_moments.proofs.Leaving.{left-in}
-use Rattle.line_moments.proofs.Standing.{standings-exact, begun-are}
+use Rattle.line_moments.proofs.Stands.{standings-exact, begun-are}
 
 -- ---- a line of a spec
 

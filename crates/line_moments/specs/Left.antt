@@ -25,7 +25,6 @@ use Rattle.bound_specs.specs.Binding.{IsFileOf, declared, main_setup}
 use Rattle.bound_statements.specs.declared.statement.Bound.{Bound}
 use Rattle.lock_queues.specs.Reasons.{Want, Among, IsExact}
 use Rattle.line_moments.specs.Moments.{line_moments, want_in}
-use Rattle.line_moments.specs.declared.moment.Moment.{Moment}
 use Rattle.line_moments.specs.declared.shown.Left.{Left}
 use Rattle.line_moments.specs.declared.shown.Standing.{Standing}
 use Rattle.line_moments.specs.declared.shown.Standing.TheVariants.{HasEnded, IsOpen, HasFailed, StillWaits}
