@@ -10,7 +10,7 @@ use Rattle.lock_queues.specs.declared.wait.Wait.{Wait}
 use Rattle.lock_queues.specs.Locks.{Look, Spot, spots_from, wanted, closes_ring, may_have}
 use Rattle.lock_queues.specs.Rules.{IsSpot}
 use Rattle.lock_queues.specs.Sound.{Distinct, EachWait}
-use Rattle.lock_queues.specs.Reasons.{Want, want_at, want_by, spot_of, Among, IsExact}
+use Rattle.lock_queues.specs.Reasons.{Want, want_at, want_by, spot_of, Among, IsExact, last_spot}
 use Rattle.lock_queues.specs.declared.told.Hop.{Hop}
 use Rattle.lock_queues.specs.Rings.{ring_told, IsRingTold}
 use Rattle.lock_queues.proofs.WaitLists.{distinct-push, distinct-without, wait-append, wait-left, wait-map}
@@ -32,7 +32,7 @@ use Rattle.line_moments.specs.Moments.{let_go, changed, did_changes, go_changes,
 use Rattle.line_moments.specs.declared.moment.Refusal.{Refusal}
 use Rattle.line_moments.specs.declared.moment.Refusal.TheVariants.{Closes, Wants}
 use Rattle.line_moments.specs.declared.moment.Ending.TheVariants.{Loses, Lacks}
-use Rattle.line_moments.specs.Moments.{last_spot, refusal, go_refusal, refusal_by, told_only, holding, without, ending_by}
+use Rattle.line_moments.specs.Moments.{refusal, go_refusal, refusal_by, told_only, holding, without, ending_by}
 use Rattle.line_moments.specs.Moments.{moment_of, want_in, session_by, scene_by, IsLost, IsLacking, changes_along, granted_by, going_by, Does, tasks_by}
 use Rattle.line_moments.specs.Laws.{MomentsLose, MomentsLack}
 use Rattle.bound_statements.specs.declared.statement.Bound.{Bound}
@@ -228,7 +228,7 @@ module _ (w : World) (i : ℕ) (s u : Session) (ts : List Task) (changes : List 
   refused-lost hs x =
       let waits = waiting_with (scene_of w) i x.resource x.mode in
       let look = look_with (scene_of w) i x.session.held in
-      let own = want_at (length w.sessions) look (last_spot (scene_of w) i x.resource x.mode) in
+      let own = want_at (length w.sessions) look (last_spot w.waits i x.resource x.mode) in
       let p = replied-ring _ x.nowait _ x.fault (ring_told (length w.sessions) look waits i) hs own x.is x.told in
       record {
         done = x.done;
@@ -264,7 +264,7 @@ module _ (w : World) (i : ℕ) (s u : Session) (ts : List Task) (changes : List 
   refused-lacking want x =
       let waits = waiting_with (scene_of w) i x.resource x.mode in
       let look : Look = look_with (scene_of w) i x.session.held in
-      let spot : Spot = last_spot (scene_of w) i x.resource x.mode in
+      let spot : Spot = last_spot w.waits i x.resource x.mode in
       let own : Want = want_at (length w.sessions) look spot in
       let p = replied-lack _ x.nowait _ x.fault (ring_told (length w.sessions) look waits i) own want x.is x.told in
       let distinct = all-distinct x.resource x.mode in

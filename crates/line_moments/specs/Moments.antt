@@ -10,7 +10,7 @@ use Rattle.lock_modes.specs.Rows.{Rows'}
 use Rattle.lock_queues.specs.declared.wait.Wait.{Wait}
 use Rattle.lock_queues.specs.Locks.{Spot, next_grant, waits_now, wanted, may_have, closes_ring}
 use Rattle.lock_queues.specs.declared.reason.Edge.{Edge}
-use Rattle.lock_queues.specs.Reasons.{same_edges, Want, want_at, want_of, IsExact}
+use Rattle.lock_queues.specs.Reasons.{same_edges, Want, want_at, want_of, last_spot, IsExact}
 use Rattle.lock_queues.specs.declared.told.Hop.{Hop}
 use Rattle.lock_queues.specs.Rings.{ring_told, IsRingTold}
 use Rattle.bound_specs.specs.Spec.{Step, no_step}
@@ -121,15 +121,11 @@ go_changes e i s rows (Ask nowait r m ∷ ts) =
 go_changes e i s rows (Do st ∷ ts) =
     elim (perform s rows st) [ Goes s2 rows2 ↦ did_changes (kind st) s.held ++ go_changes e i s2 rows2 ts | Fails f ↦ let_go s.held ]
 
--- the request as a wait behind all others
-abbrev pub last_spot : Scene → ℕ → Resource → Mode → Spot
-last_spot e i r m = record { before = e.waits; wait = record { session = i; resource = r; mode = m }; after = [] }
-
 -- of a request that is refused: where it refuses to wait, what its wait would want, and whom it would wait for
 abbrev pub refusal : Scene → ℕ → Held → Bool → Resource → Mode → Refusal
 refusal e i held nowait r m =
     elim nowait [
-      | true ↦ Wants (want_at e.count (look_with e i held) (last_spot e i r m))
+      | true ↦ Wants (want_at e.count (look_with e i held) (last_spot e.waits i r m))
       | false ↦ Closes (ring_told e.count (look_with e i held) (waiting_with e i r m) i)
     ]
 
@@ -494,7 +490,7 @@ pub record IsLacking (e : Scene) (i : ℕ) (s : Session) (rows : Rows') (tasks :
   pub told_asked : want.asked ≡ mode
   pub told_has : want.has ≡ get session.held resource
   pub exact : IsExact (look_with e i session.held) (waiting_with e i resource mode) i want
-  pub last : exact.spot ≡ last_spot e i resource mode
+  pub last : exact.spot ≡ last_spot e.waits i resource mode
   pub held : session.held ≡ changed s.held (changes_along s.held done)
   pub changes_are : changes ≡ changes_along s.held done ++ let_go session.held
 

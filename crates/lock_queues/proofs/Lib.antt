@@ -7,6 +7,7 @@ pub mod Marking
 pub mod Searching
 pub mod Rings
 pub mod Slices
+pub mod Listing
 pub mod WaitLists
 pub mod Keeping
 pub mod Waiters

@@ -54,6 +54,10 @@ want_at count look s =
       edges = edges_below count look s;
     }
 
+-- a request as a wait behind all others
+abbrev pub last_spot : List Wait → ℕ → Resource → Mode → Spot
+last_spot waits i r m = record { before = waits; wait = record { session = i; resource = r; mode = m }; after = [] }
+
 abbrev pub want_by : ℕ → Look → Option Spot → Option Want
 want_by count look None = None
 want_by count look (Some s) = Some (want_at count look s)

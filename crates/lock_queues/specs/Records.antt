@@ -1,10 +1,10 @@
 -- What is kept by session, table and key stands for one map.
 use Rattle.std.specs.Prelude.{◌≡◌, ◌≢◌, ℕ, suc, true, List, [], ◌∷◌, ◌++◌, map, get_or, Option, Some, None}
 use Rattle.std.specs.Ordering.{nat_cmp}
-use Rattle.std.specs.FinMap.Entries.{find}
+use Rattle.std.specs.FinMap.Entries.{find, put}
 use Rattle.finite_maps.specs.Map.{Map, get, entries, empty}
 use Rattle.lock_modes.specs.Value.{value_cmp}
-use Rattle.lock_modes.specs.Resource.{resource_order}
+use Rattle.lock_modes.specs.Resource.{resource_order, resource_cmp}
 use Rattle.lock_modes.specs.declared.mode.Mode.{Mode}
 use Rattle.lock_modes.specs.declared.value.Value.{Value}
 use Rattle.lock_modes.specs.declared.resource.Resource.{Resource}
@@ -33,15 +33,26 @@ abbrev pub known_keys : Option (List (Value × Mode)) → List (Value × Mode)
 known_keys None = []
 known_keys (Some modes) = modes
 
+abbrev pub table_of : ℕ × Mode → Resource
+table_of e = Table e.0
+
+abbrev pub row_of : ℕ → Value × Mode → Resource
+row_of table k = Row table k.0
+
 abbrev pub rows_of : Keys → List Resource
 rows_of [] = []
-rows_of (e ∷ es) = map (λ (k : Value × Mode). Row e.0 k.0) e.1 ++ rows_of es
+rows_of (e ∷ es) = map (row_of e.0) e.1 ++ rows_of es
 
 abbrev pub resources_of : Tables → Keys → List Resource
-resources_of tables keys = map (λ (e : ℕ × Mode). Table e.0) tables ++ rows_of keys
+resources_of tables keys = map table_of tables ++ rows_of keys
 
 abbrev pub modes_map : Tables → Keys → Map resource_order Mode
 modes_map tables keys = tabulate resource_order (mode_at tables keys) (resources_of tables keys)
+
+-- the entries of a map of modes, with that of one more resource, if it has a mode
+abbrev pub with_mode : List (Resource × Mode) → Resource → Option Mode → List (Resource × Mode)
+with_mode es r None = es
+with_mode es r (Some m) = put resource_cmp r m es
 
 -- ---- the modes of all sessions, by their numbers
 

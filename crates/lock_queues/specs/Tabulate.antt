@@ -5,7 +5,7 @@ use Rattle.std.specs.List.{list_any}
 use Rattle.finite_maps.specs.Map.{Order, Map, same_key, same_key-true, get, get-empty, insert, get-insert, empty}
 
 module _ {K X : Type 0} (o : Order K) where
-  abbrev with_entry : Map o X → K → Option X → Map o X
+  abbrev pub with_entry : Map o X → K → Option X → Map o X
   with_entry m k None = m
   with_entry m k (Some v) = insert m k v
 

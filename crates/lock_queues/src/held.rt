@@ -1,13 +1,13 @@
-ghost use Rattle.std.specs.Prelude.{◌≡◌, ◌==◌, ◌↔◌, ◌<◌, Some, not, set, length, true, OnOk, OnErr, IsTrue};
-ghost use Rattle.finite_maps.specs.Map.{get, insert, keep, empty};
+ghost use Rattle.std.specs.Prelude.{◌≡◌, ◌==◌, ◌↔◌, ◌<◌, Some, not, set, length, true, IfOk, OnOk, OnErr, IsTrue};
+ghost use Rattle.finite_maps.specs.Map.{get, insert, keep, empty, entries};
 ghost use Rattle.lock_modes.specs.Resource.{resource_at};
 ghost use Rattle.lock_queues.specs.Locks as locks;
-ghost use Rattle.lock_queues.specs.LockTable.{Holding, Fits, look_at};
+ghost use Rattle.lock_queues.specs.LockTable.{Holding, Fits, look_at, slice};
 ghost use Rattle.lock_queues.specs.Records as records;
 
 use crate::modes::Modes;
 use finite_maps::Fork;
-use lock_modes::{Mode, Place, compatible};
+use lock_modes::{Mode, Place, Resource, compatible};
 use std::alloc::{AllocError, Global};
 use std::marker::Model;
 
@@ -54,6 +54,18 @@ impl Held {
             self.sessions[session].get(place)
         } else {
             None
+        }
+    }
+
+    /// What a session holds, in the order of resources. It fails for want of memory alone.
+    pub fn list(&self, session: u8) -> Result<Vec<(Resource, Mode)>, AllocError>
+        ensures { IfOk result (λ list. list.items ≡ entries (slice session self.now)) }
+    {
+        let session = session as usize;
+        if session < self.sessions.len() {
+            self.sessions[session].list(self.alloc)
+        } else {
+            Ok(Vec::new(self.alloc))
         }
     }
 

@@ -1,13 +1,15 @@
-ghost use Rattle.std.specs.Prelude.{◌≡◌, IfOk};
-ghost use Rattle.finite_maps.specs.Map.{get, insert, empty};
+ghost use Rattle.std.specs.Prelude.{◌≡◌, ◌++◌, map, IfOk, OnOk};
+ghost use Rattle.finite_maps.specs.Map.{get, insert, empty, entries};
 ghost use Rattle.std.specs.Option.{option_copied};
 ghost use Rattle.std.specs.FinMap.Entries.{put};
 ghost use Rattle.lock_modes.specs.Value.{value_cmp};
-ghost use Rattle.lock_modes.specs.Resource.{resource_at};
+ghost use Rattle.lock_modes.specs.Resource.{resource_at, resource_order};
+ghost use Rattle.lock_queues.specs.Records as records;
 ghost use Rattle.lock_queues.specs.Records.{known_keys};
+ghost use Rattle.lock_queues.specs.Tabulate.{tabulate};
 
 use finite_maps::Fork;
-use lock_modes::{Mode, Place, Value};
+use lock_modes::{Mode, Place, Resource, Value};
 use std::alloc::{AllocError, Global};
 use std::marker::Model;
 use version_tree::VMap;
@@ -86,6 +88,103 @@ impl Modes {
             }
         }
     }
+
+    /// What is held, in the order of resources. It fails for want of memory alone.
+    pub fn list(&self, alloc: Global) -> Result<Vec<(Resource, Mode)>, AllocError>
+        ensures { IfOk result (λ list. list.items ≡ entries self.now) }
+    {
+        let resources = resources_of(alloc, &self.tables, &self.rows)?;
+        let sorted = self.sorted(alloc, resources)?;
+        let list = listed(alloc, &sorted)?;
+        Ok(list)
+    }
+
+    /// Those of these resources on which something is held, with the modes there, in the order of resources.
+    fn sorted(
+        &self,
+        alloc: Global,
+        mut resources: Vec<Resource>,
+    ) -> Result<VMap<Resource, Mode>, AllocError>
+        ensures { IfOk result (λ all. all ≡ entries (tabulate resource_order (get self.now) resources.items)) }
+    {
+        let mut all = VMap::new(alloc);
+        'left: while let Some(resource) = resources.pop() {
+            let mode = self.get(resource.place());
+            all = with_mode(all, resource, mode)?;
+        }
+        Ok(all)
+    }
+}
+
+/// The modes with that of a resource, if one is held there.
+fn with_mode(
+    all: VMap<Resource, Mode>,
+    resource: Resource,
+    mode: Option<Mode>,
+) -> Result<VMap<Resource, Mode>, AllocError>
+    ensures { IfOk result (λ more. more ≡ records.with_mode all resource mode) }
+{
+    match mode {
+        None => Ok(all),
+        Some(mode) => all.put(resource, mode),
+    }
+}
+
+/// The resources that are known: the tables, and the keys of each.
+fn resources_of(
+    alloc: Global,
+    tables: &VMap<u16, Mode>,
+    rows: &VMap<u16, VMap<Value, Mode>>,
+) -> Result<Vec<Resource>, AllocError>
+    ensures { IfOk result (λ all. all.items ≡ records.resources_of tables.now rows.now) }
+{
+    let mut all = Vec::new(alloc);
+    push_tables(tables, &mut all)?;
+    push_rows(rows, &mut all)?;
+    Ok(all)
+}
+
+fn push_tables(tables: &VMap<u16, Mode>, all: &mut Vec<Resource>) -> Result<(), AllocError>
+    ensures { OnOk result (all.new.items ≡ all.old.items ++ map records.table_of tables.now) }
+{
+    for (table, _) in tables.iter() {
+        all.push(Resource::Table(*table))?;
+    }
+    Ok(())
+}
+
+fn push_rows(rows: &VMap<u16, VMap<Value, Mode>>, all: &mut Vec<Resource>) -> Result<(), AllocError>
+    ensures { OnOk result (all.new.items ≡ all.old.items ++ records.rows_of rows.now) }
+{
+    for (table, keys) in rows.iter() {
+        push_keys(*table, keys, all)?;
+    }
+    Ok(())
+}
+
+fn push_keys(
+    table: u16,
+    keys: &VMap<Value, Mode>,
+    all: &mut Vec<Resource>,
+) -> Result<(), AllocError>
+    ensures { OnOk result (all.new.items ≡ all.old.items ++ map (records.row_of table) keys.now) }
+{
+    for (key, _) in keys.iter() {
+        let key = key.fork()?;
+        all.push(Resource::Row(table, key))?;
+    }
+    Ok(())
+}
+
+fn listed(alloc: Global, all: &VMap<Resource, Mode>) -> Result<Vec<(Resource, Mode)>, AllocError>
+    ensures { IfOk result (λ list. list.items ≡ all.now) }
+{
+    let mut list = Vec::new(alloc);
+    for (resource, mode) in all.iter() {
+        let resource = resource.fork()?;
+        list.push((resource, *mode))?;
+    }
+    Ok(list)
 }
 
 /// The modes on the keys of a table, none for no table, with one more or another one.

@@ -1,7 +1,7 @@
 ghost use Rattle.std.specs.Prelude.{◌≡◌, ◌==◌, ◌↔◌, ◌<◌, ℕ, not, true, false, IfOk, OnOk, OnErr, IsTrue, MatchOption};
 ghost use Rattle.std.specs.List.{filter, find};
 ghost use Rattle.std.specs.Option.{option_copied, option_map};
-ghost use Rattle.finite_maps.specs.Map.{get};
+ghost use Rattle.finite_maps.specs.Map.{get, entries};
 ghost use Rattle.lock_modes.specs.Resource.{resource_at};
 ghost use Rattle.lock_queues.specs.Locks as locks;
 ghost use Rattle.lock_queues.specs.LockTable as spec;
@@ -12,13 +12,13 @@ ghost use Rattle.lock_queues.specs.Sound.{Distinct, IsSound};
 
 use crate::answer::{Answer, Taken};
 use crate::held::Held;
-use crate::queue::{find_spot, next_ripe, place_of, wanted, wanted_mode};
+use crate::queue::{Spot, find_spot, next_ripe, place_of, wanted, wanted_mode};
 use crate::ring::is_in_ring;
 use crate::told::{Hop, ring_of};
 use crate::wait::Wait;
 use crate::want::{Want, want_at};
 use finite_maps::Fork;
-use lock_modes::{Mode, Place};
+use lock_modes::{Mode, Place, Resource};
 use std::alloc::{AllocError, Global};
 use std::marker::Model;
 
@@ -190,6 +190,40 @@ impl LockTable {
             None => Ok(None),
             Some(spot) => Ok(Some(want_at(alloc, &self.held, &spot, count)?)),
         }
+    }
+
+    /// What the session's request would want as a wait behind all others, and whom of the sessions below the count it would
+    /// wait for. It fails for want of memory alone.
+    pub fn want_for(
+        &self,
+        alloc: Global,
+        session: u8,
+        place: Place<'_>,
+        mode: Mode,
+        count: u8,
+    ) -> Result<Want, AllocError>
+        ensures { IfOk result (λ want. want
+            ≡ reasons.want_at count (spec.look_in self.now) (reasons.last_spot self.now.waits session (resource_at place.entry) mode)) }
+    {
+        let resource = place.to_resource()?;
+        let wait = Wait {
+            session,
+            resource,
+            mode,
+        };
+        let spot = Spot {
+            before: &self.waits,
+            wait: &wait,
+            after: &[],
+        };
+        want_at(alloc, &self.held, &spot, count)
+    }
+
+    /// What the session holds, in the order of resources. It fails for want of memory alone.
+    pub fn held_by(&self, session: u8) -> Result<Vec<(Resource, Mode)>, AllocError>
+        ensures { IfOk result (λ list. list.items ≡ entries (spec.slice session self.now.held)) }
+    {
+        self.held.list(session)
     }
 
     /// The ring that the session's wait would close, told edge by edge: of the shortest ones the least by its sessions, from
