@@ -27,7 +27,7 @@ use Rattle.machine_model.specs.declared.reply.Reply.{Reply}
 use Rattle.machine_model.specs.declared.reply.Reply.TheVariants.{Had, Waits, Refused}
 use Rattle.session_machine.specs.State.{Own, session_of, SameOthers}
 use Rattle.session_machine.specs.Going.{Standing, session_in, run_in, IsScene, GoesOnTo, StopsIn, waiting_in, told, committed, failed_in, finished_by_status}
-use Rattle.session_machine.specs.Going.{finished_in, standing, ended_by, commits_by, commits_in, rolls_back_in, Does, IsReply}
+use Rattle.session_machine.specs.Going.{finished_in, standing, ended_by, commits_by, commits_in, rolls_back_in, DoesTo, FailsBy, Does, IsReply}
 use Rattle.session_machine.proofs.States.{same-refl, same-trans, session-taken, same-taken, held-let_go, same-let_go, waits-let_go, overlay-undone}
 use Rattle.session_machine.proofs.States.{overlay-kept, same-undone, same-kept, overlay-wrote_each, same-left_by, committed-left_by}
 use Rattle.session_machine.proofs.Going.{reply-is}
@@ -146,17 +146,19 @@ abbrev done_by : Scene → ℕ → Session → Rows' → List Task → Performed
 done_by e i s rows ts d = elim d [ Goes s2 rows2 ↦ go e i s2 rows2 ts | Fails f ↦ stopped e (failed s rows f) ]
 
 -- a statement that leaves the session there
-goes-there : (i : ℕ) (x y : Standing) (st : Bound) (ts : List Task) → perform (session_in i x) x.layers.committed st ≡ Goes (session_in i y) y.layers.committed
-    → SameOthers i x.layers y.layers x.locks y.locks → y.locks.waits ≡ x.locks.waits
-    → GoesOnTo i x (Do st ∷ ts) y ts
-goes-there i x y st ts is others waits = record { goes = λ e scene. ap (done_by e i (session_in i x) x.layers.committed ts) is; others = others; waits = waits }
-
-pub fails-there : (i : ℕ) (x : Standing) (st : Bound) (ts : List Task) (f : Fault) → waits_now x.locks.waits i ≡ false
-    → perform (session_in i x) x.layers.committed st ≡ Fails f → StopsIn i x (Do st ∷ ts) (failed_in i x f)
-fails-there i x st ts f idle is = record {
-  goes = λ e scene. ap (done_by e i (session_in i x) x.layers.committed ts) is ∙ fails-to e i x f idle scene;
-  others = others-undone i x;
+pub goes-there : (i : ℕ) (x y : Standing) (st : Bound) → DoesTo i x st y → (ts : List Task) → GoesOnTo i x (Do st ∷ ts) y ts
+goes-there i x y st does ts = record {
+  goes = λ e scene. ap (done_by e i (session_in i x) x.layers.committed ts) does.goes;
+  others = does.others;
+  waits = does.waits;
 }
+
+pub fails-there : (i : ℕ) (x y : Standing) (st : Bound) (f : Fault) → waits_now x.locks.waits i ≡ false → FailsBy i x st f y → (ts : List Task)
+    → StopsIn i x (Do st ∷ ts) (failed_in i y f)
+fails-there i x y st f idle by ts = subst (λ z. StopsIn i x (Do st ∷ ts) (failed_in i z f)) (sym by.same) (record {
+  goes = λ e scene. ap (done_by e i (session_in i x) x.layers.committed ts) by.fails ∙ fails-to e i x f idle scene;
+  others = others-undone i x;
+})
 
 -- a statement that works, in a session that is whole
 abbrev pub works_in : ℕ → Standing → Effect → Standing
@@ -192,18 +194,17 @@ worked-fails : (s : Session) (rows : Rows') (e : Effect) (f : Fault) → fault_o
 worked-fails s rows (Gives events writes) f is = cc
 worked-fails s rows (Faults g) f is = let same : g ≡ f = cc in ap Fails same
 
-pub works-there : (i : ℕ) (x : Standing) (st : Bound) (ts : List Task) → kind st ≡ Works → is_broken x.own.status ≡ false
-    → fault_of (effect st (sight i x.layers)) ≡ None → GoesOnTo i x (Do st ∷ ts) (works_in i x (effect st (sight i x.layers))) ts
-works-there i x st ts is whole none =
+works-there : (i : ℕ) (x : Standing) (st : Bound) → kind st ≡ Works → is_broken x.own.status ≡ false → fault_of (effect st (sight i x.layers)) ≡ None
+    → DoesTo i x st (works_in i x (effect st (sight i x.layers)))
+works-there i x st is whole none =
     let e = effect st (sight i x.layers) in
-    goes-there i x (works_in i x e) st ts (perform-work i x st is whole ∙ worked-there i x e none) (same-left_by i e x.layers x.locks) refl
+    record { goes = perform-work i x st is whole ∙ worked-there i x e none; others = same-left_by i e x.layers x.locks; waits = refl }
 
-pub works-fails : (i : ℕ) (x : Standing) (st : Bound) (ts : List Task) (f : Fault) → kind st ≡ Works → is_broken x.own.status ≡ false
-    → waits_now x.locks.waits i ≡ false → fault_of (effect st (sight i x.layers)) ≡ Some f
-    → StopsIn i x (Do st ∷ ts) (failed_in i x f)
-works-fails i x st ts f is whole idle fails =
+works-fails : (i : ℕ) (x : Standing) (st : Bound) (f : Fault) → kind st ≡ Works → is_broken x.own.status ≡ false
+    → fault_of (effect st (sight i x.layers)) ≡ Some f → perform (session_in i x) x.layers.committed st ≡ Fails f
+works-fails i x st f is whole fails =
     let e = effect st (sight i x.layers) in
-    fails-there i x st ts f idle (perform-work i x st is whole ∙ worked-fails (session_in i x) x.layers.committed e f fails)
+    perform-work i x st is whole ∙ worked-fails (session_in i x) x.layers.committed e f fails
 
 -- ---- the end of a step
 
@@ -239,7 +240,7 @@ ends-inside i x inside = record {
 
 -- ---- blocks
 
-module _ (i : ℕ) (l : Layers) (t : Locks) (s : SessionState) (st : Bound) (ts : List Task) where
+module _ (i : ℕ) (l : Layers) (t : Locks) (s : SessionState) (st : Bound) where
   -- the session without its overlay and its locks
   dropped-in : (own : Own) → record { overlay = empty; held = empty; status = own.status; rest = own.rest; transcript = own.transcript }
       ≡ session_of (undone i l) (let_go t i) i own
@@ -261,11 +262,12 @@ module _ (i : ℕ) (l : Layers) (t : Locks) (s : SessionState) (st : Bound) (ts 
     transcript = own.transcript;
   }
 
-  pub rolls-back-there : kind st ≡ RollsBack → waits_now t.waits i ≡ false → GoesOnTo i (standing l t s) (Do st ∷ ts) (rolls_back_in i (standing l t s)) ts
-  rolls-back-there is idle =
-      goes-there i (standing l t s) (rolls_back_in i (standing l t s)) st ts (ap (λ k. perform_by s.status k (session_in i (standing l t s)) l.committed st) is
-      ∙ at s.status s.transcript)
-      (others-undone i (standing l t s)) (waits-let_go t i idle)
+  pub rolls-back-there : kind st ≡ RollsBack → waits_now t.waits i ≡ false → DoesTo i (standing l t s) st (rolls_back_in i (standing l t s))
+  rolls-back-there is idle = record {
+    goes = ap (λ k. perform_by s.status k (session_in i (standing l t s)) l.committed st) is ∙ at s.status s.transcript;
+    others = others-undone i (standing l t s);
+    waits = waits-let_go t i idle;
+  }
     where
       at : (status : Status) (tr : List Event) → perform_by status RollsBack (session_of l t i (record { status = status; rest = []; transcript = tr }))
           l.committed st ≡ Goes (session_in i (standing (undone i l) (let_go t i) (ended_by status tr RolledBack))) l.committed
@@ -274,11 +276,12 @@ module _ (i : ℕ) (l : Layers) (t : Locks) (s : SessionState) (st : Bound) (ts 
       at InBlock tr = ap (λ x. Goes x l.committed) (dropped-in (record { status = Outside; rest = []; transcript = tr ++ RolledBack ∷ [] }))
       at Broken tr = ap (λ x. Goes x l.committed) (dropped-in (record { status = Outside; rest = []; transcript = tr ++ RolledBack ∷ [] }))
 
-  pub commits-there : kind st ≡ Commits → waits_now t.waits i ≡ false → GoesOnTo i (standing l t s) (Do st ∷ ts) (commits_in i (standing l t s)) ts
-  commits-there is idle =
-      goes-there i (standing l t s) (commits_in i (standing l t s)) st ts (ap (λ k. perform_by s.status k (session_in i (standing l t s)) l.committed st) is
-      ∙ at s.status s.transcript)
-      (others s.status s.transcript) (waits s.status s.transcript)
+  pub commits-there : kind st ≡ Commits → waits_now t.waits i ≡ false → DoesTo i (standing l t s) st (commits_in i (standing l t s))
+  commits-there is idle = record {
+    goes = ap (λ k. perform_by s.status k (session_in i (standing l t s)) l.committed st) is ∙ at s.status s.transcript;
+    others = others s.status s.transcript;
+    waits = waits s.status s.transcript;
+  }
     where
       at : (status : Status) (tr : List Event) → perform_by status Commits (session_of l t i (record { status = status; rest = []; transcript = tr }))
           l.committed st
@@ -301,17 +304,20 @@ module _ (i : ℕ) (l : Layers) (t : Locks) (s : SessionState) (st : Bound) (ts 
       waits Broken tr = waits-let_go t i idle
 
   -- in a block that has failed only its end has an effect
-  pub broken-fails : is_broken s.status ≡ true → waits_now t.waits i ≡ false → (kind st ≡ Begins) ⊎ (kind st ≡ Works)
-      → StopsIn i (standing l t s) (Do st ∷ ts) (failed_in i (standing l t s) Aborted)
-  broken-fails broken idle (inl is) = fails-there i (standing l t s) st ts Aborted idle
-      (ap (λ k. perform_by s.status k (session_in i (standing l t s)) l.committed st) is ∙ at s.status broken)
+  pub broken-fails : is_broken s.status ≡ true → (kind st ≡ Begins) ⊎ (kind st ≡ Works) → FailsBy i (standing l t s) st Aborted (standing l t s)
+  broken-fails broken (inl is) = record {
+    fails = ap (λ k. perform_by s.status k (session_in i (standing l t s)) l.committed st) is ∙ at s.status broken;
+    same = refl;
+  }
     where
       at : (status : Status) → is_broken status ≡ true → perform_by status Begins (session_in i (standing l t s)) l.committed st ≡ Fails Aborted
       at Outside h = cc
       at InBlock h = cc
       at Broken h = refl
-  broken-fails broken idle (inr is) = fails-there i (standing l t s) st ts Aborted idle
-      (ap (λ k. perform_by s.status k (session_in i (standing l t s)) l.committed st) is ∙ at s.status broken)
+  broken-fails broken (inr is) = record {
+    fails = ap (λ k. perform_by s.status k (session_in i (standing l t s)) l.committed st) is ∙ at s.status broken;
+    same = refl;
+  }
     where
       at : (status : Status) → is_broken status ≡ true → perform_by status Works (session_in i (standing l t s)) l.committed st ≡ Fails Aborted
       at Outside h = cc
@@ -336,22 +342,23 @@ faults-nothing i (Faults g) f l is = (refl, refl)
 
 -- a statement that works does what its effect is
 pub does-work : (i : ℕ) (l m : Layers) (t : Locks) (s : SessionState) (st : Bound) (tr : List Event) (fault : Option Fault) → kind st ≡ Works
-    → is_broken s.status ≡ false → waits_now t.waits i ≡ false
+    → is_broken s.status ≡ false
     → fault ≡ fault_of (effect st (sight i l)) → m ≡ left_by i (effect st (sight i l)) l → tr ≡ s.transcript ++ events_of (effect st (sight i l))
     → Does i (standing l t s) st (standing m t (record { status = s.status; transcript = tr })) fault
-does-work i l m t s st tr None is whole idle fault left told = λ ts.
-    subst (λ y. GoesOnTo i (standing l t s) (Do st ∷ ts) y ts) (λ k. record {
+does-work i l m t s st tr None is whole fault left told =
+    subst (DoesTo i (standing l t s) st) (λ k. record {
       layers = sym left k;
       locks = t;
       own = record { status = s.status; rest = []; transcript = sym told k };
     })
-    (works-there i (standing l t s) st ts is whole (sym fault))
-does-work i l m t s st tr (Some f) is whole idle fault left told = λ ts.
+    (works-there i (standing l t s) st is whole (sym fault))
+does-work i l m t s st tr (Some f) is whole fault left told =
     let nothing = faults-nothing i (effect st (sight i l)) f l (sym fault) in
-    subst (λ y. StopsIn i (standing l t s) (Do st ∷ ts) (failed_in i y f))
-    (λ k. record {
-      layers = (sym nothing.0 ∙ sym left) k;
-      locks = t;
-      own = record { status = s.status; rest = []; transcript = (sym (append-nil s.transcript) ∙ ap (λ es. s.transcript ++ es) (sym nothing.1) ∙ sym told) k };
-    })
-    (works-fails i (standing l t s) st ts f is whole idle (sym fault))
+    record {
+      fails = works-fails i (standing l t s) st f is whole (sym fault);
+      same = λ k. record {
+        layers = (left ∙ nothing.0) k;
+        locks = t;
+        own = record { status = s.status; rest = []; transcript = (told ∙ ap (λ es. s.transcript ++ es) nothing.1 ∙ append-nil s.transcript) k };
+      };
+    }

@@ -18,7 +18,7 @@ use Rattle.transcripts.specs.declared.event.Event.TheVariants.{Failed, Waiting, 
 use Rattle.machine_model.specs.declared.status.Status.{Status}
 use Rattle.machine_model.specs.declared.status.Status.TheVariants.{Outside, InBlock, Broken}
 use Rattle.session_machine.specs.declared.session.SessionState.{SessionState}
-use Rattle.machine_model.specs.Session.{Task, Do, Session, asks, tasks_of, after_fault}
+use Rattle.machine_model.specs.Session.{Task, Do, Session, Goes, Fails, perform, asks, tasks_of, after_fault}
 use Rattle.session_machine.specs.declared.asking.Asked.{Asked}
 use Rattle.session_machine.specs.declared.asking.Asked.TheVariants.{Had, Waits, Refused}
 use Rattle.session_machine.specs.declared.stepping.Point.{Point}
@@ -148,10 +148,21 @@ pub record WaitsIf (i : ℕ) (t u : Locks) (waits : Bool) : Type 0 where
 
 -- ---- what the calls for one statement promise
 
--- the statement, whose requests are had, leaves the session there, or it fails and so does the step
+-- the statement goes, and leaves the session there
+pub record DoesTo (i : ℕ) (x : Standing) (st : Bound) (y : Standing) : Type 0 where
+  pub goes : perform (session_in i x) x.layers.committed st ≡ Goes (session_in i y) y.layers.committed
+  pub others : SameOthers i x.layers y.layers x.locks y.locks
+  pub waits : y.locks.waits ≡ x.locks.waits
+
+-- the statement fails, and nothing is changed
+pub record FailsBy (i : ℕ) (x : Standing) (st : Bound) (f : Fault) (y : Standing) : Type 0 where
+  pub fails : perform (session_in i x) x.layers.committed st ≡ Fails f
+  pub same : y ≡ x
+
+-- the statement, whose requests are had, leaves the session there, or it fails
 abbrev pub Does : ℕ → Standing → Bound → Standing → Option Fault → Type 0
-Does i x st y None = (ts : List Task) → GoesOnTo i x (Do st ∷ ts) y ts
-Does i x st y (Some f) = (ts : List Task) → StopsIn i x (Do st ∷ ts) (failed_in i y f)
+Does i x st y None = DoesTo i x st y
+Does i x st y (Some f) = FailsBy i x st f y
 
 -- ---- what the call for one request promises
 

@@ -53,7 +53,7 @@ fn work(
 ) -> Result<Option<Fault>, AllocError>
     requires ends_none { (kind statement.now ≡ Begins) ⊎ (kind statement.now ≡ Works) }
     requires alone { SeesAlone session statement.now store.old }
-    ensures { IfOk result (λ fault. (locks : Locks) → waits_now locks.waits session ≡ false → Does session (standing store.old locks state.old) statement.now (standing store.new locks state.new) fault) }
+    ensures { IfOk result (λ fault. (locks : Locks) → Does session (standing store.old locks state.old) statement.now (standing store.new locks state.new) fault) }
 {
     if state.status.is_broken() {
         return Ok(Some(Fault::Aborted));

@@ -28,8 +28,8 @@ if_all (Ok x) p q r f = f x p q r
 if_all (Err e) p q r f = tt
 
 pub returns-then-is_broken : goal.returns-then-is_broken
-returns-then-is_broken c = λ locks idle ts. broken-fails c.args.session c.args.store.now locks c.args.state.now c.args.statement.now ts
-    (sym c.if-is_broken.ensures) idle c.requires.ends_none
+returns-then-is_broken c = λ locks. broken-fails c.args.session c.args.store.now locks c.args.state.now c.args.statement.now
+    (sym c.if-is_broken.ensures) c.requires.ends_none
 
 pub begin-requires : goal.begin-requires
 begin-requires c = λ e. true≢false (sym (ap is_broken e) ∙ sym c.if-is_broken.ensures)
@@ -37,6 +37,6 @@ begin-requires c = λ e. true≢false (sym (ap is_broken e) ∙ sym c.if-is_brok
 pub returns-in_default : goal.returns-in_default
 returns-in_default c =
     if_all c.run_statement.result c.run_statement.ensures.fault c.run_statement.ensures.left c.run_statement.ensures.told
-    (λ fault is left told locks idle. does-work c.args.session c.args.store.now c.run_statement.new.store locks c.args.state.now c.args.statement.now
-    c.run_statement.new.log fault (works-else c.args.statement.now c.requires.ends_none c.in_default.not-Begin) (sym c.if-is_broken.ensures) idle is left
+    (λ fault is left told locks. does-work c.args.session c.args.store.now c.run_statement.new.store locks c.args.state.now c.args.statement.now
+    c.run_statement.new.log fault (works-else c.args.statement.now c.requires.ends_none c.in_default.not-Begin) (sym c.if-is_broken.ensures) is left
     told)

@@ -6,7 +6,7 @@ use Rattle.session_machine.specs.declared.stepping.Point.{Point}
 use Rattle.machine_model.specs.Session.{Task}
 use Rattle.session_machine.specs.Going.{Standing, standing, tasks_from, GoesOnTo, StopsIn, Asks, HasAll, Queues, Does, paused, finished_in}
 use Rattle.session_machine.proofs.Going.{sees-alone}
-use Rattle.session_machine.proofs.Moves.{goes-on-stops, ends-there}
+use Rattle.session_machine.proofs.Moves.{goes-on-stops, goes-there, fails-there, ends-there}
 use Rattle.session_machine.proofs.Waiting.{still-waits, waits-from, finished-waits}
 use Rattle.session_machine.proofs.States.{same-trans, waits-let_go}
 use Rattle.session_machine.proofs.Steps.{to-ask, still-under, next-to-go, done-then, fails-then, refused-then, waits-then}
@@ -81,9 +81,9 @@ loop-number-preserved c =
     let w = standing c.perform.new.store c.perform.new.locks c.perform.new.state in
     let does = subst (Does i z st w) c.in_default.is c.in_ok-fault.ensures.does in
     record {
-      came = done-then i x (standing l t s) first sts k n st here c.loop-number.invariant.came z w (had l) does;
+      came = done-then i x (standing l t s) first sts k n st here c.loop-number.invariant.came z w (had l) (goes-there i z w st does);
       ready = next-to-go i l c.perform.new.store t c.perform.new.locks sts k n
-          (same-trans i l l c.perform.new.store t u c.perform.new.locks (had l []).others (does []).others) ((does []).waits
+          (same-trans i l l c.perform.new.store t u c.perform.new.locks (had l []).others does.others) (does.waits
           ∙ (had l []).waits) c.loop-number.invariant.ready;
     }
 
@@ -107,7 +107,9 @@ returns-in-Some-clause-goes c =
     let z = standing l u s in
     let w = standing c.perform.new.store c.perform.new.locks c.perform.new.state in
     let fails = subst (Does i z st w) c.in-Some.is c.in_ok-fault.ensures.does in
-    subst (StopsIn i x first) (sym c.in_ok-fail.ensures) (fails-then i x (standing l t s) first sts k n st here c.loop-number.invariant.came z _ (had l) fails)
+    let idle = ap (λ ws. waits_now ws i) (had l []).waits ∙ c.loop-number.invariant.ready.idle in
+    subst (StopsIn i x first) (sym c.in_ok-fail.ensures) (fails-then i x (standing l t s) first sts k n st here c.loop-number.invariant.came z _ (had l)
+    (fails-there i z w st c.in-Some.fault idle fails))
 
 -- a request is refused
 pub returns-in-Refused-clause-goes : goal.returns-in-Refused-clause-goes
