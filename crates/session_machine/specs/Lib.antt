@@ -1,5 +1,6 @@
 pub mod Running
 pub mod State
 pub mod Going
+pub mod Tracing
 pub mod Stage
 pub mod SetUp

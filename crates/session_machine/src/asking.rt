@@ -27,7 +27,7 @@ pub(crate) enum Asked {
 }
 
 /// Asks for one mode of a statement. The request waits where it may not be had at once, unless it would close a ring or refuses to wait.
-fn ask_one(
+pub(crate) fn ask_one(
     locks: &mut LockTable,
     session: u8,
     statement: &Bound,

@@ -11,6 +11,7 @@ mod session;
 mod setups;
 mod stage;
 mod stepping;
+mod trace;
 mod world;
 
 pub use error::{RunError, SendError, StartError};

@@ -1,0 +1,228 @@
+//! What a session comes to while it goes: the locks that it gets and lets go, and why it is refused a request, if it is.
+
+ghost use Rattle.std.specs.Prelude.{◌≡◌, ◌++◌, ◌<◌, ℕ, All, IfOk, OnOk, true, false, drop, [], None};
+ghost use Rattle.bound_statements.specs.Plan as plan;
+ghost use Rattle.bound_statements.specs.Plan.{HasKeys, IsShort};
+ghost use Rattle.line_moments.specs.Moments as moments;
+ghost use Rattle.lock_modes.specs.Resource.{resource_at};
+ghost use Rattle.lock_queues.specs.Laws.{IsBelow};
+ghost use Rattle.lock_queues.specs.Locks.{waits_now, closes_ring};
+ghost use Rattle.lock_queues.specs.LockTable.{look_in, queued, slice};
+ghost use Rattle.machine_model.specs.Session.{Held, kind};
+ghost use Rattle.session_machine.specs.Going.{standing, tasks_from, IsToAsk, IsToGo};
+ghost use Rattle.session_machine.specs.Tracing.{Traces, TracesAsking, had_by, refusal_at};
+
+use crate::asking::ask_one;
+use crate::performing::perform;
+use crate::session::SessionState;
+use crate::stepping::Point;
+use bound_statements::{Bound, lock_plan, nowait};
+use line_moments::{Change, Refusal};
+use lock_modes::{Mode, Place, Resource};
+use lock_queues::LockTable;
+use machine_model::{Reply, Status};
+use row_tables::Store;
+use sqlite_items::Items;
+use std::alloc::{AllocError, Global};
+
+/// What a session comes to.
+pub(crate) struct Trace {
+    pub(crate) changes: Items<Change>,
+    pub(crate) refusal: Option<Refusal>,
+}
+
+// Written out and not derived, so that who owns one calls this and does not let its parts go one by one.
+impl Drop for Trace {
+    fn drop(self) {
+        let Trace {
+            changes: _changes,
+            refusal: _refusal,
+        } = self;
+    }
+}
+
+impl Trace {
+    /// Nothing yet.
+    fn new(alloc: Global) -> Trace
+        ensures { result ≡ record { changes = []; refusal = None } }
+    {
+        Trace {
+            changes: Items::new(alloc),
+            refusal: None,
+        }
+    }
+}
+
+/// What asking for the locks of a statement comes to.
+#[derive(Clone, Copy, PartialEq, Eq)]
+pub(crate) enum Course {
+    /// All of them are had.
+    AllHad,
+    /// The session stops at one that waits or is refused.
+    Stops,
+}
+
+/// Tells what a session has at a place.
+fn tell_had(
+    locks: &LockTable,
+    session: u8,
+    place: Place<'_>,
+    changes: &mut Items<Change>,
+) -> Result<(), AllocError>
+    ensures { OnOk result (changes.new
+        ≡ changes.old ++ had_by (resource_at place.entry) (look_in locks.now session (resource_at place.entry))) }
+{
+    match locks.holds(session, place) {
+        None => Ok(()),
+        Some(mode) => {
+            let resource = place.to_resource()?;
+            changes.push(Change::Had(resource, mode))
+        }
+    }
+}
+
+/// That all this is let go, if it is anything.
+fn let_go_by(alloc: Global, held: &[(Resource, Mode)]) -> Result<Items<Change>, AllocError>
+    ensures { IfOk result (λ changes. changes ≡ moments.let_go_by held.now) }
+{
+    let mut changes = Items::new(alloc);
+    if let [_, ..] = held {
+        changes.push(Change::LetGo)?;
+    }
+    Ok(changes)
+}
+
+/// That a session lets go of what it holds, if it holds anything.
+fn let_go(alloc: Global, locks: &LockTable, session: u8) -> Result<Items<Change>, AllocError>
+    ensures { IfOk result (λ changes. changes ≡ moments.let_go (slice session locks.now.held)) }
+{
+    let held = locks.held_by(session)?;
+    let_go_by(alloc, &held)
+}
+
+/// What a statement lets go that goes.
+fn did_changes(alloc: Global, statement: &Bound, gone: Items<Change>) -> Items<Change>
+    ensures { (h : Held) → gone ≡ moments.let_go h → result ≡ moments.did_changes (kind statement.now) h }
+{
+    match statement {
+        Bound::Commit | Bound::Rollback => gone,
+        _ => Items::new(alloc),
+    }
+}
+
+/// What the end of a step lets go.
+fn end_changes(alloc: Global, status: Status, gone: Items<Change>) -> Items<Change>
+    ensures { (h : Held) → gone ≡ moments.let_go h → result ≡ moments.end_changes status h }
+{
+    match status {
+        Status::Outside => gone,
+        Status::InBlock | Status::Broken => Items::new(alloc),
+    }
+}
+
+/// Why a request is refused.
+fn refusal_of(
+    alloc: Global,
+    count: u8,
+    locks: &LockTable,
+    session: u8,
+    statement: &Bound,
+    place: Place<'_>,
+    mode: Mode,
+) -> Result<Refusal, AllocError>
+    requires free { waits_now locks.now.waits session ≡ false }
+    requires known { session < count }
+    requires closes { plan.nowait statement.now ≡ false
+        → closes_ring count (look_in locks.now) (queued locks.now session (resource_at place) mode).waits session ≡ true }
+    ensures { IfOk result (λ refusal. refusal ≡ refusal_at count locks.now session (plan.nowait statement.now) (resource_at place.entry) mode) }
+{
+    if nowait(statement) {
+        let want = locks.want_for(alloc, session, place, mode, count)?;
+        return Ok(Refusal::Wants(want));
+    }
+    let ring = locks.ring(alloc, session, place, mode, count)?;
+    Ok(Refusal::Closes(Items::from_vec(ring)))
+}
+
+/// Asks for the locks of a statement as `ask_all`, and tells those that are had, and where one is refused, why and what is let go.
+fn trace_asks(
+    alloc: Global,
+    count: u8,
+    locks: &mut LockTable,
+    session: u8,
+    state: &SessionState,
+    statement: &Bound,
+    first: u8,
+    trace: &mut Trace,
+) -> Result<Course, AllocError>
+    requires keys { HasKeys statement.now }
+    requires short { IsShort statement.now }
+    requires ready { IsToAsk session locks.old statement.now first }
+    requires known { session < count }
+    requires below { IsBelow count locks.old }
+    requires whole { trace.old.refusal ≡ None }
+    ensures { IfOk result (TracesAsking count session locks.old state.now statement.now first locks.new trace.old.changes trace.new) }
+{
+    for number in first..u8::MAX {
+        let Some((place, mode)) = lock_plan(statement, number) else {
+            return Ok(Course::AllHad);
+        };
+        if state.status.is_broken() {
+            let gone = let_go(alloc, locks, session)?;
+            trace.changes.append(gone)?;
+            return Ok(Course::Stops);
+        }
+        match ask_one(locks, session, statement, place, mode)? {
+            Reply::Had => tell_had(locks, session, place, &mut trace.changes)?,
+            Reply::Waits => return Ok(Course::Stops),
+            Reply::Refused(_) => {
+                let refusal = refusal_of(alloc, count, locks, session, statement, place, mode)?;
+                let gone = let_go(alloc, locks, session)?;
+                trace.changes.append(gone)?;
+                trace.refusal = Some(refusal);
+                return Ok(Course::Stops);
+            }
+        }
+    }
+    Ok(Course::AllHad)
+}
+
+/// Goes on with statements as `go_on`, and tells what that comes to.
+pub(crate) fn trace_on(
+    alloc: Global,
+    count: u8,
+    store: &mut Store,
+    locks: &mut LockTable,
+    session: u8,
+    state: &mut SessionState,
+    statements: &[Bound],
+    from: Point,
+) -> Result<Trace, AllocError>
+    requires keys { All HasKeys statements.now }
+    requires short { All IsShort statements.now }
+    requires ready { IsToGo session store.old locks.old statements.now from.statement from.request }
+    requires known { session < count }
+    requires below { IsBelow count locks.old }
+    ensures { IfOk result (Traces count session [] (standing store.old locks.old state.old) (tasks_from (drop from.statement statements.now) from.request)) }
+{
+    let mut trace = Trace::new(alloc);
+    let mut request = from.request;
+    for number in from.statement..statements.len() {
+        let statement = &statements[number];
+        match trace_asks(alloc, count, locks, session, state, statement, request, &mut trace)? {
+            Course::AllHad => {}
+            Course::Stops => return Ok(trace),
+        }
+        locks.known();
+        let gone = let_go(alloc, locks, session)?;
+        if perform(alloc, store, locks, session, state, statement)?.is_some() {
+            trace.changes.append(gone)?;
+            return Ok(trace);
+        }
+        trace.changes.append(did_changes(alloc, statement, gone))?;
+        request = 0;
+    }
+    let gone = let_go(alloc, locks, session)?;
+    trace.changes.append(end_changes(alloc, state.status, gone))?;
+    Ok(trace)
+}
