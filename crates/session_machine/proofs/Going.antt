@@ -89,7 +89,7 @@ module _ (e : Scene) (i : ℕ) (t : Locks) (s : Session) (held : s.held ≡ slic
       (fits-others e.count e.look (look_in t) i r (wanted (look_in t i r) m) (λ c ne. sym (scene.others c r ne)))
       ∙ ap (λ ws. fits e.count (look_in t) i r (wanted (look_in t i r) m) && (is_some (look_in t i r) || nobody_waits ws r)) (sym scene.waits)
 
-  ring-is : (r : Resource) (m : Mode) → closes_ring e.count (look_with e i s.held) (waiting_with e i r m) i
+  pub ring-is : (r : Resource) (m : Mode) → closes_ring e.count (look_with e i s.held) (waiting_with e i r m) i
       ≡ closes_ring e.count (look_in t) (queued t i r m).waits i
   ring-is r m = λ k. closes_ring e.count (look-now k) (sym scene.waits k ++ record { session = i; resource = r; mode = m } ∷ []) i
 

@@ -3,6 +3,7 @@ pub mod States
 pub mod Moves
 pub mod Requests
 pub mod Steps
+pub mod Tracing
 pub mod Worlds
 pub mod Waiting
 pub mod Stages

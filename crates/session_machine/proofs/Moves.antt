@@ -35,7 +35,7 @@ use Rattle.session_machine.proofs.Going.{reply-is}
 -- ---- moves in turn
 
 -- what the others hold is as it was
-still-scene : (e : Scene) (i : ℕ) (l m : Layers) (t u : Locks) → SameOthers i l m t u → u.waits ≡ t.waits → IsScene e i t → IsScene e i u
+pub still-scene : (e : Scene) (i : ℕ) (l m : Layers) (t u : Locks) → SameOthers i l m t u → u.waits ≡ t.waits → IsScene e i t → IsScene e i u
 still-scene e i l m t u same waits scene = record {
   others = λ c r ne. look c r ne ∙ scene.others c r ne;
   waits = waits ∙ scene.waits;

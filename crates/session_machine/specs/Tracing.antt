@@ -39,7 +39,7 @@ trace_in e i cs x ts = behind cs (trace_of e i (session_in i x) x.layers.committ
 -- a scene of so many sessions, in which the session began to go
 pub record IsSceneOf (count : ℕ) (e : Scene) (i : ℕ) (t : Locks) : Type 0 where
   pub scene : IsScene e i t
-  pub count : e.count ≡ count
+  pub many : e.count ≡ count
 
 -- the tasks left there, behind these changes, come to this
 abbrev pub Traces : ℕ → ℕ → List Change → Standing → List Task → Trace → Type 0

@@ -215,7 +215,7 @@ pub(crate) fn trace_on(
         }
         locks.known();
         let gone = let_go(alloc, locks, session)?;
-        if perform(alloc, store, locks, session, state, statement)?.is_some() {
+        if let Some(_fault) = perform(alloc, store, locks, session, state, statement)? {
             trace.changes.append(gone)?;
             return Ok(trace);
         }
