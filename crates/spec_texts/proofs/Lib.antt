@@ -1,0 +1,5 @@
+mod Darkness
+mod Parts
+mod StepLines
+mod Worked
+mod Declaring
