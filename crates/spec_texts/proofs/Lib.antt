@@ -1,3 +1,4 @@
+mod Blanks
 mod Darkness
 mod Parts
 mod StepLines

@@ -1,7 +1,15 @@
--- Worked lines, computed.
-use Rattle.std.proofs.Common.{◌≡◌, refl, []}
+-- Worked lines and tables, computed.
+use Rattle.std.proofs.Common.{◌≡◌, refl, ℕ, List, [], ◌∷◌, Some, None, Ok}
 use Rattle.std.specs.Prelude.{codes}
 use Rattle.sql_grammar.specs.Lexing.{piece_of}
+use Rattle.sql_grammar.specs.Reading.{form, other_form}
+use Rattle.sql_grammar.specs.Text.{next_statement}
+use Rattle.spec_reader.specs.Tree.{BlockTree}
+use Rattle.bound_statements.specs.declared.statement.Bound.TheVariants.{Begin, Commit}
+use Rattle.binding_model.specs.declared.tables.Column.{Column}
+use Rattle.binding_model.specs.declared.tables.ColumnType.TheVariants.{Number, Text}
+use Rattle.binding_model.specs.declared.tables.Table.{Table}
+use Rattle.bound_specs.specs.Binding.{declared, main_setup}
 use Rattle.spec_texts.specs.OneLine.{one_line}
 
 -- white space goes at both ends, and is one blank between two tokens; where none stands, none comes
@@ -23,3 +31,27 @@ quoted = refl
 empty : one_line (codes " \n -- none") ≡ []
 unfolding piece_of
 empty = refl
+
+-- ---- tables
+
+abbrev block : List ℕ → BlockTree
+block text = record { at = 0; text = text }
+
+abbrev id : Column
+id = record { name = codes "id"; kind = Number }
+
+abbrev t : Table
+t = record { name = codes "t"; columns = id ∷ record { name = codes "v"; kind = Text } ∷ []; key = Some (codes "id") }
+
+abbrev u : Table
+u = record { name = codes "u"; columns = id ∷ []; key = None }
+
+-- two setups declare in their order, the second beside what the first declared; names ignore case
+two_tables : declared main_setup [] (block (codes "CREATE TABLE T (id int PRIMARY KEY, V text)") ∷ block (codes "BEGIN; CREATE TABLE u (id bigint); COMMIT") ∷ [])
+    ≡ Ok (t ∷ u ∷ [], [] ∷ (Begin ∷ Commit ∷ []) ∷ [])
+unfolding piece_of next_statement form other_form
+two_tables = refl
+
+-- where nothing is declared there is none
+no_tables : declared main_setup [] [] ≡ Ok ([], [])
+no_tables = refl

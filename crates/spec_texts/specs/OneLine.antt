@@ -1,5 +1,5 @@
 -- A block's text on one line: its tokens as they are written, with one blank where white space or comments stand between two of them.
-use Rattle.std.specs.Prelude.{ℕ, zero, suc, ◌-◌, Bool, false, not, List, [], ◌∷◌, ◌++◌, Option, Some, None, map, take, cond, codes}
+use Rattle.std.specs.Prelude.{◌≡◌, ℕ, zero, suc, ◌-◌, Bool, true, false, not, All, List, [], ◌∷◌, ◌++◌, Option, Some, None, map, take, cond, codes}
 use Rattle.std.specs.Borrow.{Bor}
 use Rattle.byte_runs.specs.Bytes.{is_white}
 use Rattle.byte_runs.specs.declared.pieces.Piece.TheVariants.{Blank, Next, Last}
@@ -55,6 +55,10 @@ joined b (Written bytes ∷ ps) = separator b ++ (map shown bytes ++ joined befo
 
 abbrev pub one_line : List ℕ → List ℕ
 one_line text = joined before.Nothing (parts text)
+
+-- no white space stands on the line but blanks
+abbrev pub IsOneLine : List ℕ → Type 0
+IsOneLine line = All (λ b. is_white b ≡ true → b ≡ 32) line
 
 -- ---- what the code has
 

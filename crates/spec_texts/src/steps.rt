@@ -1,8 +1,8 @@
 //! What the steps of a spec send, as the file has it.
 
-ghost use Rattle.std.specs.Prelude.{◌≡◌, ◌++◌, length, map, IfOk};
+ghost use Rattle.std.specs.Prelude.{◌≡◌, ◌++◌, All, length, map, IfOk};
 ghost use Rattle.spec_reader.specs.Views.{session_tree, step_tree};
-ghost use Rattle.spec_texts.specs.OneLine.{one_line};
+ghost use Rattle.spec_texts.specs.OneLine.{IsOneLine, one_line};
 ghost use Rattle.spec_texts.specs.Texts.{AreStepLines, step_lines};
 
 use crate::line::one_line;
@@ -16,6 +16,7 @@ use std::alloc::{AllocError, Global};
 /// two tokens, and none at the ends; what is quoted stands as it is, with a blank for each white space. It fails for want of memory alone.
 pub fn statement_texts(alloc: Global, spec: &Spec) -> Result<Vec<Text>, AllocError>
     ensures lines { IfOk result (λ lines. AreStepLines spec.now.text spec.now lines.items) }
+    ensures one_line { IfOk result (λ lines. All IsOneLine lines.items) }
     ensures each { IfOk result (λ lines. length lines.items ≡ length spec.now.run.steps) }
 {
     spec.known();

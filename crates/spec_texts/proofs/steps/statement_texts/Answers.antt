@@ -1,8 +1,10 @@
-use Rattle.std.proofs.Common.{◌≡◌, ◌∙◌, ℕ, List, length, map, ap}
+use Rattle.std.proofs.Common.{All, subst, sym, ◌≡◌, ◌∙◌, ℕ, List, length, map, ap}
 use Rattle.std.proofs.lemmas.Result.{IfOk-weaker}
 use Rattle.spec_reader.specs.declared.tree.Session.{Session}
 use Rattle.spec_reader.specs.Tree.{SpecTree}
 use Rattle.spec_reader.specs.Views.{session_tree}
+use Rattle.spec_texts.proofs.Blanks.{lines-blank}
+use Rattle.spec_texts.specs.OneLine.{IsOneLine}
 use Rattle.spec_texts.specs.Texts.{AreStepLines, step_lines}
 use Rattle.spec_texts.proofs.StepLines.{a-line-each}
 use Rattle.spec_texts.proofs.steps.statement_texts.Goals as goal
@@ -24,3 +26,8 @@ returns-clause-each c =
     (λ lines. length lines.items ≡ length c.args.spec.now.run.steps)
     (λ lines of_spec. ap (λ (ls : List (List ℕ)). length ls) of_spec.are ∙ a-line-each c.args.spec.now.text c.args.spec.now of_spec.is c.ready.ensures)
     (returns-clause-lines c)
+
+pub returns-clause-one_line : goal.returns-clause-one_line
+returns-clause-one_line c =
+    IfOk-weaker c.step_lines.result (λ lines. AreStepLines c.args.spec.now.text c.args.spec.now lines.items) (λ lines. All IsOneLine lines.items)
+    (λ lines of_spec. subst (λ (ls : List (List ℕ)). All IsOneLine ls) (sym of_spec.are) (lines-blank of_spec.is.tree.sessions)) (returns-clause-lines c)
