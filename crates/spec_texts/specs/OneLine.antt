@@ -14,7 +14,8 @@ pub data Part : Type 0 where
   Gap : Part
   Written : (bytes : List ℕ) → Part
 
--- the part of the piece that some bytes begin with, and those after it: of the bytes past the first, without the rest of the piece
+-- the part of the piece that some bytes begin with, and those after it: of the bytes past the first, without the rest of the piece. Behind
+-- a piece after which nothing is read there are none; in a block that is read, that is its end
 abbrev pub with_piece : List ℕ → Piece → (ℕ → List Part) → List Part
 with_piece bs (Blank len) more = Gap ∷ more (len - 1)
 with_piece bs (Next t len) more = Written (take len bs) ∷ more (len - 1)
