@@ -1,7 +1,7 @@
 //! A block's text on one line.
 
-ghost use Rattle.std.specs.Prelude.{◌≡◌, ◌∷◌, ◌++◌, ◌<◌, List, length, IfOk, IfSome, OnOk, map, string_bytes};
-ghost use Rattle.spec_texts.specs.OneLine.{Part as Seen, after_gap, joined, one_line, part_of, parts_by, parts, separator, shown};
+ghost use Rattle.std.specs.Prelude.{◌≡◌, ◌∷◌, ◌++◌, ◌<◌, List, length, IfOk, IfSome, OnOk, string_bytes};
+ghost use Rattle.spec_texts.specs.OneLine.{Part as Seen, after_gap, joined, one_line, part_of, parts_by, parts, separator};
 
 use crate::shown::push_shown;
 use byte_runs::{Cut, Piece};

@@ -1,6 +1,6 @@
 //! Tokens as they stand on a line.
 
-ghost use Rattle.std.specs.Prelude.{◌≡◌, ◌<◌, ◌+◌, ◌++◌, [], false, drop, length, map, take, string_bytes, IfOk, OnOk};
+ghost use Rattle.std.specs.Prelude.{◌≡◌, ◌<◌, ◌+◌, ◌++◌, [], false, length, map, string_bytes, IfOk, OnOk};
 ghost use Rattle.std.specs.List.{prefix_len};
 ghost use Rattle.byte_runs.specs.Bytes.{is_white};
 ghost use Rattle.spec_texts.specs.OneLine.{begins_white, is_dark, shown};
