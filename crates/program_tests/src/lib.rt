@@ -6,6 +6,8 @@
 #![tactic(auto)]
 
 #[cfg(test)]
+mod again;
+#[cfg(test)]
 mod audits;
 #[cfg(test)]
 mod checks;

@@ -1,0 +1,6 @@
+mod Blanks
+mod Darkness
+mod Parts
+mod StepLines
+mod Worked
+mod Declaring
