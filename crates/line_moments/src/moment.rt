@@ -1,5 +1,8 @@
 //! A moment of a line: one session going, from where its step is sent or goes on to where it ends or has to wait.
 
+ghost use Rattle.std.specs.Prelude.{◌≡◌, Some, None};
+ghost use Rattle.line_moments.specs.Moments.{ending_by};
+
 use lock_modes::{Mode, Resource};
 use lock_queues::{Edge, Hop, Want};
 use machine_model::Status;
@@ -73,6 +76,33 @@ impl Drop for Ending {
             Ending::Awaits(_want) => {}
             Ending::Loses(_ring) => {}
             Ending::Lacks(_want) => {}
+        }
+    }
+}
+
+impl Ending {
+    /// Where a moment ends whose session wants this then, if it waits, and was refused a request for that reason, if it was.
+    pub fn new(want: Option<Want>, refusal: Option<Refusal>) -> Ending
+        ensures { result ≡ ending_by want refusal }
+    {
+        match want {
+            Some(want) => Ending::Awaits(want),
+            None => match refusal {
+                None => Ending::Ended,
+                Some(refusal) => refusal.ends(),
+            },
+        }
+    }
+}
+
+impl Refusal {
+    /// Where a moment ends whose session is refused a request for this reason.
+    fn ends(self) -> Ending
+        ensures { result ≡ ending_by None (Some self) }
+    {
+        match self {
+            Refusal::Closes(ring) => Ending::Loses(ring),
+            Refusal::Wants(want) => Ending::Lacks(want),
         }
     }
 }

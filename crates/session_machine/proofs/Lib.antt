@@ -4,6 +4,7 @@ pub mod Moves
 pub mod Requests
 pub mod Steps
 pub mod Tracing
+pub mod Seeing
 pub mod Worlds
 pub mod Waiting
 pub mod Stages

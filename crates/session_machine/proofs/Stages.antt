@@ -16,20 +16,20 @@ use Rattle.bound_specs.specs.Spec.{Step, no_step}
 use Rattle.session_machine.specs.declared.member.Rest.{Rest}
 use Rattle.session_machine.specs.declared.member.Member.{Member}
 use Rattle.session_machine.specs.declared.stage.Stage.{Stage}
-use Rattle.machine_model.specs.Session.{Task, tasks_of}
+use Rattle.machine_model.specs.Session.{Task, Session, note, tasks_of}
 use Rattle.session_machine.specs.State.{Own, no_own, session_of, world_of, SameOthers}
 use Rattle.session_machine.specs.Going.{standing, tasks_from, IsToGo, StopsIn, WaitsIf}
-use Rattle.machine_model.specs.World.{look_of, goes, granted, settle, left_to_do, send}
+use Rattle.machine_model.specs.World.{World, look_of, session_at, goes, granted, settle, left_to_do, noted, send}
 use Rattle.machine_model.specs.Sound.{Steady, Ready}
 use Rattle.session_machine.specs.Stage.{no_member, statements_of, rest_of, own_of, world_in, member_at, part_of, IsWithin, RestIsOf, IsStage, note_member}
-use Rattle.session_machine.specs.Stage.{HasTold, HasGone, HasResumed}
+use Rattle.session_machine.specs.Stage.{HasTold, HasGone, HasStarted, HasResumed}
 use Rattle.machine_model.proofs.Basics.{cases-eq}
 use Rattle.session_machine.proofs.Steps.{tasks_from-start}
-use Rattle.session_machine.proofs.States.{length-sessions_from, next-is, same-refl, same-trans, same-taken}
+use Rattle.session_machine.proofs.States.{length-sessions_from, session_at-is, next-is, same-refl, same-trans, same-taken}
 use Rattle.machine_model.proofs.Settles.{Grant, next-grant, goes-steady, granted-steady, granted-left}
 use Rattle.lock_queues.proofs.WaitLists.{wait-right, wait-map}
 use Rattle.machine_model.proofs.SettleSteps.{next_in, settle-grant}
-use Rattle.session_machine.proofs.Worlds.{within-still, goes-is, granted-is, resumed_own, own_told, granted-to-go, not-sent, sent-enters, sent-goes, sent-to-go}
+use Rattle.session_machine.proofs.Worlds.{within-still, goes-is, granted-is, resumed_own, own_told, granted-to-go, not-sent, sent-enters, sent-to-go}
 use Rattle.session_machine.proofs.Waiting.{apart}
 
 -- ---- the sessions of a stage
@@ -186,6 +186,12 @@ module _ (steps : List Step) (x : Stage) (s : Spot) (stage : IsStage steps x) (n
         (left-out s.before s.wait s.after (subst (EachWait (λ w. w.session < length owns)) (sym next.there) within.below.waiters)) stops
         ∙ sym (world-set steps y x.members.items i (member_at y i) gone.members)
 
+    grants : (u : Spot) → IsNext x.locks u → world_in steps y ≡ granted (world_in steps x) u
+    grants u its =
+        let there : next_in (world_in steps x) ≡ Some u = next-is x.store x.locks owns within.below ∙ (tests-decide (length owns) x.locks within.below).next u its in
+        let same : s ≡ u = (let e : Some s ≡ Some u = sym next-now ∙ there in cc) in
+        subst (λ v. world_in steps y ≡ granted (world_in steps x) v) same (sym granted-now)
+
     its-grant : Grant (length (world_in steps x).sessions) (look_of (world_in steps x)) (world_in steps x).waits s
     its-grant = next-grant (length (world_in steps x).sessions) (look_of (world_in steps x)) (world_in steps x).waits s next-now
 
@@ -196,6 +202,7 @@ module _ (steps : List Step) (x : Stage) (s : Spot) (stage : IsStage steps x) (n
 
     pub has-resumed : HasResumed steps x y
     has-resumed = record {
+      grants = grants;
       settles = settle-grant (world_in steps x) s stage.steady next-now ∙ ap settle granted-now;
       less = subst (λ w. left_to_do w < left_to_do (world_in steps x)) granted-now (granted-left (world_in steps x) s stage.steady its-grant);
       stage = stage-gone steps i x y (grant x.locks s) (member_at y i) session-known stage same-grant
@@ -287,9 +294,6 @@ module _ (steps : List Step) (x : Stage) (k i : ℕ) (stage : IsStage steps x) (
       there = ap (λ c. world_of y.store y.locks (set own_list c (own_of steps (member_at y i)))) (sym is)
           ∙ sym (world-set steps y x.members.items i (member_at y i) gone.members)
 
-      pub has-sent : send steps (world_in steps x) k ≡ settle (world_in steps y)
-      has-sent = sent-goes steps x.store x.locks own_list k (part_of steps y i) in-within.below in-owns sender-idle sender-stops ∙ ap settle there
-
       gone-there : goes (world_in steps x) (get_or steps k no_step).session
           (session_of x.store x.locks (get_or steps k no_step).session (own_told (get_or own_list (get_or steps k no_step).session no_own) (Sent k)))
           (tasks_of (statements_of steps k)) ≡ world_in steps y
@@ -298,10 +302,32 @@ module _ (steps : List Step) (x : Stage) (k i : ℕ) (stage : IsStage steps x) (
           goes-is x.store x.locks own_list c x.locks (own_told (get_or own_list c no_own) (Sent k)) (tasks_of (statements_of steps k)) (part_of steps y i)
           in-within.below in-owns (same-refl c x.store x.locks) refl sender-stops ∙ there
 
-      pub sent-stage : IsStage steps y
+      sent-stage : IsStage steps y
       sent-stage =
           let c = (get_or steps k no_step).session in
           stage-gone steps i x y x.locks (member_at y i) lt stage (same-refl i x.store x.locks) (λ d ne. refl) gone.members gone.stops.others gone.waits
           gone.known
           (subst Steady gone-there (goes-steady (world_in steps x) c (session_of x.store x.locks c (own_told (get_or own_list c no_own) (Sent k)))
           (tasks_of (statements_of steps k)) (sent-enters steps x.store x.locks own_list k stage.steady in-owns sender-idle)))
+
+      pub has-started : HasStarted steps k x y
+      has-started =
+          let c = (get_or steps k no_step).session in
+          record {
+            world = sym gone-there
+                ∙ ap (λ (s : Session). goes (world_in steps x) c (note s (Sent k)) (tasks_of (statements_of steps k)))
+                (sym (session_at-is x.store x.locks own_list c in-owns));
+            stage = sent-stage;
+            count = ap length gone.members ∙ length-set x.members.items i (member_at y i);
+          }
+
+-- a step that is sent to a session that does not wait: the world settles from there
+pub sent-settles : (steps : List Step) (w : World) (k : ℕ) → waits_now w.waits (get_or steps k no_step).session ≡ false
+    → send steps w k
+    ≡ settle (goes w (get_or steps k no_step).session (note (session_at w (get_or steps k no_step).session) (Sent k)) (tasks_of (statements_of steps k)))
+sent-settles steps w k idle = ap (λ b. let v : World =
+    elim b [
+      | true ↦ noted w (get_or steps k no_step).session (NotSent k)
+      | false ↦ settle
+          (goes w (get_or steps k no_step).session (note (session_at w (get_or steps k no_step).session) (Sent k)) (tasks_of (statements_of steps k)))
+    ] in v) idle

@@ -173,21 +173,21 @@ ends-traces count i cs x = λ e scene. refl
 
 -- ---- one statement after another
 
-module _ (count i : ℕ) (x y : Standing) (first : List Task) (sts : List Bound) (k n : ℕ) (st : Bound) (cs : List Change) (here : drop k sts
-    ≡ st ∷ drop (k + 1) sts) (came : GoesOnTo i x first y (tasks_from (drop k sts) n)) (traced : TracesOn count i [] x first cs y (tasks_from (drop k sts) n))
+module _ (count i : ℕ) (bs : List Change) (x y : Standing) (first : List Task) (sts : List Bound) (k n : ℕ) (st : Bound) (cs : List Change) (here : drop k sts
+    ≡ st ∷ drop (k + 1) sts) (came : GoesOnTo i x first y (tasks_from (drop k sts) n)) (traced : TracesOn count i bs x first cs y (tasks_from (drop k sts) n))
     where
-  traced-here : TracesOn count i [] x first cs y (asks (nowait st) (drop n (plan st)) (Do st ∷ tasks_of (drop (k + 1) sts)))
-  traced-here = subst (λ ss. TracesOn count i [] x first cs y (tasks_from ss n)) here traced
+  traced-here : TracesOn count i bs x first cs y (asks (nowait st) (drop n (plan st)) (Do st ∷ tasks_of (drop (k + 1) sts)))
+  traced-here = subst (λ ss. TracesOn count i bs x first cs y (tasks_from ss n)) here traced
 
   -- the session stops at a request
-  pub stops-trace : (trace : Trace) → ((ts : List Task) → Traces count i cs y (asks (nowait st) (drop n (plan st)) ts) trace) → Traces count i [] x first trace
-  stops-trace trace stops = traces-on-stop count i [] cs x y first (asks (nowait st) (drop n (plan st)) (Do st ∷ tasks_of (drop (k + 1) sts))) trace came.others came.waits traced-here
+  pub stops-trace : (trace : Trace) → ((ts : List Task) → Traces count i cs y (asks (nowait st) (drop n (plan st)) ts) trace) → Traces count i bs x first trace
+  stops-trace trace stops = traces-on-stop count i bs cs x y first (asks (nowait st) (drop n (plan st)) (Do st ∷ tasks_of (drop (k + 1) sts))) trace came.others came.waits traced-here
       (stops (Do st ∷ tasks_of (drop (k + 1) sts)))
 
   module _ (z : Standing) (ds : List Change) (goes : (ts : List Task) → GoesOnTo i y (asks (nowait st) (drop n (plan st)) ts) z ts)
       (had : (ts : List Task) → TracesOn count i cs y (asks (nowait st) (drop n (plan st)) ts) ds z ts) where
-    asked-traced : TracesOn count i [] x first ds z (Do st ∷ tasks_of (drop (k + 1) sts))
-    asked-traced = traces-on-on count i [] cs ds x y z first (asks (nowait st) (drop n (plan st)) (Do st ∷ tasks_of (drop (k + 1) sts)))
+    asked-traced : TracesOn count i bs x first ds z (Do st ∷ tasks_of (drop (k + 1) sts))
+    asked-traced = traces-on-on count i bs cs ds x y z first (asks (nowait st) (drop n (plan st)) (Do st ∷ tasks_of (drop (k + 1) sts)))
         (Do st ∷ tasks_of (drop (k + 1) sts)) came.others came.waits traced-here (had (Do st ∷ tasks_of (drop (k + 1) sts)))
 
     others : SameOthers i x.layers z.layers x.locks z.locks
@@ -197,13 +197,13 @@ module _ (count i : ℕ) (x y : Standing) (first : List Task) (sts : List Bound)
     waits = (goes []).waits ∙ came.waits
 
     pub done-trace-then : (w : Standing) → DoesTo i z st w
-        → TracesOn count i [] x first (ds ++ did_changes (kind st) (slice i z.locks.held)) w (tasks_from (drop (k + 1) sts) 0)
-    done-trace-then w does = subst (TracesOn count i [] x first (ds ++ did_changes (kind st) (slice i z.locks.held)) w)
+        → TracesOn count i bs x first (ds ++ did_changes (kind st) (slice i z.locks.held)) w (tasks_from (drop (k + 1) sts) 0)
+    done-trace-then w does = subst (TracesOn count i bs x first (ds ++ did_changes (kind st) (slice i z.locks.held)) w)
         (sym (tasks_from-start (drop (k + 1) sts)))
-        (traces-on-on count i [] ds (ds ++ did_changes (kind st) (slice i z.locks.held)) x z w first (Do st ∷ tasks_of (drop (k + 1) sts))
+        (traces-on-on count i bs ds (ds ++ did_changes (kind st) (slice i z.locks.held)) x z w first (Do st ∷ tasks_of (drop (k + 1) sts))
         (tasks_of (drop (k + 1) sts)) others waits asked-traced (does-traces count i ds z w st (tasks_of (drop (k + 1) sts)) does))
 
     pub fails-trace-then : (w : Standing) (f : Fault) → FailsBy i z st f w
-        → Traces count i [] x first (record { changes = ds ++ let_go (slice i z.locks.held); refusal = None })
-    fails-trace-then w f by = traces-on-stop count i [] ds x z first (Do st ∷ tasks_of (drop (k + 1) sts)) (record { changes = ds ++ let_go (slice i z.locks.held); refusal = None }) others waits asked-traced
+        → Traces count i bs x first (record { changes = ds ++ let_go (slice i z.locks.held); refusal = None })
+    fails-trace-then w f by = traces-on-stop count i bs ds x z first (Do st ∷ tasks_of (drop (k + 1) sts)) (record { changes = ds ++ let_go (slice i z.locks.held); refusal = None }) others waits asked-traced
         (fails-traces count i ds z w st f (tasks_of (drop (k + 1) sts)) by)

@@ -153,20 +153,6 @@ module _ (steps : List Step) (l : Layers) (t : Locks) (owns : List Own) (k : ℕ
         waits = t.waits;
       })
 
-  -- another goes, and the world settles from there
-  pub sent-goes : (y : Standing) → IsBelow (length owns) t → sender < length owns → waits_now t.waits sender ≡ false
-      → StopsIn sender (record { layers = l; locks = t; own = own_told its_own (Sent k) }) (tasks_of (get_or steps k no_step).statements) y
-      → send steps (world_of l t owns) k ≡ settle (world_of y.layers y.locks (set owns sender y.own))
-  sent-goes y below lt idle stops =
-      let ts = tasks_of (get_or steps k no_step).statements in
-      ap (λ b. let x : World = elim b [
-        | true ↦ noted (world_of l t owns) sender (NotSent k)
-        | false ↦ settle
-            (goes (world_of l t owns) sender (note (session_at (world_of l t owns) sender) (Sent k)) ts)
-      ] in x) idle
-      ∙ ap (λ (s : Session). settle (goes (world_of l t owns) sender (note s (Sent k)) ts)) (session_at-is l t owns sender lt)
-      ∙ ap settle (goes-is l t owns sender t (own_told its_own (Sent k)) ts y below lt (same-refl sender l t) refl stops)
-
   -- it enters the world with the statements of the step
   pub sent-enters : Steady (world_of l t owns) → sender < length owns → waits_now t.waits sender ≡ false
       → Entering (world_of l t owns) sender (session_of l t sender (own_told its_own (Sent k))) (tasks_of (get_or steps k no_step).statements)

@@ -4,3 +4,4 @@ pub mod Going
 pub mod Tracing
 pub mod Stage
 pub mod SetUp
+pub mod Telling

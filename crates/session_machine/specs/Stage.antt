@@ -1,12 +1,14 @@
 -- The world that a store, a lock table and the sessions kept beside them stand for, and what holds of them.
 use Rattle.std.specs.Prelude.{◌≡◌, ℕ, suc, ◌<◌, ◌≤◌, Bool, false, List, [], ◌∷◌, ◌++◌, length, map, set, get_or, drop, All, replicate, Option, Some, None, is_some}
 use Rattle.finite_maps.specs.Map.{empty}
-use Rattle.lock_queues.specs.Locks.{next_grant, waits_now}
+use Rattle.lock_queues.specs.Locks.{Spot, next_grant, waits_now}
+use Rattle.lock_queues.specs.Rules.{IsNext}
 use Rattle.lock_queues.specs.LockTable.{Locks, no_locks}
 use Rattle.lock_queues.specs.Laws.{IsBelow}
 use Rattle.row_tables.specs.Layers.{Layers, overlay_of, no_rows}
 use Rattle.machine_model.specs.Outcome.{TellsOwn}
 use Rattle.transcripts.specs.declared.event.Event.{Event}
+use Rattle.transcripts.specs.declared.event.Event.TheVariants.{Sent}
 use Rattle.bound_statements.specs.declared.statement.Bound.{Bound}
 use Rattle.bound_specs.specs.Spec.{Step, no_step}
 use Rattle.machine_model.specs.declared.status.Status.TheVariants.{Outside}
@@ -14,10 +16,10 @@ use Rattle.session_machine.specs.declared.stepping.Point.{Point}
 use Rattle.session_machine.specs.declared.member.Rest.{Rest}
 use Rattle.session_machine.specs.declared.member.Member.{Member}
 use Rattle.session_machine.specs.declared.stage.Stage.{Stage}
-use Rattle.machine_model.specs.Session.{Task}
+use Rattle.machine_model.specs.Session.{Task, note, tasks_of}
 use Rattle.session_machine.specs.State.{Own, world_of}
 use Rattle.session_machine.specs.Going.{Standing, standing, tasks_from, StopsIn, WaitsIf}
-use Rattle.machine_model.specs.World.{World, look_of, settle, left_to_do}
+use Rattle.machine_model.specs.World.{World, session_at, look_of, goes, granted, settle, left_to_do}
 use Rattle.machine_model.specs.Sound.{Steady}
 
 abbrev pub no_member : Member
@@ -113,8 +115,17 @@ pub record HasGone (steps : List Step) (i : ℕ) (ts : List Task) (x y : Stage) 
   pub waits : WaitsIf i x.locks y.locks (is_some (member_at y i).rest)
   pub known : RestIsOf (length steps) (member_at y i)
 
+-- the step is sent to its session, which has gone
+pub record HasStarted (steps : List Step) (k : ℕ) (x y : Stage) : Type 0 where
+  pub world : world_in steps y
+      ≡ goes (world_in steps x) (get_or steps k no_step).session (note (session_at (world_in steps x) (get_or steps k no_step).session) (Sent k))
+      (tasks_of (statements_of steps k))
+  pub stage : IsStage steps y
+  pub count : length y.members.items ≡ length x.members.items
+
 -- the first ripe wait is granted and its session has gone on: the world settles to the same, and less is left to do
 pub record HasResumed (steps : List Step) (x y : Stage) : Type 0 where
+  pub grants : (s : Spot) → IsNext x.locks s → world_in steps y ≡ granted (world_in steps x) s
   pub settles : settle (world_in steps x) ≡ settle (world_in steps y)
   pub less : left_to_do (world_in steps y) < left_to_do (world_in steps x)
   pub stage : IsStage steps y

@@ -11,6 +11,7 @@ mod session;
 mod setups;
 mod stage;
 mod stepping;
+mod telling;
 mod trace;
 mod world;
 

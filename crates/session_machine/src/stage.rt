@@ -1,12 +1,13 @@
 //! What the steps of a world change: the rows, the locks and the sessions.
 
-ghost use Rattle.std.specs.Prelude.{◌≡◌, ◌<◌, [], length, drop, IfOk, OnOk};
+ghost use Rattle.std.specs.Prelude.{◌≡◌, ◌<◌, [], false, length, get_or, drop, IfOk, OnOk};
 ghost use Rattle.lock_queues.specs.Locks.{waits_now};
 ghost use Rattle.lock_queues.specs.Rules.{IsNextOf};
+ghost use Rattle.bound_specs.specs.Spec.{no_step};
 ghost use Rattle.machine_model.specs.World.{send, settle};
 ghost use Rattle.session_machine.specs.Going.{tasks_from, IsToGo};
 ghost use Rattle.session_machine.specs.Stage as spec;
-ghost use Rattle.session_machine.specs.Stage.{statements_of, world_in, IsStage, IsSettled, IsBlank, HasSameParts, HasTold, HasGone, HasResumed};
+ghost use Rattle.session_machine.specs.Stage.{statements_of, world_in, IsStage, IsSettled, IsBlank, HasSameParts, HasTold, HasGone, HasStarted, HasResumed};
 
 use crate::member::{Member, Rest};
 use crate::stepping::{Point, go_on};
@@ -74,13 +75,31 @@ impl Stage {
         if self.locks.waits(session) {
             return self.tell(session, Event::NotSent(step));
         }
-        self.tell(session, Event::Sent(step))?;
-        self.go(alloc, spec, session, step, Point::start())?;
+        self.start_step(alloc, spec, session, step)?;
         self.settle(alloc, spec)
     }
 
+    /// Sends a step to its session, which does not wait, and lets it go.
+    pub(crate) fn start_step(
+        &mut self,
+        alloc: Global,
+        spec: &Spec,
+        session: u8,
+        step: u8,
+    ) -> Result<(), AllocError>
+        requires known { step < length spec.now.run.steps }
+        requires stage { IsStage spec.now.run.steps self.old }
+        requires inside { session < length self.old.members.items }
+        requires sender { session ≡ (get_or spec.now.run.steps step no_step).session }
+        requires idle { waits_now self.old.locks.waits session ≡ false }
+        ensures { OnOk result (HasStarted spec.now.run.steps step self.old self.new) }
+    {
+        self.tell(session, Event::Sent(step))?;
+        self.go(alloc, spec, session, step, Point::start())
+    }
+
     /// Tells a session of an event.
-    fn tell(&mut self, session: u8, event: Event) -> Result<(), AllocError>
+    pub(crate) fn tell(&mut self, session: u8, event: Event) -> Result<(), AllocError>
         requires { session < length self.old.members.items }
         ensures { OnOk result (HasTold session event self.old self.new) }
     {
@@ -130,7 +149,7 @@ impl Stage {
     }
 
     /// Grants the wait of a session, which goes on in its step.
-    fn resume(&mut self, alloc: Global, spec: &Spec, session: u8) -> Result<(), AllocError>
+    pub(crate) fn resume(&mut self, alloc: Global, spec: &Spec, session: u8) -> Result<(), AllocError>
         requires stage { IsStage spec.now.run.steps self.old }
         requires next { IsNextOf self.old.locks session }
         requires inside { session < length self.old.members.items }

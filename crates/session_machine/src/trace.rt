@@ -1,6 +1,6 @@
 //! What a session comes to while it goes: the locks that it gets and lets go, and why it is refused a request, if it is.
 
-ghost use Rattle.std.specs.Prelude.{◌≡◌, ◌++◌, ◌<◌, ℕ, All, IfOk, OnOk, true, false, drop, [], None};
+ghost use Rattle.std.specs.Prelude.{◌≡◌, ◌++◌, ◌<◌, ℕ, All, IfOk, OnOk, true, false, drop, None};
 ghost use Rattle.bound_statements.specs.Plan as plan;
 ghost use Rattle.bound_statements.specs.Plan.{HasKeys, IsShort};
 ghost use Rattle.line_moments.specs.Moments as moments;
@@ -42,14 +42,22 @@ impl Drop for Trace {
 }
 
 impl Trace {
-    /// Nothing yet.
-    fn new(alloc: Global) -> Trace
-        ensures { result ≡ record { changes = []; refusal = None } }
+    /// Of a session that goes: nothing more than these changes.
+    pub(crate) fn of(changes: Items<Change>) -> Trace
+        ensures { result ≡ record { changes = changes; refusal = None } }
     {
         Trace {
-            changes: Items::new(alloc),
+            changes,
             refusal: None,
         }
+    }
+
+    /// The changes, and why a request is refused, if one is.
+    pub(crate) fn into_parts(self) -> (Items<Change>, Option<Refusal>)
+        ensures { result ≡ (self.changes, self.refusal) }
+    {
+        let Trace { changes, refusal } = self;
+        (changes, refusal)
     }
 }
 
@@ -187,7 +195,7 @@ fn trace_asks(
     Ok(Course::AllHad)
 }
 
-/// Goes on with statements as `go_on`, and tells what that comes to.
+/// Goes on with statements as `go_on`, and tells what that comes to behind these changes.
 pub(crate) fn trace_on(
     alloc: Global,
     count: u8,
@@ -197,15 +205,16 @@ pub(crate) fn trace_on(
     state: &mut SessionState,
     statements: &[Bound],
     from: Point,
+    changes: Items<Change>,
 ) -> Result<Trace, AllocError>
     requires keys { All HasKeys statements.now }
     requires short { All IsShort statements.now }
     requires ready { IsToGo session store.old locks.old statements.now from.statement from.request }
     requires known { session < count }
     requires below { IsBelow count locks.old }
-    ensures { IfOk result (Traces count session [] (standing store.old locks.old state.old) (tasks_from (drop from.statement statements.now) from.request)) }
+    ensures { IfOk result (Traces count session changes (standing store.old locks.old state.old) (tasks_from (drop from.statement statements.now) from.request)) }
 {
-    let mut trace = Trace::new(alloc);
+    let mut trace = Trace::of(changes);
     let mut request = from.request;
     for number in from.statement..statements.len() {
         let statement = &statements[number];

@@ -41,7 +41,7 @@ returns-in-Stops c =
     let first = tasks_from (drop c.args.from.statement sts) c.args.from.request in
     let cs = c.loop-number.trace.changes in
     let stops = subst (TracesAsking c.args.count i t s st n c.trace_asks.new.locks cs c.trace_asks.new.trace) c.in-Stops.is c.in_ok-trace_asks.ensures in
-    stops-trace c.args.count i x (standing l t s) first sts k n st cs here c.loop-number.invariant.came c.loop-number.invariant.traced c.trace_asks.new.trace
+    stops-trace c.args.count i c.args.changes x (standing l t s) first sts k n st cs here c.loop-number.invariant.came c.loop-number.invariant.traced c.trace_asks.new.trace
     (stops l)
 
 pub perform-requires-clause-idle : goal.perform-requires-clause-idle
@@ -95,8 +95,8 @@ returns-in-Some c =
       changes = (ap (λ g. ds ++ g) (sym c.in_ok-gone.ensures) ∙ sym c.in_ok-append.ensures) j;
       refusal = sym had.whole j;
     } in
-    subst (λ (tr : Trace). Traces c.args.count i [] x first tr) ended
-    (fails-trace-then c.args.count i x (standing l t s) first sts k n st cs here c.loop-number.invariant.came c.loop-number.invariant.traced z ds (had.goes l)
+    subst (λ (tr : Trace). Traces c.args.count i c.args.changes x first tr) ended
+    (fails-trace-then c.args.count i c.args.changes x (standing l t s) first sts k n st cs here c.loop-number.invariant.came c.loop-number.invariant.traced z ds (had.goes l)
     (had.traces l) w c.in-Some._fault fails)
 
 -- the statement is done, and the next one follows
@@ -125,8 +125,8 @@ loop-number-preserved c =
     ap (λ g. ds ++ g) (sym (c.did_changes.ensures (slice i u.held) c.in_ok-gone.ensures)) ∙ sym c.in_ok-append-2.ensures in
     record {
       came = done-then i x (standing l t s) first sts k n st here c.loop-number.invariant.came z w (had.goes l) (goes-there i z w st does);
-      traced = subst (λ (es : List Change). TracesOn c.args.count i [] x first es w (tasks_from (drop (k + 1) sts) 0)) told
-          (done-trace-then c.args.count i x (standing l t s) first sts k n st cs here c.loop-number.invariant.came c.loop-number.invariant.traced z ds
+      traced = subst (λ (es : List Change). TracesOn c.args.count i c.args.changes x first es w (tasks_from (drop (k + 1) sts) 0)) told
+          (done-trace-then c.args.count i c.args.changes x (standing l t s) first sts k n st cs here c.loop-number.invariant.came c.loop-number.invariant.traced z ds
           (had.goes l) (had.traces l) w does);
       ready = next-to-go i l c.perform.new.store t c.perform.new.locks sts k n
           (same-trans i l l c.perform.new.store t u c.perform.new.locks (had.goes l []).others does.others) (does.waits

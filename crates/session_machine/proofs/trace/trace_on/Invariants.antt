@@ -1,4 +1,4 @@
-use Rattle.std.proofs.Common.{◌≡◌, drop, [], None}
+use Rattle.std.proofs.Common.{◌≡◌, drop, None}
 use Rattle.lock_queues.specs.Laws.{IsBelow}
 use Rattle.session_machine.specs.Going.{standing, tasks_from, GoesOnTo, IsToGo}
 use Rattle.session_machine.specs.Tracing.{TracesOn}
@@ -9,7 +9,7 @@ abbrev pub invariant-loop-number : goal.invariant-loop-number
 invariant-loop-number l = record {
   came : GoesOnTo l.session (standing l.initial.store l.initial.locks l.initial.state) (tasks_from (drop l.fn.from.statement l.statements) l.fn.from.request)
       (standing l.store l.locks l.state) (tasks_from (drop l.number l.statements) l.request);
-  traced : TracesOn l.count l.session [] (standing l.initial.store l.initial.locks l.initial.state)
+  traced : TracesOn l.count l.session l.fn.changes (standing l.initial.store l.initial.locks l.initial.state)
       (tasks_from (drop l.fn.from.statement l.statements) l.fn.from.request)
       l.trace.changes (standing l.store l.locks l.state) (tasks_from (drop l.number l.statements) l.request);
   ready : IsToGo l.session l.store l.locks l.statements l.number l.request;

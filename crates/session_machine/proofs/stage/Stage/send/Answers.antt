@@ -8,7 +8,7 @@ use Rattle.machine_model.specs.Sound.{Steady}
 use Rattle.session_machine.specs.Going.{tasks_from, IsToGo}
 use Rattle.session_machine.specs.Stage.{statements_of, world_in, member_at, note_member, IsStage, IsSettled, HasTold, HasGone}
 use Rattle.session_machine.proofs.Answered.{on_ok, on_all}
-use Rattle.session_machine.proofs.Stages.{gone-told, not-sent-now, not-sent-stage, sent-to-go-now, has-sent, sent-stage}
+use Rattle.session_machine.proofs.Stages.{not-sent-now, not-sent-stage, sent-settles}
 use Rattle.session_machine.proofs.Standing.{sound-after, settled-after}
 use Rattle.session_machine.proofs.stage.Stage.send.Goals as goal
 
@@ -43,81 +43,33 @@ returns-then-waits-clause-settled c =
     (not-sent-stage steps x k i stage is lt y told (subst Steady (sym sent) (sound-after sessions steps x k c.requires.settled known).steady))
     (ap length told.members ∙ length-set x.members.items i (note_member (member_at x i) (NotSent k))))
 
--- another goes
-pub go-requires-clause-ready : goal.go-requires-clause-ready
-go-requires-clause-ready c =
-    let steps = c.args.spec.now.run.steps in
-    let x = c.args.self.now in
-    let k = c.args.step in
-    let i = c.session_of-session.result in
-    let stage = c.requires.settled.stage in
-    let is = c.session_of-session.ensures.is in
-    let lt : i < length x.members.items = omega (arith, c.session_of-session.ensures.known, c.requires.settled.count) in
-    let told = c.tell-2.new.self in
-    let go : IsToGo i x.store x.locks (statements_of steps k) 0 0 = sent-to-go-now steps x k i stage is lt (sym c.if-waits.ensures) in
-    subst (λ (p : Point). IsToGo i told.store told.locks (statements_of steps k) p.statement p.request) (sym c.start.ensures)
-    (subst (λ t. IsToGo i told.store t (statements_of steps k) 0 0) (sym c.in_ok-tell.ensures.locks)
-    (subst (λ l. IsToGo i l x.locks (statements_of steps k) 0 0) (sym c.in_ok-tell.ensures.store) go))
-
-pub settle-requires : goal.settle-requires
-settle-requires c =
-    let steps = c.args.spec.now.run.steps in
-    let x = c.args.self.now in
-    let k = c.args.step in
-    let i = c.session_of-session.result in
-    let stage = c.requires.settled.stage in
-    let is = c.session_of-session.ensures.is in
-    let lt : i < length x.members.items = omega (arith, c.session_of-session.ensures.known, c.requires.settled.count) in
-    let told = c.tell-2.new.self in
-    let idle : waits_now x.locks.waits i ≡ false = sym c.if-waits.ensures in
-    let y = c.go.new.self in
-    let went : HasGone steps i (tasks_from (drop 0 (statements_of steps k)) 0) told y =
-    subst (λ (p : Point). HasGone steps i (tasks_from (drop p.statement (statements_of steps k)) p.request) told y) c.start.ensures c.in_ok-go.ensures in
-    let gone = gone-told steps i (tasks_from (drop 0 (statements_of steps k)) 0) x told y x.locks (Sent k) lt c.in_ok-tell.ensures.store
-    c.in_ok-tell.ensures.locks c.in_ok-tell.ensures.members went in
-    sent-stage steps x k i stage is lt idle y gone
-
--- and the world settles
+-- another goes, and the world settles
 pub returns-clause-sent : goal.returns-clause-sent
 returns-clause-sent c =
     let steps = c.args.spec.now.run.steps in
     let x = c.args.self.now in
     let k = c.args.step in
-    let i = c.session_of-session.result in
-    let stage = c.requires.settled.stage in
-    let is = c.session_of-session.ensures.is in
-    let lt : i < length x.members.items = omega (arith, c.session_of-session.ensures.known, c.requires.settled.count) in
-    let told = c.tell-2.new.self in
-    let idle : waits_now x.locks.waits i ≡ false = sym c.if-waits.ensures in
-    let y = c.go.new.self in
-    let went : HasGone steps i (tasks_from (drop 0 (statements_of steps k)) 0) told y =
-    subst (λ (p : Point). HasGone steps i (tasks_from (drop p.statement (statements_of steps k)) p.request) told y) c.start.ensures c.in_ok-go.ensures in
-    let gone = gone-told steps i (tasks_from (drop 0 (statements_of steps k)) 0) x told y x.locks (Sent k) lt c.in_ok-tell.ensures.store
-    c.in_ok-tell.ensures.locks c.in_ok-tell.ensures.members went in
+    let y = c.start_step.new.self in
     let z = c.settle.new.self in
+    let idle : waits_now x.locks.waits (get_or steps k no_step).session ≡ false =
+    subst (λ i. waits_now x.locks.waits i ≡ false) c.session_of-session.ensures.is (sym c.if-waits.ensures) in
     on_ok c.settle.result (world_in steps z ≡ settle (world_in steps y)) (world_in steps z
-    ≡ send steps (world_in steps x) k) c.settle.ensures.settled (λ settled. settled ∙ sym (has-sent steps x k i stage is lt idle y gone))
+    ≡ send steps (world_in steps x) k) c.settle.ensures.settled (λ settled. settled ∙ ap settle c.in_ok-start_step.ensures.world
+    ∙ sym (sent-settles steps (world_in steps x) k idle))
 
 pub returns-clause-settled : goal.returns-clause-settled
 returns-clause-settled c =
     let steps = c.args.spec.now.run.steps in
     let x = c.args.self.now in
     let k = c.args.step in
-    let i = c.session_of-session.result in
-    let stage = c.requires.settled.stage in
-    let is = c.session_of-session.ensures.is in
-    let lt : i < length x.members.items = omega (arith, c.session_of-session.ensures.known, c.requires.settled.count) in
     let sessions = c.args.spec.now.run.sessions in
-    let known : (get_or steps k no_step).session < suc sessions = omega (arith, is, c.session_of-session.ensures.known) in
-    let told = c.tell-2.new.self in
-    let idle : waits_now x.locks.waits i ≡ false = sym c.if-waits.ensures in
-    let y = c.go.new.self in
-    let went : HasGone steps i (tasks_from (drop 0 (statements_of steps k)) 0) told y =
-    subst (λ (p : Point). HasGone steps i (tasks_from (drop p.statement (statements_of steps k)) p.request) told y) c.start.ensures c.in_ok-go.ensures in
-    let gone = gone-told steps i (tasks_from (drop 0 (statements_of steps k)) 0) x told y x.locks (Sent k) lt c.in_ok-tell.ensures.store
-    c.in_ok-tell.ensures.locks c.in_ok-tell.ensures.members went in
+    let known : (get_or steps k no_step).session < suc sessions = omega (arith, c.session_of-session.ensures.is, c.session_of-session.ensures.known) in
+    let idle : waits_now x.locks.waits (get_or steps k no_step).session ≡ false =
+    subst (λ i. waits_now x.locks.waits i ≡ false) c.session_of-session.ensures.is (sym c.if-waits.ensures) in
+    let y = c.start_step.new.self in
     let z = c.settle.new.self in
     on_all c.settle.result (world_in steps z ≡ settle (world_in steps y)) (IsStage steps z) (length z.members.items
     ≡ length y.members.items) (IsSettled sessions steps z) c.settle.ensures.settled c.settle.ensures.stage c.settle.ensures.count (λ settled stands count.
-    settled-after sessions steps x z k c.requires.settled c.requires.known known (settled ∙ sym (has-sent steps x k i stage is lt idle y gone)) stands
-    (count ∙ ap length gone.members ∙ length-set x.members.items i (member_at y i)))
+    settled-after sessions steps x z k c.requires.settled c.requires.known known (settled ∙ ap settle c.in_ok-start_step.ensures.world
+    ∙ sym (sent-settles steps (world_in steps x) k idle)) stands
+    (count ∙ c.in_ok-start_step.ensures.count))
