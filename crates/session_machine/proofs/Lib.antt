@@ -4,10 +4,10 @@ pub mod Moves
 pub mod Requests
 pub mod Steps
 pub mod Tracing
-pub mod Seeing
 pub mod Worlds
 pub mod Waiting
 pub mod Stages
 pub mod SetUpLemmas
 pub mod Answered
 pub mod Standing
+pub mod Seeing

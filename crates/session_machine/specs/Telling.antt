@@ -1,22 +1,30 @@
 -- What is told of a session that went from one stage to the other.
-use Rattle.std.specs.Prelude.{ℕ, zero, suc, ◌==◌, cond, List, [], ◌∷◌, ◌++◌, drop, length, Option, Some, None, map}
+use Rattle.std.specs.Prelude.{◌≡◌, ℕ, zero, suc, ◌==◌, cond, List, [], ◌∷◌, ◌++◌, drop, length, Option, Some, None, map}
 use Rattle.lock_modes.specs.declared.mode.Mode.{Mode}
 use Rattle.lock_modes.specs.declared.resource.Resource.{Resource}
-use Rattle.lock_queues.specs.LockTable.{Locks, look_in}
+use Rattle.lock_queues.specs.Locks.{Spot}
+use Rattle.lock_queues.specs.LockTable.{Locks, look_in, grant}
+use Rattle.lock_queues.specs.Rules.{wait_of}
 use Rattle.lock_queues.specs.Reasons.{want_of}
 use Rattle.lock_queues.specs.declared.reason.Edge.{Edge}
 use Rattle.transcripts.specs.declared.event.Event.{Event}
+use Rattle.transcripts.specs.declared.event.Event.TheVariants.{Sent, Resumed}
 use Rattle.bound_specs.specs.Spec.{Step}
+use Rattle.machine_model.specs.Session.{Task}
 use Rattle.machine_model.specs.World.{World, left_to_do}
-use Rattle.line_moments.specs.Moments.{changed_edges, sent_step, ending_by, moment_of, settle_goings}
+use Rattle.line_moments.specs.Moments.{changed_edges, sent_step, last_sent, ending_by, moment_of, settle_goings}
 use Rattle.line_moments.specs.declared.moment.Change.{Change}
 use Rattle.line_moments.specs.declared.moment.Change.TheVariants.{Had}
 use Rattle.line_moments.specs.declared.moment.Manner.{Manner}
+use Rattle.line_moments.specs.declared.moment.Manner.TheVariants.{IsResumed}
 use Rattle.line_moments.specs.declared.moment.Moment.{Moment}
 use Rattle.line_moments.specs.declared.moment.Still.{Still}
 use Rattle.session_machine.specs.declared.stage.Stage.{Stage}
 use Rattle.session_machine.specs.declared.trace.Trace.{Trace}
-use Rattle.session_machine.specs.Stage.{member_at}
+use Rattle.session_machine.specs.declared.member.Rest.{Rest}
+use Rattle.session_machine.specs.Going.{Standing, standing, tasks_from}
+use Rattle.session_machine.specs.Tracing.{Traces}
+use Rattle.session_machine.specs.Stage.{statements_of, member_at}
 
 -- what is had where this wait is granted
 abbrev pub had_of : Option (Resource × Mode) → List Change
@@ -52,6 +60,31 @@ moment_told count x y i manner step trace = record {
   ending = ending_by (want_of count (look_in y.locks) y.locks.waits i) trace.refusal;
   still = still_told count count i x.locks y.locks;
 }
+
+-- a session that went nowhere comes to nothing
+abbrev pub no_trace : Trace
+no_trace = record { changes = []; refusal = None }
+
+-- what the moment tells is what the tasks come to, behind these changes, of a session that stood there
+pub record IsTold (count : ℕ) (x y : Stage) (i : ℕ) (manner : Manner) (step : Option ℕ) (cs : List Change) (from : Standing) (ts : List Task) (m : Moment) : Type 0 where
+  pub trace : Trace
+  pub traces : Traces count i cs from ts trace
+  pub is : m ≡ moment_told count x y i manner step trace
+
+-- where a session stands that is sent a step, and was told of nothing else
+abbrev pub sent_standing : Stage → ℕ → ℕ → Standing
+sent_standing x i k = standing x.store x.locks (record { status = (member_at x i).state.status; transcript = Sent k ∷ [] })
+
+-- where a session stands whose wait is granted, and was told of nothing else
+abbrev pub resumed_standing : Stage → Spot → Standing
+resumed_standing x s = standing x.store (grant x.locks s) (record { status = (member_at x s.wait.session).state.status; transcript = Resumed ∷ [] })
+
+-- the moment of the session whose wait was granted
+pub record IsResumedSo (count : ℕ) (steps : List Step) (x y : Stage) (s : Spot) (m : Moment) : Type 0 where
+  pub rest : Rest
+  pub there : (member_at x s.wait.session).rest ≡ Some rest
+  pub told : IsTold count x y s.wait.session IsResumed (last_sent None (member_at x s.wait.session).state.transcript) (had_of (wait_of x.locks s.wait.session))
+      (resumed_standing x s) (tasks_from (drop rest.point.statement (statements_of steps rest.step)) rest.point.request) m
 
 -- the moments of a world that settles
 abbrev pub settling : List Step → World → List Moment

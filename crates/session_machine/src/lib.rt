@@ -5,6 +5,7 @@ mod asking;
 mod blocks;
 mod error;
 mod member;
+mod moments;
 mod performing;
 mod runs;
 mod session;

@@ -1,0 +1,187 @@
+//! The moments of a step that is sent.
+
+ghost use Rattle.std.specs.Prelude.{◌≡◌, ◌++◌, ◌<◌, suc, true, false, [], ◌∷◌, Some, IfOk, OnOk, length, get_or, drop};
+ghost use Rattle.bound_specs.specs.Spec.{no_step};
+ghost use Rattle.line_moments.specs.Moments as moments;
+ghost use Rattle.lock_queues.specs.LockTable.{grant, look_in};
+ghost use Rattle.lock_queues.specs.Locks as locks;
+ghost use Rattle.lock_queues.specs.Reasons.{want_of};
+ghost use Rattle.lock_queues.specs.Rules.{IsNext, IsNextOf, wait_of};
+ghost use Rattle.machine_model.specs.World.{send, settle};
+ghost use Rattle.session_machine.specs.Going.{standing, tasks_from};
+ghost use Rattle.session_machine.specs.Stage.{statements_of, world_in, member_at, IsStage, IsSettled, HasTold, HasStarted, HasResumed};
+ghost use Rattle.session_machine.specs.Telling as told;
+ghost use Rattle.transcripts.specs.declared.event.Event.TheVariants as event;
+
+use crate::stage::Stage;
+use crate::stepping::Point;
+use crate::telling::{events_behind, had_of, last_step, still_of, told_only};
+use crate::trace::{Trace, trace_on};
+use bound_specs::Spec;
+use finite_maps::Fork;
+use line_moments::{Ending, Manner, Moment, Still};
+use machine_model::Status;
+use sqlite_items::Items;
+use std::alloc::{AllocError, Global};
+use transcripts::{Event, Log, Transcript};
+
+impl Stage {
+    /// What a session was told.
+    fn log(&self, session: u8) -> &Log
+        requires { session < length self.now.members.items }
+        ensures { result.now ≡ (member_at self.now session).state.transcript }
+    {
+        &self.members[session as usize].state.transcript
+    }
+
+    /// How the block of a session stands.
+    fn status(&self, session: u8) -> Status
+        requires { session < length self.now.members.items }
+        ensures { result ≡ (member_at self.now session).state.status }
+    {
+        self.members[session as usize].state.status
+    }
+
+    /// The moment of a session that stands so at its end.
+    fn moment(
+        &self,
+        alloc: Global,
+        count: u8,
+        session: u8,
+        manner: Manner,
+        step: Option<u8>,
+        events: Transcript,
+        still: Items<Still>,
+        trace: Trace,
+    ) -> Result<Moment, AllocError>
+        requires { session < length self.now.members.items }
+        ensures { IfOk result (λ moment. moment
+            ≡ record {
+              session = session;
+              manner = manner;
+              step = step;
+              events = events;
+              changes = trace.changes;
+              status = (member_at self.now session).state.status;
+              ending = moments.ending_by (want_of count (look_in self.now.locks) self.now.locks.waits session) trace.refusal;
+              still = still;
+            }) }
+    {
+        let want = self.locks.want_of(alloc, session, count)?;
+        let (changes, refusal) = trace.into_parts();
+        Ok(Moment {
+            session,
+            manner,
+            step,
+            events,
+            changes,
+            status: self.status(session),
+            ending: Ending::new(want, refusal),
+            still,
+        })
+    }
+
+    /// The moment of a session that is not sent a step, which came to this stage from that one.
+    fn skipped_moment(
+        &self,
+        alloc: Global,
+        spec: &Spec,
+        before: &Stage,
+        session: u8,
+        step: u8,
+    ) -> Result<Moment, AllocError>
+        requires inside { session < length before.now.members.items }
+        requires count { length before.now.members.items ≡ suc spec.now.run.sessions }
+        requires told { HasTold session (event.NotSent step) before.now self.now }
+        ensures { IfOk result (λ moment. moment
+            ≡ told.moment_told (suc spec.now.run.sessions) before.now self.now session Manner.IsNotSent (Some step) told.no_trace) }
+    {
+        let count = spec.sessions() + 1;
+        let still = still_of(alloc, &before.locks, &self.locks, session, count)?;
+        let events = events_behind(alloc, before.log(session), self.log(session))?;
+        let trace = Trace::of(Items::new(alloc));
+        let manner = Manner::IsNotSent;
+        self.moment(alloc, count, session, manner, Some(step), events, still, trace)
+    }
+
+    /// The moment of a session that went on in a step, which came to this stage from that one.
+    fn sent_moment(
+        &self,
+        alloc: Global,
+        spec: &Spec,
+        mut before: Stage,
+        session: u8,
+        step: u8,
+    ) -> Result<Moment, AllocError>
+        requires stage { IsStage spec.now.run.steps before }
+        requires known { step < length spec.now.run.steps }
+        requires inside { session < length before.members.items }
+        requires count { length before.members.items ≡ suc spec.now.run.sessions }
+        requires same { length self.now.members.items ≡ length before.members.items }
+        requires sender { session ≡ (get_or spec.now.run.steps step no_step).session }
+        requires idle { locks.waits_now before.locks.waits session ≡ false }
+        ensures { IfOk result (told.IsTold (suc spec.now.run.sessions) before self.now session Manner.IsSent (Some step) []
+            (told.sent_standing before session step) (tasks_from (drop 0 (statements_of spec.now.run.steps step)) 0)) }
+    {
+        let count = spec.sessions() + 1;
+        let still = still_of(alloc, &before.locks, &self.locks, session, count)?;
+        let events = events_behind(alloc, before.log(session), self.log(session))?;
+        let mut state = told_only(alloc, before.status(session), Event::Sent(step))?;
+        let trace = trace_on(
+            alloc,
+            count,
+            &mut before.store,
+            &mut before.locks,
+            session,
+            &mut state,
+            spec.statements(step),
+            Point::start(),
+            Items::new(alloc),
+        )?;
+        let manner = Manner::IsSent;
+        let moment = self.moment(alloc, count, session, manner, Some(step), events, still, trace)?;
+        Ok(moment)
+    }
+
+    /// The moment of a session whose wait was granted, which came to this stage from that one.
+    fn resumed_moment(
+        &self,
+        alloc: Global,
+        spec: &Spec,
+        mut before: Stage,
+        session: u8,
+    ) -> Result<Moment, AllocError>
+        requires stage { IsStage spec.now.run.steps before }
+        requires next { IsNextOf before.locks session }
+        requires inside { session < length before.members.items }
+        requires count { length before.members.items ≡ suc spec.now.run.sessions }
+        requires same { length self.now.members.items ≡ length before.members.items }
+        ensures { IfOk result (λ moment. (s : locks.Spot) → IsNext before.locks s → s.wait.session ≡ session
+            → told.IsResumedSo (suc spec.now.run.sessions) spec.now.run.steps before self.now s moment) }
+    {
+        let count = spec.sessions() + 1;
+        let still = still_of(alloc, &before.locks, &self.locks, session, count)?;
+        let events = events_behind(alloc, before.log(session), self.log(session))?;
+        let step = last_step(before.log(session))?;
+        let changes = had_of(alloc, &before.locks, session)?;
+        let mut state = told_only(alloc, before.status(session), Event::Resumed)?;
+        let Some(rest) = before.members[session as usize].rest else {
+            unreachable!()
+        };
+        before.locks.grant(session)?;
+        let trace = trace_on(
+            alloc,
+            count,
+            &mut before.store,
+            &mut before.locks,
+            session,
+            &mut state,
+            spec.statements(rest.step),
+            rest.point,
+            changes,
+        )?;
+        let manner = Manner::IsResumed;
+        let moment = self.moment(alloc, count, session, manner, step, events, still, trace)?;
+        Ok(moment)
+    }
+}
