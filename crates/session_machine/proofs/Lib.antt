@@ -11,3 +11,4 @@ pub mod SetUpLemmas
 pub mod Answered
 pub mod Standing
 pub mod Seeing
+pub mod WorldMoments

@@ -7,7 +7,7 @@ use Rattle.std.proofs.Common.{set, get_or, Option, Some, None, is_some, ⊎_elim
 use Rattle.lock_queues.specs.declared.wait.Wait.{Wait}
 use Rattle.lock_queues.specs.Locks.{Spot, waits_now}
 use Rattle.lock_queues.specs.LockTable.{Locks, grant}
-use Rattle.lock_queues.specs.Rules.{IsNext}
+use Rattle.lock_queues.specs.Rules.{IsNext, NothingRipe}
 use Rattle.lock_queues.specs.Sound.{EachWait}
 use Rattle.lock_queues.proofs.Bounded.{tests-decide}
 use Rattle.transcripts.specs.declared.event.Event.{Event}
@@ -211,9 +211,20 @@ module _ (steps : List Step) (x : Stage) (s : Spot) (stage : IsStage steps x) (n
       count = ap length gone.members ∙ length-set x.members.items i (member_at y i);
     }
 
+-- the next grant is that of the world
+pub next-in-world : (steps : List Step) (x : Stage) (s : Spot) → IsStage steps x → IsNext x.locks s → next_in (world_in steps x) ≡ Some s
+next-in-world steps x s stage next = next-now steps x s stage next
+
+pub none-in-world : (steps : List Step) (x : Stage) → IsStage steps x → NothingRipe x.locks → next_in (world_in steps x) ≡ None
+none-in-world steps x stage never =
+    let owns : List Own = map (own_of steps) x.members.items in
+    let within : IsWithin (length owns) x.store x.locks = subst (λ k. IsWithin k x.store x.locks) (sym (length-map x.members.items (own_of steps))) stage.within
+    in
+    next-is x.store x.locks owns within.below ∙ (tests-decide (length owns) x.locks within.below).none never
+
 -- ---- a step is sent
 
-none-rests : (o : Option Rest) → is_some o ≡ false → o ≡ None
+pub none-rests : (o : Option Rest) → is_some o ≡ false → o ≡ None
 none-rests None is = refl
 none-rests (Some r) is = cc
 

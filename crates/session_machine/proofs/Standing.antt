@@ -61,7 +61,7 @@ settled-after sessions steps x y k settled lt known sent stage count =
 pub same-world : (steps : List Step) (x y : Stage) → HasSameParts x y → world_in steps y ≡ world_in steps x
 same-world steps x y same = λ k. world_of (same.store k) (same.locks k) (map (own_of steps) (same.members k))
 
-same-stage : (steps : List Step) (x y : Stage) → HasSameParts x y → IsStage steps x → IsStage steps y
+pub same-stage : (steps : List Step) (x y : Stage) → HasSameParts x y → IsStage steps x → IsStage steps y
 same-stage steps x y same stage = record {
   within = subst (λ (ms : List Member). IsWithin (length ms) y.store y.locks) (sym same.members)
       (subst (λ t. IsWithin (length x.members.items) y.store t) (sym same.locks)

@@ -12,7 +12,7 @@ use Rattle.transcripts.specs.declared.event.Event.TheVariants.{Sent, Resumed}
 use Rattle.bound_specs.specs.Spec.{Step}
 use Rattle.machine_model.specs.Session.{Task}
 use Rattle.machine_model.specs.World.{World, left_to_do}
-use Rattle.line_moments.specs.Moments.{changed_edges, sent_step, last_sent, ending_by, moment_of, settle_goings}
+use Rattle.line_moments.specs.Moments.{changed_edges, sent_step, last_sent, ending_by, Cause, moment_of, settle_goings}
 use Rattle.line_moments.specs.declared.moment.Change.{Change}
 use Rattle.line_moments.specs.declared.moment.Change.TheVariants.{Had}
 use Rattle.line_moments.specs.declared.moment.Manner.{Manner}
@@ -24,7 +24,7 @@ use Rattle.session_machine.specs.declared.trace.Trace.{Trace}
 use Rattle.session_machine.specs.declared.member.Rest.{Rest}
 use Rattle.session_machine.specs.Going.{Standing, standing, tasks_from}
 use Rattle.session_machine.specs.Tracing.{Traces}
-use Rattle.session_machine.specs.Stage.{statements_of, member_at}
+use Rattle.session_machine.specs.Stage.{statements_of, world_in, member_at}
 
 -- what is had where this wait is granted
 abbrev pub had_of : Option (Resource × Mode) → List Change
@@ -85,6 +85,10 @@ pub record IsResumedSo (count : ℕ) (steps : List Step) (x y : Stage) (s : Spot
   pub there : (member_at x s.wait.session).rest ≡ Some rest
   pub told : IsTold count x y s.wait.session IsResumed (last_sent None (member_at x s.wait.session).state.transcript) (had_of (wait_of x.locks s.wait.session))
       (resumed_standing x s) (tasks_from (drop rest.point.statement (statements_of steps rest.step)) rest.point.request) m
+
+-- the moment of a going from the world of the stage
+abbrev pub moment_in : List Step → Stage → Cause → Moment
+moment_in steps x cause = moment_of steps (record { world = world_in steps x; cause = cause })
 
 -- the moments of a world that settles
 abbrev pub settling : List Step → World → List Moment

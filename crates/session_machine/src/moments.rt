@@ -10,7 +10,7 @@ ghost use Rattle.lock_queues.specs.Rules.{IsNext, IsNextOf, wait_of};
 ghost use Rattle.machine_model.specs.World.{send, settle};
 ghost use Rattle.session_machine.specs.Going.{standing, tasks_from};
 ghost use Rattle.session_machine.specs.Stage.{statements_of, world_in, member_at, IsStage, IsSettled, HasTold, HasStarted, HasResumed};
-ghost use Rattle.session_machine.specs.Telling as told;
+ghost use Rattle.session_machine.specs.Telling as telling;
 ghost use Rattle.transcripts.specs.declared.event.Event.TheVariants as event;
 
 use crate::stage::Stage;
@@ -94,7 +94,7 @@ impl Stage {
         requires count { length before.now.members.items ≡ suc spec.now.run.sessions }
         requires told { HasTold session (event.NotSent step) before.now self.now }
         ensures { IfOk result (λ moment. moment
-            ≡ told.moment_told (suc spec.now.run.sessions) before.now self.now session Manner.IsNotSent (Some step) told.no_trace) }
+            ≡ telling.moment_told (suc spec.now.run.sessions) before.now self.now session Manner.IsNotSent (Some step) telling.no_trace) }
     {
         let count = spec.sessions() + 1;
         let still = still_of(alloc, &before.locks, &self.locks, session, count)?;
@@ -120,8 +120,8 @@ impl Stage {
         requires same { length self.now.members.items ≡ length before.members.items }
         requires sender { session ≡ (get_or spec.now.run.steps step no_step).session }
         requires idle { locks.waits_now before.locks.waits session ≡ false }
-        ensures { IfOk result (told.IsTold (suc spec.now.run.sessions) before self.now session Manner.IsSent (Some step) []
-            (told.sent_standing before session step) (tasks_from (drop 0 (statements_of spec.now.run.steps step)) 0)) }
+        ensures { IfOk result (telling.IsTold (suc spec.now.run.sessions) before self.now session Manner.IsSent (Some step) []
+            (telling.sent_standing before session step) (tasks_from (drop 0 (statements_of spec.now.run.steps step)) 0)) }
     {
         let count = spec.sessions() + 1;
         let still = still_of(alloc, &before.locks, &self.locks, session, count)?;
@@ -157,7 +157,7 @@ impl Stage {
         requires count { length before.members.items ≡ suc spec.now.run.sessions }
         requires same { length self.now.members.items ≡ length before.members.items }
         ensures { IfOk result (λ moment. (s : locks.Spot) → IsNext before.locks s → s.wait.session ≡ session
-            → told.IsResumedSo (suc spec.now.run.sessions) spec.now.run.steps before self.now s moment) }
+            → telling.IsResumedSo (suc spec.now.run.sessions) spec.now.run.steps before self.now s moment) }
     {
         let count = spec.sessions() + 1;
         let still = still_of(alloc, &before.locks, &self.locks, session, count)?;
@@ -183,5 +183,126 @@ impl Stage {
         let manner = Manner::IsResumed;
         let moment = self.moment(alloc, count, session, manner, step, events, still, trace)?;
         Ok(moment)
+    }
+}
+
+impl Stage {
+    /// Tells a session that waits that it is not sent a step, and tells the moment.
+    fn skip_told(
+        &mut self,
+        alloc: Global,
+        spec: &Spec,
+        session: u8,
+        step: u8,
+        told: &mut Items<Moment>,
+    ) -> Result<(), AllocError>
+        requires known { step < length spec.now.run.steps }
+        requires settled { IsSettled spec.now.run.sessions spec.now.run.steps self.old }
+        requires sender { session ≡ (get_or spec.now.run.steps step no_step).session }
+        requires inside { session < length self.old.members.items }
+        requires waits { locks.waits_now self.old.locks.waits session ≡ true }
+        ensures kept { OnOk result (HasTold session (event.NotSent step) self.old self.new) }
+        ensures told { OnOk result (told.new
+            ≡ told.old ++ telling.moment_in spec.now.run.steps self.old (moments.Skips step) ∷ []) }
+    {
+        let before = self.fork()?;
+        self.tell(session, Event::NotSent(step))?;
+        let moment = self.skipped_moment(alloc, spec, &before, session, step)?;
+        told.push(moment)?;
+        Ok(())
+    }
+
+    /// Sends a step to its session, which does not wait, and tells the moment.
+    fn start_told(
+        &mut self,
+        alloc: Global,
+        spec: &Spec,
+        session: u8,
+        step: u8,
+        told: &mut Items<Moment>,
+    ) -> Result<(), AllocError>
+        requires known { step < length spec.now.run.steps }
+        requires stage { IsStage spec.now.run.steps self.old }
+        requires count { length self.old.members.items ≡ suc spec.now.run.sessions }
+        requires sender { session ≡ (get_or spec.now.run.steps step no_step).session }
+        requires inside { session < length self.old.members.items }
+        requires idle { locks.waits_now self.old.locks.waits session ≡ false }
+        ensures started { OnOk result (HasStarted spec.now.run.steps step self.old self.new) }
+        ensures told { OnOk result (told.new
+            ≡ told.old ++ telling.moment_in spec.now.run.steps self.old (moments.Sends step) ∷ []) }
+    {
+        let before = self.fork()?;
+        self.start_step(alloc, spec, session, step)?;
+        let moment = self.sent_moment(alloc, spec, before, session, step)?;
+        told.push(moment)?;
+        Ok(())
+    }
+
+    /// Grants the wait of a session, which goes on in its step, and tells the moment.
+    fn resume_told(
+        &mut self,
+        alloc: Global,
+        spec: &Spec,
+        session: u8,
+        told: &mut Items<Moment>,
+    ) -> Result<(), AllocError>
+        requires stage { IsStage spec.now.run.steps self.old }
+        requires count { length self.old.members.items ≡ suc spec.now.run.sessions }
+        requires next { IsNextOf self.old.locks session }
+        requires inside { session < length self.old.members.items }
+        ensures resumed { OnOk result (HasResumed spec.now.run.steps self.old self.new) }
+        ensures told { OnOk result ((s : locks.Spot) → IsNext self.old.locks s → s.wait.session ≡ session
+            → told.new ≡ told.old ++ telling.moment_in spec.now.run.steps self.old (moments.GoesOn s) ∷ []) }
+    {
+        self.locks.known();
+        let before = self.fork()?;
+        self.resume(alloc, spec, session)?;
+        let moment = self.resumed_moment(alloc, spec, before, session)?;
+        told.push(moment)?;
+        Ok(())
+    }
+
+    /// While a wait is ripe, the first one is granted and its session goes on, as in `settle`. Each moment is told.
+    fn settle_told(
+        &mut self,
+        alloc: Global,
+        spec: &Spec,
+        told: &mut Items<Moment>,
+    ) -> Result<(), AllocError>
+        requires stage { IsStage spec.now.run.steps self.old }
+        requires count { length self.old.members.items ≡ suc spec.now.run.sessions }
+        ensures settled { OnOk result (world_in spec.now.run.steps self.new ≡ settle (world_in spec.now.run.steps self.old)) }
+        ensures stage { OnOk result (IsStage spec.now.run.steps self.new) }
+        ensures count { OnOk result (length self.new.members.items ≡ length self.old.members.items) }
+        ensures told { OnOk result (told.new
+            ≡ told.old ++ telling.settling spec.now.run.steps (world_in spec.now.run.steps self.old)) }
+    {
+        'ripe: while let Some(session) = self.locks.next_grant() {
+            self.resume_told(alloc, spec, session, told)?;
+        }
+        Ok(())
+    }
+
+    /// Sends a step as `send`, and tells each of its moments.
+    pub(crate) fn send_told(
+        &mut self,
+        alloc: Global,
+        spec: &Spec,
+        step: u8,
+        told: &mut Items<Moment>,
+    ) -> Result<(), AllocError>
+        requires known { step < length spec.now.run.steps }
+        requires settled { IsSettled spec.now.run.sessions spec.now.run.steps self.old }
+        ensures sent { OnOk result (world_in spec.now.run.steps self.new ≡ send spec.now.run.steps (world_in spec.now.run.steps self.old) step) }
+        ensures settled { OnOk result (IsSettled spec.now.run.sessions spec.now.run.steps self.new) }
+        ensures told { OnOk result (told.new
+            ≡ told.old ++ moments.moments spec.now.run.steps (world_in spec.now.run.steps self.old) step) }
+    {
+        let session = spec.session_of(step);
+        if self.locks.waits(session) {
+            return self.skip_told(alloc, spec, session, step, told);
+        }
+        self.start_told(alloc, spec, session, step, told)?;
+        self.settle_told(alloc, spec, told)
     }
 }
