@@ -1,5 +1,8 @@
 //! What is shown of a line: what it begins with, its moments, and what it leaves.
 
+ghost use Rattle.std.specs.Prelude.{◌≡◌};
+ghost use Rattle.line_moments.specs.Left.{standing_by};
+
 use crate::moment::Moment;
 use binding_model::Table;
 use lock_modes::{Mode, Resource, Row, Value};
@@ -44,6 +47,22 @@ impl Drop for Standing {
             Standing::IsOpen => {}
             Standing::HasFailed => {}
             Standing::StillWaits(_want) => {}
+        }
+    }
+}
+
+impl Standing {
+    /// How a session stands that wants this, if it waits, and whose block stands so.
+    pub fn new(want: Option<Want>, status: Status) -> Standing
+        ensures { result ≡ standing_by want status }
+    {
+        match want {
+            Some(want) => Standing::StillWaits(want),
+            None => match status {
+                Status::Outside => Standing::HasEnded,
+                Status::InBlock => Standing::IsOpen,
+                Status::Broken => Standing::HasFailed,
+            },
         }
     }
 }

@@ -12,3 +12,4 @@ pub mod Answered
 pub mod Standing
 pub mod Seeing
 pub mod WorldMoments
+pub mod Committed

@@ -5,3 +5,4 @@ pub mod Tracing
 pub mod Stage
 pub mod SetUp
 pub mod Telling
+pub mod Showing

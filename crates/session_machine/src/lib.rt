@@ -4,12 +4,14 @@
 mod asking;
 mod blocks;
 mod error;
+mod leaving;
 mod member;
 mod moments;
 mod performing;
 mod runs;
 mod session;
 mod setups;
+mod showing;
 mod stage;
 mod stepping;
 mod telling;
@@ -18,4 +20,5 @@ mod world;
 
 pub use error::{RunError, SendError, StartError};
 pub use runs::{not_started, run_one};
+pub use showing::show_line;
 pub use world::World;

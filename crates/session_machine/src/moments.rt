@@ -35,7 +35,7 @@ impl Stage {
     }
 
     /// How the block of a session stands.
-    fn status(&self, session: u8) -> Status
+    pub(crate) fn status(&self, session: u8) -> Status
         requires { session < length self.now.members.items }
         ensures { result ≡ (member_at self.now session).state.status }
     {

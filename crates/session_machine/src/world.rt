@@ -1,10 +1,12 @@
 //! A world of a spec: its rows, its locks, and what each session was told.
 
-ghost use Rattle.std.specs.Prelude.{◌≡◌, ◌<◌, ◌↔◌, true, false, length, IfOk, IfErr, OnOk, OnErr, IsErrOf};
+ghost use Rattle.std.specs.Prelude.{◌≡◌, ◌<◌, ◌↔◌, ◌++◌, true, false, length, All, IfOk, IfErr, OnOk, OnErr, IsErrOf};
 ghost use Rattle.std.specs.Option.{option_map};
 ghost use Rattle.lock_modes.specs.Resource.{resource_at};
 ghost use Rattle.bound_specs.specs.Spec.{IsBound};
-ghost use Rattle.machine_model.specs.World.{send, outcome_of};
+ghost use Rattle.line_moments.specs.Left.{begun, left_in, standings, shown_from};
+ghost use Rattle.line_moments.specs.Moments.{moments, line_moments};
+ghost use Rattle.machine_model.specs.World.{send, send_all, outcome_of};
 ghost use Rattle.machine_model.specs.Outcome.{IsOutcomeOf};
 ghost use Rattle.machine_model.specs.Start.{Started, start};
 ghost use Rattle.session_machine.specs.Stage.{transcripts_of};
@@ -14,9 +16,12 @@ use crate::error::{SendError, StartError};
 use crate::member::Member;
 use crate::setups::{main_setups, session_setups};
 use crate::stage::Stage;
+use binding_model::Table;
 use bound_specs::Spec;
 use finite_maps::Fork;
+use line_moments::{Begun, Left, Moment, Shown, Standing};
 use lock_modes::{Mode, Place};
+use sqlite_items::Items;
 use std::alloc::{AllocError, Global};
 use std::marker::Model;
 use transcripts::{Outcome, Transcript};
@@ -126,6 +131,95 @@ impl World<'_> {
         self.stage.send(self.alloc, self.spec, step)?;
         self.is_spent = false;
         Ok(())
+    }
+
+    /// `send`, which also tells each moment of the step, behind those that were told before.
+    pub fn send_told(&mut self, step: u8, told: &mut Items<Moment>) -> Result<(), SendError>
+        requires { step < length self.old.file.run.steps }
+        ensures sent { OnOk result (self.new.world ≡ send self.old.file.run.steps self.old.world step) }
+        ensures told { OnOk result (told.new ≡ told.old ++ moments self.old.file.run.steps self.old.world step) }
+        ensures whole { OnOk result (self.new.spent ≡ false) }
+        ensures spent { IsErrOf result SendError.Spent ↔ (self.old.spent ≡ true) }
+        ensures after { OnErr result (self.new.spent ≡ true) }
+        ensures of_spec { self.new.file ≡ self.old.file }
+    {
+        if self.is_spent {
+            return Err(SendError::Spent);
+        }
+        self.is_spent = true;
+        self.stage.send_told(self.alloc, self.spec, step, told)?;
+        self.is_spent = false;
+        Ok(())
+    }
+
+    /// How each session stands and what it holds, in the order of resources.
+    fn begun(&self) -> Result<Items<Begun>, SendError>
+        ensures begun { IfOk result (λ all. all ≡ begun self.now.file.run.sessions self.now.world) }
+        ensures spent { IsErrOf result SendError.Spent ↔ (self.now.spent ≡ true) }
+    {
+        if self.is_spent {
+            return Err(SendError::Spent);
+        }
+        Ok(self.stage.begun(self.alloc, self.spec.sessions())?)
+    }
+
+    /// How each session stands, with what it wants where it waits.
+    fn standings(&self) -> Result<Items<Standing>, SendError>
+        ensures standings { IfOk result (λ all. all ≡ standings self.now.file.run.sessions self.now.world) }
+        ensures spent { IsErrOf result SendError.Spent ↔ (self.now.spent ≡ true) }
+    {
+        if self.is_spent {
+            return Err(SendError::Spent);
+        }
+        let sessions = self.spec.sessions();
+        Ok(self.stage.standings(self.alloc, sessions, sessions + 1)?)
+    }
+
+    /// The committed rows of these tables, in the order of their keys.
+    fn left(&self, tables: &[Table]) -> Result<Items<Left>, SendError>
+        ensures left { IfOk result (λ left. left ≡ left_in tables.now self.now.world) }
+        ensures spent { IsErrOf result SendError.Spent ↔ (self.now.spent ≡ true) }
+    {
+        if self.is_spent {
+            return Err(SendError::Spent);
+        }
+        Ok(self.stage.lefts(self.alloc, self.spec.sessions() + 1, tables)?)
+    }
+
+    /// Sends the steps of a line in turn, and tells their moments.
+    fn tell_line(&mut self, line: &[u8]) -> Result<Items<Moment>, SendError>
+        requires known { All (λ k. k < length self.old.file.run.steps) line.now }
+        requires whole { self.old.spent ≡ false }
+        ensures told { IfOk result (λ all. all ≡ line_moments self.old.file.run.steps self.old.world line.now) }
+        ensures sent { OnOk result (self.new ≡ record self.old { world = send_all self.old.file.run.steps self.old.world line.now }) }
+        ensures refused { IfErr result (λ error. error ≡ SendError.NoMemory) }
+    {
+        let mut told = Items::new(self.alloc);
+        for step in line {
+            self.send_told(*step, &mut told)?;
+        }
+        Ok(told)
+    }
+
+    /// What is shown of a line from here on, with the committed rows of these tables.
+    pub(crate) fn show(&mut self, tables: &[Table], line: &[u8]) -> Result<Shown, SendError>
+        requires known { All (λ k. k < length self.old.file.run.steps) line.now }
+        requires whole { self.old.spent ≡ false }
+        ensures shown { IfOk result (λ x. x ≡ shown_from tables.now self.old.file.run self.old.world line.now) }
+        ensures refused { IfErr result (λ error. error ≡ SendError.NoMemory) }
+    {
+        let begun = self.begun()?;
+        let first = self.left(tables)?;
+        let moments = self.tell_line(line)?;
+        let left = self.left(tables)?;
+        let standings = self.standings()?;
+        Ok(Shown {
+            begun,
+            first,
+            moments,
+            left,
+            standings,
+        })
     }
 
     /// The transcripts so far, a copy for each session.
