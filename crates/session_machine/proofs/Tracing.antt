@@ -1,5 +1,5 @@
 -- What each move of a session comes to in locks and refusals: a request, a statement, the end of a step.
-use Rattle.std.proofs.Common.{◌≡◌, refl, sym, ap, ◌∙◌, subst, ℕ, ◌+◌, ◌<◌, Bool, true, false, List, [], ◌∷◌, ◌++◌, Option, Some, None, drop, append_assoc, append-nil}
+use Rattle.std.proofs.Common.{◌≡◌, refl, sym, ap, ◌∙◌, subst, ℕ, ◌+◌, ◌<◌, Bool, true, false, List, [], ◌∷◌, ◌++◌, Some, None, drop, append_assoc, append-nil}
 use Rattle.finite_maps.specs.Map.{get, empty, get-insert, same_key-refl}
 use Rattle.lock_modes.specs.declared.mode.Mode.{Mode}
 use Rattle.lock_modes.specs.declared.resource.Resource.{Resource}
@@ -17,18 +17,16 @@ use Rattle.transcripts.specs.declared.event.Fault.{Fault}
 use Rattle.machine_model.specs.declared.status.Status.TheVariants.{Outside}
 use Rattle.machine_model.specs.declared.reply.Reply.{Reply}
 use Rattle.machine_model.specs.declared.reply.Reply.TheVariants.{Had as IsHad, Waits, Refused}
-use Rattle.machine_model.specs.Session.{Held, Session, Task, Ask, Do, Performed, Goes, Fails, kind, asks, tasks_of}
+use Rattle.machine_model.specs.Session.{Session, Task, Ask, Do, Performed, Goes, Fails, kind, asks, tasks_of}
 use Rattle.machine_model.specs.Go.{Scene, is_broken, replied, reply_in, taking, look_with, waiting_with}
 use Rattle.line_moments.specs.Moments.{go_changes, go_refusal, let_go, did_changes, end_changes, refusal}
 use Rattle.line_moments.specs.declared.moment.Change.{Change}
 use Rattle.line_moments.specs.declared.moment.Change.TheVariants.{Had}
-use Rattle.line_moments.specs.declared.moment.Refusal.{Refusal}
 use Rattle.line_moments.specs.declared.moment.Refusal.TheVariants.{Closes, Wants}
-use Rattle.session_machine.specs.declared.session.SessionState.{SessionState}
 use Rattle.session_machine.specs.declared.trace.Trace.{Trace}
 use Rattle.session_machine.specs.State.{SameOthers}
-use Rattle.session_machine.specs.Going.{Standing, standing, session_in, tasks_from, IsScene, GoesOnTo, DoesTo, FailsBy, IsReply}
-use Rattle.session_machine.specs.Tracing.{trace_in, IsSceneOf, Traces, TracesOn, had_by, refusal_at, AreHad}
+use Rattle.session_machine.specs.Going.{Standing, session_in, tasks_from, IsScene, GoesOnTo, DoesTo, FailsBy, IsReply}
+use Rattle.session_machine.specs.Tracing.{trace_in, IsSceneOf, Traces, TracesOn, had_by, refusal_at}
 use Rattle.session_machine.proofs.Going.{look-now, ring-is, reply-is}
 use Rattle.session_machine.proofs.Moves.{still-scene}
 use Rattle.session_machine.proofs.States.{session-taken, same-taken}
@@ -175,35 +173,35 @@ ends-traces count i cs x = λ e scene. refl
 
 module _ (count i : ℕ) (bs : List Change) (x y : Standing) (first : List Task) (sts : List Bound) (k n : ℕ) (st : Bound) (cs : List Change) (here : drop k sts
     ≡ st ∷ drop (k + 1) sts) (came : GoesOnTo i x first y (tasks_from (drop k sts) n)) (traced : TracesOn count i bs x first cs y (tasks_from (drop k sts) n))
-    where
-  traced-here : TracesOn count i bs x first cs y (asks (nowait st) (drop n (plan st)) (Do st ∷ tasks_of (drop (k + 1) sts)))
-  traced-here = subst (λ ss. TracesOn count i bs x first cs y (tasks_from ss n)) here traced
+  where
+    traced-here : TracesOn count i bs x first cs y (asks (nowait st) (drop n (plan st)) (Do st ∷ tasks_of (drop (k + 1) sts)))
+    traced-here = subst (λ ss. TracesOn count i bs x first cs y (tasks_from ss n)) here traced
 
-  -- the session stops at a request
-  pub stops-trace : (trace : Trace) → ((ts : List Task) → Traces count i cs y (asks (nowait st) (drop n (plan st)) ts) trace) → Traces count i bs x first trace
-  stops-trace trace stops = traces-on-stop count i bs cs x y first (asks (nowait st) (drop n (plan st)) (Do st ∷ tasks_of (drop (k + 1) sts))) trace came.others came.waits traced-here
-      (stops (Do st ∷ tasks_of (drop (k + 1) sts)))
+    -- the session stops at a request
+    pub stops-trace : (trace : Trace) → ((ts : List Task) → Traces count i cs y (asks (nowait st) (drop n (plan st)) ts) trace) → Traces count i bs x first trace
+    stops-trace trace stops = traces-on-stop count i bs cs x y first (asks (nowait st) (drop n (plan st)) (Do st ∷ tasks_of (drop (k + 1) sts))) trace came.others came.waits traced-here
+        (stops (Do st ∷ tasks_of (drop (k + 1) sts)))
 
-  module _ (z : Standing) (ds : List Change) (goes : (ts : List Task) → GoesOnTo i y (asks (nowait st) (drop n (plan st)) ts) z ts)
-      (had : (ts : List Task) → TracesOn count i cs y (asks (nowait st) (drop n (plan st)) ts) ds z ts) where
-    asked-traced : TracesOn count i bs x first ds z (Do st ∷ tasks_of (drop (k + 1) sts))
-    asked-traced = traces-on-on count i bs cs ds x y z first (asks (nowait st) (drop n (plan st)) (Do st ∷ tasks_of (drop (k + 1) sts)))
-        (Do st ∷ tasks_of (drop (k + 1) sts)) came.others came.waits traced-here (had (Do st ∷ tasks_of (drop (k + 1) sts)))
+    module _ (z : Standing) (ds : List Change) (goes : (ts : List Task) → GoesOnTo i y (asks (nowait st) (drop n (plan st)) ts) z ts)
+        (had : (ts : List Task) → TracesOn count i cs y (asks (nowait st) (drop n (plan st)) ts) ds z ts) where
+      asked-traced : TracesOn count i bs x first ds z (Do st ∷ tasks_of (drop (k + 1) sts))
+      asked-traced = traces-on-on count i bs cs ds x y z first (asks (nowait st) (drop n (plan st)) (Do st ∷ tasks_of (drop (k + 1) sts)))
+          (Do st ∷ tasks_of (drop (k + 1) sts)) came.others came.waits traced-here (had (Do st ∷ tasks_of (drop (k + 1) sts)))
 
-    others : SameOthers i x.layers z.layers x.locks z.locks
-    others = Rattle.session_machine.proofs.States.same-trans i x.layers y.layers z.layers x.locks y.locks z.locks came.others (goes []).others
+      others : SameOthers i x.layers z.layers x.locks z.locks
+      others = Rattle.session_machine.proofs.States.same-trans i x.layers y.layers z.layers x.locks y.locks z.locks came.others (goes []).others
 
-    waits : z.locks.waits ≡ x.locks.waits
-    waits = (goes []).waits ∙ came.waits
+      waits : z.locks.waits ≡ x.locks.waits
+      waits = (goes []).waits ∙ came.waits
 
-    pub done-trace-then : (w : Standing) → DoesTo i z st w
-        → TracesOn count i bs x first (ds ++ did_changes (kind st) (slice i z.locks.held)) w (tasks_from (drop (k + 1) sts) 0)
-    done-trace-then w does = subst (TracesOn count i bs x first (ds ++ did_changes (kind st) (slice i z.locks.held)) w)
-        (sym (tasks_from-start (drop (k + 1) sts)))
-        (traces-on-on count i bs ds (ds ++ did_changes (kind st) (slice i z.locks.held)) x z w first (Do st ∷ tasks_of (drop (k + 1) sts))
-        (tasks_of (drop (k + 1) sts)) others waits asked-traced (does-traces count i ds z w st (tasks_of (drop (k + 1) sts)) does))
+      pub done-trace-then : (w : Standing) → DoesTo i z st w
+          → TracesOn count i bs x first (ds ++ did_changes (kind st) (slice i z.locks.held)) w (tasks_from (drop (k + 1) sts) 0)
+      done-trace-then w does = subst (TracesOn count i bs x first (ds ++ did_changes (kind st) (slice i z.locks.held)) w)
+          (sym (tasks_from-start (drop (k + 1) sts)))
+          (traces-on-on count i bs ds (ds ++ did_changes (kind st) (slice i z.locks.held)) x z w first (Do st ∷ tasks_of (drop (k + 1) sts))
+          (tasks_of (drop (k + 1) sts)) others waits asked-traced (does-traces count i ds z w st (tasks_of (drop (k + 1) sts)) does))
 
-    pub fails-trace-then : (w : Standing) (f : Fault) → FailsBy i z st f w
-        → Traces count i bs x first (record { changes = ds ++ let_go (slice i z.locks.held); refusal = None })
-    fails-trace-then w f by = traces-on-stop count i bs ds x z first (Do st ∷ tasks_of (drop (k + 1) sts)) (record { changes = ds ++ let_go (slice i z.locks.held); refusal = None }) others waits asked-traced
-        (fails-traces count i ds z w st f (tasks_of (drop (k + 1) sts)) by)
+      pub fails-trace-then : (w : Standing) (f : Fault) → FailsBy i z st f w
+          → Traces count i bs x first (record { changes = ds ++ let_go (slice i z.locks.held); refusal = None })
+      fails-trace-then w f by = traces-on-stop count i bs ds x z first (Do st ∷ tasks_of (drop (k + 1) sts)) (record { changes = ds ++ let_go (slice i z.locks.held); refusal = None }) others waits asked-traced
+          (fails-traces count i ds z w st f (tasks_of (drop (k + 1) sts)) by)

@@ -1,14 +1,14 @@
 -- What is told of a stage's session that went is the moment of the world.
 use Rattle.std.proofs.Math.Seq.{drop-append_seam}
 use Rattle.std.proofs.lemmas.List.{length-map}
-use Rattle.std.proofs.Common.{◌≡◌, refl, sym, ap, ◌∙◌, subst, ℕ, zero, suc, ◌<◌, ◌≤◌, ◌==◌, Bool, true, false, cond, List, [], ◌∷◌, ◌++◌, drop, length, map, get_or}
-use Rattle.std.proofs.Common.{Option, Some, None, arith, eq-eqb, get_or-set_same, append_assoc}
-use Rattle.finite_maps.specs.Map.{get}
+use Rattle.std.proofs.Common.{◌≡◌, refl, sym, ap, ◌∙◌, subst, ℕ, zero, suc, ◌<◌, ◌≤◌, ◌==◌, true, false, cond, List, [], ◌∷◌, ◌++◌, drop, length, map, get_or}
+use Rattle.std.proofs.Common.{Option, Some, None, arith, eq-eqb, get_or-set_same}
+use Rattle.finite_maps.specs.Map.{get, entries}
 use Rattle.lock_queues.specs.Laws.{IsBelow}
-use Rattle.lock_queues.specs.Locks.{Spot, next_grant, waits_now, wanted}
+use Rattle.lock_queues.specs.Locks.{Spot, waits_now, wanted}
 use Rattle.lock_queues.specs.LockTable.{Locks, look_in, grant, slice}
 use Rattle.lock_queues.specs.Reasons.{Want, want_of}
-use Rattle.lock_queues.specs.Rules.{IsNext, IsNextOf, wait_of}
+use Rattle.lock_queues.specs.Rules.{IsNext, wait_of}
 use Rattle.lock_queues.specs.Sound.{Distinct, EachWait}
 use Rattle.lock_queues.specs.declared.wait.Wait.{Wait}
 use Rattle.lock_queues.specs.Locks.{wanted_by}
@@ -17,30 +17,30 @@ use Rattle.lock_queues.proofs.Slices.{get-slice}
 use Rattle.transcripts.specs.declared.event.Event.{Event}
 use Rattle.transcripts.specs.declared.event.Event.TheVariants.{Sent, Resumed, NotSent}
 use Rattle.bound_specs.specs.Spec.{Step, no_step}
-use Rattle.machine_model.specs.Session.{Task, Session, note, tasks_of}
-use Rattle.machine_model.specs.Go.{Scene, taking}
+use Rattle.machine_model.specs.Session.{Session, note, tasks_of}
+use Rattle.machine_model.specs.Go.{taking}
 use Rattle.machine_model.specs.World.{World, session_at, look_of, scene_of, goes, granted, settle, left_to_do, noted, send}
 use Rattle.machine_model.specs.Sound.{Steady}
 use Rattle.machine_model.proofs.Settles.{Grant, next-grant, none-left, granted-steady, granted-left}
 use Rattle.machine_model.proofs.SettleSteps.{next_in}
-use Rattle.line_moments.specs.Moments.{Cause, Sends, GoesOn, Skips, Going, behind_by, settle_goings, goings, moments, moment_of, want_in, edges_in, still_below}
+use Rattle.line_moments.specs.Moments.{Cause, Sends, GoesOn, Skips, behind_by, settle_goings, moments, moment_of, want_in, edges_in, still_below}
 use Rattle.line_moments.specs.Moments.{changed_edges, ending_by, session_by, manner_by, step_by, events_by, changes_by, refusal_by, told_only, holding, without}
 use Rattle.line_moments.specs.Moments.{go_changes, go_refusal, last_sent}
-use Rattle.line_moments.specs.declared.moment.Change.{Change}
+use Rattle.line_moments.specs.Left.{begun, standings, standing_by}
 use Rattle.line_moments.specs.declared.moment.Change.TheVariants.{Had}
-use Rattle.line_moments.specs.declared.moment.Manner.TheVariants.{IsSent, IsResumed, IsNotSent}
+use Rattle.line_moments.specs.declared.moment.Manner.TheVariants.{IsSent, IsNotSent}
 use Rattle.line_moments.specs.declared.moment.Moment.{Moment}
 use Rattle.line_moments.proofs.Telling.{goes-grows, granted-grows}
 use Rattle.session_machine.specs.declared.member.Member.{Member}
-use Rattle.session_machine.specs.declared.member.Rest.{Rest}
 use Rattle.session_machine.specs.declared.stage.Stage.{Stage}
 use Rattle.session_machine.specs.declared.trace.Trace.{Trace}
-use Rattle.session_machine.specs.State.{Own, no_own, session_of, world_of}
-use Rattle.session_machine.specs.Going.{Standing, session_in, tasks_from, IsScene}
-use Rattle.session_machine.specs.Tracing.{trace_in, IsSceneOf, Traces}
-use Rattle.session_machine.specs.Stage.{no_member, statements_of, rest_of, own_of, world_in, member_at, IsWithin, IsStage, note_member, HasSameParts, HasTold, HasStarted}
+use Rattle.session_machine.specs.State.{Own, session_of}
+use Rattle.session_machine.specs.Going.{session_in, tasks_from}
+use Rattle.session_machine.specs.Tracing.{IsSceneOf}
+use Rattle.session_machine.specs.Stage.{no_member, statements_of, rest_of, own_of, world_in, member_at, IsStage, note_member, HasSameParts, HasTold, HasStarted}
 use Rattle.session_machine.specs.Telling.{edges_told, still_told, told_since, moment_told, no_trace, had_of, IsTold, sent_standing, resumed_standing, IsResumedSo}
 use Rattle.session_machine.specs.Telling.{moment_in, settling}
+use Rattle.session_machine.specs.Showing.{begun_in, standings_in}
 use Rattle.session_machine.proofs.Stages.{get_or-owns, none-rests, session-known}
 use Rattle.session_machine.proofs.Standing.{look-now, length-world, same-world}
 use Rattle.session_machine.proofs.States.{session_at-is, session-taken, same-taken, same-refl}
@@ -308,7 +308,7 @@ moments-fuel steps (suc n) (suc m) w st a b = at (next_in w) refl (λ spot g.
         → ((spot : Spot) → Grant (length w.sessions) (look_of w) w.waits spot
         → settle_moments steps n (granted w spot) ≡ settle_moments steps m (granted w spot))
         → (let x : List Moment =
-          map (moment_of steps) (elim o [ None ↦ [] | Some spot ↦ record { world = w; cause = GoesOn spot } ∷ settle_goings n (granted w spot) ])
+        map (moment_of steps) (elim o [ None ↦ [] | Some spot ↦ record { world = w; cause = GoesOn spot } ∷ settle_goings n (granted w spot) ])
         in x)
         ≡ map (moment_of steps) (elim o [ None ↦ [] | Some spot ↦ record { world = w; cause = GoesOn spot } ∷ settle_goings m (granted w spot) ])
     at None is rec = refl
@@ -326,7 +326,7 @@ settling-grant steps w spot st is =
     let less = granted-left w spot st g in
     moments-fuel steps (left_to_do w) (suc (left_to_do w)) w st (omega arith) (omega arith)
     ∙ ap (λ (o : Option Spot). let x : List Moment =
-      map (moment_of steps) (elim o [ None ↦ [] | Some s ↦ record { world = w; cause = GoesOn s } ∷ settle_goings (left_to_do w) (granted w s) ])
+    map (moment_of steps) (elim o [ None ↦ [] | Some s ↦ record { world = w; cause = GoesOn s } ∷ settle_goings (left_to_do w) (granted w s) ])
     in x) is
     ∙ ap (λ ms. moment_of steps (record { world = w; cause = GoesOn spot }) ∷ ms)
     (moments-fuel steps (left_to_do w) (left_to_do (granted w spot)) (granted w spot) (granted-steady w spot st g) (omega arith) (omega arith))
@@ -338,11 +338,11 @@ pub moments-skip : (steps : List Step) (x : Stage) (k : ℕ) → waits_now x.loc
 moments-skip steps x k waits =
     let w = world_in steps x in
     ap (λ b. let ms : List Moment =
-      map (moment_of steps)
-      (elim b [
-        | true ↦ record { world = w; cause = Skips k } ∷ []
-        | false ↦ record { world = w; cause = Sends k } ∷ settle_goings (left_to_do (behind_by steps w (Sends k))) (behind_by steps w (Sends k))
-      ])
+    map (moment_of steps)
+    (elim b [
+      | true ↦ record { world = w; cause = Skips k } ∷ []
+      | false ↦ record { world = w; cause = Sends k } ∷ settle_goings (left_to_do (behind_by steps w (Sends k))) (behind_by steps w (Sends k))
+    ])
     in ms) waits
 
 pub moments-send : (steps : List Step) (x : Stage) (k : ℕ) → waits_now x.locks.waits (get_or steps k no_step).session ≡ false
@@ -350,9 +350,23 @@ pub moments-send : (steps : List Step) (x : Stage) (k : ℕ) → waits_now x.loc
 moments-send steps x k idle =
     let w = world_in steps x in
     ap (λ b. let ms : List Moment =
-      map (moment_of steps)
-      (elim b [
-        | true ↦ record { world = w; cause = Skips k } ∷ []
-        | false ↦ record { world = w; cause = Sends k } ∷ settle_goings (left_to_do (behind_by steps w (Sends k))) (behind_by steps w (Sends k))
-      ])
+    map (moment_of steps)
+    (elim b [
+      | true ↦ record { world = w; cause = Skips k } ∷ []
+      | false ↦ record { world = w; cause = Sends k } ∷ settle_goings (left_to_do (behind_by steps w (Sends k))) (behind_by steps w (Sends k))
+    ])
     in ms) idle
+
+-- ---- what is shown beside the moments
+
+module _ (steps : List Step) (n : ℕ) (s : Stage) (stage : IsStage steps s) (count : length s.members.items ≡ n) where
+  pub begun-is : (m : ℕ) → m ≤ n → begun_in m s ≡ begun m (world_in steps s)
+  begun-is zero le = refl
+  begun-is (suc m) le = λ k. begun-is m (omega arith) k
+      ++ (let x = at-session steps n s m (omega (arith, count, le)) in
+      record { status = (sym x k).status; locks = entries (sym x k).held }) ∷ []
+
+  pub standings-are : (m : ℕ) → m ≤ n → standings_in m n s ≡ standings m (world_in steps s)
+  standings-are zero le = refl
+  standings-are (suc m) le = λ k. standings-are m (omega arith) k
+      ++ standing_by (sym (want-in steps n s stage count m) k) (sym (at-session steps n s m (omega (arith, count, le))) k).status ∷ []

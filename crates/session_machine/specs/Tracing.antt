@@ -1,5 +1,5 @@
 -- What a session comes to while it goes: the locks that it gets and lets go, and why it is refused a request, if it is.
-use Rattle.std.specs.Prelude.{◌≡◌, ℕ, ◌<◌, true, false, Bool, List, [], ◌∷◌, ◌++◌, drop, Option, Some, None}
+use Rattle.std.specs.Prelude.{◌≡◌, ℕ, true, false, Bool, List, [], ◌∷◌, ◌++◌, drop, Option, Some, None}
 use Rattle.lock_modes.specs.Rows.{Rows'}
 use Rattle.lock_modes.specs.declared.mode.Mode.{Mode}
 use Rattle.lock_modes.specs.declared.resource.Resource.{Resource}

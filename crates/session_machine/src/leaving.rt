@@ -73,12 +73,7 @@ fn copied(alloc: Global, table: &Table) -> Result<Table, AllocError>
 }
 
 /// What is left of the table with this number.
-fn left_of(
-    alloc: Global,
-    store: &Store,
-    table: &Table,
-    number: usize,
-) -> Result<Left, AllocError>
+fn left_of(alloc: Global, store: &Store, table: &Table, number: usize) -> Result<Left, AllocError>
     requires { spec.NothingOpen store.now }
     ensures { IfOk result (λ left. left ≡ record { table = table.now; rows = rows_of number store.now.committed }) }
 {

@@ -101,7 +101,16 @@ impl Stage {
         let events = events_behind(alloc, before.log(session), self.log(session))?;
         let trace = Trace::of(Items::new(alloc));
         let manner = Manner::IsNotSent;
-        self.moment(alloc, count, session, manner, Some(step), events, still, trace)
+        self.moment(
+            alloc,
+            count,
+            session,
+            manner,
+            Some(step),
+            events,
+            still,
+            trace,
+        )
     }
 
     /// The moment of a session that went on in a step, which came to this stage from that one.
@@ -139,7 +148,16 @@ impl Stage {
             Items::new(alloc),
         )?;
         let manner = Manner::IsSent;
-        let moment = self.moment(alloc, count, session, manner, Some(step), events, still, trace)?;
+        let moment = self.moment(
+            alloc,
+            count,
+            session,
+            manner,
+            Some(step),
+            events,
+            still,
+            trace,
+        )?;
         Ok(moment)
     }
 

@@ -93,11 +93,7 @@ pub fn show_line(
 }
 
 /// What is shown of a line from a world as it starts.
-fn show_from(
-    world: &mut World<'_>,
-    tables: &[Table],
-    line: &[u8],
-) -> Result<Shown, RunError>
+fn show_from(world: &mut World<'_>, tables: &[Table], line: &[u8]) -> Result<Shown, RunError>
     requires known { All (λ k. k < length world.old.file.run.steps) line.now }
     requires whole { world.old.spent ≡ false }
     requires started { start world.old.file.run ≡ Started world.old.world }

@@ -149,7 +149,12 @@ impl Stage {
     }
 
     /// Grants the wait of a session, which goes on in its step.
-    pub(crate) fn resume(&mut self, alloc: Global, spec: &Spec, session: u8) -> Result<(), AllocError>
+    pub(crate) fn resume(
+        &mut self,
+        alloc: Global,
+        spec: &Spec,
+        session: u8,
+    ) -> Result<(), AllocError>
         requires stage { IsStage spec.now.run.steps self.old }
         requires next { IsNextOf self.old.locks session }
         requires inside { session < length self.old.members.items }

@@ -28,7 +28,11 @@ fn events_from(alloc: Global, events: &[Event], from: usize) -> Result<Transcrip
 }
 
 /// What is told in a log behind what another one tells.
-pub(crate) fn events_behind(alloc: Global, before: &Log, after: &Log) -> Result<Transcript, AllocError>
+pub(crate) fn events_behind(
+    alloc: Global,
+    before: &Log,
+    after: &Log,
+) -> Result<Transcript, AllocError>
     ensures { IfOk result (λ events. events ≡ drop (length before.now) after.now) }
 {
     let old = before.to_transcript()?;

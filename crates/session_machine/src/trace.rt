@@ -218,7 +218,9 @@ pub(crate) fn trace_on(
     let mut request = from.request;
     for number in from.statement..statements.len() {
         let statement = &statements[number];
-        match trace_asks(alloc, count, locks, session, state, statement, request, &mut trace)? {
+        match trace_asks(
+            alloc, count, locks, session, state, statement, request, &mut trace,
+        )? {
             Course::AllHad => {}
             Course::Stops => return Ok(trace),
         }
@@ -232,6 +234,8 @@ pub(crate) fn trace_on(
         request = 0;
     }
     let gone = let_go(alloc, locks, session)?;
-    trace.changes.append(end_changes(alloc, state.status, gone))?;
+    trace
+        .changes
+        .append(end_changes(alloc, state.status, gone))?;
     Ok(trace)
 }

@@ -183,7 +183,10 @@ impl World<'_> {
         if self.is_spent {
             return Err(SendError::Spent);
         }
-        Ok(self.stage.lefts(self.alloc, self.spec.sessions() + 1, tables)?)
+        Ok(
+            self.stage
+                .lefts(self.alloc, self.spec.sessions() + 1, tables)?,
+        )
     }
 
     /// Sends the steps of a line in turn, and tells their moments.

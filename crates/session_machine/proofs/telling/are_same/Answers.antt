@@ -1,5 +1,5 @@
 use Rattle.session_machine.proofs.Seeing.{lengths-differ}
-use Rattle.std.proofs.Common.{arith, sym, ◌∙◌}
+use Rattle.std.proofs.Common.{sym, ◌∙◌}
 use Rattle.session_machine.proofs.telling.are_same.Goals as goal
 
 pub returns-then-len : goal.returns-then-len

@@ -11,7 +11,7 @@ use Rattle.machine_model.specs.Session.{Task, asks}
 use Rattle.row_tables.specs.Layers.{Layers, no_rows}
 use Rattle.session_machine.specs.declared.trace.Trace.{Trace}
 use Rattle.session_machine.specs.Going.{Standing, standing, GoesOnTo, IsReply, after_reply}
-use Rattle.session_machine.specs.Tracing.{Traces, TracesOn, AreHad, had_by, refusal_at}
+use Rattle.session_machine.specs.Tracing.{Traces, TracesOn, had_by, refusal_at}
 use Rattle.session_machine.proofs.Moves.{goes-on-on, had}
 use Rattle.session_machine.proofs.Requests.{plan-ends, plan-next, next-to-ask, all-asked}
 use Rattle.session_machine.proofs.Tracing.{traces-on-on, traces-on-stop, below-still, refused-closes, had-traces, waits-traces, refused-traces, broken-traces}

@@ -3,7 +3,7 @@ use Rattle.lock_queues.specs.Locks.{waits_now}
 use Rattle.lock_queues.specs.LockTable.{slice}
 use Rattle.line_moments.specs.Moments.{let_go, did_changes}
 use Rattle.line_moments.specs.declared.moment.Change.{Change}
-use Rattle.machine_model.specs.Session.{Task, kind}
+use Rattle.machine_model.specs.Session.{kind}
 use Rattle.session_machine.specs.declared.trace.Trace.{Trace}
 use Rattle.session_machine.specs.Going.{standing, tasks_from, Does}
 use Rattle.session_machine.specs.Tracing.{Traces, TracesOn, TracesAsking}

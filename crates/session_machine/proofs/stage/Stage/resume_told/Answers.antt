@@ -1,5 +1,4 @@
 use Rattle.std.proofs.Common.{◌≡◌, ◌++◌, sym, ap, ◌∙◌, ◌∷◌, [], length, suc, subst}
-use Rattle.lock_queues.specs.Locks.{Spot}
 use Rattle.lock_queues.specs.LockTable.{Locks}
 use Rattle.lock_queues.specs.Rules.{IsNext}
 use Rattle.lock_queues.specs.Sound.{Distinct}

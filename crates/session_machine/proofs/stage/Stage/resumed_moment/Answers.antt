@@ -4,7 +4,6 @@ use Rattle.lock_queues.specs.Laws.{IsBelow}
 use Rattle.lock_queues.specs.LockTable.{grant}
 use Rattle.line_moments.specs.Moments.{last_sent}
 use Rattle.line_moments.specs.declared.moment.Manner.TheVariants.{IsResumed}
-use Rattle.transcripts.specs.declared.event.Event.{Event}
 use Rattle.transcripts.specs.declared.event.Event.TheVariants.{Resumed}
 use Rattle.session_machine.specs.declared.member.Member.{Member}
 use Rattle.session_machine.specs.declared.session.SessionState.{SessionState}
@@ -70,8 +69,8 @@ returns c = λ s next same.
     resumed-so (suc sessions) steps x y s c.in_ok-moment.moment i r same is (record {
       trace = c.in_ok-trace.trace;
       traces = subst (λ t. Traces (suc sessions) i (had_of (Rattle.lock_queues.specs.Rules.wait_of x.locks i))
-      (standing x.store t (record { status = (member_at x i).state.status; transcript = Resumed ∷ [] }))
-      (tasks_from (drop r.point.statement (statements_of steps r.step)) r.point.request) c.in_ok-trace.trace) (c.in_ok-grant.ensures.granted s next) traced;
+          (standing x.store t (record { status = (member_at x i).state.status; transcript = Resumed ∷ [] }))
+          (tasks_from (drop r.point.statement (statements_of steps r.step)) r.point.request) c.in_ok-trace.trace) (c.in_ok-grant.ensures.granted s next) traced;
       is = told-is (c.sessions-count.result + 1) (suc sessions) x y i IsResumed _ c.in_ok-trace.trace _ _ c.in_ok-moment.moment count events
           c.in_ok-still.ensures (c.in_ok-moment.ensures ∙ ap (λ k. record {
             session = i;

@@ -1,12 +1,10 @@
-use Rattle.std.proofs.Common.{◌≡◌, sym, ap, ◌∙◌, subst, suc, ◌<◌, false, length, drop, get_or, arith, length-set}
+use Rattle.std.proofs.Common.{◌≡◌, sym, ap, ◌∙◌, subst, suc, ◌<◌, false, length, get_or, arith, length-set}
 use Rattle.lock_queues.specs.Locks.{waits_now}
-use Rattle.transcripts.specs.declared.event.Event.TheVariants.{Sent, NotSent}
+use Rattle.transcripts.specs.declared.event.Event.TheVariants.{NotSent}
 use Rattle.bound_specs.specs.Spec.{no_step}
-use Rattle.session_machine.specs.declared.stepping.Point.{Point}
 use Rattle.machine_model.specs.World.{send, settle}
 use Rattle.machine_model.specs.Sound.{Steady}
-use Rattle.session_machine.specs.Going.{tasks_from, IsToGo}
-use Rattle.session_machine.specs.Stage.{statements_of, world_in, member_at, note_member, IsStage, IsSettled, HasTold, HasGone}
+use Rattle.session_machine.specs.Stage.{world_in, member_at, note_member, IsStage, IsSettled, HasTold}
 use Rattle.session_machine.proofs.Answered.{on_ok, on_all}
 use Rattle.session_machine.proofs.Stages.{not-sent-now, not-sent-stage, sent-settles}
 use Rattle.session_machine.proofs.Standing.{sound-after, settled-after}

@@ -2,7 +2,7 @@ use Rattle.std.proofs.Common.{◌≡◌, ◌++◌, sym, ap, ◌∙◌, subst, su
 use Rattle.lock_queues.specs.Locks.{waits_now}
 use Rattle.transcripts.specs.declared.event.Event.TheVariants.{NotSent}
 use Rattle.bound_specs.specs.Spec.{no_step}
-use Rattle.line_moments.specs.Moments.{Sends, Skips, moments}
+use Rattle.line_moments.specs.Moments.{Sends}
 use Rattle.machine_model.specs.World.{send, settle}
 use Rattle.machine_model.specs.Sound.{Steady}
 use Rattle.session_machine.specs.Stage.{world_in, member_at, note_member, IsStage, IsSettled, HasTold}

@@ -1,6 +1,5 @@
-use Rattle.std.proofs.Common.{◌≡◌, ◌++◌, ◌+◌, sym, ap, ◌∙◌, subst, suc, drop, length, [], ◌∷◌, Some, arith}
+use Rattle.std.proofs.Common.{◌≡◌, ◌+◌, sym, ap, ◌∙◌, subst, suc, drop, length, [], ◌∷◌, Some, arith}
 use Rattle.line_moments.specs.declared.moment.Manner.TheVariants.{IsSent}
-use Rattle.transcripts.specs.declared.event.Event.{Event}
 use Rattle.transcripts.specs.declared.event.Event.TheVariants.{Sent}
 use Rattle.session_machine.specs.declared.session.SessionState.{SessionState}
 use Rattle.session_machine.specs.declared.stepping.Point.{Point}

@@ -1,7 +1,5 @@
-use Rattle.std.proofs.Common.{◌≡◌, ◌++◌, sym, ap, ◌∙◌, subst, ◌<◌, length, [], ◌∷◌, append_assoc, append-nil}
-use Rattle.lock_queues.specs.Locks.{next_grant}
+use Rattle.std.proofs.Common.{◌++◌, sym, ap, ◌∙◌, subst, ◌<◌, length, [], ◌∷◌, append_assoc, append-nil}
 use Rattle.line_moments.specs.Moments.{GoesOn}
-use Rattle.machine_model.specs.World.{granted}
 use Rattle.session_machine.specs.Stage.{world_in}
 use Rattle.session_machine.specs.Telling.{moment_in, settling}
 use Rattle.session_machine.proofs.Stages.{session-known, next-in-world, none-in-world}

@@ -1,4 +1,4 @@
-use Rattle.std.proofs.Common.{◌≡◌, ◌++◌, sym, ap, ◌∙◌, ◌∷◌, [], length, suc, subst, ◌<◌, set, get_or, length-set}
+use Rattle.std.proofs.Common.{◌≡◌, ◌++◌, sym, ap, ◌∙◌, ◌∷◌, [], length, suc, subst, ◌<◌, length-set}
 use Rattle.line_moments.specs.Moments.{Skips}
 use Rattle.lock_queues.specs.Locks.{waits_now}
 use Rattle.lock_queues.specs.LockTable.{Locks}

@@ -1,4 +1,4 @@
-use Rattle.std.proofs.Common.{◌≡◌, sym, subst, drop}
+use Rattle.std.proofs.Common.{sym, subst, drop}
 use Rattle.transcripts.specs.declared.event.Event.TheVariants.{Sent}
 use Rattle.session_machine.specs.declared.stepping.Point.{Point}
 use Rattle.session_machine.specs.Going.{tasks_from, IsToGo}

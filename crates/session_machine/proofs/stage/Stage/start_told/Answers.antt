@@ -1,7 +1,5 @@
-use Rattle.std.proofs.Common.{◌≡◌, ◌++◌, sym, ap, ◌∙◌, ◌∷◌, [], length, suc, subst, ◌<◌}
-use Rattle.line_moments.specs.Moments.{Sends, moment_of}
-use Rattle.session_machine.specs.Stage.{IsStage}
-use Rattle.session_machine.specs.Telling.{moment_in}
+use Rattle.std.proofs.Common.{◌≡◌, ◌++◌, ap, ◌∙◌, ◌∷◌, [], length, suc, subst, ◌<◌}
+use Rattle.line_moments.specs.Moments.{Sends}
 use Rattle.session_machine.proofs.Standing.{same-stage}
 use Rattle.session_machine.proofs.WorldMoments.{started-from, sent-is, same-cause}
 use Rattle.session_machine.proofs.stage.Stage.start_told.Goals as goal
