@@ -1,0 +1,4 @@
+pub mod Strings
+pub mod Words
+pub mod Moments
+pub mod Page

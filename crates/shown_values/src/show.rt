@@ -1,0 +1,231 @@
+//! The JSON of what is shown of an order.
+
+ghost use Rattle.std.specs.Prelude.{◌≡◌, ◌++◌, ◌∷◌, IfOk, MatchOption, OnOk, ℕ, decimal, zip, [] as none};
+ghost use Rattle.shown_values.specs.Strings.{array_json, string_json};
+ghost use Rattle.shown_values.specs.Moments.{lock_json};
+ghost use Rattle.shown_values.specs.Page as spec;
+
+use crate::moments::{push_lock, push_moments};
+use crate::page::Page;
+use crate::strings::{push, push_before, push_number, push_string};
+use crate::texts::push_tuple;
+use crate::words::status_word;
+use line_moments::{Begun, Left, Shown, Standing};
+use lock_modes::{Mode, Resource, Row, Text, Value};
+use std::alloc::{AllocError, Global};
+
+/// The JSON of an order: one object without spaces, and a line feed. It fails for want of memory alone.
+pub fn show_json(alloc: Global, page: &Page<'_>) -> Result<Vec<u8>, AllocError>
+    ensures { IfOk result (λ text. text.items ≡ spec.page_json page.now) }
+{
+    let mut out = Vec::new(alloc);
+    push_order(page, &mut out)?;
+    push_numbers(page, &mut out)?;
+    push_shown(page.step_names, page.shown, &mut out)?;
+    push("}\n", &mut out)?;
+    Ok(out)
+}
+
+/// Pushes what the order is.
+fn push_order(page: &Page<'_>, out: &mut Vec<u8>) -> Result<(), AllocError>
+    ensures { OnOk result (out.new.items ≡ out.old.items ++ spec.order_json page.now) }
+{
+    push("{\"format\":1,\"name\":", out)?;
+    push_string(page.name.as_bytes(), out)?;
+    push(",\"rank\":", out)?;
+    push_number(page.rank, out)?;
+    push(",\"orders\":", out)?;
+    push_number(page.orders, out)
+}
+
+/// Pushes what its numbers stand for.
+fn push_numbers(page: &Page<'_>, out: &mut Vec<u8>) -> Result<(), AllocError>
+    ensures { OnOk result (out.new.items ≡ out.old.items ++ spec.numbers_json page.now) }
+{
+    push(",\"sessions\":", out)?;
+    push_names(page.session_names, out)?;
+    push(",\"steps\":", out)?;
+    push_steps(page.step_names, page.step_sessions, page.statements, out)?;
+    push(",\"order\":", out)?;
+    push_line(page.line, out)
+}
+
+fn push_names(names: &[Text], out: &mut Vec<u8>) -> Result<(), AllocError>
+    ensures { OnOk result (out.new.items ≡ out.old.items ++ array_json string_json names.now) }
+{
+    push("[", out)?;
+    for (place, name) in names.iter().enumerate() {
+        push_before(",", place, out)?;
+        push_string(name.as_str().as_bytes(), out)?;
+    }
+    push("]", out)
+}
+
+fn push_steps(
+    names: &[Text],
+    sessions: &[u8],
+    statements: &[Text],
+    out: &mut Vec<u8>,
+) -> Result<(), AllocError>
+    ensures { OnOk result (out.new.items
+        ≡ out.old.items ++ array_json spec.step_json (zip names.now (zip sessions.now statements.now))) }
+{
+    push("[", out)?;
+    for place in 0..names.len().min(sessions.len().min(statements.len())) {
+        push_before(",", place, out)?;
+        push_step(&names[place], sessions[place], &statements[place], out)?;
+    }
+    push("]", out)
+}
+
+fn push_step(
+    name: &Text,
+    session: u8,
+    statements: &Text,
+    out: &mut Vec<u8>,
+) -> Result<(), AllocError>
+    ensures { OnOk result (out.new.items ≡ out.old.items ++ spec.step_json (name.now, (session, statements.now))) }
+{
+    push("{\"name\":", out)?;
+    push_string(name.as_str().as_bytes(), out)?;
+    push(",\"session\":", out)?;
+    push_number(u64::from(session), out)?;
+    push(",\"sql\":", out)?;
+    push_string(statements.as_str().as_bytes(), out)?;
+    push("}", out)
+}
+
+fn push_line(line: &[u8], out: &mut Vec<u8>) -> Result<(), AllocError>
+    ensures { OnOk result (out.new.items ≡ out.old.items ++ array_json decimal line.now) }
+{
+    push("[", out)?;
+    for (place, step) in line.iter().enumerate() {
+        push_before(",", place, out)?;
+        push_number(u64::from(*step), out)?;
+    }
+    push("]", out)
+}
+
+/// Pushes what is shown of the order, with the names of the steps.
+fn push_shown(steps: &[Text], shown: &Shown, out: &mut Vec<u8>) -> Result<(), AllocError>
+    ensures { OnOk result (out.new.items ≡ out.old.items ++ spec.shown_json steps.now shown.now) }
+{
+    let tables = shown.first.as_slice();
+    push(",\"begun\":", out)?;
+    push_begins(tables, shown.begun.as_slice(), out)?;
+    push(",\"first\":", out)?;
+    push_tables(tables, out)?;
+    push(",\"moments\":", out)?;
+    push_moments(tables, steps, shown.moments.as_slice(), out)?;
+    push(",\"left\":", out)?;
+    push_tables(shown.left.as_slice(), out)?;
+    push(",\"open\":", out)?;
+    push_open(shown.standings.as_slice(), out)
+}
+
+fn push_begins(tables: &[Left], begins: &[Begun], out: &mut Vec<u8>) -> Result<(), AllocError>
+    ensures { OnOk result (out.new.items ≡ out.old.items ++ array_json (spec.begun_json tables.now) begins.now) }
+{
+    push("[", out)?;
+    for (place, begun) in begins.iter().enumerate() {
+        push_before(",", place, out)?;
+        push_begun(tables, begun, out)?;
+    }
+    push("]", out)
+}
+
+fn push_begun(tables: &[Left], begun: &Begun, out: &mut Vec<u8>) -> Result<(), AllocError>
+    ensures { OnOk result (out.new.items ≡ out.old.items ++ spec.begun_json tables.now begun.now) }
+{
+    push("{\"status\":", out)?;
+    push(status_word(begun.status), out)?;
+    push(",\"locks\":", out)?;
+    push_locks(tables, begun.locks.as_slice(), out)?;
+    push("}", out)
+}
+
+fn push_locks(
+    tables: &[Left],
+    locks: &[(Resource, Mode)],
+    out: &mut Vec<u8>,
+) -> Result<(), AllocError>
+    ensures { OnOk result (out.new.items ≡ out.old.items ++ array_json (lock_json tables.now) locks.now) }
+{
+    push("[", out)?;
+    for (place, lock) in locks.iter().enumerate() {
+        push_before(",", place, out)?;
+        push_lock(tables, &lock.0, lock.1, out)?;
+    }
+    push("]", out)
+}
+
+fn push_tables(tables: &[Left], out: &mut Vec<u8>) -> Result<(), AllocError>
+    ensures { OnOk result (out.new.items ≡ out.old.items ++ array_json spec.left_json tables.now) }
+{
+    push("[", out)?;
+    for (place, left) in tables.iter().enumerate() {
+        push_before(",", place, out)?;
+        push_left(left, out)?;
+    }
+    push("]", out)
+}
+
+fn push_left(left: &Left, out: &mut Vec<u8>) -> Result<(), AllocError>
+    ensures { OnOk result (out.new.items ≡ out.old.items ++ spec.left_json left.now) }
+{
+    push("{\"table\":", out)?;
+    push_string(left.table.name.as_str().as_bytes(), out)?;
+    push(",\"rows\":", out)?;
+    push_entries(left.rows.as_slice(), out)?;
+    push("}", out)
+}
+
+fn push_entries(entries: &[(Value, Row)], out: &mut Vec<u8>) -> Result<(), AllocError>
+    ensures { OnOk result (out.new.items ≡ out.old.items ++ array_json spec.entry_json entries.now) }
+{
+    push("[", out)?;
+    for (place, entry) in entries.iter().enumerate() {
+        push_before(",", place, out)?;
+        push_tuple(entry.1.values(), out)?;
+    }
+    push("]", out)
+}
+
+/// Pushes how the sessions stand that have not ended.
+fn push_open(standings: &[Standing], out: &mut Vec<u8>) -> Result<(), AllocError>
+    ensures { OnOk result (out.new.items ≡ out.old.items ++ array_json spec.open_json (spec.open_from 0 standings.now)) }
+{
+    push("[", out)?;
+    let mut place = 0;
+    for (session, standing) in standings.iter().enumerate() {
+        if let Some(word) = open_word(standing) {
+            push_before(",", place, out)?;
+            push_standing(session, word, out)?;
+            place += 1;
+        }
+    }
+    push("]", out)
+}
+
+fn push_standing(session: usize, word: &str, out: &mut Vec<u8>) -> Result<(), AllocError>
+    ensures { OnOk result (out.new.items ≡ out.old.items ++ spec.open_json (session, word.now)) }
+{
+    push("[", out)?;
+    push_number(session as u64, out)?;
+    push(",", out)?;
+    push(word, out)?;
+    push("]", out)
+}
+
+/// How a session stands that has not ended.
+fn open_word(standing: &Standing) -> Option<&'static str>
+    ensures { MatchOption result ((session : ℕ) → spec.open_of session standing.now ≡ none)
+        (λ word. (session : ℕ) → spec.open_of session standing.now ≡ (session, word.now) ∷ none) }
+{
+    match standing {
+        Standing::HasEnded => None,
+        Standing::IsOpen => Some("\"in\""),
+        Standing::HasFailed => Some("\"failed\""),
+        Standing::StillWaits(_) => Some("\"waits\""),
+    }
+}
