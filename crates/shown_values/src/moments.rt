@@ -5,7 +5,7 @@ ghost use Rattle.shown_values.specs.Strings.{array_json};
 ghost use Rattle.shown_values.specs.Words.{line_json, told};
 ghost use Rattle.shown_values.specs.Moments as spec;
 
-use crate::strings::{push, push_before, push_number};
+use crate::strings::{push, push_before, push_count, push_word};
 use crate::texts::{push_line, push_resource};
 use crate::words::{manner_word, mode_word, push_step_number, status_word};
 use line_moments::{Change, Ending, Left, Moment, Still};
@@ -51,10 +51,8 @@ fn push_moment(
 fn push_going(moment: &Moment, out: &mut Vec<u8>) -> Result<(), AllocError>
     ensures { OnOk result (out.new.items ≡ out.old.items ++ spec.going_json moment.now) }
 {
-    push("{\"session\":", out)?;
-    push_number(u64::from(moment.session), out)?;
-    push(",\"kind\":", out)?;
-    push(manner_word(moment.manner), out)?;
+    push_count("{\"session\":", u64::from(moment.session), out)?;
+    push_word(",\"kind\":", manner_word(moment.manner), out)?;
     push(",\"step\":", out)?;
     push_step_number(moment.step, out)
 }
@@ -63,8 +61,7 @@ fn push_going(moment: &Moment, out: &mut Vec<u8>) -> Result<(), AllocError>
 fn push_end(tables: &[Left], moment: &Moment, out: &mut Vec<u8>) -> Result<(), AllocError>
     ensures { OnOk result (out.new.items ≡ out.old.items ++ spec.end_json tables.now moment.now) }
 {
-    push(",\"status\":", out)?;
-    push(status_word(moment.status), out)?;
+    push_word(",\"status\":", status_word(moment.status), out)?;
     push_ending(tables, &moment.ending, out)?;
     push(",\"still\":", out)?;
     push_stills(moment.still.as_slice(), out)?;
@@ -127,8 +124,7 @@ pub(crate) fn push_lock(
 {
     push("[", out)?;
     push_resource(tables, resource, out)?;
-    push(",", out)?;
-    push(mode_word(mode), out)?;
+    push_word(",", mode_word(mode), out)?;
     push("]", out)
 }
 
@@ -158,8 +154,7 @@ fn push_want(tables: &[Left], want: &Want, out: &mut Vec<u8>) -> Result<(), Allo
 {
     push("{\"on\":", out)?;
     push_resource(tables, &want.resource, out)?;
-    push(",\"wants\":", out)?;
-    push(mode_word(want.mode), out)?;
+    push_word(",\"wants\":", mode_word(want.mode), out)?;
     push_has(want.has, want.asked, out)?;
     push(",\"for\":", out)?;
     push_edges(want.edges.as_slice(), out)?;
@@ -173,10 +168,8 @@ fn push_has(has: Option<Mode>, asked: Mode, out: &mut Vec<u8>) -> Result<(), All
     match has {
         None => Ok(()),
         Some(mode) => {
-            push(",\"has\":", out)?;
-            push(mode_word(mode), out)?;
-            push(",\"asks\":", out)?;
-            push(mode_word(asked), out)
+            push_word(",\"has\":", mode_word(mode), out)?;
+            push_word(",\"asks\":", mode_word(asked), out)
         }
     }
 }
@@ -195,8 +188,7 @@ fn push_edges(edges: &[Edge], out: &mut Vec<u8>) -> Result<(), AllocError>
 fn push_edge(edge: Edge, out: &mut Vec<u8>) -> Result<(), AllocError>
     ensures { OnOk result (out.new.items ≡ out.old.items ++ spec.edge_json edge) }
 {
-    push("[", out)?;
-    push_number(u64::from(edge.session), out)?;
+    push_count("[", u64::from(edge.session), out)?;
     push_reason(edge.reason, out)?;
     push("]", out)
 }
@@ -205,14 +197,8 @@ fn push_reason(reason: Reason, out: &mut Vec<u8>) -> Result<(), AllocError>
     ensures { OnOk result (out.new.items ≡ out.old.items ++ spec.reason_json reason) }
 {
     match reason {
-        Reason::Holds(mode) => {
-            push(",\"holds\",", out)?;
-            push(mode_word(mode), out)
-        }
-        Reason::Ahead(mode) => {
-            push(",\"ahead\",", out)?;
-            push(mode_word(mode), out)
-        }
+        Reason::Holds(mode) => push_word(",\"holds\",", mode_word(mode), out),
+        Reason::Ahead(mode) => push_word(",\"ahead\",", mode_word(mode), out),
     }
 }
 
@@ -230,10 +216,8 @@ fn push_hops(tables: &[Left], hops: &[Hop], out: &mut Vec<u8>) -> Result<(), All
 fn push_hop(tables: &[Left], hop: &Hop, out: &mut Vec<u8>) -> Result<(), AllocError>
     ensures { OnOk result (out.new.items ≡ out.old.items ++ spec.hop_json tables.now hop.now) }
 {
-    push("[", out)?;
-    push_number(u64::from(hop.session), out)?;
-    push(",", out)?;
-    push(mode_word(hop.mode), out)?;
+    push_count("[", u64::from(hop.session), out)?;
+    push_word(",", mode_word(hop.mode), out)?;
     push(",", out)?;
     push_resource(tables, &hop.resource, out)?;
     push(",", out)?;
@@ -255,8 +239,7 @@ fn push_stills(stills: &[Still], out: &mut Vec<u8>) -> Result<(), AllocError>
 fn push_still(still: &Still, out: &mut Vec<u8>) -> Result<(), AllocError>
     ensures { OnOk result (out.new.items ≡ out.old.items ++ spec.still_json still.now) }
 {
-    push("[", out)?;
-    push_number(u64::from(still.session), out)?;
+    push_count("[", u64::from(still.session), out)?;
     push(",", out)?;
     push_edges(still.edges.as_slice(), out)?;
     push("]", out)

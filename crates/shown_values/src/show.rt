@@ -7,7 +7,7 @@ ghost use Rattle.shown_values.specs.Page as spec;
 
 use crate::moments::{push_lock, push_moments};
 use crate::page::Page;
-use crate::strings::{push, push_before, push_number, push_string};
+use crate::strings::{push, push_before, push_count, push_number, push_string, push_word};
 use crate::texts::push_tuple;
 use crate::words::status_word;
 use line_moments::{Begun, Left, Shown, Standing};
@@ -32,10 +32,8 @@ fn push_order(page: &Page<'_>, out: &mut Vec<u8>) -> Result<(), AllocError>
 {
     push("{\"format\":1,\"name\":", out)?;
     push_string(page.name.as_bytes(), out)?;
-    push(",\"rank\":", out)?;
-    push_number(page.rank, out)?;
-    push(",\"orders\":", out)?;
-    push_number(page.orders, out)
+    push_count(",\"rank\":", page.rank, out)?;
+    push_count(",\"orders\":", page.orders, out)
 }
 
 /// Pushes what its numbers stand for.
@@ -88,8 +86,7 @@ fn push_step(
 {
     push("{\"name\":", out)?;
     push_string(name.as_str().as_bytes(), out)?;
-    push(",\"session\":", out)?;
-    push_number(u64::from(session), out)?;
+    push_count(",\"session\":", u64::from(session), out)?;
     push(",\"sql\":", out)?;
     push_string(statements.as_str().as_bytes(), out)?;
     push("}", out)
@@ -137,8 +134,7 @@ fn push_begins(tables: &[Left], begins: &[Begun], out: &mut Vec<u8>) -> Result<(
 fn push_begun(tables: &[Left], begun: &Begun, out: &mut Vec<u8>) -> Result<(), AllocError>
     ensures { OnOk result (out.new.items ≡ out.old.items ++ spec.begun_json tables.now begun.now) }
 {
-    push("{\"status\":", out)?;
-    push(status_word(begun.status), out)?;
+    push_word("{\"status\":", status_word(begun.status), out)?;
     push(",\"locks\":", out)?;
     push_locks(tables, begun.locks.as_slice(), out)?;
     push("}", out)
@@ -210,10 +206,8 @@ fn push_open(standings: &[Standing], out: &mut Vec<u8>) -> Result<(), AllocError
 fn push_standing(session: usize, word: &str, out: &mut Vec<u8>) -> Result<(), AllocError>
     ensures { OnOk result (out.new.items ≡ out.old.items ++ spec.open_json (session, word.now)) }
 {
-    push("[", out)?;
-    push_number(session as u64, out)?;
-    push(",", out)?;
-    push(word, out)?;
+    push_count("[", session as u64, out)?;
+    push_word(",", word, out)?;
     push("]", out)
 }
 

@@ -22,6 +22,22 @@ pub(crate) fn push_number(number: u64, out: &mut Vec<u8>) -> Result<(), AllocErr
     push(Buffer::new().format(number), out)
 }
 
+/// Pushes a label and the number behind it.
+pub(crate) fn push_count(label: &str, number: u64, out: &mut Vec<u8>) -> Result<(), AllocError>
+    ensures { OnOk result (out.new.items ≡ out.old.items ++ (label.now ++ decimal number)) }
+{
+    push(label, out)?;
+    push_number(number, out)
+}
+
+/// Pushes a label and the word behind it.
+pub(crate) fn push_word(label: &str, word: &str, out: &mut Vec<u8>) -> Result<(), AllocError>
+    ensures { OnOk result (out.new.items ≡ out.old.items ++ (label.now ++ word.now)) }
+{
+    push(label, out)?;
+    push(word, out)
+}
+
 /// Pushes what stands before the item at this place: a separator, but before the first one nothing.
 pub(crate) fn push_before(
     separator: &str,
@@ -108,6 +124,7 @@ fn is_markup(byte: u8) -> bool
 }
 
 /// Pushes a byte with the shortest escape, if it needs one.
+#[tactic(auto, unfolding(json::specs::Print::escape_byte))]
 fn push_escape(byte: u8, out: &mut Vec<u8>) -> Result<(), AllocError>
     ensures { OnOk result (out.new.items ≡ out.old.items ++ escape_byte byte) }
 {

@@ -1,11 +1,11 @@
 //! The texts of resources, rows and events, and these as JSON strings.
 
-ghost use Rattle.std.specs.Prelude.{◌≡◌, ◌++◌, OnOk, codes, decimal, get_or, [] as no_name};
+ghost use Rattle.std.specs.Prelude.{◌≡◌, ◌++◌, OnOk, codes, get_or, [] as no_name};
 ghost use Rattle.std.specs.List.{join_by};
 ghost use Rattle.transcripts.specs.Text.{doubled, event_text, fault_text, quoted, value_text, warning_text};
 ghost use Rattle.shown_values.specs.Words as spec;
 
-use crate::strings::{push, push_before, push_number, push_string};
+use crate::strings::{push, push_before, push_count, push_string, push_word};
 use itoa::Buffer;
 use line_moments::Left;
 use lock_modes::{Resource, Text, Value};
@@ -58,8 +58,7 @@ fn push_place(
     match resource {
         Resource::Table(table) => push(table_name(tables, *table), text),
         Resource::Row(table, key) => {
-            push(table_name(tables, *table), text)?;
-            push("[", text)?;
+            push_word(table_name(tables, *table), "[", text)?;
             push_value(key, text)?;
             push("]", text)
         }
@@ -121,7 +120,7 @@ fn push_event(event: &Event, steps: &[Text], text: &mut Vec<u8>) -> Result<(), A
     ensures { OnOk result (text.new.items ≡ text.old.items ++ event_text steps.now event.now) }
 {
     match event {
-        Event::Sent(step) => push_pair("step ", step_name(steps, *step), text),
+        Event::Sent(step) => push_word("step ", step_name(steps, *step), text),
         Event::Row(row) => push_row(row.values(), text),
         Event::Rows(count) => push_count("rows ", *count, text),
         Event::Inserted(count) => push_count("inserted ", *count, text),
@@ -137,7 +136,7 @@ fn push_event(event: &Event, steps: &[Text], text: &mut Vec<u8>) -> Result<(), A
         Event::Waiting => push("waiting", text),
         Event::Resumed => push("resumed", text),
         Event::Done => push("done", text),
-        Event::NotSent(step) => push_pair("not sent ", step_name(steps, *step), text),
+        Event::NotSent(step) => push_word("not sent ", step_name(steps, *step), text),
     }
 }
 
@@ -177,18 +176,4 @@ fn step_name(steps: &[Text], step: u8) -> &str
         Some(name) => name.as_str(),
         None => "",
     }
-}
-
-fn push_count(label: &str, count: u64, text: &mut Vec<u8>) -> Result<(), AllocError>
-    ensures { OnOk result (text.new.items ≡ text.old.items ++ (label.now ++ decimal count)) }
-{
-    push(label, text)?;
-    push_number(count, text)
-}
-
-fn push_pair(label: &str, word: &str, text: &mut Vec<u8>) -> Result<(), AllocError>
-    ensures { OnOk result (text.new.items ≡ text.old.items ++ (label.now ++ word.now)) }
-{
-    push(label, text)?;
-    push(word, text)
 }
