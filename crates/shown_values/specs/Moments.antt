@@ -28,12 +28,12 @@ edge_json edge = codes "[" ++ decimal edge.session ++ reason_json edge.reason ++
 -- what is held already, and what is asked for beside it
 abbrev pub has_json : Option Mode → Mode → List ℕ
 has_json None asked = []
-has_json (Some mode) asked = codes ",\"has\":" ++ mode_json mode ++ codes ",\"asks\":" ++ mode_json asked
+has_json (Some mode) asked = (codes ",\"has\":" ++ mode_json mode) ++ (codes ",\"asks\":" ++ mode_json asked)
 
 abbrev pub want_json : List Left → Want → List ℕ
 want_json tables want =
-    codes "{\"on\":" ++ resource_json tables want.resource ++ codes ",\"wants\":" ++ mode_json want.mode
-        ++ has_json want.has want.asked ++ codes ",\"for\":" ++ array_json edge_json want.edges ++ codes "}"
+    (codes "{\"on\":" ++ resource_json tables want.resource) ++ (codes ",\"wants\":" ++ mode_json want.mode)
+        ++ has_json want.has want.asked ++ (codes ",\"for\":" ++ array_json edge_json want.edges) ++ codes "}"
 
 abbrev pub hop_json : List Left → Hop → List ℕ
 hop_json tables hop =
@@ -60,16 +60,16 @@ ending_json tables (Lacks want) = codes ",\"lacks\":" ++ want_json tables want
 -- who goes, why, and with which step
 abbrev pub going_json : Moment → List ℕ
 going_json moment =
-    codes "{\"session\":" ++ decimal moment.session ++ codes ",\"kind\":" ++ manner_json moment.manner
-        ++ codes ",\"step\":" ++ number_json moment.step
+    (codes "{\"session\":" ++ decimal moment.session) ++ (codes ",\"kind\":" ++ manner_json moment.manner)
+        ++ (codes ",\"step\":" ++ number_json moment.step)
 
 -- how it ends
 abbrev pub end_json : List Left → Moment → List ℕ
 end_json tables moment =
-    codes ",\"status\":" ++ status_json moment.status ++ ending_json tables moment.ending
-        ++ codes ",\"still\":" ++ array_json still_json moment.still ++ codes "}"
+    (codes ",\"status\":" ++ status_json moment.status) ++ ending_json tables moment.ending
+        ++ (codes ",\"still\":" ++ array_json still_json moment.still) ++ codes "}"
 
 abbrev pub moment_json : List Left → List (List ℕ) → Moment → List ℕ
 moment_json tables steps moment =
-    going_json moment ++ codes ",\"told\":" ++ array_json (line_json steps) (told moment.events)
-        ++ codes ",\"locks\":" ++ array_json (change_json tables) moment.changes ++ end_json tables moment
+    going_json moment ++ (codes ",\"told\":" ++ array_json (line_json steps) (told moment.events))
+        ++ (codes ",\"locks\":" ++ array_json (change_json tables) moment.changes) ++ end_json tables moment

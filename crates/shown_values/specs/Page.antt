@@ -15,17 +15,18 @@ use Rattle.shown_values.specs.Moments.{lock_json, moment_json}
 -- a step by its name, its session and its statements
 abbrev pub step_json : List ℕ × (ℕ × List ℕ) → List ℕ
 step_json step =
-    codes "{\"name\":" ++ string_json step.0 ++ codes ",\"session\":" ++ decimal step.1.0 ++ codes ",\"sql\":" ++ string_json step.1.1 ++ codes "}"
+    (codes "{\"name\":" ++ string_json step.0) ++ (codes ",\"session\":" ++ decimal step.1.0) ++ (codes ",\"sql\":" ++ string_json step.1.1) ++ codes "}"
 
 abbrev pub begun_json : List Left → Begun → List ℕ
-begun_json tables begun = codes "{\"status\":" ++ status_json begun.status ++ codes ",\"locks\":" ++ array_json (lock_json tables) begun.locks ++ codes "}"
+begun_json tables begun =
+    (codes "{\"status\":" ++ status_json begun.status) ++ (codes ",\"locks\":" ++ array_json (lock_json tables) begun.locks) ++ codes "}"
 
 -- a row without its key
 abbrev pub entry_json : Value × Tuple → List ℕ
 entry_json entry = tuple_json entry.1
 
 abbrev pub left_json : Left → List ℕ
-left_json left = codes "{\"table\":" ++ string_json (name_of left) ++ codes ",\"rows\":" ++ array_json entry_json left.rows ++ codes "}"
+left_json left = (codes "{\"table\":" ++ string_json (name_of left)) ++ (codes ",\"rows\":" ++ array_json entry_json left.rows) ++ codes "}"
 
 -- how a session stands that has not ended, behind its number
 abbrev pub open_of : ℕ → Standing → List (ℕ × List ℕ)
@@ -45,22 +46,22 @@ open_json pair = codes "[" ++ decimal pair.0 ++ codes "," ++ pair.1 ++ codes "]"
 -- what the order is
 abbrev pub order_json : Page → List ℕ
 order_json page =
-    codes "{\"format\":1,\"name\":" ++ string_json page.name.now ++ codes ",\"rank\":" ++ decimal page.rank
-        ++ codes ",\"orders\":" ++ decimal page.orders
+    (codes "{\"format\":1,\"name\":" ++ string_json page.name.now) ++ (codes ",\"rank\":" ++ decimal page.rank)
+        ++ (codes ",\"orders\":" ++ decimal page.orders)
 
 -- what its numbers stand for
 abbrev pub numbers_json : Page → List ℕ
 numbers_json page =
-    codes ",\"sessions\":" ++ array_json string_json page.session_names.now
-        ++ codes ",\"steps\":" ++ array_json step_json (zip page.step_names.now (zip page.step_sessions.now page.statements.now))
-        ++ codes ",\"order\":" ++ array_json decimal page.line.now
+    (codes ",\"sessions\":" ++ array_json string_json page.session_names.now)
+        ++ (codes ",\"steps\":" ++ array_json step_json (zip page.step_names.now (zip page.step_sessions.now page.statements.now)))
+        ++ (codes ",\"order\":" ++ array_json decimal page.line.now)
 
 -- what is shown of it, with the names of the steps
 abbrev pub shown_json : List (List ℕ) → Shown → List ℕ
 shown_json steps shown =
-    codes ",\"begun\":" ++ array_json (begun_json shown.first) shown.begun ++ codes ",\"first\":" ++ array_json left_json shown.first
-        ++ codes ",\"moments\":" ++ array_json (moment_json shown.first steps) shown.moments
-        ++ codes ",\"left\":" ++ array_json left_json shown.left ++ codes ",\"open\":" ++ array_json open_json (open_from 0 shown.standings)
+    (codes ",\"begun\":" ++ array_json (begun_json shown.first) shown.begun) ++ (codes ",\"first\":" ++ array_json left_json shown.first)
+        ++ (codes ",\"moments\":" ++ array_json (moment_json shown.first steps) shown.moments)
+        ++ (codes ",\"left\":" ++ array_json left_json shown.left) ++ (codes ",\"open\":" ++ array_json open_json (open_from 0 shown.standings))
 
 abbrev pub page_json : Page → List ℕ
 page_json page = order_json page ++ numbers_json page ++ shown_json page.step_names.now page.shown.now ++ codes "}\n"

@@ -1,30 +1,32 @@
 //! The JSON of moments.
 
-ghost use Rattle.std.specs.Prelude.{◌≡◌, ◌++◌, OnOk};
+ghost use Rattle.std.specs.Prelude.{◌≡◌, ◌++◌, OnOk, codes};
 ghost use Rattle.shown_values.specs.Strings.{array_json};
 ghost use Rattle.shown_values.specs.Words.{line_json, told};
 ghost use Rattle.shown_values.specs.Moments as spec;
 
-use crate::strings::{push, push_before, push_count, push_word};
+use crate::strings::{push, push_before, push_place, push_word};
 use crate::texts::{push_line, push_resource};
-use crate::words::{manner_word, mode_word, push_step_number, status_word};
+use crate::words::{push_manner, push_mode, push_status, push_step_number};
 use line_moments::{Change, Ending, Left, Moment, Still};
 use lock_modes::{Mode, Resource, Text};
 use lock_queues::{Edge, Hop, Reason, Want};
+use sqlite_items::Items;
 use std::alloc::AllocError;
-use transcripts::Event;
+use transcripts::{Event, Transcript};
 
-/// Pushes the moments of a line.
+/// Pushes a label and the moments of a line behind it.
 pub(crate) fn push_moments(
-    tables: &[Left],
+    label: &str,
+    tables: &Items<Left>,
     steps: &[Text],
-    moments: &[Moment],
+    moments: &Items<Moment>,
     out: &mut Vec<u8>,
 ) -> Result<(), AllocError>
-    ensures { OnOk result (out.new.items ≡ out.old.items ++ array_json (spec.moment_json tables.now steps.now) moments.now) }
+    ensures { OnOk result (out.new.items ≡ out.old.items ++ (label.now ++ array_json (spec.moment_json tables.now steps.now) moments.now)) }
 {
-    push("[", out)?;
-    for (place, moment) in moments.iter().enumerate() {
+    push_word(label, "[", out)?;
+    for (place, moment) in moments.as_slice().iter().enumerate() {
         push_before(",", place, out)?;
         push_moment(tables, steps, moment, out)?;
     }
@@ -32,7 +34,7 @@ pub(crate) fn push_moments(
 }
 
 fn push_moment(
-    tables: &[Left],
+    tables: &Items<Left>,
     steps: &[Text],
     moment: &Moment,
     out: &mut Vec<u8>,
@@ -40,10 +42,8 @@ fn push_moment(
     ensures { OnOk result (out.new.items ≡ out.old.items ++ spec.moment_json tables.now steps.now moment.now) }
 {
     push_going(moment, out)?;
-    push(",\"told\":", out)?;
-    push_lines(without_sent(moment.events.events()), steps, out)?;
-    push(",\"locks\":", out)?;
-    push_changes(tables, moment.changes.as_slice(), out)?;
+    push_told(steps, &moment.events, out)?;
+    push_changes(",\"locks\":", tables, &moment.changes, out)?;
     push_end(tables, moment, out)
 }
 
@@ -51,20 +51,30 @@ fn push_moment(
 fn push_going(moment: &Moment, out: &mut Vec<u8>) -> Result<(), AllocError>
     ensures { OnOk result (out.new.items ≡ out.old.items ++ spec.going_json moment.now) }
 {
-    push_count("{\"session\":", u64::from(moment.session), out)?;
-    push_word(",\"kind\":", manner_word(moment.manner), out)?;
-    push(",\"step\":", out)?;
-    push_step_number(moment.step, out)
+    push_place("{\"session\":", moment.session, out)?;
+    push_manner(",\"kind\":", moment.manner, out)?;
+    push_step_number(",\"step\":", moment.step, out)
+}
+
+/// Pushes what a session is told, as a member.
+fn push_told(
+    steps: &[Text],
+    transcript: &Transcript,
+    out: &mut Vec<u8>,
+) -> Result<(), AllocError>
+    ensures { OnOk result (out.new.items
+        ≡ out.old.items ++ (codes ",\"told\":" ++ array_json (line_json steps.now) (told transcript.now))) }
+{
+    push_lines(",\"told\":", steps, without_sent(transcript.events()), out)
 }
 
 /// Pushes how a moment ends.
-fn push_end(tables: &[Left], moment: &Moment, out: &mut Vec<u8>) -> Result<(), AllocError>
+fn push_end(tables: &Items<Left>, moment: &Moment, out: &mut Vec<u8>) -> Result<(), AllocError>
     ensures { OnOk result (out.new.items ≡ out.old.items ++ spec.end_json tables.now moment.now) }
 {
-    push_word(",\"status\":", status_word(moment.status), out)?;
+    push_status(",\"status\":", moment.status, out)?;
     push_ending(tables, &moment.ending, out)?;
-    push(",\"still\":", out)?;
-    push_stills(moment.still.as_slice(), out)?;
+    push_stills(",\"still\":", &moment.still, out)?;
     push("}", out)
 }
 
@@ -78,10 +88,15 @@ fn without_sent(events: &[Event]) -> &[Event]
     }
 }
 
-fn push_lines(events: &[Event], steps: &[Text], out: &mut Vec<u8>) -> Result<(), AllocError>
-    ensures { OnOk result (out.new.items ≡ out.old.items ++ array_json (line_json steps.now) events.now) }
+fn push_lines(
+    label: &str,
+    steps: &[Text],
+    events: &[Event],
+    out: &mut Vec<u8>,
+) -> Result<(), AllocError>
+    ensures { OnOk result (out.new.items ≡ out.old.items ++ (label.now ++ array_json (line_json steps.now) events.now)) }
 {
-    push("[", out)?;
+    push_word(label, "[", out)?;
     for (place, event) in events.iter().enumerate() {
         push_before(",", place, out)?;
         push_line(event, steps, out)?;
@@ -90,21 +105,26 @@ fn push_lines(events: &[Event], steps: &[Text], out: &mut Vec<u8>) -> Result<(),
 }
 
 fn push_changes(
-    tables: &[Left],
-    changes: &[Change],
+    label: &str,
+    tables: &Items<Left>,
+    changes: &Items<Change>,
     out: &mut Vec<u8>,
 ) -> Result<(), AllocError>
-    ensures { OnOk result (out.new.items ≡ out.old.items ++ array_json (spec.change_json tables.now) changes.now) }
+    ensures { OnOk result (out.new.items ≡ out.old.items ++ (label.now ++ array_json (spec.change_json tables.now) changes.now)) }
 {
-    push("[", out)?;
-    for (place, change) in changes.iter().enumerate() {
+    push_word(label, "[", out)?;
+    for (place, change) in changes.as_slice().iter().enumerate() {
         push_before(",", place, out)?;
         push_change(tables, change, out)?;
     }
     push("]", out)
 }
 
-fn push_change(tables: &[Left], change: &Change, out: &mut Vec<u8>) -> Result<(), AllocError>
+fn push_change(
+    tables: &Items<Left>,
+    change: &Change,
+    out: &mut Vec<u8>,
+) -> Result<(), AllocError>
     ensures { OnOk result (out.new.items ≡ out.old.items ++ spec.change_json tables.now change.now) }
 {
     match change {
@@ -115,49 +135,47 @@ fn push_change(tables: &[Left], change: &Change, out: &mut Vec<u8>) -> Result<()
 
 /// Pushes what is locked, and how.
 pub(crate) fn push_lock(
-    tables: &[Left],
+    tables: &Items<Left>,
     resource: &Resource,
     mode: Mode,
     out: &mut Vec<u8>,
 ) -> Result<(), AllocError>
     ensures { OnOk result (out.new.items ≡ out.old.items ++ spec.lock_json tables.now (resource.now, mode)) }
 {
-    push("[", out)?;
-    push_resource(tables, resource, out)?;
-    push_word(",", mode_word(mode), out)?;
+    push_resource("[", tables, resource, out)?;
+    push_mode(",", mode, out)?;
     push("]", out)
 }
 
 /// Pushes what is told of a wait, a deadlock or a lack, as a member.
-fn push_ending(tables: &[Left], ending: &Ending, out: &mut Vec<u8>) -> Result<(), AllocError>
+fn push_ending(
+    tables: &Items<Left>,
+    ending: &Ending,
+    out: &mut Vec<u8>,
+) -> Result<(), AllocError>
     ensures { OnOk result (out.new.items ≡ out.old.items ++ spec.ending_json tables.now ending.now) }
 {
     match ending {
         Ending::Ended => Ok(()),
-        Ending::Awaits(want) => {
-            push(",\"want\":", out)?;
-            push_want(tables, want, out)
-        }
-        Ending::Loses(ring) => {
-            push(",\"ring\":", out)?;
-            push_hops(tables, ring.as_slice(), out)
-        }
-        Ending::Lacks(want) => {
-            push(",\"lacks\":", out)?;
-            push_want(tables, want, out)
-        }
+        Ending::Awaits(want) => push_want(",\"want\":", tables, want, out),
+        Ending::Loses(ring) => push_hops(",\"ring\":", tables, ring, out),
+        Ending::Lacks(want) => push_want(",\"lacks\":", tables, want, out),
     }
 }
 
-fn push_want(tables: &[Left], want: &Want, out: &mut Vec<u8>) -> Result<(), AllocError>
-    ensures { OnOk result (out.new.items ≡ out.old.items ++ spec.want_json tables.now want.now) }
+fn push_want(
+    label: &str,
+    tables: &Items<Left>,
+    want: &Want,
+    out: &mut Vec<u8>,
+) -> Result<(), AllocError>
+    ensures { OnOk result (out.new.items ≡ out.old.items ++ (label.now ++ spec.want_json tables.now want.now)) }
 {
-    push("{\"on\":", out)?;
-    push_resource(tables, &want.resource, out)?;
-    push_word(",\"wants\":", mode_word(want.mode), out)?;
+    push(label, out)?;
+    push_resource("{\"on\":", tables, &want.resource, out)?;
+    push_mode(",\"wants\":", want.mode, out)?;
     push_has(want.has, want.asked, out)?;
-    push(",\"for\":", out)?;
-    push_edges(want.edges.as_slice(), out)?;
+    push_edges(",\"for\":", want.edges.as_slice(), out)?;
     push("}", out)
 }
 
@@ -168,16 +186,16 @@ fn push_has(has: Option<Mode>, asked: Mode, out: &mut Vec<u8>) -> Result<(), All
     match has {
         None => Ok(()),
         Some(mode) => {
-            push_word(",\"has\":", mode_word(mode), out)?;
-            push_word(",\"asks\":", mode_word(asked), out)
+            push_mode(",\"has\":", mode, out)?;
+            push_mode(",\"asks\":", asked, out)
         }
     }
 }
 
-fn push_edges(edges: &[Edge], out: &mut Vec<u8>) -> Result<(), AllocError>
-    ensures { OnOk result (out.new.items ≡ out.old.items ++ array_json spec.edge_json edges.now) }
+fn push_edges(label: &str, edges: &[Edge], out: &mut Vec<u8>) -> Result<(), AllocError>
+    ensures { OnOk result (out.new.items ≡ out.old.items ++ (label.now ++ array_json spec.edge_json edges.now)) }
 {
-    push("[", out)?;
+    push_word(label, "[", out)?;
     for (place, edge) in edges.iter().enumerate() {
         push_before(",", place, out)?;
         push_edge(*edge, out)?;
@@ -188,7 +206,7 @@ fn push_edges(edges: &[Edge], out: &mut Vec<u8>) -> Result<(), AllocError>
 fn push_edge(edge: Edge, out: &mut Vec<u8>) -> Result<(), AllocError>
     ensures { OnOk result (out.new.items ≡ out.old.items ++ spec.edge_json edge) }
 {
-    push_count("[", u64::from(edge.session), out)?;
+    push_place("[", edge.session, out)?;
     push_reason(edge.reason, out)?;
     push("]", out)
 }
@@ -197,39 +215,43 @@ fn push_reason(reason: Reason, out: &mut Vec<u8>) -> Result<(), AllocError>
     ensures { OnOk result (out.new.items ≡ out.old.items ++ spec.reason_json reason) }
 {
     match reason {
-        Reason::Holds(mode) => push_word(",\"holds\",", mode_word(mode), out),
-        Reason::Ahead(mode) => push_word(",\"ahead\",", mode_word(mode), out),
+        Reason::Holds(mode) => push_mode(",\"holds\",", mode, out),
+        Reason::Ahead(mode) => push_mode(",\"ahead\",", mode, out),
     }
 }
 
-fn push_hops(tables: &[Left], hops: &[Hop], out: &mut Vec<u8>) -> Result<(), AllocError>
-    ensures { OnOk result (out.new.items ≡ out.old.items ++ array_json (spec.hop_json tables.now) hops.now) }
+fn push_hops(
+    label: &str,
+    tables: &Items<Left>,
+    hops: &Items<Hop>,
+    out: &mut Vec<u8>,
+) -> Result<(), AllocError>
+    ensures { OnOk result (out.new.items ≡ out.old.items ++ (label.now ++ array_json (spec.hop_json tables.now) hops.now)) }
 {
-    push("[", out)?;
-    for (place, hop) in hops.iter().enumerate() {
+    push_word(label, "[", out)?;
+    for (place, hop) in hops.as_slice().iter().enumerate() {
         push_before(",", place, out)?;
         push_hop(tables, hop, out)?;
     }
     push("]", out)
 }
 
-fn push_hop(tables: &[Left], hop: &Hop, out: &mut Vec<u8>) -> Result<(), AllocError>
+fn push_hop(tables: &Items<Left>, hop: &Hop, out: &mut Vec<u8>) -> Result<(), AllocError>
     ensures { OnOk result (out.new.items ≡ out.old.items ++ spec.hop_json tables.now hop.now) }
 {
-    push_count("[", u64::from(hop.session), out)?;
-    push_word(",", mode_word(hop.mode), out)?;
-    push(",", out)?;
-    push_resource(tables, &hop.resource, out)?;
+    push_place("[", hop.session, out)?;
+    push_mode(",", hop.mode, out)?;
+    push_resource(",", tables, &hop.resource, out)?;
     push(",", out)?;
     push_edge(hop.edge, out)?;
     push("]", out)
 }
 
-fn push_stills(stills: &[Still], out: &mut Vec<u8>) -> Result<(), AllocError>
-    ensures { OnOk result (out.new.items ≡ out.old.items ++ array_json spec.still_json stills.now) }
+fn push_stills(label: &str, stills: &Items<Still>, out: &mut Vec<u8>) -> Result<(), AllocError>
+    ensures { OnOk result (out.new.items ≡ out.old.items ++ (label.now ++ array_json spec.still_json stills.now)) }
 {
-    push("[", out)?;
-    for (place, still) in stills.iter().enumerate() {
+    push_word(label, "[", out)?;
+    for (place, still) in stills.as_slice().iter().enumerate() {
         push_before(",", place, out)?;
         push_still(still, out)?;
     }
@@ -239,8 +261,7 @@ fn push_stills(stills: &[Still], out: &mut Vec<u8>) -> Result<(), AllocError>
 fn push_still(still: &Still, out: &mut Vec<u8>) -> Result<(), AllocError>
     ensures { OnOk result (out.new.items ≡ out.old.items ++ spec.still_json still.now) }
 {
-    push_count("[", u64::from(still.session), out)?;
-    push(",", out)?;
-    push_edges(still.edges.as_slice(), out)?;
+    push_place("[", still.session, out)?;
+    push_edges(",", still.edges.as_slice(), out)?;
     push("]", out)
 }

@@ -1,17 +1,20 @@
 //! The JSON of what is shown of an order.
 
-ghost use Rattle.std.specs.Prelude.{◌≡◌, ◌++◌, ◌∷◌, IfOk, MatchOption, OnOk, ℕ, decimal, zip, [] as none};
+ghost use Rattle.std.specs.Prelude.{◌≡◌, ◌++◌, ◌∷◌, IfOk, MatchOption, OnOk, ℕ, codes, decimal, zip, [] as none};
 ghost use Rattle.shown_values.specs.Strings.{array_json, string_json};
 ghost use Rattle.shown_values.specs.Moments.{lock_json};
 ghost use Rattle.shown_values.specs.Page as spec;
 
 use crate::moments::{push_lock, push_moments};
 use crate::page::Page;
-use crate::strings::{push, push_before, push_count, push_number, push_string, push_word};
+use crate::strings::{
+    push, push_before, push_count, push_name, push_place, push_string, push_word,
+};
 use crate::texts::push_tuple;
-use crate::words::status_word;
+use crate::words::push_status;
 use line_moments::{Begun, Left, Shown, Standing};
 use lock_modes::{Mode, Resource, Row, Text, Value};
+use sqlite_items::Items;
 use std::alloc::{AllocError, Global};
 
 /// The JSON of an order: one object without spaces, and a line feed. It fails for want of memory alone.
@@ -30,8 +33,7 @@ pub fn show_json(alloc: Global, page: &Page<'_>) -> Result<Vec<u8>, AllocError>
 fn push_order(page: &Page<'_>, out: &mut Vec<u8>) -> Result<(), AllocError>
     ensures { OnOk result (out.new.items ≡ out.old.items ++ spec.order_json page.now) }
 {
-    push("{\"format\":1,\"name\":", out)?;
-    push_string(page.name.as_bytes(), out)?;
+    push_string("{\"format\":1,\"name\":", page.name.as_bytes(), out)?;
     push_count(",\"rank\":", page.rank, out)?;
     push_count(",\"orders\":", page.orders, out)
 }
@@ -40,35 +42,39 @@ fn push_order(page: &Page<'_>, out: &mut Vec<u8>) -> Result<(), AllocError>
 fn push_numbers(page: &Page<'_>, out: &mut Vec<u8>) -> Result<(), AllocError>
     ensures { OnOk result (out.new.items ≡ out.old.items ++ spec.numbers_json page.now) }
 {
-    push(",\"sessions\":", out)?;
-    push_names(page.session_names, out)?;
-    push(",\"steps\":", out)?;
-    push_steps(page.step_names, page.step_sessions, page.statements, out)?;
-    push(",\"order\":", out)?;
-    push_line(page.line, out)
+    push_names(",\"sessions\":", page.session_names, out)?;
+    push_steps(
+        ",\"steps\":",
+        page.step_names,
+        page.step_sessions,
+        page.statements,
+        out,
+    )?;
+    push_line(",\"order\":", page.line, out)
 }
 
-fn push_names(names: &[Text], out: &mut Vec<u8>) -> Result<(), AllocError>
-    ensures { OnOk result (out.new.items ≡ out.old.items ++ array_json string_json names.now) }
+fn push_names(label: &str, names: &[Text], out: &mut Vec<u8>) -> Result<(), AllocError>
+    ensures { OnOk result (out.new.items ≡ out.old.items ++ (label.now ++ array_json string_json names.now)) }
 {
-    push("[", out)?;
+    push_word(label, "[", out)?;
     for (place, name) in names.iter().enumerate() {
         push_before(",", place, out)?;
-        push_string(name.as_str().as_bytes(), out)?;
+        push_name("", name, out)?;
     }
     push("]", out)
 }
 
 fn push_steps(
+    label: &str,
     names: &[Text],
     sessions: &[u8],
     statements: &[Text],
     out: &mut Vec<u8>,
 ) -> Result<(), AllocError>
     ensures { OnOk result (out.new.items
-        ≡ out.old.items ++ array_json spec.step_json (zip names.now (zip sessions.now statements.now))) }
+        ≡ out.old.items ++ (label.now ++ array_json spec.step_json (zip names.now (zip sessions.now statements.now)))) }
 {
-    push("[", out)?;
+    push_word(label, "[", out)?;
     for place in 0..names.len().min(sessions.len().min(statements.len())) {
         push_before(",", place, out)?;
         push_step(&names[place], sessions[place], &statements[place], out)?;
@@ -84,21 +90,19 @@ fn push_step(
 ) -> Result<(), AllocError>
     ensures { OnOk result (out.new.items ≡ out.old.items ++ spec.step_json (name.now, (session, statements.now))) }
 {
-    push("{\"name\":", out)?;
-    push_string(name.as_str().as_bytes(), out)?;
-    push_count(",\"session\":", u64::from(session), out)?;
-    push(",\"sql\":", out)?;
-    push_string(statements.as_str().as_bytes(), out)?;
+    push_name("{\"name\":", name, out)?;
+    push_place(",\"session\":", session, out)?;
+    push_name(",\"sql\":", statements, out)?;
     push("}", out)
 }
 
-fn push_line(line: &[u8], out: &mut Vec<u8>) -> Result<(), AllocError>
-    ensures { OnOk result (out.new.items ≡ out.old.items ++ array_json decimal line.now) }
+fn push_line(label: &str, line: &[u8], out: &mut Vec<u8>) -> Result<(), AllocError>
+    ensures { OnOk result (out.new.items ≡ out.old.items ++ (label.now ++ array_json decimal line.now)) }
 {
-    push("[", out)?;
+    push_word(label, "[", out)?;
     for (place, step) in line.iter().enumerate() {
         push_before(",", place, out)?;
-        push_number(u64::from(*step), out)?;
+        push_place("", *step, out)?;
     }
     push("]", out)
 }
@@ -107,59 +111,58 @@ fn push_line(line: &[u8], out: &mut Vec<u8>) -> Result<(), AllocError>
 fn push_shown(steps: &[Text], shown: &Shown, out: &mut Vec<u8>) -> Result<(), AllocError>
     ensures { OnOk result (out.new.items ≡ out.old.items ++ spec.shown_json steps.now shown.now) }
 {
-    let tables = shown.first.as_slice();
-    push(",\"begun\":", out)?;
-    push_begins(tables, shown.begun.as_slice(), out)?;
-    push(",\"first\":", out)?;
-    push_tables(tables, out)?;
-    push(",\"moments\":", out)?;
-    push_moments(tables, steps, shown.moments.as_slice(), out)?;
-    push(",\"left\":", out)?;
-    push_tables(shown.left.as_slice(), out)?;
-    push(",\"open\":", out)?;
-    push_open(shown.standings.as_slice(), out)
+    push_begins(",\"begun\":", &shown.first, &shown.begun, out)?;
+    push_tables(",\"first\":", &shown.first, out)?;
+    push_moments(",\"moments\":", &shown.first, steps, &shown.moments, out)?;
+    push_tables(",\"left\":", &shown.left, out)?;
+    push_open(",\"open\":", &shown.standings, out)
 }
 
-fn push_begins(tables: &[Left], begins: &[Begun], out: &mut Vec<u8>) -> Result<(), AllocError>
-    ensures { OnOk result (out.new.items ≡ out.old.items ++ array_json (spec.begun_json tables.now) begins.now) }
+fn push_begins(
+    label: &str,
+    tables: &Items<Left>,
+    begins: &Items<Begun>,
+    out: &mut Vec<u8>,
+) -> Result<(), AllocError>
+    ensures { OnOk result (out.new.items ≡ out.old.items ++ (label.now ++ array_json (spec.begun_json tables.now) begins.now)) }
 {
-    push("[", out)?;
-    for (place, begun) in begins.iter().enumerate() {
+    push_word(label, "[", out)?;
+    for (place, begun) in begins.as_slice().iter().enumerate() {
         push_before(",", place, out)?;
         push_begun(tables, begun, out)?;
     }
     push("]", out)
 }
 
-fn push_begun(tables: &[Left], begun: &Begun, out: &mut Vec<u8>) -> Result<(), AllocError>
+fn push_begun(tables: &Items<Left>, begun: &Begun, out: &mut Vec<u8>) -> Result<(), AllocError>
     ensures { OnOk result (out.new.items ≡ out.old.items ++ spec.begun_json tables.now begun.now) }
 {
-    push_word("{\"status\":", status_word(begun.status), out)?;
-    push(",\"locks\":", out)?;
-    push_locks(tables, begun.locks.as_slice(), out)?;
+    push_status("{\"status\":", begun.status, out)?;
+    push_locks(",\"locks\":", tables, &begun.locks, out)?;
     push("}", out)
 }
 
 fn push_locks(
-    tables: &[Left],
-    locks: &[(Resource, Mode)],
+    label: &str,
+    tables: &Items<Left>,
+    locks: &Items<(Resource, Mode)>,
     out: &mut Vec<u8>,
 ) -> Result<(), AllocError>
-    ensures { OnOk result (out.new.items ≡ out.old.items ++ array_json (lock_json tables.now) locks.now) }
+    ensures { OnOk result (out.new.items ≡ out.old.items ++ (label.now ++ array_json (lock_json tables.now) locks.now)) }
 {
-    push("[", out)?;
-    for (place, lock) in locks.iter().enumerate() {
+    push_word(label, "[", out)?;
+    for (place, lock) in locks.as_slice().iter().enumerate() {
         push_before(",", place, out)?;
         push_lock(tables, &lock.0, lock.1, out)?;
     }
     push("]", out)
 }
 
-fn push_tables(tables: &[Left], out: &mut Vec<u8>) -> Result<(), AllocError>
-    ensures { OnOk result (out.new.items ≡ out.old.items ++ array_json spec.left_json tables.now) }
+fn push_tables(label: &str, tables: &Items<Left>, out: &mut Vec<u8>) -> Result<(), AllocError>
+    ensures { OnOk result (out.new.items ≡ out.old.items ++ (label.now ++ array_json spec.left_json tables.now)) }
 {
-    push("[", out)?;
-    for (place, left) in tables.iter().enumerate() {
+    push_word(label, "[", out)?;
+    for (place, left) in tables.as_slice().iter().enumerate() {
         push_before(",", place, out)?;
         push_left(left, out)?;
     }
@@ -169,31 +172,37 @@ fn push_tables(tables: &[Left], out: &mut Vec<u8>) -> Result<(), AllocError>
 fn push_left(left: &Left, out: &mut Vec<u8>) -> Result<(), AllocError>
     ensures { OnOk result (out.new.items ≡ out.old.items ++ spec.left_json left.now) }
 {
-    push("{\"table\":", out)?;
-    push_string(left.table.name.as_str().as_bytes(), out)?;
-    push(",\"rows\":", out)?;
-    push_entries(left.rows.as_slice(), out)?;
+    push_name("{\"table\":", &left.table.name, out)?;
+    push_entries(",\"rows\":", &left.rows, out)?;
     push("}", out)
 }
 
-fn push_entries(entries: &[(Value, Row)], out: &mut Vec<u8>) -> Result<(), AllocError>
-    ensures { OnOk result (out.new.items ≡ out.old.items ++ array_json spec.entry_json entries.now) }
+fn push_entries(
+    label: &str,
+    entries: &Items<(Value, Row)>,
+    out: &mut Vec<u8>,
+) -> Result<(), AllocError>
+    ensures { OnOk result (out.new.items ≡ out.old.items ++ (label.now ++ array_json spec.entry_json entries.now)) }
 {
-    push("[", out)?;
-    for (place, entry) in entries.iter().enumerate() {
+    push_word(label, "[", out)?;
+    for (place, entry) in entries.as_slice().iter().enumerate() {
         push_before(",", place, out)?;
-        push_tuple(entry.1.values(), out)?;
+        push_tuple(&entry.1, out)?;
     }
     push("]", out)
 }
 
-/// Pushes how the sessions stand that have not ended.
-fn push_open(standings: &[Standing], out: &mut Vec<u8>) -> Result<(), AllocError>
-    ensures { OnOk result (out.new.items ≡ out.old.items ++ array_json spec.open_json (spec.open_from 0 standings.now)) }
+/// Pushes a label and how the sessions stand that have not ended.
+fn push_open(
+    label: &str,
+    standings: &Items<Standing>,
+    out: &mut Vec<u8>,
+) -> Result<(), AllocError>
+    ensures { OnOk result (out.new.items ≡ out.old.items ++ (label.now ++ array_json spec.open_json (spec.open_from 0 standings.now))) }
 {
-    push("[", out)?;
+    push_word(label, "[", out)?;
     let mut place = 0;
-    for (session, standing) in standings.iter().enumerate() {
+    for (session, standing) in standings.as_slice().iter().enumerate() {
         if let Some(word) = open_word(standing) {
             push_before(",", place, out)?;
             push_standing(session, word, out)?;

@@ -6,6 +6,7 @@ ghost use Rattle.json.specs.Print.{escape_byte, escape_letter as letter_of};
 ghost use Rattle.shown_values.specs.Strings as spec;
 
 use itoa::Buffer;
+use lock_modes::Text;
 use std::alloc::AllocError;
 
 /// Pushes a part to a text.
@@ -30,6 +31,13 @@ pub(crate) fn push_count(label: &str, number: u64, out: &mut Vec<u8>) -> Result<
     push_number(number, out)
 }
 
+/// Pushes a label and the number of a session or a step behind it.
+pub(crate) fn push_place(label: &str, place: u8, out: &mut Vec<u8>) -> Result<(), AllocError>
+    ensures { OnOk result (out.new.items ≡ out.old.items ++ (label.now ++ decimal place)) }
+{
+    push_count(label, u64::from(place), out)
+}
+
 /// Pushes a label and the word behind it.
 pub(crate) fn push_word(label: &str, word: &str, out: &mut Vec<u8>) -> Result<(), AllocError>
     ensures { OnOk result (out.new.items ≡ out.old.items ++ (label.now ++ word.now)) }
@@ -52,11 +60,18 @@ pub(crate) fn push_before(
     push(separator, out)
 }
 
-/// Pushes a text as a JSON string.
-pub(crate) fn push_string(text: &[u8], out: &mut Vec<u8>) -> Result<(), AllocError>
-    ensures { OnOk result (out.new.items ≡ out.old.items ++ spec.string_json text.now) }
+/// Pushes a label and a name behind it, as a JSON string.
+pub(crate) fn push_name(label: &str, name: &Text, out: &mut Vec<u8>) -> Result<(), AllocError>
+    ensures { OnOk result (out.new.items ≡ out.old.items ++ (label.now ++ spec.string_json name.now)) }
 {
-    push("\"", out)?;
+    push_string(label, name.as_str().as_bytes(), out)
+}
+
+/// Pushes a label and a text behind it, as a JSON string.
+pub(crate) fn push_string(label: &str, text: &[u8], out: &mut Vec<u8>) -> Result<(), AllocError>
+    ensures { OnOk result (out.new.items ≡ out.old.items ++ (label.now ++ spec.string_json text.now)) }
+{
+    push_word(label, "\"", out)?;
     push_escaped(text, out)?;
     push("\"", out)
 }

@@ -2,39 +2,41 @@
 
 ghost use Rattle.std.specs.Prelude.{◌≡◌, ◌++◌, OnOk, codes, get_or, [] as no_name};
 ghost use Rattle.std.specs.List.{join_by};
-ghost use Rattle.transcripts.specs.Text.{doubled, event_text, fault_text, quoted, value_text, warning_text};
+ghost use Rattle.transcripts.specs.Text.{doubled, event_text, fault_text, quoted, row_text, value_text, warning_text};
 ghost use Rattle.shown_values.specs.Words as spec;
 
 use crate::strings::{push, push_before, push_count, push_string, push_word};
 use itoa::Buffer;
 use line_moments::Left;
-use lock_modes::{Resource, Text, Value};
+use lock_modes::{Resource, Row, Text, Value};
+use sqlite_items::Items;
 use std::alloc::AllocError;
 use transcripts::{Event, Fault, Warning};
 
-/// Pushes what a lock is taken on as a JSON string.
+/// Pushes a label and what a lock is taken on behind it, as a JSON string.
 pub(crate) fn push_resource(
-    tables: &[Left],
+    label: &str,
+    tables: &Items<Left>,
     resource: &Resource,
     out: &mut Vec<u8>,
 ) -> Result<(), AllocError>
-    ensures { OnOk result (out.new.items ≡ out.old.items ++ spec.resource_json tables.now resource.now) }
+    ensures { OnOk result (out.new.items ≡ out.old.items ++ (label.now ++ spec.resource_json tables.now resource.now)) }
 {
     let mut text = Vec::new(*out.allocator());
-    push_place(tables, resource, &mut text)?;
-    push_string(text.as_slice(), out)
+    push_place_name(tables, resource, &mut text)?;
+    push_string(label, text.as_slice(), out)
 }
 
-/// Pushes the values of a row as a JSON string.
-pub(crate) fn push_tuple(values: &[Value], out: &mut Vec<u8>) -> Result<(), AllocError>
-    ensures { OnOk result (out.new.items ≡ out.old.items ++ spec.tuple_json values.now) }
+/// Pushes the values of a row, as a JSON string.
+pub(crate) fn push_tuple(row: &Row, out: &mut Vec<u8>) -> Result<(), AllocError>
+    ensures { OnOk result (out.new.items ≡ out.old.items ++ spec.tuple_json row.now) }
 {
     let mut text = Vec::new(*out.allocator());
-    push_values(values, &mut text)?;
-    push_string(text.as_slice(), out)
+    push_values(row.values(), &mut text)?;
+    push_string("", text.as_slice(), out)
 }
 
-/// Pushes the line of an event as a JSON string.
+/// Pushes the line of an event, as a JSON string.
 pub(crate) fn push_line(
     event: &Event,
     steps: &[Text],
@@ -44,12 +46,12 @@ pub(crate) fn push_line(
 {
     let mut text = Vec::new(*out.allocator());
     push_event(event, steps, &mut text)?;
-    push_string(text.as_slice(), out)
+    push_string("", text.as_slice(), out)
 }
 
 /// Pushes a table's name, of a row with its key in brackets behind it.
-fn push_place(
-    tables: &[Left],
+fn push_place_name(
+    tables: &Items<Left>,
     resource: &Resource,
     text: &mut Vec<u8>,
 ) -> Result<(), AllocError>
@@ -66,10 +68,10 @@ fn push_place(
 }
 
 /// The name of the table with this number.
-fn table_name(tables: &[Left], number: u16) -> &str
+fn table_name(tables: &Items<Left>, number: u16) -> &str
     ensures { result.now ≡ spec.table_text tables.now number }
 {
-    match tables.get(usize::from(number)) {
+    match tables.as_slice().get(usize::from(number)) {
         Some(left) => left.table.name.as_str(),
         None => "",
     }
@@ -121,7 +123,7 @@ fn push_event(event: &Event, steps: &[Text], text: &mut Vec<u8>) -> Result<(), A
 {
     match event {
         Event::Sent(step) => push_word("step ", step_name(steps, *step), text),
-        Event::Row(row) => push_row(row.values(), text),
+        Event::Row(row) => push_row(row, text),
         Event::Rows(count) => push_count("rows ", *count, text),
         Event::Inserted(count) => push_count("inserted ", *count, text),
         Event::Updated(count) => push_count("updated ", *count, text),
@@ -161,11 +163,11 @@ fn fault_words(fault: Fault) -> &'static str
     }
 }
 
-fn push_row(values: &[Value], text: &mut Vec<u8>) -> Result<(), AllocError>
-    ensures { OnOk result (text.new.items ≡ text.old.items ++ (codes "row " ++ join_by value_text (codes "|") values.now)) }
+fn push_row(row: &Row, text: &mut Vec<u8>) -> Result<(), AllocError>
+    ensures { OnOk result (text.new.items ≡ text.old.items ++ row_text row.now) }
 {
     push("row ", text)?;
-    push_values(values, text)
+    push_values(row.values(), text)
 }
 
 /// The name of the step with this number.

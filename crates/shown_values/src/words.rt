@@ -3,14 +3,57 @@
 ghost use Rattle.std.specs.Prelude.{◌≡◌, ◌++◌, OnOk};
 ghost use Rattle.shown_values.specs.Words as spec;
 
-use crate::strings::{push, push_number};
+use crate::strings::{push_place, push_word};
 use line_moments::Manner;
 use lock_modes::Mode;
 use machine_model::Status;
 use std::alloc::AllocError;
 
+/// Pushes a label and a mode behind it.
+pub(crate) fn push_mode(label: &str, mode: Mode, out: &mut Vec<u8>) -> Result<(), AllocError>
+    ensures { OnOk result (out.new.items ≡ out.old.items ++ (label.now ++ spec.mode_json mode)) }
+{
+    push_word(label, mode_word(mode), out)
+}
+
+/// Pushes a label behind which stands how a block stands.
+pub(crate) fn push_status(
+    label: &str,
+    status: Status,
+    out: &mut Vec<u8>,
+) -> Result<(), AllocError>
+    ensures { OnOk result (out.new.items ≡ out.old.items ++ (label.now ++ spec.status_json status)) }
+{
+    push_word(label, status_word(status), out)
+}
+
+/// Pushes a label behind which stands why a session goes.
+pub(crate) fn push_manner(
+    label: &str,
+    manner: Manner,
+    out: &mut Vec<u8>,
+) -> Result<(), AllocError>
+    ensures { OnOk result (out.new.items ≡ out.old.items ++ (label.now ++ spec.manner_json manner)) }
+{
+    push_word(label, manner_word(manner), out)
+}
+
+/// Pushes a label and the number of a step behind it, or null where there is none.
+pub(crate) fn push_step_number(
+    label: &str,
+    step: Option<u8>,
+    out: &mut Vec<u8>,
+) -> Result<(), AllocError>
+    ensures { OnOk result (out.new.items ≡ out.old.items ++ (label.now ++ spec.number_json step)) }
+{
+    match step {
+        None => push_word(label, "null", out),
+        Some(number) => push_place(label, number, out),
+    }
+}
+
 /// A mode as a JSON string.
-pub(crate) fn mode_word(mode: Mode) -> &'static str
+fn mode_word(mode: Mode) -> &'static str
     ensures { result.now ≡ spec.mode_json mode }
 {
     match mode {
@@ -23,7 +66,7 @@ pub(crate) fn mode_word(mode: Mode) -> &'static str
 }
 
 /// How a block stands as a JSON string.
-pub(crate) fn status_word(status: Status) -> &'static str
+fn status_word(status: Status) -> &'static str
     ensures { result.now ≡ spec.status_json status }
 {
     match status {
@@ -34,22 +77,12 @@ pub(crate) fn status_word(status: Status) -> &'static str
 }
 
 /// Why a session goes, as a JSON string.
-pub(crate) fn manner_word(manner: Manner) -> &'static str
+fn manner_word(manner: Manner) -> &'static str
     ensures { result.now ≡ spec.manner_json manner }
 {
     match manner {
         Manner::IsSent => "\"sent\"",
         Manner::IsResumed => "\"resumed\"",
         Manner::IsNotSent => "\"notsent\"",
-    }
-}
-
-/// Pushes a step's number, or null where there is none.
-pub(crate) fn push_step_number(step: Option<u8>, out: &mut Vec<u8>) -> Result<(), AllocError>
-    ensures { OnOk result (out.new.items ≡ out.old.items ++ spec.number_json step) }
-{
-    match step {
-        None => push("null", out),
-        Some(number) => push_number(u64::from(number), out),
     }
 }

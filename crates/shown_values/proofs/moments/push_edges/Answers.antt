@@ -6,4 +6,5 @@ use Rattle.shown_values.proofs.moments.push_edges.Goals as goal
 -- an edge is pushed
 pub loop-place-preserved : goal.loop-place-preserved
 loop-place-preserved c =
-    joined-at edge_json (codes ",") _ _ _ _ _ _ _ c.loop-place-test.true c.loop-place.invariant c.in_ok-push_before.ensures c.in_ok-push_edge.ensures
+    joined-at edge_json (codes ",") _ _ _ _ _ _ _ c.loop-place-test.true c.loop-place.invariant
+    c.in_ok-push_before.ensures c.in_ok-push_edge.ensures

@@ -5,4 +5,4 @@ use Rattle.shown_values.proofs.moments.push_edges.Given as goal
 
 -- the first edges are pushed
 abbrev pub invariant-loop-place : goal.invariant-loop-place
-invariant-loop-place l = l.out.items ≡ l.fn.out.items ++ codes "[" ++ join_by edge_json (codes ",") (take l.place l.edges)
+invariant-loop-place l = l.out.items ≡ l.fn.out.items ++ (l.label ++ codes "[") ++ join_by edge_json (codes ",") (take l.place l.edges)

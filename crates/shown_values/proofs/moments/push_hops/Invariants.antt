@@ -5,4 +5,4 @@ use Rattle.shown_values.proofs.moments.push_hops.Given as goal
 
 -- the first edges of the ring are pushed
 abbrev pub invariant-loop-place : goal.invariant-loop-place
-invariant-loop-place l = l.out.items ≡ l.fn.out.items ++ codes "[" ++ join_by (hop_json l.tables) (codes ",") (take l.place l.hops)
+invariant-loop-place l = l.out.items ≡ l.fn.out.items ++ (l.label ++ codes "[") ++ join_by (hop_json l.tables) (codes ",") (take l.place l.hop-items)

@@ -5,4 +5,4 @@ use Rattle.shown_values.proofs.moments.push_stills.Given as goal
 
 -- the first sessions are pushed
 abbrev pub invariant-loop-place : goal.invariant-loop-place
-invariant-loop-place l = l.out.items ≡ l.fn.out.items ++ codes "[" ++ join_by still_json (codes ",") (take l.place l.stills)
+invariant-loop-place l = l.out.items ≡ l.fn.out.items ++ (l.label ++ codes "[") ++ join_by still_json (codes ",") (take l.place l.still-items)

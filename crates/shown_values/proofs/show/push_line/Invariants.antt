@@ -4,4 +4,4 @@ use Rattle.shown_values.proofs.show.push_line.Given as goal
 
 -- the first steps are pushed
 abbrev pub invariant-loop-place : goal.invariant-loop-place
-invariant-loop-place l = l.out.items ≡ l.fn.out.items ++ codes "[" ++ join_by decimal (codes ",") (take l.place l.line)
+invariant-loop-place l = l.out.items ≡ l.fn.out.items ++ (l.label ++ codes "[") ++ join_by decimal (codes ",") (take l.place l.line)

@@ -5,4 +5,4 @@ use Rattle.shown_values.proofs.show.push_locks.Given as goal
 
 -- the first locks are pushed
 abbrev pub invariant-loop-place : goal.invariant-loop-place
-invariant-loop-place l = l.out.items ≡ l.fn.out.items ++ codes "[" ++ join_by (lock_json l.tables) (codes ",") (take l.place l.locks)
+invariant-loop-place l = l.out.items ≡ l.fn.out.items ++ (l.label ++ codes "[") ++ join_by (lock_json l.tables) (codes ",") (take l.place l.lock-items)

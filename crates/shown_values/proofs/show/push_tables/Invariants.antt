@@ -5,4 +5,4 @@ use Rattle.shown_values.proofs.show.push_tables.Given as goal
 
 -- the first tables are pushed
 abbrev pub invariant-loop-place : goal.invariant-loop-place
-invariant-loop-place l = l.out.items ≡ l.fn.out.items ++ codes "[" ++ join_by left_json (codes ",") (take l.place l.tables)
+invariant-loop-place l = l.out.items ≡ l.fn.out.items ++ (l.label ++ codes "[") ++ join_by left_json (codes ",") (take l.place l.left-items)
