@@ -1,11 +1,11 @@
 -- Items joined one by one.
-use Rattle.std.specs.Prelude.{◌≡◌, ℕ, zero, suc, ◌+◌, ◌<◌, List, [], ◌∷◌, ◌++◌, length, get_or, take, flat_map}
+use Rattle.std.specs.Prelude.{◌≡◌, ℕ, zero, suc, ◌+◌, ◌<◌, ◌≤◌, List, [], ◌∷◌, ◌++◌, codes, length, get_or, take, flat_map, Result, Ok, Err, OnOk}
 use Rattle.std.proofs.Common.{sym, ◌∙◌, ap, arith, add-one, append_assoc, append-nil}
 use Rattle.std.proofs.Math.Seq.{take-suc}
 use Rattle.std.proofs.lemmas.Grind.{flat_map-append}
-use Rattle.std.proofs.lemmas.List.{get_or_default}
+use Rattle.std.proofs.lemmas.List.{get_or_default, take_all}
 use Rattle.std.specs.List.{join_by}
-use Rattle.shown_values.specs.Strings.{before_item}
+use Rattle.shown_values.specs.Strings.{array_json, before_item}
 
 -- one more of the pieces
 pub pieces-next : {X : Type 0} (f : X → List ℕ) (xs : List X) (i : ℕ) (x : X) → i < length xs → x ≡ get_or xs i x
@@ -35,3 +35,12 @@ pub joined-at : {X : Type 0} (f : X → List ℕ) (separator : List ℕ) (xs : L
     → new ≡ start ++ join_by f separator (take (i + 1) xs)
 joined-at f separator xs i d start out parted new below so-far before pushed =
     joined-next f separator xs i (get_or xs i d) start out parted new below (get_or_default xs i d (get_or xs i d) below) so-far before pushed
+
+-- all items, and what closes an array, if there is room
+pub joined-all : {X : Type 0} {A E : Type 0} (r : Result A E) (f : X → List ℕ) (xs : List X) (i : ℕ) (old label out new : List ℕ) → length xs ≤ i
+    → out ≡ old ++ (label ++ codes "[") ++ join_by f (codes ",") (take i xs) → OnOk r (new ≡ out ++ codes "]")
+    → OnOk r (new ≡ old ++ (label ++ array_json f xs))
+joined-all (Ok _) f xs i old label out new past so-far close =
+    let whole = take_all i xs past in
+    rw (close, so-far, whole) (simp append_assoc)
+joined-all (Err _) f xs i old label out new past so-far close = close

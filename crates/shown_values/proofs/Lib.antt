@@ -1,2 +1,4 @@
+pub mod Pushing
 pub mod Joining
 pub mod Escaping
+pub mod Opening

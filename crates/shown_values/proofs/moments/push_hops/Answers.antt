@@ -6,5 +6,5 @@ use Rattle.shown_values.proofs.moments.push_hops.Goals as goal
 -- an edge is pushed
 pub loop-place-preserved : goal.loop-place-preserved
 loop-place-preserved c =
-    joined-next (hop_json c.args.tables.now) (codes ",") _ _ _ _ _ _ _ c.loop-place-test.true c.index-as_slice-hop-items-place.is c.loop-place.invariant
+    joined-next (hop_json c.args.tables.now) (codes ",") _ _ _ _ _ _ _ c.loop-place-test.true c.hop-item.is c.loop-place.invariant
     c.in_ok-push_before.ensures c.in_ok-push_hop.ensures

@@ -6,5 +6,5 @@ use Rattle.shown_values.proofs.moments.push_moments.Goals as goal
 -- a moment is pushed
 pub loop-place-preserved : goal.loop-place-preserved
 loop-place-preserved c =
-    joined-next (moment_json c.args.tables.now c.args.steps.now) (codes ",") _ _ _ _ _ _ _ c.loop-place-test.true c.index-as_slice-moment-items-place.is c.loop-place.invariant
+    joined-next (moment_json c.args.tables.now c.args.steps.now) (codes ",") _ _ _ _ _ _ _ c.loop-place-test.true c.moment-item.is c.loop-place.invariant
     c.in_ok-push_before.ensures c.in_ok-push_moment.ensures

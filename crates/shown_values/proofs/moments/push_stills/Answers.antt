@@ -6,5 +6,5 @@ use Rattle.shown_values.proofs.moments.push_stills.Goals as goal
 -- a session is pushed
 pub loop-place-preserved : goal.loop-place-preserved
 loop-place-preserved c =
-    joined-next still_json (codes ",") _ _ _ _ _ _ _ c.loop-place-test.true c.index-as_slice-still-items-place.is c.loop-place.invariant
+    joined-next still_json (codes ",") _ _ _ _ _ _ _ c.loop-place-test.true c.still-item.is c.loop-place.invariant
     c.in_ok-push_before.ensures c.in_ok-push_still.ensures

@@ -6,5 +6,5 @@ use Rattle.shown_values.proofs.show.push_locks.Goals as goal
 -- a lock is pushed
 pub loop-place-preserved : goal.loop-place-preserved
 loop-place-preserved c =
-    joined-next (lock_json c.args.tables.now) (codes ",") _ _ _ _ _ _ _ c.loop-place-test.true c.index-as_slice-lock-items-place.is c.loop-place.invariant
+    joined-next (lock_json c.args.tables.now) (codes ",") _ _ _ _ _ _ _ c.loop-place-test.true c.lock-item.is c.loop-place.invariant
     c.in_ok-push_before.ensures c.in_ok-push_lock.ensures

@@ -6,5 +6,5 @@ use Rattle.shown_values.proofs.show.push_tables.Goals as goal
 -- a table is pushed
 pub loop-place-preserved : goal.loop-place-preserved
 loop-place-preserved c =
-    joined-next left_json (codes ",") _ _ _ _ _ _ _ c.loop-place-test.true c.index-as_slice-left-items-place.is c.loop-place.invariant
+    joined-next left_json (codes ",") _ _ _ _ _ _ _ c.loop-place-test.true c.left-item.is c.loop-place.invariant
     c.in_ok-push_before.ensures c.in_ok-push_left.ensures
