@@ -36,7 +36,7 @@ pub none-next : (xs : List Standing) (i : ℕ) (x : Standing) (place : ℕ) (sta
     → i < length xs → x ≡ get_or xs i x → open_of i x ≡ [] → ArePushed place start out i xs → ArePushed place start out (i + 1) xs
 none-next xs i x place start out below is none before =
     let same : open_from 0 (take (i + 1) xs) ≡ open_from 0 (take i xs) =
-        rw add-one (open-next 0 xs i x i (omega arith) below is ∙ ap (λ last. open_from 0 (take i xs) ++ last) none ∙ append-nil _) in
+    rw add-one (open-next 0 xs i x i (omega arith) below is ∙ ap (λ last. open_from 0 (take i xs) ++ last) none ∙ append-nil _) in
     record { within = omega (arith, before.within); count = rw same before.count; pushed = rw same before.pushed }
 
 -- one that has not
@@ -46,10 +46,10 @@ pub some-next : (xs : List Standing) (i : ℕ) (x : Standing) (word : List ℕ) 
     → ArePushed place start out i xs → ArePushed (place + 1) start new (i + 1) xs
 some-next xs i x word place start out parted new below is one part push before =
     let more : open_from 0 (take (i + 1) xs) ≡ open_from 0 (take i xs) ++ (i, word) ∷ [] =
-        rw add-one (open-next 0 xs i x i (omega arith) below is ∙ ap (λ last. open_from 0 (take i xs) ++ last) one) in
+    rw add-one (open-next 0 xs i x i (omega arith) below is ∙ ap (λ last. open_from 0 (take i xs) ++ last) one) in
     record {
       within = omega (arith, before.within);
       count = rw more (ap (λ n. n + 1) before.count ∙ sym (length-append _ _));
       pushed =
-        rw (more, join-snoc open_json (codes ",") (open_from 0 (take i xs)) (i, word), ← before.count, push, part, before.pushed) (simp append_assoc);
+          rw (more, join-snoc open_json (codes ",") (open_from 0 (take i xs)) (i, word), ← before.count, push, part, before.pushed) (simp append_assoc);
     }

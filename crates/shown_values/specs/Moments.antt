@@ -33,12 +33,12 @@ has_json (Some mode) asked = (codes ",\"has\":" ++ mode_json mode) ++ (codes ",\
 abbrev pub want_json : List Left → Want → List ℕ
 want_json tables want =
     (codes "{\"on\":" ++ resource_json tables want.resource) ++ (codes ",\"wants\":" ++ mode_json want.mode)
-        ++ has_json want.has want.asked ++ (codes ",\"for\":" ++ array_json edge_json want.edges) ++ codes "}"
+    ++ has_json want.has want.asked ++ (codes ",\"for\":" ++ array_json edge_json want.edges) ++ codes "}"
 
 abbrev pub hop_json : List Left → Hop → List ℕ
 hop_json tables hop =
     codes "[" ++ decimal hop.session ++ codes "," ++ mode_json hop.mode ++ codes "," ++ resource_json tables hop.resource
-        ++ codes "," ++ edge_json hop.edge ++ codes "]"
+    ++ codes "," ++ edge_json hop.edge ++ codes "]"
 
 abbrev pub lock_json : List Left → Resource × Mode → List ℕ
 lock_json tables lock = codes "[" ++ resource_json tables lock.0 ++ codes "," ++ mode_json lock.1 ++ codes "]"
@@ -61,15 +61,15 @@ ending_json tables (Lacks want) = codes ",\"lacks\":" ++ want_json tables want
 abbrev pub going_json : Moment → List ℕ
 going_json moment =
     (codes "{\"session\":" ++ decimal moment.session) ++ (codes ",\"kind\":" ++ manner_json moment.manner)
-        ++ (codes ",\"step\":" ++ number_json moment.step)
+    ++ (codes ",\"step\":" ++ number_json moment.step)
 
 -- how it ends
 abbrev pub end_json : List Left → Moment → List ℕ
 end_json tables moment =
     (codes ",\"status\":" ++ status_json moment.status) ++ ending_json tables moment.ending
-        ++ (codes ",\"still\":" ++ array_json still_json moment.still) ++ codes "}"
+    ++ (codes ",\"still\":" ++ array_json still_json moment.still) ++ codes "}"
 
 abbrev pub moment_json : List Left → List (List ℕ) → Moment → List ℕ
 moment_json tables steps moment =
     going_json moment ++ (codes ",\"told\":" ++ array_json (line_json steps) (told moment.events))
-        ++ (codes ",\"locks\":" ++ array_json (change_json tables) moment.changes) ++ end_json tables moment
+    ++ (codes ",\"locks\":" ++ array_json (change_json tables) moment.changes) ++ end_json tables moment

@@ -47,21 +47,21 @@ open_json pair = codes "[" ++ decimal pair.0 ++ codes "," ++ pair.1 ++ codes "]"
 abbrev pub order_json : Page → List ℕ
 order_json page =
     (codes "{\"format\":1,\"name\":" ++ string_json page.name.now) ++ (codes ",\"rank\":" ++ decimal page.rank)
-        ++ (codes ",\"orders\":" ++ decimal page.orders)
+    ++ (codes ",\"orders\":" ++ decimal page.orders)
 
 -- what its numbers stand for
 abbrev pub numbers_json : Page → List ℕ
 numbers_json page =
     (codes ",\"sessions\":" ++ array_json string_json page.session_names.now)
-        ++ (codes ",\"steps\":" ++ array_json step_json (zip page.step_names.now (zip page.step_sessions.now page.statements.now)))
-        ++ (codes ",\"order\":" ++ array_json decimal page.line.now)
+    ++ (codes ",\"steps\":" ++ array_json step_json (zip page.step_names.now (zip page.step_sessions.now page.statements.now)))
+    ++ (codes ",\"order\":" ++ array_json decimal page.line.now)
 
 -- what is shown of it, with the names of the steps
 abbrev pub shown_json : List (List ℕ) → Shown → List ℕ
 shown_json steps shown =
     (codes ",\"begun\":" ++ array_json (begun_json shown.first) shown.begun) ++ (codes ",\"first\":" ++ array_json left_json shown.first)
-        ++ (codes ",\"moments\":" ++ array_json (moment_json shown.first steps) shown.moments)
-        ++ (codes ",\"left\":" ++ array_json left_json shown.left) ++ (codes ",\"open\":" ++ array_json open_json (open_from 0 shown.standings))
+    ++ (codes ",\"moments\":" ++ array_json (moment_json shown.first steps) shown.moments)
+    ++ (codes ",\"left\":" ++ array_json left_json shown.left) ++ (codes ",\"open\":" ++ array_json open_json (open_from 0 shown.standings))
 
 abbrev pub page_json : Page → List ℕ
 page_json page = order_json page ++ numbers_json page ++ shown_json page.step_names.now page.shown.now ++ codes "}\n"

@@ -57,11 +57,7 @@ fn push_going(moment: &Moment, out: &mut Vec<u8>) -> Result<(), AllocError>
 }
 
 /// Pushes what a session is told, as a member.
-fn push_told(
-    steps: &[Text],
-    transcript: &Transcript,
-    out: &mut Vec<u8>,
-) -> Result<(), AllocError>
+fn push_told(steps: &[Text], transcript: &Transcript, out: &mut Vec<u8>) -> Result<(), AllocError>
     ensures { OnOk result (out.new.items
         ≡ out.old.items ++ (codes ",\"told\":" ++ array_json (line_json steps.now) (told transcript.now))) }
 {
@@ -120,11 +116,7 @@ fn push_changes(
     push("]", out)
 }
 
-fn push_change(
-    tables: &Items<Left>,
-    change: &Change,
-    out: &mut Vec<u8>,
-) -> Result<(), AllocError>
+fn push_change(tables: &Items<Left>, change: &Change, out: &mut Vec<u8>) -> Result<(), AllocError>
     ensures { OnOk result (out.new.items ≡ out.old.items ++ spec.change_json tables.now change.now) }
 {
     match change {
@@ -148,11 +140,7 @@ pub(crate) fn push_lock(
 }
 
 /// Pushes what is told of a wait, a deadlock or a lack, as a member.
-fn push_ending(
-    tables: &Items<Left>,
-    ending: &Ending,
-    out: &mut Vec<u8>,
-) -> Result<(), AllocError>
+fn push_ending(tables: &Items<Left>, ending: &Ending, out: &mut Vec<u8>) -> Result<(), AllocError>
     ensures { OnOk result (out.new.items ≡ out.old.items ++ spec.ending_json tables.now ending.now) }
 {
     match ending {

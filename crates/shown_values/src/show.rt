@@ -193,11 +193,7 @@ fn push_entries(
 }
 
 /// Pushes a label and how the sessions stand that have not ended.
-fn push_open(
-    label: &str,
-    standings: &Items<Standing>,
-    out: &mut Vec<u8>,
-) -> Result<(), AllocError>
+fn push_open(label: &str, standings: &Items<Standing>, out: &mut Vec<u8>) -> Result<(), AllocError>
     ensures { OnOk result (out.new.items ≡ out.old.items ++ (label.now ++ array_json spec.open_json (spec.open_from 0 standings.now))) }
 {
     push_word(label, "[", out)?;

@@ -37,11 +37,7 @@ pub(crate) fn push_tuple(row: &Row, out: &mut Vec<u8>) -> Result<(), AllocError>
 }
 
 /// Pushes the line of an event, as a JSON string.
-pub(crate) fn push_line(
-    event: &Event,
-    steps: &[Text],
-    out: &mut Vec<u8>,
-) -> Result<(), AllocError>
+pub(crate) fn push_line(event: &Event, steps: &[Text], out: &mut Vec<u8>) -> Result<(), AllocError>
     ensures { OnOk result (out.new.items ≡ out.old.items ++ spec.line_json steps.now event.now) }
 {
     let mut text = Vec::new(*out.allocator());

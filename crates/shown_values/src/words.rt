@@ -17,22 +17,14 @@ pub(crate) fn push_mode(label: &str, mode: Mode, out: &mut Vec<u8>) -> Result<()
 }
 
 /// Pushes a label behind which stands how a block stands.
-pub(crate) fn push_status(
-    label: &str,
-    status: Status,
-    out: &mut Vec<u8>,
-) -> Result<(), AllocError>
+pub(crate) fn push_status(label: &str, status: Status, out: &mut Vec<u8>) -> Result<(), AllocError>
     ensures { OnOk result (out.new.items ≡ out.old.items ++ (label.now ++ spec.status_json status)) }
 {
     push_word(label, status_word(status), out)
 }
 
 /// Pushes a label behind which stands why a session goes.
-pub(crate) fn push_manner(
-    label: &str,
-    manner: Manner,
-    out: &mut Vec<u8>,
-) -> Result<(), AllocError>
+pub(crate) fn push_manner(label: &str, manner: Manner, out: &mut Vec<u8>) -> Result<(), AllocError>
     ensures { OnOk result (out.new.items ≡ out.old.items ++ (label.now ++ spec.manner_json manner)) }
 {
     push_word(label, manner_word(manner), out)

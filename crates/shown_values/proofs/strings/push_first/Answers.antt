@@ -1,6 +1,6 @@
 use Rattle.std.specs.Prelude.{◌≡◌, ℕ, List, ◌++◌}
 use Rattle.std.proofs.Common.{◌∙◌, sym, ap, append_assoc, arith}
-use Rattle.shown_values.specs.Strings.{byte_text, separator_text}
+use Rattle.shown_values.specs.Strings.{byte_text}
 use Rattle.shown_values.proofs.Escaping.{byte-first, few-first, separator-first}
 use Rattle.shown_values.proofs.strings.push_first.Goals as goal
 
