@@ -2,3 +2,4 @@ pub mod Pushing
 pub mod Joining
 pub mod Escaping
 pub mod Opening
+mod Worked

@@ -43,18 +43,44 @@ open_from session (standing ∷ standings) = open_of session standing ++ open_fr
 abbrev pub open_json : ℕ × List ℕ → List ℕ
 open_json pair = codes "[" ++ decimal pair.0 ++ codes "," ++ pair.1 ++ codes "]"
 
+-- what is told of an order: by the numbers of sessions and steps their names, and of each step its session and its statements
+pub record Sheet : Type 0 where
+  pub name : List ℕ
+  pub rank : ℕ
+  pub orders : ℕ
+  pub session_names : List (List ℕ)
+  pub step_names : List (List ℕ)
+  pub step_sessions : List ℕ
+  pub statements : List (List ℕ)
+  pub line : List ℕ
+  pub shown : Shown
+
+abbrev pub sheet_of : Page → Sheet
+sheet_of page =
+    record {
+      name = page.name.now;
+      rank = page.rank;
+      orders = page.orders;
+      session_names = page.session_names.now;
+      step_names = page.step_names.now;
+      step_sessions = page.step_sessions.now;
+      statements = page.statements.now;
+      line = page.line.now;
+      shown = page.shown.now;
+    }
+
 -- what the order is
-abbrev pub order_json : Page → List ℕ
-order_json page =
-    (codes "{\"format\":1,\"name\":" ++ string_json page.name.now) ++ (codes ",\"rank\":" ++ decimal page.rank)
-    ++ (codes ",\"orders\":" ++ decimal page.orders)
+abbrev pub order_json : Sheet → List ℕ
+order_json sheet =
+    (codes "{\"format\":1,\"name\":" ++ string_json sheet.name) ++ (codes ",\"rank\":" ++ decimal sheet.rank)
+    ++ (codes ",\"orders\":" ++ decimal sheet.orders)
 
 -- what its numbers stand for
-abbrev pub numbers_json : Page → List ℕ
-numbers_json page =
-    (codes ",\"sessions\":" ++ array_json string_json page.session_names.now)
-    ++ (codes ",\"steps\":" ++ array_json step_json (zip page.step_names.now (zip page.step_sessions.now page.statements.now)))
-    ++ (codes ",\"order\":" ++ array_json decimal page.line.now)
+abbrev pub numbers_json : Sheet → List ℕ
+numbers_json sheet =
+    (codes ",\"sessions\":" ++ array_json string_json sheet.session_names)
+    ++ (codes ",\"steps\":" ++ array_json step_json (zip sheet.step_names (zip sheet.step_sessions sheet.statements)))
+    ++ (codes ",\"order\":" ++ array_json decimal sheet.line)
 
 -- what is shown of it, with the names of the steps
 abbrev pub shown_json : List (List ℕ) → Shown → List ℕ
@@ -63,5 +89,5 @@ shown_json steps shown =
     ++ (codes ",\"moments\":" ++ array_json (moment_json shown.first steps) shown.moments)
     ++ (codes ",\"left\":" ++ array_json left_json shown.left) ++ (codes ",\"open\":" ++ array_json open_json (open_from 0 shown.standings))
 
-abbrev pub page_json : Page → List ℕ
-page_json page = order_json page ++ numbers_json page ++ shown_json page.step_names.now page.shown.now ++ codes "}\n"
+abbrev pub page_json : Sheet → List ℕ
+page_json sheet = order_json sheet ++ numbers_json sheet ++ shown_json sheet.step_names sheet.shown ++ codes "}\n"

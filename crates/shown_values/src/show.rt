@@ -19,7 +19,7 @@ use std::alloc::{AllocError, Global};
 
 /// The JSON of an order: one object without spaces, and a line feed. It fails for want of memory alone.
 pub fn show_json(alloc: Global, page: &Page<'_>) -> Result<Vec<u8>, AllocError>
-    ensures { IfOk result (λ text. text.items ≡ spec.page_json page.now) }
+    ensures { IfOk result (λ text. text.items ≡ spec.page_json (spec.sheet_of page.now)) }
 {
     let mut out = Vec::new(alloc);
     push_order(page, &mut out)?;
@@ -31,7 +31,7 @@ pub fn show_json(alloc: Global, page: &Page<'_>) -> Result<Vec<u8>, AllocError>
 
 /// Pushes what the order is.
 fn push_order(page: &Page<'_>, out: &mut Vec<u8>) -> Result<(), AllocError>
-    ensures { OnOk result (out.new.items ≡ out.old.items ++ spec.order_json page.now) }
+    ensures { OnOk result (out.new.items ≡ out.old.items ++ spec.order_json (spec.sheet_of page.now)) }
 {
     push_string("{\"format\":1,\"name\":", page.name.as_bytes(), out)?;
     push_count(",\"rank\":", page.rank, out)?;
@@ -40,7 +40,7 @@ fn push_order(page: &Page<'_>, out: &mut Vec<u8>) -> Result<(), AllocError>
 
 /// Pushes what its numbers stand for.
 fn push_numbers(page: &Page<'_>, out: &mut Vec<u8>) -> Result<(), AllocError>
-    ensures { OnOk result (out.new.items ≡ out.old.items ++ spec.numbers_json page.now) }
+    ensures { OnOk result (out.new.items ≡ out.old.items ++ spec.numbers_json (spec.sheet_of page.now)) }
 {
     push_names(",\"sessions\":", page.session_names, out)?;
     push_steps(
