@@ -2,4 +2,5 @@ pub mod Pushing
 pub mod Joining
 pub mod Escaping
 pub mod Opening
+pub mod Markup
 mod Worked

@@ -28,7 +28,9 @@ join-snoc : {X : Type 0} (f : X → List ℕ) (separator : List ℕ) (xs : List 
     → join_by f separator (xs ++ x ∷ []) ≡ join_by f separator xs ++ (before_item separator (length xs) ++ f x)
 join-snoc f separator [] x = append-nil (f x)
 join-snoc f separator (y ∷ ys) x =
-    ap (λ others. f y ++ others) (flat_map-append (λ z. separator ++ f z) ys (x ∷ []) ∙ ap (λ last. flat_map (λ z. separator ++ f z) ys ++ last) (append-nil (separator ++ f x)))
+    let piece = λ (z : _). separator ++ f z in
+    let others = flat_map-append piece ys (x ∷ []) ∙ ap (λ last. flat_map piece ys ++ last) (append-nil (piece x)) in
+    ap (λ pieces. f y ++ pieces) others
     ∙ sym (append_assoc (f y) _ _)
 
 -- a session that has ended

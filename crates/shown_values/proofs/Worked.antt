@@ -1,10 +1,12 @@
 -- Small texts, moments and pages, computed.
-use Rattle.std.specs.Prelude.{◌≡◌, refl, [], ◌∷◌, ◌++◌, Some, None, codes, pos}
+use Rattle.std.specs.Prelude.{◌≡◌, refl, ℕ, [], ◌∷◌, ◌++◌, Some, None, codes, pos}
 use Rattle.std.specs.Fmt.{digits}
 use Rattle.json.specs.Print.{escape_byte}
+use Rattle.lock_modes.specs.declared.mode.Mode.{Mode}
 use Rattle.lock_modes.specs.declared.mode.Mode.TheVariants.{IntentShare, IntentExclusive, Share, ShareIntent, Exclusive}
 use Rattle.lock_modes.specs.declared.resource.Resource.TheVariants.{Table as TableOf, Row as RowOf}
 use Rattle.lock_modes.specs.declared.value.Value.TheVariants.{Int, Text}
+use Rattle.lock_queues.specs.declared.reason.Edge.{Edge}
 use Rattle.lock_queues.specs.declared.reason.Reason.TheVariants.{Holds, Ahead}
 use Rattle.machine_model.specs.declared.status.Status.TheVariants.{Outside, InBlock, Broken}
 use Rattle.transcripts.specs.declared.event.Event.TheVariants.{Sent, Failed, Done, NotSent}
@@ -45,6 +47,12 @@ rows : left_json accounts ≡ codes "{\"table\":\"t\",\"rows\":[\"1|'it''s'\",\"
 unfolding digits escaped escape_byte
 rows = refl
 
+abbrev holds : ℕ → Mode → Edge
+holds session mode = record { session = session; reason = Holds mode }
+
+abbrev is_ahead : ℕ → Mode → Edge
+is_ahead session mode = record { session = session; reason = Ahead mode }
+
 -- the victim of a deadlock is told the ring, and lets go what it has
 loses : moment_json (accounts ∷ []) []
     (record {
@@ -56,12 +64,13 @@ loses : moment_json (accounts ∷ []) []
       status = Broken;
       ending =
           Loses (
-          record { session = 1; resource = RowOf 0 (Int (pos 1)); mode = Exclusive; edge = record { session = 0; reason = Holds Exclusive } } ∷
-          record { session = 0; resource = RowOf 0 (Int (pos 2)); mode = Exclusive; edge = record { session = 1; reason = Holds Exclusive } } ∷ []
+          record { session = 1; resource = RowOf 0 (Int (pos 1)); mode = Exclusive; edge = holds 0 Exclusive } ∷
+          record { session = 0; resource = RowOf 0 (Int (pos 2)); mode = Exclusive; edge = holds 1 Exclusive } ∷ []
           );
       still = [];
     })
-    ≡ codes "{\"session\":1,\"kind\":\"sent\",\"step\":4,\"told\":[\"error: deadlock\",\"done\"],\"locks\":[[\"t\",\"IX\"],null],\"status\":\"failed\",\"ring\":[[1,\"X\",\"t[1]\",[0,\"holds\",\"X\"]],[0,\"X\",\"t[2]\",[1,\"holds\",\"X\"]]],\"still\":[]}"
+    ≡ codes "{\"session\":1,\"kind\":\"sent\",\"step\":4,\"told\":[\"error: deadlock\",\"done\"],\"locks\":[[\"t\",\"IX\"],null],"
+    ++ codes "\"status\":\"failed\",\"ring\":[[1,\"X\",\"t[1]\",[0,\"holds\",\"X\"]],[0,\"X\",\"t[2]\",[1,\"holds\",\"X\"]]],\"still\":[]}"
 unfolding digits escaped escape_byte
 loses = refl
 
@@ -75,16 +84,17 @@ not_sent : moment_json (accounts ∷ []) (codes "a1" ∷ codes "b2" ∷ [])
       changes = [];
       status = InBlock;
       ending =
-          Awaits (record { resource = RowOf 0 (Text (codes "ada")); mode = Exclusive; asked = Exclusive; has = None; edges = record { session = 0; reason = Holds Exclusive } ∷ [] });
-      still = record { session = 2; edges = record { session = 1; reason = Ahead Exclusive } ∷ [] } ∷ [];
+          Awaits (record { resource = RowOf 0 (Text (codes "ada")); mode = Exclusive; asked = Exclusive; has = None; edges = holds 0 Exclusive ∷ [] });
+      still = record { session = 2; edges = is_ahead 1 Exclusive ∷ [] } ∷ [];
     })
-    ≡ codes "{\"session\":1,\"kind\":\"notsent\",\"step\":1,\"told\":[\"not sent b2\"],\"locks\":[],\"status\":\"in\",\"want\":{\"on\":\"t['ada']\",\"wants\":\"X\",\"for\":[[0,\"holds\",\"X\"]]},\"still\":[[2,[[1,\"ahead\",\"X\"]]]]}"
+    ≡ codes "{\"session\":1,\"kind\":\"notsent\",\"step\":1,\"told\":[\"not sent b2\"],\"locks\":[],\"status\":\"in\","
+    ++ codes "\"want\":{\"on\":\"t['ada']\",\"wants\":\"X\",\"for\":[[0,\"holds\",\"X\"]]},\"still\":[[2,[[1,\"ahead\",\"X\"]]]]}"
 unfolding digits escaped escape_byte
 not_sent = refl
 
 -- a conversion, which a request that refuses to wait cannot have
 lacks : want_json (accounts ∷ [])
-    (record { resource = TableOf 0; mode = ShareIntent; asked = IntentExclusive; has = Some Share; edges = record { session = 0; reason = Holds IntentShare } ∷ [] })
+    (record { resource = TableOf 0; mode = ShareIntent; asked = IntentExclusive; has = Some Share; edges = holds 0 IntentShare ∷ [] })
     ≡ codes "{\"on\":\"t\",\"wants\":\"SIX\",\"has\":\"S\",\"asks\":\"IX\",\"for\":[[0,\"holds\",\"IS\"]]}"
 unfolding digits escaped escape_byte
 lacks = refl
@@ -126,8 +136,10 @@ one_step : page_json
             standings = HasEnded ∷ [];
           };
     })
-    ≡ codes "{\"format\":1,\"name\":\"one.spec\",\"rank\":0,\"orders\":1,\"sessions\":[\"a\"],\"steps\":[{\"name\":\"s\",\"session\":0,\"sql\":\"\"}],\"order\":[0],"
-    ++ codes "\"begun\":[{\"status\":\"out\",\"locks\":[]}],\"first\":[],\"moments\":[{\"session\":0,\"kind\":\"sent\",\"step\":0,\"told\":[\"done\"],\"locks\":[],\"status\":\"out\",\"still\":[]}],"
+    ≡ codes "{\"format\":1,\"name\":\"one.spec\",\"rank\":0,\"orders\":1,"
+    ++ codes "\"sessions\":[\"a\"],\"steps\":[{\"name\":\"s\",\"session\":0,\"sql\":\"\"}],\"order\":[0],"
+    ++ codes "\"begun\":[{\"status\":\"out\",\"locks\":[]}],\"first\":[],"
+    ++ codes "\"moments\":[{\"session\":0,\"kind\":\"sent\",\"step\":0,\"told\":[\"done\"],\"locks\":[],\"status\":\"out\",\"still\":[]}],"
     ++ codes "\"left\":[],\"open\":[]}\n"
 unfolding digits escaped escape_byte
 one_step = refl

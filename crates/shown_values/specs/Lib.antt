@@ -2,3 +2,4 @@ pub mod Strings
 pub mod Words
 pub mod Moments
 pub mod Page
+pub mod Laws

@@ -1,6 +1,7 @@
 //! What is shown of an order as JSON, for scripts and for the script of a page.
 #![tactic(auto)]
 
+mod laws;
 mod moments;
 mod page;
 mod show;
@@ -8,5 +9,6 @@ mod strings;
 mod texts;
 mod words;
 
+pub use laws::pages_are_free;
 pub use page::Page;
 pub use show::show_json;

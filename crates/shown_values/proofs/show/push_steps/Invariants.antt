@@ -5,4 +5,5 @@ use Rattle.shown_values.proofs.show.push_steps.Given as goal
 
 -- the first steps are pushed
 abbrev pub invariant-loop-place : goal.invariant-loop-place
-invariant-loop-place l = l.out.items ≡ l.fn.out.items ++ (l.label ++ codes "[") ++ join_by step_json (codes ",") (take l.place (zip l.names (zip l.sessions l.statements)))
+invariant-loop-place l =
+    l.out.items ≡ l.fn.out.items ++ (l.label ++ codes "[") ++ join_by step_json (codes ",") (take l.place (zip l.names (zip l.sessions l.statements)))

@@ -22,4 +22,5 @@ returns-in_ok-push_byte-in_default-clause-pushed c =
 -- another byte
 pub returns-in_ok-push_byte-in-len2-up-clause-pushed : goal.returns-in_ok-push_byte-in-len2-up-clause-pushed
 returns-in_ok-push_byte-in-len2-up-clause-pushed c =
-    behind _ _ (byte_text c.args.first) _ _ c.in_ok-push_byte-in-len2-up.ensures (byte-first _ _ c.in-len2-up.len_at_least (sym c.is_separator.ensures ∙ c.if-is_separator.false))
+    behind _ _ (byte_text c.args.first) _ _ c.in_ok-push_byte-in-len2-up.ensures
+    (byte-first _ _ c.in-len2-up.len_at_least (sym c.is_separator.ensures ∙ c.if-is_separator.false))
