@@ -32,6 +32,8 @@ mod runs;
 #[cfg(test)]
 mod shelf;
 #[cfg(test)]
+mod shown_orders;
+#[cfg(test)]
 mod statements;
 #[cfg(test)]
 mod verdicts;
