@@ -5,7 +5,7 @@ ghost use Rattle.shown_values.specs.Strings.{array_json};
 ghost use Rattle.shown_values.specs.Words.{line_json, told};
 ghost use Rattle.shown_values.specs.Moments as spec;
 
-use crate::strings::{push, push_before, push_place, push_word};
+use crate::strings::{push, push_before, push_index, push_word};
 use crate::texts::{push_line, push_resource};
 use crate::words::{push_manner, push_mode, push_status, push_step_number};
 use line_moments::{Change, Ending, Left, Moment, Still};
@@ -51,7 +51,7 @@ fn push_moment(
 fn push_going(moment: &Moment, out: &mut Vec<u8>) -> Result<(), AllocError>
     ensures { OnOk result (out.new.items ≡ out.old.items ++ spec.going_json moment.now) }
 {
-    push_place("{\"session\":", moment.session, out)?;
+    push_index("{\"session\":", moment.session, out)?;
     push_manner(",\"kind\":", moment.manner, out)?;
     push_step_number(",\"step\":", moment.step, out)
 }
@@ -194,7 +194,7 @@ fn push_edges(label: &str, edges: &[Edge], out: &mut Vec<u8>) -> Result<(), Allo
 fn push_edge(edge: Edge, out: &mut Vec<u8>) -> Result<(), AllocError>
     ensures { OnOk result (out.new.items ≡ out.old.items ++ spec.edge_json edge) }
 {
-    push_place("[", edge.session, out)?;
+    push_index("[", edge.session, out)?;
     push_reason(edge.reason, out)?;
     push("]", out)
 }
@@ -227,7 +227,7 @@ fn push_hops(
 fn push_hop(tables: &Items<Left>, hop: &Hop, out: &mut Vec<u8>) -> Result<(), AllocError>
     ensures { OnOk result (out.new.items ≡ out.old.items ++ spec.hop_json tables.now hop.now) }
 {
-    push_place("[", hop.session, out)?;
+    push_index("[", hop.session, out)?;
     push_mode(",", hop.mode, out)?;
     push_resource(",", tables, &hop.resource, out)?;
     push(",", out)?;
@@ -249,7 +249,7 @@ fn push_stills(label: &str, stills: &Items<Still>, out: &mut Vec<u8>) -> Result<
 fn push_still(still: &Still, out: &mut Vec<u8>) -> Result<(), AllocError>
     ensures { OnOk result (out.new.items ≡ out.old.items ++ spec.still_json still.now) }
 {
-    push_place("[", still.session, out)?;
+    push_index("[", still.session, out)?;
     push_edges(",", still.edges.as_slice(), out)?;
     push("]", out)
 }

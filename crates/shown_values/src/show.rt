@@ -8,7 +8,7 @@ ghost use Rattle.shown_values.specs.Page as spec;
 use crate::moments::{push_lock, push_moments};
 use crate::page::Page;
 use crate::strings::{
-    push, push_before, push_count, push_name, push_place, push_string, push_word,
+    push, push_before, push_count, push_index, push_name, push_string, push_word,
 };
 use crate::texts::push_tuple;
 use crate::words::push_status;
@@ -91,7 +91,7 @@ fn push_step(
     ensures { OnOk result (out.new.items ≡ out.old.items ++ spec.step_json (name.now, (session, statements.now))) }
 {
     push_name("{\"name\":", name, out)?;
-    push_place(",\"session\":", session, out)?;
+    push_index(",\"session\":", session, out)?;
     push_name(",\"sql\":", statements, out)?;
     push("}", out)
 }
@@ -102,7 +102,7 @@ fn push_line(label: &str, line: &[u8], out: &mut Vec<u8>) -> Result<(), AllocErr
     push_word(label, "[", out)?;
     for (place, step) in line.iter().enumerate() {
         push_before(",", place, out)?;
-        push_place("", *step, out)?;
+        push_index("", *step, out)?;
     }
     push("]", out)
 }

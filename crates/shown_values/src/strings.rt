@@ -32,10 +32,10 @@ pub(crate) fn push_count(label: &str, number: u64, out: &mut Vec<u8>) -> Result<
 }
 
 /// Pushes a label and the number of a session or a step behind it.
-pub(crate) fn push_place(label: &str, place: u8, out: &mut Vec<u8>) -> Result<(), AllocError>
-    ensures { OnOk result (out.new.items ≡ out.old.items ++ (label.now ++ decimal place)) }
+pub(crate) fn push_index(label: &str, index: u8, out: &mut Vec<u8>) -> Result<(), AllocError>
+    ensures { OnOk result (out.new.items ≡ out.old.items ++ (label.now ++ decimal index)) }
 {
-    push_count(label, u64::from(place), out)
+    push_count(label, u64::from(index), out)
 }
 
 /// Pushes a label and the word behind it.

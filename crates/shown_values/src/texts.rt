@@ -23,7 +23,7 @@ pub(crate) fn push_resource(
     ensures { OnOk result (out.new.items ≡ out.old.items ++ (label.now ++ spec.resource_json tables.now resource.now)) }
 {
     let mut text = Vec::new(*out.allocator());
-    push_place_name(tables, resource, &mut text)?;
+    push_resource_name(tables, resource, &mut text)?;
     push_string(label, text.as_slice(), out)
 }
 
@@ -46,7 +46,7 @@ pub(crate) fn push_line(event: &Event, steps: &[Text], out: &mut Vec<u8>) -> Res
 }
 
 /// Pushes a table's name, of a row with its key in brackets behind it.
-fn push_place_name(
+fn push_resource_name(
     tables: &Items<Left>,
     resource: &Resource,
     text: &mut Vec<u8>,

@@ -3,7 +3,7 @@
 ghost use Rattle.std.specs.Prelude.{◌≡◌, ◌++◌, OnOk};
 ghost use Rattle.shown_values.specs.Words as spec;
 
-use crate::strings::{push_place, push_word};
+use crate::strings::{push_index, push_word};
 use line_moments::Manner;
 use lock_modes::Mode;
 use machine_model::Status;
@@ -40,7 +40,7 @@ pub(crate) fn push_step_number(
 {
     match step {
         None => push_word(label, "null", out),
-        Some(number) => push_place(label, number, out),
+        Some(number) => push_index(label, number, out),
     }
 }
 
