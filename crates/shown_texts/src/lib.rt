@@ -1,0 +1,5 @@
+//! The text that shows one order: its moments in lanes beside each other, with the reasons of waits and rings, and what is left behind them.
+#![tactic(auto)]
+
+mod frame;
+mod lane;
