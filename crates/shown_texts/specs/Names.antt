@@ -1,5 +1,5 @@
 -- Names that are cut to a width, and numbered where they are the same then.
-use Rattle.std.specs.Prelude.{ℕ, zero, suc, ◌+◌, ◌-◌, nat_le, nat_lt, Bool, cond, ◌==◌, List, [], ◌∷◌, ◌++◌, length, map, take, codes, decimal, bytes_eq}
+use Rattle.std.specs.Prelude.{ℕ, zero, suc, ◌+◌, ◌-◌, nat_le, nat_lt, Bool, cond, ◌==◌, List, [], ◌∷◌, ◌++◌, length, map, take, get_or, codes, decimal, bytes_eq}
 use Rattle.std.specs.List.{list_all}
 
 -- the front of a text that is too long, with a tilde behind it
@@ -28,8 +28,12 @@ abbrev pub all_numbered : ℕ → ℕ → List (List ℕ) → List (List ℕ)
 all_numbered most number [] = []
 all_numbered most number (name ∷ names) = numbered most name number ∷ all_numbered most (number + 1) names
 
+-- no other of the texts is this one
+abbrev pub is_once : List (List ℕ) → List ℕ → Bool
+is_once texts text = nat_le (times text texts) 1
+
 abbrev pub are_different : List (List ℕ) → Bool
-are_different texts = list_all (λ t. nat_le (times t texts) 1) texts
+are_different texts = list_all (is_once texts) texts
 
 -- these, where no two are the same, else the others
 abbrev pub if_different : List (List ℕ) → List (List ℕ) → List (List ℕ)
@@ -38,3 +42,6 @@ if_different texts others = cond (are_different texts) texts others
 -- the names shortened to a width
 abbrev pub shortened : ℕ → List (List ℕ) → List (List ℕ)
 shortened most names = if_different (some_numbered most (map (cut most) names) 0 names) (all_numbered most 0 names)
+
+abbrev pub name_at : List (List ℕ) → ℕ → List ℕ
+name_at names place = get_or names place []

@@ -1,5 +1,8 @@
 //! The text that shows one order: its moments in lanes beside each other, with the reasons of waits and rings, and what is left behind them.
 #![tactic(auto)]
 
+mod breaking;
+mod characters;
 mod frame;
 mod lane;
+mod names;
