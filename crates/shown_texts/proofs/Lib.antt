@@ -1,1 +1,2 @@
+mod QuoteLemmas
 mod Worked

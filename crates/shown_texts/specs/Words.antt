@@ -1,5 +1,5 @@
 -- Locks, waits and reasons in words.
-use Rattle.std.specs.Prelude.{ℕ, cond, List, [], ◌∷◌, ◌++◌, get_or, Option, Some, None, codes, flat_map}
+use Rattle.std.specs.Prelude.{ℕ, Bool, false, ◌==◌, cond, List, [], ◌∷◌, ◌++◌, get_or, Option, Some, None, codes, flat_map}
 use Rattle.lock_modes.specs.declared.mode.Mode.{Mode}
 use Rattle.lock_modes.specs.declared.mode.Mode.TheVariants.{IntentShare, IntentExclusive, Share, ShareIntent, Exclusive}
 use Rattle.lock_modes.specs.declared.resource.Resource.{Resource}
@@ -12,6 +12,11 @@ use Rattle.lock_queues.specs.declared.told.Hop.{Hop}
 use Rattle.lock_queues.specs.Reasons.{Want}
 use Rattle.transcripts.specs.Text.{value_text}
 use Rattle.shown_texts.specs.Characters.{shown_text}
+
+-- a single quote stands first
+abbrev pub begins_quote : List ℕ → Bool
+begins_quote [] = false
+begins_quote (b ∷ bs) = b == 39
 
 abbrev pub mode_text : Mode → List ℕ
 mode_text IntentShare = codes "IS"
@@ -28,11 +33,14 @@ place_text tables (Row n key) = get_or tables n [] ++ (codes "[" ++ (shown_text 
 abbrev pub mode_on_place : List (List ℕ) → Mode → Resource → List ℕ
 mode_on_place tables mode place = codes "wants " ++ (mode_text mode ++ (codes " on " ++ place_text tables place))
 
--- what of a wanted mode is asked for, and what is held already
+-- what of a wanted mode is held already, and if it is another one what is asked for
+abbrev pub held_text : Mode → Mode → Mode → List ℕ
+held_text wanted asked has =
+    cond (same_mode asked wanted) (codes ", has " ++ mode_text has) (codes ": has " ++ (mode_text has ++ (codes " and asks " ++ mode_text asked)))
+
 abbrev pub had_text : Mode → Mode → Option Mode → List ℕ
 had_text wanted asked None = []
-had_text wanted asked (Some has) =
-    cond (same_mode asked wanted) (codes ", has " ++ mode_text has) (codes ": has " ++ (mode_text has ++ (codes " and asks " ++ mode_text asked)))
+had_text wanted asked (Some has) = held_text wanted asked has
 
 abbrev pub want_text : List (List ℕ) → Want → List ℕ
 want_text tables want = mode_on_place tables want.mode want.resource ++ had_text want.mode want.asked want.has

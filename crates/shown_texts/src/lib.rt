@@ -6,3 +6,5 @@ mod characters;
 mod frame;
 mod lane;
 mod names;
+mod told;
+mod words;
