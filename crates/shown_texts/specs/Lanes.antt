@@ -44,11 +44,13 @@ reason_note f rail word edge = note f rail 2 (word ++ reason_text f.names edge)
 abbrev pub want_notes : Frame → ℕ → List ℕ → Want → List Cell
 want_notes f rail word want = note f rail 2 (word ++ want_text f.tables want) ++ flat_map (reason_note f rail []) want.edges
 
+abbrev pub joined : List ℕ → List ℕ → List ℕ
+joined first second = first ++ (codes " " ++ second)
+
 -- two parts on one line where they fit, else the second one beneath
 abbrev pub joined_notes : Frame → ℕ → List ℕ → List ℕ → List Cell
 joined_notes f rail first second =
-    cond (nat_le (length (first ++ (codes " " ++ second))) (width f - 2)) (note f rail 2 (first ++ (codes " " ++ second)))
-        (note f rail 2 first ++ note f rail 4 second)
+    cond (nat_le (length (joined first second)) (width f - 2)) (note f rail 2 (joined first second)) (note f rail 2 first ++ note f rail 4 second)
 
 abbrev pub hop_notes : Frame → ℕ → Hop → List Cell
 hop_notes f rail hop = joined_notes f rail (hop_text f.names f.tables hop) (reason_text f.names hop.edge)
@@ -82,14 +84,17 @@ tone event = Plain
 
 -- the words of an event of a moment that ends so, and beneath them why it came to it: a fault beside !, a wait beside :, and all else beside |
 abbrev pub toned_notes : Frame → ℕ → Ending → Tone → List ℕ → List Cell
-toned_notes f session ending Untold words = []
-toned_notes f session ending Plain words = note f 124 0 words
-toned_notes f session ending Fails words = note f 33 0 words ++ fault_notes f session ending
-toned_notes f session ending Waits words = note f 58 0 words ++ wait_notes f [] ending
-toned_notes f session ending Skips words = note f 58 0 words ++ wait_notes f (codes "still ") ending
+toned_notes f session ending Untold text = []
+toned_notes f session ending Plain text = note f 124 0 text
+toned_notes f session ending Fails text = note f 33 0 text ++ fault_notes f session ending
+toned_notes f session ending Waits text = note f 58 0 text ++ wait_notes f [] ending
+toned_notes f session ending Skips text = note f 58 0 text ++ wait_notes f (codes "still ") ending
+
+abbrev pub words : List (List ℕ) → Event → List ℕ
+words steps event = shown_text (event_text steps event)
 
 abbrev pub event_notes : Frame → List (List ℕ) → Moment → Event → List Cell
-event_notes f steps m event = toned_notes f m.session m.ending (tone event) (shown_text (event_text steps event))
+event_notes f steps m event = toned_notes f m.session m.ending (tone event) (words steps event)
 
 -- the rail of a session that does not wait
 abbrev pub rail_of : Status → ℕ

@@ -6,5 +6,6 @@ mod characters;
 mod frame;
 mod lane;
 mod names;
+mod notes;
 mod told;
 mod words;
