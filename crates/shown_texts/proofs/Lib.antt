@@ -1,2 +1,3 @@
 mod QuoteLemmas
+mod RowLemmas
 mod Worked

@@ -14,6 +14,8 @@ use Rattle.line_moments.specs.declared.moment.Manner.TheVariants.{IsSent, IsResu
 use Rattle.line_moments.specs.declared.moment.Manner.{Manner}
 use Rattle.line_moments.specs.declared.moment.Moment.{Moment}
 use Rattle.line_moments.specs.declared.moment.Still.{Still}
+use Rattle.line_moments.specs.declared.shown.Begun.{Begun}
+use Rattle.line_moments.specs.declared.shown.Shown.{Shown}
 use Rattle.shown_texts.specs.Characters.{padded, shown_text}
 use Rattle.shown_texts.specs.Breaking.{broken}
 use Rattle.shown_texts.specs.Words.{want_text, reason_text, hop_text, ring_text}
@@ -190,6 +192,13 @@ moment_rows f steps rails m = rows_of (left_by f.steps m.manner m.step) (lanes_f
 abbrev pub all_rows : Frame → List (List ℕ) → List ℕ → List Moment → List LaneRow
 all_rows f steps rails [] = []
 all_rows f steps rails (m ∷ ms) = moment_rows f steps rails m ++ all_rows f steps (set rails m.session (rail_behind m)) ms
+
+abbrev pub begun_rail : Begun → ℕ
+begun_rail begun = rail_of begun.status
+
+-- the rows of what is shown
+abbrev pub rows : Frame → List (List ℕ) → Shown → List LaneRow
+rows f steps shown = all_rows f steps (map begun_rail shown.begun) shown.moments
 
 -- ---- the lines of the page
 

@@ -6,7 +6,6 @@ use Rattle.lock_queues.specs.declared.reason.Edge.{Edge}
 use Rattle.lock_queues.specs.Reasons.{Want}
 use Rattle.transcripts.specs.Text.{value_text}
 use Rattle.line_moments.specs.declared.moment.Moment.{Moment}
-use Rattle.line_moments.specs.declared.shown.Begun.{Begun}
 use Rattle.line_moments.specs.declared.shown.Left.{Left}
 use Rattle.line_moments.specs.declared.shown.Shown.{Shown}
 use Rattle.line_moments.specs.declared.shown.Standing.{Standing}
@@ -15,7 +14,7 @@ use Rattle.shown_texts.specs.Characters.{padded, shown_text, trimmed}
 use Rattle.shown_texts.specs.Names.{cut, shortened}
 use Rattle.shown_texts.specs.Breaking.{broken}
 use Rattle.shown_texts.specs.Words.{reason_text, want_text}
-use Rattle.shown_texts.specs.Lanes.{cell, width, all_rows, rail_of, row_text}
+use Rattle.shown_texts.specs.Lanes.{cell, width, row_text, rows}
 use Rattle.shown_texts.specs.Orders.{comes_in, order_text, widest_from}
 use Rattle.shown_texts.specs.declared.frame.Frame.{Frame}
 use Rattle.shown_texts.specs.declared.lane.Cell.{Cell}
@@ -90,12 +89,6 @@ title f p =
 abbrev pub head_row : Frame → LaneRow
 head_row f = record { left = []; cells = map (cell 32) (shortened (width f) f.whole) }
 
-abbrev pub begun_rail : Begun → ℕ
-begun_rail begun = rail_of begun.status
-
-abbrev pub rows : Frame → Page → List LaneRow
-rows f p = all_rows f p.steps (map begun_rail p.shown.begun) p.shown.moments
-
 -- a reason behind others
 abbrev pub further_reason : List (List ℕ) → Edge → List ℕ
 further_reason names edge = codes ", " ++ reason_text names edge
@@ -148,18 +141,21 @@ standing_from f session (s ∷ ss) = standing_lines (get_or f.whole session []) 
 abbrev pub left_lines : Frame → Shown → List (List ℕ)
 left_lines f shown = flat_map table_lines shown.left ++ standing_from f 0 shown.standings
 
+abbrev pub is_beside : ℕ → Cell → Bool
+is_beside rail c = c.rail == rail
+
 -- the rail stands in a row
 abbrev pub has_rail : ℕ → LaneRow → Bool
-has_rail rail row = list_any (λ (c : Cell). c.rail == rail) row.cells
+has_rail rail row = list_any (is_beside rail) row.cells
 
 -- what a rail means, if it stands in the lanes
 abbrev pub meaning_if : ℕ → List ℕ → List LaneRow → List ℕ
-meaning_if rail meaning rows = cond (list_any (has_rail rail) rows) meaning []
+meaning_if rail meaning rs = cond (list_any (has_rail rail) rs) meaning []
 
 abbrev pub key_text : List LaneRow → List ℕ
-key_text rows =
-    meaning_if 124 (codes "| in a transaction   ") rows
-    ++ (meaning_if 58 (codes ": waits   ") rows ++ meaning_if 33 (codes "! failed, up to the end of its block") rows)
+key_text rs =
+    meaning_if 124 (codes "| in a transaction   ") rs
+    ++ (meaning_if 58 (codes ": waits   ") rs ++ meaning_if 33 (codes "! failed, up to the end of its block") rs)
 
 abbrev pub key_lines : List ℕ → List (List ℕ)
 key_lines [] = []
@@ -201,4 +197,4 @@ abbrev pub line_bytes : List ℕ → List ℕ
 line_bytes line = encode_utf8_all (trimmed line) ++ codes "\n"
 
 abbrev pub page_bytes : Page → List ℕ
-page_bytes p = flat_map line_bytes (page_lines p (frame p) (rows (frame p) p))
+page_bytes p = flat_map line_bytes (page_lines p (frame p) (rows (frame p) p.steps p.shown))
