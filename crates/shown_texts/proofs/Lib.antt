@@ -1,3 +1,4 @@
 mod QuoteLemmas
 mod RowLemmas
 mod Worked
+mod WritingLemmas

@@ -62,8 +62,18 @@ frame_by count shown sessions steps =
       column = column_width (left_width shown.moments steps) count;
     }
 
+abbrev pub shown_shortened : ℕ → List (List ℕ) → List (List ℕ)
+shown_shortened most names = shortened most (map shown_text names)
+
+-- the names of the steps at the left
+abbrev pub left_names : ℕ → List (List ℕ) → List (List ℕ)
+left_names count steps = shown_shortened (step_room count) steps
+
+abbrev pub frame_with : List (List ℕ) → List (List ℕ) → Shown → Frame
+frame_with sessions steps shown = frame_by (length sessions) shown (map shown_text sessions) (left_names (length sessions) steps)
+
 abbrev pub frame : Page → Frame
-frame p = frame_by (length p.sessions) p.shown (map shown_text p.sessions) (shortened (step_room (length p.sessions)) (map shown_text p.steps))
+frame p = frame_with p.sessions p.steps p.shown
 
 -- ---- its parts
 
@@ -74,28 +84,39 @@ plain_lines text = broken 80 0 0 text
 abbrev pub hanging_lines : List ℕ → List (List ℕ)
 hanging_lines text = broken 80 0 2 text
 
--- the columns of the page
-abbrev pub full_width : Frame → ℕ → ℕ
-full_width f count = f.left + 1 + f.column * count
-
 abbrev pub wide_text : ℕ → List ℕ
 wide_text columns = cond (nat_lt 80 columns) (codes ", " ++ (decimal columns ++ codes " columns wide")) []
 
-abbrev pub title : Frame → Page → List ℕ
-title f p =
-    shown_text p.path ++ (codes ": rank " ++ (decimal p.rank ++ (codes " of " ++ (decimal p.orders ++ wide_text (full_width f (length p.sessions))))))
-
 -- the names of the sessions above their lanes
+abbrev pub heads : Frame → List (List ℕ)
+heads f = shortened (width f) f.whole
+
 abbrev pub head_row : Frame → LaneRow
-head_row f = record { left = []; cells = map (cell 32) (shortened (width f) f.whole) }
+head_row f = record { left = []; cells = map (cell 32) (heads f) }
+
+-- the columns of the lanes with what stands at the left
+abbrev pub full_width : Frame → ℕ
+full_width f = length (row_text f (head_row f))
+
+abbrev pub rank_text : ℕ → ℕ → List ℕ
+rank_text rank orders = codes ": rank " ++ (decimal rank ++ (codes " of " ++ decimal orders))
+
+abbrev pub title : Frame → Page → List ℕ
+title f p = shown_text p.path ++ (rank_text p.rank p.orders ++ wide_text (full_width f))
+
+-- the title, and the order beneath it
+abbrev pub top_lines : Frame → Page → List (List ℕ)
+top_lines f p = plain_lines (title f p) ++ plain_lines (order_text p.steps p.shown.moments)
 
 -- a reason behind others
 abbrev pub further_reason : List (List ℕ) → Edge → List ℕ
 further_reason names edge = codes ", " ++ reason_text names edge
 
+abbrev pub whole_want : Frame → Want → List ℕ
+whole_want f want = want_text f.tables want ++ flat_map (further_reason f.whole) want.edges
+
 abbrev pub waiting_text : Frame → List ℕ → Want → List ℕ
-waiting_text f name want =
-    name ++ (codes " still waits at the end: " ++ (want_text f.tables want ++ flat_map (further_reason f.whole) want.edges))
+waiting_text f name want = name ++ (codes " still waits at the end: " ++ whole_want f want)
 
 -- a session that waits at the end
 abbrev pub waiting_lines : Frame → List ℕ → Standing → List (List ℕ)
@@ -119,9 +140,12 @@ abbrev pub or_nothing : List (List ℕ) → List (List ℕ)
 or_nothing [] = codes "  nothing" ∷ []
 or_nothing (line ∷ lines) = line ∷ lines
 
+abbrev pub table_head : List ℕ → List (List ℕ)
+table_head name = hanging_lines (codes "left in " ++ shown_text name)
+
 -- a table and its committed rows
 abbrev pub table_lines : Left → List (List ℕ)
-table_lines left = hanging_lines (codes "left in " ++ table_name left) ++ or_nothing (flat_map row_lines left.rows)
+table_lines left = table_head left.table.name ++ or_nothing (flat_map row_lines left.rows)
 
 -- a session that has not ended
 abbrev pub standing_text : Standing → List ℕ
@@ -148,9 +172,12 @@ is_beside rail c = c.rail == rail
 abbrev pub has_rail : ℕ → LaneRow → Bool
 has_rail rail row = list_any (is_beside rail) row.cells
 
+abbrev pub stands : ℕ → List LaneRow → Bool
+stands rail rs = list_any (has_rail rail) rs
+
 -- what a rail means, if it stands in the lanes
 abbrev pub meaning_if : ℕ → List ℕ → List LaneRow → List ℕ
-meaning_if rail meaning rs = cond (list_any (has_rail rail) rs) meaning []
+meaning_if rail meaning rs = cond (stands rail rs) meaning []
 
 abbrev pub key_text : List LaneRow → List ℕ
 key_text rs =
@@ -169,16 +196,16 @@ abbrev pub legend_item : ℕ → List ℕ → List ℕ → Bool → List (List �
 legend_item most name statements comes = cond comes (legend_line most name statements ∷ []) []
 
 -- of the steps from this one on, which have these names
-abbrev pub legend_from : Page → ℕ → ℕ → List (List ℕ) → List (List ℕ)
-legend_from p most k [] = []
-legend_from p most k (name ∷ names) =
-    legend_item most name (get_or p.statements k []) (comes_in p.shown.moments k) ++ legend_from p most (k + 1) names
+abbrev pub legend_from : List (List ℕ) → List Moment → ℕ → ℕ → List (List ℕ) → List (List ℕ)
+legend_from statements ms most k [] = []
+legend_from statements ms most k (name ∷ names) =
+    legend_item most name (get_or statements k []) (comes_in ms k) ++ legend_from statements ms most (k + 1) names
 
 abbrev pub legend_by : Page → List (List ℕ) → List (List ℕ)
-legend_by p names = legend_from p (widest_from p.shown.moments 0 names) 0 names
+legend_by p names = legend_from p.statements p.shown.moments (widest_from p.shown.moments 0 names) 0 names
 
 abbrev pub legend : Page → List (List ℕ)
-legend p = legend_by p (shortened 24 (map shown_text p.steps))
+legend p = legend_by p (shown_shortened 24 p.steps)
 
 -- ---- the whole
 
@@ -187,14 +214,26 @@ abbrev pub part : List (List ℕ) → List (List ℕ)
 part [] = []
 part (line ∷ lines) = [] ∷ line ∷ lines
 
+-- the lanes, and the sessions that wait at the end
+abbrev pub lanes_part : Page → Frame → List LaneRow → List (List ℕ)
+lanes_part p f rs = part (map (row_text f) (head_row f ∷ rs)) ++ part (waiting_from f 0 p.shown.standings)
+
+-- what is left, what the rails mean, and the steps
+abbrev pub rest_part : Page → Frame → List LaneRow → List (List ℕ)
+rest_part p f rs = part (left_lines f p.shown) ++ (part (key_lines (key_text rs)) ++ part (legend p))
+
 abbrev pub page_lines : Page → Frame → List LaneRow → List (List ℕ)
-page_lines p f rs =
-    plain_lines (title f p) ++ (plain_lines (order_text p.steps p.shown.moments) ++ (part (map (row_text f) (head_row f ∷ rs))
-    ++ (part (waiting_from f 0 p.shown.standings) ++ (part (left_lines f p.shown) ++ (part (key_lines (key_text rs)) ++ part (legend p))))))
+page_lines p f rs = top_lines f p ++ (lanes_part p f rs ++ rest_part p f rs)
+
+abbrev pub lines_in : Page → Frame → List (List ℕ)
+lines_in p f = page_lines p f (rows f p.steps p.shown)
+
+abbrev pub all_lines : Page → List (List ℕ)
+all_lines p = lines_in p (frame p)
 
 -- a line in UTF-8, without the blanks at its end
 abbrev pub line_bytes : List ℕ → List ℕ
 line_bytes line = encode_utf8_all (trimmed line) ++ codes "\n"
 
 abbrev pub page_bytes : Page → List ℕ
-page_bytes p = flat_map line_bytes (page_lines p (frame p) (rows (frame p) p.steps p.shown))
+page_bytes p = flat_map line_bytes (all_lines p)

@@ -36,6 +36,13 @@ pub(crate) fn put_number(line: &mut Items<char>, number: u64) -> Result<(), Allo
     put(line, Buffer::new().format(number))
 }
 
+/// Puts a size behind a line.
+pub(crate) fn put_size(line: &mut Items<char>, size: usize) -> Result<(), AllocError>
+    ensures { OnOk result (line.new ≡ line.old ++ decimal size) }
+{
+    put(line, Buffer::new().format(size))
+}
+
 /// Puts blanks behind a line.
 pub(crate) fn put_blanks(line: &mut Items<char>, count: usize) -> Result<(), AllocError>
     ensures { OnOk result (line.new ≡ line.old ++ spec.blanks count) }

@@ -9,5 +9,10 @@ mod lanes;
 mod names;
 mod notes;
 mod orders;
+mod page;
+mod pages;
 mod told;
 mod words;
+
+pub use page::Page;
+pub use pages::show_text;
