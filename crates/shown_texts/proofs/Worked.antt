@@ -1,12 +1,12 @@
 -- Pages and their parts, by hand.
-use Rattle.std.specs.Prelude.{◌≡◌, refl, ℕ, Bool, List, [], ◌∷◌, ◌++◌, Option, Some, None, codes, pos, flat_map}
+use Rattle.std.specs.Prelude.{◌≡◌, refl, ℕ, List, [], ◌∷◌, ◌++◌, Some, None, codes, pos, flat_map}
 use Rattle.std.specs.Fmt.{digits}
 use Rattle.std.specs.Str.{chars}
 use Rattle.std.specs.Char.{encode_utf8}
-use Rattle.lock_modes.specs.declared.mode.Mode.TheVariants.{IntentShare, IntentExclusive, Share, ShareIntent, Exclusive}
+use Rattle.lock_modes.specs.declared.mode.Mode.TheVariants.{IntentExclusive, Share, Exclusive}
 use Rattle.lock_modes.specs.declared.resource.Resource.TheVariants.{Table, Row}
-use Rattle.lock_modes.specs.declared.value.Value.TheVariants.{Int, Text}
-use Rattle.lock_queues.specs.declared.reason.Reason.TheVariants.{Holds, Ahead}
+use Rattle.lock_modes.specs.declared.value.Value.TheVariants.{Int}
+use Rattle.lock_queues.specs.declared.reason.Reason.TheVariants.{Holds}
 use Rattle.lock_queues.specs.declared.told.Hop.{Hop}
 use Rattle.lock_queues.specs.Reasons.{Want}
 use Rattle.transcripts.specs.declared.event.Fault.TheVariants.{Deadlock}
@@ -15,12 +15,12 @@ use Rattle.transcripts.specs.declared.event.Event.TheVariants as event
 use Rattle.machine_model.specs.declared.status.Status.{Status}
 use Rattle.machine_model.specs.declared.status.Status.TheVariants.{Outside, InBlock, Broken}
 use Rattle.line_moments.specs.declared.moment.Ending.{Ending}
-use Rattle.line_moments.specs.declared.moment.Ending.TheVariants.{Ended, Awaits, Loses, Lacks}
+use Rattle.line_moments.specs.declared.moment.Ending.TheVariants.{Ended, Awaits, Loses}
 use Rattle.line_moments.specs.declared.moment.Manner.{Manner}
 use Rattle.line_moments.specs.declared.moment.Manner.TheVariants.{IsSent, IsResumed, IsNotSent}
 use Rattle.line_moments.specs.declared.moment.Moment.{Moment}
-use Rattle.line_moments.specs.declared.shown.Standing.TheVariants.{HasEnded, IsOpen, HasFailed, StillWaits}
-use Rattle.shown_texts.specs.Characters.{shown_text, trimmed}
+use Rattle.line_moments.specs.declared.shown.Standing.TheVariants.{IsOpen, StillWaits}
+use Rattle.shown_texts.specs.Characters.{shown_text}
 use Rattle.shown_texts.specs.Names.{shortened}
 use Rattle.shown_texts.specs.Breaking.{broken}
 use Rattle.shown_texts.specs.Pages.{Page, page_bytes}
@@ -47,13 +47,19 @@ moment session manner step events status ending =
 
 abbrev wants_two : Want
 wants_two = record {
-  resource = Row 0 (Int (pos 2)); mode = Exclusive; asked = Exclusive; has = None;
+  resource = Row 0 (Int (pos 2));
+  mode = Exclusive;
+  asked = Exclusive;
+  has = None;
   edges = record { session = 1; reason = Holds Exclusive } ∷ [];
 }
 
 abbrev wants_table : Want
 wants_table = record {
-  resource = Table 0; mode = Share; asked = Share; has = None;
+  resource = Table 0;
+  mode = Share;
+  asked = Share;
+  has = None;
   edges = record { session = 0; reason = Holds IntentExclusive } ∷ [];
 }
 
@@ -64,7 +70,9 @@ ring =
 
 abbrev deadlock : Page
 deadlock = record {
-  path = codes "deadlock.spec"; rank = 4; orders = 20;
+  path = codes "deadlock.spec";
+  rank = 4;
+  orders = 20;
   sessions = codes "a" ∷ codes "b" ∷ [];
   steps = codes "a1" ∷ codes "a2" ∷ codes "a3" ∷ codes "b1" ∷ codes "b2" ∷ codes "b3" ∷ [];
   statements =

@@ -1,5 +1,5 @@
 -- Texts that are broken into lines.
-use Rattle.std.specs.Prelude.{ℕ, ◌+◌, ◌-◌, nat_le, Bool, cond, ◌||◌, ◌==◌, List, [], ◌∷◌, ◌++◌, length}
+use Rattle.std.specs.Prelude.{ℕ, ◌-◌, nat_le, Bool, cond, ◌||◌, ◌==◌, List, [], ◌∷◌, ◌++◌, length}
 use Rattle.shown_texts.specs.Characters.{blanks, trimmed}
 
 -- a piece of a text ends behind a blank, or where it has so many characters

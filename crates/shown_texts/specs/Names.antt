@@ -1,5 +1,5 @@
 -- Names that are cut to a width, and numbered where they are the same then.
-use Rattle.std.specs.Prelude.{ℕ, zero, suc, ◌+◌, ◌-◌, nat_le, nat_lt, Bool, cond, ◌==◌, List, [], ◌∷◌, ◌++◌, length, map, take, get_or, codes, decimal, bytes_eq}
+use Rattle.std.specs.Prelude.{ℕ, zero, suc, ◌+◌, ◌-◌, nat_le, nat_lt, Bool, cond, List, [], ◌∷◌, ◌++◌, length, map, take, get_or, codes, decimal, bytes_eq}
 use Rattle.std.specs.List.{list_all}
 
 -- the front of a text that is too long, with a tilde behind it

@@ -97,7 +97,8 @@ fn put_piece(
     line: Items<char>,
     piece: &[char],
 ) -> Result<Items<char>, AllocError>
-    ensures { IfOk result (λ next. (ps : List (List ℕ)) → lines.new ++ spec.filled width margin next ps ≡ lines.old ++ spec.filled width margin line (piece.now ∷ ps)) }
+    ensures { IfOk result (λ next. (ps : List (List ℕ)) →
+        lines.new ++ spec.filled width margin next ps ≡ lines.old ++ spec.filled width margin line (piece.now ∷ ps)) }
 {
     let longer = longer(alloc, line.as_slice(), piece)?;
     if trimmed_len(longer.as_slice()) <= width {

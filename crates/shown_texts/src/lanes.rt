@@ -137,12 +137,7 @@ fn left_at(left: &[char], row: usize) -> &[char]
     if row == 0 { left } else { &[] }
 }
 
-fn lane_row(
-    alloc: Global,
-    left: &[char],
-    lanes: &[Lane],
-    row: usize,
-) -> Result<LaneRow, AllocError>
+fn lane_row(alloc: Global, left: &[char], lanes: &[Lane], row: usize) -> Result<LaneRow, AllocError>
     ensures { IfOk result (λ made. made ≡ spec.lane_row left.now lanes.now row) }
 {
     let cells = cells_at(alloc, lanes, row)?;

@@ -71,11 +71,7 @@ fn times(text: &[char], texts: &[Items<char>]) -> usize
 }
 
 /// The names, cut.
-fn cuts(
-    alloc: Global,
-    most: usize,
-    names: &[Items<char>],
-) -> Result<Items<Items<char>>, AllocError>
+fn cuts(alloc: Global, most: usize, names: &[Items<char>]) -> Result<Items<Items<char>>, AllocError>
     ensures { IfOk result (λ cuts. cuts ≡ map (spec.cut most) names.now) }
 {
     let mut cuts = Items::new(alloc);

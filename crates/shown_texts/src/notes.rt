@@ -168,7 +168,14 @@ fn put_hop_notes(
     )?;
     let mut reason = Items::new(alloc);
     put_reason(&mut reason, frame.names.as_slice(), hop.edge)?;
-    put_joined(alloc, cells, frame, rail, wants.as_slice(), reason.as_slice())
+    put_joined(
+        alloc,
+        cells,
+        frame,
+        rail,
+        wants.as_slice(),
+        reason.as_slice(),
+    )
 }
 
 /// Puts the edges of a ring behind other lines.

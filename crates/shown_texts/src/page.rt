@@ -32,12 +32,12 @@ impl<'a> Model for Page<'a> {
     ghost coded = { Prim.hlevel (codes, line.the_row.coded) };
 
     ghost view = { λ p. record {
-        path = p.path.now;
-        rank = p.rank;
-        orders = p.orders;
-        sessions = p.sessions.now;
-        steps = p.steps.now;
-        statements = p.statements.now;
-        shown = p.shown.now;
+      path = p.path.now;
+      rank = p.rank;
+      orders = p.orders;
+      sessions = p.sessions.now;
+      steps = p.steps.now;
+      statements = p.statements.now;
+      shown = p.shown.now;
     } };
 }

@@ -47,11 +47,7 @@ fn frame_of(alloc: Global, page: &Page<'_>) -> Result<Frame, AllocError>
     frame_with(alloc, page.sessions, page.steps, page.shown)
 }
 
-fn lines_in(
-    alloc: Global,
-    page: &Page<'_>,
-    frame: &Frame,
-) -> Result<Items<Items<char>>, AllocError>
+fn lines_in(alloc: Global, page: &Page<'_>, frame: &Frame) -> Result<Items<Items<char>>, AllocError>
     ensures { IfOk result (λ lines. lines ≡ spec.lines_in page.now frame.now) }
 {
     let rows = rows(alloc, frame, page.steps, page.shown)?;
@@ -143,11 +139,7 @@ fn column_width(left: usize, count: usize) -> usize
 }
 
 /// The names of the steps at the left.
-fn left_names(
-    alloc: Global,
-    count: usize,
-    steps: &[Text],
-) -> Result<Items<Items<char>>, AllocError>
+fn left_names(alloc: Global, count: usize, steps: &[Text]) -> Result<Items<Items<char>>, AllocError>
     ensures { IfOk result (λ names. names ≡ spec.left_names count steps.now) }
 {
     shown_shortened(alloc, step_room(count), steps)
@@ -316,12 +308,7 @@ fn put_order_lines(
     ensures { OnOk result (lines.new ≡ lines.old ++ spec.plain_lines (order_text page.now.steps page.now.shown.moments)) }
 {
     let mut order = Items::new(alloc);
-    put_order(
-        alloc,
-        &mut order,
-        page.steps,
-        page.shown.moments.as_slice(),
-    )?;
+    put_order(alloc, &mut order, page.steps, page.shown.moments.as_slice())?;
     lines.append(plain_lines(alloc, order.as_slice())?)
 }
 
@@ -491,11 +478,7 @@ fn put_nothing(alloc: Global, lines: &mut Items<Items<char>>) -> Result<(), Allo
     }
 }
 
-fn put_word(
-    alloc: Global,
-    lines: &mut Items<Items<char>>,
-    word: &str,
-) -> Result<(), AllocError>
+fn put_word(alloc: Global, lines: &mut Items<Items<char>>, word: &str) -> Result<(), AllocError>
     ensures { OnOk result (lines.new ≡ lines.old ++ word.now ∷ []) }
 {
     let mut line = Items::new(alloc);
@@ -504,11 +487,7 @@ fn put_word(
 }
 
 /// Puts a table and its committed rows behind other lines.
-fn put_table(
-    alloc: Global,
-    lines: &mut Items<Items<char>>,
-    left: &Left,
-) -> Result<(), AllocError>
+fn put_table(alloc: Global, lines: &mut Items<Items<char>>, left: &Left) -> Result<(), AllocError>
     ensures { OnOk result (lines.new ≡ lines.old ++ spec.table_lines left.now) }
 {
     put_table_name(alloc, lines, left.table.name.as_str())?;
@@ -591,11 +570,7 @@ fn put_standings(
 }
 
 /// What the order leaves.
-fn left_lines(
-    alloc: Global,
-    frame: &Frame,
-    shown: &Shown,
-) -> Result<Items<Items<char>>, AllocError>
+fn left_lines(alloc: Global, frame: &Frame, shown: &Shown) -> Result<Items<Items<char>>, AllocError>
     ensures { IfOk result (λ lines. lines ≡ spec.left_lines frame.now shown.now) }
 {
     let mut lines = Items::new(alloc);
@@ -614,7 +589,10 @@ fn is_beside(rail: char, cell: &Cell) -> bool
 fn has_rail(rail: char, row: &LaneRow) -> bool
     ensures { result ≡ spec.has_rail rail row.now }
 {
-    row.cells.as_slice().iter().any(|cell| is_beside(rail, cell))
+    row.cells
+        .as_slice()
+        .iter()
+        .any(|cell| is_beside(rail, cell))
 }
 
 /// Whether the rail stands in one of the rows.
@@ -645,12 +623,7 @@ fn key_text(alloc: Global, rows: &[LaneRow]) -> Result<Items<char>, AllocError>
     let mut line = Items::new(alloc);
     put_meaning(&mut line, '|', "| in a transaction   ", rows)?;
     put_meaning(&mut line, ':', ": waits   ", rows)?;
-    put_meaning(
-        &mut line,
-        '!',
-        "! failed, up to the end of its block",
-        rows,
-    )?;
+    put_meaning(&mut line, '!', "! failed, up to the end of its block", rows)?;
     Ok(line)
 }
 
@@ -728,7 +701,13 @@ fn legend_by(
     ensures { IfOk result (λ lines. lines ≡ spec.legend_by page.now names.now) }
 {
     let moments = page.shown.moments.as_slice();
-    legend_of(alloc, page.statements, moments, widest(moments, names), names)
+    legend_of(
+        alloc,
+        page.statements,
+        moments,
+        widest(moments, names),
+        names,
+    )
 }
 
 fn legend_of(

@@ -84,11 +84,7 @@ fn push_others(text: &mut String, values: &[Value]) -> Result<(), AllocError>
 }
 
 /// Puts an event behind a text, where these are the names of the steps.
-pub(crate) fn push_event(
-    text: &mut String,
-    steps: &[Text],
-    event: &Event,
-) -> Result<(), AllocError>
+pub(crate) fn push_event(text: &mut String, steps: &[Text], event: &Event) -> Result<(), AllocError>
     ensures { OnOk result (string_bytes text.new ≡ string_bytes text.old ++ event_text steps.now event.now) }
 {
     match event {

@@ -110,12 +110,7 @@ fn put_had(
     }
 }
 
-fn put_held(
-    line: &mut Items<char>,
-    wanted: Mode,
-    asked: Mode,
-    has: Mode,
-) -> Result<(), AllocError>
+fn put_held(line: &mut Items<char>, wanted: Mode, asked: Mode, has: Mode) -> Result<(), AllocError>
     ensures { OnOk result (line.new ≡ line.old ++ spec.held_text wanted asked has) }
 {
     if is_same(asked, wanted) {
@@ -200,11 +195,7 @@ pub(crate) fn put_ring(
     put_line(line, name_at(names, usize::from(session)))
 }
 
-fn put_way(
-    line: &mut Items<char>,
-    names: &[Items<char>],
-    hops: &[Hop],
-) -> Result<(), AllocError>
+fn put_way(line: &mut Items<char>, names: &[Items<char>], hops: &[Hop]) -> Result<(), AllocError>
     ensures { OnOk result (line.new ≡ line.old ++ flat_map (spec.leading_on names.now) hops.now) }
 {
     for hop in hops {
