@@ -39,6 +39,10 @@ shortened_names = refl
 broken_lines : broken 12 2 4 (codes "wants SIX on account") ≡ codes "  wants SIX " ∷ codes "    on " ∷ codes "    account" ∷ []
 broken_lines = refl
 
+-- of many blanks the first one alone does
+many_blanks : broken 5 0 2 (codes "abcde   f") ≡ codes "abcde " ∷ codes "    f" ∷ []
+many_blanks = refl
+
 -- ---- a session that skips a step, and one that loses a deadlock and waits at the end
 
 abbrev moment : ℕ → Manner → ℕ → List Event → Status → Ending → Moment

@@ -100,12 +100,18 @@ fn put_piece(
     ensures { IfOk result (λ next. (ps : List (List ℕ)) →
         lines.new ++ spec.filled width margin next ps ≡ lines.old ++ spec.filled width margin line (piece.now ∷ ps)) }
 {
-    let longer = longer(alloc, line.as_slice(), piece)?;
-    if trimmed_len(longer.as_slice()) <= width {
-        return Ok(longer);
+    if fits(width, line.as_slice(), piece) {
+        return longer(alloc, line.as_slice(), piece);
     }
     lines.push(line)?;
     begun(alloc, margin, piece)
+}
+
+/// Whether a piece goes on a line, where a blank at its end may stand behind the line's last column.
+fn fits(width: usize, line: &[char], piece: &[char]) -> bool
+    ensures { result ≡ spec.fits width line.now piece.now }
+{
+    line.len() <= width && trimmed_len(piece) <= width - line.len()
 }
 
 /// A line and a piece on it.
