@@ -1,4 +1,7 @@
+mod BrokenLemmas
+mod FittingLemmas
 mod QuoteLemmas
 mod RowLemmas
+mod TrimmedLemmas
 mod Worked
 mod WritingLemmas

@@ -5,3 +5,4 @@ pub mod Words
 pub mod Lanes
 pub mod Orders
 pub mod Pages
+pub mod Laws

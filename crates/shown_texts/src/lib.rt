@@ -6,6 +6,7 @@ mod characters;
 mod frame;
 mod lane;
 mod lanes;
+mod laws;
 mod names;
 mod notes;
 mod orders;
@@ -14,5 +15,6 @@ mod pages;
 mod told;
 mod words;
 
+pub use laws::{broken_lines_fit, broken_texts_are_whole};
 pub use page::Page;
 pub use pages::show_text;

@@ -1,0 +1,13 @@
+//! The laws of the text that shows an order, each the contract of a function that does nothing.
+
+ghost use Rattle.shown_texts.specs.Laws.{BrokenLinesFit, BrokenTextsAreWhole, ShortenedNamesDiffer};
+
+/// Where a text is broken into lines nothing of it is lost, and nothing comes to it.
+pub fn broken_texts_are_whole()
+    ensures { BrokenTextsAreWhole }
+{}
+
+/// No line of a broken text is wider than it may be.
+pub fn broken_lines_fit()
+    ensures { BrokenLinesFit }
+{}
