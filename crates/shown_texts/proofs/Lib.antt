@@ -1,5 +1,6 @@
 mod BrokenLemmas
 mod FittingLemmas
+mod NameLemmas
 mod QuoteLemmas
 mod RowLemmas
 mod TrimmedLemmas

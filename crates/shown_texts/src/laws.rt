@@ -11,3 +11,8 @@ pub fn broken_texts_are_whole()
 pub fn broken_lines_fit()
     ensures { BrokenLinesFit }
 {}
+
+/// No two names are the same when they are shortened.
+pub fn shortened_names_differ()
+    ensures { ShortenedNamesDiffer }
+{}

@@ -15,6 +15,6 @@ mod pages;
 mod told;
 mod words;
 
-pub use laws::{broken_lines_fit, broken_texts_are_whole};
+pub use laws::{broken_lines_fit, broken_texts_are_whole, shortened_names_differ};
 pub use page::Page;
 pub use pages::show_text;
