@@ -1,9 +1,9 @@
 -- Broken texts: their lines are the text, and no line is too wide.
-use Rattle.std.proofs.Common.{◌≡◌, ℕ, suc, ◌+◌, ◌-◌, ◌<◌, ◌≤◌, Bool, true, false, cond, List, [], ◌∷◌, ◌++◌, length, drop, refl, sym, ap, ◌∙◌, append_assoc, flat_map, arith}
+use Rattle.std.proofs.Common.{◌≡◌, ℕ, ◌-◌, ◌≤◌, Bool, true, false, List, [], ◌∷◌, ◌++◌, length, drop, refl, sym, ap, ◌∙◌, append_assoc, flat_map, arith}
 use Rattle.std.proofs.lemmas.List.{drop-append-le, length-replicate}
 use Rattle.std.proofs.Math.Seq.{drop-append_seam}
 use Rattle.shown_texts.specs.Characters.{blanks}
-use Rattle.shown_texts.specs.Breaking.{broken, ends_piece, filled, fits, last_piece, pieces}
+use Rattle.shown_texts.specs.Breaking.{broken, ends_piece, filled, fits, pieces}
 use Rattle.shown_texts.specs.Laws.{unbroken}
 
 -- pieces put together

@@ -1,12 +1,12 @@
 -- No line of a broken text is too wide.
-use Rattle.std.proofs.Common.{◌≡◌, ℕ, suc, ◌+◌, ◌-◌, ◌<◌, ◌≤◌, Bool, true, false, cond, List, [], ◌∷◌, ◌++◌, length, refl, sym, ap, ◌∙◌, arith}
+use Rattle.std.proofs.Common.{◌≡◌, ℕ, suc, ◌+◌, ◌-◌, ◌<◌, ◌≤◌, Bool, true, false, cond, List, [], ◌∷◌, ◌++◌, length, refl, ap, ◌∙◌, arith}
 use Rattle.std.proofs.lemmas.Bool.{and_parts, leb-true, leb-false}
 use Rattle.std.proofs.lemmas.List.{length-append, length-replicate}
 use Rattle.std.proofs.lemmas.List.Elements.{All-from_recursion}
 use Rattle.std.specs.Prelude.{nat_le, ◌==◌, All}
 use Rattle.std.specs.List.{AllByRecursion}
 use Rattle.shown_texts.specs.Characters.{blanks, trimmed}
-use Rattle.shown_texts.specs.Breaking.{broken, ends_piece, filled, fits, pieces}
+use Rattle.shown_texts.specs.Breaking.{broken, filled, fits, pieces}
 use Rattle.shown_texts.specs.Laws.{IsWithin}
 use Rattle.shown_texts.proofs.TrimmedLemmas.{trimmed-append, trimmed-le, trimmed-push}
 

@@ -1,11 +1,11 @@
 -- Shortened names differ.
-use Rattle.std.proofs.Common.{◌≡◌, ℕ, zero, suc, ◌+◌, ◌-◌, ◌/◌, ◌%◌, ◌^◌, ◌<◌, ◌≤◌, Bool, true, false, cond, List, [], ◌∷◌, ◌++◌, length, drop, get_or, map, refl, sym, ap, ◌∙◌, subst, arith}
+use Rattle.std.proofs.Common.{◌≡◌, ℕ, zero, suc, ◌+◌, ◌-◌, ◌%◌, ◌^◌, ◌<◌, ◌≤◌, Bool, true, false, cond, List, [], ◌∷◌, ◌++◌, length, drop, get_or, map, refl, sym, ap, ◌∙◌, subst, arith}
 use Rattle.std.proofs.lemmas.Bool.{and_parts, leb-true}
 use Rattle.std.proofs.lemmas.Fmt.{decimal_by_steps, decimal_injective}
 use Rattle.std.proofs.lemmas.Slice.Eq.{bytes_eq-Decides}
-use Rattle.std.specs.Prelude.{bytes_eq, decimal, nat_le}
+use Rattle.std.specs.Prelude.{bytes_eq, decimal}
 use Rattle.std.specs.List.{AllByRecursion, list_all}
-use Rattle.shown_texts.specs.Names.{all_numbered, are_different, cut, if_different, is_once, numbered, shortened, some_numbered, times}
+use Rattle.shown_texts.specs.Names.{all_numbered, are_different, cut, is_once, numbered, shortened, some_numbered, times}
 
 -- ---- numbers behind names
 
@@ -52,7 +52,7 @@ all-differ : (most : ℕ) (names : List (List ℕ)) → length names < 2 ^ 64 �
     → get_or (all_numbered most 0 names) i [] ≡ get_or (all_numbered most 0 names) j [] → i ≡ j
 all-differ most names few i j lt there e =
     let n = same_number most (get_or names i []) (get_or names j []) (0 + i) (0 + j) (omega (arith, few, lt, there)) (omega (arith, few, there))
-        (sym (numbered-at most 0 names i (omega (arith, lt, there))) ∙ e ∙ numbered-at most 0 names j there) in
+    (sym (numbered-at most 0 names i (omega (arith, lt, there))) ∙ e ∙ numbered-at most 0 names j there) in
     omega (arith, n)
 
 -- ---- texts of which each is there once

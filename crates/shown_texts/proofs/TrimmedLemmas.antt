@@ -1,5 +1,5 @@
 -- Texts without the blanks at their end.
-use Rattle.std.proofs.Common.{◌≡◌, ℕ, suc, ◌+◌, ◌≤◌, Bool, true, false, cond, List, [], ◌∷◌, ◌++◌, length, reverse, refl, sym, ap, ◌∙◌, arith}
+use Rattle.std.proofs.Common.{◌≡◌, ℕ, ◌+◌, ◌≤◌, Bool, true, false, cond, List, [], ◌∷◌, ◌++◌, length, reverse, refl, sym, ap, ◌∙◌, arith}
 use Rattle.std.proofs.lemmas.List.{reverse-append, length-reverse, reverse-reverse}
 use Rattle.std.specs.Prelude.{◌==◌}
 use Rattle.shown_texts.specs.Characters.{trimmed, without_blanks}
@@ -43,7 +43,7 @@ trimmed-append xs ys =
     let b = length-reverse (without_blanks (reverse ys)) in
     let c = length-reverse xs in
     let d : length (trimmed (xs ++ ys)) ≡ length (reverse (without_blanks (reverse ys ++ reverse xs))) =
-        ap (λ (l : List ℕ). length (reverse (without_blanks l))) (reverse-append xs ys) in
+    ap (λ (l : List ℕ). length (reverse (without_blanks l))) (reverse-append xs ys) in
     omega (arith, h, a, b, c, d)
 
 pub trimmed-le : (xs : List ℕ) → length (trimmed xs) ≤ length xs

@@ -3,6 +3,7 @@ use Rattle.std.specs.Prelude.{◌≡◌, ◌≢◌, ℕ, ◌+◌, ◌^◌, ◌<�
 use Rattle.shown_texts.specs.Characters.{trimmed}
 use Rattle.shown_texts.specs.Names.{shortened}
 use Rattle.shown_texts.specs.Breaking.{broken}
+use Rattle.shown_texts.specs.Pages.{Page, all_lines}
 
 -- lines without what stands in front of them, put together
 abbrev pub unbroken : ℕ → ℕ → List (List ℕ) → List ℕ
@@ -26,3 +27,18 @@ abbrev pub ShortenedNamesDiffer : Type 0
 ShortenedNamesDiffer =
     (most : ℕ) (names : List (List ℕ)) → length names < 2 ^ 64 → (i j : ℕ) → i < j → j < length names
     → get_or (shortened most names) i [] ≢ get_or (shortened most names) j []
+
+-- a page of up to four sessions, each of which has a lane, and of so few steps that a number has three digits at most
+pub record IsSmall (p : Page) : Type 0 where
+  pub some : 0 < length p.sessions
+  pub few : length p.sessions ≤ 4
+  pub lanes : length p.shown.begun ≡ length p.sessions
+  pub steps : length p.steps ≤ 1000
+
+-- blanks at its end are not written
+abbrev pub IsNarrow : List ℕ → Type 0
+IsNarrow line = length (trimmed line) ≤ 80
+
+-- no line of such a page is wider than 80
+abbrev pub SmallPagesAreNarrow : Type 0
+SmallPagesAreNarrow = (p : Page) → IsSmall p → All IsNarrow (all_lines p)

@@ -15,6 +15,8 @@ mod pages;
 mod told;
 mod words;
 
-pub use laws::{broken_lines_fit, broken_texts_are_whole, shortened_names_differ};
+pub use laws::{
+    broken_lines_fit, broken_texts_are_whole, shortened_names_differ, small_pages_are_narrow,
+};
 pub use page::Page;
 pub use pages::show_text;
