@@ -1,5 +1,6 @@
 -- No line of a page of up to four sessions is wider than 80.
-use Rattle.std.proofs.Common.{◌≡◌, ℕ, zero, suc, ◌+◌, ◌-◌, ◌<◌, ◌≤◌, Bool, true, false, cond, List, [], ◌∷◌, ◌++◌, length, map, get_or, flat_map, Option, Some, None, refl, ap, ◌∙◌, arith}
+use Rattle.std.proofs.Common.{◌≡◌, ℕ, zero, suc, ◌+◌, ◌-◌, ◌<◌, ◌≤◌, Bool, true, false, cond, List}
+use Rattle.std.proofs.Common.{[], ◌∷◌, ◌++◌, length, map, get_or, flat_map, Option, Some, None, refl, ap, ◌∙◌, arith}
 use Rattle.std.proofs.Common.{eq-eqb}
 use Rattle.std.proofs.lemmas.Bool.{or_left, or_right}
 use Rattle.std.proofs.lemmas.List.{length-append, length-map, length-replicate}
@@ -16,9 +17,11 @@ use Rattle.shown_texts.specs.Characters.{blanks, padded, shown_text}
 use Rattle.shown_texts.specs.Breaking.{broken}
 use Rattle.shown_texts.specs.Lanes.{begun_rail, cell, cell_text, left_by, row_text, rows, step_at, width}
 use Rattle.shown_texts.specs.Orders.{comes_in, is_of, is_step, order_text, width_of, widest_from}
-use Rattle.shown_texts.specs.Pages.{Page, all_lines, column_width, frame, hanging_lines, head_row, heads, key_lines, key_text, lanes_part, left_lines, left_names}
+use Rattle.shown_texts.specs.Pages.{Page, all_lines, column_width, frame, hanging_lines, head_row}
+use Rattle.shown_texts.specs.Pages.{heads, key_lines, key_text, lanes_part, left_lines, left_names}
 use Rattle.shown_texts.specs.Pages.{legend, legend_from, legend_item, legend_line, meaning_if, or_nothing, part}
-use Rattle.shown_texts.specs.Pages.{plain_lines, rest_part, row_lines, shown_shortened, standing_from, standing_lines, standing_text, stands, step_room, table_head}
+use Rattle.shown_texts.specs.Pages.{plain_lines, rest_part, row_lines, shown_shortened, standing_from}
+use Rattle.shown_texts.specs.Pages.{standing_lines, standing_text, stands, step_room, table_head}
 use Rattle.shown_texts.specs.Pages.{table_lines, title, top_lines, values_text, waiting_from, waiting_lines, waiting_text}
 use Rattle.shown_texts.specs.Laws.{IsNarrow, IsSmall, IsWithin}
 use Rattle.shown_texts.specs.declared.frame.Frame.{Frame}
@@ -132,7 +135,8 @@ waiting-narrow f name (StillWaits want) = hanging-narrow (waiting_text f name wa
 all-waiting : (f : Frame) (n : ℕ) (ss : List Standing) → AreNarrow (waiting_from f n ss)
 all-waiting f n [] = tt
 all-waiting f n (s ∷ ss) =
-    all-append IsNarrow (waiting_lines f (get_or f.whole n []) s) (waiting_from f (n + 1) ss) (waiting-narrow f (get_or f.whole n []) s) (all-waiting f (n + 1) ss)
+    all-append IsNarrow (waiting_lines f (get_or f.whole n []) s) (waiting_from f (n + 1) ss)
+    (waiting-narrow f (get_or f.whole n []) s) (all-waiting f (n + 1) ss)
 
 standing-narrow : (name text : List ℕ) → AreNarrow (standing_lines name text)
 standing-narrow name [] = tt
@@ -150,7 +154,8 @@ nothing-narrow (l ∷ ls) are = are
 
 table-narrow : (left : Left) → AreNarrow (table_lines left)
 table-narrow left =
-    all-append IsNarrow (table_head left.table.name) (or_nothing (flat_map row_lines left.rows)) (hanging-narrow (codes "left in " ++ shown_text left.table.name))
+    all-append IsNarrow (table_head left.table.name) (or_nothing (flat_map row_lines left.rows))
+    (hanging-narrow (codes "left in " ++ shown_text left.table.name))
     (nothing-narrow (flat_map row_lines left.rows)
     (all-flat IsNarrow row_lines (λ row. broken-narrow 2 4 (shown_text (values_text row.1)) (omega arith) (omega arith)) left.rows))
 
@@ -178,7 +183,11 @@ key-narrow [] le = tt
 key-narrow (c ∷ cs) le = (narrow (c ∷ cs) le, tt)
 
 item-narrow : (most : ℕ) (name statements : List ℕ) (b : Bool) → AreNarrow (legend_item most name statements b)
-item-narrow most name statements true = (narrow (legend_line most name statements) (cut-fit 80 (padded most name ++ (codes "  " ++ shown_text statements)) (omega arith)), tt)
+item-narrow most name statements true = (
+  narrow (legend_line most name statements)
+      (cut-fit 80 (padded most name ++ (codes "  " ++ shown_text statements)) (omega arith)),
+  tt,
+)
 item-narrow most name statements false = tt
 
 legend-narrow : (statements : List (List ℕ)) (ms : List Moment) (most k : ℕ) (names : List (List ℕ)) → AreNarrow (legend_from statements ms most k names)
@@ -189,7 +198,8 @@ legend-narrow statements ms most k (name ∷ names) =
 
 -- ---- the lanes of a small page
 
-rows-narrow : (f : Frame) (n : ℕ) → f.left + 1 + total n f.column ≤ 80 → (rs : List LaneRow) → AllByRecursion (IsRow f n) rs → AreNarrow (map (row_text f) rs)
+rows-narrow : (f : Frame) (n : ℕ) → f.left + 1 + total n f.column ≤ 80 → (rs : List LaneRow) → AllByRecursion (IsRow f n) rs
+    → AreNarrow (map (row_text f) rs)
 rows-narrow f n le rs are =
     all-map IsNarrow (row_text f) rs
     (all-weaken (IsRow f n) (λ row. IsNarrow (row_text f row)) (λ row is. let a = row-long f n row is in narrow (row_text f row) (omega (arith, a, le))) rs are)

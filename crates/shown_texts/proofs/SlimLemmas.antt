@@ -132,7 +132,8 @@ module _ (f : Frame) (room : 18 ≤ f.column) where
   left-slim left zero le = le
   left-slim left (suc i) le = omega arith
 
-  row-slim : (left : List ℕ) (lanes : List Lane) (i : ℕ) → length left ≤ f.left → AllByRecursion IsSlimLane lanes → IsRow f (length lanes) (lane_row left lanes i)
+  row-slim : (left : List ℕ) (lanes : List Lane) (i : ℕ) → length left ≤ f.left → AllByRecursion IsSlimLane lanes
+      → IsRow f (length lanes) (lane_row left lanes i)
   row-slim left lanes i le are = (
     le,
     all-map (IsSlim f) (cell_at i) lanes

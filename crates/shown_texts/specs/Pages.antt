@@ -1,5 +1,6 @@
 -- The page that shows one order.
-use Rattle.std.specs.Prelude.{ℕ, ◌+◌, ◌-◌, ◌/◌, max, nat_le, nat_lt, Bool, cond, ◌==◌, List, [], ◌∷◌, ◌++◌, length, map, get_or, codes, decimal, flat_map, encode_utf8_all}
+use Rattle.std.specs.Prelude.{ℕ, ◌+◌, ◌-◌, ◌/◌, max, nat_le, nat_lt, Bool, cond, ◌==◌}
+use Rattle.std.specs.Prelude.{List, [], ◌∷◌, ◌++◌, length, map, get_or, codes, decimal, flat_map, encode_utf8_all}
 use Rattle.std.specs.List.{join_by, list_any}
 use Rattle.lock_modes.specs.declared.value.Value.{Value}
 use Rattle.lock_queues.specs.declared.reason.Edge.{Edge}
