@@ -4,7 +4,7 @@ and each step that is not sent. With them stands what the setups left, what is l
 The machine is that of `machine.py`. Here it is led from moment to moment, and looked at before and behind each.
 """
 
-from dataclasses import dataclass, field
+from dataclasses import dataclass
 
 from machine import DEADLOCK, FAILED_BLOCK, IN_BLOCK, OUTSIDE, UNAVAILABLE, Wait, World, plan, start
 
@@ -60,14 +60,17 @@ class Moment:
 
 @dataclass
 class Shown:
-    """An order: how each session begins, with its locks; rows of each table as they are first and last; and what each session is left in."""
+    """An order: how each session begins, with its locks; rows of each table as they are first and last; what each session is left in, and
+    what it wants where it waits. For those who look whether all of it is so, worlds and scenes stand beside it."""
 
     begun: list
     first: list
     moments: list
     left: list
     standing: list
-    worlds: list = field(default_factory=list)  # the world before the first moment, and behind each
+    wants: list
+    worlds: list  # before the first moment, and behind each
+    scenes: list  # of each moment the world in which a request was refused, with a wait for that behind all others, or None
 
 
 # ---- what is asked of a world
@@ -160,7 +163,7 @@ class Noting(World):
     def __init__(self, spec):
         super().__init__(spec)
         vars(self).update(vars(start(spec)))
-        self.changes, self.ring, self.lacks = [], None, None
+        self.changes, self.ring, self.lacks, self.scene = [], None, None, None
 
     def hold(self, wait):
         super().hold(wait)
@@ -181,32 +184,30 @@ class Noting(World):
                 self.ring = list(hops_of(self, ring_of(self, session)))
             else:
                 self.lacks = want_of(self, wait)
+            self.scene = self.fork()
             self.waits.pop()
         super().fail(session, event)
 
-    def noted(self):
-        """What was noted since this was asked last."""
-        noted = self.changes, self.ring, self.lacks
-        self.changes, self.ring, self.lacks = [], None, None
-        return noted
+    def forget(self):
+        self.changes, self.ring, self.lacks, self.scene = [], None, None, None
 
 
 def moment(world, session, kind, step, going):
     """What a session does, the world before it being this one."""
     before, told = reasons(world), len(world.members[session].transcript)
+    world.forget()
     going()
-    changes, ring, lacks = world.noted()
     member, wait, now = world.members[session], wait_of(world, session), reasons(world)
     return Moment(
         session,
         kind,
         step,
         member.transcript[told:],
-        changes,
+        world.changes,
         STATUSES[member.status],
         want_of(world, wait) if wait else None,
-        ring,
-        lacks,
+        world.ring,
+        world.lacks,
         [(one, now[one]) for one in sorted(now) if one != session and now[one] and now[one] != before.get(one)],
     )
 
@@ -246,11 +247,12 @@ def shown(spec, line):
     world = Noting(spec)
     sessions = range(len(spec.session_names))
     begun = [(STATUSES[world.members[session].status], locks_of(world, session)) for session in sessions]
-    told = Shown(begun, rows_left(world), [], [], [], [world.fork()])
+    first, moments, worlds, scenes = rows_left(world), [], [world.fork()], []
     for step in line:
         for one in moments_of(world, step):
-            told.moments.append(one)
-            told.worlds.append(world.fork())
-    told.left = rows_left(world)
-    told.standing = [standing_of(world, session) for session in sessions]
-    return told
+            moments.append(one)
+            worlds.append(world.fork())
+            scenes.append(world.scene)
+    standing = [standing_of(world, session) for session in sessions]
+    waits = [wait_of(world, session) for session in sessions]
+    return Shown(begun, first, moments, rows_left(world), standing, [wait and want_of(world, wait) for wait in waits], worlds, scenes)
