@@ -23,7 +23,7 @@ from generate import KINDS, Maker
 from moment_laws import wrong_in
 from orders import orders
 from refusal import Refusal
-from shown import HIDDEN, Order, answer, broken, shortened
+from shown import HIDDEN, WIDTH, Order, answer, broken, shortened
 from spec_file import read_spec
 
 ALONE, ALL = "--alone", "all"
@@ -80,14 +80,14 @@ class Namer(Maker):
 
 def named_spec(maker):
     namer = Namer(maker.random.randrange(10**9))
-    return namer.named(namer.hindering_spec(setups_lock=True).decode())
+    return namer.named(namer.hindering_spec(setups_lock=namer.some(0.4)).decode())
 
 
 def many_spec(maker):
     """Five to eight sessions."""
     namer = Namer(maker.random.randrange(10**9))
     steps = {5: [2, 3, 4], 6: [2, 3], 7: [2, 2, 3], 8: [1, 2]}
-    made = namer.hindering_spec((5, 6, 7, 8), steps=steps, setups_lock=True)
+    made = namer.hindering_spec((5, 6, 7, 8), steps=steps, setups_lock=namer.some(0.2))
     return namer.named(made.decode()) if namer.some(0.4) else made
 
 
@@ -207,9 +207,8 @@ def wrong_form(words, out):
         value = json.loads(out)
         return None if isinstance(value, dict) and value["format"] == 1 else "is no such object"
     lines = out.decode().split("\n")
-    head = lines[1 + lines.index("")] if "" in lines[:-1] else ""
-    is_wide = any(" columns wide" in line for line in lines[:3]) or len(head) > 80
-    if any(line.endswith(" ") for line in lines) or (not is_wide and any(len(line) > 80 for line in lines)):
+    is_wide = "columns wide" in " ".join(lines[: lines.index("")])
+    if any(line.endswith(" ") for line in lines) or (not is_wide and any(len(line) > WIDTH for line in lines)):
         return "a line is too long or ends with a blank"
     return None
 
