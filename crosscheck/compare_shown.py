@@ -16,6 +16,7 @@ from collections import Counter
 from pathlib import Path
 from random import Random
 from tempfile import TemporaryDirectory
+from unicodedata import category
 
 from binding import bind
 from compare import WORDS, Comparison, ended, texts_of
@@ -23,7 +24,7 @@ from generate import KINDS, Maker
 from moment_laws import wrong_in
 from orders import orders
 from refusal import Refusal
-from shown import HIDDEN, WIDTH, Order, answer, broken, shortened
+from shown import HIDDEN_RUNS, WIDTH, Order, answer, broken, shortened
 from spec_file import read_spec
 
 ALONE, ALL = "--alone", "all"
@@ -34,7 +35,8 @@ FILES = ["made.spec", "made.spec", "made.spec", "<a>&'b' \u200b\"c\".spec", f"{'
 NOTES = [" holds ", " is ahead, for ", ", has ", " and asks ", "  ring ", "  now ", "still wants", "still waits at the end", "columns wide", "~#"]
 NOTES += [f"in a {where}\n" for where in ("transaction", "failed block")] + [" waits\n", "  nothing", "\\u{"]
 MEMBERS = ["want", "ring", "lacks", "has"]
-HOSTILE = ["<b>", "</script>", "&amp;", "\u2028", "\u202e", "\x1b[31m", "\\u003c", "\\", '"', "'", "~", "#0", "#", "\t", "\x7f", "é", "字", "\U0001f600", "\u00ad", " ", "  ", "-", "\x0b", "\r"]
+HOSTILE = ["<b>", "</script>", "&amp;", "\u2028", "\u202e", "\x1b[31m", "\\u003c", "\\", '"', "'", "~", "#0", "#", "\t", "\x7f", "é", "字"]
+HOSTILE += ["\U0001f600", "\u00ad", " ", "  ", "-", "\x0b", "\r"]
 
 
 # ---- specs with names of all sorts
@@ -43,9 +45,15 @@ HOSTILE = ["<b>", "</script>", "&amp;", "\u2028", "\u202e", "\x1b[31m", "\\u003c
 class Namer(Maker):
     """Gives the sessions, steps and texts of a spec other names."""
 
+    def near_hidden(self):
+        """A character in a run of those that are not seen, or just outside of it; no zero and no line feed."""
+        first, last = self.one(HIDDEN_RUNS)
+        number = self.one([first - 1, first, last, last + 1, self.random.randint(first, last)])
+        return chr(number) if number not in (-1, 0, 10) else "\x01"
+
     def hostile(self):
-        parts = [self.one(HOSTILE) if self.some(0.6) else self.one(["a", "take", "b c", chr(self.one(sorted(HIDDEN - {0, 10})))]) for _ in range(self.random.randint(1, 6))]
-        return "".join(parts)
+        forms = [lambda: self.one(HOSTILE), self.near_hidden, lambda: self.one(["a", "take", "b c"])]
+        return "".join(self.many(6, lambda: self.one(forms)()))
 
     def alike(self):
         """Names that are the same when they are cut, or are what another one is then."""
@@ -119,8 +127,9 @@ def ranks_of(spec, random):
     return sorted({random.choice([0, number - 1, random.randrange(number)])} | {random.randrange(number) for _ in range(RANKS_A_SPEC - 1)})
 
 
-def can_be_word(name):
-    return "\0" not in name
+def is_told_alike(name):
+    """Whether the fault lines of both spell a name alike: of marks, and of what is no character yet, they know by other tables."""
+    return all(category(one) not in ("Mn", "Mc", "Me", "Cn") for one in name)
 
 
 def words_of(spec, random):
@@ -128,9 +137,10 @@ def words_of(spec, random):
     yield from ([str(rank)] for rank in ranks_of(spec, random))
     line = spec.line(random.randrange(spec.ranks()))
     lists = [[spec.step_names[step] for step in line]]
-    lists += [random.choice([*orders(random, spec)])] * (random.random() < 0.3)
+    if all(map(is_told_alike, spec.step_names)):
+        lists += [random.choice([*orders(random, spec)])] * (random.random() < 0.3)
     # One name that is a number is a rank.
-    yield from (names for names in lists if all(map(can_be_word, names)) and not (len(names) == 1 and names[0].isdigit()))
+    yield from (names for names in lists if not (len(names) == 1 and names[0].isdigit()))
     if random.random() < 0.1:
         yield [str(spec.ranks() + random.choice([0, 1, 2**64 - 1 - spec.ranks()]))]
 

@@ -20,15 +20,15 @@ WIDTH = 80
 LEAST_CELL, LEAST_LEFT = 18, 4
 MOST_NAMED = 3  # more sessions have shorter names
 OF_STEPS, OF_SESSIONS, OF_STEPS_OF_MANY, OF_SESSIONS_OF_MANY, OF_LEGEND = 12, 14, 7, 9, 24
-FIRST_HIDDEN_TO_LAST = (
-    "0-1f 7f-9f ad 34f 61c 115f-1160 17b4-17b5 180b-180f 200b-200f 2028-202e 2060-206f 3164 fe00-fe0f feff ffa0 "
-    "fff0-fffb 1bca0-1bca3 1d173-1d17a e0000-e0fff"
-)
-HIDDEN = {
-    number
-    for part in FIRST_HIDDEN_TO_LAST.split(" ")
-    for number in range(int(part.split("-")[0], 16), int(part.split("-")[-1], 16) + 1)
-}
+# The first and the last of each run of characters that show nothing or steer a terminal.
+HIDDEN_RUNS = [
+    (int(run.split("-")[0], 16), int(run.split("-")[-1], 16))
+    for run in (
+        "0-1f 7f-9f ad 34f 61c 115f-1160 17b4-17b5 180b-180f 200b-200f 2028-202e 2060-206f 3164 fe00-fe0f feff ffa0 "
+        "fff0-fffb 1bca0-1bca3 1d173-1d17a e0000-e0fff"
+    ).split()
+]
+HIDDEN = {number for first, last in HIDDEN_RUNS for number in range(first, last + 1)}
 RAILS = {"out": " ", "in": "|", "failed": "!", WAITS: ":"}
 MEANINGS = {"|": "| in a transaction", ":": ": waits", "!": "! failed, up to the end of its block"}
 LEFT_IN = {"in": "is in a transaction", "failed": "is in a failed block", WAITS: "waits"}
