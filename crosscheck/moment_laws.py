@@ -202,14 +202,43 @@ def wrong_in_ends(spec, told):
 # ---- the text
 
 
-def events_in_lanes(order, text):
-    """Of each session the first line of each event in its lane, read back from the columns of a text."""
-    lanes = Lanes(order)
-    rows = text.split("\n\n")[1].rstrip("\n").split("\n")[1:]
+def rows_of(lanes, text):
+    """The rows of lanes of a text: what stands at the left, and of each session its rail and a text, by their columns."""
+    for row in text.split("\n\n")[1].rstrip("\n").split("\n")[1:]:
+        row = row.ljust(lanes.columns)
+        cells = [row[lanes.left + session * lanes.cell :][: lanes.cell] for session in range(lanes.count)]
+        yield row[: lanes.left].rstrip(" "), [(cell[0], cell[2:].rstrip(" ")) for cell in cells]
+
+
+def events_in_lanes(lanes, rows):
+    """Of each session the first line of each event in its lane."""
     for session in range(lanes.count):
-        first = lanes.left + session * lanes.cell
-        cells = [row[first + 2 : first + lanes.cell].rstrip(" ") for row in rows]
-        yield [cell for cell in cells if cell and not cell.startswith(" ")]
+        texts = [cells[session][1] for _left, cells in rows]
+        yield [text for text in texts if text and not text.startswith(" ")]
+
+
+def rail_in(world, session):
+    if wait_at(world, session):
+        return ":"
+    return {"out": " ", "in": "|", "failed": "!"}[STATUSES[world.members[session].status]]
+
+
+def wrong_in_rails(order, lanes, rows):
+    """Each row belongs to a moment: its first one has a step at the left, or tells that its session goes on. In its rows the rails of the others, and
+    that of its session beneath its lines, are how they stand."""
+    told, number = order.shown, -1
+    for left, cells in rows:
+        number += bool(left) or any(text == "resumed" for _rail, text in cells)
+        moment, after = told.moments[number], told.worlds[number + 1]
+        if left and left != lanes.steps[moment.step].rstrip(" "):
+            yield f"{left} stands beside moment {number}"
+        for session, (rail, text) in enumerate(cells):
+            if (session != moment.session or not text) and rail != rail_in(after, session):
+                yield f"session {session} has the rail {rail} in moment {number}"
+            if session == moment.session and text and rail == " ":
+                yield f"a line of moment {number} has no rail"
+    if number != len(told.moments) - 1:
+        yield "other moments stand in the lanes"
 
 
 def events_of(order, transcript):
@@ -238,7 +267,10 @@ def wrong_in_text(order, text):
     for names in (lanes.heads, lanes.names, lanes.steps):
         if len({*names}) < len(names):
             yield "two short names are the same"
-    read = list(events_in_lanes(order, text))
+    rows = [*rows_of(lanes, text)]
+    if all(name.strip(" ") for name in lanes.steps):
+        yield from wrong_in_rails(order, lanes, rows)
+    read = list(events_in_lanes(lanes, rows))
     for session, transcript in enumerate(outcome(order.spec, order.rank)):
         if read[session] != list(events_of(order, transcript)):
             yield f"the lane of session {session} tells {read[session]}"
