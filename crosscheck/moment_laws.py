@@ -230,7 +230,7 @@ def wrong_in_rails(order, lanes, rows):
     for left, cells in rows:
         number += bool(left) or any(text == "resumed" for _rail, text in cells)
         moment, after = told.moments[number], told.worlds[number + 1]
-        if left and left != lanes.steps[moment.step].rstrip(" "):
+        if left and (moment.kind == RESUMED or left != lanes.steps[moment.step].rstrip(" ")):
             yield f"{left} stands beside moment {number}"
         for session, (rail, text) in enumerate(cells):
             if (session != moment.session or not text) and rail != rail_in(after, session):
