@@ -3,4 +3,5 @@ pub mod Joining
 pub mod Escaping
 pub mod Opening
 pub mod Markup
+pub mod Separators
 mod Worked

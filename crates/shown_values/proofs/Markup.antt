@@ -96,7 +96,7 @@ low-free : (byte : ℕ) → byte < 93 → IsFree (byte_text byte)
 unfolding escape_byte
 low-free byte low = agree_below_at (λ b. list_any is_markup (byte_text b)) (λ b. false) 93 byte refl low
 
-no-markup : (byte : ℕ) → 93 ≤ byte → is_markup byte ≡ false
+pub no-markup : (byte : ℕ) → 93 ≤ byte → is_markup byte ≡ false
 no-markup byte high = grind (arith, nat_tests)
 
 high-free : (byte : ℕ) → 93 ≤ byte → IsFree (byte_text byte)

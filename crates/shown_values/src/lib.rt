@@ -9,6 +9,6 @@ mod strings;
 mod texts;
 mod words;
 
-pub use laws::pages_are_free;
+pub use laws::{pages_are_free, strings_are_whole};
 pub use page::Page;
 pub use show::show_json;
