@@ -9,4 +9,5 @@ mod SlimLemmas
 mod TrimmedLemmas
 mod WidthLemmas
 mod Worked
+mod WorkedLanes
 mod WritingLemmas

@@ -1,21 +1,21 @@
 -- Pages and their parts, by hand.
-use Rattle.std.specs.Prelude.{◌≡◌, refl, ℕ, List, [], ◌∷◌, ◌++◌, Some, None, codes, pos, flat_map}
+use Rattle.std.specs.Prelude.{map, ◌≡◌, refl, ℕ, List, [], ◌∷◌, ◌++◌, Some, None, codes, pos, flat_map}
 use Rattle.std.specs.Fmt.{digits}
 use Rattle.std.specs.Str.{chars}
 use Rattle.std.specs.Char.{encode_utf8}
-use Rattle.lock_modes.specs.declared.mode.Mode.TheVariants.{IntentExclusive, Share, Exclusive}
+use Rattle.lock_modes.specs.declared.mode.Mode.TheVariants.{IntentExclusive, Share, ShareIntent, Exclusive}
 use Rattle.lock_modes.specs.declared.resource.Resource.TheVariants.{Table, Row}
-use Rattle.lock_modes.specs.declared.value.Value.TheVariants.{Int}
-use Rattle.lock_queues.specs.declared.reason.Reason.TheVariants.{Holds}
+use Rattle.lock_modes.specs.declared.value.Value.TheVariants.{Int, Text}
+use Rattle.lock_queues.specs.declared.reason.Reason.TheVariants.{Holds, Ahead}
 use Rattle.lock_queues.specs.declared.told.Hop.{Hop}
 use Rattle.lock_queues.specs.Reasons.{Want}
-use Rattle.transcripts.specs.declared.event.Fault.TheVariants.{Deadlock}
+use Rattle.transcripts.specs.declared.event.Fault.TheVariants.{Deadlock, Unavailable}
 use Rattle.transcripts.specs.declared.event.Event.{Event}
 use Rattle.transcripts.specs.declared.event.Event.TheVariants as event
 use Rattle.machine_model.specs.declared.status.Status.{Status}
 use Rattle.machine_model.specs.declared.status.Status.TheVariants.{Outside, InBlock, Broken}
 use Rattle.line_moments.specs.declared.moment.Ending.{Ending}
-use Rattle.line_moments.specs.declared.moment.Ending.TheVariants.{Ended, Awaits, Loses}
+use Rattle.line_moments.specs.declared.moment.Ending.TheVariants.{Ended, Awaits, Loses, Lacks}
 use Rattle.line_moments.specs.declared.moment.Manner.{Manner}
 use Rattle.line_moments.specs.declared.moment.Manner.TheVariants.{IsSent, IsResumed, IsNotSent}
 use Rattle.line_moments.specs.declared.moment.Moment.{Moment}
@@ -23,7 +23,10 @@ use Rattle.line_moments.specs.declared.shown.Standing.TheVariants.{IsOpen, Still
 use Rattle.shown_texts.specs.Characters.{shown_text}
 use Rattle.shown_texts.specs.Names.{shortened}
 use Rattle.shown_texts.specs.Breaking.{broken}
+use Rattle.shown_texts.specs.Lanes.{own_notes, want_notes}
 use Rattle.shown_texts.specs.Pages.{Page, page_bytes}
+use Rattle.shown_texts.specs.declared.frame.Frame.{Frame}
+use Rattle.shown_texts.specs.declared.lane.Cell.{Cell}
 
 -- a line feed, an escape and a mark of direction are shown by their numbers, and an accent as it is
 hidden : shown_text (97 ∷ 10 ∷ 27 ∷ 195 ∷ 169 ∷ 226 ∷ 128 ∷ 174 ∷ []) ≡ codes "a\\u{a}\\u{1b}" ++ (233 ∷ codes "\\u{202e}")
@@ -42,6 +45,67 @@ broken_lines = refl
 -- of many blanks the first one alone does
 many_blanks : broken 5 0 2 (codes "abcde   f") ≡ codes "abcde " ∷ codes "    f" ∷ []
 many_blanks = refl
+
+-- ---- the notes of a lane
+
+abbrev small_frame : Frame
+small_frame = record {
+  names = codes "a" ∷ codes "b" ∷ [];
+  whole = codes "a" ∷ codes "b" ∷ [];
+  tables = codes "t" ∷ codes "doctor" ∷ [];
+  steps = [];
+  left = 3;
+  column = 38;
+}
+
+abbrev beside_rail : Cell → List ℕ
+beside_rail c = c.rail ∷ 32 ∷ c.text
+
+-- a request that refuses to wait
+lacks : map beside_rail (own_notes small_frame [] (record {
+  session = 1;
+  manner = IsSent;
+  step = Some 0;
+  events = event.Sent 0 ∷ event.Failed Unavailable ∷ [];
+  changes = [];
+  status = Broken;
+  ending = Lacks (record {
+    resource = Row 0 (Text (codes "it's"));
+    mode = Exclusive;
+    asked = Exclusive;
+    has = None;
+    edges = record { session = 0; reason = Holds Share } ∷ [];
+  });
+  still = [];
+}))
+    ≡ codes "! error: lock not available" ∷ codes "!   wants X on t['it''s']" ∷ codes "!   a holds S" ∷ []
+unfolding chars
+lacks = refl
+
+-- a conversion to the mode that covers what is held and what is asked, behind a wait
+converts : map beside_rail (want_notes small_frame 58 [] (record {
+  resource = Table 1;
+  mode = ShareIntent;
+  asked = IntentExclusive;
+  has = Some Share;
+  edges = record { session = 0; reason = Ahead Exclusive } ∷ [];
+}))
+    ≡ codes ":   wants SIX on doctor: has S and " ∷ codes ":     asks IX" ∷ codes ":   a is ahead, for X" ∷ []
+converts = refl
+
+-- a step without statements in a failed block
+nothing_told : map beside_rail (own_notes small_frame [] (record {
+  session = 1;
+  manner = IsSent;
+  step = Some 0;
+  events = event.Sent 0 ∷ event.Done ∷ [];
+  changes = [];
+  status = Broken;
+  ending = Ended;
+  still = [];
+}))
+    ≡ codes "! done" ∷ []
+nothing_told = refl
 
 -- ---- a session that skips a step, and one that loses a deadlock and waits at the end
 
