@@ -193,6 +193,7 @@ class Comparison:
         if want != got:
             self.differences += 1
             print(f"{name}, {' '.join(words)}: {difference(want, got)}", flush=True)
+        return got
 
     def end(self, first=""):
         """Prints the counts. The exit status is given."""

@@ -9,4 +9,4 @@ mod words;
 
 pub use error::OrderError;
 pub use naming::rank_of;
-pub use spelling::order_text;
+pub use spelling::{order_text, push_name};

@@ -29,8 +29,8 @@ fn separator(is_last: bool) -> &'static str
     if is_last { "\n" } else { " " }
 }
 
-/// Puts a name behind a text, in quotes where it needs them.
-fn push_name(text: &mut String, name: &str) -> Result<(), AllocError>
+/// Puts a name behind a text as a spec file writes it, in quotes where it needs them. It fails for want of memory alone.
+pub fn push_name(text: &mut String, name: &str) -> Result<(), AllocError>
     ensures { OnOk result (string_bytes text.new ≡ string_bytes text.old ++ spelled name.now) }
 {
     if is_plain(name) {

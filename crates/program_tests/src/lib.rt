@@ -34,6 +34,8 @@ mod runs;
 #[cfg(test)]
 mod shelf;
 #[cfg(test)]
+mod shown_orders;
+#[cfg(test)]
 mod statements;
 #[cfg(test)]
 mod verdicts;

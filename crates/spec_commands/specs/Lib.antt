@@ -1,3 +1,4 @@
 pub mod One
 pub mod Counting
 pub mod Ordering
+pub mod Showing

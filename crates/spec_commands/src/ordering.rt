@@ -64,7 +64,7 @@ pub fn rank<W: Write>(
 }
 
 /// What is wrong with an order, with the names of steps.
-fn explained(alloc: Global, spec: &Spec, error: OrderError) -> RankFault
+pub(crate) fn explained(alloc: Global, spec: &Spec, error: OrderError) -> RankFault
     requires { NamesStep spec.now error }
     ensures { IsExplained spec.now error result }
 {

@@ -1,0 +1,12 @@
+mod BrokenLemmas
+mod FittingLemmas
+mod ListLemmas
+mod NameLemmas
+mod PageLemmas
+mod QuoteLemmas
+mod RowLemmas
+mod SlimLemmas
+mod TrimmedLemmas
+mod WidthLemmas
+mod Worked
+mod WritingLemmas

@@ -1,0 +1,149 @@
+-- Pages and their parts, by hand.
+use Rattle.std.specs.Prelude.{◌≡◌, refl, ℕ, List, [], ◌∷◌, ◌++◌, Some, None, codes, pos, flat_map}
+use Rattle.std.specs.Fmt.{digits}
+use Rattle.std.specs.Str.{chars}
+use Rattle.std.specs.Char.{encode_utf8}
+use Rattle.lock_modes.specs.declared.mode.Mode.TheVariants.{IntentExclusive, Share, Exclusive}
+use Rattle.lock_modes.specs.declared.resource.Resource.TheVariants.{Table, Row}
+use Rattle.lock_modes.specs.declared.value.Value.TheVariants.{Int}
+use Rattle.lock_queues.specs.declared.reason.Reason.TheVariants.{Holds}
+use Rattle.lock_queues.specs.declared.told.Hop.{Hop}
+use Rattle.lock_queues.specs.Reasons.{Want}
+use Rattle.transcripts.specs.declared.event.Fault.TheVariants.{Deadlock}
+use Rattle.transcripts.specs.declared.event.Event.{Event}
+use Rattle.transcripts.specs.declared.event.Event.TheVariants as event
+use Rattle.machine_model.specs.declared.status.Status.{Status}
+use Rattle.machine_model.specs.declared.status.Status.TheVariants.{Outside, InBlock, Broken}
+use Rattle.line_moments.specs.declared.moment.Ending.{Ending}
+use Rattle.line_moments.specs.declared.moment.Ending.TheVariants.{Ended, Awaits, Loses}
+use Rattle.line_moments.specs.declared.moment.Manner.{Manner}
+use Rattle.line_moments.specs.declared.moment.Manner.TheVariants.{IsSent, IsResumed, IsNotSent}
+use Rattle.line_moments.specs.declared.moment.Moment.{Moment}
+use Rattle.line_moments.specs.declared.shown.Standing.TheVariants.{IsOpen, StillWaits}
+use Rattle.shown_texts.specs.Characters.{shown_text}
+use Rattle.shown_texts.specs.Names.{shortened}
+use Rattle.shown_texts.specs.Breaking.{broken}
+use Rattle.shown_texts.specs.Pages.{Page, page_bytes}
+
+-- a line feed, an escape and a mark of direction are shown by their numbers, and an accent as it is
+hidden : shown_text (97 ∷ 10 ∷ 27 ∷ 195 ∷ 169 ∷ 226 ∷ 128 ∷ 174 ∷ []) ≡ codes "a\\u{a}\\u{1b}" ++ (233 ∷ codes "\\u{202e}")
+unfolding chars
+hidden = refl
+
+-- names that are the same when they are cut have their numbers behind them
+shortened_names : shortened 7 (codes "take_from_one" ∷ codes "look" ∷ codes "take_from_two" ∷ []) ≡ codes "take~#0" ∷ codes "look" ∷ codes "take~#2" ∷ []
+unfolding digits
+shortened_names = refl
+
+-- a blank may stand behind the last column
+broken_lines : broken 12 2 4 (codes "wants SIX on account") ≡ codes "  wants SIX " ∷ codes "    on " ∷ codes "    account" ∷ []
+broken_lines = refl
+
+-- of many blanks the first one alone does
+many_blanks : broken 5 0 2 (codes "abcde   f") ≡ codes "abcde " ∷ codes "    f" ∷ []
+many_blanks = refl
+
+-- ---- a session that skips a step, and one that loses a deadlock and waits at the end
+
+abbrev moment : ℕ → Manner → ℕ → List Event → Status → Ending → Moment
+moment session manner step events status ending =
+    record { session = session; manner = manner; step = Some step; events = events; changes = []; status = status; ending = ending; still = [] }
+
+abbrev wants_two : Want
+wants_two = record {
+  resource = Row 0 (Int (pos 2));
+  mode = Exclusive;
+  asked = Exclusive;
+  has = None;
+  edges = record { session = 1; reason = Holds Exclusive } ∷ [];
+}
+
+abbrev wants_table : Want
+wants_table = record {
+  resource = Table 0;
+  mode = Share;
+  asked = Share;
+  has = None;
+  edges = record { session = 0; reason = Holds IntentExclusive } ∷ [];
+}
+
+abbrev ring : List Hop
+ring =
+    record { session = 1; resource = Row 0 (Int (pos 1)); mode = Exclusive; edge = record { session = 0; reason = Holds Exclusive } }
+    ∷ record { session = 0; resource = Row 0 (Int (pos 2)); mode = Exclusive; edge = record { session = 1; reason = Holds Exclusive } } ∷ []
+
+abbrev deadlock : Page
+deadlock = record {
+  path = codes "deadlock.spec";
+  rank = 4;
+  orders = 20;
+  sessions = codes "a" ∷ codes "b" ∷ [];
+  steps = codes "a1" ∷ codes "a2" ∷ codes "a3" ∷ codes "b1" ∷ codes "b2" ∷ codes "b3" ∷ [];
+  statements =
+      codes "UPDATE t SET v = v + 1 WHERE id = 1;" ∷ codes "UPDATE t SET v = v + 1 WHERE id = 2;" ∷ codes "COMMIT;"
+      ∷ codes "UPDATE t SET v = v * 2 WHERE id = 2;" ∷ codes "UPDATE t SET v = v * 2 WHERE id = 1;" ∷ codes "COMMIT; SELECT * FROM t;" ∷ [];
+  shown = record {
+    begun = record { status = InBlock; locks = [] } ∷ record { status = InBlock; locks = [] } ∷ [];
+    first = [];
+    moments =
+        moment 0 IsSent 0 (event.Sent 0 ∷ event.Updated 1 ∷ event.Done ∷ []) InBlock Ended
+        ∷ moment 1 IsSent 3 (event.Sent 3 ∷ event.Updated 1 ∷ event.Done ∷ []) InBlock Ended
+        ∷ moment 0 IsSent 1 (event.Sent 1 ∷ event.Waiting ∷ []) InBlock (Awaits wants_two)
+        ∷ moment 0 IsNotSent 2 (event.NotSent 2 ∷ []) InBlock (Awaits wants_two)
+        ∷ moment 1 IsSent 4 (event.Sent 4 ∷ event.Failed Deadlock ∷ event.Done ∷ []) Broken (Loses ring)
+        ∷ moment 0 IsResumed 1 (event.Resumed ∷ event.Updated 1 ∷ event.Done ∷ []) InBlock Ended
+        ∷ moment 1 IsSent 5 (event.Sent 5 ∷ event.RolledBack ∷ event.Waiting ∷ []) Outside (Awaits wants_table) ∷ [];
+    left =
+        record {
+          table = record { name = codes "t"; columns = []; key = None };
+          rows = (Int (pos 1), Int (pos 1) ∷ Int (pos 10) ∷ []) ∷ (Int (pos 2), Int (pos 2) ∷ Int (pos 20) ∷ []) ∷ [];
+        } ∷ [];
+    standings = IsOpen ∷ StillWaits wants_table ∷ [];
+  };
+}
+
+abbrev line : List ℕ → List ℕ
+line text = text ++ codes "\n"
+
+deadlock_page : page_bytes deadlock ≡ flat_map line (
+    codes "deadlock.spec: rank 4 of 20"
+    ∷ codes "a1 b1 a2: a3- b2! b3:"
+    ∷ codes ""
+    ∷ codes "      a                                     b"
+    ∷ codes "a1  | updated 1                           |"
+    ∷ codes "b1  |                                     | updated 1"
+    ∷ codes "a2  : waiting                             |"
+    ∷ codes "    :   wants X on t[2]                   |"
+    ∷ codes "    :   b holds X                         |"
+    ∷ codes "a3  : not sent a3                         |"
+    ∷ codes "    :   still wants X on t[2]             |"
+    ∷ codes "    :   b holds X                         |"
+    ∷ codes "b2  :                                     ! error: deadlock"
+    ∷ codes "    :                                     !   ring b > a > b"
+    ∷ codes "    :                                     !   b wants X on t[1]: a holds X"
+    ∷ codes "    :                                     !   a wants X on t[2]: b holds X"
+    ∷ codes "    | resumed                             !"
+    ∷ codes "    | updated 1                           !"
+    ∷ codes "b3  |                                     | rolled back"
+    ∷ codes "    |                                     : waiting"
+    ∷ codes "    |                                     :   wants S on t"
+    ∷ codes "    |                                     :   a holds IX"
+    ∷ codes ""
+    ∷ codes "b still waits at the end: wants S on t, a holds IX"
+    ∷ codes ""
+    ∷ codes "left in t"
+    ∷ codes "  1|10"
+    ∷ codes "  2|20"
+    ∷ codes "a is in a transaction"
+    ∷ codes "b waits"
+    ∷ codes ""
+    ∷ codes "| in a transaction   : waits   ! failed, up to the end of its block"
+    ∷ codes ""
+    ∷ codes "a1  UPDATE t SET v = v + 1 WHERE id = 1;"
+    ∷ codes "a2  UPDATE t SET v = v + 1 WHERE id = 2;"
+    ∷ codes "a3  COMMIT;"
+    ∷ codes "b1  UPDATE t SET v = v * 2 WHERE id = 2;"
+    ∷ codes "b2  UPDATE t SET v = v * 2 WHERE id = 1;"
+    ∷ codes "b3  COMMIT; SELECT * FROM t;" ∷ [])
+unfolding chars digits encode_utf8
+deadlock_page = refl

@@ -1,0 +1,13 @@
+use Rattle.std.proofs.Common.{◌≡◌, ◌≤◌, length, take}
+use Rattle.shown_texts.specs.Characters.{trimmed}
+use Rattle.shown_texts.proofs.characters.trimmed_len.Given as goal
+
+-- what stands behind is blank
+abbrev pub invariant-loop-len : goal.invariant-loop-len
+invariant-loop-len l = record {
+  within : l.len ≤ length l.line;
+  same : trimmed (take l.len l.line) ≡ trimmed l.line;
+}
+
+abbrev pub decreases-loop-len : goal.decreases-loop-len
+decreases-loop-len l = l.len

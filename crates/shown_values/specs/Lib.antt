@@ -1,0 +1,5 @@
+pub mod Strings
+pub mod Words
+pub mod Moments
+pub mod Page
+pub mod Laws
