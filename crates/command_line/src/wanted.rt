@@ -1,6 +1,6 @@
 //! Orders: by a number, or by the names of their steps.
 
-ghost use Rattle.std.specs.Prelude.{◌≡◌, ℕ, List, [], ◌∷◌, ⊥, IfSome, None, map};
+ghost use Rattle.std.specs.Prelude.{◌≡◌, ℕ, IfSome, None, map};
 ghost use Rattle.command_line.specs.Lines.{IsNumber, IsNumberAlone, IsWanted};
 
 /// An order of a spec's steps.
