@@ -34,9 +34,7 @@ use command_line::{Asked, Wanted, parse_words};
 use fault_texts::ProgramFault;
 use range_commands::run_told;
 use shard_board::Workers;
-use spec_commands::{
-    CountFault, ShowForm, WantedOrder, check, count, one, order, rank, show,
-};
+use spec_commands::{CountFault, ShowForm, WantedOrder, check, count, one, order, rank, show};
 use std::alloc::Global;
 use std::io::{self, Write};
 use std::sync::Wait;

@@ -138,11 +138,7 @@ pub(crate) fn order_fault(path: &str, fault: OrderFault) -> ProgramFault<'_>
     }
 }
 
-pub(crate) fn show_fault<'a>(
-    path: &'a str,
-    names: &[&'a str],
-    fault: ShowFault,
-) -> ProgramFault<'a>
+pub(crate) fn show_fault<'a>(path: &'a str, names: &[&'a str], fault: ShowFault) -> ProgramFault<'a>
     requires { IsShowPlace (length names.now) fault }
     ensures { show_told path.entry names.now fault ≡ Some result }
 {
