@@ -2,9 +2,12 @@
 use Rattle.std.specs.Prelude.{◌≡◌, ◌==◌, ◌<◌, ◌≤◌, ℕ, ◌^◌, Bool, true, false, not, List, [], ◌∷◌, length, map, codes, decimal, Option, Some, None, cond}
 use Rattle.std.specs.List.{list_all}
 use Rattle.std.specs.Str.{bytes_eq}
+use Rattle.std.specs.Str.Parse.{IsNumeral, digits_value, without_leading_plus}
 use Rattle.command_line.specs.declared.words.TheConstants.{MAX_BOOKS, MAX_NAMES, DEFAULT_WORKERS}
 use Rattle.command_line.specs.declared.words.Asked.{Asked}
 use Rattle.command_line.specs.declared.words.Asked.TheVariants as asked
+use Rattle.command_line.specs.declared.wanted.Wanted.{Wanted}
+use Rattle.command_line.specs.declared.wanted.Wanted.TheVariants as wanted
 use Rattle.command_line.specs.declared.names.Name.{Name}
 use Rattle.command_line.specs.declared.names.Name.TheVariants as name
 
@@ -15,6 +18,7 @@ pub data Line : Type 0 where
   Count : (path : List ℕ) → Line
   Rank : (path : List ℕ) (names : List (List ℕ)) → Line
   Order : (path : List ℕ) (rank : ℕ) → Line
+  Show : (path : List ℕ) (order : List (List ℕ)) → Line
   Run : (path : List ℕ) (first end : ℕ) → Line
   Join : (paths : List (List ℕ)) → Line
   Holds : (path spec : List ℕ) (first end : ℕ) → Line
@@ -29,6 +33,7 @@ command (One path rank) = codes "one"
 command (Count path) = codes "count"
 command (Rank path names) = codes "rank"
 command (Order path rank) = codes "order"
+command (Show path order) = codes "show"
 command (Run path first end) = codes "run"
 command (Join paths) = codes "join"
 command (Holds path spec first end) = codes "holds"
@@ -43,6 +48,7 @@ arguments (One path rank) = path ∷ decimal rank ∷ []
 arguments (Count path) = path ∷ []
 arguments (Rank path names) = path ∷ names
 arguments (Order path rank) = path ∷ decimal rank ∷ []
+arguments (Show path order) = path ∷ order
 arguments (Run path first end) = path ∷ decimal first ∷ decimal end ∷ []
 arguments (Join paths) = paths
 arguments (Holds path spec first end) = path ∷ spec ∷ decimal first ∷ decimal end ∷ []
@@ -65,6 +71,7 @@ Fits (One path rank) = rank < 2 ^ 64
 Fits (Count path) = Unit {0}
 Fits (Rank path names) = AreNames names
 Fits (Order path rank) = rank < 2 ^ 64
+Fits (Show path order) = AreNames order
 Fits (Run path first end) = (first < 2 ^ 64) × (end < 2 ^ 64)
 Fits (Join paths) = AreBooks paths
 Fits (Holds path spec first end) = (first < 2 ^ 64) × (end < 2 ^ 64)
@@ -84,6 +91,20 @@ pub record IsLine (words : List (List ℕ)) (line : Line) : Type 0 where
   pub plain : list_all is_plain (arguments line) ≡ true
   pub fits : Fits line
 
+-- the word is a number of 64 bits, in decimal; a plus may stand before its digits
+abbrev pub IsNumber : List ℕ → ℕ → Type 0
+IsNumber word number = let digits = without_leading_plus word in IsNumeral 10 digits × (digits_value 10 digits ≡ number) × (number < 2 ^ 64)
+
+-- the words are one alone, and that is a number
+abbrev pub IsNumberAlone : List (List ℕ) → ℕ → Type 0
+IsNumberAlone (word ∷ []) number = IsNumber word number
+IsNumberAlone words number = ⊥
+
+-- which order the words are: a number alone is a rank, and all others are names of steps
+abbrev pub IsWanted : List (List ℕ) → Wanted → Type 0
+IsWanted words (wanted.Rank rank) = IsNumberAlone words rank
+IsWanted words (wanted.Names names) = (map (λ n. n.now) names.items ≡ words) × ((rank : ℕ) → IsNumberAlone words rank → ⊥)
+
 -- what the line asks for
 abbrev pub AsksFor : Line → Asked → Type 0
 AsksFor (Check path) (asked.Check p) = p.now ≡ path
@@ -91,6 +112,7 @@ AsksFor (One path rank) (asked.One p r) = (p.now ≡ path) × (r ≡ rank)
 AsksFor (Count path) (asked.Count p) = p.now ≡ path
 AsksFor (Rank path names) (asked.Rank p ns) = (p.now ≡ path) × (map (λ n. n.now) ns.items ≡ names)
 AsksFor (Order path rank) (asked.Order p r) = (p.now ≡ path) × (r ≡ rank)
+AsksFor (Show path order) (asked.Show p wanted json) = (p.now ≡ path) × IsWanted order wanted × (json ≡ false)
 AsksFor (Run path first end) (asked.Run p f e every workers progress) =
     (p.now ≡ path) × (f ≡ first) × (e ≡ end) × (every ≡ false) × (workers ≡ DEFAULT_WORKERS) × (progress ≡ false)
 AsksFor (Join paths) (asked.Join ps) = map (λ p. p.now) ps ≡ paths
@@ -106,10 +128,10 @@ AsksFor line asked = ⊥
 abbrev pub name_in : List ℕ → Option Name
 name_in word = cond (bytes_eq word (codes "check")) (Some name.Check) (cond (bytes_eq word (codes "one")) (Some name.One)
     (cond (bytes_eq word (codes "count")) (Some name.Count) (cond (bytes_eq word (codes "rank")) (Some name.Rank)
-    (cond (bytes_eq word (codes "order")) (Some name.Order) (cond (bytes_eq word (codes "run")) (Some name.Run)
-    (cond (bytes_eq word (codes "join")) (Some name.Join) (cond (bytes_eq word (codes "holds")) (Some name.Holds)
-    (cond (bytes_eq word (codes "report")) (Some name.Report) (cond (bytes_eq word (codes "audit")) (Some name.Audit)
-    (cond (bytes_eq word (codes "judge")) (Some name.Judge) None))))))))))
+    (cond (bytes_eq word (codes "order")) (Some name.Order) (cond (bytes_eq word (codes "show")) (Some name.Show)
+    (cond (bytes_eq word (codes "run")) (Some name.Run) (cond (bytes_eq word (codes "join")) (Some name.Join)
+    (cond (bytes_eq word (codes "holds")) (Some name.Holds) (cond (bytes_eq word (codes "report")) (Some name.Report)
+    (cond (bytes_eq word (codes "audit")) (Some name.Audit) (cond (bytes_eq word (codes "judge")) (Some name.Judge) None)))))))))))
 
 -- the command of a line
 abbrev pub named : Line → Name
@@ -118,6 +140,7 @@ named (One path rank) = name.One
 named (Count path) = name.Count
 named (Rank path names) = name.Rank
 named (Order path rank) = name.Order
+named (Show path order) = name.Show
 named (Run path first end) = name.Run
 named (Join paths) = name.Join
 named (Holds path spec first end) = name.Holds

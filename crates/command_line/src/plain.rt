@@ -4,10 +4,11 @@ ghost use Rattle.std.specs.Prelude.{◌≡◌, ◌<◌, ◌^◌, ℕ, List, [], 
 ghost use Rattle.std.specs.List.{list_all};
 ghost use Rattle.std.specs.Option.{IsSomeAnd};
 ghost use Rattle.command_line.specs.Lines.{AsksFor, AreBooks, AreNames, Fits, IsBehind, IsLine, Line, arguments, is_plain, named};
-ghost use Rattle.command_line.specs.Lines.{Check, One, Count, Rank, Order, Run, Join, Holds, Report, Audit, Judge};
+ghost use Rattle.command_line.specs.Lines.{Check, One, Count, Rank, Order, Show, Run, Join, Holds, Report, Audit, Judge};
 
 use crate::names::{Name, name_of};
 use crate::paths::Paths;
+use crate::wanted::wanted_of;
 use crate::words::{Asked, DEFAULT_WORKERS, MAX_BOOKS, MAX_NAMES};
 use shard_board::Workers;
 use std::alloc::{AllocError, Global};
@@ -78,6 +79,7 @@ fn line_of<'a>(
         Name::Count => Ok(count_line(rest)),
         Name::Rank => rank_line(alloc, rest),
         Name::Order => Ok(order_line(rest)),
+        Name::Show => show_line(alloc, rest),
         Name::Run => Ok(run_line(rest)),
         Name::Join => join_line(alloc, rest),
         Name::Holds => Ok(holds_line(rest)),
@@ -150,6 +152,33 @@ fn order_line<'a>(rest: &'a [String]) -> Option<Asked<'a>>
         }),
         _ => None,
     }
+}
+
+fn show_line<'a>(alloc: Global, rest: &'a [String]) -> Result<Option<Asked<'a>>, AllocError>
+    ensures { IfOk result (λ asked. (path : List ℕ) (order : List (List ℕ)) → AreNames order → map string_bytes rest.now ≡ path ∷ order → IsSomeAnd asked (AsksFor (Show path order))) }
+{
+    match rest {
+        [path, order @ ..] => wanted_line(alloc, path, order),
+        _ => Ok(None),
+    }
+}
+
+fn wanted_line<'a>(
+    alloc: Global,
+    path: &'a str,
+    order: &'a [String],
+) -> Result<Option<Asked<'a>>, AllocError>
+    ensures { IfOk result (λ asked. AreNames (map string_bytes order.now) → IsSomeAnd asked (AsksFor (Show path.now (map string_bytes order.now)))) }
+{
+    if order.is_empty() || order.len() > MAX_NAMES {
+        return Ok(None);
+    }
+    let words = words_of(alloc, order)?;
+    Ok(Some(Asked::Show {
+        path,
+        order: wanted_of(words),
+        json: false,
+    }))
 }
 
 fn run_line<'a>(rest: &'a [String]) -> Option<Asked<'a>>

@@ -8,6 +8,7 @@ ghost use Rattle.command_line.specs.Lines.{AsksFor, IsLine, Line};
 use crate::names::{Name, name_of};
 use crate::paths::Paths;
 use crate::plain::plain_line;
+use crate::wanted::{Wanted, wanted_of};
 use clap::error::ErrorKind;
 use clap::{Arg, ArgAction, ArgMatches, Command, Error, value_parser};
 use shard_board::{MAX_SEATS, Workers};
@@ -53,6 +54,12 @@ pub enum Asked<'a> {
     Order {
         path: &'a str,
         rank: u64,
+    },
+    /// What happens in one order of the spec at a path, moment by moment, as text or as JSON.
+    Show {
+        path: &'a str,
+        order: Wanted<'a>,
+        json: bool,
     },
     /// The book of the ranks from the first up to but not the end, and whether it is told how far that is.
     Run {
@@ -120,6 +127,8 @@ enum Word {
     Spec,
     Rank,
     Names,
+    Order,
+    Json,
     First,
     End,
     Every,
@@ -138,7 +147,7 @@ struct Row {
     words: &'static [Word],
 }
 
-static COMMANDS: [Row; 11] = [
+static COMMANDS: [Row; 12] = [
     Row {
         spelled: "check",
         about: "Prints how much a spec has, or where it is wrong and why",
@@ -163,6 +172,11 @@ static COMMANDS: [Row; 11] = [
         spelled: "order",
         about: "Prints the steps of a permutation",
         words: &[Word::Spec, Word::Rank],
+    },
+    Row {
+        spelled: "show",
+        about: "Prints what happens in one order, moment by moment, and why",
+        words: &[Word::Spec, Word::Order, Word::Json],
     },
     Row {
         spelled: "run",
@@ -239,7 +253,13 @@ fn arg_of<'a>(alloc: Global, word: Word) -> Arg<'a> {
     match word {
         Word::Spec => spec_word(alloc),
         Word::Rank => number_word(alloc, "RANK", "The number of a permutation, from 0"),
-        Word::Names => names_word(alloc),
+        Word::Names => names_word(alloc, "STEP", "The names of the steps, in their order"),
+        Word::Order => names_word(
+            alloc,
+            "ORDER",
+            "The number of a permutation, or the names of its steps in their order",
+        ),
+        Word::Json => json_word(alloc),
         Word::First => number_word(alloc, "FIRST", "The number of the first permutation"),
         Word::End => number_word(
             alloc,
@@ -291,12 +311,19 @@ fn books_word<'a>(alloc: Global, name: &'a str, help: &'a str) -> Arg<'a> {
         .help(help)
 }
 
-fn names_word<'a>(alloc: Global) -> Arg<'a> {
-    Arg::new(alloc, "STEP")
+fn names_word<'a>(alloc: Global, name: &'a str, help: &'a str) -> Arg<'a> {
+    Arg::new(alloc, name)
         .required(true)
         .action(ArgAction::Append)
         .num_args(1..=MAX_NAMES)
-        .help("The names of the steps, in their order")
+        .help(help)
+}
+
+fn json_word<'a>(alloc: Global) -> Arg<'a> {
+    Arg::new(alloc, "json")
+        .long("json")
+        .action(ArgAction::SetTrue)
+        .help("Prints it as JSON")
 }
 
 fn book_word<'a>(alloc: Global) -> Arg<'a> {
@@ -334,6 +361,7 @@ fn asked_of<'a>(alloc: Global, matches: &ArgMatches<'a>) -> Result<Option<Asked<
         Name::Count => Ok(count_of_words(words)),
         Name::Rank => rank_of_words(alloc, words),
         Name::Order => Ok(order_of_words(words)),
+        Name::Show => show_of_words(alloc, words),
         Name::Run => Ok(run_of_words(words)),
         Name::Join => join_of_words(alloc, words),
         Name::Holds => Ok(holds_of_words(words)),
@@ -379,6 +407,23 @@ fn order_of_words<'a>(words: &ArgMatches<'a>) -> Option<Asked<'a>> {
     let path = words.get_str("SPEC")?;
     let rank = words.get_one::<u64>("RANK")?;
     Some(Asked::Order { path, rank })
+}
+
+fn show_of_words<'a>(
+    alloc: Global,
+    words: &ArgMatches<'a>,
+) -> Result<Option<Asked<'a>>, AllocError> {
+    let Some(path) = words.get_str("SPEC") else {
+        return Ok(None);
+    };
+    match words.get_strs("ORDER") {
+        Some(order) => Ok(Some(Asked::Show {
+            path,
+            order: wanted_of(Vec::from_slice(alloc, order)?),
+            json: words.get_flag("json"),
+        })),
+        None => Ok(None),
+    }
 }
 
 fn run_of_words<'a>(words: &ArgMatches<'a>) -> Option<Asked<'a>> {

@@ -1,14 +1,21 @@
 -- What the program does for what is asked.
-use Rattle.std.specs.Prelude.{◌≡◌, ℕ, ◌+◌, ◌⊎◌, Bool, false, not, List, map, take, Option, None, Some, Result, Ok, Err, IfSome, ⊤}
+use Rattle.std.specs.Prelude.{◌≡◌, ℕ, ◌+◌, ◌⊎◌, Bool, true, false, not, List, [], map, take, Option, None, Some, Result, Ok, Err, IfSome, ⊤}
 use Rattle.std.specs.Io.KnownBytes.{Keeps}
 use Rattle.transcripts.specs.Counted.{Wrote, Stopped, written, failures_of}
 use Rattle.transcripts.specs.declared.counted.Counted.{Counted}
 use Rattle.command_line.specs.Lines.{Line, IsLine, AsksFor}
 use Rattle.command_line.specs.declared.words.Asked.{Asked}
-use Rattle.command_line.specs.declared.words.Asked.TheVariants.{Check, One, Count, Rank, Order, Run, Join, Holds, Report, Audit, Judge}
+use Rattle.command_line.specs.declared.words.Asked.TheVariants.{Check, One, Count, Rank, Order, Show, Run, Join, Holds, Report, Audit, Judge}
+use Rattle.command_line.specs.declared.wanted.Wanted.{Wanted}
+use Rattle.command_line.specs.declared.wanted.Wanted.TheVariants as wanted
 use Rattle.spec_commands.specs.One.{IsOneRun}
 use Rattle.spec_commands.specs.Counting.{IsChecked, IsCounted}
 use Rattle.spec_commands.specs.Ordering.{IsOrdered, IsRanked}
+use Rattle.spec_commands.specs.Showing.{IsShowRun}
+use Rattle.spec_commands.specs.declared.showing.ShowForm.{ShowForm}
+use Rattle.spec_commands.specs.declared.showing.ShowForm.TheVariants as form
+use Rattle.spec_commands.specs.declared.showing.WantedOrder.{WantedOrder}
+use Rattle.spec_commands.specs.declared.showing.WantedOrder.TheVariants as order
 use Rattle.book_commands.specs.declared.finding.Finding.{Finding}
 use Rattle.book_commands.specs.declared.finding.Finding.TheVariants.{Good}
 use Rattle.book_commands.specs.Finding.{finding_status}
@@ -22,7 +29,7 @@ use Rattle.program_commands.specs.declared.files.TheConstants.{MAX_SPEC_READ}
 use Rattle.fault_texts.specs.declared.fault.ProgramFault.{ProgramFault}
 use Rattle.fault_texts.specs.declared.fault.ProgramFault.TheVariants.{NoMemory, Read, Write}
 use Rattle.fault_texts.specs.Status.{status_of}
-use Rattle.program_commands.specs.Faults.{one_told, count_told, rank_told, order_told, range_told, join_told, report_told, audit_told, hold_told, judge_told, IsCheckTold}
+use Rattle.program_commands.specs.Faults.{Path, one_told, count_told, rank_told, order_told, show_told, range_told, join_told, report_told, audit_told, hold_told, judge_told, IsCheckTold}
 
 -- what a call finds is the program's answer, and what it refuses is told
 abbrev pub IsFound : {E : Type 0} → (Result Finding E → Type 0) → (E → ProgramFault → Type 0) → Result Finding ProgramFault → Type 0
@@ -53,6 +60,21 @@ abbrev pub IsUnread : {W : Type 0} → Option (List ℕ) → List ℕ → Counte
 IsUnread known path old new (Ok finding) = ⊥
 IsUnread known path old new (Err fault) = (new ≡ old) × IsReadFault known path fault
 
+-- the names of an order; a rank has none
+abbrev pub names_in : Wanted → List Path
+names_in (wanted.Rank rank) = []
+names_in (wanted.Names names) = names.items
+
+-- the order of the words is the one that a call is asked for
+abbrev pub IsSame : Wanted → WantedOrder → Type 0
+IsSame (wanted.Rank rank) (order.Rank n) = n ≡ rank
+IsSame (wanted.Names names) (order.Names ns) = ns.now ≡ names.items
+IsSame asked called = ⊥
+
+abbrev pub form_by : Bool → ShowForm
+form_by true = form.Json
+form_by false = form.Text
+
 -- what is asked for is done
 abbrev pub IsDone : Files → {W : Type 0} → (W → Option (List ℕ)) → Counted W → Counted W → Asked → Result Finding ProgramFault → Type 0
 IsDone files contents old new (One path rank) result =
@@ -70,6 +92,11 @@ IsDone files contents old new (Rank path names) result =
 IsDone files contents old new (Order path rank) result =
     IsUnread (files path.now) path.now old new result
     ⊎ IsCalled (files path.now) (λ bytes. IsOrdered contents old new bytes rank) (λ bytes error told. told ≡ order_told path error) result
+IsDone files contents old new (Show path order json) result =
+    IsUnread (files path.now) path.now old new result
+    ⊎ ((wanted : WantedOrder) × IsSame order wanted
+    × IsCalled (files path.now) (λ bytes. IsShowRun contents old new bytes path.now wanted (form_by json))
+    (λ bytes error told. show_told path (names_in order) error ≡ Some told) result)
 IsDone files contents old new (Run path first end every workers progress) result =
     IsUnread (files path.now) path.now old new result
     ⊎ IsCalled (files path.now) (λ bytes. IsRangeRun contents old new bytes first end (not every)) (λ bytes error told. told ≡ range_told path error) result
@@ -108,6 +135,7 @@ tells_progress (Check path) = false
 tells_progress (Count path) = false
 tells_progress (Rank path names) = false
 tells_progress (Order path rank) = false
+tells_progress (Show path order json) = false
 tells_progress (Run path first end every workers progress) = progress
 tells_progress (Join paths) = false
 tells_progress (Holds path spec first end) = false

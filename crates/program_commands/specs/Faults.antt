@@ -28,6 +28,9 @@ use Rattle.spec_commands.specs.declared.ordering.RankFault.{RankFault}
 use Rattle.spec_commands.specs.declared.ordering.RankFault.TheVariants as rank_fault
 use Rattle.spec_commands.specs.declared.ordering.OrderFault.{OrderFault}
 use Rattle.spec_commands.specs.declared.ordering.OrderFault.TheVariants as order_fault
+use Rattle.spec_commands.specs.declared.showing.ShowFault.{ShowFault}
+use Rattle.spec_commands.specs.declared.showing.ShowFault.TheVariants as show_fault
+use Rattle.spec_commands.specs.Ordering.{IsNamePlace}
 use Rattle.spec_commands.specs.declared.counting.CountFault.{CountFault}
 use Rattle.spec_commands.specs.declared.counting.CountFault.TheVariants as count_fault
 use Rattle.book_commands.specs.declared.joining.FileFault.{FileFault}
@@ -109,6 +112,20 @@ order_told path (order_fault.Spec fault) = spec_told path fault
 order_told path order_fault.OutOfRange = RankOutOfRange path
 order_told path order_fault.NoMemory = NoMemory
 order_told path (order_fault.Write fault) = Write
+
+-- of the name at a place that is told, where the order has no rank
+abbrev pub show_told : Path → List Path → ShowFault → Option ProgramFault
+show_told path names (show_fault.Spec fault) = Some (spec_told path fault)
+show_told path names (show_fault.NoRank fault) = rank_told path names fault
+show_told path names show_fault.OutOfRange = Some (RankOutOfRange path)
+show_told path names (show_fault.Run error) = Some (run_told path error)
+show_told path names show_fault.NoMemory = Some NoMemory
+show_told path names (show_fault.Write fault) = Some Write
+
+-- a place that the fault names is one of so many names
+abbrev pub IsShowPlace : ℕ → ShowFault → Type 0
+IsShowPlace count (show_fault.NoRank fault) = IsNamePlace count fault
+IsShowPlace count fault = Unit {0}
 
 abbrev pub write_told : WriteError → ProgramFault
 write_told write_error.TooLarge = BookTooLarge

@@ -8,6 +8,8 @@ ghost use Rattle.transcripts.specs.declared.counted.Counted.{Counted};
 ghost use Rattle.spec_commands.specs.One.{IsOneRun};
 ghost use Rattle.spec_commands.specs.Counting.{IsChecked, IsCounted};
 ghost use Rattle.spec_commands.specs.Ordering.{IsOrdered, IsRanked};
+ghost use Rattle.spec_commands.specs.Showing.{IsShowRun};
+ghost use Rattle.spec_commands.specs.declared.showing.WantedOrder.{WantedOrder};
 ghost use Rattle.book_commands.specs.Finding.{finding_status};
 ghost use Rattle.book_commands.specs.Joining.{IsJoinRun};
 ghost use Rattle.book_commands.specs.Reporting.{IsFileReported};
@@ -16,23 +18,23 @@ ghost use Rattle.book_commands.specs.Judging.{IsJudgeRun};
 ghost use Rattle.book_commands.specs.Holding.{IsHoldRun};
 ghost use Rattle.range_commands.specs.Ranges.{IsRangeRun};
 ghost use Rattle.fault_texts.specs.Status.{status_of};
-ghost use Rattle.program_commands.specs.Faults.{one_told, count_told, rank_told, order_told, range_told, join_told, report_told, audit_told, hold_told, judge_told, IsCheckTold};
+ghost use Rattle.program_commands.specs.Faults.{one_told, count_told, rank_told, order_told, show_told, range_told, join_told, report_told, audit_told, hold_told, judge_told, IsCheckTold};
 ghost use Rattle.fault_texts.specs.declared.fault.ProgramFault.TheVariants.{Write as WriteFault};
-ghost use Rattle.program_commands.specs.Commands.{IsAnswered, IsCut, IsDone, IsCalled, IsFlushed, IsFound, IsFoundBy, IsPassedOn, IsRun, IsTold, IsUnread, IsUsage, tells_progress};
+ghost use Rattle.program_commands.specs.Commands.{IsAnswered, IsCut, IsDone, IsCalled, IsFlushed, IsFound, IsFoundBy, IsPassedOn, IsRun, IsSame, IsTold, IsUnread, IsUsage, form_by, names_in, tells_progress};
 
 use crate::faults::{
     audit_fault, count_fault, explained_fault, fault_at, hold_fault, join_fault, judge_fault,
-    order_fault, range_fault, rank_fault, report_fault,
+    order_fault, range_fault, rank_fault, report_fault, show_fault,
 };
 use crate::files::read_spec_file;
 use book_commands::{Finding, Opener, audit_file, hold_file, join_files, judge_files, report_file};
 use clap::Error;
 use clap::error::ErrorKind;
-use command_line::{Asked, parse_words};
+use command_line::{Asked, Wanted, parse_words};
 use fault_texts::ProgramFault;
 use range_commands::run_told;
 use shard_board::Workers;
-use spec_commands::{CountFault, check, count, one, order, rank};
+use spec_commands::{CountFault, ShowForm, WantedOrder, check, count, one, order, rank, show};
 use std::alloc::Global;
 use std::io::{self, Write};
 use std::sync::Wait;
@@ -103,6 +105,9 @@ fn work<'a, R: Threads + Wait + Clock + Sync, O: Opener, W: Write, E: Write + Se
         Asked::Count { path } => count_of_file(alloc, path, opener, out),
         Asked::Rank { path, names } => rank_of_file(alloc, path, names.as_slice(), opener, out),
         Asked::Order { path, rank } => order_of_file(alloc, path, *rank, opener, out),
+        Asked::Show { path, order, json } => {
+            show_of_file(alloc, path, order, *json, opener, out)
+        }
         Asked::Run {
             path,
             first,
@@ -230,6 +235,55 @@ fn order_of_file<'a, O: Opener, W: Write>(
         Ok(()) => Ok(Finding::Good),
         Err(fault) => Err(order_fault(path, fault)),
     }
+}
+
+fn show_of_file<'a, O: Opener, W: Write>(
+    alloc: Global,
+    path: &'a str,
+    order: &Wanted<'a>,
+    json: bool,
+    opener: &O,
+    out: &mut Counted<W>,
+) -> Result<Finding, ProgramFault<'a>>
+    requires { failures_of out.old ≡ 0 }
+    ensures done { IsUnread (O.bytes opener.now path.now) path.now out.old out.new result ⊎ ((wanted : WantedOrder) × IsSame order.now wanted × IsCalled (O.bytes opener.now path.now) (λ bytes. IsShowRun W.contents out.old out.new bytes path.now wanted (form_by json)) (λ bytes error told. show_told path.entry (names_in order.now) error ≡ Some told) result) }
+    ensures failures { OnOk result (failures_of out.new ≡ 0) }
+{
+    let bytes = match read_spec_file(alloc, opener, path) {
+        Ok(bytes) => bytes,
+        Err(fault) => return Err(fault),
+    };
+    let wanted = wanted_of(order);
+    match show(alloc, bytes.as_slice(), path, wanted, form_of(json), out) {
+        Ok(()) => Ok(Finding::Good),
+        Err(fault) => Err(show_fault(path, names_of(order), fault)),
+    }
+}
+
+/// The order, as a call is asked for it.
+fn wanted_of<'w>(order: &'w Wanted<'_>) -> WantedOrder<'w>
+    ensures { IsSame order.now result }
+{
+    match order {
+        Wanted::Rank(rank) => WantedOrder::Rank(*rank),
+        Wanted::Names(names) => WantedOrder::Names(names.as_slice()),
+    }
+}
+
+/// The names of an order; a rank has none.
+fn names_of<'w, 'a>(order: &'w Wanted<'a>) -> &'w [&'a str]
+    ensures { result.now ≡ names_in order.now }
+{
+    match order {
+        Wanted::Rank(_) => &[],
+        Wanted::Names(names) => names.as_slice(),
+    }
+}
+
+fn form_of(json: bool) -> ShowForm
+    ensures { result ≡ form_by json }
+{
+    if json { ShowForm::Json } else { ShowForm::Text }
 }
 
 fn range_of_file<'a, R: Threads + Wait + Clock + Sync, O: Opener, W: Write, E: Write + Send>(

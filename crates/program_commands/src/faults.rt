@@ -6,7 +6,7 @@ ghost use Rattle.book_commands.specs.Joining.{IsPlaced};
 ghost use Rattle.book_commands.specs.Judging.{IsAcceptedPlace};
 ghost use Rattle.fault_texts.specs.Explanations.{explanation};
 ghost use Rattle.fault_texts.specs.declared.fault.ProgramFault.TheVariants.{NoMemory};
-ghost use Rattle.program_commands.specs.Faults.{IsExplained, offset_of, one_told, count_told, rank_told, order_told, range_told, join_told, report_told, audit_told, hold_told, judge_told, no_report_told};
+ghost use Rattle.program_commands.specs.Faults.{IsExplained, IsShowPlace, offset_of, one_told, count_told, rank_told, order_told, show_told, range_told, join_told, report_told, audit_told, hold_told, judge_told, no_report_told};
 ghost use Rattle.program_commands.specs.Faults.{values_told, file_told, book_told, write_told, spec_told, text_told, binding_told, run_told, start_told};
 
 use book_commands::{
@@ -18,7 +18,7 @@ use fault_texts::{ProgramFault, binding_sentence, explained, text_sentence};
 use range_commands::RangeFault;
 use session_machine::{RunError, StartError};
 use spec_binding::{BindError, BindErrorKind, SpecFault};
-use spec_commands::{CountFault, OneFault, OrderFault, RankFault};
+use spec_commands::{CountFault, OneFault, OrderFault, RankFault, ShowFault};
 use spec_reader::{SpecError, SpecErrorKind};
 use std::alloc::{AllocError, Global};
 
@@ -135,6 +135,20 @@ pub(crate) fn order_fault(path: &str, fault: OrderFault) -> ProgramFault<'_>
         OrderFault::OutOfRange => ProgramFault::RankOutOfRange { path },
         OrderFault::NoMemory => ProgramFault::NoMemory,
         OrderFault::Write(_) => ProgramFault::Write,
+    }
+}
+
+pub(crate) fn show_fault<'a>(path: &'a str, names: &[&'a str], fault: ShowFault) -> ProgramFault<'a>
+    requires { IsShowPlace (length names.now) fault }
+    ensures { show_told path.entry names.now fault ≡ Some result }
+{
+    match fault {
+        ShowFault::Spec(fault) => spec_fault(path, fault),
+        ShowFault::NoRank(fault) => rank_fault(path, names, fault),
+        ShowFault::OutOfRange => ProgramFault::RankOutOfRange { path },
+        ShowFault::Run(error) => run_fault(path, error),
+        ShowFault::NoMemory => ProgramFault::NoMemory,
+        ShowFault::Write(_) => ProgramFault::Write,
     }
 }
 

@@ -216,6 +216,8 @@ fn an_output_that_fails_is_a_write_fault(rt: HostRuntime) -> Result<(), Fail> {
     let disk = holding(FIRST.as_bytes());
     for line in [
         "isofarm one first.spec 0",
+        "isofarm show first.spec 0",
+        "isofarm show --json first.spec a1 b1",
         "isofarm --help",
         "isofarm help",
         "isofarm one --help",
@@ -250,6 +252,9 @@ fn words_that_ask_for_nothing_end_with_two(rt: HostRuntime) -> Result<(), Fail> 
         "isofarm one first.spec -1",
         "isofarm one first.spec 0 1",
         "isofarm two first.spec 0",
+        "isofarm show first.spec",
+        "isofarm show first.spec --json",
+        "isofarm show first.spec 0 --every",
     ] {
         assert_no_command(&rt, rt.alloc(), line)?;
     }
@@ -271,7 +276,12 @@ fn assert_help(
 
 #[test]
 fn help_goes_to_the_output(rt: HostRuntime) -> Result<(), Fail> {
-    for line in ["isofarm --help", "isofarm help", "isofarm one --help"] {
+    for line in [
+        "isofarm --help",
+        "isofarm help",
+        "isofarm one --help",
+        "isofarm show --help",
+    ] {
         assert_help(&rt, rt.alloc(), line)?;
     }
     Ok(())

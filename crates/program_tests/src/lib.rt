@@ -36,6 +36,8 @@ mod shelf;
 #[cfg(test)]
 mod shown_orders;
 #[cfg(test)]
+mod shows;
+#[cfg(test)]
 mod statements;
 #[cfg(test)]
 mod verdicts;

@@ -126,7 +126,29 @@ isofarm order lines.spec 4 | 3 | lines.spec: rank out of range
 isofarm order eight.spec 369398958888960000 | 3 | eight.spec: rank out of range
 isofarm order eight.spec 18446744073709551615 | 3 | eight.spec: rank out of range
 isofarm order bad.spec 0 | 3 | bad.spec: spec error 5 at 9
-isofarm order no.spec 0 | 5 | no.spec: read fault"#;
+isofarm order no.spec 0 | 5 | no.spec: read fault
+isofarm show two.spec 6 | 3 | two.spec: rank out of range
+isofarm show two.spec 18446744073709551615 | 3 | two.spec: rank out of range
+isofarm show two.spec 18446744073709551616 | 3 | two.spec: no step "18446744073709551616"
+isofarm show two.spec 0 1 | 3 | two.spec: no step "0"
+isofarm show quoted.spec 9 | 3 | quoted.spec: rank out of range
+isofarm show two.spec b2 b2 c1 c2 | 3 | two.spec: no step "c1"
+isofarm show two.spec a1 b1 a1 | 3 | two.spec: step "a1" twice
+isofarm show two.spec b1 a2 a1 b2 | 3 | two.spec: step "a2" before "a1"
+isofarm show two.spec a1 b1 b2 | 3 | two.spec: step "a2" left out
+isofarm show lines.spec a1 b1 | 3 | lines.spec: no such line
+isofarm show late.spec 0 | 3 | late.spec: start error 1 at 1
+isofarm show late.spec s | 3 | late.spec: start error 1 at 1
+isofarm show late.spec 1 | 3 | late.spec: rank out of range
+isofarm show late.spec t | 3 | late.spec: no step "t"
+isofarm show bad.spec 0 | 3 | bad.spec: spec error 5 at 9
+isofarm show bad.spec t | 3 | bad.spec: spec error 5 at 9
+isofarm show no.spec 0 | 5 | no.spec: read fault
+isofarm show --json two.spec 6 | 3 | two.spec: rank out of range
+isofarm show --json two.spec a1 c1 | 3 | two.spec: no step "c1"
+isofarm show --json late.spec 0 | 3 | late.spec: start error 1 at 1
+isofarm show --json bad.spec 0 | 3 | bad.spec: spec error 5 at 9
+isofarm show --json no.spec 0 | 5 | no.spec: read fault"#;
 
 #[test]
 fn what_is_wrong_with_an_order_is_told(rt: HostRuntime) -> Result<(), Fail> {

@@ -236,7 +236,8 @@ fn shown(alloc: Global) -> Result<Shown, AllocError> {
 }
 
 /// The lines of a text, one behind the other, and a line feed.
-fn on_one_line(alloc: Global, text: &str) -> Result<Vec<u8>, AllocError> {
+/// The lines of a text, one behind the other, with a line feed at the end.
+pub fn on_one_line(alloc: Global, text: &str) -> Result<Vec<u8>, AllocError> {
     let mut bytes = Vec::new(alloc);
     for line in text.lines() {
         bytes.extend_from_slice(line.as_bytes())?;
