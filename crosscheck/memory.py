@@ -23,6 +23,7 @@ WORDS += [["one", "first.spec", "0"], ["one", "deadlock.spec", "5"], ["one", "lo
 BOOKS = {"low.book": "run deadlock.spec 0 9", "high.book": "run deadlock.spec 9 20 --every", "all.book": "join low.book high.book"}
 WRONG = b"session a\n\tstep s {}\n\tstep {}\n"
 OF_BOOKS = ["rank deadlock.spec a1 b1 a2", "rank deadlock.spec a2 a1", "order deadlock.spec 3", "order wrong.spec 0"]
+OF_BOOKS += ["show deadlock.spec 5", "show deadlock.spec a1 b1 a2 b2 a3 b3 --json", "show deadlock.spec 20", "show wrong.spec 0"]
 OF_BOOKS += ["check deadlock.spec", "check wrong.spec", "count deadlock.spec", "run deadlock.spec 0 20", "run deadlock.spec 0 21"]
 OF_BOOKS += ["join low.book high.book", "join all.book wrong.spec", "report all.book", "report low.book", "run deadlock.spec 0 20 --workers 1"]
 OF_BOOKS += ["run deadlock.spec 0 20 --workers 1 --progress"]

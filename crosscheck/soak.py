@@ -155,10 +155,21 @@ class Soak:
             again = self.run("rank", path, "--", *names)
             self.hold(again.status == 0 and int(again.out) <= rank, "an order has no rank, or a later one", ran, again)
             self.run("rank", path, "--", *self.random.sample(names, self.random.randint(1, len(names))))
+            self.shows(path, rank, names, int(again.out), starts)
         for rank in self.random.sample([number, number + 1, 2**32, 2**63, 2**64 - 1], 2):
             self.hold(rank < number or (ran := self.run("one", path, rank)).status == 3, "an order is there that is none", ran)
         for ends in compare_files.no_ranges(self.random, number):
             self.hold((ran := self.run("run", path, *ends)).status == 3, "a range is there that is none", ran)
+
+    def shows(self, path, rank, names, least, starts):
+        """What happens in an order, by its rank and by its names, as text and as JSON."""
+        for flags in ([], ["--json"]):
+            shown = self.run("show", *flags, path, rank)
+            self.hold(shown.status == (0 if starts else 3), "an order is not shown", shown)
+            if len(names) > 1:
+                named = self.run("show", *flags, path, "--", *names)
+                shown = shown if least == rank else self.run("show", *flags, path, least)
+                self.hold_same([(ran.status, ran.out) for ran in (shown, named)], "an order is shown otherwise by its names", shown, named)
 
     # books
 

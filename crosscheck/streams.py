@@ -36,15 +36,16 @@ FILES = {
     "half.book": BOOK[: len(BOOK) // 2],
     "empty": b"",
 }
-GOOD = ["one first.spec 0", "check first.spec", "count first.spec", "rank first.spec a1 b1", "order first.spec 1", "run first.spec 0 2", "join all.book", "report all.book"]
-GOOD += ["holds all.book first.spec 0 2", "run first.spec 0 2 --workers 16", "audit all.book", "judge all.book all.book"]
-HELP = ["help", "--help", "--version", *(f"{line} --help" for line in ("one", "check", "count", "rank", "order", "run", "join", "holds", "report", "audit", "judge"))]
+GOOD = ["one first.spec 0", "check first.spec", "count first.spec", "rank first.spec a1 b1", "order first.spec 1", "show first.spec 1", "run first.spec 0 2", "join all.book", "report all.book"]
+GOOD += ["show first.spec a1 b1 --json", "holds all.book first.spec 0 2", "run first.spec 0 2 --workers 16", "audit all.book", "judge all.book all.book"]
+HELP = ["help", "--help", "--version", *(f"{line} --help" for line in ("one", "check", "count", "rank", "order", "show", "run", "join", "holds", "report", "audit", "judge"))]
 FAULTS = {"one first.spec 2": 3, "report one.book": 1, "count nothing": 5, "two first.spec 0": 2}
 NO_COMMANDS = ["", "one", "one first.spec", "one first.spec x", "one first.spec -1", f"one first.spec {U64}", "two first.spec 0"]
 NO_COMMANDS += ["check", "check first.spec 0", "count", "count first.spec 0", "run first.spec 0", f"run first.spec 0 {U64}", "run first.spec 0 1 --all", "join"]
 NO_COMMANDS += [f"join{' all.book' * 1001}", "report", "report all.book all.book", "report --every all.book"]
 NO_COMMANDS += [f"run first.spec 0 1 --workers{number}" for number in ("", " 0", " 17", " x", " -1", " 4294967297")]
 NO_COMMANDS += ["rank", "rank first.spec", f"rank first.spec{' a1' * 1001}", "order", "order first.spec", "order first.spec x", "order first.spec 0 1"]
+NO_COMMANDS += ["show", "show first.spec", "show first.spec --json", f"show first.spec{' a1' * 1001}", "show first.spec 0 --text"]
 NO_COMMANDS += ["holds", "holds all.book first.spec 0", "holds all.book first.spec 0 x", "holds all.book first.spec 0 1 2"]
 NO_COMMANDS += ["audit", "audit all.book all.book", "judge", "judge all.book", f"judge{' all.book' * 1002}"]
 WRITE_FAULT = b"isofarm: write fault\n"
@@ -53,7 +54,7 @@ NAME = PROGRAM.name.encode()
 USAGES = {
     "run first.spec 0 1 --workers 17": b"error: invalid value '17' for '--workers <N>': 17 is not in 1..=16\n" + TRY_HELP,
     "": b"error: '" + NAME + b"' requires a subcommand but one was not provided\n"
-    b"  [subcommands: check, one, count, rank, order, run, join, holds, report, audit, judge, help]\n\nUsage: " + NAME + b" <COMMAND>\n" + TRY_HELP,
+    b"  [subcommands: check, one, count, rank, order, show, run, join, holds, report, audit, judge, help]\n\nUsage: " + NAME + b" <COMMAND>\n" + TRY_HELP,
 }
 SHARD = 1_000
 # Seconds that a run here takes at most.
@@ -70,7 +71,7 @@ def unread():
     shut = ["shut"] if os.geteuid() else []
     for path in ["nothing", "folder", "first.spec/x", "/proc/self/mem", *shut]:
         commands = [["one", path, "0"], ["check", path], ["count", path], ["run", path, "0", "1"], ["join", path], ["join", "all.book", path]]
-        commands += [["rank", path, "a1", "b1"], ["order", path, "0"], ["holds", path, "first.spec", "0", "1"], ["holds", "all.book", path, "0", "1"]]
+        commands += [["rank", path, "a1", "b1"], ["order", path, "0"], ["show", path, "0"], ["show", path, "a1", "b1"], ["holds", path, "first.spec", "0", "1"], ["holds", "all.book", path, "0", "1"]]
         commands += [["judge", path, "all.book"], ["judge", "all.book", path], ["audit", path]]
         for words in [*commands, ["report", path]]:
             yield words, line(5, f"{path}: read fault")
@@ -78,7 +79,7 @@ def unread():
 
 def marked():
     """Files that are empty, cut off, or begin with the mark of their byte order."""
-    for words in (["one", "mark.spec", "0"], ["count", "mark.spec"], ["order", "mark.spec", "0"], ["run", "mark.spec", "0", "1"]):
+    for words in (["one", "mark.spec", "0"], ["count", "mark.spec"], ["order", "mark.spec", "0"], ["show", "mark.spec", "0"], ["run", "mark.spec", "0", "1"]):
         yield words, line(3, "mark.spec: spec error 4 at 0")
     yield ["one", "empty", "0"], line(3, "empty: spec error 5 at 0")
     for path in ("mark.book", "empty", "half.book"):
@@ -92,6 +93,7 @@ def far():
     yield ["count", "large.spec"], (0, b"%d\n" % (last + 1), b"")
     for rank in (U32, U32 + 1, U64 - 1):
         yield ["one", "first.spec", str(rank)], line(3, "first.spec: rank out of range")
+        yield ["show", "first.spec", str(rank)], line(3, "first.spec: rank out of range")
     for rank in (U32 - 1, U32, U32 + 1, last, last + 1, U64 - 1):
         yield ["one", "large.spec", str(rank)], expected(LARGE.encode(), rank, "large.spec")
         yield ["order", "large.spec", str(rank)], answer(order, LARGE.encode(), "large.spec", rank)

@@ -3,10 +3,26 @@
 ghost use Rattle.std.specs.Prelude.{◌≡◌, ◌++◌, ◌∷◌, [], ℕ, List, IfOk, OnOk};
 ghost use Rattle.shown_texts.specs.Breaking as spec;
 ghost use Rattle.shown_texts.specs.Characters.{blanks};
+ghost use Rattle.shown_texts.specs.Pages.{hanging_lines, plain_lines};
 
 use crate::characters::{put_blanks, put_line, trimmed_len};
 use sqlite_items::Items;
 use std::alloc::{AllocError, Global};
+
+/// The columns of the page, unless lanes are too narrow in so many.
+pub(crate) const COLUMNS: usize = 80;
+
+pub(crate) fn plain_lines(alloc: Global, text: &[char]) -> Result<Items<Items<char>>, AllocError>
+    ensures { IfOk result (λ lines. lines ≡ plain_lines text.now) }
+{
+    broken(alloc, COLUMNS, 0, 0, text)
+}
+
+pub(crate) fn hanging_lines(alloc: Global, text: &[char]) -> Result<Items<Items<char>>, AllocError>
+    ensures { IfOk result (λ lines. lines ≡ hanging_lines text.now) }
+{
+    broken(alloc, COLUMNS, 0, 2, text)
+}
 
 /// The text in lines of a width: so many blanks stand in front of the first line, and a margin in front of each further one.
 pub(crate) fn broken(

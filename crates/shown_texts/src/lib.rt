@@ -3,10 +3,12 @@
 
 mod breaking;
 mod characters;
+mod ends;
 mod frame;
 mod lane;
 mod lanes;
 mod laws;
+mod legend;
 mod names;
 mod notes;
 mod orders;

@@ -1,1 +1,2 @@
 pub mod OrderLemmas
+mod ShowLemmas

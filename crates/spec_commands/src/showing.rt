@@ -76,7 +76,7 @@ pub fn show<W: Write>(
     let Some(line) = spec.line(rank) else {
         return Err(ShowFault::OutOfRange);
     };
-    let found = match found(alloc, &spec, &line) {
+    let found = match find_shown(alloc, &spec, &line) {
         Ok(found) => found,
         Err(fault) => return Err(fault),
     };
@@ -104,7 +104,7 @@ struct Found {
     shown: Shown,
 }
 
-fn found(alloc: Global, spec: &Spec, line: &Line) -> Result<Found, ShowFault>
+fn find_shown(alloc: Global, spec: &Spec, line: &Line) -> Result<Found, ShowFault>
     requires { All (λ k. k < length spec.now.run.steps) line.now.items }
     ensures found { IfOk result (λ found. (rank : ℕ) → line.now.items ≡ line_of spec.now.run rank
         → IsFound spec.now.text spec.now rank found.statements.items found.shown) }

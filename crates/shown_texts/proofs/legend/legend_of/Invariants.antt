@@ -1,6 +1,6 @@
 use Rattle.std.proofs.Common.{◌≡◌, ◌++◌, drop}
 use Rattle.shown_texts.specs.Pages.{legend_from}
-use Rattle.shown_texts.proofs.pages.legend_of.Given as goal
+use Rattle.shown_texts.proofs.legend.legend_of.Given as goal
 
 -- those put and those left
 abbrev pub invariant-loop-step : goal.invariant-loop-step

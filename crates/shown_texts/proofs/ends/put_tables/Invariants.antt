@@ -1,6 +1,6 @@
 use Rattle.std.proofs.Common.{◌≡◌, ◌++◌, flat_map, take}
 use Rattle.shown_texts.specs.Pages.{table_lines}
-use Rattle.shown_texts.proofs.pages.put_tables.Given as goal
+use Rattle.shown_texts.proofs.ends.put_tables.Given as goal
 
 -- the tables passed are put
 abbrev pub invariant-loop-one : goal.invariant-loop-one

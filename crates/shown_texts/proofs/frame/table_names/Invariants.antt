@@ -1,6 +1,6 @@
 use Rattle.std.proofs.Common.{◌≡◌, map, take}
 use Rattle.shown_texts.specs.Pages.{table_name}
-use Rattle.shown_texts.proofs.pages.table_names.Given as goal
+use Rattle.shown_texts.proofs.frame.table_names.Given as goal
 
 -- the tables passed
 abbrev pub invariant-loop-one : goal.invariant-loop-one

@@ -1,6 +1,6 @@
 use Rattle.std.proofs.Common.{◌≡◌, ◌++◌, drop}
 use Rattle.shown_texts.specs.Pages.{standing_from}
-use Rattle.shown_texts.proofs.pages.put_standings.Given as goal
+use Rattle.shown_texts.proofs.ends.put_standings.Given as goal
 
 -- those put and those left
 abbrev pub invariant-loop-session : goal.invariant-loop-session

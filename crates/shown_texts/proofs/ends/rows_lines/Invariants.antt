@@ -1,6 +1,6 @@
 use Rattle.std.proofs.Common.{◌≡◌, flat_map, take}
 use Rattle.shown_texts.specs.Pages.{row_lines}
-use Rattle.shown_texts.proofs.pages.rows_lines.Given as goal
+use Rattle.shown_texts.proofs.ends.rows_lines.Given as goal
 
 -- the rows passed
 abbrev pub invariant-loop-row : goal.invariant-loop-row

@@ -1,6 +1,6 @@
 use Rattle.std.proofs.Common.{◌≡◌, ◌++◌, drop}
 use Rattle.shown_texts.specs.Pages.{waiting_from}
-use Rattle.shown_texts.proofs.pages.waiting_lines.Given as goal
+use Rattle.shown_texts.proofs.ends.waiting_lines.Given as goal
 
 -- those passed and those left
 abbrev pub invariant-loop-session : goal.invariant-loop-session

@@ -1,6 +1,6 @@
 use Rattle.std.proofs.Common.{◌≡◌, map, take}
 use Rattle.shown_texts.specs.Characters.{shown_text}
-use Rattle.shown_texts.proofs.pages.shown_names.Given as goal
+use Rattle.shown_texts.proofs.frame.shown_names.Given as goal
 
 -- the names passed
 abbrev pub invariant-loop-name : goal.invariant-loop-name
