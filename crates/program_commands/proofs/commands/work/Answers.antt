@@ -27,6 +27,12 @@ returns-in-Order-clause-done g c =
     (sym c.in-Order.is)
     c.order_of_file.ensures.done
 
+pub returns-in-Show-clause-done : goal.returns-in-Show-clause-done
+returns-in-Show-clause-done g c =
+    subst (λ a. IsDone (g.O.Opener.bytes c.args.opener.now) g.W.Write.contents c.args.out.now c.show_of_file.new.out a c.show_of_file.result)
+    (sym c.in-Show.is)
+    c.show_of_file.ensures.done
+
 pub returns-in-Run-clause-done : goal.returns-in-Run-clause-done
 returns-in-Run-clause-done g c =
     subst (λ a. IsDone (g.O.Opener.bytes c.args.opener.now) g.W.Write.contents c.args.out.now c.range_of_file.new.out a c.range_of_file.result)
