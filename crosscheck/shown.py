@@ -91,7 +91,7 @@ def pieces(text, most):
 def broken(text, width, first, more):
     lines = [" " * first]
     for piece in pieces(text, width - more):
-        if len((lines[-1] + piece).rstrip(" ")) <= width:
+        if len(lines[-1] + piece.removesuffix(" ")) <= width:
             lines[-1] += piece
         else:
             lines.append(" " * more + piece)
