@@ -184,7 +184,8 @@ BROKEN = [
     ("wants X on t[1], has S", (16, 2, 4), ["  wants X on", "    t[1], has S"]),
     # A long word is cut behind so many characters as a further line has, and its pieces go on a line whole.
     ("row 'abcdefghijklmnop'|1", (15, 0, 2), ["row", "  'abcdefghijkl", "  mnop'|1"]),
-    ("abcdefghij  kl", (10, 0, 0), ["abcdefghij", "kl"]),
+    # Of two blanks behind a full line one goes on it.
+    ("abcdefghij  kl", (10, 0, 0), ["abcdefghij", " kl"]),
     ("a  b", (3, 0, 0), ["a", "b"]),
 ]
 
