@@ -60,6 +60,7 @@ TESTS = {
     ],
     "program_tests": [
         "audits::an_audit_without_memory_is_refused_by_name",
+        "classes::classes_are_told_whole_unless_memory_runs_out",
         "memory::a_step_is_bound_whole_unless_memory_runs_out",
         "memory::a_step_is_refused_as_ever_unless_memory_runs_out",
         "memory::a_run_tells_all_unless_memory_runs_out",

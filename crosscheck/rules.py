@@ -11,7 +11,7 @@ MOST_SECONDS = 10
 N = "(?:0|[1-9][0-9]*)"
 # A name in quotes, in which a quote and a backslash are marked.
 NAME = r'"(?:[^"\\]|\\.)*"'
-OF_SPECS, OF_BOOKS, OF_REPORTS = {"one", "check", "count", "rank", "order", "show", "run"}, {"join", "holds", "report", "audit", "judge"}, {"report", "judge"}
+OF_SPECS, OF_BOOKS, OF_REPORTS = {"one", "check", "count", "rank", "order", "show", "classes", "run"}, {"join", "holds", "report", "audit", "judge"}, {"report", "judge"}
 COMMANDS = OF_SPECS | OF_BOOKS
 NAMED, UNNAMED = True, False
 # A fault: its status, its text, whether a path stands before it, and the commands that tell it. There is memory, so that none lacks it.
@@ -19,7 +19,7 @@ FAULTS = [
     (3, f"(?P<by>spec) error [1-9] at (?P<place>{N})", NAMED, OF_SPECS),
     (3, f"(?P<by>sql) error [1-7] at (?P<place>{N})", NAMED, OF_SPECS),
     (3, f"(?P<by>bind) error [2-8] at (?P<place>{N})", NAMED, OF_SPECS),
-    (3, f"start error [1-3] at {N}", NAMED, {"one", "show", "run"}),
+    (3, f"start error [1-3] at {N}", NAMED, {"one", "show", "classes", "run"}),
     (3, "rank out of range", NAMED, {"one", "order", "show"}),
     (3, f"no step {NAME}", NAMED, {"rank", "show"}),
     (3, f"step {NAME} (?:twice|left out|before {NAME})", NAMED, {"rank", "show"}),
@@ -42,6 +42,7 @@ ANSWERS = {
     ("rank", 0): rb"%(n)s\n",
     ("order", 0): rb"[^ \n][^\n]*\n",
     ("show", 0): rb"\{\"format\":1,[^\n]*\}\n|[^ \n].*\n",
+    ("classes", 0): rb"[^\n]+: %(n)s orders?, %(n)s (?:class(?:es)?|answers?)\n\n.+\n",
     ("run", 0): BOOK,
     ("join", 0): BOOK,
     ("holds", 0): rb"true\n",

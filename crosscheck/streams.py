@@ -37,8 +37,8 @@ FILES = {
     "empty": b"",
 }
 GOOD = ["one first.spec 0", "check first.spec", "count first.spec", "rank first.spec a1 b1", "order first.spec 1", "show first.spec 1", "run first.spec 0 2", "join all.book", "report all.book"]
-GOOD += ["show first.spec a1 b1 --json", "holds all.book first.spec 0 2", "run first.spec 0 2 --workers 16", "audit all.book", "judge all.book all.book"]
-HELP = ["help", "--help", "--version", *(f"{line} --help" for line in ("one", "check", "count", "rank", "order", "show", "run", "join", "holds", "report", "audit", "judge"))]
+GOOD += ["show first.spec a1 b1 --json", "classes first.spec", "classes first.spec --answers --brief", "classes first.spec --workers 16", "holds all.book first.spec 0 2", "run first.spec 0 2 --workers 16", "audit all.book", "judge all.book all.book"]
+HELP = ["help", "--help", "--version", *(f"{line} --help" for line in ("one", "check", "count", "rank", "order", "show", "classes", "run", "join", "holds", "report", "audit", "judge"))]
 FAULTS = {"one first.spec 2": 3, "report one.book": 1, "count nothing": 5, "two first.spec 0": 2}
 NO_COMMANDS = ["", "one", "one first.spec", "one first.spec x", "one first.spec -1", f"one first.spec {U64}", "two first.spec 0"]
 NO_COMMANDS += ["check", "check first.spec 0", "count", "count first.spec 0", "run first.spec 0", f"run first.spec 0 {U64}", "run first.spec 0 1 --all", "join"]
@@ -46,6 +46,7 @@ NO_COMMANDS += [f"join{' all.book' * 1001}", "report", "report all.book all.book
 NO_COMMANDS += [f"run first.spec 0 1 --workers{number}" for number in ("", " 0", " 17", " x", " -1", " 4294967297")]
 NO_COMMANDS += ["rank", "rank first.spec", f"rank first.spec{' a1' * 1001}", "order", "order first.spec", "order first.spec x", "order first.spec 0 1"]
 NO_COMMANDS += ["show", "show first.spec", "show first.spec --json", f"show first.spec{' a1' * 1001}", "show first.spec 0 --text"]
+NO_COMMANDS += ["classes", "classes first.spec 0", "classes first.spec --workers 0", "classes first.spec --json"]
 NO_COMMANDS += ["holds", "holds all.book first.spec 0", "holds all.book first.spec 0 x", "holds all.book first.spec 0 1 2"]
 NO_COMMANDS += ["audit", "audit all.book all.book", "judge", "judge all.book", f"judge{' all.book' * 1002}"]
 WRITE_FAULT = b"isofarm: write fault\n"
@@ -54,7 +55,7 @@ NAME = PROGRAM.name.encode()
 USAGES = {
     "run first.spec 0 1 --workers 17": b"error: invalid value '17' for '--workers <N>': 17 is not in 1..=16\n" + TRY_HELP,
     "": b"error: '" + NAME + b"' requires a subcommand but one was not provided\n"
-    b"  [subcommands: check, one, count, rank, order, show, run, join, holds, report, audit, judge, help]\n\nUsage: " + NAME + b" <COMMAND>\n" + TRY_HELP,
+    b"  [subcommands: check, one, count, rank, order, show, classes, run, join, holds, report, audit, judge, help]\n\nUsage: " + NAME + b" <COMMAND>\n" + TRY_HELP,
 }
 SHARD = 1_000
 # Seconds that a run here takes at most.

@@ -19,6 +19,7 @@ pub data Line : Type 0 where
   Rank : (path : List ℕ) (names : List (List ℕ)) → Line
   Order : (path : List ℕ) (rank : ℕ) → Line
   Show : (path : List ℕ) (order : List (List ℕ)) → Line
+  Classes : (path : List ℕ) → Line
   Run : (path : List ℕ) (first end : ℕ) → Line
   Join : (paths : List (List ℕ)) → Line
   Holds : (path spec : List ℕ) (first end : ℕ) → Line
@@ -34,6 +35,7 @@ command (Count path) = codes "count"
 command (Rank path names) = codes "rank"
 command (Order path rank) = codes "order"
 command (Show path order) = codes "show"
+command (Classes path) = codes "classes"
 command (Run path first end) = codes "run"
 command (Join paths) = codes "join"
 command (Holds path spec first end) = codes "holds"
@@ -49,6 +51,7 @@ arguments (Count path) = path ∷ []
 arguments (Rank path names) = path ∷ names
 arguments (Order path rank) = path ∷ decimal rank ∷ []
 arguments (Show path order) = path ∷ order
+arguments (Classes path) = path ∷ []
 arguments (Run path first end) = path ∷ decimal first ∷ decimal end ∷ []
 arguments (Join paths) = paths
 arguments (Holds path spec first end) = path ∷ spec ∷ decimal first ∷ decimal end ∷ []
@@ -72,6 +75,7 @@ Fits (Count path) = Unit {0}
 Fits (Rank path names) = AreNames names
 Fits (Order path rank) = rank < 2 ^ 64
 Fits (Show path order) = AreNames order
+Fits (Classes path) = Unit {0}
 Fits (Run path first end) = (first < 2 ^ 64) × (end < 2 ^ 64)
 Fits (Join paths) = AreBooks paths
 Fits (Holds path spec first end) = (first < 2 ^ 64) × (end < 2 ^ 64)
@@ -113,6 +117,8 @@ AsksFor (Count path) (asked.Count p) = p.now ≡ path
 AsksFor (Rank path names) (asked.Rank p ns) = (p.now ≡ path) × (map (λ n. n.now) ns.items ≡ names)
 AsksFor (Order path rank) (asked.Order p r) = (p.now ≡ path) × (r ≡ rank)
 AsksFor (Show path order) (asked.Show p wanted json) = (p.now ≡ path) × IsWanted order wanted × (json ≡ false)
+AsksFor (Classes path) (asked.Classes p answers brief workers progress) =
+    (p.now ≡ path) × (answers ≡ false) × (brief ≡ false) × (workers ≡ DEFAULT_WORKERS) × (progress ≡ false)
 AsksFor (Run path first end) (asked.Run p f e every workers progress) =
     (p.now ≡ path) × (f ≡ first) × (e ≡ end) × (every ≡ false) × (workers ≡ DEFAULT_WORKERS) × (progress ≡ false)
 AsksFor (Join paths) (asked.Join ps) = map (λ p. p.now) ps ≡ paths
@@ -129,9 +135,9 @@ abbrev pub name_in : List ℕ → Option Name
 name_in word = cond (bytes_eq word (codes "check")) (Some name.Check) (cond (bytes_eq word (codes "one")) (Some name.One)
     (cond (bytes_eq word (codes "count")) (Some name.Count) (cond (bytes_eq word (codes "rank")) (Some name.Rank)
     (cond (bytes_eq word (codes "order")) (Some name.Order) (cond (bytes_eq word (codes "show")) (Some name.Show)
-    (cond (bytes_eq word (codes "run")) (Some name.Run) (cond (bytes_eq word (codes "join")) (Some name.Join)
+    (cond (bytes_eq word (codes "classes")) (Some name.Classes) (cond (bytes_eq word (codes "run")) (Some name.Run) (cond (bytes_eq word (codes "join")) (Some name.Join)
     (cond (bytes_eq word (codes "holds")) (Some name.Holds) (cond (bytes_eq word (codes "report")) (Some name.Report)
-    (cond (bytes_eq word (codes "audit")) (Some name.Audit) (cond (bytes_eq word (codes "judge")) (Some name.Judge) None)))))))))))
+    (cond (bytes_eq word (codes "audit")) (Some name.Audit) (cond (bytes_eq word (codes "judge")) (Some name.Judge) None))))))))))))
 
 -- the command of a line
 abbrev pub named : Line → Name
@@ -141,6 +147,7 @@ named (Count path) = name.Count
 named (Rank path names) = name.Rank
 named (Order path rank) = name.Order
 named (Show path order) = name.Show
+named (Classes path) = name.Classes
 named (Run path first end) = name.Run
 named (Join paths) = name.Join
 named (Holds path spec first end) = name.Holds

@@ -4,7 +4,7 @@ ghost use Rattle.std.specs.Prelude.{◌≡◌, ◌<◌, ◌^◌, ℕ, List, [], 
 ghost use Rattle.std.specs.List.{list_all};
 ghost use Rattle.std.specs.Option.{IsSomeAnd};
 ghost use Rattle.command_line.specs.Lines.{AsksFor, AreBooks, AreNames, Fits, IsBehind, IsLine, Line, arguments, is_plain, named};
-ghost use Rattle.command_line.specs.Lines.{Check, One, Count, Rank, Order, Show, Run, Join, Holds, Report, Audit, Judge};
+ghost use Rattle.command_line.specs.Lines.{Check, One, Count, Rank, Order, Show, Classes, Run, Join, Holds, Report, Audit, Judge};
 
 use crate::names::{Name, name_of};
 use crate::paths::Paths;
@@ -80,6 +80,7 @@ fn line_of<'a>(
         Name::Rank => rank_line(alloc, rest),
         Name::Order => Ok(order_line(rest)),
         Name::Show => show_line(alloc, rest),
+        Name::Classes => Ok(classes_line(rest)),
         Name::Run => Ok(run_line(rest)),
         Name::Join => join_line(alloc, rest),
         Name::Holds => Ok(holds_line(rest)),
@@ -179,6 +180,21 @@ fn wanted_line<'a>(
         order: wanted_of(words),
         json: false,
     }))
+}
+
+fn classes_line<'a>(rest: &'a [String]) -> Option<Asked<'a>>
+    ensures { (path : List ℕ) → map string_bytes rest.now ≡ path ∷ [] → IsSomeAnd result (AsksFor (Classes path)) }
+{
+    match rest {
+        [path] => Some(Asked::Classes {
+            path,
+            answers: false,
+            brief: false,
+            workers: Workers::of(DEFAULT_WORKERS)?,
+            progress: false,
+        }),
+        _ => None,
+    }
 }
 
 fn run_line<'a>(rest: &'a [String]) -> Option<Asked<'a>>

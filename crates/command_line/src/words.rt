@@ -61,6 +61,15 @@ pub enum Asked<'a> {
         order: Wanted<'a>,
         json: bool,
     },
+    /// All orders of the spec at a path in classes, by what they show or by what they answer, or the totals alone, and whether it is told
+    /// how far that is.
+    Classes {
+        path: &'a str,
+        answers: bool,
+        brief: bool,
+        workers: Workers,
+        progress: bool,
+    },
     /// The book of the ranks from the first up to but not the end, and whether it is told how far that is.
     Run {
         path: &'a str,
@@ -129,6 +138,8 @@ enum Word {
     Names,
     Order,
     Json,
+    Answers,
+    Brief,
     First,
     End,
     Every,
@@ -147,7 +158,7 @@ struct Row {
     words: &'static [Word],
 }
 
-static COMMANDS: [Row; 12] = [
+static COMMANDS: [Row; 13] = [
     Row {
         spelled: "check",
         about: "Prints how much a spec has, or where it is wrong and why",
@@ -177,6 +188,17 @@ static COMMANDS: [Row; 12] = [
         spelled: "show",
         about: "Prints what happens in one order, moment by moment, and why",
         words: &[Word::Spec, Word::Order, Word::Json],
+    },
+    Row {
+        spelled: "classes",
+        about: "Prints which different things all permutations show, how often, and which one shows each first",
+        words: &[
+            Word::Spec,
+            Word::Answers,
+            Word::Brief,
+            Word::Workers,
+            Word::Progress,
+        ],
     },
     Row {
         spelled: "run",
@@ -259,16 +281,26 @@ fn arg_of<'a>(alloc: Global, word: Word) -> Arg<'a> {
             "ORDER",
             "The number of a permutation, or the names of its steps in their order",
         ),
-        Word::Json => json_word(alloc),
+        Word::Json => flag_word(alloc, "json", "Prints it as JSON"),
+        Word::Answers => flag_word(
+            alloc,
+            "answers",
+            "Groups them by rows, counts and errors, and by the rows left, alone",
+        ),
+        Word::Brief => flag_word(alloc, "brief", "Prints the totals alone"),
         Word::First => number_word(alloc, "FIRST", "The number of the first permutation"),
         Word::End => number_word(
             alloc,
             "END",
             "The number behind that of the last permutation",
         ),
-        Word::Every => every_word(alloc),
+        Word::Every => flag_word(
+            alloc,
+            "every",
+            "Runs every permutation, and skips none that a smaller one covers",
+        ),
         Word::Workers => workers_word(alloc),
-        Word::Progress => progress_word(alloc),
+        Word::Progress => flag_word(alloc, "progress", "Tells on standard error how far it is"),
         Word::Books => books_word(alloc, "BOOK", "Book files of one spec"),
         Word::Book => book_word(alloc),
         Word::Accepted => books_word(
@@ -279,11 +311,12 @@ fn arg_of<'a>(alloc: Global, word: Word) -> Arg<'a> {
     }
 }
 
-fn every_word<'a>(alloc: Global) -> Arg<'a> {
-    Arg::new(alloc, "every")
-        .long("every")
+/// A word that is there or not.
+fn flag_word<'a>(alloc: Global, name: &'a str, help: &'a str) -> Arg<'a> {
+    Arg::new(alloc, name)
+        .long(name)
         .action(ArgAction::SetTrue)
-        .help("Runs every permutation, and skips none that a smaller one covers")
+        .help(help)
 }
 
 fn workers_word<'a>(alloc: Global) -> Arg<'a> {
@@ -294,13 +327,6 @@ fn workers_word<'a>(alloc: Global) -> Arg<'a> {
         .value_parser(value_parser!(u8).range(1..=i64::from(MAX_SEATS)))
         .default_value(DEFAULT_WORKERS_WORD)
         .help("How many workers run it, from 1 to 16")
-}
-
-fn progress_word<'a>(alloc: Global) -> Arg<'a> {
-    Arg::new(alloc, "progress")
-        .long("progress")
-        .action(ArgAction::SetTrue)
-        .help("Tells on standard error how far it is")
 }
 
 fn books_word<'a>(alloc: Global, name: &'a str, help: &'a str) -> Arg<'a> {
@@ -317,13 +343,6 @@ fn names_word<'a>(alloc: Global, name: &'a str, help: &'a str) -> Arg<'a> {
         .action(ArgAction::Append)
         .num_args(1..=MAX_NAMES)
         .help(help)
-}
-
-fn json_word<'a>(alloc: Global) -> Arg<'a> {
-    Arg::new(alloc, "json")
-        .long("json")
-        .action(ArgAction::SetTrue)
-        .help("Prints it as JSON")
 }
 
 fn book_word<'a>(alloc: Global) -> Arg<'a> {
@@ -362,6 +381,7 @@ fn asked_of<'a>(alloc: Global, matches: &ArgMatches<'a>) -> Result<Option<Asked<
         Name::Rank => rank_of_words(alloc, words),
         Name::Order => Ok(order_of_words(words)),
         Name::Show => show_of_words(alloc, words),
+        Name::Classes => Ok(classes_of_words(words)),
         Name::Run => Ok(run_of_words(words)),
         Name::Join => join_of_words(alloc, words),
         Name::Holds => Ok(holds_of_words(words)),
@@ -424,6 +444,18 @@ fn show_of_words<'a>(
         })),
         None => Ok(None),
     }
+}
+
+fn classes_of_words<'a>(words: &ArgMatches<'a>) -> Option<Asked<'a>> {
+    let path = words.get_str("SPEC")?;
+    let workers = Workers::of(words.get_one::<u8>("workers")?)?;
+    Some(Asked::Classes {
+        path,
+        answers: words.get_flag("answers"),
+        brief: words.get_flag("brief"),
+        workers,
+        progress: words.get_flag("progress"),
+    })
 }
 
 fn run_of_words<'a>(words: &ArgMatches<'a>) -> Option<Asked<'a>> {

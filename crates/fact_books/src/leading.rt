@@ -12,7 +12,7 @@ use perm_ranks::{Block, Shape, shared_block};
 /// What a tag gives at ranks that follow one another: the outcome with a number, the values of as many ranks from another one on, or
 /// nothing.
 #[derive(Clone, Copy, Drop)]
-pub(crate) enum Lead {
+pub enum Lead {
     Value(usize),
     From(u64),
     Nowhere,
@@ -36,7 +36,7 @@ pub(crate) fn lead_of(shape: &Option<Shape>, tag: Tag, rank: u64, until: u64) ->
 
 /// Where the exchange at a place leads. All words that share the letters up to the one behind the place are exchanged alike, and stand
 /// in one block.
-fn swap_lead(shape: &Shape, place: u8, rank: u64, until: u64) -> (Lead, u64)
+pub fn swap_lead(shape: &Shape, place: u8, rank: u64, until: u64) -> (Lead, u64)
     requires { rank < until }
     ensures lead { IsLead (leads_of (Some shape.now)) rank result.1 (tag.Swap place) result.0 }
     ensures some { rank < result.1 }

@@ -3,12 +3,11 @@
 ghost use Rattle.std.specs.Prelude.{◌≡◌, ◌<◌, IfOk, IfSome, length, slice_index_or, []};
 ghost use Rattle.fact_books.specs.Tables.{Extends, Names};
 
-use crate::fingerprint::fingerprint;
 use finite_maps::Fork;
 use std::alloc::{AllocError, Global};
 use std::collections::BTreeMap;
 use std::marker::Model;
-use transcripts::Outcome;
+use transcripts::{Outcome, fingerprint};
 
 /// Outcomes in the order of their numbers, seen by contracts as their list. The index has a number for a fingerprint. What it tells is
 /// looked up and compared, so that nothing but the table's size depends on it.

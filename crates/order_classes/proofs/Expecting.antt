@@ -5,7 +5,7 @@ use Rattle.bound_statements.specs.declared.statement.Bound.{Bound}
 use Rattle.binding_model.specs.declared.tables.Table.{Table}
 use Rattle.bound_specs.specs.Spec.{Spec}
 use Rattle.lock_queues.specs.Reasons.{Among}
-use Rattle.order_classes.specs.Shows.{Shows}
+use Rattle.order_classes.specs.declared.shows.Shows.{Shows}
 use Rattle.order_classes.specs.Classes.{Class}
 use Rattle.order_classes.specs.Grouping.{AreClasses}
 use Rattle.order_classes.specs.Looks.{IsLook, Meets, IsFirstMiss}

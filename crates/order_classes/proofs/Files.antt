@@ -2,12 +2,13 @@
 use Rattle.std.proofs.Common.{◌≡◌, ℕ, ◌<◌, true, List, Some, arith}
 use Rattle.bound_specs.specs.Spec.{SpecFile, ranks}
 use Rattle.lock_queues.specs.Reasons.{Among}
-use Rattle.order_classes.specs.Shows.{Shows, shows_at}
+use Rattle.order_classes.specs.declared.shows.Shows.{Shows}
+use Rattle.order_classes.specs.Shows.{shows_at}
 use Rattle.order_classes.specs.Classes.{Class, in_runs, total_in}
 use Rattle.order_classes.specs.Grouping.{ShowsAt, AreClassesOf}
 use Rattle.order_classes.proofs.Unique.{disjoint}
 use Rattle.order_classes.proofs.Joining.{one-shows}
-use Rattle.order_classes.proofs.Totals.{add-up}
+use Rattle.order_classes.proofs.Adding.{add-up}
 
 pub files-classed : (text : List ℕ) (file : SpecFile) (cs : List (Class Shows)) → (are : AreClassesOf text file cs)
     → ((r : ℕ) → r < ranks file.run

@@ -3,7 +3,7 @@ use Rattle.std.proofs.Common.{subst, ◌↔◌, ℕ, List}
 use Rattle.binding_model.specs.declared.tables.Table.{Table}
 use Rattle.bound_specs.specs.Spec.{Spec, IsBound}
 use Rattle.rank_facts.specs.Swap.{leads_in}
-use Rattle.order_classes.specs.Shows.{Shows}
+use Rattle.order_classes.specs.declared.shows.Shows.{Shows}
 use Rattle.order_classes.specs.Classes.{Class}
 use Rattle.order_classes.specs.Grouping.{Found, IsShown, IsFound, Reaches, ShowsAt, AreClasses, AreGrouped}
 use Rattle.order_classes.proofs.Swaps.{chain-shows}

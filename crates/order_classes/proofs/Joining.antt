@@ -3,7 +3,8 @@ use Rattle.std.proofs.Common.{◌≡◌, sym, ap, ◌∙◌, subst, ◌↔◌, �
 use Rattle.binding_model.specs.declared.tables.Table.{Table}
 use Rattle.bound_specs.specs.Spec.{Spec}
 use Rattle.lock_queues.specs.Reasons.{Among}
-use Rattle.order_classes.specs.Shows.{Shows, shows_at}
+use Rattle.order_classes.specs.declared.shows.Shows.{Shows}
+use Rattle.order_classes.specs.Shows.{shows_at}
 use Rattle.order_classes.specs.Classes.{Class, in_runs}
 use Rattle.order_classes.specs.Letters.{Answers, answers_of, answers_at}
 use Rattle.order_classes.specs.Grouping.{ShowsAt, AnswersAt, AreClasses, AreAnswerClasses}

@@ -31,7 +31,8 @@ use Rattle.bound_specs.specs.Spec.{Spec, line_of}
 use Rattle.machine_model.specs.World.{World}
 use Rattle.line_moments.specs.declared.shown.Left.{Left}
 use Rattle.line_moments.specs.Left.{left_from, left_in}
-use Rattle.order_classes.specs.Shows.{unnumbered, seen_by, seen, Shows, shows_in, world_of_line, shows_at}
+use Rattle.order_classes.specs.declared.shows.Shows.{Shows}
+use Rattle.order_classes.specs.Shows.{unnumbered, seen_by, seen, shows_in, world_of_line, shows_at}
 use Rattle.order_classes.specs.Looks.{HasKeyFor, IsLook, look_in, look_at}
 use Rattle.order_classes.proofs.Runs.{bool-same}
 
@@ -210,7 +211,7 @@ left-rows [] n t m w v is lt e = absurd (omega arith)
 left-rows (x ∷ xs) n zero m w v is lt e =
     let h = heads _ _ (map seen (left_from (suc n) xs w)) (map seen (left_from (suc n) xs v)) e in
     let here : m ≡ n = omega (arith, is) in
-    subst (λ k. seen_by (key_column x) (rows_of k w.rows) ≡ seen_by (key_column x) (rows_of k v.rows)) (sym here) (ap (λ (l : Left). l.rows) h.0)
+    subst (λ k. seen_by (key_column x) (rows_of k w.rows) ≡ seen_by (key_column x) (rows_of k v.rows)) (sym here) h.0
 left-rows (x ∷ xs) n (suc t) m w v is lt e =
     let h = heads _ _ (map seen (left_from (suc n) xs w)) (map seen (left_from (suc n) xs v)) e in
     left-rows xs (suc n) t m w v (omega (arith, is)) (omega arith) h.1

@@ -52,7 +52,7 @@ seen-same key (e ∷ es) (f ∷ fs) p q is = at key p q (seen-same key es fs p.1
 
 -- ---- of all tables
 
-alone-seen : (xs : List Left) → rows_alone (map seen xs) ≡ rows_alone xs
+alone-seen : (xs : List Left) → map tuples_of (map seen xs) ≡ rows_alone xs
 alone-seen [] = refl
 alone-seen (x ∷ xs) = let rest = alone-seen xs in let first = rows-seen (key_column x.table) x.rows in λ i. first i ∷ rest i
 
@@ -93,10 +93,10 @@ lefts-seen (t ∷ ts) k v w a b same =
     let more : rows_alone (left_from (suc k) ts v) ≡ rows_alone (left_from (suc k) ts w) = cc in
     let here = seen-same (key_column t) (rows_of k v.rows) (rows_of k w.rows) a.0 b.0 first in
     let rest = lefts-seen ts (suc k) v w a.1 b.1 more in
-    λ i. record { table = t; rows = here i } ∷ rest i
+    λ i. here i ∷ rest i
 
 pub left-seen : LeftIsSeen
 left-seen tables v w fv fw = (
-  λ e. sym (alone-seen (left_in tables v)) ∙ ap rows_alone e ∙ alone-seen (left_in tables w),
+  λ e. sym (alone-seen (left_in tables v)) ∙ ap (map tuples_of) e ∙ alone-seen (left_in tables w),
   λ e. lefts-seen tables 0 v w (lie-in tables v fv) (lie-in tables w fw) e,
 )

@@ -13,7 +13,8 @@ use Rattle.rank_facts.specs.Facts.{IsTrueAt}
 use Rattle.rank_facts.specs.declared.fact.Fact.TheVariants.{Swap}
 use Rattle.rank_facts.proofs.Lines.{spec-letters}
 use Rattle.rank_facts.proofs.Leading.{same-end, leads-there, leads-down}
-use Rattle.order_classes.specs.Shows.{Shows, shows_in, world_of_line, shows_at}
+use Rattle.order_classes.specs.declared.shows.Shows.{Shows}
+use Rattle.order_classes.specs.Shows.{shows_in, world_of_line, shows_at}
 use Rattle.order_classes.specs.Grouping.{Found, IsShown, ran, swap, IsFound, CoversTo, Reaches}
 
 -- the world behind a line of a spec that starts

@@ -14,8 +14,11 @@ use Rattle.transcripts.specs.declared.event.Event.TheVariants.{Sent, Row as RowE
 use Rattle.binding_model.specs.Tables.{no_table}
 use Rattle.bound_specs.specs.Spec.{Spec}
 use Rattle.machine_model.proofs.Worked.{number, step, two_rows, sets, id_is, shares, in_blocks, waits_row, not_waiting_row, ring_row}
-use Rattle.line_moments.specs.Left.{rows_alone}
-use Rattle.order_classes.specs.Shows.{Rest, HasEnded, IsOpen, StillWaits, Shows, shows_of_line, shows_at}
+use Rattle.line_moments.specs.Left.{tuples_of}
+use Rattle.order_classes.specs.declared.shows.Rest.{Rest}
+use Rattle.order_classes.specs.declared.shows.Rest.TheVariants.{HasEnded, IsOpen, StillWaits}
+use Rattle.order_classes.specs.declared.shows.Shows.{Shows}
+use Rattle.order_classes.specs.Shows.{shows_of_line, shows_at}
 use Rattle.order_classes.specs.Letters.{Answers, answers_of, answers_at, session_orders, serial_line, letter_w, letter_d, letter_e, letter_n, letter_s}
 use Rattle.order_classes.specs.Looks.{look_at, one_row}
 use Rattle.order_classes.specs.Classes.{Run}
@@ -23,7 +26,7 @@ use Rattle.order_classes.specs.Growing.{grown}
 use Rattle.order_classes.specs.Copying.{copied}
 
 abbrev shown : Spec → ℕ → Option (List (List Event) × List (List Tuple) × List Rest)
-shown spec r = option_map (λ (s : Shows). (s.told, rows_alone s.left, s.rests)) (shows_at (no_table ∷ []) spec r)
+shown spec r = option_map (λ (s : Shows). (s.told, map tuples_of s.left, s.rests)) (shows_at (no_table ∷ []) spec r)
 
 -- ---- two blind updates: one outcome, two classes
 
@@ -68,7 +71,7 @@ lost =
     }
 
 abbrev answers : Option Answers → Option (List (List Event) × List (List Tuple))
-answers = option_map (λ (a : Answers). (a.told, rows_alone a.left))
+answers = option_map (λ (a : Answers). (a.told, map tuples_of a.left))
 
 abbrev saw : ℕ → List Event
 saw v = RowEvent (number v ∷ []) ∷ Rows 1 ∷ Updated 1 ∷ []
@@ -95,7 +98,7 @@ keyless =
       session_setups = [] ∷ [] ∷ [];
     }
 
-keyless_leaves : option_map (λ (s : Shows). rows_alone s.left) (shows_at (no_table ∷ []) keyless 1) ≡ Some (((number 6 ∷ []) ∷ []) ∷ [])
+keyless_leaves : option_map (λ (s : Shows). map tuples_of s.left) (shows_at (no_table ∷ []) keyless 1) ≡ Some (((number 6 ∷ []) ∷ []) ∷ [])
 unfolding get insert keep remove entries empty effect lay
 keyless_leaves = refl
 

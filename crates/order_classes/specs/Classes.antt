@@ -54,6 +54,13 @@ pub record IsClasses {A : Type 0} (show : ℕ → A → Type 0) (first end : ℕ
   pub between : (c d : Class A) → Among c cs → Among d cs → c.shows ≡ d.shows → c ≡ d
   pub rise : LeastsRise cs
 
+-- the classes of those ranks of the range that show something: equal within, all such ranks together, two that show the same are one, in order
+pub record AreGroups {A : Type 0} (show : ℕ → A → Type 0) (first end : ℕ) (cs : List (Class A)) : Type 0 where
+  pub each : (c : Class A) → Among c cs → IsClass show first end c
+  pub together : (r : ℕ) (a : A) → first ≤ r → r < end → show r a → (c : Class A) × Among c cs × (in_runs c.runs r ≡ true)
+  pub between : (c d : Class A) → Among c cs → Among d cs → (same : c.shows ≡ d.shows) → c ≡ d
+  pub rise : LeastsRise cs
+
 -- the numbers rise from the first on
 abbrev pub RiseFrom : ℕ → List ℕ → Type 0
 RiseFrom low [] = Unit {0}

@@ -7,7 +7,8 @@ use Rattle.bound_specs.specs.Binding.{IsFileOf, declared, main_setup}
 use Rattle.rank_facts.specs.Facts.{IsTrueAt}
 use Rattle.rank_facts.specs.Swap.{leads_in}
 use Rattle.rank_facts.specs.declared.fact.Fact.TheVariants.{Swap}
-use Rattle.order_classes.specs.Shows.{Shows, shows_at}
+use Rattle.order_classes.specs.declared.shows.Shows.{Shows}
+use Rattle.order_classes.specs.Shows.{shows_at}
 use Rattle.order_classes.specs.Letters.{Answers, answers_at}
 use Rattle.order_classes.specs.Classes.{in_run, Class, IsClasses}
 

@@ -16,7 +16,8 @@ use Rattle.machine_model.specs.World.{World, session_at}
 use Rattle.machine_model.specs.Typed.{RowsFit}
 use Rattle.line_moments.specs.Left.{left_in, LeaveSame}
 use Rattle.transcripts.specs.declared.event.Event.{Event}
-use Rattle.order_classes.specs.Shows.{seen, Shows, shows_in, world_of_line, shows_at}
+use Rattle.order_classes.specs.declared.shows.Shows.{Shows}
+use Rattle.order_classes.specs.Shows.{seen, shows_in, world_of_line, shows_at}
 use Rattle.order_classes.specs.Classes.{Class, in_runs, IsNumber, total_in}
 use Rattle.order_classes.specs.Letters.{Answers, answers_of, answers_at, session_orders, IsOrder, serial_line, IsSerialRank, LetterR}
 use Rattle.order_classes.specs.Letters.{is_wait, is_deadlock, is_other_error, is_unsent, letter_w, letter_d, letter_e, letter_n, letter_s}

@@ -1,5 +1,5 @@
 -- The letters of a class, what is told as an answer, and the orders that run sessions one behind the other.
-use Rattle.std.specs.Prelude.{◌≡◌, ◌≢◌, ℕ, ◌+◌, ◌<◌, ◌≤◌, ◌==◌, Bool, true, false, cond, List, [], ◌∷◌, ◌++◌, map, get_or, replicate, Option, Some, option_map}
+use Rattle.std.specs.Prelude.{◌≡◌, ◌≢◌, ◌↔◌, ℕ, ◌+◌, ◌<◌, ◌≤◌, ◌==◌, Bool, true, false, cond, List, [], ◌∷◌, ◌++◌, map, get_or, replicate, Option, Some, None, option_map}
 use Rattle.std.specs.List.{list_any}
 use Rattle.perm_ranks.specs.Words.{Word, all_words}
 use Rattle.transcripts.specs.declared.event.Event.{Event}
@@ -9,9 +9,11 @@ use Rattle.transcripts.specs.declared.event.Fault.{Fault}
 use Rattle.transcripts.specs.declared.event.Fault.TheVariants.{Duplicate, OutOfRange, Deadlock, Aborted, Unavailable}
 use Rattle.binding_model.specs.declared.tables.Table.{Table}
 use Rattle.bound_specs.specs.Spec.{Spec, line, line_of, counts_of, queues_of}
-use Rattle.line_moments.specs.declared.shown.Left.{Left}
 use Rattle.lock_queues.specs.Reasons.{Among}
-use Rattle.order_classes.specs.Shows.{Rest, HasEnded, IsOpen, HasFailed, StillWaits, Shows, shows_of_line, shows_at}
+use Rattle.order_classes.specs.declared.shows.Rest.{Rest}
+use Rattle.order_classes.specs.declared.shows.Rest.TheVariants.{HasEnded, IsOpen, HasFailed, StillWaits}
+use Rattle.order_classes.specs.declared.shows.Shows.{Shows}
+use Rattle.order_classes.specs.Shows.{shows_of_line, shows_at}
 
 -- ---- events
 
@@ -101,13 +103,13 @@ abbrev pub answers_in : List Event → List Event
 answers_in [] = []
 answers_in (e ∷ es) = cond (is_answer e) (e ∷ answers_in es) (answers_in es)
 
--- the rows, counts and errors that each session is told, and the rows that are left
-pub record Answers : Type 0 where
-  pub told : List (List Event)
-  pub left : List Left
+-- what is shown as an answer, and what an order answers: the rows, counts and errors that each session is told, and the rows that are left. Waits, resumes,
+-- steps that are sent or not, and how sessions stand at the end are left aside
+abbrev pub Answers : Type 0
+Answers = Shows
 
 abbrev pub answers_of : Shows → Answers
-answers_of s = record { told = map answers_in s.told; left = s.left }
+answers_of s = record { told = map answers_in s.told; left = s.left; rests = [] }
 
 abbrev pub answers_at : List Table → Spec → ℕ → Option Answers
 answers_at tables spec r = option_map answers_of (shows_at tables spec r)
@@ -144,6 +146,11 @@ pub record IsNotSerial (tables : List Table) (spec : Spec) (a : Answers) : Type 
 
 abbrev pub LetterR : List Table → Spec → Shows → Type 0
 LetterR tables spec s = IsNotSerial tables spec (answers_of s)
+
+-- what is told of R: nothing of a spec with lines, and else whether the answers are those of no such order
+abbrev pub IsR : List Table → Spec → Shows → Option Bool → Type 0
+IsR tables spec s None = spec.lines ≢ []
+IsR tables spec s (Some odd) = (spec.lines ≡ []) × ((odd ≡ true) ↔ LetterR tables spec s)
 
 -- the line of the rank is such an order
 abbrev pub IsSerialRank : Spec → ℕ → Type 0

@@ -9,7 +9,8 @@ use Rattle.binding_model.specs.Tables.{no_table, key_column}
 use Rattle.binding_model.specs.declared.tables.Table.{Table}
 use Rattle.bound_specs.specs.Spec.{Spec, line_of}
 use Rattle.machine_model.specs.World.{World}
-use Rattle.order_classes.specs.Shows.{Shows, world_of_line}
+use Rattle.order_classes.specs.declared.shows.Shows.{Shows}
+use Rattle.order_classes.specs.Shows.{world_of_line}
 use Rattle.order_classes.specs.Classes.{Class}
 
 -- a row is read by its key alone only where the table has one

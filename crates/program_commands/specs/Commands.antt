@@ -5,7 +5,7 @@ use Rattle.transcripts.specs.Counted.{Wrote, Stopped, written, failures_of}
 use Rattle.transcripts.specs.declared.counted.Counted.{Counted}
 use Rattle.command_line.specs.Lines.{Line, IsLine, AsksFor}
 use Rattle.command_line.specs.declared.words.Asked.{Asked}
-use Rattle.command_line.specs.declared.words.Asked.TheVariants.{Check, One, Count, Rank, Order, Show, Run, Join, Holds, Report, Audit, Judge}
+use Rattle.command_line.specs.declared.words.Asked.TheVariants.{Check, One, Count, Rank, Order, Show, Classes, Run, Join, Holds, Report, Audit, Judge}
 use Rattle.command_line.specs.declared.wanted.Wanted.{Wanted}
 use Rattle.command_line.specs.declared.wanted.Wanted.TheVariants as wanted
 use Rattle.spec_commands.specs.One.{IsOneRun}
@@ -16,6 +16,9 @@ use Rattle.spec_commands.specs.declared.showing.ShowForm.{ShowForm}
 use Rattle.spec_commands.specs.declared.showing.ShowForm.TheVariants as form
 use Rattle.spec_commands.specs.declared.showing.WantedOrder.{WantedOrder}
 use Rattle.spec_commands.specs.declared.showing.WantedOrder.TheVariants as order
+use Rattle.order_classes.specs.declared.rows.Grouping.TheVariants as by
+use Rattle.class_commands.specs.declared.classing.WantedClasses.{WantedClasses}
+use Rattle.class_commands.specs.Classing.{IsClassesRun}
 use Rattle.book_commands.specs.declared.finding.Finding.{Finding}
 use Rattle.book_commands.specs.declared.finding.Finding.TheVariants.{Good}
 use Rattle.book_commands.specs.Finding.{finding_status}
@@ -29,7 +32,7 @@ use Rattle.program_commands.specs.declared.files.TheConstants.{MAX_SPEC_READ}
 use Rattle.fault_texts.specs.declared.fault.ProgramFault.{ProgramFault}
 use Rattle.fault_texts.specs.declared.fault.ProgramFault.TheVariants.{NoMemory, Read, Write}
 use Rattle.fault_texts.specs.Status.{status_of}
-use Rattle.program_commands.specs.Faults.{Path, one_told, count_told, rank_told, order_told, show_told, range_told, join_told, report_told, audit_told, hold_told, judge_told, IsCheckTold}
+use Rattle.program_commands.specs.Faults.{Path, one_told, count_told, rank_told, order_told, show_told, classing_told, range_told, join_told, report_told, audit_told, hold_told, judge_told, IsCheckTold}
 
 -- what a call finds is the program's answer, and what it refuses is told
 abbrev pub IsFound : {E : Type 0} → (Result Finding E → Type 0) → (E → ProgramFault → Type 0) → Result Finding ProgramFault → Type 0
@@ -75,6 +78,11 @@ abbrev pub form_by : Bool → ShowForm
 form_by true = form.Json
 form_by false = form.Text
 
+-- what is wanted of classes
+abbrev pub classes_by : Bool → Bool → WantedClasses
+classes_by true brief = record { by = by.Answers; is_brief = brief }
+classes_by false brief = record { by = by.Shows; is_brief = brief }
+
 -- what is asked for is done
 abbrev pub IsDone : Files → {W : Type 0} → (W → Option (List ℕ)) → Counted W → Counted W → Asked → Result Finding ProgramFault → Type 0
 IsDone files contents old new (One path rank) result =
@@ -97,6 +105,10 @@ IsDone files contents old new (Show path order json) result =
     ⊎ ((wanted : WantedOrder) × IsSame order wanted
     × IsCalled (files path.now) (λ bytes. IsShowRun contents old new bytes path.now wanted (form_by json))
     (λ bytes error told. show_told path (names_in order) error ≡ Some told) result)
+IsDone files contents old new (Classes path answers brief workers progress) result =
+    IsUnread (files path.now) path.now old new result
+    ⊎ IsCalled (files path.now) (λ bytes. IsClassesRun contents old new bytes path.now (classes_by answers brief)) (λ bytes error told. told ≡ classing_told path error)
+    result
 IsDone files contents old new (Run path first end every workers progress) result =
     IsUnread (files path.now) path.now old new result
     ⊎ IsCalled (files path.now) (λ bytes. IsRangeRun contents old new bytes first end (not every)) (λ bytes error told. told ≡ range_told path error) result
@@ -136,6 +148,7 @@ tells_progress (Count path) = false
 tells_progress (Rank path names) = false
 tells_progress (Order path rank) = false
 tells_progress (Show path order json) = false
+tells_progress (Classes path answers brief workers progress) = progress
 tells_progress (Run path first end every workers progress) = progress
 tells_progress (Join paths) = false
 tells_progress (Holds path spec first end) = false

@@ -48,6 +48,8 @@ use Rattle.book_commands.specs.declared.judging.NoReport.{NoReport}
 use Rattle.book_commands.specs.declared.judging.NoReport.TheVariants as no_report
 use Rattle.book_commands.specs.declared.judging.JudgeFault.{JudgeFault}
 use Rattle.book_commands.specs.declared.judging.JudgeFault.TheVariants as judge_fault
+use Rattle.class_commands.specs.declared.classing.ClassesFault.{ClassesFault}
+use Rattle.class_commands.specs.declared.classing.ClassesFault.TheVariants as classes_fault
 use Rattle.range_commands.specs.declared.ranges.RangeFault.{RangeFault}
 use Rattle.range_commands.specs.declared.ranges.RangeFault.TheVariants as range_fault
 use Rattle.fault_texts.specs.Explanations.{explanation}
@@ -126,6 +128,12 @@ show_told path names (show_fault.Write fault) = Some Write
 abbrev pub IsShowPlace : ℕ → ShowFault → Type 0
 IsShowPlace count (show_fault.NoRank fault) = IsNamePlace count fault
 IsShowPlace count fault = Unit {0}
+
+abbrev pub classing_told : Path → ClassesFault → ProgramFault
+classing_told path (classes_fault.Spec fault) = spec_told path fault
+classing_told path (classes_fault.Run error) = run_told path error
+classing_told path classes_fault.NoMemory = NoMemory
+classing_told path (classes_fault.Write fault) = Write
 
 abbrev pub write_told : WriteError → ProgramFault
 write_told write_error.TooLarge = BookTooLarge

@@ -10,6 +10,7 @@ ghost use Rattle.spec_commands.specs.Counting.{IsChecked, IsCounted};
 ghost use Rattle.spec_commands.specs.Ordering.{IsOrdered, IsRanked};
 ghost use Rattle.spec_commands.specs.Showing.{IsShowRun};
 ghost use Rattle.spec_commands.specs.declared.showing.WantedOrder.{WantedOrder};
+ghost use Rattle.class_commands.specs.Classing.{IsClassesRun};
 ghost use Rattle.book_commands.specs.Finding.{finding_status};
 ghost use Rattle.book_commands.specs.Joining.{IsJoinRun};
 ghost use Rattle.book_commands.specs.Reporting.{IsFileReported};
@@ -18,20 +19,22 @@ ghost use Rattle.book_commands.specs.Judging.{IsJudgeRun};
 ghost use Rattle.book_commands.specs.Holding.{IsHoldRun};
 ghost use Rattle.range_commands.specs.Ranges.{IsRangeRun};
 ghost use Rattle.fault_texts.specs.Status.{status_of};
-ghost use Rattle.program_commands.specs.Faults.{one_told, count_told, rank_told, order_told, show_told, range_told, join_told, report_told, audit_told, hold_told, judge_told, IsCheckTold};
+ghost use Rattle.program_commands.specs.Faults.{one_told, count_told, rank_told, order_told, show_told, classing_told, range_told, join_told, report_told, audit_told, hold_told, judge_told, IsCheckTold};
 ghost use Rattle.fault_texts.specs.declared.fault.ProgramFault.TheVariants.{Write as WriteFault};
-ghost use Rattle.program_commands.specs.Commands.{IsAnswered, IsCut, IsDone, IsCalled, IsFlushed, IsFound, IsFoundBy, IsPassedOn, IsRun, IsSame, IsTold, IsUnread, IsUsage, form_by, names_in, tells_progress};
+ghost use Rattle.program_commands.specs.Commands.{IsAnswered, IsCut, IsDone, IsCalled, IsFlushed, IsFound, IsFoundBy, IsPassedOn, IsRun, IsSame, IsTold, IsUnread, IsUsage, classes_by, form_by, names_in, tells_progress};
 
 use crate::faults::{
-    audit_fault, count_fault, explained_fault, fault_at, hold_fault, join_fault, judge_fault,
-    order_fault, range_fault, rank_fault, report_fault, show_fault,
+    audit_fault, classes_fault, count_fault, explained_fault, fault_at, hold_fault, join_fault,
+    judge_fault, order_fault, range_fault, rank_fault, report_fault, show_fault,
 };
 use crate::files::read_spec_file;
 use book_commands::{Finding, Opener, audit_file, hold_file, join_files, judge_files, report_file};
 use clap::Error;
 use clap::error::ErrorKind;
+use class_commands::{WantedClasses, classes_told};
 use command_line::{Asked, Wanted, parse_words};
 use fault_texts::ProgramFault;
+use order_classes::Grouping;
 use range_commands::run_told;
 use shard_board::Workers;
 use spec_commands::{CountFault, ShowForm, WantedOrder, check, count, one, order, rank, show};
@@ -108,6 +111,15 @@ fn work<'a, R: Threads + Wait + Clock + Sync, O: Opener, W: Write, E: Write + Se
         Asked::Show { path, order, json } => {
             show_of_file(alloc, path, order, *json, opener, out)
         }
+        Asked::Classes {
+            path,
+            answers,
+            brief,
+            workers,
+            progress,
+        } => classes_of_file(
+            rt, alloc, path, *answers, *brief, workers, *progress, opener, out, err,
+        ),
         Asked::Run {
             path,
             first,
@@ -284,6 +296,61 @@ fn form_of(json: bool) -> ShowForm
     ensures { result ≡ form_by json }
 {
     if json { ShowForm::Json } else { ShowForm::Text }
+}
+
+fn classes_of_file<'a, R: Threads + Wait + Clock + Sync, O: Opener, W: Write, E: Write + Send>(
+    rt: &R,
+    alloc: Global,
+    path: &'a str,
+    answers: bool,
+    brief: bool,
+    workers: &Workers,
+    is_told: bool,
+    opener: &O,
+    out: &mut Counted<W>,
+    err: &mut Counted<E>,
+) -> Result<Finding, ProgramFault<'a>>
+    requires { failures_of out.old ≡ 0 }
+    ensures done { IsUnread (O.bytes opener.now path.now) path.now out.old out.new result ⊎ IsCalled (O.bytes opener.now path.now) (λ bytes. IsClassesRun W.contents out.old out.new bytes path.now (classes_by answers brief)) (λ bytes error told. told ≡ classing_told path.entry error) result }
+    ensures failures { OnOk result (failures_of out.new ≡ 0) }
+    ensures quiet { is_told ≡ false → err.new ≡ err.old }
+{
+    let bytes = match read_spec_file(alloc, opener, path) {
+        Ok(bytes) => bytes,
+        Err(fault) => return Err(fault),
+    };
+    let wanted = wanted_classes(answers, brief);
+    match classes_told(
+        rt,
+        alloc,
+        bytes.as_slice(),
+        path,
+        wanted,
+        workers,
+        is_told,
+        out,
+        err,
+    ) {
+        Ok(()) => Ok(Finding::Good),
+        Err(fault) => Err(classes_fault(path, fault)),
+    }
+}
+
+/// What is wanted of classes, as a call is asked for it.
+fn wanted_classes(answers: bool, brief: bool) -> WantedClasses
+    ensures { result ≡ classes_by answers brief }
+{
+    if answers {
+        WantedClasses {
+            by: Grouping::Answers,
+            is_brief: brief,
+        }
+    } else {
+        WantedClasses {
+            by: Grouping::Shows,
+            is_brief: brief,
+        }
+    }
 }
 
 fn range_of_file<'a, R: Threads + Wait + Clock + Sync, O: Opener, W: Write, E: Write + Send>(

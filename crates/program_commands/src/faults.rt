@@ -6,13 +6,14 @@ ghost use Rattle.book_commands.specs.Joining.{IsPlaced};
 ghost use Rattle.book_commands.specs.Judging.{IsAcceptedPlace};
 ghost use Rattle.fault_texts.specs.Explanations.{explanation};
 ghost use Rattle.fault_texts.specs.declared.fault.ProgramFault.TheVariants.{NoMemory};
-ghost use Rattle.program_commands.specs.Faults.{IsExplained, IsShowPlace, offset_of, one_told, count_told, rank_told, order_told, show_told, range_told, join_told, report_told, audit_told, hold_told, judge_told, no_report_told};
+ghost use Rattle.program_commands.specs.Faults.{IsExplained, IsShowPlace, offset_of, one_told, count_told, rank_told, order_told, show_told, classing_told, range_told, join_told, report_told, audit_told, hold_told, judge_told, no_report_told};
 ghost use Rattle.program_commands.specs.Faults.{values_told, file_told, book_told, write_told, spec_told, text_told, binding_told, run_told, start_told};
 
 use book_commands::{
     AuditFault, FileFault, HoldFault, JoinFault, JudgeFault, NoReport, ReportFault, ReportFileFault,
 };
 use book_format::{BookError, WriteError};
+use class_commands::ClassesFault;
 use fact_books::ReportError;
 use fault_texts::{ProgramFault, binding_sentence, explained, text_sentence};
 use range_commands::RangeFault;
@@ -149,6 +150,17 @@ pub(crate) fn show_fault<'a>(path: &'a str, names: &[&'a str], fault: ShowFault)
         ShowFault::Run(error) => run_fault(path, error),
         ShowFault::NoMemory => ProgramFault::NoMemory,
         ShowFault::Write(_) => ProgramFault::Write,
+    }
+}
+
+pub(crate) fn classes_fault(path: &str, fault: ClassesFault) -> ProgramFault<'_>
+    ensures { result ≡ classing_told path.entry fault }
+{
+    match fault {
+        ClassesFault::Spec(fault) => spec_fault(path, fault),
+        ClassesFault::Run(error) => run_fault(path, error),
+        ClassesFault::NoMemory => ProgramFault::NoMemory,
+        ClassesFault::Write(_) => ProgramFault::Write,
     }
 }
 

@@ -12,6 +12,8 @@ mod audits;
 #[cfg(test)]
 mod checks;
 #[cfg(test)]
+mod classes;
+#[cfg(test)]
 mod commands;
 #[cfg(test)]
 mod disks;

@@ -164,7 +164,7 @@ impl World<'_> {
     }
 
     /// How each session stands, with what it wants where it waits.
-    fn standings(&self) -> Result<Items<Standing>, SendError>
+    pub fn standings(&self) -> Result<Items<Standing>, SendError>
         ensures standings { IfOk result (λ all. all ≡ standings self.now.file.run.sessions self.now.world) }
         ensures spent { IsErrOf result SendError.Spent ↔ (self.now.spent ≡ true) }
     {
@@ -176,7 +176,7 @@ impl World<'_> {
     }
 
     /// The committed rows of these tables, in the order of their keys.
-    fn left(&self, tables: &[Table]) -> Result<Items<Left>, SendError>
+    pub fn left(&self, tables: &[Table]) -> Result<Items<Left>, SendError>
         ensures left { IfOk result (λ left. left ≡ left_in tables.now self.now.world) }
         ensures spent { IsErrOf result SendError.Spent ↔ (self.now.spent ≡ true) }
     {

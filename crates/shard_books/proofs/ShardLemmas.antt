@@ -8,7 +8,7 @@ use Rattle.rank_facts.specs.Facts.{IsFactOf}
 use Rattle.rank_facts.specs.declared.fact.Fact.{Fact}
 use Rattle.rank_facts.proofs.TrueFacts.{facts-one}
 use Rattle.step_reducer.specs.Walks.{AllHave}
-use Rattle.step_reducer.specs.Shardwise.{Shardwise, IsPart, GivesPart}
+use Rattle.step_reducer.specs.Shardwise.{Shardwise, IsPart, GivesPart, world_behind}
 use Rattle.step_reducer.specs.declared.fact.FactRun.{FactRun}
 use Rattle.fact_books.specs.Entries.{Entry, FactSet, entry_cmp, fact_cmp, recorded}
 use Rattle.fact_books.specs.Runs.{within, repeated}
@@ -97,16 +97,17 @@ begun x b whole none next = record {
 -- one more run
 pub gathered-more : (x y z : Shardwise) (run : FactRun) (b : Building) → IsReady x.file → IsBound x.file.run → IsGathering x y b → IsPart y run
     → z.spent ≡ false
-    → z ≡ record y { at = run.end } → FactFits run.fact → IsGathering x z (added b run.first run.end run.fact)
+    → z ≡ record y { at = run.end; behind = world_behind y.file.run run } → FactFits run.fact → IsGathering x z (added b run.first run.end run.fact)
 gathered-more x y z run b ready bound g r whole moved fits =
     let at : z.at ≡ run.end = ap (λ (w : Shardwise). w.at) moved in
+    let behind : z.behind ≡ world_behind y.file.run run = ap (λ (w : Shardwise). w.behind) moved in
     let some = r.some in
     let first = r.first in
     let from = g.from in
     let all : AllHave x.reduce x.file.run run.first run.end run.fact =
     subst (λ (w : Shardwise). AllHave w.reduce w.file.run run.first run.end run.fact) g.same r.facts in
     record {
-      same = moved ∙ (λ k. (let w : Shardwise = g.same k in record w { at = sym at k }));
+      same = moved ∙ (λ k. (let w : Shardwise = g.same k in record w { at = sym at k; behind = sym behind k }));
       whole = whole;
       from = omega (arith, at, some, first, from);
       next = omega (arith, at, some);

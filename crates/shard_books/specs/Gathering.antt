@@ -6,7 +6,7 @@ use Rattle.fact_books.specs.Building.{Building, AreFactsOf}
 
 -- the facts of the ranks that the walk has passed since it stood there are gathered
 pub record IsGathering (begun walk : Shardwise) (b : Building) : Type 0 where
-  pub same : walk ≡ record begun { at = walk.at }
+  pub same : walk ≡ record begun { at = walk.at; behind = walk.behind }
   pub whole : walk.spent ≡ false
   pub from : begun.at ≤ walk.at
   pub next : b.next ≤ walk.at

@@ -28,13 +28,13 @@ pub fn of_shard(alloc: Global, spec: &Spec, shard: Shard, reduce: bool) -> Resul
     Ok(of_walk(alloc, spec, &mut walk)?)
 }
 
-/// The facts of the ranks that a walk has before it in its shard, behind which it stands then.
+/// The facts of the ranks that a walk has before it in its shard, at whose end it stands then.
 pub fn of_walk(alloc: Global, spec: &Spec, walk: &mut ShardWalk<'_>) -> Result<Book, AllocError>
     requires whole { walk.old.spent ≡ false }
     requires of_spec { walk.old.file ≡ spec.now }
     ensures of_spec { IfOk result (λ book. book.file ≡ spec.now) }
     ensures facts { IfOk result (λ book. AreFactsOf walk.old.reduce spec.now.run walk.old.at walk.old.end book.facts) }
-    ensures behind { OnOk result (walk.new ≡ record walk.old { at = walk.old.end }) }
+    ensures behind { OnOk result (walk.new ≡ record walk.old { at = walk.old.end; behind = walk.new.behind }) }
 {
     spec.ready();
     let _sessions = spec.sessions(); // for the proof
@@ -49,7 +49,7 @@ fn facts_before(alloc: Global, walk: &mut ShardWalk<'_>) -> Result<Builder, Allo
     requires ready { IsReady walk.old.file }
     ensures facts { IfOk result (λ builder. AreFactsOf walk.old.reduce walk.old.file.run walk.old.at walk.old.end builder.facts) }
     ensures recordable { IfOk result (λ builder. AllRecordable walk.old.file.run builder.facts) }
-    ensures behind { OnOk result (walk.new ≡ record walk.old { at = walk.old.end }) }
+    ensures behind { OnOk result (walk.new ≡ record walk.old { at = walk.old.end; behind = walk.new.behind }) }
 {
     let mut builder = Builder::new(alloc);
     gather(walk, &mut builder)?;
@@ -65,7 +65,7 @@ fn gather(walk: &mut ShardWalk<'_>, builder: &mut Builder) -> Result<(), AllocEr
     requires first { builder.old.next ≡ 0 }
     ensures facts { OnOk result (AreFactsOf walk.old.reduce walk.old.file.run walk.old.at walk.old.end builder.new.facts) }
     ensures recordable { OnOk result (AllRecordable walk.old.file.run builder.new.facts) }
-    ensures behind { OnOk result (walk.new ≡ record walk.old { at = walk.old.end }) }
+    ensures behind { OnOk result (walk.new ≡ record walk.old { at = walk.old.end; behind = walk.new.behind }) }
 {
     'runs: loop {
         match walk.next_run() {

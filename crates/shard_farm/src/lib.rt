@@ -14,3 +14,4 @@ pub use error::{FarmError, Unfinished};
 pub use farm::farm_run;
 pub use numbers::ShardNumbers;
 pub use shard_board::{Gate, OpenGate};
+pub use worker::{bound_again, walk_at};

@@ -40,7 +40,7 @@ impl Worker {
 }
 
 /// The spec of a text that was bound before, so that only memory can be wanted for it.
-fn bound_again(alloc: Global, text: &str) -> Result<Spec, AllocError>
+pub fn bound_again(alloc: Global, text: &str) -> Result<Spec, AllocError>
     requires known { (file : SpecFile) × IsFileOf text.now file }
     ensures { (file : SpecFile) → IsFileOf text.now file → IfOk result (λ spec. spec ≡ file) }
 {
@@ -58,7 +58,7 @@ fn not_bound(_fault: SpecFault) -> AllocError
 }
 
 /// A walk at the first rank of a shard of a spec that starts, so that only memory can be wanted for it.
-fn walk_at<'a>(
+pub fn walk_at<'a>(
     alloc: Global,
     spec: &'a Spec,
     shard: Shard,

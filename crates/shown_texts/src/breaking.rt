@@ -10,7 +10,7 @@ use sqlite_items::Items;
 use std::alloc::{AllocError, Global};
 
 /// The columns of the page, unless lanes are too narrow in so many.
-pub(crate) const COLUMNS: usize = 80;
+pub const COLUMNS: usize = 80;
 
 pub(crate) fn plain_lines(alloc: Global, text: &[char]) -> Result<Items<Items<char>>, AllocError>
     ensures { IfOk result (λ lines. lines ≡ plain_lines text.now) }
@@ -140,8 +140,8 @@ fn longer(alloc: Global, line: &[char], piece: &[char]) -> Result<Items<char>, A
     Ok(longer)
 }
 
-/// A piece behind so many blanks.
-fn begun(alloc: Global, margin: usize, piece: &[char]) -> Result<Items<char>, AllocError>
+/// A piece behind so many blanks. It fails for want of memory alone.
+pub fn begun(alloc: Global, margin: usize, piece: &[char]) -> Result<Items<char>, AllocError>
     ensures { IfOk result (λ line. line ≡ blanks margin ++ piece.now) }
 {
     let mut line = Items::new(alloc);

@@ -9,8 +9,9 @@ use itoa::Buffer;
 use sqlite_items::Items;
 use std::alloc::AllocError;
 
-/// Puts a text of ASCII behind a line. Of another text each byte is put as the character of that number.
-pub(crate) fn put(line: &mut Items<char>, text: &str) -> Result<(), AllocError>
+/// Puts a text of ASCII behind a line. Of another text each byte is put as the character of that number. It fails for want of memory
+/// alone, as do all calls that put something behind a line.
+pub fn put(line: &mut Items<char>, text: &str) -> Result<(), AllocError>
     ensures { OnOk result (line.new ≡ line.old ++ text.now) }
 {
     for byte in text.as_bytes() {
@@ -20,7 +21,7 @@ pub(crate) fn put(line: &mut Items<char>, text: &str) -> Result<(), AllocError>
 }
 
 /// Puts characters behind a line.
-pub(crate) fn put_line(line: &mut Items<char>, more: &[char]) -> Result<(), AllocError>
+pub fn put_line(line: &mut Items<char>, more: &[char]) -> Result<(), AllocError>
     ensures { OnOk result (line.new ≡ line.old ++ more.now) }
 {
     for c in more {
@@ -30,7 +31,7 @@ pub(crate) fn put_line(line: &mut Items<char>, more: &[char]) -> Result<(), Allo
 }
 
 /// Puts a number behind a line.
-pub(crate) fn put_number(line: &mut Items<char>, number: u64) -> Result<(), AllocError>
+pub fn put_number(line: &mut Items<char>, number: u64) -> Result<(), AllocError>
     ensures { OnOk result (line.new ≡ line.old ++ decimal number) }
 {
     put(line, Buffer::new().format(number))
@@ -44,7 +45,7 @@ pub(crate) fn put_size(line: &mut Items<char>, size: usize) -> Result<(), AllocE
 }
 
 /// Puts blanks behind a line.
-pub(crate) fn put_blanks(line: &mut Items<char>, count: usize) -> Result<(), AllocError>
+pub fn put_blanks(line: &mut Items<char>, count: usize) -> Result<(), AllocError>
     ensures { OnOk result (line.new ≡ line.old ++ spec.blanks count) }
 {
     for _ in 0..count {
@@ -66,7 +67,7 @@ pub(crate) fn put_padded(
 }
 
 /// Puts a text as it is shown behind a line.
-pub(crate) fn put_shown(line: &mut Items<char>, text: &str) -> Result<(), AllocError>
+pub fn put_shown(line: &mut Items<char>, text: &str) -> Result<(), AllocError>
     ensures { OnOk result (line.new ≡ line.old ++ spec.shown_text text.now) }
 {
     for c in text.chars() {

@@ -9,7 +9,7 @@ use sqlite_items::Items;
 use std::alloc::{AllocError, Global};
 
 /// Puts a text behind a line, or the front of it with a tilde where it is too long.
-pub(crate) fn put_cut(line: &mut Items<char>, most: usize, text: &[char]) -> Result<(), AllocError>
+pub fn put_cut(line: &mut Items<char>, most: usize, text: &[char]) -> Result<(), AllocError>
     ensures { OnOk result (line.new ≡ line.old ++ spec.cut most text.now) }
 {
     if text.len() <= most {

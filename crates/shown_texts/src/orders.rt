@@ -87,7 +87,8 @@ fn comes_to(mark: Mark, moment: &Moment, later: &[Moment]) -> bool
     has(mark, moment) || goes_on(mark, moment.session, later)
 }
 
-fn put_if(line: &mut Items<char>, is_so: bool, mark: &str) -> Result<(), AllocError>
+/// Puts a mark behind a line, where that is so.
+pub fn put_if(line: &mut Items<char>, is_so: bool, mark: &str) -> Result<(), AllocError>
     ensures { OnOk result (line.new ≡ line.old ++ spec.mark_if is_so mark.now) }
 {
     if is_so {
@@ -125,7 +126,7 @@ fn name_of(steps: &[Text], step: Option<u8>) -> &str
 }
 
 /// Puts a name, as a permutation line has it and as it is shown, behind a line.
-fn put_name(alloc: Global, line: &mut Items<char>, name: &str) -> Result<(), AllocError>
+pub fn put_name(alloc: Global, line: &mut Items<char>, name: &str) -> Result<(), AllocError>
     ensures { OnOk result (line.new ≡ line.old ++ shown_text (spelled name.now)) }
 {
     let mut text = String::new(alloc);

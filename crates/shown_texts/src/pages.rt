@@ -46,10 +46,18 @@ fn text_of(alloc: Global, lines: &[Items<char>]) -> Result<String, AllocError>
     ensures { IfOk result (λ text. string_bytes text ≡ flat_map spec.line_bytes lines.now) }
 {
     let mut text = String::new(alloc);
-    for line in lines {
-        push_line(&mut text, line.as_slice())?;
-    }
+    push_lines(&mut text, lines)?;
     Ok(text)
+}
+
+/// Puts lines behind a text, each without the blanks at its end and with a line feed behind it. It fails for want of memory alone.
+pub fn push_lines(text: &mut String, lines: &[Items<char>]) -> Result<(), AllocError>
+    ensures { OnOk result (string_bytes text.new ≡ string_bytes text.old ++ flat_map spec.line_bytes lines.now) }
+{
+    for line in lines {
+        push_line(text, line.as_slice())?;
+    }
+    Ok(())
 }
 
 fn push_line(text: &mut String, line: &[char]) -> Result<(), AllocError>

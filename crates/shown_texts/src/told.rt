@@ -83,8 +83,8 @@ fn push_others(text: &mut String, values: &[Value]) -> Result<(), AllocError>
     Ok(())
 }
 
-/// Puts an event behind a text, where these are the names of the steps.
-pub(crate) fn push_event(text: &mut String, steps: &[Text], event: &Event) -> Result<(), AllocError>
+/// Puts an event behind a text, where these are the names of the steps. It fails for want of memory alone.
+pub fn push_event(text: &mut String, steps: &[Text], event: &Event) -> Result<(), AllocError>
     ensures { OnOk result (string_bytes text.new ≡ string_bytes text.old ++ event_text steps.now event.now) }
 {
     match event {
@@ -116,7 +116,7 @@ fn push_step(text: &mut String, word: &str, steps: &[Text], step: u8) -> Result<
 }
 
 /// The name of a step, or none where there is no such step.
-pub(crate) fn step_name(steps: &[Text], step: u8) -> &str
+pub fn step_name(steps: &[Text], step: u8) -> &str
     ensures { result.now ≡ get_or steps.now step [] }
 {
     match steps.get(usize::from(step)) {

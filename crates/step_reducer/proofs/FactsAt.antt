@@ -11,7 +11,7 @@ use Rattle.perm_ranks.proofs.SomeLemmas.{some-words}
 use Rattle.perm_ranks.proofs.BlockLemmas.{some-total}
 use Rattle.perm_ranks.proofs.WordLemmas.{Takes, done, takes, words-take, each-at}
 use Rattle.bound_specs.specs.Spec.{line, line_by, line_of, ranks, ranks_by, counts_of, queues_of}
-use Rattle.machine_model.specs.World.{World, outcome_of}
+use Rattle.machine_model.specs.World.{World, send_all, outcome_of}
 use Rattle.machine_model.specs.Start.{Started}
 use Rattle.machine_model.specs.Outcome.{outcome_of_line}
 use Rattle.machine_model.proofs.Basics.{both_true, and_true}
@@ -77,15 +77,20 @@ swap-at t p block world swaps i b k v tour is lt word listed some last =
     fact-swap t (block.first + i) (p ++ b ∷ v) tour (is.ranks.words i lt ∙ ap (λ u. p ++ u) word) (omega (arith, inside, lt)) k
     (λ m less. is.settled m (b ∷ v) (omega arith)) (is.pairs k b v last ∙ listed)
 
--- no letter is left
+-- where no letter is left, the letters are the word of the only rank
+word-alone : (t : Tour) (p : Word) (block : Block) (world : World) (swaps : List Bool) → IsPlace t p block world swaps → total block.left ≡ 0
+    → word_at (counts_of (queues_of t.spec)) block.first ≡ p
+word-alone t p block world swaps is none =
+    let first : block.first ≡ block.first + 0 = omega arith in
+    let empty : word_at block.left 0 ≡ [] = ap (λ n. get_or (words_of n block.left) 0 []) none in
+    ap (word_at (counts_of (queues_of t.spec))) first ∙ is.ranks.words 0 (some-words block.left) ∙ ap (λ u. p ++ u) empty ∙ append-nil p
+
+-- its fact is the outcome
 pub ran-at : (t : Tour) (p : Word) (block : Block) (world : World) (swaps : List Bool) → IsTour t → IsPlace t p block world swaps → total block.left ≡ 0
     → IsFactOf t.reduce t.spec block.first (Ran (outcome_of t.spec.sessions world))
 ran-at t p block world swaps tour is none =
     let some = some-words block.left in
-    let first : block.first ≡ block.first + 0 = omega arith in
-    let empty : word_at block.left 0 ≡ [] = ap (λ n. get_or (words_of n block.left) 0 []) none in
-    let word : word_at (counts_of (queues_of t.spec)) block.first ≡ p = ap (word_at (counts_of (queues_of t.spec))) first ∙ is.ranks.words 0 some
-    ∙ ap (λ u. p ++ u) empty ∙ append-nil p in
+    let word = word-alone t p block world swaps is none in
     let inside = is.ranks.inside in
     subst (λ w. IsFactOf t.reduce t.spec block.first (Ran (outcome_of t.spec.sessions w))) (sym is.world_is)
     (fact-ran t block.first p tour word (omega (arith, inside, some)) (λ m. none-at m))
@@ -99,6 +104,13 @@ ran-at t p block world swaps tour is none =
         and-false : (r : Bool) → (r && false) ≡ false
         and-false true = refl
         and-false false = refl
+
+-- and the world is the one behind the line of the only rank
+pub world-at : (t : Tour) (p : Word) (block : Block) (world : World) (swaps : List Bool) → IsTour t → IsPlace t p block world swaps → total block.left ≡ 0
+    → world ≡ send_all t.spec.steps t.world (line_of t.spec block.first)
+world-at t p block world swaps tour is none =
+    is.world_is ∙ sym (ap (λ ls. send_all t.spec.steps t.world (line_by ls (queues_of t.spec) block.first)) tour.words
+    ∙ ap (world_after t) (word-alone t p block world swaps is none))
 
 -- the words that go on with such a letter
 pub swap-within : (t : Tour) (p : Word) (block : Block) (world : World) (swaps : List Bool) (a k r : ℕ)

@@ -1,18 +1,23 @@
 -- A walk of words or of lines has gone on.
-use Rattle.std.proofs.Common.{◌≡◌, refl, sym, ap, ◌∙◌, subst, ℕ, suc, ◌+◌, ◌-◌, ◌<◌, ◌≤◌, Bool, false, List, Some, length, arith}
+use Rattle.std.proofs.Common.{◌≡◌, refl, sym, ap, ◌∙◌, subst, ℕ, suc, ◌+◌, ◌-◌, ◌<◌, ◌≤◌, Bool, true, false, List, Option, Some, length, arith}
 use Rattle.bound_specs.specs.Spec.{SpecFile, ranks, line_of}
+use Rattle.machine_model.specs.World.{World}
+use Rattle.session_machine.specs.Running.{Running}
+use Rattle.rank_facts.specs.declared.fact.Fact.{Fact}
+use Rattle.rank_facts.specs.declared.fact.Fact.TheVariants.{Ran, Swap}
 use Rattle.step_reducer.specs.declared.fact.Given.{Given}
 use Rattle.step_reducer.specs.declared.word_walk.WordWalk.{WordWalk}
 use Rattle.step_reducer.specs.declared.line_walk.LineWalk.{LineWalk}
 use Rattle.step_reducer.specs.declared.walk.Walk.{Walk}
 use Rattle.step_reducer.specs.declared.walk.Walk.TheVariants.{Words, Lines}
 use Rattle.step_reducer.specs.Fronts.{front, line_before, new_steps, most_steps}
-use Rattle.step_reducer.specs.Walks.{AllHave, IsWalk, HasGiven}
+use Rattle.step_reducer.specs.Walks.{AllHave, LiesBehind, IsWalk, HasGiven}
 use Rattle.step_reducer.specs.Lines.{IsLines, HasRun}
-use Rattle.step_reducer.specs.Walking.{IsWords, IsLinesTo, IsWalkOf, IsGoing, walk_at, walk_end, moved_to, HasMoved, HasWalked}
-use Rattle.step_reducer.specs.Shardwise.{Shardwise, GivesPart, IsOnward}
+use Rattle.step_reducer.specs.Walking.{IsWords, IsLinesTo, IsWalkOf, IsGoing, walk_at, walk_end, moved_to, standing_in, HasMoved, HasWalked}
+use Rattle.step_reducer.specs.Shardwise.{Shardwise, GivesPart, Shows, IsOnward, IsKept, behind_line, world_behind, was_run, shown_by}
 use Rattle.step_reducer.proofs.Sendings.{words-run}
 use Rattle.step_reducer.proofs.Stacks.{stack-later}
+use Rattle.step_reducer.proofs.Trails.{path-top}
 
 -- ---- a walk of a shard is one of the spec, up to the shard's end and maybe further
 
@@ -75,6 +80,7 @@ words-moved file reduce end w given v is reduces gave =
       one = λ run. gives.one (reduces ∙ words-run reduce file.run is.tour.words run);
       at = gives.at;
       facts = subst (λ b. AllHave b file.run given.run.first given.run.end given.run.fact) reduces gives.facts;
+      ran = gives.ran;
     }
 
 pub words-walked : (file : SpecFile) (reduce : Bool) (first end : ℕ) (w : WordWalk) (given : Given) (v : WordWalk)
@@ -135,6 +141,7 @@ lines-moved file reduce end w given v is some ran =
       one = λ run. omega (arith, begin, behind);
       at = ran.at ∙ sym behind;
       facts = subst (λ (f : SpecFile). AllHave reduce f.run given.run.first given.run.end given.run.fact) same (ran.facts reduce);
+      ran = subst (λ (f : SpecFile). LiesBehind f.run given.run.first given.run.end given.run.fact v.path.trail.top.world) same ran.ran;
     }
 
 pub lines-walked : (file : SpecFile) (reduce : Bool) (first end : ℕ) (w : LineWalk) (given : Given) (v : LineWalk)
@@ -167,14 +174,48 @@ pub onward-moved : (file : SpecFile) (reduce : Bool) (at end : ℕ) (w : Walk) (
     → HasMoved file reduce end w given v → IsOnward file reduce given.run.end v
 onward-moved file reduce at end w given v is moved = record { going = moved.going; to = moved.to ∙ is.to; here = moved.at }
 
+-- the world that it stands in is one of the spec, and not spent
+pub going-stands : (file : SpecFile) (reduce : Bool) (w : Walk) → IsGoing file reduce w → ((standing_in w).file ≡ file) × ((standing_in w).spent ≡ false)
+going-stands file reduce (Words w) is = (is.0.stack.top.frame.file_is, is.0.stack.top.frame.whole)
+going-stands file reduce (Lines w) is =
+    let top = path-top file w.path is.0 in
+    (ap (λ (r : Running). r.file) top, ap (λ (r : Running). r.spent) top)
+
+-- what is shown is the world behind the line of what was run
+world-shown : (file : SpecFile) (given : Given) (v : Walk) (ran : Bool) → ran ≡ was_run given.run.fact
+    → LiesBehind file.run given.run.first given.run.end given.run.fact (standing_in v).world → shown_by ran v ≡ world_behind file.run given.run
+world-shown file given v ran is lies = ap (λ b. shown_by b v) is ∙ at given.run.fact refl
+  where
+    at : (f : Fact) → given.run.fact ≡ f → shown_by (was_run f) v ≡ behind_line file.run given.run.first f
+    at (Ran o) e = ap Some (lies.world_is o e)
+    at (Swap k) e = refl
+
 -- what it gives, and where it stands then
-pub part-given : (file : SpecFile) (reduce : Bool) (at end : ℕ) (spent : Bool) (w : Walk) (given : Given) (v : Walk) (x : Shardwise) → IsOnward file reduce at w
-    → HasMoved file reduce end w given v → spent ≡ false → (let y : Shardwise = record { file = file; reduce = reduce; at = at; end = end; spent = spent } in y) ≡ x
-    → GivesPart x (record { file = file; reduce = reduce; at = given.run.end; end = end; spent = false }) (Some given.run)
-part-given file reduce at end spent w given v x is moved unspent here =
-    let same : (let y : Shardwise = record { file = file; reduce = reduce; at = at; end = end; spent = false } in y) ≡ x =
-    (λ k. (let y : Shardwise = record { file = file; reduce = reduce; at = at; end = end; spent = sym unspent k } in y)) ∙ here in
-    subst (λ z. GivesPart z (record { file = file; reduce = reduce; at = given.run.end; end = end; spent = false }) (Some given.run)) same (
-      record { first = moved.begin ∙ is.here; some = moved.some; few = moved.few; one = moved.one; facts = moved.facts },
-      refl,
+pub part-given : (file : SpecFile) (reduce : Bool) (at end : ℕ) (behind : Option World) (spent ran : Bool) (w : Walk) (given : Given) (v : Walk) (x : Shardwise)
+    → IsOnward file reduce at w → HasMoved file reduce end w given v → ran ≡ was_run given.run.fact → spent ≡ false
+    → (let y : Shardwise = record { file = file; reduce = reduce; at = at; end = end; behind = behind; spent = spent } in y) ≡ x
+    → GivesPart x (record { file = file; reduce = reduce; at = given.run.end; end = end; behind = shown_by ran v; spent = false }) (Some given.run)
+part-given file reduce at end behind spent ran w given v x is moved ran_is unspent here =
+    let same : (let y : Shardwise = record { file = file; reduce = reduce; at = at; end = end; behind = behind; spent = false } in y) ≡ x =
+    (λ k. (let y : Shardwise = record { file = file; reduce = reduce; at = at; end = end; behind = behind; spent = sym unspent k } in y)) ∙ here in
+    let shown = world-shown file given v ran ran_is moved.ran in
+    subst (λ z. GivesPart z (record { file = file; reduce = reduce; at = given.run.end; end = end; behind = shown_by ran v; spent = false }) (Some given.run)) same (
+      record { first = moved.begin ∙ is.here; some = moved.some; few = moved.few; one = moved.one; ran = moved.ran.one; facts = moved.facts },
+      λ k. (let y : Shardwise = record { file = file; reduce = reduce; at = given.run.end; end = end; behind = shown k; spent = false } in y),
     )
+
+-- the world that a walk shows, which is not spent then
+pub world-told : (file : SpecFile) (reduce : Bool) (at end : ℕ) (spent ran : Bool) (w : Walk) (r : Running) (x : Shardwise) → IsKept spent ran file reduce at end w
+    → ran ≡ true → r ≡ standing_in w
+    → (let y : Shardwise = record { file = file; reduce = reduce; at = at; end = end; behind = shown_by ran w; spent = spent } in y) ≡ x → Shows x r
+world-told file reduce at end spent ran w r x kept was is here = by spent refl
+  where
+    by : (b : Bool) → spent ≡ b → Shows x r
+    by true e = absurd (let bad : true ≡ false = sym was ∙ kept.none e in cc)
+    by false e =
+        let stands = going-stands file reduce w (kept.walk e).going in
+        record {
+          file_is = ap (λ (s : Running). s.file) is ∙ stands.0 ∙ ap (λ (v : Shardwise). v.file) here;
+          whole = ap (λ (s : Running). s.spent) is ∙ stands.1;
+          behind = sym (ap (λ (v : Shardwise). v.behind) here) ∙ ap (λ b. shown_by b w) was ∙ ap (λ (s : Running). Some s.world) (sym is);
+        }

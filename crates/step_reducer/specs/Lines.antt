@@ -4,7 +4,7 @@ use Rattle.spec_reader.specs.declared.TheConstants.{MAX_ITEMS}
 use Rattle.bound_specs.specs.Spec.{SpecFile, line_of}
 use Rattle.step_reducer.specs.Fronts.{front, most_steps}
 use Rattle.step_reducer.specs.Paths.{IsPath}
-use Rattle.step_reducer.specs.Walks.{AllHave}
+use Rattle.step_reducer.specs.Walks.{AllHave, LiesBehind}
 use Rattle.step_reducer.specs.declared.line_walk.LineWalk.{LineWalk}
 use Rattle.step_reducer.specs.declared.fact.Given.{Given}
 
@@ -23,3 +23,4 @@ pub record HasRun (x : LineWalk) (given : Given) (y : LineWalk) : Type 0 where
   pub sent : given.sent + front x.path.line.items y.path.line.items ≡ length y.path.line.items
   pub most : given.sent ≤ most_steps x.path.spec.now.run given.run.first given.run.fact
   pub facts : (reduce : Bool) → AllHave reduce x.path.spec.now.run given.run.first given.run.end given.run.fact
+  pub ran : LiesBehind x.path.spec.now.run given.run.first given.run.end given.run.fact y.path.trail.top.world

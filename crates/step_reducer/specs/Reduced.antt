@@ -2,7 +2,7 @@
 use Rattle.std.specs.Prelude.{◌≡◌, ℕ, suc, ◌+◌, ◌-◌, ◌<◌, ◌≤◌, Bool, true, false, ◌&&◌, nat_lt, List, [], ◌∷◌, ◌++◌, length, drop, set, get_or}
 use Rattle.perm_ranks.specs.Words.{Word}
 use Rattle.perm_ranks.specs.Blocks.{Block, IsBlockOf}
-use Rattle.bound_specs.specs.Spec.{Step, Spec, Queues, line, counts_of, queues_of}
+use Rattle.bound_specs.specs.Spec.{Step, Spec, Queues, line, line_of, counts_of, queues_of}
 use Rattle.machine_model.specs.World.{World, blank, send_all}
 use Rattle.machine_model.specs.Start.{Started, start}
 use Rattle.rank_facts.specs.Swap.{quiet_heads, quiet_at, falls_at}
@@ -16,6 +16,10 @@ pub record Tour : Type 0 where
 -- the world in which a spec starts, and a blank one where it does not
 abbrev pub first_world : Spec → World
 first_world spec = (let w : World = elim (start spec) [ Started w ↦ w | _ ↦ blank ] in w)
+
+-- the world behind the line of a rank
+abbrev pub line_world : Spec → ℕ → World
+line_world spec rank = send_all spec.steps (first_world spec) (line_of spec rank)
 
 abbrev pub tour_of : Spec → Bool → Tour
 tour_of spec reduce = record { spec = spec; world = first_world spec; reduce = reduce }

@@ -7,7 +7,7 @@ use Rattle.machine_model.specs.World.{World}
 use Rattle.machine_model.specs.Start.{Started, start}
 use Rattle.rank_facts.specs.Facts.{IsFactOf, has_no_lines}
 use Rattle.rank_facts.specs.declared.fact.Fact.{Fact}
-use Rattle.session_machine.specs.Running.{IsNotRunBy}
+use Rattle.session_machine.specs.Running.{Running, IsNotRunBy}
 use Rattle.session_machine.specs.declared.error.RunError.{RunError}
 use Rattle.session_machine.specs.declared.error.RunError.TheVariants as run_error
 use Rattle.rank_facts.specs.declared.shard.Shard.{Shard}
@@ -19,7 +19,7 @@ use Rattle.step_reducer.specs.declared.line_walk.LineWalk.{LineWalk}
 use Rattle.step_reducer.specs.declared.walk.Walk.{Walk}
 use Rattle.step_reducer.specs.declared.walk.Walk.TheVariants.{Words, Lines}
 use Rattle.step_reducer.specs.Fronts.{line_before, new_steps, sent_by, most_steps}
-use Rattle.step_reducer.specs.Walks.{AllHave, IsWalk, Follows}
+use Rattle.step_reducer.specs.Walks.{AllHave, LiesBehind, IsWalk, Follows}
 use Rattle.step_reducer.specs.Lines.{IsLines}
 
 -- a shard's first rank, the next one and the end, the steps sent for the ranks given, whether no run was given in part, and whether memory was refused
@@ -84,6 +84,11 @@ abbrev pub walk_at : Walk → ℕ
 walk_at (Words w) = w.at
 walk_at (Lines w) = w.at
 
+-- the world that a walk stands in
+abbrev pub standing_in : Walk → Running
+standing_in (Words w) = w.stack.top.world
+standing_in (Lines w) = w.path.trail.top
+
 -- a walk of the spec's words from the first rank up to the end
 pub record IsWords (file : SpecFile) (reduce : Bool) (first end : ℕ) (w : WordWalk) : Type 0 where
   pub walk : IsWalk file w
@@ -130,6 +135,7 @@ pub record HasMoved (file : SpecFile) (reduce : Bool) (end : ℕ) (x : Walk) (gi
   pub one : skips reduce file.run ≡ false → given.run.end ≡ given.run.first + 1
   pub at : walk_at y ≡ given.run.end
   pub facts : AllHave reduce file.run given.run.first given.run.end given.run.fact
+  pub ran : LiesBehind file.run given.run.first given.run.end given.run.fact (standing_in y).world
 
 -- a walk from the first rank up to the end has moved, with the steps sent for that
 pub record HasWalked (file : SpecFile) (reduce : Bool) (first end : ℕ) (x : Walk) (given : Given) (y : Walk) : Type 0 where

@@ -1,5 +1,8 @@
 //! Facts of ranks in runs.
 
+ghost use Rattle.std.specs.Prelude.{◌≡◌};
+ghost use Rattle.step_reducer.specs.Shardwise.{was_run};
+
 use rank_facts::Fact;
 
 /// One fact of each rank from `first` up to but not `end`.
@@ -8,6 +11,18 @@ pub struct FactRun {
     pub first: u64,
     pub end: u64,
     pub fact: Fact,
+}
+
+impl FactRun {
+    /// Whether the fact is an outcome.
+    pub(crate) fn was_run(&self) -> bool
+        ensures { result ≡ was_run self.now.fact }
+    {
+        match &self.fact {
+            Fact::Ran(_) => true,
+            Fact::Swap(_) => false,
+        }
+    }
 }
 
 /// A run of facts, and how many steps were sent for it.

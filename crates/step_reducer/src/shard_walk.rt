@@ -1,10 +1,10 @@
 //! The facts of the ranks of one shard after another.
 
-ghost use Rattle.std.specs.Prelude.{◌≡◌, ◌↔◌, ◌≤◌, true, false, IfOk, IfErr, OnOk, OnErr, IsErrOf};
+ghost use Rattle.std.specs.Prelude.{◌≡◌, ◌↔◌, ◌≤◌, true, false, None, IfOk, IfErr, OnOk, OnErr, IsErrOf, MatchOption};
 ghost use Rattle.step_reducer.specs.declared.error.WalkError.TheVariants as walk_error;
 ghost use Rattle.rank_facts.specs.Shards.{IsShardOf};
 ghost use Rattle.step_reducer.specs.Walking.{IsNotWalked, Starts};
-ghost use Rattle.step_reducer.specs.Shardwise.{standing_at, GivesPart};
+ghost use Rattle.step_reducer.specs.Shardwise.{standing_at, GivesPart, Shows};
 
 use crate::error::WalkError;
 use crate::fact::FactRun;
@@ -12,19 +12,20 @@ use crate::start::start_for;
 use crate::walk::Walk;
 use bound_specs::Spec;
 use rank_facts::Shard;
-use session_machine::RunError;
+use session_machine::{RunError, World};
 use std::alloc::Global;
 use std::marker::Model;
 
 /// Gives the facts of the ranks of a shard as a walker does, and then goes on with a shard of later ranks: the spec starts once,
 /// and what the ranks of both share stays. Contracts see the spec, whether facts are reduced, the next rank, the end of the shard,
-/// and whether memory was refused.
+/// the world behind the line of the rank that was given last, where it was run, and whether memory was refused.
 pub struct ShardWalk<'a> {
     spec: &'a Spec,
     reduce: bool,
     at: u64,
     end: u64,
     walk: Walk<'a>,
+    has_run: bool,
     is_spent: bool,
 }
 
@@ -37,6 +38,7 @@ impl Drop for ShardWalk<'_> {
             at: _,
             end: _,
             walk: _walk,
+            has_run: _,
             is_spent: _,
         } = self;
     }
@@ -44,22 +46,28 @@ impl Drop for ShardWalk<'_> {
 
 impl<'a> Model for ShardWalk<'a> {
     ghost use Rattle.std.specs.Coded.{codes};
+    ghost use Rattle.finite_maps.specs.Codes.{map_code};
+    ghost use Rattle.lock_modes.specs.contracts.value.Value as value;
+    ghost use Rattle.lock_modes.specs.contracts.resource.Resource as resource;
+    ghost use Rattle.lock_queues.specs.contracts.wait.Wait as waiting;
     ghost use Rattle.bound_statements.specs.contracts.statement.Bound as bound;
-    ghost use Rattle.step_reducer.specs.Shardwise.{Shardwise, IsKept};
+    ghost use Rattle.transcripts.specs.contracts.event.Event as event;
+    ghost use Rattle.step_reducer.specs.Shardwise.{Shardwise, IsKept, shown_by};
 
     ghost Value = { Shardwise };
 
-    ghost coded = { Prim.hlevel (codes, bound.the_row.coded) };
+    ghost coded = { Prim.hlevel (codes, map_code, value.the_row.coded, bound.the_row.coded, resource.the_row.coded, waiting.the_row.coded, event.the_row.coded) };
 
     ghost view = { λ w. record {
       file = w.spec.now;
       reduce = w.reduce;
       at = w.at;
       end = w.end;
+      behind = shown_by w.has_run w.walk;
       spent = w.is_spent;
     } };
 
-    ghost invariant = { λ w. IsKept w.is_spent w.spec.now w.reduce w.at w.end w.walk };
+    ghost invariant = { λ w. IsKept w.is_spent w.has_run w.spec.now w.reduce w.at w.end w.walk };
 }
 
 impl<'a> ShardWalk<'a> {
@@ -84,6 +92,7 @@ impl<'a> ShardWalk<'a> {
             at: shard.first,
             end: shard.end,
             walk,
+            has_run: false,
             is_spent: false,
         })
     }
@@ -105,6 +114,7 @@ impl<'a> ShardWalk<'a> {
         self.walk.reach(shard.first);
         self.at = shard.first;
         self.end = shard.end;
+        self.has_run = false;
     }
 
     /// The fact of the next ranks, at least of one, in time that does not grow with their number. None at the end of the shard.
@@ -112,7 +122,7 @@ impl<'a> ShardWalk<'a> {
         ensures run { IfOk result (GivesPart self.old self.new) }
         ensures whole { OnOk result (self.new.spent ≡ false) }
         ensures spent { IsErrOf result walk_error.Spent ↔ (self.old.spent ≡ true) }
-        ensures after { OnErr result (self.new ≡ record self.old { spent = true }) }
+        ensures after { OnErr result (self.new ≡ record self.old { behind = None; spent = true }) }
     {
         if self.is_spent {
             return Err(WalkError::Spent);
@@ -121,9 +131,24 @@ impl<'a> ShardWalk<'a> {
             return Ok(None);
         }
         self.is_spent = true;
+        self.has_run = false;
         let given = self.walk.next_run(self.spec, self.reduce, self.end)?;
+        let was_run = given.run.was_run();
         self.is_spent = false;
+        self.has_run = was_run;
         self.at = given.run.end;
         Ok(Some(given.run))
+    }
+
+    /// The world behind the line of the rank that was given last, where it was run. None where that was a swap, before the shard's
+    /// first rank is given, and once memory was refused.
+    pub fn world(&self) -> Option<&World<'a>>
+        ensures { MatchOption result (self.now.behind ≡ None) (λ world. Shows self.now world.now) }
+    {
+        if self.has_run {
+            Some(self.walk.world())
+        } else {
+            None
+        }
     }
 }

@@ -3,7 +3,7 @@
 ghost use Rattle.std.specs.Prelude.{◌≡◌, ℕ, ◌<◌, ◌≤◌, false, IfOk};
 ghost use Rattle.bound_specs.specs.Spec.{ranks};
 ghost use Rattle.machine_model.specs.Start.{Started, start};
-ghost use Rattle.step_reducer.specs.Walking.{walk_at, walk_end, moved_to, IsGoing, IsWalkOf, HasMoved, HasWalked};
+ghost use Rattle.step_reducer.specs.Walking.{walk_at, walk_end, moved_to, standing_in, IsGoing, IsWalkOf, HasMoved, HasWalked};
 
 use crate::fact::Given;
 use crate::line_walk::LineWalk;
@@ -73,6 +73,16 @@ impl<'a> Walk<'a> {
         match self {
             Walk::Words(walk) => walk.next_run(end),
             Walk::Lines(walk) => walk.next_run(),
+        }
+    }
+
+    /// The world that the walk stands in. Where the rank given last was run, it is the world behind its line.
+    pub(crate) fn world(&self) -> &World<'a>
+        ensures { result.now ≡ standing_in self.now }
+    {
+        match self {
+            Walk::Words(walk) => &walk.stack.top.world,
+            Walk::Lines(walk) => &walk.path.trail.top,
         }
     }
 

@@ -6,7 +6,7 @@ ghost use Rattle.bound_specs.specs.Spec.{counts_of, queues_of};
 ghost use Rattle.machine_model.specs.Start.{Started, start};
 ghost use Rattle.step_reducer.specs.Walking.{IsWords};
 ghost use Rattle.step_reducer.specs.Reduced.{tour_of, IsTour};
-ghost use Rattle.step_reducer.specs.Walks.{IsAt, IsWalk, IsFound, HasSent, HasGiven};
+ghost use Rattle.step_reducer.specs.Walks.{LiesBehind, IsAt, IsWalk, IsFound, HasSent, HasGiven};
 
 use crate::fact::{FactRun, Given};
 use crate::frame::{Frame, Swaps};
@@ -140,6 +140,7 @@ fn find(
     ensures found { IfOk result (IsFound reduce stack.old.top.world.file at end) }
     ensures has { OnOk result (IsAt reduce stack.old.top.world.file at all stack.new) }
     ensures sent { IfOk result (λ found. HasSent reduce stack.old.top.world.file.run at stack.old found stack.new) }
+    ensures ran { IfOk result (λ found. LiesBehind stack.old.top.world.file.run at found.end found.fact stack.new.top.world.world) }
 {
     let before = stack.top.block.letters_left();
     'letter: while stack.top.block.letters_left() > 0 {

@@ -38,7 +38,7 @@ pub(crate) fn are_same_events(a: &[Event], b: &[Event]) -> bool
 }
 
 /// Whether two rows have the same values.
-fn are_same_values(a: &[Value], b: &[Value]) -> bool
+pub fn are_same_values(a: &[Value], b: &[Value]) -> bool
     ensures { IsTrue result ↔ (a.now ≡ b.now) }
 {
     if a.len() != b.len() {
@@ -60,7 +60,7 @@ fn is_same_event(a: &Event, b: &Event) -> bool
 }
 
 /// Whether two values are the same.
-fn is_same_value(a: &Value, b: &Value) -> bool
+pub fn is_same_value(a: &Value, b: &Value) -> bool
     ensures { IsTrue result ↔ (a.now ≡ b.now) }
 {
     match (a, b) {

@@ -1,4 +1,4 @@
-use Rattle.order_classes.proofs.Totals.{total-number}
+use Rattle.order_classes.proofs.Adding.{total-number}
 use Rattle.order_classes.proofs.laws.totals_are_numbers.Goals as goal
 
 pub returns : goal.returns

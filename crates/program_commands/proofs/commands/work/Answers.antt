@@ -33,6 +33,12 @@ returns-in-Show-clause-done g c =
     (sym c.in-Show.is)
     c.show_of_file.ensures.done
 
+pub returns-in-Classes-clause-done : goal.returns-in-Classes-clause-done
+returns-in-Classes-clause-done g c =
+    subst (λ a. IsDone (g.O.Opener.bytes c.args.opener.now) g.W.Write.contents c.args.out.now c.classes_of_file.new.out a c.classes_of_file.result)
+    (sym c.in-Classes.is)
+    c.classes_of_file.ensures.done
+
 pub returns-in-Run-clause-done : goal.returns-in-Run-clause-done
 returns-in-Run-clause-done g c =
     subst (λ a. IsDone (g.O.Opener.bytes c.args.opener.now) g.W.Write.contents c.args.out.now c.range_of_file.new.out a c.range_of_file.result)

@@ -1,13 +1,15 @@
-use Rattle.std.proofs.Common.{◌≡◌, refl, sym, ap, ◌∙◌, subst, ℕ, suc, ◌-◌, ◌<◌, Bool, true, false, [], ◌∷◌, ◌++◌, length, get_or, arith, length-append}
+use Rattle.std.proofs.Common.{◌≡◌, refl, sym, ap, ◌∙◌, subst, ℕ, suc, ◌-◌, ◌<◌, Bool, true, false, List, [], ◌∷◌, ◌++◌, length, get_or, arith, length-append}
 use Rattle.perm_ranks.specs.Words.{total, all_words}
 use Rattle.perm_ranks.specs.Blocks.{HasRank, end_of}
 use Rattle.perm_ranks.proofs.CountLemmas.{length-all_words}
 use Rattle.bound_specs.specs.Spec.{Spec, SpecFile}
-use Rattle.machine_model.specs.World.{send, outcome_of}
+use Rattle.machine_model.specs.World.{World, send, outcome_of}
 use Rattle.rank_facts.specs.Facts.{IsFactOf}
 use Rattle.rank_facts.specs.declared.fact.Fact.TheVariants.{Ran, Swap}
-use Rattle.step_reducer.specs.Reduced.{tour_of}
-use Rattle.step_reducer.proofs.FactsAt.{swap-within, swap-all, ran-at}
+use Rattle.transcripts.specs.declared.event.Event.{Event}
+use Rattle.step_reducer.specs.Reduced.{tour_of, line_world}
+use Rattle.step_reducer.specs.Walks.{LiesBehind}
+use Rattle.step_reducer.proofs.FactsAt.{swap-within, swap-all, ran-at, world-at}
 use Rattle.step_reducer.proofs.Partings.{line-length}
 use Rattle.step_reducer.proofs.Turns.{turn-place}
 use Rattle.step_reducer.proofs.word_walk.find.Goals as goal
@@ -15,6 +17,19 @@ use Rattle.step_reducer.proofs.word_walk.find.Goals as goal
 -- a swap is a fact only where facts are reduced
 reduces : (reduce : Bool) (spec : Spec) (r k : ℕ) → IsFactOf reduce spec r (Swap k) → reduce ≡ false → ⊥
 reduces reduce spec r k fact e = (let bad : false ≡ true = sym e ∙ fact.0 in cc)
+
+-- and nothing was run for it
+not-run : (spec : Spec) (first end k : ℕ) (world : World) → LiesBehind spec first end (Swap k) world
+not-run spec first end k world = record { one = λ o e. not-ran k o e; world_is = λ o e. not-ran k o e }
+  where
+    not-ran : {A : Type 0} (k : ℕ) (o : List (List Event)) → Swap k ≡ Ran o → A
+    not-ran k o e = cc
+
+pub returns-then-is_swap-clause-ran : goal.returns-then-is_swap-clause-ran
+returns-then-is_swap-clause-ran c = not-run _ _ _ _ _
+
+pub returns-then-is_covered-clause-ran : goal.returns-then-is_covered-clause-ran
+returns-then-is_covered-clause-ran c = not-run _ _ _ _ _
 
 pub returns-then-is_swap-clause-found : goal.returns-then-is_swap-clause-found
 returns-then-is_swap-clause-found c =
@@ -132,6 +147,23 @@ returns-clause-sent c =
       one = λ e. refl;
       all = λ e. c.letters_left-before.ensures.all;
       whole = λ e. omega (arith, c.letter-test.false, c.letters_left.ensures.all);
+    }
+
+pub returns-clause-ran : goal.returns-clause-ran
+returns-clause-ran c =
+    let file = c.args.stack.now.top.world.file in
+    let top = c.letter.stack.top in
+    let frame = c.letter.invariant.at.stack.top.frame in
+    let has = c.letter.invariant.at.has in
+    let none : total top.block.left ≡ 0 = omega (arith, c.letter-test.false, c.letters_left.ensures.all) in
+    let one : length (all_words top.block.left) ≡ 1 = length-all_words top.block.left 0 none in
+    let from = has.0 in
+    let to = has.1 in
+    let same : top.block.first ≡ c.args.at = omega (arith, one, from, to) in
+    record {
+      one = λ o e. refl;
+      world_is = λ o e. subst (λ n. top.world.world ≡ line_world file.run n) same
+          (world-at (tour_of file.run c.args.reduce) frame.shared top.block top.world.world top.swaps.items c.requires.tour frame.stands none);
     }
 
 pub letter-smaller : goal.letter-smaller

@@ -1,11 +1,12 @@
 use Rattle.std.proofs.Common.{◌≡◌, refl, ℕ, Some, sym, ap, ◌∙◌, subst, List, length, arith}
 use Rattle.machine_model.specs.World.{send_all, outcome_of}
+use Rattle.session_machine.specs.Running.{Running}
 use Rattle.rank_facts.specs.Facts.{IsFactOf}
 use Rattle.rank_facts.specs.declared.fact.Fact.TheVariants.{Ran}
 use Rattle.step_reducer.specs.Fronts.{front}
 use Rattle.step_reducer.specs.Reduced.{first_world}
 use Rattle.step_reducer.proofs.FrontLemmas.{front-new}
-use Rattle.step_reducer.proofs.Trails.{path-own, path-told}
+use Rattle.step_reducer.proofs.Trails.{path-own, path-told, path-top}
 use Rattle.step_reducer.proofs.Firsts.{line-fact, line-ran}
 use Rattle.step_reducer.proofs.line_walk.LineWalk.next_run.Goals as goal
 
@@ -48,4 +49,9 @@ returns c =
           subst (λ m. IsFactOf reduce run m (Ran c.in_ok-outcome.outcome)) (sym here)
           (line-fact reduce run x.at line c.in_ok-outcome.outcome c.requires.lines c.requires.inside c.in-Some.ensures.line
           (line-ran run line c.requires.walk.starts ∙ ap (λ o. Some o) told)));
+      ran = record {
+        one = λ o e. refl;
+        world_is = λ o e. ap (λ (r : Running). r.world) (path-top file y went.path)
+            ∙ ap (λ ks. send_all run.steps (first_world run) ks) (went.line ∙ c.in-Some.ensures.line);
+      };
     }

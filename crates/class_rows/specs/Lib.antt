@@ -1,0 +1,4 @@
+pub mod Serial
+pub mod Numbering
+pub mod Pages
+pub mod Telling

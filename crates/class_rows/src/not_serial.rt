@@ -1,0 +1,144 @@
+//! Which classes answer as no serial order does.
+
+ghost use Rattle.std.specs.Prelude.{◌≡◌, ◌∷◌, [], true, List, None, IfOk, length, replicate, map};
+ghost use Rattle.binding_model.specs.declared.tables.Table.{Table as Declared};
+ghost use Rattle.order_classes.specs.declared.rows.Grouping.TheVariants.{Answers};
+ghost use Rattle.class_groups.specs.Groups.{IsSwept};
+ghost use Rattle.class_rows.specs.Numbering.{AreNumbered, AreR, mark_at, marked, marks_by, not_marked, number_at};
+
+use crate::numbering::numbers_of;
+use crate::serial::serial_ranks;
+use bound_specs::Spec;
+use class_groups::Groups;
+use class_stretches::Stretches;
+use order_classes::Grouping;
+use std::alloc::{AllocError, Global};
+
+/// Of each class whether no serial order answers as its orders do, which is not told of a spec with permutation lines.
+pub(crate) fn not_serial(
+    alloc: Global,
+    spec: &Spec,
+    groups: &Groups,
+) -> Result<Vec<Option<bool>>, AllocError>
+    ensures { IfOk result (λ rs. (tables : List Declared) → IsSwept tables spec.now.run groups.now → AreR tables spec.now.run groups.now.shows.items rs.items) }
+{
+    match spec.shape() {
+        Some(_) => compared(alloc, spec, groups),
+        None => not_told(alloc, groups.shows.len()),
+    }
+}
+
+fn not_told(alloc: Global, classes: usize) -> Result<Vec<Option<bool>>, AllocError>
+    ensures { IfOk result (λ rs. rs.items ≡ replicate classes None) }
+{
+    vec![in alloc; None; classes]
+}
+
+/// Of each class whether it has other answers than the classes of all serial orders.
+fn compared(alloc: Global, spec: &Spec, groups: &Groups) -> Result<Vec<Option<bool>>, AllocError>
+    requires { spec.now.run.lines ≡ [] }
+    ensures { IfOk result (λ rs. (tables : List Declared) → IsSwept tables spec.now.run groups.now → AreR tables spec.now.run groups.now.shows.items rs.items) }
+{
+    let ranks = serial_ranks(alloc, spec)?;
+    let numbers = numbers_of_answers(alloc, groups)?;
+    let marks = marks_of(
+        alloc,
+        &groups.stretches,
+        numbers.as_slice(),
+        ranks.as_slice(),
+    )?;
+    not_marked(alloc, marks.as_slice(), numbers.as_slice())
+}
+
+/// The numbers of all classes by their answers.
+fn numbers_of_answers(alloc: Global, groups: &Groups) -> Result<Vec<Option<u32>>, AllocError>
+    ensures { IfOk result (λ numbers. AreNumbered Answers groups.now.shows.items (replicate (length groups.now.shows.items) true) numbers.items) }
+{
+    let all = all_chosen(alloc, groups.shows.len())?;
+    numbers_of(
+        alloc,
+        Grouping::Answers,
+        groups.shows.as_slice(),
+        all.as_slice(),
+    )
+}
+
+fn all_chosen(alloc: Global, classes: usize) -> Result<Vec<bool>, AllocError>
+    ensures { IfOk result (λ all. all.items ≡ replicate classes true) }
+{
+    vec![in alloc; true; classes]
+}
+
+/// Marks the numbers of the classes of these ranks.
+fn marks_of(
+    alloc: Global,
+    stretches: &Stretches,
+    numbers: &[Option<u32>],
+    ranks: &[u64],
+) -> Result<Vec<bool>, AllocError>
+    ensures { IfOk result (λ marks. marks.items ≡ marks_by stretches.now.list numbers.now ranks.now) }
+{
+    let mut marks = vec![in alloc; false; numbers.len()]?;
+    for rank in ranks {
+        let number = number_at(stretches, numbers, *rank);
+        mark(&mut marks, number);
+    }
+    Ok(marks)
+}
+
+/// The number of a rank's class.
+fn number_at(stretches: &Stretches, numbers: &[Option<u32>], rank: u64) -> Option<u32>
+    ensures { result ≡ number_at stretches.now.list numbers.now rank }
+{
+    match stretches.class_of(rank) {
+        None => None,
+        Some(class) => {
+            let place = class as usize;
+            if place < numbers.len() {
+                return numbers[place];
+            }
+            None
+        }
+    }
+}
+
+fn mark(marks: &mut Vec<bool>, number: Option<u32>)
+    ensures { marks.new.items ≡ marked marks.old.items (number ∷ []) }
+{
+    if let Some(number) = number {
+        let place = number as usize;
+        if place < marks.len() {
+            marks[place] = true;
+        }
+    }
+}
+
+/// Of each number whether it is not marked.
+fn not_marked(
+    alloc: Global,
+    marks: &[bool],
+    numbers: &[Option<u32>],
+) -> Result<Vec<Option<bool>>, AllocError>
+    ensures { IfOk result (λ rs. rs.items ≡ map (not_marked marks.now) numbers.now) }
+{
+    let mut rs = Vec::with_capacity(alloc, numbers.len())?;
+    for number in numbers {
+        rs.push(Some(!mark_at(marks, *number)))?;
+    }
+    Ok(rs)
+}
+
+fn mark_at(marks: &[bool], number: Option<u32>) -> bool
+    ensures { result ≡ mark_at marks.now number }
+{
+    match number {
+        None => false,
+        Some(number) => {
+            let place = number as usize;
+            if place < marks.len() {
+                return marks[place];
+            }
+            false
+        }
+    }
+}

@@ -1,0 +1,57 @@
+-- Classes of ranks by their stretches, and what each of them shows.
+use Rattle.std.specs.Prelude.{◌≡◌, ℕ, suc, ◌<◌, Some, None, List, [], ◌∷◌, length, map}
+use Rattle.std.specs.List.{slice_get}
+use Rattle.order_classes.specs.Classes.{Class, ranks_in, IsClasses, AreGroups}
+use Rattle.class_stretches.specs.declared.stretch.Stretch.{Stretch}
+use Rattle.class_stretches.specs.declared.tally.Tally.{Tally}
+use Rattle.class_stretches.specs.Stretches.{class_at, end_of, Stretched, IsStretched, runs_with, least_of, AreTallies}
+
+-- class number n, which shows this
+abbrev pub class_by : {A : Type 0} → List Stretch → ℕ → A → Class A
+class_by ss n a = record {
+  least = least_of (runs_with (Some n) 0 ss);
+  count = ranks_in (runs_with (Some n) 0 ss);
+  runs = runs_with (Some n) 0 ss;
+  shows = a;
+}
+
+-- the classes from number n on, in their order, by what each of them shows
+abbrev pub classes_from : {A : Type 0} → ℕ → List Stretch → List A → List (Class A)
+classes_from n ss [] = []
+classes_from n ss (a ∷ shows) = class_by ss n a ∷ classes_from (suc n) ss shows
+
+abbrev pub classes_by : {A : Type 0} → List Stretch → List A → List (Class A)
+classes_by ss shows = classes_from 0 ss shows
+
+-- what is told of a class
+abbrev pub tally_of_class : {A : Type 0} → Class A → Tally
+tally_of_class c = record { least = c.least; count = c.count }
+
+-- the rank is in a class that shows this
+abbrev pub ShowsBy : {A : Type 0} → List Stretch → List A → ℕ → A → Type 0
+ShowsBy ss shows r a = (n : ℕ) × (class_at ss r ≡ Some n) × (slice_get shows n ≡ Some a)
+
+-- no two items are the same
+abbrev pub AllDiffer : {A : Type 0} → List A → Type 0
+AllDiffer {A} shows = (n m : ℕ) (a : A) → slice_get shows n ≡ Some a → slice_get shows m ≡ Some a → n ≡ m
+
+-- stretches give the groups of the ranks by what their classes show
+pub record StretchesAreGroups : Type 0 where
+  pub groups : (s : Stretched) (shows : List ℕ) → IsStretched s → length shows ≡ s.classes → AllDiffer shows
+      → AreGroups (ShowsBy s.list shows) 0 (end_of s.list) (classes_by s.list shows)
+
+-- where each rank of the range is in a class, the groups are the classes of the range
+pub record GroupsAreClasses : Type 0 where
+  pub classes : (s : Stretched) (shows : List ℕ) → AreGroups (ShowsBy s.list shows) 0 (end_of s.list) (classes_by s.list shows)
+      → ((r : ℕ) → r < end_of s.list → (a : ℕ) × ShowsBy s.list shows r a)
+      → IsClasses (ShowsBy s.list shows) 0 (end_of s.list) (classes_by s.list shows)
+
+-- where no rank is missing, each one of the range is in a class that there is
+pub record NoneIsMissing : Type 0 where
+  pub known : (s : Stretched) → IsStretched s → ranks_in (runs_with None 0 s.list) ≡ 0
+      → (r : ℕ) → r < end_of s.list → (n : ℕ) × (n < s.classes) × (class_at s.list r ≡ Some n)
+
+-- the tallies are those of the classes, in their order
+pub record TalliesAreOfClasses : Type 0 where
+  pub tallies : (ss : List Stretch) (shows : List ℕ) (tallies : List Tally) → AreTallies ss (length shows) tallies
+      → map tally_of_class (classes_by ss shows) ≡ tallies

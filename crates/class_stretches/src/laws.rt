@@ -1,0 +1,23 @@
+//! The laws of stretches, each the contract of a function that does nothing.
+
+ghost use Rattle.class_stretches.specs.Groups.{StretchesAreGroups, GroupsAreClasses, NoneIsMissing, TalliesAreOfClasses};
+
+/// Stretches give the groups of the ranks by what their classes show.
+pub fn stretches_are_groups()
+    ensures { StretchesAreGroups }
+{}
+
+/// Where each rank is in a class, groups are classes.
+pub fn groups_are_classes()
+    ensures { GroupsAreClasses }
+{}
+
+/// Where no rank is missing, each one is in a class that there is.
+pub fn none_is_missing()
+    ensures { NoneIsMissing }
+{}
+
+/// The tallies are those of the classes.
+pub fn tallies_are_of_classes()
+    ensures { TalliesAreOfClasses }
+{}

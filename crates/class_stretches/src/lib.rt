@@ -1,0 +1,17 @@
+//! Stretches of ranks, each with the number of its class. Ranks come in rising order and by the run, never one by one.
+#![tactic(auto)]
+
+mod copying;
+mod laws;
+mod list;
+mod mapping;
+mod rank_run;
+mod stretch;
+mod stretches;
+mod tally;
+
+pub use laws::{groups_are_classes, none_is_missing, stretches_are_groups, tallies_are_of_classes};
+pub use rank_run::RankRun;
+pub use stretch::Stretch;
+pub use stretches::Stretches;
+pub use tally::Tally;

@@ -1,0 +1,80 @@
+//! One run of ranks.
+
+ghost use Rattle.std.specs.Prelude.{◌≡◌, ◌+◌, ◌<◌, ◌≤◌, Some, None, [], ◌∷◌, ◌++◌, IfOk, OnOk, map};
+ghost use Rattle.order_classes.specs.Classes.{ranks_in};
+ghost use Rattle.class_stretches.specs.Stretches.{AreStretches, runs_with, run_of};
+
+use crate::list::is_same;
+use crate::stretch::Stretch;
+use std::alloc::{AllocError, Global};
+
+/// The ranks from the first up to but not the end.
+#[derive(Clone, Copy)]
+pub struct RankRun {
+    /// The first rank.
+    pub first: u64,
+    /// The rank behind the last one.
+    pub end: u64,
+}
+
+/// The runs of the ranks of a class.
+pub(crate) fn runs_in(
+    alloc: Global,
+    list: &[Stretch],
+    class: u32,
+) -> Result<Vec<RankRun>, AllocError>
+    ensures { IfOk result (λ runs. map run_of runs.items ≡ runs_with (Some class) 0 list.now) }
+{
+    let mut runs = Vec::new(alloc);
+    let mut low = 0;
+    for stretch in list {
+        push_run(&mut runs, class, low, stretch)?;
+        low = stretch.end;
+    }
+    Ok(runs)
+}
+
+/// Adds the run of a stretch that begins here, if it is of this class.
+fn push_run(
+    runs: &mut Vec<RankRun>,
+    class: u32,
+    low: u64,
+    stretch: &Stretch,
+) -> Result<(), AllocError>
+    ensures { OnOk result (map run_of runs.new.items ≡ map run_of runs.old.items ++ runs_with (Some class) low (stretch.now ∷ [])) }
+{
+    if is_same(Some(class), stretch.class) {
+        runs.push(RankRun {
+            first: low,
+            end: stretch.end,
+        })?;
+    }
+    Ok(())
+}
+
+/// How many ranks are in no known class.
+pub(crate) fn missing_in(list: &[Stretch]) -> u64
+    requires { AreStretches 0 list.now }
+    ensures { result ≡ ranks_in (runs_with None 0 list.now) }
+{
+    let mut missing = 0;
+    let mut low = 0;
+    for stretch in list {
+        let end = stretch.end;
+        missing += missing_of(low, stretch);
+        low = end;
+    }
+    missing
+}
+
+/// How many ranks of a stretch that begins here are in no known class: all of them, or none.
+fn missing_of(low: u64, stretch: &Stretch) -> u64
+    requires { low < stretch.now.end }
+    ensures missing { result ≡ ranks_in (runs_with None low (stretch.now ∷ [])) }
+    ensures inside { low + result ≤ stretch.now.end }
+{
+    match stretch.class {
+        None => stretch.end - low,
+        Some(_) => 0,
+    }
+}

@@ -1,0 +1,133 @@
+//! Stretches that grow in the order of ranks.
+
+ghost use Rattle.std.specs.Prelude.{◌≡◌, ◌+◌, ◌-◌, ◌^◌, ◌<◌, ◌≤◌, Some, None, [], OnOk, OnErr, IfOk, length, map};
+ghost use Rattle.order_classes.specs.Classes.{ranks_in};
+ghost use Rattle.class_stretches.specs.Stretches.{class_at, end_of, IsStretched, MayCome, with_class, IsPushed, IsCopied};
+ghost use Rattle.class_stretches.specs.Stretches.{runs_with, run_of, AreTallies};
+ghost use Rattle.class_stretches.specs.Mapping.{HaveOrder, IsMapped};
+
+use crate::copying::copy_list;
+use crate::list::{class_in, classes_with, end_of_list, put};
+use crate::mapping::mapped_list;
+use crate::rank_run::{RankRun, missing_in, runs_in};
+use crate::stretch::Stretch;
+use crate::tally::{Tally, tallies_of};
+use std::alloc::{AllocError, Global};
+use std::marker::Model;
+
+/// The ranks from 0 up to an end, each with the number of its class where that is known. The classes have their numbers in the order in which they come.
+pub struct Stretches {
+    list: Vec<Stretch>,
+    classes: u32,
+}
+
+// Written out and not derived, so that who owns one calls this and does not let its parts go one by one.
+impl Drop for Stretches {
+    fn drop(self) {
+        let Stretches {
+            list: _list,
+            classes: _,
+        } = self;
+    }
+}
+
+impl Model for Stretches {
+    ghost use Rattle.class_stretches.specs.Stretches.{Stretched, IsStretched};
+
+    ghost Value = { Stretched };
+
+    ghost view = { λ s. record { list = s.list.items; classes = s.classes } };
+
+    ghost invariant = { λ s. IsStretched (record { list = s.list.items; classes = s.classes }) };
+}
+
+impl Stretches {
+    /// No ranks yet, and no classes.
+    pub fn new(alloc: Global) -> Stretches
+        ensures { result ≡ record { list = []; classes = 0 } }
+    {
+        Stretches {
+            list: Vec::new(alloc),
+            classes: 0,
+        }
+    }
+
+    /// The rank behind the last one.
+    pub fn end(&self) -> u64
+        ensures { result ≡ end_of self.now.list }
+    {
+        end_of_list(&self.list)
+    }
+
+    /// How many classes there are. Their numbers are those from 0 on.
+    pub fn classes(&self) -> u32
+        ensures classes { result ≡ self.now.classes }
+        ensures stretched { IsStretched self.now }
+    {
+        let _list = &self.list;
+        self.classes
+    }
+
+    /// Adds the ranks from the end up to a new one, which are all in one class: one that is there, the next one, or `None` where it is not known.
+    pub fn push(&mut self, end: u64, class: Option<u32>) -> Result<(), AllocError>
+        requires some { end_of self.old.list < end }
+        requires class { MayCome self.old.classes class }
+        requires room { with_class self.old.classes class < 2 ^ 32 }
+        ensures ok { OnOk result (IsPushed self.old self.new end class) }
+        ensures err { OnErr result (self.new ≡ self.old) }
+    {
+        put(&mut self.list, end, class)?;
+        self.classes = classes_with(self.classes, class);
+        Ok(())
+    }
+
+    /// Adds the ranks from the end up to a new one, which are in the classes of as many ranks from `from` on, in their order.
+    /// Where memory runs out, some of them are added.
+    pub fn copy(&mut self, from: u64, end: u64) -> Result<(), AllocError>
+        requires some { end_of self.old.list < end }
+        requires inside { from + (end - end_of self.old.list) ≤ end_of self.old.list }
+        ensures ok { OnOk result (IsCopied self.old self.new from end) }
+        ensures err { OnErr result (IsCopied self.old self.new from (end_of self.new.list)) }
+    {
+        copy_list(&mut self.list, from, end)
+    }
+
+    /// The class of a rank, or `None` where it is not known or the rank is past the last one.
+    pub fn class_of(&self, rank: u64) -> Option<u32>
+        ensures { result ≡ class_at self.now.list rank }
+    {
+        class_in(&self.list, rank)
+    }
+
+    /// The least rank and the number of ranks of each class, in the order of their numbers.
+    pub fn tallies(&self, alloc: Global) -> Result<Vec<Tally>, AllocError>
+        ensures { IfOk result (λ tallies. AreTallies self.now.list self.now.classes tallies.items) }
+    {
+        tallies_of(alloc, &self.list)
+    }
+
+    /// How many ranks are in no known class.
+    pub fn missing(&self) -> u64
+        ensures { result ≡ ranks_in (runs_with None 0 self.now.list) }
+    {
+        missing_in(&self.list)
+    }
+
+    /// The runs of the ranks of a class.
+    pub fn runs_of(&self, alloc: Global, class: u32) -> Result<Vec<RankRun>, AllocError>
+        ensures { IfOk result (λ runs. map run_of runs.items ≡ runs_with (Some class) 0 self.now.list) }
+    {
+        runs_in(alloc, &self.list, class)
+    }
+
+    /// The same ranks in the classes that theirs become: the class `c` becomes `numbers[c]`, or is not known where there is none. Classes may
+    /// become one. The new numbers come in their order.
+    pub fn mapped(&self, alloc: Global, numbers: &[Option<u32>]) -> Result<Stretches, AllocError>
+        requires all { length numbers.now ≡ self.now.classes }
+        requires order { HaveOrder numbers.now }
+        ensures { IfOk result (λ new. IsMapped self.now new numbers.now) }
+    {
+        let _classes = self.classes; // for the proof
+        mapped_list(alloc, &self.list, numbers)
+    }
+}

@@ -1,0 +1,5 @@
+mod LetterLemmas
+mod NarrowLemmas
+mod WholeLemmas
+mod Worked
+mod ZipLemmas

@@ -1,0 +1,75 @@
+-- The laws of the text of classes.
+use Rattle.std.specs.Prelude.{◌≡◌, ℕ, ◌^◌, ◌<◌, ◌≤◌, Option, Some, List, [], ◌∷◌, ◌++◌, length, drop, flat_map, All}
+use Rattle.order_classes.specs.declared.rows.ClassRow.{ClassRow}
+use Rattle.order_classes.specs.declared.rows.Letters.{Letters}
+use Rattle.order_classes.specs.declared.rows.Total.{Total}
+use Rattle.order_classes.specs.declared.rows.Totals.{Totals}
+use Rattle.class_texts.specs.Letters.{letters_of, letters_text, shows_letter, total_of}
+use Rattle.class_texts.specs.Orders.{hanging}
+use Rattle.class_texts.specs.Pages.{Page, row_lines, table_head, totals_lines, widths}
+use Rattle.order_classes.specs.declared.rows.Grouping.{Grouping}
+use Rattle.class_texts.specs.declared.letters.Letter.{Letter}
+
+-- ---- orders are whole
+
+abbrev pub behind_blank : List ℕ → List ℕ
+behind_blank word = 32 ∷ word
+
+-- words with a blank between each two
+abbrev pub spaced : List (List ℕ) → List ℕ
+spaced [] = []
+spaced (word ∷ words) = word ++ flat_map behind_blank words
+
+-- a further line without its margin, behind a blank
+abbrev pub further : ℕ → List ℕ → List ℕ
+further margin line = 32 ∷ drop margin line
+
+-- lines put together
+abbrev pub unbroken : ℕ → List (List ℕ) → List ℕ
+unbroken margin [] = []
+unbroken margin (line ∷ lines) = line ++ flat_map (further margin) lines
+
+-- where an order is laid in lines none of its steps is lost, and nothing comes to it
+abbrev pub OrdersAreWhole : Type 0
+OrdersAreWhole = (front : List ℕ) (words : List (List ℕ)) → unbroken (length front) (hanging front words) ≡ front ++ spaced words
+
+-- ---- letters are told
+
+abbrev pub AreSame : Letters → Letters → Letter → Type 0
+AreSame a b letter = shows_letter a letter ≡ shows_letter b letter
+
+-- where other letters are shown, other words are told
+abbrev pub LettersAreTold : Type 0
+LettersAreTold = (by : Grouping) (a b : Letters) → letters_text by a ≡ letters_text by b → All (AreSame a b) (letters_of by)
+
+-- ---- pages are narrow
+
+abbrev pub IsNarrow : List ℕ → Type 0
+IsNarrow line = length line ≤ 80
+
+-- so many orders and classes at most are told of a letter
+abbrev pub AreUpTo : Totals → ℕ → ℕ → Type 0
+AreUpTo totals orders classes = (letter : Letter) (t : Total) → total_of totals letter ≡ Some t → (t.orders ≤ orders) × (t.classes ≤ classes)
+
+-- a page of so few orders and classes that these numbers have nine digits and eight at most
+pub record IsSmall (p : Page) : Type 0 where
+  pub orders : p.orders < 10 ^ 9
+  pub classes : p.totals.all.classes < 10 ^ 8
+  pub rows : length p.rows < 10 ^ 8
+  pub totals : AreUpTo p.totals p.orders p.totals.all.classes
+
+-- a row of the page: it has no more orders than the spec, its rank is one of them, and its number is that of a row
+pub record IsRowOf (p : Page) (number : ℕ) (row : ClassRow) : Type 0 where
+  pub place : number ≤ length p.rows
+  pub count : row.count ≤ p.orders
+  pub least : row.least < p.orders
+
+-- no line of the totals of such a page is wider than 80
+abbrev pub TotalsAreNarrow : Type 0
+TotalsAreNarrow = (p : Page) → IsSmall p → All IsNarrow (totals_lines (widths p) p)
+
+-- nor is a line of its table: no name is so long that a step would not go on a line
+abbrev pub TablesAreNarrow : Type 0
+TablesAreNarrow =
+    (p : Page) → IsSmall p
+    → IsNarrow (table_head (widths p) p.by) × ((number : ℕ) (row : ClassRow) → IsRowOf p number row → All IsNarrow (row_lines (widths p) p number row))

@@ -1,0 +1,5 @@
+pub mod Marks
+pub mod Orders
+pub mod Letters
+pub mod Pages
+pub mod Laws

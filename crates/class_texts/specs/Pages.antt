@@ -1,0 +1,177 @@
+-- The text of classes.
+use Rattle.std.specs.Prelude.{ℕ, ◌+◌, ◌-◌, ◌*◌, ◌/◌, ◌%◌, max, Bool, cond, ◌||◌, ◌==◌}
+use Rattle.std.specs.Prelude.{List, [], ◌∷◌, ◌++◌, length, map, codes, decimal, flat_map, Option, Some, None}
+use Rattle.transcripts.specs.declared.event.Event.{Event}
+use Rattle.transcripts.specs.Text.{outcome_text}
+use Rattle.order_classes.specs.declared.rows.ClassRow.{ClassRow}
+use Rattle.order_classes.specs.declared.rows.Total.{Total}
+use Rattle.order_classes.specs.declared.rows.Totals.{Totals}
+use Rattle.shown_texts.specs.Characters.{blanks, padded, shown_text}
+use Rattle.shown_texts.specs.Pages.{line_bytes}
+use Rattle.class_texts.specs.Letters.{letters_of, letters_text, meaning, sign, total_of}
+use Rattle.class_texts.specs.Orders.{order_lines}
+use Rattle.order_classes.specs.declared.rows.Grouping.{Grouping}
+use Rattle.order_classes.specs.declared.rows.Grouping.TheVariants.{Shows, Answers}
+use Rattle.class_texts.specs.declared.letters.Letter.{Letter}
+use Rattle.class_texts.specs.declared.widths.Widths.{Widths}
+
+-- what a page is made of: the path of the spec and how many orders it has; the names of sessions and of steps; by what orders are grouped, and whether filters
+-- were asked for; the totals and the classes; whether the totals are told alone, and whether outcomes are
+pub record Page : Type 0 where
+  pub path : List ℕ
+  pub orders : ℕ
+  pub sessions : List (List ℕ)
+  pub steps : List (List ℕ)
+  pub by : Grouping
+  pub is_filtered : Bool
+  pub totals : Totals
+  pub rows : List ClassRow
+  pub is_brief : Bool
+  pub with_outcomes : Bool
+
+-- ---- columns
+
+-- a text behind blanks, to a width
+abbrev pub right : ℕ → List ℕ → List ℕ
+right width text = blanks (width - length text) ++ text
+
+abbrev pub digits_of : ℕ → ℕ
+digits_of n = length (decimal n)
+
+-- one class, and several
+abbrev pub class_word : Grouping → List ℕ
+class_word Shows = codes "class"
+class_word Answers = codes "answer"
+
+abbrev pub classes_word : Grouping → List ℕ
+classes_word Shows = codes "classes"
+classes_word Answers = codes "answers"
+
+-- the columns with the two blanks in front of them, but for the first one: numbers of orders and of classes, the numbers of the rows, what they show without
+-- blanks, and ranks
+abbrev pub widths_by : Grouping → ℕ → ℕ → ℕ → Widths
+widths_by by orders classes rows =
+    record {
+      orders = 2 + max 6 (digits_of orders);
+      classes = 2 + max 7 (digits_of classes);
+      number = max (length (class_word by)) (digits_of rows);
+      shows = max 5 (length (letters_of by));
+      rank = 2 + max 4 (digits_of orders);
+    }
+
+abbrev pub widths : Page → Widths
+widths p = widths_by p.by p.orders p.totals.all.classes (length p.rows)
+
+-- ---- shares
+
+-- tenths of a per cent, cut off, but one at least
+abbrev pub tenths : ℕ → ℕ → ℕ
+tenths whole part = max (part * 1000 / max 1 whole) 1
+
+abbrev pub tenths_text : ℕ → List ℕ
+tenths_text n = decimal (n / 10) ++ (codes "." ++ decimal (n % 10))
+
+abbrev pub share_text : ℕ → ℕ → List ℕ
+share_text whole part = cond (part == 0) (codes "0") (tenths_text (tenths whole part))
+
+-- ---- the title and the totals
+
+abbrev pub counted : ℕ → List ℕ → List ℕ → List ℕ
+counted n one several = decimal n ++ (codes " " ++ cond (n == 1) one several)
+
+-- how many of the orders were asked for, where that is told
+abbrev pub asked_text : Bool → ℕ → List ℕ
+asked_text is_filtered n = cond is_filtered (decimal n ++ codes " of ") []
+
+abbrev pub counts_text : Page → List ℕ
+counts_text p =
+    asked_text p.is_filtered p.totals.all.orders
+    ++ (counted p.orders (codes "order") (codes "orders") ++ (codes ", " ++ counted p.totals.all.classes (class_word p.by) (classes_word p.by)))
+
+abbrev pub title : Page → List ℕ
+title p = shown_text p.path ++ (codes ": " ++ counts_text p)
+
+-- a line of the totals
+abbrev pub total_cells : Widths → List ℕ → List ℕ → List ℕ → List ℕ → List ℕ
+total_cells w letter orders share classes = right 5 letter ++ (right w.orders orders ++ (right 9 share ++ right w.classes classes))
+
+abbrev pub totals_head : Widths → Grouping → List ℕ
+totals_head w by = total_cells w [] (codes "orders") (codes "share %") (classes_word by)
+
+abbrev pub some_total : Widths → ℕ → Letter → Total → List ℕ
+some_total w whole letter t = total_cells w (sign letter) (decimal t.orders) (share_text whole t.orders) (decimal t.classes)
+
+-- no numbers where the letter is not told
+abbrev pub total_numbers : Widths → ℕ → Letter → Option Total → List ℕ
+total_numbers w whole letter None = total_cells w (sign letter) (codes "-") (codes "-") (codes "-")
+total_numbers w whole letter (Some t) = some_total w whole letter t
+
+abbrev pub total_line : Widths → ℕ → Totals → Letter → List ℕ
+total_line w whole totals letter = total_numbers w whole letter (total_of totals letter) ++ (codes "  " ++ meaning letter)
+
+abbrev pub totals_lines : Widths → Page → List (List ℕ)
+totals_lines w p = totals_head w p.by ∷ map (total_line w p.orders p.totals) (letters_of p.by)
+
+abbrev pub top_lines : Widths → Page → List (List ℕ)
+top_lines w p = title p ∷ [] ∷ totals_lines w p
+
+-- ---- the table
+
+abbrev pub shows_cells : Widths → List ℕ → List ℕ → List ℕ
+shows_cells w shows rank = codes "  " ++ (padded w.shows shows ++ (right w.rank rank ++ codes "  "))
+
+-- what stands in front of an order
+abbrev pub cells : Widths → List ℕ → List ℕ → List ℕ → List ℕ → List ℕ → List ℕ
+cells w number orders share shows rank = right w.number number ++ (right w.orders orders ++ (right 9 share ++ shows_cells w shows rank))
+
+abbrev pub table_head : Widths → Grouping → List ℕ
+table_head w by = cells w (class_word by) (codes "orders") (codes "share %") (codes "shows") (codes "rank") ++ codes "order"
+
+abbrev pub row_front : Widths → Page → ℕ → ClassRow → List ℕ
+row_front w p number row =
+    cells w (decimal number) (decimal row.count) (share_text p.orders row.count) (letters_text p.by row.letters) (decimal row.least)
+
+abbrev pub row_lines : Widths → Page → ℕ → ClassRow → List (List ℕ)
+row_lines w p number row = order_lines p.steps row.shows.told (row_front w p number row) row.line.items
+
+-- ---- the whole, in bytes
+
+abbrev pub lines_bytes : List (List ℕ) → List ℕ
+lines_bytes lines = flat_map line_bytes lines
+
+-- the outcome between empty lines
+abbrev pub outcome_part : Page → List (List Event) → List ℕ
+outcome_part p told = cond p.with_outcomes (codes "\n" ++ (outcome_text p.sessions p.steps told ++ codes "\n")) []
+
+abbrev pub row_bytes : Widths → Page → ℕ → ClassRow → List ℕ
+row_bytes w p number row = lines_bytes (row_lines w p number row) ++ outcome_part p row.shows.told
+
+-- the rows from this number on
+abbrev pub rows_bytes : Widths → Page → ℕ → List ClassRow → List ℕ
+rows_bytes w p number [] = []
+rows_bytes w p number (row ∷ rows) = row_bytes w p number row ++ rows_bytes w p (number + 1) rows
+
+abbrev pub key : List ℕ
+key = codes "the order of the least rank, with marks: : waits   ! fails   - is not sent"
+
+abbrev pub head_bytes : Widths → Page → List ℕ
+head_bytes w p = codes "\n" ++ line_bytes (table_head w p.by)
+
+abbrev pub key_bytes : List ℕ
+key_bytes = codes "\n" ++ (key ++ codes "\n")
+
+abbrev pub table_bytes : Widths → Page → List ℕ
+table_bytes w p = head_bytes w p ++ (rows_bytes w p 1 p.rows ++ key_bytes)
+
+-- there is no table without rows, and none where the totals are told alone
+abbrev pub has_no_table : Page → Bool
+has_no_table p = p.is_brief || (length p.rows == 0)
+
+abbrev pub table_part : Widths → Page → List ℕ
+table_part w p = cond (has_no_table p) [] (table_bytes w p)
+
+abbrev pub bytes_by : Widths → Page → List ℕ
+bytes_by w p = lines_bytes (top_lines w p) ++ table_part w p
+
+abbrev pub page_bytes : Page → List ℕ
+page_bytes p = bytes_by (widths p) p

@@ -1,0 +1,131 @@
+//! What an order may show, by a letter each.
+
+ghost use Rattle.std.specs.Prelude.{◌≡◌, ◌++◌, IfOk, OnOk, length, string_bytes};
+ghost use Rattle.class_texts.specs.Letters as spec;
+
+use order_classes::{Grouping, Letters, Total, Totals};
+use std::alloc::{AllocError, Global};
+
+/// What an order may show.
+#[derive(Clone, Copy)]
+pub(crate) enum Letter {
+    /// W: a session waits.
+    Waits,
+    /// D: a session loses a deadlock.
+    Deadlock,
+    /// E: a session is told of another error of its own.
+    Error,
+    /// N: a step is not sent.
+    Unsent,
+    /// S: a session still waits at the end.
+    Stuck,
+    /// R: no serial order answers so.
+    NotSerial,
+}
+
+static OF_SHOWS: [Letter; 6] = [
+    Letter::Waits,
+    Letter::Deadlock,
+    Letter::Error,
+    Letter::Unsent,
+    Letter::Stuck,
+    Letter::NotSerial,
+];
+
+static OF_ANSWERS: [Letter; 4] = [
+    Letter::Deadlock,
+    Letter::Error,
+    Letter::Stuck,
+    Letter::NotSerial,
+];
+
+/// The letters that are told, in their order.
+pub(crate) fn letters_of(by: Grouping) -> &'static [Letter]
+    ensures { result.now ≡ spec.letters_of by }
+{
+    match by {
+        Grouping::Shows => &OF_SHOWS,
+        Grouping::Answers => &OF_ANSWERS,
+    }
+}
+
+impl Letter {
+    pub(crate) fn sign(self) -> &'static str
+        ensures { result.now ≡ spec.sign self }
+    {
+        match self {
+            Letter::Waits => "W",
+            Letter::Deadlock => "D",
+            Letter::Error => "E",
+            Letter::Unsent => "N",
+            Letter::Stuck => "S",
+            Letter::NotSerial => "R",
+        }
+    }
+
+    pub(crate) fn meaning(self) -> &'static str
+        ensures { result.now ≡ spec.meaning self }
+    {
+        match self {
+            Letter::Waits => "a session waits",
+            Letter::Deadlock => "a session loses a deadlock",
+            Letter::Error => "another error of its own",
+            Letter::Unsent => "a step is not sent, since its session waits",
+            Letter::Stuck => "a session still waits at the end",
+            Letter::NotSerial => "no serial order answers so",
+        }
+    }
+
+    /// How many orders and classes show it: none where it is not told.
+    pub(crate) fn total(self, totals: Totals) -> Option<Total>
+        ensures { result ≡ spec.total_of totals self }
+    {
+        match self {
+            Letter::Waits => Some(totals.waits),
+            Letter::Deadlock => Some(totals.deadlock),
+            Letter::Error => Some(totals.error),
+            Letter::Unsent => Some(totals.unsent),
+            Letter::Stuck => Some(totals.stuck),
+            Letter::NotSerial => totals.not_serial,
+        }
+    }
+
+    fn is_in(self, letters: Letters) -> bool
+        ensures { result ≡ spec.shows_letter letters self }
+    {
+        match self {
+            Letter::Waits => letters.waits,
+            Letter::Deadlock => letters.deadlock,
+            Letter::Error => letters.error,
+            Letter::Unsent => letters.unsent,
+            Letter::Stuck => letters.stuck,
+            Letter::NotSerial => letters.not_serial.unwrap_or(false),
+        }
+    }
+
+    /// The letter where it is shown, and a dash in its place where it is not.
+    fn sign_in(self, letters: Letters) -> &'static str
+        ensures { result.now ≡ spec.sign_in letters self }
+    {
+        if self.is_in(letters) {
+            self.sign()
+        } else {
+            "-"
+        }
+    }
+}
+
+/// The letters that are told, each in its place.
+pub(crate) fn letters_text(
+    alloc: Global,
+    by: Grouping,
+    letters: Letters,
+) -> Result<String, AllocError>
+    ensures { IfOk result (λ text. string_bytes text ≡ spec.letters_text by letters) }
+{
+    let mut text = String::new(alloc);
+    for letter in letters_of(by) {
+        text.push_str(letter.sign_in(letters))?;
+    }
+    Ok(text)
+}

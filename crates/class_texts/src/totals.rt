@@ -1,0 +1,196 @@
+//! The title, and how many orders and classes show what.
+
+ghost use Rattle.std.specs.Prelude.{◌≡◌, ◌++◌, [], ◌∷◌, IfOk, OnOk, map};
+ghost use Rattle.class_texts.specs.Pages as spec;
+
+use crate::columns::put_right;
+use crate::letters::{Letter, letters_of};
+use crate::page::Page;
+use crate::shares::share_text;
+use crate::widths::{Widths, class_word, classes_word};
+use itoa::Buffer;
+use order_classes::{Total, Totals};
+use shown_texts::{put, put_number, put_shown};
+use sqlite_items::Items;
+use std::alloc::{AllocError, Global};
+
+/// Puts a number, and what is counted, behind a line.
+fn put_counted(
+    line: &mut Items<char>,
+    number: u64,
+    one: &str,
+    several: &str,
+) -> Result<(), AllocError>
+    ensures { OnOk result (line.new ≡ line.old ++ spec.counted number one.now several.now) }
+{
+    put_number(line, number)?;
+    put(line, " ")?;
+    put(line, if number == 1 { one } else { several })
+}
+
+fn put_asked(line: &mut Items<char>, is_filtered: bool, number: u64) -> Result<(), AllocError>
+    ensures { OnOk result (line.new ≡ line.old ++ spec.asked_text is_filtered number) }
+{
+    if is_filtered {
+        put_number(line, number)?;
+        return put(line, " of ");
+    }
+    Ok(())
+}
+
+fn put_counts(line: &mut Items<char>, page: &Page<'_>) -> Result<(), AllocError>
+    ensures { OnOk result (line.new ≡ line.old ++ spec.counts_text page.now) }
+{
+    put_asked(line, page.is_filtered, page.totals.all.orders)?;
+    put_counted(line, page.orders, "order", "orders")?;
+    put(line, ", ")?;
+    put_counted(
+        line,
+        page.totals.all.classes,
+        class_word(page.by),
+        classes_word(page.by),
+    )
+}
+
+fn title(alloc: Global, page: &Page<'_>) -> Result<Items<char>, AllocError>
+    ensures { IfOk result (λ line. line ≡ spec.title page.now) }
+{
+    let mut line = Items::new(alloc);
+    put_shown(&mut line, page.path)?;
+    put(&mut line, ": ")?;
+    put_counts(&mut line, page)?;
+    Ok(line)
+}
+
+/// Puts what stands in the columns of the totals behind a line.
+fn put_cells(
+    line: &mut Items<char>,
+    widths: Widths,
+    letter: &str,
+    orders: &str,
+    share: &str,
+    classes: &str,
+) -> Result<(), AllocError>
+    ensures { OnOk result (line.new ≡ line.old ++ spec.total_cells widths letter.now orders.now share.now classes.now) }
+{
+    put_right(line, 5, letter)?;
+    put_right(line, widths.orders, orders)?;
+    put_right(line, 9, share)?;
+    put_right(line, widths.classes, classes)
+}
+
+fn head(alloc: Global, widths: Widths, page: &Page<'_>) -> Result<Items<char>, AllocError>
+    ensures { IfOk result (λ line. line ≡ spec.totals_head widths page.now.by) }
+{
+    let mut line = Items::new(alloc);
+    put_cells(
+        &mut line,
+        widths,
+        "",
+        "orders",
+        "share %",
+        classes_word(page.by),
+    )?;
+    Ok(line)
+}
+
+/// Puts how many orders and classes show it behind a line.
+fn put_total(
+    alloc: Global,
+    line: &mut Items<char>,
+    widths: Widths,
+    whole: u64,
+    letter: Letter,
+    total: Total,
+) -> Result<(), AllocError>
+    ensures { OnOk result (line.new ≡ line.old ++ spec.some_total widths whole letter total) }
+{
+    let share = share_text(alloc, whole, total.orders)?;
+    put_cells(
+        line,
+        widths,
+        letter.sign(),
+        Buffer::new().format(total.orders),
+        share.as_str(),
+        Buffer::new().format(total.classes),
+    )
+}
+
+fn put_numbers(
+    alloc: Global,
+    line: &mut Items<char>,
+    widths: Widths,
+    whole: u64,
+    letter: Letter,
+    total: Option<Total>,
+) -> Result<(), AllocError>
+    ensures { OnOk result (line.new ≡ line.old ++ spec.total_numbers widths whole letter total) }
+{
+    match total {
+        Some(total) => put_total(alloc, line, widths, whole, letter, total),
+        None => put_cells(line, widths, letter.sign(), "-", "-", "-"),
+    }
+}
+
+fn total_line(
+    alloc: Global,
+    widths: Widths,
+    whole: u64,
+    totals: Totals,
+    letter: Letter,
+) -> Result<Items<char>, AllocError>
+    ensures { IfOk result (λ line. line ≡ spec.total_line widths whole totals letter) }
+{
+    let mut line = Items::new(alloc);
+    put_numbers(
+        alloc,
+        &mut line,
+        widths,
+        whole,
+        letter,
+        letter.total(totals),
+    )?;
+    put(&mut line, "  ")?;
+    put(&mut line, letter.meaning())?;
+    Ok(line)
+}
+
+/// Puts a line for each letter behind other lines.
+fn put_totals(
+    alloc: Global,
+    lines: &mut Items<Items<char>>,
+    widths: Widths,
+    whole: u64,
+    totals: Totals,
+    letters: &[Letter],
+) -> Result<(), AllocError>
+    ensures { OnOk result (lines.new ≡ lines.old ++ map (spec.total_line widths whole totals) letters.now) }
+{
+    for letter in letters {
+        lines.push(total_line(alloc, widths, whole, totals, *letter)?)?;
+    }
+    Ok(())
+}
+
+/// The title, and the totals behind an empty line.
+pub(crate) fn top_lines(
+    alloc: Global,
+    widths: Widths,
+    page: &Page<'_>,
+) -> Result<Items<Items<char>>, AllocError>
+    ensures { IfOk result (λ lines. lines ≡ spec.top_lines widths page.now) }
+{
+    let mut lines = Items::new(alloc);
+    lines.push(title(alloc, page)?)?;
+    lines.push(Items::new(alloc))?;
+    lines.push(head(alloc, widths, page)?)?;
+    put_totals(
+        alloc,
+        &mut lines,
+        widths,
+        page.orders,
+        page.totals,
+        letters_of(page.by),
+    )?;
+    Ok(lines)
+}

@@ -1,0 +1,4 @@
+pub mod Noting
+pub mod Parting
+pub mod Serving
+pub mod Showing

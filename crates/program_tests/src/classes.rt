@@ -1,0 +1,196 @@
+//! All orders of a spec in classes. The test without memory is to be read under `rt try --test --fail-alloc` too.
+use crate::disks::{assert_tells, holding, tell};
+use crate::memory::assert_front;
+use std::test::Fail;
+
+/// Two sessions read a row and write it, each outside of a block.
+const LOST: &str =
+    "setup { CREATE TABLE t (id int PRIMARY KEY, v int); INSERT INTO t VALUES (1, 100); }
+session a
+step a1 { SELECT v FROM t WHERE id = 1; }
+step a2 { UPDATE t SET v = 110 WHERE id = 1; }
+session b
+step b1 { SELECT v FROM t WHERE id = 1; }
+step b2 { UPDATE t SET v = 120 WHERE id = 1; }
+";
+
+/// Where both have read, what is left tells who wrote last.
+const LOST_CLASSES: &str = "first.spec: 6 orders, 4 classes
+
+       orders  share %  classes
+    W       0        0        0  a session waits
+    D       0        0        0  a session loses a deadlock
+    E       0        0        0  another error of its own
+    N       0        0        0  a step is not sent, since its session waits
+    S       0        0        0  a session still waits at the end
+    R       4     66.6        2  no serial order answers so
+
+class  orders  share %  shows   rank  order
+    1       1     16.6  ------     0  a1 a2 b1 b2
+    2       2     33.3  -----R     1  a1 b1 a2 b2
+    3       2     33.3  -----R     2  a1 b1 b2 a2
+    4       1     16.6  ------     5  b1 b2 a1 a2
+
+the order of the least rank, with marks: : waits   ! fails   - is not sent
+";
+
+const LOST_ANSWERS: &str = "first.spec: 6 orders, 4 answers
+
+       orders  share %  answers
+    D       0        0        0  a session loses a deadlock
+    E       0        0        0  another error of its own
+    S       0        0        0  a session still waits at the end
+    R       4     66.6        2  no serial order answers so
+
+answer  orders  share %  shows  rank  order
+     1       1     16.6  ----      0  a1 a2 b1 b2
+     2       2     33.3  ---R      1  a1 b1 a2 b2
+     3       2     33.3  ---R      2  a1 b1 b2 a2
+     4       1     16.6  ----      5  b1 b2 a1 a2
+
+the order of the least rank, with marks: : waits   ! fails   - is not sent
+";
+
+/// Two updates that look at nothing tell the same in both orders, and leave other rows.
+const BLIND: &str =
+    "setup { CREATE TABLE t (id int PRIMARY KEY, v int); INSERT INTO t VALUES (1, 100); }
+session a
+step a1 { UPDATE t SET v = 110 WHERE id = 1; }
+session b
+step b1 { UPDATE t SET v = 120 WHERE id = 1; }
+";
+
+const BLIND_CLASSES: &str = "first.spec: 2 orders, 2 classes
+
+       orders  share %  classes
+    W       0        0        0  a session waits
+    D       0        0        0  a session loses a deadlock
+    E       0        0        0  another error of its own
+    N       0        0        0  a step is not sent, since its session waits
+    S       0        0        0  a session still waits at the end
+    R       0        0        0  no serial order answers so
+
+class  orders  share %  shows   rank  order
+    1       1     50.0  ------     0  a1 b1
+    2       1     50.0  ------     1  b1 a1
+
+the order of the least rank, with marks: : waits   ! fails   - is not sent
+";
+
+/// In a block that nobody ends the other session waits to the end, and its second step is not sent. Of a file with permutation lines, of which two
+/// are the same, R is not told.
+const LINES: &str =
+    "setup { CREATE TABLE t (id int PRIMARY KEY, v int); INSERT INTO t VALUES (1, 100); }
+session a
+step a1 { BEGIN; UPDATE t SET v = 110 WHERE id = 1; }
+session b
+step b1 { UPDATE t SET v = 120 WHERE id = 1; }
+step b2 { SELECT v FROM t WHERE id = 1; }
+permutation a1 b1 b2
+permutation b1 b2 a1
+permutation a1 b1 b2
+";
+
+const LINES_CLASSES: &str = "first.spec: 3 orders, 2 classes
+
+       orders  share %  classes
+    W       2     66.6        1  a session waits
+    D       0        0        0  a session loses a deadlock
+    E       0        0        0  another error of its own
+    N       2     66.6        1  a step is not sent, since its session waits
+    S       2     66.6        1  a session still waits at the end
+    R       -        -        -  no serial order answers so
+
+class  orders  share %  shows   rank  order
+    1       2     66.6  W--NS-     0  a1 b1: b2-
+    2       1     33.3  ------     1  b1 b2 a1
+
+the order of the least rank, with marks: : waits   ! fails   - is not sent
+";
+
+const LINES_TOTALS: &str = "first.spec: 3 orders, 2 answers
+
+       orders  share %  answers
+    D       0        0        0  a session loses a deadlock
+    E       0        0        0  another error of its own
+    S       2     66.6        1  a session still waits at the end
+    R       -        -        -  no serial order answers so
+";
+
+/// What words print over a spec.
+#[derive(Clone, Copy, Drop)]
+struct Row {
+    words: &'static str,
+    spec: &'static str,
+    text: &'static str,
+}
+
+static ROWS: [Row; 7] = [
+    Row {
+        words: "isofarm classes first.spec",
+        spec: LOST,
+        text: LOST_CLASSES,
+    },
+    Row {
+        words: "isofarm classes first.spec --workers 1",
+        spec: LOST,
+        text: LOST_CLASSES,
+    },
+    Row {
+        words: "isofarm classes --answers first.spec --workers 16",
+        spec: LOST,
+        text: LOST_ANSWERS,
+    },
+    Row {
+        words: "isofarm classes first.spec",
+        spec: BLIND,
+        text: BLIND_CLASSES,
+    },
+    Row {
+        words: "isofarm classes -- first.spec",
+        spec: LINES,
+        text: LINES_CLASSES,
+    },
+    Row {
+        words: "isofarm classes first.spec --workers 2",
+        spec: LINES,
+        text: LINES_CLASSES,
+    },
+    Row {
+        words: "isofarm classes first.spec --brief --answers",
+        spec: LINES,
+        text: LINES_TOTALS,
+    },
+];
+
+#[test]
+fn orders_that_show_the_same_are_a_class(rt: HostRuntime) -> Result<(), Fail> {
+    for row in &ROWS {
+        let disk = holding(row.spec.as_bytes());
+        assert_tells(&rt, rt.alloc(), row.words, &disk, (0, row.text, ""))?;
+    }
+    Ok(())
+}
+
+#[test]
+fn a_spec_that_does_not_start_has_no_classes(rt: HostRuntime) -> Result<(), Fail> {
+    let disk = holding(
+        b"setup { CREATE TABLE t (id int PRIMARY KEY); INSERT INTO t VALUES (1), (1); } session a step a1 { SELECT id FROM t; }",
+    );
+    assert_tells(
+        &rt,
+        rt.alloc(),
+        "isofarm classes first.spec",
+        &disk,
+        (3, "", "isofarm: first.spec: start error 1 at 0\n"),
+    )?;
+    Ok(())
+}
+
+#[test]
+fn classes_are_told_whole_unless_memory_runs_out(rt: HostRuntime) {
+    let line = "isofarm classes first.spec --workers 1";
+    if let Ok(told) = tell(&rt, rt.alloc(), line, &holding(LOST.as_bytes())) {
+        assert_front(&rt, &told, LOST_CLASSES, line);
+    }
+}
