@@ -1,26 +1,29 @@
-"""What `isofarm classes` prints: all orders of a spec, grouped by what they show or by what they answer.
+"""What `isofarm classes` prints: all orders of a spec, or those that pass filters, grouped by what they show or by what they answer.
 
-usage: python3 crosscheck/classes.py SPEC [--answers] [--brief]
+usage: python3 crosscheck/classes.py SPEC [FLAG..]
 
-Each order is run on the machine of `machine.py`, from the world behind the steps that its line shares with the line before.
+The flags are those of `isofarm classes` (`asked.py`). Each order is run on the machine of `machine.py`, from the world behind the steps that
+its line shares with the line before.
 """
 
 import sys
 from collections import Counter
 from dataclasses import dataclass
+from functools import cached_property
 from itertools import groupby
 from pathlib import Path
 
+from asked import LEFT, OUTCOMES, RANKS, NotAsked, NoWords, asked_by
 from binding import bind
 from facts import shared
-from machine import DEADLOCK, DUPLICATE, OUT_OF_RANGE, UNAVAILABLE, start
+from looks import NoLook, look_of, seen
+from machine import DEADLOCK, DUPLICATE, OUT_OF_RANGE, UNAVAILABLE, outcome_text, printed, start
 from moments import WAITS, rows_left, shown, standing_of
 from orders import spelled
 from refusal import Refusal
-from shown import WIDTH, cut, marks, visible, word_of
+from shown import WIDTH, broken, cut, left_lines, marks, visible, word_of
 from spec_file import read_spec
 
-ANSWERS, BRIEF = "--answers", "--brief"
 # The words of events that answer, as in the value of an outcome.
 ANSWERING = {"row", "rows", "inserted", "updated", "deleted", "failed"}
 WORDS = {
@@ -34,6 +37,7 @@ WORDS = {
 OF_SHOWS, OF_ANSWERS = "WDENSR", "DESR"
 LEAST_ORDERS, OF_SHARE, LEAST_CLASSES, LEAST_LETTERS, LEAST_RANK = 6, 9, 7, 5, 4
 OF_NAME = 24
+NOTHING = "nothing"
 LEGEND = "the order of the least rank, with marks: : waits   ! fails   - is not sent"
 
 
@@ -48,6 +52,7 @@ class Shows:
     left: tuple
     standing: tuple
 
+    @cached_property
     def answer(self):
         """The part of it that is an answer."""
         return tuple(tuple(event for event in events if word_of(event) in ANSWERING) for events in self.told), self.left
@@ -96,41 +101,60 @@ def is_serial(spec, line):
 
 @dataclass
 class Class:
-    """Orders of one kind: the least rank, how many they are, and each letter with how many of them have it."""
+    """Orders of one kind: what the first of them shows, how many they are, each letter with how many of them have it, and their ranks.
 
-    least: int
+    The ranks are ranges, each with its first and its last one, of which no two touch."""
+
+    one: Shows
     orders: int
     letters: Counter
+    ranges: list
+
+    @property
+    def least(self):
+        return self.ranges[0][0]
+
+
+def add_rank(ranges, rank):
+    """Adds a rank that lies behind all of these ranges."""
+    if ranges and ranges[-1][1] == rank - 1:
+        ranges[-1][1] = rank
+    else:
+        ranges.append([rank, rank])
+
+
+def joined(ranges):
+    """Ranges in their order, those that touch as one."""
+    whole = []
+    for first, last in sorted(ranges):
+        if whole and whole[-1][1] == first - 1:
+            whole[-1][1] = last
+        else:
+            whole.append([first, last])
+    return whole
 
 
 class Classes:
     """The orders of a spec, grouped by what they show."""
 
     def __init__(self, spec):
-        self.spec, self.lines = spec, {}
-        counts, serial = Counter(), set()
+        self.spec, self.marked, self.sights = spec, {}, {}
+        ranges, serial = {}, set()
         for rank, (line, one) in enumerate(shows(spec)):
-            counts[one] += 1
-            self.lines.setdefault(one, (rank, line))
+            add_rank(ranges.setdefault(one, []), rank)
             if spec.lines is None and is_serial(spec, line):
-                serial.add(one.answer())
-        self.of_shows = {}
-        for one, (least, _line) in self.lines.items():
-            letters = one.letters()
-            letters |= {"R"} if spec.lines is None and one.answer() not in serial else set()
-            self.of_shows[one] = Class(least, counts[one], Counter(dict.fromkeys(letters, counts[one])))
-        self.marked = {}
+                serial.add(one.answer)
+        self.of_shows = {one: self.group(one, its_ranges, serial) for one, its_ranges in ranges.items()}
 
-    def by_shows(self):
-        return [*self.of_shows.values()]
+    def group(self, one, ranges, serial):
+        letters, orders = one.letters(), sum(last - first + 1 for first, last in ranges)
+        letters |= {"R"} if self.spec.lines is None and one.answer not in serial else set()
+        return Class(one, orders, Counter(dict.fromkeys(letters, orders)), ranges)
 
-    def by_answers(self):
-        groups = {}
-        for one, group in self.of_shows.items():
-            joined = groups.setdefault(one.answer(), Class(group.least, 0, Counter()))
-            joined.orders += group.orders
-            joined.letters += group.letters
-        return [*groups.values()]
+    def groups(self, asked):
+        """The classes of the orders that are asked for, in the order of their least ranks."""
+        passing = [group for one, group in self.of_shows.items() if asked.passes(self.spec, one.told, group.letters)]
+        return by_answers(passing) if asked.by_answers else passing
 
     def steps(self, least):
         """The names of an order's steps, each cut, with its marks."""
@@ -139,6 +163,29 @@ class Classes:
             names = [cut(visible(spelled(self.spec.step_names[step])), OF_NAME) for step in line]
             self.marked[least] = ["".join(one) for one in zip(names, marks(shown(self.spec, line).moments), strict=True)]
         return self.marked[least]
+
+    def seen(self, text, group):
+        """The events of a look at what the orders of a class leave."""
+        place = text, group.one.left
+        if place not in self.sights:
+            self.sights[place] = seen(self.spec, look_of(self.spec, text), group.one.left)
+        return self.sights[place]
+
+
+def by_answers(groups):
+    """The same orders by what they answer."""
+    joint = {}
+    for group in groups:
+        joint.setdefault(group.one.answer, []).append(group)
+    return [
+        Class(
+            several[0].one,
+            sum(group.orders for group in several),
+            sum((group.letters for group in several), Counter()),
+            joined(pair for group in several for pair in group.ranges),
+        )
+        for several in joint.values()
+    ]
 
 
 # ---- the text
@@ -157,20 +204,53 @@ def number_of(number, one, more):
     return f"{number} {one if number == 1 else more}"
 
 
-class Page:
-    """The text of a spec's classes, by what is shown or by answers."""
+def ranges_text(ranges):
+    return " ".join(f"{first}-{last}" if last > first else f"{first}" for first, last in ranges)
 
-    def __init__(self, classes, path, by_answers):
-        self.classes, self.path = classes, path
-        self.groups = classes.by_answers() if by_answers else classes.by_shows()
-        self.one, self.more = ("answer", "answers") if by_answers else ("class", "classes")
-        self.letters = OF_ANSWERS if by_answers else OF_SHOWS
-        self.orders = classes.spec.ranks()
+
+class Page:
+    """The text of what is asked of a spec's classes."""
+
+    def __init__(self, classes, path, asked):
+        self.classes, self.path, self.asked = classes, path, asked
+        self.groups = classes.groups(asked)
+        self.one, self.more = ("answer", "answers") if asked.by_answers else ("class", "classes")
+        self.letters = OF_ANSWERS if asked.by_answers else OF_SHOWS
+        self.orders, self.orders_asked = classes.spec.ranks(), sum(group.orders for group in self.groups)
         self.is_lined = classes.spec.lines is not None
         self.of_orders = 2 + max(LEAST_ORDERS, digits(self.orders))
 
     def title(self):
-        yield f"{visible(self.path)}: {number_of(self.orders, 'order', 'orders')}, {number_of(len(self.groups), self.one, self.more)}"
+        some = f"{self.orders_asked} of " if self.asked.filters else ""
+        orders, groups = number_of(self.orders, "order", "orders"), number_of(len(self.groups), self.one, self.more)
+        yield f"{visible(self.path)}: {some}{orders}, {groups}"
+
+    # looks and expectations
+
+    def seen_lines(self, text, group, first, more):
+        """The events of a look, each as the outcome text has it."""
+        for event in self.classes.seen(text, group):
+            yield from broken(visible(printed(self.classes.spec, event).decode()), WIDTH, first, more)
+
+    def missing(self, expected):
+        """The classes whose orders are not as expected, in the order of their least ranks."""
+        return [group for group in self.groups if not expected.is_in(self.classes.seen(expected.select, group))]
+
+    def is_as_expected(self):
+        return not any(self.missing(one) for one in self.asked.expected)
+
+    def expected_lines(self):
+        for one in self.asked.expected:
+            missing = self.missing(one)
+            as_expected = self.orders_asked - sum(group.orders for group in missing)
+            yield from broken(visible(f"expected of {one.select}: {'|'.join(one.values)}"), WIDTH, 0, 2)
+            yield f"  so in {as_expected} of {number_of(self.orders_asked, 'order', 'orders')}"
+            if missing:
+                rank = missing[0].least
+                yield from broken(f"first not so at rank {rank}: {' '.join(self.classes.steps(rank))}", WIDTH, 2, 4)
+                yield from self.seen_lines(one.select, missing[0], 4, 6)
+
+    # letters
 
     def counted(self, orders, part):
         return f"{orders:>{self.of_orders}}{part:>{OF_SHARE}}"
@@ -184,6 +264,8 @@ class Page:
             if letter == "R" and self.is_lined:
                 columns = "-", "-", "-"
             yield f"    {letter}{self.counted(*columns[:2])}{columns[2]:>{of_classes}}  {WORDS[letter]}"
+
+    # classes
 
     def class_lines(self):
         of_number, of_rank = max(len(self.one), digits(len(self.groups))), 2 + max(LEAST_RANK, digits(self.orders))
@@ -199,10 +281,29 @@ class Page:
                 front(number, self.counted(group.orders, share(group.orders, self.orders)), letters, group.least),
                 self.classes.steps(group.least),
             )
+            told = [*self.told_besides(group)]
+            # What is told of the last class has the empty line of the part behind it.
+            yield from ["", *told, *[""] * (number < len(self.groups))] if told else []
 
-    def text(self, is_brief):
-        parts = [self.title(), self.letter_lines()] + ([] if is_brief else [self.class_lines(), [LEGEND]])
-        return "\n".join("".join(f"{line.rstrip(' ')}\n" for line in part) for part in parts)
+    def told_besides(self, group):
+        """What is told of a class beneath its order."""
+        spec, flags = self.classes.spec, self.asked.flags
+        if RANKS in flags:
+            yield from broken(f"ranks {ranges_text(group.ranges)}", WIDTH, 0, 6)
+        if OUTCOMES in flags:
+            yield from outcome_text(spec, group.one.told).decode().removesuffix("\n").split("\n")
+        if LEFT in flags:
+            standing = () if self.asked.by_answers else group.one.standing
+            yield from [*left_lines(group.one.left, standing, [*map(visible, spec.session_names)])] or [NOTHING]
+        for text in self.asked.looks:
+            yield from broken(visible(f"look {text}"), WIDTH, 0, 2)
+            yield from self.seen_lines(text, group, 2, 4)
+
+    def text(self):
+        parts = [self.title(), self.expected_lines(), self.letter_lines()]
+        parts += [] if self.asked.is_brief or not self.groups else [self.class_lines(), [LEGEND]]
+        texts = ["".join(f"{line}\n" for line in part) for part in parts]
+        return "\n".join(text for text in texts if text)
 
 
 def with_steps(front, steps):
@@ -220,24 +321,50 @@ def with_steps(front, steps):
 # ---- the command
 
 
-def classes_of(text):
-    return Classes(bind(read_spec(text)))
+class Asking:
+    """A spec's text, of which several things may be asked. Raises a Refusal where it has no spec, or no classes."""
+
+    def __init__(self, text):
+        self.text = text
+
+    @cached_property
+    def spec(self):
+        return bind(read_spec(self.text))
+
+    @cached_property
+    def classes(self):
+        return Classes(self.spec)
+
+    def page(self, path, asked):
+        """The text of what is asked for, and whether each order is as expected. Raises NotAsked, or NoLook, too."""
+        asked.check(self.spec)
+        page = Page(self.classes, path, asked)
+        return page.text(), page.is_as_expected()
+
+    def answer(self, path, words):
+        """The exit status, and what stands on the two outputs."""
+        try:
+            text, is_as_expected = self.page(path, asked_by(words))
+        except Refusal as refusal:
+            return 3, b"", refusal.line(path)
+        except NotAsked as wrong:
+            return 3, b"", f"isofarm: {path}: {wrong.args[0]}\n".encode()
+        except NoLook as wrong:
+            return 3, b"", f"isofarm: {wrong.args[0]}\n".encode()
+        return 0 if is_as_expected else 1, text.encode(), b""
 
 
-def answer(text, path, flags):
-    """The exit status, and what stands on the two outputs."""
+def main(path, *words):
     try:
-        classes = classes_of(text)
-    except Refusal as refusal:
-        return 3, b"", refusal.line(path)
-    return 0, Page(classes, path, ANSWERS in flags).text(BRIEF in flags).encode(), b""
-
-
-if __name__ == "__main__":
-    given = [word for word in sys.argv[1:] if word not in (ANSWERS, BRIEF)]
-    if len(given) != 1:
-        sys.exit(__doc__)
-    status, out, error = answer(Path(given[0]).read_bytes(), given[0], sys.argv[1:])
+        status, out, error = Asking(Path(path).read_bytes()).answer(path, words)
+    except NoWords as wrong:
+        status, out, error = 2, b"", f"{wrong.args[0]} asks for nothing\n".encode()
     sys.stdout.buffer.write(out)
     sys.stderr.buffer.write(error)
     sys.exit(status)
+
+
+if __name__ == "__main__":
+    if len(sys.argv) < 2:
+        sys.exit(__doc__)
+    main(*sys.argv[1:])

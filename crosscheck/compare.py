@@ -162,9 +162,10 @@ def kind_of(out):
 
 
 def fault_of(error):
-    """What a fault line tells, without the place and the names of steps."""
+    """What a fault line tells, without the place and the names of steps. Of a word that is quoted in place of a path it says so."""
     line = re.sub(r'"(?:[^"\\]|\\.)*"', "NAME", error.decode(errors="replace").split("\n")[0])
-    return re.split(r" at \d|(?<=rank) \d", line.rsplit(": ", 1)[1])[0].strip()
+    front, fault = line.rsplit(": ", 1)
+    return "NAME: " * (front == "isofarm: NAME") + re.split(r" at \d|(?<=rank) \d", fault)[0].strip()
 
 
 def difference(want, got):

@@ -2,39 +2,41 @@
 
 usage: python3 crosscheck/compare_classes.py PROGRAM|--alone KIND FIRST_SEED SEEDS
 
-Each spec is run as a whole and by answers, brief and not, and with several numbers of workers. Of a spec with more orders than this
-implementation runs, some are made permutation lines. Before them come the specs of `classes/`, whose texts were worked out by hand. With
-`--alone` no program is run: classes and texts are held against what has to hold of each. KIND is one of those below, or `all`: `crowd` has five
-to seven sessions with so few steps that all orders are run, and the others are those of `compare_shown.py`. The last lines count what was
-told.
+Each spec is run as a whole and by answers, brief and not, and with several numbers of workers, and then with some filters, looks and
+expectations (`asking.py`). Of a spec with more orders than this implementation runs, some are made permutation lines. Before them come the
+specs of `classes/`, whose texts were worked out by hand. With `--alone` no program is run: classes and texts are held against what has to hold
+of each (`class_laws.py`, `class_pages.py`). KIND is one of those below, or `all`: `crowd` has five to seven sessions with so few steps that all
+orders are run, `leaving` has sessions that leave other rows in each order, and the others are those of `compare_shown.py`. The last lines
+count what was told.
 """
 
 import re
 import sys
 from collections import Counter
-from itertools import permutations
 from pathlib import Path
 from random import Random
+from shlex import split
 from tempfile import TemporaryDirectory
 
-from classes import ANSWERS, BRIEF, LEGEND, OF_ANSWERS, OF_SHOWS, WORDS, Page, Shows, answer, classes_of, share, with_steps
-from compare import Comparison, ended
+from asked import ANSWERS, BRIEF
+from asking import Asker
+from class_laws import wrong_classes, wrong_expectation, wrong_filters, wrong_looks
+from class_pages import Read, kind_of
+from classes import Asking, joined, ranges_text, share, with_steps
+from compare import Comparison, ended, fault_of
 from compare_shown import ALL, ALL_KINDS, ALONE, FILES, bound, specs_of
 from generate import Maker
-from machine import ABORTED, DEADLOCK, FAULTS
-from moments import NOT_SENT, WAITS, shown
 from orders import order_text
 from refusal import Refusal
-from shown import WIDTH, marks
 
 WORKED = Path(__file__).resolve().parent / "classes"
 MOST_ORDERS, MOST_LINES, NEAR_RANKS = 20_000, 60, 40
-# Of so many orders the moments are looked at, and of so many sessions all serial orders.
-ORDERS_LOOKED_AT, MOST_SESSIONS = 60, 6
 RUNS = [[], [ANSWERS], [BRIEF], [ANSWERS, BRIEF], ["--workers", "1"], ["--workers", "3"], [ANSWERS, "--workers", "3"]]
+# So many runs of a spec ask for something by filters, looks and expectations.
+RUNS_ASKED = 10
+EXPECTATIONS_LOOKED_AT = 3
 CROWD = {5: [1, 1, 2], 6: [1, 1, 1, 2], 7: [1]}
-TITLE = re.compile(r"(.*): (\d+) orders?, (\d+) (class|classes|answer|answers)")
-NO_ORDERS, NOT_TOLD = "0", "-"
+MOST = 2**63 - 1
 
 
 # ---- specs and their runs
@@ -46,7 +48,33 @@ def crowd_spec(maker):
     return re.sub(r"(?<=\{ )(?=COMMIT|ROLLBACK)", lambda _found: f"{maker.hindering_statement('t')}; ", made).encode()
 
 
-CLASS_KINDS = {**ALL_KINDS, "crowd": crowd_spec}
+def leaving_statement(maker):
+    """A write that leaves something else where it comes before another one, or, at times, a read."""
+    key, letter, number = maker.random.randint(1, 3), maker.one("abc"), maker.random.randint(0, 9)
+    change = maker.one(["v = v + 1", "v = v - 7", f"v = {number}", "w = v", "v = w + 1", "v = w, w = v"])
+    forms = [f"UPDATE t SET {change}{maker.one([f' WHERE id = {key}', '', ' WHERE v > 9'])}"] * 5
+    forms += [f"INSERT INTO t VALUES ({key + 2}, {number}, 0)", f"DELETE FROM t WHERE id = {key}"]
+    forms += [f"INSERT INTO n VALUES ({number}, '{letter}')", f"DELETE FROM n WHERE b = '{letter}'", f"UPDATE n SET a = a * 2 WHERE a < {number}"]
+    return maker.one([*forms, f"SELECT v FROM t WHERE id = {key}", "SELECT * FROM n ORDER BY b, a"])
+
+
+def leaving_spec(maker):
+    """Sessions mostly outside of blocks, so that each order leaves other rows; sums are near the end of 64 bits in half of the specs."""
+    first = maker.random.randint(MOST // 2, MOST - 100)
+    second = MOST - first - maker.random.randint(20, 40) if maker.some(0.5) else 20
+    made = "setup { CREATE TABLE t (id int PRIMARY KEY, v bigint, w int); CREATE TABLE n (a int, b text);\n"
+    made += f"  INSERT INTO t VALUES (1, {first if second != 20 else 10}, 0), (2, {second}, 0), (3, 30, 0); INSERT INTO n VALUES (4, 'a'); }}\n"
+    for session, steps in enumerate(maker.one([[1, 2], [2, 2], [2, 3], [1, 1, 2], [1, 2, 2]])):
+        made += f"session s{session}{' setup { BEGIN; }' * maker.some(0.15)}\n"
+        for step in range(steps):
+            statements = maker.many(2, lambda: leaving_statement(maker))
+            ends = ["COMMIT"] * (step + 1 == steps and maker.some(0.3))
+            made += f"step s{session}_{step} {maker.block(statements + ends)}\n"
+    return made.encode()
+
+
+MORE_KINDS = {"crowd": crowd_spec, "leaving": leaving_spec}
+CLASS_KINDS = {**ALL_KINDS, **MORE_KINDS}
 
 
 def lined(text, spec, random):
@@ -58,49 +86,164 @@ def lined(text, spec, random):
     return text + b"\n" + "".join(f"permutation {order_text(spec, rank)}" for rank in ranks).encode()
 
 
+def with_few_orders(text, seed, most=MOST_ORDERS):
+    """The text, or some of its orders as permutation lines where it has more than so many."""
+    spec = bound(text)
+    return lined(text, spec, Random(seed)) if spec and spec.ranks() > most else text
+
+
 def texts_of(kind, first, seeds):
     """Specs that are classed, each with a name and a seed."""
-    if kind == "crowd":
-        made = ((f"seed {seed}", seed, crowd_spec(Maker(seed))) for seed in range(first, first + seeds))
+    if kind in MORE_KINDS:
+        made = ((f"seed {seed}", seed, MORE_KINDS[kind](Maker(seed))) for seed in range(first, first + seeds))
     else:
         made = specs_of(kind, first, seeds)
     for name, seed, text in made:
-        spec = bound(text)
-        yield name, seed, lined(text, spec, Random(seed)) if spec and spec.ranks() > MOST_ORDERS else text
+        yield name, seed, with_few_orders(text, seed)
 
 
-def classed(text):
-    """The classes of a spec; none where it is refused."""
+def asker_of(asking, seed):
+    """Who asks for the classes of a spec, or of a text that has none."""
+    spec, chosen_by = bound(asking.text), str(seed).encode() + asking.text
     try:
-        return classes_of(text)
+        return Asker(chosen_by, spec, asking.classes)
     except Refusal:
-        return None
+        return Asker(chosen_by, spec)
 
 
 def runs(text, seed, path):
     """The words of some runs of a spec, and what each tells."""
-    random, classes = Random(seed), classed(text)
+    random, asking = Random(seed), Asking(text)
     for flags in RUNS:
-        want = (0, Page(classes, path, ANSWERS in flags).text(BRIEF in flags).encode(), b"") if classes else answer(text, path, flags)
-        yield ["classes", *random.choice([[path, *flags], [*flags, path]])], want
+        yield ["classes", *random.choice([[path, *flags], [*flags, path]])], asking.answer(path, flags)
+    asker = asker_of(asking, seed)
+    for _ in range(RUNS_ASKED):
+        words = asker.words()
+        yield ["classes", path, *words], asking.answer(path, words)
 
 
 # ---- worked out by hand
 
 
+LONG_LOOK = "SELECT id, v, id, v, id, v FROM t WHERE id = 1 AND v > 0 AND v < 100 AND NOT v = 11"
+LONG_TABLE, LONG_TEXT = "u" * 73, f"'{'x' * 100}'"
+# Of texts of other words than none and `--answers`: these words, and the status.
+ASKED = {
+    "alone.expected": (f"--expect 'SELECT v, id FROM t' 1 10 --ranks --look '{LONG_LOOK}'", 1),
+    "alone.outcomes": ("--outcomes", 0),
+    "bare.left": ("--left --outcomes --ranks", 0),
+    "bare.joint": ("--ranks --left --answers", 0),
+    "counter.brief": ("--answers --brief --no-serial --expect 'SELECT n FROM counter' 2", 1),
+    "counter.expected": ("--expect 'SELECT n FROM counter' 2", 1),
+    "counter.lost": ("--no-serial --ranks", 0),
+    "counter.serial": ("--serial --expect 'SELECT n FROM counter' 2", 0),
+    "lines.ranks": ("--answers --ranks --outcomes --left", 0),
+    "lines.stuck": ("--stuck --answers --ranks --left", 0),
+    "log.expected": ("""--brief --expect 'SELECT w FROM log' "'a'" --expect "SELECT w FROM log WHERE w = 'a'" "'a'\"""", 1),
+    "log.looks": ("--look 'SELECT * FROM log' --ranks", 0),
+    "lost.lost": ("--no-serial --ranks", 0),
+    "over.looks": (
+        f"--look 'SELECT sum(v) FROM big' --expect 'SELECT sum(v), count(*) FROM big' {MOST} 2 --left --look 'SELECT v FROM big ORDER BY v'",
+        1,
+    ),
+    "sight.values": (
+        "--answers --brief --expect 'SELECT count(*), count(*) FROM t' 0 --expect 'SELECT count(*), count(*) FROM t' 0 0"
+        " --expect 'SELECT count(*) FROM t' 0 0 --expect 'SELECT id FROM t' 1",
+        1,
+    ),
+    "skew.both": ("--deadlock=a --deadlock=b --expect 'SELECT count(*) FROM doctor' 2 --ranks", 0),
+    "skew.deadlock_b": ("--deadlock=b --ranks", 0),
+    "skew.no_deadlock_b": ("--no-deadlock=b --answers", 0),
+    "skew.looks": (
+        """--deadlock=b --look ' ;SELECT count(*) FROM doctor; -- all' --ranks --look 'SELECT name FROM doctor\nWHERE on_call = 1'""",
+        0,
+    ),
+    "stuck.left": ("--left --outcomes", 0),
+    "stuck.stuck": ("--stuck --left --answers --ranks", 0),
+    "transfer.waits": ("--answers --waits --expect 'SELECT sum(balance) FROM account' 200", 1),
+    "wide.left": (
+        f"""--look 'SELECT w FROM {LONG_TABLE}' --expect 'SELECT w FROM {LONG_TABLE}' "'a\tb'" --left --expect 'SELECT w FROM {LONG_TABLE}' "{LONG_TEXT}\"""",
+        1,
+    ),
+}
+# A spec, words, and what the fault line tells.
+REFUSED = [
+    ("skew", "--deadlock=c", 'skew.spec: no session "c"'),
+    ("skew", "--ranks --no-deadlock=a --no-deadlock=A --brief", 'skew.spec: no session "A"'),
+    ("skew", """--deadlock='say "a\\"'""", r'skew.spec: no session "say \"a\\\""'),
+    ("lines", "--serial", "lines.spec: no serial orders"),
+    ("lines", "--answers --no-serial --waits", "lines.spec: no serial orders"),
+    # Looks that do not read, with the place of what cannot stand there, or of their end.
+    ("skew", "--look 'SELECT name FROM doctor WHERE'", '"SELECT name FROM doctor WHERE": sql error 3 at 29'),
+    ("skew", """--look "SELECT name FROM doctor WHERE name = 'bo\"""", """"SELECT name FROM doctor WHERE name = 'bo": sql error 2 at 37"""),
+    ("skew", """--look 'SELECT "name" FROM doctor'""", r'"SELECT \"name\" FROM doctor": sql error 1 at 7'),
+    ("skew", "--look 'SELECT * FROM doctor}'", '"SELECT * FROM doctor}": sql error 1 at 20'),
+    ("skew", "--brief --look 'SHOW doctor'", '"SHOW doctor": sql error 4 at 0'),
+    ("skew", "--look 'SELECT * FROM doctor; SHOW x'", '"SELECT * FROM doctor; SHOW x": sql error 4 at 22'),
+    ("skew", f"--look 'SELECT name FROM doctor WHERE on_call < {MOST + 1}'", f'"SELECT name FROM doctor WHERE on_call < {MOST + 1}": sql error 5 at 40'),
+    # Looks that are another statement than one SELECT.
+    ("skew", "--look ''", '"": not one SELECT'),
+    ("skew", "--look ' ; -- none'", '" ; -- none": not one SELECT'),
+    ("skew", "--look 'UPDATE doctor SET on_call = 0'", '"UPDATE doctor SET on_call = 0": not one SELECT'),
+    ("skew", "--look 'SELECT * FROM doctor; COMMIT'", '"SELECT * FROM doctor; COMMIT": not one SELECT'),
+    ("skew", "--expect 'SELECT * FROM docter; SELECT * FROM doctor' 1", '"SELECT * FROM docter; SELECT * FROM doctor": not one SELECT'),
+    # Looks that do not fit, with the place where the SELECT begins.
+    ("skew", "--look 'SELECT * FROM docter'", '"SELECT * FROM docter": bind error 2 at 0'),
+    ("skew", "--look ' SELECT name, on_cal FROM doctor;'", '" SELECT name, on_cal FROM doctor;": bind error 3 at 1'),
+    ("skew", "--look ' -- é\n;SELECT sum(name) FROM doctor'", r'" -- é\n;SELECT sum(name) FROM doctor": bind error 4 at 8'),
+    ("alone", "--expect 'SELECT id, w FROM t WHERE id = v + 1' 1", '"SELECT id, w FROM t WHERE id = v + 1": bind error 3 at 0'),
+    ("skew", "--look 'SELECT nobody FROM doctor WHERE name = 1'", '"SELECT nobody FROM doctor WHERE name = 1": bind error 3 at 0'),
+    # Values.
+    ("skew", "--expect 'SELECT count(*) FROM doctor' 02", '"02": no value'),
+    ("skew", "--expect 'SELECT count(*) FROM doctor' +2 --brief", '"+2": no value'),
+    ("skew", "--expect 'SELECT count(*) FROM doctor' -0", '"-0": no value'),
+    ("skew", f"--expect 'SELECT count(*) FROM doctor' {-MOST - 1} {MOST} {MOST + 1}", f'"{MOST + 1}": no value'),
+    ("skew", f"--expect 'SELECT count(*) FROM doctor' 2 {-MOST - 2}", f'"{-MOST - 2}": no value'),
+    ("skew", "--expect 'SELECT name FROM doctor' bo", '"bo": no value'),
+    ("skew", """--expect 'SELECT name FROM doctor' "'it''s'" "'it's'\"""", """"'it's'": no value"""),
+    ("skew", """--expect 'SELECT name FROM doctor' '"bo"'""", r'"\"bo\"": no value'),
+    ("skew", "--expect 'SELECT name FROM doctor' NULL", '"NULL": no value'),
+    # The first of several faults: filters by R, sessions, those with `no-`, looks, expectations, and then the start.
+    ("lines", "--deadlock=c --serial", "lines.spec: no serial orders"),
+    ("lines", "--look '' --serial", "lines.spec: no serial orders"),
+    ("skew", "--no-deadlock=c --deadlock=a --deadlock=d --deadlock=e", 'skew.spec: no session "d"'),
+    ("skew", "--no-deadlock=c --no-deadlock=d --look ''", 'skew.spec: no session "c"'),
+    ("skew", "--expect 'SELECT a' 01 --look 'SELECT b' --look ';'", '"SELECT b": sql error 3 at 8'),
+    ("skew", "--expect 'SELECT name FROM doctor' 01 --look 'SELECT * FROM c'", '"SELECT * FROM c": bind error 2 at 0'),
+    ("skew", "--look 'SELECT * FROM c' --look 'SELECT'", '"SELECT * FROM c": bind error 2 at 0'),
+    ("skew", "--expect 'SELECT name FROM doctor' 1 01 +1 --expect '' 1", '"01": no value'),
+    ("skew", "--expect 'SELECT * FROM c' 01", '"SELECT * FROM c": bind error 2 at 0'),
+    ("unstarted", "--look 'SELECT id FROM t'", "unstarted.spec: start error 1 at 0"),
+    ("unstarted", "--look 'SELECT id FROM u'", '"SELECT id FROM u": bind error 2 at 0'),
+    ("unstarted", "--expect 'SELECT id FROM t' 1 a", '"a": no value'),
+    ("unstarted", "--no-deadlock=c", 'unstarted.spec: no session "c"'),
+]
+
+
 def brief(text):
-    """The title and the letters of a text, which are its first two parts."""
-    return b"\n\n".join(text.split(b"\n\n")[:2]) + b"\n"
+    """The parts of a text up to the letters: the title, what is expected, and the letters."""
+    parts = text.split(b"\n\n")
+    letters = next(place for place, part in enumerate(parts) if part.startswith(b" " * 7))
+    return b"\n\n".join(part.rstrip(b"\n") for part in parts[: letters + 1]) + b"\n"
+
+
+def texts_by_hand():
+    """Each text of `classes/`: the spec's path, the words behind it, the text, and the status."""
+    for path in sorted(WORKED.glob("*.txt")):
+        name = path.name.removesuffix(".txt")
+        words, status = ASKED.get(name, (ANSWERS if name.endswith(".answers") else "", 0))
+        yield path.with_name(f"{name.partition('.')[0]}.spec"), split(words), path.read_bytes(), status
 
 
 def worked():
-    """For each text of `classes/` the spec's path and text, the words of its run, and what it tells."""
-    for path in sorted(WORKED.glob("*.spec")):
-        for ending, flags in ((".txt", []), (".answers.txt", [ANSWERS])):
-            if path.with_suffix(ending).exists():
-                text = path.with_suffix(ending).read_bytes()
-                for more, out in (([], text), ([BRIEF], brief(text)), (["--workers", "1"], text), (["--workers", "3"], text)):
-                    yield path.name, path.read_bytes(), ["classes", path.name, *flags, *more], (0, out, b"")
+    """For each text of `classes/` the spec's path and text, the words of its run, and what it tells; and so for what is refused."""
+    for path, flags, text, status in texts_by_hand():
+        for more, out in (([], text), ([BRIEF], brief(text)), (["--workers", "1"], text), (["--workers", "3"], text)):
+            if more != [BRIEF] or BRIEF not in flags:
+                yield path.name, path.read_bytes(), ["classes", path.name, *flags, *more], (status, out, b"")
+    for name, words, told in REFUSED:
+        path = WORKED / f"{name}.spec"
+        yield path.name, path.read_bytes(), ["classes", path.name, *split(words)], (3, b"", f"isofarm: {told}\n".encode())
 
 
 SHARES = [((0, 5), "0"), ((1, 1), "100.0"), ((2, 3), "66.6"), ((1, 1000), "0.1"), ((1, 1001), "0.1"), ((1, 500), "0.2"), ((999, 1000), "99.9")]
@@ -114,92 +257,18 @@ BROKEN = [
 ]
 
 
+# Ranges of ranks, as they are joined and told.
+RANGES = [([[0, 0]], "0"), ([[4, 5], [0, 1], [7, 7]], "0-1 4-5 7"), ([[3, 3], [2, 2], [0, 0], [4, 9]], "0 2-9")]
+
+
 def wrong_by_hand():
     """What is told otherwise than was worked out by hand."""
     for name, text, (_classes, path, *flags), want in worked():
-        if answer(text, path, flags) != want:
+        if Asking(text).answer(path, flags) != want:
             yield f"{name} {' '.join(flags)}"
+    yield from (f"{ranges} are told as {ranges_text(joined(ranges))}" for ranges, text in RANGES if ranges_text(joined(ranges)) != text)
     yield from (f"the share of {orders} is {share(*orders)}" for orders, text in SHARES if share(*orders) != text)
     yield from (f"{steps} stand as {[*with_steps(*steps)]}" for steps, lines in BROKEN if [*with_steps(*steps)] != lines)
-
-
-# ---- the form of a text, whatever is shown
-
-
-class Read:
-    """A text as it is read back: its orders and groups, the numbers of each letter, and the row of each class."""
-
-    def __init__(self, out):
-        self.parts = [part.split("\n") for part in out.removesuffix("\n").split("\n\n")]
-        _path, orders, groups, word = TITLE.fullmatch(self.parts[0][0]).groups()
-        self.orders, self.groups, self.by_answers = int(orders), int(groups), word.startswith("answer")
-        self.letters = {line[4]: line[5:].split()[:3] for line in self.parts[1][1:]}
-        self.is_brief = len(self.parts) == 2
-        head, *lines = [""] if self.is_brief else self.parts[2]
-        fronts = [line[: len(head) - len("order")].split() for line in lines]
-        self.rows = [front for front in fronts if front]
-        self.has_more_lines = [] in fronts
-
-    def wrong_letters(self):
-        for letter, columns in self.letters.items():
-            rows = [row for row in self.rows if letter in row[3]]
-            orders = sum(int(row[1]) for row in rows)
-            is_lined = columns == [NOT_TOLD] * 3
-            if is_lined and (letter != "R" or rows):
-                yield f"{letter} is not told, or has a class"
-            elif not is_lined and (columns[2] != str(len(rows)) or (columns[0] != str(orders) and not (self.by_answers and letter == "S"))):
-                yield f"{letter} has not so many orders or classes as its rows"
-            elif not is_lined and int(columns[0]) > orders:
-                yield f"{letter} has more orders than its rows"
-
-    def wrong_rows(self):
-        if [row[0] for row in self.rows] != [str(number) for number in range(1, self.groups + 1)]:
-            yield "classes are not numbered"
-        if sum(int(row[1]) for row in self.rows) != self.orders:
-            yield "all orders are not so many as the classes have"
-        leasts = [int(row[4]) for row in self.rows]
-        if leasts != sorted({*leasts}) or leasts[0] != 0:
-            yield "least ranks do not rise from 0"
-        if any(len(row[3]) != len(self.letters) for row in self.rows):
-            yield "not each letter has its place"
-
-    def wrong_shares(self):
-        told = [(row[1], row[2]) for row in self.rows] + [(columns[0], columns[1]) for columns in self.letters.values() if NOT_TOLD not in columns]
-        for orders, part in told:
-            tens = 0 if part == NO_ORDERS else int(part.replace(".", ""))
-            if abs(1000 * int(orders) - tens * self.orders) >= self.orders or (tens == 0) != (orders == "0"):
-                yield f"{part} is no share of {orders}"
-
-    def wrong(self):
-        if any(line.endswith(" ") or len(line) > WIDTH for part in self.parts[1:] for line in part):
-            yield "a line ends with a blank, or is too long"
-        if "".join(self.letters) != (OF_ANSWERS if self.by_answers else OF_SHOWS):
-            yield "other letters"
-        yield from self.wrong_shares()
-        if not self.is_brief:
-            yield from self.wrong_rows()
-            yield from self.wrong_letters()
-            if self.parts[3] != [LEGEND]:
-                yield "another last line"
-
-
-def kind_of(out):
-    """What a text shows, in words to be counted."""
-    text = out.decode()
-    read = Read(text)
-    yield "a text by answers" if read.by_answers else "a text"
-    yield from (f"{letter}: {WORDS[letter]}" for letter, columns in read.letters.items() if columns[0] not in ("0", NOT_TOLD))
-    found = {
-        "R is not told": NOT_TOLD in read.letters["R"],
-        "an order of several lines": read.has_more_lines,
-        "a name that is cut": "~" in text,
-        "a character by its number": "\\u{" in text,
-        "a share of 0.1": " 0.1 " in text,
-        "100 classes and more": read.groups > 99,
-        "one class": read.groups == 1,
-        "brief": read.is_brief,
-    }
-    yield from (word for word, is_so in found.items() if is_so)
 
 
 class ClassComparison(Comparison):
@@ -207,9 +276,9 @@ class ClassComparison(Comparison):
 
     def look(self, name, words, want):
         status, out, _error = got = super().look(name, words, want)
-        if status == 0 and got != want:
+        if got != want:
             return got
-        for wrong in Read(out.decode()).wrong() if status == 0 else []:
+        for wrong in Read(out.decode()).wrong(status) if out else []:
             self.differences += 1
             print(f"{name}, {' '.join(words)}: {wrong}", flush=True)
         return got
@@ -230,63 +299,32 @@ def compare_with(program, kinds, first, seeds):
     return comparison.end()
 
 
-# ---- what holds of classes
+# ---- without the program
 
 
-def shows_by_moments(spec, order):
-    """What an order shows, put together from its moments."""
-    told = tuple(
-        tuple(event for moment in order.moments if moment.session == session for event in moment.events) for session in range(len(spec.session_names))
-    )
-    return Shows(told, tuple((name, tuple(map(tuple, rows))) for name, rows in order.left), tuple(order.standing))
+def pages(asking, seed):
+    """Pages of a spec, each with its words: as a whole, by answers, brief, and what is asked for besides. What is refused is told."""
+    asker = asker_of(asking, seed)
+    for words in [*RUNS[:4], *(asker.words() for _ in range(RUNS_ASKED))]:
+        yield words, asking.answer(Random(seed).choice(FILES), words)
 
 
-def letters_by_moments(order, is_serial_answer):
-    """The letters of an order, as its moments tell them."""
-    events = {event for moment in order.moments for event in moment.events}
-    has = {
-        "W": any(moment.want for moment in order.moments if moment.kind != NOT_SENT),
-        "D": any(moment.ring for moment in order.moments),
-        "E": bool(events & ({*FAULTS} - {DEADLOCK, ABORTED})),
-        "N": any(moment.kind == NOT_SENT for moment in order.moments),
-        "S": WAITS in order.standing,
-        "R": not is_serial_answer,
-    }
-    return {letter for letter, is_so in has.items() if is_so}
+def wrong_alone(asking, seed):
+    """What is wrong with the classes of a spec by the laws."""
+    random, asker = Random(seed), asker_of(asking, seed)
+    yield from wrong_classes(asking.classes, random)
+    yield from wrong_filters(asking, random)
+    yield from wrong_looks(asking.classes, random)
+    for _ in range(EXPECTATIONS_LOOKED_AT if asking.spec.tables else 0):
+        select, *values = asker.expected()
+        yield from wrong_expectation(asking, select, values)
 
 
-def serial_answers(spec):
-    """The answers of all serial orders: the sessions in any order, each with all its steps."""
-    answers = set()
-    for sessions in permutations(range(len(spec.session_names))):
-        line = [step for session in sessions for step, (owner, _statements) in enumerate(spec.steps) if owner == session]
-        answers.add(shows_by_moments(spec, shown(spec, line)).answer())
-    return answers
-
-
-def wrong_in(classes, random):
-    """What is wrong with the classes of a spec."""
-    spec = classes.spec
-    number, groups, by_answers = spec.ranks(), classes.by_shows(), classes.by_answers()
-    is_told = spec.lines is None and len(spec.session_names) <= MOST_SESSIONS
-    serial = serial_answers(spec) if is_told else set()
-    if sum(group.orders for group in groups) != number or sum(group.orders for group in by_answers) != number:
-        yield "the orders of all classes are not all orders"
-    if any(by_shows != sorted(by_shows, key=lambda group: group.least) for by_shows in (groups, by_answers)):
-        yield "classes do not stand in the order of their least ranks"
-    for rank in sorted(random.sample(range(number), min(number, ORDERS_LOOKED_AT))):
-        order = shown(spec, spec.line(rank))
-        one = shows_by_moments(spec, order)
-        group = classes.of_shows.get(one)
-        if group is None or group.least > rank:
-            yield f"rank {rank} is in no class, or below its least rank"
-            continue
-        letters = letters_by_moments(order, not is_told or one.answer() in serial)
-        if letters != {*group.letters} - (set() if is_told or spec.lines else {"R"}):
-            yield f"rank {rank} has the letters {letters}, and its class {[*group.letters]}"
-        told = "".join(marks(order.moments))
-        if (":" in told, "-" in told) != ("W" in letters, "N" in letters) or (letters & {"D", "E"} and "!" not in told):
-            yield f"rank {rank} has the marks {told} and the letters {letters}"
+def is_classed(asking):
+    try:
+        return bool(asking.classes)
+    except Refusal:
+        return False
 
 
 def alone(kinds, first, seeds):
@@ -295,15 +333,15 @@ def alone(kinds, first, seeds):
     found = len(wrong_texts)
     for kind in kinds:
         for name, seed, text in texts_of(kind, first, seeds):
-            classes = classed(text)
-            if not classes:
-                counts.update(["refused"])
-                continue
-            outs = [Page(classes, Random(seed).choice(FILES), by_answers).text(is_brief) for by_answers in (False, True) for is_brief in (False, True)]
-            counts.update(["specs", *(word for out in outs for word in kind_of(out.encode()))])
-            for wrong in [*wrong_in(classes, Random(seed)), *(wrong for out in outs for wrong in Read(out).wrong())]:
-                found += 1
-                print(f"{kind}, {name}: {wrong}", flush=True)
+            asking, told = Asking(text), []
+            for words, (status, out, error) in pages(asking, seed):
+                counts.update(kind_of(out) if out else [f"refused: {fault_of(error)}"])
+                told += [f"{' '.join(words)}: {wrong}" for wrong in Read(out.decode()).wrong(status)] if out else []
+            if is_classed(asking):
+                counts.update(["specs"])
+                told += wrong_alone(asking, seed)
+            found += len(told)
+            print("".join(f"{kind}, {name}: {wrong}\n" for wrong in told), end="", flush=True)
     print(f"{counts['specs']} specs, {found} faults of the laws; in what was told:")
     for word, count in counts.most_common():
         print(f"  {count:6} {word}")

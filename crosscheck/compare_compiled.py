@@ -2,8 +2,8 @@
 
 usage: python3 crosscheck/compare_compiled.py FIRST_SEED SEEDS
 
-On the examples, and on specs of each kind made from the seeds: `check`, `count` and `one`, and, where there are orders, books reduced
-and not, and what the other commands tell of these.
+On the examples, and on specs of each kind made from the seeds: `check`, `count` and `one`, and, where there are orders, all of them in classes
+where they are not too many, books reduced and not, and what the other commands tell of these.
 """
 
 import os
@@ -12,13 +12,17 @@ from collections import Counter
 from pathlib import Path
 from tempfile import TemporaryDirectory
 
+from asking import Asker
 from compare import PROGRAM, ended, ranks_of, told
+from compare_shown import bound
 from examples import EXAMPLES
 from generate import KINDS, Maker
 
 LAUNCHER = EXAMPLES.parent / "isofarm"
 COMPILED = {"ISOFARM_COMPILED": "1"}
 MOST_RANKS = 300
+# Of so many orders classes are asked for, so often by filters, looks and expectations.
+MOST_CLASSED, RUNS_ASKED = 20_000, 3
 
 
 def specs(first, seeds):
@@ -58,6 +62,11 @@ class Pair:
     def book(self, name, file, *words):
         (self.folder / file).write_bytes(self.run(name, "run", "made.spec", *words)[1])
 
+    def classes(self, name, text):
+        asker = Asker(name, bound(text))
+        for words in [[], ["--answers", "--brief"], *(asker.words() for _ in range(RUNS_ASKED))]:
+            self.run(name, "classes", "made.spec", *words)
+
     def look(self, name, text):
         (self.folder / "made.spec").write_bytes(text)
         for rank in ranks_of(text, 1):
@@ -66,6 +75,8 @@ class Pair:
         status, number, _error = self.run(name, "count", "made.spec")
         if status != 0:
             return
+        if int(number) <= MOST_CLASSED:
+            self.classes(name, text)
         end = min(int(number), MOST_RANKS)
         self.book(name, "low.book", "0", str(end // 2), "--workers", "1")
         self.book(name, "high.book", str(end // 2), str(end))

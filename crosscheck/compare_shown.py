@@ -34,6 +34,8 @@ FILES = ["made.spec", "made.spec", "made.spec", "<a>&'b' \u200b\"c\".spec", f"{'
 # What a lane says besides the words of an outcome.
 NOTES = [" holds ", " is ahead, for ", ", has ", " and asks ", "  ring ", "  now ", "still wants", "still waits at the end", "columns wide", "~#"]
 NOTES += [f"in a {where}\n" for where in ("transaction", "failed block")] + [" waits\n", "  nothing", "\\u{"]
+# Widths of tables' names, round those with which `left in` is broken, and with which they are.
+LONG_TABLES = [*range(71, 74), *range(77, 80), 155, 156, 157]
 MEMBERS = ["want", "ring", "lacks", "has"]
 HOSTILE = ["<b>", "</script>", "&amp;", "\u2028", "\u202e", "\x1b[31m", "\\u003c", "\\", '"', "'", "~", "#0", "#", "\t", "\x7f", "é", "字"]
 HOSTILE += ["\U0001f600", "\u00ad", " ", "  ", "-", "\x0b", "\r"]
@@ -72,6 +74,8 @@ class Namer(Maker):
     def named(self, made):
         """The spec with other names, and sometimes with permutation lines."""
         sessions, steps = set(), set()
+        if self.some(0.3):
+            made = re.sub(r"\bt\b", "t" * self.one(LONG_TABLES), made)
         for word in re.findall(r"(?<=session )s\d", made):
             made = made.replace(f"session {word}\n", f"session {self.name(sessions)}\n")
         for word in re.findall(r"(?<=step )s\d_\d", made):

@@ -297,8 +297,8 @@ class Maker:
 
     # texts with something wrong in them
 
-    def wrong_spec(self):
-        made = self.any_spec().decode()
+    def damaged(self, made):
+        """A text with a few tokens lost, doubled or strayed in, lines doubled, or its end cut off."""
         for _ in range(self.one([1, 1, 1, 2, 3])):
             start, end = self.one([found.span() for found in re.finditer(r"\w+|\s+|[^\w\s]", made)])
             kind, stray = self.random.random(), self.one(STRAY)
@@ -316,7 +316,10 @@ class Maker:
                 made = "\n".join(lines)
             else:
                 made = made[:end]
-        text = made.encode()
+        return made
+
+    def wrong_spec(self):
+        text = self.damaged(self.any_spec().decode()).encode()
         if self.some(0.03):
             place = self.random.randint(0, len(text))
             text = text[:place] + bytes([self.random.randint(128, 255)]) + text[place:]

@@ -9,6 +9,7 @@ faults of the command line and of files, and for the specs of the seeds. It need
 import subprocess
 import sys
 from pathlib import Path
+from shlex import split
 from tempfile import TemporaryDirectory
 
 from compare import PROGRAM, PROGRESS, ended, told
@@ -29,6 +30,9 @@ OF_BOOKS += ["join low.book high.book", "join all.book wrong.spec", "report all.
 OF_BOOKS += ["run deadlock.spec 0 20 --workers 1 --progress"]
 OF_BOOKS += ["holds low.book deadlock.spec 0 9", "holds low.book deadlock.spec 0 10", "holds low.book wrong.spec 0 1"]
 OF_BOOKS += ["audit all.book", "audit wrong.spec", "judge all.book all.book", "judge all.book low.book"]
+OF_BOOKS += ["classes deadlock.spec", "classes deadlock.spec --answers --brief", "classes deadlock.spec --workers 1", "classes wrong.spec"]
+OF_BOOKS += ["classes deadlock.spec --deadlock=b --no-error --ranks --outcomes --left --workers 1", "classes deadlock.spec --deadlock=c"]
+OF_BOOKS += ["classes deadlock.spec --no-serial --look 'SELECT * FROM t ORDER BY v DESC' --expect 'SELECT v FROM t WHERE id = 2' 42 --workers 1"]
 
 
 def make_books(folder):
@@ -67,7 +71,7 @@ def main(first, seeds):
         source = Path(__file__).with_name("refuse_memory.c")
         subprocess.run(["gcc", "-shared", "-fPIC", "-o", library, source, "-ldl"], check=True)
         make_books(folder)
-        runs = [(words, TOP / "examples") for words in WORDS] + [(words.split(), folder) for words in OF_BOOKS]
+        runs = [(words, TOP / "examples") for words in WORDS] + [(split(words), folder) for words in OF_BOOKS]
         for kind, make in KINDS.items():
             for seed in range(first, first + seeds):
                 name = f"{kind}{seed}.spec"

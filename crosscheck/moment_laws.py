@@ -256,9 +256,8 @@ def wrong_in_text(order, text):
     """Of the text of an order."""
     lanes, lines = Lanes(order), text.split("\n")
     most = WIDTH if lanes.count <= 4 else max(WIDTH, lanes.columns)
-    tables = [len(f"left in {name}") for name in order.spec.tables]
     for line in lines:
-        if len(line) > max([most, *tables] if line.startswith("left in ") else [most]):
+        if len(line) > most:
             yield f"a line has {len(line)} characters: {line}"
         if line.endswith(" ") or {*map(ord, line)} & HIDDEN:
             yield f"a line ends with a blank, or shows what is not seen: {line!r}"

@@ -24,6 +24,9 @@ FAULTS = [
     (3, f"no step {NAME}", NAMED, {"rank", "show"}),
     (3, f"step {NAME} (?:twice|left out|before {NAME})", NAMED, {"rank", "show"}),
     (3, "no such line", NAMED, {"rank", "show"}),
+    (3, f"no session {NAME}", NAMED, {"classes"}),
+    (3, "no serial orders", NAMED, {"classes"}),
+    (3, f"{NAME}: (?:sql error [1-6] at {N}|not one SELECT|bind error [234] at {N}|no value)", UNNAMED, {"classes"}),
     (3, "shard error [12]", NAMED, {"run"}),
     (3, "book error [1-8]", NAMED, OF_BOOKS),
     (3, "book error 8", UNNAMED, {"run", "join"}),
@@ -33,6 +36,7 @@ FAULTS = [
     (5, "read fault", NAMED, COMMANDS),
     (5, "write fault", UNNAMED, COMMANDS),
 ]
+CLASSES_TITLE = rb"[^\n]+: (?:%(n)s of )?%(n)s orders?, %(n)s (?:class(?:es)?|answers?)"
 BOOK = rb'\{"facts":\[.*\],"format":2,"outcomes":\[.*\],"spec":".*"\}\n'
 # What stands on standard output where no fault is told.
 ANSWERS = {
@@ -42,7 +46,8 @@ ANSWERS = {
     ("rank", 0): rb"%(n)s\n",
     ("order", 0): rb"[^ \n][^\n]*\n",
     ("show", 0): rb"\{\"format\":1,[^\n]*\}\n|[^ \n].*\n",
-    ("classes", 0): rb"[^\n]+: %(n)s orders?, %(n)s (?:class(?:es)?|answers?)\n\n.+\n",
+    ("classes", 0): CLASSES_TITLE + rb"\n\n.+\n",
+    ("classes", 1): CLASSES_TITLE + rb"\n\nexpected of .+\n",
     ("run", 0): BOOK,
     ("join", 0): BOOK,
     ("holds", 0): rb"true\n",

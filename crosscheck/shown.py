@@ -246,16 +246,16 @@ def waiting_lines(order, names):
             yield from broken(f"{name} still waits at the end: {', '.join(words)}", WIDTH, 0, 2)
 
 
-def left_lines(order, names):
-    for table, rows in order.shown.left:
-        yield f"left in {visible(table)}"
+def left_lines(left, standing, names):
+    for table, rows in left:
+        yield from broken(f"left in {visible(table)}", WIDTH, 0, 2)
         for row in rows:
             yield from broken(visible(row_text(row)), WIDTH, 2, 4)
         if not rows:
             yield "  nothing"
-    for session, standing in enumerate(order.shown.standing):
-        if standing in LEFT_IN:
-            yield from broken(f"{names[session]} {LEFT_IN[standing]}", WIDTH, 0, 2)
+    for session, one in enumerate(standing):
+        if one in LEFT_IN:
+            yield from broken(f"{names[session]} {LEFT_IN[one]}", WIDTH, 0, 2)
 
 
 def key_lines(rows):
@@ -279,7 +279,7 @@ def show_text(order):
         head_lines(order, lanes),
         (lanes.row_text(*row) for row in rows),
         waiting_lines(order, names),
-        left_lines(order, names),
+        left_lines(order.shown.left, order.shown.standing, names),
         key_lines(rows),
         legend_lines(order),
     ]

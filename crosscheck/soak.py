@@ -29,10 +29,14 @@ from tempfile import TemporaryDirectory
 from time import monotonic
 
 import compare
+import compare_classes
 import compare_files
 import compare_hostile
+from asked import FILTERS, LEFT, OUTCOMES, RANKS
+from asking import opposite
 from books import compact
 from checks import checked, without_sentence
+from class_pages import Read
 from compare import PROGRAM, difference, fault_of
 from damage import DAMAGES_OF_BYTES
 from generate import KINDS, Maker, fresh_seed
@@ -50,6 +54,8 @@ DAMAGED_SPECS, DAMAGED_BOOKS = 6, 10
 RANGES = [0, 1, 2, 20, 20, 40, 40, 300, 3_000]
 # An audit runs each order of a book, so no book with more of them is audited.
 MOST_AUDITED = 20_000
+# Orders are classed of specs that have at most so many.
+MOST_CLASSED = 3_000
 # A program that asks for more lacks memory, and the machine has to have some left.
 MOST_ADDRESSES = 4 << 30
 MOST_KEPT_BY_A_JOB = 25
@@ -171,6 +177,18 @@ class Soak:
                 shown = shown if least == rank else self.run("show", *flags, path, least)
                 self.hold_same([(ran.status, ran.out) for ran in (shown, named)], "an order is shown otherwise by its names", shown, named)
 
+    def classes(self, path, number, starts):
+        """All orders in classes, by some workers and others, and those that pass a filter beside those that do not."""
+        flags = [flag for flag in ("--answers", RANKS, OUTCOMES, LEFT) if self.random.random() < 0.5]
+        ran, again = self.run("classes", path, *flags, *self.workers()), self.run("classes", path, *flags, "--workers", 1)
+        self.hold(ran.status == (0 if starts else 3), "orders are not classed", ran)
+        self.hold_same([ran.told, again.told], "some workers tell other classes than one", ran, again)
+        word = self.random.choice([word for word, (letter, _has) in FILTERS.items() if letter != "R"])
+        runs = [self.run("classes", path, one, *flags) for one in (word, opposite(word))]
+        self.hold_same([(ran.status, ran.error) for ran in (ran, *runs)], "a filter has another fault", ran, *runs)
+        is_whole = not starts or sum(Read(one.out.decode()).asked for one in runs) == number
+        self.hold(is_whole, "a filter and its opposite have not all orders", *runs)
+
     # books
 
     def workers(self):
@@ -269,6 +287,8 @@ class Soak:
         self.hold(faults.status == 2, "faults of a command line are none", faults)
         if number is not None:
             self.orders(path, number, starts)
+            if number <= MOST_CLASSED:
+                self.classes(path, number, starts)
         if not starts:
             return
         whole = self.books(path, number)
@@ -279,16 +299,22 @@ class Soak:
 
     def compared_set(self, make, maker):
         """The answers of this second implementation, of a spec, of its books or of hostile ones."""
-        kind, look = self.random.randrange(3), lambda _name, words, want: self.run(*words, want=want)
+        kind, look = self.random.randrange(4), lambda _name, words, want: self.run(*words, want=want)
         if kind == 0:
             compare_hostile.of_seed(self.random.randrange(10**9), Path(), look, Counter())
             return
         text = make(maker)
+        if kind == 1:
+            text = compare_classes.with_few_orders(text, self.random.random(), MOST_CLASSED)
         path = self.put("made.spec", text)
-        runs = compare.runs(text, self.random.random(), path)
-        runs = runs if kind == 1 else compare_files.of_spec(self.random, Path(), text, path, RANKS_COMPARED)
-        for words, want in runs:
+        for words, want in self.runs_compared(kind, text, path):
             look("", words, want)
+
+    def runs_compared(self, kind, text, path):
+        """Words, and what they tell of a spec: alone, in classes, or in books."""
+        if kind == 3:
+            return compare_files.of_spec(self.random, Path(), text, path, RANKS_COMPARED)
+        return (compare_classes if kind == 1 else compare).runs(text, self.random.random(), path)
 
     def one_set(self, number):
         name = f"{self.seed}-{number}"

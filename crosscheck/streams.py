@@ -28,6 +28,8 @@ FILES = {
     "first.spec": SPEC,
     "large.spec": LARGE.encode(),
     "long.spec": LARGE.encode() + b" #" + b"x" * 20_000,
+    # 1,680 orders, so that a run of all has two shards.
+    "many.spec": "".join(f"session {name} {' '.join(f'step {name}{number} {{}}' for number in (1, 2, 3))}\n" for name in "abc").encode(),
     "mark.spec": MARK + SPEC,
     "two words.spec": SPEC,
     "all.book": BOOK,
@@ -37,9 +39,9 @@ FILES = {
     "empty": b"",
 }
 GOOD = ["one first.spec 0", "check first.spec", "count first.spec", "rank first.spec a1 b1", "order first.spec 1", "show first.spec 1", "run first.spec 0 2", "join all.book", "report all.book"]
-GOOD += ["show first.spec a1 b1 --json", "classes first.spec", "classes first.spec --answers --brief", "classes first.spec --workers 16", "holds all.book first.spec 0 2", "run first.spec 0 2 --workers 16", "audit all.book", "judge all.book all.book"]
+GOOD += ["show first.spec a1 b1 --json", "classes first.spec", "classes first.spec --answers --brief", "classes first.spec --workers 16", "classes first.spec --waits --no-serial --ranks --outcomes --left", "holds all.book first.spec 0 2", "run first.spec 0 2 --workers 16", "audit all.book", "judge all.book all.book"]
 HELP = ["help", "--help", "--version", *(f"{line} --help" for line in ("one", "check", "count", "rank", "order", "show", "classes", "run", "join", "holds", "report", "audit", "judge"))]
-FAULTS = {"one first.spec 2": 3, "report one.book": 1, "count nothing": 5, "two first.spec 0": 2}
+FAULTS = {"one first.spec 2": 3, "classes first.spec --deadlock=c": 3, "classes first.spec --look SELECT": 3, "report one.book": 1, "count nothing": 5, "two first.spec 0": 2}
 NO_COMMANDS = ["", "one", "one first.spec", "one first.spec x", "one first.spec -1", f"one first.spec {U64}", "two first.spec 0"]
 NO_COMMANDS += ["check", "check first.spec 0", "count", "count first.spec 0", "run first.spec 0", f"run first.spec 0 {U64}", "run first.spec 0 1 --all", "join"]
 NO_COMMANDS += [f"join{' all.book' * 1001}", "report", "report all.book all.book", "report --every all.book"]
@@ -47,6 +49,8 @@ NO_COMMANDS += [f"run first.spec 0 1 --workers{number}" for number in ("", " 0",
 NO_COMMANDS += ["rank", "rank first.spec", f"rank first.spec{' a1' * 1001}", "order", "order first.spec", "order first.spec x", "order first.spec 0 1"]
 NO_COMMANDS += ["show", "show first.spec", "show first.spec --json", f"show first.spec{' a1' * 1001}", "show first.spec 0 --text"]
 NO_COMMANDS += ["classes", "classes first.spec 0", "classes first.spec --workers 0", "classes first.spec --json"]
+NO_COMMANDS += ["classes first.spec --look", "classes first.spec --expect", "classes first.spec --filter", "classes first.spec --expect SELECT"]
+NO_COMMANDS += ["classes first.spec --expect SELECT --brief", "classes first.spec --expect SELECT -x"]
 NO_COMMANDS += ["holds", "holds all.book first.spec 0", "holds all.book first.spec 0 x", "holds all.book first.spec 0 1 2"]
 NO_COMMANDS += ["audit", "audit all.book all.book", "judge", "judge all.book", f"judge{' all.book' * 1002}"]
 WRITE_FAULT = b"isofarm: write fault\n"
@@ -72,7 +76,7 @@ def unread():
     shut = ["shut"] if os.geteuid() else []
     for path in ["nothing", "folder", "first.spec/x", "/proc/self/mem", *shut]:
         commands = [["one", path, "0"], ["check", path], ["count", path], ["run", path, "0", "1"], ["join", path], ["join", "all.book", path]]
-        commands += [["rank", path, "a1", "b1"], ["order", path, "0"], ["show", path, "0"], ["show", path, "a1", "b1"], ["holds", path, "first.spec", "0", "1"], ["holds", "all.book", path, "0", "1"]]
+        commands += [["rank", path, "a1", "b1"], ["order", path, "0"], ["show", path, "0"], ["show", path, "a1", "b1"], ["classes", path], ["classes", path, "--waits"], ["holds", path, "first.spec", "0", "1"], ["holds", "all.book", path, "0", "1"]]
         commands += [["judge", path, "all.book"], ["judge", "all.book", path], ["audit", path]]
         for words in [*commands, ["report", path]]:
             yield words, line(5, f"{path}: read fault")
@@ -80,7 +84,7 @@ def unread():
 
 def marked():
     """Files that are empty, cut off, or begin with the mark of their byte order."""
-    for words in (["one", "mark.spec", "0"], ["count", "mark.spec"], ["order", "mark.spec", "0"], ["show", "mark.spec", "0"], ["run", "mark.spec", "0", "1"]):
+    for words in (["one", "mark.spec", "0"], ["count", "mark.spec"], ["order", "mark.spec", "0"], ["show", "mark.spec", "0"], ["classes", "mark.spec", "--deadlock=c"], ["run", "mark.spec", "0", "1"]):
         yield words, line(3, "mark.spec: spec error 4 at 0")
     yield ["one", "empty", "0"], line(3, "empty: spec error 5 at 0")
     for path in ("mark.book", "empty", "half.book"):
@@ -144,18 +148,25 @@ def progress_fault(error, first, end, seconds):
     return None
 
 
+def wrong_progress(folder, words, first, end):
+    """What is wrong with words that tell how far they are with these ranks, or nothing."""
+    plain = told(PROGRAM, words, folder, {})
+    begun = time.monotonic()
+    status, out, error = told(PROGRAM, [*words, "--progress"], folder, {})
+    fault = progress_fault(error, first, end, time.monotonic() - begun)
+    if (status, out, b"") != plain:
+        fault = "another answer or status"
+    return f"{' '.join(words)} --progress: {fault}" if fault else None
+
+
 def progress_in(folder):
     """For runs that tell how far they are: what is wrong, or nothing."""
+    for spec, ranks in [("first.spec", 2), ("many.spec", 1_680)]:
+        for flags in ("", "--workers 1", "--workers 16 --answers", "--no-waits --brief"):
+            yield wrong_progress(folder, ["classes", spec, *flags.split()], 0, ranks)
     for spec, first, end in [("first.spec", 0, 2), ("first.spec", 1, 1), ("large.spec", 7, 3_007), ("large.spec", U32, U32 + 60_020)]:
         for flags in ("", "--workers 1", "--workers 16", "--every", "--every --workers 1"):
-            words = ["run", spec, str(first), str(end), *flags.split()]
-            plain = told(PROGRAM, words, folder, {})
-            begun = time.monotonic()
-            status, out, error = told(PROGRAM, [*words, "--progress"], folder, {})
-            fault = progress_fault(error, first, end, time.monotonic() - begun)
-            if (status, out, b"") != plain:
-                fault = "another book or status"
-            yield f"{' '.join(words)} --progress: {fault}" if fault else None
+            yield wrong_progress(folder, ["run", spec, str(first), str(end), *flags.split()], first, end)
     for redirections in ("2> /dev/full", "2>&-"):
         got = told_into("run first.spec 0 2 --progress", folder, f"{redirections} > progress.book")
         is_right = got == (0, b"") and Path(folder, "progress.book").read_bytes() == BOOK

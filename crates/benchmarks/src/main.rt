@@ -1,12 +1,14 @@
 //! Prints how long operations on maps take, beside the standard library's (`benchmarks maps`), how fast the machine is (`benchmarks machine`), and how fast a
 //! walker gives facts (`benchmarks reduce SPEC RANKS`, or `benchmarks every SPEC RANKS`), or how fast books are made, joined and reported
-//! (`benchmarks join SPEC LENGTH`), or how fast the first ranks are run, and their book written, read and reported (`benchmarks range SPEC END`).
-//! Without words it prints what it measures of maps and of ranges.
+//! (`benchmarks join SPEC LENGTH`), or how fast the first ranks are run, and their book written, read and reported (`benchmarks range SPEC END`),
+//! or how fast the classes of all orders are found and told (`benchmarks classes SPEC WORKERS`).
+//! Without words it prints what it measures of maps, of ranges and of classes.
 //! `benchmarks SPEC FIRST END reduce|every|sent` prints the facts of these ranks, and `benchmarks books SPEC {FIRST END reduce|every}` what
 //! the joined books of these ranges tell, for `crosscheck`.
 #![tactic(auto)]
 
 mod books;
+mod classes;
 mod facts;
 mod joins;
 mod machine;
@@ -187,6 +189,11 @@ fn measure<R: Threads + Wait + Sync>(
     {
         return ranges::print_range(rt, threads, path.as_str(), end.as_str());
     }
+    if let [_program, how, path, workers] = words
+        && how.as_str() == "classes"
+    {
+        return classes::print_classes(rt, threads, path.as_str(), workers.as_str());
+    }
     if let [_program, how, path, most] = words {
         return walks::print_walk(rt, path.as_str(), most.as_str(), how.as_str() == "reduce");
     }
@@ -196,7 +203,8 @@ fn measure<R: Threads + Wait + Sync>(
         machine::print_speeds(rt)
     } else {
         println!(rt; "maps: put, get, without and fork of 10, 1,000 and 100,000 keys")?;
-        ranges::print_small(rt, threads)
+        ranges::print_small(rt, threads)?;
+        classes::print_small(rt, threads)
     }
 }
 

@@ -1,20 +1,39 @@
--- What is written of the classes of a spec.
-use Rattle.std.proofs.Common.{◌≡◌, refl, subst, ℕ, List, [], Option, Result, Ok, Err}
-use Rattle.std.specs.Bool.{⊤}
+-- What is written of the classes of a spec, and what is found of them.
+use Rattle.std.proofs.Common.{◌≡◌, ◌↔◌, ◌⊎◌, refl, sym, ap, subst, ℕ, Bool, true, false, List, [], ◌∷◌, map, All, Option, Result, Ok, Err, cond}
+use Rattle.std.proofs.lemmas.Bool.{and_from, and_parts}
+use Rattle.std.proofs.lemmas.List.Elements.{All-cons, All-head, All-nil, All-tail}
+use Rattle.std.specs.List.{list_all}
 use Rattle.binding_model.specs.Refusals.{each}
+use Rattle.binding_model.specs.declared.tables.Table.{Table}
 use Rattle.bound_specs.specs.Binding.{IsFileOf, declared, main_setup, session, shaped}
 use Rattle.bound_specs.specs.Lines.{orders_of}
 use Rattle.bound_specs.proofs.FileLemmas.{bind}
 use Rattle.bound_specs.specs.Spec.{SpecFile}
+use Rattle.bound_statements.specs.declared.statement.Bound.{Bound}
+use Rattle.lock_modes.specs.declared.value.Value.{Value}
 use Rattle.transcripts.specs.declared.counted.Counted.{Counted}
+use Rattle.transcripts.specs.declared.event.Event.{Event}
+use Rattle.order_classes.specs.Looks.{one_row}
+use Rattle.order_classes.specs.declared.rows.ClassRow.{ClassRow}
+use Rattle.spec_texts.specs.Texts.{Declares}
+use Rattle.class_looks.specs.Seeing.{told_by}
+use Rattle.class_rows.specs.Pages.{IsClassed}
 use Rattle.class_rows.specs.declared.rows.Classed.{Classed}
-use Rattle.class_commands.specs.declared.classing.WantedClasses.{WantedClasses}
+use Rattle.class_texts.specs.Expected.{Expectation, is_met, meets}
+use Rattle.class_texts.specs.Laws.{OneRowIsMet}
+use Rattle.wanted_classes.specs.declared.wanted.WantedClasses.{WantedClasses}
+use Rattle.asked_classes.specs.declared.asking.AskedClasses.{AskedClasses}
+use Rattle.asked_classes.specs.declared.expectations.AskedExpectation.{AskedExpectation}
+use Rattle.asked_classes.specs.Asking.{IsAsked}
+use Rattle.book_commands.specs.declared.finding.Finding.{Finding}
+use Rattle.book_commands.specs.declared.finding.Finding.TheVariants.{Good, Bad}
 use Rattle.class_commands.specs.declared.classing.ClassesFault.{ClassesFault}
-use Rattle.class_commands.specs.declared.classing.ClassesFault.TheVariants.{Spec, Run, NoMemory, Write}
-use Rattle.class_commands.specs.Classing.{text_by, IsClassedOf, IsTellingOf, IsClassesRun, Writes}
+use Rattle.class_commands.specs.declared.classing.ClassesFault.TheVariants.{Spec, Asked, Run, NoMemory, Write}
+use Rattle.class_commands.specs.Classing.{IsClassesRun, IsFinding, IsMet, IsNotTold, IsTellingOf, expectation_over, grouping, seen_of}
+use Rattle.class_commands.specs.Parts.{IsNotFound, IsTextOf, Writes, finding_by}
 
 -- a spec file has the text that it is of
-text-is : (text : List ℕ) (file : SpecFile) → IsFileOf text file → file.text ≡ text
+pub text-is : (text : List ℕ) (file : SpecFile) → IsFileOf text file → file.text ≡ text
 text-is text file is =
     let tree = is.tree in
     let a = bind (shaped (orders_of tree)) _ file is.is_bound in
@@ -22,22 +41,87 @@ text-is text file is =
     let c = bind (each (session b.0.0) tree.sessions) _ file b.1.1 in
     cc (c.1.1)
 
-module _ {W : Type 0} (contents : W → Option (List ℕ)) (old new : Counted W) (bytes path : List ℕ) (wanted : WantedClasses) (file : SpecFile) (classed : Classed)
-    (is : IsFileOf bytes file) (are : IsClassedOf file.text file wanted classed) where
-  telling : IsTellingOf bytes path wanted (text_by path file wanted classed)
-  telling = record {
+module _ {W : Type 0} (contents : W → Option (List ℕ)) (old new : Counted W) (bytes path : List ℕ) (wanted : WantedClasses) (file : SpecFile)
+    (is : IsFileOf bytes file) (tables : List Table) (declares : Declares file.text file tables) (asked : AskedClasses) (is-asked : IsAsked file tables wanted asked)
+    (classed : Classed) (are : IsClassed tables file.run asked.filters.items (grouping wanted.answers) classed) where
+  abbrev telling : (text : List ℕ) → IsTextOf path file tables wanted asked classed text → IsTellingOf bytes path wanted text
+  telling text is-text = record {
     file = file;
     is_file = is;
+    tables = tables;
+    declares = subst (λ t. Declares t file tables) (text-is bytes file is) declares;
+    asked = asked;
+    is_asked = is-asked;
     classed = classed;
-    are = subst (λ t. IsClassedOf t file wanted classed) (text-is bytes file is) are;
-    text_is = refl;
+    are = are;
+    runs = is-text.0;
+    are_ranks = is-text.1;
+    text_is = is-text.2;
   }
 
   -- what is written of them is the run's
-  pub classes-run : (result : Result ⊤ ClassesFault) → Writes contents old new (text_by path file wanted classed) result
+  pub classes-run : (result : Result Finding ClassesFault)
+      → Writes contents old new (IsTextOf path file tables wanted asked classed) (IsFinding classed.rows.items asked.expectations.items) result
       → IsClassesRun contents old new bytes path wanted result
-  classes-run (Ok done) wrote = (text_by path file wanted classed, telling, wrote)
+  classes-run (Ok finding) done = (done.0.0, (telling done.0.0 done.0.1, done.1), done.0.2)
   classes-run (Err (Spec fault)) never = absurd never
+  classes-run (Err (Asked fault)) never = absurd never
   classes-run (Err (Run error)) never = absurd never
   classes-run (Err NoMemory) kept = kept
-  classes-run (Err (Write fault)) stopped = (text_by path file wanted classed, telling, stopped)
+  classes-run (Err (Write fault)) stopped = (stopped.0, telling stopped.0 stopped.1, stopped.2)
+
+module _ {W : Type 0} (contents : W → Option (List ℕ)) (old : Counted W) (bytes path : List ℕ) (wanted : WantedClasses) (file : SpecFile)
+    (is : IsFileOf bytes file) (tables : List Table) (declares : Declares file.text file tables) (asked : AskedClasses) (is-asked : IsAsked file tables wanted asked) where
+  -- why nothing is found is why nothing is written
+  pub not-found : (fault : ClassesFault) → IsNotFound file fault → IsNotTold contents old old bytes path wanted fault
+  not-found (Spec fault) never = absurd never
+  not-found (Asked fault) never = absurd never
+  not-found (Run error) is-not =
+      (refl, (file, is, (tables, subst (λ t. Declares t file tables) (text-is bytes file is) declares, ((asked, is-asked), is-not))))
+  not-found NoMemory any = refl
+  not-found (Write fault) never = absurd never
+
+-- ---- what is found
+
+module _ (law : OneRowIsMet) (st : Bound) (values : List Value) where
+  abbrev IsSo : ClassRow → Type 0
+  IsSo row = seen_of st row ≡ told_by (one_row values)
+
+  abbrev so : List ClassRow → Bool
+  so rows = list_all (meets values) (map (seen_of st) rows)
+
+  all-there : (rows : List ClassRow) → so rows ≡ true → All IsSo rows
+  all-there [] is = All-nil IsSo
+  all-there (row ∷ rows) is =
+      let p = and_parts (meets values (seen_of st row)) (so rows) is in
+      All-cons IsSo row rows ((law values (seen_of st row)).0 p.0) (all-there rows p.1)
+
+  all-back : (rows : List ClassRow) → All IsSo rows → so rows ≡ true
+  all-back [] is = refl
+  all-back (row ∷ rows) is =
+      and_from (meets values (seen_of st row)) (so rows) ((law values (seen_of st row)).1 (All-head IsSo row rows is))
+      (all-back rows (All-tail IsSo row rows is))
+
+module _ (law : OneRowIsMet) (rows : List ClassRow) where
+  abbrev met : List AskedExpectation → Bool
+  met es = list_all is_met (map (expectation_over rows) es)
+
+  each-there : (es : List AskedExpectation) → met es ≡ true → All (IsMet rows) es
+  each-there [] is = All-nil (IsMet rows)
+  each-there (e ∷ es) is =
+      let p = and_parts (is_met (expectation_over rows e)) (met es) is in
+      All-cons (IsMet rows) e es (all-there law e.look e.values.items rows p.0) (each-there es p.1)
+
+  each-back : (es : List AskedExpectation) → All (IsMet rows) es → met es ≡ true
+  each-back [] is = refl
+  each-back (e ∷ es) is =
+      and_from (is_met (expectation_over rows e)) (met es) (all-back law e.look e.values.items rows (All-head (IsMet rows) e es is))
+      (each-back es (All-tail (IsMet rows) e es is))
+
+  good-if : (b : Bool) → cond b Good Bad ≡ Good → b ≡ true
+  good-if true is = refl
+  good-if false is = absurd (let e : Bad ≡ Good = is in cc)
+
+  -- the finding by what is seen is that of the classes
+  pub finding-is : (es : List AskedExpectation) → IsFinding rows es (finding_by (map (expectation_over rows) es))
+  finding-is es = (λ is. each-there es (good-if (met es) is), λ all. ap (λ b. cond b Good Bad) (each-back es all))

@@ -1,1 +1,1 @@
-pub mod ClassLemmas
+mod ClassLemmas

@@ -1,78 +1,134 @@
 -- What is written of the classes of a spec, from the bytes of its file.
-use Rattle.std.specs.Prelude.{◌≡◌, ℕ, false, List, [], Option, Result, Ok, Err, ⊤}
+use Rattle.std.specs.Prelude.{◌≡◌, ◌↔◌, ℕ, Bool, true, false, List, [], ◌∷◌, map, All, Option, Result, Ok, Err}
 use Rattle.binding_model.specs.declared.tables.Table.{Table}
 use Rattle.bound_specs.specs.Spec.{SpecFile, ranks}
 use Rattle.bound_specs.specs.Binding.{IsFileOf}
+use Rattle.bound_statements.specs.declared.statement.Bound.{Bound}
 use Rattle.machine_model.specs.Start.{start}
 use Rattle.session_machine.specs.Running.{IsNotRunBy}
+use Rattle.session_machine.specs.declared.error.RunError.{RunError}
 use Rattle.transcripts.specs.Counted.{Wrote, Stopped}
 use Rattle.transcripts.specs.declared.counted.Counted.{Counted}
+use Rattle.transcripts.specs.declared.event.Event.{Event}
 use Rattle.spec_binding.specs.SpecFiles.{IsNoSpec}
 use Rattle.spec_texts.specs.Texts.{Declares}
+use Rattle.order_classes.specs.Looks.{one_row}
+use Rattle.order_classes.specs.declared.rows.ClassRow.{ClassRow}
+use Rattle.order_classes.specs.declared.rows.Grouping.{Grouping}
+use Rattle.order_classes.specs.declared.rows.Grouping.TheVariants as by
+use Rattle.class_stretches.specs.declared.rank_run.RankRun.{RankRun}
+use Rattle.class_stretches.specs.Stretches.{AreRunsBy}
 use Rattle.class_rows.specs.Pages.{IsClassed}
 use Rattle.class_rows.specs.declared.rows.Classed.{Classed}
+use Rattle.class_looks.specs.Seeing.{told_by, sees}
+use Rattle.class_texts.specs.Beneath.{Look}
+use Rattle.class_texts.specs.Expected.{Expectation}
 use Rattle.class_texts.specs.Pages.{Page, page_bytes}
-use Rattle.class_commands.specs.declared.classing.WantedClasses.{WantedClasses}
+use Rattle.wanted_classes.specs.declared.wanted.WantedClasses.{WantedClasses}
+use Rattle.asked_classes.specs.declared.asking.AskedClasses.{AskedClasses}
+use Rattle.asked_classes.specs.declared.looks.AskedLook.{AskedLook}
+use Rattle.asked_classes.specs.declared.expectations.AskedExpectation.{AskedExpectation}
+use Rattle.asked_classes.specs.Asking.{IsAsked, IsRefused}
+use Rattle.book_commands.specs.declared.finding.Finding.{Finding}
+use Rattle.book_commands.specs.declared.finding.Finding.TheVariants.{Good}
 use Rattle.class_commands.specs.declared.classing.ClassesFault.{ClassesFault}
-use Rattle.class_commands.specs.declared.classing.ClassesFault.TheVariants.{Spec, Run, NoMemory, Write}
+use Rattle.class_commands.specs.declared.classing.ClassesFault.TheVariants.{Spec, Asked, Run, NoMemory, Write}
 
--- what is told of the classes of all orders of a spec file, with the tables that its main setups declare
-pub record IsClassedOf (bytes : List ℕ) (file : SpecFile) (wanted : WantedClasses) (x : Classed) : Type 0 where
-  pub tables : List Table
-  pub declares : Declares bytes file tables
-  pub classed : IsClassed tables file.run [] wanted.by x
+-- ---- the page
 
--- the page of it, with the path that the spec is told to lie at
-abbrev pub page_of : List ℕ → SpecFile → WantedClasses → Classed → Page
-page_of path file wanted x =
+abbrev pub grouping : Bool → Grouping
+grouping true = by.Answers
+grouping false = by.Shows
+
+-- what a SELECT sees of the rows that a class leaves
+abbrev pub seen_of : Bound → ClassRow → List Event
+seen_of st row = told_by (sees st row.shows.left)
+
+abbrev pub look_over : List ClassRow → AskedLook → Look
+look_over rows a = record { text = a.text.now; seen = map (seen_of a.look) rows }
+
+abbrev pub expectation_over : List ClassRow → AskedExpectation → Expectation
+expectation_over rows a = record { text = a.text.now; values = a.values.items; seen = map (seen_of a.look) rows }
+
+abbrev pub has_some : {X : Type 0} → List X → Bool
+has_some [] = false
+has_some (x ∷ xs) = true
+
+-- with the path that the spec is told to lie at
+abbrev pub page_of : List ℕ → SpecFile → List Table → WantedClasses → AskedClasses → Classed → List (List RankRun) → Page
+page_of path file tables wanted asked x runs =
     record {
       path = path;
       orders = ranks file.run;
       sessions = file.session_names;
       steps = file.step_names;
-      by = wanted.by;
-      is_filtered = false;
+      tables = tables;
+      by = grouping wanted.answers;
+      is_filtered = has_some asked.filters.items;
+      expectations = map (expectation_over x.rows.items) asked.expectations.items;
       totals = x.totals;
       rows = x.rows.items;
-      is_brief = wanted.is_brief;
-      with_outcomes = false;
+      is_brief = wanted.brief;
+      with_ranks = wanted.ranks;
+      ranks = runs;
+      with_outcomes = wanted.outcomes;
+      with_left = wanted.left;
+      looks = map (look_over x.rows.items) asked.looks.items;
     }
 
-abbrev pub text_by : List ℕ → SpecFile → WantedClasses → Classed → List ℕ
-text_by path file wanted x = page_bytes (page_of path file wanted x)
+-- the ranks of each class, where they are told
+abbrev pub AreRanks : Bool → Classed → List (List RankRun) → Type 0
+AreRanks true x runs = AreRunsBy x.stretches.list x.stretches.classes runs
+AreRanks false x runs = runs ≡ []
 
--- the text tells the classes of all orders of the spec file that the bytes are
+-- ---- what is found
+
+-- of each class the SELECT sees the one row that is expected
+abbrev pub IsMet : List ClassRow → AskedExpectation → Type 0
+IsMet rows a = All (λ row. seen_of a.look row ≡ told_by (one_row a.values.items)) rows
+
+-- nothing is amiss where all that is expected is so
+abbrev pub IsFinding : List ClassRow → List AskedExpectation → Finding → Type 0
+IsFinding rows expectations finding = (finding ≡ Good) ↔ All (IsMet rows) expectations
+
+-- ---- the text
+
+-- the text tells the classes of the orders that are asked for of the spec file that the bytes are, with the tables that its main setups declare
 pub record IsTellingOf (bytes path : List ℕ) (wanted : WantedClasses) (text : List ℕ) : Type 0 where
   pub file : SpecFile
   pub is_file : IsFileOf bytes file
+  pub tables : List Table
+  pub declares : Declares bytes file tables
+  pub asked : AskedClasses
+  pub is_asked : IsAsked file tables wanted asked
   pub classed : Classed
-  pub are : IsClassedOf bytes file wanted classed
-  pub text_is : text ≡ text_by path file wanted classed
+  pub are : IsClassed tables file.run asked.filters.items (grouping wanted.answers) classed
+  pub runs : List (List RankRun)
+  pub are_ranks : AreRanks wanted.ranks classed runs
+  pub text_is : text ≡ page_bytes (page_of path file tables wanted asked classed runs)
 
--- why classes are not written, and what that leaves in the writer: the bytes are no spec file; the orders are not run; memory ran out; or a write fails,
--- which leaves a front of such a text
+-- what is found of the orders that it tells of
+abbrev pub IsFoundIn : {bytes path : List ℕ} {wanted : WantedClasses} {text : List ℕ} → IsTellingOf bytes path wanted text → Finding → Type 0
+IsFoundIn telling finding = IsFinding telling.classed.rows.items telling.asked.expectations.items finding
+
+-- of the file nothing is asked, or something is and the orders are not run
+abbrev pub IsNotAsked : List ℕ → WantedClasses → (SpecFile → List Table → Type 0) → Type 0
+IsNotAsked bytes wanted Why = (file : SpecFile) × IsFileOf bytes file × ((tables : List Table) × Declares bytes file tables × Why file tables)
+
+abbrev pub IsNotRun : SpecFile → List Table → WantedClasses → RunError → Type 0
+IsNotRun file tables wanted error = ((asked : AskedClasses) × IsAsked file tables wanted asked) × IsNotRunBy error (start file.run)
+
+-- why classes are not written, and what that leaves in the writer: the bytes are no spec file; nothing is asked of it; the orders are not run; memory ran
+-- out; or a write fails, which leaves a front of such a text
 abbrev pub IsNotTold : {W : Type 0} → (W → Option (List ℕ)) → Counted W → Counted W → List ℕ → List ℕ → WantedClasses → ClassesFault → Type 0
 IsNotTold contents old new bytes path wanted (Spec fault) = (new ≡ old) × IsNoSpec bytes fault
-IsNotTold contents old new bytes path wanted (Run error) = (new ≡ old) × ((file : SpecFile) × IsFileOf bytes file × IsNotRunBy error (start file.run))
+IsNotTold contents old new bytes path wanted (Asked fault) = (new ≡ old) × IsNotAsked bytes wanted (λ file tables. IsRefused file tables wanted fault)
+IsNotTold contents old new bytes path wanted (Run error) = (new ≡ old) × IsNotAsked bytes wanted (λ file tables. IsNotRun file tables wanted error)
 IsNotTold contents old new bytes path wanted NoMemory = new ≡ old
 IsNotTold contents old new bytes path wanted (Write fault) = (text : List ℕ) × IsTellingOf bytes path wanted text × Stopped contents old new text
 
--- all of it: the classes are written, or a refusal is returned with what it leaves
-abbrev pub IsClassesRun : {W : Type 0} → (W → Option (List ℕ)) → Counted W → Counted W → List ℕ → List ℕ → WantedClasses → Result ⊤ ClassesFault → Type 0
-IsClassesRun contents old new bytes path wanted (Ok done) = (text : List ℕ) × IsTellingOf bytes path wanted text × Wrote contents old new text
+-- all of it: the classes are written, and what is found is told; or a refusal is returned with what it leaves
+abbrev pub IsClassesRun : {W : Type 0} → (W → Option (List ℕ)) → Counted W → Counted W → List ℕ → List ℕ → WantedClasses → Result Finding ClassesFault → Type 0
+IsClassesRun contents old new bytes path wanted (Ok finding) =
+    (text : List ℕ) × ((telling : IsTellingOf bytes path wanted text) × IsFoundIn telling finding) × Wrote contents old new text
 IsClassesRun contents old new bytes path wanted (Err fault) = IsNotTold contents old new bytes path wanted fault
-
--- ---- the parts
-
--- a text is written, or a front of it, or nothing for want of memory
-abbrev pub Writes : {W : Type 0} → (W → Option (List ℕ)) → Counted W → Counted W → List ℕ → Result ⊤ ClassesFault → Type 0
-Writes contents old new text (Ok done) = Wrote contents old new text
-Writes contents old new text (Err (Write fault)) = Stopped contents old new text
-Writes contents old new text (Err NoMemory) = new ≡ old
-Writes contents old new text (Err fault) = ⊥
-
--- classes are not found: the orders are not run, or memory ran out
-abbrev pub IsNotFound : SpecFile → ClassesFault → Type 0
-IsNotFound file (Run error) = IsNotRunBy error (start file.run)
-IsNotFound file NoMemory = Unit {0}
-IsNotFound file fault = ⊥

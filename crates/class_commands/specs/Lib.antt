@@ -1,1 +1,2 @@
 pub mod Classing
+pub mod Parts

@@ -1,6 +1,7 @@
-//! All orders of a spec in classes, from the bytes of the spec to the text that is written.
+//! Orders of a spec in classes, from the bytes of the spec to the text that is written.
 #![tactic(auto)]
 
 mod classing;
+mod telling;
 
-pub use classing::{ClassesFault, WantedClasses, classes, classes_told};
+pub use classing::{ClassesFault, classes, classes_told};

@@ -1,14 +1,17 @@
 -- One pass over all stretches: what is left of them behind a place.
-use Rattle.std.proofs.Common.{◌≡◌, refl, sym, ap, ◌∙◌, subst, ℕ, ◌+◌, ◌<◌, ◌≤◌, Bool, true, false, cond, Option, Some, None, List, [], ◌∷◌, ◌++◌, length, get_or, drop, map}
-use Rattle.std.proofs.Common.{arith, add-one, append_assoc, append-nil, drop-cons}
+use Rattle.std.proofs.Common.{◌≡◌, refl, sym, ap, ◌∙◌, subst, ℕ, ◌+◌, ◌<◌, ◌≤◌, Bool, true, false, cond, Option, Some, None, List, [], ◌∷◌, ◌++◌, length, get_or, set, drop, map}
+use Rattle.std.proofs.Common.{zero, suc, ◌==◌, ⊎_elim, arith, add-one, append_assoc, append-nil, drop-cons}
+use Rattle.std.proofs.lemmas.List.{map-append}
+use Rattle.std.proofs.lemmas.Bool.{eqb-true, eqb-false}
 use Rattle.std.proofs.Math.ListN.{drop_of_length-le}
-use Rattle.order_classes.specs.Classes.{ranks_in}
+use Rattle.order_classes.specs.Classes.{Run, ranks_in}
 use Rattle.class_stretches.specs.declared.stretch.Stretch.{Stretch}
 use Rattle.class_stretches.specs.declared.rank_run.RankRun.{RankRun}
 use Rattle.class_stretches.specs.declared.tally.Tally.{Tally}
-use Rattle.class_stretches.specs.Stretches.{same_class, AreStretches, MayCome, AreInOrder, runs_with, run_of}
+use Rattle.class_stretches.specs.Stretches.{same_class, AreStretches, MayCome, with_class, AreInOrder, runs_with, run_of, AreRunsBy}
 use Rattle.class_stretches.specs.Growing.{end_at}
-use Rattle.class_stretches.specs.Counting.{counted, counted_all, AreBelow, HasOrder}
+use Rattle.class_stretches.specs.Counting.{counted, counted_all, AreBelow, HasOrder, with_run, with_run_of, with_runs}
+use Rattle.class_stretches.proofs.Ranks.{with-known, with-next, known-or-next}
 use Rattle.class_stretches.proofs.Tallies.{counted-length, counted-below}
 
 abbrev pub stretch_at : List Stretch → ℕ → Stretch
@@ -124,3 +127,108 @@ counted-next ss i low tallies more lt so is =
 
 pub all-counted : (ss : List Stretch) (i low : ℕ) (tallies : List Tally) → length ss ≤ i → AreCounted ss i low tallies → tallies ≡ counted_all [] 0 ss
 all-counted ss i low tallies le so = ap (λ rest. counted_all tallies low rest) (sym (drop_of_length-le ss le)) ∙ so.left
+
+-- ---- runs of all classes
+
+put-same : (all : List (List RankRun)) (n : ℕ) (run : RankRun) → n ≤ length all → get_or (with_run all n run) n [] ≡ get_or all n [] ++ run ∷ []
+put-same [] zero run le = refl
+put-same [] (suc n) run le = absurd (omega (arith, le))
+put-same (runs ∷ all) zero run le = refl
+put-same (runs ∷ all) (suc n) run le = put-same all n run (omega (arith, le))
+
+put-other : (all : List (List RankRun)) (k n : ℕ) (run : RankRun) → k ≤ length all → (n ≡ k → ⊥) → get_or (with_run all k run) n [] ≡ get_or all n []
+put-other [] zero zero run le ne = absurd (ne refl)
+put-other [] zero (suc n) run le ne = refl
+put-other [] (suc k) n run le ne = absurd (omega (arith, le))
+put-other (runs ∷ all) zero zero run le ne = absurd (ne refl)
+put-other (runs ∷ all) zero (suc n) run le ne = refl
+put-other (runs ∷ all) (suc k) zero run le ne = refl
+put-other (runs ∷ all) (suc k) (suc n) run le ne = put-other all k n run (omega (arith, le)) (λ h. ne (ap suc h))
+
+put-known : (all : List (List RankRun)) (n : ℕ) (run : RankRun) → n < length all → length (with_run all n run) ≡ length all
+put-known [] n run lt = absurd (omega (arith, lt))
+put-known (runs ∷ all) zero run lt = refl
+put-known (runs ∷ all) (suc n) run lt = ap suc (put-known all n run (omega (arith, lt)))
+
+put-next : (all : List (List RankRun)) (n : ℕ) (run : RankRun) → n ≡ length all → length (with_run all n run) ≡ length all + 1
+put-next [] n run is = refl
+put-next (runs ∷ all) zero run is = absurd (omega (arith, is))
+put-next (runs ∷ all) (suc n) run is = let rest = put-next all n run (omega (arith, is)) in omega (arith, rest)
+
+put-length : (all : List (List RankRun)) (c : Option ℕ) (run : RankRun) → MayCome (length all) c
+    → length (with_run_of all c run) ≡ with_class (length all) c
+put-length all None run may = refl
+put-length all (Some n) run may =
+    ⊎_elim (λ h. put-known all n run h ∙ sym (with-known (length all) n h))
+    (λ h. put-next all n run h ∙ sym (ap (λ k. with_class (length all) (Some k)) h ∙ with-next (length all))) (known-or-next (length all) n may)
+
+-- the runs of class number n, and those that are left of it
+abbrev runs_at : List (List RankRun) → ℕ → List Run
+runs_at all n = map run_of (get_or all n [])
+
+put-runs : (all : List (List RankRun)) (n low : ℕ) (s : Stretch) (ss : List Stretch) → MayCome (length all) s.class
+    → runs_at (with_runs all low s) n ++ runs_with (Some n) s.end ss ≡ runs_at all n ++ runs_with (Some n) low (s ∷ ss)
+put-runs all n low s ss may = at s.class may
+  where
+    at : (c : Option ℕ) → MayCome (length all) c
+        → map run_of (get_or (with_run_of all c (record { first = low; end = s.end })) n []) ++ runs_with (Some n) s.end ss
+        ≡ map run_of (get_or all n []) ++ cond (same_class (Some n) c) (record { first = low; end = s.end } ∷ runs_with (Some n) s.end ss) (runs_with (Some n) s.end ss)
+    at None may = refl
+    at (Some k) may = by (n == k) refl
+      where
+        by : (b : Bool) → (n == k) ≡ b
+            → map run_of (get_or (with_run all k (record { first = low; end = s.end })) n []) ++ runs_with (Some n) s.end ss
+            ≡ map run_of (get_or all n []) ++ cond b (record { first = low; end = s.end } ∷ runs_with (Some n) s.end ss) (runs_with (Some n) s.end ss)
+        by true is =
+            let same : n ≡ k = eqb-true n k is in
+            let here = subst (λ j. get_or (with_run all j (record { first = low; end = s.end })) n [] ≡ get_or all n [] ++ record { first = low; end = s.end } ∷ [])
+            same (put-same all n (record { first = low; end = s.end }) (omega (arith, same, may))) in
+            ap (λ (runs : List RankRun). map run_of runs ++ runs_with (Some n) s.end ss) here
+            ∙ ap (λ runs. runs ++ runs_with (Some n) s.end ss) (map-append run_of (get_or all n []) (record { first = low; end = s.end } ∷ []))
+            ∙ append_assoc (map run_of (get_or all n [])) (record { first = low; end = s.end } ∷ []) (runs_with (Some n) s.end ss)
+        by false is =
+            ap (λ (runs : List RankRun). map run_of runs ++ runs_with (Some n) s.end ss)
+            (put-other all k n (record { first = low; end = s.end }) may (eqb-false n k is))
+
+-- the runs of the stretches before a place are put to their classes
+pub record ArePut (ss : List Stretch) (classes i low : ℕ) (all : List (List RankRun)) : Type 0 where
+  pub left : (n : ℕ) → runs_at all n ++ runs_with (Some n) low (drop i ss) ≡ runs_with (Some n) 0 ss
+  pub order : AreInOrder (length all) (drop i ss) classes
+
+pub put-start : (ss : List Stretch) (classes : ℕ) → AreInOrder 0 ss classes → ArePut ss classes 0 0 []
+put-start ss classes o = record { left = λ n. refl; order = o }
+
+pub put-comes : (ss : List Stretch) (classes i low : ℕ) (all : List (List RankRun)) → i < length ss → ArePut ss classes i low all
+    → MayCome (length all) (stretch_at ss i).class
+put-comes ss classes i low all lt so = (subst (λ rest. AreInOrder (length all) rest classes) (next-left ss i lt) so.order).0
+
+pub put-more : (ss : List Stretch) (classes i low : ℕ) (all more : List (List RankRun)) → i < length ss → ArePut ss classes i low all
+    → more ≡ with_runs all low (stretch_at ss i) → ArePut ss classes (i + 1) (end_at ss i) more
+put-more ss classes i low all more lt so is =
+    let s = stretch_at ss i in
+    let o = subst (λ rest. AreInOrder (length all) rest classes) (next-left ss i lt) so.order in
+    let here : ArePut ss classes (i + 1) (end_at ss i) (with_runs all low s) = record {
+      left = λ n. (put-runs all n low s (drop (i + 1) ss) o.0
+          ∙ ap (λ rest. runs_at all n ++ runs_with (Some n) low rest) (sym (next-left ss i lt)) ∙ so.left n);
+      order = subst (λ n. AreInOrder n (drop (i + 1) ss) classes) (sym (put-length all s.class (record { first = low; end = s.end }) o.0)) o.1;
+    } in
+    subst (ArePut ss classes (i + 1) (end_at ss i)) (sym is) here
+
+pub all-put : (ss : List Stretch) (classes i low : ℕ) (all : List (List RankRun)) → length ss ≤ i → ArePut ss classes i low all → AreRunsBy ss classes all
+all-put ss classes i low all le so = record {
+  all = subst (λ rest. AreInOrder (length all) rest classes) (drop_of_length-le ss le) so.order;
+  each = λ n lt. (sym (append-nil (runs_at all n)) ∙ ap (λ rest. runs_at all n ++ runs_with (Some n) low rest) (sym (drop_of_length-le ss le)) ∙ so.left n);
+}
+
+-- ---- a run that is put
+
+pub run-set : (all : List (List RankRun)) (n : ℕ) (run : RankRun) (runs : List RankRun) → n < length all → runs ≡ get_or all n runs
+    → set all n (runs ++ run ∷ []) ≡ with_run all n run
+run-set [] n run runs lt is = absurd (omega (arith, lt))
+run-set (x ∷ all) zero run runs lt is = ap (λ y. (y ++ run ∷ []) ∷ all) is
+run-set (x ∷ all) (suc n) run runs lt is = ap (λ rest. x ∷ rest) (run-set all n run runs (omega (arith, lt)) is)
+
+pub run-pushed : (all : List (List RankRun)) (n : ℕ) (run : RankRun) → n ≡ length all → all ++ (run ∷ []) ∷ [] ≡ with_run all n run
+run-pushed [] n run is = refl
+run-pushed (x ∷ all) zero run is = absurd (omega (arith, is))
+run-pushed (x ∷ all) (suc n) run is = ap (λ rest. x ∷ rest) (run-pushed all n run (omega (arith, is)))

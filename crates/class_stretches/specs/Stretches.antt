@@ -1,5 +1,5 @@
 -- Stretches of ranks with the numbers of their classes.
-use Rattle.std.specs.Prelude.{◌≡◌, ℕ, ◌+◌, ◌-◌, ◌<◌, ◌≤◌, ◌==◌, Bool, true, false, nat_lt, cond, Option, Some, None, List, [], ◌∷◌, length}
+use Rattle.std.specs.Prelude.{◌≡◌, ℕ, ◌+◌, ◌-◌, ◌<◌, ◌≤◌, ◌==◌, Bool, true, false, nat_lt, cond, Option, Some, None, List, [], ◌∷◌, length, get_or, map}
 use Rattle.std.specs.List.{slice_get}
 use Rattle.order_classes.specs.Classes.{Run, ranks_in}
 use Rattle.class_stretches.specs.declared.stretch.Stretch.{Stretch}
@@ -104,3 +104,8 @@ tally_of runs = record { least = least_of runs; count = ranks_in runs }
 pub record AreTallies (ss : List Stretch) (classes : ℕ) (tallies : List Tally) : Type 0 where
   pub all : length tallies ≡ classes
   pub each : (n : ℕ) → n < classes → slice_get tallies n ≡ Some (tally_of (runs_with (Some n) 0 ss))
+
+-- these are the runs of so many classes, in the order of their numbers
+pub record AreRunsBy (ss : List Stretch) (classes : ℕ) (runs : List (List RankRun)) : Type 0 where
+  pub all : length runs ≡ classes
+  pub each : (n : ℕ) → n < classes → map run_of (get_or runs n []) ≡ runs_with (Some n) 0 ss

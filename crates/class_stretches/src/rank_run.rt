@@ -1,11 +1,13 @@
 //! One run of ranks.
 
-ghost use Rattle.std.specs.Prelude.{◌≡◌, ◌+◌, ◌<◌, ◌≤◌, Some, None, [], ◌∷◌, ◌++◌, IfOk, OnOk, map};
+ghost use Rattle.std.specs.Prelude.{◌≡◌, ◌+◌, ◌<◌, ◌≤◌, Some, None, [], ◌∷◌, ◌++◌, IfOk, OnOk, length, map};
 ghost use Rattle.order_classes.specs.Classes.{ranks_in};
-ghost use Rattle.class_stretches.specs.Stretches.{AreStretches, runs_with, run_of};
+ghost use Rattle.class_stretches.specs.Stretches.{AreInOrder, AreRunsBy, AreStretches, MayCome, runs_with, run_of};
+ghost use Rattle.class_stretches.specs.Counting.{with_run, with_runs};
 
 use crate::list::is_same;
 use crate::stretch::Stretch;
+use sqlite_items::Items;
 use std::alloc::{AllocError, Global};
 
 /// The ranks from the first up to but not the end.
@@ -49,6 +51,63 @@ fn push_run(
             end: stretch.end,
         })?;
     }
+    Ok(())
+}
+
+/// The runs of the ranks of each of so many classes, in the order of their numbers, in one pass.
+pub(crate) fn runs_by(
+    alloc: Global,
+    list: &[Stretch],
+    classes: u32,
+) -> Result<Vec<Items<RankRun>>, AllocError>
+    requires { AreInOrder 0 list.now classes }
+    ensures { IfOk result (λ runs. AreRunsBy list.now classes runs.items) }
+{
+    let mut all = Vec::with_capacity(alloc, classes as usize)?;
+    let mut low = 0;
+    for stretch in list {
+        put_run(alloc, &mut all, low, stretch)?;
+        low = stretch.end;
+    }
+    Ok(all)
+}
+
+/// Puts the run of a stretch that begins here to its class, if that is known.
+fn put_run(
+    alloc: Global,
+    all: &mut Vec<Items<RankRun>>,
+    low: u64,
+    stretch: &Stretch,
+) -> Result<(), AllocError>
+    requires { MayCome (length all.old.items) stretch.now.class }
+    ensures { OnOk result (all.new.items ≡ with_runs all.old.items low stretch.now) }
+{
+    let run = RankRun {
+        first: low,
+        end: stretch.end,
+    };
+    match stretch.class {
+        None => Ok(()),
+        Some(class) => put_to(alloc, all, class, run),
+    }
+}
+
+/// Puts a run to a class, the next one or one that is there.
+fn put_to(
+    alloc: Global,
+    all: &mut Vec<Items<RankRun>>,
+    class: u32,
+    run: RankRun,
+) -> Result<(), AllocError>
+    requires { class ≤ length all.old.items }
+    ensures { OnOk result (all.new.items ≡ with_run all.old.items class run) }
+{
+    let place = class as usize;
+    if place < all.len() {
+        all[place].push(run)?;
+        return Ok(());
+    }
+    all.push(Items::from_slice(alloc, &[run])?)?;
     Ok(())
 }
 

@@ -3,15 +3,16 @@
 ghost use Rattle.std.specs.Prelude.{◌≡◌, ◌+◌, ◌-◌, ◌^◌, ◌<◌, ◌≤◌, Some, None, [], OnOk, OnErr, IfOk, length, map};
 ghost use Rattle.order_classes.specs.Classes.{ranks_in};
 ghost use Rattle.class_stretches.specs.Stretches.{class_at, end_of, IsStretched, MayCome, with_class, IsPushed, IsCopied};
-ghost use Rattle.class_stretches.specs.Stretches.{runs_with, run_of, AreTallies};
+ghost use Rattle.class_stretches.specs.Stretches.{runs_with, run_of, AreRunsBy, AreTallies};
 ghost use Rattle.class_stretches.specs.Mapping.{HaveOrder, IsMapped};
 
 use crate::copying::copy_list;
 use crate::list::{class_in, classes_with, end_of_list, put};
 use crate::mapping::mapped_list;
-use crate::rank_run::{RankRun, missing_in, runs_in};
+use crate::rank_run::{RankRun, missing_in, runs_by, runs_in};
 use crate::stretch::Stretch;
 use crate::tally::{Tally, tallies_of};
+use sqlite_items::Items;
 use std::alloc::{AllocError, Global};
 use std::marker::Model;
 
@@ -118,6 +119,13 @@ impl Stretches {
         ensures { IfOk result (λ runs. map run_of runs.items ≡ runs_with (Some class) 0 self.now.list) }
     {
         runs_in(alloc, &self.list, class)
+    }
+
+    /// The runs of the ranks of each class, in the order of the classes' numbers. Linear in the stretches.
+    pub fn runs_by_class(&self, alloc: Global) -> Result<Vec<Items<RankRun>>, AllocError>
+        ensures { IfOk result (λ runs. AreRunsBy self.now.list self.now.classes runs.items) }
+    {
+        runs_by(alloc, &self.list, self.classes)
     }
 
     /// The same ranks in the classes that theirs become: the class `c` becomes `numbers[c]`, or is not known where there is none. Classes may

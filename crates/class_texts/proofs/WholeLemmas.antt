@@ -3,8 +3,8 @@ use Rattle.std.proofs.Common.{◌≡◌, ℕ, ◌≤◌, Bool, true, false, List
 use Rattle.std.proofs.lemmas.List.{drop-append-le, length-append, length-replicate}
 use Rattle.std.proofs.Math.Seq.{drop-append_seam}
 use Rattle.shown_texts.specs.Characters.{blanks}
-use Rattle.class_texts.specs.Orders.{filled, fits, hanging}
-use Rattle.class_texts.specs.Laws.{behind_blank, further, spaced, unbroken}
+use Rattle.class_texts.specs.Orders.{behind_blank, filled, fits, hanging}
+use Rattle.class_texts.specs.Laws.{further, spaced, unbroken}
 
 -- lines put together, the first one without so much of its front
 abbrev put_together : ℕ → ℕ → List (List ℕ) → List ℕ

@@ -1,19 +1,26 @@
 -- The laws of the text of classes.
-use Rattle.std.specs.Prelude.{◌≡◌, ℕ, ◌^◌, ◌<◌, ◌≤◌, Option, Some, List, [], ◌∷◌, ◌++◌, length, drop, flat_map, All}
+use Rattle.std.specs.Prelude.{◌≡◌, ◌≢◌, ◌↔◌, ℕ, ◌+◌, ◌^◌, ◌<◌, ◌≤◌, true, Some, List, [], ◌∷◌, ◌++◌, length, drop, map, flat_map, All}
+use Rattle.lock_modes.specs.declared.value.Value.{Value}
+use Rattle.transcripts.specs.declared.event.Event.{Event}
+use Rattle.transcripts.specs.declared.event.Event.TheVariants.{Row, Rows}
+use Rattle.binding_model.specs.declared.tables.Table.{Table}
+use Rattle.line_moments.specs.declared.shown.Left.{Left}
+use Rattle.line_moments.specs.declared.shown.Standing.{Standing}
+use Rattle.order_classes.specs.Shows.{rest_of, seen}
+use Rattle.shown_texts.specs.Pages.{standing_text, table_lines}
 use Rattle.order_classes.specs.declared.rows.ClassRow.{ClassRow}
 use Rattle.order_classes.specs.declared.rows.Letters.{Letters}
 use Rattle.order_classes.specs.declared.rows.Total.{Total}
 use Rattle.order_classes.specs.declared.rows.Totals.{Totals}
 use Rattle.class_texts.specs.Letters.{letters_of, letters_text, shows_letter, total_of}
-use Rattle.class_texts.specs.Orders.{hanging}
+use Rattle.class_texts.specs.Orders.{behind_blank, hanging}
+use Rattle.class_texts.specs.Beneath.{rest_text, tables_from}
+use Rattle.class_texts.specs.Expected.{Expectation, meets, met_from, miss_from}
 use Rattle.class_texts.specs.Pages.{Page, row_lines, table_head, totals_lines, widths}
 use Rattle.order_classes.specs.declared.rows.Grouping.{Grouping}
 use Rattle.class_texts.specs.declared.letters.Letter.{Letter}
 
 -- ---- orders are whole
-
-abbrev pub behind_blank : List ℕ → List ℕ
-behind_blank word = 32 ∷ word
 
 -- words with a blank between each two
 abbrev pub spaced : List (List ℕ) → List ℕ
@@ -41,6 +48,40 @@ AreSame a b letter = shows_letter a letter ≡ shows_letter b letter
 -- where other letters are shown, other words are told
 abbrev pub LettersAreTold : Type 0
 LettersAreTold = (by : Grouping) (a b : Letters) → letters_text by a ≡ letters_text by b → All (AreSame a b) (letters_of by)
+
+-- ---- one row is met
+
+-- an expectation is met exactly where one row is seen, with its values
+abbrev pub OneRowIsMet : Type 0
+OneRowIsMet = (values : List Value) (events : List Event) → (meets values events ≡ true) ↔ (events ≡ Row values ∷ Rows 1 ∷ [])
+
+-- ---- misses are told
+
+-- the orders of all classes
+abbrev pub orders_of : List ClassRow → ℕ
+orders_of [] = 0
+orders_of (row ∷ rows) = row.count + orders_of rows
+
+-- each class has an order
+abbrev pub HaveOrders : List ClassRow → Type 0
+HaveOrders [] = Unit {0}
+HaveOrders (row ∷ rows) = (0 < row.count) × HaveOrders rows
+
+-- a class of which something expected is not so is told exactly where it is so of fewer orders than there are
+abbrev pub MissesAreTold : Type 0
+MissesAreTold =
+    (steps : List (List ℕ)) (e : Expectation) (rows : List ClassRow) → HaveOrders rows
+    → (met_from e 0 rows < orders_of rows) ↔ (miss_from steps e 0 rows ≢ [])
+
+-- ---- what is left is told as `show` tells it
+
+abbrev pub table_of : Left → Table
+table_of left = left.table
+
+-- of each table that is left the same lines, and of each session that has not ended the same words
+pub record LeftIsShown : Type 0 where
+  pub tables : (lefts : List Left) → tables_from (map seen lefts) 0 (map table_of lefts) ≡ flat_map table_lines lefts
+  pub sessions : (s : Standing) → rest_text (rest_of s) ≡ standing_text s
 
 -- ---- pages are narrow
 

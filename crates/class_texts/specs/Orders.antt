@@ -19,6 +19,9 @@ short_name name = cut 24 (shown_text (spelled name))
 abbrev pub step_word : List (List ℕ) → List (List Event) → List ℕ → ℕ → List ℕ
 step_word steps told before k = short_name (get_or steps k []) ++ marks_text (marks k before told)
 
+abbrev pub behind_blank : List ℕ → List ℕ
+behind_blank word = 32 ∷ word
+
 -- the steps of an order that stand from a place on
 abbrev pub step_words : List (List ℕ) → List (List Event) → List ℕ → ℕ → List ℕ → List (List ℕ)
 step_words steps told order place [] = []

@@ -1,33 +1,46 @@
 -- The text of classes.
-use Rattle.std.specs.Prelude.{ℕ, ◌+◌, ◌-◌, ◌*◌, ◌/◌, ◌%◌, max, Bool, cond, ◌||◌, ◌==◌}
-use Rattle.std.specs.Prelude.{List, [], ◌∷◌, ◌++◌, length, map, codes, decimal, flat_map, Option, Some, None}
+use Rattle.std.specs.Prelude.{ℕ, ◌+◌, ◌-◌, ◌*◌, ◌/◌, ◌%◌, max, Bool, true, false, cond, ◌||◌, ◌==◌}
+use Rattle.std.specs.Prelude.{List, [], ◌∷◌, ◌++◌, length, map, get_or, codes, decimal, flat_map, Option, Some, None}
+use Rattle.binding_model.specs.declared.tables.Table.{Table}
 use Rattle.transcripts.specs.declared.event.Event.{Event}
 use Rattle.transcripts.specs.Text.{outcome_text}
 use Rattle.order_classes.specs.declared.rows.ClassRow.{ClassRow}
 use Rattle.order_classes.specs.declared.rows.Total.{Total}
 use Rattle.order_classes.specs.declared.rows.Totals.{Totals}
+use Rattle.order_classes.specs.declared.shows.Shows.{Shows as Shown}
+use Rattle.class_stretches.specs.declared.rank_run.RankRun.{RankRun}
 use Rattle.shown_texts.specs.Characters.{blanks, padded, shown_text}
-use Rattle.shown_texts.specs.Pages.{line_bytes}
+use Rattle.shown_texts.specs.Pages.{line_bytes, part}
 use Rattle.class_texts.specs.Letters.{letters_of, letters_text, meaning, sign, total_of}
+use Rattle.class_texts.specs.Counted.{counted}
 use Rattle.class_texts.specs.Orders.{order_lines}
+use Rattle.class_texts.specs.Beneath.{Look, left_lines, look_lines, ranks_lines}
+use Rattle.class_texts.specs.Expected.{Expectation, expected_lines}
 use Rattle.order_classes.specs.declared.rows.Grouping.{Grouping}
 use Rattle.order_classes.specs.declared.rows.Grouping.TheVariants.{Shows, Answers}
 use Rattle.class_texts.specs.declared.letters.Letter.{Letter}
 use Rattle.class_texts.specs.declared.widths.Widths.{Widths}
 
--- what a page is made of: the path of the spec and how many orders it has; the names of sessions and of steps; by what orders are grouped, and whether filters
--- were asked for; the totals and the classes; whether the totals are told alone, and whether outcomes are
+-- what a page is made of: the path of the spec and how many orders it has; the names of sessions and of steps, and the declared tables; by what orders are
+-- grouped, and whether filters were asked for; what is expected; the totals and the classes; and whether the totals are told alone. Of each class what else is
+-- told: its ranks, its outcome, what it leaves, and what SELECTs see of that
 pub record Page : Type 0 where
   pub path : List ℕ
   pub orders : ℕ
   pub sessions : List (List ℕ)
   pub steps : List (List ℕ)
+  pub tables : List Table
   pub by : Grouping
   pub is_filtered : Bool
+  pub expectations : List Expectation
   pub totals : Totals
   pub rows : List ClassRow
   pub is_brief : Bool
+  pub with_ranks : Bool
+  pub ranks : List (List RankRun)
   pub with_outcomes : Bool
+  pub with_left : Bool
+  pub looks : List Look
 
 -- ---- columns
 
@@ -74,10 +87,7 @@ tenths_text n = decimal (n / 10) ++ (codes "." ++ decimal (n % 10))
 abbrev pub share_text : ℕ → ℕ → List ℕ
 share_text whole part = cond (part == 0) (codes "0") (tenths_text (tenths whole part))
 
--- ---- the title and the totals
-
-abbrev pub counted : ℕ → List ℕ → List ℕ → List ℕ
-counted n one several = decimal n ++ (codes " " ++ cond (n == 1) one several)
+-- ---- the title, what is expected, and the totals
 
 -- how many of the orders were asked for, where that is told
 abbrev pub asked_text : Bool → ℕ → List ℕ
@@ -112,8 +122,11 @@ total_line w whole totals letter = total_numbers w whole letter (total_of totals
 abbrev pub totals_lines : Widths → Page → List (List ℕ)
 totals_lines w p = totals_head w p.by ∷ map (total_line w p.orders p.totals) (letters_of p.by)
 
+abbrev pub expectations_lines : Page → List (List ℕ)
+expectations_lines p = flat_map (expected_lines p.steps p.totals.all.orders p.rows) p.expectations
+
 abbrev pub top_lines : Widths → Page → List (List ℕ)
-top_lines w p = title p ∷ [] ∷ totals_lines w p
+top_lines w p = title p ∷ (part (expectations_lines p) ++ [] ∷ totals_lines w p)
 
 -- ---- the table
 
@@ -139,17 +152,42 @@ row_lines w p number row = order_lines p.steps row.shows.told (row_front w p num
 abbrev pub lines_bytes : List (List ℕ) → List ℕ
 lines_bytes lines = flat_map line_bytes lines
 
--- the outcome between empty lines
+abbrev pub ranks_part : Page → ℕ → List (List ℕ)
+ranks_part p k = cond p.with_ranks (ranks_lines (get_or p.ranks k [])) []
+
 abbrev pub outcome_part : Page → List (List Event) → List ℕ
-outcome_part p told = cond p.with_outcomes (codes "\n" ++ (outcome_text p.sessions p.steps told ++ codes "\n")) []
+outcome_part p told = cond p.with_outcomes (outcome_text p.sessions p.steps told) []
+
+abbrev pub left_part : Page → Shown → List (List ℕ)
+left_part p shows = cond p.with_left (left_lines p.by p.tables p.sessions shows) []
+
+abbrev pub looks_part : Page → ℕ → List (List ℕ)
+looks_part p k = flat_map (look_lines p.steps k) p.looks
+
+-- what is told of the class at this place beneath its order
+abbrev pub told_parts : Page → ℕ → ClassRow → List ℕ
+told_parts p k row =
+    lines_bytes (ranks_part p k) ++ (outcome_part p row.shows.told ++ (lines_bytes (left_part p row.shows) ++ lines_bytes (looks_part p k)))
+
+abbrev pub has_looks : List Look → Bool
+has_looks [] = false
+has_looks (look ∷ looks) = true
+
+-- something is told of classes beneath their orders
+abbrev pub tells_more : Page → Bool
+tells_more p = p.with_ranks || p.with_outcomes || p.with_left || has_looks p.looks
+
+-- that stands between empty lines
+abbrev pub beneath : Page → ℕ → ClassRow → List ℕ
+beneath p k row = cond (tells_more p) (codes "\n" ++ (told_parts p k row ++ codes "\n")) []
 
 abbrev pub row_bytes : Widths → Page → ℕ → ClassRow → List ℕ
-row_bytes w p number row = lines_bytes (row_lines w p number row) ++ outcome_part p row.shows.told
+row_bytes w p k row = lines_bytes (row_lines w p (k + 1) row) ++ beneath p k row
 
--- the rows from this number on
+-- the rows from this place on: the class at place k has the number k + 1
 abbrev pub rows_bytes : Widths → Page → ℕ → List ClassRow → List ℕ
-rows_bytes w p number [] = []
-rows_bytes w p number (row ∷ rows) = row_bytes w p number row ++ rows_bytes w p (number + 1) rows
+rows_bytes w p k [] = []
+rows_bytes w p k (row ∷ rows) = row_bytes w p k row ++ rows_bytes w p (k + 1) rows
 
 abbrev pub key : List ℕ
 key = codes "the order of the least rank, with marks: : waits   ! fails   - is not sent"
@@ -157,11 +195,12 @@ key = codes "the order of the least rank, with marks: : waits   ! fails   - is n
 abbrev pub head_bytes : Widths → Page → List ℕ
 head_bytes w p = codes "\n" ++ line_bytes (table_head w p.by)
 
-abbrev pub key_bytes : List ℕ
-key_bytes = codes "\n" ++ (key ++ codes "\n")
+-- behind an empty line, which may stand beneath the last class
+abbrev pub key_bytes : Page → List ℕ
+key_bytes p = cond (tells_more p) [] (codes "\n") ++ (key ++ codes "\n")
 
 abbrev pub table_bytes : Widths → Page → List ℕ
-table_bytes w p = head_bytes w p ++ (rows_bytes w p 1 p.rows ++ key_bytes)
+table_bytes w p = head_bytes w p ++ (rows_bytes w p 0 p.rows ++ key_bytes p)
 
 -- there is no table without rows, and none where the totals are told alone
 abbrev pub has_no_table : Page → Bool

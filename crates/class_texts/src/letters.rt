@@ -8,7 +8,7 @@ use std::alloc::{AllocError, Global};
 
 /// What an order may show.
 #[derive(Clone, Copy)]
-pub(crate) enum Letter {
+pub enum Letter {
     /// W: a session waits.
     Waits,
     /// D: a session loses a deadlock.
@@ -40,7 +40,7 @@ static OF_ANSWERS: [Letter; 4] = [
 ];
 
 /// The letters that are told, in their order.
-pub(crate) fn letters_of(by: Grouping) -> &'static [Letter]
+pub fn letters_of(by: Grouping) -> &'static [Letter]
     ensures { result.now ≡ spec.letters_of by }
 {
     match by {
@@ -50,7 +50,8 @@ pub(crate) fn letters_of(by: Grouping) -> &'static [Letter]
 }
 
 impl Letter {
-    pub(crate) fn sign(self) -> &'static str
+    /// The letter itself.
+    pub fn sign(self) -> &'static str
         ensures { result.now ≡ spec.sign self }
     {
         match self {
@@ -77,7 +78,7 @@ impl Letter {
     }
 
     /// How many orders and classes show it: none where it is not told.
-    pub(crate) fn total(self, totals: Totals) -> Option<Total>
+    pub fn total(self, totals: Totals) -> Option<Total>
         ensures { result ≡ spec.total_of totals self }
     {
         match self {
@@ -116,11 +117,7 @@ impl Letter {
 }
 
 /// The letters that are told, each in its place.
-pub(crate) fn letters_text(
-    alloc: Global,
-    by: Grouping,
-    letters: Letters,
-) -> Result<String, AllocError>
+pub fn letters_text(alloc: Global, by: Grouping, letters: Letters) -> Result<String, AllocError>
     ensures { IfOk result (λ text. string_bytes text ≡ spec.letters_text by letters) }
 {
     let mut text = String::new(alloc);

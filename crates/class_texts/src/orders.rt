@@ -1,6 +1,6 @@
 //! The order of a class: its steps with their marks, in lines.
 
-ghost use Rattle.std.specs.Prelude.{◌≡◌, ◌≤◌, ◌++◌, ◌∷◌, [], ℕ, List, IfOk, OnOk, drop, length};
+ghost use Rattle.std.specs.Prelude.{◌≡◌, ◌≤◌, ◌++◌, ◌∷◌, [], ℕ, List, IfOk, OnOk, drop, flat_map, length};
 ghost use Rattle.class_texts.specs.Orders as spec;
 
 use crate::marks::{Marks, marks_of};
@@ -119,6 +119,38 @@ fn put_step(
 {
     let word = step_word(alloc, steps, told, before, step)?;
     put_word(alloc, lines, margin, line, word.as_slice())
+}
+
+/// Puts a step, behind these others and a blank, behind a line.
+fn put_behind_blank(
+    alloc: Global,
+    line: &mut Items<char>,
+    steps: &[Text],
+    told: &[Transcript],
+    before: &[u8],
+    step: u8,
+) -> Result<(), AllocError>
+    ensures { OnOk result (line.new ≡ line.old ++ spec.behind_blank (spec.step_word steps.now told.now before.now step)) }
+{
+    let word = step_word(alloc, steps, told, before, step)?;
+    line.push(' ')?;
+    put_line(line, word.as_slice())
+}
+
+/// Puts the steps of an order with their marks, a blank in front of each, behind a line.
+pub(crate) fn put_steps(
+    alloc: Global,
+    line: &mut Items<char>,
+    steps: &[Text],
+    told: &[Transcript],
+    order: &[u8],
+) -> Result<(), AllocError>
+    ensures { OnOk result (line.new ≡ line.old ++ flat_map spec.behind_blank (spec.step_words steps.now told.now order.now 0 order.now)) }
+{
+    for place in 0..order.len() {
+        put_behind_blank(alloc, line, steps, told, &order[..place], order[place])?;
+    }
+    Ok(())
 }
 
 /// Puts a step behind what stands in front of an order.

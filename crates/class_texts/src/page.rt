@@ -1,7 +1,12 @@
 //! What a page of classes is made of.
 
+use crate::expected::Expected;
+use crate::looks::Looked;
+use binding_model::Table;
+use class_stretches::RankRun;
 use lock_modes::Text;
 use order_classes::{ClassRow, Grouping, Totals};
+use sqlite_items::Items;
 use std::marker::Model;
 
 /// What a page of classes is made of. Sessions and steps stand at their numbers, from 0.
@@ -15,39 +20,61 @@ pub struct Page<'a> {
     pub sessions: &'a [Text],
     /// The names of the steps, over all sessions.
     pub steps: &'a [Text],
+    /// The tables that the spec declares.
+    pub tables: &'a [Table],
     /// By what the orders are grouped.
     pub by: Grouping,
     /// Filters were asked for.
     pub is_filtered: bool,
+    /// What is expected of the orders.
+    pub expectations: &'a [Expected<'a>],
     /// How many orders and classes show what. Those of the page are `totals.all`.
     pub totals: Totals,
     /// The classes in the order in which they stand on the page.
     pub rows: &'a [ClassRow],
     /// The totals alone.
     pub is_brief: bool,
+    /// With the ranks of each class.
+    pub with_ranks: bool,
+    /// The ranks of the classes, in the order of the rows.
+    pub ranks: &'a [Items<RankRun>],
     /// With the outcome text of each least order.
     pub with_outcomes: bool,
+    /// With what each class leaves.
+    pub with_left: bool,
+    /// What SELECTs see of what each class leaves.
+    pub looks: &'a [Looked<'a>],
 }
 
 impl<'a> Model for Page<'a> {
     ghost use Rattle.std.specs.Coded.{codes};
+    ghost use Rattle.lock_modes.specs.contracts.value.Value as value;
+    ghost use Rattle.transcripts.specs.contracts.event.Event as event;
+    ghost use Rattle.binding_model.specs.contracts.tables.Table as table;
+    ghost use Rattle.class_stretches.specs.contracts.rank_run.RankRun as run;
     ghost use Rattle.order_classes.specs.contracts.rows.ClassRow as row;
     ghost use Rattle.class_texts.specs.Pages as pages;
 
     ghost Value = { pages.Page };
 
-    ghost coded = { Prim.hlevel (codes, row.the_row.coded) };
+    ghost coded = { Prim.hlevel (codes, value.the_row.coded, event.the_row.coded, table.the_row.coded, run.the_row.coded, row.the_row.coded) };
 
     ghost view = { λ p. record {
       path = p.path.now;
       orders = p.orders;
       sessions = p.sessions.now;
       steps = p.steps.now;
+      tables = p.tables.now;
       by = p.by;
       is_filtered = p.is_filtered;
+      expectations = p.expectations.now;
       totals = p.totals;
       rows = p.rows.now;
       is_brief = p.is_brief;
+      with_ranks = p.with_ranks;
+      ranks = p.ranks.now;
       with_outcomes = p.with_outcomes;
+      with_left = p.with_left;
+      looks = p.looks.now;
     } };
 }

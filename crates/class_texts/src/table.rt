@@ -1,13 +1,13 @@
 //! The table of classes.
 
-ghost use Rattle.std.specs.Prelude.{◌≡◌, ◌++◌, IfOk, OnOk, string_bytes};
+ghost use Rattle.std.specs.Prelude.{◌≡◌, ◌<◌, ◌++◌, IfOk, OnOk, string_bytes};
 ghost use Rattle.shown_texts.specs.Pages.{line_bytes};
 ghost use Rattle.class_texts.specs.Pages as spec;
 
+use crate::beneath::{push_beneath, tells_more};
 use crate::columns::{put_left, put_right};
 use crate::letters::letters_text;
 use crate::orders::order_lines;
-use crate::outcomes::push_outcome;
 use crate::page::Page;
 use crate::shares::share_text;
 use crate::widths::{Widths, class_word};
@@ -16,7 +16,6 @@ use order_classes::ClassRow;
 use shown_texts::{push_lines, put};
 use sqlite_items::Items;
 use std::alloc::{AllocError, Global};
-use transcripts::Transcript;
 
 /// Puts what stands in front of an order behind a line.
 fn put_cells(
@@ -125,35 +124,20 @@ fn row_lines(
     )
 }
 
-/// Puts the outcome between empty lines behind a text, if outcomes are told.
-fn push_outcome_part(
-    text: &mut String,
-    page: &Page<'_>,
-    told: &[Transcript],
-) -> Result<(), AllocError>
-    ensures { OnOk result (string_bytes text.new ≡ string_bytes text.old ++ spec.outcome_part page.now told.now) }
-{
-    if page.with_outcomes {
-        text.push_str("\n")?;
-        push_outcome(text, page.sessions, page.steps, told)?;
-        return text.push_str("\n");
-    }
-    Ok(())
-}
-
 fn push_row(
     alloc: Global,
     text: &mut String,
     widths: Widths,
     page: &Page<'_>,
-    number: usize,
+    place: usize,
     row: &ClassRow,
 ) -> Result<(), AllocError>
-    ensures { OnOk result (string_bytes text.new ≡ string_bytes text.old ++ spec.row_bytes widths page.now number row.now) }
+    requires { place < usize.MAX }
+    ensures { OnOk result (string_bytes text.new ≡ string_bytes text.old ++ spec.row_bytes widths page.now place row.now) }
 {
-    let lines = row_lines(alloc, widths, page, number, row)?;
+    let lines = row_lines(alloc, widths, page, place + 1, row)?;
     push_lines(text, lines.as_slice())?;
-    push_outcome_part(text, page, row.shows.told.sessions())
+    push_beneath(alloc, text, page, place, row)
 }
 
 /// Puts the classes, numbered from 1, behind a text.
@@ -164,10 +148,10 @@ fn push_rows(
     page: &Page<'_>,
     rows: &[ClassRow],
 ) -> Result<(), AllocError>
-    ensures { OnOk result (string_bytes text.new ≡ string_bytes text.old ++ spec.rows_bytes widths page.now 1 rows.now) }
+    ensures { OnOk result (string_bytes text.new ≡ string_bytes text.old ++ spec.rows_bytes widths page.now 0 rows.now) }
 {
     for place in 0..rows.len() {
-        push_row(alloc, text, widths, page, place + 1, &rows[place])?;
+        push_row(alloc, text, widths, page, place, &rows[place])?;
     }
     Ok(())
 }
@@ -188,10 +172,11 @@ fn push_head(
 }
 
 /// Puts what marks mean behind a text and an empty line.
-fn push_key(text: &mut String) -> Result<(), AllocError>
-    ensures { OnOk result (string_bytes text.new ≡ string_bytes text.old ++ spec.key_bytes) }
+fn push_key(text: &mut String, page: &Page<'_>) -> Result<(), AllocError>
+    ensures { OnOk result (string_bytes text.new ≡ string_bytes text.old ++ spec.key_bytes page.now) }
 {
-    text.push_str("\nthe order of the least rank, with marks: : waits   ! fails   - is not sent\n")
+    text.push_str(if tells_more(page) { "" } else { "\n" })?;
+    text.push_str("the order of the least rank, with marks: : waits   ! fails   - is not sent\n")
 }
 
 /// Puts the table behind a text, if there is one.
@@ -208,5 +193,5 @@ pub(crate) fn push_table(
     }
     push_head(alloc, text, widths, page)?;
     push_rows(alloc, text, widths, page, page.rows)?;
-    push_key(text)
+    push_key(text, page)
 }

@@ -1,27 +1,30 @@
 //! The title, and how many orders and classes show what.
 
 ghost use Rattle.std.specs.Prelude.{◌≡◌, ◌++◌, [], ◌∷◌, IfOk, OnOk, map};
+ghost use Rattle.shown_texts.specs.Pages.{part};
+ghost use Rattle.class_texts.specs.Counted.{counted};
 ghost use Rattle.class_texts.specs.Pages as spec;
 
 use crate::columns::put_right;
+use crate::expected::expectations_lines;
 use crate::letters::{Letter, letters_of};
 use crate::page::Page;
 use crate::shares::share_text;
 use crate::widths::{Widths, class_word, classes_word};
 use itoa::Buffer;
 use order_classes::{Total, Totals};
-use shown_texts::{put, put_number, put_shown};
+use shown_texts::{put, put_number, put_part, put_shown};
 use sqlite_items::Items;
 use std::alloc::{AllocError, Global};
 
 /// Puts a number, and what is counted, behind a line.
-fn put_counted(
+pub(crate) fn put_counted(
     line: &mut Items<char>,
     number: u64,
     one: &str,
     several: &str,
 ) -> Result<(), AllocError>
-    ensures { OnOk result (line.new ≡ line.old ++ spec.counted number one.now several.now) }
+    ensures { OnOk result (line.new ≡ line.old ++ counted number one.now several.now) }
 {
     put_number(line, number)?;
     put(line, " ")?;
@@ -172,7 +175,46 @@ fn put_totals(
     Ok(())
 }
 
-/// The title, and the totals behind an empty line.
+/// Puts the totals behind other lines and an empty one.
+fn put_totals_part(
+    alloc: Global,
+    lines: &mut Items<Items<char>>,
+    widths: Widths,
+    page: &Page<'_>,
+) -> Result<(), AllocError>
+    ensures { OnOk result (lines.new ≡ lines.old ++ [] ∷ spec.totals_lines widths page.now) }
+{
+    lines.push(Items::new(alloc))?;
+    lines.push(head(alloc, widths, page)?)?;
+    put_totals(
+        alloc,
+        lines,
+        widths,
+        page.orders,
+        page.totals,
+        letters_of(page.by),
+    )
+}
+
+/// Puts what is expected behind other lines and an empty one, if something is.
+fn put_expectations_part(
+    alloc: Global,
+    lines: &mut Items<Items<char>>,
+    page: &Page<'_>,
+) -> Result<(), AllocError>
+    ensures { OnOk result (lines.new ≡ lines.old ++ part (spec.expectations_lines page.now)) }
+{
+    let expected = expectations_lines(
+        alloc,
+        page.steps,
+        page.totals.all.orders,
+        page.rows,
+        page.expectations,
+    )?;
+    put_part(alloc, lines, expected)
+}
+
+/// The title, what is expected, and the totals.
 pub(crate) fn top_lines(
     alloc: Global,
     widths: Widths,
@@ -182,15 +224,7 @@ pub(crate) fn top_lines(
 {
     let mut lines = Items::new(alloc);
     lines.push(title(alloc, page)?)?;
-    lines.push(Items::new(alloc))?;
-    lines.push(head(alloc, widths, page)?)?;
-    put_totals(
-        alloc,
-        &mut lines,
-        widths,
-        page.orders,
-        page.totals,
-        letters_of(page.by),
-    )?;
+    put_expectations_part(alloc, &mut lines, page)?;
+    put_totals_part(alloc, &mut lines, widths, page)?;
     Ok(lines)
 }

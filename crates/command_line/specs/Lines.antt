@@ -8,6 +8,7 @@ use Rattle.command_line.specs.declared.words.Asked.{Asked}
 use Rattle.command_line.specs.declared.words.Asked.TheVariants as asked
 use Rattle.command_line.specs.declared.wanted.Wanted.{Wanted}
 use Rattle.command_line.specs.declared.wanted.Wanted.TheVariants as wanted
+use Rattle.wanted_classes.specs.declared.wanted.WantedClasses.{WantedClasses}
 use Rattle.command_line.specs.declared.names.Name.{Name}
 use Rattle.command_line.specs.declared.names.Name.TheVariants as name
 
@@ -109,6 +110,17 @@ abbrev pub IsWanted : List (List ℕ) → Wanted → Type 0
 IsWanted words (wanted.Rank rank) = IsNumberAlone words rank
 IsWanted words (wanted.Names names) = (map (λ n. n.now) names.items ≡ words) × ((rank : ℕ) → IsNumberAlone words rank → ⊥)
 
+-- the classes of all orders by what they show, each told with its least order alone
+pub record AsksForNoMore (wanted : WantedClasses) : Type 0 where
+  pub shows : wanted.answers ≡ false
+  pub all : wanted.filters.items ≡ []
+  pub no_looks : wanted.looks.items ≡ []
+  pub no_expectations : wanted.expectations.items ≡ []
+  pub classes : wanted.brief ≡ false
+  pub no_ranks : wanted.ranks ≡ false
+  pub no_outcomes : wanted.outcomes ≡ false
+  pub no_left : wanted.left ≡ false
+
 -- what the line asks for
 abbrev pub AsksFor : Line → Asked → Type 0
 AsksFor (Check path) (asked.Check p) = p.now ≡ path
@@ -117,8 +129,7 @@ AsksFor (Count path) (asked.Count p) = p.now ≡ path
 AsksFor (Rank path names) (asked.Rank p ns) = (p.now ≡ path) × (map (λ n. n.now) ns.items ≡ names)
 AsksFor (Order path rank) (asked.Order p r) = (p.now ≡ path) × (r ≡ rank)
 AsksFor (Show path order) (asked.Show p wanted json) = (p.now ≡ path) × IsWanted order wanted × (json ≡ false)
-AsksFor (Classes path) (asked.Classes p answers brief workers progress) =
-    (p.now ≡ path) × (answers ≡ false) × (brief ≡ false) × (workers ≡ DEFAULT_WORKERS) × (progress ≡ false)
+AsksFor (Classes path) (asked.Classes p wanted workers progress) = (p.now ≡ path) × AsksForNoMore wanted × (workers ≡ DEFAULT_WORKERS) × (progress ≡ false)
 AsksFor (Run path first end) (asked.Run p f e every workers progress) =
     (p.now ≡ path) × (f ≡ first) × (e ≡ end) × (every ≡ false) × (workers ≡ DEFAULT_WORKERS) × (progress ≡ false)
 AsksFor (Join paths) (asked.Join ps) = map (λ p. p.now) ps ≡ paths

@@ -12,6 +12,7 @@ use crate::wanted::wanted_of;
 use crate::words::{Asked, DEFAULT_WORKERS, MAX_BOOKS, MAX_NAMES};
 use shard_board::Workers;
 use std::alloc::{AllocError, Global};
+use wanted_classes::WantedClasses;
 
 /// What a plain line asks for, none where the words are no such line. The first of them is the program's name.
 pub(crate) fn plain_line<'a>(
@@ -80,7 +81,7 @@ fn line_of<'a>(
         Name::Rank => rank_line(alloc, rest),
         Name::Order => Ok(order_line(rest)),
         Name::Show => show_line(alloc, rest),
-        Name::Classes => Ok(classes_line(rest)),
+        Name::Classes => Ok(classes_line(alloc, rest)),
         Name::Run => Ok(run_line(rest)),
         Name::Join => join_line(alloc, rest),
         Name::Holds => Ok(holds_line(rest)),
@@ -182,14 +183,22 @@ fn wanted_line<'a>(
     }))
 }
 
-fn classes_line<'a>(rest: &'a [String]) -> Option<Asked<'a>>
+fn classes_line<'a>(alloc: Global, rest: &'a [String]) -> Option<Asked<'a>>
     ensures { (path : List ℕ) → map string_bytes rest.now ≡ path ∷ [] → IsSomeAnd result (AsksFor (Classes path)) }
 {
     match rest {
         [path] => Some(Asked::Classes {
             path,
-            answers: false,
-            brief: false,
+            wanted: WantedClasses {
+                answers: false,
+                filters: Vec::new(alloc),
+                looks: Vec::new(alloc),
+                expectations: Vec::new(alloc),
+                brief: false,
+                ranks: false,
+                outcomes: false,
+                left: false,
+            },
             workers: Workers::of(DEFAULT_WORKERS)?,
             progress: false,
         }),

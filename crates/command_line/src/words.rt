@@ -13,6 +13,7 @@ use clap::error::ErrorKind;
 use clap::{Arg, ArgAction, ArgMatches, Command, Error, value_parser};
 use shard_board::{MAX_SEATS, Workers};
 use std::alloc::{AllocError, Global};
+use wanted_classes::{WantedClasses, WantedExpectation, WantedFilter, WantedTest};
 
 /// The version of the program. From which commit and with which kit it was built is known to what builds it alone.
 const VERSION: &str = "0.1.0";
@@ -22,6 +23,9 @@ pub const MAX_BOOKS: usize = 1_000;
 
 /// The names of an order, at most. A spec has orders of far fewer.
 pub const MAX_NAMES: usize = 1_000;
+
+/// The words of an expectation, at most: a SELECT, and more values than a row has.
+const MAX_EXPECTED: usize = 1_000;
 
 /// How many workers run a range where the words name no number.
 pub const DEFAULT_WORKERS: u8 = 4;
@@ -61,12 +65,10 @@ pub enum Asked<'a> {
         order: Wanted<'a>,
         json: bool,
     },
-    /// All orders of the spec at a path in classes, by what they show or by what they answer, or the totals alone, and whether it is told
-    /// how far that is.
+    /// Orders of the spec at a path in classes, and whether it is told how far that is.
     Classes {
         path: &'a str,
-        answers: bool,
-        brief: bool,
+        wanted: WantedClasses<'a>,
         workers: Workers,
         progress: bool,
     },
@@ -139,6 +141,23 @@ enum Word {
     Order,
     Json,
     Answers,
+    Waits,
+    NoWaits,
+    Deadlock,
+    NoDeadlock,
+    Error,
+    NoError,
+    Unsent,
+    NoUnsent,
+    Stuck,
+    NoStuck,
+    NoSerial,
+    Serial,
+    Look,
+    Expect,
+    Ranks,
+    Outcomes,
+    Left,
     Brief,
     First,
     End,
@@ -195,6 +214,23 @@ static COMMANDS: [Row; 13] = [
         words: &[
             Word::Spec,
             Word::Answers,
+            Word::Waits,
+            Word::NoWaits,
+            Word::Deadlock,
+            Word::NoDeadlock,
+            Word::Error,
+            Word::NoError,
+            Word::Unsent,
+            Word::NoUnsent,
+            Word::Stuck,
+            Word::NoStuck,
+            Word::NoSerial,
+            Word::Serial,
+            Word::Look,
+            Word::Expect,
+            Word::Ranks,
+            Word::Outcomes,
+            Word::Left,
             Word::Brief,
             Word::Workers,
             Word::Progress,
@@ -287,6 +323,59 @@ fn arg_of<'a>(alloc: Global, word: Word) -> Arg<'a> {
             "answers",
             "Groups them by rows, counts and errors, and by the rows left, alone",
         ),
+        Word::Waits => flag_word(alloc, "waits", "Only those in which a session waits"),
+        Word::NoWaits => flag_word(alloc, "no-waits", "Only those in which no session waits"),
+        Word::Deadlock => session_word(
+            alloc,
+            "deadlock",
+            "Only those in which a session, or this one, loses a deadlock",
+        ),
+        Word::NoDeadlock => session_word(
+            alloc,
+            "no-deadlock",
+            "Only those in which no session, or not this one, loses a deadlock",
+        ),
+        Word::Error => flag_word(
+            alloc,
+            "error",
+            "Only those in which a session has another error of its own",
+        ),
+        Word::NoError => flag_word(
+            alloc,
+            "no-error",
+            "Only those in which no session has another error of its own",
+        ),
+        Word::Unsent => flag_word(alloc, "unsent", "Only those in which a step is not sent"),
+        Word::NoUnsent => flag_word(alloc, "no-unsent", "Only those in which each step is sent"),
+        Word::Stuck => flag_word(
+            alloc,
+            "stuck",
+            "Only those in which a session still waits at the end",
+        ),
+        Word::NoStuck => flag_word(
+            alloc,
+            "no-stuck",
+            "Only those in which no session waits at the end",
+        ),
+        Word::NoSerial => flag_word(
+            alloc,
+            "no-serial",
+            "Only those that answer as no serial order does",
+        ),
+        Word::Serial => flag_word(
+            alloc,
+            "serial",
+            "Only those that answer as some serial order does",
+        ),
+        Word::Look => look_word(alloc),
+        Word::Expect => expect_word(alloc),
+        Word::Ranks => flag_word(alloc, "ranks", "Prints the numbers of each class too"),
+        Word::Outcomes => flag_word(
+            alloc,
+            "outcomes",
+            "Prints what each session saw in the first of each class too",
+        ),
+        Word::Left => flag_word(alloc, "left", "Prints what each class leaves too"),
         Word::Brief => flag_word(alloc, "brief", "Prints the totals alone"),
         Word::First => number_word(alloc, "FIRST", "The number of the first permutation"),
         Word::End => number_word(
@@ -317,6 +406,37 @@ fn flag_word<'a>(alloc: Global, name: &'a str, help: &'a str) -> Arg<'a> {
         .long(name)
         .action(ArgAction::SetTrue)
         .help(help)
+}
+
+/// A word that is there or not, as often as wanted, and may have a session behind an equals sign.
+fn session_word<'a>(alloc: Global, name: &'a str, help: &'a str) -> Arg<'a> {
+    Arg::new(alloc, name)
+        .long(name)
+        .value_name("SESSION")
+        .action(ArgAction::Append)
+        .num_args(0..=1)
+        .require_equals(true)
+        .help(help)
+}
+
+fn look_word<'a>(alloc: Global) -> Arg<'a> {
+    Arg::new(alloc, "look")
+        .long("look")
+        .value_name("SELECT")
+        .action(ArgAction::Append)
+        .help("Prints what it sees of what each class leaves too")
+}
+
+fn expect_word<'a>(alloc: Global) -> Arg<'a> {
+    Arg::new(alloc, "expect")
+        .long("expect")
+        .value_names(&["SELECT", "VALUE"])
+        .action(ArgAction::Append)
+        .num_args(2..=MAX_EXPECTED)
+        .allow_negative_numbers(true)
+        .help(
+            "Tells of how many it sees one row with these values, and which is the first of the others",
+        )
 }
 
 fn workers_word<'a>(alloc: Global) -> Arg<'a> {
@@ -381,7 +501,7 @@ fn asked_of<'a>(alloc: Global, matches: &ArgMatches<'a>) -> Result<Option<Asked<
         Name::Rank => rank_of_words(alloc, words),
         Name::Order => Ok(order_of_words(words)),
         Name::Show => show_of_words(alloc, words),
-        Name::Classes => Ok(classes_of_words(words)),
+        Name::Classes => classes_of_words(alloc, words),
         Name::Run => Ok(run_of_words(words)),
         Name::Join => join_of_words(alloc, words),
         Name::Holds => Ok(holds_of_words(words)),
@@ -446,16 +566,147 @@ fn show_of_words<'a>(
     }
 }
 
-fn classes_of_words<'a>(words: &ArgMatches<'a>) -> Option<Asked<'a>> {
+fn classes_of_words<'a>(
+    alloc: Global,
+    words: &ArgMatches<'a>,
+) -> Result<Option<Asked<'a>>, AllocError> {
+    let filters = filters_of_words(alloc, words)?;
+    let looks = looks_of_words(alloc, words)?;
+    let expectations = expectations_of_words(alloc, words)?;
+    Ok(classes_with(words, filters, looks, expectations))
+}
+
+fn classes_with<'a>(
+    words: &ArgMatches<'a>,
+    filters: Vec<WantedFilter<'a>>,
+    looks: Vec<&'a str>,
+    expectations: Vec<WantedExpectation<'a>>,
+) -> Option<Asked<'a>> {
     let path = words.get_str("SPEC")?;
     let workers = Workers::of(words.get_one::<u8>("workers")?)?;
     Some(Asked::Classes {
         path,
-        answers: words.get_flag("answers"),
-        brief: words.get_flag("brief"),
+        wanted: WantedClasses {
+            answers: words.get_flag("answers"),
+            filters,
+            looks,
+            expectations,
+            brief: words.get_flag("brief"),
+            ranks: words.get_flag("ranks"),
+            outcomes: words.get_flag("outcomes"),
+            left: words.get_flag("left"),
+        },
         workers,
         progress: words.get_flag("progress"),
     })
+}
+
+/// A test with the flag that asks for the orders that pass it, and the one that asks for the others.
+#[derive(Clone, Copy, Drop)]
+struct Flags {
+    test: WantedTest<'static>,
+    passing: &'static str,
+    other: &'static str,
+}
+
+static FLAGS: [Flags; 5] = [
+    Flags {
+        test: WantedTest::Waits,
+        passing: "waits",
+        other: "no-waits",
+    },
+    Flags {
+        test: WantedTest::Error,
+        passing: "error",
+        other: "no-error",
+    },
+    Flags {
+        test: WantedTest::Unsent,
+        passing: "unsent",
+        other: "no-unsent",
+    },
+    Flags {
+        test: WantedTest::Stuck,
+        passing: "stuck",
+        other: "no-stuck",
+    },
+    Flags {
+        test: WantedTest::NotSerial,
+        passing: "no-serial",
+        other: "serial",
+    },
+];
+
+/// The filters that the words ask for.
+fn filters_of_words<'a>(
+    alloc: Global,
+    words: &ArgMatches<'a>,
+) -> Result<Vec<WantedFilter<'a>>, AllocError> {
+    let mut filters = Vec::new(alloc);
+    for flags in &FLAGS {
+        push_flag(words, flags.passing, flags.test, true, &mut filters)?;
+        push_flag(words, flags.other, flags.test, false, &mut filters)?;
+    }
+    push_losers(words, "deadlock", true, &mut filters)?;
+    push_losers(words, "no-deadlock", false, &mut filters)?;
+    Ok(filters)
+}
+
+fn push_flag<'a>(
+    words: &ArgMatches<'a>,
+    flag: &str,
+    test: WantedTest<'a>,
+    wanted: bool,
+    filters: &mut Vec<WantedFilter<'a>>,
+) -> Result<(), AllocError> {
+    if words.get_flag(flag) {
+        filters.push(WantedFilter { test, wanted })?;
+    }
+    Ok(())
+}
+
+/// A filter for each time that the flag stands there: by the session behind it, or by any.
+fn push_losers<'a>(
+    words: &ArgMatches<'a>,
+    flag: &str,
+    wanted: bool,
+    filters: &mut Vec<WantedFilter<'a>>,
+) -> Result<(), AllocError> {
+    let Some(times) = words.get_raw_occurrences(flag) else {
+        return Ok(());
+    };
+    for sessions in times {
+        let test = match sessions {
+            [session] => WantedTest::DeadlockOf(session),
+            _ => WantedTest::Deadlock,
+        };
+        filters.push(WantedFilter { test, wanted })?;
+    }
+    Ok(())
+}
+
+fn looks_of_words<'a>(alloc: Global, words: &ArgMatches<'a>) -> Result<Vec<&'a str>, AllocError> {
+    match words.get_strs("look") {
+        Some(looks) => Vec::from_slice(alloc, looks),
+        None => Ok(Vec::new(alloc)),
+    }
+}
+
+fn expectations_of_words<'a>(
+    alloc: Global,
+    words: &ArgMatches<'a>,
+) -> Result<Vec<WantedExpectation<'a>>, AllocError> {
+    let mut expectations = Vec::new(alloc);
+    let Some(times) = words.get_raw_occurrences("expect") else {
+        return Ok(expectations);
+    };
+    for expected in times {
+        if let [select, values @ ..] = expected {
+            let values = Vec::from_slice(alloc, values)?;
+            expectations.push(WantedExpectation { select, values })?;
+        }
+    }
+    Ok(expectations)
 }
 
 fn run_of_words<'a>(words: &ArgMatches<'a>) -> Option<Asked<'a>> {

@@ -71,6 +71,41 @@ pub enum ProgramFault<'a> {
     NoLine {
         path: &'a str,
     },
+    /// No session of the spec has this name.
+    #[error("isofarm: {path}: no session {name:?}")]
+    NoSession {
+        path: &'a str,
+        name: &'a str,
+    },
+    /// The spec has permutation lines, so that its orders are not compared with serial ones.
+    #[error("isofarm: {path}: no serial orders")]
+    NoSerialOrders {
+        path: &'a str,
+    },
+    /// A look is no SQL that the program knows.
+    #[error("isofarm: {text:?}: sql error {kind} at {offset}")]
+    LookSql {
+        text: &'a str,
+        kind: u8,
+        offset: u64,
+    },
+    /// A look does not fit the tables of the spec.
+    #[error("isofarm: {text:?}: bind error {kind} at {offset}")]
+    LookBind {
+        text: &'a str,
+        kind: u8,
+        offset: u64,
+    },
+    /// A look is not one SELECT alone.
+    #[error("isofarm: {text:?}: not one SELECT")]
+    NotOneSelect {
+        text: &'a str,
+    },
+    /// A word is no value.
+    #[error("isofarm: {word:?}: no value")]
+    NoValue {
+        word: &'a str,
+    },
     /// The range is none of the spec, or too long.
     #[error("isofarm: {path}: shard error {kind}")]
     Shard {
@@ -143,6 +178,12 @@ impl ProgramFault<'_> {
             | ProgramFault::OutOfTurn { .. }
             | ProgramFault::LeftOut { .. }
             | ProgramFault::NoLine { .. }
+            | ProgramFault::NoSession { .. }
+            | ProgramFault::NoSerialOrders { .. }
+            | ProgramFault::LookSql { .. }
+            | ProgramFault::LookBind { .. }
+            | ProgramFault::NotOneSelect { .. }
+            | ProgramFault::NoValue { .. }
             | ProgramFault::Shard { .. }
             | ProgramFault::Book { .. }
             | ProgramFault::BookTooLarge

@@ -16,8 +16,6 @@ use Rattle.spec_commands.specs.declared.showing.ShowForm.{ShowForm}
 use Rattle.spec_commands.specs.declared.showing.ShowForm.TheVariants as form
 use Rattle.spec_commands.specs.declared.showing.WantedOrder.{WantedOrder}
 use Rattle.spec_commands.specs.declared.showing.WantedOrder.TheVariants as order
-use Rattle.order_classes.specs.declared.rows.Grouping.TheVariants as by
-use Rattle.class_commands.specs.declared.classing.WantedClasses.{WantedClasses}
 use Rattle.class_commands.specs.Classing.{IsClassesRun}
 use Rattle.book_commands.specs.declared.finding.Finding.{Finding}
 use Rattle.book_commands.specs.declared.finding.Finding.TheVariants.{Good}
@@ -78,11 +76,6 @@ abbrev pub form_by : Bool → ShowForm
 form_by true = form.Json
 form_by false = form.Text
 
--- what is wanted of classes
-abbrev pub classes_by : Bool → Bool → WantedClasses
-classes_by true brief = record { by = by.Answers; is_brief = brief }
-classes_by false brief = record { by = by.Shows; is_brief = brief }
-
 -- what is asked for is done
 abbrev pub IsDone : Files → {W : Type 0} → (W → Option (List ℕ)) → Counted W → Counted W → Asked → Result Finding ProgramFault → Type 0
 IsDone files contents old new (One path rank) result =
@@ -105,9 +98,9 @@ IsDone files contents old new (Show path order json) result =
     ⊎ ((wanted : WantedOrder) × IsSame order wanted
     × IsCalled (files path.now) (λ bytes. IsShowRun contents old new bytes path.now wanted (form_by json))
     (λ bytes error told. show_told path (names_in order) error ≡ Some told) result)
-IsDone files contents old new (Classes path answers brief workers progress) result =
+IsDone files contents old new (Classes path wanted workers progress) result =
     IsUnread (files path.now) path.now old new result
-    ⊎ IsCalled (files path.now) (λ bytes. IsClassesRun contents old new bytes path.now (classes_by answers brief)) (λ bytes error told. told ≡ classing_told path error)
+    ⊎ IsFoundBy (files path.now) (λ bytes. IsClassesRun contents old new bytes path.now wanted) (λ error told. told ≡ classing_told path error)
     result
 IsDone files contents old new (Run path first end every workers progress) result =
     IsUnread (files path.now) path.now old new result
@@ -148,7 +141,7 @@ tells_progress (Count path) = false
 tells_progress (Rank path names) = false
 tells_progress (Order path rank) = false
 tells_progress (Show path order json) = false
-tells_progress (Classes path answers brief workers progress) = progress
+tells_progress (Classes path wanted workers progress) = progress
 tells_progress (Run path first end every workers progress) = progress
 tells_progress (Join paths) = false
 tells_progress (Holds path spec first end) = false

@@ -50,13 +50,17 @@ use Rattle.book_commands.specs.declared.judging.JudgeFault.{JudgeFault}
 use Rattle.book_commands.specs.declared.judging.JudgeFault.TheVariants as judge_fault
 use Rattle.class_commands.specs.declared.classing.ClassesFault.{ClassesFault}
 use Rattle.class_commands.specs.declared.classing.ClassesFault.TheVariants as classes_fault
+use Rattle.class_looks.specs.declared.fault.LookFault.{LookFault}
+use Rattle.class_looks.specs.declared.fault.LookFault.TheVariants as look_fault
+use Rattle.asked_classes.specs.declared.fault.AskedFault.{AskedFault}
+use Rattle.asked_classes.specs.declared.fault.AskedFault.TheVariants as asked_fault
 use Rattle.range_commands.specs.declared.ranges.RangeFault.{RangeFault}
 use Rattle.range_commands.specs.declared.ranges.RangeFault.TheVariants as range_fault
 use Rattle.fault_texts.specs.Explanations.{explanation}
 use Rattle.fault_texts.specs.declared.fault.ProgramFault.{ProgramFault}
 use Rattle.fault_texts.specs.declared.fault.ProgramFault.TheVariants.{Spec, Sql, Bind, Start, RankOutOfRange, Shard, Book, BookTooLarge, OtherSpec}
 use Rattle.fault_texts.specs.declared.fault.ProgramFault.TheVariants.{TooManyRanks, Explained, Missing, Clash, NoMemory, Read, Write}
-use Rattle.fault_texts.specs.declared.fault.ProgramFault.TheVariants.{NoStep, Twice, OutOfTurn, LeftOut, NoLine}
+use Rattle.fault_texts.specs.declared.fault.ProgramFault.TheVariants.{NoStep, Twice, OutOfTurn, LeftOut, NoLine, NoSession, NoSerialOrders, LookSql, LookBind, NotOneSelect, NoValue}
 
 -- a path as the words have it
 abbrev pub Path : Type 0
@@ -129,8 +133,23 @@ abbrev pub IsShowPlace : ℕ → ShowFault → Type 0
 IsShowPlace count (show_fault.NoRank fault) = IsNamePlace count fault
 IsShowPlace count fault = Unit {0}
 
+-- of the text of a look, which has another fault for want of memory
+abbrev pub look_told : Path → LookFault → ProgramFault
+look_told text (look_fault.Sql error) = LookSql text (sql_number error.kind) error.offset
+look_told text look_fault.NotOneSelect = NotOneSelect text
+look_told text (look_fault.Binding error) = LookBind text (bind_number_of error.kind) error.offset
+look_told text look_fault.NoMemory = NoMemory
+
+abbrev pub asked_told : Path → AskedFault → ProgramFault
+asked_told path (asked_fault.UnknownSession name) = NoSession path name
+asked_told path asked_fault.NotTold = NoSerialOrders path
+asked_told path (asked_fault.NoLook text fault) = look_told text fault
+asked_told path (asked_fault.NoValue word) = NoValue word
+asked_told path asked_fault.NoMemory = NoMemory
+
 abbrev pub classing_told : Path → ClassesFault → ProgramFault
 classing_told path (classes_fault.Spec fault) = spec_told path fault
+classing_told path (classes_fault.Asked fault) = asked_told path fault
 classing_told path (classes_fault.Run error) = run_told path error
 classing_told path classes_fault.NoMemory = NoMemory
 classing_told path (classes_fault.Write fault) = Write

@@ -21,7 +21,7 @@ ghost use Rattle.range_commands.specs.Ranges.{IsRangeRun};
 ghost use Rattle.fault_texts.specs.Status.{status_of};
 ghost use Rattle.program_commands.specs.Faults.{one_told, count_told, rank_told, order_told, show_told, classing_told, range_told, join_told, report_told, audit_told, hold_told, judge_told, IsCheckTold};
 ghost use Rattle.fault_texts.specs.declared.fault.ProgramFault.TheVariants.{Write as WriteFault};
-ghost use Rattle.program_commands.specs.Commands.{IsAnswered, IsCut, IsDone, IsCalled, IsFlushed, IsFound, IsFoundBy, IsPassedOn, IsRun, IsSame, IsTold, IsUnread, IsUsage, classes_by, form_by, names_in, tells_progress};
+ghost use Rattle.program_commands.specs.Commands.{IsAnswered, IsCut, IsDone, IsCalled, IsFlushed, IsFound, IsFoundBy, IsPassedOn, IsRun, IsSame, IsTold, IsUnread, IsUsage, form_by, names_in, tells_progress};
 
 use crate::faults::{
     audit_fault, classes_fault, count_fault, explained_fault, fault_at, hold_fault, join_fault,
@@ -31,10 +31,9 @@ use crate::files::read_spec_file;
 use book_commands::{Finding, Opener, audit_file, hold_file, join_files, judge_files, report_file};
 use clap::Error;
 use clap::error::ErrorKind;
-use class_commands::{WantedClasses, classes_told};
+use class_commands::classes_told;
 use command_line::{Asked, Wanted, parse_words};
 use fault_texts::ProgramFault;
-use order_classes::Grouping;
 use range_commands::run_told;
 use shard_board::Workers;
 use spec_commands::{CountFault, ShowForm, WantedOrder, check, count, one, order, rank, show};
@@ -44,6 +43,7 @@ use std::sync::Wait;
 use std::thread::Threads;
 use std::time::Clock;
 use transcripts::{Counted, say};
+use wanted_classes::WantedClasses;
 
 /// Does what the words ask, the first of which is the program's name. What is asked for goes to `out`; faults go to `err`, and so does how far a
 /// run is, where that is asked for. The answer is the exit status: 0 good, 1 where a rank has not exactly one value, a fact is false or no
@@ -113,12 +113,11 @@ fn work<'a, R: Threads + Wait + Clock + Sync, O: Opener, W: Write, E: Write + Se
         }
         Asked::Classes {
             path,
-            answers,
-            brief,
+            wanted,
             workers,
             progress,
         } => classes_of_file(
-            rt, alloc, path, *answers, *brief, workers, *progress, opener, out, err,
+            rt, alloc, path, wanted, workers, *progress, opener, out, err,
         ),
         Asked::Run {
             path,
@@ -302,8 +301,7 @@ fn classes_of_file<'a, R: Threads + Wait + Clock + Sync, O: Opener, W: Write, E:
     rt: &R,
     alloc: Global,
     path: &'a str,
-    answers: bool,
-    brief: bool,
+    wanted: &WantedClasses<'a>,
     workers: &Workers,
     is_told: bool,
     opener: &O,
@@ -311,7 +309,7 @@ fn classes_of_file<'a, R: Threads + Wait + Clock + Sync, O: Opener, W: Write, E:
     err: &mut Counted<E>,
 ) -> Result<Finding, ProgramFault<'a>>
     requires { failures_of out.old ≡ 0 }
-    ensures done { IsUnread (O.bytes opener.now path.now) path.now out.old out.new result ⊎ IsCalled (O.bytes opener.now path.now) (λ bytes. IsClassesRun W.contents out.old out.new bytes path.now (classes_by answers brief)) (λ bytes error told. told ≡ classing_told path.entry error) result }
+    ensures done { IsUnread (O.bytes opener.now path.now) path.now out.old out.new result ⊎ IsFoundBy (O.bytes opener.now path.now) (λ bytes. IsClassesRun W.contents out.old out.new bytes path.now wanted.now) (λ error told. told ≡ classing_told path.entry error) result }
     ensures failures { OnOk result (failures_of out.new ≡ 0) }
     ensures quiet { is_told ≡ false → err.new ≡ err.old }
 {
@@ -319,7 +317,6 @@ fn classes_of_file<'a, R: Threads + Wait + Clock + Sync, O: Opener, W: Write, E:
         Ok(bytes) => bytes,
         Err(fault) => return Err(fault),
     };
-    let wanted = wanted_classes(answers, brief);
     match classes_told(
         rt,
         alloc,
@@ -331,25 +328,8 @@ fn classes_of_file<'a, R: Threads + Wait + Clock + Sync, O: Opener, W: Write, E:
         out,
         err,
     ) {
-        Ok(()) => Ok(Finding::Good),
+        Ok(finding) => Ok(finding),
         Err(fault) => Err(classes_fault(path, fault)),
-    }
-}
-
-/// What is wanted of classes, as a call is asked for it.
-fn wanted_classes(answers: bool, brief: bool) -> WantedClasses
-    ensures { result ≡ classes_by answers brief }
-{
-    if answers {
-        WantedClasses {
-            by: Grouping::Answers,
-            is_brief: brief,
-        }
-    } else {
-        WantedClasses {
-            by: Grouping::Shows,
-            is_brief: brief,
-        }
     }
 }
 

@@ -6,14 +6,16 @@ ghost use Rattle.book_commands.specs.Joining.{IsPlaced};
 ghost use Rattle.book_commands.specs.Judging.{IsAcceptedPlace};
 ghost use Rattle.fault_texts.specs.Explanations.{explanation};
 ghost use Rattle.fault_texts.specs.declared.fault.ProgramFault.TheVariants.{NoMemory};
-ghost use Rattle.program_commands.specs.Faults.{IsExplained, IsShowPlace, offset_of, one_told, count_told, rank_told, order_told, show_told, classing_told, range_told, join_told, report_told, audit_told, hold_told, judge_told, no_report_told};
+ghost use Rattle.program_commands.specs.Faults.{IsExplained, IsShowPlace, offset_of, one_told, count_told, rank_told, order_told, show_told, asked_told, classing_told, look_told, range_told, join_told, report_told, audit_told, hold_told, judge_told, no_report_told};
 ghost use Rattle.program_commands.specs.Faults.{values_told, file_told, book_told, write_told, spec_told, text_told, binding_told, run_told, start_told};
 
+use asked_classes::AskedFault;
 use book_commands::{
     AuditFault, FileFault, HoldFault, JoinFault, JudgeFault, NoReport, ReportFault, ReportFileFault,
 };
 use book_format::{BookError, WriteError};
 use class_commands::ClassesFault;
+use class_looks::LookFault;
 use fact_books::ReportError;
 use fault_texts::{ProgramFault, binding_sentence, explained, text_sentence};
 use range_commands::RangeFault;
@@ -153,11 +155,43 @@ pub(crate) fn show_fault<'a>(path: &'a str, names: &[&'a str], fault: ShowFault)
     }
 }
 
-pub(crate) fn classes_fault(path: &str, fault: ClassesFault) -> ProgramFault<'_>
-    ensures { result ≡ classing_told path.entry fault }
+fn look_fault(text: &str, fault: LookFault) -> ProgramFault<'_>
+    ensures { result ≡ look_told text.entry fault }
+{
+    match fault {
+        LookFault::Sql(error) => ProgramFault::LookSql {
+            text,
+            kind: error.kind.number(),
+            offset: error.offset as u64,
+        },
+        LookFault::NotOneSelect => ProgramFault::NotOneSelect { text },
+        LookFault::Binding(error) => ProgramFault::LookBind {
+            text,
+            kind: error.kind.number(),
+            offset: error.offset as u64,
+        },
+        LookFault::NoMemory => ProgramFault::NoMemory,
+    }
+}
+
+fn asked_fault<'a>(path: &'a str, fault: AskedFault<'a>) -> ProgramFault<'a>
+    ensures { result ≡ asked_told path.entry fault.entry }
+{
+    match fault {
+        AskedFault::UnknownSession(name) => ProgramFault::NoSession { path, name },
+        AskedFault::NotTold => ProgramFault::NoSerialOrders { path },
+        AskedFault::NoLook(text, fault) => look_fault(text, fault),
+        AskedFault::NoValue(word) => ProgramFault::NoValue { word },
+        AskedFault::NoMemory => ProgramFault::NoMemory,
+    }
+}
+
+pub(crate) fn classes_fault<'a>(path: &'a str, fault: ClassesFault<'a>) -> ProgramFault<'a>
+    ensures { result ≡ classing_told path.entry fault.entry }
 {
     match fault {
         ClassesFault::Spec(fault) => spec_fault(path, fault),
+        ClassesFault::Asked(fault) => asked_fault(path, fault),
         ClassesFault::Run(error) => run_fault(path, error),
         ClassesFault::NoMemory => ProgramFault::NoMemory,
         ClassesFault::Write(_) => ProgramFault::Write,

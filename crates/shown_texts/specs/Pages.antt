@@ -144,9 +144,13 @@ or_nothing (line ∷ lines) = line ∷ lines
 abbrev pub table_head : List ℕ → List (List ℕ)
 table_head name = hanging_lines (codes "left in " ++ shown_text name)
 
+-- a table by its name, and the rows that are left in it
+abbrev pub left_in : List ℕ → List (Value × List Value) → List (List ℕ)
+left_in name rows = table_head name ++ or_nothing (flat_map row_lines rows)
+
 -- a table and its committed rows
 abbrev pub table_lines : Left → List (List ℕ)
-table_lines left = table_head left.table.name ++ or_nothing (flat_map row_lines left.rows)
+table_lines left = left_in left.table.name left.rows
 
 -- a session that has not ended
 abbrev pub standing_text : Standing → List ℕ

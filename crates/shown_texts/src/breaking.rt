@@ -18,14 +18,16 @@ pub(crate) fn plain_lines(alloc: Global, text: &[char]) -> Result<Items<Items<ch
     broken(alloc, COLUMNS, 0, 0, text)
 }
 
-pub(crate) fn hanging_lines(alloc: Global, text: &[char]) -> Result<Items<Items<char>>, AllocError>
+/// The text in lines of 80, with two blanks in front of each further one. It fails for want of memory alone.
+pub fn hanging_lines(alloc: Global, text: &[char]) -> Result<Items<Items<char>>, AllocError>
     ensures { IfOk result (λ lines. lines ≡ hanging_lines text.now) }
 {
     broken(alloc, COLUMNS, 0, 2, text)
 }
 
-/// The text in lines of a width: so many blanks stand in front of the first line, and a margin in front of each further one.
-pub(crate) fn broken(
+/// The text in lines of a width: so many blanks stand in front of the first line, and a margin in front of each further one. It fails for
+/// want of memory alone.
+pub fn broken(
     alloc: Global,
     width: usize,
     front: usize,

@@ -124,7 +124,8 @@ fn put_values(
     lines.append(broken(alloc, COLUMNS, 2, 4, line.as_slice())?)
 }
 
-fn values_line(alloc: Global, values: &[Value]) -> Result<Items<char>, AllocError>
+/// The values of a row with a bar between each two, as they are shown. It fails for want of memory alone.
+pub fn values_line(alloc: Global, values: &[Value]) -> Result<Items<char>, AllocError>
     ensures { IfOk result (λ line. line ≡ shown_text (spec.values_text values.now)) }
 {
     let mut text = String::new(alloc);
@@ -162,12 +163,24 @@ fn put_word(alloc: Global, lines: &mut Items<Items<char>>, word: &str) -> Result
     lines.push(line)
 }
 
+/// Puts a table by its name, and the rows that are left in it, behind other lines. It fails for want of memory alone.
+pub fn put_left_in(
+    alloc: Global,
+    lines: &mut Items<Items<char>>,
+    name: &str,
+    rows: &[(Value, Row)],
+) -> Result<(), AllocError>
+    ensures { OnOk result (lines.new ≡ lines.old ++ spec.left_in name.now rows.now) }
+{
+    put_table_name(alloc, lines, name)?;
+    lines.append(rows_lines(alloc, rows)?)
+}
+
 /// Puts a table and its committed rows behind other lines.
 fn put_table(alloc: Global, lines: &mut Items<Items<char>>, left: &Left) -> Result<(), AllocError>
     ensures { OnOk result (lines.new ≡ lines.old ++ spec.table_lines left.now) }
 {
-    put_table_name(alloc, lines, left.table.name.as_str())?;
-    lines.append(rows_lines(alloc, left.rows.as_slice())?)
+    put_left_in(alloc, lines, left.table.name.as_str(), left.rows.as_slice())
 }
 
 fn put_table_name(
@@ -208,8 +221,8 @@ fn standing_text(standing: &Standing) -> &'static str
     }
 }
 
-/// Puts how a session stands behind other lines, if there is something to say.
-fn put_standing(
+/// Puts how a session stands behind other lines, if there is something to say. It fails for want of memory alone.
+pub fn put_standing(
     alloc: Global,
     lines: &mut Items<Items<char>>,
     name: &[char],

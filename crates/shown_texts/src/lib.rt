@@ -17,13 +17,15 @@ mod pages;
 mod told;
 mod words;
 
-pub use breaking::{COLUMNS, begun};
+pub use breaking::{COLUMNS, begun, broken, hanging_lines};
 pub use characters::{put, put_blanks, put_line, put_number, put_shown};
+pub use ends::{put_left_in, put_standing, values_line};
 pub use laws::{
     broken_lines_fit, broken_texts_are_whole, shortened_names_differ, small_pages_are_narrow,
 };
 pub use names::put_cut;
+pub use notes::words_of;
 pub use orders::{put_if, put_name};
 pub use page::Page;
-pub use pages::{push_lines, show_text};
+pub use pages::{push_lines, put_part, show_text};
 pub use told::{push_event, step_name};

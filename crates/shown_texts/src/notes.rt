@@ -300,8 +300,8 @@ fn put_toned(
     }
 }
 
-/// The words of an event, as they are shown.
-fn words_of(alloc: Global, steps: &[Text], event: &Event) -> Result<Items<char>, AllocError>
+/// The words of an event, as they are shown, where these are the names of the steps. It fails for want of memory alone.
+pub fn words_of(alloc: Global, steps: &[Text], event: &Event) -> Result<Items<char>, AllocError>
     ensures { IfOk result (λ words. words ≡ spec.words steps.now event.now) }
 {
     let mut text = String::new(alloc);

@@ -209,8 +209,8 @@ fn put_row_lines(
     Ok(())
 }
 
-/// Puts a part behind other lines and an empty one, if there is something of it.
-fn put_part(
+/// Puts a part behind other lines and an empty one, if there is something of it. It fails for want of memory alone.
+pub fn put_part(
     alloc: Global,
     lines: &mut Items<Items<char>>,
     part: Items<Items<char>>,

@@ -38,13 +38,13 @@ use Rattle.shown_values.specs.Strings.{array_json, by_number, byte_text, escaped
 use Rattle.shown_values.specs.Words.{manner_json, mode_json, name_of, number_json, resource_json, status_json, told, line_json}
 use Rattle.shown_values.specs.Moments.{change_json, edge_json, end_json, ending_json, going_json, has_json, hop_json, lock_json, moment_json}
 use Rattle.shown_values.specs.Moments.{reason_json, still_json, want_json}
-use Rattle.shown_values.specs.Page.{Sheet, begun_json, entry_json, left_json, numbers_json, open_from, open_json, order_json, page_json, shown_json, step_json}
+use Rattle.shown_values.specs.Page.{Sheet, begun_json, entry_json, left_json, numbers_json, open_from, open_json, order_json, page_json, shown_json, step_json, table_json}
 use Rattle.shown_values.specs.Laws.{IsFree}
 
 -- ---- parts of a text
 
 -- two parts
-both : (xs ys : List ℕ) → IsFree xs → IsFree ys → IsFree (xs ++ ys)
+pub both : (xs ys : List ℕ) → IsFree xs → IsFree ys → IsFree (xs ++ ys)
 both xs ys f g = list_any-append is_markup xs ys ∙ (λ i. f i || g i)
 
 either : (b : Bool) (xs ys : List ℕ) → IsFree xs → IsFree ys → IsFree (if b then xs else ys)
@@ -52,11 +52,11 @@ either true xs ys f g = f
 either false xs ys f g = g
 
 -- the text of each item
-abbrev EachFree : {X : Type 0} → (X → List ℕ) → List X → Type 0
+abbrev pub EachFree : {X : Type 0} → (X → List ℕ) → List X → Type 0
 EachFree f [] = Unit {0}
 EachFree f (x ∷ xs) = IsFree (f x) × EachFree f xs
 
-every : {X : Type 0} (f : X → List ℕ) → ((x : X) → IsFree (f x)) → (xs : List X) → EachFree f xs
+pub every : {X : Type 0} (f : X → List ℕ) → ((x : X) → IsFree (f x)) → (xs : List X) → EachFree f xs
 every f free [] = tt
 every f free (x ∷ xs) = (free x, every f free xs)
 
@@ -65,14 +65,14 @@ pieces-free : {X : Type 0} (f : X → List ℕ) (xs : List X) → EachFree f xs 
 pieces-free f [] each = refl
 pieces-free f (x ∷ xs) each = both (f x) _ each.0 (pieces-free f xs each.1)
 
-join-free : {X : Type 0} (f : X → List ℕ) (xs : List X) → EachFree f xs → IsFree (join_by f (codes ",") xs)
+pub join-free : {X : Type 0} (f : X → List ℕ) (xs : List X) → EachFree f xs → IsFree (join_by f (codes ",") xs)
 join-free f [] each = refl
 join-free f (x ∷ xs) each = both (f x) _ each.0 (pieces-free f xs each.1)
 
-items-free : {X : Type 0} (f : X → List ℕ) (xs : List X) → EachFree f xs → IsFree (array_json f xs)
+pub items-free : {X : Type 0} (f : X → List ℕ) (xs : List X) → EachFree f xs → IsFree (array_json f xs)
 items-free f xs each = both (join_by f (codes ",") xs) (codes "]") (join-free f xs each) refl
 
-array-free : {X : Type 0} (f : X → List ℕ) → ((x : X) → IsFree (f x)) → (xs : List X) → IsFree (array_json f xs)
+pub array-free : {X : Type 0} (f : X → List ℕ) → ((x : X) → IsFree (f x)) → (xs : List X) → IsFree (array_json f xs)
 array-free f free xs = items-free f xs (every f free xs)
 
 -- ---- numbers
@@ -86,7 +86,7 @@ digits-free (suc k) n behind f =
     let more : IsFree (digit_glyph false (n % 10) ∷ behind) = λ i. digit-free n i || f i in
     either (n / 10 == 0) _ _ more (digits-free k (n / 10) _ more)
 
-decimal-free : (n : ℕ) → IsFree (decimal n)
+pub decimal-free : (n : ℕ) → IsFree (decimal n)
 unfolding digits
 decimal-free n = digits-free 64 n [] refl
 
@@ -125,7 +125,7 @@ escaped-free (a ∷ b ∷ c ∷ rest) =
     (both (separator_text c) (escaped rest) (separator-free c) (escaped-free rest))
     (both (byte_text a) (escaped (b ∷ c ∷ rest)) (byte-free a) (escaped-free (b ∷ c ∷ rest)))
 
-string-free : (text : List ℕ) → IsFree (string_json text)
+pub string-free : (text : List ℕ) → IsFree (string_json text)
 string-free text = both (escaped text) (codes "\"") (escaped-free text) refl
 
 -- ---- words
@@ -147,7 +147,7 @@ manner-free IsSent = refl
 manner-free IsResumed = refl
 manner-free IsNotSent = refl
 
-number-free : (number : Option ℕ) → IsFree (number_json number)
+pub number-free : (number : Option ℕ) → IsFree (number_json number)
 number-free None = refl
 number-free (Some number) = decimal-free number
 
@@ -213,22 +213,25 @@ moment-free tables steps moment =
 
 -- ---- the page
 
-step-free : (step : List ℕ × (ℕ × List ℕ)) → IsFree (step_json step)
+pub step-free : (step : List ℕ × (ℕ × List ℕ)) → IsFree (step_json step)
 step-free step = simp (list_any-append, string-free step.0, decimal-free step.1.0, string-free step.1.1)
 
 begun-free : (tables : List Left) (begun : Begun) → IsFree (begun_json tables begun)
 begun-free tables begun = simp (list_any-append, status-free begun.status, array-free (lock_json tables) (lock-free tables) begun.locks)
 
-entry-free : (entry : Value × Tuple) → IsFree (entry_json entry)
+pub entry-free : (entry : Value × Tuple) → IsFree (entry_json entry)
 entry-free entry = string-free _
 
+pub table-free : (name : List ℕ) (rows : List (Value × Tuple)) → IsFree (table_json name rows)
+table-free name rows = simp (list_any-append, string-free name, array-free entry_json entry-free rows)
+
 left-free : (left : Left) → IsFree (left_json left)
-left-free left = simp (list_any-append, string-free (name_of left), array-free entry_json entry-free left.rows)
+left-free left = table-free (name_of left) left.rows
 
 lefts-free : (tables : List Left) → IsFree (array_json left_json tables)
 lefts-free tables = array-free left_json left-free tables
 
-pair-free : (session : ℕ) (word : List ℕ) → IsFree word → IsFree (open_json (session, word))
+pub pair-free : (session : ℕ) (word : List ℕ) → IsFree word → IsFree (open_json (session, word))
 pair-free session word free = simp (list_any-append, decimal-free session, free)
 
 -- how each session stands that has not ended

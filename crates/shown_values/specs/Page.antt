@@ -25,8 +25,12 @@ begun_json tables begun =
 abbrev pub entry_json : Value × Tuple → List ℕ
 entry_json entry = tuple_json entry.1
 
+-- a table by its name and its rows
+abbrev pub table_json : List ℕ → List (Value × Tuple) → List ℕ
+table_json name rows = (codes "{\"table\":" ++ string_json name) ++ (codes ",\"rows\":" ++ array_json entry_json rows) ++ codes "}"
+
 abbrev pub left_json : Left → List ℕ
-left_json left = (codes "{\"table\":" ++ string_json (name_of left)) ++ (codes ",\"rows\":" ++ array_json entry_json left.rows) ++ codes "}"
+left_json left = table_json (name_of left) left.rows
 
 -- how a session stands that has not ended, behind its number
 abbrev pub open_of : ℕ → Standing → List (ℕ × List ℕ)
@@ -35,10 +39,13 @@ open_of session IsOpen = (session, codes "\"in\"") ∷ []
 open_of session HasFailed = (session, codes "\"failed\"") ∷ []
 open_of session (StillWaits want) = (session, codes "\"waits\"") ∷ []
 
--- the same of sessions numbered from this one on
+-- by what this tells of each, the same of sessions numbered from this one on
+abbrev pub opens_by : {X : Type 0} → (ℕ → X → List (ℕ × List ℕ)) → ℕ → List X → List (ℕ × List ℕ)
+opens_by tells session [] = []
+opens_by tells session (standing ∷ standings) = tells session standing ++ opens_by tells (session + 1) standings
+
 abbrev pub open_from : ℕ → List Standing → List (ℕ × List ℕ)
-open_from session [] = []
-open_from session (standing ∷ standings) = open_of session standing ++ open_from (session + 1) standings
+open_from session standings = opens_by open_of session standings
 
 abbrev pub open_json : ℕ × List ℕ → List ℕ
 open_json pair = codes "[" ++ decimal pair.0 ++ codes "," ++ pair.1 ++ codes "]"

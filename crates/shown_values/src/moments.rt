@@ -84,7 +84,8 @@ fn without_sent(events: &[Event]) -> &[Event]
     }
 }
 
-fn push_lines(
+/// Pushes a label and the lines of events behind it.
+pub fn push_lines(
     label: &str,
     steps: &[Text],
     events: &[Event],

@@ -50,10 +50,11 @@ fn push_numbers(page: &Page<'_>, out: &mut Vec<u8>) -> Result<(), AllocError>
         page.statements,
         out,
     )?;
-    push_line(",\"order\":", page.line, out)
+    push_indices(",\"order\":", page.line, out)
 }
 
-fn push_names(label: &str, names: &[Text], out: &mut Vec<u8>) -> Result<(), AllocError>
+/// Pushes a label and names behind it.
+pub fn push_names(label: &str, names: &[Text], out: &mut Vec<u8>) -> Result<(), AllocError>
     ensures { OnOk result (out.new.items ≡ out.old.items ++ (label.now ++ array_json string_json names.now)) }
 {
     push_word(label, "[", out)?;
@@ -64,7 +65,8 @@ fn push_names(label: &str, names: &[Text], out: &mut Vec<u8>) -> Result<(), Allo
     push("]", out)
 }
 
-fn push_steps(
+/// Pushes a label, and steps behind it by their names, their sessions and their statements.
+pub fn push_steps(
     label: &str,
     names: &[Text],
     sessions: &[u8],
@@ -96,13 +98,14 @@ fn push_step(
     push("}", out)
 }
 
-fn push_line(label: &str, line: &[u8], out: &mut Vec<u8>) -> Result<(), AllocError>
-    ensures { OnOk result (out.new.items ≡ out.old.items ++ (label.now ++ array_json decimal line.now)) }
+/// Pushes a label and the numbers of sessions or steps behind it.
+pub fn push_indices(label: &str, indices: &[u8], out: &mut Vec<u8>) -> Result<(), AllocError>
+    ensures { OnOk result (out.new.items ≡ out.old.items ++ (label.now ++ array_json decimal indices.now)) }
 {
     push_word(label, "[", out)?;
-    for (place, step) in line.iter().enumerate() {
+    for (place, index) in indices.iter().enumerate() {
         push_before(",", place, out)?;
-        push_index("", *step, out)?;
+        push_index("", *index, out)?;
     }
     push("]", out)
 }
@@ -172,20 +175,27 @@ fn push_tables(label: &str, tables: &Items<Left>, out: &mut Vec<u8>) -> Result<(
 fn push_left(left: &Left, out: &mut Vec<u8>) -> Result<(), AllocError>
     ensures { OnOk result (out.new.items ≡ out.old.items ++ spec.left_json left.now) }
 {
-    push_name("{\"table\":", &left.table.name, out)?;
-    push_entries(",\"rows\":", &left.rows, out)?;
+    push_table(&left.table.name, left.rows.as_slice(), out)
+}
+
+/// Pushes a table by its name and its rows.
+pub fn push_table(
+    name: &Text,
+    entries: &[(Value, Row)],
+    out: &mut Vec<u8>,
+) -> Result<(), AllocError>
+    ensures { OnOk result (out.new.items ≡ out.old.items ++ spec.table_json name.now entries.now) }
+{
+    push_name("{\"table\":", name, out)?;
+    push_entries(",\"rows\":", entries, out)?;
     push("}", out)
 }
 
-fn push_entries(
-    label: &str,
-    entries: &Items<(Value, Row)>,
-    out: &mut Vec<u8>,
-) -> Result<(), AllocError>
+fn push_entries(label: &str, entries: &[(Value, Row)], out: &mut Vec<u8>) -> Result<(), AllocError>
     ensures { OnOk result (out.new.items ≡ out.old.items ++ (label.now ++ array_json spec.entry_json entries.now)) }
 {
     push_word(label, "[", out)?;
-    for (place, entry) in entries.as_slice().iter().enumerate() {
+    for (place, entry) in entries.iter().enumerate() {
         push_before(",", place, out)?;
         push_tuple(&entry.1, out)?;
     }
@@ -208,7 +218,8 @@ fn push_open(label: &str, standings: &Items<Standing>, out: &mut Vec<u8>) -> Res
     push("]", out)
 }
 
-fn push_standing(session: usize, word: &str, out: &mut Vec<u8>) -> Result<(), AllocError>
+/// Pushes the number of a session, and the word for how it stands.
+pub fn push_standing(session: usize, word: &str, out: &mut Vec<u8>) -> Result<(), AllocError>
     ensures { OnOk result (out.new.items ≡ out.old.items ++ spec.open_json (session, word.now)) }
 {
     push_count("[", session as u64, out)?;

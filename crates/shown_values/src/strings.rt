@@ -10,21 +10,21 @@ use lock_modes::Text;
 use std::alloc::AllocError;
 
 /// Pushes a part to a text.
-pub(crate) fn push(part: &str, out: &mut Vec<u8>) -> Result<(), AllocError>
+pub fn push(part: &str, out: &mut Vec<u8>) -> Result<(), AllocError>
     ensures { OnOk result (out.new.items ≡ out.old.items ++ part.now) }
 {
     out.extend_from_slice(part.as_bytes())
 }
 
 /// Pushes a number in decimal.
-pub(crate) fn push_number(number: u64, out: &mut Vec<u8>) -> Result<(), AllocError>
+pub fn push_number(number: u64, out: &mut Vec<u8>) -> Result<(), AllocError>
     ensures { OnOk result (out.new.items ≡ out.old.items ++ decimal number) }
 {
     push(Buffer::new().format(number), out)
 }
 
 /// Pushes a label and the number behind it.
-pub(crate) fn push_count(label: &str, number: u64, out: &mut Vec<u8>) -> Result<(), AllocError>
+pub fn push_count(label: &str, number: u64, out: &mut Vec<u8>) -> Result<(), AllocError>
     ensures { OnOk result (out.new.items ≡ out.old.items ++ (label.now ++ decimal number)) }
 {
     push(label, out)?;
@@ -32,14 +32,14 @@ pub(crate) fn push_count(label: &str, number: u64, out: &mut Vec<u8>) -> Result<
 }
 
 /// Pushes a label and the number of a session or a step behind it.
-pub(crate) fn push_index(label: &str, index: u8, out: &mut Vec<u8>) -> Result<(), AllocError>
+pub fn push_index(label: &str, index: u8, out: &mut Vec<u8>) -> Result<(), AllocError>
     ensures { OnOk result (out.new.items ≡ out.old.items ++ (label.now ++ decimal index)) }
 {
     push_count(label, u64::from(index), out)
 }
 
 /// Pushes a label and the word behind it.
-pub(crate) fn push_word(label: &str, word: &str, out: &mut Vec<u8>) -> Result<(), AllocError>
+pub fn push_word(label: &str, word: &str, out: &mut Vec<u8>) -> Result<(), AllocError>
     ensures { OnOk result (out.new.items ≡ out.old.items ++ (label.now ++ word.now)) }
 {
     push(label, out)?;
@@ -47,11 +47,7 @@ pub(crate) fn push_word(label: &str, word: &str, out: &mut Vec<u8>) -> Result<()
 }
 
 /// Pushes what stands before the item at this place: a separator, but before the first one nothing.
-pub(crate) fn push_before(
-    separator: &str,
-    place: usize,
-    out: &mut Vec<u8>,
-) -> Result<(), AllocError>
+pub fn push_before(separator: &str, place: usize, out: &mut Vec<u8>) -> Result<(), AllocError>
     ensures { OnOk result (out.new.items ≡ out.old.items ++ spec.before_item separator.now place) }
 {
     if place == 0 {
@@ -61,14 +57,14 @@ pub(crate) fn push_before(
 }
 
 /// Pushes a label and a name behind it, as a JSON string.
-pub(crate) fn push_name(label: &str, name: &Text, out: &mut Vec<u8>) -> Result<(), AllocError>
+pub fn push_name(label: &str, name: &Text, out: &mut Vec<u8>) -> Result<(), AllocError>
     ensures { OnOk result (out.new.items ≡ out.old.items ++ (label.now ++ spec.string_json name.now)) }
 {
     push_string(label, name.as_str().as_bytes(), out)
 }
 
 /// Pushes a label and a text behind it, as a JSON string.
-pub(crate) fn push_string(label: &str, text: &[u8], out: &mut Vec<u8>) -> Result<(), AllocError>
+pub fn push_string(label: &str, text: &[u8], out: &mut Vec<u8>) -> Result<(), AllocError>
     ensures { OnOk result (out.new.items ≡ out.old.items ++ (label.now ++ spec.string_json text.now)) }
 {
     push_word(label, "\"", out)?;

@@ -84,7 +84,8 @@ fn push_values(values: &[Value], text: &mut Vec<u8>) -> Result<(), AllocError>
     Ok(())
 }
 
-fn push_value(value: &Value, text: &mut Vec<u8>) -> Result<(), AllocError>
+/// Pushes a value as it stands in a row.
+pub fn push_value(value: &Value, text: &mut Vec<u8>) -> Result<(), AllocError>
     ensures { OnOk result (text.new.items ≡ text.old.items ++ value_text value.now) }
 {
     match value {

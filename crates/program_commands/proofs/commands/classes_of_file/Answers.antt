@@ -10,13 +10,8 @@ returns-in-Ok-classes_told-clause-done g c =
     inr (
       c.in-Ok.bytes.items,
       c.in-Ok.ensures.read,
-      (
-        refl,
-        subst (λ w. IsClassesRun g.W.Write.contents c.args.out.now c.classes_told.new.out c.in-Ok.bytes.items c.args.path.now w (Ok tt))
-            c.wanted_classes-wanted.ensures
-            (subst (λ b. IsClassesRun g.W.Write.contents c.args.out.now c.classes_told.new.out b c.args.path.now c.wanted_classes-wanted.result (Ok tt))
-            c.as_slice.ensures.value c.in-Ok-classes_told.ensures.run),
-      ),
+      subst (λ b. IsClassesRun g.W.Write.contents c.args.out.now c.classes_told.new.out b c.args.path.now c.args.wanted.now (Ok c.in-Ok-classes_told.finding))
+          c.as_slice.ensures.value c.in-Ok-classes_told.ensures.run,
     )
 
 pub returns-clause-done : goal.returns-clause-done
@@ -26,11 +21,8 @@ returns-clause-done g c =
       c.in-Ok.ensures.read,
       (
         c.in-Err-classes_told.fault,
-        subst (λ w. IsClassesRun g.W.Write.contents c.args.out.now c.classes_told.new.out c.in-Ok.bytes.items c.args.path.now w (Err c.in-Err-classes_told.fault))
-            c.wanted_classes-wanted.ensures
-            (subst (λ b. IsClassesRun g.W.Write.contents c.args.out.now c.classes_told.new.out b c.args.path.now c.wanted_classes-wanted.result
-            (Err c.in-Err-classes_told.fault))
-            c.as_slice.ensures.value c.in-Err-classes_told.ensures.run),
+        subst (λ b. IsClassesRun g.W.Write.contents c.args.out.now c.classes_told.new.out b c.args.path.now c.args.wanted.now (Err c.in-Err-classes_told.fault))
+            c.as_slice.ensures.value c.in-Err-classes_told.ensures.run,
         c.classes_fault.ensures,
       ),
     )

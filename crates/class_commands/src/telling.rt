@@ -1,0 +1,155 @@
+//! The text of classes, and what is found of what is expected.
+
+ghost use Rattle.std.specs.Prelude.{◌≡◌, IfOk, map, string_bytes};
+ghost use Rattle.std.specs.List.{list_all};
+ghost use Rattle.class_texts.specs.Expected.{is_met};
+ghost use Rattle.class_commands.specs.Classing.{AreRanks, IsFinding, expectation_over, has_some, look_over, seen_of};
+ghost use Rattle.class_commands.specs.Parts.{IsTextOf, finding_by};
+
+use crate::classing::grouping;
+use asked_classes::{AskedClasses, AskedExpectation, AskedLook};
+use binding_model::Table;
+use book_commands::Finding;
+use bound_specs::Spec;
+use class_looks::Look;
+use class_rows::Classed;
+use class_stretches::RankRun;
+use class_texts::{Expected, Looked, Page, classes_text, one_row_is_met};
+use order_classes::{ClassRow, Filter};
+use sqlite_items::Items;
+use std::alloc::{AllocError, Global};
+use transcripts::Event;
+use wanted_classes::WantedClasses;
+
+/// The text of what is found, and whether all is as expected.
+pub(crate) fn told<'a>(
+    alloc: Global,
+    spec: &Spec,
+    path: &str,
+    tables: &[Table],
+    wanted: &WantedClasses<'a>,
+    asked: &AskedClasses<'a>,
+    found: &Classed,
+) -> Result<(String, Finding), AllocError>
+    ensures text { IfOk result (λ x. IsTextOf path.now spec.now tables.now wanted.now asked.now found.now (string_bytes x.0)) }
+    ensures finding { IfOk result (λ x. IsFinding found.now.rows.items asked.now.expectations.items x.1) }
+{
+    one_row_is_met();
+    let rows = found.rows.as_slice();
+    let ranks = ranks_of(alloc, wanted.ranks, found)?;
+    let looks = looks_over(alloc, asked.looks.as_slice(), rows)?;
+    let expectations = expectations_over(alloc, asked.expectations.as_slice(), rows)?;
+    let page = Page {
+        path,
+        orders: spec.ranks(),
+        sessions: spec.session_names(),
+        steps: spec.step_names(),
+        tables,
+        by: grouping(wanted.answers),
+        is_filtered: has_some(asked.filters.as_slice()),
+        expectations: expectations.as_slice(),
+        totals: found.totals,
+        rows,
+        is_brief: wanted.brief,
+        with_ranks: wanted.ranks,
+        ranks: ranks.as_slice(),
+        with_outcomes: wanted.outcomes,
+        with_left: wanted.left,
+        looks: looks.as_slice(),
+    };
+    let text = classes_text(alloc, &page)?;
+    Ok((text, finding_of(expectations.as_slice())))
+}
+
+fn has_some(filters: &[Filter]) -> bool
+    ensures { result ≡ has_some filters.now }
+{
+    match filters {
+        [] => false,
+        [_, ..] => true,
+    }
+}
+
+/// The ranks of each class, where they are told.
+fn ranks_of(
+    alloc: Global,
+    are_told: bool,
+    found: &Classed,
+) -> Result<Vec<Items<RankRun>>, AllocError>
+    ensures { IfOk result (λ ranks. AreRanks are_told found.now ranks.items) }
+{
+    if are_told {
+        return found.stretches.runs_by_class(alloc);
+    }
+    Ok(Vec::new(alloc))
+}
+
+/// What each look sees of what each class leaves.
+fn looks_over<'p>(
+    alloc: Global,
+    asked: &'p [AskedLook<'_>],
+    rows: &[ClassRow],
+) -> Result<Vec<Looked<'p>>, AllocError>
+    ensures { IfOk result (λ looks. looks.items ≡ map (look_over rows.now) asked.now) }
+{
+    let mut looks = Vec::with_capacity(alloc, asked.len())?;
+    for look in asked {
+        let seen = seen_over(alloc, &look.look, rows)?;
+        looks.push(Looked {
+            text: look.text,
+            seen,
+        })?;
+    }
+    Ok(looks)
+}
+
+/// What is expected, with what each look sees of what each class leaves.
+fn expectations_over<'p>(
+    alloc: Global,
+    asked: &'p [AskedExpectation<'_>],
+    rows: &[ClassRow],
+) -> Result<Vec<Expected<'p>>, AllocError>
+    ensures { IfOk result (λ expectations. expectations.items ≡ map (expectation_over rows.now) asked.now) }
+{
+    let mut expectations = Vec::with_capacity(alloc, asked.len())?;
+    for expectation in asked {
+        let seen = seen_over(alloc, &expectation.look, rows)?;
+        expectations.push(Expected {
+            text: expectation.text,
+            values: expectation.values.as_slice(),
+            seen,
+        })?;
+    }
+    Ok(expectations)
+}
+
+/// What a look sees of what each class leaves.
+fn seen_over(alloc: Global, look: &Look, rows: &[ClassRow]) -> Result<Vec<Vec<Event>>, AllocError>
+    ensures { IfOk result (λ seen. map (λ v. v.items) seen.items ≡ map (seen_of look.now) rows.now) }
+{
+    let mut seen = Vec::with_capacity(alloc, rows.len())?;
+    for row in rows {
+        let events = look.seen(alloc, row.shows.left.as_slice())?;
+        seen.push(events)?;
+    }
+    Ok(seen)
+}
+
+/// It is bad where some expectation is not met in some class.
+fn finding_of(expectations: &[Expected<'_>]) -> Finding
+    ensures { result ≡ finding_by expectations.now }
+{
+    if are_met(expectations) {
+        Finding::Good
+    } else {
+        Finding::Bad
+    }
+}
+
+fn are_met(expectations: &[Expected<'_>]) -> bool
+    ensures { result ≡ list_all is_met expectations.now }
+{
+    expectations
+        .iter()
+        .all(|expected: &Expected<'_>| expected.is_met())
+}

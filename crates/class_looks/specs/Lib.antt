@@ -1,0 +1,5 @@
+pub mod Reading
+pub mod Seeing
+pub mod Values
+pub mod Expecting
+pub mod Laws

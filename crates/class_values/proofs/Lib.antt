@@ -1,0 +1,3 @@
+mod Markup
+mod Leaving
+mod Worked

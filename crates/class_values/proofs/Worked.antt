@@ -1,0 +1,178 @@
+-- Pages of classes and their parts, by hand.
+use Rattle.std.specs.Prelude.{◌≡◌, refl, ℕ, pos, true, false, [], ◌∷◌, ◌++◌, Some, None, codes}
+use Rattle.std.specs.Fmt.{digits}
+use Rattle.json.specs.Print.{escape_byte}
+use Rattle.lock_modes.specs.declared.value.Value.TheVariants.{Int, Text}
+use Rattle.transcripts.specs.declared.event.Event.TheVariants.{Sent, Row, Rows, Updated, Waiting, Done}
+use Rattle.order_classes.specs.declared.rows.ClassRow.{ClassRow}
+use Rattle.order_classes.specs.declared.rows.Letters.{Letters}
+use Rattle.order_classes.specs.declared.rows.Total.{Total}
+use Rattle.order_classes.specs.declared.rows.Grouping.TheVariants.{Shows, Answers}
+use Rattle.order_classes.specs.declared.shows.Rest.TheVariants.{HasEnded, IsOpen, StillWaits}
+use Rattle.shown_values.specs.Strings.{escaped}
+use Rattle.class_texts.specs.Expected.{Expectation}
+use Rattle.class_texts.specs.Pages.{Page}
+use Rattle.class_values.specs.Totals.{totals_json}
+use Rattle.class_values.specs.Expected.{expected_json}
+use Rattle.class_values.specs.Class.{open_part}
+use Rattle.class_values.specs.Page.{classes_json}
+
+abbrev total : ℕ → ℕ → Total
+total orders classes = record { orders = orders; classes = classes }
+
+-- ---- a page of a spec with two steps and a look, by shows, with ranks
+
+abbrev ended : Letters
+ended = record { waits = false; deadlock = false; error = false; unsent = false; stuck = false; not_serial = Some false }
+
+abbrev stuck : Letters
+stuck = record { waits = true; deadlock = false; error = false; unsent = false; stuck = true; not_serial = Some false }
+
+-- the second session waits for the first one, which is in a transaction
+abbrev first_class : ClassRow
+first_class = record {
+  least = 0;
+  count = 1;
+  letters = stuck;
+  line = record { items = 0 ∷ 1 ∷ [] };
+  shows = record {
+    told = (Sent 0 ∷ Updated 1 ∷ Done ∷ []) ∷ (Sent 1 ∷ Waiting ∷ []) ∷ [];
+    left = ((Int (pos 1), Int (pos 1) ∷ Text (codes "<") ∷ []) ∷ []) ∷ [];
+    rests = IsOpen ∷ StillWaits ∷ [];
+  };
+}
+
+-- it comes first, and both end
+abbrev second_class : ClassRow
+second_class = record {
+  least = 1;
+  count = 1;
+  letters = ended;
+  line = record { items = 1 ∷ 0 ∷ [] };
+  shows = record {
+    told = (Sent 0 ∷ Updated 0 ∷ Done ∷ []) ∷ (Sent 1 ∷ Updated 1 ∷ Done ∷ []) ∷ [];
+    left = [] ∷ [];
+    rests = HasEnded ∷ HasEnded ∷ [];
+  };
+}
+
+abbrev one_row : Expectation
+one_row = record {
+  text = codes "SELECT n FROM t";
+  values = Int (pos 1) ∷ Text (codes "it's") ∷ [];
+  seen = (Row (Int (pos 1) ∷ Text (codes "it's") ∷ []) ∷ Rows 1 ∷ []) ∷ (Rows 0 ∷ []) ∷ [];
+}
+
+abbrev two_orders : Page
+two_orders = record {
+  path = codes "two.spec";
+  orders = 2;
+  sessions = codes "a" ∷ codes "b" ∷ [];
+  steps = codes "a1" ∷ codes "b1" ∷ [];
+  tables = record { name = codes "t"; columns = []; key = None } ∷ [];
+  by = Shows;
+  is_filtered = false;
+  expectations = one_row ∷ [];
+  totals = record {
+    all = total 2 2;
+    waits = total 1 1;
+    deadlock = total 0 0;
+    error = total 0 0;
+    unsent = total 0 0;
+    stuck = total 1 1;
+    not_serial = Some (total 0 0);
+  };
+  rows = first_class ∷ second_class ∷ [];
+  is_brief = false;
+  with_ranks = true;
+  ranks = (record { first = 0; end = 1 } ∷ []) ∷ (record { first = 1; end = 2 } ∷ []) ∷ [];
+  with_outcomes = false;
+  with_left = false;
+  looks = record { text = codes "SELECT COUNT(*) FROM t"; seen = (Row (Int (pos 1) ∷ []) ∷ Rows 1 ∷ []) ∷ (Row (Int (pos 0) ∷ []) ∷ Rows 1 ∷ []) ∷ [] } ∷ [];
+}
+
+two_orders_json : classes_json two_orders (0 ∷ 1 ∷ []) (codes "UPDATE t SET n = 1" ∷ codes "DELETE FROM t" ∷ [])
+    ≡ codes "{\"format\":1,\"name\":\"two.spec\",\"orders\":2,\"asked\":2,\"sessions\":[\"a\",\"b\"],"
+    ++ codes "\"steps\":[{\"name\":\"a1\",\"session\":0,\"sql\":\"UPDATE t SET n = 1\"},{\"name\":\"b1\",\"session\":1,\"sql\":\"DELETE FROM t\"}],"
+    ++ codes "\"by\":\"shows\",\"totals\":{\"W\":[1,1],\"D\":[0,0],\"E\":[0,0],\"N\":[0,0],\"S\":[1,1],\"R\":[0,0]},"
+    ++ codes "\"expected\":[{\"select\":\"SELECT n FROM t\",\"values\":[\"1\",\"'it''s'\"],\"met\":1,\"first\":1}],\"looks\":[\"SELECT COUNT(*) FROM t\"],"
+    ++ codes "\"classes\":[{\"least\":0,\"orders\":1,\"shows\":\"W---S-\",\"order\":[0,1],"
+    ++ codes "\"told\":[[\"step a1\",\"updated 1\",\"done\"],[\"step b1\",\"waiting\"]],\"left\":[{\"table\":\"t\",\"rows\":[\"1|'\\u003c'\"]}],"
+    ++ codes "\"open\":[[0,\"in\"],[1,\"waits\"]],\"seen\":[[\"row 1\",\"rows 1\"]],\"ranks\":[[0,0]]},"
+    ++ codes "{\"least\":1,\"orders\":1,\"shows\":\"------\",\"order\":[1,0],"
+    ++ codes "\"told\":[[\"step a1\",\"updated 0\",\"done\"],[\"step b1\",\"updated 1\",\"done\"]],\"left\":[{\"table\":\"t\",\"rows\":[]}],"
+    ++ codes "\"open\":[],\"seen\":[[\"row 0\",\"rows 1\"]],\"ranks\":[[1,1]]}]}\n"
+unfolding digits escaped escape_byte
+two_orders_json = refl
+
+-- ---- by answers
+
+-- waits and steps that are not sent are not told, and R is not told of a file with permutation lines
+answers_totals : totals_json Answers
+    (record {
+      all = total 9 3;
+      waits = total 5 2;
+      deadlock = total 4 2;
+      error = total 0 0;
+      unsent = total 1 1;
+      stuck = total 2 1;
+      not_serial = None;
+    })
+    ≡ codes "{\"W\":null,\"D\":[4,2],\"E\":[0,0],\"N\":null,\"S\":[2,1],\"R\":null}"
+unfolding digits
+answers_totals = refl
+
+-- nor is it told how sessions stand
+answers_open : open_part Answers (IsOpen ∷ StillWaits ∷ []) ≡ []
+answers_open = refl
+
+-- it is so of all orders
+met_by_all : expected_json (first_class ∷ []) one_row ≡ codes "{\"select\":\"SELECT n FROM t\",\"values\":[\"1\",\"'it''s'\"],\"met\":1,\"first\":null}"
+unfolding digits escaped escape_byte
+met_by_all = refl
+
+-- ---- the one order of a file with one step that has no statement
+
+abbrev one_step : Page
+one_step = record {
+  path = codes "one.spec";
+  orders = 1;
+  sessions = codes "a" ∷ [];
+  steps = codes "s" ∷ [];
+  tables = [];
+  by = Shows;
+  is_filtered = false;
+  expectations = [];
+  totals = record {
+    all = total 1 1;
+    waits = total 0 0;
+    deadlock = total 0 0;
+    error = total 0 0;
+    unsent = total 0 0;
+    stuck = total 0 0;
+    not_serial = Some (total 0 0);
+  };
+  rows =
+      record {
+        least = 0;
+        count = 1;
+        letters = ended;
+        line = record { items = 0 ∷ [] };
+        shows = record { told = (Sent 0 ∷ Done ∷ []) ∷ []; left = []; rests = HasEnded ∷ [] };
+      } ∷ [];
+  is_brief = false;
+  with_ranks = false;
+  ranks = [];
+  with_outcomes = false;
+  with_left = false;
+  looks = [];
+}
+
+one_step_json : classes_json one_step (0 ∷ []) ([] ∷ [])
+    ≡ codes "{\"format\":1,\"name\":\"one.spec\",\"orders\":1,\"asked\":1,\"sessions\":[\"a\"],"
+    ++ codes "\"steps\":[{\"name\":\"s\",\"session\":0,\"sql\":\"\"}],\"by\":\"shows\","
+    ++ codes "\"totals\":{\"W\":[0,0],\"D\":[0,0],\"E\":[0,0],\"N\":[0,0],\"S\":[0,0],\"R\":[0,0]},\"expected\":[],\"looks\":[],"
+    ++ codes "\"classes\":[{\"least\":0,\"orders\":1,\"shows\":\"------\",\"order\":[0],\"told\":[[\"step s\",\"done\"]],"
+    ++ codes "\"left\":[],\"open\":[],\"seen\":[]}]}\n"
+unfolding digits escaped escape_byte
+one_step_json = refl

@@ -1,0 +1,90 @@
+-- The JSON of each class.
+use Rattle.std.specs.Prelude.{ℕ, ◌+◌, ◌-◌, cond, List, [], ◌∷◌, ◌++◌, get_or, codes, decimal}
+use Rattle.lock_modes.specs.declared.value.Value.{Value}
+use Rattle.transcripts.specs.declared.event.Event.{Event}
+use Rattle.binding_model.specs.declared.tables.Table.{Table}
+use Rattle.class_stretches.specs.declared.rank_run.RankRun.{RankRun}
+use Rattle.order_classes.specs.declared.rows.ClassRow.{ClassRow}
+use Rattle.order_classes.specs.declared.rows.Letters.{Letters}
+use Rattle.order_classes.specs.declared.rows.Grouping.{Grouping}
+use Rattle.order_classes.specs.declared.rows.Grouping.TheVariants.{Shows, Answers}
+use Rattle.order_classes.specs.declared.shows.Rest.{Rest}
+use Rattle.order_classes.specs.declared.shows.Rest.TheVariants.{HasEnded, IsOpen, HasFailed, StillWaits}
+use Rattle.order_classes.specs.declared.shows.Shows.{Shows as Shown}
+use Rattle.shown_values.specs.Strings.{array_json, before_item, string_json}
+use Rattle.shown_values.specs.Words.{line_json}
+use Rattle.shown_values.specs.Page.{open_json, opens_by, table_json}
+use Rattle.class_texts.specs.Beneath.{Look}
+use Rattle.class_texts.specs.Letters.{letters_text}
+use Rattle.class_texts.specs.Pages.{Page}
+
+abbrev pub letters_json : Grouping → Letters → List ℕ
+letters_json by letters = string_json (letters_text by letters)
+
+-- the least rank, how many orders, what they show, and the order of the least rank
+abbrev pub head_json : Grouping → ClassRow → List ℕ
+head_json by row =
+    (codes "{\"least\":" ++ decimal row.least) ++ (codes ",\"orders\":" ++ decimal row.count)
+    ++ (codes ",\"shows\":" ++ letters_json by row.letters) ++ (codes ",\"order\":" ++ array_json decimal row.line.items)
+
+-- events as lines, where these are the names of the steps
+abbrev pub lines_json : List (List ℕ) → List Event → List ℕ
+lines_json steps events = array_json (line_json steps) events
+
+-- a table at a place, with the rows that are left in it
+abbrev pub table_at : ℕ → Table → List (Value × List Value) → List ℕ
+table_at k table rows = before_item (codes ",") k ++ table_json table.name rows
+
+-- the declared tables from this one on
+abbrev pub tables_from : List (List (Value × List Value)) → ℕ → List Table → List ℕ
+tables_from left k [] = []
+tables_from left k (table ∷ tables) = table_at k table (get_or left k []) ++ tables_from left (k + 1) tables
+
+-- how a session stands that has not ended, behind its number
+abbrev pub open_of : ℕ → Rest → List (ℕ × List ℕ)
+open_of session HasEnded = []
+open_of session IsOpen = (session, codes "\"in\"") ∷ []
+open_of session HasFailed = (session, codes "\"failed\"") ∷ []
+open_of session StillWaits = (session, codes "\"waits\"") ∷ []
+
+-- how sessions stand is no answer
+abbrev pub open_part : Grouping → List Rest → List ℕ
+open_part Shows rests = codes ",\"open\":" ++ array_json open_json (opens_by open_of 0 rests)
+open_part Answers rests = []
+
+-- what each session is told, and what is left
+abbrev pub shows_json : Page → Shown → List ℕ
+shows_json p shows =
+    (codes ",\"told\":" ++ array_json (lines_json p.steps) shows.told) ++ codes ",\"left\":[" ++ tables_from shows.left 0 p.tables ++ codes "]"
+    ++ open_part p.by shows.rests
+
+-- what a look sees of the class at this place
+abbrev pub seen_json : List (List ℕ) → ℕ → Look → List ℕ
+seen_json steps k look = lines_json steps (get_or look.seen k [])
+
+-- the first rank of a range and its last one
+abbrev pub range_json : RankRun → List ℕ
+range_json run = (codes "[" ++ decimal run.first) ++ (codes "," ++ decimal (run.end - 1)) ++ codes "]"
+
+-- the ranks of the class at this place, where they are asked for
+abbrev pub ranks_part : Page → ℕ → List ℕ
+ranks_part p k = cond p.with_ranks (codes ",\"ranks\":" ++ array_json range_json (get_or p.ranks k [])) []
+
+abbrev pub class_json : Page → ℕ → ClassRow → List ℕ
+class_json p k row =
+    head_json p.by row ++ shows_json p row.shows ++ (codes ",\"seen\":" ++ array_json (seen_json p.steps k) p.looks) ++ ranks_part p k ++ codes "}"
+
+abbrev pub class_at : Page → ℕ → ClassRow → List ℕ
+class_at p k row = before_item (codes ",") k ++ class_json p k row
+
+-- the classes from this place on
+abbrev pub classes_from : Page → ℕ → List ClassRow → List ℕ
+classes_from p k [] = []
+classes_from p k (row ∷ rows) = class_at p k row ++ classes_from p (k + 1) rows
+
+abbrev pub all_json : Page → List ℕ
+all_json p = codes ",\"classes\":[" ++ classes_from p 0 p.rows ++ codes "]"
+
+-- none where the totals are told alone
+abbrev pub classes_part : Page → List ℕ
+classes_part p = cond p.is_brief [] (all_json p)

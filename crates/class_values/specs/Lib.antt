@@ -1,0 +1,5 @@
+pub mod Totals
+pub mod Expected
+pub mod Class
+pub mod Page
+pub mod Laws

@@ -1,0 +1,43 @@
+-- The JSON of classes.
+use Rattle.std.specs.Prelude.{ℕ, List, ◌++◌, codes, decimal, zip}
+use Rattle.order_classes.specs.declared.rows.Grouping.{Grouping}
+use Rattle.order_classes.specs.declared.rows.Grouping.TheVariants.{Shows, Answers}
+use Rattle.shown_values.specs.Strings.{array_json, string_json}
+use Rattle.shown_values.specs.Page.{step_json}
+use Rattle.class_texts.specs.Beneath.{Look}
+use Rattle.class_texts.specs.Pages.{Page}
+use Rattle.class_values.specs.Totals.{totals_json}
+use Rattle.class_values.specs.Expected.{expected_json}
+use Rattle.class_values.specs.Class.{classes_part}
+
+-- of which spec the classes are, how many orders it has, and how many are asked for
+abbrev pub counts_json : Page → List ℕ
+counts_json p =
+    (codes "{\"format\":1,\"name\":" ++ string_json p.path) ++ (codes ",\"orders\":" ++ decimal p.orders)
+    ++ (codes ",\"asked\":" ++ decimal p.totals.all.orders)
+
+-- what the numbers of sessions and steps stand for, by the session and the statements of each step
+abbrev pub numbers_json : Page → List ℕ → List (List ℕ) → List ℕ
+numbers_json p step_sessions statements =
+    (codes ",\"sessions\":" ++ array_json string_json p.sessions)
+    ++ (codes ",\"steps\":" ++ array_json step_json (zip p.steps (zip step_sessions statements)))
+
+abbrev pub by_json : Grouping → List ℕ
+by_json Shows = codes "\"shows\""
+by_json Answers = codes "\"answers\""
+
+-- the SELECT as it was given
+abbrev pub look_json : Look → List ℕ
+look_json look = string_json look.text
+
+-- what is expected, and what looks are at
+abbrev pub asked_json : Page → List ℕ
+asked_json p = (codes ",\"expected\":" ++ array_json (expected_json p.rows) p.expectations) ++ (codes ",\"looks\":" ++ array_json look_json p.looks)
+
+-- by what the orders are grouped, and what is told of all of them
+abbrev pub grouped_json : Page → List ℕ
+grouped_json p = (codes ",\"by\":" ++ by_json p.by) ++ (codes ",\"totals\":" ++ totals_json p.by p.totals) ++ asked_json p
+
+-- the whole, by the session and the statements of each step
+abbrev pub classes_json : Page → List ℕ → List (List ℕ) → List ℕ
+classes_json p step_sessions statements = counts_json p ++ numbers_json p step_sessions statements ++ grouped_json p ++ classes_part p ++ codes "}\n"

@@ -1,0 +1,39 @@
+-- The JSON of the totals: how many orders and classes show what.
+use Rattle.std.specs.Prelude.{ℕ, List, ◌++◌, Option, Some, None, codes, decimal}
+use Rattle.std.specs.List.{join_by}
+use Rattle.order_classes.specs.declared.rows.Total.{Total}
+use Rattle.order_classes.specs.declared.rows.Totals.{Totals}
+use Rattle.order_classes.specs.declared.rows.Grouping.{Grouping}
+use Rattle.order_classes.specs.declared.rows.Grouping.TheVariants.{Shows, Answers}
+use Rattle.class_texts.specs.declared.letters.Letter.{Letter}
+use Rattle.class_texts.specs.declared.letters.Letter.TheVariants.{Waits, Deadlock, Error, Unsent, Stuck, NotSerial}
+use Rattle.class_texts.specs.Letters.{letters_of, sign, total_of}
+
+-- answers leave waits and steps that are not sent aside
+abbrev pub answered_total : Totals → Letter → Option Total
+answered_total totals Waits = None
+answered_total totals Deadlock = Some totals.deadlock
+answered_total totals Error = Some totals.error
+answered_total totals Unsent = None
+answered_total totals Stuck = Some totals.stuck
+answered_total totals NotSerial = totals.not_serial
+
+-- none of a letter that is not told
+abbrev pub told_total : Grouping → Totals → Letter → Option Total
+told_total Shows totals letter = total_of totals letter
+told_total Answers totals letter = answered_total totals letter
+
+-- how many orders, and how many classes
+abbrev pub both_json : Total → List ℕ
+both_json total = (codes "[" ++ decimal total.orders) ++ (codes "," ++ decimal total.classes) ++ codes "]"
+
+abbrev pub total_json : Option Total → List ℕ
+total_json None = codes "null"
+total_json (Some total) = both_json total
+
+-- a letter as a member
+abbrev pub letter_json : Grouping → Totals → Letter → List ℕ
+letter_json by totals letter = (codes "\"" ++ sign letter) ++ (codes "\":" ++ total_json (told_total by totals letter))
+
+abbrev pub totals_json : Grouping → Totals → List ℕ
+totals_json by totals = codes "{" ++ join_by (letter_json by totals) (codes ",") (letters_of Shows) ++ codes "}"

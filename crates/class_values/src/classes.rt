@@ -1,0 +1,89 @@
+//! The JSON of classes.
+
+ghost use Rattle.std.specs.Prelude.{◌≡◌, ◌++◌, IfOk, OnOk};
+ghost use Rattle.shown_values.specs.Strings.{array_json};
+ghost use Rattle.class_values.specs.Page as spec;
+
+use crate::expected::push_expectations;
+use crate::rows::push_classes;
+use crate::sheet::Sheet;
+use crate::totals::push_totals;
+use class_texts::{Looked, Page};
+use lock_modes::Text;
+use order_classes::Grouping;
+use shown_values::{push, push_before, push_count, push_names, push_steps, push_string, push_word};
+use std::alloc::{AllocError, Global};
+
+/// The JSON of classes: one object without spaces, and a line feed. It fails for want of memory alone.
+pub fn classes_json(alloc: Global, sheet: &Sheet<'_>) -> Result<Vec<u8>, AllocError>
+    ensures { IfOk result (λ text. text.items ≡ spec.classes_json sheet.now.page.now sheet.now.step_sessions.now sheet.now.statements.now) }
+{
+    let mut out = Vec::new(alloc);
+    push_counts(sheet.page, &mut out)?;
+    push_numbers(sheet.page, sheet.step_sessions, sheet.statements, &mut out)?;
+    push_grouped(sheet.page, &mut out)?;
+    push_classes(sheet.page, &mut out)?;
+    push("}\n", &mut out)?;
+    Ok(out)
+}
+
+/// Pushes of which spec the classes are, and of how many orders.
+fn push_counts(page: &Page<'_>, out: &mut Vec<u8>) -> Result<(), AllocError>
+    ensures { OnOk result (out.new.items ≡ out.old.items ++ spec.counts_json page.now) }
+{
+    push_string("{\"format\":1,\"name\":", page.path.as_bytes(), out)?;
+    push_count(",\"orders\":", page.orders, out)?;
+    push_count(",\"asked\":", page.totals.all.orders, out)
+}
+
+/// Pushes what the numbers of sessions and steps stand for.
+fn push_numbers(
+    page: &Page<'_>,
+    step_sessions: &[u8],
+    statements: &[Text],
+    out: &mut Vec<u8>,
+) -> Result<(), AllocError>
+    ensures { OnOk result (out.new.items ≡ out.old.items ++ spec.numbers_json page.now step_sessions.now statements.now) }
+{
+    push_names(",\"sessions\":", page.sessions, out)?;
+    push_steps(",\"steps\":", page.steps, step_sessions, statements, out)
+}
+
+/// Pushes by what the orders are grouped, and what is told of all of them.
+fn push_grouped(page: &Page<'_>, out: &mut Vec<u8>) -> Result<(), AllocError>
+    ensures { OnOk result (out.new.items ≡ out.old.items ++ spec.grouped_json page.now) }
+{
+    push_word(",\"by\":", by_word(page.by), out)?;
+    push_totals(",\"totals\":", page.by, page.totals, out)?;
+    push_asked(page, out)
+}
+
+/// Pushes what is expected, and what looks are at.
+fn push_asked(page: &Page<'_>, out: &mut Vec<u8>) -> Result<(), AllocError>
+    ensures { OnOk result (out.new.items ≡ out.old.items ++ spec.asked_json page.now) }
+{
+    push_expectations(",\"expected\":", page.rows, page.expectations, out)?;
+    push_looks(",\"looks\":", page.looks, out)
+}
+
+/// By what the orders are grouped, as a JSON string.
+fn by_word(by: Grouping) -> &'static str
+    ensures { result.now ≡ spec.by_json by }
+{
+    match by {
+        Grouping::Shows => "\"shows\"",
+        Grouping::Answers => "\"answers\"",
+    }
+}
+
+/// Pushes a label and the SELECTs of looks behind it.
+fn push_looks(label: &str, looks: &[Looked<'_>], out: &mut Vec<u8>) -> Result<(), AllocError>
+    ensures { OnOk result (out.new.items ≡ out.old.items ++ (label.now ++ array_json spec.look_json looks.now)) }
+{
+    push_word(label, "[", out)?;
+    for (place, look) in looks.iter().enumerate() {
+        push_before(",", place, out)?;
+        push_string("", look.text.as_bytes(), out)?;
+    }
+    push("]", out)
+}

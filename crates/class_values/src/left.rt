@@ -1,0 +1,82 @@
+//! What the orders of a class leave.
+
+ghost use Rattle.std.specs.Prelude.{◌≡◌, ◌++◌, ◌∷◌, MatchOption, OnOk, ℕ, [] as none};
+ghost use Rattle.shown_values.specs.Strings.{array_json};
+ghost use Rattle.shown_values.specs.Page.{open_json, opens_by};
+ghost use Rattle.class_values.specs.Class as spec;
+
+use binding_model::Table;
+use class_texts::rows_at;
+use lock_modes::{Row, Value};
+use order_classes::{Grouping, Rest};
+use shown_values::{push, push_before, push_standing, push_table, push_word};
+use sqlite_items::Items;
+use std::alloc::AllocError;
+
+/// Pushes each table and the rows that are left in it.
+pub(crate) fn push_tables(
+    tables: &[Table],
+    left: &[Items<(Value, Row)>],
+    out: &mut Vec<u8>,
+) -> Result<(), AllocError>
+    ensures { OnOk result (out.new.items ≡ out.old.items ++ spec.tables_from left.now 0 tables.now) }
+{
+    for place in 0..tables.len() {
+        push_table_at(place, &tables[place], rows_at(left, place), out)?;
+    }
+    Ok(())
+}
+
+fn push_table_at(
+    place: usize,
+    table: &Table,
+    rows: &[(Value, Row)],
+    out: &mut Vec<u8>,
+) -> Result<(), AllocError>
+    ensures { OnOk result (out.new.items ≡ out.old.items ++ spec.table_at place table.now rows.now) }
+{
+    push_before(",", place, out)?;
+    push_table(&table.name, rows, out)
+}
+
+/// Pushes how the sessions stand that have not ended, unless orders are grouped by answers.
+pub(crate) fn push_open_part(
+    by: Grouping,
+    rests: &[Rest],
+    out: &mut Vec<u8>,
+) -> Result<(), AllocError>
+    ensures { OnOk result (out.new.items ≡ out.old.items ++ spec.open_part by rests.now) }
+{
+    match by {
+        Grouping::Shows => push_open(",\"open\":", rests, out),
+        Grouping::Answers => Ok(()),
+    }
+}
+
+fn push_open(label: &str, rests: &[Rest], out: &mut Vec<u8>) -> Result<(), AllocError>
+    ensures { OnOk result (out.new.items ≡ out.old.items ++ (label.now ++ array_json open_json (opens_by spec.open_of 0 rests.now))) }
+{
+    push_word(label, "[", out)?;
+    let mut place = 0;
+    for (session, rest) in rests.iter().enumerate() {
+        if let Some(word) = open_word(*rest) {
+            push_before(",", place, out)?;
+            push_standing(session, word, out)?;
+            place += 1;
+        }
+    }
+    push("]", out)
+}
+
+/// How a session stands that has not ended.
+fn open_word(rest: Rest) -> Option<&'static str>
+    ensures { MatchOption result ((session : ℕ) → spec.open_of session rest ≡ none)
+        (λ word. (session : ℕ) → spec.open_of session rest ≡ (session, word.now) ∷ none) }
+{
+    match rest {
+        Rest::HasEnded => None,
+        Rest::IsOpen => Some("\"in\""),
+        Rest::HasFailed => Some("\"failed\""),
+        Rest::StillWaits => Some("\"waits\""),
+    }
+}

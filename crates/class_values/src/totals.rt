@@ -1,0 +1,94 @@
+//! How many orders and classes show what.
+
+ghost use Rattle.std.specs.Prelude.{◌≡◌, ◌++◌, OnOk, codes};
+ghost use Rattle.std.specs.List.{join_by};
+ghost use Rattle.class_values.specs.Totals as spec;
+
+use class_texts::{Letter, letters_of};
+use order_classes::{Grouping, Total, Totals};
+use shown_values::{push, push_before, push_count, push_word};
+use std::alloc::AllocError;
+
+/// Pushes a label and the totals of all letters behind it.
+pub(crate) fn push_totals(
+    label: &str,
+    by: Grouping,
+    totals: Totals,
+    out: &mut Vec<u8>,
+) -> Result<(), AllocError>
+    ensures { OnOk result (out.new.items ≡ out.old.items ++ (label.now ++ spec.totals_json by totals)) }
+{
+    push_word(label, "{", out)?;
+    push_letters(by, totals, letters_of(Grouping::Shows), out)?;
+    push("}", out)
+}
+
+fn push_letters(
+    by: Grouping,
+    totals: Totals,
+    letters: &[Letter],
+    out: &mut Vec<u8>,
+) -> Result<(), AllocError>
+    ensures { OnOk result (out.new.items ≡ out.old.items ++ join_by (spec.letter_json by totals) (codes ",") letters.now) }
+{
+    for (place, letter) in letters.iter().enumerate() {
+        push_before(",", place, out)?;
+        push_letter(by, totals, *letter, out)?;
+    }
+    Ok(())
+}
+
+fn push_letter(
+    by: Grouping,
+    totals: Totals,
+    letter: Letter,
+    out: &mut Vec<u8>,
+) -> Result<(), AllocError>
+    ensures { OnOk result (out.new.items ≡ out.old.items ++ spec.letter_json by totals letter) }
+{
+    push_word("\"", letter.sign(), out)?;
+    push_total("\":", told_total(by, totals, letter), out)
+}
+
+/// How many orders and classes show a letter: none where it is not told.
+fn told_total(by: Grouping, totals: Totals, letter: Letter) -> Option<Total>
+    ensures { result ≡ spec.told_total by totals letter }
+{
+    match by {
+        Grouping::Shows => letter.total(totals),
+        Grouping::Answers => answered_total(totals, letter),
+    }
+}
+
+/// The same where orders are grouped by answers.
+fn answered_total(totals: Totals, letter: Letter) -> Option<Total>
+    ensures { result ≡ spec.answered_total totals letter }
+{
+    match letter {
+        Letter::Waits => None,
+        Letter::Deadlock => Some(totals.deadlock),
+        Letter::Error => Some(totals.error),
+        Letter::Unsent => None,
+        Letter::Stuck => Some(totals.stuck),
+        Letter::NotSerial => totals.not_serial,
+    }
+}
+
+/// Pushes a label and a total behind it, or null where there is none.
+fn push_total(label: &str, total: Option<Total>, out: &mut Vec<u8>) -> Result<(), AllocError>
+    ensures { OnOk result (out.new.items ≡ out.old.items ++ (label.now ++ spec.total_json total)) }
+{
+    match total {
+        None => push_word(label, "null", out),
+        Some(total) => push_both(label, total, out),
+    }
+}
+
+fn push_both(label: &str, total: Total, out: &mut Vec<u8>) -> Result<(), AllocError>
+    ensures { OnOk result (out.new.items ≡ out.old.items ++ (label.now ++ spec.both_json total)) }
+{
+    push(label, out)?;
+    push_count("[", total.orders, out)?;
+    push_count(",", total.classes, out)?;
+    push("]", out)
+}

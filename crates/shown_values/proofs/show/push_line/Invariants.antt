@@ -1,7 +1,0 @@
-use Rattle.std.specs.Prelude.{◌≡◌, ◌++◌, codes, take, decimal}
-use Rattle.std.specs.List.{join_by}
-use Rattle.shown_values.proofs.show.push_line.Given as goal
-
--- the first steps are pushed
-abbrev pub invariant-loop-place : goal.invariant-loop-place
-invariant-loop-place l = l.out.items ≡ l.fn.out.items ++ (l.label ++ codes "[") ++ join_by decimal (codes ",") (take l.place l.line)
