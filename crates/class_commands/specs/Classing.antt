@@ -1,7 +1,7 @@
 -- What is written of the classes of a spec, from the bytes of its file.
 use Rattle.std.specs.Prelude.{◌≡◌, ◌↔◌, ℕ, Bool, true, false, List, [], ◌∷◌, map, All, Option, Result, Ok, Err}
 use Rattle.binding_model.specs.declared.tables.Table.{Table}
-use Rattle.bound_specs.specs.Spec.{SpecFile, ranks}
+use Rattle.bound_specs.specs.Spec.{Step, SpecFile, ranks}
 use Rattle.bound_specs.specs.Binding.{IsFileOf}
 use Rattle.bound_statements.specs.declared.statement.Bound.{Bound}
 use Rattle.machine_model.specs.Start.{start}
@@ -11,7 +11,7 @@ use Rattle.transcripts.specs.Counted.{Wrote, Stopped}
 use Rattle.transcripts.specs.declared.counted.Counted.{Counted}
 use Rattle.transcripts.specs.declared.event.Event.{Event}
 use Rattle.spec_binding.specs.SpecFiles.{IsNoSpec}
-use Rattle.spec_texts.specs.Texts.{Declares}
+use Rattle.spec_texts.specs.Texts.{AreStepLines, Declares}
 use Rattle.order_classes.specs.Looks.{one_row}
 use Rattle.order_classes.specs.declared.rows.ClassRow.{ClassRow}
 use Rattle.order_classes.specs.declared.rows.Grouping.{Grouping}
@@ -24,6 +24,7 @@ use Rattle.class_looks.specs.Seeing.{told_by, sees}
 use Rattle.class_texts.specs.Beneath.{Look}
 use Rattle.class_texts.specs.Expected.{Expectation}
 use Rattle.class_texts.specs.Pages.{Page, page_bytes}
+use Rattle.class_values.specs.Page.{classes_json}
 use Rattle.wanted_classes.specs.declared.wanted.WantedClasses.{WantedClasses}
 use Rattle.asked_classes.specs.declared.asking.AskedClasses.{AskedClasses}
 use Rattle.asked_classes.specs.declared.looks.AskedLook.{AskedLook}
@@ -93,6 +94,12 @@ IsFinding rows expectations finding = (finding ≡ Good) ↔ All (IsMet rows) ex
 
 -- ---- the text
 
+-- what is written of a page of the spec file that the bytes are: its text, or its JSON with what the steps send
+abbrev pub IsWritten : Bool → List ℕ → SpecFile → Page → List ℕ → Type 0
+IsWritten false bytes file page text = text ≡ page_bytes page
+IsWritten true bytes file page text =
+    (statements : List (List ℕ)) × AreStepLines bytes file statements × (text ≡ classes_json page (map (λ (s : Step). s.session) file.run.steps) statements)
+
 -- the text tells the classes of the orders that are asked for of the spec file that the bytes are, with the tables that its main setups declare
 pub record IsTellingOf (bytes path : List ℕ) (wanted : WantedClasses) (text : List ℕ) : Type 0 where
   pub file : SpecFile
@@ -105,7 +112,7 @@ pub record IsTellingOf (bytes path : List ℕ) (wanted : WantedClasses) (text : 
   pub are : IsClassed tables file.run asked.filters.items (grouping wanted.answers) classed
   pub runs : List (List RankRun)
   pub are_ranks : AreRanks wanted.ranks classed runs
-  pub text_is : text ≡ page_bytes (page_of path file tables wanted asked classed runs)
+  pub written : IsWritten wanted.json bytes file (page_of path file tables wanted asked classed runs) text
 
 -- what is found of the orders that it tells of
 abbrev pub IsFoundIn : {bytes path : List ℕ} {wanted : WantedClasses} {text : List ℕ} → IsTellingOf bytes path wanted text → Finding → Type 0

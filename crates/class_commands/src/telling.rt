@@ -1,10 +1,10 @@
 //! The text of classes, and what is found of what is expected.
 
-ghost use Rattle.std.specs.Prelude.{◌≡◌, IfOk, map, string_bytes};
+ghost use Rattle.std.specs.Prelude.{◌≡◌, IfOk, map};
 ghost use Rattle.std.specs.List.{list_all};
 ghost use Rattle.class_texts.specs.Expected.{is_met};
-ghost use Rattle.class_commands.specs.Classing.{AreRanks, IsFinding, expectation_over, has_some, look_over, seen_of};
-ghost use Rattle.class_commands.specs.Parts.{IsTextOf, finding_by};
+ghost use Rattle.class_commands.specs.Classing.{AreRanks, IsFinding, IsWritten, expectation_over, has_some, look_over, seen_of};
+ghost use Rattle.class_commands.specs.Parts.{IsTextOf, finding_by, written_bytes};
 
 use crate::classing::grouping;
 use asked_classes::{AskedClasses, AskedExpectation, AskedLook};
@@ -15,13 +15,34 @@ use class_looks::Look;
 use class_rows::Classed;
 use class_stretches::RankRun;
 use class_texts::{Expected, Looked, Page, classes_text, one_row_is_met};
+use class_values::{Sheet, classes_json};
 use order_classes::{ClassRow, Filter};
+use spec_commands::sessions_of_steps;
+use spec_texts::statement_texts;
 use sqlite_items::Items;
 use std::alloc::{AllocError, Global};
 use transcripts::Event;
 use wanted_classes::WantedClasses;
 
-/// The text of what is found, and whether all is as expected.
+/// What is written of classes.
+#[derive(Drop)]
+pub(crate) enum Written {
+    Text(String),
+    Json(Vec<u8>),
+}
+
+impl Written {
+    pub(crate) fn bytes(&self) -> &[u8]
+        ensures { result.now ≡ written_bytes self.now }
+    {
+        match self {
+            Written::Text(text) => text.as_bytes(),
+            Written::Json(bytes) => bytes.as_slice(),
+        }
+    }
+}
+
+/// What is written of what is found, and whether all is as expected.
 pub(crate) fn told<'a>(
     alloc: Global,
     spec: &Spec,
@@ -30,8 +51,8 @@ pub(crate) fn told<'a>(
     wanted: &WantedClasses<'a>,
     asked: &AskedClasses<'a>,
     found: &Classed,
-) -> Result<(String, Finding), AllocError>
-    ensures text { IfOk result (λ x. IsTextOf path.now spec.now tables.now wanted.now asked.now found.now (string_bytes x.0)) }
+) -> Result<(Written, Finding), AllocError>
+    ensures text { IfOk result (λ x. IsTextOf path.now spec.now tables.now wanted.now asked.now found.now (written_bytes x.0)) }
     ensures finding { IfOk result (λ x. IsFinding found.now.rows.items asked.now.expectations.items x.1) }
 {
     one_row_is_met();
@@ -57,8 +78,39 @@ pub(crate) fn told<'a>(
         with_left: wanted.left,
         looks: looks.as_slice(),
     };
-    let text = classes_text(alloc, &page)?;
-    Ok((text, finding_of(expectations.as_slice())))
+    let written = written_page(alloc, spec, &page, wanted.json)?;
+    Ok((written, finding_of(expectations.as_slice())))
+}
+
+/// The page, as it is written.
+fn written_page(
+    alloc: Global,
+    spec: &Spec,
+    page: &Page<'_>,
+    json: bool,
+) -> Result<Written, AllocError>
+    ensures { IfOk result (λ w. IsWritten json spec.now.text spec.now page.now (written_bytes w)) }
+{
+    if json {
+        return json_of(alloc, spec, page);
+    }
+    let text = classes_text(alloc, page)?;
+    Ok(Written::Text(text))
+}
+
+/// The page as JSON.
+fn json_of(alloc: Global, spec: &Spec, page: &Page<'_>) -> Result<Written, AllocError>
+    ensures { IfOk result (λ w. IsWritten true spec.now.text spec.now page.now (written_bytes w)) }
+{
+    let step_sessions = sessions_of_steps(alloc, spec)?;
+    let statements = statement_texts(alloc, spec)?;
+    let sheet = Sheet {
+        page,
+        step_sessions: step_sessions.as_slice(),
+        statements: statements.as_slice(),
+    };
+    let bytes = classes_json(alloc, &sheet)?;
+    Ok(Written::Json(bytes))
 }
 
 fn has_some(filters: &[Filter]) -> bool

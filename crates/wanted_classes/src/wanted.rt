@@ -53,4 +53,6 @@ pub struct WantedClasses<'a> {
     pub outcomes: bool,
     /// With what each class leaves.
     pub left: bool,
+    /// As JSON, and not as text.
+    pub json: bool,
 }
