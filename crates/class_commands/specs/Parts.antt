@@ -1,5 +1,5 @@
 -- The parts of what is done for classes.
-use Rattle.std.specs.Prelude.{◌≡◌, ℕ, Bool, cond, List, Option, Result, Ok, Err, string_bytes}
+use Rattle.std.specs.Prelude.{◌≡◌, ℕ, Bool, cond, List, Option, Result, Ok, Err}
 use Rattle.std.specs.List.{list_all}
 use Rattle.binding_model.specs.declared.tables.Table.{Table}
 use Rattle.bound_specs.specs.Spec.{SpecFile}
@@ -16,9 +16,8 @@ use Rattle.book_commands.specs.declared.finding.Finding.{Finding}
 use Rattle.book_commands.specs.declared.finding.Finding.TheVariants.{Good, Bad}
 use Rattle.class_commands.specs.declared.classing.ClassesFault.{ClassesFault}
 use Rattle.class_commands.specs.declared.classing.ClassesFault.TheVariants.{Run, NoMemory, Write}
-use Rattle.class_commands.specs.declared.telling.Written.{Written}
-use Rattle.class_commands.specs.declared.telling.Written.TheVariants as written
-use Rattle.class_commands.specs.Classing.{AreRanks, IsWritten, page_of}
+use Rattle.class_commands.specs.Written.{AreRanks, IsWritten}
+use Rattle.class_commands.specs.Classing.{page_of}
 
 -- classes are not found: the orders are not run, or memory ran out
 abbrev pub IsNotFound : SpecFile → ClassesFault → Type 0
@@ -26,14 +25,10 @@ IsNotFound file (Run error) = IsNotRunBy error (start file.run)
 IsNotFound file NoMemory = Unit {0}
 IsNotFound file fault = ⊥
 
-abbrev pub written_bytes : Written → List ℕ
-written_bytes (written.Text text) = string_bytes text
-written_bytes (written.Json bytes) = bytes.items
-
 -- the text is the page of what is found
 abbrev pub IsTextOf : List ℕ → SpecFile → List Table → WantedClasses → AskedClasses → Classed → List ℕ → Type 0
 IsTextOf path file tables wanted asked x text =
-    (runs : List (List RankRun)) × AreRanks wanted.ranks x runs × IsWritten wanted.json file.text file (page_of path file tables wanted asked x runs) text
+    (runs : List (List RankRun)) × AreRanks wanted.ranks x.stretches runs × IsWritten wanted.json file.text file (page_of path file tables wanted asked x runs) text
 
 -- such a text is written and such a finding told; or a front of it is written, or nothing for want of memory
 abbrev pub Writes : {W : Type 0} → (W → Option (List ℕ)) → Counted W → Counted W → (List ℕ → Type 0) → (Finding → Type 0) → Result Finding ClassesFault → Type 0

@@ -3,44 +3,22 @@
 ghost use Rattle.std.specs.Prelude.{◌≡◌, IfOk, map};
 ghost use Rattle.std.specs.List.{list_all};
 ghost use Rattle.class_texts.specs.Expected.{is_met};
-ghost use Rattle.class_commands.specs.Classing.{AreRanks, IsFinding, IsWritten, expectation_over, has_some, look_over, seen_of};
+ghost use Rattle.class_commands.specs.Classing.{IsFinding, expectation_over, has_some, look_over, seen_of};
 ghost use Rattle.class_commands.specs.Parts.{IsTextOf, finding_by, written_bytes};
 
 use crate::classing::grouping;
+use crate::written::{Written, ranks_of, written_page};
 use asked_classes::{AskedClasses, AskedExpectation, AskedLook};
 use binding_model::Table;
 use book_commands::Finding;
 use bound_specs::Spec;
 use class_looks::Look;
 use class_rows::Classed;
-use class_stretches::RankRun;
-use class_texts::{Expected, Looked, Page, classes_text, one_row_is_met};
-use class_values::{Sheet, classes_json};
+use class_texts::{ClassKind, Expected, Looked, Page, one_row_is_met};
 use order_classes::{ClassRow, Filter};
-use spec_commands::sessions_of_steps;
-use spec_texts::statement_texts;
-use sqlite_items::Items;
 use std::alloc::{AllocError, Global};
 use transcripts::Event;
 use wanted_classes::WantedClasses;
-
-/// What is written of classes.
-#[derive(Drop)]
-pub(crate) enum Written {
-    Text(String),
-    Json(Vec<u8>),
-}
-
-impl Written {
-    pub(crate) fn bytes(&self) -> &[u8]
-        ensures { result.now ≡ written_bytes self.now }
-    {
-        match self {
-            Written::Text(text) => text.as_bytes(),
-            Written::Json(bytes) => bytes.as_slice(),
-        }
-    }
-}
 
 /// What is written of what is found, and whether all is as expected.
 pub(crate) fn told<'a>(
@@ -57,7 +35,7 @@ pub(crate) fn told<'a>(
 {
     one_row_is_met();
     let rows = found.rows.as_slice();
-    let ranks = ranks_of(alloc, wanted.ranks, found)?;
+    let ranks = ranks_of(alloc, wanted.ranks, &found.stretches)?;
     let looks = looks_over(alloc, asked.looks.as_slice(), rows)?;
     let expectations = expectations_over(alloc, asked.expectations.as_slice(), rows)?;
     let page = Page {
@@ -66,8 +44,9 @@ pub(crate) fn told<'a>(
         sessions: spec.session_names(),
         steps: spec.step_names(),
         tables,
-        by: grouping(wanted.answers),
+        by: ClassKind::of(grouping(wanted.answers)),
         is_filtered: has_some(asked.filters.as_slice()),
+        missing: None,
         expectations: expectations.as_slice(),
         totals: found.totals,
         rows,
@@ -82,37 +61,6 @@ pub(crate) fn told<'a>(
     Ok((written, finding_of(expectations.as_slice())))
 }
 
-/// The page, as it is written.
-fn written_page(
-    alloc: Global,
-    spec: &Spec,
-    page: &Page<'_>,
-    json: bool,
-) -> Result<Written, AllocError>
-    ensures { IfOk result (λ w. IsWritten json spec.now.text spec.now page.now (written_bytes w)) }
-{
-    if json {
-        return json_of(alloc, spec, page);
-    }
-    let text = classes_text(alloc, page)?;
-    Ok(Written::Text(text))
-}
-
-/// The page as JSON.
-fn json_of(alloc: Global, spec: &Spec, page: &Page<'_>) -> Result<Written, AllocError>
-    ensures { IfOk result (λ w. IsWritten true spec.now.text spec.now page.now (written_bytes w)) }
-{
-    let step_sessions = sessions_of_steps(alloc, spec)?;
-    let statements = statement_texts(alloc, spec)?;
-    let sheet = Sheet {
-        page,
-        step_sessions: step_sessions.as_slice(),
-        statements: statements.as_slice(),
-    };
-    let bytes = classes_json(alloc, &sheet)?;
-    Ok(Written::Json(bytes))
-}
-
 fn has_some(filters: &[Filter]) -> bool
     ensures { result ≡ has_some filters.now }
 {
@@ -120,20 +68,6 @@ fn has_some(filters: &[Filter]) -> bool
         [] => false,
         [_, ..] => true,
     }
-}
-
-/// The ranks of each class, where they are told.
-fn ranks_of(
-    alloc: Global,
-    are_told: bool,
-    found: &Classed,
-) -> Result<Vec<Items<RankRun>>, AllocError>
-    ensures { IfOk result (λ ranks. AreRanks are_told found.now ranks.items) }
-{
-    if are_told {
-        return found.stretches.runs_by_class(alloc);
-    }
-    Ok(Vec::new(alloc))
 }
 
 /// What each look sees of what each class leaves.

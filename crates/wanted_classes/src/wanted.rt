@@ -56,3 +56,16 @@ pub struct WantedClasses<'a> {
     /// As JSON, and not as text.
     pub json: bool,
 }
+
+/// What is wanted of the classes of what books tell.
+#[derive(Clone, Copy, Drop)]
+pub struct WantedOutcomes {
+    /// The totals alone are told.
+    pub brief: bool,
+    /// With the ranks of each class.
+    pub ranks: bool,
+    /// With what the least order of each class tells each session.
+    pub outcomes: bool,
+    /// As JSON, and not as text.
+    pub json: bool,
+}
