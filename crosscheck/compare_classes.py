@@ -18,7 +18,7 @@ from random import Random
 from shlex import split
 from tempfile import TemporaryDirectory
 
-from asked import ANSWERS, BRIEF
+from asked import ANSWERS, BRIEF, JSON, LEFT, OUTCOMES
 from asking import Asker
 from class_laws import wrong_classes, wrong_expectation, wrong_filters, wrong_looks
 from class_pages import Read, kind_of
@@ -127,12 +127,13 @@ def runs(text, seed, path):
 
 LONG_LOOK = "SELECT id, v, id, v, id, v FROM t WHERE id = 1 AND v > 0 AND v < 100 AND NOT v = 11"
 LONG_TABLE, LONG_TEXT = "u" * 73, f"'{'x' * 100}'"
-# Of texts of other words than none and `--answers`: these words, and the status.
+# Of texts of other words than none and `--answers`: these words, and the status. JSON has `--json` besides.
 ASKED = {
     "alone.expected": (f"--expect 'SELECT v, id FROM t' 1 10 --ranks --look '{LONG_LOOK}'", 1),
     "alone.outcomes": ("--outcomes", 0),
     "bare.left": ("--left --outcomes --ranks", 0),
     "bare.joint": ("--ranks --left --answers", 0),
+    "blind.none": ("--deadlock --expect 'SELECT v FROM t' 1", 0),
     "counter.brief": ("--answers --brief --no-serial --expect 'SELECT n FROM counter' 2", 1),
     "counter.expected": ("--expect 'SELECT n FROM counter' 2", 1),
     "counter.lost": ("--no-serial --ranks", 0),
@@ -220,30 +221,39 @@ REFUSED = [
 ]
 
 
-def brief(text):
+def brief_text(text):
     """The parts of a text up to the letters: the title, what is expected, and the letters."""
     parts = text.split(b"\n\n")
     letters = next(place for place, part in enumerate(parts) if part.startswith(b" " * 7))
     return b"\n\n".join(part.rstrip(b"\n") for part in parts[: letters + 1]) + b"\n"
 
 
+def brief_json(text):
+    """The members before the last one, that of the classes."""
+    return text.partition(b',"classes":')[0] + b"}\n"
+
+
 def texts_by_hand():
-    """Each text of `classes/`: the spec's path, the words behind it, the text, and the status."""
-    for path in sorted(WORKED.glob("*.txt")):
-        name = path.name.removesuffix(".txt")
-        words, status = ASKED.get(name, (ANSWERS if name.endswith(".answers") else "", 0))
-        yield path.with_name(f"{name.partition('.')[0]}.spec"), split(words), path.read_bytes(), status
+    """Each text and JSON of `classes/`: the spec's path, the words behind it, the text, and the status."""
+    for path in sorted([*WORKED.glob("*.txt"), *WORKED.glob("*.json")]):
+        words, status = ASKED.get(path.stem, (ANSWERS if path.stem.endswith(".answers") else "", 0))
+        yield path.with_name(f"{path.stem.partition('.')[0]}.spec"), split(words) + [JSON] * (path.suffix == ".json"), path.read_bytes(), status
 
 
 def worked():
     """For each text of `classes/` the spec's path and text, the words of its run, and what it tells; and so for what is refused."""
     for path, flags, text, status in texts_by_hand():
-        for more, out in (([], text), ([BRIEF], brief(text)), (["--workers", "1"], text), (["--workers", "3"], text)):
-            if more != [BRIEF] or BRIEF not in flags:
-                yield path.name, path.read_bytes(), ["classes", path.name, *flags, *more], (status, out, b"")
+        runs_by_hand = [([], text), (["--workers", "1"], text), (["--workers", "3"], text)]
+        if BRIEF not in flags:
+            runs_by_hand += [([BRIEF], (brief_json if JSON in flags else brief_text)(text))]
+        if JSON in flags:
+            runs_by_hand += [([flag], text) for flag in (OUTCOMES, LEFT) if flag not in flags]
+        for more, out in runs_by_hand:
+            yield path.name, path.read_bytes(), ["classes", path.name, *flags, *more], (status, out, b"")
     for name, words, told in REFUSED:
         path = WORKED / f"{name}.spec"
-        yield path.name, path.read_bytes(), ["classes", path.name, *split(words)], (3, b"", f"isofarm: {told}\n".encode())
+        for more in ([], [JSON]):
+            yield path.name, path.read_bytes(), ["classes", path.name, *split(words), *more], (3, b"", f"isofarm: {told}\n".encode())
 
 
 SHARES = [((0, 5), "0"), ((1, 1), "100.0"), ((2, 3), "66.6"), ((1, 1000), "0.1"), ((1, 1001), "0.1"), ((1, 500), "0.2"), ((999, 1000), "99.9")]
