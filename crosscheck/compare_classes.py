@@ -20,8 +20,8 @@ from tempfile import TemporaryDirectory
 
 from asked import ANSWERS, BRIEF, JSON, LEFT, OUTCOMES
 from asking import Asker
-from class_laws import wrong_classes, wrong_expectation, wrong_filters, wrong_looks
-from class_pages import Read, kind_of
+from class_laws import wrong_classes, wrong_expectation, wrong_filters, wrong_looks, wrong_objects
+from class_objects import read_back
 from classes import Asking, joined, ranges_text, share, with_steps
 from compare import Comparison, ended, fault_of
 from compare_shown import ALL, ALL_KINDS, ALONE, FILES, bound, specs_of
@@ -31,7 +31,8 @@ from refusal import Refusal
 
 WORKED = Path(__file__).resolve().parent / "classes"
 MOST_ORDERS, MOST_LINES, NEAR_RANKS = 20_000, 60, 40
-RUNS = [[], [ANSWERS], [BRIEF], [ANSWERS, BRIEF], ["--workers", "1"], ["--workers", "3"], [ANSWERS, "--workers", "3"]]
+TOLD = [[], [ANSWERS], [BRIEF], [ANSWERS, BRIEF], [JSON], [JSON, ANSWERS], [JSON, BRIEF]]
+RUNS = [*TOLD, ["--workers", "1"], ["--workers", "3"], [ANSWERS, "--workers", "3"], ["--workers", "3", JSON]]
 # So many runs of a spec ask for something by filters, looks and expectations.
 RUNS_ASKED = 10
 EXPECTATIONS_LOOKED_AT = 3
@@ -288,10 +289,14 @@ class ClassComparison(Comparison):
         status, out, _error = got = super().look(name, words, want)
         if got != want:
             return got
-        for wrong in Read(out.decode()).wrong(status) if out else []:
+        for wrong in read_back(out).wrong(status) if out else []:
             self.differences += 1
             print(f"{name}, {' '.join(words)}: {wrong}", flush=True)
         return got
+
+
+def kind_of(out):
+    return read_back(out).kinds()
 
 
 def compare_with(program, kinds, first, seeds):
@@ -312,11 +317,15 @@ def compare_with(program, kinds, first, seeds):
 # ---- without the program
 
 
-def pages(asking, seed):
-    """Pages of a spec, each with its words: as a whole, by answers, brief, and what is asked for besides. What is refused is told."""
-    asker = asker_of(asking, seed)
-    for words in [*RUNS[:4], *(asker.words() for _ in range(RUNS_ASKED))]:
-        yield words, asking.answer(Random(seed).choice(FILES), words)
+def wrong_told(asking, seed, counts):
+    """What is wrong with pages and objects of a spec: as a whole, by answers, brief, and what is asked for besides. What is told is counted."""
+    random, path, asker = Random(seed), Random(seed).choice(FILES), asker_of(asking, seed)
+    for words in [*TOLD, *(asker.words() for _ in range(RUNS_ASKED))]:
+        status, out, error = asking.answer(path, words)
+        counts.update(kind_of(out) if out else [f"refused: {fault_of(error)}"])
+        wrong = [*read_back(out).wrong(status)] if out else []
+        wrong += wrong_objects(asking, path, words, random) if JSON in words else []
+        yield from (f"{' '.join(words)}: {one}" for one in wrong)
 
 
 def wrong_alone(asking, seed):
@@ -343,10 +352,8 @@ def alone(kinds, first, seeds):
     found = len(wrong_texts)
     for kind in kinds:
         for name, seed, text in texts_of(kind, first, seeds):
-            asking, told = Asking(text), []
-            for words, (status, out, error) in pages(asking, seed):
-                counts.update(kind_of(out) if out else [f"refused: {fault_of(error)}"])
-                told += [f"{' '.join(words)}: {wrong}" for wrong in Read(out.decode()).wrong(status)] if out else []
+            asking = Asking(text)
+            told = [*wrong_told(asking, seed, counts)]
             if is_classed(asking):
                 counts.update(["specs"])
                 told += wrong_alone(asking, seed)
