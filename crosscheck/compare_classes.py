@@ -2,12 +2,12 @@
 
 usage: python3 crosscheck/compare_classes.py PROGRAM|--alone KIND FIRST_SEED SEEDS
 
-Each spec is run as a whole and by answers, brief and not, and with several numbers of workers, and then with some filters, looks and
-expectations (`asking.py`). Of a spec with more orders than this implementation runs, some are made permutation lines. Before them come the
-specs of `classes/`, whose texts were worked out by hand. With `--alone` no program is run: classes and texts are held against what has to hold
-of each (`class_laws.py`, `class_pages.py`). KIND is one of those below, or `all`: `crowd` has five to seven sessions with so few steps that all
-orders are run, `leaving` has sessions that leave other rows in each order, and the others are those of `compare_shown.py`. The last lines
-count what was told.
+Each spec is run as a whole and by answers, brief and not, as text and as JSON, and with several numbers of workers, and then with some filters,
+looks and expectations (`asking.py`). Of a spec with more orders than this implementation runs, some are made permutation lines. Before them come
+the specs of `classes/`, whose texts and JSON were worked out by hand. With `--alone` no program is run: classes, texts and JSON are held against
+what has to hold of each (`class_laws.py`, `class_pages.py`, `class_objects.py`). KIND is one of those below, or `all`: `crowd` has five to seven
+sessions with so few steps that all orders are run, `leaving` has sessions that leave other rows in each order, and the others are those of
+`compare_shown.py`. The last lines count what was told.
 """
 
 import re
