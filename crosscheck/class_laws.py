@@ -220,9 +220,9 @@ def without(words, *left_out):
     return [word for word in words if word not in left_out]
 
 
-def told_of(row, lines, has_ranks):
-    """What a class has in the JSON and in the page, with the lines that each session is told."""
-    return row.least, row.orders, row.shows, row.ranges() if has_ranks else [], lines
+def told_of(row, told, has_ranks):
+    """What a class has in the JSON and in the page, with what each session is told: a text, since a value may have a line feed."""
+    return row.least, row.orders, row.shows, row.ranges() if has_ranks else [], ["\n".join(lines) for lines in told]
 
 
 def wrong_beside_page(read, page):
