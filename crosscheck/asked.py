@@ -1,4 +1,4 @@
-"""What is asked of classes, as words have it: filters, how orders are grouped, what is told of each class, looks and expectations."""
+"""What is asked of classes, as words have it: filters, how orders are grouped, what is told of each class and how, looks and expectations."""
 
 import re
 from dataclasses import dataclass, field
@@ -8,7 +8,7 @@ from looks import Expected, look_of
 from machine import DEADLOCK
 from orders import quoted
 
-ANSWERS, BRIEF, RANKS, OUTCOMES, LEFT = FLAGS = ["--answers", "--brief", "--ranks", "--outcomes", "--left"]
+ANSWERS, BRIEF, RANKS, OUTCOMES, LEFT, JSON = FLAGS = ["--answers", "--brief", "--ranks", "--outcomes", "--left", "--json"]
 WORKERS, PROGRESS, LOOK, EXPECT = "--workers", "--progress", "--look", "--expect"
 LOSES, LOSES_NOT = "--deadlock", "--no-deadlock"
 # A word that begins with a hyphen ends the values of an expectation, but where it is a number.
@@ -63,6 +63,14 @@ class Asked:
     @property
     def is_brief(self):
         return BRIEF in self.flags
+
+    @property
+    def has_ranks(self):
+        return RANKS in self.flags
+
+    @property
+    def is_json(self):
+        return JSON in self.flags
 
     def passes(self, spec, told, letters):
         return all(one.passes(spec, told, letters) for one in self.filters)

@@ -201,7 +201,7 @@ class Asker(Maker):
 
     def words(self):
         """Some words behind the spec's path."""
-        groups = [[flag] for flag in asked.FLAGS if self.some(0.2 if flag == asked.BRIEF else 0.35)]
+        groups = [[flag] for flag in asked.FLAGS if self.some(0.2 if flag in (asked.BRIEF, asked.JSON) else 0.35)]
         groups += [[word] for word in self.filters()]
         # A spec without tables has no look.
         if self.tables or not self.spec:

@@ -1,20 +1,22 @@
-"""What holds of the classes of a spec and of their pages. Each of these yields what is wrong."""
+"""What holds of the classes of a spec, of their pages and of their JSON. Each of these yields what is wrong."""
 
+import json
 from itertools import permutations
 
-from asked import ANSWERS, FILTERS, LOOK, OUTCOMES, RANKS, asked_by
+from asked import ANSWERS, BRIEF, FILTERS, JSON, LEFT, LOOK, OUTCOMES, RANKS, asked_by
 from asking import opposite
+from class_objects import ANSWERING, ReadObject
 from class_pages import OF_LOOK, OF_OUTCOME, Read
-from classes import Shows
+from classes import OF_SHOWS, Shows
 from machine import ABORTED, DEADLOCK, FAULTS, OUT_OF_RANGE, printed
+from moment_laws import lines_told
 from moments import NOT_SENT, WAITS, shown
-from shown import WIDTH, broken, marks, value_text, visible
+from shown import WIDTH, Order, broken, marks, show_json, value_text, visible
 from sql import LEAST, MOST
 
 # Of so many orders the moments are looked at, and of so many sessions all serial orders.
 ORDERS_LOOKED_AT, MOST_SESSIONS = 60, 6
-FILTERS_LOOKED_AT, CLASSES_LOOKED_AT = 4, 6
-ANSWERING_LINES = (b"row ", b"rows ", b"inserted ", b"updated ", b"deleted ", b"error: ")
+FILTERS_LOOKED_AT, CLASSES_LOOKED_AT, CLASSES_SHOWN = 4, 6, 3
 LETTERS = {"waits": "W", "deadlock": "D", "error": "E", "unsent": "N", "stuck": "S", "serial": "R"}
 
 
@@ -56,7 +58,7 @@ def answer_by_lines(spec, order):
     """What an order answers, by the lines of its moments and the rows that it leaves."""
     lines = [[] for _name in spec.session_names]
     for moment in order.moments:
-        lines[moment.session] += [line for event in moment.events if (line := printed(spec, event)).startswith(ANSWERING_LINES)]
+        lines[moment.session] += [line for event in moment.events if (line := printed(spec, event).decode()).startswith(ANSWERING)]
     return repr((lines, order.left))
 
 
@@ -209,3 +211,75 @@ def wrong_expectation(asking, select, values):
     first = min((row.least for row in missing), default=None)
     if (expected.as_expected, expected.first) != (looked.orders - sum(row.orders for row in missing), first):
         yield f"{values} is expected of {select} and told otherwise than it is looked at"
+
+
+# ---- JSON beside the page and beside the JSON of orders
+
+
+def without(words, *left_out):
+    return [word for word in words if word not in left_out]
+
+
+def told_of(row, told, has_ranks):
+    """What a class has in the JSON and in the page, with what each session is told: a text, since a value may have a line feed."""
+    return row.least, row.orders, row.shows, row.ranges() if has_ranks else [], ["\n".join(lines) for lines in told]
+
+
+def wrong_beside_page(read, page):
+    """The numbers of the JSON are those of the page with all its rows, and so are the classes."""
+    numbers = read.orders, read.asked, read.by_answers, [(one["met"], one["first"]) for one in read.expected]
+    if numbers != (page.orders, page.asked, page.by_answers, [(one.as_expected, one.first) for one in page.expected]):
+        yield "JSON has other orders than the page"
+    totals = {letter: total and (*total,) for letter, total in read.totals.items()}
+    if totals != {letter: page.total(letter) for letter in OF_SHOWS}:
+        yield "JSON has other totals than the page"
+    sessions = range(len(read.value["sessions"]))
+    objects = [told_of(row, [[f"  {line}" for line in lines] for lines in row.told], read.has_ranks) for row in read.rows]
+    if read.has_classes and objects != [told_of(row, [told_to(row, session) for session in sessions], read.has_ranks) for row in page.rows]:
+        yield "JSON has other classes than the page"
+
+
+def wrong_beside_words(read, path, asked):
+    """Names, SELECTs and values stand as they were given, and there is what was asked for."""
+    expected = [(one["select"], one["values"]) for one in read.expected]
+    if (read.value["name"], read.looks, expected) != (path, asked.looks, [(one.select, one.values) for one in asked.expected]):
+        yield "JSON has not the words that were given"
+    if (read.by_answers, read.has_classes, read.has_ranks) != (asked.by_answers, not asked.is_brief, asked.has_ranks and bool(read.rows)):
+        yield "JSON has something else than was asked for"
+
+
+def wrong_beside_order(read, row, order):
+    """Of the least order of a class, beside its JSON."""
+    of_spec, of_order = ["name", "orders", "sessions", "steps"], ["order", "left"] + ["open"] * (not read.by_answers)
+    if any(read.value[name] != order[name] for name in of_spec):
+        yield "JSON has other sessions or steps than that of an order"
+    if any(row.value[name] != order[name] for name in of_order):
+        yield f"JSON leaves something else than that of the order of rank {row.least}"
+    if row.told != [[*lines_told(order, session)] for session in range(len(order["sessions"]))]:
+        yield f"JSON tells something else than that of the order of rank {row.least}"
+
+
+def wrong_expected_objects(asking, path, words, read):
+    """What is expected is met by the orders of just those classes of which a look at the same SELECT tells that one row."""
+    looks = [word for one in read.expected for word in (LOOK, one["select"])]
+    out, is_as_expected = asking.page(path, asked_by([*without(words, BRIEF), *looks]))
+    looked = ReadObject(out)
+    yield from looked.wrong(not is_as_expected)
+    if looked.expected != read.expected:
+        yield "JSON expects something else where it is looked at"
+
+
+def wrong_objects(asking, path, words, random):
+    """What is wrong with the JSON of these words beside the page and the orders of the same. What is refused is refused alike."""
+    (status, out, error), page = asking.answer(path, words), asking.answer(path, without(words, JSON))
+    if (status, bool(out), error) != (page[0], bool(page[1]), page[2]):
+        yield "JSON has another status or another fault than the page"
+    if not out:
+        return
+    read, asked = ReadObject(out.decode()), asked_by(words)
+    yield from wrong_beside_words(read, path, asked)
+    # Without tables a session that has not ended is told right beneath the outcome, as a line of it would be.
+    yield from wrong_beside_page(read, Read(asking.page(path, asked_by([*without(words, JSON, BRIEF, LEFT), RANKS, OUTCOMES]))[0]))
+    yield from wrong_expected_objects(asking, path, words, read)
+    for row in random.sample(read.rows, min(len(read.rows), CLASSES_SHOWN)):
+        yield from wrong_beside_order(read, row, json.loads(show_json(Order(asking.text, path, row.least))))

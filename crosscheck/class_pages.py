@@ -1,4 +1,4 @@
-"""Reads back what `isofarm classes` prints, and says what is wrong with its form, whatever is shown."""
+"""Reads back the page that `isofarm classes` prints, and says what is wrong with its form, whatever is shown."""
 
 import re
 from dataclasses import dataclass, field
@@ -13,6 +13,7 @@ EXPECTED, AS_EXPECTED = "expected of ", re.compile(r"  so in (\d+) of (\d+) (ord
 FIRST_NOT_SO = re.compile(r"  first not so at rank (\d+):.*")
 ONES = ("order", "class", "answer")
 NO_ORDERS, NOT_TOLD = "0", "-"
+NO_TOTAL = [NOT_TOLD] * 3
 NOT_ENDED = (" waits", " is in a transaction", " is in a failed block")
 OF_RANKS, OF_OUTCOME, OF_LEFT, OF_LOOK = "ranks ", "session ", "left in ", "look "
 
@@ -30,8 +31,12 @@ class Row:
         return int(self.front[1])
 
     @property
+    def shows(self):
+        return self.front[3]
+
+    @property
     def letters(self):
-        return self.front[3].replace("-", "")
+        return self.shows.replace("-", "")
 
     @property
     def least(self):
@@ -61,6 +66,45 @@ class Row:
         return self.besides[:first] + self.besides[first + len(self.outcome()) :]
 
 
+# ---- what is wrong with classes, each a row of a page or an object: its orders, letters, least rank and ranges
+
+
+def wrong_leasts(rows, asked, has_all):
+    """Least ranks rise, from 0 where all orders are asked for, and the classes have as many orders as are asked for."""
+    leasts = [row.least for row in rows]
+    if leasts != sorted({*leasts}) or (has_all and leasts[:1] != [0]):
+        yield "least ranks do not rise, or not from 0"
+    if sum(row.orders for row in rows) != asked:
+        yield "all orders asked for are not so many as the classes have"
+
+
+def wrong_total(letter, total, rows, by_answers):
+    """Of a letter, with how many orders and classes it is told to have; none where it is not told."""
+    having = [row.orders for row in rows if letter in row.letters]
+    if not total:
+        if letter != "R" or having:
+            yield f"{letter} is not told, or has a class"
+    elif total[1] != len(having) or (total[0] != sum(having) and not (by_answers and letter == "S")):
+        yield f"{letter} has not so many orders or classes as its rows"
+    elif not len(having) <= total[0] <= sum(having):
+        yield f"{letter} has more orders than its rows, or not one in each"
+
+
+def wrong_ranges(rows):
+    """Ranges rise and do not touch, have as many ranks as the class has orders, and no rank is in two classes."""
+    ends = sorted(one for row in rows for one in row.ranges())
+    if any(first <= last for (_first, last), (first, _last) in zip(ends, ends[1:])):
+        yield "ranges of two classes have a rank in common"
+    for row in rows:
+        ranges = row.ranges()
+        rises = all(last + 1 < first for (_first, last), (first, _last) in zip(ranges, ranges[1:]))
+        if ranges and (ranges[0][0] != row.least or not rises or sum(last - first + 1 for first, last in ranges) != row.orders):
+            yield f"{ranges} are no ranges of the class of rank {row.least}"
+
+
+# ---- the page
+
+
 @dataclass
 class Expectation:
     """Of an expectation: in how many orders it is so, of how many, and the first rank at which it is not."""
@@ -75,6 +119,7 @@ class Read:
     """A page as it is read back: its orders and groups, what is expected, the numbers of each letter, and the row of each class."""
 
     def __init__(self, out):
+        self.text = out
         (title,), *parts = [part.split("\n") for part in out.removesuffix("\n").split("\n\n")]
         _path, some, orders, of_orders, groups, of_groups = TITLE.fullmatch(title).groups()
         self.orders, self.groups, self.by_answers = int(orders), int(groups), of_groups.startswith("answer")
@@ -88,43 +133,25 @@ class Read:
         self.legend = parts.pop() if parts else []
         self.rows = rows_of(parts)
 
+    def total(self, letter):
+        """How many orders have a letter, and how many classes; none where it is not told."""
+        columns = self.letters.get(letter, NO_TOTAL)
+        return None if columns == NO_TOTAL else (int(columns[0]), int(columns[2]))
+
     # what is wrong with it
 
     def wrong_letters(self):
-        for letter, columns in self.letters.items():
-            rows = [row for row in self.rows if letter in row.letters]
-            orders = sum(row.orders for row in rows)
-            is_lined = columns == [NOT_TOLD] * 3
-            if is_lined and (letter != "R" or rows):
-                yield f"{letter} is not told, or has a class"
-            elif not is_lined and (columns[2] != str(len(rows)) or (columns[0] != str(orders) and not (self.by_answers and letter == "S"))):
-                yield f"{letter} has not so many orders or classes as its rows"
-            elif not is_lined and not len(rows) <= int(columns[0]) <= orders:
-                yield f"{letter} has more orders than its rows, or not one in each"
+        for letter in self.letters:
+            yield from wrong_total(letter, self.total(letter), self.rows, self.by_answers)
 
     def wrong_rows(self):
         if [row.front[0] for row in self.rows] != [str(number) for number in range(1, self.groups + 1)]:
             yield "classes are not numbered"
-        if sum(row.orders for row in self.rows) != self.asked:
-            yield "all orders asked for are not so many as the classes have"
-        leasts = [row.least for row in self.rows]
-        if leasts != sorted({*leasts}) or (leasts[0] != 0 and not self.has_filters):
-            yield "least ranks do not rise, or not from 0"
-        if any(len(row.front[3]) != len(self.letters) for row in self.rows):
+        if any(len(row.shows) != len(self.letters) for row in self.rows):
             yield "not each letter has its place"
         if self.legend != [LEGEND]:
             yield "another last line"
-
-    def wrong_ranges(self):
-        """Ranges rise and do not touch, have as many ranks as the class has orders, and no rank is in two classes."""
-        ends = sorted(one for row in self.rows for one in row.ranges())
-        if any(first <= last for (_first, last), (first, _last) in zip(ends, ends[1:])):
-            yield "ranges of two classes have a rank in common"
-        for row in self.rows:
-            ranges = row.ranges()
-            rises = all(last + 1 < first for (_first, last), (first, _last) in zip(ranges, ranges[1:]))
-            if ranges and (ranges[0][0] != row.least or not rises or sum(last - first + 1 for first, last in ranges) != row.orders):
-                yield f"{ranges} are no ranges of the class of rank {row.least}"
+        yield from wrong_leasts(self.rows, self.asked, not self.has_filters)
 
     def wrong_shares(self):
         told = [row.front[1:3] for row in self.rows] + [(columns[0], columns[1]) for columns in self.letters.values() if NOT_TOLD not in columns]
@@ -160,10 +187,45 @@ class Read:
         yield from self.wrong_words()
         yield from self.wrong_shares()
         yield from self.wrong_expectations()
-        yield from self.wrong_ranges()
+        yield from wrong_ranges(self.rows)
         if self.has_rows:
             yield from self.wrong_rows()
             yield from self.wrong_letters()
+
+    # what it shows
+
+    def kinds(self):
+        """In words to be counted."""
+        yield "a text by answers" if self.by_answers else "a text"
+        yield from (f"{letter}: {WORDS[letter]}" for letter, columns in self.letters.items() if columns[0] not in (NO_ORDERS, NOT_TOLD))
+        besides = {line.split(" ")[0] for row in self.rows for line in row.besides}
+        found = {
+            "R is not told": NOT_TOLD in self.letters["R"],
+            "an order of several lines": any(len(row.order) > 1 for row in self.rows),
+            "a name that is cut": "~" in self.text,
+            "a character by its number": "\\u{" in self.text,
+            "a share of 0.1": " 0.1 " in self.text,
+            "100 classes and more": self.groups > 99,
+            "one class": self.groups == 1,
+            "brief": not self.has_rows and self.groups > 0,
+            "filters: no order": self.has_filters and self.asked == 0,
+            "filters: some orders": self.has_filters and 0 < self.asked < self.orders,
+            "filters: all orders": self.has_filters and self.asked == self.orders,
+            "expected: so in no order": any(one.as_expected == 0 < one.orders for one in self.expected),
+            "expected: so in some orders": any(0 < one.as_expected < one.orders for one in self.expected),
+            "expected: so in all orders": any(one.as_expected == one.orders > 0 for one in self.expected),
+            "expected: a first order at a rank behind 0": any(one.first for one in self.expected),
+            "ranks": "ranks" in besides,
+            "ranks of several lines": any(len(row.range_lines()) > 1 for row in self.rows),
+            "outcomes": any(row.outcome() for row in self.rows),
+            "outcomes: a character that is not seen": any({*map(ord, line)} & HIDDEN for row in self.rows for line in row.outcome()),
+            "what is left": "left" in besides,
+            "nothing is left": any(line == NOTHING for row in self.rows for line in row.besides),
+            "a session that has not ended": any(line.endswith(NOT_ENDED) for row in self.rows for line in row.besides),
+            "a look": "look" in besides,
+            "a look that fails": any(line == "  error: integer out of range" for row in self.rows for line in after_look(row)),
+        }
+        yield from (word for word, is_so in found.items() if is_so)
 
 
 def expectations(lines):
@@ -191,42 +253,6 @@ def rows_of(parts):
             else:
                 rows[-1].besides.append(line)
     return rows
-
-
-def kind_of(out):
-    """What a page shows, in words to be counted."""
-    text = out.decode()
-    read = Read(text)
-    yield "a text by answers" if read.by_answers else "a text"
-    yield from (f"{letter}: {WORDS[letter]}" for letter, columns in read.letters.items() if columns[0] not in (NO_ORDERS, NOT_TOLD))
-    besides = {line.split(" ")[0] for row in read.rows for line in row.besides}
-    found = {
-        "R is not told": NOT_TOLD in read.letters["R"],
-        "an order of several lines": any(len(row.order) > 1 for row in read.rows),
-        "a name that is cut": "~" in text,
-        "a character by its number": "\\u{" in text,
-        "a share of 0.1": " 0.1 " in text,
-        "100 classes and more": read.groups > 99,
-        "one class": read.groups == 1,
-        "brief": not read.has_rows and read.groups > 0,
-        "filters: no order": read.has_filters and read.asked == 0,
-        "filters: some orders": read.has_filters and 0 < read.asked < read.orders,
-        "filters: all orders": read.has_filters and read.asked == read.orders,
-        "expected: so in no order": any(one.as_expected == 0 < one.orders for one in read.expected),
-        "expected: so in some orders": any(0 < one.as_expected < one.orders for one in read.expected),
-        "expected: so in all orders": any(one.as_expected == one.orders > 0 for one in read.expected),
-        "expected: a first order at a rank behind 0": any(one.first for one in read.expected),
-        "ranks": "ranks" in besides,
-        "ranks of several lines": any(len(row.range_lines()) > 1 for row in read.rows),
-        "outcomes": any(row.outcome() for row in read.rows),
-        "outcomes: a character that is not seen": any({*map(ord, line)} & HIDDEN for row in read.rows for line in row.outcome()),
-        "what is left": "left" in besides,
-        "nothing is left": any(line == NOTHING for row in read.rows for line in row.besides),
-        "a session that has not ended": any(line.endswith(NOT_ENDED) for row in read.rows for line in row.besides),
-        "a look": "look" in besides,
-        "a look that fails": any(line == "  error: integer out of range" for row in read.rows for line in after_look(row)),
-    }
-    yield from (word for word, is_so in found.items() if is_so)
 
 
 def after_look(row):

@@ -13,15 +13,16 @@ from functools import cached_property
 from itertools import groupby
 from pathlib import Path
 
-from asked import LEFT, OUTCOMES, RANKS, NotAsked, NoWords, asked_by
+from asked import LEFT, OUTCOMES, NotAsked, NoWords, asked_by
 from binding import bind
+from class_values import classes_json
 from facts import shared
 from looks import NoLook, look_of, seen
 from machine import DEADLOCK, DUPLICATE, OUT_OF_RANGE, UNAVAILABLE, outcome_text, printed, start
 from moments import WAITS, rows_left, shown, standing_of
 from orders import spelled
 from refusal import Refusal
-from shown import WIDTH, broken, cut, left_lines, marks, visible, word_of
+from shown import WIDTH, broken, cut, left_lines, marks, statements_of, visible, word_of
 from spec_file import read_spec
 
 # The words of events that answer, as in the value of an outcome.
@@ -209,7 +210,7 @@ def ranges_text(ranges):
 
 
 class Page:
-    """The text of what is asked of a spec's classes."""
+    """What is asked of a spec's classes, and its text."""
 
     def __init__(self, classes, path, asked):
         self.classes, self.path, self.asked = classes, path, asked
@@ -236,21 +237,33 @@ class Page:
         """The classes whose orders are not as expected, in the order of their least ranks."""
         return [group for group in self.groups if not expected.is_in(self.classes.seen(expected.select, group))]
 
+    def as_expected(self, missing):
+        """How many orders are as expected where those of these classes are not."""
+        return self.orders_asked - sum(group.orders for group in missing)
+
     def is_as_expected(self):
         return not any(self.missing(one) for one in self.asked.expected)
 
     def expected_lines(self):
         for one in self.asked.expected:
             missing = self.missing(one)
-            as_expected = self.orders_asked - sum(group.orders for group in missing)
             yield from broken(visible(f"expected of {one.select}: {'|'.join(one.values)}"), WIDTH, 0, 2)
-            yield f"  so in {as_expected} of {number_of(self.orders_asked, 'order', 'orders')}"
+            yield f"  so in {self.as_expected(missing)} of {number_of(self.orders_asked, 'order', 'orders')}"
             if missing:
                 rank = missing[0].least
                 yield from broken(f"first not so at rank {rank}: {' '.join(self.classes.steps(rank))}", WIDTH, 2, 4)
                 yield from self.seen_lines(one.select, missing[0], 4, 6)
 
     # letters
+
+    def total(self, letter):
+        """How many orders have a letter, and how many classes; none where it is not told."""
+        if letter not in self.letters or (letter == "R" and self.is_lined):
+            return None
+        return sum(group.letters[letter] for group in self.groups), sum(letter in group.letters for group in self.groups)
+
+    def totals(self):
+        return {letter: self.total(letter) for letter in OF_SHOWS}
 
     def counted(self, orders, part):
         return f"{orders:>{self.of_orders}}{part:>{OF_SHARE}}"
@@ -259,13 +272,15 @@ class Page:
         of_classes = 2 + max(LEAST_CLASSES, digits(len(self.groups)))
         yield f"{'':5}{self.counted('orders', 'share %')}{self.more:>{of_classes}}"
         for letter in self.letters:
-            orders = sum(group.letters[letter] for group in self.groups)
-            columns = orders, share(orders, self.orders), sum(letter in group.letters for group in self.groups)
-            if letter == "R" and self.is_lined:
-                columns = "-", "-", "-"
-            yield f"    {letter}{self.counted(*columns[:2])}{columns[2]:>{of_classes}}  {WORDS[letter]}"
+            total = self.total(letter)
+            orders, part, groups = (total[0], share(total[0], self.orders), total[1]) if total else ("-", "-", "-")
+            yield f"    {letter}{self.counted(orders, part)}{groups:>{of_classes}}  {WORDS[letter]}"
 
     # classes
+
+    def letters_of(self, group):
+        """A character for each letter that has a place."""
+        return "".join(letter if letter in group.letters else "-" for letter in self.letters)
 
     def class_lines(self):
         of_number, of_rank = max(len(self.one), digits(len(self.groups))), 2 + max(LEAST_RANK, digits(self.orders))
@@ -276,9 +291,8 @@ class Page:
 
         yield front(self.one, self.counted("orders", "share %"), "shows", "rank") + "order"
         for number, group in enumerate(self.groups, 1):
-            letters = "".join(letter if letter in group.letters else "-" for letter in self.letters)
             yield from with_steps(
-                front(number, self.counted(group.orders, share(group.orders, self.orders)), letters, group.least),
+                front(number, self.counted(group.orders, share(group.orders, self.orders)), self.letters_of(group), group.least),
                 self.classes.steps(group.least),
             )
             told = [*self.told_besides(group)]
@@ -288,7 +302,7 @@ class Page:
     def told_besides(self, group):
         """What is told of a class beneath its order."""
         spec, flags = self.classes.spec, self.asked.flags
-        if RANKS in flags:
+        if self.asked.has_ranks:
             yield from broken(f"ranks {ranges_text(group.ranges)}", WIDTH, 0, 6)
         if OUTCOMES in flags:
             yield from outcome_text(spec, group.one.told).decode().removesuffix("\n").split("\n")
@@ -328,18 +342,23 @@ class Asking:
         self.text = text
 
     @cached_property
+    def file(self):
+        return read_spec(self.text)
+
+    @cached_property
     def spec(self):
-        return bind(read_spec(self.text))
+        return bind(self.file)
 
     @cached_property
     def classes(self):
         return Classes(self.spec)
 
     def page(self, path, asked):
-        """The text of what is asked for, and whether each order is as expected. Raises NotAsked, or NoLook, too."""
+        """The text or the JSON of what is asked for, and whether each order is as expected. Raises NotAsked, or NoLook, too."""
         asked.check(self.spec)
         page = Page(self.classes, path, asked)
-        return page.text(), page.is_as_expected()
+        told = classes_json(page, statements_of(self.file)) if asked.is_json else page.text()
+        return told, page.is_as_expected()
 
     def answer(self, path, words):
         """The exit status, and what stands on the two outputs."""

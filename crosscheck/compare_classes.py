@@ -2,12 +2,12 @@
 
 usage: python3 crosscheck/compare_classes.py PROGRAM|--alone KIND FIRST_SEED SEEDS
 
-Each spec is run as a whole and by answers, brief and not, and with several numbers of workers, and then with some filters, looks and
-expectations (`asking.py`). Of a spec with more orders than this implementation runs, some are made permutation lines. Before them come the
-specs of `classes/`, whose texts were worked out by hand. With `--alone` no program is run: classes and texts are held against what has to hold
-of each (`class_laws.py`, `class_pages.py`). KIND is one of those below, or `all`: `crowd` has five to seven sessions with so few steps that all
-orders are run, `leaving` has sessions that leave other rows in each order, and the others are those of `compare_shown.py`. The last lines
-count what was told.
+Each spec is run as a whole and by answers, brief and not, as text and as JSON, and with several numbers of workers, and then with some filters,
+looks and expectations (`asking.py`). Of a spec with more orders than this implementation runs, some are made permutation lines. Before them come
+the specs of `classes/`, whose texts and JSON were worked out by hand. With `--alone` no program is run: classes, texts and JSON are held against
+what has to hold of each (`class_laws.py`, `class_pages.py`, `class_objects.py`). KIND is one of those below, or `all`: `crowd` has five to seven
+sessions with so few steps that all orders are run, `leaving` has sessions that leave other rows in each order, and the others are those of
+`compare_shown.py`. The last lines count what was told.
 """
 
 import re
@@ -18,10 +18,10 @@ from random import Random
 from shlex import split
 from tempfile import TemporaryDirectory
 
-from asked import ANSWERS, BRIEF
+from asked import ANSWERS, BRIEF, JSON, LEFT, OUTCOMES
 from asking import Asker
-from class_laws import wrong_classes, wrong_expectation, wrong_filters, wrong_looks
-from class_pages import Read, kind_of
+from class_laws import wrong_classes, wrong_expectation, wrong_filters, wrong_looks, wrong_objects
+from class_objects import read_back
 from classes import Asking, joined, ranges_text, share, with_steps
 from compare import Comparison, ended, fault_of
 from compare_shown import ALL, ALL_KINDS, ALONE, FILES, bound, specs_of
@@ -31,7 +31,8 @@ from refusal import Refusal
 
 WORKED = Path(__file__).resolve().parent / "classes"
 MOST_ORDERS, MOST_LINES, NEAR_RANKS = 20_000, 60, 40
-RUNS = [[], [ANSWERS], [BRIEF], [ANSWERS, BRIEF], ["--workers", "1"], ["--workers", "3"], [ANSWERS, "--workers", "3"]]
+TOLD = [[], [ANSWERS], [BRIEF], [ANSWERS, BRIEF], [JSON], [JSON, ANSWERS], [JSON, BRIEF]]
+RUNS = [*TOLD, ["--workers", "1"], ["--workers", "3"], [ANSWERS, "--workers", "3"], ["--workers", "3", JSON]]
 # So many runs of a spec ask for something by filters, looks and expectations.
 RUNS_ASKED = 10
 EXPECTATIONS_LOOKED_AT = 3
@@ -127,12 +128,13 @@ def runs(text, seed, path):
 
 LONG_LOOK = "SELECT id, v, id, v, id, v FROM t WHERE id = 1 AND v > 0 AND v < 100 AND NOT v = 11"
 LONG_TABLE, LONG_TEXT = "u" * 73, f"'{'x' * 100}'"
-# Of texts of other words than none and `--answers`: these words, and the status.
+# Of texts of other words than none and `--answers`: these words, and the status. JSON has `--json` besides.
 ASKED = {
     "alone.expected": (f"--expect 'SELECT v, id FROM t' 1 10 --ranks --look '{LONG_LOOK}'", 1),
     "alone.outcomes": ("--outcomes", 0),
     "bare.left": ("--left --outcomes --ranks", 0),
     "bare.joint": ("--ranks --left --answers", 0),
+    "blind.none": ("--deadlock --expect 'SELECT v FROM t' 1", 0),
     "counter.brief": ("--answers --brief --no-serial --expect 'SELECT n FROM counter' 2", 1),
     "counter.expected": ("--expect 'SELECT n FROM counter' 2", 1),
     "counter.lost": ("--no-serial --ranks", 0),
@@ -220,30 +222,39 @@ REFUSED = [
 ]
 
 
-def brief(text):
+def brief_text(text):
     """The parts of a text up to the letters: the title, what is expected, and the letters."""
     parts = text.split(b"\n\n")
     letters = next(place for place, part in enumerate(parts) if part.startswith(b" " * 7))
     return b"\n\n".join(part.rstrip(b"\n") for part in parts[: letters + 1]) + b"\n"
 
 
+def brief_json(text):
+    """The members before the last one, that of the classes."""
+    return text.partition(b',"classes":')[0] + b"}\n"
+
+
 def texts_by_hand():
-    """Each text of `classes/`: the spec's path, the words behind it, the text, and the status."""
-    for path in sorted(WORKED.glob("*.txt")):
-        name = path.name.removesuffix(".txt")
-        words, status = ASKED.get(name, (ANSWERS if name.endswith(".answers") else "", 0))
-        yield path.with_name(f"{name.partition('.')[0]}.spec"), split(words), path.read_bytes(), status
+    """Each text and JSON of `classes/`: the spec's path, the words behind it, the text, and the status."""
+    for path in sorted([*WORKED.glob("*.txt"), *WORKED.glob("*.json")]):
+        words, status = ASKED.get(path.stem, (ANSWERS if path.stem.endswith(".answers") else "", 0))
+        yield path.with_name(f"{path.stem.partition('.')[0]}.spec"), split(words) + [JSON] * (path.suffix == ".json"), path.read_bytes(), status
 
 
 def worked():
     """For each text of `classes/` the spec's path and text, the words of its run, and what it tells; and so for what is refused."""
     for path, flags, text, status in texts_by_hand():
-        for more, out in (([], text), ([BRIEF], brief(text)), (["--workers", "1"], text), (["--workers", "3"], text)):
-            if more != [BRIEF] or BRIEF not in flags:
-                yield path.name, path.read_bytes(), ["classes", path.name, *flags, *more], (status, out, b"")
+        runs_by_hand = [([], text), (["--workers", "1"], text), (["--workers", "3"], text)]
+        if BRIEF not in flags:
+            runs_by_hand += [([BRIEF], (brief_json if JSON in flags else brief_text)(text))]
+        if JSON in flags:
+            runs_by_hand += [([flag], text) for flag in (OUTCOMES, LEFT) if flag not in flags]
+        for more, out in runs_by_hand:
+            yield path.name, path.read_bytes(), ["classes", path.name, *flags, *more], (status, out, b"")
     for name, words, told in REFUSED:
         path = WORKED / f"{name}.spec"
-        yield path.name, path.read_bytes(), ["classes", path.name, *split(words)], (3, b"", f"isofarm: {told}\n".encode())
+        for more in ([], [JSON]):
+            yield path.name, path.read_bytes(), ["classes", path.name, *split(words), *more], (3, b"", f"isofarm: {told}\n".encode())
 
 
 SHARES = [((0, 5), "0"), ((1, 1), "100.0"), ((2, 3), "66.6"), ((1, 1000), "0.1"), ((1, 1001), "0.1"), ((1, 500), "0.2"), ((999, 1000), "99.9")]
@@ -278,10 +289,14 @@ class ClassComparison(Comparison):
         status, out, _error = got = super().look(name, words, want)
         if got != want:
             return got
-        for wrong in Read(out.decode()).wrong(status) if out else []:
+        for wrong in read_back(out).wrong(status) if out else []:
             self.differences += 1
             print(f"{name}, {' '.join(words)}: {wrong}", flush=True)
         return got
+
+
+def kind_of(out):
+    return read_back(out).kinds()
 
 
 def compare_with(program, kinds, first, seeds):
@@ -302,11 +317,15 @@ def compare_with(program, kinds, first, seeds):
 # ---- without the program
 
 
-def pages(asking, seed):
-    """Pages of a spec, each with its words: as a whole, by answers, brief, and what is asked for besides. What is refused is told."""
-    asker = asker_of(asking, seed)
-    for words in [*RUNS[:4], *(asker.words() for _ in range(RUNS_ASKED))]:
-        yield words, asking.answer(Random(seed).choice(FILES), words)
+def wrong_told(asking, seed, counts):
+    """What is wrong with pages and objects of a spec: as a whole, by answers, brief, and what is asked for besides. What is told is counted."""
+    random, path, asker = Random(seed), Random(seed).choice(FILES), asker_of(asking, seed)
+    for words in [*TOLD, *(asker.words() for _ in range(RUNS_ASKED))]:
+        status, out, error = asking.answer(path, words)
+        counts.update(kind_of(out) if out else [f"refused: {fault_of(error)}"])
+        wrong = [*read_back(out).wrong(status)] if out else []
+        wrong += wrong_objects(asking, path, words, random) if JSON in words else []
+        yield from (f"{' '.join(words)}: {one}" for one in wrong)
 
 
 def wrong_alone(asking, seed):
@@ -333,10 +352,8 @@ def alone(kinds, first, seeds):
     found = len(wrong_texts)
     for kind in kinds:
         for name, seed, text in texts_of(kind, first, seeds):
-            asking, told = Asking(text), []
-            for words, (status, out, error) in pages(asking, seed):
-                counts.update(kind_of(out) if out else [f"refused: {fault_of(error)}"])
-                told += [f"{' '.join(words)}: {wrong}" for wrong in Read(out.decode()).wrong(status)] if out else []
+            asking = Asking(text)
+            told = [*wrong_told(asking, seed, counts)]
             if is_classed(asking):
                 counts.update(["specs"])
                 told += wrong_alone(asking, seed)

@@ -33,6 +33,8 @@ OF_BOOKS += ["audit all.book", "audit wrong.spec", "judge all.book all.book", "j
 OF_BOOKS += ["classes deadlock.spec", "classes deadlock.spec --answers --brief", "classes deadlock.spec --workers 1", "classes wrong.spec"]
 OF_BOOKS += ["classes deadlock.spec --deadlock=b --no-error --ranks --outcomes --left --workers 1", "classes deadlock.spec --deadlock=c"]
 OF_BOOKS += ["classes deadlock.spec --no-serial --look 'SELECT * FROM t ORDER BY v DESC' --expect 'SELECT v FROM t WHERE id = 2' 42 --workers 1"]
+OF_BOOKS += ["classes deadlock.spec --json --ranks --look 'SELECT * FROM t WHERE v < 42' --expect 'SELECT v FROM t WHERE id = 2' 42 --workers 1"]
+OF_BOOKS += ["classes deadlock.spec --json --answers --brief --workers 1", "classes deadlock.spec --json --deadlock=c"]
 
 
 def make_books(folder):

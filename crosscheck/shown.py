@@ -47,6 +47,11 @@ def one_line(block):
     return line.decode()
 
 
+def statements_of(file):
+    """Of each step of a spec file its statements on one line."""
+    return [one_line(block.text) for session in file.sessions for _name, block in session.steps]
+
+
 class Order:
     """An order of a spec file, with what is shown of it."""
 
@@ -54,7 +59,7 @@ class Order:
         file = read_spec(text)
         self.spec, self.path, self.rank = bind(file), path, rank
         self.line = self.spec.line(rank)
-        self.statements = [one_line(block.text) for session in file.sessions for _name, block in session.steps]
+        self.statements = statements_of(file)
         self.shown = shown(self.spec, self.line)
 
 
@@ -324,9 +329,22 @@ def want_value(want):
     return {"on": place_text(want.resource), "wants": want.wants, **there, "for": [edge_value(edge) for edge in want.edges]}
 
 
-def told_lines(spec, moment):
-    events = moment.events[1:] if word_of(moment.events[0]) == "sent" else moment.events
+def lines_value(spec, events):
+    """Of each event its line of the outcome text, without the blanks before it."""
     return [printed(spec, event).decode() for event in events]
+
+
+def told_lines(spec, moment):
+    return lines_value(spec, moment.events[1:] if word_of(moment.events[0]) == "sent" else moment.events)
+
+
+def steps_value(spec, statements):
+    steps = zip(spec.step_names, spec.steps, statements, strict=True)
+    return [{"name": name, "session": session, "sql": text} for name, (session, _statements), text in steps]
+
+
+def open_value(standing):
+    return [[session, one] for session, one in enumerate(standing) if one in LEFT_IN]
 
 
 def moment_value(spec, moment):
@@ -350,20 +368,19 @@ def moment_value(spec, moment):
 
 def show_value(order):
     spec, told = order.spec, order.shown
-    steps = zip(spec.step_names, spec.steps, order.statements, strict=True)
     return {
         "format": 1,
         "name": order.path,
         "rank": order.rank,
         "orders": spec.ranks(),
         "sessions": spec.session_names,
-        "steps": [{"name": name, "session": session, "sql": text} for name, (session, _statements), text in steps],
+        "steps": steps_value(spec, order.statements),
         "order": order.line,
         "begun": [{"status": status, "locks": [[place_text(resource), mode] for resource, mode in locks]} for status, locks in told.begun],
         "first": tables_value(told.first),
         "moments": [moment_value(spec, moment) for moment in told.moments],
         "left": tables_value(told.left),
-        "open": [[session, standing] for session, standing in enumerate(told.standing) if standing in LEFT_IN],
+        "open": open_value(told.standing),
     }
 
 

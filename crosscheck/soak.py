@@ -32,11 +32,11 @@ import compare
 import compare_classes
 import compare_files
 import compare_hostile
-from asked import FILTERS, LEFT, OUTCOMES, RANKS
+from asked import ANSWERS, FILTERS, JSON, LEFT, OUTCOMES, RANKS
 from asking import opposite
 from books import compact
 from checks import checked, without_sentence
-from class_pages import Read
+from class_objects import read_back
 from compare import PROGRAM, difference, fault_of
 from damage import DAMAGES_OF_BYTES
 from generate import KINDS, Maker, fresh_seed
@@ -178,15 +178,15 @@ class Soak:
                 self.hold_same([(ran.status, ran.out) for ran in (shown, named)], "an order is shown otherwise by its names", shown, named)
 
     def classes(self, path, number, starts):
-        """All orders in classes, by some workers and others, and those that pass a filter beside those that do not."""
-        flags = [flag for flag in ("--answers", RANKS, OUTCOMES, LEFT) if self.random.random() < 0.5]
+        """All orders in classes, as text or as JSON, by some workers and others, and those that pass a filter beside those that do not."""
+        flags = [flag for flag in (ANSWERS, RANKS, OUTCOMES, LEFT, JSON) if self.random.random() < 0.5]
         ran, again = self.run("classes", path, *flags, *self.workers()), self.run("classes", path, *flags, "--workers", 1)
         self.hold(ran.status == (0 if starts else 3), "orders are not classed", ran)
         self.hold_same([ran.told, again.told], "some workers tell other classes than one", ran, again)
         word = self.random.choice([word for word, (letter, _has) in FILTERS.items() if letter != "R"])
         runs = [self.run("classes", path, one, *flags) for one in (word, opposite(word))]
         self.hold_same([(ran.status, ran.error) for ran in (ran, *runs)], "a filter has another fault", ran, *runs)
-        is_whole = not starts or sum(Read(one.out.decode()).asked for one in runs) == number
+        is_whole = not starts or sum(read_back(one.out).asked for one in runs) == number
         self.hold(is_whole, "a filter and its opposite have not all orders", *runs)
 
     # books

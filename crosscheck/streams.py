@@ -39,16 +39,16 @@ FILES = {
     "empty": b"",
 }
 GOOD = ["one first.spec 0", "check first.spec", "count first.spec", "rank first.spec a1 b1", "order first.spec 1", "show first.spec 1", "run first.spec 0 2", "join all.book", "report all.book"]
-GOOD += ["show first.spec a1 b1 --json", "classes first.spec", "classes first.spec --answers --brief", "classes first.spec --workers 16", "classes first.spec --waits --no-serial --ranks --outcomes --left", "holds all.book first.spec 0 2", "run first.spec 0 2 --workers 16", "audit all.book", "judge all.book all.book"]
+GOOD += ["show first.spec a1 b1 --json", "classes first.spec", "classes first.spec --answers --brief", "classes first.spec --workers 16", "classes first.spec --waits --no-serial --ranks --outcomes --left", "classes first.spec --json", "holds all.book first.spec 0 2", "run first.spec 0 2 --workers 16", "audit all.book", "judge all.book all.book"]
 HELP = ["help", "--help", "--version", *(f"{line} --help" for line in ("one", "check", "count", "rank", "order", "show", "classes", "run", "join", "holds", "report", "audit", "judge"))]
-FAULTS = {"one first.spec 2": 3, "classes first.spec --deadlock=c": 3, "classes first.spec --look SELECT": 3, "report one.book": 1, "count nothing": 5, "two first.spec 0": 2}
+FAULTS = {"one first.spec 2": 3, "classes first.spec --deadlock=c": 3, "classes --json first.spec --deadlock=c": 3, "classes first.spec --look SELECT": 3, "report one.book": 1, "count nothing": 5, "two first.spec 0": 2}
 NO_COMMANDS = ["", "one", "one first.spec", "one first.spec x", "one first.spec -1", f"one first.spec {U64}", "two first.spec 0"]
 NO_COMMANDS += ["check", "check first.spec 0", "count", "count first.spec 0", "run first.spec 0", f"run first.spec 0 {U64}", "run first.spec 0 1 --all", "join"]
 NO_COMMANDS += [f"join{' all.book' * 1001}", "report", "report all.book all.book", "report --every all.book"]
 NO_COMMANDS += [f"run first.spec 0 1 --workers{number}" for number in ("", " 0", " 17", " x", " -1", " 4294967297")]
 NO_COMMANDS += ["rank", "rank first.spec", f"rank first.spec{' a1' * 1001}", "order", "order first.spec", "order first.spec x", "order first.spec 0 1"]
 NO_COMMANDS += ["show", "show first.spec", "show first.spec --json", f"show first.spec{' a1' * 1001}", "show first.spec 0 --text"]
-NO_COMMANDS += ["classes", "classes first.spec 0", "classes first.spec --workers 0", "classes first.spec --json"]
+NO_COMMANDS += ["classes", "classes first.spec 0", "classes first.spec --workers 0", "classes first.spec --json --json", "classes first.spec --json=1"]
 NO_COMMANDS += ["classes first.spec --look", "classes first.spec --expect", "classes first.spec --filter", "classes first.spec --expect SELECT"]
 NO_COMMANDS += ["classes first.spec --expect SELECT --brief", "classes first.spec --expect SELECT -x"]
 NO_COMMANDS += ["holds", "holds all.book first.spec 0", "holds all.book first.spec 0 x", "holds all.book first.spec 0 1 2"]
@@ -76,7 +76,7 @@ def unread():
     shut = ["shut"] if os.geteuid() else []
     for path in ["nothing", "folder", "first.spec/x", "/proc/self/mem", *shut]:
         commands = [["one", path, "0"], ["check", path], ["count", path], ["run", path, "0", "1"], ["join", path], ["join", "all.book", path]]
-        commands += [["rank", path, "a1", "b1"], ["order", path, "0"], ["show", path, "0"], ["show", path, "a1", "b1"], ["classes", path], ["classes", path, "--waits"], ["holds", path, "first.spec", "0", "1"], ["holds", "all.book", path, "0", "1"]]
+        commands += [["rank", path, "a1", "b1"], ["order", path, "0"], ["show", path, "0"], ["show", path, "a1", "b1"], ["classes", path], ["classes", path, "--waits"], ["classes", path, "--json"], ["holds", path, "first.spec", "0", "1"], ["holds", "all.book", path, "0", "1"]]
         commands += [["judge", path, "all.book"], ["judge", "all.book", path], ["audit", path]]
         for words in [*commands, ["report", path]]:
             yield words, line(5, f"{path}: read fault")
@@ -162,7 +162,7 @@ def wrong_progress(folder, words, first, end):
 def progress_in(folder):
     """For runs that tell how far they are: what is wrong, or nothing."""
     for spec, ranks in [("first.spec", 2), ("many.spec", 1_680)]:
-        for flags in ("", "--workers 1", "--workers 16 --answers", "--no-waits --brief"):
+        for flags in ("", "--workers 1", "--workers 16 --answers", "--no-waits --brief", "--json"):
             yield wrong_progress(folder, ["classes", spec, *flags.split()], 0, ranks)
     for spec, first, end in [("first.spec", 0, 2), ("first.spec", 1, 1), ("large.spec", 7, 3_007), ("large.spec", U32, U32 + 60_020)]:
         for flags in ("", "--workers 1", "--workers 16", "--every", "--every --workers 1"):
