@@ -5,4 +5,14 @@ use Rattle.class_stretches.proofs.missing.first_missing_in.Goals as goal
 pub loop-stretch-preserved : goal.loop-stretch-preserved
 loop-stretch-preserved c =
     let l = c.loop-stretch in
-    sym (first-next c.args.list.now l.stretch-index l.low c.loop-stretch-test.true (sym c.is_same.ensures ∙ c.if.false)) ∙ l.invariant
+    sym (first-next c.args.list.now l.stretch-index l.low c.loop-stretch-test.true (sym c.is_same.ensures ∙ c.if-is_same.false)) ∙ l.invariant
+
+pub returns-then-is_same : goal.returns-then-is_same
+returns-then-is_same c =
+    let l = c.loop-stretch in
+    sym (first-here c.args.list.now l.stretch-index l.low c.loop-stretch-test.true (sym c.is_same.ensures ∙ c.if-is_same.true)) ∙ l.invariant
+
+pub returns : goal.returns
+returns c =
+    let l = c.loop-stretch in
+    sym (first-none c.args.list.now l.stretch-index l.low c.loop-stretch-test.false) ∙ l.invariant
