@@ -1,5 +1,7 @@
 -- What is told as it goes on.
-use Rattle.std.proofs.Common.{◌≡◌, ◌≢◌, refl, sym, ap, ◌∙◌, subst, ℕ, ◌+◌, ◌-◌, ◌<◌, ◌≤◌, ◌==◌, cond, Bool, true, false, eq-eqb, eqb-true, List, [], ◌∷◌, length, length-append, length-set, set, drop, slice_get, get_or, Option, Some, None, Result, Ok, Err, ◌⊎◌, ⊎_elim, arith}
+use Rattle.std.proofs.Common.{◌≡◌, ◌≢◌, refl, sym, ap, ◌∙◌, subst, ℕ, ◌+◌, ◌-◌, ◌<◌, ◌≤◌, ◌==◌, cond, Bool, true, false, eq-eqb, eqb-true, List, []}
+use Rattle.std.proofs.Common.{◌∷◌, length, length-append, length-set, set, drop, slice_get, get_or, Option, Some, None, Result, Ok, Err, ◌⊎◌, ⊎_elim}
+use Rattle.std.proofs.Common.{arith}
 use Rattle.std.proofs.lemmas.Option.{get_or_from_slice_get}
 use Rattle.std.specs.Bool.{⊤}
 use Rattle.std.specs.Result.{OnOk, IfErr}
@@ -125,7 +127,9 @@ copied-told x z from to is inside each copied gone =
 
 -- what has moved to a rank behind has moved on
 pub moved-on : (x y : Telling) (last to : ℕ) → HasMovedTo last x y → end x < last → last ≤ to → HasMovedOn to x y
-moved-on x y last to m lt le = let there = m.there in record { telling = m.telling; same = m.same; on = omega (arith, lt, there); few = omega (arith, le, there) }
+moved-on x y last to m lt le =
+    let there = m.there in
+    record { telling = m.telling; same = m.same; on = omega (arith, lt, there); few = omega (arith, le, there) }
 
 -- ---- room for a class
 

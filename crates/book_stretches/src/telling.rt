@@ -108,13 +108,13 @@ impl Telling<'_> {
     }
 
     /// Tells the ranks up to an end, of which one run says all.
-    fn tell_run(&mut self, run: Run, until: u64) -> Result<(), AllocError>
+    fn tell_run(&mut self, run: Run, to: u64) -> Result<(), AllocError>
         requires telling { IsTelling self.old }
-        requires say { SayAll self.old (run ∷ []) until }
-        ensures { OnOk result (HasMovedTo until self.old self.new) }
+        requires say { SayAll self.old (run ∷ []) to }
+        ensures { OnOk result (HasMovedTo to self.old self.new) }
     {
-        while self.stretches.end() < until {
-            self.tell_block(run, until)?;
+        while self.stretches.end() < to {
+            self.tell_block(run, to)?;
         }
         Ok(())
     }

@@ -10,7 +10,9 @@ invariant_of-self-2 c =
     let items = c.self.inside.outcomes.items in
     let by = c.self.inside.numbers in
     let few = c.self.invariant.few in
-    let number : c.in-Ok.number ≡ length items = (let fits = c.in-Ok.ensures in let long = c.self.inside.outcomes.ok in omega (arith, fits.1, c.len.ensures, long)) in
+    let long = c.self.inside.outcomes.ok in
+    let fits = c.in-Ok.ensures in
+    let number : c.in-Ok.number ≡ length items = omega (arith, fits.1, c.len.ensures, long) in
     let below : length items + 1 < 2 ^ 32 = grind (arith, number, few, c.if-number.false) in
     let base = numbered-more items by o c.self.invariant (λ n e. c.requires n (subst (λ xs. slice_get xs n ≡ Some o) c.self.view_is e)) below in
     let more : c.push_reserved.new.self.items ≡ items ++ o ∷ [] =

@@ -21,10 +21,12 @@ with_vote-found-requires-clause-vote c = vote-known c.args.self.now (end c.args.
 
 pub loop-i-preserved : goal.loop-i-preserved
 loop-i-preserved c =
-    subst (λ l. IsVerdict c.args.self.now (end c.args.self.now) l c.with_vote-found.result)
-    (sym (take_more c.args.active.now c.loop-i.i _ c.loop-i-test.true))
-    (verdict-step c.args.self.now (end c.args.self.now) (take c.loop-i.i c.args.active.now) _ c.loop-i.found c.vote_of-vote.result c.with_vote-found.result
-    c.loop-i.invariant c.vote_of-vote.ensures c.with_vote-found.ensures)
+    let x = c.args.self.now in
+    let active = c.args.active.now in
+    let l = c.loop-i in
+    subst (λ rs. IsVerdict x (end x) rs c.with_vote-found.result) (sym (take_more active l.i _ c.loop-i-test.true))
+    (verdict-step x (end x) (take l.i active) _ l.found c.vote_of-vote.result c.with_vote-found.result l.invariant c.vote_of-vote.ensures
+    c.with_vote-found.ensures)
 
 pub returns : goal.returns
 returns c =

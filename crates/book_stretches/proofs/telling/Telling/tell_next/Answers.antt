@@ -11,22 +11,25 @@ pub push_none-requires-clause-nothing : goal.push_none-requires-clause-nothing
 push_none-requires-clause-nothing c =
     let x = c.args.self.now in
     let last = c.last_of-last.result in
-    verdict-nothing x c.args.active.now c.args.until last c.requires.say (subst (λ r. GoesTo c.args.active.now r c.args.until last) c.end-rank.ensures c.last_of-last.ensures)
+    let to = subst (λ r. GoesTo c.args.active.now r c.args.until last) c.end-rank.ensures c.last_of-last.ensures in
+    verdict-nothing x c.args.active.now c.args.until last c.requires.say to
     (subst (IsVerdict x (end x) c.args.active.now) c.in-Nothing.is c.judged.ensures)
 
 pub push_vote-requires-clause-one : goal.push_vote-requires-clause-one
 push_vote-requires-clause-one c =
     let x = c.args.self.now in
     let last = c.last_of-last.result in
-    verdict-one x c.args.active.now c.args.until last c.requires.say (subst (λ r. GoesTo c.args.active.now r c.args.until last) c.end-rank.ensures c.last_of-last.ensures)
+    let to = subst (λ r. GoesTo c.args.active.now r c.args.until last) c.end-rank.ensures c.last_of-last.ensures in
+    verdict-one x c.args.active.now c.args.until last c.requires.say to
     c.in-One.vote (subst (IsVerdict x (end x) c.args.active.now) c.in-One.is c.judged.ensures)
 
 pub returns-in-Several-clause-stop : goal.returns-in-Several-clause-stop
 returns-in-Several-clause-stop c =
     let x = c.args.self.now in
     let last = c.last_of-last.result in
+    let to = subst (λ r. GoesTo c.args.active.now r c.args.until last) c.end-rank.ensures c.last_of-last.ensures in
     subst (IsLeastClash (book_of x)) (sym c.end-rank.ensures)
-    (verdict-several x c.args.active.now c.args.until last c.requires.say (subst (λ r. GoesTo c.args.active.now r c.args.until last) c.end-rank.ensures c.last_of-last.ensures)
+    (verdict-several x c.args.active.now c.args.until last c.requires.say to
     c.requires.telling (subst (IsVerdict x (end x) c.args.active.now) c.in-Several.is c.judged.ensures))
 
 pub returns-in-Nothing-clause-ok : goal.returns-in-Nothing-clause-ok

@@ -5,4 +5,4 @@ use Rattle.book_stretches.proofs.telling.Telling.tell_run.Goals as goal
 pub tell_block-requires-clause-say : goal.tell_block-requires-clause-say
 tell_block-requires-clause-say c =
     let l = c.loop-run.invariant in
-    say-later c.args.self.now c.loop-run.self (c.args.run ∷ []) c.args.until c.requires.say l.same l.on l.few
+    say-later c.args.self.now c.loop-run.self (c.args.run ∷ []) c.args.to c.requires.say l.same l.on l.few

@@ -8,8 +8,8 @@ invariant-loop-run l = record {
   telling : IsTelling l.self;
   same : IsOfSame l.initial.self l.self;
   on : end l.initial.self ≤ end l.self;
-  few : end l.self ≤ l.until;
+  few : end l.self ≤ l.to;
 }
 
 abbrev pub decreases-loop-run : goal.decreases-loop-run
-decreases-loop-run l = l.until - end l.self
+decreases-loop-run l = l.to - end l.self
