@@ -25,6 +25,8 @@ mod six_ranks;
 mod texts;
 mod told;
 #[cfg(test)]
+mod told_books;
+#[cfg(test)]
 mod walks;
 #[cfg(test)]
 mod worlds;

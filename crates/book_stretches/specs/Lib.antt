@@ -1,0 +1,4 @@
+pub mod Telling
+pub mod Classes
+pub mod Sweep
+pub mod Laws
