@@ -14,4 +14,5 @@ mod told;
 
 pub use error::TellError;
 pub use laws::true_books_tell_the_machine;
+pub use source::spec_of_book;
 pub use told::{ToldRanks, told_ranks};

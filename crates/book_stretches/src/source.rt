@@ -1,29 +1,28 @@
 //! The spec of a book.
 
 ghost use Rattle.std.specs.Prelude.{◌≡◌, IfOk};
-ghost use Rattle.bound_specs.specs.Spec.{SpecFile};
-ghost use Rattle.bound_specs.specs.Binding.{IsFileOf};
+ghost use Rattle.spec_binding.specs.SpecFiles.{IsMemory};
 
 use bound_specs::Spec;
 use fact_books::Book;
-use spec_binding::spec_of;
+use spec_binding::{SpecFault, spec_of};
 use std::alloc::{AllocError, Global};
 
-/// The spec of a book.
-pub(crate) fn spec_of_book(alloc: Global, book: &Book) -> Result<Spec, AllocError>
+/// The spec of a book. It was bound when the book was made, so that it is refused for want of memory alone.
+pub fn spec_of_book(alloc: Global, book: &Book) -> Result<Spec, AllocError>
     ensures { IfOk result (λ spec. spec ≡ book.now.file) }
 {
     book.known();
-    let spec = bound_spec(alloc, book.text())?;
-    Ok(spec)
+    match spec_of(alloc, book.text().as_bytes()) {
+        Ok(spec) => Ok(spec),
+        Err(fault) => {
+            wants_memory(fault);
+            Err(AllocError)
+        }
+    }
 }
 
-/// The spec with the text of a book. It was bound when the book was made, so that only want of memory can refuse it now.
-fn bound_spec(alloc: Global, text: &str) -> Result<Spec, AllocError>
-    ensures { IfOk result (λ spec. (file : SpecFile) → IsFileOf text.now file → spec ≡ file) }
-{
-    let Ok(spec) = spec_of(alloc, text.as_bytes()) else {
-        return Err(AllocError);
-    };
-    Ok(spec)
-}
+/// A refusal of a text that was bound before has no other reason than want of memory.
+fn wants_memory(_fault: SpecFault)
+    requires { IsMemory _fault }
+{}

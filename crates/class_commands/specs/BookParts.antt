@@ -1,6 +1,5 @@
 -- The parts of what is done for classes of books.
 use Rattle.std.specs.Prelude.{◌≡◌, ℕ, List, Option, Result, Ok, Err, ⊤}
-use Rattle.bound_specs.specs.Spec.{SpecFile}
 use Rattle.transcripts.specs.Counted.{Wrote, Stopped}
 use Rattle.transcripts.specs.declared.counted.Counted.{Counted}
 use Rattle.fact_books.specs.Books.{Contents}
@@ -9,10 +8,6 @@ use Rattle.book_rows.specs.Classes.{IsClassedBook}
 use Rattle.class_commands.specs.declared.booking.Found.{Found}
 use Rattle.class_commands.specs.declared.booking.BookClassesFault.{BookClassesFault}
 use Rattle.class_commands.specs.declared.booking.BookClassesFault.TheVariants.{Clash, NoMemory, Write}
-
--- the spec is that of the book
-abbrev pub IsSpecOf : Contents → SpecFile → Type 0
-IsSpecOf book file = file ≡ book.file
 
 -- the spec of a book, and the classes of what it tells
 abbrev pub IsBookFound : Contents → Found → Type 0

@@ -1,23 +1,20 @@
 //! What books tell of orders, in classes, from the files of the books to what is written.
 
 ghost use Rattle.std.specs.Prelude.{◌≡◌, ◌<◌, IfErr, IfOk, length, map, string_bytes};
-ghost use Rattle.bound_specs.specs.Binding.{IsFileOf};
-ghost use Rattle.spec_binding.specs.SpecFiles.{IsMemory};
 ghost use Rattle.transcripts.specs.Counted.{failures_of};
 ghost use Rattle.book_rows.specs.Classes.{IsClassedBook};
 ghost use Rattle.class_commands.specs.Booking.{IsBookClassesRun, IsBookText, books_name};
-ghost use Rattle.class_commands.specs.BookParts.{IsBookFound, IsBookNotFound, IsSpecOf, WritesBook};
+ghost use Rattle.class_commands.specs.BookParts.{IsBookFound, IsBookNotFound, WritesBook};
 ghost use Rattle.class_commands.specs.Written.{written_bytes};
 
 use crate::written::{Written, ranks_of, written_page};
 use book_commands::{JoinFault, Opener, joined_files};
 use book_rows::{BookClasses, classes_of};
-use book_stretches::{TellError, told_ranks};
+use book_stretches::{TellError, spec_of_book, told_ranks};
 use bound_specs::Spec;
 use class_texts::{ClassKind, Page};
 use fact_books::Book;
 use itoa::Buffer;
-use spec_binding::{SpecFault, spec_of};
 use std::alloc::{AllocError, Global};
 use std::io::Write;
 use transcripts::{Counted, WriteFault};
@@ -83,25 +80,6 @@ fn find_outcomes(alloc: Global, book: &Book) -> Result<Found, BookClassesFault>
         Err(_) => Err(BookClassesFault::NoMemory),
     }
 }
-
-/// The spec of a book. It was bound before, when the book was made, so that it is refused for want of memory alone.
-fn spec_of_book(alloc: Global, book: &Book) -> Result<Spec, AllocError>
-    ensures { IfOk result (IsSpecOf book.now) }
-{
-    book.known();
-    match spec_of(alloc, book.text().as_bytes()) {
-        Ok(spec) => Ok(spec),
-        Err(fault) => {
-            wants_memory(fault);
-            Err(AllocError)
-        }
-    }
-}
-
-/// A refusal of a text that was bound before has no other reason than want of memory.
-fn wants_memory(_fault: SpecFault)
-    requires { IsMemory _fault }
-{}
 
 fn write_outcomes<W: Write>(
     alloc: Global,
