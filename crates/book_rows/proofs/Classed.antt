@@ -79,7 +79,7 @@ module _ (book : Contents) (x : ToldRanks) (told : AreTold book x) (is : IsStret
       let e : Some o ≡ Some p = sym x.2 ∙ ap (λ k. slice_get told_outcomes k) same ∙ y.2 in
       cc
     where
-      abbrev told_outcomes : List Told
+      told_outcomes : List Told
       told_outcomes = x.outcomes.items
 
   all-groups : AreGroups (Tells book) 0 (ranks book.file.run) (classes_by x.stretches.list x.outcomes.items)

@@ -21,9 +21,11 @@ pub rows-next : (spec : Spec) (x : ToldRanks) (n : ℕ) (rows : List ClassRow) (
 rows-next spec x n rows row told so at is = record {
   long = length-append rows (row ∷ []) ∙ ap (λ k. k + 1) so.long;
   each = λ k r e. ⊎_elim (λ before. so.each k r before)
-      (λ last. (let place : n ≡ k = sym so.long ∙ sym last.0 in
-      (told, subst (λ j. slice_get x.outcomes.items j ≡ Some told) place at,
-      subst (λ j. IsRowOf spec (tally_of_class (class_by x.stretches.list j told)) told r) place
-      (subst (IsRowOf spec (tally_of_class (class_by x.stretches.list n told)) told) last.1 is))))
+      (λ last. (let place : n ≡ k = sym so.long ∙ sym last.0 in (
+        told,
+        subst (λ j. slice_get x.outcomes.items j ≡ Some told) place at,
+        subst (λ j. IsRowOf spec (tally_of_class (class_by x.stretches.list j told)) told r) place
+            (subst (IsRowOf spec (tally_of_class (class_by x.stretches.list n told)) told) last.1 is),
+      )))
       (last-or-before rows row k r e);
 }
