@@ -1,3 +1,3 @@
-mod Sums
-mod Rows
-mod Classed
+mod SumLemmas
+mod RowLemmas
+mod ClassLemmas

@@ -19,7 +19,7 @@ use Rattle.book_rows.specs.Classes.{AreMissing, HaveRuns, IsClassedBook, IsRow}
 use Rattle.book_rows.specs.Parts.{AreRowsOf, IsRowOf}
 use Rattle.book_rows.specs.Totals.{all_in, totals_by}
 use Rattle.book_rows.specs.declared.classed.BookClasses.{BookClasses}
-use Rattle.book_rows.proofs.Sums.{ranks-few, rows-together}
+use Rattle.book_rows.proofs.SumLemmas.{ranks-few, rows-together}
 
 module _ {A : Type 0} (P Q : ℕ → A → Type 0) (first end : ℕ) (there : (r : ℕ) (a : A) → first ≤ r → r < end → P r a → Q r a)
     (back : (r : ℕ) (a : A) → first ≤ r → r < end → Q r a → P r a) where
