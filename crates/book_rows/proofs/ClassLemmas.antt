@@ -8,7 +8,7 @@ use Rattle.fact_books.specs.Books.{Contents}
 use Rattle.fact_books.specs.Entries.{Told}
 use Rattle.order_classes.specs.declared.rows.ClassRow.{ClassRow}
 use Rattle.order_classes.specs.declared.rows.Totals.{Totals}
-use Rattle.order_classes.specs.Classes.{Class, IsClass, AreGroups, in_runs}
+use Rattle.order_classes.specs.Classes.{Class, IsClass, AreGroups, in_runs, ranks_in}
 use Rattle.class_stretches.specs.declared.stretch.Stretch.{Stretch}
 use Rattle.class_stretches.specs.Stretches.{class_at, end_of, missing_by, IsStretched, runs_with}
 use Rattle.class_stretches.specs.Groups.{class_by, classes_by, classes_from, tally_of_class, ShowsBy}
@@ -151,7 +151,9 @@ module _ (book : Contents) (x : ToldRanks) (told : AreTold book x) (is : IsStret
     pub few-orders : all_in rows ≤ ranks book.file.run
     few-orders =
         let sum = rows-together x.stretches.list 0 rows
-        (λ j row at. (let y = are.each j row at in y.2.count ∙ ap (λ k. Rattle.order_classes.specs.Classes.ranks_in (runs_with (Some k) 0 x.stretches.list)) (omega arith))) in
+        (λ j row at. (let y = are.each j row at in
+        let place : j ≡ 0 + j = omega arith in
+        y.2.count ∙ ap (λ k. ranks_in (runs_with (Some k) 0 x.stretches.list)) place)) in
         let few = ranks-few x.stretches.list 0 0 (length rows) is.stretches in
         let ends = told.all in
         omega (arith, sum, few, ends)

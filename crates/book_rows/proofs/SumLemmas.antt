@@ -21,7 +21,7 @@ one_of c m k (suc n) = cond (same_class (Some k) c) m 0 + one_of c m (suc k) n
 
 none-has : (m k n : ℕ) → one_of None m k n ≡ 0
 none-has m k zero = refl
-none-has m k (suc n) = none-has m (suc k) n
+none-has m k (suc n) = let rest = none-has m (suc k) n in omega (arith, rest)
 
 none-later : (c m k n : ℕ) → c < k → one_of (Some c) m k n ≡ 0
 none-later c m k zero lt = refl
@@ -29,7 +29,7 @@ none-later c m k (suc n) lt = at (k == c) refl (none-later c m (suc k) n (omega 
   where
     at : (b : Bool) → (k == c) ≡ b → one_of (Some c) m (suc k) n ≡ 0 → cond b m 0 + one_of (Some c) m (suc k) n ≡ 0
     at true e rest = let same = eqb-true k c e in absurd (omega (arith, same, lt))
-    at false e rest = rest
+    at false e rest = omega (arith, rest)
 
 once : (c : Option ℕ) (m k n : ℕ) → one_of c m k n ≤ m
 once None m k n = let e = none-has m k n in omega (arith, e)
@@ -41,7 +41,7 @@ once (Some c) m k (suc n) = at (k == c) refl (once (Some c) m (suc k) n)
         let same = eqb-true k c e in
         let none = none-later c m (suc k) n (omega (arith, same)) in
         omega (arith, none)
-    at false e rest = rest
+    at false e rest = omega (arith, rest)
 
 class-next : (k low : ℕ) (s : Stretch) (ss : List Stretch)
     → ranks_in (runs_with (Some k) low (s ∷ ss)) ≡ cond (same_class (Some k) s.class) (s.end - low) 0 + ranks_in (runs_with (Some k) s.end ss)
@@ -50,7 +50,7 @@ class-next k low s ss = at (same_class (Some k) s.class)
     at : (b : Bool) → ranks_in (cond b (record { first = low; end = s.end } ∷ runs_with (Some k) s.end ss) (runs_with (Some k) s.end ss))
         ≡ cond b (s.end - low) 0 + ranks_in (runs_with (Some k) s.end ss)
     at true = refl
-    at false = refl
+    at false = omega arith
 
 classes-next : (s : Stretch) (ss : List Stretch) (low k n : ℕ) → ranks_of (s ∷ ss) low k n ≡ one_of s.class (s.end - low) k n + ranks_of ss s.end k n
 classes-next s ss low k zero = refl
@@ -61,7 +61,7 @@ classes-next s ss low k (suc n) =
 
 no-ranks : (low k n : ℕ) → ranks_of [] low k n ≡ 0
 no-ranks low k zero = refl
-no-ranks low k (suc n) = no-ranks low (suc k) n
+no-ranks low k (suc n) = let rest = no-ranks low (suc k) n in omega (arith, rest)
 
 pub ranks-few : (ss : List Stretch) (low k n : ℕ) → AreStretches low ss → low + ranks_of ss low k n ≤ end_from low ss
 ranks-few [] low k n a = let e = no-ranks low k n in omega (arith, e)
@@ -78,9 +78,10 @@ pub rows-together : (ss : List Stretch) (k : ℕ) (rows : List ClassRow)
     → all_in rows ≡ ranks_of ss 0 k (length rows)
 rows-together ss k [] each = refl
 rows-together ss k (row ∷ rows) each =
-    let first = each 0 row refl ∙ ap (λ i. ranks_in (runs_with (Some i) 0 ss)) (omega arith) in
+    let place : k + 0 ≡ k = omega arith in
+    let first : row.count ≡ ranks_in (runs_with (Some k) 0 ss) = each 0 row refl ∙ ap (λ i. ranks_in (runs_with (Some i) 0 ss)) place in
     let rest = rows-together ss (suc k) rows
-    (λ j r at. each (suc j) r at ∙ ap (λ i. ranks_in (runs_with (Some i) 0 ss)) (omega arith)) in
+    (λ j r at. (let next : k + suc j ≡ suc k + j = omega arith in each (suc j) r at ∙ ap (λ i. ranks_in (runs_with (Some i) 0 ss)) next)) in
     omega (arith, first, rest)
 
 pub some-few : (has : Letters → Bool) (rows : List ClassRow) → orders_with has rows ≤ all_in rows

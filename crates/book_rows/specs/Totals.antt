@@ -15,10 +15,14 @@ has_letter Deadlock l = l.deadlock
 has_letter Error l = l.error
 has_letter Unsent l = l.unsent
 
+-- the orders of a row that has it
+abbrev pub orders_of : (Letters → Bool) → ClassRow → ℕ
+orders_of has row = cond (has row.letters) row.count 0
+
 -- the orders of the rows that have it
 abbrev pub orders_with : (Letters → Bool) → List ClassRow → ℕ
 orders_with has [] = 0
-orders_with has (row ∷ rows) = cond (has row.letters) row.count 0 + orders_with has rows
+orders_with has (row ∷ rows) = orders_of has row + orders_with has rows
 
 -- how many rows have it
 abbrev pub rows_with : (Letters → Bool) → List ClassRow → ℕ

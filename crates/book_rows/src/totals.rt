@@ -1,7 +1,7 @@
 //! How many orders have which letters, and in how many classes.
 
 ghost use Rattle.std.specs.Prelude.{◌≡◌, ◌<◌, ◌^◌};
-ghost use Rattle.book_rows.specs.Totals.{all_in, has_letter, orders_with, rows_with, total_by, totals_by};
+ghost use Rattle.book_rows.specs.Totals.{has_letter, orders_of, orders_with, rows_with, total_by, totals_by};
 ghost use Rattle.book_rows.specs.declared.totals.Letter.{Letter as Counted};
 
 use order_classes::{ClassRow, Letters, Total, Totals};
@@ -32,7 +32,7 @@ impl Letter {
 
 /// The totals of all letters that are told of books.
 pub(crate) fn totals_of(rows: &[ClassRow]) -> Totals
-    requires { all_in rows.now < 2 ^ 64 }
+    requires few { (letter : Counted) → orders_with (has_letter letter) rows.now < 2 ^ 64 }
     ensures { result ≡ totals_by rows.now }
 {
     Totals {
@@ -51,7 +51,7 @@ pub(crate) fn totals_of(rows: &[ClassRow]) -> Totals
 
 /// The orders of the classes that have the letter, and how many classes do.
 fn total(letter: Letter, rows: &[ClassRow]) -> Total
-    requires { all_in rows.now < 2 ^ 64 }
+    requires few { orders_with (has_letter letter) rows.now < 2 ^ 64 }
     ensures { result ≡ total_by (has_letter letter) rows.now }
 {
     Total {
@@ -61,16 +61,25 @@ fn total(letter: Letter, rows: &[ClassRow]) -> Total
 }
 
 fn orders_with(letter: Letter, rows: &[ClassRow]) -> u64
-    requires { all_in rows.now < 2 ^ 64 }
+    requires few { orders_with (has_letter letter) rows.now < 2 ^ 64 }
     ensures { result ≡ orders_with (has_letter letter) rows.now }
 {
     let mut orders = 0;
     for row in rows {
-        if letter.is_of(row.letters) {
-            orders += row.count;
-        }
+        orders += orders_of(letter, row);
     }
     orders
+}
+
+/// The orders of a class, if it has the letter.
+fn orders_of(letter: Letter, row: &ClassRow) -> u64
+    ensures { result ≡ orders_of (has_letter letter) row.now }
+{
+    if letter.is_of(row.letters) {
+        row.count
+    } else {
+        0
+    }
 }
 
 fn rows_with(letter: Letter, rows: &[ClassRow]) -> u64
