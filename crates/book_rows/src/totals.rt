@@ -32,7 +32,7 @@ impl Letter {
 
 /// The totals of all letters that are told of books.
 pub(crate) fn totals_of(rows: &[ClassRow]) -> Totals
-    requires few { (letter : Counted) → orders_with (has_letter letter) rows.now < 2 ^ 64 }
+    requires { (letter : Counted) → orders_with (has_letter letter) rows.now < 2 ^ 64 }
     ensures { result ≡ totals_by rows.now }
 {
     Totals {
@@ -51,7 +51,7 @@ pub(crate) fn totals_of(rows: &[ClassRow]) -> Totals
 
 /// The orders of the classes that have the letter, and how many classes do.
 fn total(letter: Letter, rows: &[ClassRow]) -> Total
-    requires few { orders_with (has_letter letter) rows.now < 2 ^ 64 }
+    requires { orders_with (has_letter letter) rows.now < 2 ^ 64 }
     ensures { result ≡ total_by (has_letter letter) rows.now }
 {
     Total {
@@ -61,7 +61,7 @@ fn total(letter: Letter, rows: &[ClassRow]) -> Total
 }
 
 fn orders_with(letter: Letter, rows: &[ClassRow]) -> u64
-    requires few { orders_with (has_letter letter) rows.now < 2 ^ 64 }
+    requires { orders_with (has_letter letter) rows.now < 2 ^ 64 }
     ensures { result ≡ orders_with (has_letter letter) rows.now }
 {
     let mut orders = 0;
