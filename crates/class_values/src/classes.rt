@@ -52,11 +52,7 @@ fn push_missing_by(
 }
 
 /// Pushes a label, and behind it how many orders are missing and the first of them, or null where none is.
-fn push_missing(
-    label: &str,
-    missing: Option<Missing>,
-    out: &mut Vec<u8>,
-) -> Result<(), AllocError>
+fn push_missing(label: &str, missing: Option<Missing>, out: &mut Vec<u8>) -> Result<(), AllocError>
     ensures { OnOk result (out.new.items ≡ out.old.items ++ (label.now ++ spec.missing_json missing)) }
 {
     match missing {

@@ -35,7 +35,8 @@ the order of the least rank, with marks: : waits   ! fails   - is not sent
 ";
 
 /// The one order of a step that has no statement.
-const ONE_JSON: &str = r#"{"format":1,"name":"first.spec","orders":1,"asked":1,"sessions":["a"],"steps":[{"name":"s","session":0,"sql":""}],"by":"shows","totals":{"W":[0,0],"D":[0,0],"E":[0,0],"N":[0,0],"S":[0,0],"R":[0,0]},"expected":[],"looks":[],"classes":[{"least":0,"orders":1,"shows":"------","order":[0],"told":[["step s","done"]],"left":[],"open":[],"seen":[]}]}
+const ONE_JSON: &str =
+    r#"{"format":1,"name":"first.spec","orders":1,"asked":1,"sessions":["a"],"steps":[{"name":"s","session":0,"sql":""}],"by":"shows","totals":{"W":[0,0],"D":[0,0],"E":[0,0],"N":[0,0],"S":[0,0],"R":[0,0]},"expected":[],"looks":[],"classes":[{"least":0,"orders":1,"shows":"------","order":[0],"told":[["step s","done"]],"left":[],"open":[],"seen":[]}]}
 "#;
 
 const LOST_ANSWERS: &str = "first.spec: 6 orders, 4 answers
