@@ -67,6 +67,7 @@ TESTS = {
         "memory::usage_is_told_unless_memory_runs_out",
         "orders::an_order_and_its_rank_are_told_unless_memory_runs_out",
         "shows::an_order_is_shown_whole_unless_memory_runs_out",
+        "outcomes::classes_of_books_are_told_whole_unless_memory_runs_out",
         "over_books::books_are_told_whole_unless_memory_runs_out",
         "verdicts::answers_are_told_whole_unless_memory_runs_out",
     ],

@@ -34,6 +34,7 @@ fn page<R: Threads + Wait + Sync>(
         ranks: false,
         outcomes: false,
         left: false,
+        json: false,
     };
     let mut out = Counted::new(Vec::new(alloc));
     match classes(

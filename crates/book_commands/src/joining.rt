@@ -57,7 +57,7 @@ pub fn join_files<O: Opener, W: Write>(
 }
 
 /// The join of the books at these paths.
-fn joined_files<O: Opener>(alloc: Global, opener: &O, paths: &[&str]) -> Result<Book, JoinFault>
+pub fn joined_files<O: Opener>(alloc: Global, opener: &O, paths: &[&str]) -> Result<Book, JoinFault>
     requires { 0 < length paths.now }
     ensures { IsJoined (O.bytes opener.now) (map (λ p. p.now) paths.now) result }
 {

@@ -13,7 +13,7 @@ mod texts;
 pub use auditing::{AuditFault, audit_file};
 pub use finding::Finding;
 pub use holding::{HoldFault, Holding, hold_file};
-pub use joining::{FileFault, JoinFault, join_files};
+pub use joining::{FileFault, JoinFault, join_files, joined_files};
 pub use judging::{JudgeFault, NoReport, judge_files};
 pub use opener::{FileReader, Opener, Watched};
 pub use reporting::{ReportFault, ReportFileFault, report_file, write_report};

@@ -29,7 +29,8 @@ use Rattle.book_commands.specs.declared.finding.Finding.{Finding}
 use Rattle.book_commands.specs.declared.finding.Finding.TheVariants.{Good, Bad}
 use Rattle.class_commands.specs.declared.classing.ClassesFault.{ClassesFault}
 use Rattle.class_commands.specs.declared.classing.ClassesFault.TheVariants.{Spec, Asked, Run, NoMemory, Write}
-use Rattle.class_commands.specs.Classing.{IsClassesRun, IsFinding, IsMet, IsNotTold, IsTellingOf, expectation_over, grouping, seen_of}
+use Rattle.class_commands.specs.Classing.{IsClassesRun, IsFinding, IsMet, IsNotTold, IsTellingOf, expectation_over, grouping, page_of, seen_of}
+use Rattle.class_commands.specs.Written.{IsWritten}
 use Rattle.class_commands.specs.Parts.{IsNotFound, IsTextOf, Writes, finding_by}
 
 -- a spec file has the text that it is of
@@ -56,7 +57,8 @@ module _ {W : Type 0} (contents : W → Option (List ℕ)) (old new : Counted W)
     are = are;
     runs = is-text.0;
     are_ranks = is-text.1;
-    text_is = is-text.2;
+    written =
+        subst (λ t. IsWritten wanted.json t file (page_of path file tables wanted asked classed is-text.0) text) (text-is bytes file is) is-text.2;
   }
 
   -- what is written of them is the run's

@@ -1,1 +1,2 @@
 mod ClassLemmas
+mod BookLemmas

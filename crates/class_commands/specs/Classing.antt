@@ -1,5 +1,5 @@
 -- What is written of the classes of a spec, from the bytes of its file.
-use Rattle.std.specs.Prelude.{◌≡◌, ◌↔◌, ℕ, Bool, true, false, List, [], ◌∷◌, map, All, Option, Result, Ok, Err}
+use Rattle.std.specs.Prelude.{◌≡◌, ◌↔◌, ℕ, Bool, true, false, List, [], ◌∷◌, map, All, Option, None, Result, Ok, Err}
 use Rattle.binding_model.specs.declared.tables.Table.{Table}
 use Rattle.bound_specs.specs.Spec.{SpecFile, ranks}
 use Rattle.bound_specs.specs.Binding.{IsFileOf}
@@ -17,13 +17,13 @@ use Rattle.order_classes.specs.declared.rows.ClassRow.{ClassRow}
 use Rattle.order_classes.specs.declared.rows.Grouping.{Grouping}
 use Rattle.order_classes.specs.declared.rows.Grouping.TheVariants as by
 use Rattle.class_stretches.specs.declared.rank_run.RankRun.{RankRun}
-use Rattle.class_stretches.specs.Stretches.{AreRunsBy}
 use Rattle.class_rows.specs.Pages.{IsClassed}
 use Rattle.class_rows.specs.declared.rows.Classed.{Classed}
 use Rattle.class_looks.specs.Seeing.{told_by, sees}
 use Rattle.class_texts.specs.Beneath.{Look}
 use Rattle.class_texts.specs.Expected.{Expectation}
-use Rattle.class_texts.specs.Pages.{Page, page_bytes}
+use Rattle.class_texts.specs.Letters.{kind_of}
+use Rattle.class_texts.specs.Pages.{Page}
 use Rattle.wanted_classes.specs.declared.wanted.WantedClasses.{WantedClasses}
 use Rattle.asked_classes.specs.declared.asking.AskedClasses.{AskedClasses}
 use Rattle.asked_classes.specs.declared.looks.AskedLook.{AskedLook}
@@ -31,6 +31,7 @@ use Rattle.asked_classes.specs.declared.expectations.AskedExpectation.{AskedExpe
 use Rattle.asked_classes.specs.Asking.{IsAsked, IsRefused}
 use Rattle.book_commands.specs.declared.finding.Finding.{Finding}
 use Rattle.book_commands.specs.declared.finding.Finding.TheVariants.{Good}
+use Rattle.class_commands.specs.Written.{AreRanks, IsWritten}
 use Rattle.class_commands.specs.declared.classing.ClassesFault.{ClassesFault}
 use Rattle.class_commands.specs.declared.classing.ClassesFault.TheVariants.{Spec, Asked, Run, NoMemory, Write}
 
@@ -63,8 +64,9 @@ page_of path file tables wanted asked x runs =
       sessions = file.session_names;
       steps = file.step_names;
       tables = tables;
-      by = grouping wanted.answers;
+      by = kind_of (grouping wanted.answers);
       is_filtered = has_some asked.filters.items;
+      missing = None;
       expectations = map (expectation_over x.rows.items) asked.expectations.items;
       totals = x.totals;
       rows = x.rows.items;
@@ -75,11 +77,6 @@ page_of path file tables wanted asked x runs =
       with_left = wanted.left;
       looks = map (look_over x.rows.items) asked.looks.items;
     }
-
--- the ranks of each class, where they are told
-abbrev pub AreRanks : Bool → Classed → List (List RankRun) → Type 0
-AreRanks true x runs = AreRunsBy x.stretches.list x.stretches.classes runs
-AreRanks false x runs = runs ≡ []
 
 -- ---- what is found
 
@@ -104,8 +101,8 @@ pub record IsTellingOf (bytes path : List ℕ) (wanted : WantedClasses) (text : 
   pub classed : Classed
   pub are : IsClassed tables file.run asked.filters.items (grouping wanted.answers) classed
   pub runs : List (List RankRun)
-  pub are_ranks : AreRanks wanted.ranks classed runs
-  pub text_is : text ≡ page_bytes (page_of path file tables wanted asked classed runs)
+  pub are_ranks : AreRanks wanted.ranks classed.stretches runs
+  pub written : IsWritten wanted.json bytes file (page_of path file tables wanted asked classed runs) text
 
 -- what is found of the orders that it tells of
 abbrev pub IsFoundIn : {bytes path : List ℕ} {wanted : WantedClasses} {text : List ℕ} → IsTellingOf bytes path wanted text → Finding → Type 0

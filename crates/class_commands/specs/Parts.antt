@@ -10,14 +10,14 @@ use Rattle.transcripts.specs.declared.counted.Counted.{Counted}
 use Rattle.class_stretches.specs.declared.rank_run.RankRun.{RankRun}
 use Rattle.class_rows.specs.declared.rows.Classed.{Classed}
 use Rattle.class_texts.specs.Expected.{Expectation, is_met}
-use Rattle.class_texts.specs.Pages.{page_bytes}
 use Rattle.wanted_classes.specs.declared.wanted.WantedClasses.{WantedClasses}
 use Rattle.asked_classes.specs.declared.asking.AskedClasses.{AskedClasses}
 use Rattle.book_commands.specs.declared.finding.Finding.{Finding}
 use Rattle.book_commands.specs.declared.finding.Finding.TheVariants.{Good, Bad}
 use Rattle.class_commands.specs.declared.classing.ClassesFault.{ClassesFault}
 use Rattle.class_commands.specs.declared.classing.ClassesFault.TheVariants.{Run, NoMemory, Write}
-use Rattle.class_commands.specs.Classing.{AreRanks, page_of}
+use Rattle.class_commands.specs.Written.{AreRanks, IsWritten}
+use Rattle.class_commands.specs.Classing.{page_of}
 
 -- classes are not found: the orders are not run, or memory ran out
 abbrev pub IsNotFound : SpecFile → ClassesFault → Type 0
@@ -28,7 +28,7 @@ IsNotFound file fault = ⊥
 -- the text is the page of what is found
 abbrev pub IsTextOf : List ℕ → SpecFile → List Table → WantedClasses → AskedClasses → Classed → List ℕ → Type 0
 IsTextOf path file tables wanted asked x text =
-    (runs : List (List RankRun)) × AreRanks wanted.ranks x runs × (text ≡ page_bytes (page_of path file tables wanted asked x runs))
+    (runs : List (List RankRun)) × AreRanks wanted.ranks x.stretches runs × IsWritten wanted.json file.text file (page_of path file tables wanted asked x runs) text
 
 -- such a text is written and such a finding told; or a front of it is written, or nothing for want of memory
 abbrev pub Writes : {W : Type 0} → (W → Option (List ℕ)) → Counted W → Counted W → (List ℕ → Type 0) → (Finding → Type 0) → Result Finding ClassesFault → Type 0

@@ -157,10 +157,10 @@ fn write_classes<'a, W: Write>(
     requires { failures_of out.old < u64.MAX }
     ensures { Writes W.contents out.old out.new (IsTextOf path.now spec.now tables.now wanted.now asked.now found.now) (IsFinding found.now.rows.items asked.now.expectations.items) result }
 {
-    let Ok((text, finding)) = told(alloc, spec, path, tables, wanted, asked, found) else {
+    let Ok((written, finding)) = told(alloc, spec, path, tables, wanted, asked, found) else {
         return Err(ClassesFault::NoMemory);
     };
-    match out.write_str(&text) {
+    match out.write_all(written.bytes()) {
         Ok(()) => Ok(finding),
         Err(fault) => Err(ClassesFault::Write(fault)),
     }

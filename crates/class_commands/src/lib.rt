@@ -1,7 +1,10 @@
-//! Orders of a spec in classes, from the bytes of the spec to the text that is written.
+//! Orders in classes, from the bytes of a spec or the files of books to what is written.
 #![tactic(auto)]
 
+mod booking;
 mod classing;
 mod telling;
+mod written;
 
+pub use booking::{BookClassesFault, book_classes};
 pub use classing::{ClassesFault, classes, classes_told};

@@ -1,27 +1,26 @@
 //! The text of classes, and what is found of what is expected.
 
-ghost use Rattle.std.specs.Prelude.{◌≡◌, IfOk, map, string_bytes};
+ghost use Rattle.std.specs.Prelude.{◌≡◌, IfOk, map};
 ghost use Rattle.std.specs.List.{list_all};
 ghost use Rattle.class_texts.specs.Expected.{is_met};
-ghost use Rattle.class_commands.specs.Classing.{AreRanks, IsFinding, expectation_over, has_some, look_over, seen_of};
-ghost use Rattle.class_commands.specs.Parts.{IsTextOf, finding_by};
+ghost use Rattle.class_commands.specs.Classing.{IsFinding, expectation_over, has_some, look_over, seen_of};
+ghost use Rattle.class_commands.specs.Parts.{IsTextOf, finding_by, written_bytes};
 
 use crate::classing::grouping;
+use crate::written::{Written, ranks_of, written_page};
 use asked_classes::{AskedClasses, AskedExpectation, AskedLook};
 use binding_model::Table;
 use book_commands::Finding;
 use bound_specs::Spec;
 use class_looks::Look;
 use class_rows::Classed;
-use class_stretches::RankRun;
-use class_texts::{Expected, Looked, Page, classes_text, one_row_is_met};
+use class_texts::{ClassKind, Expected, Looked, Page, one_row_is_met};
 use order_classes::{ClassRow, Filter};
-use sqlite_items::Items;
 use std::alloc::{AllocError, Global};
 use transcripts::Event;
 use wanted_classes::WantedClasses;
 
-/// The text of what is found, and whether all is as expected.
+/// What is written of what is found, and whether all is as expected.
 pub(crate) fn told<'a>(
     alloc: Global,
     spec: &Spec,
@@ -30,13 +29,13 @@ pub(crate) fn told<'a>(
     wanted: &WantedClasses<'a>,
     asked: &AskedClasses<'a>,
     found: &Classed,
-) -> Result<(String, Finding), AllocError>
-    ensures text { IfOk result (λ x. IsTextOf path.now spec.now tables.now wanted.now asked.now found.now (string_bytes x.0)) }
+) -> Result<(Written, Finding), AllocError>
+    ensures text { IfOk result (λ x. IsTextOf path.now spec.now tables.now wanted.now asked.now found.now (written_bytes x.0)) }
     ensures finding { IfOk result (λ x. IsFinding found.now.rows.items asked.now.expectations.items x.1) }
 {
     one_row_is_met();
     let rows = found.rows.as_slice();
-    let ranks = ranks_of(alloc, wanted.ranks, found)?;
+    let ranks = ranks_of(alloc, wanted.ranks, &found.stretches)?;
     let looks = looks_over(alloc, asked.looks.as_slice(), rows)?;
     let expectations = expectations_over(alloc, asked.expectations.as_slice(), rows)?;
     let page = Page {
@@ -45,8 +44,9 @@ pub(crate) fn told<'a>(
         sessions: spec.session_names(),
         steps: spec.step_names(),
         tables,
-        by: grouping(wanted.answers),
+        by: ClassKind::of(grouping(wanted.answers)),
         is_filtered: has_some(asked.filters.as_slice()),
+        missing: None,
         expectations: expectations.as_slice(),
         totals: found.totals,
         rows,
@@ -57,8 +57,8 @@ pub(crate) fn told<'a>(
         with_left: wanted.left,
         looks: looks.as_slice(),
     };
-    let text = classes_text(alloc, &page)?;
-    Ok((text, finding_of(expectations.as_slice())))
+    let written = written_page(alloc, spec, &page, wanted.json)?;
+    Ok((written, finding_of(expectations.as_slice())))
 }
 
 fn has_some(filters: &[Filter]) -> bool
@@ -68,20 +68,6 @@ fn has_some(filters: &[Filter]) -> bool
         [] => false,
         [_, ..] => true,
     }
-}
-
-/// The ranks of each class, where they are told.
-fn ranks_of(
-    alloc: Global,
-    are_told: bool,
-    found: &Classed,
-) -> Result<Vec<Items<RankRun>>, AllocError>
-    ensures { IfOk result (λ ranks. AreRanks are_told found.now ranks.items) }
-{
-    if are_told {
-        return found.stretches.runs_by_class(alloc);
-    }
-    Ok(Vec::new(alloc))
 }
 
 /// What each look sees of what each class leaves.

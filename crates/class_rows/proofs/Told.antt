@@ -29,7 +29,7 @@ use Rattle.class_stretches.specs.declared.tally.Tally.{Tally}
 use Rattle.class_stretches.specs.Stretches.{class_at, end_of, Stretched, IsStretched, runs_with, least_of, tally_of, AreTallies}
 use Rattle.class_stretches.specs.Mapping.{number_of}
 use Rattle.class_stretches.specs.Groups.{class_by, classes_from, classes_by, tally_of_class, ShowsBy}
-use Rattle.class_stretches.proofs.Groups.{groups, groups-classes, tallies-of-classes, runs-within, runs-have, runs-apart, class-comes}
+use Rattle.class_stretches.proofs.Groups.{groups, groups-classes, least-inside, tallies-of-classes, runs-within, runs-have, runs-apart, class-comes}
 use Rattle.class_groups.specs.declared.sweep.Groups.{Groups}
 use Rattle.class_groups.specs.Groups.{IsSwept}
 use Rattle.class_rows.specs.Numbering.{told_by, IsNumberOf, AreNumbered, each_by, passes_by, AreR}
@@ -183,13 +183,8 @@ pub tally-inside : (s : Stretched) (ts : List Tally) → IsStretched s → AreTa
 tally-inside s ts is are k lt =
     let all = are.all in
     let inside : k < s.classes = omega (arith, lt, all) in
-    let some = class-comes 0 s.list s.classes k 0 is.order (omega arith) inside in
-    let apart = subst (AreApart 0) some.2 (runs-apart (Some k) 0 s.list is.stretches) in
-    let first = or_left (in_run some.0 some.0.first) (in_runs some.1 some.0.first) (run-from some.0 some.0.first (omega arith) apart.1) in
-    let within = runs-within (Some k) 0 s.list some.0.first is.stretches (subst (λ xs. in_runs xs some.0.first ≡ true) (sym some.2) first) in
     let tally = get_or_from_slice_get ts k (tally_of (runs_with (Some k) 0 s.list)) no_tally (are.each k inside) in
-    let least : (get_or ts k no_tally).least ≡ some.0.first = ap (λ (t : Tally). t.least) tally ∙ ap least_of some.2 in
-    subst (λ r. r < end_of s.list) (sym least) within.1
+    subst (λ r. r < end_of s.list) (sym (ap (λ (t : Tally). t.least) tally)) (least-inside s k is inside)
 
 pub tallied-next : (tables : List Table) (spec : Spec) (ts : List Tally) (ls : List Letters) (i : ℕ) (rows : List ClassRow) (row : ClassRow)
     → AreTallied tables spec ts ls i rows → IsTallied tables spec (get_or ts i no_tally) (get_or ls i (no_letters None)) row

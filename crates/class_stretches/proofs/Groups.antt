@@ -116,6 +116,15 @@ class-comes n (s ∷ ss) m k low o up lt = at s.class o.0 o.1 (λ n' o' up'. cla
         by true is = (record { first = low; end = s.end }, runs_with (Some k) s.end ss, refl)
         by false is = f (with_class n (Some j)) rest (with-up-to n j k come up is)
 
+-- its least rank is one of the stretches'
+pub least-inside : (s : Stretched) (k : ℕ) → IsStretched s → k < s.classes → least_of (runs_with (Some k) 0 s.list) < end_of s.list
+least-inside s k is lt =
+    let some = class-comes 0 s.list s.classes k 0 is.order (omega arith) lt in
+    let apart = subst (AreApart 0) some.2 (runs-apart (Some k) 0 s.list is.stretches) in
+    let first = or_left (in_run some.0 some.0.first) (in_runs some.1 some.0.first) (run-from some.0 some.0.first (omega arith) apart.1) in
+    let within = runs-within (Some k) 0 s.list some.0.first is.stretches (subst (λ xs. in_runs xs some.0.first ≡ true) (sym some.2) first) in
+    subst (λ r. r < end_of s.list) (sym (ap least_of some.2)) within.1
+
 pub least-behind : (n : ℕ) (ss : List Stretch) (m k low : ℕ) → AreStretches low ss → AreInOrder n ss m → n ≤ k → k < m
     → low ≤ least_of (runs_with (Some k) low ss)
 least-behind n [] m k low a o up lt = absurd (omega (arith, o, up, lt))

@@ -8,7 +8,7 @@ use Rattle.order_classes.specs.Classes.{Run, ranks_in}
 use Rattle.class_stretches.specs.declared.stretch.Stretch.{Stretch}
 use Rattle.class_stretches.specs.declared.rank_run.RankRun.{RankRun}
 use Rattle.class_stretches.specs.declared.tally.Tally.{Tally}
-use Rattle.class_stretches.specs.Stretches.{same_class, AreStretches, MayCome, with_class, AreInOrder, runs_with, run_of, AreRunsBy}
+use Rattle.class_stretches.specs.Stretches.{same_class, AreStretches, MayCome, with_class, AreInOrder, first_of, runs_with, run_of, AreRunsBy}
 use Rattle.class_stretches.specs.Growing.{end_at}
 use Rattle.class_stretches.specs.Counting.{counted, counted_all, AreBelow, HasOrder, with_run, with_run_of, with_runs}
 use Rattle.class_stretches.proofs.Ranks.{with-known, with-next, known-or-next}
@@ -64,6 +64,23 @@ missing-all ss i low missing le so =
     let here = ap (λ rest. ranks_in (runs_with None low rest)) (drop_of_length-le ss le) in
     let left = so.left in
     omega (arith, here, left)
+
+-- ---- the first missing rank
+
+pub first-here : (ss : List Stretch) (i low : ℕ) → i < length ss → same_class None (stretch_at ss i).class ≡ true
+    → first_of (runs_with None low (drop i ss)) ≡ Some low
+first-here ss i low lt is =
+    ap (λ rest. first_of (runs_with None low rest)) (next-left ss i lt)
+    ∙ ap (λ b. first_of (cond b (record { first = low; end = end_at ss i } ∷ runs_with None (end_at ss i) (drop (i + 1) ss)) (runs_with None (end_at ss i) (drop (i + 1) ss)))) is
+
+pub first-next : (ss : List Stretch) (i low : ℕ) → i < length ss → same_class None (stretch_at ss i).class ≡ false
+    → first_of (runs_with None low (drop i ss)) ≡ first_of (runs_with None (end_at ss i) (drop (i + 1) ss))
+first-next ss i low lt is =
+    ap (λ rest. first_of (runs_with None low rest)) (next-left ss i lt)
+    ∙ ap (λ b. first_of (cond b (record { first = low; end = end_at ss i } ∷ runs_with None (end_at ss i) (drop (i + 1) ss)) (runs_with None (end_at ss i) (drop (i + 1) ss)))) is
+
+pub first-none : (ss : List Stretch) (i low : ℕ) → length ss ≤ i → first_of (runs_with None low (drop i ss)) ≡ None
+first-none ss i low le = ap (λ rest. first_of (runs_with None low rest)) (drop_of_length-le ss le)
 
 -- ---- runs
 

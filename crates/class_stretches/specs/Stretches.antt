@@ -5,6 +5,7 @@ use Rattle.order_classes.specs.Classes.{Run, ranks_in}
 use Rattle.class_stretches.specs.declared.stretch.Stretch.{Stretch}
 use Rattle.class_stretches.specs.declared.tally.Tally.{Tally}
 use Rattle.class_stretches.specs.declared.rank_run.RankRun.{RankRun}
+use Rattle.class_stretches.specs.declared.missing.Missing.{Missing}
 
 -- ---- the class of a rank
 
@@ -91,6 +92,16 @@ runs_with c low (s ∷ ss) = cond (same_class c s.class) (record { first = low; 
 -- a run as classes have it
 abbrev pub run_of : RankRun → Run
 run_of run = record { first = run.first; end = run.end }
+
+-- the first rank of runs, if there is one
+abbrev pub first_of : List Run → Option ℕ
+first_of [] = None
+first_of (run ∷ runs) = Some run.first
+
+-- how many ranks the runs have, and the first of them, if they have any
+abbrev pub missing_by : List Run → Option Missing
+missing_by [] = None
+missing_by (run ∷ runs) = Some (record { ranks = ranks_in (run ∷ runs); first = run.first })
 
 abbrev pub least_of : List Run → ℕ
 least_of [] = 0

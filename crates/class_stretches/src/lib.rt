@@ -5,12 +5,14 @@ mod copying;
 mod laws;
 mod list;
 mod mapping;
+mod missing;
 mod rank_run;
 mod stretch;
 mod stretches;
 mod tally;
 
 pub use laws::{groups_are_classes, none_is_missing, stretches_are_groups, tallies_are_of_classes};
+pub use missing::Missing;
 pub use rank_run::RankRun;
 pub use stretch::Stretch;
 pub use stretches::Stretches;

@@ -1,8 +1,7 @@
 //! One run of ranks.
 
-ghost use Rattle.std.specs.Prelude.{◌≡◌, ◌+◌, ◌<◌, ◌≤◌, Some, None, [], ◌∷◌, ◌++◌, IfOk, OnOk, length, map};
-ghost use Rattle.order_classes.specs.Classes.{ranks_in};
-ghost use Rattle.class_stretches.specs.Stretches.{AreInOrder, AreRunsBy, AreStretches, MayCome, runs_with, run_of};
+ghost use Rattle.std.specs.Prelude.{◌≡◌, ◌≤◌, Some, [], ◌∷◌, ◌++◌, IfOk, OnOk, length, map};
+ghost use Rattle.class_stretches.specs.Stretches.{AreInOrder, AreRunsBy, MayCome, runs_with, run_of};
 ghost use Rattle.class_stretches.specs.Counting.{with_run, with_runs};
 
 use crate::list::is_same;
@@ -109,31 +108,4 @@ fn put_to(
     }
     all.push(Items::from_slice(alloc, &[run])?)?;
     Ok(())
-}
-
-/// How many ranks are in no known class.
-pub(crate) fn missing_in(list: &[Stretch]) -> u64
-    requires { AreStretches 0 list.now }
-    ensures { result ≡ ranks_in (runs_with None 0 list.now) }
-{
-    let mut missing = 0;
-    let mut low = 0;
-    for stretch in list {
-        let end = stretch.end;
-        missing += missing_of(low, stretch);
-        low = end;
-    }
-    missing
-}
-
-/// How many ranks of a stretch that begins here are in no known class: all of them, or none.
-fn missing_of(low: u64, stretch: &Stretch) -> u64
-    requires { low < stretch.now.end }
-    ensures missing { result ≡ ranks_in (runs_with None low (stretch.now ∷ [])) }
-    ensures inside { low + result ≤ stretch.now.end }
-{
-    match stretch.class {
-        None => stretch.end - low,
-        Some(_) => 0,
-    }
 }

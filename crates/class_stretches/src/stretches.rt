@@ -1,15 +1,15 @@
 //! Stretches that grow in the order of ranks.
 
 ghost use Rattle.std.specs.Prelude.{◌≡◌, ◌+◌, ◌-◌, ◌^◌, ◌<◌, ◌≤◌, Some, None, [], OnOk, OnErr, IfOk, length, map};
-ghost use Rattle.order_classes.specs.Classes.{ranks_in};
 ghost use Rattle.class_stretches.specs.Stretches.{class_at, end_of, IsStretched, MayCome, with_class, IsPushed, IsCopied};
-ghost use Rattle.class_stretches.specs.Stretches.{runs_with, run_of, AreRunsBy, AreTallies};
+ghost use Rattle.class_stretches.specs.Stretches.{missing_by, runs_with, run_of, AreRunsBy, AreTallies};
 ghost use Rattle.class_stretches.specs.Mapping.{HaveOrder, IsMapped};
 
 use crate::copying::copy_list;
 use crate::list::{class_in, classes_with, end_of_list, put};
 use crate::mapping::mapped_list;
-use crate::rank_run::{RankRun, missing_in, runs_by, runs_in};
+use crate::missing::{Missing, first_missing_in, missing_in};
+use crate::rank_run::{RankRun, runs_by, runs_in};
 use crate::stretch::Stretch;
 use crate::tally::{Tally, tallies_of};
 use sqlite_items::Items;
@@ -107,11 +107,15 @@ impl Stretches {
         tallies_of(alloc, &self.list)
     }
 
-    /// How many ranks are in no known class.
-    pub fn missing(&self) -> u64
-        ensures { result ≡ ranks_in (runs_with None 0 self.now.list) }
+    /// The ranks that are in no known class, where there are any.
+    pub fn missing(&self) -> Option<Missing>
+        ensures { result ≡ missing_by (runs_with None 0 self.now.list) }
     {
-        missing_in(&self.list)
+        let first = first_missing_in(&self.list)?;
+        Some(Missing {
+            ranks: missing_in(&self.list),
+            first,
+        })
     }
 
     /// The runs of the ranks of a class.

@@ -23,8 +23,8 @@ use Rattle.class_texts.specs.Orders.{filled, fits, hanging, marks_text, order_li
 use Rattle.class_texts.specs.Pages.{Page, cells, class_word, classes_word, right, row_front, row_lines, share_text, shows_cells, table_head, tenths}
 use Rattle.class_texts.specs.Pages.{tenths_text, total_cells, total_line, total_numbers, totals_head, totals_lines, widths}
 use Rattle.class_texts.specs.Laws.{AreUpTo, IsNarrow, IsRowOf, IsSmall}
-use Rattle.order_classes.specs.declared.rows.Grouping.{Grouping}
-use Rattle.order_classes.specs.declared.rows.Grouping.TheVariants.{Shows, Answers}
+use Rattle.class_texts.specs.declared.kind.ClassKind.{ClassKind}
+use Rattle.class_texts.specs.declared.kind.ClassKind.TheVariants.{Shows, Answers, Outcomes}
 use Rattle.class_texts.specs.declared.letters.Letter.{Letter}
 use Rattle.class_texts.specs.declared.letters.Letter.TheVariants.{Waits, Deadlock, Error, Unsent, Stuck, NotSerial}
 use Rattle.class_texts.specs.declared.marks.Sign.TheVariants as mark
@@ -162,16 +162,18 @@ module _ (p : Page) (small : IsSmall p) where
   orders-wide : w.orders ≤ 11
   orders-wide = let a = nine p.orders small.orders in omega (arith, a)
 
-  classes-wide : w.classes ≤ 10
-  classes-wide = let a = eight p.totals.all.classes small.classes in omega (arith, a)
-
-  word-short : (by : Grouping) → length (class_word by) ≤ 6
+  word-short : (by : ClassKind) → length (class_word by) ≤ 7
   word-short Shows = omega arith
   word-short Answers = omega arith
+  word-short Outcomes = omega arith
 
-  words-short : (by : Grouping) → length (classes_word by) ≤ 10
+  words-short : (by : ClassKind) → length (classes_word by) ≤ 8
   words-short Shows = omega arith
   words-short Answers = omega arith
+  words-short Outcomes = omega arith
+
+  classes-wide : w.classes ≤ 10
+  classes-wide = let a = eight p.totals.all.classes small.classes in let b = words-short p.by in omega (arith, a, b)
 
   number-wide : w.number ≤ 8
   number-wide = let a = eight (length p.rows) small.rows in let b = word-short p.by in omega (arith, a, b)
@@ -179,9 +181,10 @@ module _ (p : Page) (small : IsSmall p) where
   shows-wide : w.shows ≤ 6
   shows-wide = by p.by
     where
-      by : (g : Grouping) → max 5 (length (letters_of g)) ≤ 6
+      by : (g : ClassKind) → max 5 (length (letters_of g)) ≤ 6
       by Shows = omega arith
       by Answers = omega arith
+      by Outcomes = omega arith
 
   rank-wide : w.rank ≤ 11
   rank-wide = let a = nine p.orders small.orders in omega (arith, a)
@@ -239,7 +242,8 @@ module _ (p : Page) (small : IsSmall p) where
 
   totals_head-narrow : IsNarrow (totals_head w p.by)
   totals_head-narrow =
-      let a = total_cells-fit [] (codes "orders") (codes "share %") (classes_word p.by) (omega arith) (omega arith) (omega arith) (words-short p.by) in
+      let short = words-short p.by in
+      let a = total_cells-fit [] (codes "orders") (codes "share %") (classes_word p.by) (omega arith) (omega arith) (omega arith) (omega (arith, short)) in
       omega (arith, a)
 
   pub totals-narrow : All IsNarrow (totals_lines w p)
@@ -281,9 +285,10 @@ module _ (p : Page) (small : IsSmall p) where
       let a = two 1 (length letters) (sign_in l letter) (flat_map (sign_in l) letters) (sign_in-short l letter) (signs-short l letters) in
       omega (arith, a)
 
-  letters-short : (by : Grouping) (l : Letters) → length (letters_text by l) ≤ 6
+  letters-short : (by : ClassKind) (l : Letters) → length (letters_text by l) ≤ 6
   letters-short Shows l = signs-short l (letters_of Shows)
   letters-short Answers l = let a = signs-short l (letters_of Answers) in omega (arith, a)
+  letters-short Outcomes l = let a = signs-short l (letters_of Outcomes) in omega (arith, a)
 
   front-fit : (number : ℕ) (row : ClassRow) → IsRowOf p number row → length (row_front w p number row) ≤ 49
   front-fit number row is =

@@ -18,8 +18,8 @@ use Rattle.order_classes.specs.declared.shows.Rest.TheVariants.{HasEnded, IsOpen
 use Rattle.class_texts.specs.Beneath.{left_lines, ranks_lines}
 use Rattle.class_texts.specs.Expected.{expected_lines, meets}
 use Rattle.class_texts.specs.Orders.{order_lines, step_word, step_words}
-use Rattle.class_texts.specs.Pages.{Page, page_bytes, share_text}
-use Rattle.order_classes.specs.declared.rows.Grouping.TheVariants.{Shows, Answers}
+use Rattle.class_texts.specs.Pages.{Page, missing_text, page_bytes, share_text}
+use Rattle.class_texts.specs.declared.kind.ClassKind.TheVariants.{Shows, Answers, Outcomes}
 
 -- ---- shares
 
@@ -93,6 +93,7 @@ without_blocks = record {
   tables = [];
   by = Shows;
   is_filtered = false;
+  missing = None;
   expectations = [];
   totals = record {
     all = total 6 3;
@@ -150,6 +151,7 @@ lined = record {
   tables = [];
   by = Answers;
   is_filtered = true;
+  missing = None;
   expectations = [];
   totals = record {
     all = total 1 1;
@@ -239,6 +241,51 @@ empty_page : page_bytes (record without_blocks {
     ≡ top (codes "lost_update_without_blocks.spec: 0 of 6 orders, 0 classes" ∷ []) ++ line (codes "    R       0        0        0  no serial order answers so")
 unfolding chars digits encode_utf8
 empty_page = refl
+
+-- ---- a page of books, which have nothing of one order
+
+abbrev of_books : Page
+of_books = record without_blocks {
+  path = codes "2 books";
+  by = Outcomes;
+  is_filtered = true;
+  missing = Some (record { ranks = 1; first = 4 });
+  totals = record {
+    all = total 5 2;
+    waits = total 0 0;
+    deadlock = total 0 0;
+    error = total 0 0;
+    unsent = total 0 0;
+    stuck = total 0 0;
+    not_serial = None;
+  };
+  rows = row 0 3 nothing (0 ∷ 1 ∷ 2 ∷ 3 ∷ []) two_each ∷ row 1 2 nothing (0 ∷ 2 ∷ 1 ∷ 3 ∷ []) two_each ∷ [];
+}
+
+books_page : page_bytes of_books ≡ flat_map line (
+    codes "2 books: 5 of 6 orders, 2 outcomes"
+    ∷ codes ""
+    ∷ codes "what orders leave is in no book, so S and R are not told"
+    ∷ codes "1 order is missing, of rank 4"
+    ∷ codes ""
+    ∷ codes "       orders  share %  outcomes"
+    ∷ codes "    W       0        0         0  a session waits"
+    ∷ codes "    D       0        0         0  a session loses a deadlock"
+    ∷ codes "    E       0        0         0  another error of its own"
+    ∷ codes "    N       0        0         0  a step is not sent, since its session waits"
+    ∷ codes ""
+    ∷ codes "outcome  orders  share %  shows  rank  order"
+    ∷ codes "      1       3     50.0  ----      0  a1 a2 b1 b2"
+    ∷ codes "      2       2     33.3  ----      1  a1 b1 a2 b2"
+    ∷ codes ""
+    ∷ codes "the order of the least rank, with marks: : waits   ! fails   - is not sent" ∷ [])
+unfolding chars digits encode_utf8
+books_page = refl
+
+missing_texts : missing_text None ∷ missing_text (Some (record { ranks = 20; first = 3 })) ∷ []
+    ≡ codes "no order is missing" ∷ codes "20 orders are missing, the first of rank 3" ∷ []
+unfolding digits
+missing_texts = refl
 
 -- ---- ranks, and what is left
 

@@ -4,8 +4,8 @@ use Rattle.lock_modes.specs.declared.value.Value.{Value}
 use Rattle.transcripts.specs.declared.event.Event.{Event}
 use Rattle.binding_model.specs.declared.tables.Table.{Table}
 use Rattle.class_stretches.specs.declared.rank_run.RankRun.{RankRun}
-use Rattle.order_classes.specs.declared.rows.Grouping.{Grouping}
-use Rattle.order_classes.specs.declared.rows.Grouping.TheVariants.{Shows, Answers}
+use Rattle.class_texts.specs.declared.kind.ClassKind.{ClassKind}
+use Rattle.class_texts.specs.declared.kind.ClassKind.TheVariants.{Shows, Answers, Outcomes}
 use Rattle.order_classes.specs.declared.shows.Rest.{Rest}
 use Rattle.order_classes.specs.declared.shows.Rest.TheVariants.{HasEnded, IsOpen, HasFailed, StillWaits}
 use Rattle.order_classes.specs.declared.shows.Shows.{Shows as Shown}
@@ -50,16 +50,17 @@ rests_from sessions n [] = []
 rests_from sessions n (r ∷ rs) = standing_lines (shown_text (get_or sessions n [])) (rest_text r) ++ rests_from sessions (n + 1) rs
 
 -- how sessions stand is no answer
-abbrev pub rests_by : Grouping → List (List ℕ) → List Rest → List (List ℕ)
+abbrev pub rests_by : ClassKind → List (List ℕ) → List Rest → List (List ℕ)
 rests_by Shows sessions rests = rests_from sessions 0 rests
 rests_by Answers sessions rests = []
+rests_by Outcomes sessions rests = []
 
 -- where nothing is to be said, that is
 abbrev pub or_nothing : List (List ℕ) → List (List ℕ)
 or_nothing [] = codes "nothing" ∷ []
 or_nothing (line ∷ lines) = line ∷ lines
 
-abbrev pub left_lines : Grouping → List Table → List (List ℕ) → Shown → List (List ℕ)
+abbrev pub left_lines : ClassKind → List Table → List (List ℕ) → Shown → List (List ℕ)
 left_lines by tables sessions s = or_nothing (tables_from s.left 0 tables ++ rests_by by sessions s.rests)
 
 -- ---- looks

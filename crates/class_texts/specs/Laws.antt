@@ -17,7 +17,7 @@ use Rattle.class_texts.specs.Orders.{behind_blank, hanging}
 use Rattle.class_texts.specs.Beneath.{rest_text, tables_from}
 use Rattle.class_texts.specs.Expected.{Expectation, meets, met_from, miss_from}
 use Rattle.class_texts.specs.Pages.{Page, row_lines, table_head, totals_lines, widths}
-use Rattle.order_classes.specs.declared.rows.Grouping.{Grouping}
+use Rattle.class_texts.specs.declared.kind.ClassKind.{ClassKind}
 use Rattle.class_texts.specs.declared.letters.Letter.{Letter}
 
 -- ---- orders are whole
@@ -47,7 +47,7 @@ AreSame a b letter = shows_letter a letter ≡ shows_letter b letter
 
 -- where other letters are shown, other words are told
 abbrev pub LettersAreTold : Type 0
-LettersAreTold = (by : Grouping) (a b : Letters) → letters_text by a ≡ letters_text by b → All (AreSame a b) (letters_of by)
+LettersAreTold = (by : ClassKind) (a b : Letters) → letters_text by a ≡ letters_text by b → All (AreSame a b) (letters_of by)
 
 -- ---- one row is met
 

@@ -3,8 +3,10 @@ use Rattle.std.specs.Prelude.{ℕ, Bool, false, cond, List, [], ◌∷◌, Optio
 use Rattle.order_classes.specs.declared.rows.Letters.{Letters}
 use Rattle.order_classes.specs.declared.rows.Total.{Total}
 use Rattle.order_classes.specs.declared.rows.Totals.{Totals}
+use Rattle.class_texts.specs.declared.kind.ClassKind.{ClassKind}
+use Rattle.class_texts.specs.declared.kind.ClassKind.TheVariants.{Shows, Answers, Outcomes}
 use Rattle.order_classes.specs.declared.rows.Grouping.{Grouping}
-use Rattle.order_classes.specs.declared.rows.Grouping.TheVariants.{Shows, Answers}
+use Rattle.order_classes.specs.declared.rows.Grouping.TheVariants as by
 use Rattle.class_texts.specs.declared.letters.Letter.{Letter}
 use Rattle.class_texts.specs.declared.letters.Letter.TheVariants.{Waits, Deadlock, Error, Unsent, Stuck, NotSerial}
 
@@ -24,10 +26,16 @@ meaning Unsent = codes "a step is not sent, since its session waits"
 meaning Stuck = codes "a session still waits at the end"
 meaning NotSerial = codes "no serial order answers so"
 
--- the letters that are told, in their order: answers leave waits and steps that are not sent aside
-abbrev pub letters_of : Grouping → List Letter
+-- the classes that orders of a spec are grouped into
+abbrev pub kind_of : Grouping → ClassKind
+kind_of by.Shows = Shows
+kind_of by.Answers = Answers
+
+-- the letters that are told, in their order: answers leave waits and steps that are not sent aside, and books know no rows that are left
+abbrev pub letters_of : ClassKind → List Letter
 letters_of Shows = Waits ∷ Deadlock ∷ Error ∷ Unsent ∷ Stuck ∷ NotSerial ∷ []
 letters_of Answers = Deadlock ∷ Error ∷ Stuck ∷ NotSerial ∷ []
+letters_of Outcomes = Waits ∷ Deadlock ∷ Error ∷ Unsent ∷ []
 
 -- none of R where the spec has permutation lines
 abbrev pub total_of : Totals → Letter → Option Total
@@ -50,5 +58,5 @@ shows_letter l NotSerial = unwrap_or l.not_serial false
 abbrev pub sign_in : Letters → Letter → List ℕ
 sign_in l letter = cond (shows_letter l letter) (sign letter) (codes "-")
 
-abbrev pub letters_text : Grouping → Letters → List ℕ
+abbrev pub letters_text : ClassKind → Letters → List ℕ
 letters_text by l = flat_map (sign_in l) (letters_of by)

@@ -16,13 +16,14 @@ use Rattle.class_texts.specs.Counted.{counted}
 use Rattle.class_texts.specs.Orders.{order_lines}
 use Rattle.class_texts.specs.Beneath.{Look, left_lines, look_lines, ranks_lines}
 use Rattle.class_texts.specs.Expected.{Expectation, expected_lines}
-use Rattle.order_classes.specs.declared.rows.Grouping.{Grouping}
-use Rattle.order_classes.specs.declared.rows.Grouping.TheVariants.{Shows, Answers}
+use Rattle.class_texts.specs.declared.kind.ClassKind.{ClassKind}
+use Rattle.class_texts.specs.declared.kind.ClassKind.TheVariants.{Shows, Answers, Outcomes}
+use Rattle.class_stretches.specs.declared.missing.Missing.{Missing}
 use Rattle.class_texts.specs.declared.letters.Letter.{Letter}
 use Rattle.class_texts.specs.declared.widths.Widths.{Widths}
 
 -- what a page is made of: the path of the spec and how many orders it has; the names of sessions and of steps, and the declared tables; by what orders are
--- grouped, and whether filters were asked for; what is expected; the totals and the classes; and whether the totals are told alone. Of each class what else is
+-- grouped, whether these are not all orders, and which are missing; what is expected; the totals and the classes; and whether the totals are told alone. Of each class what else is
 -- told: its ranks, its outcome, what it leaves, and what SELECTs see of that
 pub record Page : Type 0 where
   pub path : List ℕ
@@ -30,8 +31,9 @@ pub record Page : Type 0 where
   pub sessions : List (List ℕ)
   pub steps : List (List ℕ)
   pub tables : List Table
-  pub by : Grouping
+  pub by : ClassKind
   pub is_filtered : Bool
+  pub missing : Option Missing
   pub expectations : List Expectation
   pub totals : Totals
   pub rows : List ClassRow
@@ -52,21 +54,23 @@ abbrev pub digits_of : ℕ → ℕ
 digits_of n = length (decimal n)
 
 -- one class, and several
-abbrev pub class_word : Grouping → List ℕ
+abbrev pub class_word : ClassKind → List ℕ
 class_word Shows = codes "class"
 class_word Answers = codes "answer"
+class_word Outcomes = codes "outcome"
 
-abbrev pub classes_word : Grouping → List ℕ
+abbrev pub classes_word : ClassKind → List ℕ
 classes_word Shows = codes "classes"
 classes_word Answers = codes "answers"
+classes_word Outcomes = codes "outcomes"
 
 -- the columns with the two blanks in front of them, but for the first one: numbers of orders and of classes, the numbers of the rows, what they show without
 -- blanks, and ranks
-abbrev pub widths_by : Grouping → ℕ → ℕ → ℕ → Widths
+abbrev pub widths_by : ClassKind → ℕ → ℕ → ℕ → Widths
 widths_by by orders classes rows =
     record {
       orders = 2 + max 6 (digits_of orders);
-      classes = 2 + max 7 (digits_of classes);
+      classes = 2 + max (length (classes_word by)) (digits_of classes);
       number = max (length (class_word by)) (digits_of rows);
       shows = max 5 (length (letters_of by));
       rank = 2 + max 4 (digits_of orders);
@@ -89,7 +93,7 @@ share_text whole part = cond (part == 0) (codes "0") (tenths_text (tenths whole 
 
 -- ---- the title, what is expected, and the totals
 
--- how many of the orders were asked for, where that is told
+-- how many of the orders are told of, where these are not all
 abbrev pub asked_text : Bool → ℕ → List ℕ
 asked_text is_filtered n = cond is_filtered (decimal n ++ codes " of ") []
 
@@ -105,7 +109,7 @@ title p = shown_text p.path ++ (codes ": " ++ counts_text p)
 abbrev pub total_cells : Widths → List ℕ → List ℕ → List ℕ → List ℕ → List ℕ
 total_cells w letter orders share classes = right 5 letter ++ (right w.orders orders ++ (right 9 share ++ right w.classes classes))
 
-abbrev pub totals_head : Widths → Grouping → List ℕ
+abbrev pub totals_head : Widths → ClassKind → List ℕ
 totals_head w by = total_cells w [] (codes "orders") (codes "share %") (classes_word by)
 
 abbrev pub some_total : Widths → ℕ → Letter → Total → List ℕ
@@ -125,8 +129,25 @@ totals_lines w p = totals_head w p.by ∷ map (total_line w p.orders p.totals) (
 abbrev pub expectations_lines : Page → List (List ℕ)
 expectations_lines p = flat_map (expected_lines p.steps p.totals.all.orders p.rows) p.expectations
 
+-- how many orders are missing, and the first of them
+abbrev pub missing_text : Option Missing → List ℕ
+missing_text None = codes "no order is missing"
+missing_text (Some m) = counted m.ranks (codes "order is missing, of rank ") (codes "orders are missing, the first of rank ") ++ decimal m.first
+
+-- what books do not know
+abbrev pub unknown_text : List ℕ
+unknown_text = codes "what orders leave is in no book, so S and R are not told"
+
+abbrev pub books_by : ClassKind → Option Missing → List (List ℕ)
+books_by Shows m = []
+books_by Answers m = []
+books_by Outcomes m = unknown_text ∷ missing_text m ∷ []
+
+abbrev pub books_lines : Page → List (List ℕ)
+books_lines p = books_by p.by p.missing
+
 abbrev pub top_lines : Widths → Page → List (List ℕ)
-top_lines w p = title p ∷ (part (expectations_lines p) ++ [] ∷ totals_lines w p)
+top_lines w p = title p ∷ (part (expectations_lines p) ++ part (books_lines p) ++ [] ∷ totals_lines w p)
 
 -- ---- the table
 
@@ -137,7 +158,7 @@ shows_cells w shows rank = codes "  " ++ (padded w.shows shows ++ (right w.rank 
 abbrev pub cells : Widths → List ℕ → List ℕ → List ℕ → List ℕ → List ℕ → List ℕ
 cells w number orders share shows rank = right w.number number ++ (right w.orders orders ++ (right 9 share ++ shows_cells w shows rank))
 
-abbrev pub table_head : Widths → Grouping → List ℕ
+abbrev pub table_head : Widths → ClassKind → List ℕ
 table_head w by = cells w (class_word by) (codes "orders") (codes "share %") (codes "shows") (codes "rank") ++ codes "order"
 
 abbrev pub row_front : Widths → Page → ℕ → ClassRow → List ℕ

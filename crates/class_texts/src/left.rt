@@ -5,9 +5,10 @@ ghost use Rattle.shown_texts.specs.Characters.{shown_text};
 ghost use Rattle.shown_texts.specs.Pages.{standing_lines};
 ghost use Rattle.class_texts.specs.Beneath as spec;
 
+use crate::kind::ClassKind;
 use binding_model::Table;
 use lock_modes::{Row, Text, Value};
-use order_classes::{Grouping, Rest, Shows};
+use order_classes::{Rest, Shows};
 use shown_texts::{put, put_left_in, put_shown, put_standing};
 use sqlite_items::Items;
 use std::alloc::{AllocError, Global};
@@ -97,19 +98,19 @@ fn put_rests(
     Ok(())
 }
 
-/// Puts how sessions stand behind other lines, unless orders are grouped by answers.
+/// Puts how sessions stand behind other lines, where orders are grouped by all that they show.
 fn put_rests_by(
     alloc: Global,
     lines: &mut Items<Items<char>>,
-    by: Grouping,
+    by: ClassKind,
     sessions: &[Text],
     rests: &[Rest],
 ) -> Result<(), AllocError>
     ensures { OnOk result (lines.new ≡ lines.old ++ spec.rests_by by sessions.now rests.now) }
 {
     match by {
-        Grouping::Shows => put_rests(alloc, lines, sessions, rests),
-        Grouping::Answers => Ok(()),
+        ClassKind::Shows => put_rests(alloc, lines, sessions, rests),
+        ClassKind::Answers | ClassKind::Outcomes => Ok(()),
     }
 }
 
@@ -128,7 +129,7 @@ fn put_nothing(alloc: Global, lines: &mut Items<Items<char>>) -> Result<(), Allo
 /// What is left where this is shown, in lines.
 pub(crate) fn left_lines(
     alloc: Global,
-    by: Grouping,
+    by: ClassKind,
     tables: &[Table],
     sessions: &[Text],
     shows: &Shows,

@@ -3,7 +3,8 @@
 ghost use Rattle.std.specs.Prelude.{◌≡◌, ◌++◌, IfOk, OnOk, length, string_bytes};
 ghost use Rattle.class_texts.specs.Letters as spec;
 
-use order_classes::{Grouping, Letters, Total, Totals};
+use crate::kind::ClassKind;
+use order_classes::{Letters, Total, Totals};
 use std::alloc::{AllocError, Global};
 
 /// What an order may show.
@@ -39,13 +40,21 @@ static OF_ANSWERS: [Letter; 4] = [
     Letter::NotSerial,
 ];
 
+static OF_OUTCOMES: [Letter; 4] = [
+    Letter::Waits,
+    Letter::Deadlock,
+    Letter::Error,
+    Letter::Unsent,
+];
+
 /// The letters that are told, in their order.
-pub fn letters_of(by: Grouping) -> &'static [Letter]
+pub fn letters_of(by: ClassKind) -> &'static [Letter]
     ensures { result.now ≡ spec.letters_of by }
 {
     match by {
-        Grouping::Shows => &OF_SHOWS,
-        Grouping::Answers => &OF_ANSWERS,
+        ClassKind::Shows => &OF_SHOWS,
+        ClassKind::Answers => &OF_ANSWERS,
+        ClassKind::Outcomes => &OF_OUTCOMES,
     }
 }
 
@@ -117,7 +126,7 @@ impl Letter {
 }
 
 /// The letters that are told, each in its place.
-pub fn letters_text(alloc: Global, by: Grouping, letters: Letters) -> Result<String, AllocError>
+pub fn letters_text(alloc: Global, by: ClassKind, letters: Letters) -> Result<String, AllocError>
     ensures { IfOk result (λ text. string_bytes text ≡ spec.letters_text by letters) }
 {
     let mut text = String::new(alloc);

@@ -4,6 +4,7 @@
 mod beneath;
 mod columns;
 mod expected;
+mod kind;
 mod laws;
 mod left;
 mod letters;
@@ -20,6 +21,7 @@ mod totals;
 mod widths;
 
 pub use expected::{Expected, first_miss, met_of};
+pub use kind::ClassKind;
 pub use laws::{
     left_is_shown, letters_are_told, misses_are_told, one_row_is_met, orders_are_whole,
     tables_are_narrow, totals_are_narrow,

@@ -1,11 +1,12 @@
 //! What a page of classes is made of.
 
 use crate::expected::Expected;
+use crate::kind::ClassKind;
 use crate::looks::Looked;
 use binding_model::Table;
-use class_stretches::RankRun;
+use class_stretches::{Missing, RankRun};
 use lock_modes::Text;
-use order_classes::{ClassRow, Grouping, Totals};
+use order_classes::{ClassRow, Totals};
 use sqlite_items::Items;
 use std::marker::Model;
 
@@ -23,9 +24,11 @@ pub struct Page<'a> {
     /// The tables that the spec declares.
     pub tables: &'a [Table],
     /// By what the orders are grouped.
-    pub by: Grouping,
-    /// Filters were asked for.
+    pub by: ClassKind,
+    /// The orders of the page are not all that the spec has.
     pub is_filtered: bool,
+    /// The orders that are missing, where any are.
+    pub missing: Option<Missing>,
     /// What is expected of the orders.
     pub expectations: &'a [Expected<'a>],
     /// How many orders and classes show what. Those of the page are `totals.all`.
@@ -67,6 +70,7 @@ impl<'a> Model for Page<'a> {
       tables = p.tables.now;
       by = p.by;
       is_filtered = p.is_filtered;
+      missing = p.missing;
       expectations = p.expectations.now;
       totals = p.totals;
       rows = p.rows.now;

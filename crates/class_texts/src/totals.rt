@@ -1,16 +1,18 @@
 //! The title, and how many orders and classes show what.
 
-ghost use Rattle.std.specs.Prelude.{◌≡◌, ◌++◌, [], ◌∷◌, IfOk, OnOk, map};
+ghost use Rattle.std.specs.Prelude.{◌≡◌, ◌++◌, [], ◌∷◌, IfOk, OnOk, Some, map};
 ghost use Rattle.shown_texts.specs.Pages.{part};
 ghost use Rattle.class_texts.specs.Counted.{counted};
 ghost use Rattle.class_texts.specs.Pages as spec;
 
 use crate::columns::put_right;
 use crate::expected::expectations_lines;
+use crate::kind::ClassKind;
 use crate::letters::{Letter, letters_of};
 use crate::page::Page;
 use crate::shares::share_text;
 use crate::widths::{Widths, class_word, classes_word};
+use class_stretches::Missing;
 use itoa::Buffer;
 use order_classes::{Total, Totals};
 use shown_texts::{put, put_number, put_part, put_shown};
@@ -214,7 +216,63 @@ fn put_expectations_part(
     put_part(alloc, lines, expected)
 }
 
-/// The title, what is expected, and the totals.
+/// Puts how many orders are missing behind a line.
+fn put_missing(line: &mut Items<char>, missing: Option<Missing>) -> Result<(), AllocError>
+    ensures { OnOk result (line.new ≡ line.old ++ spec.missing_text missing) }
+{
+    match missing {
+        None => put(line, "no order is missing"),
+        Some(missing) => put_some_missing(line, missing),
+    }
+}
+
+fn put_some_missing(line: &mut Items<char>, missing: Missing) -> Result<(), AllocError>
+    ensures { OnOk result (line.new ≡ line.old ++ spec.missing_text (Some missing)) }
+{
+    put_counted(
+        line,
+        missing.ranks,
+        "order is missing, of rank ",
+        "orders are missing, the first of rank ",
+    )?;
+    put_number(line, missing.first)
+}
+
+/// What is told of books.
+fn books_lines(alloc: Global, page: &Page<'_>) -> Result<Items<Items<char>>, AllocError>
+    ensures { IfOk result (λ lines. lines ≡ spec.books_lines page.now) }
+{
+    let mut lines = Items::new(alloc);
+    match page.by {
+        ClassKind::Shows | ClassKind::Answers => Ok(lines),
+        ClassKind::Outcomes => {
+            let mut unknown = Items::new(alloc);
+            put(
+                &mut unknown,
+                "what orders leave is in no book, so S and R are not told",
+            )?;
+            lines.push(unknown)?;
+            let mut missing = Items::new(alloc);
+            put_missing(&mut missing, page.missing)?;
+            lines.push(missing)?;
+            Ok(lines)
+        }
+    }
+}
+
+/// Puts what is told of books behind other lines and an empty one, if something is.
+fn put_books_part(
+    alloc: Global,
+    lines: &mut Items<Items<char>>,
+    page: &Page<'_>,
+) -> Result<(), AllocError>
+    ensures { OnOk result (lines.new ≡ lines.old ++ part (spec.books_lines page.now)) }
+{
+    let told = books_lines(alloc, page)?;
+    put_part(alloc, lines, told)
+}
+
+/// The title, what is expected, what is told of books, and the totals.
 pub(crate) fn top_lines(
     alloc: Global,
     widths: Widths,
@@ -225,6 +283,7 @@ pub(crate) fn top_lines(
     let mut lines = Items::new(alloc);
     lines.push(title(alloc, page)?)?;
     put_expectations_part(alloc, &mut lines, page)?;
+    put_books_part(alloc, &mut lines, page)?;
     put_totals_part(alloc, &mut lines, widths, page)?;
     Ok(lines)
 }

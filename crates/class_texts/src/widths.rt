@@ -3,10 +3,10 @@
 ghost use Rattle.std.specs.Prelude.{◌≡◌, ◌≤◌};
 ghost use Rattle.class_texts.specs.Pages as spec;
 
+use crate::kind::ClassKind;
 use crate::letters::letters_of;
 use crate::page::Page;
 use itoa::Buffer;
-use order_classes::Grouping;
 
 /// How wide the columns of a page are, each but the first one with the two blanks in front of it.
 #[derive(Clone, Copy)]
@@ -24,22 +24,24 @@ pub(crate) struct Widths {
 }
 
 /// What one class is called.
-pub(crate) fn class_word(by: Grouping) -> &'static str
+pub(crate) fn class_word(by: ClassKind) -> &'static str
     ensures { result.now ≡ spec.class_word by }
 {
     match by {
-        Grouping::Shows => "class",
-        Grouping::Answers => "answer",
+        ClassKind::Shows => "class",
+        ClassKind::Answers => "answer",
+        ClassKind::Outcomes => "outcome",
     }
 }
 
 /// What several are called.
-pub(crate) fn classes_word(by: Grouping) -> &'static str
+pub(crate) fn classes_word(by: ClassKind) -> &'static str
     ensures { result.now ≡ spec.classes_word by }
 {
     match by {
-        Grouping::Shows => "classes",
-        Grouping::Answers => "answers",
+        ClassKind::Shows => "classes",
+        ClassKind::Answers => "answers",
+        ClassKind::Outcomes => "outcomes",
     }
 }
 
@@ -57,12 +59,12 @@ fn digits_of_size(size: usize) -> usize
     Buffer::new().format(size).len()
 }
 
-fn widths_by(by: Grouping, orders: u64, classes: u64, rows: usize) -> Widths
+fn widths_by(by: ClassKind, orders: u64, classes: u64, rows: usize) -> Widths
     ensures { result ≡ spec.widths_by by orders classes rows }
 {
     Widths {
         orders: 2 + digits_of(orders).max(6),
-        classes: 2 + digits_of(classes).max(7),
+        classes: 2 + classes_word(by).len().max(digits_of(classes)),
         number: class_word(by).len().max(digits_of_size(rows)),
         shows: letters_of(by).len().max(5),
         rank: 2 + digits_of(orders).max(4),

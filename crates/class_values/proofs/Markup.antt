@@ -9,8 +9,9 @@ use Rattle.class_stretches.specs.declared.rank_run.RankRun.{RankRun}
 use Rattle.order_classes.specs.declared.rows.ClassRow.{ClassRow}
 use Rattle.order_classes.specs.declared.rows.Total.{Total}
 use Rattle.order_classes.specs.declared.rows.Totals.{Totals}
-use Rattle.order_classes.specs.declared.rows.Grouping.{Grouping}
-use Rattle.order_classes.specs.declared.rows.Grouping.TheVariants.{Shows, Answers}
+use Rattle.class_texts.specs.declared.kind.ClassKind.{ClassKind}
+use Rattle.class_texts.specs.declared.kind.ClassKind.TheVariants.{Shows, Answers, Outcomes}
+use Rattle.class_stretches.specs.declared.missing.Missing.{Missing}
 use Rattle.order_classes.specs.declared.shows.Rest.{Rest}
 use Rattle.order_classes.specs.declared.shows.Rest.TheVariants.{HasEnded, IsOpen, HasFailed, StillWaits}
 use Rattle.order_classes.specs.declared.shows.Shows.{Shows as Shown}
@@ -27,9 +28,9 @@ use Rattle.class_texts.specs.Expected.{Expectation, first_miss, met_from}
 use Rattle.class_texts.specs.Pages.{Page}
 use Rattle.class_values.specs.Totals.{letter_json, told_total, total_json, totals_json}
 use Rattle.class_values.specs.Expected.{expected_json, least_of, so_json, value_json, wanted_json}
-use Rattle.class_values.specs.Class.{class_at, class_json, classes_from, classes_part, head_json, lines_json, open_of, open_part, range_json}
-use Rattle.class_values.specs.Class.{ranks_part, seen_json, shows_json, table_at, tables_from}
-use Rattle.class_values.specs.Page.{asked_json, by_json, classes_json, counts_json, grouped_json, look_json, numbers_json}
+use Rattle.class_values.specs.Class.{class_at, class_json, classes_from, classes_part, head_json, left_part, lines_json, open_of, range_json}
+use Rattle.class_values.specs.Class.{ranks_part, rests_json, seen_json, shows_json, table_at, tables_from, tables_json}
+use Rattle.class_values.specs.Page.{asked_json, by_json, classes_json, counts_json, grouped_json, look_json, missing_by, missing_json, numbers_json}
 
 -- one of two texts
 one-free : (b : Bool) (xs ys : List ℕ) → IsFree xs → IsFree ys → IsFree (cond b xs ys)
@@ -46,7 +47,7 @@ total-free : (total : Option Total) → IsFree (total_json total)
 total-free None = refl
 total-free (Some total) = simp (list_any-append, decimal-free total.orders, decimal-free total.classes)
 
-letter-free : (by : Grouping) (totals : Totals) (letter : Letter) → IsFree (letter_json by totals letter)
+letter-free : (by : ClassKind) (totals : Totals) (letter : Letter) → IsFree (letter_json by totals letter)
 letter-free by totals Waits = total-free (told_total by totals Waits)
 letter-free by totals Deadlock = total-free (told_total by totals Deadlock)
 letter-free by totals Error = total-free (told_total by totals Error)
@@ -54,7 +55,7 @@ letter-free by totals Unsent = total-free (told_total by totals Unsent)
 letter-free by totals Stuck = total-free (told_total by totals Stuck)
 letter-free by totals NotSerial = total-free (told_total by totals NotSerial)
 
-totals-free : (by : Grouping) (totals : Totals) → IsFree (totals_json by totals)
+totals-free : (by : ClassKind) (totals : Totals) → IsFree (totals_json by totals)
 totals-free by totals =
     let letters = join-free (letter_json by totals) (letters_of Shows) (every (letter_json by totals) (letter-free by totals) (letters_of Shows)) in
     both (join_by (letter_json by totals) (codes ",") (letters_of Shows)) (codes "}") letters refl
@@ -73,7 +74,7 @@ expected-free rows e =
 
 -- ---- a class
 
-head-free : (by : Grouping) (row : ClassRow) → IsFree (head_json by row)
+head-free : (by : ClassKind) (row : ClassRow) → IsFree (head_json by row)
 head-free by row =
     simp (
       list_any-append,
@@ -105,18 +106,20 @@ each-open-free session (IsOpen ∷ rests) = (pair-free session (codes "\"in\"") 
 each-open-free session (HasFailed ∷ rests) = (pair-free session (codes "\"failed\"") refl, each-open-free (session + 1) rests)
 each-open-free session (StillWaits ∷ rests) = (pair-free session (codes "\"waits\"") refl, each-open-free (session + 1) rests)
 
-open-free : (by : Grouping) (rests : List Rest) → IsFree (open_part by rests)
-open-free Shows rests = items-free open_json (opens_by open_of 0 rests) (each-open-free 0 rests)
-open-free Answers rests = refl
+open-free : (rests : List Rest) → IsFree (rests_json rests)
+open-free rests = items-free open_json (opens_by open_of 0 rests) (each-open-free 0 rests)
+
+all-tables-free : (tables : List Table) (left : List (List (Value × List Value))) → IsFree (tables_json tables left)
+all-tables-free tables left = simp (list_any-append, tables-free left 0 tables)
+
+left-free : (by : ClassKind) (tables : List Table) (shows : Shown) → IsFree (left_part by tables shows)
+left-free Shows tables shows = simp (list_any-append, all-tables-free tables shows.left, open-free shows.rests)
+left-free Answers tables shows = simp (list_any-append, all-tables-free tables shows.left)
+left-free Outcomes tables shows = refl
 
 shows-free : (p : Page) (shows : Shown) → IsFree (shows_json p shows)
 shows-free p shows =
-    simp (
-      list_any-append,
-      array-free (lines_json p.steps) (lines-free p.steps) shows.told,
-      tables-free shows.left 0 p.tables,
-      open-free p.by shows.rests,
-    )
+    simp (list_any-append, array-free (lines_json p.steps) (lines-free p.steps) shows.told, left-free p.by p.tables shows)
 
 seen-free : (steps : List (List ℕ)) (k : ℕ) (look : Look) → IsFree (seen_json steps k look)
 seen-free steps k look = lines-free steps (get_or look.seen k [])
@@ -148,15 +151,26 @@ part-free p = one-free p.is_brief [] _ refl (both (classes_from p 0 p.rows) (cod
 
 -- ---- the whole
 
-by-free : (by : Grouping) → IsFree (by_json by)
+by-free : (by : ClassKind) → IsFree (by_json by)
 by-free Shows = refl
 by-free Answers = refl
+by-free Outcomes = refl
 
 look-free : (look : Look) → IsFree (look_json look)
 look-free look = string-free look.text
 
+missing-free : (m : Option Missing) → IsFree (missing_json m)
+missing-free None = refl
+missing-free (Some m) = simp (list_any-append, decimal-free m.ranks, decimal-free m.first)
+
+missing-by-free : (by : ClassKind) (m : Option Missing) → IsFree (missing_by by m)
+missing-by-free Shows m = refl
+missing-by-free Answers m = refl
+missing-by-free Outcomes m = simp (list_any-append, missing-free m)
+
 counts-free : (p : Page) → IsFree (counts_json p)
-counts-free p = simp (list_any-append, string-free p.path, decimal-free p.orders, decimal-free p.totals.all.orders)
+counts-free p =
+    simp (list_any-append, string-free p.path, decimal-free p.orders, decimal-free p.totals.all.orders, missing-by-free p.by p.missing)
 
 numbers-free : (p : Page) (step_sessions : List ℕ) (statements : List (List ℕ)) → IsFree (numbers_json p step_sessions statements)
 numbers-free p step_sessions statements =

@@ -7,15 +7,15 @@ use Rattle.transcripts.specs.declared.event.Event.TheVariants.{Sent, Row, Rows, 
 use Rattle.order_classes.specs.declared.rows.ClassRow.{ClassRow}
 use Rattle.order_classes.specs.declared.rows.Letters.{Letters}
 use Rattle.order_classes.specs.declared.rows.Total.{Total}
-use Rattle.order_classes.specs.declared.rows.Grouping.TheVariants.{Shows, Answers}
+use Rattle.class_texts.specs.declared.kind.ClassKind.TheVariants.{Shows, Answers, Outcomes}
 use Rattle.order_classes.specs.declared.shows.Rest.TheVariants.{HasEnded, IsOpen, StillWaits}
 use Rattle.shown_values.specs.Strings.{escaped}
 use Rattle.class_texts.specs.Expected.{Expectation}
 use Rattle.class_texts.specs.Pages.{Page}
 use Rattle.class_values.specs.Totals.{totals_json}
 use Rattle.class_values.specs.Expected.{expected_json}
-use Rattle.class_values.specs.Class.{open_part}
-use Rattle.class_values.specs.Page.{classes_json}
+use Rattle.class_values.specs.Class.{left_part}
+use Rattle.class_values.specs.Page.{classes_json, missing_by}
 
 abbrev total : ℕ → ℕ → Total
 total orders classes = record { orders = orders; classes = classes }
@@ -72,6 +72,7 @@ two_orders = record {
   tables = record { name = codes "t"; columns = []; key = None } ∷ [];
   by = Shows;
   is_filtered = false;
+  missing = None;
   expectations = one_row ∷ [];
   totals = record {
     all = total 2 2;
@@ -123,8 +124,25 @@ unfolding digits
 answers_totals = refl
 
 -- nor is it told how sessions stand
-answers_open : open_part Answers (IsOpen ∷ StillWaits ∷ []) ≡ []
-answers_open = refl
+answers_left : left_part Answers two_orders.tables first_class.shows ≡ codes ",\"left\":[{\"table\":\"t\",\"rows\":[\"1|'\\u003c'\"]}]"
+unfolding digits escaped escape_byte
+answers_left = refl
+
+-- ---- of books
+
+-- what is left is not known, and so are two of the letters
+outcomes_totals : totals_json Outcomes two_orders.totals ≡ codes "{\"W\":[1,1],\"D\":[0,0],\"E\":[0,0],\"N\":[0,0],\"S\":null,\"R\":null}"
+unfolding digits
+outcomes_totals = refl
+
+outcomes_left : left_part Outcomes two_orders.tables first_class.shows ≡ []
+outcomes_left = refl
+
+-- which orders are missing is told of books alone
+outcomes_missing : missing_by Outcomes (Some (record { ranks = 12; first = 3 })) ∷ missing_by Outcomes None ∷ missing_by Answers None ∷ []
+    ≡ codes ",\"missing\":{\"orders\":12,\"first\":3}" ∷ codes ",\"missing\":null" ∷ [] ∷ []
+unfolding digits
+outcomes_missing = refl
 
 -- it is so of all orders
 met_by_all : expected_json (first_class ∷ []) one_row ≡ codes "{\"select\":\"SELECT n FROM t\",\"values\":[\"1\",\"'it''s'\"],\"met\":1,\"first\":null}"
@@ -142,6 +160,7 @@ one_step = record {
   tables = [];
   by = Shows;
   is_filtered = false;
+  missing = None;
   expectations = [];
   totals = record {
     all = total 1 1;

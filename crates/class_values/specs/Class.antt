@@ -6,8 +6,8 @@ use Rattle.binding_model.specs.declared.tables.Table.{Table}
 use Rattle.class_stretches.specs.declared.rank_run.RankRun.{RankRun}
 use Rattle.order_classes.specs.declared.rows.ClassRow.{ClassRow}
 use Rattle.order_classes.specs.declared.rows.Letters.{Letters}
-use Rattle.order_classes.specs.declared.rows.Grouping.{Grouping}
-use Rattle.order_classes.specs.declared.rows.Grouping.TheVariants.{Shows, Answers}
+use Rattle.class_texts.specs.declared.kind.ClassKind.{ClassKind}
+use Rattle.class_texts.specs.declared.kind.ClassKind.TheVariants.{Shows, Answers, Outcomes}
 use Rattle.order_classes.specs.declared.shows.Rest.{Rest}
 use Rattle.order_classes.specs.declared.shows.Rest.TheVariants.{HasEnded, IsOpen, HasFailed, StillWaits}
 use Rattle.order_classes.specs.declared.shows.Shows.{Shows as Shown}
@@ -18,11 +18,11 @@ use Rattle.class_texts.specs.Beneath.{Look}
 use Rattle.class_texts.specs.Letters.{letters_text}
 use Rattle.class_texts.specs.Pages.{Page}
 
-abbrev pub letters_json : Grouping → Letters → List ℕ
+abbrev pub letters_json : ClassKind → Letters → List ℕ
 letters_json by letters = string_json (letters_text by letters)
 
 -- the least rank, how many orders, what they show, and the order of the least rank
-abbrev pub head_json : Grouping → ClassRow → List ℕ
+abbrev pub head_json : ClassKind → ClassRow → List ℕ
 head_json by row =
     (codes "{\"least\":" ++ decimal row.least) ++ (codes ",\"orders\":" ++ decimal row.count)
     ++ (codes ",\"shows\":" ++ letters_json by row.letters) ++ (codes ",\"order\":" ++ array_json decimal row.line.items)
@@ -47,16 +47,22 @@ open_of session IsOpen = (session, codes "\"in\"") ∷ []
 open_of session HasFailed = (session, codes "\"failed\"") ∷ []
 open_of session StillWaits = (session, codes "\"waits\"") ∷ []
 
--- how sessions stand is no answer
-abbrev pub open_part : Grouping → List Rest → List ℕ
-open_part Shows rests = codes ",\"open\":" ++ array_json open_json (opens_by open_of 0 rests)
-open_part Answers rests = []
+abbrev pub tables_json : List Table → List (List (Value × List Value)) → List ℕ
+tables_json tables left = codes "[" ++ tables_from left 0 tables ++ codes "]"
+
+-- how sessions stand that have not ended
+abbrev pub rests_json : List Rest → List ℕ
+rests_json rests = array_json open_json (opens_by open_of 0 rests)
+
+-- what is left, and how sessions stand, which is no answer; books know nothing of either
+abbrev pub left_part : ClassKind → List Table → Shown → List ℕ
+left_part Shows tables shows = (codes ",\"left\":" ++ tables_json tables shows.left) ++ (codes ",\"open\":" ++ rests_json shows.rests)
+left_part Answers tables shows = codes ",\"left\":" ++ tables_json tables shows.left
+left_part Outcomes tables shows = []
 
 -- what each session is told, and what is left
 abbrev pub shows_json : Page → Shown → List ℕ
-shows_json p shows =
-    (codes ",\"told\":" ++ array_json (lines_json p.steps) shows.told) ++ codes ",\"left\":[" ++ tables_from shows.left 0 p.tables ++ codes "]"
-    ++ open_part p.by shows.rests
+shows_json p shows = (codes ",\"told\":" ++ array_json (lines_json p.steps) shows.told) ++ left_part p.by p.tables shows
 
 -- what a look sees of the class at this place
 abbrev pub seen_json : List (List ℕ) → ℕ → Look → List ℕ

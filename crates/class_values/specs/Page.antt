@@ -1,7 +1,8 @@
 -- The JSON of classes.
-use Rattle.std.specs.Prelude.{ℕ, List, ◌++◌, codes, decimal, zip}
-use Rattle.order_classes.specs.declared.rows.Grouping.{Grouping}
-use Rattle.order_classes.specs.declared.rows.Grouping.TheVariants.{Shows, Answers}
+use Rattle.std.specs.Prelude.{ℕ, List, [], ◌++◌, Option, Some, None, codes, decimal, zip}
+use Rattle.class_texts.specs.declared.kind.ClassKind.{ClassKind}
+use Rattle.class_texts.specs.declared.kind.ClassKind.TheVariants.{Shows, Answers, Outcomes}
+use Rattle.class_stretches.specs.declared.missing.Missing.{Missing}
 use Rattle.shown_values.specs.Strings.{array_json, string_json}
 use Rattle.shown_values.specs.Page.{step_json}
 use Rattle.class_texts.specs.Beneath.{Look}
@@ -10,11 +11,22 @@ use Rattle.class_values.specs.Totals.{totals_json}
 use Rattle.class_values.specs.Expected.{expected_json}
 use Rattle.class_values.specs.Class.{classes_part}
 
--- of which spec the classes are, how many orders it has, and how many are asked for
+-- how many orders are missing, and the first of them
+abbrev pub missing_json : Option Missing → List ℕ
+missing_json None = codes "null"
+missing_json (Some m) = (codes "{\"orders\":" ++ decimal m.ranks) ++ (codes ",\"first\":" ++ decimal m.first) ++ codes "}"
+
+-- that is told of books
+abbrev pub missing_by : ClassKind → Option Missing → List ℕ
+missing_by Shows m = []
+missing_by Answers m = []
+missing_by Outcomes m = codes ",\"missing\":" ++ missing_json m
+
+-- of which spec the classes are, how many orders it has, how many are told of, and which are missing
 abbrev pub counts_json : Page → List ℕ
 counts_json p =
     (codes "{\"format\":1,\"name\":" ++ string_json p.path) ++ (codes ",\"orders\":" ++ decimal p.orders)
-    ++ (codes ",\"asked\":" ++ decimal p.totals.all.orders)
+    ++ (codes ",\"asked\":" ++ decimal p.totals.all.orders) ++ missing_by p.by p.missing
 
 -- what the numbers of sessions and steps stand for, by the session and the statements of each step
 abbrev pub numbers_json : Page → List ℕ → List (List ℕ) → List ℕ
@@ -22,9 +34,10 @@ numbers_json p step_sessions statements =
     (codes ",\"sessions\":" ++ array_json string_json p.sessions)
     ++ (codes ",\"steps\":" ++ array_json step_json (zip p.steps (zip step_sessions statements)))
 
-abbrev pub by_json : Grouping → List ℕ
+abbrev pub by_json : ClassKind → List ℕ
 by_json Shows = codes "\"shows\""
 by_json Answers = codes "\"answers\""
+by_json Outcomes = codes "\"outcomes\""
 
 -- the SELECT as it was given
 abbrev pub look_json : Look → List ℕ

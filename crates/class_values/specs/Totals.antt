@@ -3,8 +3,8 @@ use Rattle.std.specs.Prelude.{ℕ, List, ◌++◌, Option, Some, None, codes, de
 use Rattle.std.specs.List.{join_by}
 use Rattle.order_classes.specs.declared.rows.Total.{Total}
 use Rattle.order_classes.specs.declared.rows.Totals.{Totals}
-use Rattle.order_classes.specs.declared.rows.Grouping.{Grouping}
-use Rattle.order_classes.specs.declared.rows.Grouping.TheVariants.{Shows, Answers}
+use Rattle.class_texts.specs.declared.kind.ClassKind.{ClassKind}
+use Rattle.class_texts.specs.declared.kind.ClassKind.TheVariants.{Shows, Answers, Outcomes}
 use Rattle.class_texts.specs.declared.letters.Letter.{Letter}
 use Rattle.class_texts.specs.declared.letters.Letter.TheVariants.{Waits, Deadlock, Error, Unsent, Stuck, NotSerial}
 use Rattle.class_texts.specs.Letters.{letters_of, sign, total_of}
@@ -18,10 +18,20 @@ answered_total totals Unsent = None
 answered_total totals Stuck = Some totals.stuck
 answered_total totals NotSerial = totals.not_serial
 
+-- books know no rows that are left
+abbrev pub outcome_total : Totals → Letter → Option Total
+outcome_total totals Waits = Some totals.waits
+outcome_total totals Deadlock = Some totals.deadlock
+outcome_total totals Error = Some totals.error
+outcome_total totals Unsent = Some totals.unsent
+outcome_total totals Stuck = None
+outcome_total totals NotSerial = None
+
 -- none of a letter that is not told
-abbrev pub told_total : Grouping → Totals → Letter → Option Total
+abbrev pub told_total : ClassKind → Totals → Letter → Option Total
 told_total Shows totals letter = total_of totals letter
 told_total Answers totals letter = answered_total totals letter
+told_total Outcomes totals letter = outcome_total totals letter
 
 -- how many orders, and how many classes
 abbrev pub both_json : Total → List ℕ
@@ -32,8 +42,8 @@ total_json None = codes "null"
 total_json (Some total) = both_json total
 
 -- a letter as a member
-abbrev pub letter_json : Grouping → Totals → Letter → List ℕ
+abbrev pub letter_json : ClassKind → Totals → Letter → List ℕ
 letter_json by totals letter = (codes "\"" ++ sign letter) ++ (codes "\":" ++ total_json (told_total by totals letter))
 
-abbrev pub totals_json : Grouping → Totals → List ℕ
+abbrev pub totals_json : ClassKind → Totals → List ℕ
 totals_json by totals = codes "{" ++ join_by (letter_json by totals) (codes ",") (letters_of Shows) ++ codes "}"

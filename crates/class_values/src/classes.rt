@@ -1,6 +1,6 @@
 //! The JSON of classes.
 
-ghost use Rattle.std.specs.Prelude.{◌≡◌, ◌++◌, IfOk, OnOk};
+ghost use Rattle.std.specs.Prelude.{◌≡◌, ◌++◌, IfOk, OnOk, Some};
 ghost use Rattle.shown_values.specs.Strings.{array_json};
 ghost use Rattle.class_values.specs.Page as spec;
 
@@ -8,9 +8,9 @@ use crate::expected::push_expectations;
 use crate::rows::push_classes;
 use crate::sheet::Sheet;
 use crate::totals::push_totals;
-use class_texts::{Looked, Page};
+use class_stretches::Missing;
+use class_texts::{ClassKind, Looked, Page};
 use lock_modes::Text;
-use order_classes::Grouping;
 use shown_values::{push, push_before, push_count, push_names, push_steps, push_string, push_word};
 use std::alloc::{AllocError, Global};
 
@@ -33,7 +33,45 @@ fn push_counts(page: &Page<'_>, out: &mut Vec<u8>) -> Result<(), AllocError>
 {
     push_string("{\"format\":1,\"name\":", page.path.as_bytes(), out)?;
     push_count(",\"orders\":", page.orders, out)?;
-    push_count(",\"asked\":", page.totals.all.orders, out)
+    push_count(",\"asked\":", page.totals.all.orders, out)?;
+    push_missing_by(page.by, page.missing, out)
+}
+
+/// Pushes which orders are missing, where books are told of.
+fn push_missing_by(
+    by: ClassKind,
+    missing: Option<Missing>,
+    out: &mut Vec<u8>,
+) -> Result<(), AllocError>
+    ensures { OnOk result (out.new.items ≡ out.old.items ++ spec.missing_by by missing) }
+{
+    match by {
+        ClassKind::Shows | ClassKind::Answers => Ok(()),
+        ClassKind::Outcomes => push_missing(",\"missing\":", missing, out),
+    }
+}
+
+/// Pushes a label, and behind it how many orders are missing and the first of them, or null where none is.
+fn push_missing(
+    label: &str,
+    missing: Option<Missing>,
+    out: &mut Vec<u8>,
+) -> Result<(), AllocError>
+    ensures { OnOk result (out.new.items ≡ out.old.items ++ (label.now ++ spec.missing_json missing)) }
+{
+    match missing {
+        None => push_word(label, "null", out),
+        Some(missing) => push_some_missing(label, missing, out),
+    }
+}
+
+fn push_some_missing(label: &str, missing: Missing, out: &mut Vec<u8>) -> Result<(), AllocError>
+    ensures { OnOk result (out.new.items ≡ out.old.items ++ (label.now ++ spec.missing_json (Some missing))) }
+{
+    push(label, out)?;
+    push_count("{\"orders\":", missing.ranks, out)?;
+    push_count(",\"first\":", missing.first, out)?;
+    push("}", out)
 }
 
 /// Pushes what the numbers of sessions and steps stand for.
@@ -67,12 +105,13 @@ fn push_asked(page: &Page<'_>, out: &mut Vec<u8>) -> Result<(), AllocError>
 }
 
 /// By what the orders are grouped, as a JSON string.
-fn by_word(by: Grouping) -> &'static str
+fn by_word(by: ClassKind) -> &'static str
     ensures { result.now ≡ spec.by_json by }
 {
     match by {
-        Grouping::Shows => "\"shows\"",
-        Grouping::Answers => "\"answers\"",
+        ClassKind::Shows => "\"shows\"",
+        ClassKind::Answers => "\"answers\"",
+        ClassKind::Outcomes => "\"outcomes\"",
     }
 }
 

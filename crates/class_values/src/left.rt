@@ -1,20 +1,18 @@
 //! What the orders of a class leave.
 
 ghost use Rattle.std.specs.Prelude.{◌≡◌, ◌++◌, ◌∷◌, MatchOption, OnOk, ℕ, [] as none};
-ghost use Rattle.shown_values.specs.Strings.{array_json};
-ghost use Rattle.shown_values.specs.Page.{open_json, opens_by};
 ghost use Rattle.class_values.specs.Class as spec;
 
 use binding_model::Table;
-use class_texts::rows_at;
+use class_texts::{ClassKind, rows_at};
 use lock_modes::{Row, Value};
-use order_classes::{Grouping, Rest};
+use order_classes::{Rest, Shows};
 use shown_values::{push, push_before, push_standing, push_table, push_word};
 use sqlite_items::Items;
 use std::alloc::AllocError;
 
 /// Pushes each table and the rows that are left in it.
-pub(crate) fn push_tables(
+fn push_tables(
     tables: &[Table],
     left: &[Items<(Value, Row)>],
     out: &mut Vec<u8>,
@@ -39,22 +37,41 @@ fn push_table_at(
     push_table(&table.name, rows, out)
 }
 
-/// Pushes how the sessions stand that have not ended, unless orders are grouped by answers.
-pub(crate) fn push_open_part(
-    by: Grouping,
-    rests: &[Rest],
+/// Pushes what is left, and by all that is shown how the sessions stand that have not ended. Books know nothing of either.
+pub(crate) fn push_left_part(
+    by: ClassKind,
+    tables: &[Table],
+    shows: &Shows,
     out: &mut Vec<u8>,
 ) -> Result<(), AllocError>
-    ensures { OnOk result (out.new.items ≡ out.old.items ++ spec.open_part by rests.now) }
+    ensures { OnOk result (out.new.items ≡ out.old.items ++ spec.left_part by tables.now shows.now) }
 {
     match by {
-        Grouping::Shows => push_open(",\"open\":", rests, out),
-        Grouping::Answers => Ok(()),
+        ClassKind::Shows => {
+            push_left(",\"left\":", tables, shows.left.as_slice(), out)?;
+            push_open(",\"open\":", shows.rests.as_slice(), out)
+        }
+        ClassKind::Answers => push_left(",\"left\":", tables, shows.left.as_slice(), out),
+        ClassKind::Outcomes => Ok(()),
     }
 }
 
+/// Pushes a label, and behind it the tables with the rows that are left.
+fn push_left(
+    label: &str,
+    tables: &[Table],
+    left: &[Items<(Value, Row)>],
+    out: &mut Vec<u8>,
+) -> Result<(), AllocError>
+    ensures { OnOk result (out.new.items ≡ out.old.items ++ (label.now ++ spec.tables_json tables.now left.now)) }
+{
+    push_word(label, "[", out)?;
+    push_tables(tables, left, out)?;
+    push("]", out)
+}
+
 fn push_open(label: &str, rests: &[Rest], out: &mut Vec<u8>) -> Result<(), AllocError>
-    ensures { OnOk result (out.new.items ≡ out.old.items ++ (label.now ++ array_json open_json (opens_by spec.open_of 0 rests.now))) }
+    ensures { OnOk result (out.new.items ≡ out.old.items ++ (label.now ++ spec.rests_json rests.now)) }
 {
     push_word(label, "[", out)?;
     let mut place = 0;

@@ -4,11 +4,11 @@ ghost use Rattle.std.specs.Prelude.{◌≡◌, ◌++◌, OnOk};
 ghost use Rattle.shown_values.specs.Strings.{array_json};
 ghost use Rattle.class_values.specs.Class as spec;
 
-use crate::left::{push_open_part, push_tables};
+use crate::left::push_left_part;
 use class_stretches::RankRun;
-use class_texts::{Looked, Page, letters_text, runs_at, seen_at};
+use class_texts::{ClassKind, Looked, Page, letters_text, runs_at, seen_at};
 use lock_modes::Text;
-use order_classes::{ClassRow, Grouping, Letters, Shows};
+use order_classes::{ClassRow, Letters, Shows};
 use shown_values::{
     push, push_before, push_count, push_indices, push_lines, push_string, push_word,
 };
@@ -72,7 +72,7 @@ fn push_class(
 }
 
 /// Pushes which orders a class has, what they show, and the least one.
-fn push_head(by: Grouping, row: &ClassRow, out: &mut Vec<u8>) -> Result<(), AllocError>
+fn push_head(by: ClassKind, row: &ClassRow, out: &mut Vec<u8>) -> Result<(), AllocError>
     ensures { OnOk result (out.new.items ≡ out.old.items ++ spec.head_json by row.now) }
 {
     push_count("{\"least\":", row.least, out)?;
@@ -84,7 +84,7 @@ fn push_head(by: Grouping, row: &ClassRow, out: &mut Vec<u8>) -> Result<(), Allo
 /// Pushes a label and the letters that are told behind it, as a JSON string.
 fn push_letters(
     label: &str,
-    by: Grouping,
+    by: ClassKind,
     letters: Letters,
     out: &mut Vec<u8>,
 ) -> Result<(), AllocError>
@@ -99,10 +99,7 @@ fn push_shows(page: &Page<'_>, shows: &Shows, out: &mut Vec<u8>) -> Result<(), A
     ensures { OnOk result (out.new.items ≡ out.old.items ++ spec.shows_json page.now shows.now) }
 {
     push_told(",\"told\":", page.steps, shows.told.sessions(), out)?;
-    push(",\"left\":[", out)?;
-    push_tables(page.tables, shows.left.as_slice(), out)?;
-    push("]", out)?;
-    push_open_part(page.by, shows.rests.as_slice(), out)
+    push_left_part(page.by, page.tables, shows, out)
 }
 
 /// Pushes a label, and behind it what each session is told.

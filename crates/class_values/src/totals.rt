@@ -4,27 +4,27 @@ ghost use Rattle.std.specs.Prelude.{◌≡◌, ◌++◌, OnOk, codes};
 ghost use Rattle.std.specs.List.{join_by};
 ghost use Rattle.class_values.specs.Totals as spec;
 
-use class_texts::{Letter, letters_of};
-use order_classes::{Grouping, Total, Totals};
+use class_texts::{ClassKind, Letter, letters_of};
+use order_classes::{Total, Totals};
 use shown_values::{push, push_before, push_count, push_word};
 use std::alloc::AllocError;
 
 /// Pushes a label and the totals of all letters behind it.
 pub(crate) fn push_totals(
     label: &str,
-    by: Grouping,
+    by: ClassKind,
     totals: Totals,
     out: &mut Vec<u8>,
 ) -> Result<(), AllocError>
     ensures { OnOk result (out.new.items ≡ out.old.items ++ (label.now ++ spec.totals_json by totals)) }
 {
     push_word(label, "{", out)?;
-    push_letters(by, totals, letters_of(Grouping::Shows), out)?;
+    push_letters(by, totals, letters_of(ClassKind::Shows), out)?;
     push("}", out)
 }
 
 fn push_letters(
-    by: Grouping,
+    by: ClassKind,
     totals: Totals,
     letters: &[Letter],
     out: &mut Vec<u8>,
@@ -39,7 +39,7 @@ fn push_letters(
 }
 
 fn push_letter(
-    by: Grouping,
+    by: ClassKind,
     totals: Totals,
     letter: Letter,
     out: &mut Vec<u8>,
@@ -51,12 +51,26 @@ fn push_letter(
 }
 
 /// How many orders and classes show a letter: none where it is not told.
-fn told_total(by: Grouping, totals: Totals, letter: Letter) -> Option<Total>
+fn told_total(by: ClassKind, totals: Totals, letter: Letter) -> Option<Total>
     ensures { result ≡ spec.told_total by totals letter }
 {
     match by {
-        Grouping::Shows => letter.total(totals),
-        Grouping::Answers => answered_total(totals, letter),
+        ClassKind::Shows => letter.total(totals),
+        ClassKind::Answers => answered_total(totals, letter),
+        ClassKind::Outcomes => outcome_total(totals, letter),
+    }
+}
+
+/// The same of books, which know no rows that are left.
+fn outcome_total(totals: Totals, letter: Letter) -> Option<Total>
+    ensures { result ≡ spec.outcome_total totals letter }
+{
+    match letter {
+        Letter::Waits => Some(totals.waits),
+        Letter::Deadlock => Some(totals.deadlock),
+        Letter::Error => Some(totals.error),
+        Letter::Unsent => Some(totals.unsent),
+        Letter::Stuck | Letter::NotSerial => None,
     }
 }
 

@@ -120,6 +120,7 @@ pub record AsksForNoMore (wanted : WantedClasses) : Type 0 where
   pub no_ranks : wanted.ranks ≡ false
   pub no_outcomes : wanted.outcomes ≡ false
   pub no_left : wanted.left ≡ false
+  pub no_json : wanted.json ≡ false
 
 -- what the line asks for
 abbrev pub AsksFor : Line → Asked → Type 0

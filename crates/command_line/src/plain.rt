@@ -198,6 +198,7 @@ fn classes_line<'a>(alloc: Global, rest: &'a [String]) -> Option<Asked<'a>>
                 ranks: false,
                 outcomes: false,
                 left: false,
+                json: false,
             },
             workers: Workers::of(DEFAULT_WORKERS)?,
             progress: false,

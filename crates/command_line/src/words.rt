@@ -13,7 +13,7 @@ use clap::error::ErrorKind;
 use clap::{Arg, ArgAction, ArgMatches, Command, Error, value_parser};
 use shard_board::{MAX_SEATS, Workers};
 use std::alloc::{AllocError, Global};
-use wanted_classes::{WantedClasses, WantedExpectation, WantedFilter, WantedTest};
+use wanted_classes::{WantedClasses, WantedExpectation, WantedFilter, WantedOutcomes, WantedTest};
 
 /// The version of the program. From which commit and with which kit it was built is known to what builds it alone.
 const VERSION: &str = "0.1.0";
@@ -71,6 +71,11 @@ pub enum Asked<'a> {
         wanted: WantedClasses<'a>,
         workers: Workers,
         progress: bool,
+    },
+    /// What the books at one path or more tell of the orders of their spec, in classes.
+    Outcomes {
+        paths: Paths<'a>,
+        wanted: WantedOutcomes,
     },
     /// The book of the ranks from the first up to but not the end, and whether it is told how far that is.
     Run {
@@ -136,6 +141,8 @@ fn no_command(alloc: Global) -> Result<Error, AllocError> {
 #[derive(Clone, Copy, Drop)]
 enum Word {
     Spec,
+    SpecOrBooks,
+    OfBooks,
     Rank,
     Names,
     Order,
@@ -212,7 +219,8 @@ static COMMANDS: [Row; 13] = [
         spelled: "classes",
         about: "Prints which different things all permutations show, how often, and which one shows each first",
         words: &[
-            Word::Spec,
+            Word::SpecOrBooks,
+            Word::OfBooks,
             Word::Answers,
             Word::Waits,
             Word::NoWaits,
@@ -232,6 +240,7 @@ static COMMANDS: [Row; 13] = [
             Word::Outcomes,
             Word::Left,
             Word::Brief,
+            Word::Json,
             Word::Workers,
             Word::Progress,
         ],
@@ -302,14 +311,47 @@ fn with<'a>(
 fn command_of<'a>(alloc: Global, row: &'static Row) -> Result<Command<'a>, AllocError> {
     let mut command = Command::new(alloc, row.spelled).about(row.about);
     for word in row.words {
-        command = command.arg(arg_of(alloc, *word))?;
+        command = command.arg(ruled(*word, arg_of(alloc, *word))?)?;
     }
     Ok(command)
 }
 
+/// The word with what it takes of others.
+fn ruled<'a>(word: Word, arg: Arg<'a>) -> Result<Arg<'a>, AllocError> {
+    match word {
+        Word::SpecOrBooks => arg.required(false).required_unless_present("book"),
+        Word::OfBooks => arg.conflicts_with_all(NOT_OF_BOOKS),
+        _ => Ok(arg),
+    }
+}
+
+/// What is not asked of books.
+static NOT_OF_BOOKS: &[&str] = &[
+    "SPEC",
+    "answers",
+    "waits",
+    "no-waits",
+    "deadlock",
+    "no-deadlock",
+    "error",
+    "no-error",
+    "unsent",
+    "no-unsent",
+    "stuck",
+    "no-stuck",
+    "no-serial",
+    "serial",
+    "look",
+    "expect",
+    "left",
+    "workers",
+    "progress",
+];
+
 fn arg_of<'a>(alloc: Global, word: Word) -> Arg<'a> {
     match word {
-        Word::Spec => spec_word(alloc),
+        Word::Spec | Word::SpecOrBooks => spec_word(alloc),
+        Word::OfBooks => of_books_word(alloc),
         Word::Rank => number_word(alloc, "RANK", "The number of a permutation, from 0"),
         Word::Names => names_word(alloc, "STEP", "The names of the steps, in their order"),
         Word::Order => names_word(
@@ -457,6 +499,15 @@ fn books_word<'a>(alloc: Global, name: &'a str, help: &'a str) -> Arg<'a> {
         .help(help)
 }
 
+fn of_books_word<'a>(alloc: Global) -> Arg<'a> {
+    Arg::new(alloc, "book")
+        .long("book")
+        .value_name("BOOK")
+        .action(ArgAction::Append)
+        .num_args(1..=MAX_BOOKS)
+        .help("Groups what these books of one spec tell, in place of all orders of a spec")
+}
+
 fn names_word<'a>(alloc: Global, name: &'a str, help: &'a str) -> Arg<'a> {
     Arg::new(alloc, name)
         .required(true)
@@ -570,10 +621,26 @@ fn classes_of_words<'a>(
     alloc: Global,
     words: &ArgMatches<'a>,
 ) -> Result<Option<Asked<'a>>, AllocError> {
+    if let Some(books) = words.get_strs("book") {
+        let books = Vec::from_slice(alloc, books)?;
+        return Ok(outcomes_with(words, books));
+    }
     let filters = filters_of_words(alloc, words)?;
     let looks = looks_of_words(alloc, words)?;
     let expectations = expectations_of_words(alloc, words)?;
     Ok(classes_with(words, filters, looks, expectations))
+}
+
+fn outcomes_with<'a>(words: &ArgMatches<'a>, books: Vec<&'a str>) -> Option<Asked<'a>> {
+    Some(Asked::Outcomes {
+        paths: Paths::of(books)?,
+        wanted: WantedOutcomes {
+            brief: words.get_flag("brief"),
+            ranks: words.get_flag("ranks"),
+            outcomes: words.get_flag("outcomes"),
+            json: words.get_flag("json"),
+        },
+    })
 }
 
 fn classes_with<'a>(
@@ -595,6 +662,7 @@ fn classes_with<'a>(
             ranks: words.get_flag("ranks"),
             outcomes: words.get_flag("outcomes"),
             left: words.get_flag("left"),
+            json: words.get_flag("json"),
         },
         workers,
         progress: words.get_flag("progress"),

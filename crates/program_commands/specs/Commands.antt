@@ -5,7 +5,7 @@ use Rattle.transcripts.specs.Counted.{Wrote, Stopped, written, failures_of}
 use Rattle.transcripts.specs.declared.counted.Counted.{Counted}
 use Rattle.command_line.specs.Lines.{Line, IsLine, AsksFor}
 use Rattle.command_line.specs.declared.words.Asked.{Asked}
-use Rattle.command_line.specs.declared.words.Asked.TheVariants.{Check, One, Count, Rank, Order, Show, Classes, Run, Join, Holds, Report, Audit, Judge}
+use Rattle.command_line.specs.declared.words.Asked.TheVariants.{Check, One, Count, Rank, Order, Show, Classes, Outcomes, Run, Join, Holds, Report, Audit, Judge}
 use Rattle.command_line.specs.declared.wanted.Wanted.{Wanted}
 use Rattle.command_line.specs.declared.wanted.Wanted.TheVariants as wanted
 use Rattle.spec_commands.specs.One.{IsOneRun}
@@ -17,6 +17,7 @@ use Rattle.spec_commands.specs.declared.showing.ShowForm.TheVariants as form
 use Rattle.spec_commands.specs.declared.showing.WantedOrder.{WantedOrder}
 use Rattle.spec_commands.specs.declared.showing.WantedOrder.TheVariants as order
 use Rattle.class_commands.specs.Classing.{IsClassesRun}
+use Rattle.class_commands.specs.Booking.{IsBookClassesRun}
 use Rattle.book_commands.specs.declared.finding.Finding.{Finding}
 use Rattle.book_commands.specs.declared.finding.Finding.TheVariants.{Good}
 use Rattle.book_commands.specs.Finding.{finding_status}
@@ -30,7 +31,7 @@ use Rattle.program_commands.specs.declared.files.TheConstants.{MAX_SPEC_READ}
 use Rattle.fault_texts.specs.declared.fault.ProgramFault.{ProgramFault}
 use Rattle.fault_texts.specs.declared.fault.ProgramFault.TheVariants.{NoMemory, Read, Write}
 use Rattle.fault_texts.specs.Status.{status_of}
-use Rattle.program_commands.specs.Faults.{Path, one_told, count_told, rank_told, order_told, show_told, classing_told, range_told, join_told, report_told, audit_told, hold_told, judge_told, IsCheckTold}
+use Rattle.program_commands.specs.Faults.{Path, one_told, count_told, rank_told, order_told, show_told, classing_told, outcomes_told, range_told, join_told, report_told, audit_told, hold_told, judge_told, IsCheckTold}
 
 -- what a call finds is the program's answer, and what it refuses is told
 abbrev pub IsFound : {E : Type 0} → (Result Finding E → Type 0) → (E → ProgramFault → Type 0) → Result Finding ProgramFault → Type 0
@@ -102,6 +103,8 @@ IsDone files contents old new (Classes path wanted workers progress) result =
     IsUnread (files path.now) path.now old new result
     ⊎ IsFoundBy (files path.now) (λ bytes. IsClassesRun contents old new bytes path.now wanted) (λ error told. told ≡ classing_told path error)
     result
+IsDone files contents old new (Outcomes paths wanted) result =
+    IsTold (IsBookClassesRun files (map (λ p. p.now) paths) contents old new wanted) (λ error told. outcomes_told paths error ≡ Some told) result
 IsDone files contents old new (Run path first end every workers progress) result =
     IsUnread (files path.now) path.now old new result
     ⊎ IsCalled (files path.now) (λ bytes. IsRangeRun contents old new bytes first end (not every)) (λ bytes error told. told ≡ range_told path error) result
@@ -142,6 +145,7 @@ tells_progress (Rank path names) = false
 tells_progress (Order path rank) = false
 tells_progress (Show path order json) = false
 tells_progress (Classes path wanted workers progress) = progress
+tells_progress (Outcomes paths wanted) = false
 tells_progress (Run path first end every workers progress) = progress
 tells_progress (Join paths) = false
 tells_progress (Holds path spec first end) = false

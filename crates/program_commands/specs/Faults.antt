@@ -50,6 +50,8 @@ use Rattle.book_commands.specs.declared.judging.JudgeFault.{JudgeFault}
 use Rattle.book_commands.specs.declared.judging.JudgeFault.TheVariants as judge_fault
 use Rattle.class_commands.specs.declared.classing.ClassesFault.{ClassesFault}
 use Rattle.class_commands.specs.declared.classing.ClassesFault.TheVariants as classes_fault
+use Rattle.class_commands.specs.declared.booking.BookClassesFault.{BookClassesFault}
+use Rattle.class_commands.specs.declared.booking.BookClassesFault.TheVariants as outcomes_fault
 use Rattle.class_looks.specs.declared.fault.LookFault.{LookFault}
 use Rattle.class_looks.specs.declared.fault.LookFault.TheVariants as look_fault
 use Rattle.asked_classes.specs.declared.fault.AskedFault.{AskedFault}
@@ -179,6 +181,13 @@ join_told paths (join_fault.File place fault) = option_map (λ path. file_told p
 join_told paths (join_fault.OtherSpec place) = option_map (λ path. OtherSpec path) (slice_get paths place)
 join_told paths join_fault.NoMemory = Some NoMemory
 join_told paths (join_fault.Write error) = Some (write_told error)
+
+-- of books that clash the first path is told
+abbrev pub outcomes_told : List Path → BookClassesFault → Option ProgramFault
+outcomes_told paths (outcomes_fault.Join fault) = join_told paths fault
+outcomes_told paths (outcomes_fault.Clash rank) = option_map (λ path. Clash path rank) (slice_get paths 0)
+outcomes_told paths outcomes_fault.NoMemory = Some NoMemory
+outcomes_told paths (outcomes_fault.Write fault) = Some Write
 
 abbrev pub values_told : Path → ReportError → ProgramFault
 values_told path report_error.TooMany = TooManyRanks path

@@ -11,6 +11,7 @@ ghost use Rattle.spec_commands.specs.Ordering.{IsOrdered, IsRanked};
 ghost use Rattle.spec_commands.specs.Showing.{IsShowRun};
 ghost use Rattle.spec_commands.specs.declared.showing.WantedOrder.{WantedOrder};
 ghost use Rattle.class_commands.specs.Classing.{IsClassesRun};
+ghost use Rattle.class_commands.specs.Booking.{IsBookClassesRun};
 ghost use Rattle.book_commands.specs.Finding.{finding_status};
 ghost use Rattle.book_commands.specs.Joining.{IsJoinRun};
 ghost use Rattle.book_commands.specs.Reporting.{IsFileReported};
@@ -19,19 +20,19 @@ ghost use Rattle.book_commands.specs.Judging.{IsJudgeRun};
 ghost use Rattle.book_commands.specs.Holding.{IsHoldRun};
 ghost use Rattle.range_commands.specs.Ranges.{IsRangeRun};
 ghost use Rattle.fault_texts.specs.Status.{status_of};
-ghost use Rattle.program_commands.specs.Faults.{one_told, count_told, rank_told, order_told, show_told, classing_told, range_told, join_told, report_told, audit_told, hold_told, judge_told, IsCheckTold};
+ghost use Rattle.program_commands.specs.Faults.{one_told, count_told, rank_told, order_told, show_told, classing_told, outcomes_told, range_told, join_told, report_told, audit_told, hold_told, judge_told, IsCheckTold};
 ghost use Rattle.fault_texts.specs.declared.fault.ProgramFault.TheVariants.{Write as WriteFault};
 ghost use Rattle.program_commands.specs.Commands.{IsAnswered, IsCut, IsDone, IsCalled, IsFlushed, IsFound, IsFoundBy, IsPassedOn, IsRun, IsSame, IsTold, IsUnread, IsUsage, form_by, names_in, tells_progress};
 
 use crate::faults::{
     audit_fault, classes_fault, count_fault, explained_fault, fault_at, hold_fault, join_fault,
-    judge_fault, order_fault, range_fault, rank_fault, report_fault, show_fault,
+    judge_fault, order_fault, outcomes_fault, range_fault, rank_fault, report_fault, show_fault,
 };
 use crate::files::read_spec_file;
 use book_commands::{Finding, Opener, audit_file, hold_file, join_files, judge_files, report_file};
 use clap::Error;
 use clap::error::ErrorKind;
-use class_commands::classes_told;
+use class_commands::{book_classes, classes_told};
 use command_line::{Asked, Wanted, parse_words};
 use fault_texts::ProgramFault;
 use range_commands::run_told;
@@ -43,7 +44,7 @@ use std::sync::Wait;
 use std::thread::Threads;
 use std::time::Clock;
 use transcripts::{Counted, say};
-use wanted_classes::WantedClasses;
+use wanted_classes::{WantedClasses, WantedOutcomes};
 
 /// Does what the words ask, the first of which is the program's name. What is asked for goes to `out`; faults go to `err`, and so does how far a
 /// run is, where that is asked for. The answer is the exit status: 0 good, 1 where a rank has not exactly one value, a fact is false or no
@@ -119,6 +120,9 @@ fn work<'a, R: Threads + Wait + Clock + Sync, O: Opener, W: Write, E: Write + Se
         } => classes_of_file(
             rt, alloc, path, wanted, workers, *progress, opener, out, err,
         ),
+        Asked::Outcomes { paths, wanted } => {
+            outcomes_of_files(alloc, paths.as_slice(), wanted, opener, out)
+        }
         Asked::Run {
             path,
             first,
@@ -386,6 +390,24 @@ fn join_of_files<'a, O: Opener, W: Write>(
     match join_files(alloc, opener, paths, out) {
         Ok(()) => Ok(Finding::Good),
         Err(fault) => Err(join_fault(paths, fault)),
+    }
+}
+
+fn outcomes_of_files<'a, O: Opener, W: Write>(
+    alloc: Global,
+    paths: &[&'a str],
+    wanted: &WantedOutcomes,
+    opener: &O,
+    out: &mut Counted<W>,
+) -> Result<Finding, ProgramFault<'a>>
+    requires some { 0 < length paths.now }
+    requires fresh { failures_of out.old ≡ 0 }
+    ensures done { IsTold (IsBookClassesRun (O.bytes opener.now) (map (λ p. p.now) paths.now) W.contents out.old out.new wanted.now) (λ error told. outcomes_told paths.now error ≡ Some told) result }
+    ensures failures { OnOk result (failures_of out.new ≡ 0) }
+{
+    match book_classes(alloc, opener, paths, wanted, out) {
+        Ok(()) => Ok(Finding::Good),
+        Err(fault) => Err(outcomes_fault(paths, fault)),
     }
 }
 

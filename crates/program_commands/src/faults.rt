@@ -4,9 +4,10 @@ ghost use Rattle.std.specs.Prelude.{◌≡◌, ◌≢◌, ◌++◌, ◌<◌, Lis
 ghost use Rattle.spec_commands.specs.Ordering.{IsNamePlace};
 ghost use Rattle.book_commands.specs.Joining.{IsPlaced};
 ghost use Rattle.book_commands.specs.Judging.{IsAcceptedPlace};
+ghost use Rattle.class_commands.specs.Booking.{IsPlacedIn};
 ghost use Rattle.fault_texts.specs.Explanations.{explanation};
 ghost use Rattle.fault_texts.specs.declared.fault.ProgramFault.TheVariants.{NoMemory};
-ghost use Rattle.program_commands.specs.Faults.{IsExplained, IsShowPlace, offset_of, one_told, count_told, rank_told, order_told, show_told, asked_told, classing_told, look_told, range_told, join_told, report_told, audit_told, hold_told, judge_told, no_report_told};
+ghost use Rattle.program_commands.specs.Faults.{IsExplained, IsShowPlace, offset_of, one_told, count_told, rank_told, order_told, show_told, asked_told, classing_told, look_told, outcomes_told, range_told, join_told, report_told, audit_told, hold_told, judge_told, no_report_told};
 ghost use Rattle.program_commands.specs.Faults.{values_told, file_told, book_told, write_told, spec_told, text_told, binding_told, run_told, start_told};
 
 use asked_classes::AskedFault;
@@ -14,7 +15,7 @@ use book_commands::{
     AuditFault, FileFault, HoldFault, JoinFault, JudgeFault, NoReport, ReportFault, ReportFileFault,
 };
 use book_format::{BookError, WriteError};
-use class_commands::ClassesFault;
+use class_commands::{BookClassesFault, ClassesFault};
 use class_looks::LookFault;
 use fact_books::ReportError;
 use fault_texts::{ProgramFault, binding_sentence, explained, text_sentence};
@@ -219,6 +220,22 @@ pub(crate) fn join_fault<'a>(paths: &[&'a str], fault: JoinFault) -> ProgramFaul
         },
         JoinFault::NoMemory => ProgramFault::NoMemory,
         JoinFault::Write(error) => write_fault(error),
+    }
+}
+
+pub(crate) fn outcomes_fault<'a>(paths: &[&'a str], fault: BookClassesFault) -> ProgramFault<'a>
+    requires some { 0 < length paths.now }
+    requires placed { IsPlacedIn (length paths.now) fault }
+    ensures { outcomes_told paths.now fault ≡ Some result }
+{
+    match fault {
+        BookClassesFault::Join(fault) => join_fault(paths, fault),
+        BookClassesFault::Clash(rank) => ProgramFault::Clash {
+            path: word_at(paths, 0),
+            rank,
+        },
+        BookClassesFault::NoMemory => ProgramFault::NoMemory,
+        BookClassesFault::Write(_) => ProgramFault::Write,
     }
 }
 

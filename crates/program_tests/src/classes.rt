@@ -34,6 +34,10 @@ class  orders  share %  shows   rank  order
 the order of the least rank, with marks: : waits   ! fails   - is not sent
 ";
 
+/// The one order of a step that has no statement.
+const ONE_JSON: &str = r#"{"format":1,"name":"first.spec","orders":1,"asked":1,"sessions":["a"],"steps":[{"name":"s","session":0,"sql":""}],"by":"shows","totals":{"W":[0,0],"D":[0,0],"E":[0,0],"N":[0,0],"S":[0,0],"R":[0,0]},"expected":[],"looks":[],"classes":[{"least":0,"orders":1,"shows":"------","order":[0],"told":[["step s","done"]],"left":[],"open":[],"seen":[]}]}
+"#;
+
 const LOST_ANSWERS: &str = "first.spec: 6 orders, 4 answers
 
        orders  share %  answers
@@ -266,7 +270,7 @@ struct Row {
     text: &'static str,
 }
 
-static ROWS: [Row; 16] = [
+static ROWS: [Row; 17] = [
     Row {
         words: "isofarm classes first.spec",
         spec: LOST,
@@ -301,6 +305,11 @@ static ROWS: [Row; 16] = [
         words: "isofarm classes first.spec --brief --answers",
         spec: LINES,
         text: LINES_TOTALS,
+    },
+    Row {
+        words: "isofarm classes --json first.spec --left",
+        spec: "session a step s {}",
+        text: ONE_JSON,
     },
     Row {
         words: "isofarm classes first.spec --no-serial",

@@ -28,6 +28,8 @@ mod memory;
 #[cfg(test)]
 mod orders;
 #[cfg(test)]
+mod outcomes;
+#[cfg(test)]
 mod over_books;
 #[cfg(test)]
 mod progress;

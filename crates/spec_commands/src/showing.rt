@@ -209,7 +209,7 @@ fn write_json<W: Write>(
 }
 
 /// The session of each step.
-fn sessions_of_steps(alloc: Global, spec: &Spec) -> Result<Vec<u8>, AllocError>
+pub fn sessions_of_steps(alloc: Global, spec: &Spec) -> Result<Vec<u8>, AllocError>
     ensures { IfOk result (λ sessions. sessions.items ≡ map (λ (s : Step). s.session) spec.now.run.steps) }
 {
     let mut sessions = Vec::new(alloc);

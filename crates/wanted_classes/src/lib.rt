@@ -1,6 +1,6 @@
-//! What may be wanted of the classes of a spec, as words have it.
+//! What may be wanted of the classes of a spec or of books, as words have it.
 #![tactic(auto)]
 
 mod wanted;
 
-pub use wanted::{WantedClasses, WantedExpectation, WantedFilter, WantedTest};
+pub use wanted::{WantedClasses, WantedExpectation, WantedFilter, WantedOutcomes, WantedTest};

@@ -53,4 +53,19 @@ pub struct WantedClasses<'a> {
     pub outcomes: bool,
     /// With what each class leaves.
     pub left: bool,
+    /// As JSON, and not as text.
+    pub json: bool,
+}
+
+/// What is wanted of the classes of what books tell.
+#[derive(Clone, Copy, Drop)]
+pub struct WantedOutcomes {
+    /// The totals alone are told.
+    pub brief: bool,
+    /// With the ranks of each class.
+    pub ranks: bool,
+    /// With what the least order of each class tells each session.
+    pub outcomes: bool,
+    /// As JSON, and not as text.
+    pub json: bool,
 }

@@ -1,5 +1,7 @@
-use Rattle.std.proofs.Common.{◌∙◌, ap, map, subst, sym}
-use Rattle.class_texts.specs.Pages.{Page, page_bytes}
+use Rattle.std.proofs.Common.{◌∙◌, None, ap, map, subst, sym}
+use Rattle.class_texts.specs.Letters.{kind_of}
+use Rattle.class_texts.specs.Pages.{Page}
+use Rattle.class_commands.specs.Written.{IsWritten, written_bytes}
 use Rattle.class_commands.specs.Classing.{IsFinding, expectation_over, has_some, look_over}
 use Rattle.class_commands.specs.Parts.{finding_by}
 use Rattle.class_commands.proofs.ClassLemmas.{finding-is}
@@ -15,14 +17,16 @@ returns-clause-text c =
     c.as_slice-6.ensures.value ∙ c.in_ok-looks.ensures ∙ (λ k. map (look_over (c.as_slice-rows.ensures.value k)) (c.as_slice.ensures.value k)) in (
       c.in_ok-ranks.ranks.items,
       c.in_ok-ranks.ensures,
-      c.in_ok-text.ensures ∙ (λ k. let p : Page = record {
+      subst (λ (p : Page). IsWritten c.args.wanted.now.json c.args.spec.now.text c.args.spec.now p (written_bytes c.in_ok-written.written))
+      (λ k. let p : Page = record {
         path = c.args.path.now;
         orders = c.ranks.ensures k;
         sessions = c.session_names.ensures.are k;
         steps = c.step_names.ensures.are k;
         tables = c.args.tables.now;
-        by = c.grouping.ensures k;
+        by = (c.of.ensures ∙ ap kind_of c.grouping.ensures) k;
         is_filtered = filtered k;
+        missing = None;
         expectations = expectations k;
         totals = c.args.found.now.totals;
         rows = c.as_slice-rows.ensures.value k;
@@ -32,7 +36,7 @@ returns-clause-text c =
         with_outcomes = c.args.wanted.now.outcomes;
         with_left = c.args.wanted.now.left;
         looks = looks k;
-      } in page_bytes p),
+      } in p) c.in_ok-written.ensures,
     )
 
 pub returns-clause-finding : goal.returns-clause-finding

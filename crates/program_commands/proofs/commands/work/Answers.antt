@@ -2,7 +2,8 @@ use Rattle.std.proofs.Common.{◌≡◌, ◌⊎◌, sym, subst, map, Some, Bor, 
 use Rattle.spec_commands.specs.Ordering.{IsRanked}
 use Rattle.book_commands.specs.Joining.{IsJoinRun}
 use Rattle.book_commands.specs.Judging.{IsJudgeRun}
-use Rattle.program_commands.specs.Faults.{rank_told, join_told, judge_told}
+use Rattle.class_commands.specs.Booking.{IsBookClassesRun}
+use Rattle.program_commands.specs.Faults.{rank_told, join_told, outcomes_told, judge_told}
 use Rattle.program_commands.specs.Commands.{IsCalled, IsDone, IsFound, IsTold, IsUnread}
 use Rattle.program_commands.proofs.commands.work.Goals as goal
 
@@ -44,6 +45,14 @@ returns-in-Run-clause-done g c =
     subst (λ a. IsDone (g.O.Opener.bytes c.args.opener.now) g.W.Write.contents c.args.out.now c.range_of_file.new.out a c.range_of_file.result)
     (sym c.in-Run.is)
     c.range_of_file.ensures.done
+
+pub returns-in-Outcomes-clause-done : goal.returns-in-Outcomes-clause-done
+returns-in-Outcomes-clause-done g c =
+    subst (λ a. IsDone (g.O.Opener.bytes c.args.opener.now) g.W.Write.contents c.args.out.now c.outcomes_of_files.new.out a c.outcomes_of_files.result)
+    (sym c.in-Outcomes.is)
+    (subst (λ ps. IsTold (IsBookClassesRun (g.O.Opener.bytes c.args.opener.now) (map (λ (p : Bor (List ℕ)). p.now) ps) g.W.Write.contents c.args.out.now
+    c.outcomes_of_files.new.out c.in-Outcomes.wanted.now) (λ error told. outcomes_told ps error ≡ Some told)
+    c.outcomes_of_files.result) c.as_slice-in-Outcomes.ensures.all c.outcomes_of_files.ensures.done)
 
 pub returns-in-Join-clause-done : goal.returns-in-Join-clause-done
 returns-in-Join-clause-done g c =

@@ -1,5 +1,5 @@
 use Rattle.class_stretches.proofs.Passes.{missing-next}
-use Rattle.class_stretches.proofs.rank_run.missing_in.Goals as goal
+use Rattle.class_stretches.proofs.missing.missing_in.Goals as goal
 
 pub loop-stretch-preserved : goal.loop-stretch-preserved
 loop-stretch-preserved c =

@@ -1,0 +1,3 @@
+mod Sums
+mod Rows
+mod Classed

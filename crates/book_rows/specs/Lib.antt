@@ -1,0 +1,3 @@
+pub mod Totals
+pub mod Classes
+pub mod Parts
