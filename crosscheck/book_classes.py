@@ -15,15 +15,15 @@ from asked import BRIEF, JSON, OUTCOMES, RANKS, Asked
 from binding import bind
 from books import event_of, first_without, values
 from class_values import BY_OUTCOMES, classes_json
-from classes import Class, Page, Shows, add_rank, with_marks
+from classes import OF_BOOKS, Class, Page, Shows, add_rank, with_marks
 from compare_files import answer, fault, joined_at
 from machine import FAULTS
 from shown import marks_text, statements_of, word_of
 from spec_file import read_spec
 
 FLAGS = [RANKS, OUTCOMES, BRIEF, JSON]
-OF_BOOKS, LEAST_OUTCOMES = "WDEN", 8
-NOT_TOLD = "what orders leave is in no book, so S and R are not told"
+LEAST_OUTCOMES = 8
+IN_NO_BOOK = "what orders leave is in no book, so S and R are not told"
 
 
 # ---- what books tell of an order
@@ -98,7 +98,7 @@ class BookPage(Page):
 
     def expected_lines(self):
         """What stands in the place of what is expected."""
-        yield NOT_TOLD
+        yield IN_NO_BOOK
         if not self.orders_missing:
             yield "no order is missing"
         elif self.orders_missing == 1:
@@ -127,13 +127,16 @@ class BookAsking:
         return read_spec(self.joined[0])
 
     @cached_property
+    def spec(self):
+        return bind(self.file)
+
+    @cached_property
     def classes(self):
-        spec = bind(self.file)
-        told = values(spec, self.joined[1])
+        told = values(self.spec, self.joined[1])
         several = [rank for rank, outcomes in told.items() if len(outcomes) > 1]
         if several:
             raise fault(1, self.paths[0], f"clash at rank {min(several)}")
-        return BookClasses(spec, {rank: outcome for rank, outcomes in told.items() for outcome in outcomes})
+        return BookClasses(self.spec, {rank: outcome for rank, outcomes in told.items() for outcome in outcomes})
 
     def text(self, flags):
         asked = Asked(flags={*flags})

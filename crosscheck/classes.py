@@ -35,7 +35,7 @@ WORDS = {
     "S": "a session still waits at the end",
     "R": "no serial order answers so",
 }
-OF_SHOWS, OF_ANSWERS = "WDENSR", "DESR"
+OF_SHOWS, OF_ANSWERS, OF_BOOKS = "WDENSR", "DESR", "WDEN"
 LEAST_ORDERS, OF_SHARE, LEAST_CLASSES, LEAST_LETTERS, LEAST_RANK = 6, 9, 7, 5, 4
 OF_NAME = 24
 NOTHING = "nothing"
