@@ -24,7 +24,7 @@ from asked import BRIEF, JSON, OUTCOMES
 from book_class_laws import MOST_RUN, read_back, wrong_beside_shows, wrong_fault, wrong_texts, wrong_true_classes
 from book_classes import FLAGS, BookAsking
 from book_file import read_book
-from books import book_text, compact, facts_of, values
+from books import book_text, compact, facts_of, leads_to, values
 from compare import Comparison, ended, fault_of, told
 from compare_classes import CLASS_KINDS, brief_json, brief_text, lined, specs_made
 from compare_files import file_text, shards_of, some_of, worlds_of
@@ -77,10 +77,10 @@ def with_more_swaps(random, text, facts):
     """Facts with some swaps more of their ranks, to ranks of which they tell the same or nothing: chains, and several facts of a rank."""
     spec = bound(text)
     told, more = values(spec, facts), set()
-    for rank in random.sample(sorted({fact[0] for fact in facts}), min(len({fact[0] for fact in facts}), MORE_SWAPS)):
+    for rank in random.sample([*told], min(len(told), MORE_SWAPS)):
         for place in falling_places(spec, rank):
-            lower = values(spec, facts | more | {(rank, "swap", place)})
-            if random.random() < 0.5 and len(lower.get(rank, ())) <= max(1, len(told.get(rank, ()))):
+            outcomes = told[rank] | told.get(leads_to(spec, rank, place), set())
+            if random.random() < 0.7 and len(outcomes) <= max(1, len(told[rank])):
                 more.add((rank, "swap", place))
     return text, facts | more
 
