@@ -64,6 +64,8 @@ class BookRead(Read):
     def kinds(self):
         yield "a text of books"
         yield from (word for word in super().kinds() if word != "a text")
+        number, first = self.missing()
+        yield from ["one order is missing"] * (number == 1) + ["a first missing order at a rank behind 0"] * bool(first)
 
 
 class BookObject(ReadObject):

@@ -136,8 +136,8 @@ class Shelf:
         """Lists of paths, each with whether all that the books say is true."""
         parts = self.parts()
         facts = set().union(*(facts for _book, facts in parts))
-        true = [self.put(book) if self.random.random() < 0.7 else self.written(self.text, facts) for book, facts in parts] or [self.written(self.text, facts)]
         whole = self.written(self.text, facts)
+        true = [self.put(book) if self.random.random() < 0.7 else self.written(self.text, its_facts) for book, its_facts in parts] or [whole]
         yield [whole], True
         yield self.random.sample([*true, whole], min(len(true) + 1, self.random.randint(2, MOST_BOOKS))), True
         yield self.random.choices(true, k=self.random.randint(1, MOST_BOOKS)), True
@@ -330,9 +330,10 @@ def alone(kinds, first, seeds):
     print("".join(f"by hand: {wrong}\n" for wrong in wrong_texts_by_hand), end="")
     found = len(wrong_texts_by_hand)
     for name, seed, text in chain.from_iterable(texts_of(kind, first, seeds) for kind in kinds):
+        random = Random(seed)
         with TemporaryDirectory() as folder:
             for paths, is_true in lists_of(seed, Path(folder), text, run_alone, MOST_TOLD_ALONE):
-                told_wrong = [*wrong_alone(paths, is_true, Random(seed + len(paths)), counts)]
+                told_wrong = [*wrong_alone(paths, is_true, random, counts)]
                 found += len(told_wrong)
                 print("".join(f"{name}, {' '.join(paths)}: {wrong}\n" for wrong in told_wrong), end="", flush=True)
     print(f"{counts['lists']} lists of books, {found} faults of the laws; in what was told:")

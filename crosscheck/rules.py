@@ -13,7 +13,8 @@ N = "(?:0|[1-9][0-9]*)"
 NAME = r'"(?:[^"\\]|\\.)*"'
 # Classes of books are another command than those of a spec.
 CLASSES_OF_BOOKS = "classes --book"
-OF_SPECS, OF_BOOKS, OF_REPORTS = {"one", "check", "count", "rank", "order", "show", "classes", "run"}, {"join", "holds", "report", "audit", "judge", CLASSES_OF_BOOKS}, {"report", "judge"}
+OF_SPECS = {"one", "check", "count", "rank", "order", "show", "classes", "run"}
+OF_BOOKS, OF_REPORTS = {"join", "holds", "report", "audit", "judge", CLASSES_OF_BOOKS}, {"report", "judge"}
 COMMANDS = OF_SPECS | OF_BOOKS
 NAMED, UNNAMED = True, False
 # A fault: its status, its text, whether a path stands before it, and the commands that tell it. There is memory, so that none lacks it.

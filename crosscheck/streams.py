@@ -12,6 +12,8 @@ import time
 from pathlib import Path
 from tempfile import TemporaryDirectory
 
+from asked import Asked
+from book_classes import BookClasses, BookPage
 from books import book_text, facts_of
 from compare import PROGRAM, PROGRESS, difference, ended, expected, told
 from compare_files import answer, order, run
@@ -52,7 +54,7 @@ NO_COMMANDS += [f"run first.spec 0 1 --workers{number}" for number in ("", " 0",
 NO_COMMANDS += ["rank", "rank first.spec", f"rank first.spec{' a1' * 1001}", "order", "order first.spec", "order first.spec x", "order first.spec 0 1"]
 NO_COMMANDS += ["show", "show first.spec", "show first.spec --json", f"show first.spec{' a1' * 1001}", "show first.spec 0 --text"]
 NO_COMMANDS += ["classes", "classes first.spec 0", "classes first.spec --workers 0", "classes first.spec --json --json", "classes first.spec --json=1"]
-NO_COMMANDS += ["classes --book", "classes --book --json", "classes first.spec --book all.book", "classes --json first.spec --book all.book", f"classes --book{' all.book' * 1001}"]
+NO_COMMANDS += ["classes --book", "classes --book --json", "classes --book all.book --json --json", "classes first.spec --book all.book", "classes --json first.spec --book all.book", f"classes --book{' all.book' * 1001}"]
 NO_COMMANDS += [f"classes --book all.book {flag}" for flag in ("--left", "--answers", "--waits", "--no-deadlock", "--look SELECT", "--workers 2", "--progress", "--every")]
 NO_COMMANDS += ["classes first.spec --look", "classes first.spec --expect", "classes first.spec --filter", "classes first.spec --expect SELECT"]
 NO_COMMANDS += ["classes first.spec --expect SELECT --brief", "classes first.spec --expect SELECT -x"]
@@ -66,6 +68,7 @@ USAGES = {
     "": b"error: '" + NAME + b"' requires a subcommand but one was not provided\n"
     b"  [subcommands: check, one, count, rank, order, show, classes, run, join, holds, report, audit, judge, help]\n\nUsage: " + NAME + b" <COMMAND>\n" + TRY_HELP,
 }
+CLASSES = BookClasses(WORLDS.spec, {rank: outcome for rank, _word, outcome in FACTS})
 SHARD = 1_000
 # Seconds that a run here takes at most.
 LONGEST = 60
@@ -124,6 +127,8 @@ def answers():
     yield from ((text.split(), (2, b"", usage)) for text, usage in USAGES.items())
     yield ["join", "one.book", "all.book"], (0, BOOK, b"")
     yield ["report", "one.book"], line(1, "one.book: missing rank 0")
+    for name, books in (("all.book", 1), ("1000 books", 1000)):
+        yield ["classes", "--book", *["all.book"] * books], (0, BookPage(CLASSES, name, Asked()).text().encode(), b"")
     yield ["classes", "--book", "all.book", "one.book", "clash.book", "all.book"], line(1, "all.book: clash at rank 1")
     yield ["classes", "--book", "clash.book", "one.book", "--json"], line(1, "clash.book: clash at rank 1")
     yield ["judge", "all.book", "one.book"], line(1, "one.book: missing rank 0")
