@@ -43,7 +43,8 @@ OF_BOOKS += ["classes --book all.book clash.book", "classes --book all.book wron
 def of_another_rank(book):
     """A book of one fact: the first rank has an outcome that it has not."""
     value = json.loads(book)
-    return json.dumps(value | {"facts": [[0, 1, "ran", 0]], "outcomes": value["outcomes"][-1:]}).encode()
+    *_run, number = value["facts"][0]
+    return json.dumps(value | {"facts": [[0, 1, "ran", 0]], "outcomes": [value["outcomes"][number - 1]]}).encode()
 
 
 def make_books(folder):

@@ -17,6 +17,7 @@ from book_classes import BookClasses, BookPage
 from books import book_text, facts_of
 from compare import PROGRAM, PROGRESS, difference, ended, expected, told
 from compare_files import answer, order, run
+from damage import text_of
 from worked import INSERT_AND_READ, LARGE, worlds_of
 
 U32, U64 = 2**32, 2**64
@@ -26,7 +27,23 @@ WORLDS = worlds_of(INSERT_AND_READ)
 FACTS = facts_of(WORLDS, 0, 2, True)
 BOOK = book_text(SPEC, FACTS).encode()
 BOOK_OF_ONE = book_text(SPEC, {fact for fact in FACTS if fact[0] == 1}).encode()
+# Two books with as many facts as are read, which are over the limit of a book together.
+MANY = 20_000_000
+FAR_BOOKS = [text_of({"facts": [[first, MANY, "ran", 0]], "format": 2, "outcomes": [[[]] * 8], "spec": LARGE}) for first in (0, MANY)]
+FAR_TEXT = b"""2 books: 40000000 of 9116650868204880000 orders, 1 outcome
+
+what orders leave is in no book, so S and R are not told
+9116650868164880000 orders are missing, the first of rank 40000000
+
+                    orders  share %  outcomes
+    W                    0        0         0  a session waits
+    D                    0        0         0  a session loses a deadlock
+    E                    0        0         0  another error of its own
+    N                    0        0         0  a step is not sent, since its session waits
+"""
 FILES = {
+    "far.book": FAR_BOOKS[0],
+    "farther.book": FAR_BOOKS[1],
     "first.spec": SPEC,
     "large.spec": LARGE.encode(),
     "long.spec": LARGE.encode() + b" #" + b"x" * 20_000,
@@ -129,6 +146,9 @@ def answers():
     yield ["report", "one.book"], line(1, "one.book: missing rank 0")
     for name, books in (("all.book", 1), ("1000 books", 1000)):
         yield ["classes", "--book", *["all.book"] * books], (0, BookPage(CLASSES, name, Asked()).text().encode(), b"")
+    # What is not written has no limit.
+    yield ["classes", "--book", "far.book", "farther.book", "--brief"], (0, FAR_TEXT, b"")
+    yield ["join", "far.book", "farther.book"], line(3, "book error 8")
     yield ["classes", "--book", "all.book", "one.book", "clash.book", "all.book"], line(1, "all.book: clash at rank 1")
     yield ["classes", "--book", "clash.book", "one.book", "--json"], line(1, "clash.book: clash at rank 1")
     yield ["judge", "all.book", "one.book"], line(1, "one.book: missing rank 0")
