@@ -34,7 +34,7 @@ from damage import DAMAGES, text_of
 from facts import MOST_RANKS
 from generate import Maker, large_shapes
 from refusal import Refusal
-from untrue import UNTRUE, falling_places, with_one_more
+from untrue import UNTRUE, any_outcome, falling_places, with_one_more
 from worked import EMPTY_BOOK, empty_steps
 
 WORKED = Path(__file__).resolve().parent / "book_classes"
@@ -99,6 +99,19 @@ def with_another_value(random, text, facts):
     return text, facts | {(random.choice(ranks), "ran", random.choice(outcomes))} if outcomes and ranks else facts
 
 
+def with_a_chain(random, text, facts):
+    """Facts with a chain of swaps from any rank down to the first one, which has some outcome; mostly no link is lost."""
+    spec, chain_of = bound(text), []
+    rank = random.randrange(spec.ranks())
+    while places := falling_places(spec, rank):
+        chain_of.append((rank, "swap", random.choice(places)))
+        rank = leads_to(spec, *chain_of[-1][::2])
+    outcomes = sorted({value for its_rank, word, value in facts if word == "ran" and its_rank == rank})
+    chain_of.append((rank, "ran", random.choice([*outcomes[:1], compact(any_outcome(random, spec)).encode()])))
+    lost = random.choice(chain_of) if random.random() < 0.3 else None
+    return text, facts | {*chain_of} - {lost}
+
+
 def with_an_outcome_twice(_random, text, facts):
     """The text of a book whose first outcome stands twice in the table, once for one rank: no book."""
     outcomes = sorted({value for _rank, word, value in facts if word == "ran"})
@@ -108,7 +121,7 @@ def with_an_outcome_twice(_random, text, facts):
     return f'{{"facts":{compact(numbers)},"format":2,"outcomes":[{table}],"spec":{compact(text.decode())}}}'.encode()
 
 
-LAWFUL = [with_more_swaps, without_low_ranks, with_another_value]
+LAWFUL = [with_more_swaps, without_low_ranks, with_another_value, with_a_chain]
 
 
 class Shelf:
