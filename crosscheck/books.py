@@ -33,11 +33,15 @@ def facts_of(worlds, first, end, reduces):
     return {noted(rank, fact(worlds, rank, reduces)) for rank in range(first, end)}
 
 
+def first_without(spec, ranks):
+    """The first rank that is not among these, if there is one."""
+    first = next(rank for rank in range(len(ranks) + 1) if rank not in ranks)
+    return first if first < spec.ranks() else None
+
+
 def missing(spec, facts):
     """The first rank that has no fact, if there is one."""
-    has_facts = {rank for rank, _word, _value in facts}
-    first = next(rank for rank in range(len(has_facts) + 1) if rank not in has_facts)
-    return first if first < spec.ranks() else None
+    return first_without(spec, {rank for rank, _word, _value in facts})
 
 
 def leads_to(spec, rank, place):

@@ -4,7 +4,8 @@ import json
 import re
 
 from class_pages import Read, wrong_leasts, wrong_ranges, wrong_total
-from classes import OF_ANSWERS, OF_SHOWS
+from class_values import BY_ANSWERS, BY_OUTCOMES, BY_SHOWS
+from classes import OF_ANSWERS, OF_BOOKS, OF_SHOWS
 from machine import ABORTED, DEADLOCK, FAULTS, LINES, OUT_OF_RANGE
 from moments import WAITS
 from shown import LEFT_IN, json_text
@@ -13,10 +14,11 @@ FRONT = b'{"format":'
 MARKUP = {*"<>&\u2028\u2029"}
 STRING = re.compile(r'"(?:[^"\\]|\\.)*"')
 MEMBERS = ["format", "name", "orders", "asked", "sessions", "steps", "by", "totals", "expected", "looks"]
-OF_CLASS = ["least", "orders", "shows", "order", "told", "left"]
+OF_CLASS = ["least", "orders", "shows", "order", "told"]
 OF_STEP, OF_EXPECTED, OF_TABLE = ["name", "session", "sql"], ["select", "values", "met", "first"], ["table", "rows"]
 SENT, NOT_SENT = "step ", "not sent "
 ANSWERING = ("row ", "rows ", "inserted ", "updated ", "deleted ", "error: ")
+LETTERS = {BY_SHOWS: OF_SHOWS, BY_ANSWERS: OF_ANSWERS, BY_OUTCOMES: OF_BOOKS}
 ERRORS = {LINES[fault] for fault in FAULTS if fault not in (DEADLOCK, ABORTED)}
 
 
@@ -47,15 +49,17 @@ class ClassObject:
         lines = {line for session in self.told for line in session}
         yield "D", LINES[DEADLOCK] in lines
         yield "E", not lines.isdisjoint(ERRORS)
-        if "open" in self.value:
+        if "open" in self.value or "left" not in self.value:
             yield "W", "waiting" in lines
             yield "N", any(line.startswith(NOT_SENT) for line in lines)
+        if "open" in self.value:
             yield "S", any(standing == WAITS for _session, standing in self.value["open"])
 
     def shown(self):
         """What its orders have alike, and those of no other class."""
-        told = self.told if "open" in self.value else [[line for line in session if line.startswith(ANSWERING)] for session in self.told]
-        return json.dumps([told, self.value["left"], self.value.get("open")])
+        is_whole = "open" in self.value or "left" not in self.value
+        told = self.told if is_whole else [[line for line in session if line.startswith(ANSWERING)] for session in self.told]
+        return json.dumps([told, self.value.get("left"), self.value.get("open")])
 
 
 class ReadObject:
@@ -63,12 +67,17 @@ class ReadObject:
 
     def __init__(self, out):
         self.text, self.value = out, json.loads(out)
-        self.orders, self.asked, self.by_answers = self.value["orders"], self.value["asked"], self.value["by"] == "answers"
+        self.orders, self.asked, self.by = self.value["orders"], self.value["asked"], self.value["by"]
+        self.by_answers, self.of_books = self.by == BY_ANSWERS, self.by == BY_OUTCOMES
         self.steps, self.totals, self.expected, self.looks = (self.value[name] for name in ("steps", "totals", "expected", "looks"))
-        self.letters = OF_ANSWERS if self.by_answers else OF_SHOWS
+        self.letters = LETTERS.get(self.by, OF_SHOWS)
         self.has_classes = "classes" in self.value
         self.rows = [*map(ClassObject, self.value.get("classes", []))]
         self.has_ranks = any("ranks" in row.value for row in self.rows)
+
+    def members(self):
+        """Its members before the classes."""
+        return [name for one in MEMBERS for name in [one, *["missing"] * (one == "asked" and self.of_books)]]
 
     # what is wrong with it
 
@@ -84,19 +93,19 @@ class ReadObject:
 
     def wrong_members(self):
         """Members stand in their order, and all classes have the same ones."""
-        of_class = OF_CLASS + ["open"] * (not self.by_answers) + ["seen"] + ["ranks"] * self.has_ranks
-        tables = [table for row in self.rows for table in row.value["left"]]
-        several = [([self.value], MEMBERS + ["classes"] * self.has_classes), ([self.totals], [*OF_SHOWS])]
+        of_class = OF_CLASS + ["left"] * (not self.of_books) + ["open"] * (self.by == BY_SHOWS) + ["seen"] + ["ranks"] * self.has_ranks
+        tables = [table for row in self.rows for table in row.value.get("left", [])]
+        several = [([self.value], self.members() + ["classes"] * self.has_classes), ([self.totals], [*OF_SHOWS])]
         several += [(self.steps, OF_STEP), (self.expected, OF_EXPECTED), ([row.value for row in self.rows], of_class), (tables, OF_TABLE)]
         if any([*one] != members for those, members in several for one in those):
             yield "members are missing, strange or in another order"
-        if (self.value["format"], self.value["by"]) not in ((1, "shows"), (1, "answers")):
+        if self.value["format"] != 1 or self.by not in LETTERS:
             yield "another format, or another grouping"
 
     def wrong_totals(self):
         for letter, total in self.totals.items():
             if letter not in self.letters and total is not None:
-                yield f"{letter} is told by answers"
+                yield f"{letter} is told by {self.by}"
             if total and ((total[0] == 0) != (total[1] == 0) or not total[1] <= total[0] <= self.asked):
                 yield f"{letter} has fewer orders than classes, or more than are asked for"
             if letter in self.letters and self.has_classes:
@@ -113,7 +122,9 @@ class ReadObject:
         """Each session is told its steps of the order, as sent or as not sent. Without permutation lines an order has each step once."""
         order = row.value["order"]
         own = [[step for step in order if self.steps[step]["session"] == session] for session in range(len(self.value["sessions"]))]
-        if [[*filter(None, map(step_named, lines))] for lines in row.told] != [[self.steps[step]["name"] for step in steps] for steps in own]:
+        named = [[*filter(None, map(step_named, lines))] for lines in row.told]
+        # What books tell need not be true.
+        if not self.of_books and named != [[self.steps[step]["name"] for step in steps] for steps in own]:
             yield f"the order of rank {row.least} has other steps than its sessions are told"
         if self.totals["R"] and (sorted(order) != [*range(len(self.steps))] or any(steps != sorted(steps) for steps in own)):
             yield f"the order of rank {row.least} has not each step once"
@@ -123,7 +134,7 @@ class ReadObject:
         sessions = [session for session, _standing in row.value.get("open", [])]
         if sessions != sorted({*sessions}) or any(standing not in LEFT_IN for _session, standing in row.value.get("open", [])):
             yield f"sessions have not ended otherwise than there is a way, or twice, at rank {row.least}"
-        if [table["table"] for table in row.value["left"]] != [table["table"] for table in self.rows[0].value["left"]]:
+        if not self.of_books and [table["table"] for table in row.value["left"]] != [table["table"] for table in self.rows[0].value["left"]]:
             yield f"other tables are left at rank {row.least}"
         for lines in row.value["seen"]:
             is_rows = lines[-1:] == [f"rows {len(lines) - 1}"] and all(line.startswith("row ") for line in lines[:-1])
@@ -173,9 +184,9 @@ class ReadObject:
 
     def kinds(self):
         """In words to be counted."""
-        yield "JSON by answers" if self.by_answers else "JSON"
+        yield {BY_ANSWERS: "JSON by answers", BY_OUTCOMES: "JSON of books"}.get(self.by, "JSON")
         found = {
-            "R is not told": self.totals["R"] is None,
+            "R is not told": not self.of_books and self.totals["R"] is None,
             "a character by its number": "\\u00" in self.text,
             "a character behind a backslash": bool(re.search(r"\\[^u]", self.text)),
             "brief": not self.has_classes,

@@ -7,11 +7,11 @@ from itertools import takewhile
 from classes import LEGEND, NOTHING, OF_ANSWERS, OF_SHOWS, WORDS
 from shown import HIDDEN, WIDTH
 
-TITLE = re.compile(r"(.*): (?:(\d+) of )?(\d+) (orders?), (\d+) (class|classes|answer|answers)")
+TITLE = re.compile(r"(.*): (?:(\d+) of )?(\d+) (orders?), (\d+) (class|classes|answer|answers|outcome|outcomes)")
 ROW = re.compile(r" *(\d+) +(\d+) +(\d+\.\d|0) +([WDENSR-]+) +(\d+)  ")
 EXPECTED, AS_EXPECTED = "expected of ", re.compile(r"  so in (\d+) of (\d+) (orders?)")
 FIRST_NOT_SO = re.compile(r"  first not so at rank (\d+):.*")
-ONES = ("order", "class", "answer")
+ONES = ("order", "class", "answer", "outcome")
 NO_ORDERS, NOT_TOLD = "0", "-"
 NO_TOTAL = [NOT_TOLD] * 3
 NOT_ENDED = (" waits", " is in a transaction", " is in a failed block")
@@ -118,6 +118,9 @@ class Expectation:
 class Read:
     """A page as it is read back: its orders and groups, what is expected, the numbers of each letter, and the row of each class."""
 
+    # What stands before the letters begins so, and what leaves orders out is called so.
+    front, leaves_out = EXPECTED, "filters"
+
     def __init__(self, out):
         self.text = out
         (title,), *parts = [part.split("\n") for part in out.removesuffix("\n").split("\n\n")]
@@ -125,7 +128,7 @@ class Read:
         self.orders, self.groups, self.by_answers = int(orders), int(groups), of_groups.startswith("answer")
         self.is_of_one = of_orders in ONES, of_groups in ONES
         self.has_filters, self.asked = some is not None, int(some or orders)
-        self.expected_lines = parts.pop(0) if parts[0][0].startswith(EXPECTED) else []
+        self.expected_lines = parts.pop(0) if parts[0][0].startswith(self.front) else []
         self.expected = expectations(self.expected_lines)
         self.letter_lines = parts.pop(0)
         self.letters = {line[4]: line[5:].split()[:3] for line in self.letter_lines[1:]}
@@ -137,6 +140,10 @@ class Read:
         """How many orders have a letter, and how many classes; none where it is not told."""
         columns = self.letters.get(letter, NO_TOTAL)
         return None if columns == NO_TOTAL else (int(columns[0]), int(columns[2]))
+
+    def letters_told(self):
+        """All letters that a page of its kind has."""
+        return OF_ANSWERS if self.by_answers else OF_SHOWS
 
     # what is wrong with it
 
@@ -174,11 +181,13 @@ class Read:
 
     def wrong(self, status):
         lines = [*self.expected_lines, *self.letter_lines, *(line for row in self.rows for line in [*row.order, *row.besides_outcome()])]
-        if any(line.endswith(" ") or len(line) > WIDTH or {*map(ord, line)} & HIDDEN for line in lines):
+        # Lines of letters are not broken. They are wider where a number of orders has ten digits.
+        narrow = [line for line in lines if line not in self.letter_lines or self.orders < 10**9]
+        if any(line.endswith(" ") or {*map(ord, line)} & HIDDEN for line in lines) or any(len(line) > WIDTH for line in narrow):
             yield "a line ends with a blank, is too long, or shows what is not seen"
         if "" in lines:
             yield "two empty lines stand where one belongs"
-        if "".join(self.letters) != (OF_ANSWERS if self.by_answers else OF_SHOWS):
+        if "".join(self.letters) != self.letters_told():
             yield "other letters"
         if status != any(one.first is not None for one in self.expected):
             yield "another status"
@@ -200,7 +209,7 @@ class Read:
         yield from (f"{letter}: {WORDS[letter]}" for letter, columns in self.letters.items() if columns[0] not in (NO_ORDERS, NOT_TOLD))
         besides = {line.split(" ")[0] for row in self.rows for line in row.besides}
         found = {
-            "R is not told": NOT_TOLD in self.letters["R"],
+            "R is not told": NOT_TOLD in self.letters.get("R", []),
             "an order of several lines": any(len(row.order) > 1 for row in self.rows),
             "a name that is cut": "~" in self.text,
             "a character by its number": "\\u{" in self.text,
@@ -208,9 +217,9 @@ class Read:
             "100 classes and more": self.groups > 99,
             "one class": self.groups == 1,
             "brief": not self.has_rows and self.groups > 0,
-            "filters: no order": self.has_filters and self.asked == 0,
-            "filters: some orders": self.has_filters and 0 < self.asked < self.orders,
-            "filters: all orders": self.has_filters and self.asked == self.orders,
+            f"{self.leaves_out}: no order": self.has_filters and self.asked == 0,
+            f"{self.leaves_out}: some orders": self.has_filters and 0 < self.asked < self.orders,
+            f"{self.leaves_out}: all orders": self.has_filters and self.asked == self.orders,
             "expected: so in no order": any(one.as_expected == 0 < one.orders for one in self.expected),
             "expected: so in some orders": any(0 < one.as_expected < one.orders for one in self.expected),
             "expected: so in all orders": any(one.as_expected == one.orders > 0 for one in self.expected),

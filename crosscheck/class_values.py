@@ -1,6 +1,9 @@
-"""The JSON of what is asked of a spec's classes, from their page (`classes.py`)."""
+"""The JSON of what is asked of a spec's classes, or of those of books, from their page (`classes.py`, `book_classes.py`)."""
 
 from shown import json_text, lines_value, open_value, steps_value, tables_value
+
+# By what orders are grouped.
+BY_SHOWS, BY_ANSWERS, BY_OUTCOMES = "shows", "answers", "outcomes"
 
 
 def expected_value(page, one):
@@ -16,9 +19,10 @@ def class_value(page, group):
         "shows": page.letters_of(group),
         "order": spec.line(group.least),
         "told": [lines_value(spec, events) for events in one.told],
-        "left": tables_value(one.left),
     }
-    if not asked.by_answers:
+    if page.by != BY_OUTCOMES:
+        value["left"] = tables_value(one.left)
+    if page.by == BY_SHOWS:
         value["open"] = open_value(one.standing)
     value["seen"] = [lines_value(spec, page.classes.seen(text, group)) for text in asked.looks]
     if asked.has_ranks:
@@ -26,17 +30,21 @@ def class_value(page, group):
     return value
 
 
+def missing_value(page):
+    """How many orders are missing, and the first of them; none where none is."""
+    return {"orders": page.orders_missing, "first": page.first_missing} if page.orders_missing else None
+
+
 def classes_value(page, statements):
     """What stands in the object, beside these statements of each step."""
     spec, asked = page.classes.spec, page.asked
-    value = {
-        "format": 1,
-        "name": page.path,
-        "orders": page.orders,
-        "asked": page.orders_asked,
+    value = {"format": 1, "name": page.path, "orders": page.orders, "asked": page.orders_asked}
+    if page.by == BY_OUTCOMES:
+        value["missing"] = missing_value(page)
+    value |= {
         "sessions": spec.session_names,
         "steps": steps_value(spec, statements),
-        "by": "answers" if asked.by_answers else "shows",
+        "by": page.by,
         "totals": page.totals(),
         "expected": [expected_value(page, one) for one in asked.expected],
         "looks": asked.looks,

@@ -15,7 +15,7 @@ from pathlib import Path
 
 from asked import LEFT, OUTCOMES, NotAsked, NoWords, asked_by
 from binding import bind
-from class_values import classes_json
+from class_values import BY_ANSWERS, BY_SHOWS, classes_json
 from facts import shared
 from looks import NoLook, look_of, seen
 from machine import DEADLOCK, DUPLICATE, OUT_OF_RANGE, UNAVAILABLE, outcome_text, printed, start
@@ -35,7 +35,7 @@ WORDS = {
     "S": "a session still waits at the end",
     "R": "no serial order answers so",
 }
-OF_SHOWS, OF_ANSWERS = "WDENSR", "DESR"
+OF_SHOWS, OF_ANSWERS, OF_BOOKS = "WDENSR", "DESR", "WDEN"
 LEAST_ORDERS, OF_SHARE, LEAST_CLASSES, LEAST_LETTERS, LEAST_RANK = 6, 9, 7, 5, 4
 OF_NAME = 24
 NOTHING = "nothing"
@@ -161,8 +161,7 @@ class Classes:
         """The names of an order's steps, each cut, with its marks."""
         if least not in self.marked:
             line = self.spec.line(least)
-            names = [cut(visible(spelled(self.spec.step_names[step])), OF_NAME) for step in line]
-            self.marked[least] = ["".join(one) for one in zip(names, marks(shown(self.spec, line).moments), strict=True)]
+            self.marked[least] = with_marks(self.spec, line, marks(shown(self.spec, line).moments))
         return self.marked[least]
 
     def seen(self, text, group):
@@ -171,6 +170,12 @@ class Classes:
         if place not in self.sights:
             self.sights[place] = seen(self.spec, look_of(self.spec, text), group.one.left)
         return self.sights[place]
+
+
+def with_marks(spec, line, its_marks):
+    """The names of a line's steps, each cut, with its marks."""
+    names = [cut(visible(spelled(spec.step_names[step])), OF_NAME) for step in line]
+    return ["".join(one) for one in zip(names, its_marks, strict=True)]
 
 
 def by_answers(groups):
@@ -212,17 +217,23 @@ def ranges_text(ranges):
 class Page:
     """What is asked of a spec's classes, and its text."""
 
+    least_classes = LEAST_CLASSES
+
     def __init__(self, classes, path, asked):
         self.classes, self.path, self.asked = classes, path, asked
         self.groups = classes.groups(asked)
-        self.one, self.more = ("answer", "answers") if asked.by_answers else ("class", "classes")
+        self.by, self.one, self.more = (BY_ANSWERS, "answer", "answers") if asked.by_answers else (BY_SHOWS, "class", "classes")
         self.letters = OF_ANSWERS if asked.by_answers else OF_SHOWS
         self.orders, self.orders_asked = classes.spec.ranks(), sum(group.orders for group in self.groups)
         self.is_lined = classes.spec.lines is not None
         self.of_orders = 2 + max(LEAST_ORDERS, digits(self.orders))
 
+    def may_be_some(self):
+        """Whether orders may be left out of the classes."""
+        return bool(self.asked.filters)
+
     def title(self):
-        some = f"{self.orders_asked} of " if self.asked.filters else ""
+        some = f"{self.orders_asked} of " if self.may_be_some() else ""
         orders, groups = number_of(self.orders, "order", "orders"), number_of(len(self.groups), self.one, self.more)
         yield f"{visible(self.path)}: {some}{orders}, {groups}"
 
@@ -269,7 +280,7 @@ class Page:
         return f"{orders:>{self.of_orders}}{part:>{OF_SHARE}}"
 
     def letter_lines(self):
-        of_classes = 2 + max(LEAST_CLASSES, digits(len(self.groups)))
+        of_classes = 2 + max(self.least_classes, digits(len(self.groups)))
         yield f"{'':5}{self.counted('orders', 'share %')}{self.more:>{of_classes}}"
         for letter in self.letters:
             total = self.total(letter)

@@ -93,13 +93,16 @@ def with_few_orders(text, seed, most=MOST_ORDERS):
     return lined(text, spec, Random(seed)) if spec and spec.ranks() > most else text
 
 
+def specs_made(kind, first, seeds):
+    """Specs of all kinds, each with a name and a seed."""
+    if kind in MORE_KINDS:
+        return ((f"seed {seed}", seed, MORE_KINDS[kind](Maker(seed))) for seed in range(first, first + seeds))
+    return specs_of(kind, first, seeds)
+
+
 def texts_of(kind, first, seeds):
     """Specs that are classed, each with a name and a seed."""
-    if kind in MORE_KINDS:
-        made = ((f"seed {seed}", seed, MORE_KINDS[kind](Maker(seed))) for seed in range(first, first + seeds))
-    else:
-        made = specs_of(kind, first, seeds)
-    for name, seed, text in made:
+    for name, seed, text in specs_made(kind, first, seeds):
         yield name, seed, with_few_orders(text, seed)
 
 

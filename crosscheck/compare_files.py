@@ -102,14 +102,19 @@ def book_at(path):
         raise fault(3, path, f"book error {int(refusal.kind)}") from None
 
 
-def join(*paths):
+def joined_at(*paths):
+    """The text of the spec of some books, and all their facts."""
     text, facts = book_at(paths[0])
     for path in paths[1:]:
         other, more = book_at(path)
         if other != text:
             raise fault(3, path, "books of different specs")
         facts = facts | more
-    return book_text(text, facts).encode()
+    return text, facts
+
+
+def join(*paths):
+    return book_text(*joined_at(*paths)).encode()
 
 
 def reported_at(path):

@@ -6,6 +6,7 @@ Each run has to tell what it tells with memory, or that there is none. It is don
 faults of the command line and of files, and for the specs of the seeds. It needs gcc.
 """
 
+import json
 import subprocess
 import sys
 from pathlib import Path
@@ -35,6 +36,15 @@ OF_BOOKS += ["classes deadlock.spec --deadlock=b --no-error --ranks --outcomes -
 OF_BOOKS += ["classes deadlock.spec --no-serial --look 'SELECT * FROM t ORDER BY v DESC' --expect 'SELECT v FROM t WHERE id = 2' 42 --workers 1"]
 OF_BOOKS += ["classes deadlock.spec --json --ranks --look 'SELECT * FROM t WHERE v < 42' --expect 'SELECT v FROM t WHERE id = 2' 42 --workers 1"]
 OF_BOOKS += ["classes deadlock.spec --json --answers --brief --workers 1", "classes deadlock.spec --json --deadlock=c"]
+OF_BOOKS += ["classes --book all.book", "classes --book high.book low.book --ranks --outcomes", "classes --book low.book --json --ranks"]
+OF_BOOKS += ["classes --book all.book clash.book", "classes --book all.book wrong.spec"]
+
+
+def of_another_rank(book):
+    """A book of one fact: the first rank has an outcome that it has not."""
+    value = json.loads(book)
+    *_run, number = value["facts"][0]
+    return json.dumps(value | {"facts": [[0, 1, "ran", 0]], "outcomes": [value["outcomes"][number - 1]]}).encode()
 
 
 def make_books(folder):
@@ -44,6 +54,7 @@ def make_books(folder):
     for name, words in BOOKS.items():
         _status, out, _error = told(PROGRAM, words.split(), folder, {})
         Path(folder, name).write_bytes(out)
+    Path(folder, "clash.book").write_bytes(of_another_rank(Path(folder, "low.book").read_bytes()))
 
 
 def told_at_last(words, folder, settings):

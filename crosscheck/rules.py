@@ -11,7 +11,10 @@ MOST_SECONDS = 10
 N = "(?:0|[1-9][0-9]*)"
 # A name in quotes, in which a quote and a backslash are marked.
 NAME = r'"(?:[^"\\]|\\.)*"'
-OF_SPECS, OF_BOOKS, OF_REPORTS = {"one", "check", "count", "rank", "order", "show", "classes", "run"}, {"join", "holds", "report", "audit", "judge"}, {"report", "judge"}
+# Classes of books are another command than those of a spec.
+CLASSES_OF_BOOKS = "classes --book"
+OF_SPECS = {"one", "check", "count", "rank", "order", "show", "classes", "run"}
+OF_BOOKS, OF_REPORTS = {"join", "holds", "report", "audit", "judge", CLASSES_OF_BOOKS}, {"report", "judge"}
 COMMANDS = OF_SPECS | OF_BOOKS
 NAMED, UNNAMED = True, False
 # A fault: its status, its text, whether a path stands before it, and the commands that tell it. There is memory, so that none lacks it.
@@ -30,13 +33,16 @@ FAULTS = [
     (3, "shard error [12]", NAMED, {"run"}),
     (3, "book error [1-8]", NAMED, OF_BOOKS),
     (3, "book error 8", UNNAMED, {"run", "join"}),
-    (3, "books of different specs", NAMED, {"join"}),
+    (3, "books of different specs", NAMED, {"join", CLASSES_OF_BOOKS}),
     (3, "too many ranks", NAMED, OF_REPORTS),
     (1, f"(?:missing|clash at) rank {N}", NAMED, OF_REPORTS),
+    (1, f"clash at rank {N}", NAMED, {CLASSES_OF_BOOKS}),
     (5, "read fault", NAMED, COMMANDS),
     (5, "write fault", UNNAMED, COMMANDS),
 ]
 CLASSES_TITLE = rb"[^\n]+: (?:%(n)s of )?%(n)s orders?, %(n)s (?:class(?:es)?|answers?)"
+OUTCOMES_TITLE = rb"[^\n]+: (?:%(n)s of )?%(n)s orders?, %(n)s outcomes?\n\nwhat orders leave is in no book, so S and R are not told\n"
+MISSING = rb"(?:no order is missing|1 order is missing, of rank %(n)s|%(n)s orders are missing, the first of rank %(n)s)\n"
 BOOK = rb'\{"facts":\[.*\],"format":2,"outcomes":\[.*\],"spec":".*"\}\n'
 # What stands on standard output where no fault is told.
 ANSWERS = {
@@ -48,6 +54,7 @@ ANSWERS = {
     ("show", 0): rb"\{\"format\":1,[^\n]*\}\n|[^ \n].*\n",
     ("classes", 0): rb'\{"format":1,[^\n]*\}\n|' + CLASSES_TITLE + rb"\n\n.+\n",
     ("classes", 1): rb'\{"format":1,[^\n]*"expected":\[\{[^\n]*\}\n|' + CLASSES_TITLE + rb"\n\nexpected of .+\n",
+    (CLASSES_OF_BOOKS, 0): rb'\{"format":1,[^\n]*"missing":[^\n]*\}\n|' + OUTCOMES_TITLE + MISSING + rb"\n.+\n",
     ("run", 0): BOOK,
     ("join", 0): BOOK,
     ("holds", 0): rb"true\n",
@@ -61,12 +68,17 @@ ANSWERS = {
 ANSWERS = {one: re.compile(pattern.replace(b"%(n)s", N.encode()), re.DOTALL) for one, pattern in ANSWERS.items()}
 
 
+def called(words):
+    """The command that words name."""
+    return CLASSES_OF_BOOKS if words[0] == "classes" and "--book" in words else words[0]
+
+
 def fault_told(words, status, line):
     """The fault that a line tells, as a match and the path that it names; none where no such fault has this status and these words."""
     for fault_status, text, is_named, commands in FAULTS:
         for path in {*words[1:]} if is_named else {None}:
             told = re.fullmatch(f"isofarm: {re.escape(f'{path}: ') if is_named else ''}{text}\n", line)
-            if told and status == fault_status and words[0] in commands:
+            if told and status == fault_status and called(words) in commands:
                 return told, path
     return None
 
@@ -113,7 +125,7 @@ def wrong_in_answer(words, ran, bytes_of):
         if out and error != b"isofarm: write fault\n":
             return "something stands on standard output beside a fault"
         return wrong_in_fault(words, status, error, bytes_of)
-    pattern = ANSWERS.get((words[0], status))
+    pattern = ANSWERS.get((called(words), status))
     if not pattern:
         return f"status {status} without a fault line"
     return None if pattern.fullmatch(out) else "standard output has another form"

@@ -222,6 +222,11 @@ class Lanes:
 # ---- the parts of the text
 
 
+def marks_text(found):
+    """The marks of each step, in their order."""
+    return ["".join(mark for mark in "-:!" if mark in one) for one in found]
+
+
 def marks(moments):
     """Of each step of the order what becomes of it: whether it is not sent, waits, fails."""
     found, last = [], {}
@@ -234,7 +239,7 @@ def marks(moments):
         if moment.kind != RESUMED:
             last[moment.session] = found[-1]
         last[moment.session].update({":"} if moment.want else set(), {"!"} if {*moment.events} & {*FAULTS} else set())
-    return ["".join(mark for mark in "-:!" if mark in one) for one in found]
+    return marks_text(found)
 
 
 def head_lines(order, lanes):

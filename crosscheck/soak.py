@@ -29,18 +29,21 @@ from tempfile import TemporaryDirectory
 from time import monotonic
 
 import compare
+import compare_book_classes
 import compare_classes
 import compare_files
 import compare_hostile
 from asked import ANSWERS, FILTERS, JSON, LEFT, OUTCOMES, RANKS
 from asking import opposite
+from book_class_laws import read_back as books_read_back
+from book_classes import FLAGS
 from books import compact
 from checks import checked, without_sentence
 from class_objects import read_back
 from compare import PROGRAM, difference, fault_of
 from damage import DAMAGES_OF_BYTES
 from generate import KINDS, Maker, fresh_seed
-from rules import wrong_in
+from rules import called, wrong_in
 from streams import NO_COMMANDS, WRITE_FAULT
 from watch import Watch
 
@@ -91,6 +94,12 @@ def ranks_run(book):
     return sum(count for _first, count, word, _value in json.loads(book)["facts"] if word == "ran")
 
 
+def without_name(ran, *paths):
+    """What classes of these books tell, but for what stands for their path."""
+    name = paths[0] if len(paths) == 1 else f"{len(paths)} books"
+    return ran.status, ran.out.replace(name.encode(), b"", 1), ran.error.replace(paths[0].encode(), b"", 1)
+
+
 def first_line(ran):
     """What a run tells but for the lines behind the first on standard error."""
     return ran.status, ran.out, ran.error.split(b"\n")[0]
@@ -130,7 +139,7 @@ class Soak:
 
     @staticmethod
     def kind_of(ran):
-        command = ran.words[0] if ran.words and ran.status != 2 else "words"
+        command = called(ran.words) if ran.words and ran.status != 2 else "words"
         has_fault = ran.error.startswith(b"isofarm: ") and "--progress" not in ran.words and ran.status not in (0, 2)
         return f"{command}, status {ran.status}{f': {fault_of(ran.error)}' if has_fault else ''}"
 
@@ -214,9 +223,25 @@ class Soak:
         self.hold(self.run("holds", whole, path, first, end + 1).status == 1, "a book of a range holds one more", ran)
         for book in (whole, every):
             self.hold((audit := self.run("audit", book)).out == b"true\n", "a book of a run is not true", audit)
+        self.classes_of_books((first, end), whole, every, low, high)
         self.reports(path, number, (first, end), whole, every)
         self.fronts(*self.random.choice([ran.words, joined.words, every_ran.words]))
         return whole
+
+    def flags_of_books(self):
+        return [flag for flag in FLAGS if self.random.random() < 0.5]
+
+    def classes_of_books(self, ends, whole, every, low, high):
+        """What the books of a range tell in classes: at once and of its halves, and where all is run, of which no order is missing."""
+        flags = self.flags_of_books()
+        ran, halves = self.run("classes", "--book", whole, *flags), self.run("classes", "--book", low, high, *flags)
+        all_run = self.run("classes", "--book", every, *flags)
+        self.hold(ran.status == all_run.status == 0, "books of a range have no classes", ran, all_run)
+        told = [without_name(ran, whole), without_name(halves, low, high)]
+        self.hold_same(told, "halves of a range have other classes than the whole", ran, halves)
+        self.hold(books_read_back(all_run.out).asked == ends[1] - ends[0], "a book of a range tells of more or fewer orders", all_run)
+        if ends[0] == 0:
+            self.hold_same([told[0], without_name(all_run, every)], "the orders that are skipped are in other classes", ran, all_run)
 
     def reports(self, path, number, ends, whole, every):
         """What is reported of the book of a range, reduced and not."""
@@ -257,7 +282,7 @@ class Soak:
         report = self.run("report", path)
         if join.status:
             audit, judge, beside = self.run("audit", path), self.run("judge", path, path), self.run("join", whole, path)
-            runs = (join, report, audit, judge, beside)
+            runs = (join, report, audit, judge, beside, self.run("classes", "--book", path, *self.flags_of_books()))
             self.hold_same([ran.told for ran in runs], "the commands tell different faults of a book", *runs)
             return
         joined = self.put(f"joined_{path}", join.out)
@@ -265,12 +290,15 @@ class Soak:
         self.hold_same([join.out, again.out, beside.out], "a joined book is joined to another one", join, again, beside)
         is_same = report.told == report_again.told or report_again.error == report.error.replace(path.encode(), joined.encode(), 1)
         self.hold(is_same, "a joined book has another report", report, report_again)
+        flags = self.flags_of_books()
+        classes, classes_again = (self.run("classes", "--book", one, *flags) for one in (path, joined))
+        self.hold_same([without_name(classes, path), without_name(classes_again, joined)], "a joined book has other classes", classes, classes_again)
         judge = self.run("judge", path, joined)
         self.hold(judge.told == (report.told if report.status else (0, b"matches 0\n", b"")), "a report is not equal to itself", judge, report)
         if ranks_run(join.out) <= MOST_AUDITED:
             audits = self.run("audit", path), self.run("audit", joined)
             self.hold_same([ran.told for ran in audits], "a joined book is true where it was not", *audits)
-        for words in (["join", whole, path], ["judge", whole, path], ["judge", path, whole, joined]):
+        for words in (["join", whole, path], ["classes", "--book", path, whole], ["judge", whole, path], ["judge", path, whole, joined]):
             self.run(*words)
 
     # sets
@@ -299,7 +327,7 @@ class Soak:
 
     def compared_set(self, make, maker):
         """The answers of this second implementation, of a spec, of its books or of hostile ones."""
-        kind, look = self.random.randrange(4), lambda _name, words, want: self.run(*words, want=want)
+        kind, look = self.random.randrange(5), lambda _name, words, want: self.run(*words, want=want)
         if kind == 0:
             compare_hostile.of_seed(self.random.randrange(10**9), Path(), look, Counter())
             return
@@ -311,9 +339,11 @@ class Soak:
             look("", words, want)
 
     def runs_compared(self, kind, text, path):
-        """Words, and what they tell of a spec: alone, in classes, or in books."""
+        """Words, and what they tell of a spec: alone, in classes, or in books and their classes."""
         if kind == 3:
             return compare_files.of_spec(self.random, Path(), text, path, RANKS_COMPARED)
+        if kind == 4:
+            return compare_book_classes.runs(self.random.random(), Path(), text, compare_book_classes.run_alone, RANKS_COMPARED)
         return (compare_classes if kind == 1 else compare).runs(text, self.random.random(), path)
 
     def one_set(self, number):

@@ -12,9 +12,12 @@ import time
 from pathlib import Path
 from tempfile import TemporaryDirectory
 
+from asked import Asked
+from book_classes import BookClasses, BookPage
 from books import book_text, facts_of
 from compare import PROGRAM, PROGRESS, difference, ended, expected, told
 from compare_files import answer, order, run
+from damage import text_of
 from worked import INSERT_AND_READ, LARGE, worlds_of
 
 U32, U64 = 2**32, 2**64
@@ -24,7 +27,23 @@ WORLDS = worlds_of(INSERT_AND_READ)
 FACTS = facts_of(WORLDS, 0, 2, True)
 BOOK = book_text(SPEC, FACTS).encode()
 BOOK_OF_ONE = book_text(SPEC, {fact for fact in FACTS if fact[0] == 1}).encode()
+# Two books with as many facts as are read, which are over the limit of a book together.
+MANY = 20_000_000
+FAR_BOOKS = [text_of({"facts": [[first, MANY, "ran", 0]], "format": 2, "outcomes": [[[]] * 8], "spec": LARGE}) for first in (0, MANY)]
+FAR_TEXT = b"""2 books: 40000000 of 9116650868204880000 orders, 1 outcome
+
+what orders leave is in no book, so S and R are not told
+9116650868164880000 orders are missing, the first of rank 40000000
+
+                    orders  share %  outcomes
+    W                    0        0         0  a session waits
+    D                    0        0         0  a session loses a deadlock
+    E                    0        0         0  another error of its own
+    N                    0        0         0  a step is not sent, since its session waits
+"""
 FILES = {
+    "far.book": FAR_BOOKS[0],
+    "farther.book": FAR_BOOKS[1],
     "first.spec": SPEC,
     "large.spec": LARGE.encode(),
     "long.spec": LARGE.encode() + b" #" + b"x" * 20_000,
@@ -34,14 +53,17 @@ FILES = {
     "two words.spec": SPEC,
     "all.book": BOOK,
     "one.book": BOOK_OF_ONE,
+    # Another outcome of rank 1 than the true one.
+    "clash.book": book_text(SPEC, {(1, "ran", outcome) for rank, _word, outcome in FACTS if rank == 0}).encode(),
     "mark.book": MARK + BOOK,
     "half.book": BOOK[: len(BOOK) // 2],
     "empty": b"",
 }
 GOOD = ["one first.spec 0", "check first.spec", "count first.spec", "rank first.spec a1 b1", "order first.spec 1", "show first.spec 1", "run first.spec 0 2", "join all.book", "report all.book"]
 GOOD += ["show first.spec a1 b1 --json", "classes first.spec", "classes first.spec --answers --brief", "classes first.spec --workers 16", "classes first.spec --waits --no-serial --ranks --outcomes --left", "classes first.spec --json", "holds all.book first.spec 0 2", "run first.spec 0 2 --workers 16", "audit all.book", "judge all.book all.book"]
+GOOD += ["classes --book all.book", "classes --book one.book all.book --json --ranks", "classes --outcomes --book clash.book --ranks"]
 HELP = ["help", "--help", "--version", *(f"{line} --help" for line in ("one", "check", "count", "rank", "order", "show", "classes", "run", "join", "holds", "report", "audit", "judge"))]
-FAULTS = {"one first.spec 2": 3, "classes first.spec --deadlock=c": 3, "classes --json first.spec --deadlock=c": 3, "classes first.spec --look SELECT": 3, "report one.book": 1, "count nothing": 5, "two first.spec 0": 2}
+FAULTS = {"one first.spec 2": 3, "classes first.spec --deadlock=c": 3, "classes --json first.spec --deadlock=c": 3, "classes first.spec --look SELECT": 3, "report one.book": 1, "classes --book all.book clash.book": 1, "classes --book one.book half.book": 3, "classes --book nothing": 5, "count nothing": 5, "two first.spec 0": 2}
 NO_COMMANDS = ["", "one", "one first.spec", "one first.spec x", "one first.spec -1", f"one first.spec {U64}", "two first.spec 0"]
 NO_COMMANDS += ["check", "check first.spec 0", "count", "count first.spec 0", "run first.spec 0", f"run first.spec 0 {U64}", "run first.spec 0 1 --all", "join"]
 NO_COMMANDS += [f"join{' all.book' * 1001}", "report", "report all.book all.book", "report --every all.book"]
@@ -49,6 +71,8 @@ NO_COMMANDS += [f"run first.spec 0 1 --workers{number}" for number in ("", " 0",
 NO_COMMANDS += ["rank", "rank first.spec", f"rank first.spec{' a1' * 1001}", "order", "order first.spec", "order first.spec x", "order first.spec 0 1"]
 NO_COMMANDS += ["show", "show first.spec", "show first.spec --json", f"show first.spec{' a1' * 1001}", "show first.spec 0 --text"]
 NO_COMMANDS += ["classes", "classes first.spec 0", "classes first.spec --workers 0", "classes first.spec --json --json", "classes first.spec --json=1"]
+NO_COMMANDS += ["classes --book", "classes --book --json", "classes --book all.book --json --json", "classes first.spec --book all.book", "classes --json first.spec --book all.book", f"classes --book{' all.book' * 1001}"]
+NO_COMMANDS += [f"classes --book all.book {flag}" for flag in ("--left", "--answers", "--waits", "--no-deadlock", "--look SELECT", "--workers 2", "--progress", "--every")]
 NO_COMMANDS += ["classes first.spec --look", "classes first.spec --expect", "classes first.spec --filter", "classes first.spec --expect SELECT"]
 NO_COMMANDS += ["classes first.spec --expect SELECT --brief", "classes first.spec --expect SELECT -x"]
 NO_COMMANDS += ["holds", "holds all.book first.spec 0", "holds all.book first.spec 0 x", "holds all.book first.spec 0 1 2"]
@@ -61,6 +85,7 @@ USAGES = {
     "": b"error: '" + NAME + b"' requires a subcommand but one was not provided\n"
     b"  [subcommands: check, one, count, rank, order, show, classes, run, join, holds, report, audit, judge, help]\n\nUsage: " + NAME + b" <COMMAND>\n" + TRY_HELP,
 }
+CLASSES = BookClasses(WORLDS.spec, {rank: outcome for rank, _word, outcome in FACTS})
 SHARD = 1_000
 # Seconds that a run here takes at most.
 LONGEST = 60
@@ -77,6 +102,7 @@ def unread():
     for path in ["nothing", "folder", "first.spec/x", "/proc/self/mem", *shut]:
         commands = [["one", path, "0"], ["check", path], ["count", path], ["run", path, "0", "1"], ["join", path], ["join", "all.book", path]]
         commands += [["rank", path, "a1", "b1"], ["order", path, "0"], ["show", path, "0"], ["show", path, "a1", "b1"], ["classes", path], ["classes", path, "--waits"], ["classes", path, "--json"], ["holds", path, "first.spec", "0", "1"], ["holds", "all.book", path, "0", "1"]]
+        commands += [["classes", "--book", path], ["classes", "--book", "all.book", path, "--json"]]
         commands += [["judge", path, "all.book"], ["judge", "all.book", path], ["audit", path]]
         for words in [*commands, ["report", path]]:
             yield words, line(5, f"{path}: read fault")
@@ -88,7 +114,7 @@ def marked():
         yield words, line(3, "mark.spec: spec error 4 at 0")
     yield ["one", "empty", "0"], line(3, "empty: spec error 5 at 0")
     for path in ("mark.book", "empty", "half.book"):
-        for words in (["report", path], ["join", path], ["join", "all.book", path], ["audit", path], ["judge", path, path], ["judge", "all.book", path]):
+        for words in (["classes", "--book", path], ["classes", "--brief", "--book", "all.book", path], ["report", path], ["join", path], ["join", "all.book", path], ["audit", path], ["judge", path, path], ["judge", "all.book", path]):
             yield words, line(3, f"{path}: book error 1")
 
 
@@ -118,6 +144,13 @@ def answers():
     yield from ((text.split(), (2, b"", usage)) for text, usage in USAGES.items())
     yield ["join", "one.book", "all.book"], (0, BOOK, b"")
     yield ["report", "one.book"], line(1, "one.book: missing rank 0")
+    for name, books in (("all.book", 1), ("1000 books", 1000)):
+        yield ["classes", "--book", *["all.book"] * books], (0, BookPage(CLASSES, name, Asked()).text().encode(), b"")
+    # What is not written has no limit.
+    yield ["classes", "--book", "far.book", "farther.book", "--brief"], (0, FAR_TEXT, b"")
+    yield ["join", "far.book", "farther.book"], line(3, "book error 8")
+    yield ["classes", "--book", "all.book", "one.book", "clash.book", "all.book"], line(1, "all.book: clash at rank 1")
+    yield ["classes", "--book", "clash.book", "one.book", "--json"], line(1, "clash.book: clash at rank 1")
     yield ["judge", "all.book", "one.book"], line(1, "one.book: missing rank 0")
     yield ["judge", "one.book", "nothing"], line(1, "one.book: missing rank 0")
     yield ["judge", "all.book", "all.book", "all.book"], (0, b"matches 0\n", b"")
