@@ -43,6 +43,7 @@ TESTS = {
         "books::books_are_whole_unless_memory_runs_out",
         "written_books::a_text_is_written_whole_unless_memory_runs_out",
         "read_books::a_book_without_memory_is_refused_by_name",
+        "told_books::all_is_told_unless_memory_runs_out",
     ],
     "library_tests": [
         "lines::a_value_is_made_whole_unless_memory_runs_out",
