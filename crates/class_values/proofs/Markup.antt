@@ -114,7 +114,7 @@ all-tables-free tables left = simp (list_any-append, tables-free left 0 tables)
 
 left-free : (by : ClassKind) (tables : List Table) (shows : Shown) → IsFree (left_part by tables shows)
 left-free Shows tables shows = simp (list_any-append, all-tables-free tables shows.left, open-free shows.rests)
-left-free Answers tables shows = simp (list_any-append, all-tables-free tables shows.left)
+left-free Answers tables shows = all-tables-free tables shows.left
 left-free Outcomes tables shows = refl
 
 shows-free : (p : Page) (shows : Shown) → IsFree (shows_json p shows)
@@ -166,7 +166,7 @@ missing-free (Some m) = simp (list_any-append, decimal-free m.ranks, decimal-fre
 missing-by-free : (by : ClassKind) (m : Option Missing) → IsFree (missing_by by m)
 missing-by-free Shows m = refl
 missing-by-free Answers m = refl
-missing-by-free Outcomes m = simp (list_any-append, missing-free m)
+missing-by-free Outcomes m = missing-free m
 
 counts-free : (p : Page) → IsFree (counts_json p)
 counts-free p =

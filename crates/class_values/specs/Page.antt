@@ -22,11 +22,15 @@ missing_by Shows m = []
 missing_by Answers m = []
 missing_by Outcomes m = codes ",\"missing\":" ++ missing_json m
 
--- of which spec the classes are, how many orders it has, how many are told of, and which are missing
-abbrev pub counts_json : Page → List ℕ
-counts_json p =
+-- of which spec the classes are, how many orders it has, and how many are told of
+abbrev pub orders_json : Page → List ℕ
+orders_json p =
     (codes "{\"format\":1,\"name\":" ++ string_json p.path) ++ (codes ",\"orders\":" ++ decimal p.orders)
-    ++ (codes ",\"asked\":" ++ decimal p.totals.all.orders) ++ missing_by p.by p.missing
+    ++ (codes ",\"asked\":" ++ decimal p.totals.all.orders)
+
+-- and which are missing
+abbrev pub counts_json : Page → List ℕ
+counts_json p = orders_json p ++ missing_by p.by p.missing
 
 -- what the numbers of sessions and steps stand for, by the session and the statements of each step
 abbrev pub numbers_json : Page → List ℕ → List (List ℕ) → List ℕ

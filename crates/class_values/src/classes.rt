@@ -27,14 +27,21 @@ pub fn classes_json(alloc: Global, sheet: &Sheet<'_>) -> Result<Vec<u8>, AllocEr
     Ok(out)
 }
 
-/// Pushes of which spec the classes are, and of how many orders.
+/// Pushes of which spec the classes are, of how many orders, and which are missing.
 fn push_counts(page: &Page<'_>, out: &mut Vec<u8>) -> Result<(), AllocError>
     ensures { OnOk result (out.new.items ≡ out.old.items ++ spec.counts_json page.now) }
 {
+    push_orders(page, out)?;
+    push_missing_by(page.by, page.missing, out)
+}
+
+/// Pushes of which spec the classes are, and of how many orders.
+fn push_orders(page: &Page<'_>, out: &mut Vec<u8>) -> Result<(), AllocError>
+    ensures { OnOk result (out.new.items ≡ out.old.items ++ spec.orders_json page.now) }
+{
     push_string("{\"format\":1,\"name\":", page.path.as_bytes(), out)?;
     push_count(",\"orders\":", page.orders, out)?;
-    push_count(",\"asked\":", page.totals.all.orders, out)?;
-    push_missing_by(page.by, page.missing, out)
+    push_count(",\"asked\":", page.totals.all.orders, out)
 }
 
 /// Pushes which orders are missing, where books are told of.
