@@ -1,5 +1,5 @@
 -- What is written of the classes of books, from the bytes of their files.
-use Rattle.std.specs.Prelude.{◌≡◌, ℕ, true, false, List, [], ◌∷◌, ◌++◌, length, Option, Result, Ok, Err, codes, decimal, ⊤}
+use Rattle.std.specs.Prelude.{◌≡◌, ℕ, ◌==◌, cond, false, List, [], ◌++◌, get_or, length, Option, Result, Ok, Err, codes, decimal, ⊤}
 use Rattle.std.specs.Option.{is_some}
 use Rattle.bound_specs.specs.Spec.{SpecFile, ranks}
 use Rattle.transcripts.specs.Counted.{Wrote, Stopped}
@@ -19,9 +19,7 @@ use Rattle.class_commands.specs.declared.booking.BookClassesFault.TheVariants.{J
 
 -- the path of the one book, or how many they are
 abbrev pub books_name : List (List ℕ) → List ℕ
-books_name [] = codes "0 books"
-books_name (path ∷ []) = path
-books_name (path ∷ other ∷ paths) = decimal (length (path ∷ other ∷ paths)) ++ codes " books"
+books_name paths = cond (length paths == 1) (get_or paths 0 []) (decimal (length paths) ++ codes " books")
 
 abbrev pub outcomes_page : List (List ℕ) → SpecFile → BookClasses → WantedOutcomes → List (List RankRun) → Page
 outcomes_page paths file x wanted runs = record {

@@ -1,6 +1,6 @@
 //! What books tell of orders, in classes, from the files of the books to what is written.
 
-ghost use Rattle.std.specs.Prelude.{◌≡◌, ◌<◌, IfErr, IfOk, length, map, string_bytes};
+ghost use Rattle.std.specs.Prelude.{◌≡◌, ◌<◌, ◌++◌, IfErr, IfOk, codes, decimal, length, map, string_bytes};
 ghost use Rattle.transcripts.specs.Counted.{failures_of};
 ghost use Rattle.book_rows.specs.Classes.{IsClassedBook};
 ghost use Rattle.class_commands.specs.Booking.{IsBookClassesRun, IsBookText, books_name};
@@ -132,20 +132,25 @@ fn outcomes_told(
         with_left: false,
         looks: &[],
     };
-    written_page(alloc, spec, &page, wanted.json)
+    let written = written_page(alloc, spec, &page, wanted.json)?;
+    Ok(written)
 }
 
 /// What books are called: the path of the one, or how many they are.
 fn name_of(alloc: Global, paths: &[&str]) -> Result<String, AllocError>
     ensures { IfOk result (λ name. string_bytes name ≡ books_name (map (λ p. p.now) paths.now)) }
 {
-    let mut name = String::new(alloc);
-    match paths {
-        [path] => name.push_str(path)?,
-        _ => {
-            name.push_str(Buffer::new().format(paths.len()))?;
-            name.push_str(" books")?;
-        }
+    if paths.len() == 1 {
+        return String::from_str(alloc, paths[0]);
     }
+    many_books(alloc, paths.len())
+}
+
+fn many_books(alloc: Global, number: usize) -> Result<String, AllocError>
+    ensures { IfOk result (λ name. string_bytes name ≡ decimal number ++ codes " books") }
+{
+    let mut name = String::new(alloc);
+    name.push_str(Buffer::new().format(number))?;
+    name.push_str(" books")?;
     Ok(name)
 }

@@ -4,7 +4,8 @@ ghost use Rattle.std.specs.Prelude.{◌≡◌, IfOk, map};
 ghost use Rattle.std.specs.List.{list_all};
 ghost use Rattle.class_texts.specs.Expected.{is_met};
 ghost use Rattle.class_commands.specs.Classing.{IsFinding, expectation_over, has_some, look_over, seen_of};
-ghost use Rattle.class_commands.specs.Parts.{IsTextOf, finding_by, written_bytes};
+ghost use Rattle.class_commands.specs.Parts.{IsTextOf, finding_by};
+ghost use Rattle.class_commands.specs.Written.{written_bytes};
 
 use crate::classing::grouping;
 use crate::written::{Written, ranks_of, written_page};

@@ -10,7 +10,7 @@ returns c =
     let classes = c.args.found.now.classes in (
       c.in_ok-ranks.ranks.items,
       c.in_ok-ranks.ensures,
-      subst (λ (p : Page). IsWritten c.args.wanted.now.json spec.text spec p (written_bytes c.written_page.result))
+      subst (λ (p : Page). IsWritten c.args.wanted.now.json spec.text spec p (written_bytes c.in_ok-written.written))
           (λ k. let p : Page = record {
             path = (c.as_str.ensures ∙ c.in_ok-name.ensures) k;
             orders = c.ranks.ensures k;
@@ -29,5 +29,5 @@ returns c =
             with_outcomes = c.args.wanted.now.outcomes;
             with_left = false;
             looks = [];
-          } in p) c.written_page.ensures,
+          } in p) c.in_ok-written.ensures,
     )
