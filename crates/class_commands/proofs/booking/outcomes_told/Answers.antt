@@ -12,7 +12,7 @@ returns c =
       c.in_ok-ranks.ensures,
       subst (λ (p : Page). IsWritten c.args.wanted.now.json spec.text spec p (written_bytes c.in_ok-written.written))
           (λ k. let p : Page = record {
-            path = (c.as_str.ensures ∙ c.in_ok-name.ensures) k;
+            path = (c.as_str.ensures.value ∙ c.in_ok-name.ensures) k;
             orders = c.ranks.ensures k;
             sessions = c.session_names.ensures.are k;
             steps = c.step_names.ensures.are k;
