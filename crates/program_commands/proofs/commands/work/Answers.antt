@@ -51,7 +51,7 @@ returns-in-Outcomes-clause-done g c =
     subst (λ a. IsDone (g.O.Opener.bytes c.args.opener.now) g.W.Write.contents c.args.out.now c.outcomes_of_files.new.out a c.outcomes_of_files.result)
     (sym c.in-Outcomes.is)
     (subst (λ ps. IsTold (IsBookClassesRun (g.O.Opener.bytes c.args.opener.now) (map (λ (p : Bor (List ℕ)). p.now) ps) g.W.Write.contents c.args.out.now
-    c.outcomes_of_files.new.out c.in-Outcomes.wanted.now) (λ error told. outcomes_told ps error ≡ Some told)
+    c.outcomes_of_files.new.out c.in-Outcomes.wanted) (λ error told. outcomes_told ps error ≡ Some told)
     c.outcomes_of_files.result) c.as_slice-in-Outcomes.ensures.all c.outcomes_of_files.ensures.done)
 
 pub returns-in-Join-clause-done : goal.returns-in-Join-clause-done
