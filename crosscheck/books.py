@@ -1,4 +1,4 @@
-"""Books: the facts of ranks of one spec; what is missing, and what they tell of each rank.
+"""Books: the facts of ranks of one spec; what is missing or to be run, and what they tell of each rank.
 
 usage: python3 crosscheck/books.py SPEC {FIRST END reduce|every}
 
@@ -59,6 +59,27 @@ def values(spec, facts):
     for rank, word, value in sorted(facts, key=lambda one: one[0]):
         told.setdefault(rank, set()).update({value} if word == "ran" else told.get(leads_to(spec, rank, value), set()))
     return told
+
+
+def least_clash(spec, facts):
+    """The first rank with several outcomes, if there is one."""
+    return min((rank for rank, told in values(spec, facts).items() if len(told) > 1), default=None)
+
+
+def gaps(ranks, count):
+    """The longest ranges of the numbers below `count` that are none of these: the first of each, and the one behind its last."""
+    stops = [-1, *sorted(ranks), count]
+    return [(before + 1, stop) for before, stop in zip(stops, stops[1:]) if before + 1 < stop]
+
+
+def untold(spec, facts):
+    """The ranges of ranks of which nothing is told: no outcome is recorded there, nor where their swaps lead."""
+    return gaps({rank for rank, told in values(spec, facts).items() if told}, spec.ranks())
+
+
+def to_run(spec, facts):
+    """The ranges of ranks that have no fact."""
+    return gaps({rank for rank, _word, _value in facts}, spec.ranks())
 
 
 def report(spec, facts):

@@ -2,8 +2,8 @@
 
 usage: python3 crosscheck/compare_files.py KIND FIRST_SEED SEEDS
 
-`count`, `rank`, `order` and `run` are given each spec, `join`, `holds`, `report`, `audit` and `judge` books of its ranks: in both formats and any spelling, with facts that are
-not true, of different specs, damaged as `damage.py` does, and files that are not there.
+`count`, `rank`, `order` and `run` are given each spec, `join`, `missing`, `holds`, `report`, `audit` and `judge` books of its ranks: in both
+formats and any spelling, with facts that are not true, of different specs, damaged as `damage.py` does, and files that are not there.
 """
 
 import json
@@ -14,7 +14,7 @@ from random import Random
 from tempfile import TemporaryDirectory
 
 from book_file import NoBook, read_book, text_in_format_1
-from books import book_text, facts_of, false_rank, first_difference, report, report_text
+from books import book_text, facts_of, false_rank, first_difference, least_clash, report, report_text, to_run, untold
 from compare import PROGRAM, WORDS, compare, ended, usage
 from compare_books import MOST_RANKS, cut
 from damage import DAMAGES, spelled
@@ -27,6 +27,7 @@ from worked import EMPTY_BOOK, LARGE
 
 MOST_A_RUN = 4_096_000
 RANKS_OF_LARGE = 40
+RANKS_OF_ALL = 100
 RANKS_OF_DAMAGED = 12
 DAMAGED_A_SPEC = 12
 MOST_BOOKS = 1000
@@ -117,6 +118,21 @@ def join(*paths):
     return book_text(*joined_at(*paths)).encode()
 
 
+def missing(lines, *paths):
+    text, facts = joined_at(*paths)
+    spec = spec_of(text)
+    clash = least_clash(spec, facts)
+    if clash is not None:
+        raise fault(1, paths[0], f"clash at rank {clash}")
+    if lines:
+        told = [b"%d %d\n" % ends for ends in to_run(spec, facts)]
+    else:
+        told = [b"%d\n" % first if first + 1 == end else b"%d-%d\n" % (first, end - 1) for first, end in untold(spec, facts)]
+    if told:
+        raise Fault(1, b"".join(told), b"")
+    return b""
+
+
 def reported_at(path):
     """The text of a book and its facts, and what it reports."""
     text, facts = book_at(path)
@@ -169,6 +185,14 @@ def joining(*paths):
     return ["join", *paths], answer(join, *paths)
 
 
+def missing_from(random, *paths):
+    lines = random.random() < 0.5
+    words = ["missing", *paths]
+    if lines:
+        words.insert(random.randint(1, len(words)), "--lines")
+    return words, answer(missing, lines, *paths)
+
+
 def reporting(path):
     return ["report", path], answer(report_of, path)
 
@@ -183,11 +207,28 @@ def judging(*paths):
 
 def running(random, text, path, first, end, how):
     words = ["run", path, str(first), str(end)]
+    is_whole = (first, end) == (0, ranks_of(text))
+    if is_whole and random.random() < 0.5:
+        words = ["run", path]
     if how == "every":
         words.insert(random.randint(1, len(words)), "--every")
     if random.random() < 0.5:
         words += ["--workers", str(random.randint(1, 16))]
     return words, answer(run, text, path, first, end, how)
+
+
+def running_all(random, text, path, how):
+    """All ranks where no range is named. They may be too many for one run."""
+    words = ["run", path, *["--every"] * (how == "every")]
+    return words, answer(run, text, path, 0, ranks_of(text) or 0, how)
+
+
+def ranks_of(text):
+    """How many ranks the spec of a text has; none where it is no spec."""
+    try:
+        return spec_of(text).ranks()
+    except Refusal:
+        return None
 
 
 def no_ranges(random, number):
@@ -238,6 +279,11 @@ def of_books(random, folder, text, parts):
     yield joining(*random.sample(often, len(often)))
     whole = put(folder, "whole", file_text(random, text, set().union(*parts)))
     yield joining(whole, *random.sample(paths, random.randint(0, len(paths))))
+    yield missing_from(random, whole)
+    yield missing_from(random, *random.sample(paths, random.randint(1, len(paths))))
+    holed = put(folder, "holed", file_text(random, text, some_of(random, set().union(*parts), MOST_RANKS)))
+    yield missing_from(random, holed)
+    yield missing_from(random, random.choice(paths), holed)
     yield from (reporting(path) for path in (whole, random.choice(paths)))
     yield auditing(random.choice([whole, *paths]))
     yield judging(whole, *random.choices([whole, whole, *paths], k=random.randint(1, 3)))
@@ -258,6 +304,8 @@ def of_false_books(random, folder, text, facts):
     yield auditing(false)
     yield judging(*random.choices([false, false, true], k=random.randint(2, 4)))
     yield joining(*random.sample([false, true], random.randint(1, 2)))
+    yield missing_from(random, *random.sample([false, true], random.randint(1, 2)))
+    yield missing_from(random, false)
 
 
 def of_many_books(random, folder, text, facts):
@@ -273,6 +321,7 @@ def of_other_books(random, folder, text, facts):
     others = [book, other, put(folder, "empty", EMPTY_BOOK.encode()), *no_files]
     yield joining(book, *random.choices(others, k=random.randint(1, 4)))
     yield joining(*random.choices(others, k=2))
+    yield missing_from(random, *random.choices([book, *others], k=random.randint(1, 3)))
     yield random.choice([reporting, auditing])(random.choice(no_files))
     yield judging(random.choice([book, book, *others]), *random.choices([book, *others], k=random.randint(1, 4)))
 
@@ -284,8 +333,10 @@ def of_damaged_books(random, folder, text, facts):
         damaged = put(folder, damage.__name__, damage(random, json.loads(written)))
         good = put(folder, "good", file_text(random, text, few))
         paths = random.choice([[damaged], [damaged], [damaged, good], [good, damaged, good]])
-        command = random.choice([reporting, reporting, auditing, auditing, joining, joining, joining, judging])
-        if command is judging:
+        command = random.choice([reporting, reporting, auditing, auditing, joining, joining, joining, judging, missing])
+        if command is missing:
+            yield missing_from(random, *paths)
+        elif command is judging:
             yield judging(*random.choice([[damaged, good], [good, damaged], [good, good, damaged], [damaged, damaged]]))
         else:
             yield joining(*paths) if command is joining else command(damaged)
@@ -309,6 +360,7 @@ def of_spec(random, folder, text, path, most):
         spec = spec_of(text)
     except Refusal:
         yield running(random, text, path, *random.choice([(0, 1), (1, 0)]), "reduce")
+        yield running_all(random, text, path, "reduce")
         yield ["order", path, "0"], answer(order, text, path, 0)
         yield ["rank", path, "s"], answer(rank, text, path, ["s"])
         return
@@ -317,6 +369,8 @@ def of_spec(random, folder, text, path, most):
     yield from (running(random, text, path, *shard) for shard in shards)
     refused = [(*ends, random.choice(["reduce", "every"])) for ends in no_ranges(random, spec.ranks())]
     yield from (running(random, text, path, *shard) for shard in refused)
+    if spec.ranks() <= RANKS_OF_ALL or spec.ranks() > MOST_A_RUN:
+        yield running_all(random, text, path, random.choice(["reduce", "every"]))
     try:
         parts = [facts_of(worlds_of(text), first, end, how == "reduce") for first, end, how in shards]
     except Refusal:
@@ -347,8 +401,10 @@ def kind_of(out):
     told = [kind for word, kind in VERDICTS.items() if not out.startswith(b"{") and word in out]
     if told:
         return told
+    if not out:
+        return ["nothing is missing"]
     if not out.startswith(b"{"):
-        return ["a number"] if out.strip().isdigit() else ["an order"]
+        return ["a number"] if out.strip().isdigit() else ["ranges"] if not out.strip(b"0123456789- \n") else ["an order"]
     facts = out.split(b',"format":2')[0]
     return ["a book"] + [f"a book: {word}" for word in ("ran", "swap") if f',"{word}",'.encode() in facts]
 

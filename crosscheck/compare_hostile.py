@@ -4,7 +4,7 @@ usage: python3 crosscheck/compare_hostile.py FIRST_SEED SEEDS [FOLDER]
 
 Of the spec of each seed a true book is made, of all its ranks where they are few. Ten hostile ones are made of it: damaged as
 `damage.py` does, lawful and mostly untrue as `untrue.py` does, or both, in both formats and any spelling. Each is given to `audit`
-and `report`, to `join` alone and beside others, and to `judge` as the judged book and as an accepted one, sometimes beside the book of
+and `report`, to `join` and `missing` alone and beside others, and to `judge` as the judged book and as an accepted one, sometimes beside the book of
 another spec. The last lines count what was made, and how much of it is a book all the same. The books are left in FOLDER, where one is named.
 """
 
@@ -19,7 +19,7 @@ from tempfile import TemporaryDirectory
 from book_file import NoBook, read_book, text_in_format_1
 from books import book_text, facts_of
 from compare import PROGRAM, Comparison, ended
-from compare_files import auditing, file_text, joining, judging, kind_of, put, reporting, shards_of, some_of, worlds_of
+from compare_files import auditing, file_text, joining, judging, kind_of, missing_from, put, reporting, shards_of, some_of, worlds_of
 from damage import DAMAGES
 from generate import KINDS, Maker
 from refusal import Refusal
@@ -70,6 +70,7 @@ def runs(random, path, true, others, stranger):
     yield reporting(path)
     yield joining(path)
     yield joining(*random.sample([path, true, *others[-1:]], random.randint(2, 2 + len(others[-1:]))))
+    yield missing_from(random, *random.choice([[path], [path, true], [true, path]]))
     yield judging(path, *random.sample([true, true, path, *others[-2:], stranger], random.randint(1, 2)))
     yield judging(true, *random.choice([[path], [path], [path], [path, true], [*others[-2:], path]]))
 

@@ -81,7 +81,7 @@ def keep_spec(block, folder):
 
 def lacks_parallel(commands):
     """Whether some command needs GNU parallel, and it is not there."""
-    return any("farm/parallel" in text for text, _lines in commands) and not shutil.which("parallel")
+    return any(re.search(r"\bparallel ", text) for text, _lines in commands) and not shutil.which("parallel")
 
 
 def is_left_out(commands, folder):

@@ -2,6 +2,7 @@
 
 import re
 
+from checks import FAULTS as MOST_FAULTS
 from checks import place_lines, without_sentence
 from compare import PROGRESS
 from streams import progress_fault
@@ -14,7 +15,7 @@ NAME = r'"(?:[^"\\]|\\.)*"'
 # Classes of books are another command than those of a spec.
 CLASSES_OF_BOOKS = "classes --book"
 OF_SPECS = {"one", "check", "count", "rank", "order", "show", "classes", "run"}
-OF_BOOKS, OF_REPORTS = {"join", "holds", "report", "audit", "judge", CLASSES_OF_BOOKS}, {"report", "judge"}
+OF_BOOKS, OF_REPORTS = {"join", "missing", "holds", "report", "audit", "judge", CLASSES_OF_BOOKS}, {"report", "judge"}
 COMMANDS = OF_SPECS | OF_BOOKS
 NAMED, UNNAMED = True, False
 # A fault: its status, its text, whether a path stands before it, and the commands that tell it. There is memory, so that none lacks it.
@@ -33,10 +34,10 @@ FAULTS = [
     (3, "shard error [12]", NAMED, {"run"}),
     (3, "book error [1-8]", NAMED, OF_BOOKS),
     (3, "book error 8", UNNAMED, {"run", "join"}),
-    (3, "books of different specs", NAMED, {"join", CLASSES_OF_BOOKS}),
+    (3, "books of different specs", NAMED, {"join", "missing", CLASSES_OF_BOOKS}),
     (3, "too many ranks", NAMED, OF_REPORTS),
     (1, f"(?:missing|clash at) rank {N}", NAMED, OF_REPORTS),
-    (1, f"clash at rank {N}", NAMED, {CLASSES_OF_BOOKS}),
+    (1, f"clash at rank {N}", NAMED, {"missing", CLASSES_OF_BOOKS}),
     (5, "read fault", NAMED, COMMANDS),
     (5, "write fault", UNNAMED, COMMANDS),
 ]
@@ -44,10 +45,11 @@ CLASSES_TITLE = rb"[^\n]+: (?:%(n)s of )?%(n)s orders?, %(n)s (?:class(?:es)?|an
 OUTCOMES_TITLE = rb"[^\n]+: (?:%(n)s of )?%(n)s orders?, %(n)s outcomes?\n\nwhat orders leave is in no book, so S and R are not told\n"
 MISSING = rb"(?:no order is missing|1 order is missing, of rank %(n)s|%(n)s orders are missing, the first of rank %(n)s)\n"
 BOOK = rb'\{"facts":\[.*\],"format":2,"outcomes":\[.*\],"spec":".*"\}\n'
+IDLE = [b"isolation level", b"SET", b"NOT NULL", b"teardown", b"marker"]
 # What stands on standard output where no fault is told.
 ANSWERS = {
     ("one", 0): rb"rank %(n)s\nsession .+\n",
-    ("check", 0): rb"sessions %(n)s\nsteps %(n)s\nranks %(n)s\n",
+    ("check", 0): rb"sessions %(n)s\nsteps %(n)s\nranks %(n)s\n" + b"".join(b"(?:no effect: " + kind + b", lines(?: %(n)s)+\n)?" for kind in IDLE),
     ("count", 0): rb"%(n)s\n",
     ("rank", 0): rb"%(n)s\n",
     ("order", 0): rb"[^ \n][^\n]*\n",
@@ -57,6 +59,8 @@ ANSWERS = {
     (CLASSES_OF_BOOKS, 0): rb'\{"format":1,[^\n]*"missing":[^\n]*\}\n|' + OUTCOMES_TITLE + MISSING + rb"\n.+\n",
     ("run", 0): BOOK,
     ("join", 0): BOOK,
+    ("missing", 0): rb"",
+    ("missing", 1): rb"(?:%(n)s(?:-%(n)s)?\n)+|(?:%(n)s %(n)s\n)+",
     ("holds", 0): rb"true\n",
     ("holds", 1): rb"another spec\n|missing rank %(n)s\n",
     ("report", 0): rb"rank 0\nsession .+\n",
@@ -92,10 +96,34 @@ def wrong_in_fault(words, status, error, bytes_of):
     told, path = found
     places = b""
     if words[0] == "check" and "place" in told.groupdict():
-        _status, _out, error = without_sentence((status, b"", error))
-        places = place_lines(bytes_of(path), int(told["place"]), path)
+        text, (_status, _out, error) = bytes_of(path), without_sentence((status, b"", error))
+        places = place_lines(text, int(told["place"]), path)
+        rest = error.removeprefix(line).removeprefix(places)
+        if rest and error.startswith(line + places):
+            return wrong_in_others(text, path, rest)
     first = places.split(b"\n")[0].decode()
     return None if error == line + places else f"behind the fault line stands something else than {f'the place {first}' if first else 'nothing'}"
+
+
+def wrong_in_others(text, path, told):
+    """What is wrong with what stands behind the first fault of a check: other faults, without their sentences."""
+    before, count = -1, 0
+    while told:
+        found = re.match(rb"also " + re.escape(path.encode()) + rb":([0-9]+):([0-9]+)\n", told)
+        if not found:
+            return "behind the place of the first fault stands no other one"
+        lines = text.split(b"\n")
+        line, column = int(found[1]), int(found[2])
+        if not 1 <= line <= len(lines):
+            return f"the file has no line {line}"
+        place = sum(len(one) + 1 for one in lines[: line - 1]) + len(lines[line - 1].decode()[: column - 1].encode())
+        want = b"also " + place_lines(text, place, path)
+        if not told.startswith(want):
+            return f"another fault is not told as one of line {line}, column {column}"
+        if place <= before:
+            return "other faults are not in the order of their places"
+        before, count, told = place, count + 1, told.removeprefix(want)
+    return None if count < MOST_FAULTS else f"{count} other faults are told"
 
 
 def progress_of(words, error, seconds):

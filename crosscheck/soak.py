@@ -155,7 +155,7 @@ class Soak:
             told = [first_line(ran) for ran in (check, count, one, run)]
             self.hold_same(told, "the commands tell different faults of a spec", check, count, one, run)
             return None, False
-        self.hold(check.out.endswith(b"\nranks " + count.out), "check and count tell different numbers", check, count)
+        self.hold(b"\nranks " + count.out in check.out, "check and count tell different numbers", check, count)
         self.hold_same([(ran.status, ran.error) for ran in (one, run)], "one and run tell different starts", one, run)
         return int(count.out), one.status == 0
 
@@ -221,12 +221,27 @@ class Soak:
         self.hold_same([one.out for one in (ran, again, joined, alone)], "books of a range differ", ran, again, joined, alone)
         self.hold(self.run("holds", whole, path, first, end).status == 0, "a book of a range does not hold it", ran)
         self.hold(self.run("holds", whole, path, first, end + 1).status == 1, "a book of a range holds one more", ran)
+        self.missing(number, (first, end), whole, low, high)
         for book in (whole, every):
             self.hold((audit := self.run("audit", book)).out == b"true\n", "a book of a run is not true", audit)
         self.classes_of_books((first, end), whole, every, low, high)
         self.reports(path, number, (first, end), whole, every)
         self.fronts(*self.random.choice([ran.words, joined.words, every_ran.words]))
         return whole
+
+    def missing(self, number, ends, whole, low, high):
+        """What the book of a range does not have: the ranks before it and behind it, at once and of its halves."""
+        first, end = ends
+        wanted = [(0, first)] * (first > 0) + [(end, number)] * (end < number)
+        lines = b"".join(b"%d %d\n" % one for one in wanted)
+        for books in ([whole], [high, low]):
+            ran = self.run("missing", *books, "--lines")
+            self.hold((ran.status, ran.out) == (int(bool(wanted)), lines), "other ranks are to be run than those of no range", ran)
+        ran, halves = self.run("missing", whole), self.run("missing", low, high)
+        self.hold_same([ran.told, halves.told], "halves of a range miss other ranks than the whole", ran, halves)
+        asked = number - books_read_back(self.run("classes", "--book", whole).out).asked
+        told = [[int(word) for word in line.split(b"-")] for line in ran.out.splitlines()]
+        self.hold(sum(one[-1] - one[0] + 1 for one in told) == asked, "other orders are missing than classes have", ran)
 
     def flags_of_books(self):
         return [flag for flag in FLAGS if self.random.random() < 0.5]
@@ -282,7 +297,7 @@ class Soak:
         report = self.run("report", path)
         if join.status:
             audit, judge, beside = self.run("audit", path), self.run("judge", path, path), self.run("join", whole, path)
-            runs = (join, report, audit, judge, beside, self.run("classes", "--book", path, *self.flags_of_books()))
+            runs = (join, report, audit, judge, beside, self.run("classes", "--book", path, *self.flags_of_books()), self.run("missing", path))
             self.hold_same([ran.told for ran in runs], "the commands tell different faults of a book", *runs)
             return
         joined = self.put(f"joined_{path}", join.out)
@@ -298,7 +313,7 @@ class Soak:
         if ranks_run(join.out) <= MOST_AUDITED:
             audits = self.run("audit", path), self.run("audit", joined)
             self.hold_same([ran.told for ran in audits], "a joined book is true where it was not", *audits)
-        for words in (["join", whole, path], ["classes", "--book", path, whole], ["judge", whole, path], ["judge", path, whole, joined]):
+        for words in (["join", whole, path], ["missing", whole, path], ["missing", path, "--lines"], ["classes", "--book", path, whole], ["judge", whole, path], ["judge", path, whole, joined]):
             self.run(*words)
 
     # sets

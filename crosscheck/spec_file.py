@@ -45,6 +45,8 @@ class SpecText:
     sessions: list
     lines: list
     has_lines: bool
+    teardowns: list  # where the text of each begins
+    markers: list  # where the parenthesis of each item that has some stands
 
 
 def refuse(kind, place):
@@ -100,6 +102,7 @@ class Reader(Tokens):
     def __init__(self, text):
         super().__init__(text, 0, token_at)
         self.steps = {}
+        self.teardowns, self.markers = [], []
 
     def at(self, *words):
         return self.peek().kind == "keyword" and self.peek().value in words
@@ -115,6 +118,13 @@ class Reader(Tokens):
     def block(self):
         return self.need("block").value
 
+    def teardown(self):
+        """Whether a teardown stands here, which is passed over."""
+        if not self.take_if("teardown"):
+            return False
+        self.teardowns.append(self.block().start)
+        return True
+
     def need_first(self, word, *after):
         """The first session of a file, or the first step of a session."""
         if self.at(word):
@@ -126,8 +136,7 @@ class Reader(Tokens):
         setups, sessions, lines = [], [], []
         while self.take_if("setup"):
             setups.append(self.block())
-        if self.take_if("teardown"):
-            self.block()
+        self.teardown()
         self.need_first("session", "permutation")
         while self.take_if("session"):
             sessions.append(self.session({session.name for session in sessions}))
@@ -138,7 +147,7 @@ class Reader(Tokens):
                 refuse(Kind.TOO_LARGE, word.start)
             lines.append(self.line())
         self.need("end")
-        return SpecText(setups, sessions, lines, has_lines)
+        return SpecText(setups, sessions, lines, has_lines, self.teardowns, self.markers)
 
     def session(self, names):
         name = self.need("name")
@@ -147,9 +156,7 @@ class Reader(Tokens):
         session = Session(name.value)
         if self.take_if("setup"):
             session.setup = self.block()
-        is_torn_down = self.take_if("teardown")
-        if is_torn_down:
-            self.block()
+        is_torn_down = self.teardown()
         self.need_first("step", "permutation", "session")
         while self.take_if("step"):
             step = self.need("name")
@@ -157,8 +164,8 @@ class Reader(Tokens):
                 refuse(Kind.DUPLICATE_STEP, step.start)
             self.steps[step.value] = len(self.steps)
             session.steps.append((step.value, self.block()))
-        if not is_torn_down and self.take_if("teardown"):
-            self.block()
+        if not is_torn_down:
+            self.teardown()
         return session
 
     def step(self, name):
@@ -178,7 +185,7 @@ class Reader(Tokens):
             refuse(Kind.TOO_LARGE, name.start)
         step = self.step(name)
         if self.peek().kind == "(":
-            self.take()
+            self.markers.append(self.take().start)
             self.marker()
             while self.peek().kind == ",":
                 self.take()

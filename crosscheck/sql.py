@@ -65,11 +65,12 @@ class Not:
 
 @dataclass
 class Declared:
-    """A column of CREATE TABLE, and how often it is called the primary key."""
+    """A column of CREATE TABLE, how often it is called the primary key, and whether it is said that it is not null."""
 
     name: str
     is_text: bool
     keys: int
+    is_not_null: bool = False
 
 
 @dataclass
@@ -119,7 +120,7 @@ class Lock:
 
 @dataclass
 class Begin:
-    pass
+    has_level: bool
 
 
 @dataclass
@@ -315,6 +316,7 @@ class Reader(Tokens):
                 column.keys += 1
             else:
                 self.word("null")
+                column.is_not_null = True
         columns.append(column)
 
     def insert(self):
@@ -400,14 +402,15 @@ class Reader(Tokens):
         return self.isolation()
 
     def isolation(self):
-        if self.take_if("isolation"):
+        has_level = self.take_if("isolation") is not None
+        if has_level:
             self.word("level")
             level = self.word("serializable", "repeatable", "read")
             if level == "repeatable":
                 self.word("read")
             elif level == "read":
                 self.word("committed", "uncommitted")
-        return Begin()
+        return Begin(has_level)
 
     def end(self, keeps):
         self.take_if("work", "transaction")

@@ -61,9 +61,10 @@ FILES = {
 }
 GOOD = ["one first.spec 0", "check first.spec", "count first.spec", "rank first.spec a1 b1", "order first.spec 1", "show first.spec 1", "run first.spec 0 2", "join all.book", "report all.book"]
 GOOD += ["show first.spec a1 b1 --json", "classes first.spec", "classes first.spec --answers --brief", "classes first.spec --workers 16", "classes first.spec --waits --no-serial --ranks --outcomes --left", "classes first.spec --json", "holds all.book first.spec 0 2", "run first.spec 0 2 --workers 16", "audit all.book", "judge all.book all.book"]
+GOOD += ["run first.spec", "missing one.book", "missing one.book --lines"]
 GOOD += ["classes --book all.book", "classes --book one.book all.book --json --ranks", "classes --outcomes --book clash.book --ranks"]
-HELP = ["help", "--help", "--version", *(f"{line} --help" for line in ("one", "check", "count", "rank", "order", "show", "classes", "run", "join", "holds", "report", "audit", "judge"))]
-FAULTS = {"one first.spec 2": 3, "classes first.spec --deadlock=c": 3, "classes --json first.spec --deadlock=c": 3, "classes first.spec --look SELECT": 3, "report one.book": 1, "classes --book all.book clash.book": 1, "classes --book one.book half.book": 3, "classes --book nothing": 5, "count nothing": 5, "two first.spec 0": 2}
+HELP = ["help", "--help", "--version", *(f"{line} --help" for line in ("one", "check", "count", "rank", "order", "show", "classes", "run", "join", "missing", "holds", "report", "audit", "judge"))]
+FAULTS = {"one first.spec 2": 3, "classes first.spec --deadlock=c": 3, "classes --json first.spec --deadlock=c": 3, "classes first.spec --look SELECT": 3, "report one.book": 1, "classes --book all.book clash.book": 1, "missing all.book clash.book": 1, "missing nothing": 5, "run large.spec": 3, "classes --book one.book half.book": 3, "classes --book nothing": 5, "count nothing": 5, "two first.spec 0": 2}
 NO_COMMANDS = ["", "one", "one first.spec", "one first.spec x", "one first.spec -1", f"one first.spec {U64}", "two first.spec 0"]
 NO_COMMANDS += ["check", "check first.spec 0", "count", "count first.spec 0", "run first.spec 0", f"run first.spec 0 {U64}", "run first.spec 0 1 --all", "join"]
 NO_COMMANDS += [f"join{' all.book' * 1001}", "report", "report all.book all.book", "report --every all.book"]
@@ -76,15 +77,21 @@ NO_COMMANDS += [f"classes --book all.book {flag}" for flag in ("--left", "--answ
 NO_COMMANDS += ["classes first.spec --look", "classes first.spec --expect", "classes first.spec --filter", "classes first.spec --expect SELECT"]
 NO_COMMANDS += ["classes first.spec --expect SELECT --brief", "classes first.spec --expect SELECT -x"]
 NO_COMMANDS += ["holds", "holds all.book first.spec 0", "holds all.book first.spec 0 x", "holds all.book first.spec 0 1 2"]
+NO_COMMANDS += ["missing", "missing --lines", "missing all.book --ranks", "missing --lines all.book --lines", f"missing{' all.book' * 1001}"]
+# Standard input is read once.
+NO_COMMANDS += ["join - -", "join - all.book -", "missing - one.book -", "missing --lines - -", "classes --book - -", "classes --brief --book all.book - one.book -"]
+NO_COMMANDS += ["holds - - 0 1", "judge - -", "judge all.book - one.book -", "join -- - -"]
 NO_COMMANDS += ["audit", "audit all.book all.book", "judge", "judge all.book", f"judge{' all.book' * 1002}"]
 WRITE_FAULT = b"isofarm: write fault\n"
 TRY_HELP = b"\nFor more information, try '--help'.\n"
-NAME = PROGRAM.name.encode()
+# What the program is called in its texts, however it was started.
+NAME = b"isofarm"
 USAGES = {
     "run first.spec 0 1 --workers 17": b"error: invalid value '17' for '--workers <N>': 17 is not in 1..=16\n" + TRY_HELP,
     "": b"error: '" + NAME + b"' requires a subcommand but one was not provided\n"
-    b"  [subcommands: check, one, count, rank, order, show, classes, run, join, holds, report, audit, judge, help]\n\nUsage: " + NAME + b" <COMMAND>\n" + TRY_HELP,
+    b"  [subcommands: check, one, count, rank, order, show, classes, run, join, missing, holds, report, audit, judge, test, help]\n\nUsage: " + NAME + b" <COMMAND>\n" + TRY_HELP,
 }
+HELP_OF_MISSING = b"Usage: isofarm missing [OPTIONS] <BOOK>...\n"
 CLASSES = BookClasses(WORLDS.spec, {rank: outcome for rank, _word, outcome in FACTS})
 SHARD = 1_000
 # Seconds that a run here takes at most.
@@ -103,6 +110,7 @@ def unread():
         commands = [["one", path, "0"], ["check", path], ["count", path], ["run", path, "0", "1"], ["join", path], ["join", "all.book", path]]
         commands += [["rank", path, "a1", "b1"], ["order", path, "0"], ["show", path, "0"], ["show", path, "a1", "b1"], ["classes", path], ["classes", path, "--waits"], ["classes", path, "--json"], ["holds", path, "first.spec", "0", "1"], ["holds", "all.book", path, "0", "1"]]
         commands += [["classes", "--book", path], ["classes", "--book", "all.book", path, "--json"]]
+        commands += [["run", path], ["missing", path], ["missing", "all.book", path, "--lines"]]
         commands += [["judge", path, "all.book"], ["judge", "all.book", path], ["audit", path]]
         for words in [*commands, ["report", path]]:
             yield words, line(5, f"{path}: read fault")
@@ -110,11 +118,11 @@ def unread():
 
 def marked():
     """Files that are empty, cut off, or begin with the mark of their byte order."""
-    for words in (["one", "mark.spec", "0"], ["count", "mark.spec"], ["order", "mark.spec", "0"], ["show", "mark.spec", "0"], ["classes", "mark.spec", "--deadlock=c"], ["run", "mark.spec", "0", "1"]):
+    for words in (["one", "mark.spec", "0"], ["count", "mark.spec"], ["order", "mark.spec", "0"], ["show", "mark.spec", "0"], ["classes", "mark.spec", "--deadlock=c"], ["run", "mark.spec", "0", "1"], ["run", "mark.spec"]):
         yield words, line(3, "mark.spec: spec error 4 at 0")
     yield ["one", "empty", "0"], line(3, "empty: spec error 5 at 0")
     for path in ("mark.book", "empty", "half.book"):
-        for words in (["classes", "--book", path], ["classes", "--brief", "--book", "all.book", path], ["report", path], ["join", path], ["join", "all.book", path], ["audit", path], ["judge", path, path], ["judge", "all.book", path]):
+        for words in (["missing", path], ["missing", "--lines", "all.book", path], ["classes", "--book", path], ["classes", "--brief", "--book", "all.book", path], ["report", path], ["join", path], ["join", "all.book", path], ["audit", path], ["judge", path, path], ["judge", "all.book", path]):
             yield words, line(3, f"{path}: book error 1")
 
 
@@ -151,10 +159,54 @@ def answers():
     yield ["join", "far.book", "farther.book"], line(3, "book error 8")
     yield ["classes", "--book", "all.book", "one.book", "clash.book", "all.book"], line(1, "all.book: clash at rank 1")
     yield ["classes", "--book", "clash.book", "one.book", "--json"], line(1, "clash.book: clash at rank 1")
+    yield ["missing", "all.book"], (0, b"", b"")
+    yield ["missing", "all.book", "one.book", "--lines"], (0, b"", b"")
+    yield ["missing", "one.book"], (1, b"0\n", b"")
+    yield ["missing", "--lines", "one.book"], (1, b"0 1\n", b"")
+    yield ["missing", "farther.book", "far.book"], (1, b"40000000-9116650868204879999\n", b"")
+    yield ["missing", "farther.book"], (1, b"0-19999999\n40000000-9116650868204879999\n", b"")
+    yield ["missing", "farther.book", "--lines"], (1, b"0 20000000\n40000000 9116650868204880000\n", b"")
+    yield ["missing", "all.book", "clash.book"], line(1, "all.book: clash at rank 1")
+    yield ["missing", "--lines", "clash.book", "one.book"], line(1, "clash.book: clash at rank 1")
+    yield ["missing", "all.book", "far.book"], line(3, "far.book: books of different specs")
+    yield ["run", "first.spec"], (0, BOOK, b"")
+    yield ["run", "first.spec", "--workers", "1"], (0, BOOK, b"")
+    yield ["run", "large.spec"], line(3, "large.spec: shard error 2")
     yield ["judge", "all.book", "one.book"], line(1, "one.book: missing rank 0")
     yield ["judge", "one.book", "nothing"], line(1, "one.book: missing rank 0")
     yield ["judge", "all.book", "all.book", "all.book"], (0, b"matches 0\n", b"")
     yield ["audit", "one.book"], (0, b"true\n", b"")
+
+
+def told_of(words, folder, given, name="isofarm"):
+    """What words tell where this stands on standard input, and the program was started by this name."""
+    ran = subprocess.run([name, *words], executable=PROGRAM, cwd=folder, capture_output=True, check=False, input=given)
+    return ran.returncode, ran.stdout, ran.stderr
+
+
+def inputs(folder):
+    """Words that read standard input, what stands there, and the status and outputs that belong to them."""
+    for text in ("count FILE", "check FILE", "one FILE 0", "run FILE 0 2", "run FILE", "rank FILE a1 b1", "order FILE 1", "report FILE", "audit FILE"):
+        name = "all.book" if text.split()[0] in ("report", "audit") else "first.spec"
+        want = told(PROGRAM, text.replace("FILE", name).split(), folder, {})
+        yield text.replace("FILE", "-").split(), FILES[name], want
+    yield ["join", "-", "all.book"], BOOK_OF_ONE, (0, BOOK, b"")
+    yield ["join", "one.book", "-"], BOOK, (0, BOOK, b"")
+    yield ["missing", "-"], BOOK_OF_ONE, (1, b"0\n", b"")
+    yield ["missing", "--lines", "-"], BOOK_OF_ONE, (1, b"0 1\n", b"")
+    yield ["holds", "-", "first.spec", "0", "2"], BOOK, (0, b"true\n", b"")
+    yield ["holds", "all.book", "-", "0", "2"], SPEC, (0, b"true\n", b"")
+    yield ["judge", "all.book", "one.book", "-"], BOOK, line(1, "one.book: missing rank 0")
+    yield ["judge", "-", "all.book"], BOOK, (0, b"matches 0\n", b"")
+    yield ["classes", "--book", "-"], BOOK, (0, BookPage(CLASSES, "-", Asked()).text().encode(), b"")
+    yield ["one", "-", "2"], SPEC, line(3, "-: rank out of range")
+    yield ["count", "-"], b"", line(3, "-: spec error 5 at 0")
+    yield ["report", "-"], BOOK_OF_ONE, line(1, "-: missing rank 0")
+    yield ["join", "all.book", "-"], BOOK[:-9], line(3, "-: book error 1")
+    # A path of a file with that name has a folder before it.
+    yield ["count", "./-"], SPEC, line(5, "./-: read fault")
+    # Names of steps are no files.
+    yield ["rank", "first.spec", "-", "-"], b"", line(3, 'first.spec: no step "-"')
 
 
 def standings(error):
@@ -245,6 +297,18 @@ def wrong_in(folder):
         status, out, error = told(PROGRAM, text.split(), folder, {})
         is_right = (status, out, error[:7]) == (2, b"", b"error: ")
         yield None if is_right else f"{text[:60]}: expected 2 and an error, but was told {status} {out} {error}"
+    for words, given, want in inputs(folder):
+        got = told_of(words, folder, given)
+        yield f"{' '.join(words)}, of standard input: {difference(want, got)}" if got != want else None
+    for words in (["count", "-"], ["join", "all.book", "-"]):
+        status, error = told_into(" ".join(words), folder, "<&-")
+        yield None if (status, error) == (5, b"isofarm: -: read fault\n") else f"{' '.join(words)} <&-: was told {status} {error}"
+    for name in ("isofarm", "other", "/somewhere/else/farm", ""):
+        for text, usage in USAGES.items():
+            got = told_of(text.split(), folder, b"", name)
+            yield f"{text}, started as {name}: was told {got}" if got != (2, b"", usage) else None
+        status, out, error = told_of(["missing", "--help"], folder, b"", name)
+        yield None if (status, error) == (0, b"") and HELP_OF_MISSING in out else f"missing --help, started as {name}: was told {status} {out} {error}"
     for text, redirections, want in outputs():
         got = told_into(text, folder, redirections)
         yield f"{text} {redirections}: expected {want}, but was told {got}" if got != want else None

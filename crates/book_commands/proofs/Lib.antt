@@ -2,3 +2,5 @@ pub mod FileLemmas
 pub mod ReportLemmas
 pub mod JoinLemmas
 pub mod JudgeLemmas
+pub mod RunLemmas
+pub mod MissingLemmas

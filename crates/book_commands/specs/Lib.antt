@@ -5,3 +5,4 @@ pub mod Texts
 pub mod Auditing
 pub mod Judging
 pub mod Holding
+pub mod Missing

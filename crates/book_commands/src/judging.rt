@@ -166,7 +166,11 @@ fn write_difference<W: Write>(
 }
 
 /// Writes a number before its word.
-fn write_before<W: Write>(number: u64, word: &str, out: &mut Counted<W>) -> Result<(), WriteFault>
+pub(crate) fn write_before<W: Write>(
+    number: u64,
+    word: &str,
+    out: &mut Counted<W>,
+) -> Result<(), WriteFault>
     requires { failures_of out.old < u64.MAX }
     ensures { Prints W.contents out.old out.new result (decimal number ++ word.now) }
 {

@@ -12,9 +12,10 @@ use Rattle.order_classes.specs.Classes.{Class, IsClass, AreGroups, in_runs, rank
 use Rattle.class_stretches.specs.declared.stretch.Stretch.{Stretch}
 use Rattle.class_stretches.specs.Stretches.{class_at, end_of, missing_by, IsStretched, runs_with}
 use Rattle.class_stretches.specs.Groups.{class_by, classes_by, classes_from, tally_of_class, ShowsBy}
-use Rattle.class_stretches.proofs.Groups.{groups, runs-apart, runs-have, runs-within}
+use Rattle.class_stretches.proofs.Groups.{groups}
 use Rattle.book_stretches.specs.Telling.{AreTold, IsToldAt, Tells}
 use Rattle.book_stretches.specs.declared.told.ToldRanks.{ToldRanks}
+use Rattle.book_stretches.proofs.Gaps.{untold}
 use Rattle.book_rows.specs.Classes.{AreMissing, HaveRuns, IsClassedBook, IsRow}
 use Rattle.book_rows.specs.Parts.{AreRowsOf, IsRowOf}
 use Rattle.book_rows.specs.Totals.{all_in, totals_by}
@@ -91,26 +92,15 @@ module _ (book : Contents) (x : ToldRanks) (told : AreTold book x) (is : IsStret
 
   -- ---- missing ranks
 
-  missing-there : (r : ℕ) → in_runs (runs_with None 0 x.stretches.list) r ≡ true → (r < ranks book.file.run) × ((o : Told) → Tells book r o → ⊥)
-  missing-there r h =
-      let w = runs-within None 0 x.stretches.list r is.stretches h in
-      let lt : r < ranks book.file.run = subst (λ e. r < e) told.all w.1 in
-      (lt, at-class r lt None w.2)
-
-  missing-back : (r : ℕ) → r < ranks book.file.run → ((o : Told) → Tells book r o → ⊥) → in_runs (runs_with None 0 x.stretches.list) r ≡ true
-  missing-back r lt none = by (class_at x.stretches.list r) refl
-    where
-      by : (c : Option ℕ) → class_at x.stretches.list r ≡ c → in_runs (runs_with None 0 x.stretches.list) r ≡ true
-      by None e = runs-have None 0 x.stretches.list r (omega arith) (subst (λ n. r < n) (sym told.all) lt) e
-      by (Some c) e = let here = at-class r lt (Some c) e in absurd (none here.0 here.2.value)
-
   all-missing : AreMissing book (missing_by (runs_with None 0 x.stretches.list))
-  all-missing = record {
-    runs = runs_with None 0 x.stretches.list;
-    apart = runs-apart None 0 x.stretches.list is.stretches;
-    each = λ r. (missing-there r, λ p. missing-back r p.0 p.1);
-    are = refl;
-  }
+  all-missing =
+      let are = untold book x told is in
+      record {
+        runs = runs_with None 0 x.stretches.list;
+        apart = are.apart;
+        each = are.each;
+        are = refl;
+      }
 
   -- ---- rows
 

@@ -4,3 +4,4 @@ pub mod Giving
 pub mod Going
 pub mod Votes
 pub mod TrueBooks
+pub mod Gaps

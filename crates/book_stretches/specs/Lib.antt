@@ -2,3 +2,4 @@ pub mod Telling
 pub mod Classes
 pub mod Sweep
 pub mod Laws
+pub mod Missing

@@ -6,6 +6,7 @@ mod error;
 mod judging;
 mod laws;
 mod leading;
+mod missing;
 mod numbers;
 mod source;
 mod sweep;
@@ -14,5 +15,6 @@ mod told;
 
 pub use error::TellError;
 pub use laws::true_books_tell_the_machine;
+pub use missing::{runs_to_run, untold_runs};
 pub use source::spec_of_book;
 pub use told::{ToldRanks, told_ranks};

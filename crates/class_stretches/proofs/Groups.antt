@@ -168,7 +168,7 @@ numbers-rise n (s ∷ ss) m k l low a o up less lt =
         by false is false that = f (with_class n (Some j)) rest (with-up-to n j k come up is)
 
 -- the least rank of runs is one of theirs, and none is less
-least-is : (runs : List Run) (low : ℕ) (run : Run) (more : List Run) → AreApart low runs → runs ≡ run ∷ more
+pub least-is : (runs : List Run) (low : ℕ) (run : Run) (more : List Run) → AreApart low runs → runs ≡ run ∷ more
     → (in_runs runs (least_of runs) ≡ true) × ((r : ℕ) → in_runs runs r ≡ true → least_of runs ≤ r)
 least-is [] low run more a e = absurd cc
 least-is (x ∷ xs) low run more a e = (

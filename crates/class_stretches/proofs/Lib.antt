@@ -6,3 +6,4 @@ pub mod Tallies
 pub mod Passes
 pub mod Renumbered
 pub mod Groups
+pub mod MissingTold

@@ -94,21 +94,21 @@ runs-next c low s ss = at (same_class c s.class)
     at false = refl
 
 -- the runs of the stretches before a place
-abbrev pub AreRuns : List Stretch → ℕ → ℕ → ℕ → List RankRun → Type 0
-AreRuns ss c i low runs = map run_of runs ++ runs_with (Some c) low (drop i ss) ≡ runs_with (Some c) 0 ss
+abbrev pub AreRuns : List Stretch → Option ℕ → ℕ → ℕ → List RankRun → Type 0
+AreRuns ss c i low runs = map run_of runs ++ runs_with c low (drop i ss) ≡ runs_with c 0 ss
 
-pub more-runs : (ss : List Stretch) (c i low : ℕ) (runs more : List RankRun) → i < length ss → AreRuns ss c i low runs
-    → map run_of more ≡ map run_of runs ++ runs_with (Some c) low (stretch_at ss i ∷ []) → AreRuns ss c (i + 1) (end_at ss i) more
+pub more-runs : (ss : List Stretch) (c : Option ℕ) (i low : ℕ) (runs more : List RankRun) → i < length ss → AreRuns ss c i low runs
+    → map run_of more ≡ map run_of runs ++ runs_with c low (stretch_at ss i ∷ []) → AreRuns ss c (i + 1) (end_at ss i) more
 more-runs ss c i low runs more lt so is =
-    ap (λ front. front ++ runs_with (Some c) (end_at ss i) (drop (i + 1) ss)) is
-    ∙ append_assoc (map run_of runs) (runs_with (Some c) low (stretch_at ss i ∷ [])) (runs_with (Some c) (end_at ss i) (drop (i + 1) ss))
+    ap (λ front. front ++ runs_with c (end_at ss i) (drop (i + 1) ss)) is
+    ∙ append_assoc (map run_of runs) (runs_with c low (stretch_at ss i ∷ [])) (runs_with c (end_at ss i) (drop (i + 1) ss))
     ∙ ap (λ rest. map run_of runs ++ rest)
-    (sym (runs-next (Some c) low (stretch_at ss i) (drop (i + 1) ss)) ∙ ap (λ rest. runs_with (Some c) low rest) (sym (next-left ss i lt)))
+    (sym (runs-next c low (stretch_at ss i) (drop (i + 1) ss)) ∙ ap (λ rest. runs_with c low rest) (sym (next-left ss i lt)))
     ∙ so
 
-pub all-runs : (ss : List Stretch) (c i low : ℕ) (runs : List RankRun) → length ss ≤ i → AreRuns ss c i low runs → map run_of runs ≡ runs_with (Some c) 0 ss
+pub all-runs : (ss : List Stretch) (c : Option ℕ) (i low : ℕ) (runs : List RankRun) → length ss ≤ i → AreRuns ss c i low runs → map run_of runs ≡ runs_with c 0 ss
 all-runs ss c i low runs le so =
-    sym (append-nil (map run_of runs)) ∙ ap (λ rest. map run_of runs ++ runs_with (Some c) low rest) (sym (drop_of_length-le ss le)) ∙ so
+    sym (append-nil (map run_of runs)) ∙ ap (λ rest. map run_of runs ++ runs_with c low rest) (sym (drop_of_length-le ss le)) ∙ so
 
 -- ---- tallies
 

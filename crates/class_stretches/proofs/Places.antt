@@ -2,10 +2,10 @@
 use Rattle.std.proofs.Common.{◌≡◌, refl, sym, ap, ◌∙◌, subst, ℕ, zero, suc, ◌+◌, ◌-◌, ◌<◌, ◌≤◌, Bool, true, false, cond, Option, None, List, [], ◌∷◌, length, get_or, min, arith, add-one}
 use Rattle.std.proofs.Common.{⊎_elim}
 use Rattle.class_stretches.specs.declared.stretch.Stretch.{Stretch}
-use Rattle.class_stretches.specs.Stretches.{class_at, end_from, end_of, same_class, AreStretches, MayCome, with_class, AreInOrder}
+use Rattle.class_stretches.specs.Stretches.{class_at, end_from, end_of, IsStretchAt, same_class, AreStretches, MayCome, with_class, AreInOrder}
 use Rattle.class_stretches.specs.Growing.{end_at, class_of, pushed}
 use Rattle.class_stretches.specs.Copying.{IsCopiedList}
-use Rattle.class_stretches.proofs.Ranks.{front-class, past-front, front-or-past, pushed-stretches, pushed-end, pushed-before, pushed-behind, pushed-order, class-there}
+use Rattle.class_stretches.proofs.Ranks.{front-class, past-front, front-or-past, pushed-stretches, pushed-end, pushed-before, pushed-behind, pushed-order, class-there, ends-behind}
 
 -- of stretches that begin here the one at this place has the rank
 abbrev pub IsPlace : ℕ → List Stretch → ℕ → ℕ → Type 0
@@ -82,6 +82,30 @@ place-tells low (s ∷ ss) zero r before inside lt = front-class s ss r lt
 place-tells low (s ∷ ss) (suc k) r before inside lt =
     past-front s ss r (before 0 (omega arith))
     ∙ place-tells s.end ss k r (λ j h. before (suc j) (omega (arith, h))) (omega (arith, inside)) lt
+
+-- each of them ends within the end of all
+pub place-ends : (low : ℕ) (ss : List Stretch) (k : ℕ) → AreStretches low ss → k < length ss → end_at ss k ≤ end_from low ss
+place-ends low [] k a lt = absurd (omega (arith, lt))
+place-ends low (s ∷ ss) zero a lt = ends-behind s.end ss a.2
+place-ends low (s ∷ ss) (suc k) a lt = place-ends s.end ss k a.2 (omega (arith, lt))
+
+-- where all of them end before a rank, so does the last one
+pub ends-before : (low : ℕ) (ss : List Stretch) (k r : ℕ) → low ≤ r → ((j : ℕ) → j < k → end_at ss j ≤ r) → length ss ≤ k → end_from low ss ≤ r
+ends-before low [] k r from before le = from
+ends-before low (s ∷ ss) zero r from before le = absurd (omega (arith, le))
+ends-before low (s ∷ ss) (suc k) r from before le =
+    ends-before s.end ss k r (before 0 (omega arith)) (λ j h. before (suc j) (omega (arith, h))) (omega (arith, le))
+
+-- the stretch at a place found by a search is the one that the rank is in
+pub place-stretch : (ss : List Stretch) (k r : ℕ) → AreStretches 0 ss → ((j : ℕ) → j < k → end_at ss j ≤ r) → k < length ss → r < end_at ss k
+    → IsStretchAt ss r (record { end = end_at ss k; class = class_of ss k })
+place-stretch ss k r a before inside lt = record {
+  some = lt;
+  inside = place-ends 0 ss k a inside;
+  each = λ q from below.
+      (let up : (j : ℕ) → j < k → end_at ss j ≤ q = λ j h. (let e = before j h in omega (arith, e, from)) in
+      place-tells 0 ss k q up inside below);
+}
 
 pub none-past : (ss : List Stretch) (k r : ℕ) → ((j : ℕ) → j < k → end_at ss j ≤ r) → length ss ≤ k → class_at ss r ≡ None
 none-past [] k r before le = refl

@@ -1,10 +1,11 @@
 -- Classes of ranks by their stretches, and what each of them shows.
-use Rattle.std.specs.Prelude.{◌≡◌, ℕ, suc, ◌<◌, Some, None, List, [], ◌∷◌, length, map}
+use Rattle.std.specs.Prelude.{◌≡◌, ℕ, suc, ◌<◌, ◌≤◌, Bool, true, false, ◌&&◌, nat_lt, Option, Some, None, List, [], ◌∷◌, length, map}
 use Rattle.std.specs.List.{slice_get}
-use Rattle.order_classes.specs.Classes.{Class, ranks_in, IsClasses, AreGroups}
+use Rattle.order_classes.specs.Classes.{Class, ranks_in, IsClasses, AreGroups, IsNumber}
 use Rattle.class_stretches.specs.declared.stretch.Stretch.{Stretch}
 use Rattle.class_stretches.specs.declared.tally.Tally.{Tally}
-use Rattle.class_stretches.specs.Stretches.{class_at, end_of, Stretched, IsStretched, runs_with, least_of, AreTallies}
+use Rattle.class_stretches.specs.declared.missing.Missing.{Missing}
+use Rattle.class_stretches.specs.Stretches.{class_at, end_of, same_class, Stretched, IsStretched, runs_with, least_of, missing_by, AreTallies}
 
 -- class number n, which shows this
 abbrev pub class_by : {A : Type 0} → List Stretch → ℕ → A → Class A
@@ -50,6 +51,25 @@ pub record GroupsAreClasses : Type 0 where
 pub record NoneIsMissing : Type 0 where
   pub known : (s : Stretched) → IsStretched s → ranks_in (runs_with None 0 s.list) ≡ 0
       → (r : ℕ) → r < end_of s.list → (n : ℕ) × (n < s.classes) × (class_at s.list r ≡ Some n)
+
+-- the rank is before the end, and in no known class
+abbrev pub is_missing : List Stretch → ℕ → Bool
+is_missing ss r = nat_lt r (end_of ss) && same_class None (class_at ss r)
+
+-- the missing ranks are so many, and this is the least of them
+pub record AreMissingRanks (ss : List Stretch) (m : Missing) : Type 0 where
+  pub number : IsNumber (is_missing ss) m.ranks
+  pub there : is_missing ss m.first ≡ true
+  pub least : (r : ℕ) → is_missing ss r ≡ true → m.first ≤ r
+
+-- what is told of the missing ranks: that there is none, or how many, and the least
+abbrev pub IsMissingTold : List Stretch → Option Missing → Type 0
+IsMissingTold ss None = (r : ℕ) → is_missing ss r ≡ false
+IsMissingTold ss (Some m) = AreMissingRanks ss m
+
+-- the runs of no known class tell them
+pub record MissingAreTold : Type 0 where
+  pub told : (s : Stretched) → IsStretched s → IsMissingTold s.list (missing_by (runs_with None 0 s.list))
 
 -- the tallies are those of the classes, in their order
 pub record TalliesAreOfClasses : Type 0 where

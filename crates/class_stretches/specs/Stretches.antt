@@ -23,6 +23,12 @@ end_from low (s ∷ ss) = end_from s.end ss
 abbrev pub end_of : List Stretch → ℕ
 end_of ss = end_from 0 ss
 
+-- the ranks from this one on, up to an end, are in one class
+pub record IsStretchAt (ss : List Stretch) (rank : ℕ) (s : Stretch) : Type 0 where
+  pub some : rank < s.end
+  pub inside : s.end ≤ end_of ss
+  pub each : (r : ℕ) → rank ≤ r → r < s.end → class_at ss r ≡ s.class
+
 -- both are the same class, or neither is known
 abbrev pub same_class : Option ℕ → Option ℕ → Bool
 same_class None None = true

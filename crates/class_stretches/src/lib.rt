@@ -11,7 +11,10 @@ mod stretch;
 mod stretches;
 mod tally;
 
-pub use laws::{groups_are_classes, none_is_missing, stretches_are_groups, tallies_are_of_classes};
+pub use laws::{
+    groups_are_classes, missing_are_told, none_is_missing, stretches_are_groups,
+    tallies_are_of_classes,
+};
 pub use missing::Missing;
 pub use rank_run::RankRun;
 pub use stretch::Stretch;

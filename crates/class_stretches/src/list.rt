@@ -1,7 +1,7 @@
 //! A list of stretches: where a rank is in it, and how it grows.
 
-ghost use Rattle.std.specs.Prelude.{◌≡◌, ℕ, ◌^◌, ◌<◌, ◌≤◌, OnOk, OnErr, length};
-ghost use Rattle.class_stretches.specs.Stretches.{AreStretches, class_at, end_of, same_class, with_class};
+ghost use Rattle.std.specs.Prelude.{◌≡◌, ℕ, ◌^◌, ◌<◌, ◌≤◌, None, OnOk, OnErr, IfSome, length};
+ghost use Rattle.class_stretches.specs.Stretches.{AreStretches, IsStretchAt, class_at, end_of, same_class, with_class};
 ghost use Rattle.class_stretches.specs.Growing.{end_at, pushed, goes_on};
 
 use crate::stretch::Stretch;
@@ -25,6 +25,19 @@ pub(crate) fn class_in(list: &[Stretch], rank: u64) -> Option<u32>
     let place = place_of(list, rank);
     if place < list.len() {
         return list[place].class;
+    }
+    None
+}
+
+/// The stretch that a rank is in, where it is before the end.
+pub(crate) fn stretch_in(list: &[Stretch], rank: u64) -> Option<Stretch>
+    requires { AreStretches 0 list.now }
+    ensures found { IfSome result (IsStretchAt list.now rank) }
+    ensures past { result ≡ None → end_of list.now ≤ rank }
+{
+    let place = place_of(list, rank);
+    if place < list.len() {
+        return Some(list[place]);
     }
     None
 }

@@ -1,6 +1,6 @@
 //! One run of ranks.
 
-ghost use Rattle.std.specs.Prelude.{◌≡◌, ◌≤◌, Some, [], ◌∷◌, ◌++◌, IfOk, OnOk, length, map};
+ghost use Rattle.std.specs.Prelude.{◌≡◌, ◌≤◌, [], ◌∷◌, ◌++◌, IfOk, OnOk, length, map};
 ghost use Rattle.class_stretches.specs.Stretches.{AreInOrder, AreRunsBy, MayCome, runs_with, run_of};
 ghost use Rattle.class_stretches.specs.Counting.{with_run, with_runs};
 
@@ -18,13 +18,13 @@ pub struct RankRun {
     pub end: u64,
 }
 
-/// The runs of the ranks of a class.
+/// The runs of the ranks of a class, or of those of no known class.
 pub(crate) fn runs_in(
     alloc: Global,
     list: &[Stretch],
-    class: u32,
+    class: Option<u32>,
 ) -> Result<Vec<RankRun>, AllocError>
-    ensures { IfOk result (λ runs. map run_of runs.items ≡ runs_with (Some class) 0 list.now) }
+    ensures { IfOk result (λ runs. map run_of runs.items ≡ runs_with class 0 list.now) }
 {
     let mut runs = Vec::new(alloc);
     let mut low = 0;
@@ -38,13 +38,13 @@ pub(crate) fn runs_in(
 /// Adds the run of a stretch that begins here, if it is of this class.
 fn push_run(
     runs: &mut Vec<RankRun>,
-    class: u32,
+    class: Option<u32>,
     low: u64,
     stretch: &Stretch,
 ) -> Result<(), AllocError>
-    ensures { OnOk result (map run_of runs.new.items ≡ map run_of runs.old.items ++ runs_with (Some class) low (stretch.now ∷ [])) }
+    ensures { OnOk result (map run_of runs.new.items ≡ map run_of runs.old.items ++ runs_with class low (stretch.now ∷ [])) }
 {
-    if is_same(Some(class), stretch.class) {
+    if is_same(class, stretch.class) {
         runs.push(RankRun {
             first: low,
             end: stretch.end,

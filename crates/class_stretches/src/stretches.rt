@@ -1,12 +1,12 @@
 //! Stretches that grow in the order of ranks.
 
-ghost use Rattle.std.specs.Prelude.{◌≡◌, ◌+◌, ◌-◌, ◌^◌, ◌<◌, ◌≤◌, Some, None, [], OnOk, OnErr, IfOk, length, map};
-ghost use Rattle.class_stretches.specs.Stretches.{class_at, end_of, IsStretched, MayCome, with_class, IsPushed, IsCopied};
+ghost use Rattle.std.specs.Prelude.{◌≡◌, ◌+◌, ◌-◌, ◌^◌, ◌<◌, ◌≤◌, Some, None, [], OnOk, OnErr, IfOk, IfSome, length, map};
+ghost use Rattle.class_stretches.specs.Stretches.{class_at, end_of, IsStretchAt, IsStretched, MayCome, with_class, IsPushed, IsCopied};
 ghost use Rattle.class_stretches.specs.Stretches.{missing_by, runs_with, run_of, AreRunsBy, AreTallies};
 ghost use Rattle.class_stretches.specs.Mapping.{HaveOrder, IsMapped};
 
 use crate::copying::copy_list;
-use crate::list::{class_in, classes_with, end_of_list, put};
+use crate::list::{class_in, classes_with, end_of_list, put, stretch_in};
 use crate::mapping::mapped_list;
 use crate::missing::{Missing, first_missing_in, missing_in};
 use crate::rank_run::{RankRun, runs_by, runs_in};
@@ -100,6 +100,15 @@ impl Stretches {
         class_in(&self.list, rank)
     }
 
+    /// The end and the class of the stretch that a rank is in: all ranks from this one up to that end are in that class. `None` where the rank is
+    /// past the last one.
+    pub fn stretch_of(&self, rank: u64) -> Option<Stretch>
+        ensures found { IfSome result (IsStretchAt self.now.list rank) }
+        ensures past { result ≡ None → end_of self.now.list ≤ rank }
+    {
+        stretch_in(&self.list, rank)
+    }
+
     /// The least rank and the number of ranks of each class, in the order of their numbers.
     pub fn tallies(&self, alloc: Global) -> Result<Vec<Tally>, AllocError>
         ensures { IfOk result (λ tallies. AreTallies self.now.list self.now.classes tallies.items) }
@@ -122,7 +131,14 @@ impl Stretches {
     pub fn runs_of(&self, alloc: Global, class: u32) -> Result<Vec<RankRun>, AllocError>
         ensures { IfOk result (λ runs. map run_of runs.items ≡ runs_with (Some class) 0 self.now.list) }
     {
-        runs_in(alloc, &self.list, class)
+        runs_in(alloc, &self.list, Some(class))
+    }
+
+    /// The runs of the ranks that are in no known class.
+    pub fn missing_runs(&self, alloc: Global) -> Result<Vec<RankRun>, AllocError>
+        ensures { IfOk result (λ runs. map run_of runs.items ≡ runs_with None 0 self.now.list) }
+    {
+        runs_in(alloc, &self.list, None)
     }
 
     /// The runs of the ranks of each class, in the order of the classes' numbers. Linear in the stretches.

@@ -1,5 +1,5 @@
 -- Plain lines: a command and its words, without flags; and what each asks for.
-use Rattle.std.specs.Prelude.{◌≡◌, ◌==◌, ◌<◌, ◌≤◌, ℕ, ◌^◌, Bool, true, false, not, List, [], ◌∷◌, length, map, codes, decimal, Option, Some, None, cond}
+use Rattle.std.specs.Prelude.{◌≡◌, ◌==◌, ◌<◌, ◌≤◌, ℕ, ◌^◌, Bool, true, false, not, ◌&&◌, List, [], ◌∷◌, length, map, codes, decimal, Option, Some, None, cond}
 use Rattle.std.specs.List.{list_all}
 use Rattle.std.specs.Str.{bytes_eq}
 use Rattle.std.specs.Str.Parse.{IsNumeral, digits_value, without_leading_plus}
@@ -8,6 +8,9 @@ use Rattle.command_line.specs.declared.words.Asked.{Asked}
 use Rattle.command_line.specs.declared.words.Asked.TheVariants as asked
 use Rattle.command_line.specs.declared.wanted.Wanted.{Wanted}
 use Rattle.command_line.specs.declared.wanted.Wanted.TheVariants as wanted
+use Rattle.command_line.specs.declared.ranks.WantedRanks.{WantedRanks}
+use Rattle.command_line.specs.declared.ranks.WantedRanks.TheVariants as wanted_ranks
+use Rattle.command_line.specs.Inputs.{is_input, repeats}
 use Rattle.wanted_classes.specs.declared.wanted.WantedClasses.{WantedClasses}
 use Rattle.command_line.specs.declared.names.Name.{Name}
 use Rattle.command_line.specs.declared.names.Name.TheVariants as name
@@ -22,7 +25,9 @@ pub data Line : Type 0 where
   Show : (path : List ℕ) (order : List (List ℕ)) → Line
   Classes : (path : List ℕ) → Line
   Run : (path : List ℕ) (first end : ℕ) → Line
+  RunAll : (path : List ℕ) → Line
   Join : (paths : List (List ℕ)) → Line
+  Missing : (paths : List (List ℕ)) → Line
   Holds : (path spec : List ℕ) (first end : ℕ) → Line
   Report : (path : List ℕ) → Line
   Audit : (path : List ℕ) → Line
@@ -38,7 +43,9 @@ command (Order path rank) = codes "order"
 command (Show path order) = codes "show"
 command (Classes path) = codes "classes"
 command (Run path first end) = codes "run"
+command (RunAll path) = codes "run"
 command (Join paths) = codes "join"
+command (Missing paths) = codes "missing"
 command (Holds path spec first end) = codes "holds"
 command (Report path) = codes "report"
 command (Audit path) = codes "audit"
@@ -54,7 +61,9 @@ arguments (Order path rank) = path ∷ decimal rank ∷ []
 arguments (Show path order) = path ∷ order
 arguments (Classes path) = path ∷ []
 arguments (Run path first end) = path ∷ decimal first ∷ decimal end ∷ []
+arguments (RunAll path) = path ∷ []
 arguments (Join paths) = paths
+arguments (Missing paths) = paths
 arguments (Holds path spec first end) = path ∷ spec ∷ decimal first ∷ decimal end ∷ []
 arguments (Report path) = path ∷ []
 arguments (Audit path) = path ∷ []
@@ -78,23 +87,45 @@ Fits (Order path rank) = rank < 2 ^ 64
 Fits (Show path order) = AreNames order
 Fits (Classes path) = Unit {0}
 Fits (Run path first end) = (first < 2 ^ 64) × (end < 2 ^ 64)
+Fits (RunAll path) = Unit {0}
 Fits (Join paths) = AreBooks paths
+Fits (Missing paths) = AreBooks paths
 Fits (Holds path spec first end) = (first < 2 ^ 64) × (end < 2 ^ 64)
 Fits (Report path) = Unit {0}
 Fits (Audit path) = Unit {0}
 Fits (Judge path accepted) = AreBooks accepted
 
--- a word that is no flag: a flag begins with a hyphen
+-- a word that is no flag: a flag begins with a hyphen, and has more
 abbrev pub is_plain : List ℕ → Bool
 is_plain [] = true
-is_plain (b ∷ bs) = not (b == 45)
+is_plain (b ∷ []) = true
+is_plain (b ∷ c ∷ bs) = not (b == 45)
 
--- the words are the line: the program's name, the command, and its words, of which none is a flag
+-- two of the files that the line asks for are standard input
+abbrev pub repeats_in : Line → Bool
+repeats_in (Check path) = false
+repeats_in (One path rank) = false
+repeats_in (Count path) = false
+repeats_in (Rank path names) = false
+repeats_in (Order path rank) = false
+repeats_in (Show path order) = false
+repeats_in (Classes path) = false
+repeats_in (Run path first end) = false
+repeats_in (RunAll path) = false
+repeats_in (Join paths) = repeats false paths
+repeats_in (Missing paths) = repeats false paths
+repeats_in (Holds path spec first end) = is_input path && is_input spec
+repeats_in (Report path) = false
+repeats_in (Audit path) = false
+repeats_in (Judge path accepted) = repeats (is_input path) accepted
+
+-- the words are the line: the program's name, the command, and its words, of which none is a flag; standard input is read once
 pub record IsLine (words : List (List ℕ)) (line : Line) : Type 0 where
   pub program : List ℕ
   pub words_are : words ≡ program ∷ command line ∷ arguments line
   pub plain : list_all is_plain (arguments line) ≡ true
   pub fits : Fits line
+  pub once : repeats_in line ≡ false
 
 -- the word is a number of 64 bits, in decimal; a plus may stand before its digits
 abbrev pub IsNumber : List ℕ → ℕ → Type 0
@@ -122,6 +153,16 @@ pub record AsksForNoMore (wanted : WantedClasses) : Type 0 where
   pub no_left : wanted.left ≡ false
   pub no_json : wanted.json ≡ false
 
+-- the ranks from the first up to but not the end
+abbrev pub range : ℕ → ℕ → WantedRanks
+range first end = wanted_ranks.Range first end
+
+-- a run of these ranks of the spec at a path, and of no more than it has to run
+abbrev pub RunsRanks : List ℕ → WantedRanks → Asked → Type 0
+RunsRanks path wanted (asked.Run p ranks every workers progress) =
+    (p.now ≡ path) × (ranks ≡ wanted) × (every ≡ false) × (workers ≡ DEFAULT_WORKERS) × (progress ≡ false)
+RunsRanks path wanted asked = ⊥
+
 -- what the line asks for
 abbrev pub AsksFor : Line → Asked → Type 0
 AsksFor (Check path) (asked.Check p) = p.now ≡ path
@@ -131,9 +172,10 @@ AsksFor (Rank path names) (asked.Rank p ns) = (p.now ≡ path) × (map (λ n. n.
 AsksFor (Order path rank) (asked.Order p r) = (p.now ≡ path) × (r ≡ rank)
 AsksFor (Show path order) (asked.Show p wanted json) = (p.now ≡ path) × IsWanted order wanted × (json ≡ false)
 AsksFor (Classes path) (asked.Classes p wanted workers progress) = (p.now ≡ path) × AsksForNoMore wanted × (workers ≡ DEFAULT_WORKERS) × (progress ≡ false)
-AsksFor (Run path first end) (asked.Run p f e every workers progress) =
-    (p.now ≡ path) × (f ≡ first) × (e ≡ end) × (every ≡ false) × (workers ≡ DEFAULT_WORKERS) × (progress ≡ false)
+AsksFor (Run path first end) asked = RunsRanks path (range first end) asked
+AsksFor (RunAll path) asked = RunsRanks path wanted_ranks.All asked
 AsksFor (Join paths) (asked.Join ps) = map (λ p. p.now) ps ≡ paths
+AsksFor (Missing paths) (asked.Missing ps lines) = (map (λ p. p.now) ps ≡ paths) × (lines ≡ false)
 AsksFor (Holds path spec first end) (asked.Holds p s f e) = (p.now ≡ path) × (s.now ≡ spec) × (f ≡ first) × (e ≡ end)
 AsksFor (Report path) (asked.Report p) = p.now ≡ path
 AsksFor (Audit path) (asked.Audit p) = p.now ≡ path
@@ -148,8 +190,10 @@ name_in word = cond (bytes_eq word (codes "check")) (Some name.Check) (cond (byt
     (cond (bytes_eq word (codes "count")) (Some name.Count) (cond (bytes_eq word (codes "rank")) (Some name.Rank)
     (cond (bytes_eq word (codes "order")) (Some name.Order) (cond (bytes_eq word (codes "show")) (Some name.Show)
     (cond (bytes_eq word (codes "classes")) (Some name.Classes) (cond (bytes_eq word (codes "run")) (Some name.Run) (cond (bytes_eq word (codes "join")) (Some name.Join)
+    (cond (bytes_eq word (codes "missing")) (Some name.Missing)
     (cond (bytes_eq word (codes "holds")) (Some name.Holds) (cond (bytes_eq word (codes "report")) (Some name.Report)
-    (cond (bytes_eq word (codes "audit")) (Some name.Audit) (cond (bytes_eq word (codes "judge")) (Some name.Judge) None))))))))))))
+    (cond (bytes_eq word (codes "audit")) (Some name.Audit) (cond (bytes_eq word (codes "judge")) (Some name.Judge)
+    (cond (bytes_eq word (codes "test")) (Some name.Test) None))))))))))))))
 
 -- the command of a line
 abbrev pub named : Line → Name
@@ -161,7 +205,9 @@ named (Order path rank) = name.Order
 named (Show path order) = name.Show
 named (Classes path) = name.Classes
 named (Run path first end) = name.Run
+named (RunAll path) = name.Run
 named (Join paths) = name.Join
+named (Missing paths) = name.Missing
 named (Holds path spec first end) = name.Holds
 named (Report path) = name.Report
 named (Audit path) = name.Audit

@@ -1,12 +1,15 @@
 //! What the words of a command line ask for.
 #![tactic(auto)]
 
+mod inputs;
 mod names;
 mod paths;
 mod plain;
+mod ranks;
 mod wanted;
 mod words;
 
 pub use paths::Paths;
+pub use ranks::WantedRanks;
 pub use wanted::Wanted;
 pub use words::{Asked, parse_words};

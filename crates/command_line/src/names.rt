@@ -15,10 +15,12 @@ pub(crate) enum Name {
     Classes,
     Run,
     Join,
+    Missing,
     Holds,
     Report,
     Audit,
     Judge,
+    Test,
 }
 
 /// The command that is spelled so.
@@ -35,10 +37,12 @@ pub(crate) fn name_of(spelled: &str) -> Option<Name>
         "classes" => Some(Name::Classes),
         "run" => Some(Name::Run),
         "join" => Some(Name::Join),
+        "missing" => Some(Name::Missing),
         "holds" => Some(Name::Holds),
         "report" => Some(Name::Report),
         "audit" => Some(Name::Audit),
         "judge" => Some(Name::Judge),
+        "test" => Some(Name::Test),
         _ => None,
     }
 }

@@ -3,11 +3,12 @@
 ghost use Rattle.std.specs.Prelude.{◌≡◌, ◌<◌, ◌^◌, ℕ, List, [], ◌∷◌, Some, IfOk, decimal, map, string_bytes};
 ghost use Rattle.std.specs.List.{list_all};
 ghost use Rattle.std.specs.Option.{IsSomeAnd};
-ghost use Rattle.command_line.specs.Lines.{AsksFor, AreBooks, AreNames, Fits, IsBehind, IsLine, Line, arguments, is_plain, named};
-ghost use Rattle.command_line.specs.Lines.{Check, One, Count, Rank, Order, Show, Classes, Run, Join, Holds, Report, Audit, Judge};
+ghost use Rattle.command_line.specs.Lines.{AsksFor, AreBooks, AreNames, Fits, IsBehind, IsLine, Line, RunsRanks, arguments, is_plain, named, range};
+ghost use Rattle.command_line.specs.Lines.{Check, One, Count, Rank, Order, Show, Classes, Run, RunAll, Join, Missing, Holds, Report, Audit, Judge};
 
 use crate::names::{Name, name_of};
 use crate::paths::Paths;
+use crate::ranks::WantedRanks;
 use crate::wanted::wanted_of;
 use crate::words::{Asked, DEFAULT_WORKERS, MAX_BOOKS, MAX_NAMES};
 use shard_board::Workers;
@@ -56,12 +57,13 @@ fn are_plain(words: &[String]) -> bool
     true
 }
 
-/// Whether a word is no flag.
+/// Whether a word is no flag. A hyphen alone is none: it is standard input.
 fn is_plain(word: &str) -> bool
     ensures { result ≡ is_plain word.now }
 {
     match word.as_bytes() {
-        [first, ..] => *first != b'-',
+        [first, _, ..] => *first != b'-',
+        [_] => true,
         [] => true,
     }
 }
@@ -84,10 +86,12 @@ fn line_of<'a>(
         Name::Classes => Ok(classes_line(alloc, rest)),
         Name::Run => Ok(run_line(rest)),
         Name::Join => join_line(alloc, rest),
+        Name::Missing => missing_line(alloc, rest),
         Name::Holds => Ok(holds_line(rest)),
         Name::Report => Ok(report_line(rest)),
         Name::Audit => Ok(audit_line(rest)),
         Name::Judge => judge_line(alloc, rest),
+        Name::Test => Ok(None),
     }
 }
 
@@ -208,19 +212,36 @@ fn classes_line<'a>(alloc: Global, rest: &'a [String]) -> Option<Asked<'a>>
 }
 
 fn run_line<'a>(rest: &'a [String]) -> Option<Asked<'a>>
-    ensures { (path : List ℕ) (first end : ℕ) → first < 2 ^ 64 → end < 2 ^ 64 → map string_bytes rest.now ≡ path ∷ decimal first ∷ decimal end ∷ [] → IsSomeAnd result (AsksFor (Run path first end)) }
+    ensures all { (path : List ℕ) → map string_bytes rest.now ≡ path ∷ [] → IsSomeAnd result (AsksFor (RunAll path)) }
+    ensures range { (path : List ℕ) (first end : ℕ) → first < 2 ^ 64 → end < 2 ^ 64 → map string_bytes rest.now ≡ path ∷ decimal first ∷ decimal end ∷ [] → IsSomeAnd result (AsksFor (Run path first end)) }
 {
     match rest {
-        [path, first, end] => Some(Asked::Run {
-            path,
-            first: number_of(first)?,
-            end: number_of(end)?,
-            every: false,
-            workers: Workers::of(DEFAULT_WORKERS)?,
-            progress: false,
-        }),
+        [path] => run_of(path, WantedRanks::All),
+        [path, first, end] => run_of(path, range_of(first, end)?),
         _ => None,
     }
+}
+
+/// The range between two numbers.
+fn range_of(first: &str, end: &str) -> Option<WantedRanks>
+    ensures { (f e : ℕ) → f < 2 ^ 64 → e < 2 ^ 64 → first.now ≡ decimal f → end.now ≡ decimal e → result ≡ Some (range f e) }
+{
+    Some(WantedRanks::Range {
+        first: number_of(first)?,
+        end: number_of(end)?,
+    })
+}
+
+fn run_of<'a>(path: &'a str, ranks: WantedRanks) -> Option<Asked<'a>>
+    ensures { IsSomeAnd result (λ asked. RunsRanks path.now ranks asked) }
+{
+    Some(Asked::Run {
+        path,
+        ranks,
+        every: false,
+        workers: Workers::of(DEFAULT_WORKERS)?,
+        progress: false,
+    })
 }
 
 fn join_line<'a>(alloc: Global, rest: &'a [String]) -> Result<Option<Asked<'a>>, AllocError>
@@ -232,6 +253,22 @@ fn join_line<'a>(alloc: Global, rest: &'a [String]) -> Result<Option<Asked<'a>>,
     let books = words_of(alloc, rest)?;
     match Paths::of(books) {
         Some(paths) => Ok(Some(Asked::Join { paths })),
+        None => Ok(None),
+    }
+}
+
+fn missing_line<'a>(alloc: Global, rest: &'a [String]) -> Result<Option<Asked<'a>>, AllocError>
+    ensures { IfOk result (λ asked. (paths : List (List ℕ)) → AreBooks paths → map string_bytes rest.now ≡ paths → IsSomeAnd asked (AsksFor (Missing paths))) }
+{
+    if rest.len() > MAX_BOOKS {
+        return Ok(None);
+    }
+    let books = words_of(alloc, rest)?;
+    match Paths::of(books) {
+        Some(paths) => Ok(Some(Asked::Missing {
+            paths,
+            lines: false,
+        })),
         None => Ok(None),
     }
 }

@@ -1,19 +1,25 @@
 //! What the words of a command line ask for.
 
-ghost use Rattle.std.specs.Prelude.{◌≡◌, IfOk, IfErr, map, string_bytes};
+ghost use Rattle.std.specs.Prelude.{◌≡◌, IfOk, IfErr, false, map, string_bytes};
 ghost use Rattle.clap.specs.Words.{kind_of};
 ghost use Rattle.clap.specs.declared.error.ErrorKind.TheVariants.{OutOfMemory};
 ghost use Rattle.command_line.specs.Lines.{AsksFor, IsLine, Line};
+ghost use Rattle.command_line.specs.Inputs.{repeats_input};
 
+use crate::inputs::repeats_input;
 use crate::names::{Name, name_of};
 use crate::paths::Paths;
 use crate::plain::plain_line;
+use crate::ranks::WantedRanks;
 use crate::wanted::{Wanted, wanted_of};
 use clap::error::ErrorKind;
 use clap::{Arg, ArgAction, ArgMatches, Command, Error, value_parser};
 use shard_board::{MAX_SEATS, Workers};
 use std::alloc::{AllocError, Global};
 use wanted_classes::{WantedClasses, WantedExpectation, WantedFilter, WantedOutcomes, WantedTest};
+
+/// What the program is called in its texts, however it was started.
+const PROGRAM: &str = "isofarm";
 
 /// The version of the program. From which commit and with which kit it was built is known to what builds it alone.
 const VERSION: &str = "0.1.0";
@@ -77,11 +83,10 @@ pub enum Asked<'a> {
         paths: Paths<'a>,
         wanted: WantedOutcomes,
     },
-    /// The book of the ranks from the first up to but not the end, and whether it is told how far that is.
+    /// The book of some ranks of the spec at a path, and whether it is told how far that is.
     Run {
         path: &'a str,
-        first: u64,
-        end: u64,
+        ranks: WantedRanks,
         every: bool,
         workers: Workers,
         progress: bool,
@@ -89,6 +94,11 @@ pub enum Asked<'a> {
     /// The join of the books at one path or more.
     Join {
         paths: Paths<'a>,
+    },
+    /// Which ranks the books at one path or more miss, or which are to be run, as lines for what runs them.
+    Missing {
+        paths: Paths<'a>,
+        lines: bool,
     },
     /// Whether the book at a path is of the spec at another, and has a fact of each rank from the first up to but not the end.
     Holds {
@@ -110,10 +120,29 @@ pub enum Asked<'a> {
         path: &'a str,
         accepted: Vec<&'a str>,
     },
+    /// The specs at one path or more, beside their accepted texts; whether these are to be as the specs are; and where a report is written.
+    Test {
+        paths: Paths<'a>,
+        updates: bool,
+        junit: Option<&'a str>,
+        workers: Workers,
+    },
 }
 
 /// What the words ask for, the first of which is the program's name.
 pub fn parse_words<'a>(alloc: Global, words: &'a [String]) -> Result<Asked<'a>, Error>
+    ensures asked { IfOk result (λ asked. (line : Line) → IsLine (map string_bytes words.now) line → AsksFor line asked) }
+    ensures refused { IfErr result (λ e. (line : Line) → IsLine (map string_bytes words.now) line → kind_of e ≡ OutOfMemory) }
+    ensures once { IfOk result (λ asked. repeats_input asked ≡ false) }
+{
+    match asked_by(alloc, words) {
+        Ok(asked) => read_once(alloc, asked),
+        Err(error) => Err(error),
+    }
+}
+
+/// What the words ask for, which may be standard input twice.
+fn asked_by<'a>(alloc: Global, words: &'a [String]) -> Result<Asked<'a>, Error>
     ensures asked { IfOk result (λ asked. (line : Line) → IsLine (map string_bytes words.now) line → AsksFor line asked) }
     ensures refused { IfErr result (λ e. (line : Line) → IsLine (map string_bytes words.now) line → kind_of e ≡ OutOfMemory) }
 {
@@ -121,6 +150,25 @@ pub fn parse_words<'a>(alloc: Global, words: &'a [String]) -> Result<Asked<'a>, 
         Some(asked) => Ok(asked),
         None => other_line(alloc, words),
     }
+}
+
+/// The same, where standard input is one of its files at most.
+fn read_once<'a>(alloc: Global, asked: Asked<'a>) -> Result<Asked<'a>, Error>
+    ensures same { IfOk result (λ a. (a ≡ asked.entry) × (repeats_input a ≡ false)) }
+    ensures refused { IfErr result (λ e. repeats_input asked.entry ≡ false → kind_of e ≡ OutOfMemory) }
+{
+    if repeats_input(&asked) {
+        return Err(input_again(alloc)?);
+    }
+    Ok(asked)
+}
+
+/// The fault of words that ask for standard input twice.
+fn input_again(alloc: Global) -> Result<Error, AllocError> {
+    command(alloc)?.error(
+        ErrorKind::ArgumentConflict,
+        "the file '-', which is standard input, can be read once only",
+    )
 }
 
 /// What words ask for that are no plain line.
@@ -168,12 +216,18 @@ enum Word {
     Brief,
     First,
     End,
+    FirstOfAll,
+    EndOfAll,
     Every,
     Workers,
     Progress,
     Books,
+    Lines,
     Book,
     Accepted,
+    Specs,
+    Update,
+    Junit,
 }
 
 /// A command as the command line has it: how it is spelled, what it does, and its words in their order.
@@ -184,7 +238,7 @@ struct Row {
     words: &'static [Word],
 }
 
-static COMMANDS: [Row; 13] = [
+static COMMANDS: [Row; 15] = [
     Row {
         spelled: "check",
         about: "Prints how much a spec has, or where it is wrong and why",
@@ -247,11 +301,11 @@ static COMMANDS: [Row; 13] = [
     },
     Row {
         spelled: "run",
-        about: "Runs a range of permutations and prints the book of what they show",
+        about: "Runs all permutations, or a range of them, and prints the book of what they show",
         words: &[
             Word::Spec,
-            Word::First,
-            Word::End,
+            Word::FirstOfAll,
+            Word::EndOfAll,
             Word::Every,
             Word::Workers,
             Word::Progress,
@@ -261,6 +315,11 @@ static COMMANDS: [Row; 13] = [
         spelled: "join",
         about: "Prints one book with the facts of all",
         words: &[Word::Books],
+    },
+    Row {
+        spelled: "missing",
+        about: "Prints the numbers of the permutations of which books tell nothing",
+        words: &[Word::Books, Word::Lines],
     },
     Row {
         spelled: "holds",
@@ -282,11 +341,17 @@ static COMMANDS: [Row; 13] = [
         about: "Prints which accepted book tells the same, or where each differs first",
         words: &[Word::Book, Word::Accepted],
     },
+    Row {
+        spelled: "test",
+        about: "Prints whether the classes of specs are as accepted, or how they differ",
+        words: &[Word::Specs, Word::Update, Word::Junit, Word::Workers],
+    },
 ];
 
 /// The commands and their words.
 fn command<'a>(alloc: Global) -> Result<Command<'a>, AllocError> {
-    let mut command = Command::new(alloc, "isofarm")
+    let mut command = Command::new(alloc, PROGRAM)
+        .bin_name(PROGRAM)?
         .about("Runs the steps of SQL sessions in their orders, under two-phase locking")
         .version(VERSION)
         .subcommand_required(true);
@@ -321,6 +386,8 @@ fn ruled<'a>(word: Word, arg: Arg<'a>) -> Result<Arg<'a>, AllocError> {
     match word {
         Word::SpecOrBooks => arg.required(false).required_unless_present("book"),
         Word::OfBooks => arg.conflicts_with_all(NOT_OF_BOOKS),
+        Word::FirstOfAll => arg.required(false).requires_arg("END"),
+        Word::EndOfAll => Ok(arg.required(false)),
         _ => Ok(arg),
     }
 }
@@ -425,6 +492,16 @@ fn arg_of<'a>(alloc: Global, word: Word) -> Arg<'a> {
             "END",
             "The number behind that of the last permutation",
         ),
+        Word::FirstOfAll => number_word(
+            alloc,
+            "FIRST",
+            "The number of the first permutation; all are run where none is named",
+        ),
+        Word::EndOfAll => number_word(
+            alloc,
+            "END",
+            "The number behind that of the last permutation",
+        ),
         Word::Every => flag_word(
             alloc,
             "every",
@@ -433,11 +510,23 @@ fn arg_of<'a>(alloc: Global, word: Word) -> Arg<'a> {
         Word::Workers => workers_word(alloc),
         Word::Progress => flag_word(alloc, "progress", "Tells on standard error how far it is"),
         Word::Books => books_word(alloc, "BOOK", "Book files of one spec"),
+        Word::Lines => flag_word(
+            alloc,
+            "lines",
+            "Prints FIRST and END of each range that is to be run, so that none is missing",
+        ),
         Word::Book => book_word(alloc),
         Word::Accepted => books_word(
             alloc,
             "ACCEPTED",
             "Book files of outcomes that are accepted",
+        ),
+        Word::Junit => junit_word(alloc),
+        Word::Specs => books_word(alloc, "PATH", "Spec files, or folders of them"),
+        Word::Update => flag_word(
+            alloc,
+            "update",
+            "Accepts the classes as they are: writes NAME.accepted beside each NAME.spec",
         ),
     }
 }
@@ -489,6 +578,13 @@ fn workers_word<'a>(alloc: Global) -> Arg<'a> {
         .value_parser(value_parser!(u8).range(1..=i64::from(MAX_SEATS)))
         .default_value(DEFAULT_WORKERS_WORD)
         .help("How many workers run it, from 1 to 16")
+}
+
+fn junit_word<'a>(alloc: Global) -> Arg<'a> {
+    Arg::new(alloc, "junit")
+        .long("junit")
+        .value_name("FILE")
+        .help("Writes a report in the form of JUnit to this file")
 }
 
 fn books_word<'a>(alloc: Global, name: &'a str, help: &'a str) -> Arg<'a> {
@@ -555,10 +651,12 @@ fn asked_of<'a>(alloc: Global, matches: &ArgMatches<'a>) -> Result<Option<Asked<
         Name::Classes => classes_of_words(alloc, words),
         Name::Run => Ok(run_of_words(words)),
         Name::Join => join_of_words(alloc, words),
+        Name::Missing => missing_of_words(alloc, words),
         Name::Holds => Ok(holds_of_words(words)),
         Name::Report => Ok(report_of_words(words)),
         Name::Audit => Ok(audit_of_words(words)),
         Name::Judge => judge_of_words(alloc, words),
+        Name::Test => test_of_words(alloc, words),
     }
 }
 
@@ -779,17 +877,23 @@ fn expectations_of_words<'a>(
 
 fn run_of_words<'a>(words: &ArgMatches<'a>) -> Option<Asked<'a>> {
     let path = words.get_str("SPEC")?;
-    let first = words.get_one::<u64>("FIRST")?;
-    let end = words.get_one::<u64>("END")?;
     let workers = Workers::of(words.get_one::<u8>("workers")?)?;
     Some(Asked::Run {
         path,
-        first,
-        end,
+        ranks: ranks_of_words(words)?,
         every: words.get_flag("every"),
         workers,
         progress: words.get_flag("progress"),
     })
+}
+
+/// The ranks that the words name: all of them where there is no first one.
+fn ranks_of_words(words: &ArgMatches<'_>) -> Option<WantedRanks> {
+    let Some(first) = words.get_one::<u64>("FIRST") else {
+        return Some(WantedRanks::All);
+    };
+    let end = words.get_one::<u64>("END")?;
+    Some(WantedRanks::Range { first, end })
 }
 
 fn join_of_words<'a>(
@@ -802,6 +906,23 @@ fn join_of_words<'a>(
     let books = Vec::from_slice(alloc, books)?;
     match Paths::of(books) {
         Some(paths) => Ok(Some(Asked::Join { paths })),
+        None => Ok(None),
+    }
+}
+
+fn missing_of_words<'a>(
+    alloc: Global,
+    words: &ArgMatches<'a>,
+) -> Result<Option<Asked<'a>>, AllocError> {
+    let Some(books) = words.get_strs("BOOK") else {
+        return Ok(None);
+    };
+    let books = Vec::from_slice(alloc, books)?;
+    match Paths::of(books) {
+        Some(paths) => Ok(Some(Asked::Missing {
+            paths,
+            lines: words.get_flag("lines"),
+        })),
         None => Ok(None),
     }
 }
@@ -827,6 +948,28 @@ fn report_of_words<'a>(words: &ArgMatches<'a>) -> Option<Asked<'a>> {
 fn audit_of_words<'a>(words: &ArgMatches<'a>) -> Option<Asked<'a>> {
     let path = words.get_str("BOOK")?;
     Some(Asked::Audit { path })
+}
+
+fn test_of_words<'a>(
+    alloc: Global,
+    words: &ArgMatches<'a>,
+) -> Result<Option<Asked<'a>>, AllocError> {
+    let Some(paths) = words.get_strs("PATH") else {
+        return Ok(None);
+    };
+    let paths = Vec::from_slice(alloc, paths)?;
+    Ok(test_with(words, paths))
+}
+
+fn test_with<'a>(words: &ArgMatches<'a>, paths: Vec<&'a str>) -> Option<Asked<'a>> {
+    let paths = Paths::of(paths)?;
+    let workers = Workers::of(words.get_one::<u8>("workers")?)?;
+    Some(Asked::Test {
+        paths,
+        updates: words.get_flag("update"),
+        junit: words.get_str("junit"),
+        workers,
+    })
 }
 
 fn judge_of_words<'a>(

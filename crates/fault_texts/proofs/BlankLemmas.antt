@@ -3,7 +3,7 @@ use Rattle.std.proofs.Common.{◌≡◌, sym, ap, ◌∙◌, ℕ, List, [], ◌�
 use Rattle.std.proofs.lemmas.List.{map-append}
 use Rattle.std.proofs.lemmas.List.Elements.{filter-append}
 use Rattle.std.specs.List.{filter}
-use Rattle.fault_texts.specs.Explanations.{blank, is_start}
+use Rattle.fault_texts.specs.Cutting.{blank, is_start}
 
 abbrev white : ℕ → ℕ
 white b = cond (b == 9) 9 32

@@ -1,2 +1,3 @@
 mod BlankLemmas
+mod CutLemmas
 mod PlaceLemmas

@@ -1,3 +1,4 @@
+pub mod Cutting
 pub mod Explanations
 pub mod Places
 pub mod Status

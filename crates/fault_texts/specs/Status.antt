@@ -3,7 +3,7 @@ use Rattle.std.specs.Prelude.{ℕ}
 use Rattle.fault_texts.specs.declared.fault.ProgramFault.{ProgramFault}
 use Rattle.fault_texts.specs.declared.fault.ProgramFault.TheVariants.{Spec, Sql, Bind, Start, RankOutOfRange, Shard, Book, BookTooLarge, OtherSpec}
 use Rattle.fault_texts.specs.declared.fault.ProgramFault.TheVariants.{NoStep, Twice, OutOfTurn, LeftOut, NoLine, NoSession, NoSerialOrders, LookSql, LookBind, NotOneSelect, NoValue}
-use Rattle.fault_texts.specs.declared.fault.ProgramFault.TheVariants.{TooManyRanks, Explained, Missing, Clash, NoMemory, Read, Write}
+use Rattle.fault_texts.specs.declared.fault.ProgramFault.TheVariants.{TooManyRanks, NoSpecs, TooManySpecs, Explained, Missing, Clash, NoMemory, Read, Write}
 
 -- a rank without exactly one value is told by 1, what is refused by 3, want of memory by 4, and a read or write fault by 5
 abbrev pub status_of : ProgramFault → ℕ
@@ -28,6 +28,8 @@ status_of (Book path kind) = 3
 status_of BookTooLarge = 3
 status_of (OtherSpec path) = 3
 status_of (TooManyRanks path) = 3
+status_of (NoSpecs path) = 3
+status_of TooManySpecs = 3
 status_of (Explained told) = 3
 status_of (Missing path rank) = 1
 status_of (Clash path rank) = 1

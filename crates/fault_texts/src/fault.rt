@@ -131,6 +131,14 @@ pub enum ProgramFault<'a> {
     TooManyRanks {
         path: &'a str,
     },
+    /// In a folder that is to be tested there is no spec.
+    #[error("isofarm: {path}: no specs")]
+    NoSpecs {
+        path: &'a str,
+    },
+    /// More specs are to be tested than may be at once.
+    #[error("isofarm: too many specs")]
+    TooManySpecs,
     /// The least rank that has not exactly one value has none.
     #[error("isofarm: {path}: missing rank {rank}")]
     Missing {
@@ -189,6 +197,8 @@ impl ProgramFault<'_> {
             | ProgramFault::BookTooLarge
             | ProgramFault::OtherSpec { .. }
             | ProgramFault::TooManyRanks { .. }
+            | ProgramFault::NoSpecs { .. }
+            | ProgramFault::TooManySpecs
             | ProgramFault::Explained { .. } => 3,
             ProgramFault::NoMemory => 4,
             ProgramFault::Read { .. } | ProgramFault::Write => 5,

@@ -1,8 +1,25 @@
 //! What is wrong with a spec file, a sentence for each kind of refusal.
 
+use crate::origins::{Origin, origin_of};
 use binding_model::BindErrorKind;
 use spec_reader::SpecErrorKind;
 use sql_grammar::SqlErrorKind;
+
+/// What is wrong where a file is no spec, and what is expected there. A text behind a byte order mark and a book are told as such.
+pub fn file_sentence(kind: SpecErrorKind, text: &[u8]) -> &'static str {
+    match (kind, origin_of(text)) {
+        (SpecErrorKind::Misplaced, Some(Origin::Marked)) => {
+            "The file begins with a byte order mark, which editors do not show: a spec file has none."
+        }
+        (
+            SpecErrorKind::Misplaced | SpecErrorKind::Unclosed | SpecErrorKind::TooLarge,
+            Some(Origin::Book),
+        ) => {
+            "The file is a book and no spec file: report, audit, judge, join and classes --book read books."
+        }
+        (kind, _) => text_sentence(kind),
+    }
+}
 
 /// What is wrong where a text is no spec file, and what is expected there.
 pub fn text_sentence(kind: SpecErrorKind) -> &'static str {

@@ -1,18 +1,24 @@
 //! The program `isofarm`: hands the real world to the farm's library.
 #![tactic(auto)]
 
-use program_commands::{FileReader, Opener, run, tell_words_fault};
-use std::alloc::Global;
+mod folders;
+
+use folders::{entries_at, put_at};
+use program_commands::{Entry, FileReader, Folder, Opener, run, tell_words_fault};
+use std::alloc::{AllocError, Global};
 use std::env;
 use std::fs::File;
-use std::io::{self, BufWriter, Read, Write};
+use std::io::{self, BufWriter, Read, Stdin, Write};
 use std::process::ExitCode;
 use std::sync::Wait;
 use std::thread::Threads;
 use std::time::Clock;
 use transcripts::Counted;
 
-/// The files of the machine.
+/// The path of standard input.
+const INPUT: &str = "-";
+
+/// The files of the machine, and standard input.
 #[derive(Drop)]
 struct Disk<'a> {
     rt: &'a HostRuntime,
@@ -22,26 +28,60 @@ impl Opener for Disk<'_> {
     type Reader = OpenFile;
 
     fn open(&self, path: &str) -> Option<OpenFile> {
-        match File::open(self.rt, path) {
-            Ok(file) => Some(OpenFile {
-                file,
-                has_failed: false,
-            }),
-            Err(_) => None,
+        let source = source_at(self.rt, path)?;
+        Some(OpenFile {
+            source,
+            has_failed: false,
+        })
+    }
+}
+
+impl Folder for Disk<'_> {
+    fn entries(&self, alloc: Global, path: &str) -> Result<Option<Vec<Entry>>, AllocError> {
+        entries_at(self.rt, alloc, path)
+    }
+
+    fn put(&self, alloc: Global, path: &str, bytes: &[u8]) -> Result<bool, AllocError> {
+        put_at(self.rt, alloc, path, bytes)
+    }
+}
+
+fn source_at(rt: &HostRuntime, path: &str) -> Option<Source> {
+    if path == INPUT {
+        return Some(Source::Input(rt.stdin()));
+    }
+    match File::open(rt, path) {
+        Ok(file) => Some(Source::File(file)),
+        Err(_) => None,
+    }
+}
+
+/// What is read: a file, or standard input.
+#[derive(Drop)]
+enum Source {
+    File(File),
+    Input(Stdin),
+}
+
+impl Read for Source {
+    fn read(&mut self, buf: &mut [u8]) -> io::Result<usize> {
+        match self {
+            Source::File(file) => file.read(buf),
+            Source::Input(input) => input.read(buf),
         }
     }
 }
 
-/// A file that is read, and whether a read of it has failed.
+/// A source that is read, and whether a read of it has failed.
 #[derive(Drop)]
 struct OpenFile {
-    file: File,
+    source: Source,
     has_failed: bool,
 }
 
 impl Read for OpenFile {
     fn read(&mut self, buf: &mut [u8]) -> io::Result<usize> {
-        match self.file.read(buf) {
+        match self.source.read(buf) {
             Ok(count) => Ok(count),
             Err(error) => {
                 self.has_failed = true;

@@ -1,15 +1,18 @@
 -- What the program does for what is asked.
-use Rattle.std.specs.Prelude.{◌≡◌, ℕ, ◌+◌, ◌⊎◌, Bool, true, false, not, List, [], map, take, Option, None, Some, Result, Ok, Err, IfSome, ⊤}
+use Rattle.std.specs.Prelude.{◌≡◌, ℕ, ◌+◌, ◌⊎◌, Bool, true, false, is_some, not, List, [], map, take, Option, None, Some, Result, Ok, Err, IfSome, ⊤}
 use Rattle.std.specs.Io.KnownBytes.{Keeps}
 use Rattle.transcripts.specs.Counted.{Wrote, Stopped, written, failures_of}
 use Rattle.transcripts.specs.declared.counted.Counted.{Counted}
 use Rattle.command_line.specs.Lines.{Line, IsLine, AsksFor}
 use Rattle.command_line.specs.declared.words.Asked.{Asked}
-use Rattle.command_line.specs.declared.words.Asked.TheVariants.{Check, One, Count, Rank, Order, Show, Classes, Outcomes, Run, Join, Holds, Report, Audit, Judge}
+use Rattle.command_line.specs.declared.words.Asked.TheVariants.{Check, One, Count, Rank, Order, Show, Classes, Outcomes, Run, Join, Missing, Holds, Report, Audit, Judge, Test}
 use Rattle.command_line.specs.declared.wanted.Wanted.{Wanted}
 use Rattle.command_line.specs.declared.wanted.Wanted.TheVariants as wanted
+use Rattle.command_line.specs.declared.ranks.WantedRanks.{WantedRanks}
+use Rattle.command_line.specs.declared.ranks.WantedRanks.TheVariants as which
 use Rattle.spec_commands.specs.One.{IsOneRun}
-use Rattle.spec_commands.specs.Counting.{IsChecked, IsCounted}
+use Rattle.spec_commands.specs.Counting.{IsCounted}
+use Rattle.spec_checks.specs.Checking.{IsChecked}
 use Rattle.spec_commands.specs.Ordering.{IsOrdered, IsRanked}
 use Rattle.spec_commands.specs.Showing.{IsShowRun}
 use Rattle.spec_commands.specs.declared.showing.ShowForm.{ShowForm}
@@ -26,12 +29,17 @@ use Rattle.book_commands.specs.Reporting.{IsFileReported}
 use Rattle.book_commands.specs.Auditing.{IsAuditRun}
 use Rattle.book_commands.specs.Judging.{IsJudgeRun}
 use Rattle.book_commands.specs.Holding.{IsHoldRun}
-use Rattle.range_commands.specs.Ranges.{IsRangeRun}
+use Rattle.book_commands.specs.Missing.{IsMissingRun}
+use Rattle.book_commands.specs.declared.missing.MissingRanks.{MissingRanks}
+use Rattle.book_commands.specs.declared.missing.MissingRanks.TheVariants as missing
+use Rattle.range_commands.specs.Ranges.{IsRangeRun, IsRunOfAll}
+use Rattle.range_commands.specs.declared.ranges.RangeFault.{RangeFault}
 use Rattle.program_commands.specs.declared.files.TheConstants.{MAX_SPEC_READ}
 use Rattle.fault_texts.specs.declared.fault.ProgramFault.{ProgramFault}
 use Rattle.fault_texts.specs.declared.fault.ProgramFault.TheVariants.{NoMemory, Read, Write}
 use Rattle.fault_texts.specs.Status.{status_of}
-use Rattle.program_commands.specs.Faults.{Path, one_told, count_told, rank_told, order_told, show_told, classing_told, outcomes_told, range_told, join_told, report_told, audit_told, hold_told, judge_told, IsCheckTold}
+use Rattle.program_commands.specs.Testing.{IsTestRun}
+use Rattle.program_commands.specs.Faults.{Path, one_told, count_told, rank_told, order_told, show_told, classing_told, outcomes_told, range_told, join_told, missing_told, report_told, audit_told, hold_told, judge_told, IsCheckTold}
 
 -- what a call finds is the program's answer, and what it refuses is told
 abbrev pub IsFound : {E : Type 0} → (Result Finding E → Type 0) → (E → ProgramFault → Type 0) → Result Finding ProgramFault → Type 0
@@ -77,6 +85,16 @@ abbrev pub form_by : Bool → ShowForm
 form_by true = form.Json
 form_by false = form.Text
 
+-- lines are for what runs the ranks
+abbrev pub missing_by : Bool → MissingRanks
+missing_by true = missing.ToRun
+missing_by false = missing.Untold
+
+-- what is written for some ranks of a spec
+abbrev pub IsRunOf : {W : Type 0} → (W → Option (List ℕ)) → Counted W → Counted W → List ℕ → WantedRanks → Bool → Result ⊤ RangeFault → Type 0
+IsRunOf contents old new bytes which.All reduce result = IsRunOfAll contents old new bytes reduce result
+IsRunOf contents old new bytes (which.Range first end) reduce result = IsRangeRun contents old new bytes first end reduce result
+
 -- what is asked for is done
 abbrev pub IsDone : Files → {W : Type 0} → (W → Option (List ℕ)) → Counted W → Counted W → Asked → Result Finding ProgramFault → Type 0
 IsDone files contents old new (One path rank) result =
@@ -105,11 +123,13 @@ IsDone files contents old new (Classes path wanted workers progress) result =
     result
 IsDone files contents old new (Outcomes paths wanted) result =
     IsTold (IsBookClassesRun files (map (λ p. p.now) paths) contents old new wanted) (λ error told. outcomes_told paths error ≡ Some told) result
-IsDone files contents old new (Run path first end every workers progress) result =
+IsDone files contents old new (Run path ranks every workers progress) result =
     IsUnread (files path.now) path.now old new result
-    ⊎ IsCalled (files path.now) (λ bytes. IsRangeRun contents old new bytes first end (not every)) (λ bytes error told. told ≡ range_told path error) result
+    ⊎ IsCalled (files path.now) (λ bytes. IsRunOf contents old new bytes ranks (not every)) (λ bytes error told. told ≡ range_told path error) result
 IsDone files contents old new (Join paths) result =
     IsTold (IsJoinRun files (map (λ p. p.now) paths) contents old new) (λ error told. join_told paths error ≡ Some told) result
+IsDone files contents old new (Missing paths lines) result =
+    IsFound (IsMissingRun files (map (λ p. p.now) paths) (missing_by lines) contents old new) (λ error told. missing_told paths error ≡ Some told) result
 IsDone files contents old new (Holds path spec first end) result =
     IsUnread (files spec.now) spec.now old new result
     ⊎ IsFoundBy (files spec.now) (λ bytes. IsHoldRun (files path.now) bytes first end contents old new) (λ error told. told ≡ hold_told path error) result
@@ -119,6 +139,7 @@ IsDone files contents old new (Audit path) result =
     IsFound (IsAuditRun (files path.now) contents old new) (λ error told. told ≡ audit_told path error) result
 IsDone files contents old new (Judge path accepted) result =
     IsFound (IsJudgeRun files path.now (map (λ p. p.now) accepted.items) contents old new) (λ error told. judge_told path accepted.items error ≡ Some told) result
+IsDone files contents old new (Test paths updates junit workers) result = IsTestRun files (map (λ p. p.now) paths) updates (is_some junit) result
 
 -- a flush that does not fail: the bytes that are known to be written stay so, and no call has failed; what a device has got of them is not known
 abbrev pub IsFlushed : {W : Type 0} → (W → Option (List ℕ)) → Counted W → Counted W → Type 0
@@ -146,12 +167,14 @@ tells_progress (Order path rank) = false
 tells_progress (Show path order json) = false
 tells_progress (Classes path wanted workers progress) = progress
 tells_progress (Outcomes paths wanted) = false
-tells_progress (Run path first end every workers progress) = progress
+tells_progress (Run path ranks every workers progress) = progress
 tells_progress (Join paths) = false
+tells_progress (Missing paths lines) = false
 tells_progress (Holds path spec first end) = false
 tells_progress (Report path) = false
 tells_progress (Audit path) = false
 tells_progress (Judge path accepted) = false
+tells_progress (Test paths updates junit workers) = false
 
 -- With which status the program ends. Where nothing is to be told on the way only a fault is told; where there is no memory for its line, that is
 -- told in its place

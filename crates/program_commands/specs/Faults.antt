@@ -44,6 +44,8 @@ use Rattle.book_commands.specs.declared.auditing.AuditFault.{AuditFault}
 use Rattle.book_commands.specs.declared.auditing.AuditFault.TheVariants as audit_fault
 use Rattle.book_commands.specs.declared.holding.HoldFault.{HoldFault}
 use Rattle.book_commands.specs.declared.holding.HoldFault.TheVariants as hold_fault
+use Rattle.book_commands.specs.declared.missing.MissingFault.{MissingFault}
+use Rattle.book_commands.specs.declared.missing.MissingFault.TheVariants as missing_fault
 use Rattle.book_commands.specs.declared.judging.NoReport.{NoReport}
 use Rattle.book_commands.specs.declared.judging.NoReport.TheVariants as no_report
 use Rattle.book_commands.specs.declared.judging.JudgeFault.{JudgeFault}
@@ -58,7 +60,7 @@ use Rattle.asked_classes.specs.declared.fault.AskedFault.{AskedFault}
 use Rattle.asked_classes.specs.declared.fault.AskedFault.TheVariants as asked_fault
 use Rattle.range_commands.specs.declared.ranges.RangeFault.{RangeFault}
 use Rattle.range_commands.specs.declared.ranges.RangeFault.TheVariants as range_fault
-use Rattle.fault_texts.specs.Explanations.{explanation}
+use Rattle.spec_findings.specs.Told.{AreTold}
 use Rattle.fault_texts.specs.declared.fault.ProgramFault.{ProgramFault}
 use Rattle.fault_texts.specs.declared.fault.ProgramFault.TheVariants.{Spec, Sql, Bind, Start, RankOutOfRange, Shard, Book, BookTooLarge, OtherSpec}
 use Rattle.fault_texts.specs.declared.fault.ProgramFault.TheVariants.{TooManyRanks, Explained, Missing, Clash, NoMemory, Read, Write}
@@ -189,6 +191,13 @@ outcomes_told paths (outcomes_fault.Clash rank) = option_map (λ path. Clash pat
 outcomes_told paths outcomes_fault.NoMemory = Some NoMemory
 outcomes_told paths (outcomes_fault.Write fault) = Some Write
 
+-- the same of books that are asked what they miss
+abbrev pub missing_told : List Path → MissingFault → Option ProgramFault
+missing_told paths (missing_fault.Join fault) = join_told paths fault
+missing_told paths (missing_fault.Clash rank) = option_map (λ path. Clash path rank) (slice_get paths 0)
+missing_told paths missing_fault.NoMemory = Some NoMemory
+missing_told paths (missing_fault.Write fault) = Some Write
+
 abbrev pub values_told : Path → ReportError → ProgramFault
 values_told path report_error.TooMany = TooManyRanks path
 values_told path (report_error.Missing rank) = Missing path rank
@@ -219,17 +228,12 @@ judge_told path accepted (judge_fault.Accepted place fault) = option_map (λ oth
 judge_told path accepted judge_fault.NoMemory = Some NoMemory
 judge_told path accepted (judge_fault.Write fault) = Some Write
 
--- where a spec's fault is
-abbrev pub offset_of : SpecFault → ℕ
-offset_of (spec_fault.Text error) = error.offset
-offset_of (spec_fault.Binding error) = error.offset
-
--- what a check tells of a file that is no spec: some line and behind it where in the file that is and what is wrong; or that memory ran out, as it
+-- what a check tells of a file that is no spec: some line, and behind it where in the file its faults are and what is wrong; or that memory ran out, as it
 -- always does where that is the fault
 abbrev pub IsExplained : Path → List ℕ → SpecFault → ProgramFault → Type 0
 IsExplained path text fault (Explained told) =
     (spec_told path fault ≢ NoMemory)
-    × ((line sentence : List ℕ) × (string_bytes told ≡ line ++ (codes "\n" ++ explanation path.now text (offset_of fault) sentence)))
+    × ((line explained : List ℕ) × AreTold path.now text fault explained × (string_bytes told ≡ line ++ (codes "\n" ++ explained)))
 IsExplained path text fault told = told ≡ NoMemory
 
 abbrev pub IsCheckTold : Path → List ℕ → CountFault → ProgramFault → Type 0

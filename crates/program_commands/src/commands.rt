@@ -6,7 +6,8 @@ ghost use Rattle.clap.specs.declared.error.ErrorKind.TheVariants.{OutOfMemory};
 ghost use Rattle.transcripts.specs.Counted.{Wrote, failures_of};
 ghost use Rattle.transcripts.specs.declared.counted.Counted.{Counted};
 ghost use Rattle.spec_commands.specs.One.{IsOneRun};
-ghost use Rattle.spec_commands.specs.Counting.{IsChecked, IsCounted};
+ghost use Rattle.spec_commands.specs.Counting.{IsCounted};
+ghost use Rattle.spec_checks.specs.Checking.{IsChecked};
 ghost use Rattle.spec_commands.specs.Ordering.{IsOrdered, IsRanked};
 ghost use Rattle.spec_commands.specs.Showing.{IsShowRun};
 ghost use Rattle.spec_commands.specs.declared.showing.WantedOrder.{WantedOrder};
@@ -18,38 +19,46 @@ ghost use Rattle.book_commands.specs.Reporting.{IsFileReported};
 ghost use Rattle.book_commands.specs.Auditing.{IsAuditRun};
 ghost use Rattle.book_commands.specs.Judging.{IsJudgeRun};
 ghost use Rattle.book_commands.specs.Holding.{IsHoldRun};
-ghost use Rattle.range_commands.specs.Ranges.{IsRangeRun};
+ghost use Rattle.book_commands.specs.Missing.{IsMissingRun};
+ghost use Rattle.range_commands.specs.Ranges.{IsRangeRun, IsRunOfAll};
 ghost use Rattle.fault_texts.specs.Status.{status_of};
-ghost use Rattle.program_commands.specs.Faults.{one_told, count_told, rank_told, order_told, show_told, classing_told, outcomes_told, range_told, join_told, report_told, audit_told, hold_told, judge_told, IsCheckTold};
+ghost use Rattle.program_commands.specs.Faults.{one_told, count_told, rank_told, order_told, show_told, classing_told, outcomes_told, range_told, join_told, missing_told, report_told, audit_told, hold_told, judge_told, IsCheckTold};
 ghost use Rattle.fault_texts.specs.declared.fault.ProgramFault.TheVariants.{Write as WriteFault};
-ghost use Rattle.program_commands.specs.Commands.{IsAnswered, IsCut, IsDone, IsCalled, IsFlushed, IsFound, IsFoundBy, IsPassedOn, IsRun, IsSame, IsTold, IsUnread, IsUsage, form_by, names_in, tells_progress};
+ghost use Rattle.program_commands.specs.Commands.{IsAnswered, IsCut, IsDone, IsCalled, IsFlushed, IsFound, IsFoundBy, IsPassedOn, IsRun, IsRunOf, IsSame, IsTold, IsUnread, IsUsage, form_by, missing_by, names_in, tells_progress};
 
 use crate::faults::{
     audit_fault, classes_fault, count_fault, explained_fault, fault_at, hold_fault, join_fault,
-    judge_fault, order_fault, outcomes_fault, range_fault, rank_fault, report_fault, show_fault,
+    judge_fault, missing_fault, order_fault, outcomes_fault, range_fault, rank_fault, report_fault,
+    show_fault,
 };
 use crate::files::read_spec_file;
-use book_commands::{Finding, Opener, audit_file, hold_file, join_files, judge_files, report_file};
+use crate::testing::{TestWords, test_of_files};
+use book_commands::{
+    Finding, MissingRanks, Opener, audit_file, hold_file, join_files, judge_files, missing_files,
+    report_file,
+};
 use clap::Error;
 use clap::error::ErrorKind;
 use class_commands::{book_classes, classes_told};
-use command_line::{Asked, Wanted, parse_words};
+use command_line::{Asked, Wanted, WantedRanks, parse_words};
 use fault_texts::ProgramFault;
-use range_commands::run_told;
+use range_commands::{run_all, run_told};
 use shard_board::Workers;
-use spec_commands::{CountFault, ShowForm, WantedOrder, check, count, one, order, rank, show};
+use spec_checks::check;
+use spec_commands::{CountFault, ShowForm, WantedOrder, count, one, order, rank, show};
 use std::alloc::Global;
 use std::io::{self, Write};
 use std::sync::Wait;
 use std::thread::Threads;
 use std::time::Clock;
+use test_commands::Folder;
 use transcripts::{Counted, say};
 use wanted_classes::{WantedClasses, WantedOutcomes};
 
 /// Does what the words ask, the first of which is the program's name. What is asked for goes to `out`; faults go to `err`, and so does how far a
-/// run is, where that is asked for. The answer is the exit status: 0 good, 1 where a rank has not exactly one value, a fact is false or no
-/// accepted report is equal, 2 for a fault of the command line, 3 for what is refused, 4 for want of memory, 5 for a read or write fault.
-pub fn run<R: Threads + Wait + Clock + Sync, O: Opener, W: Write, E: Write + Send>(
+/// run is, where that is asked for. The answer is the exit status: 0 good, 1 where a rank has not exactly one value, ranks are missing,
+/// a fact is false or no accepted report is equal, 2 for a fault of the command line, 3 for what is refused, 4 for want of memory, 5 for a read or write fault.
+pub fn run<R: Threads + Wait + Clock + Sync, O: Folder, W: Write, E: Write + Send>(
     rt: &R,
     alloc: Global,
     words: &[String],
@@ -71,7 +80,7 @@ pub fn run<R: Threads + Wait + Clock + Sync, O: Opener, W: Write, E: Write + Sen
 }
 
 /// Does what is asked. Where that is done, nothing of it is held back. Only a run that is to tell how far it is writes to `err`.
-pub fn answer<'a, R: Threads + Wait + Clock + Sync, O: Opener, W: Write, E: Write + Send>(
+pub fn answer<'a, R: Threads + Wait + Clock + Sync, O: Folder, W: Write, E: Write + Send>(
     rt: &R,
     alloc: Global,
     asked: &Asked<'a>,
@@ -90,7 +99,7 @@ pub fn answer<'a, R: Threads + Wait + Clock + Sync, O: Opener, W: Write, E: Writ
 }
 
 /// Writes what is asked for; some of it may be held back.
-fn work<'a, R: Threads + Wait + Clock + Sync, O: Opener, W: Write, E: Write + Send>(
+fn work<'a, R: Threads + Wait + Clock + Sync, O: Folder, W: Write, E: Write + Send>(
     rt: &R,
     alloc: Global,
     asked: &Asked<'a>,
@@ -125,15 +134,17 @@ fn work<'a, R: Threads + Wait + Clock + Sync, O: Opener, W: Write, E: Write + Se
         }
         Asked::Run {
             path,
-            first,
-            end,
+            ranks,
             every,
             workers,
             progress,
-        } => range_of_file(
-            rt, alloc, path, *first, *end, !*every, workers, *progress, opener, out, err,
+        } => run_of_file(
+            rt, alloc, path, *ranks, !*every, workers, *progress, opener, out, err,
         ),
         Asked::Join { paths } => join_of_files(alloc, paths.as_slice(), opener, out),
+        Asked::Missing { paths, lines } => {
+            missing_of_files(alloc, paths.as_slice(), *lines, opener, out)
+        }
         Asked::Holds {
             path,
             spec,
@@ -144,6 +155,19 @@ fn work<'a, R: Threads + Wait + Clock + Sync, O: Opener, W: Write, E: Write + Se
         Asked::Audit { path } => audit_of_file(rt, alloc, path, opener, out),
         Asked::Judge { path, accepted } => {
             judge_of_files(alloc, path, accepted.as_slice(), opener, out)
+        }
+        Asked::Test {
+            paths,
+            updates,
+            junit,
+            workers,
+        } => {
+            let told = TestWords {
+                paths: paths.as_slice(),
+                updates: *updates,
+                junit: *junit,
+            };
+            test_of_files(rt, alloc, &told, workers, opener, out)
         }
     }
 }
@@ -337,6 +361,68 @@ fn classes_of_file<'a, R: Threads + Wait + Clock + Sync, O: Opener, W: Write, E:
     }
 }
 
+fn run_of_file<'a, R: Threads + Wait + Clock + Sync, O: Opener, W: Write, E: Write + Send>(
+    rt: &R,
+    alloc: Global,
+    path: &'a str,
+    ranks: WantedRanks,
+    reduce: bool,
+    workers: &Workers,
+    is_told: bool,
+    opener: &O,
+    out: &mut Counted<W>,
+    err: &mut Counted<E>,
+) -> Result<Finding, ProgramFault<'a>>
+    requires { failures_of out.old ≡ 0 }
+    ensures done { IsUnread (O.bytes opener.now path.now) path.now out.old out.new result ⊎ IsCalled (O.bytes opener.now path.now) (λ bytes. IsRunOf W.contents out.old out.new bytes ranks reduce) (λ bytes error told. told ≡ range_told path.entry error) result }
+    ensures failures { OnOk result (failures_of out.new ≡ 0) }
+    ensures quiet { is_told ≡ false → err.new ≡ err.old }
+{
+    match ranks {
+        WantedRanks::All => all_of_file(
+            rt, alloc, path, reduce, workers, is_told, opener, out, err,
+        ),
+        WantedRanks::Range { first, end } => range_of_file(
+            rt, alloc, path, first, end, reduce, workers, is_told, opener, out, err,
+        ),
+    }
+}
+
+fn all_of_file<'a, R: Threads + Wait + Clock + Sync, O: Opener, W: Write, E: Write + Send>(
+    rt: &R,
+    alloc: Global,
+    path: &'a str,
+    reduce: bool,
+    workers: &Workers,
+    is_told: bool,
+    opener: &O,
+    out: &mut Counted<W>,
+    err: &mut Counted<E>,
+) -> Result<Finding, ProgramFault<'a>>
+    requires { failures_of out.old ≡ 0 }
+    ensures done { IsUnread (O.bytes opener.now path.now) path.now out.old out.new result ⊎ IsCalled (O.bytes opener.now path.now) (λ bytes. IsRunOfAll W.contents out.old out.new bytes reduce) (λ bytes error told. told ≡ range_told path.entry error) result }
+    ensures failures { OnOk result (failures_of out.new ≡ 0) }
+    ensures quiet { is_told ≡ false → err.new ≡ err.old }
+{
+    let bytes = match read_spec_file(alloc, opener, path) {
+        Ok(bytes) => bytes,
+        Err(fault) => return Err(fault),
+    };
+    match run_all(
+        rt,
+        alloc,
+        bytes.as_slice(),
+        reduce,
+        workers,
+        is_told,
+        out,
+        err,
+    ) {
+        Ok(()) => Ok(Finding::Good),
+        Err(fault) => Err(range_fault(path, fault)),
+    }
+}
+
 fn range_of_file<'a, R: Threads + Wait + Clock + Sync, O: Opener, W: Write, E: Write + Send>(
     rt: &R,
     alloc: Global,
@@ -390,6 +476,35 @@ fn join_of_files<'a, O: Opener, W: Write>(
     match join_files(alloc, opener, paths, out) {
         Ok(()) => Ok(Finding::Good),
         Err(fault) => Err(join_fault(paths, fault)),
+    }
+}
+
+fn missing_of_files<'a, O: Opener, W: Write>(
+    alloc: Global,
+    paths: &[&'a str],
+    lines: bool,
+    opener: &O,
+    out: &mut Counted<W>,
+) -> Result<Finding, ProgramFault<'a>>
+    requires some { 0 < length paths.now }
+    requires fresh { failures_of out.old ≡ 0 }
+    ensures done { IsFound (IsMissingRun (O.bytes opener.now) (map (λ p. p.now) paths.now) (missing_by lines) W.contents out.old out.new) (λ error told. missing_told paths.now error ≡ Some told) result }
+    ensures failures { OnOk result (failures_of out.new ≡ 0) }
+{
+    match missing_files(alloc, opener, paths, missing_ranks(lines), out) {
+        Ok(finding) => Ok(finding),
+        Err(fault) => Err(missing_fault(paths, fault)),
+    }
+}
+
+/// Which ranks are asked for: lines are for what runs them.
+fn missing_ranks(lines: bool) -> MissingRanks
+    ensures { result ≡ missing_by lines }
+{
+    if lines {
+        MissingRanks::ToRun
+    } else {
+        MissingRanks::Untold
     }
 }
 

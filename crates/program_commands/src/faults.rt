@@ -4,25 +4,28 @@ ghost use Rattle.std.specs.Prelude.{◌≡◌, ◌≢◌, ◌++◌, ◌<◌, Lis
 ghost use Rattle.spec_commands.specs.Ordering.{IsNamePlace};
 ghost use Rattle.book_commands.specs.Joining.{IsPlaced};
 ghost use Rattle.book_commands.specs.Judging.{IsAcceptedPlace};
+ghost use Rattle.book_commands.specs.Missing.{IsMissingPlace};
 ghost use Rattle.class_commands.specs.Booking.{IsPlacedIn};
-ghost use Rattle.fault_texts.specs.Explanations.{explanation};
+ghost use Rattle.spec_findings.specs.Told.{AreTold};
 ghost use Rattle.fault_texts.specs.declared.fault.ProgramFault.TheVariants.{NoMemory};
-ghost use Rattle.program_commands.specs.Faults.{IsExplained, IsShowPlace, offset_of, one_told, count_told, rank_told, order_told, show_told, asked_told, classing_told, look_told, outcomes_told, range_told, join_told, report_told, audit_told, hold_told, judge_told, no_report_told};
+ghost use Rattle.program_commands.specs.Faults.{IsExplained, IsShowPlace, one_told, count_told, rank_told, order_told, show_told, asked_told, classing_told, look_told, outcomes_told, range_told, join_told, missing_told, report_told, audit_told, hold_told, judge_told, no_report_told};
 ghost use Rattle.program_commands.specs.Faults.{values_told, file_told, book_told, write_told, spec_told, text_told, binding_told, run_told, start_told};
 
 use asked_classes::AskedFault;
 use book_commands::{
-    AuditFault, FileFault, HoldFault, JoinFault, JudgeFault, NoReport, ReportFault, ReportFileFault,
+    AuditFault, FileFault, HoldFault, JoinFault, JudgeFault, MissingFault, NoReport, ReportFault,
+    ReportFileFault,
 };
 use book_format::{BookError, WriteError};
 use class_commands::{BookClassesFault, ClassesFault};
 use class_looks::LookFault;
 use fact_books::ReportError;
-use fault_texts::{ProgramFault, binding_sentence, explained, text_sentence};
+use fault_texts::ProgramFault;
 use range_commands::RangeFault;
 use session_machine::{RunError, StartError};
 use spec_binding::{BindError, BindErrorKind, SpecFault};
 use spec_commands::{CountFault, OneFault, OrderFault, RankFault, ShowFault};
+use spec_findings::explained_faults;
 use spec_reader::{SpecError, SpecErrorKind};
 use std::alloc::{AllocError, Global};
 
@@ -47,8 +50,8 @@ pub(crate) fn count_fault(path: &str, fault: CountFault) -> ProgramFault<'_>
     }
 }
 
-/// The fault of a check: the line of a spec's fault, and behind it where in the file that is and what is wrong. Where there is no memory for
-/// these, want of memory is told in their place.
+/// The fault of a check: the line of a spec's fault, and behind it where in the file that is and what is wrong, there and at other statements.
+/// Where there is no memory for these, want of memory is told in their place.
 pub(crate) fn explained_fault<'a>(
     alloc: Global,
     path: &'a str,
@@ -79,7 +82,7 @@ fn explained_line<'a>(
     }
 }
 
-/// A fault's line and its explanation.
+/// A fault's line, and behind it what is explained of the file.
 fn with_explanation(
     alloc: Global,
     line: &ProgramFault<'_>,
@@ -87,22 +90,11 @@ fn with_explanation(
     text: &[u8],
     fault: SpecFault,
 ) -> Result<String, AllocError>
-    ensures { IfOk result (λ told. (line sentence : List ℕ) × (string_bytes told ≡ line ++ (codes "\n" ++ explanation path.now text.now (offset_of fault) sentence))) }
+    ensures { IfOk result (λ told. (line explained : List ℕ) × AreTold path.now text.now fault explained × (string_bytes told ≡ line ++ (codes "\n" ++ explained))) }
 {
-    let (offset, sentence) = place_of(fault);
-    let explanation = explained(alloc, path, text, offset, sentence)?;
+    let explained = explained_faults(alloc, path, text, fault)?;
     let line = format!(in alloc; "{line}")?;
-    format!(in alloc; "{line}\n{explanation}")
-}
-
-/// Where a spec's fault is, and what is wrong there.
-fn place_of(fault: SpecFault) -> (usize, &'static str)
-    ensures { result.0 ≡ offset_of fault }
-{
-    match fault {
-        SpecFault::Text(error) => (error.offset, text_sentence(error.kind)),
-        SpecFault::Binding(error) => (error.offset, binding_sentence(error.kind)),
-    }
+    format!(in alloc; "{line}\n{explained}")
 }
 
 pub(crate) fn rank_fault<'a>(path: &'a str, names: &[&'a str], fault: RankFault) -> ProgramFault<'a>
@@ -236,6 +228,22 @@ pub(crate) fn outcomes_fault<'a>(paths: &[&'a str], fault: BookClassesFault) -> 
         },
         BookClassesFault::NoMemory => ProgramFault::NoMemory,
         BookClassesFault::Write(_) => ProgramFault::Write,
+    }
+}
+
+pub(crate) fn missing_fault<'a>(paths: &[&'a str], fault: MissingFault) -> ProgramFault<'a>
+    requires some { 0 < length paths.now }
+    requires placed { IsMissingPlace (length paths.now) fault }
+    ensures { missing_told paths.now fault ≡ Some result }
+{
+    match fault {
+        MissingFault::Join(fault) => join_fault(paths, fault),
+        MissingFault::Clash(rank) => ProgramFault::Clash {
+            path: word_at(paths, 0),
+            rank,
+        },
+        MissingFault::NoMemory => ProgramFault::NoMemory,
+        MissingFault::Write(_) => ProgramFault::Write,
     }
 }
 

@@ -4,9 +4,11 @@
 mod commands;
 mod faults;
 mod files;
+mod testing;
 
 pub use book_commands::{FileReader, Opener, Watched};
 pub use commands::{answer, run, tell_words_fault};
 pub use fault_texts::ProgramFault;
 pub use faults::fault_at;
 pub use files::MAX_SPEC_READ;
+pub use test_commands::{Entry, Folder};

@@ -110,6 +110,46 @@ fn a_check_tells_where_a_statement_does_not_fit(rt: HostRuntime) -> Result<(), F
     Ok(())
 }
 
+#[test]
+fn a_check_cuts_a_long_line_round_the_place(rt: HostRuntime) -> Result<(), Fail> {
+    for (text, want) in &LONG_LINES {
+        assert_explained(&rt, rt.alloc(), text.as_bytes(), want)?;
+    }
+    Ok(())
+}
+
+#[test]
+fn a_check_names_sql_that_is_not_in_the_subset(rt: HostRuntime) -> Result<(), Fail> {
+    for (text, want) in &KNOWN_SQL {
+        assert_explained(&rt, rt.alloc(), text.as_bytes(), want)?;
+    }
+    Ok(())
+}
+
+#[test]
+fn a_check_tells_a_mark_and_a_book_as_such(rt: HostRuntime) -> Result<(), Fail> {
+    for (text, want) in &OTHER_FILES {
+        assert_explained(&rt, rt.alloc(), text.as_bytes(), want)?;
+    }
+    Ok(())
+}
+
+#[test]
+fn a_check_tells_the_faults_of_other_statements(rt: HostRuntime) -> Result<(), Fail> {
+    for (text, want) in &SEVERAL_FAULTS {
+        assert_explained(&rt, rt.alloc(), text.as_bytes(), want)?;
+    }
+    Ok(())
+}
+
+#[test]
+fn a_check_tells_what_has_no_effect(rt: HostRuntime) -> Result<(), Fail> {
+    for (text, want) in &WITHOUT_EFFECT {
+        assert_counts(&rt, rt.alloc(), text, want)?;
+    }
+    Ok(())
+}
+
 static WRONG_TEXTS: [(&str, &str); 8] = [
     (
         "session a ;",
@@ -159,8 +199,8 @@ static WRONG_BLOCKS: [(&str, &str); 7] = [
         "sql error 3 at 34\nfirst.spec:3:2\n\tFROM t}\n\t^\nThis cannot stand here in a statement, or the statement ends too early.\n",
     ),
     (
-        "session a step s {VACUUM t;}",
-        "sql error 4 at 18\nfirst.spec:1:19\nsession a step s {VACUUM t;}\n                  ^\nNo statement begins with this word: there are CREATE TABLE, INSERT, SELECT, UPDATE, DELETE, BEGIN, START, COMMIT, END, ROLLBACK, ABORT, LOCK and SET.\n",
+        "session a step s {WIBBLE t;}",
+        "sql error 4 at 18\nfirst.spec:1:19\nsession a step s {WIBBLE t;}\n                  ^\nNo statement begins with this word: there are CREATE TABLE, INSERT, SELECT, UPDATE, DELETE, BEGIN, START, COMMIT, END, ROLLBACK, ABORT, LOCK and SET.\n",
     ),
     (
         "session a step s {SELECT v FROM t WHERE v = 99999999999999999999}",
@@ -204,5 +244,112 @@ static WRONG_STATEMENTS: [(&str, &str); 7] = [
     (
         "session a step aa {}\nsession b step bb {}\nsession c step cc {}\nsession d step dd {}\nsession e step ee {}\nsession f step ff {}\nsession g step gg {}\nsession h step hh {}\nsession i step ii {}\n",
         "bind error 8 at 0\nfirst.spec:1:1\nsession a step aa {}\n^\nThe file has too many sessions, steps or orders: 8 sessions at most, and 28 steps with fewer than 9,223,372,036,854,775,808 orders, or 255 steps where it has permutation lines.\n",
+    ),
+];
+
+static LONG_LINES: [(&str, &str); 4] = [
+    (
+        "session a step s {SELECT v FROM t WHERE v = 1 LIKE 2 -- xxxxxxxxxxxxxxxxxxxxxxxxxxxxxxxxxxxxxxxxxxxx\n}",
+        "sql error 3 at 46\nfirst.spec:1:47\nsession a step s {SELECT v FROM t WHERE v = 1 LIKE 2 -- xxxxxxxxxxxxxxxxxxxxxxxxxxxxxxxxxxxxxxxxxxxx\n                                              ^\nLIKE is not in the subset of SQL.\n",
+    ),
+    (
+        "session a step s {SELECT v FROM t WHERE v = 1 LIKE 2 -- xxxxxxxxxxxxxxxxxxxxxxxxxxxxxxxxxxxxxxxxxxxxx\n}",
+        "sql error 3 at 46\nfirst.spec:1:47\nsession a step s {SELECT v FROM t WHERE v = 1 LIKE 2 -- xxxxxxxxxxxxxxxxxxxxxxxxxxxxxxxxxxxxxx..\n                                              ^\nLIKE is not in the subset of SQL.\n",
+    ),
+    (
+        "session a step s {SELECT vvvvvvvvvv, wwwwwwwwww, xxxxxxxxxx, yyyyyyyyyy FROM tttttttttt WHERE\tvvvvvvvvvv = 1 AND wwwwwwwwww LIKE 2}",
+        "sql error 3 at 124\nfirst.spec:1:125\n.. tttttttttt WHERE\tvvvvvvvvvv = 1 AND wwwwwwwwww LIKE 2}\n                   \t                              ^\nLIKE is not in the subset of SQL.\n",
+    ),
+    (
+        "session a step s {SELECT v FROM t WHERE v = 'äöüäöüäöüäöüäöüäöüäöüäöüäöüäöüäöüäöüäöüäöüäöüäöüäöüäöü' OR OR v = 2}",
+        "sql error 3 at 158\nfirst.spec:1:105\n..üäöüäöüäöüäöüäöüäöüäöüäöüäöüäöüäöüäöüäöüäöü' OR OR v = 2}\n                                                  ^\nThis cannot stand here in a statement, or the statement ends too early.\n",
+    ),
+];
+
+static KNOWN_SQL: [(&str, &str); 8] = [
+    (
+        "session a step s {VACUUM t;}",
+        "sql error 4 at 18\nfirst.spec:1:19\nsession a step s {VACUUM t;}\n                  ^\nVACUUM is not in the subset of SQL: its statements are CREATE TABLE, INSERT, SELECT, UPDATE, DELETE, BEGIN, START, COMMIT, END, ROLLBACK, ABORT, LOCK and SET.\n",
+    ),
+    (
+        "setup {CREATE TABLE t (id int, n Numeric(8, 2));}\nsession a step s {}",
+        "sql error 3 at 33\nfirst.spec:1:34\nsetup {CREATE TABLE t (id int, n Numeric(8, 2));}\n                                 ^\nNUMERIC is not in the subset of SQL: its types are INT, INTEGER, INT4, BIGINT, INT8 and TEXT.\n",
+    ),
+    (
+        "setup {create unique index i on t (id);}\nsession a step s {}",
+        "sql error 3 at 14\nfirst.spec:1:15\nsetup {create unique index i on t (id);}\n              ^\nCREATE UNIQUE INDEX is not in the subset of SQL: it creates tables alone.\n",
+    ),
+    (
+        "session a step s {SELECT v FROM t FOR UPDATE skip\n-- still\nlocked}",
+        "sql error 3 at 45\nfirst.spec:1:46\nsession a step s {SELECT v FROM t FOR UPDATE skip\n                                             ^\nSKIP LOCKED is not in the subset of SQL.\n",
+    ),
+    (
+        "session a step s {SELECT v FROM t WHERE v = '1'::int}",
+        "sql error 1 at 47\nfirst.spec:1:48\nsession a step s {SELECT v FROM t WHERE v = '1'::int}\n                                               ^\nA cast is not in the subset of SQL.\n",
+    ),
+    (
+        "session a step s {SELECT max(v) FROM t}",
+        "sql error 3 at 28\nfirst.spec:1:29\nsession a step s {SELECT max(v) FROM t}\n                            ^\nA function is not in the subset of SQL.\n",
+    ),
+    (
+        "session a step s {SELECT v FROM t, u}",
+        "sql error 3 at 33\nfirst.spec:1:34\nsession a step s {SELECT v FROM t, u}\n                                 ^\nA list of tables is not in the subset of SQL.\n",
+    ),
+    (
+        "setup {CREATE TABLE t (a int, b int, PRIMARY KEY (a, b))}\nsession a step s {}",
+        "sql error 3 at 51\nfirst.spec:1:52\nsetup {CREATE TABLE t (a int, b int, PRIMARY KEY (a, b))}\n                                                   ^\nA key of several columns is not in the subset of SQL.\n",
+    ),
+];
+
+static OTHER_FILES: [(&str, &str); 5] = [
+    (
+        "﻿session a step s {}",
+        "spec error 4 at 0\nfirst.spec:1:1\n﻿session a step s {}\n^\nThe file begins with a byte order mark, which editors do not show: a spec file has none.\n",
+    ),
+    (
+        "{\"facts\":[],\"format\":2,\"outcomes\":[],\"spec\":\"session a step s {}\"}\n",
+        "spec error 4 at 0\nfirst.spec:1:1\n{\"facts\":[],\"format\":2,\"outcomes\":[],\"spec\":\"session a step s {}\"}\n^\nThe file is a book and no spec file: report, audit, judge, join and classes --book read books.\n",
+    ),
+    (
+        " \n{\n \"spec\" : \"session a step s {",
+        "spec error 3 at 2\nfirst.spec:2:1\n{\n^\nThe file is a book and no spec file: report, audit, judge, join and classes --book read books.\n",
+    ),
+    (
+        "{ facts }",
+        "spec error 4 at 0\nfirst.spec:1:1\n{ facts }\n^\nThis cannot stand here: a file has setups, a teardown, sessions, and then permutation lines; a session has its name, a setup, a teardown, steps with a name and a block each, and a teardown.\n",
+    ),
+    (
+        "session a step s {} {\"facts\"}",
+        "spec error 4 at 20\nfirst.spec:1:21\nsession a step s {} {\"facts\"}\n                    ^\nThis cannot stand here: a file has setups, a teardown, sessions, and then permutation lines; a session has its name, a setup, a teardown, steps with a name and a block each, and a teardown.\n",
+    ),
+];
+
+static SEVERAL_FAULTS: [(&str, &str); 4] = [
+    (
+        "setup {CREATE TABLE t (id int);}\nsession a setup {SELECT FROM t; COMMIT; SELECT v FROM t;} step s {SELECT id FROM u}",
+        "sql error 3 at 57\nfirst.spec:2:25\nsession a setup {SELECT FROM t; COMMIT; SELECT v FROM t;} step s {SELECT id FROM u}\n                        ^\nThis cannot stand here in a statement, or the statement ends too early.\nalso first.spec:2:41\nsession a setup {SELECT FROM t; COMMIT; SELECT v FROM t;} step s {SELECT id FROM u}\n                                        ^\nThe statement that begins here names a column that its table does not have.\nalso first.spec:2:67\nsession a setup {SELECT FROM t; COMMIT; SELECT v FROM t;} step s {SELECT id FROM u}\n                                                                  ^\nThe statement that begins here names a table that no statement before it declares: CREATE TABLE stands in a setup of the file.\n",
+    ),
+    (
+        "setup {CREATE TABLE t (id int);}\nsession a step s {SELECT v FROM t; SELECT id FROM t id; COMMIT} step u {DELETE FROM w}",
+        "sql error 3 at 85\nfirst.spec:2:53\nsession a step s {SELECT v FROM t; SELECT id FROM t id; COMMIT} step u {DELETE FROM w}\n                                                    ^\nAnother name for a table is not in the subset of SQL.\nalso first.spec:2:19\nsession a step s {SELECT v FROM t; SELECT id FROM t id; COMMIT} step u {DELETE FROM w}\n                  ^\nThe statement that begins here names a column that its table does not have.\nalso first.spec:2:73\nsession a step s {SELECT v FROM t; SELECT id FROM t id; COMMIT} step u {DELETE FROM w}\n                                                                        ^\nThe statement that begins here names a table that no statement before it declares: CREATE TABLE stands in a setup of the file.\n",
+    ),
+    (
+        "session a step s {SELECT 'x; COMMIT; LOCK ? t; ?}",
+        "sql error 2 at 25\nfirst.spec:1:26\nsession a step s {SELECT 'x; COMMIT; LOCK ? t; ?}\n                         ^\nThe text that begins here has no end: it ends with a single quote, and a quote in it is doubled.\nalso first.spec:1:43\nsession a step s {SELECT 'x; COMMIT; LOCK ? t; ?}\n                                          ^\nNo token of SQL begins here: a block has words, whole numbers, texts in single quotes, and the signs ( ) , ; * + - = <> != < <= > and >=.\nalso first.spec:1:48\nsession a step s {SELECT 'x; COMMIT; LOCK ? t; ?}\n                                               ^\nNo token of SQL begins here: a block has words, whole numbers, texts in single quotes, and the signs ( ) , ; * + - = <> != < <= > and >=.\n",
+    ),
+    (
+        "setup {CREATE TABLE t (id real); INSERT INTO t VALUES (1);}\nsession a step s {SELECT id FROM t; SELECT id id FROM t}",
+        "sql error 3 at 26\nfirst.spec:1:27\nsetup {CREATE TABLE t (id real); INSERT INTO t VALUES (1);}\n                          ^\nREAL is not in the subset of SQL: its types are INT, INTEGER, INT4, BIGINT, INT8 and TEXT.\nalso first.spec:2:47\nsession a step s {SELECT id FROM t; SELECT id id FROM t}\n                                              ^\nThis cannot stand here in a statement, or the statement ends too early.\n",
+    ),
+];
+
+static WITHOUT_EFFECT: [(&str, &str); 2] = [
+    (
+        "setup {CREATE TABLE t (id int NOT NULL)}\nteardown {}\nsession a setup {BEGIN ISOLATION LEVEL READ COMMITTED; SET a = 1}\nstep s {START TRANSACTION\nISOLATION LEVEL SERIALIZABLE; SET\nb TO 2; SET c = 3} step t {}\nteardown {SET d = 4}\npermutation s(*) t(s, t)\npermutation s t(s notices 1)",
+        "sessions 1\nsteps 2\nranks 2\nno effect: isolation level, lines 3 4\nno effect: SET, lines 3 5 6\nno effect: NOT NULL, lines 1\nno effect: teardown, lines 2 7\nno effect: marker, lines 8 9\n",
+    ),
+    (
+        "setup {CREATE TABLE t (id int, b text);\nINSERT INTO t VALUES (1, 'SET x = 1 NOT NULL')}\n# (\nsession \"a (\" setup {BEGIN} step s {UPDATE t SET id = 1 WHERE NOT (id = 1)}\npermutation s",
+        "sessions 1\nsteps 1\nranks 1\n",
     ),
 ];

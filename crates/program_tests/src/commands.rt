@@ -1,7 +1,7 @@
 //! The words of the command line: what each writes, and with which status.
 use crate::disks::{Disk, assert_tells, assert_text, holding, tell};
 use book_tests::words_of;
-use program_commands::{MAX_SPEC_READ, Opener, run, tell_words_fault};
+use program_commands::{Folder, MAX_SPEC_READ, run, tell_words_fault};
 use std::alloc::{AllocError, Global};
 use std::io::{self, Write};
 use std::process::Abort;
@@ -195,7 +195,7 @@ fn a_file_that_is_not_read_is_a_read_fault(rt: HostRuntime) -> Result<(), Fail> 
     Ok(())
 }
 
-pub fn assert_write_fault<O: Opener, W: Write + Drop>(
+pub fn assert_write_fault<O: Folder, W: Write + Drop>(
     rt: &(impl Abort + Threads + Wait + Clock + Sync),
     alloc: Global,
     line: &str,
@@ -281,6 +281,9 @@ fn help_goes_to_the_output(rt: HostRuntime) -> Result<(), Fail> {
         "isofarm help",
         "isofarm one --help",
         "isofarm show --help",
+        "isofarm missing --help",
+        "/somewhere/else/other --help",
+        "other help run",
     ] {
         assert_help(&rt, rt.alloc(), line)?;
     }

@@ -1,7 +1,7 @@
 //! What the program tells, run over a disk with one file.
 use book_tests::{Told, words_of};
 use library_tests::ByteReader;
-use program_commands::{Opener, Watched, run};
+use program_commands::{Entry, Folder, Opener, Watched, run};
 use std::alloc::{AllocError, Global};
 use std::process::Abort;
 use std::sync::Wait;
@@ -31,6 +31,17 @@ impl<'a> Opener for Disk<'a> {
     }
 }
 
+// It has no folders, and takes no file.
+impl Folder for Disk<'_> {
+    fn entries(&self, _alloc: Global, _path: &str) -> Result<Option<Vec<Entry>>, AllocError> {
+        Ok(None)
+    }
+
+    fn put(&self, _alloc: Global, _path: &str, _bytes: &[u8]) -> Result<bool, AllocError> {
+        Ok(false)
+    }
+}
+
 /// The disk that has the text as `first.spec`.
 pub fn holding<'a>(text: &'a [u8]) -> Disk<'a> {
     Disk {
@@ -41,7 +52,7 @@ pub fn holding<'a>(text: &'a [u8]) -> Disk<'a> {
 }
 
 /// What the words tell over a disk.
-pub fn told_by<O: Opener>(
+pub fn told_by<O: Folder>(
     rt: &(impl Threads + Wait + Clock + Sync),
     alloc: Global,
     words: &[String],

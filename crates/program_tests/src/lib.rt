@@ -42,6 +42,8 @@ mod shown_orders;
 #[cfg(test)]
 mod shows;
 #[cfg(test)]
+mod spec_tests;
+#[cfg(test)]
 mod statements;
 #[cfg(test)]
 mod verdicts;

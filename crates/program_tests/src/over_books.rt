@@ -156,7 +156,12 @@ isofarm run two.spec 0 4 | left.book
 isofarm run eight.spec 0 2 | eight.book
 isofarm run eight.spec 369398958888959998 369398958888960000 | far.book
 isofarm run long.spec 0 28 | long.book
-isofarm run lined.spec 0 1 | lined.book";
+isofarm run lined.spec 0 1 | lined.book
+isofarm run e.spec | e.book
+isofarm run first.spec | first.book
+isofarm run lines.spec | lines.book
+isofarm run two.spec | reduced.book
+isofarm run long.spec | long.book";
 
 #[test]
 fn a_range_gives_the_book_of_its_ranks(rt: HostRuntime) -> Result<(), Fail> {
@@ -169,7 +174,9 @@ isofarm run first.spec 0 2 --every | first.book
 isofarm run lines.spec 0 1 --every | lines.book
 isofarm run fronts.spec 0 2 --every | fronts.book
 isofarm run two.spec 0 6 --every | every.book
-isofarm run --every two.spec 2 6 | right.book";
+isofarm run --every two.spec 2 6 | right.book
+isofarm run --every two.spec | every.book
+isofarm run idle.spec --every --workers 16 | idle.book";
 
 /// The same by so many workers. Of nine steps that do nothing there are 1,680 orders, which are two shards.
 const WORKERS: &str = "isofarm run idle.spec 0 1680 --every | idle.book
@@ -310,10 +317,13 @@ isofarm run large.spec 0 3246670537110001 | 3 | large.spec: shard error 1
 isofarm run large.spec 0 18446744073709551615 | 3 | large.spec: shard error 1
 isofarm run large.spec 4096001 0 | 3 | large.spec: shard error 1
 isofarm run eight.spec 0 4096001 | 3 | eight.spec: shard error 2
+isofarm run eight.spec | 3 | eight.spec: shard error 2
+isofarm run large.spec --every | 3 | large.spec: shard error 2
 isofarm run eight.spec 369398958888960000 369398958888960001 | 3 | eight.spec: shard error 1
 isofarm run late.spec 0 2 | 3 | late.spec: shard error 1
 isofarm run late.spec 1 0 | 3 | late.spec: shard error 1
 isofarm run late.spec 0 1 | 3 | late.spec: start error 1 at 1
+isofarm run late.spec | 3 | late.spec: start error 1 at 1
 isofarm run late.spec 0 0 | 3 | late.spec: start error 1 at 1";
 
 #[test]
@@ -326,12 +336,95 @@ const REFUSED_SPECS: &str = "isofarm count bad.spec | 3 | bad.spec: spec error 5
 isofarm count sql.spec | 3 | sql.spec: sql error 4 at 18
 isofarm count bind.spec | 3 | bind.spec: bind error 2 at 18
 isofarm run bad.spec 1 0 | 3 | bad.spec: spec error 5 at 9
+isofarm run bad.spec | 3 | bad.spec: spec error 5 at 9
 isofarm run sql.spec 1 0 | 3 | sql.spec: sql error 4 at 18
 isofarm run bind.spec 1 0 | 3 | bind.spec: bind error 2 at 18";
 
 #[test]
 fn a_spec_is_refused_before_its_range(rt: HostRuntime) -> Result<(), Fail> {
     assert_each_refused(&rt, rt.alloc(), REFUSED_SPECS)
+}
+
+/// A line, its status, and the lines that are written, with a slash between two: which ranks books miss, or which are to be run.
+const MISSING: &str = "isofarm missing none.book | 1 | 0
+isofarm missing none.book --lines | 1 | 0 1
+isofarm missing --lines front.book | 1 | 1 2
+isofarm missing old_front.book | 1 | 1
+isofarm missing back.book | 1 | 0
+isofarm missing gap.book | 1 | 2/4-5
+isofarm missing gap.book --lines | 1 | 2 3
+isofarm missing upper.book | 1 | 0-5
+isofarm missing upper.book --lines | 1 | 0 3
+isofarm missing lower.book | 1 | 3-5
+isofarm missing lower.book --lines | 1 | 3 6
+isofarm missing right.book --lines | 1 | 0 2
+isofarm missing right.book gap.book upper.book | 0 |
+isofarm missing middle.book | 1 | 0
+isofarm missing eight.book | 1 | 2-369398958888959999
+isofarm missing eight.book --lines | 1 | 2 369398958888960000
+isofarm missing far.book | 1 | 0-369398958888959999
+isofarm missing far.book --lines | 1 | 0 369398958888959998
+isofarm missing eight.book far.book --lines | 1 | 2 369398958888959998
+isofarm missing far.book eight.book | 1 | 2-369398958888959999
+isofarm missing half.book rest.book | 1 | 30000001-3246670537109999
+isofarm missing late.book | 1 | 0
+isofarm missing e.book | 0 |
+isofarm missing e.book --lines | 0 |
+isofarm missing false.book | 0 |
+isofarm missing lines.book | 0 |
+isofarm missing front.book back.book front.book | 0 |
+isofarm missing upper.book lower.book --lines | 0 |";
+
+/// Lines, with a slash between two.
+fn lines_between_slashes(alloc: Global, told: &str) -> Result<String, AllocError> {
+    let mut text = String::new(alloc);
+    for line in told.split('/') {
+        text.push_str(line)?;
+        text.push_str("\n")?;
+    }
+    Ok(text)
+}
+
+/// A row of a table: these lines are written, none where there are none.
+fn assert_missing(
+    rt: &(impl Abort + Threads + Wait + Clock + Sync),
+    alloc: Global,
+    row: &str,
+) -> Result<(), Fail> {
+    let (line, rest) = row.split_once(" | ").ok_or("a line")?;
+    let told = tell_of_files(rt, alloc, line)?;
+    if rest == "0 |" {
+        assert_told(rt, &told, (0, "", ""), line);
+        return Ok(());
+    }
+    let lines = rest.strip_prefix("1 | ").ok_or("ranges")?;
+    let want = lines_between_slashes(alloc, lines)?;
+    assert_told(rt, &told, (1, want.as_str(), ""), line);
+    Ok(())
+}
+
+#[test]
+fn ranks_that_books_miss_are_told(rt: HostRuntime) -> Result<(), Fail> {
+    for row in MISSING.lines() {
+        assert_missing(&rt, rt.alloc(), row)?;
+    }
+    Ok(())
+}
+
+/// Books that are not asked what they miss, as they are not joined, and those that clash.
+const NOT_MISSING: &str = "isofarm missing clash.book | 1 | clash.book: clash at rank 0
+isofarm missing --lines old_clash.book none.book | 1 | old_clash.book: clash at rank 0
+isofarm missing e.book false.book | 1 | e.book: clash at rank 0
+isofarm missing e.book first.book clash.book | 3 | first.book: books of different specs
+isofarm missing clash.book cut.book | 3 | cut.book: book error 1
+isofarm missing size.book --lines | 3 | size.book: book error 8
+isofarm missing e.book no.book first.book | 5 | no.book: read fault";
+
+#[test]
+fn books_that_are_not_joined_or_clash_miss_nothing_that_is_told(
+    rt: HostRuntime,
+) -> Result<(), Fail> {
+    assert_each_refused(&rt, rt.alloc(), NOT_MISSING)
 }
 
 /// Books of different specs: the first that differs is told, and what stands behind it is not opened.
@@ -442,6 +535,7 @@ fn a_rank_without_one_value_is_told(rt: HostRuntime) -> Result<(), Fail> {
 /// Files that are not there, before what stands behind them.
 const NO_FILES: &str = "isofarm count no.spec | 5 | no.spec: read fault
 isofarm run no.spec 1 0 | 5 | no.spec: read fault
+isofarm run no.spec | 5 | no.spec: read fault
 isofarm join no.book | 5 | no.book: read fault
 isofarm join e.book no.book first.book | 5 | no.book: read fault
 isofarm join no.book cut.book | 5 | no.book: read fault
@@ -486,6 +580,46 @@ fn a_book_that_is_not_taken_is_a_write_fault(rt: HostRuntime) -> Result<(), Fail
     Ok(())
 }
 
+/// A hyphen alone is a path like any other for who opens files.
+#[test]
+fn a_hyphen_alone_is_a_path(rt: HostRuntime) -> Result<(), Fail> {
+    let input = Disk {
+        path: "-",
+        text: FIRST.as_bytes(),
+        calls_left: None,
+    };
+    for (line, want) in [
+        ("isofarm count -", (0, "2\n", "")),
+        (
+            "isofarm one - 2",
+            (3, "", "isofarm: -: rank out of range\n"),
+        ),
+        ("isofarm report -", (3, "", "isofarm: -: book error 1\n")),
+        ("isofarm join x -", (5, "", "isofarm: x: read fault\n")),
+        ("isofarm rank - -", (3, "", "isofarm: -: no step \"-\"\n")),
+    ] {
+        assert_tells(&rt, rt.alloc(), line, &input, want)?;
+    }
+    Ok(())
+}
+
+/// Standard input is read once.
+#[test]
+fn a_hyphen_that_stands_twice_is_a_fault_of_the_line(rt: HostRuntime) -> Result<(), Fail> {
+    for line in [
+        "isofarm join - -",
+        "isofarm join - first.spec -",
+        "isofarm missing - - --lines",
+        "isofarm classes --book - -",
+        "isofarm holds - - 0 1",
+        "isofarm judge - -",
+        "isofarm judge first.spec - -",
+    ] {
+        assert_no_command(&rt, rt.alloc(), line)?;
+    }
+    Ok(())
+}
+
 #[test]
 fn words_that_name_no_ranges_or_books_end_with_two(rt: HostRuntime) -> Result<(), Fail> {
     for line in [
@@ -493,6 +627,11 @@ fn words_that_name_no_ranges_or_books_end_with_two(rt: HostRuntime) -> Result<()
         "isofarm count first.spec 0",
         "isofarm run first.spec 0",
         "isofarm run first.spec 0 1 2",
+        "isofarm run first.spec --workers 2 1",
+        "isofarm run",
+        "isofarm missing",
+        "isofarm missing --lines",
+        "isofarm missing first.spec --ranks",
         "isofarm run first.spec x 1",
         "isofarm run first.spec 0 -1",
         "isofarm run first.spec 0 18446744073709551616",
@@ -663,6 +802,8 @@ fn books_are_told_whole_unless_memory_runs_out(rt: HostRuntime) {
     for (line, text) in [
         ("isofarm count e.spec", "1\n"),
         ("isofarm run e.spec 0 1", book),
+        ("isofarm run e.spec", book),
+        ("isofarm missing none.book e.book", ""),
         ("isofarm join none.book e.book", book),
         ("isofarm join old_e.book", book),
         ("isofarm report e.book", report),

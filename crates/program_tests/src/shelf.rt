@@ -1,7 +1,8 @@
 //! A disk whose files stand in rows.
 use crate::disks::Disk;
 use library_tests::ByteReader;
-use program_commands::{Opener, Watched};
+use program_commands::{Entry, Folder, Opener, Watched};
+use std::alloc::{AllocError, Global};
 
 /// The path and the text of a file in rows.
 pub fn file_of<'a>(rows: &'a str, path: &str) -> Option<(&'a str, &'a str)> {
@@ -31,5 +32,16 @@ impl<'a> Opener for Shelf<'a> {
             calls_left: None,
         };
         file.open(name)
+    }
+}
+
+// It has no folders, and takes no file.
+impl Folder for Shelf<'_> {
+    fn entries(&self, _alloc: Global, _path: &str) -> Result<Option<Vec<Entry>>, AllocError> {
+        Ok(None)
+    }
+
+    fn put(&self, _alloc: Global, _path: &str, _bytes: &[u8]) -> Result<bool, AllocError> {
+        Ok(false)
     }
 }

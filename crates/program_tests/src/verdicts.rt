@@ -1,4 +1,4 @@
-//! The commands that audit and judge books, over a disk with some files. The test without memory is to be read under
+//! The commands that audit and judge books and tell what they miss, over a disk with some files. The test without memory is to be read under
 //! `rt try --test --fail-alloc` too.
 use crate::shelf::Shelf;
 use book_tests::{Told, words_of};
@@ -292,7 +292,7 @@ fn assert_stopped<R: Abort + Threads + Wait + Clock + Sync>(
 }
 
 /// A line, and its answer in one line.
-static ANSWERS: [(&str, &str); 4] = [
+static ANSWERS: [(&str, &str); 6] = [
     ("isofarm audit e.book", "true\n"),
     ("isofarm audit swap.book", "false at rank 1\n"),
     ("isofarm judge e.book e.book", "matches 0\n"),
@@ -300,6 +300,8 @@ static ANSWERS: [(&str, &str); 4] = [
         "isofarm judge e.book first.book",
         "0 differs at rank 0 session 0\n",
     ),
+    ("isofarm missing front.book", "1\n"),
+    ("isofarm missing none.book --lines", "0 1\n"),
 ];
 
 #[test]

@@ -14,6 +14,7 @@ use Rattle.fact_books.specs.Books.{Contents}
 use Rattle.fact_books.specs.Building.{AreFactsOf}
 use Rattle.book_format.specs.Writing.{IsWritten}
 use Rattle.spec_binding.specs.SpecFiles.{IsNoSpec}
+use Rattle.spec_binding.specs.declared.spec.SpecFault.{SpecFault}
 use Rattle.range_commands.specs.declared.ranges.RangeFault.{RangeFault}
 use Rattle.range_commands.specs.declared.ranges.RangeFault.TheVariants as range_fault
 use Rattle.range_commands.specs.declared.ranges.TheConstants.{MAX_RANGE}
@@ -53,7 +54,17 @@ IsRangeRun contents old new bytes first end reduce (Err (range_fault.Run error))
 IsRangeRun contents old new bytes first end reduce (Err (range_fault.Write error)) =
     (file : SpecFile) × IsFileOf bytes file × ((book : Contents) × IsBookOfRange file first end reduce book × IsWritten contents old new book (Err error))
 
+-- what is written for all ranks of a spec is what is written for the range from 0 up to their number; where the bytes are no spec file, nothing is
+abbrev pub IsRunOfAll : {W : Type 0} → (W → Option (List ℕ)) → Counted W → Counted W → List ℕ → Bool → Result ⊤ RangeFault → Type 0
+IsRunOfAll contents old new bytes reduce result =
+    ((file : SpecFile) × IsFileOf bytes file × IsRangeRun contents old new bytes 0 (ranks file.run) reduce result)
+    ⊎ ((fault : SpecFault) × IsNoSpec bytes fault × (result ≡ Err (range_fault.Spec fault)) × (new ≡ old))
+
 -- ---- what the code keeps
+
+-- the bytes are a spec file of so many ranks
+abbrev pub IsNumberOfRanks : List ℕ → ℕ → Type 0
+IsNumberOfRanks bytes n = (file : SpecFile) × IsFileOf bytes file × (n ≡ ranks file.run)
 
 -- the plan that was refused is lawful: it does not start, or memory ran out
 abbrev pub IsOfLawfulPlan : FarmError → Type 0

@@ -3,4 +3,4 @@
 
 mod ranges;
 
-pub use ranges::{MAX_RANGE, RangeFault, book_of_range, run_range, run_told};
+pub use ranges::{MAX_RANGE, RangeFault, book_of_range, run_all, run_range, run_told};

@@ -1,10 +1,11 @@
 //! The book of a range of ranks, from the bytes of a spec to the text of the book.
 
 ghost use Rattle.std.specs.Prelude.{◌≡◌, ◌<◌, ◌≤◌, IfErr, IfOk, OnOk, MatchOption, false};
+ghost use Rattle.spec_binding.specs.SpecFiles.{IsNoSpec};
 ghost use Rattle.step_reducer.specs.Walking.{Starts};
 ghost use Rattle.fact_books.specs.Building.{AreFactsOf};
 ghost use Rattle.transcripts.specs.Counted.{failures_of};
-ghost use Rattle.range_commands.specs.Ranges.{IsRangeOf, IsOutsideRange, IsNoRange, IsRangeRun, IsOfLawfulPlan, IsToldOf};
+ghost use Rattle.range_commands.specs.Ranges.{IsRangeOf, IsOutsideRange, IsNoRange, IsNumberOfRanks, IsRangeRun, IsRunOfAll, IsOfLawfulPlan, IsToldOf};
 
 use book_format::{WriteError, write_book};
 use bound_specs::Spec;
@@ -93,6 +94,38 @@ pub fn run_told<R: Threads + Wait + Clock + Sync, W: Write, E: Write + Send>(
     );
     progress.close(result.is_ok());
     result
+}
+
+/// Does as `run_told` for all ranks of the spec: the range from 0 up to their number, which is refused where it is too long.
+pub fn run_all<R: Threads + Wait + Clock + Sync, W: Write, E: Write + Send>(
+    rt: &R,
+    alloc: Global,
+    bytes: &[u8],
+    reduce: bool,
+    workers: &Workers,
+    is_told: bool,
+    out: &mut Counted<W>,
+    err: &mut Counted<E>,
+) -> Result<(), RangeFault>
+    requires { failures_of out.old < u64.MAX }
+    ensures run { IsRunOfAll W.contents out.old out.new bytes.now reduce result }
+    ensures quiet { is_told ≡ false → err.new ≡ err.old }
+{
+    let end = match number_of_ranks(alloc, bytes) {
+        Ok(end) => end,
+        Err(fault) => return Err(RangeFault::Spec(fault)),
+    };
+    run_told(rt, alloc, bytes, 0, end, reduce, workers, is_told, out, err)
+}
+
+fn number_of_ranks(alloc: Global, bytes: &[u8]) -> Result<u64, SpecFault>
+    ensures number { IfOk result (IsNumberOfRanks bytes.now) }
+    ensures refused { IfErr result (IsNoSpec bytes.now) }
+{
+    match spec_of(alloc, bytes) {
+        Ok(spec) => Ok(spec.ranks()),
+        Err(fault) => Err(fault),
+    }
 }
 
 /// The facts of the ranks from the first up to but not the end: when reducing the least swap where the rank has one, and else the outcome.

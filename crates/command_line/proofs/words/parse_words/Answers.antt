@@ -1,7 +1,19 @@
-use Rattle.command_line.specs.Lines.{AsksFor}
-use Rattle.command_line.proofs.LineLemmas.{of-each, no-line}
+use Rattle.std.proofs.Common.{◌≡◌, map, string_bytes}
+use Rattle.clap.specs.Words.{kind_of}
+use Rattle.clap.specs.declared.error.ErrorKind.TheVariants.{OutOfMemory}
+use Rattle.command_line.specs.Lines.{Line, IsLine, AsksFor}
+use Rattle.command_line.proofs.InputLemmas.{of-same, once-only, refused-lines}
 use Rattle.command_line.proofs.words.parse_words.Goals as goal
 
--- each plain line is read, so that these words are none
-pub returns-in-None-clause-refused : goal.returns-in-None-clause-refused
-returns-in-None-clause-refused c = of-each c.other_line.result _ (λ e line is. absurd (no-line (AsksFor line) _ c.in-None.is (c.in_ok-asked.ensures line is)))
+pub returns-in-Ok-clause-asked : goal.returns-in-Ok-clause-asked
+returns-in-Ok-clause-asked c =
+    of-same c.read_once.result c.in-Ok.asked (λ a. (line : Line) → IsLine (map string_bytes c.args.words.now) line → AsksFor line a) c.in-Ok.ensures.asked
+    c.read_once.ensures.same
+
+pub returns-in-Ok-clause-refused : goal.returns-in-Ok-clause-refused
+returns-in-Ok-clause-refused c =
+    refused-lines c.read_once.result c.in-Ok.asked (map string_bytes c.args.words.now) (λ e. kind_of e ≡ OutOfMemory) c.in-Ok.ensures.asked
+    c.read_once.ensures.refused
+
+pub returns-in-Ok-clause-once : goal.returns-in-Ok-clause-once
+returns-in-Ok-clause-once c = once-only c.read_once.result c.in-Ok.asked c.read_once.ensures.same

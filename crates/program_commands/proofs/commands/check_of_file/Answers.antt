@@ -1,5 +1,5 @@
 use Rattle.std.proofs.Common.{refl, sym, subst, inl, inr, Ok, Err}
-use Rattle.spec_commands.specs.Counting.{IsChecked}
+use Rattle.spec_checks.specs.Checking.{IsChecked}
 use Rattle.fault_texts.specs.declared.fault.ProgramFault.TheVariants.{Write}
 use Rattle.program_commands.specs.Faults.{IsCheckTold}
 use Rattle.program_commands.proofs.commands.check_of_file.Goals as goal

@@ -1,10 +1,12 @@
-use Rattle.std.proofs.Common.{◌≡◌, ◌⊎◌, sym, subst, map, Some, Bor, List, ℕ}
+use Rattle.std.proofs.Common.{◌≡◌, ◌⊎◌, sym, subst, map, Some, Bor, List, ℕ, is_some}
 use Rattle.spec_commands.specs.Ordering.{IsRanked}
 use Rattle.book_commands.specs.Joining.{IsJoinRun}
 use Rattle.book_commands.specs.Judging.{IsJudgeRun}
+use Rattle.book_commands.specs.Missing.{IsMissingRun}
 use Rattle.class_commands.specs.Booking.{IsBookClassesRun}
-use Rattle.program_commands.specs.Faults.{rank_told, join_told, outcomes_told, judge_told}
-use Rattle.program_commands.specs.Commands.{IsCalled, IsDone, IsFound, IsTold, IsUnread}
+use Rattle.program_commands.specs.Faults.{rank_told, join_told, missing_told, outcomes_told, judge_told}
+use Rattle.program_commands.specs.Testing.{IsTestRun}
+use Rattle.program_commands.specs.Commands.{IsCalled, IsDone, IsFound, IsTold, IsUnread, missing_by}
 use Rattle.program_commands.proofs.commands.work.Goals as goal
 
 pub returns-in-One-clause-done : goal.returns-in-One-clause-done
@@ -42,9 +44,9 @@ returns-in-Classes-clause-done g c =
 
 pub returns-in-Run-clause-done : goal.returns-in-Run-clause-done
 returns-in-Run-clause-done g c =
-    subst (λ a. IsDone (g.O.Opener.bytes c.args.opener.now) g.W.Write.contents c.args.out.now c.range_of_file.new.out a c.range_of_file.result)
+    subst (λ a. IsDone (g.O.Opener.bytes c.args.opener.now) g.W.Write.contents c.args.out.now c.run_of_file.new.out a c.run_of_file.result)
     (sym c.in-Run.is)
-    c.range_of_file.ensures.done
+    c.run_of_file.ensures.done
 
 pub returns-in-Outcomes-clause-done : goal.returns-in-Outcomes-clause-done
 returns-in-Outcomes-clause-done g c =
@@ -62,6 +64,15 @@ returns-in-Join-clause-done g c =
     c.join_of_files.new.out) (λ error told. join_told ps error ≡ Some told)
     c.join_of_files.result) c.as_slice-in-Join.ensures.all c.join_of_files.ensures.done)
 
+pub returns-in-Missing-clause-done : goal.returns-in-Missing-clause-done
+returns-in-Missing-clause-done g c =
+    subst (λ a. IsDone (g.O.Opener.bytes c.args.opener.now) g.W.Write.contents c.args.out.now c.missing_of_files.new.out a c.missing_of_files.result)
+    (sym c.in-Missing.is)
+    (subst (λ ps. IsFound (IsMissingRun (g.O.Opener.bytes c.args.opener.now) (map (λ (p : Bor (List ℕ)). p.now) ps) (missing_by c.in-Missing.lines)
+    g.W.Write.contents c.args.out.now
+    c.missing_of_files.new.out) (λ error told. missing_told ps error ≡ Some told)
+    c.missing_of_files.result) c.as_slice-in-Missing.ensures.all c.missing_of_files.ensures.done)
+
 pub returns-in-Holds-clause-done : goal.returns-in-Holds-clause-done
 returns-in-Holds-clause-done g c =
     subst (λ a. IsDone (g.O.Opener.bytes c.args.opener.now) g.W.Write.contents c.args.out.now c.holding_of_file.new.out a c.holding_of_file.result)
@@ -76,3 +87,10 @@ returns-in-Judge-clause-done g c =
     g.W.Write.contents c.args.out.now
     c.judge_of_files.new.out) (λ error told. judge_told c.in-Judge.path ps error ≡ Some told) c.judge_of_files.result)
     c.as_slice-in-Judge.ensures.value c.judge_of_files.ensures.done)
+
+pub returns-in-Test-clause-done : goal.returns-in-Test-clause-done
+returns-in-Test-clause-done g c =
+    subst (λ a. IsDone (g.O.Opener.bytes c.args.opener.now) g.W.Write.contents c.args.out.now c.test_of_files.new.out a c.test_of_files.result)
+    (sym c.in-Test.is)
+    (subst (λ ps. IsTestRun (g.O.Opener.bytes c.args.opener.now) (map (λ (p : Bor (List ℕ)). p.now) ps) c.in-Test.updates (is_some c.in-Test.junit)
+    c.test_of_files.result) c.as_slice-in-Test.ensures.all c.test_of_files.ensures.done)

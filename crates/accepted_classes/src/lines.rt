@@ -1,0 +1,128 @@
+//! The lines of what a class shows: what its order tells each session, and then what it leaves.
+
+use std::alloc::{AllocError, Global};
+
+/// What a line begins with that names a session.
+const SESSION: &str = "session ";
+
+/// What an event begins with.
+const EVENT: &str = "  ";
+
+/// What an event begins with that tells of a fault.
+const FAULT: &str = "  error: ";
+
+/// The place of a line that differs: the last line before it that is no event, which names a session or a table, and both lines. A text that has
+/// ended has an empty line there.
+#[derive(Clone, Copy)]
+pub(crate) struct LinePlace<'t> {
+    pub(crate) below: &'t str,
+    pub(crate) was: &'t str,
+    pub(crate) is: &'t str,
+}
+
+/// The first line in which two texts differ.
+pub(crate) fn first_line<'t>(was: &'t str, is: &'t str) -> LinePlace<'t> {
+    let mut below = "";
+    let mut old = was;
+    let mut new = is;
+    for _ in 0..was.len() {
+        let (old_line, old_rest) = cut_line(old);
+        let (new_line, new_rest) = cut_line(new);
+        if old_line != new_line {
+            return LinePlace {
+                below,
+                was: old_line,
+                is: new_line,
+            };
+        }
+        if !old_line.starts_with(EVENT) {
+            below = old_line;
+        }
+        old = old_rest;
+        new = new_rest;
+    }
+    let (new_line, _) = cut_line(new);
+    LinePlace {
+        below,
+        was: "",
+        is: new_line,
+    }
+}
+
+/// The first line of a text, and what stands behind it.
+pub(crate) fn cut_line(text: &str) -> (&str, &str) {
+    match text.split_once("\n") {
+        Some(parts) => parts,
+        None => (text, ""),
+    }
+}
+
+/// What is left, of what a class shows: all lines from the first one on that is neither of a session nor an event.
+pub(crate) fn left_of(shown: &str) -> &str {
+    let mut rest = shown;
+    for _ in 0..shown.len() {
+        let (line, behind) = cut_line(rest);
+        if !line.starts_with(SESSION) && !line.starts_with(EVENT) {
+            return rest;
+        }
+        rest = behind;
+    }
+    rest
+}
+
+/// A fault that a session may be told: the line that names the session, and that of the fault.
+#[derive(Clone, Copy, PartialEq, Eq, PartialOrd, Ord)]
+pub struct SessionFault<'t> {
+    pub session: &'t str,
+    pub fault: &'t str,
+}
+
+/// Adds the faults that a class shows.
+pub(crate) fn add_faults<'t>(
+    shown: &'t str,
+    faults: &mut Vec<SessionFault<'t>>,
+) -> Result<(), AllocError> {
+    let mut session = "";
+    let mut rest = shown;
+    for _ in 0..shown.len() {
+        let (line, behind) = cut_line(rest);
+        if line.starts_with(FAULT) {
+            faults.push(SessionFault {
+                session,
+                fault: line,
+            })?;
+        } else if line.starts_with(SESSION) {
+            session = line;
+        } else if !line.starts_with(EVENT) {
+            return Ok(());
+        }
+        rest = behind;
+    }
+    Ok(())
+}
+
+/// The texts, each once, in the order of their bytes.
+pub(crate) fn each_once<'t>(alloc: Global, texts: &[&'t str]) -> Result<Vec<&'t str>, AllocError> {
+    let mut all = Vec::new(alloc);
+    for text in texts {
+        all.push(*text)?;
+    }
+    all.sort_unstable();
+    all.dedup();
+    Ok(all)
+}
+
+/// Those of the texts that are none of the others. Both are in the order of their bytes.
+pub(crate) fn without<'t>(
+    alloc: Global,
+    texts: &[&'t str],
+    others: &[&'t str],
+) -> Result<Vec<&'t str>, AllocError> {
+    let mut left = Vec::new(alloc);
+    for text in texts {
+        if others.binary_search(text).is_err() {
+            left.push(*text)?;
+        }
+    }
+    Ok(left)
+}

@@ -1,0 +1,7 @@
+pub mod Counts
+pub mod Picked
+pub mod Asked
+pub mod ExpectedLemmas
+pub mod TotalLemmas
+pub mod RowLemmas
+pub mod BookLemmas

@@ -1,0 +1,4 @@
+pub mod Numbers
+pub mod Told
+pub mod Books
+pub mod Laws

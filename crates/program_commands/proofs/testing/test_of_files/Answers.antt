@@ -1,0 +1,7 @@
+use Rattle.std.proofs.Common.{map, is_some, Bor, List, ℕ}
+use Rattle.program_commands.proofs.testing.test_of_files.Goals as goal
+
+pub returns-in-Err-clause-done : goal.returns-in-Err-clause-done
+returns-in-Err-clause-done g c =
+    c.specs_fault.ensures (g.F.Opener.bytes c.args.folder.now) (map (λ (p : Bor (List ℕ)). p.now) c.args.words.now.paths.now) c.args.words.now.updates
+    (is_some c.args.words.now.junit)

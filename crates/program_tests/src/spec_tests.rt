@@ -1,0 +1,290 @@
+//! Specs beside their accepted texts, over files and folders of the test's own.
+use crate::disks::{Disk, assert_told, told_by};
+use book_tests::words_of;
+use library_tests::ByteReader;
+use program_commands::{Entry, Folder, Opener, Watched};
+use std::alloc::{AllocError, Global};
+use std::process::Abort;
+use std::sync::Wait;
+use std::test::Fail;
+use std::thread::Threads;
+use std::time::Clock;
+
+/// A spec of one order.
+const ONE: &str = "session a step s {}";
+
+/// The text of its classes.
+const ONE_CLASS: &str = "one.spec: 1 order, 1 class
+
+       orders  share %  classes
+    W       0        0        0  a session waits
+    D       0        0        0  a session loses a deadlock
+    E       0        0        0  another error of its own
+    N       0        0        0  a step is not sent, since its session waits
+    S       0        0        0  a session still waits at the end
+    R       0        0        0  no serial order answers so
+
+class  orders  share %  shows   rank  order
+    1       1    100.0  ------     0  s
+
+ranks 0
+session a
+  step s
+  done
+nothing
+
+the order of the least rank, with marks: : waits   ! fails   - is not sent
+";
+
+/// The same, but that something else was told.
+const OTHER_CLASS: &str = "one.spec: 1 order, 1 class
+
+letters
+
+class  orders  share %  shows   rank  order
+    1       1    100.0  W-----     0  s:
+
+ranks 0
+session a
+  step s
+  waiting
+nothing
+
+marks
+";
+
+/// Orders of which there are two now were three, of other classes.
+const THREE_ORDERS: &str = "two.spec: 3 orders, 2 classes
+
+letters
+
+class  orders  share %  shows   rank  order
+    1       2     66.6  ------     0  s t
+
+ranks 0
+      2
+session a
+  step s
+  error: deadlock
+left in t
+  1
+
+    2       1     33.3  ------     1  t s
+
+ranks 1
+session a
+  step s
+  done
+nothing
+
+marks
+";
+
+/// The files that are there.
+const FILES: [(&str, &str); 12] = [
+    ("one.spec", ONE),
+    ("one.accepted", ONE_CLASS),
+    ("new.spec", ONE),
+    ("other/one.spec", ONE),
+    ("other/one.accepted", OTHER_CLASS),
+    ("junk/one.spec", ONE),
+    ("junk/one.accepted", "accepted"),
+    ("two.spec", "session a step s {} session b step t {}"),
+    ("two.accepted", THREE_ORDERS),
+    ("broken.spec", "session"),
+    ("deep/inner/one.spec", ONE),
+    ("deep/inner/one.accepted", ONE_CLASS),
+];
+
+/// The folders that are there, with what lies in them, and whether it is a folder.
+const FOLDERS: [(&str, &[(&str, bool)]); 3] = [
+    (
+        "deep",
+        &[
+            ("z.spec", false),
+            (".hidden.spec", false),
+            ("inner", true),
+            ("notes", false),
+            ("a.spec", false),
+        ],
+    ),
+    (
+        "deep/inner",
+        &[("one.spec", false), ("one.accepted", false)],
+    ),
+    ("empty/", &[]),
+];
+
+/// Files and folders, and the one file that may be written, with its text.
+#[derive(Drop)]
+struct Cabinet {
+    written: (&'static str, &'static str),
+}
+
+/// Those of which none is written.
+const READ_ONLY: Cabinet = Cabinet { written: ("", "") };
+
+impl Opener for Cabinet {
+    type Reader = Watched<ByteReader<'static>>;
+
+    fn open(&self, path: &str) -> Option<Watched<ByteReader<'static>>> {
+        for (name, text) in FILES {
+            if name == path {
+                let file = Disk {
+                    path: name,
+                    text: text.as_bytes(),
+                    calls_left: None,
+                };
+                return file.open(name);
+            }
+        }
+        None
+    }
+}
+
+impl Folder for Cabinet {
+    fn entries(&self, alloc: Global, path: &str) -> Result<Option<Vec<Entry>>, AllocError> {
+        for (name, entries) in FOLDERS {
+            if name == path {
+                return Ok(Some(entries_of(alloc, entries)?));
+            }
+        }
+        Ok(None)
+    }
+
+    fn put(&self, _alloc: Global, path: &str, bytes: &[u8]) -> Result<bool, AllocError> {
+        let (name, text) = self.written;
+        Ok(path == name && bytes == text.as_bytes())
+    }
+}
+
+fn entries_of(alloc: Global, entries: &[(&str, bool)]) -> Result<Vec<Entry>, AllocError> {
+    let mut all = Vec::new(alloc);
+    for (name, is_folder) in entries {
+        all.push(Entry {
+            name: String::from_str(alloc, name)?,
+            is_folder: *is_folder,
+        })?;
+    }
+    Ok(all)
+}
+
+fn assert_tests(
+    rt: &(impl Abort + Threads + Wait + Clock + Sync),
+    alloc: Global,
+    line: &str,
+    cabinet: &Cabinet,
+    want: (u8, &str),
+) -> Result<(), AllocError> {
+    let words = words_of(alloc, line)?;
+    let told = told_by(rt, alloc, &words, cabinet);
+    assert_told(rt, &told, (want.0, want.1, ""), line);
+    Ok(())
+}
+
+#[test]
+fn specs_are_beside_their_accepted_texts(rt: HostRuntime) -> Result<(), Fail> {
+    for (line, want) in [
+        ("isofarm test one.spec", (0, "one.spec: as accepted\n")),
+        ("isofarm test new.spec", (1, "new.spec: no accepted text\n")),
+        (
+            "isofarm test junk/one.spec",
+            (
+                1,
+                "junk/one.spec: differs, and what is accepted is no text of classes\n",
+            ),
+        ),
+        (
+            "isofarm test other/one.spec",
+            (
+                1,
+                "other/one.spec: differs in 1 of 1 order\n  first at rank 0: s\n  session a\n    was: waiting\n    is: done\n  gone\n        1       1    100.0  W-----     0  s:\n  new\n        1       1    100.0  ------     0  s\n",
+            ),
+        ),
+        (
+            "isofarm test two.spec --workers 2",
+            (
+                1,
+                "two.spec: has 2 orders, accepted are 3; what they leave and who fails is compared\n  left no more\n    left in t\n      1\n  can fail no more\n    session a: error: deadlock\n",
+            ),
+        ),
+        (
+            "isofarm test broken.spec one.spec",
+            (3, "broken.spec: spec error 4 at 7\none.spec: as accepted\n"),
+        ),
+        (
+            "isofarm test one.spec none.spec new.spec",
+            (
+                5,
+                "one.spec: as accepted\nnone.spec: read fault\nnew.spec: no accepted text\n",
+            ),
+        ),
+        (
+            "isofarm test deep",
+            (
+                5,
+                "deep/a.spec: read fault\ndeep/inner/one.spec: as accepted\ndeep/z.spec: read fault\n",
+            ),
+        ),
+    ] {
+        assert_tests(&rt, rt.alloc(), line, &READ_ONLY, want)?;
+    }
+    Ok(())
+}
+
+#[test]
+fn accepted_texts_are_written_where_they_are_not_so(rt: HostRuntime) -> Result<(), Fail> {
+    for (written, line, want) in [
+        (
+            ("other/one.accepted", ONE_CLASS),
+            "isofarm test --update one.spec other/one.spec",
+            (0, "one.spec: as accepted\nother/one.spec: accepted\n"),
+        ),
+        (
+            ("one.accepted", ONE_CLASS),
+            "isofarm test --update junk/one.spec broken.spec",
+            (
+                5,
+                "junk/one.spec: accepted text not written\nbroken.spec: spec error 4 at 7\n",
+            ),
+        ),
+    ] {
+        assert_tests(&rt, rt.alloc(), line, &Cabinet { written }, want)?;
+    }
+    Ok(())
+}
+
+/// The report of three specs, of which one is not as accepted, and one is refused.
+const REPORT: &str = "<?xml version=\"1.0\" encoding=\"UTF-8\"?>
+<testsuites tests=\"3\" failures=\"1\" errors=\"1\">
+<testsuite name=\"isofarm\" tests=\"3\" failures=\"1\" errors=\"1\">
+<testcase classname=\"isofarm\" name=\"one.spec\"/>
+<testcase classname=\"isofarm\" name=\"new.spec\"><failure message=\"no accepted text\">no accepted text&#10;</failure></testcase>
+<testcase classname=\"isofarm\" name=\"broken.spec\"><error message=\"spec error 4 at 7\">spec error 4 at 7&#10;</error></testcase>
+</testsuite>
+</testsuites>
+";
+
+#[test]
+fn a_report_is_written(rt: HostRuntime) -> Result<(), Fail> {
+    let told =
+        "one.spec: as accepted\nnew.spec: no accepted text\nbroken.spec: spec error 4 at 7\n";
+    for (written, status) in [(("out.xml", REPORT), 3), (("other.xml", REPORT), 5)] {
+        assert_tests(
+            &rt,
+            rt.alloc(),
+            "isofarm test one.spec new.spec broken.spec --junit out.xml",
+            &Cabinet { written },
+            (status, told),
+        )?;
+    }
+    Ok(())
+}
+
+#[test]
+fn a_folder_without_specs_is_refused(rt: HostRuntime) -> Result<(), Fail> {
+    let words = words_of(rt.alloc(), "isofarm test one.spec empty/")?;
+    let told = told_by(&rt, rt.alloc(), &words, &READ_ONLY);
+    assert_told(&rt, &told, (3, "", "isofarm: empty/: no specs\n"), "empty/");
+    Ok(())
+}

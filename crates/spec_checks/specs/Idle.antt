@@ -1,0 +1,50 @@
+-- What is read of a spec file and has no effect, by the lines that it begins on.
+use Rattle.std.specs.Prelude.{◌≡◌, ℕ, ◌==◌, List, [], ◌∷◌, ◌++◌, codes, decimal, Option, Some, None, if◌then◌else◌}
+use Rattle.std.specs.List.{flat_map}
+use Rattle.spec_reader.specs.Text.{IsSpec}
+use Rattle.spec_reader.specs.Tree.{BlockTree, SessionTree, SpecTree}
+use Rattle.fault_texts.specs.Places.{place}
+use Rattle.file_blocks.specs.Blocks.{sent_blocks}
+use Rattle.spec_checks.specs.declared.statements.IdleSql.TheVariants.{Level, Setting, NotNull}
+use Rattle.spec_checks.specs.Statements.{idle_statements}
+
+-- where a teardown's block begins, if there is one
+abbrev pub place_of : Option BlockTree → List ℕ
+place_of None = []
+place_of (Some b) = b.at ∷ []
+
+abbrev pub session_teardowns : SessionTree → List ℕ
+session_teardowns s = place_of s.head.teardown ++ place_of s.teardown
+
+abbrev pub teardowns : SpecTree → List ℕ
+teardowns tree = place_of tree.front.teardown ++ flat_map session_teardowns tree.sessions
+
+-- the number of a line, behind that of the last one that was told
+abbrev pub number : ℕ → ℕ → List ℕ
+number last line = if line == last then [] else codes " " ++ decimal line
+
+-- the numbers of the lines of some places, each once where it stands beside itself
+abbrev pub numbers : List ℕ → ℕ → List ℕ → List ℕ
+numbers text last [] = []
+numbers text last (n ∷ ns) = number last (place text n).line ++ numbers text (place text n).line ns
+
+-- what is told of the parts of a kind: nothing where there is none
+abbrev pub idle_line : List ℕ → List ℕ → List ℕ → List ℕ
+idle_line text words [] = []
+idle_line text words (n ∷ ns) = codes "no effect: " ++ (words ++ (codes ", lines" ++ (numbers text 0 (n ∷ ns) ++ codes "\n")))
+
+-- what is told of the file of this tree, the markers of whose lines are there
+abbrev pub idle_lines : List ℕ → SpecTree → List ℕ → List ℕ
+idle_lines text tree markers =
+    idle_line text (codes "isolation level") (idle_statements Level (sent_blocks tree))
+    ++ (idle_line text (codes "SET") (idle_statements Setting (sent_blocks tree))
+    ++ (idle_line text (codes "NOT NULL") (idle_statements NotNull (sent_blocks tree))
+    ++ (idle_line text (codes "teardown") (teardowns tree)
+    ++ idle_line text (codes "marker") markers)))
+
+-- so it is of the spec that the text is of, and of some places of markers
+pub record IsIdleText (text told : List ℕ) : Type 0 where
+  pub tree : SpecTree
+  pub is_spec : IsSpec text tree
+  pub markers : List ℕ
+  pub told_is : told ≡ idle_lines text tree markers

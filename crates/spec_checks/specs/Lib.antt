@@ -1,0 +1,3 @@
+pub mod Checking
+pub mod Idle
+pub mod Statements

@@ -1,0 +1,69 @@
+//! What is read of a spec file and has no effect.
+
+ghost use Rattle.std.specs.Prelude.{◌≡◌, ◌++◌, [], ℕ, List, codes, map, IfOk, OnOk, string_bytes};
+ghost use Rattle.spec_reader.specs.Whole.{spec_tree};
+ghost use Rattle.file_blocks.specs.Blocks.{sent_tree};
+ghost use Rattle.spec_checks.specs.Idle.{idle_line, idle_lines, teardowns};
+ghost use Rattle.spec_checks.specs.Statements.{idle_statements};
+
+use crate::markers::markers;
+use crate::statements::{IdleSql, idle_statements};
+use crate::teardowns::teardowns;
+use crate::telling::push_line;
+use file_blocks::{SentBlock, sent_blocks};
+use spec_reader::SpecText;
+use std::alloc::{AllocError, Global};
+
+/// What is told of the parts of a file that have no effect, a line for each kind that it has.
+pub(crate) fn idle_lines(alloc: Global, file: &SpecText) -> Result<String, AllocError>
+    ensures { IfOk result (λ told. (markers : List ℕ) × (string_bytes told ≡ idle_lines (string_bytes file.now.text) (spec_tree file.now) markers)) }
+{
+    let blocks = sent_blocks(alloc, file)?;
+    let text = file.text.as_bytes();
+    let mut told = String::new(alloc);
+    push_statements(alloc, text, &blocks, &mut told)?;
+    push_others(alloc, text, file, &mut told)?;
+    Ok(told)
+}
+
+/// What is told of statements, each kind in its turn.
+fn push_statements(
+    alloc: Global,
+    text: &[u8],
+    blocks: &[SentBlock],
+    told: &mut String,
+) -> Result<(), AllocError>
+    ensures { OnOk result (string_bytes told.new ≡ string_bytes told.old ++ (idle_line text.now (codes "isolation level") (idle_statements IdleSql.Level (map sent_tree blocks.now)) ++ (idle_line text.now (codes "SET") (idle_statements IdleSql.Setting (map sent_tree blocks.now)) ++ idle_line text.now (codes "NOT NULL") (idle_statements IdleSql.NotNull (map sent_tree blocks.now))))) }
+{
+    push_kind(alloc, text, "isolation level", IdleSql::Level, blocks, told)?;
+    push_kind(alloc, text, "SET", IdleSql::Setting, blocks, told)?;
+    push_kind(alloc, text, "NOT NULL", IdleSql::NotNull, blocks, told)
+}
+
+fn push_kind(
+    alloc: Global,
+    text: &[u8],
+    words: &str,
+    kind: IdleSql,
+    blocks: &[SentBlock],
+    told: &mut String,
+) -> Result<(), AllocError>
+    ensures { OnOk result (string_bytes told.new ≡ string_bytes told.old ++ idle_line text.now words.now (idle_statements kind (map sent_tree blocks.now))) }
+{
+    let places = idle_statements(alloc, kind, blocks)?;
+    push_line(alloc, text, words, &places, told)
+}
+
+fn push_others(
+    alloc: Global,
+    text: &[u8],
+    file: &SpecText,
+    told: &mut String,
+) -> Result<(), AllocError>
+    ensures { IfOk result (λ _. (markers : List ℕ) × (string_bytes told.new ≡ string_bytes told.old ++ (idle_line text.now (codes "teardown") (teardowns (spec_tree file.now)) ++ idle_line text.now (codes "marker") markers))) }
+{
+    let teardowns = teardowns(alloc, file)?;
+    push_line(alloc, text, "teardown", &teardowns, told)?;
+    let markers = markers(alloc, &file.text)?;
+    push_line(alloc, text, "marker", &markers, told)
+}

@@ -1,0 +1,3 @@
+mod FaultLemmas
+mod PieceLemmas
+mod ToldLemmas

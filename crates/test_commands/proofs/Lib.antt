@@ -1,0 +1,2 @@
+pub mod SpecLemmas
+pub mod FaultLemmas

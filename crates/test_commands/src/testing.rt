@@ -1,0 +1,158 @@
+//! One spec beside the accepted text of its classes.
+
+ghost use Rattle.std.specs.Prelude.{◌≡◌, ℕ, IfErr, IfOk, List, None, Option, Some, true};
+ghost use Rattle.test_commands.specs.Testing.{IsNotTested, IsTested, IsText, IsVerdict, WantsAll, told_as};
+
+use book_commands::{FileReader, Opener};
+use class_commands::{ClassesFault, classes};
+use shard_board::{OpenGate, Workers};
+use std::alloc::Global;
+use std::thread::Threads;
+use transcripts::{Counted, ReadError};
+use wanted_classes::WantedClasses;
+
+/// The bytes of an accepted text that are read, at most, but that one byte more is read than the text has with which it is compared.
+pub const MAX_ACCEPTED: usize = 67_108_864;
+
+/// A spec that is tested.
+#[derive(Drop)]
+pub struct Tested {
+    /// The text of its classes.
+    pub text: Vec<u8>,
+    pub verdict: Verdict,
+}
+
+/// What the accepted text of a spec is, beside that of its classes.
+#[derive(Drop)]
+pub enum Verdict {
+    /// The same, byte for byte.
+    Same,
+    /// Another one, which is this.
+    Other(Vec<u8>),
+    /// There is none that is opened.
+    Missing,
+}
+
+/// Why a spec is not tested.
+#[derive(Clone, Copy, Drop)]
+pub enum TestFault {
+    /// Its classes are not told.
+    Classes(ClassesFault<'static>),
+    /// The accepted text is not read.
+    Accepted,
+    /// Memory ran out.
+    NoMemory,
+}
+
+/// Tells the classes of the spec file that bytes are, with what each has, under a name, and compares their text with the accepted one.
+pub fn test_spec<R: Threads + Sync, O: Opener>(
+    rt: &R,
+    alloc: Global,
+    opener: &O,
+    bytes: &[u8],
+    name: &str,
+    accepted: &str,
+    workers: &Workers,
+) -> Result<Tested, TestFault>
+    ensures tested { IfOk result (IsTested (O.bytes opener.now accepted.now) bytes.now name.now) }
+    ensures refused { IfErr result (IsNotTested (O.bytes opener.now accepted.now) bytes.now name.now) }
+{
+    let text = match text_of(rt, alloc, bytes, name, workers) {
+        Ok(text) => text,
+        Err(fault) => return Err(fault),
+    };
+    match verdict_on(alloc, opener, text.as_slice(), accepted) {
+        Ok(verdict) => Ok(Tested { text, verdict }),
+        Err(fault) => Err(fault),
+    }
+}
+
+/// The text of the classes of the spec file that bytes are.
+fn text_of<R: Threads + Sync>(
+    rt: &R,
+    alloc: Global,
+    bytes: &[u8],
+    name: &str,
+    workers: &Workers,
+) -> Result<Vec<u8>, TestFault>
+    ensures text { IfOk result (λ text. IsText bytes.now name.now text.items) }
+    ensures refused { IfErr result (λ fault. (known : Option (List ℕ)) → IsNotTested known bytes.now name.now fault) }
+{
+    let wanted = all_of_classes(alloc);
+    let mut out = Counted::new(Vec::new(alloc));
+    match classes(
+        rt, alloc, bytes, name, &wanted, workers, &OpenGate, &mut out,
+    ) {
+        Ok(_) => Ok(out.into_inner()),
+        Err(fault) => Err(told_as(fault)),
+    }
+}
+
+/// Why a spec is not tested whose classes are not told. A text in memory is not written where there is none left.
+fn told_as(fault: ClassesFault<'static>) -> TestFault
+    ensures { result ≡ told_as fault.entry }
+{
+    match fault {
+        ClassesFault::Spec(fault) => TestFault::Classes(ClassesFault::Spec(fault)),
+        ClassesFault::Asked(fault) => TestFault::Classes(ClassesFault::Asked(fault)),
+        ClassesFault::Run(error) => TestFault::Classes(ClassesFault::Run(error)),
+        ClassesFault::NoMemory | ClassesFault::Write(_) => TestFault::NoMemory,
+    }
+}
+
+/// The classes of all orders, with their ranks, what the least order of each tells, and what it leaves.
+fn all_of_classes(alloc: Global) -> WantedClasses<'static>
+    ensures { WantsAll result }
+{
+    WantedClasses {
+        answers: false,
+        filters: Vec::new(alloc),
+        looks: Vec::new(alloc),
+        expectations: Vec::new(alloc),
+        brief: false,
+        ranks: true,
+        outcomes: true,
+        left: true,
+        json: false,
+    }
+}
+
+/// What the file at a path is beside the text.
+fn verdict_on<O: Opener>(
+    alloc: Global,
+    opener: &O,
+    text: &[u8],
+    path: &str,
+) -> Result<Verdict, TestFault>
+    ensures verdict { IfOk result (IsVerdict (O.bytes opener.now path.now) text.now) }
+    ensures refused { IfErr result (λ fault. (bytes name : List ℕ) → IsNotTested (O.bytes opener.now path.now) bytes name fault) }
+{
+    let Some(reader) = opener.open(path) else {
+        return Ok(Verdict::Missing);
+    };
+    let mut input = Counted::new(reader);
+    match input.read_up_to(alloc, text.len().max(MAX_ACCEPTED).saturating_add(1)) {
+        Ok(accepted) => Ok(compared(accepted, text)),
+        Err(ReadError::Fault) => Err(read_fault(input.into_inner().has_failed())),
+        Err(ReadError::NoMemory) => Err(TestFault::NoMemory),
+    }
+}
+
+fn compared(accepted: Vec<u8>, text: &[u8]) -> Verdict
+    ensures { IsVerdict (Some accepted.items) text.now result }
+{
+    if accepted.as_slice() == text {
+        return Verdict::Same;
+    }
+    Verdict::Other(accepted)
+}
+
+/// A read fault is told of a reader that has failed. That no other is told of one is known to what reads, and not from its contract.
+fn read_fault(has_failed: bool) -> TestFault
+    ensures { (known : Option (List ℕ)) → (has_failed ≡ true → known ≡ None) → (bytes name : List ℕ) → IsNotTested known bytes name result }
+{
+    if has_failed {
+        return TestFault::Accepted;
+    }
+    TestFault::NoMemory
+}

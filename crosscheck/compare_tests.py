@@ -1,0 +1,184 @@
+"""Compares what `isofarm test` tells of specs that were edited with what this second implementation tells.
+
+usage: python3 crosscheck/compare_tests.py PROGRAM FIRST_SEED SEEDS
+
+Each spec of a seed is accepted by `isofarm test --update`, whose file has to be the text of its classes; then one thing in it is edited, or
+nothing, and it is tested. Before them come edits that were worked out by hand. The last lines count what was told.
+"""
+
+import re
+import sys
+from collections import Counter
+from pathlib import Path
+from random import Random
+from subprocess import run
+from tempfile import TemporaryDirectory
+
+from compare_classes import texts_of
+from refusal import Refusal
+from spec_tests import Side, told
+
+KINDS = ("leaving", "hindering", "few", "crowd")
+NAME = "a.spec"
+MOST_ORDERS = 3_000
+
+
+# A spec that was accepted, that of today, the status, and what is told behind the path.
+ONE, KEYED = "session a step s {}", "setup { CREATE TABLE t (id int PRIMARY KEY); } session a step s { INSERT INTO t VALUES (1); }"
+WORKED = [
+    (ONE, ONE, 0, "as accepted"),
+    (ONE, f"# one\n{ONE}", 0, "as accepted"),
+    (
+        ONE,
+        "session a step r {}",
+        1,
+        """differs in 1 of 1 order
+  first at rank 0: r
+  session a
+    was: step s
+    is: step r
+  gone
+        1       1    100.0  ------     0  s
+  new
+        1       1    100.0  ------     0  r""",
+    ),
+    (
+        ONE,
+        f"{ONE} session b step t {{}}",
+        1,
+        "has 2 orders, accepted are 1; what they leave and who fails is compared\n  they leave the same, and the same can fail",
+    ),
+    (
+        KEYED,
+        f"{KEYED} session b step t {{ INSERT INTO t VALUES (1); }}",
+        1,
+        """has 2 orders, accepted are 1; what they leave and who fails is compared
+  can fail now
+    session a: error: duplicate key
+    session b: error: duplicate key""",
+    ),
+    (KEYED, KEYED.replace("VALUES (1)", "VALUES (2)"), 1, """differs in 1 of 1 order
+  first at rank 0: s
+  left in t
+    was: 1
+    is: 2
+  gone
+        1       1    100.0  ------     0  s
+  new
+        1       1    100.0  ------     0  s"""),
+    (ONE, "session a step", 3, "spec error 4 at 14"),
+]
+
+
+def edited(text, random):
+    """The text with one thing in it changed, if there is such a thing."""
+    whole = text.decode()
+    edit = random.choice([one_number, one_step_less, one_step_more, one_name, one_session_less, nothing, nothing_told])
+    return edit(whole, random).encode()
+
+
+def one_of(pattern, whole, random):
+    found = [*re.finditer(pattern, whole)]
+    return random.choice(found) if found else None
+
+
+def put(whole, found, text):
+    return whole[: found.start()] + text + whole[found.end() :] if found else whole
+
+
+def one_number(whole, random):
+    return put(whole, one_of(r"(?<=[ =(+-])\d+(?=[ ,;)])", whole, random), str(random.randint(0, 40)))
+
+
+def one_step_less(whole, random):
+    if "permutation" in whole:
+        return whole
+    return put(whole, one_of(r"\bstep \w+ \{[^}]*\}", whole, random), "")
+
+
+def one_step_more(whole, random):
+    found = one_of(r"\bstep \w+ \{[^}]*\}", whole, random)
+    return put(whole, found, f"{found[0]} step more {{ {random.choice(['COMMIT;', 'UPDATE t SET v = 5 WHERE id = 1;', 'SELECT * FROM t;'])} }}" if found else "")
+
+
+def one_name(whole, random):
+    found = one_of(r"(?<=\bstep )\w+", whole, random)
+    return re.sub(rf"\b{found[0]}\b", "renamed", whole) if found else whole
+
+
+def one_session_less(whole, random):
+    if "permutation" in whole:
+        return whole
+    return put(whole, one_of(r"\bsession \w+[^}]*\}(?:(?!session)[\s\S])*", whole, random), "")
+
+
+def nothing(whole, random):
+    return whole
+
+
+def nothing_told(whole, random):
+    return f"# a comment\n{whole}"
+
+
+class Tests:
+    """Runs `isofarm test`, and counts."""
+
+    def __init__(self, program, folder):
+        self.program, self.folder, self.counts, self.differences = program, Path(folder), Counter(), 0
+
+    def run(self, *words):
+        ended = run([self.program, "test", *words], cwd=self.folder, capture_output=True, check=False)
+        return ended.returncode, ended.stdout, ended.stderr
+
+    def differ(self, name, got, want):
+        self.differences += 1
+        print(f"{name}: {got} in the place of {want}", flush=True)
+
+    def compare(self, name, accepted, text, by_hand=None):
+        """Accepts a text, and tests the other one. What is told may be known by hand."""
+        try:
+            was = Side(NAME, accepted)
+            page = was.text
+        except Refusal:
+            self.counts["none accepted"] += 1
+            return
+        if was.orders > MOST_ORDERS:
+            return
+        (self.folder / NAME).write_bytes(accepted)
+        (self.folder / "a.accepted").unlink(missing_ok=True)
+        if (got := self.run("--update", NAME)) != (0, f"{NAME}: accepted\n".encode(), b""):
+            self.differ(name, got, "accepted")
+        if (self.folder / "a.accepted").read_bytes() != page:
+            self.differ(name, "another text", "the text of the classes")
+        (self.folder / NAME).write_bytes(text)
+        status, out = told(NAME, accepted, text)
+        if by_hand and (status, out) != by_hand:
+            self.differ(f"{name}, here", (status, out), by_hand)
+        if (got := self.run(NAME)) != (status, out, b""):
+            self.differ(name, got, (status, out))
+        self.counts[kind_of(out)] += 1
+
+
+def kind_of(out):
+    line = out.decode().split("\n")[0].removeprefix(f"{NAME}: ")
+    return re.sub(r"\d+", "N", line)
+
+
+def main(program, first, seeds):
+    with TemporaryDirectory() as folder:
+        tests = Tests(str(Path(program).resolve()), folder)
+        for accepted, text, status, out in WORKED:
+            tests.compare("by hand", accepted.encode(), text.encode(), (status, f"{NAME}: {out}\n".encode()))
+        for kind in KINDS:
+            for name, seed, text in texts_of(kind, int(first), int(seeds)):
+                tests.compare(f"{kind}, {name}", text, edited(text, Random(f"{kind} {seed}")))
+    for told_so, count in sorted(tests.counts.items()):
+        print(f"{count:6} {told_so}")
+    print(f"{sum(tests.counts.values())} specs, {tests.differences} differences")
+    sys.exit(bool(tests.differences))
+
+
+if __name__ == "__main__":
+    if len(sys.argv) != 4:
+        sys.exit(__doc__)
+    main(*sys.argv[1:])

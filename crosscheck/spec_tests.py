@@ -1,0 +1,155 @@
+"""What `isofarm test` tells of a spec beside an accepted text, from the spec that was accepted and the spec of today.
+
+No text is taken apart here: what orders show, and showed, is asked of the machine.
+"""
+
+from dataclasses import dataclass
+from functools import cached_property
+
+from asked import asked_by
+from classes import Asking, Page
+from orders import order_text
+from refusal import Refusal
+
+FLAGS = ["--ranks", "--outcomes", "--left"]
+MOST_TOLD = 5
+EVENT, SESSION, ERROR = "  ", "session ", "  error: "
+
+
+@dataclass
+class OneClass:
+    """A class: its lines of the table, the lines of what it shows, and its ranks."""
+
+    table: list
+    shown: tuple
+    ranges: list
+
+
+class Side:
+    """The classes of a spec. Raises a Refusal where there are none."""
+
+    def __init__(self, name, text):
+        self.name, self.asking = name, Asking(text)
+        self.classes = self.asking.classes
+        self.orders = self.asking.spec.ranks()
+
+    @cached_property
+    def text(self):
+        return self.asking.page(self.name, asked_by(FLAGS))[0].encode()
+
+    @cached_property
+    def each(self):
+        bare = Page(self.classes, self.name, asked_by([]))
+        full = Page(self.classes, self.name, asked_by(FLAGS[1:]))
+        tables = []
+        for line in [*bare.class_lines()][1:]:
+            if line[: len("class")].strip():
+                tables.append([])
+            tables[-1].append(line)
+        shown = [tuple("\n".join(full.told_besides(group)).split("\n")) for group in full.groups]
+        return [OneClass(*three) for three in zip(tables, shown, (group.ranges for group in bare.groups), strict=True)]
+
+    def shown_by_rank(self):
+        """What each rank shows, in the order of the ranks."""
+        by_rank = [None] * self.orders
+        for one in self.each:
+            for first, last in one.ranges:
+                by_rank[first : last + 1] = [one.shown] * (last - first + 1)
+        return by_rank
+
+    def lefts(self):
+        """What is left, each once, in the order of its bytes."""
+        return in_order({"\n".join(left_of(one.shown)) for one in self.each})
+
+    def faults(self):
+        """The errors, each with the line of its session, each once, in the order of their bytes."""
+        return sorted({pair for one in self.each for pair in faults_of(one.shown)}, key=lambda pair: [part.encode() for part in pair])
+
+
+def in_order(texts):
+    return sorted(texts, key=str.encode)
+
+
+def left_of(shown):
+    """The lines behind the outcome."""
+    first = next(place for place, line in enumerate(shown) if not line.startswith((EVENT, SESSION)))
+    return shown[first:]
+
+
+def faults_of(shown):
+    session = ""
+    for line in shown[: len(shown) - len(left_of(shown))]:
+        session = line if line.startswith(SESSION) else session
+        if line.startswith(ERROR):
+            yield session, line
+
+
+# ---- what is told
+
+
+def some(head, lists, between=()):
+    """The first of some lists of lines beneath a head, and how many there are besides."""
+    if not lists:
+        return
+    yield f"  {head}"
+    for place, lines in enumerate(lists[:MOST_TOLD]):
+        yield from between if place else ()
+        yield from (f"    {line}" for line in lines)
+    if len(lists) > MOST_TOLD:
+        yield f"    and {len(lists) - MOST_TOLD} more"
+
+
+def first_line(was, now):
+    """The last line before the first that differs which is no event, and the two lines."""
+    below = ""
+    for old, new in zip([*was, *[""] * len(now)], [*now, *[""] * len(was)], strict=True):
+        if old != new:
+            return below, old, new
+        below = below if old.startswith(EVENT) else old
+    raise AssertionError("the same")
+
+
+def told_of_orders(was, now):
+    old, new = was.shown_by_rank(), now.shown_by_rank()
+    differ = [rank for rank in range(now.orders) if old[rank] != new[rank]]
+    if not differ:
+        yield "differs, and no order does"
+        return
+    yield f"differs in {len(differ)} of {now.orders} order{'s' * (now.orders != 1)}"
+    first = differ[0]
+    spec = now.asking.spec
+    yield f"  first at rank {first}: {order_text(spec, first).removesuffix(chr(10))}"
+    below, old_line, new_line = first_line(old[first], new[first])
+    yield from [f"  {below}"] * bool(below)
+    for word, line in (("was", old_line), ("is", new_line)):
+        yield f"    {word}: {line.lstrip() or 'nothing more'}"
+    for head, side, other in (("gone", was, now), ("new", now, was)):
+        others = {one.shown for one in other.each}
+        yield from some(head, [one.table for one in side.each if one.shown not in others])
+
+
+def told_of_others(was, now):
+    yield f"has {now.orders} order{'s' * (now.orders != 1)}, accepted are {was.orders}; what they leave and who fails is compared"
+    told = []
+    for head, side, other in (("left no more", was, now), ("left now", now, was)):
+        others = {*other.lefts()}
+        told += some(head, [left.split("\n") for left in side.lefts() if left not in others], ["  or"])
+    for head, side, other in (("can fail no more", was, now), ("can fail now", now, was)):
+        others = {*other.faults()}
+        faults = [f"    {session}: {fault.lstrip()}" for session, fault in side.faults() if (session, fault) not in others]
+        told += [f"  {head}", *faults] if faults else []
+    yield from told or ["  they leave the same, and the same can fail"]
+
+
+def told(name, accepted, text):
+    """The status, and what is told of the spec with this name and text, which was accepted as another text."""
+    was = Side(name, accepted)
+    try:
+        now = Side(name, text)
+        now.text
+    except Refusal as refusal:
+        return 3, refusal.line(name).removeprefix(b"isofarm: ")
+    if was.text == now.text:
+        return 0, f"{name}: as accepted\n".encode()
+    lines = told_of_orders(was, now) if was.orders == now.orders else told_of_others(was, now)
+    return 1, f"{name}: ".encode() + "".join(f"{line}\n" for line in lines).encode()
