@@ -67,7 +67,7 @@ ANSWERS = {
     ("audit", 0): rb"true\n",
     ("audit", 1): rb"false at rank %(n)s\n",
     ("judge", 0): rb"matches %(n)s\n",
-    ("judge", 1): rb"(?:%(n)s differs at rank %(n)s session [0-7]\n)+",
+    ("judge", 1): rb"(?:%(n)s differs at rank %(n)s session [0-7]\n)+(?:nearest is %(n)s\naccepted: .+\nhere: .+\n)?",
 }
 ANSWERS = {one: re.compile(pattern.replace(b"%(n)s", N.encode()), re.DOTALL) for one, pattern in ANSWERS.items()}
 

@@ -196,18 +196,31 @@ fn a_verdict_tells_the_first_equal_report_or_where_each_differs(
 
 /// The same with what is shown: for the book that agrees longest, the first of several, the order of the rank by its names and the session, of the
 /// accepted book and of the judged one; or that one of them has no such rank or session. Nothing is shown where a book tells the same.
-const SHOWN: &str = "isofarm judge first.book other.book --show | 1 | 0 differs at rank 0 session 1/nearest is 0/accepted: a1 b1/session b/  step b1/  row 30/  rows 2/  done/here: a1 b1/session b/  step b1/  row 30/  rows 1/  done
-isofarm judge --show first.book swap.book | 1 | 0 differs at rank 1 session 1/nearest is 0/accepted: b1 a1/session b/  step b1/  row 30/  rows 1/  done/here: b1 a1/session b/  step b1/  rows 0/  done
-isofarm judge swap.book --show other.book first.book | 1 | 0 differs at rank 0 session 1/1 differs at rank 1 session 1/nearest is 1/accepted: b1 a1/session b/  step b1/  rows 0/  done/here: b1 a1/session b/  step b1/  row 30/  rows 1/  done
-isofarm judge swap.book first.book other.book --show | 1 | 0 differs at rank 1 session 1/1 differs at rank 0 session 1/nearest is 0/accepted: b1 a1/session b/  step b1/  rows 0/  done/here: b1 a1/session b/  step b1/  row 30/  rows 1/  done
-isofarm judge first.book other.book other.book --show | 1 | 0 differs at rank 0 session 1/1 differs at rank 0 session 1/nearest is 0/accepted: a1 b1/session b/  step b1/  row 30/  rows 2/  done/here: a1 b1/session b/  step b1/  row 30/  rows 1/  done
-isofarm judge every.book short.book --show | 1 | 0 differs at rank 1 session 0/nearest is 0/accepted: no rank 1/here: a1 b1 a2 b2/session a/  step a1/  inserted 1/  done/  step a2/  deleted 1/  done
-isofarm judge short.book every.book reduced.book --show | 1 | 0 differs at rank 1 session 0/1 differs at rank 1 session 0/nearest is 0/accepted: a1 b1 a2 b2/session a/  step a1/  inserted 1/  done/  step a2/  deleted 1/  done/here: no rank 1
-isofarm judge e.book two.book --show | 1 | 0 differs at rank 0 session 1/nearest is 0/accepted: s t/session b/  step t/  done/here: s/no session 1
-isofarm judge two.book e.book --show | 1 | 0 differs at rank 0 session 1/nearest is 0/accepted: s/no session 1/here: s t/session b/  step t/  done
-isofarm judge e.book false.book two.book --show | 1 | 0 differs at rank 0 session 0/1 differs at rank 0 session 1/nearest is 1/accepted: s t/session b/  step t/  done/here: s/no session 1
-isofarm judge e.book first.book false.book --show | 1 | 0 differs at rank 0 session 0/1 differs at rank 0 session 0/nearest is 0/accepted: a1 b1/session a/  step a1/  inserted 1/  done/here: s/session a/  step s/  done
-isofarm judge e.book quoted.book --show | 1 | 0 differs at rank 0 session 0/nearest is 0/accepted: \"my \"\"s\"/session my a/  step my \"s/here: s/session a/  step s/  done
+const SHOWN: &str =
+    "isofarm judge first.book other.book --show | 1 | 0 differs at rank 0 session 1/nearest is 0/\
+    accepted: a1 b1/session b/  step b1/  row 30/  rows 2/  done/here: a1 b1/session b/  step b1/  row 30/  rows 1/  done
+isofarm judge --show first.book swap.book | 1 | 0 differs at rank 1 session 1/nearest is 0/\
+    accepted: b1 a1/session b/  step b1/  row 30/  rows 1/  done/here: b1 a1/session b/  step b1/  rows 0/  done
+isofarm judge swap.book --show other.book first.book | 1 | 0 differs at rank 0 session 1/1 differs at rank 1 session 1/nearest is 1/\
+    accepted: b1 a1/session b/  step b1/  rows 0/  done/here: b1 a1/session b/  step b1/  row 30/  rows 1/  done
+isofarm judge swap.book first.book other.book --show | 1 | 0 differs at rank 1 session 1/1 differs at rank 0 session 1/nearest is 0/\
+    accepted: b1 a1/session b/  step b1/  rows 0/  done/here: b1 a1/session b/  step b1/  row 30/  rows 1/  done
+isofarm judge first.book other.book other.book --show | 1 | 0 differs at rank 0 session 1/1 differs at rank 0 session 1/nearest is 0/\
+    accepted: a1 b1/session b/  step b1/  row 30/  rows 2/  done/here: a1 b1/session b/  step b1/  row 30/  rows 1/  done
+isofarm judge every.book short.book --show | 1 | 0 differs at rank 1 session 0/nearest is 0/\
+    accepted: no rank 1/here: a1 b1 a2 b2/session a/  step a1/  inserted 1/  done/  step a2/  deleted 1/  done
+isofarm judge short.book every.book reduced.book --show | 1 | 0 differs at rank 1 session 0/1 differs at rank 1 session 0/nearest is 0/\
+    accepted: a1 b1 a2 b2/session a/  step a1/  inserted 1/  done/  step a2/  deleted 1/  done/here: no rank 1
+isofarm judge e.book two.book --show | 1 | 0 differs at rank 0 session 1/nearest is 0/\
+    accepted: s t/session b/  step t/  done/here: s/no session 1
+isofarm judge two.book e.book --show | 1 | 0 differs at rank 0 session 1/nearest is 0/\
+    accepted: s/no session 1/here: s t/session b/  step t/  done
+isofarm judge e.book false.book two.book --show | 1 | 0 differs at rank 0 session 0/1 differs at rank 0 session 1/nearest is 1/\
+    accepted: s t/session b/  step t/  done/here: s/no session 1
+isofarm judge e.book first.book false.book --show | 1 | 0 differs at rank 0 session 0/1 differs at rank 0 session 0/nearest is 0/\
+    accepted: a1 b1/session a/  step a1/  inserted 1/  done/here: s/session a/  step s/  done
+isofarm judge e.book quoted.book --show | 1 | 0 differs at rank 0 session 0/nearest is 0/\
+    accepted: \"my \"\"s\"/session my a/  step my \"s/here: s/session a/  step s/  done
 isofarm judge first.book other.book first.book --show | 0 | matches 1
 isofarm judge late_ran.book --show e.book | 0 | matches 0";
 
