@@ -1,6 +1,7 @@
 pub mod FileLemmas
 pub mod ReportLemmas
 pub mod JoinLemmas
+pub mod KeptLemmas
 pub mod JudgeLemmas
 pub mod RunLemmas
 pub mod MissingLemmas
