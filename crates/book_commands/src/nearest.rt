@@ -1,6 +1,6 @@
 //! What is shown beneath a verdict: where the accepted report that is nearest and the judged one differ.
 
-ghost use Rattle.std.specs.Prelude.{◌≡◌, ◌<◌, ◌↔◌, ◌++◌, ℕ, List, [], All, IfOk, IsTrue, MatchOption, OnOk, codes, decimal, get_or, length, slice_get};
+ghost use Rattle.std.specs.Prelude.{◌≡◌, ◌<◌, ◌↔◌, ◌++◌, ◌∷◌, ℕ, List, [], All, IfOk, IsTrue, MatchOption, OnOk, codes, decimal, get_or, length, slice_get};
 ghost use Rattle.bound_specs.specs.Spec.{line_of, ranks};
 ghost use Rattle.machine_model.specs.Outcome.{IsOutcomeOf};
 ghost use Rattle.transcripts.specs.Lines.{number_line};
@@ -69,19 +69,22 @@ fn nearest_of(
     differences: &[(u64, u8)],
 ) -> Result<Vec<u8>, AllocError>
     requires many { length differences.now ≡ length accepted.now.reports.items }
+    requires specs { length accepted.now.specs.items ≡ length accepted.now.reports.items }
     requires here { (here : Contents) × IsKept here judged.now.spec judged.now.report }
     requires there { (books : List Contents) × AreKept books accepted.now.specs.items accepted.now.reports.items }
     ensures { IfOk result (λ text. (here : Contents) → IsKept here judged.now.spec judged.now.report
         → (books : List Contents) → AreKept books accepted.now.specs.items accepted.now.reports.items
         → IsBeneathThese here judged.now.report books accepted.now.reports.items differences.now text.items) }
 {
+    let specs = accepted.specs.as_slice();
+    let reports = accepted.reports.as_slice();
     match nearest(differences) {
         None => Ok(Vec::new(alloc)),
         Some(index) => shown(
             alloc,
             index,
-            &accepted.specs[index],
-            &accepted.reports[index],
+            &specs[index],
+            &reports[index],
             judged,
             differences[index],
         ),
@@ -220,7 +223,8 @@ fn transcript_text(
 {
     let outcome = alone(alloc, transcript)?;
     let names = Names {
-        sessions: &spec.session_names()[session..session + 1],
+        // Those from this one on, of which there is one told.
+        sessions: &spec.session_names()[session..],
         steps: spec.step_names(),
     };
     let mut out = Counted::new(Vec::new(alloc));
