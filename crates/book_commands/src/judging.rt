@@ -44,10 +44,19 @@ pub enum JudgeFault {
 }
 
 /// What is written of a judgement: the verdict, and what stands beneath it.
-#[derive(Drop)]
 struct Judgement {
     verdict: Verdict,
     beneath: Vec<u8>,
+}
+
+// Written out and not derived, so that who owns one calls this and does not let its parts go one by one.
+impl Drop for Judgement {
+    fn drop(self) {
+        let Judgement {
+            verdict: _verdict,
+            beneath: _beneath,
+        } = self;
+    }
 }
 
 /// Reads the book at a path and those at the accepted paths, and writes the first whose report is equal, or for each of them where it
