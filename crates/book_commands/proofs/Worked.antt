@@ -1,5 +1,5 @@
 -- What is shown beneath a verdict, by hand.
-use Rattle.std.specs.Prelude.{◌≡◌, ◌<◌, ◌⊎◌, refl, ℕ, zero, suc, List, [], ◌∷◌, codes}
+use Rattle.std.specs.Prelude.{◌≡◌, ◌<◌, refl, ℕ, zero, suc, List, [], ◌∷◌, codes}
 use Rattle.std.specs.Fmt.{digits}
 use Rattle.std.proofs.Common.{inl, inr, arith}
 use Rattle.bound_specs.specs.Spec.{SpecFile}

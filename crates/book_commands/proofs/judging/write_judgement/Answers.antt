@@ -1,6 +1,6 @@
 use Rattle.std.proofs.Common.{subst}
 use Rattle.transcripts.specs.Counted.{Prints}
-use Rattle.transcripts.proofs.Writing.{prints-after, prints-stopped, stopped-append}
+use Rattle.transcripts.proofs.Writing.{prints-after}
 use Rattle.book_commands.specs.Judging.{verdict_text}
 use Rattle.book_commands.proofs.judging.write_judgement.Goals as goal
 

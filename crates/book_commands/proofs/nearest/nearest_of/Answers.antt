@@ -1,9 +1,7 @@
-use Rattle.std.proofs.Common.{◌≡◌, ◌<◌, ◌∙◌, sym, ap, subst, ℕ, List, length, get_or, slice_get, Some, arith}
+use Rattle.std.proofs.Common.{◌≡◌, ◌<◌, ◌∙◌, sym, ap, ℕ, List, length, get_or, slice_get, Some, arith}
 use Rattle.std.proofs.lemmas.List.{get_or_default}
 use Rattle.std.proofs.lemmas.Option.{slice_get-get_or}
 use Rattle.std.proofs.lemmas.Result.{IfOk-weaker}
-use Rattle.bound_specs.specs.Spec.{SpecFile}
-use Rattle.fact_books.specs.Entries.{Told}
 use Rattle.book_commands.specs.Nearest.{shown_text}
 use Rattle.book_commands.proofs.KeptLemmas.{kept-at, kept-own}
 use Rattle.book_commands.proofs.SideLemmas.{shown-beneath}
