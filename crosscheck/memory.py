@@ -21,8 +21,9 @@ NO_MEMORY = (4, b"", b"isofarm: no memory\n")
 WORDS = [[], ["--help"], ["one", "x"], ["one", "first.spec", "x"], ["one", "first.spec", "2"], ["one", "no.spec", "0"]]
 WORDS += [["one", "first.spec", "0"], ["one", "deadlock.spec", "5"], ["one", "lost_update.spec", "1"], ["one", "names.spec", "0"]]
 
-# Two halves of all ranks, their join, and a spec with a fault.
+# Two halves of all ranks, their join, a book of another spec, and a spec with a fault.
 BOOKS = {"low.book": "run deadlock.spec 0 9", "high.book": "run deadlock.spec 9 20 --every", "all.book": "join low.book high.book"}
+BOOKS["other.book"] = "run lost_update.spec"
 WRONG = b"session a\n\tstep s {}\n\tstep {}\n"
 OF_BOOKS = ["rank deadlock.spec a1 b1 a2", "rank deadlock.spec a2 a1", "order deadlock.spec 3", "order wrong.spec 0"]
 OF_BOOKS += ["show deadlock.spec 5", "show deadlock.spec a1 b1 a2 b2 a3 b3 --json", "show deadlock.spec 20", "show wrong.spec 0"]
@@ -32,7 +33,7 @@ OF_BOOKS += ["run deadlock.spec 0 20 --workers 1 --progress"]
 OF_BOOKS += ["run deadlock.spec --workers 1", "missing low.book", "missing high.book --lines", "missing all.book", "missing all.book clash.book"]
 OF_BOOKS += ["missing all.book wrong.spec", "join - low.book -"]
 OF_BOOKS += ["holds low.book deadlock.spec 0 9", "holds low.book deadlock.spec 0 10", "holds low.book wrong.spec 0 1"]
-OF_BOOKS += ["audit all.book", "audit wrong.spec", "judge all.book all.book", "judge all.book low.book", "judge all.book all.book --show"]
+OF_BOOKS += ["audit all.book", "audit wrong.spec", "judge all.book all.book", "judge all.book low.book", "judge all.book other.book --show"]
 OF_BOOKS += ["classes deadlock.spec", "classes deadlock.spec --answers --brief", "classes deadlock.spec --workers 1", "classes wrong.spec"]
 OF_BOOKS += ["classes deadlock.spec --deadlock=b --no-error --ranks --outcomes --left --workers 1", "classes deadlock.spec --deadlock=c"]
 OF_BOOKS += ["classes deadlock.spec --no-serial --look 'SELECT * FROM t ORDER BY v DESC' --expect 'SELECT v FROM t WHERE id = 2' 42 --workers 1"]
@@ -52,7 +53,8 @@ def of_another_rank(book):
 def make_books(folder):
     """Puts into the folder what the commands over books find there."""
     Path(folder, "wrong.spec").write_bytes(WRONG)
-    Path(folder, "deadlock.spec").write_bytes((TOP / "examples/deadlock.spec").read_bytes())
+    for name in ("deadlock.spec", "lost_update.spec"):
+        Path(folder, name).write_bytes((TOP / "examples" / name).read_bytes())
     for name, words in BOOKS.items():
         _status, out, _error = told(PROGRAM, words.split(), folder, {})
         Path(folder, name).write_bytes(out)
