@@ -40,7 +40,7 @@ returns-in-Some c =
     let spec = at-place c.as_slice-specs.result.now specs index _ c.as_slice-specs.ensures.value (omega (arith, inside, many, as-many)) c.index-specs-index.is in
     let report = at-place c.as_slice-reports.result.now reports index _ c.as_slice-reports.ensures.value (omega (arith, inside, many)) c.index-reports-index.is in
     IfOk-weaker c.shown.result _ _ (λ text shows here kept books are.
-        shown-beneath here _ _ kept books specs reports are c.args.differences.now index c.in-Some.ensures _ _ spec report text.items
-        (shows ∙ ap (λ (p : ℕ × ℕ). shown_text index c.index-specs-index.result c.index-reports-index.result c.args.judged.now.spec c.args.judged.now.report p)
-        (get_or_default c.args.differences.now index _ (0, 0) inside)))
+    shown-beneath here _ _ kept books specs reports are c.args.differences.now index c.in-Some.ensures _ _ spec report text.items
+    (shows ∙ ap (λ (p : ℕ × ℕ). shown_text index c.index-specs-index.result c.index-reports-index.result c.args.judged.now.spec c.args.judged.now.report p)
+    (get_or_default c.args.differences.now index _ (0, 0) inside)))
     c.shown.ensures
