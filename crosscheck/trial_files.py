@@ -1,0 +1,2 @@
+def odd_files(trial, folder):
+    return []

@@ -1,0 +1,2 @@
+def writes(trial, folder, seed):
+    return []
