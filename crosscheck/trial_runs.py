@@ -30,10 +30,10 @@ class Trial:
     def __init__(self, program):
         self.program, self.counts, self.differences = str(Path(program).resolve()), Counter(), 0
 
-    def run(self, words, folder, before=(), **how):
-        """The status and both outputs of the program with these words in a folder; words before them may be those of another program."""
+    def run(self, words, folder, before=(), program=None, **how):
+        """The status and both outputs of the program, or a copy of it, with these words in a folder; words before them may be of another one."""
         self.counts["runs"] += 1
-        command = [*before, self.program, "test", *words]
+        command = [*before, program or self.program, "test", *words]
         how = {"check": False, "stdin": subprocess.DEVNULL, "capture_output": True, "timeout": MOST_SECONDS} | how
         ended = subprocess.run(command, cwd=folder, **{name: value for name, value in how.items() if value is not None})
         return ended.returncode, ended.stdout, ended.stderr

@@ -139,7 +139,7 @@ def name_of(path):
 def told_of(path, accepted, text):
     """The status, and what is told of a spec at a path that was accepted so, or not at all."""
     name = name_of(path)
-    status, out = told(name, accepted.text if accepted else text, text)
+    status, out = told(name, accepted.text if accepted else ONE.encode(), text)
     if status != 3 and accepted is None:
         return 1, f"{path}: no accepted text\n".encode()
     if status == 0 and accepted.name != name:
