@@ -389,11 +389,13 @@ fn behind<'t>(path: &str, line: &'t str) -> &'t str {
         Some(told) => told,
         None => line,
     };
-    match told.strip_prefix(path) {
-        Some(rest) => match rest.strip_prefix(": ") {
-            Some(text) => text,
-            None => rest,
-        },
+    let rest = match told.strip_prefix(path) {
+        Some(rest) => rest,
+        None => return told,
+    };
+    // Another path may begin with this one, as that of an accepted text does.
+    match rest.strip_prefix(": ") {
+        Some(text) => text,
         None => told,
     }
 }

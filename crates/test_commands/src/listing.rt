@@ -33,7 +33,7 @@ impl From<AllocError> for SpecsFault<'_> {
 }
 
 /// The spec files at some paths, in the order of the paths. A folder stands for all files in it, and in the folders in it, whose names end in
-/// `.spec`, in the order of their names. Names that begin with a point are passed over.
+/// `.spec`, in the order of their names. Names that begin with a point are passed over. A folder that is not read stands for itself.
 pub fn specs_in<'a, F: Folder>(
     alloc: Global,
     folder: &F,
@@ -87,8 +87,12 @@ fn add_entries<'a, F: Folder>(
                 add_spec(alloc, &next.path, specs)?;
             }
         } else if next.depth < MAX_DEPTH {
-            if let Some(entries) = folder.entries(alloc, &next.path)? {
-                push_entries(alloc, &next.path, next.depth + 1, entries, &mut waiting)?;
+            match folder.entries(alloc, &next.path)? {
+                Some(entries) => {
+                    push_entries(alloc, &next.path, next.depth + 1, entries, &mut waiting)?
+                }
+                // What is in it is not known, so it is told as a spec that is not read.
+                None => add_spec(alloc, &next.path, specs)?,
             }
         }
     }
