@@ -22,10 +22,10 @@ OLD_TEXT = b"old\n" * 4_000
 # How many bytes a file may have, and how many pages of a disk are free.
 LIMITS, FREE_PAGES = [0, 1, 640, 900, 2_000, 4_095, 100_000], [0, 1, 2, 3, 5, 8, 40]
 PAGE, DISK = 4_096, 1 << 20
-KILLS_AT_ANY_MOMENT = 60
-# What opens, fills, closes and names files, by the names that machines have for it. Each is counted for itself.
-NAMES = "?rename,?renameat,?renameat2"
-CALLS, FAILS = ["?open,?openat", "write", "close", NAMES], [("write", "ENOSPC"), (NAMES, "EIO")]
+KILLS_AT_ANY_MOMENT = 40
+# What fills files and names them, by the names that machines have for it, and how it may fail. Before a call that fills a file that is there and
+# empty, and before one that names it, it is whole.
+FAILS = {"write": "ENOSPC", "?rename,?renameat,?renameat2": "EIO"}
 MOST_CALLS = 2_000
 
 
@@ -198,10 +198,10 @@ def is_traced(folder):
 
 
 def calls(writes):
-    """Runs that are killed at each call, and runs in which each write, rename and close fails. What is left out is given."""
+    """Runs that are killed at each write and at each change of a name, and runs in which one of these fails. What is left out is given."""
     if not is_traced(writes.top):
-        return ["runs that fail and are killed at each system call, since there is no strace"]
-    for name in CALLS:
+        return ["runs that fail and are killed at each write, since there is no strace"]
+    for name in FAILS:
         for number in range(1, MOST_CALLS):
             writes.begin()
             status, _out, _error = writes.trial.run(WORDS, writes.top, strace(name, number, "signal=SIGKILL"))
@@ -209,7 +209,7 @@ def calls(writes):
                 break
             writes.trial.hold(f"killed at {name} {number}", status, -signal.SIGKILL)
             writes.killed(f"killed at {name} {number}")
-    for name, error in FAILS:
+    for name, error in FAILS.items():
         for number in range(1, MOST_CALLS):
             writes.begin()
             if not writes.failing(f"{name} fails at {number}", before=strace(name, number, f"error={error}")):
