@@ -43,7 +43,7 @@ OF_BOOKS += ["classes deadlock.spec --json --ranks --look 'SELECT * FROM t WHERE
 OF_BOOKS += ["classes deadlock.spec --json --answers --brief --workers 1", "classes deadlock.spec --json --deadlock=c"]
 OF_BOOKS += ["classes --book all.book", "classes --book high.book low.book --ranks --outcomes", "classes --book low.book --json --ranks"]
 OF_BOOKS += ["classes --book all.book clash.book", "classes --book all.book wrong.spec"]
-OF_BOOKS += ["test", "test all.book --workers 0", "test none.spec", "test - -"]
+OF_BOOKS += ["test", "test all.book --workers 0", "test - -"]
 
 
 def of_another_rank(book):
