@@ -80,11 +80,37 @@ nothing
 marks
 ";
 
+/// A text that is read has an empty line.
+const EMPTY_LINE: &str = "setup { CREATE TABLE t (v text); INSERT INTO t VALUES ('a\n\nb'); }
+session a step s { SELECT v FROM t; } session b step t {}";
+
+/// What its first session alone was told.
+const EMPTY_LINE_CLASS: &str = "empty_line.spec: 1 order, 1 class
+
+letters
+
+class  orders  share %  shows   rank  order
+    1       1    100.0  ------     0  s
+
+ranks 0
+session a
+  step s
+  row 'a
+
+b'
+  rows 1
+  done
+left in t
+  'a\\u{a}\\u{a}b'
+
+marks
+";
+
 /// An accepted text that is opened and not read.
 const UNREAD: &str = "odd.accepted";
 
 /// The files that are there.
-const FILES: [(&str, &str); 15] = [
+const FILES: [(&str, &str); 17] = [
     ("one.spec", ONE),
     ("one.accepted", ONE_CLASS),
     ("new.spec", ONE),
@@ -97,6 +123,8 @@ const FILES: [(&str, &str); 15] = [
     ("broken.spec", "session"),
     ("deep/inner/one.spec", ONE),
     ("deep/inner/one.accepted", ONE_CLASS),
+    ("empty_line.spec", EMPTY_LINE),
+    ("empty_line.accepted", EMPTY_LINE_CLASS),
     ("odd", ONE),
     (UNREAD, ONE_CLASS),
     ("shut/one.spec", ONE),
