@@ -70,6 +70,7 @@ TESTS = {
         "shows::an_order_is_shown_whole_unless_memory_runs_out",
         "outcomes::classes_of_books_are_told_whole_unless_memory_runs_out",
         "over_books::books_are_told_whole_unless_memory_runs_out",
+        "spec_tests::specs_are_tested_whole_unless_memory_runs_out",
         "verdicts::answers_are_told_whole_unless_memory_runs_out",
     ],
 }

@@ -79,7 +79,7 @@ pub(crate) fn test_of_file<R: Threads + Sync, F: Folder>(
     }
 }
 
-fn found(finding: Finding, told: Told) -> Found
+fn found_as(finding: Finding, told: Told) -> Found
     ensures { result.finding ≡ finding }
 {
     Found { finding, told }
@@ -89,12 +89,12 @@ fn found(finding: Finding, told: Told) -> Found
 fn no_memory() -> Found
     ensures { result.finding ≡ NoMemory }
 {
-    found(Finding::NoMemory, Told::NoMemory)
+    found_as(Finding::NoMemory, Told::NoMemory)
 }
 
 /// The fault that is told of a spec that is not tested.
 fn fault_of<'p>(path: &'p str, accepted: &'p str, fault: TestFault) -> ProgramFault<'p>
-    ensures { result ≡ testing_told path.entry accepted.entry fault.entry }
+    ensures { result ≡ testing_told path.entry accepted.entry fault }
 {
     match fault {
         TestFault::Classes(fault) => classes_fault(path, fault),
@@ -108,8 +108,8 @@ fn compared(alloc: Global, bytes: &[u8], tested: &Tested) -> Found
     ensures { (files : Files) (path name accepted : List ℕ) → IsSpecAt files path bytes.now name accepted → IsTested (files accepted) bytes.now name tested.now → IsFoundOf files false path result.finding }
 {
     match &tested.verdict {
-        Verdict::Same => found(Finding::Good, Told::AsAccepted),
-        Verdict::Missing => found(Finding::Bad, Told::NoneAccepted),
+        Verdict::Same => found_as(Finding::Good, Told::AsAccepted),
+        Verdict::Missing => found_as(Finding::Bad, Told::NoneAccepted),
         Verdict::Other(other) => changed(alloc, bytes, other, &tested.text),
     }
 }
@@ -119,7 +119,7 @@ fn changed(alloc: Global, bytes: &[u8], accepted: &[u8], text: &[u8]) -> Found
     ensures { (result.finding ≡ Bad) ⊎ (result.finding ≡ NoMemory) }
 {
     match changes_of(alloc, bytes, accepted, text) {
-        Ok(lines) => found(Finding::Bad, Told::Lines(lines)),
+        Ok(lines) => found_as(Finding::Bad, Told::Lines(lines)),
         Err(_) => no_memory(),
     }
 }
@@ -167,11 +167,11 @@ fn updated<F: Folder>(alloc: Global, accepted: &str, tested: &Tested, folder: &F
     ensures { (files : Files) (path bytes name : List ℕ) → IsSpecAt files path bytes name accepted.now → IsTested (files accepted.now) bytes name tested.now → IsFoundOf files true path result.finding }
 {
     if let Verdict::Same = &tested.verdict {
-        return found(Finding::Good, Told::AsAccepted);
+        return found_as(Finding::Good, Told::AsAccepted);
     }
     match folder.put(alloc, accepted, &tested.text) {
-        Ok(true) => found(Finding::Good, Told::Accepted),
-        Ok(false) => found(Finding::Unread, Told::NotWritten),
+        Ok(true) => found_as(Finding::Good, Told::Accepted),
+        Ok(false) => found_as(Finding::Unread, Told::NotWritten),
         Err(_) => no_memory(),
     }
 }
@@ -181,7 +181,7 @@ fn refused(alloc: Global, path: &str, fault: &ProgramFault<'_>) -> Found
     ensures { (result.finding ≡ fault_found fault.now) ⊎ (result.finding ≡ NoMemory) }
 {
     match refused_text(alloc, path, fault) {
-        Ok(line) => found(fault_found(fault), Told::Lines(line)),
+        Ok(line) => found_as(fault_found(fault), Told::Lines(line)),
         Err(_) => no_memory(),
     }
 }
@@ -210,11 +210,13 @@ fn behind<'t>(path: &str, line: &'t str) -> &'t str {
         Some(told) => told,
         None => line,
     };
-    match told.strip_prefix(path) {
-        Some(rest) => match rest.strip_prefix(": ") {
-            Some(text) => text,
-            None => rest,
-        },
+    let rest = match told.strip_prefix(path) {
+        Some(rest) => rest,
+        None => return told,
+    };
+    // Another path may begin with this one, as that of an accepted text does.
+    match rest.strip_prefix(": ") {
+        Some(text) => text,
         None => told,
     }
 }

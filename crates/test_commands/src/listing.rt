@@ -27,7 +27,7 @@ pub enum SpecsFault<'a> {
 }
 
 /// The spec files at some paths, in the order of the paths. A folder stands for all files in it, and in the folders in it, whose names end in
-/// `.spec`, in the order of their names. Names that begin with a point are passed over.
+/// `.spec`, in the order of their names. Names that begin with a point are passed over. A folder that is not read stands for itself.
 pub fn specs_in<'a, F: Folder>(
     alloc: Global,
     folder: &F,
@@ -99,13 +99,7 @@ fn add_entries<'a, F: Folder>(
         let Some(next) = waiting.pop() else {
             return Ok(());
         };
-        if !next.is_folder {
-            if next.path.ends_with(SPEC) {
-                add_spec(alloc, &next.path, specs)?;
-            }
-        } else if push_folder(alloc, folder, &next, &mut waiting).is_err() {
-            return Err(SpecsFault::NoMemory);
-        }
+        add_next(alloc, folder, &next, &mut waiting, specs)?;
     }
     Ok(())
 }
@@ -118,20 +112,43 @@ struct Waiting {
     depth: usize,
 }
 
-/// Puts what lies in a folder that waited on top of what waits, unless it lies too deep.
-fn push_folder<F: Folder>(
+/// Adds what waited, where it is a spec; of a folder what lies in it waits from then on, unless it lies too deep. One that is not read is told as a
+/// spec that is not, since what is in it is not known.
+fn add_next<'a, F: Folder>(
     alloc: Global,
     folder: &F,
     next: &Waiting,
     waiting: &mut Vec<Waiting>,
-) -> Result<(), AllocError> {
+    specs: &mut Vec<String>,
+) -> Result<(), SpecsFault<'a>>
+    ensures { IfErr result (λ fault. (folder : List ℕ) → IsNoneIn folder fault) }
+{
+    if !next.is_folder {
+        return add_named(alloc, &next.path, specs);
+    }
     if next.depth >= MAX_DEPTH {
         return Ok(());
     }
-    match folder.entries(alloc, &next.path)? {
-        Some(entries) => push_entries(alloc, &next.path, next.depth + 1, entries, waiting),
-        None => Ok(()),
+    match folder.entries(alloc, &next.path) {
+        Ok(Some(entries)) => {
+            match push_entries(alloc, &next.path, next.depth + 1, entries, waiting) {
+                Ok(()) => Ok(()),
+                Err(_) => Err(SpecsFault::NoMemory),
+            }
+        }
+        Ok(None) => add_spec(alloc, &next.path, specs),
+        Err(_) => Err(SpecsFault::NoMemory),
     }
+}
+
+/// Adds the file at a path in a folder, if its name is that of a spec.
+fn add_named<'a>(alloc: Global, path: &str, specs: &mut Vec<String>) -> Result<(), SpecsFault<'a>>
+    ensures { IfErr result (λ fault. (folder : List ℕ) → IsNoneIn folder fault) }
+{
+    if path.ends_with(SPEC) {
+        return add_spec(alloc, path, specs);
+    }
+    Ok(())
 }
 
 /// Puts what lies in a folder on top of what waits, so that it comes in the order of the names.

@@ -5,12 +5,12 @@ use Rattle.program_commands.proofs.one_spec.compared.Goals as goal
 
 pub returns-in-Same : goal.returns-in-Same
 returns-in-Same c = λ files path name accepted at tested.
-    subst (IsFoundOf files false path) (sym c.line.ensures)
+    subst (IsFoundOf files false path) (sym c.found_as.ensures)
     (same-good files path c.args.bytes.now name accepted at c.args.tested.now tested c.in-Same.is)
 
 pub returns-in-Missing : goal.returns-in-Missing
 returns-in-Missing c = λ files path name accepted at tested.
-    subst (IsFoundOf files false path) (sym c.line-in-Missing.ensures)
+    subst (IsFoundOf files false path) (sym c.found_as-in-Missing.ensures)
     (missing-bad files path c.args.bytes.now name accepted at c.args.tested.now tested c.in-Missing.is)
 
 pub returns-in-Other : goal.returns-in-Other

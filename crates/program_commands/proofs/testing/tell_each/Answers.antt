@@ -16,7 +16,7 @@ loop-place-preserved g c =
     let lt : place < length (findings_in found) = omega (arith, c.loop-place-test.true, c.requires.many, length-map found (λ (f : Found). f.finding)) in
     let within : place < length found = omega (arith, c.loop-place-test.true, c.requires.many) in
     let here : get_or (findings_in found) place next.finding ≡ next.finding =
-        get_or-map (λ (f : Found). f.finding) found place next next.finding within ∙ ap (λ (f : Found). f.finding) (sym c.index-found-place.is) in
+    get_or-map (λ (f : Found). f.finding) found place next next.finding within ∙ ap (λ (f : Found). f.finding) (sym c.index-found-place.is) in
     record {
       specs = c.worse.ensures ∙ ap (λ (f : Finding). worse f next.finding) c.loop-place.invariant.specs
           ∙ sym (worst-next c.args.before.specs (findings_in found) place next.finding lt here);

@@ -28,7 +28,7 @@ loop-told-preserved g c =
     let on : told ≤ end = omega (arith, least, sum, c.loop-told.auto.told-fits, c.loop-told-test.true) in
     let found = c.in-Ok.found.items in
     let before = worst-with-more files c.args.updates (take told (map string_bytes specs)) (map string_bytes some) c.loop-told.ended.specs (findings_in found)
-        c.loop-told.invariant.specs c.in-Ok.ensures in
+    c.loop-told.invariant.specs c.in-Ok.ensures in
     let is = c.in-Ok-tell_each.ensures.specs ∙ ap (λ (l : List Found). worst_with c.loop-told.ended.specs (findings_in l)) c.as_slice.ensures.value in
     record {
       within = within;
