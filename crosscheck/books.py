@@ -13,7 +13,7 @@ from pathlib import Path
 
 from binding import bind
 from facts import MOST_RANKS, Worlds, fact, shared, swapped, swaps, word_of
-from machine import outcome_text
+from machine import outcome_text, printed
 from refusal import Refusal
 from spec_file import read_spec
 
@@ -146,13 +146,23 @@ def event_of(value):
     return value if isinstance(value, str) else (value[0], *map(as_machine, value[1:]))
 
 
+def events_of(values):
+    return [event_of(value) for value in values]
+
+
+def session_text(spec, session, values):
+    """The text of one session, of the values of its events in a book."""
+    lines = [f"session {spec.session_names[session]}".encode(), *(b"  " + printed(spec, event) for event in events_of(values))]
+    return b"".join(line + b"\n" for line in lines)
+
+
 def report_text(spec, facts):
     told = report(spec, facts)
     if isinstance(told, str):
         return f"{told}\n".encode()
     return b"".join(
         f"rank {rank}\n".encode()
-        + outcome_text(spec, [[event_of(event) for event in transcript] for transcript in json.loads(outcome)])
+        + outcome_text(spec, map(events_of, json.loads(outcome)))
         for rank, outcome in enumerate(told)
     )
 

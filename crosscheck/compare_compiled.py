@@ -87,6 +87,7 @@ class Pair:
         self.run(name, "audit", "every.book")
         self.run(name, "judge", "all.book", "every.book")
         self.run(name, "judge", "low.book", "all.book")
+        self.run(name, "judge", "--show", "every.book", "low.book")
         self.run(name, "classes", "--book", "high.book", "--ranks", "--outcomes")
         self.run(name, "classes", "--json", "--book", "low.book", "every.book", "high.book")
 

@@ -13,8 +13,9 @@ from pathlib import Path
 from random import Random
 from tempfile import TemporaryDirectory
 
+from binding import MAX_SESSIONS
 from book_file import NoBook, read_book, text_in_format_1
-from books import book_text, facts_of, false_rank, first_difference, least_clash, report, report_text, to_run, untold
+from books import book_text, compact, facts_of, false_rank, first_difference, least_clash, report, report_text, session_text, to_run, untold
 from compare import PROGRAM, WORDS, compare, ended, usage
 from compare_books import MOST_RANKS, cut
 from damage import DAMAGES, spelled
@@ -30,9 +31,12 @@ RANKS_OF_LARGE = 40
 RANKS_OF_ALL = 100
 RANKS_OF_DAMAGED = 12
 DAMAGED_A_SPEC = 12
+ONE_MORE = b'\nsession "one more" step "s of it" {}'
 MOST_BOOKS = 1000
 U64 = 2**64
-VERDICTS = {b"missing rank": "a range that is not held", b"another spec": "a range of another spec", b"true\n": "true", b"false at rank": "an audit: false", b"matches ": "a verdict: matches", b" differs at ": "a verdict: differs"}
+VERDICTS = {b"missing rank": "a range that is not held", b"another spec": "a range of another spec", b"true\n": "true", b"false at rank": "an audit: false"}
+VERDICTS |= {b"matches ": "a verdict: matches", b" differs at ": "a verdict: differs", b"\nnearest is ": "a verdict: shown"}
+VERDICTS |= {b": no rank ": "a verdict: shown without a rank", b"\nno session ": "a verdict: shown without a session"}
 
 
 # ---- what the commands tell
@@ -170,12 +174,30 @@ def audit(path):
     return b"true\n"
 
 
-def judge(path, *accepted):
-    told, *others = [reported_at(one)[2] for one in (path, *accepted)]
-    if told in others:
-        return b"matches %d\n" % others.index(told)
-    differences = [(index, *first_difference(told, other)) for index, other in enumerate(others)]
-    raise Fault(1, b"".join(b"%d differs at rank %d session %d\n" % one for one in differences), b"")
+def side(word, text, told, rank, session):
+    """What a report tells at a rank of a session, by the names of its own spec, behind a word."""
+    if rank >= len(told):
+        return word + b": no rank %d\n" % rank
+    spec, outcome = spec_of(text), json.loads(told[rank])
+    ordered = word + b": " + order_text(spec, rank).encode()
+    if session >= len(outcome):
+        return ordered + b"no session %d\n" % session
+    return ordered + session_text(spec, session, outcome[session])
+
+
+def judge(show, path, *accepted):
+    (here, _facts, told), *others = [reported_at(one) for one in (path, *accepted)]
+    reports = [report for _text, _facts, report in others]
+    if told in reports:
+        return b"matches %d\n" % reports.index(told)
+    differences = [first_difference(told, report) for report in reports]
+    lines = [b"%d differs at rank %d session %d\n" % (index, *place) for index, place in enumerate(differences)]
+    if show:
+        furthest = max(differences)
+        nearest = differences.index(furthest)
+        there = others[nearest][0]
+        lines += [b"nearest is %d\n" % nearest, side(b"accepted", there, reports[nearest], *furthest), side(b"here", here, told, *furthest)]
+    raise Fault(1, b"".join(lines), b"")
 
 
 # ---- what they are given
@@ -185,11 +207,16 @@ def joining(*paths):
     return ["join", *paths], answer(join, *paths)
 
 
+def with_flag(random, flag, words):
+    """The words of a command with a flag among them, or without it, and whether it is there."""
+    if random.random() < 0.5:
+        return words, False
+    place = random.randint(1, len(words))
+    return [*words[:place], flag, *words[place:]], True
+
+
 def missing_from(random, *paths):
-    lines = random.random() < 0.5
-    words = ["missing", *paths]
-    if lines:
-        words.insert(random.randint(1, len(words)), "--lines")
+    words, lines = with_flag(random, "--lines", ["missing", *paths])
     return words, answer(missing, lines, *paths)
 
 
@@ -201,8 +228,9 @@ def auditing(path):
     return ["audit", path], answer(audit, path)
 
 
-def judging(*paths):
-    return ["judge", *paths], answer(judge, *paths)
+def judging(random, *paths):
+    words, show = with_flag(random, "--show", ["judge", *paths])
+    return words, answer(judge, show, *paths)
 
 
 def running(random, text, path, first, end, how):
@@ -286,7 +314,7 @@ def of_books(random, folder, text, parts):
     yield missing_from(random, random.choice(paths), holed)
     yield from (reporting(path) for path in (whole, random.choice(paths)))
     yield auditing(random.choice([whole, *paths]))
-    yield judging(whole, *random.choices([whole, whole, *paths], k=random.randint(1, 3)))
+    yield judging(random, whole, *random.choices([whole, whole, *paths], k=random.randint(1, 3)))
     spec_path = put(folder, "spec", random.choice([text, text, text, text + b"#"]))
     ranks = sorted(fact[0] for facts in parts for fact in facts) or [0]
     for path in (whole, random.choice(paths)):
@@ -302,10 +330,32 @@ def of_false_books(random, folder, text, facts):
     true = put(folder, "true", file_text(random, text, facts))
     yield reporting(false)
     yield auditing(false)
-    yield judging(*random.choices([false, false, true], k=random.randint(2, 4)))
+    yield judging(random, *random.choices([false, false, true], k=random.randint(2, 4)))
     yield joining(*random.sample([false, true], random.randint(1, 2)))
     yield missing_from(random, *random.sample([false, true], random.randint(1, 2)))
     yield missing_from(random, false)
+
+
+def kin_of(random, text, spec, outcomes):
+    """The text of a spec that has some orders of another one as its lines, and sometimes a session more, and a fact of each of its ranks."""
+    has_more = len(spec.session_names) < MAX_SESSIONS and random.random() < 0.5
+    session, name, told = (ONE_MORE, b' "s of it"', [[["sent", len(spec.steps)], "done"]]) if has_more else (b"", b"", [])
+    ordered = [order_text(spec, random.randrange(spec.ranks())).encode()[:-1] + name for _ in range(random.randint(1, 6))]
+    lines = b"".join(b"\npermutation " + one for one in ordered)
+    facts = {(rank, "ran", compact(random.choice(outcomes) + told).encode()) for rank in range(len(ordered))}
+    return text + session + lines, facts
+
+
+def of_kin(random, folder, text, spec, facts):
+    """Books whose reports have other lengths and other numbers of sessions, and mostly tell the same for a while: the nearest is shown."""
+    if spec.lines is not None or not facts:
+        return
+    few = [json.loads(outcome) for outcome in random.choices(outcomes_of(facts) or [b"[]"], k=2)]
+    outcomes = [few[0], few[0], few[0], *few]
+    kin = [kin_of(random, text, spec, outcomes) for _ in range(random.randint(2, 5))]
+    paths = [put(folder, f"kin{number}", file_text(random, *one)) for number, one in enumerate(kin)]
+    yield judging(random, *paths)
+    yield judging(random, *reversed(paths))
 
 
 def of_many_books(random, folder, text, facts):
@@ -323,7 +373,7 @@ def of_other_books(random, folder, text, facts):
     yield joining(*random.choices(others, k=2))
     yield missing_from(random, *random.choices([book, *others], k=random.randint(1, 3)))
     yield random.choice([reporting, auditing])(random.choice(no_files))
-    yield judging(random.choice([book, book, *others]), *random.choices([book, *others], k=random.randint(1, 4)))
+    yield judging(random, random.choice([book, book, *others]), *random.choices([book, *others], k=random.randint(1, 4)))
 
 
 def of_damaged_books(random, folder, text, facts):
@@ -337,7 +387,7 @@ def of_damaged_books(random, folder, text, facts):
         if command is missing:
             yield missing_from(random, *paths)
         elif command is judging:
-            yield judging(*random.choice([[damaged, good], [good, damaged], [good, good, damaged], [damaged, damaged]]))
+            yield judging(random, *random.choice([[damaged, good], [good, damaged], [good, good, damaged], [damaged, damaged]]))
         else:
             yield joining(*paths) if command is joining else command(damaged)
 
@@ -379,6 +429,7 @@ def of_spec(random, folder, text, path, most):
     yield from of_books(random, folder, text, parts)
     yield from of_false_books(random, folder, text, facts)
     yield from of_other_books(random, folder, text, some_of(random, facts, RANKS_OF_DAMAGED))
+    yield from of_kin(random, folder, text, spec, facts)
     if random.random() < 0.03:
         yield from of_many_books(random, folder, text, facts)
     if most != RANKS_OF_LARGE:

@@ -71,8 +71,8 @@ def runs(random, path, true, others, stranger):
     yield joining(path)
     yield joining(*random.sample([path, true, *others[-1:]], random.randint(2, 2 + len(others[-1:]))))
     yield missing_from(random, *random.choice([[path], [path, true], [true, path]]))
-    yield judging(path, *random.sample([true, true, path, *others[-2:], stranger], random.randint(1, 2)))
-    yield judging(true, *random.choice([[path], [path], [path], [path, true], [*others[-2:], path]]))
+    yield judging(random, path, *random.sample([true, true, path, *others[-2:], stranger], random.randint(1, 2)))
+    yield judging(random, true, *random.choice([[path], [path], [path], [path, true], [*others[-2:], path]]))
 
 
 def is_book(path):

@@ -79,7 +79,7 @@ ANSWERS = {
     (TEST, 1): rb"[^\n]+: (?:no accepted text|" + NO_ORDER + rb"|" + DIFFERS + rb"|" + HAS_OTHERS + rb")\n",
     (TEST, 3): rb"[^\n]+: " + REFUSED + rb"\n",
     ("judge", 0): rb"matches %(n)s\n",
-    ("judge", 1): rb"(?:%(n)s differs at rank %(n)s session [0-7]\n)+",
+    ("judge", 1): rb"(?:%(n)s differs at rank %(n)s session [0-7]\n)+(?:nearest is %(n)s\naccepted: .+\nhere: .+\n)?",
 }
 ANSWERS = {one: re.compile(pattern.replace(b"%(n)s", N.encode()), re.DOTALL) for one, pattern in ANSWERS.items()}
 

@@ -59,12 +59,14 @@ FILES = {
     "one.book": BOOK_OF_ONE,
     # Another outcome of rank 1 than the true one.
     "clash.book": book_text(SPEC, {(1, "ran", outcome) for rank, _word, outcome in FACTS if rank == 0}).encode(),
+    # The same outcome of rank 1, and so of all.
+    "same.book": book_text(SPEC, {(rank, "ran", outcome) for one, _word, outcome in FACTS if one == 0 for rank in (0, 1)}).encode(),
     "mark.book": MARK + BOOK,
     "half.book": BOOK[: len(BOOK) // 2],
     "empty": b"",
 }
 GOOD = ["one first.spec 0", "check first.spec", "count first.spec", "rank first.spec a1 b1", "order first.spec 1", "show first.spec 1", "run first.spec 0 2", "join all.book", "report all.book"]
-GOOD += ["show first.spec a1 b1 --json", "classes first.spec", "classes first.spec --answers --brief", "classes first.spec --workers 16", "classes first.spec --waits --no-serial --ranks --outcomes --left", "classes first.spec --json", "holds all.book first.spec 0 2", "run first.spec 0 2 --workers 16", "audit all.book", "judge all.book all.book"]
+GOOD += ["show first.spec a1 b1 --json", "classes first.spec", "classes first.spec --answers --brief", "classes first.spec --workers 16", "classes first.spec --waits --no-serial --ranks --outcomes --left", "classes first.spec --json", "holds all.book first.spec 0 2", "run first.spec 0 2 --workers 16", "audit all.book", "judge all.book all.book", "judge all.book all.book --show"]
 GOOD += ["run first.spec", "missing one.book", "missing one.book --lines"]
 GOOD += ["test first.spec", "test first.spec many.spec --workers 16", "test --update first.spec", "test --junit report.xml first.spec folder.accepted"]
 GOOD += ["classes --book all.book", "classes --book one.book all.book --json --ranks", "classes --outcomes --book clash.book --ranks"]
@@ -85,11 +87,16 @@ NO_COMMANDS += ["holds", "holds all.book first.spec 0", "holds all.book first.sp
 NO_COMMANDS += ["missing", "missing --lines", "missing all.book --ranks", "missing --lines all.book --lines", f"missing{' all.book' * 1001}"]
 # Standard input is read once.
 NO_COMMANDS += ["join - -", "join - all.book -", "missing - one.book -", "missing --lines - -", "classes --book - -", "classes --brief --book all.book - one.book -"]
+<<<<<<< HEAD
 NO_COMMANDS += ["test", "test --update", "test first.spec --junit", "test --junit a.xml first.spec --junit b.xml", "test first.spec --update --update"]
 NO_COMMANDS += ["test first.spec --workers 0", "test --workers 17 first.spec", "test first.spec --progress", "test first.spec --update=1", f"test{' first.spec' * 1001}"]
 NO_COMMANDS += ["test - -", "test - first.spec --update -"]
 NO_COMMANDS += ["holds - - 0 1", "judge - -", "judge all.book - one.book -", "join -- - -"]
 NO_COMMANDS += ["audit", "audit all.book all.book", "judge", "judge all.book", f"judge{' all.book' * 1002}"]
+=======
+NO_COMMANDS += ["holds - - 0 1", "judge - -", "judge --show - -", "judge all.book - one.book -", "join -- - -"]
+NO_COMMANDS += ["audit", "audit all.book all.book", "judge", "judge all.book", "judge all.book --show", "judge --show all.book all.book --show", f"judge{' all.book' * 1002}"]
+>>>>>>> judge
 WRITE_FAULT = b"isofarm: write fault\n"
 TRY_HELP = b"\nFor more information, try '--help'.\n"
 # What the program is called in its texts, however it was started.
@@ -101,6 +108,20 @@ USAGES = {
 }
 HELP_OF_MISSING = b"Usage: isofarm missing [OPTIONS] <BOOK>...\n"
 CLASSES = BookClasses(WORLDS.spec, {rank: outcome for rank, _word, outcome in FACTS})
+SAME_DIFFERS = b"0 differs at rank 1 session 1\n"
+SAME_SHOWN = b"""nearest is 0
+accepted: b1 a1
+session b
+  step b1
+  row 30
+  rows 1
+  done
+here: b1 a1
+session b
+  step b1
+  rows 0
+  done
+"""
 SHARD = 1_000
 # Seconds that a run here takes at most.
 LONGEST = 60
@@ -186,6 +207,10 @@ def answers():
     yield ["judge", "all.book", "one.book"], line(1, "one.book: missing rank 0")
     yield ["judge", "one.book", "nothing"], line(1, "one.book: missing rank 0")
     yield ["judge", "all.book", "all.book", "all.book"], (0, b"matches 0\n", b"")
+    yield ["judge", "all.book", "--show", "same.book", "all.book"], (0, b"matches 1\n", b"")
+    yield ["judge", "all.book", "same.book"], (1, SAME_DIFFERS, b"")
+    yield ["judge", "--show", "all.book", "same.book"], (1, SAME_DIFFERS + SAME_SHOWN, b"")
+    yield ["judge", "all.book", "one.book", "--show"], line(1, "one.book: missing rank 0")
     yield ["audit", "one.book"], (0, b"true\n", b"")
     yield ["test", "first.spec"], (0, b"first.spec: as accepted\n", b"")
     yield ["test", "two words.spec", "./first.spec"], (1, b"two words.spec: no accepted text\n./first.spec: as accepted\n", b"")

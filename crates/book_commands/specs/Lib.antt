@@ -3,6 +3,8 @@ pub mod Joining
 pub mod Reporting
 pub mod Texts
 pub mod Auditing
+pub mod Kept
+pub mod Nearest
 pub mod Judging
 pub mod Holding
 pub mod Missing

@@ -1,16 +1,23 @@
 //! The report of the book in a file, judged by those of accepted books.
 
-ghost use Rattle.std.specs.Prelude.{◌≡◌, ◌<◌, ◌++◌, All, IfOk, IfErr, decimal, length, map};
+ghost use Rattle.std.specs.Prelude.{◌≡◌, ◌<◌, ◌++◌, List, IfOk, IfErr, decimal, length, map};
 ghost use Rattle.transcripts.specs.Counted.{Prints, failures_of};
-ghost use Rattle.book_commands.specs.Judging.{AreReports, IsFileReport, IsJudged, IsJudgeRun, IsNotAccepted, difference_line, difference_lines, finding_of, verdict_text};
+ghost use Rattle.fact_books.specs.Books.{Contents};
+ghost use Rattle.fact_books.specs.Values.{IsNotReported};
+ghost use Rattle.accepted_outputs.specs.Judging.{IsVerdict};
+ghost use Rattle.book_commands.specs.Judging.{AreFilesKept, IsFileKept, IsJudged, IsJudgeRun, IsNotAccepted, difference_line, difference_lines, finding_of, verdict_text};
+ghost use Rattle.book_commands.specs.Kept.{AreKept, IsKept};
+ghost use Rattle.book_commands.specs.Nearest.{IsAskedBeneath};
 
 use crate::finding::Finding;
 use crate::joining::{FileFault, book_of_file};
+use crate::nearest::{Accepted, Reported, beneath};
 use crate::opener::Opener;
 use accepted_outputs::{Verdict, judge};
-use fact_books::{Report, ReportError, report};
+use book_stretches::spec_of_book;
+use fact_books::{Book, ReportError, report};
 use itoa::Buffer;
-use std::alloc::Global;
+use std::alloc::{AllocError, Global};
 use std::io::Write;
 use transcripts::{Counted, WriteFault, write_count, write_number};
 
@@ -36,36 +43,54 @@ pub enum JudgeFault {
     Write(WriteFault),
 }
 
+/// What is written of a judgement: the verdict, and what stands beneath it.
+struct Judgement {
+    verdict: Verdict,
+    beneath: Vec<u8>,
+}
+
+// Written out and not derived, so that who owns one calls this and does not let its parts go one by one.
+impl Drop for Judgement {
+    fn drop(self) {
+        let Judgement {
+            verdict: _verdict,
+            beneath: _beneath,
+        } = self;
+    }
+}
+
 /// Reads the book at a path and those at the accepted paths, and writes the first whose report is equal, or for each of them where it
-/// differs first.
+/// differs first. If asked to show it, beneath these it writes what the nearest of them and the judged one tell where they differ.
 pub fn judge_files<O: Opener, W: Write>(
     alloc: Global,
     opener: &O,
     path: &str,
     accepted: &[&str],
+    show: bool,
     out: &mut Counted<W>,
 ) -> Result<Finding, JudgeFault>
     requires { failures_of out.old < u64.MAX }
-    ensures { IsJudgeRun (O.bytes opener.now) path.now (map (λ p. p.now) accepted.now) W.contents out.old out.new result }
+    ensures { IsJudgeRun (O.bytes opener.now) path.now (map (λ p. p.now) accepted.now) show W.contents out.old out.new result }
 {
-    let verdict = match verdict_of_files(alloc, opener, path, accepted) {
-        Ok(verdict) => verdict,
+    let judgement = match judgement_of_files(alloc, opener, path, accepted, show) {
+        Ok(judgement) => judgement,
         Err(fault) => return Err(fault),
     };
-    match write_verdict(&verdict, out) {
-        Ok(()) => Ok(finding_of(&verdict)),
+    match write_judgement(&judgement, out) {
+        Ok(()) => Ok(finding_of(&judgement.verdict)),
         Err(fault) => Err(JudgeFault::Write(fault)),
     }
 }
 
-/// The verdict on the report at a path by those at the accepted paths.
-fn verdict_of_files<O: Opener>(
+/// The verdict on the report at a path by those at the accepted paths, and what stands beneath it.
+fn judgement_of_files<O: Opener>(
     alloc: Global,
     opener: &O,
     path: &str,
     accepted: &[&str],
-) -> Result<Verdict, JudgeFault>
-    ensures { IsJudged (O.bytes opener.now) path.now (map (λ p. p.now) accepted.now) result }
+    show: bool,
+) -> Result<Judgement, JudgeFault>
+    ensures { IsJudged (O.bytes opener.now) path.now (map (λ p. p.now) accepted.now) show result }
 {
     let judged = match report_of_file(alloc, opener, path) {
         Ok(judged) => judged,
@@ -75,46 +100,92 @@ fn verdict_of_files<O: Opener>(
         Ok(reports) => reports,
         Err(fault) => return Err(fault),
     };
-    match judge(alloc, &judged, reports.as_slice()) {
-        Ok(verdict) => Ok(verdict),
+    match judgement_of(alloc, &judged, &reports, show) {
+        Ok(judgement) => Ok(judgement),
         Err(_) => Err(JudgeFault::NoMemory),
     }
 }
 
-/// The reports at the accepted paths.
+/// The verdict on a report by accepted ones, and what stands beneath it.
+fn judgement_of(
+    alloc: Global,
+    judged: &Reported,
+    accepted: &Accepted,
+    show: bool,
+) -> Result<Judgement, AllocError>
+    requires here { (here : Contents) × IsKept here judged.now.spec judged.now.report }
+    requires there { (books : List Contents) × AreKept books accepted.now.specs.items accepted.now.reports.items }
+    ensures verdict { IfOk result (λ judgement. IsVerdict judged.now.report accepted.now.reports.items judgement.verdict) }
+    ensures beneath { IfOk result (λ judgement. (here : Contents) → IsKept here judged.now.spec judged.now.report
+        → (books : List Contents) → AreKept books accepted.now.specs.items accepted.now.reports.items
+        → IsAskedBeneath show here judged.now.report books accepted.now.reports.items judgement.verdict judgement.beneath.items) }
+{
+    let verdict = judge(alloc, &judged.report, accepted.reports.as_slice())?;
+    let beneath = beneath(alloc, judged, accepted, &verdict, show)?;
+    Ok(Judgement { verdict, beneath })
+}
+
+/// The specs and the reports of the books at the accepted paths.
 fn reports_of_files<O: Opener>(
     alloc: Global,
     opener: &O,
     paths: &[&str],
-) -> Result<Vec<Report>, JudgeFault>
-    ensures reports { IfOk result (λ reports. AreReports (O.bytes opener.now) (map (λ p. p.now) paths.now) reports.items) }
+) -> Result<Accepted, JudgeFault>
+    ensures reports { IfOk result (λ accepted. AreFilesKept (O.bytes opener.now) (map (λ p. p.now) paths.now) accepted.specs.items accepted.reports.items) }
     ensures refused { IfErr result (IsNotAccepted (O.bytes opener.now) (map (λ p. p.now) paths.now)) }
 {
+    let mut specs = Vec::new(alloc);
     let mut reports = Vec::new(alloc);
     for place in 0..paths.len() {
         let next = match report_of_file(alloc, opener, paths[place]) {
             Ok(next) => next,
             Err(fault) => return Err(JudgeFault::Accepted { place, fault }),
         };
-        let Ok(()) = reports.push(next) else {
+        let Reported { spec, report } = next;
+        let Ok(()) = specs.push(spec) else {
+            return Err(JudgeFault::NoMemory);
+        };
+        let Ok(()) = reports.push(report) else {
             return Err(JudgeFault::NoMemory);
         };
     }
-    Ok(reports)
+    Ok(Accepted { specs, reports })
 }
 
-/// The report of the book at a path.
-fn report_of_file<O: Opener>(alloc: Global, opener: &O, path: &str) -> Result<Report, NoReport>
-    ensures report { IsFileReport (O.bytes opener.now path.now) result }
+/// The spec and the report of the book at a path.
+fn report_of_file<O: Opener>(alloc: Global, opener: &O, path: &str) -> Result<Reported, NoReport>
+    ensures { IsFileKept (O.bytes opener.now path.now) result }
 {
     let book = match book_of_file(alloc, opener, path) {
         Ok(book) => book,
         Err(fault) => return Err(NoReport::File(fault)),
     };
-    match report(alloc, &book) {
-        Ok(values) => Ok(values),
+    match reported(alloc, &book) {
+        Ok(reported) => Ok(reported),
         Err(error) => Err(NoReport::Report(error)),
     }
+}
+
+/// The spec and the report of a book.
+fn reported(alloc: Global, book: &Book) -> Result<Reported, ReportError>
+    ensures kept { IfOk result (λ kept. IsKept book.now kept.spec kept.report) }
+    ensures refused { IfErr result (IsNotReported book.now) }
+{
+    let report = report(alloc, book)?;
+    book.known();
+    match spec_of_book(alloc, book) {
+        Ok(spec) => Ok(Reported { spec, report }),
+        Err(_) => Err(ReportError::NoMemory),
+    }
+}
+
+/// Writes a verdict, and what stands beneath it.
+fn write_judgement<W: Write>(judgement: &Judgement, out: &mut Counted<W>) -> Result<(), WriteFault>
+    requires { failures_of out.old < u64.MAX }
+    ensures { Prints W.contents out.old out.new result (verdict_text judgement.now.verdict ++ judgement.now.beneath.items) }
+{
+    write_verdict(&judgement.verdict, out)?;
+    out.write_all(judgement.beneath.as_slice())
 }
 
 fn finding_of(verdict: &Verdict) -> Finding

@@ -8,6 +8,7 @@ mod holding;
 mod joining;
 mod judging;
 mod missing;
+mod nearest;
 mod opener;
 mod reporting;
 mod texts;

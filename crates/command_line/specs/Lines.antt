@@ -179,7 +179,7 @@ AsksFor (Missing paths) (asked.Missing ps lines) = (map (λ p. p.now) ps ≡ pat
 AsksFor (Holds path spec first end) (asked.Holds p s f e) = (p.now ≡ path) × (s.now ≡ spec) × (f ≡ first) × (e ≡ end)
 AsksFor (Report path) (asked.Report p) = p.now ≡ path
 AsksFor (Audit path) (asked.Audit p) = p.now ≡ path
-AsksFor (Judge path accepted) (asked.Judge p ps) = (p.now ≡ path) × (map (λ q. q.now) ps.items ≡ accepted)
+AsksFor (Judge path accepted) (asked.Judge p ps show) = (p.now ≡ path) × (map (λ q. q.now) ps.items ≡ accepted) × (show ≡ false)
 AsksFor line asked = ⊥
 
 -- ---- what the code keeps

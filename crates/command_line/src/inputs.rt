@@ -18,7 +18,7 @@ pub(crate) fn repeats_input(asked: &Asked<'_>) -> bool
         Asked::Missing { paths, .. } => repeats(false, paths.as_slice()),
         Asked::Test { paths, .. } => repeats(false, paths.as_slice()),
         Asked::Holds { path, spec, .. } => is_input(path) && is_input(spec),
-        Asked::Judge { path, accepted } => repeats(is_input(path), accepted.as_slice()),
+        Asked::Judge { path, accepted, .. } => repeats(is_input(path), accepted.as_slice()),
         Asked::One { .. }
         | Asked::Check { .. }
         | Asked::Count { .. }

@@ -325,7 +325,11 @@ fn accepted_line<'a>(
         return Ok(None);
     }
     let accepted = words_of(alloc, books)?;
-    Ok(Some(Asked::Judge { path, accepted }))
+    Ok(Some(Asked::Judge {
+        path,
+        accepted,
+        show: false,
+    }))
 }
 
 /// The number that a word is, in decimal.

@@ -115,10 +115,11 @@ pub enum Asked<'a> {
     Audit {
         path: &'a str,
     },
-    /// The report of the book at a path, beside those of accepted books.
+    /// The report of the book at a path, beside those of accepted books, and whether it is shown where the nearest of them differs.
     Judge {
         path: &'a str,
         accepted: Vec<&'a str>,
+        show: bool,
     },
     /// The specs at one path or more, beside their accepted texts; whether these are to be as the specs are; and where a report is written.
     Test {
@@ -225,6 +226,7 @@ enum Word {
     Lines,
     Book,
     Accepted,
+    Show,
     Specs,
     Update,
     Junit,
@@ -339,7 +341,7 @@ static COMMANDS: [Row; 15] = [
     Row {
         spelled: "judge",
         about: "Prints which accepted book tells the same, or where each differs first",
-        words: &[Word::Book, Word::Accepted],
+        words: &[Word::Book, Word::Accepted, Word::Show],
     },
     Row {
         spelled: "test",
@@ -520,6 +522,11 @@ fn arg_of<'a>(alloc: Global, word: Word) -> Arg<'a> {
             alloc,
             "ACCEPTED",
             "Book files of outcomes that are accepted",
+        ),
+        Word::Show => flag_word(
+            alloc,
+            "show",
+            "Prints also what the nearest accepted book and this one tell where they differ",
         ),
         Word::Junit => junit_word(alloc),
         Word::Specs => books_word(alloc, "PATH", "Spec files, or folders of them"),
@@ -983,6 +990,7 @@ fn judge_of_words<'a>(
         Some(accepted) => Ok(Some(Asked::Judge {
             path,
             accepted: Vec::from_slice(alloc, accepted)?,
+            show: words.get_flag("show"),
         })),
         None => Ok(None),
     }

@@ -137,8 +137,8 @@ IsDone files contents old new (Report path) result =
     IsTold (IsFileReported (files path.now) contents old new) (λ error told. told ≡ report_told path error) result
 IsDone files contents old new (Audit path) result =
     IsFound (IsAuditRun (files path.now) contents old new) (λ error told. told ≡ audit_told path error) result
-IsDone files contents old new (Judge path accepted) result =
-    IsFound (IsJudgeRun files path.now (map (λ p. p.now) accepted.items) contents old new) (λ error told. judge_told path accepted.items error ≡ Some told) result
+IsDone files contents old new (Judge path accepted show) result =
+    IsFound (IsJudgeRun files path.now (map (λ p. p.now) accepted.items) show contents old new) (λ error told. judge_told path accepted.items error ≡ Some told) result
 IsDone files contents old new (Test paths updates junit workers) result = IsTestRun files (map (λ p. p.now) paths) updates (is_some junit) result
 
 -- a flush that does not fail: the bytes that are known to be written stay so, and no call has failed; what a device has got of them is not known
@@ -173,7 +173,7 @@ tells_progress (Missing paths lines) = false
 tells_progress (Holds path spec first end) = false
 tells_progress (Report path) = false
 tells_progress (Audit path) = false
-tells_progress (Judge path accepted) = false
+tells_progress (Judge path accepted show) = false
 tells_progress (Test paths updates junit workers) = false
 
 -- With which status the program ends. Where nothing is to be told on the way only a fault is told; where there is no memory for its line, that is

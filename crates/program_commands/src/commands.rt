@@ -159,9 +159,11 @@ where
         } => holding_of_file(alloc, path, spec, *first, *end, opener, out),
         Asked::Report { path } => report_of_file(alloc, path, opener, out),
         Asked::Audit { path } => audit_of_file(rt, alloc, path, opener, out),
-        Asked::Judge { path, accepted } => {
-            judge_of_files(alloc, path, accepted.as_slice(), opener, out)
-        }
+        Asked::Judge {
+            path,
+            accepted,
+            show,
+        } => judge_of_files(alloc, path, accepted.as_slice(), *show, opener, out),
         Asked::Test {
             paths,
             updates,
@@ -592,14 +594,15 @@ fn judge_of_files<'a, O: Opener, W: Write>(
     alloc: Global,
     path: &'a str,
     accepted: &[&'a str],
+    show: bool,
     opener: &O,
     out: &mut Counted<W>,
 ) -> Result<Finding, ProgramFault<'a>>
     requires { failures_of out.old ≡ 0 }
-    ensures done { IsFound (IsJudgeRun (O.bytes opener.now) path.now (map (λ p. p.now) accepted.now) W.contents out.old out.new) (λ error told. judge_told path.entry accepted.now error ≡ Some told) result }
+    ensures done { IsFound (IsJudgeRun (O.bytes opener.now) path.now (map (λ p. p.now) accepted.now) show W.contents out.old out.new) (λ error told. judge_told path.entry accepted.now error ≡ Some told) result }
     ensures failures { OnOk result (failures_of out.new ≡ 0) }
 {
-    match judge_files(alloc, opener, path, accepted, out) {
+    match judge_files(alloc, opener, path, accepted, show, out) {
         Ok(finding) => Ok(finding),
         Err(fault) => Err(judge_fault(path, accepted, fault)),
     }

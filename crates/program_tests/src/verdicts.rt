@@ -13,10 +13,13 @@ use std::time::Clock;
 use transcripts::Counted;
 
 /// Files: a path and a text. `other` differs from `first` in session b at rank 0; `swap` has a false swap at rank 1; `short` is of a spec with
-/// one permutation, which tells what each of `every` does.
+/// one permutation, which tells what each of `every` does; `two` tells in its session a what `e` does, and has one session more; `quoted` has names
+/// that are written in quotes.
 const FILES: &str =
     r#"e.book | {"facts":[[0,1,"ran",0]],"format":2,"outcomes":[[[["sent",0],"done"]]],"spec":"session a step s {}"}
 none.book | {"facts":[],"format":2,"outcomes":[],"spec":"session a step s {}"}
+two.book | {"facts":[[0,2,"ran",0]],"format":2,"outcomes":[[[["sent",0],"done"],[["sent",1],"done"]]],"spec":"session a step s {} session b step t {}"}
+quoted.book | {"facts":[[0,1,"ran",0]],"format":2,"outcomes":[[[["sent",0]]]],"spec":"session \"my a\" step \"my \"\"s\" {}"}
 false.book | {"facts":[[0,1,"ran",0]],"format":2,"outcomes":[[["done"]]],"spec":"session a step s {}"}
 clash.book | {"facts":[[0,"ran",[["done"]]],[0,"ran",[[["sent",0],"done"]]]],"format":1,"spec":"session a step s {}"}
 first.book | {"facts":[[0,"ran",[[["sent",0],["inserted",1],"done"],[["sent",1],["row",[30]],["rows",1],"done"]]],[1,"ran",[[["sent",0],["inserted",1],"done"],[["sent",1],["rows",0],"done"]]]],"format":1,"spec":"setup { CREATE TABLE t (id int PRIMARY KEY, v int); INSERT INTO t VALUES (1, 10), (2, 20); } session a step a1 { INSERT INTO t VALUES (3, 30); } session b step b1 { SELECT v FROM t WHERE id = 3; }"}
@@ -191,6 +194,44 @@ fn a_verdict_tells_the_first_equal_report_or_where_each_differs(
     Ok(())
 }
 
+/// The same with what is shown: for the book that agrees longest, the first of several, the order of the rank by its names and the session, of the
+/// accepted book and of the judged one; or that one of them has no such rank or session. Nothing is shown where a book tells the same.
+const SHOWN: &str =
+    "isofarm judge first.book other.book --show | 1 | 0 differs at rank 0 session 1/nearest is 0/\
+    accepted: a1 b1/session b/  step b1/  row 30/  rows 2/  done/here: a1 b1/session b/  step b1/  row 30/  rows 1/  done
+isofarm judge --show first.book swap.book | 1 | 0 differs at rank 1 session 1/nearest is 0/\
+    accepted: b1 a1/session b/  step b1/  row 30/  rows 1/  done/here: b1 a1/session b/  step b1/  rows 0/  done
+isofarm judge swap.book --show other.book first.book | 1 | 0 differs at rank 0 session 1/1 differs at rank 1 session 1/nearest is 1/\
+    accepted: b1 a1/session b/  step b1/  rows 0/  done/here: b1 a1/session b/  step b1/  row 30/  rows 1/  done
+isofarm judge swap.book first.book other.book --show | 1 | 0 differs at rank 1 session 1/1 differs at rank 0 session 1/nearest is 0/\
+    accepted: b1 a1/session b/  step b1/  rows 0/  done/here: b1 a1/session b/  step b1/  row 30/  rows 1/  done
+isofarm judge first.book other.book other.book --show | 1 | 0 differs at rank 0 session 1/1 differs at rank 0 session 1/nearest is 0/\
+    accepted: a1 b1/session b/  step b1/  row 30/  rows 2/  done/here: a1 b1/session b/  step b1/  row 30/  rows 1/  done
+isofarm judge every.book short.book --show | 1 | 0 differs at rank 1 session 0/nearest is 0/\
+    accepted: no rank 1/here: a1 b1 a2 b2/session a/  step a1/  inserted 1/  done/  step a2/  deleted 1/  done
+isofarm judge short.book every.book reduced.book --show | 1 | 0 differs at rank 1 session 0/1 differs at rank 1 session 0/nearest is 0/\
+    accepted: a1 b1 a2 b2/session a/  step a1/  inserted 1/  done/  step a2/  deleted 1/  done/here: no rank 1
+isofarm judge e.book two.book --show | 1 | 0 differs at rank 0 session 1/nearest is 0/\
+    accepted: s t/session b/  step t/  done/here: s/no session 1
+isofarm judge two.book e.book --show | 1 | 0 differs at rank 0 session 1/nearest is 0/\
+    accepted: s/no session 1/here: s t/session b/  step t/  done
+isofarm judge e.book false.book two.book --show | 1 | 0 differs at rank 0 session 0/1 differs at rank 0 session 1/nearest is 1/\
+    accepted: s t/session b/  step t/  done/here: s/no session 1
+isofarm judge e.book first.book false.book --show | 1 | 0 differs at rank 0 session 0/1 differs at rank 0 session 0/nearest is 0/\
+    accepted: a1 b1/session a/  step a1/  inserted 1/  done/here: s/session a/  step s/  done
+isofarm judge e.book quoted.book --show | 1 | 0 differs at rank 0 session 0/nearest is 0/\
+    accepted: \"my \"\"s\"/session my a/  step my \"s/here: s/session a/  step s/  done
+isofarm judge first.book other.book first.book --show | 0 | matches 1
+isofarm judge late_ran.book --show e.book | 0 | matches 0";
+
+#[test]
+fn a_verdict_shows_where_the_nearest_report_differs(rt: HostRuntime) -> Result<(), Fail> {
+    for row in SHOWN.lines() {
+        assert_found(&rt, rt.alloc(), row)?;
+    }
+    Ok(())
+}
+
 /// A row of a table: the line is refused, and nothing is written.
 fn assert_refused<R: Abort + Threads + Wait + Clock + Sync>(
     rt: &R,
@@ -220,7 +261,8 @@ isofarm judge e.book e.book late.book | 1 | late.book: missing rank 0
 isofarm judge clash.book text.book | 1 | clash.book: clash at rank 0
 isofarm judge e.book clash.book | 1 | clash.book: clash at rank 0
 isofarm judge large.book none.book | 3 | large.book: too many ranks
-isofarm judge first.book large.book | 3 | large.book: too many ranks";
+isofarm judge first.book large.book | 3 | large.book: too many ranks
+isofarm judge first.book other.book large.book --show | 3 | large.book: too many ranks";
 
 #[test]
 fn the_first_file_without_a_report_is_told(rt: HostRuntime) -> Result<(), Fail> {
@@ -259,6 +301,8 @@ fn words_that_name_no_books_end_with_two(rt: HostRuntime) -> Result<(), Fail> {
         "isofarm audit e.book e.book",
         "isofarm judge",
         "isofarm judge e.book",
+        "isofarm judge e.book --show",
+        "isofarm judge e.book e.book --show --show",
     ] {
         assert_no_command(&rt, rt.alloc(), line)?;
     }
@@ -292,13 +336,17 @@ fn assert_stopped<R: Abort + Threads + Wait + Clock + Sync>(
 }
 
 /// A line, and its answer in one line.
-static ANSWERS: [(&str, &str); 6] = [
+static ANSWERS: [(&str, &str); 7] = [
     ("isofarm audit e.book", "true\n"),
     ("isofarm audit swap.book", "false at rank 1\n"),
     ("isofarm judge e.book e.book", "matches 0\n"),
     (
         "isofarm judge e.book first.book",
         "0 differs at rank 0 session 0\n",
+    ),
+    (
+        "isofarm judge e.book two.book --show",
+        "0 differs at rank 0 session 1\nnearest is 0\naccepted: s t\nsession b\n  step t\n  done\nhere: s\nno session 1\n",
     ),
     ("isofarm missing front.book", "1\n"),
     ("isofarm missing none.book --lines", "0 1\n"),

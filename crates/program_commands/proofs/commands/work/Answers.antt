@@ -83,7 +83,7 @@ pub returns-in-Judge-clause-done : goal.returns-in-Judge-clause-done
 returns-in-Judge-clause-done g c =
     subst (λ a. IsDone (g.O.Opener.bytes c.args.opener.now) g.W.Write.contents c.args.out.now c.judge_of_files.new.out a c.judge_of_files.result)
     (sym c.in-Judge.is)
-    (subst (λ ps. IsFound (IsJudgeRun (g.O.Opener.bytes c.args.opener.now) c.in-Judge.path.now (map (λ (p : Bor (List ℕ)). p.now) ps)
+    (subst (λ ps. IsFound (IsJudgeRun (g.O.Opener.bytes c.args.opener.now) c.in-Judge.path.now (map (λ (p : Bor (List ℕ)). p.now) ps) c.in-Judge.show
     g.W.Write.contents c.args.out.now
     c.judge_of_files.new.out) (λ error told. judge_told c.in-Judge.path ps error ≡ Some told) c.judge_of_files.result)
     c.as_slice-in-Judge.ensures.value c.judge_of_files.ensures.done)
