@@ -87,16 +87,11 @@ NO_COMMANDS += ["holds", "holds all.book first.spec 0", "holds all.book first.sp
 NO_COMMANDS += ["missing", "missing --lines", "missing all.book --ranks", "missing --lines all.book --lines", f"missing{' all.book' * 1001}"]
 # Standard input is read once.
 NO_COMMANDS += ["join - -", "join - all.book -", "missing - one.book -", "missing --lines - -", "classes --book - -", "classes --brief --book all.book - one.book -"]
-<<<<<<< HEAD
 NO_COMMANDS += ["test", "test --update", "test first.spec --junit", "test --junit a.xml first.spec --junit b.xml", "test first.spec --update --update"]
 NO_COMMANDS += ["test first.spec --workers 0", "test --workers 17 first.spec", "test first.spec --progress", "test first.spec --update=1", f"test{' first.spec' * 1001}"]
 NO_COMMANDS += ["test - -", "test - first.spec --update -"]
-NO_COMMANDS += ["holds - - 0 1", "judge - -", "judge all.book - one.book -", "join -- - -"]
-NO_COMMANDS += ["audit", "audit all.book all.book", "judge", "judge all.book", f"judge{' all.book' * 1002}"]
-=======
 NO_COMMANDS += ["holds - - 0 1", "judge - -", "judge --show - -", "judge all.book - one.book -", "join -- - -"]
 NO_COMMANDS += ["audit", "audit all.book all.book", "judge", "judge all.book", "judge all.book --show", "judge --show all.book all.book --show", f"judge{' all.book' * 1002}"]
->>>>>>> judge
 WRITE_FAULT = b"isofarm: write fault\n"
 TRY_HELP = b"\nFor more information, try '--help'.\n"
 # What the program is called in its texts, however it was started.

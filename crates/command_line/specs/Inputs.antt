@@ -29,10 +29,5 @@ repeats_input (Missing paths lines) = repeats false (map (λ p. p.now) paths)
 repeats_input (Holds path spec first end) = is_input path.now && is_input spec.now
 repeats_input (Report path) = false
 repeats_input (Audit path) = false
-<<<<<<< HEAD
-repeats_input (Judge path accepted) = repeats (is_input path.now) (map (λ p. p.now) accepted.items)
-repeats_input (Test paths updates junit workers) = repeats false (map (λ p. p.now) paths)
-=======
 repeats_input (Judge path accepted show) = repeats (is_input path.now) (map (λ p. p.now) accepted.items)
-repeats_input (Test paths updates junit workers) = false
->>>>>>> judge
+repeats_input (Test paths updates junit workers) = repeats false (map (λ p. p.now) paths)
