@@ -7,7 +7,9 @@ use Rattle.accepted_outputs.proofs.Places.{zip-push}
 use Rattle.book_commands.specs.declared.finding.Finding.{Finding}
 use Rattle.book_commands.specs.declared.finding.Finding.TheVariants.{Good, Bad, Refused, NoMemory, Unread}
 use Rattle.book_commands.specs.Joining.{Files}
+use Rattle.spec_reader.specs.declared.error.Kind.{Kind as SpecErrorKind}
 use Rattle.spec_reader.specs.declared.error.Kind.TheVariants as spec_kind
+use Rattle.binding_model.specs.declared.error.BindErrorKind.{BindErrorKind}
 use Rattle.binding_model.specs.declared.error.BindErrorKind.TheVariants as bind_kind
 use Rattle.session_machine.specs.declared.error.StartError.TheVariants as start_error
 use Rattle.session_machine.specs.declared.error.RunError.TheVariants as run_error
@@ -120,11 +122,20 @@ never-bad (fault.Read path) e = (let h = e in cc)
 never-bad fault.Write e = (let h = e in cc)
 never-bad other e = (let h = e in cc)
 
+text-read : (at : Path) (offset : ℕ) (kind : SpecErrorKind) → fault_found (text_told at offset kind) ≡ Unread → ⊥
+text-read at offset spec_kind.NoMemory e = (let k = e in cc)
+text-read at offset other e = (let k = e in cc)
+
+binding-read : (at : Path) (offset : ℕ) (kind : BindErrorKind) → fault_found (binding_told at offset kind) ≡ Unread → ⊥
+binding-read at offset bind_kind.NoMemory e = (let k = e in cc)
+binding-read at offset (bind_kind.Sql kind) e = (let k = e in cc)
+binding-read at offset other e = (let k = e in cc)
+
 -- what the classes of a spec are refused for is no file that is not read
 never-unread : (known : Option (List ℕ)) (bytes name : List ℕ) (f : ClassesFault) → IsNotTested known bytes name (test.Classes f) → (at : Path)
     → fault_found (classing_told at f) ≡ Unread → ⊥
-never-unread known bytes name (classes.Spec (spec_fault.Text error)) h at e = ?
-never-unread known bytes name (classes.Spec (spec_fault.Binding error)) h at e = ?
+never-unread known bytes name (classes.Spec (spec_fault.Text error)) h at e = text-read at error.offset error.kind e
+never-unread known bytes name (classes.Spec (spec_fault.Binding error)) h at e = binding-read at error.offset error.kind e
 never-unread known bytes name (classes.Asked asked_fault.NoMemory) h at e = (let k = e in cc)
 never-unread known bytes name (classes.Asked other) h at e = absurd h
 never-unread known bytes name (classes.Run (run_error.Start (start_error.NoMemory))) h at e = (let k = e in cc)

@@ -1,12 +1,23 @@
 use Rattle.std.proofs.Common.{◌∙◌, ◌+◌, ◌<◌, sym, ap, subst, List, ℕ, [], length, map, string_bytes, get_or, take, arith}
 use Rattle.std.specs.List.{AllZip}
+use Rattle.std.proofs.lemmas.List.Sorted.{All-permutation}
 use Rattle.std.proofs.lemmas.List.{get_or-map, length-map}
 use Rattle.program_commands.specs.declared.one_spec.Found.{Found}
 use Rattle.program_commands.specs.Testing.{IsFoundOf}
-use Rattle.program_commands.specs.SideBySide.{findings_in}
+use Rattle.program_commands.specs.SideBySide.{IsPlaced, findings_in}
 use Rattle.program_commands.proofs.SideLemmas.{in-order-next}
 use Rattle.program_commands.proofs.side_by_side.in_order.Goals.{in-Some, in-None}
 use Rattle.program_commands.proofs.side_by_side.in_order.Goals as goal
+
+-- sorted, and no spec in order yet
+pub loop-place-init : goal.loop-place-init
+loop-place-init g c =
+    let files = g.F.Opener.bytes c.args.folder.now in
+    let specs = map string_bytes c.args.specs.now in
+    record {
+      kept = All-permutation (IsPlaced files c.args.updates specs) c.args.placed.items c.sort_unstable_by.new.self.items c.sort_unstable_by.ensures.permutation c.requires;
+      found = subst (λ all. AllZip (IsFoundOf files c.args.updates) [] (findings_in all)) (sym c.new-all.ensures.items) tt;
+    }
 
 -- one spec more: what was kept of it, or what is found of it here
 pub loop-place-preserved : goal.loop-place-preserved
