@@ -17,9 +17,9 @@ enum Call {
 /// A call, and what the list is behind it: its items, and how many marks stand.
 type Row = (Call, &'static [u16], usize);
 
-/// Two marks, each in front of writes in places that are written again, are given up and are put anew; a list that is let go of behind a third; and
-/// ways back to the newest mark, over several of them, and to the oldest.
-static ROWS: [Row; 29] = [
+/// Places that are written twice behind a mark; a list that is let go of behind a second one, and filled again; ways back to the newest mark, over
+/// several, and to the oldest; and a mark of a list that is shorter than at the mark before it.
+static ROWS: [Row; 35] = [
     (Call::Push(3), &[3], 0),
     (Call::Push(1), &[3, 1], 0),
     (Call::Set(1, 7), &[3, 7], 0),
@@ -28,27 +28,33 @@ static ROWS: [Row; 29] = [
     (Call::Push(5), &[4, 7, 5], 1),
     (Call::Set(0, 8), &[8, 7, 5], 1),
     (Call::Mark, &[8, 7, 5], 2),
-    (Call::Truncate(1), &[8], 2),
-    (Call::Push(2), &[8, 2], 2),
-    (Call::Push(6), &[8, 2, 6], 2),
-    (Call::Push(9), &[8, 2, 6, 9], 2),
-    (Call::Push(10), &[8, 2, 6, 9, 10], 2),
-    (Call::Set(0, 0), &[0, 2, 6, 9, 10], 2),
-    (Call::Mark, &[0, 2, 6, 9, 10], 3),
-    (Call::Truncate(0), &[], 3),
-    (Call::Push(11), &[11], 3),
-    (Call::Truncate(5), &[11], 3),
-    (Call::GoBack, &[0, 2, 6, 9, 10], 2),
-    (Call::Set(3, 12), &[0, 2, 6, 12, 10], 2),
-    (Call::Mark, &[0, 2, 6, 12, 10], 3),
-    (Call::Set(1, 13), &[0, 13, 6, 12, 10], 3),
+    (Call::Truncate(0), &[], 2),
+    (Call::Push(2), &[2], 2),
+    (Call::Push(6), &[2, 6], 2),
+    (Call::Push(9), &[2, 6, 9], 2),
+    (Call::Push(10), &[2, 6, 9, 10], 2),
+    (Call::Push(12), &[2, 6, 9, 10, 12], 2),
+    (Call::Set(0, 0), &[0, 6, 9, 10, 12], 2),
+    (Call::Mark, &[0, 6, 9, 10, 12], 3),
+    (Call::Truncate(1), &[0], 3),
+    (Call::Truncate(5), &[0], 3),
+    (Call::Push(11), &[0, 11], 3),
+    (Call::GoBack, &[0, 6, 9, 10, 12], 2),
+    (Call::Set(3, 13), &[0, 6, 9, 13, 12], 2),
+    (Call::Mark, &[0, 6, 9, 13, 12], 3),
+    (Call::Set(1, 14), &[0, 14, 9, 13, 12], 3),
     (Call::GoBackTo(1), &[8, 7, 5], 1),
-    (Call::Set(2, 14), &[8, 7, 14], 1),
+    (Call::Set(2, 15), &[8, 7, 15], 1),
+    (Call::Mark, &[8, 7, 15], 2),
+    (Call::Push(16), &[8, 7, 15, 16], 2),
     (Call::GoBackTo(0), &[3, 7], 0),
-    (Call::Push(15), &[3, 7, 15], 0),
-    (Call::Mark, &[3, 7, 15], 1),
-    (Call::Set(0, 16), &[16, 7, 15], 1),
-    (Call::GoBack, &[3, 7, 15], 0),
+    (Call::Push(17), &[3, 7, 17], 0),
+    (Call::Mark, &[3, 7, 17], 1),
+    (Call::Truncate(1), &[3], 1),
+    (Call::Mark, &[3], 2),
+    (Call::Push(18), &[3, 18], 2),
+    (Call::GoBackTo(0), &[3, 7, 17], 0),
+    (Call::Set(0, 19), &[19, 7, 17], 0),
 ];
 
 fn play_one(rt: &impl Abort, list: &mut MarkedList<u16>, call: Call) -> Result<(), AllocError> {
