@@ -1,8 +1,7 @@
 //! Specs that are tested side by side.
 
-ghost use Rattle.std.specs.Prelude.{◌≤◌, ℕ, Bool, List, [], All, IfOk, IfSome, get_or, map, string_bytes};
+ghost use Rattle.std.specs.Prelude.{◌≡◌, ◌<◌, ◌≤◌, ℕ, Bool, List, [], All, IfOk, IfSome, get_or, length, map, slice_index_or, string_bytes};
 ghost use Rattle.std.specs.List.{AllZip};
-ghost use Rattle.std.specs.Thread.{IsSync};
 ghost use Rattle.book_commands.specs.Joining.{Files};
 ghost use Rattle.program_commands.specs.Testing.{IsFoundOf};
 ghost use Rattle.program_commands.specs.SideBySide.{IsPlaced, findings_in};
@@ -56,7 +55,7 @@ fn crew_for(specs: usize, updates: bool, workers: &Workers) -> u8
     specs.min(workers.number() as usize).max(1) as u8
 }
 
-/// What a crew of so many finds, each in a thread of its own.
+/// What a crew of so many finds.
 fn test_with<R: Threads + Sync, F: Folder + Sync>(
     rt: &R,
     alloc: Global,
@@ -71,15 +70,34 @@ where
     ensures { IfOk result (λ placed. All (IsPlaced (F.bytes folder.now) updates (map string_bytes specs.now)) placed.items) }
 {
     let next = AtomicUsize::new(0);
-    let found = thread::map_indices(
+    let found = found_by_each(rt, alloc, specs, updates, each, folder, &next, crew)?;
+    together(alloc, found)
+}
+
+/// What each of a crew finds, in a thread of its own.
+fn found_by_each<R: Threads + Sync, F: Folder + Sync>(
+    rt: &R,
+    alloc: Global,
+    specs: &[String],
+    updates: bool,
+    each: &Workers,
+    folder: &F,
+    next: &AtomicUsize,
+    crew: u8,
+) -> Result<Vec<Vec<Placed>>, AllocError>
+where
+    F::Reader: Send,
+    ensures len { IfOk result (λ found. length found.items ≡ crew) }
+    ensures each { IfOk result (λ found. (i : ℕ) (d : _) → i < crew → All (IsPlaced (F.bytes folder.now) updates (map string_bytes specs.now)) (slice_index_or found.items i d).items) }
+{
+    thread::map_indices(
         rt,
         alloc,
-        crew as usize,
+        usize::from(crew),
         &|_worker: usize| -> Vec<Placed>
             ensures { All (IsPlaced (F.bytes folder.entry.now) updates (map string_bytes specs.entry.now)) result.items }
-        { test_next(rt, alloc, specs, updates, each, folder, &next) },
-    )?;
-    together(alloc, found)
+        { test_next(rt, alloc, specs, updates, each, folder, next) },
+    )
 }
 
 /// What is found by each of a crew, in one list.

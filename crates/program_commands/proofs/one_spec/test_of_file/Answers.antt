@@ -1,4 +1,4 @@
-use Rattle.std.proofs.Common.{sym, subst, take, IfSome}
+use Rattle.std.proofs.Common.{◌≡◌, sym, subst, take, IfSome}
 use Rattle.accepted_classes.specs.Names.{IsAcceptedPath}
 use Rattle.program_commands.specs.declared.files.TheConstants.{MAX_SPEC_READ}
 use Rattle.program_commands.specs.Testing.{IsSpecAt, IsFoundOf}

@@ -7,9 +7,10 @@ use Rattle.program_commands.proofs.side_by_side.together.Goals as goal
 
 -- nothing is in the list
 pub loop-some-init : goal.loop-some-init
-loop-some-init c = λ files updates specs all.
-    (subst (All (IsPlaced files updates specs)) (sym c.new-placed.ensures.items) (All-nil (IsPlaced files updates specs)),
-    subst (All (λ (some : Vec Placed Global). All (IsPlaced files updates specs) some.items)) (sym c.into_iter-some-iterator.ensures.into_iter_gives.0) all)
+loop-some-init c = λ files updates specs all. (
+  subst (All (IsPlaced files updates specs)) (sym c.new-placed.ensures.items) (All-nil (IsPlaced files updates specs)),
+  subst (All (λ (some : Vec Placed Global). All (IsPlaced files updates specs) some.items)) (sym c.into_iter-some-iterator.ensures.into_iter_gives.0) all,
+)
 
 pub returns : goal.returns
 returns c = λ files updates specs all. (c.loop-some.invariant files updates specs all).0
