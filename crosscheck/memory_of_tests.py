@@ -23,13 +23,19 @@ SPECS = {
 WORDS = ["specs --workers 1", "specs/more.spec specs/other.spec", "--update specs --workers 1", "nothing specs/inner --junit report.xml --workers 1"]
 WORDS += ["--update --junit report.xml specs/inner specs/other.spec --workers 1", "specs/inner/wrong.spec --junit no/report.xml"]
 # The status of what is told of a spec: the first of these that its first line begins with.
-STATUSES = {"as accepted": 0, "accepted\n": 0, "no accepted text": 1, "differs": 1, "has ": 1, "spec error": 3, "no memory": 4, "read fault": 5}
+STATUSES = {"report not written": 5, "as accepted": 0, "accepted\n": 0, "no accepted text": 1, "differs": 1, "has ": 1, "spec error": 3, "no memory": 4, "read fault": 5}
 
 
 def told_of_each(out):
     """Each spec with what is told of it behind its path: lines that begin with a blank go on."""
     blocks = re.findall(r"([^ \n][^\n]*?): ([^\n]*\n(?: [^\n]*\n)*)", out.decode())
     return blocks if "".join(f"{path}: {text}" for path, text in blocks) == out.decode() else None
+
+
+def apart(blocks):
+    """What is told of specs, and of a report behind them that is not written."""
+    of_report = [(path, text) for path, text in blocks if path.endswith(REPORT)]
+    return blocks[: len(blocks) - len(of_report)], of_report
 
 
 def status_of(text):
@@ -76,7 +82,7 @@ class Tested:
 
     def look(self, words):
         """A function that runs words with some settings and gives what is wrong then, or nothing."""
-        full = told_of_each(self.run(words, {})[1])
+        full, _of_report = apart(told_of_each(self.run(words, {})[1]))
         report = (self.folder / REPORT).read_bytes()
 
         def wrong(settings):
@@ -88,9 +94,10 @@ class Tested:
 
     def wrong_in(self, words, ran, full, report):
         """What is wrong with a run of which this is told with memory, or nothing."""
-        blocks = [] if ran == NO_MEMORY else told_of_each(ran[1])
+        told_now = [] if ran == NO_MEMORY else told_of_each(ran[1])
+        blocks, of_report = apart(told_now or [])
         if ran != NO_MEMORY:
-            if ran[2] or blocks is None or [path for path, _text in blocks] != [path for path, _text in full]:
+            if ran[2] or told_now is None or [path for path, _text in blocks] != [path for path, _text in full]:
                 return "not all specs"
             if any(one not in (whole, NO_MEMORY_FOR_IT) for (_path, one), (_same, whole) in zip(blocks, full, strict=True)):
                 return "something else is told"
@@ -99,17 +106,16 @@ class Tested:
             return "other texts are there"
         if {*self.folder.rglob("*")} - self.names != {self.file(path) for path in accepted if self.old[path] is None}:
             return "other files are there"
-        return self.wrong_end(words, ran, blocks, full, report)
+        return self.wrong_end(words, ran, blocks, of_report, blocks == full and report)
 
-    def wrong_end(self, words, ran, blocks, full, report):
+    def wrong_end(self, words, ran, blocks, of_report, report):
         """What is wrong with the status and the report."""
         got = (self.folder / REPORT).read_bytes()
-        worst = max([status_of(text) for _path, text in blocks], default=4)
         is_asked = "--junit" in words and ran != NO_MEMORY
-        if blocks == full and got == report and ran[0] in (worst, 5 if is_asked and got == OLD_REPORT else worst):
-            return None
+        if ran[0] != max([status_of(text) for _path, text in blocks + of_report], default=4):
+            return "another status"
         if got == OLD_REPORT:
-            return None if ran[0] in (max(worst, 4) if is_asked else worst, 5 if "no/report.xml" in words else worst) else "another status"
-        if not is_asked or ran[0] != worst:
-            return "another status or report"
-        return None if got.count(b"<testcase ") == len(blocks) and got.endswith(b"</testsuites>\n") else "half a report"
+            return None if bool(of_report) == is_asked else "it is not told whether the report is written"
+        if of_report or not is_asked:
+            return "another report"
+        return None if got == report or got.count(b"<testcase ") == len(blocks) and got.endswith(b"</testsuites>\n") else "half a report"

@@ -11,8 +11,9 @@ from trial_specs import Accepted, told_of
 ONE, OLD = b"session a step s {}\n", b"old\n" * 2_000
 PAGE = Accepted("a.spec", ONE).page
 SAME, ACCEPTED, NONE, NOT_WRITTEN, UNREAD = "as accepted", "accepted", "no accepted text", "accepted text not written", "read fault"
+NO_REPORT = "report not written"
 NO_TEXT, NO_ORDER = "differs, and what is accepted is no text of classes", "differs, and no order does"
-STATUSES = {SAME: 0, ACCEPTED: 0, NONE: 1, NO_TEXT: 1, NO_ORDER: 1, NOT_WRITTEN: 5}
+STATUSES = {SAME: 0, ACCEPTED: 0, NONE: 1, NO_TEXT: 1, NO_ORDER: 1, NOT_WRITTEN: 5, NO_REPORT: 5}
 MOST_SPECS, MOST_DEPTH, MOST_ACCEPTED = 1_000, 32, 67_108_864
 NOBODY = 65_534
 
@@ -152,10 +153,10 @@ def of_parts():
 
 
 def of_reports():
-    yield Odd("a report without its folder", A, ["--junit", "no/report.xml", "a.spec"], [("a.spec", SAME)], status=5)
-    yield Odd("a folder in its place", A | {"report": Folder}, ["--junit", "report", "a.spec"], [("a.spec", SAME)], status=5)
-    yield Odd("a folder that takes no report", A | {"b": Folder}, ["--junit", "b/report.xml", "a.spec"], [("a.spec", SAME)], status=5, shut={"b": 0o555})
-    yield Odd("a report that is not written behind a fault", A | {"a.spec": b""}, ["--junit", "no/report.xml", "a.spec"], [("a.spec", of_text(b""))], status=5)
+    yield Odd("a report without its folder", A, ["--junit", "no/report.xml", "a.spec"], [("a.spec", SAME), ("no/report.xml", NO_REPORT)])
+    yield Odd("a folder in its place", A | {"report": Folder}, ["--junit", "report", "a.spec"], [("a.spec", SAME), ("report", NO_REPORT)])
+    yield Odd("a folder that takes no report", A | {"b": Folder}, ["--junit", "b/report.xml", "a.spec"], [("a.spec", SAME), ("b/report.xml", NO_REPORT)], shut={"b": 0o555})
+    yield Odd("a report that is not written behind a fault", A | {"a.spec": b""}, ["--junit", "no/report.xml", "a.spec"], [("a.spec", of_text(b"")), ("no/report.xml", NO_REPORT)])
 
 
 # ---- their runs

@@ -14,6 +14,7 @@ from trial_runs import case_of, hold_report
 from trial_specs import FOLDER, Accepted, Repository, accepted_path, name_of
 
 REPORT, OLD_REPORT, PART = "report.xml", b"<old/>\n", ".part"
+NO_REPORT = f"{REPORT}: report not written\n".encode()
 WORDS = ["--update", "--junit", REPORT, FOLDER]
 ACCEPTED, SAME, NOT_WRITTEN = b"accepted\n", b"as accepted\n", b"accepted text not written\n"
 WRITE_FAULT = b"isofarm: write fault\n"
@@ -79,7 +80,7 @@ class Writes:
         is_written = (self.top / REPORT).read_bytes() != OLD_REPORT
         want = [(path, self.line_of(path, text)) for path, text in self.texts().items()]
         worst = 0 if is_written and all(line != NOT_WRITTEN for _path, line in want) else 5
-        lines = b"".join(f"{path}: ".encode() + line for path, line in want)
+        lines = b"".join(f"{path}: ".encode() + line for path, line in want) + (b"" if is_written else NO_REPORT)
         self.trial.hold(what, (status, out, error), (worst, lines, b""))
         self.trial.hold(f"{what}, files that are left", self.parts(), [])
         if is_written:
@@ -105,7 +106,7 @@ class Writes:
         status, out, error = told = self.trial.run(WORDS, self.top, **how)
         self.hold_whole(what)
         if error == WRITE_FAULT:
-            lines = b"".join(f"{path}: ".encode() + self.line_of(path, self.new[path]) for path in self.paths)
+            lines = b"".join(f"{path}: ".encode() + self.line_of(path, self.new[path]) for path in self.paths) + NO_REPORT
             self.trial.hold(f"{what}, standard output fails", (status, lines.startswith(out)), (5, True))
             self.trial.hold(f"{what}, files that are left", self.parts(), [])
         else:

@@ -73,10 +73,13 @@ where
         Err(fault) => return Err(fault),
     };
     match words.junit {
-        Some(path) => Ok(worse(
-            ended.specs,
-            report(alloc, path, &cases, ended.report, folder),
-        )),
+        Some(path) => {
+            let finding = report(alloc, path, &cases, ended.report, folder);
+            match tell_report(path, finding, out) {
+                Ok(()) => Ok(worse(ended.specs, finding)),
+                Err(_) => Err(ProgramFault::Write),
+            }
+        }
         None => Ok(ended.specs),
     }
 }
@@ -230,6 +233,22 @@ fn put_report<F: Folder>(alloc: Global, path: &str, bytes: &[u8], folder: &F) ->
         Ok(true) => Finding::Good,
         Ok(false) => Finding::Unread,
         Err(_) => Finding::NoMemory,
+    }
+}
+
+/// Tells of a report that is not written.
+fn tell_report<W: Write>(
+    path: &str,
+    finding: Finding,
+    out: &mut Counted<W>,
+) -> Result<(), WriteFault>
+    requires { failures_of out.old ≡ 0 }
+    ensures { OnOk result (failures_of out.new ≡ 0) }
+{
+    match finding {
+        Finding::Good | Finding::Bad | Finding::Refused => Ok(()),
+        Finding::NoMemory => write_told(path, "no memory\n", out),
+        Finding::Unread => write_told(path, "report not written\n", out),
     }
 }
 
