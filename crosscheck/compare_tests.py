@@ -25,6 +25,15 @@ MOST_ORDERS = 3_000
 
 # A spec that was accepted, that of today, the status, and what is told behind the path.
 ONE, KEYED = "session a step s {}", "setup { CREATE TABLE t (id int PRIMARY KEY); } session a step s { INSERT INTO t VALUES (1); }"
+READ = """A
+
+  error: deadlock
+left in u
+    2       1     50.0  ------     1  s
+
+ranks 1
+''BB"""
+READS = f"setup {{ CREATE TABLE t (v text); INSERT INTO t VALUES ('{READ}'); }} session a step s {{ SELECT v FROM t; }}"
 WORKED = [
     (ONE, ONE, 0, "as accepted"),
     (ONE, f"# one\n{ONE}", 0, "as accepted"),
@@ -67,6 +76,41 @@ WORKED = [
   new
         1       1    100.0  ------     0  s"""),
     (ONE, "session a step", 3, "spec error 4 at 14"),
+    # Texts that are read have line feeds, an empty line, and what looks like an error and a class.
+    (
+        READS,
+        READS.replace("BB", "BC"),
+        1,
+        """differs in 1 of 1 order
+  first at rank 0: s
+  session a
+    was: row 'A
+
+  error: deadlock
+left in u
+    2       1     50.0  ------     1  s
+
+ranks 1
+''BB'
+    is: row 'A
+
+  error: deadlock
+left in u
+    2       1     50.0  ------     1  s
+
+ranks 1
+''BC'
+  gone
+        1       1    100.0  ------     0  s
+  new
+        1       1    100.0  ------     0  s""",
+    ),
+    (
+        READS,
+        f"{READS} session b step t {{}}",
+        1,
+        "has 2 orders, accepted are 1; what they leave and who fails is compared\n  they leave the same, and the same can fail",
+    ),
 ]
 
 

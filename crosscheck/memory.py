@@ -3,7 +3,8 @@
 usage: python3 crosscheck/memory.py FIRST_SEED SEEDS
 
 Each run has to tell what it tells with memory, or that there is none. It is done for each command over examples and their books, for
-faults of the command line and of files, and for the specs of the seeds. It needs gcc.
+faults of the command line and of files, and for the specs of the seeds. What holds of tests of specs, which also write files, stands in
+`memory_of_tests.py`. It needs gcc.
 """
 
 import json
@@ -15,6 +16,8 @@ from tempfile import TemporaryDirectory
 
 from compare import PROGRAM, PROGRESS, ended, told
 from generate import KINDS, Maker
+from memory_of_tests import WORDS as OF_TESTS
+from memory_of_tests import Tested
 
 TOP = Path(__file__).resolve().parent.parent
 NO_MEMORY = (4, b"", b"isofarm: no memory\n")
@@ -41,6 +44,7 @@ OF_BOOKS += ["classes deadlock.spec --json --ranks --look 'SELECT * FROM t WHERE
 OF_BOOKS += ["classes deadlock.spec --json --answers --brief --workers 1", "classes deadlock.spec --json --deadlock=c"]
 OF_BOOKS += ["classes --book all.book", "classes --book high.book low.book --ranks --outcomes", "classes --book low.book --json --ranks"]
 OF_BOOKS += ["classes --book all.book clash.book", "classes --book all.book wrong.spec"]
+OF_BOOKS += ["test", "test all.book --workers 0", "test - -"]
 
 
 def of_another_rank(book):
@@ -67,16 +71,26 @@ def told_at_last(words, folder, settings):
     return status, out, PROGRESS.sub(b"", error)
 
 
-def others(words, folder, library):
-    """How many calls there are, and the runs that tell something else."""
+def look_at(words, folder):
+    """A function that runs words with some settings and gives what else is told than with memory, or nothing."""
     with_memory = told_at_last(words, folder, {})
+
+    def other(settings):
+        answer = told_at_last(words, folder, settings)
+        return None if answer in (with_memory, NO_MEMORY) else answer
+
+    return other
+
+
+def others(look, library):
+    """How many calls there are, and the runs that tell something else."""
     count = Path(library).with_name("count")
-    told(PROGRAM, words, folder, {"LD_PRELOAD": library, "COUNT": str(count)})
+    look({"LD_PRELOAD": library, "COUNT": str(count)})
     calls, found = int(count.read_text()), []
     for all_after in ({}, {"REFUSE_ALL": "1"}):
         for call in range(1, calls + 1):
-            answer = told_at_last(words, folder, {"LD_PRELOAD": library, "REFUSE": str(call), **all_after})
-            if answer not in (with_memory, NO_MEMORY):
+            answer = look({"LD_PRELOAD": library, "REFUSE": str(call), **all_after})
+            if answer is not None:
                 found.append((call, bool(all_after), answer))
     return calls, found
 
@@ -94,13 +108,16 @@ def main(first, seeds):
                 name = f"{kind}{seed}.spec"
                 Path(folder, name).write_bytes(make(Maker(seed)))
                 runs.append((["one", name, "0"], folder))
-        for words, place in runs:
-            number, found = others(words, place, library)
+        looks = [(words, look_at(words, place)) for words, place in runs]
+        tested = Tested(Path(folder, "tested"))
+        looks += [(["test", *split(words)], tested.look(split(words))) for words in OF_TESTS]
+        for words, look in looks:
+            number, found = others(look, library)
             calls += number
             differences += len(found)
             for call, all_after, answer in found:
                 print(f"{words}: call {call}{' and all after it' if all_after else ''} refused: {answer}")
-    print(f"{len(runs)} programs, {calls} calls refused, {differences} other answers")
+    print(f"{len(looks)} programs, {calls} calls refused, {differences} other answers")
     return 1 if differences else 0
 
 

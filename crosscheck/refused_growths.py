@@ -46,11 +46,13 @@ TESTS = {
         "told_books::all_is_told_unless_memory_runs_out",
     ],
     "library_tests": [
+        "event_trees::a_refused_list_leaves_the_tree",
         "lines::a_value_is_made_whole_unless_memory_runs_out",
         "lines::a_value_is_read_whole_unless_memory_runs_out",
         "lines::a_value_of_no_outcome_is_refused_unless_memory_runs_out",
         "lines::a_refused_event_leaves_the_log_and_its_forks",
         "lines::an_input_is_read_whole_unless_memory_runs_out",
+        "marks::a_refused_call_leaves_the_list_and_its_marks",
         "modes::a_refused_fork_leaves_what_is_forked",
         "queues::a_refused_step_leaves_the_table_and_its_forks",
         "queues::a_refused_request_for_a_key_leaves_it",
@@ -70,6 +72,7 @@ TESTS = {
         "shows::an_order_is_shown_whole_unless_memory_runs_out",
         "outcomes::classes_of_books_are_told_whole_unless_memory_runs_out",
         "over_books::books_are_told_whole_unless_memory_runs_out",
+        "spec_tests::specs_are_tested_whole_unless_memory_runs_out",
         "verdicts::answers_are_told_whole_unless_memory_runs_out",
     ],
 }

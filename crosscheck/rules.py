@@ -17,6 +17,8 @@ CLASSES_OF_BOOKS = "classes --book"
 OF_SPECS = {"one", "check", "count", "rank", "order", "show", "classes", "run"}
 OF_BOOKS, OF_REPORTS = {"join", "missing", "holds", "report", "audit", "judge", CLASSES_OF_BOOKS}, {"report", "judge"}
 COMMANDS = OF_SPECS | OF_BOOKS
+# A test tells of specs on standard output, and those faults that are of none on standard error.
+TEST = "test"
 NAMED, UNNAMED = True, False
 # A fault: its status, its text, whether a path stands before it, and the commands that tell it. There is memory, so that none lacks it.
 FAULTS = [
@@ -39,12 +41,18 @@ FAULTS = [
     (1, f"(?:missing|clash at) rank {N}", NAMED, OF_REPORTS),
     (1, f"clash at rank {N}", NAMED, {"missing", CLASSES_OF_BOOKS}),
     (5, "read fault", NAMED, COMMANDS),
-    (5, "write fault", UNNAMED, COMMANDS),
+    (3, "no specs", NAMED, {TEST}),
+    (3, "too many specs", UNNAMED, {TEST}),
+    (5, "write fault", UNNAMED, COMMANDS | {TEST}),
 ]
 CLASSES_TITLE = rb"[^\n]+: (?:%(n)s of )?%(n)s orders?, %(n)s (?:class(?:es)?|answers?)"
 OUTCOMES_TITLE = rb"[^\n]+: (?:%(n)s of )?%(n)s orders?, %(n)s outcomes?\n\nwhat orders leave is in no book, so S and R are not told\n"
 MISSING = rb"(?:no order is missing|1 order is missing, of rank %(n)s|%(n)s orders are missing, the first of rank %(n)s)\n"
 BOOK = rb'\{"facts":\[.*\],"format":2,"outcomes":\[.*\],"spec":".*"\}\n'
+DIFFERS = rb"differs in %(n)s of %(n)s orders?\n  first at rank %(n)s: .+\n    was: [^\n]+\n    is: .+"
+HAS_OTHERS = rb"has %(n)s orders?, accepted are %(n)s; what they leave and who fails is compared\n  .+"
+NO_ORDER = rb"differs, and (?:no order does|what is accepted is no text of classes)"
+REFUSED = rb"(?:spec error [1-9]|sql error [1-7]|bind error [2-8]|start error [1-3]) at %(n)s"
 IDLE = [b"isolation level", b"SET", b"NOT NULL", b"teardown", b"marker"]
 # What stands on standard output where no fault is told.
 ANSWERS = {
@@ -66,6 +74,10 @@ ANSWERS = {
     ("report", 0): rb"rank 0\nsession .+\n",
     ("audit", 0): rb"true\n",
     ("audit", 1): rb"false at rank %(n)s\n",
+    # Tests here are of one spec.
+    (TEST, 0): rb"[^\n]+: (?:as )?accepted\n",
+    (TEST, 1): rb"[^\n]+: (?:no accepted text|" + NO_ORDER + rb"|" + DIFFERS + rb"|" + HAS_OTHERS + rb")\n",
+    (TEST, 3): rb"[^\n]+: " + REFUSED + rb"\n",
     ("judge", 0): rb"matches %(n)s\n",
     ("judge", 1): rb"(?:%(n)s differs at rank %(n)s session [0-7]\n)+(?:nearest is %(n)s\naccepted: .+\nhere: .+\n)?",
 }

@@ -44,6 +44,7 @@ from compare import PROGRAM, difference, fault_of
 from damage import DAMAGES_OF_BYTES
 from generate import KINDS, Maker, fresh_seed
 from rules import called, wrong_in
+from soak_tests import test
 from streams import NO_COMMANDS, WRITE_FAULT
 from watch import Watch
 
@@ -154,6 +155,8 @@ class Soak:
         if count.status:
             told = [first_line(ran) for ran in (check, count, one, run)]
             self.hold_same(told, "the commands tell different faults of a spec", check, count, one, run)
+            tested = self.run("test", path, *self.random.choice([[], ["--update"]]))
+            self.hold(tested.told == (3, count.error.removeprefix(b"isofarm: "), b""), "a test tells another fault of a spec", tested, count)
             return None, False
         self.hold(b"\nranks " + count.out in check.out, "check and count tell different numbers", check, count)
         self.hold_same([(ran.status, ran.error) for ran in (one, run)], "one and run tell different starts", one, run)
@@ -232,7 +235,7 @@ class Soak:
     def missing(self, number, ends, whole, low, high):
         """What the book of a range does not have: the ranks before it and behind it, at once and of its halves."""
         first, end = ends
-        wanted = [(0, first)] * (first > 0) + [(end, number)] * (end < number)
+        wanted = [(0, number)] if first == end else [(0, first)] * (first > 0) + [(end, number)] * (end < number)
         lines = b"".join(b"%d %d\n" % one for one in wanted)
         for books in ([whole], [high, low]):
             ran = self.run("missing", *books, "--lines")
@@ -332,6 +335,7 @@ class Soak:
             self.orders(path, number, starts)
             if number <= MOST_CLASSED:
                 self.classes(path, number, starts)
+                test(self, path, starts)
         if not starts:
             return
         whole = self.books(path, number)

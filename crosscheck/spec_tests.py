@@ -3,6 +3,7 @@
 No text is taken apart here: what orders show, and showed, is asked of the machine.
 """
 
+import re
 from dataclasses import dataclass
 from functools import cached_property
 
@@ -14,6 +15,8 @@ from refusal import Refusal
 FLAGS = ["--ranks", "--outcomes", "--left"]
 MOST_TOLD = 5
 EVENT, SESSION, ERROR = "  ", "session ", "  error: "
+# A line of what a class shows. A text of a row may have line feeds, which end no line.
+LINE = re.compile(r"(  row (?:'[^']*'|[^'\n])*|[^\n]*)(?:\n|$)")
 
 
 @dataclass
@@ -46,7 +49,7 @@ class Side:
             if line[: len("class")].strip():
                 tables.append([])
             tables[-1].append(line)
-        shown = [tuple("\n".join(full.told_besides(group)).split("\n")) for group in full.groups]
+        shown = [lines_of("\n".join(full.told_besides(group))) for group in full.groups]
         return [OneClass(*three) for three in zip(tables, shown, (group.ranges for group in bare.groups), strict=True)]
 
     def shown_by_rank(self):
@@ -64,6 +67,16 @@ class Side:
     def faults(self):
         """The errors, each with the line of its session, each once, in the order of their bytes."""
         return sorted({pair for one in self.each for pair in faults_of(one.shown)}, key=lambda pair: [part.encode() for part in pair])
+
+
+def lines_of(text):
+    """The lines of what a class shows."""
+    lines, place = [], 0
+    while place < len(text):
+        found = LINE.match(text, place)
+        lines.append(found[1])
+        place = found.end()
+    return tuple(lines)
 
 
 def in_order(texts):

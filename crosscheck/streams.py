@@ -18,6 +18,7 @@ from books import book_text, facts_of
 from compare import PROGRAM, PROGRESS, difference, ended, expected, told
 from compare_files import answer, order, run
 from damage import text_of
+from spec_tests import Side
 from worked import INSERT_AND_READ, LARGE, worlds_of
 
 U32, U64 = 2**32, 2**64
@@ -51,6 +52,9 @@ FILES = {
     "many.spec": "".join(f"session {name} {' '.join(f'step {name}{number} {{}}' for number in (1, 2, 3))}\n" for name in "abc").encode(),
     "mark.spec": MARK + SPEC,
     "two words.spec": SPEC,
+    "first.accepted": Side("first.spec", SPEC).text,
+    "folder.accepted/a.spec": SPEC,
+    "folder.spec": SPEC,
     "all.book": BOOK,
     "one.book": BOOK_OF_ONE,
     # Another outcome of rank 1 than the true one.
@@ -64,9 +68,10 @@ FILES = {
 GOOD = ["one first.spec 0", "check first.spec", "count first.spec", "rank first.spec a1 b1", "order first.spec 1", "show first.spec 1", "run first.spec 0 2", "join all.book", "report all.book"]
 GOOD += ["show first.spec a1 b1 --json", "classes first.spec", "classes first.spec --answers --brief", "classes first.spec --workers 16", "classes first.spec --waits --no-serial --ranks --outcomes --left", "classes first.spec --json", "holds all.book first.spec 0 2", "run first.spec 0 2 --workers 16", "audit all.book", "judge all.book all.book", "judge all.book all.book --show"]
 GOOD += ["run first.spec", "missing one.book", "missing one.book --lines"]
+GOOD += ["test first.spec", "test first.spec many.spec --workers 16", "test --update first.spec", "test --junit report.xml first.spec folder.accepted"]
 GOOD += ["classes --book all.book", "classes --book one.book all.book --json --ranks", "classes --outcomes --book clash.book --ranks"]
-HELP = ["help", "--help", "--version", *(f"{line} --help" for line in ("one", "check", "count", "rank", "order", "show", "classes", "run", "join", "missing", "holds", "report", "audit", "judge"))]
-FAULTS = {"one first.spec 2": 3, "classes first.spec --deadlock=c": 3, "classes --json first.spec --deadlock=c": 3, "classes first.spec --look SELECT": 3, "report one.book": 1, "classes --book all.book clash.book": 1, "missing all.book clash.book": 1, "missing nothing": 5, "run large.spec": 3, "classes --book one.book half.book": 3, "classes --book nothing": 5, "count nothing": 5, "two first.spec 0": 2}
+HELP = ["help", "--help", "--version", *(f"{line} --help" for line in ("one", "check", "count", "rank", "order", "show", "classes", "run", "join", "missing", "holds", "report", "audit", "judge", "test"))]
+FAULTS = {"one first.spec 2": 3, "classes first.spec --deadlock=c": 3, "classes --json first.spec --deadlock=c": 3, "classes first.spec --look SELECT": 3, "report one.book": 1, "classes --book all.book clash.book": 1, "missing all.book clash.book": 1, "missing nothing": 5, "run large.spec": 3, "classes --book one.book half.book": 3, "classes --book nothing": 5, "count nothing": 5, "two first.spec 0": 2, "test first.spec folder": 3}
 NO_COMMANDS = ["", "one", "one first.spec", "one first.spec x", "one first.spec -1", f"one first.spec {U64}", "two first.spec 0"]
 NO_COMMANDS += ["check", "check first.spec 0", "count", "count first.spec 0", "run first.spec 0", f"run first.spec 0 {U64}", "run first.spec 0 1 --all", "join"]
 NO_COMMANDS += [f"join{' all.book' * 1001}", "report", "report all.book all.book", "report --every all.book"]
@@ -82,6 +87,9 @@ NO_COMMANDS += ["holds", "holds all.book first.spec 0", "holds all.book first.sp
 NO_COMMANDS += ["missing", "missing --lines", "missing all.book --ranks", "missing --lines all.book --lines", f"missing{' all.book' * 1001}"]
 # Standard input is read once.
 NO_COMMANDS += ["join - -", "join - all.book -", "missing - one.book -", "missing --lines - -", "classes --book - -", "classes --brief --book all.book - one.book -"]
+NO_COMMANDS += ["test", "test --update", "test first.spec --junit", "test --junit a.xml first.spec --junit b.xml", "test first.spec --update --update"]
+NO_COMMANDS += ["test first.spec --workers 0", "test --workers 17 first.spec", "test first.spec --progress", "test first.spec --update=1", f"test{' first.spec' * 1001}"]
+NO_COMMANDS += ["test - -", "test - first.spec --update -"]
 NO_COMMANDS += ["holds - - 0 1", "judge - -", "judge --show - -", "judge all.book - one.book -", "join -- - -"]
 NO_COMMANDS += ["audit", "audit all.book all.book", "judge", "judge all.book", "judge all.book --show", "judge --show all.book all.book --show", f"judge{' all.book' * 1002}"]
 WRITE_FAULT = b"isofarm: write fault\n"
@@ -130,6 +138,8 @@ def unread():
         commands += [["judge", path, "all.book"], ["judge", "all.book", path], ["audit", path]]
         for words in [*commands, ["report", path]]:
             yield words, line(5, f"{path}: read fault")
+        if path != "folder":
+            yield ["test", path, "first.spec"], (5, f"{path}: read fault\nfirst.spec: as accepted\n".encode(), b"")
 
 
 def marked():
@@ -137,6 +147,7 @@ def marked():
     for words in (["one", "mark.spec", "0"], ["count", "mark.spec"], ["order", "mark.spec", "0"], ["show", "mark.spec", "0"], ["classes", "mark.spec", "--deadlock=c"], ["run", "mark.spec", "0", "1"], ["run", "mark.spec"]):
         yield words, line(3, "mark.spec: spec error 4 at 0")
     yield ["one", "empty", "0"], line(3, "empty: spec error 5 at 0")
+    yield ["test", "empty", "mark.spec"], (3, b"empty: spec error 5 at 0\nmark.spec: spec error 4 at 0\n", b"")
     for path in ("mark.book", "empty", "half.book"):
         for words in (["missing", path], ["missing", "--lines", "all.book", path], ["classes", "--book", path], ["classes", "--brief", "--book", "all.book", path], ["report", path], ["join", path], ["join", "all.book", path], ["audit", path], ["judge", path, path], ["judge", "all.book", path]):
             yield words, line(3, f"{path}: book error 1")
@@ -196,6 +207,10 @@ def answers():
     yield ["judge", "--show", "all.book", "same.book"], (1, SAME_DIFFERS + SAME_SHOWN, b"")
     yield ["judge", "all.book", "one.book", "--show"], line(1, "one.book: missing rank 0")
     yield ["audit", "one.book"], (0, b"true\n", b"")
+    yield ["test", "first.spec"], (0, b"first.spec: as accepted\n", b"")
+    yield ["test", "two words.spec", "./first.spec"], (1, b"two words.spec: no accepted text\n./first.spec: as accepted\n", b"")
+    yield ["test", "--update", "first.spec", "folder.spec"], (5, b"first.spec: as accepted\nfolder.spec: folder.accepted: read fault\n", b"")
+    yield ["test", "first.spec", "folder"], line(3, "folder: no specs")
 
 
 def told_of(words, folder, given, name="isofarm"):
@@ -218,6 +233,9 @@ def inputs(folder):
     yield ["holds", "all.book", "-", "0", "2"], SPEC, (0, b"true\n", b"")
     yield ["judge", "all.book", "one.book", "-"], BOOK, line(1, "one.book: missing rank 0")
     yield ["judge", "-", "all.book"], BOOK, (0, b"matches 0\n", b"")
+    yield ["test", "-"], SPEC, (1, b"-: no accepted text\n", b"")
+    yield ["test", "-", "first.spec"], SPEC[:9], (3, b"-: spec error 3 at 6\nfirst.spec: as accepted\n", b"")
+    yield ["test", "./-"], SPEC, (5, b"./-: read fault\n", b"")
     yield ["classes", "--book", "-"], BOOK, (0, BookPage(CLASSES, "-", Asked()).text().encode(), b"")
     yield ["one", "-", "2"], SPEC, line(3, "-: rank out of range")
     yield ["count", "-"], b"", line(3, "-: spec error 5 at 0")
@@ -340,6 +358,7 @@ def wrong_in(folder):
 def main():
     with TemporaryDirectory() as folder:
         for name, text in FILES.items():
+            Path(folder, name).parent.mkdir(exist_ok=True)
             Path(folder, name).write_bytes(text)
         Path(folder, "folder").mkdir()
         Path(folder, "shut").write_bytes(SPEC)

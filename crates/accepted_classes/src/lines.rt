@@ -11,6 +11,9 @@ const EVENT: &str = "  ";
 /// What an event begins with that tells of a fault.
 const FAULT: &str = "  error: ";
 
+/// What an event begins with that tells of a row, whose texts stand in quotes, each quote in them twice.
+const ROW: &str = "  row ";
+
 /// The place of a line that differs: the last line before it that is no event, which names a session or a table, and both lines. A text that has
 /// ended has an empty line there.
 #[derive(Clone, Copy)]
@@ -49,12 +52,53 @@ pub(crate) fn first_line<'t>(was: &'t str, is: &'t str) -> LinePlace<'t> {
     }
 }
 
-/// The first line of a text, and what stands behind it.
+/// The first line of a text, and what stands behind it. A line feed in a text of a row ends no line.
 pub(crate) fn cut_line(text: &str) -> (&str, &str) {
+    if text.starts_with(ROW) {
+        return cut_at(text, row_end(text.as_bytes()));
+    }
     match text.split_once("\n") {
         Some(parts) => parts,
         None => (text, ""),
     }
+}
+
+/// What stands before a place, and what stands behind the line feed there.
+fn cut_at(text: &str, place: usize) -> (&str, &str) {
+    match text.split_at_checked(place) {
+        Some((line, behind)) => match behind.strip_prefix("\n") {
+            Some(rest) => (line, rest),
+            None => (line, behind),
+        },
+        None => (text, ""),
+    }
+}
+
+/// The place of the first line feed that is in no quotes, or the end.
+fn row_end(text: &[u8]) -> usize {
+    let mut is_quoted = false;
+    for (place, byte) in text.iter().enumerate() {
+        if *byte == b'\'' {
+            is_quoted = !is_quoted;
+        } else if *byte == b'\n' && !is_quoted {
+            return place;
+        }
+    }
+    text.len()
+}
+
+/// The lines of a text before the first empty one, without the line feed behind them, and what stands behind that. `None` where none is empty.
+pub(crate) fn cut_lines(text: &str) -> Option<(&str, &str)> {
+    let mut rest = text;
+    for _ in 0..text.len() {
+        if rest.starts_with("\n") {
+            let (lines, _empty) = text.split_at_checked(text.len().saturating_sub(rest.len()))?;
+            return Some((lines.strip_suffix("\n")?, rest.strip_prefix("\n")?));
+        }
+        let (_line, behind) = cut_line(rest);
+        rest = behind;
+    }
+    None
 }
 
 /// What is left, of what a class shows: all lines from the first one on that is neither of a session nor an event.

@@ -1,5 +1,7 @@
 //! The paragraphs of a text of classes.
 
+use crate::lines::cut_lines;
+
 /// What stands of a class: the line of the table with the order of its least rank, and what stands beneath it.
 #[derive(Clone, Copy)]
 pub(crate) struct ClassParagraphs<'t> {
@@ -28,7 +30,7 @@ pub(crate) fn parts_of(text: &str) -> Option<TextParts<'_>> {
 /// The first class, and what stands behind it. `None` where no class is left.
 pub(crate) fn next_class(classes: &str) -> Option<(ClassParagraphs<'_>, &str)> {
     let (line, behind) = classes.split_once(GAP)?;
-    let (beneath, rest) = behind.split_once(GAP)?;
+    let (beneath, rest) = cut_lines(behind)?;
     Some((ClassParagraphs { line, beneath }, rest))
 }
 

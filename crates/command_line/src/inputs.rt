@@ -16,6 +16,7 @@ pub(crate) fn repeats_input(asked: &Asked<'_>) -> bool
         Asked::Outcomes { paths, .. } => repeats(false, paths.as_slice()),
         Asked::Join { paths } => repeats(false, paths.as_slice()),
         Asked::Missing { paths, .. } => repeats(false, paths.as_slice()),
+        Asked::Test { paths, .. } => repeats(false, paths.as_slice()),
         Asked::Holds { path, spec, .. } => is_input(path) && is_input(spec),
         Asked::Judge { path, accepted, .. } => repeats(is_input(path), accepted.as_slice()),
         Asked::One { .. }
@@ -27,8 +28,7 @@ pub(crate) fn repeats_input(asked: &Asked<'_>) -> bool
         | Asked::Classes { .. }
         | Asked::Run { .. }
         | Asked::Report { .. }
-        | Asked::Audit { .. }
-        | Asked::Test { .. } => false,
+        | Asked::Audit { .. } => false,
     }
 }
 

@@ -38,6 +38,9 @@ impl Opener for Disk<'_> {
 
 impl Folder for Disk<'_> {
     fn entries(&self, alloc: Global, path: &str) -> Result<Option<Vec<Entry>>, AllocError> {
+        if path == INPUT {
+            return Ok(None);
+        }
         entries_at(self.rt, alloc, path)
     }
 

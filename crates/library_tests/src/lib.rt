@@ -11,7 +11,11 @@ mod bindings;
 #[cfg(test)]
 mod effects;
 #[cfg(test)]
+mod event_trees;
+#[cfg(test)]
 mod lines;
+#[cfg(test)]
+mod marks;
 #[cfg(test)]
 mod modes;
 #[cfg(test)]

@@ -1,3 +1,4 @@
 pub mod CommandLemmas
 pub mod FaultLemmas
 pub mod TestLemmas
+pub mod SideLemmas

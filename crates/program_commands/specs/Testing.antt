@@ -1,14 +1,72 @@
 -- What the program finds of specs beside the accepted texts of their classes.
-use Rattle.std.specs.Prelude.{◌≡◌, ◌≢◌, ℕ, Bool, true, false, cond, nat_lt, List, [], ◌∷◌, take, IfSome, Result, Ok, Err}
+use Rattle.std.specs.Prelude.{◌≡◌, ◌≢◌, ◌⊎◌, ℕ, Bool, true, false, cond, nat_lt, List, [], ◌∷◌, take, None, IfSome, Result, Ok, Err}
 use Rattle.std.specs.List.{AllZip}
 use Rattle.book_commands.specs.declared.finding.Finding.{Finding}
 use Rattle.book_commands.specs.declared.finding.Finding.TheVariants.{Good, Bad, Refused, NoMemory, Unread}
 use Rattle.book_commands.specs.Finding.{finding_status}
 use Rattle.book_commands.specs.Joining.{Files}
+use Rattle.accepted_classes.specs.Names.{IsAcceptedPath, IsFileName}
 use Rattle.fault_texts.specs.declared.fault.ProgramFault.{ProgramFault}
 use Rattle.fault_texts.specs.declared.fault.ProgramFault.TheVariants as fault
-use Rattle.test_commands.specs.Testing.{IsText, AreSpecsAt}
+use Rattle.class_commands.specs.declared.classing.ClassesFault.{ClassesFault}
+use Rattle.test_commands.specs.declared.testing.TestFault.{TestFault}
+use Rattle.test_commands.specs.declared.testing.TestFault.TheVariants as test
+use Rattle.test_commands.specs.declared.listing.SpecsFault.TheVariants.{NoneIn, TooMany}
+use Rattle.test_commands.specs.Testing.{IsText, IsNotTested, AreSpecsAt, AreNoSpecs}
 use Rattle.program_commands.specs.declared.files.TheConstants.{MAX_SPEC_READ}
+use Rattle.program_commands.specs.Faults.{Path, classing_told}
+
+-- ---- one spec
+
+-- of the spec file at a path: what is read of it, its name, and the path of its accepted text
+pub record IsSpecAt (files : Files) (path bytes name accepted : List ℕ) : Type 0 where
+  pub read : IfSome (files path) (λ all. bytes ≡ take MAX_SPEC_READ all)
+  pub named : IsFileName path name
+  pub beside : IsAcceptedPath path accepted
+
+-- what the text of its classes is beside its own accepted text, where the bytes of both are known
+abbrev pub IsCompared : Files → List ℕ → (List ℕ → List ℕ → Type 0) → Type 0
+IsCompared files path Are =
+    (bytes name accepted text : List ℕ) × IsSpecAt files path bytes name accepted × IsText bytes name text × IfSome (files accepted) (λ known. Are known text)
+
+-- where accepted texts are left as they are
+abbrev pub IsUnless : Bool → Type 0 → Type 0
+IsUnless true Is = Unit {0}
+IsUnless false Is = Is
+
+-- how a fault ends
+abbrev pub fault_found : ProgramFault → Finding
+fault_found fault.NoMemory = NoMemory
+fault_found (fault.Read path) = Unread
+fault_found fault.Write = Unread
+fault_found other = Refused
+
+-- what is told of a spec that is not tested
+abbrev pub testing_told : Path → Path → TestFault → ProgramFault
+testing_told path accepted (test.Classes fault) = classing_told path fault
+testing_told path accepted test.Accepted = fault.Read accepted
+testing_told path accepted test.NoMemory = fault.NoMemory
+
+-- it is no spec file, or its orders are not run, and that is no want of memory
+abbrev pub IsRefusedAt : Files → List ℕ → Type 0
+IsRefusedAt files path =
+    (bytes name accepted : List ℕ) × IsSpecAt files path bytes name accepted
+    × ((fault : ClassesFault) × IsNotTested (files accepted) bytes name (test.Classes fault) × ((told : Path) × (fault_found (classing_told told fault) ≡ Refused)))
+
+-- it is not read, or its accepted text is not; or that is to be written
+abbrev pub IsUnreadAt : Files → Bool → List ℕ → Type 0
+IsUnreadAt files updates path = (files path ≡ None) ⊎ (((accepted : List ℕ) × IsAcceptedPath path accepted × (files accepted ≡ None)) ⊎ (updates ≡ true))
+
+-- what is found of one spec: unless its accepted text is written, nothing is amiss where the text of its classes is the accepted one, and something is
+-- where it is another, or where there is none
+abbrev pub IsFoundOf : Files → Bool → List ℕ → Finding → Type 0
+IsFoundOf files updates path Good = IsCompared files path (λ known text. IsUnless updates (known ≡ text))
+IsFoundOf files updates path Bad = (updates ≡ false) × IsCompared files path (λ known text. known ≢ text)
+IsFoundOf files updates path Refused = IsRefusedAt files path
+IsFoundOf files updates path NoMemory = Unit {0}
+IsFoundOf files updates path Unread = IsUnreadAt files updates path
+
+-- ---- several
 
 -- of two findings the one that ends with the greater status
 abbrev pub worse : Finding → Finding → Finding
@@ -22,26 +80,6 @@ worst_with worst (finding ∷ findings) = worst_with (worse worst finding) findi
 -- of several findings the worst
 abbrev pub worst : List Finding → Finding
 worst findings = worst_with Good findings
-
--- what the text of the classes of a spec file is beside an accepted one, where the bytes of both are known
-abbrev pub IsCompared : Files → List ℕ → (List ℕ → List ℕ → Type 0) → Type 0
-IsCompared files path Are =
-    (bytes name accepted text : List ℕ) × IfSome (files path) (λ all. bytes ≡ take MAX_SPEC_READ all) × IsText bytes name text
-    × IfSome (files accepted) (λ known. Are known text)
-
--- where the accepted texts are left as they are
-abbrev pub IsUnless : Bool → Type 0 → Type 0
-IsUnless true Is = Unit {0}
-IsUnless false Is = Is
-
--- what is found of one spec: unless its accepted text is written, nothing is amiss where the text of its classes is the accepted one, and something is
--- where it is another, or where there is none
-abbrev pub IsFoundOf : Files → Bool → List ℕ → Finding → Type 0
-IsFoundOf files updates path Good = IsUnless updates (IsCompared files path (λ accepted text. accepted ≡ text))
-IsFoundOf files updates path Bad = IsUnless updates (IsCompared files path (λ accepted text. accepted ≢ text))
-IsFoundOf files updates path Refused = Unit {0}
-IsFoundOf files updates path NoMemory = Unit {0}
-IsFoundOf files updates path Unread = Unit {0}
 
 -- the worst of what is found of some specs, each by itself
 pub record IsWorstOf (files : Files) (updates : Bool) (specs : List (List ℕ)) (finding : Finding) : Type 0 where
@@ -69,11 +107,11 @@ pub record IsTestOf (files : Files) (paths : List (List ℕ)) (updates reports :
   pub unasked : reports ≡ false → of_report ≡ Good
   pub is_found : finding ≡ worse of_specs of_report
 
--- that; or memory ran out before any, a folder has none, there are too many of them, or what is told is not written
+-- that; or memory ran out before any, it is not known which they are, or what is told is not written
 abbrev pub IsTestRun : Files → List (List ℕ) → Bool → Bool → Result Finding ProgramFault → Type 0
 IsTestRun files paths updates reports (Ok finding) = IsTestOf files paths updates reports finding
 IsTestRun files paths updates reports (Err fault.NoMemory) = Unit {0}
-IsTestRun files paths updates reports (Err (fault.NoSpecs path)) = Unit {0}
-IsTestRun files paths updates reports (Err fault.TooManySpecs) = Unit {0}
+IsTestRun files paths updates reports (Err (fault.NoSpecs path)) = AreNoSpecs files paths (NoneIn path)
+IsTestRun files paths updates reports (Err fault.TooManySpecs) = AreNoSpecs files paths TooMany
 IsTestRun files paths updates reports (Err fault.Write) = Unit {0}
 IsTestRun files paths updates reports (Err other) = ⊥

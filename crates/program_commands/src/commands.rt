@@ -58,7 +58,7 @@ use wanted_classes::{WantedClasses, WantedOutcomes};
 /// Does what the words ask, the first of which is the program's name. What is asked for goes to `out`; faults go to `err`, and so does how far a
 /// run is, where that is asked for. The answer is the exit status: 0 good, 1 where a rank has not exactly one value, ranks are missing,
 /// a fact is false or no accepted report is equal, 2 for a fault of the command line, 3 for what is refused, 4 for want of memory, 5 for a read or write fault.
-pub fn run<R: Threads + Wait + Clock + Sync, O: Folder, W: Write, E: Write + Send>(
+pub fn run<R: Threads + Wait + Clock + Sync, O: Folder + Sync, W: Write, E: Write + Send>(
     rt: &R,
     alloc: Global,
     words: &[String],
@@ -66,6 +66,8 @@ pub fn run<R: Threads + Wait + Clock + Sync, O: Folder, W: Write, E: Write + Sen
     out: &mut Counted<W>,
     err: &mut Counted<E>,
 ) -> u8
+where
+    O::Reader: Send,
     requires { failures_of out.old ≡ 0 }
     ensures { IsRun (O.bytes opener.now) (map string_bytes words.now) W.contents out.old out.new err.old err.new result }
 {
@@ -80,7 +82,7 @@ pub fn run<R: Threads + Wait + Clock + Sync, O: Folder, W: Write, E: Write + Sen
 }
 
 /// Does what is asked. Where that is done, nothing of it is held back. Only a run that is to tell how far it is writes to `err`.
-pub fn answer<'a, R: Threads + Wait + Clock + Sync, O: Folder, W: Write, E: Write + Send>(
+pub fn answer<'a, R: Threads + Wait + Clock + Sync, O: Folder + Sync, W: Write, E: Write + Send>(
     rt: &R,
     alloc: Global,
     asked: &Asked<'a>,
@@ -88,6 +90,8 @@ pub fn answer<'a, R: Threads + Wait + Clock + Sync, O: Folder, W: Write, E: Writ
     out: &mut Counted<W>,
     err: &mut Counted<E>,
 ) -> Result<Finding, ProgramFault<'a>>
+where
+    O::Reader: Send,
     requires { failures_of out.old ≡ 0 }
     ensures answer { IsAnswered (O.bytes opener.now) W.contents out.old out.new asked.now result }
     ensures quiet { tells_progress asked.now ≡ false → err.new ≡ err.old }
@@ -99,7 +103,7 @@ pub fn answer<'a, R: Threads + Wait + Clock + Sync, O: Folder, W: Write, E: Writ
 }
 
 /// Writes what is asked for; some of it may be held back.
-fn work<'a, R: Threads + Wait + Clock + Sync, O: Folder, W: Write, E: Write + Send>(
+fn work<'a, R: Threads + Wait + Clock + Sync, O: Folder + Sync, W: Write, E: Write + Send>(
     rt: &R,
     alloc: Global,
     asked: &Asked<'a>,
@@ -107,6 +111,8 @@ fn work<'a, R: Threads + Wait + Clock + Sync, O: Folder, W: Write, E: Write + Se
     out: &mut Counted<W>,
     err: &mut Counted<E>,
 ) -> Result<Finding, ProgramFault<'a>>
+where
+    O::Reader: Send,
     requires { failures_of out.old ≡ 0 }
     ensures done { IsDone (O.bytes opener.now) W.contents out.old out.new asked.now result }
     ensures failures { OnOk result (failures_of out.new ≡ 0) }

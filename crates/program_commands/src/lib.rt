@@ -4,6 +4,8 @@
 mod commands;
 mod faults;
 mod files;
+mod one_spec;
+mod side_by_side;
 mod testing;
 
 pub use book_commands::{FileReader, Opener, Watched};

@@ -195,13 +195,16 @@ fn a_file_that_is_not_read_is_a_read_fault(rt: HostRuntime) -> Result<(), Fail> 
     Ok(())
 }
 
-pub fn assert_write_fault<O: Folder, W: Write + Drop>(
+pub fn assert_write_fault<O: Folder + Sync, W: Write + Drop>(
     rt: &(impl Abort + Threads + Wait + Clock + Sync),
     alloc: Global,
     line: &str,
     disk: &O,
     out: W,
-) -> Result<(), AllocError> {
+) -> Result<(), AllocError>
+where
+    O::Reader: Send,
+{
     let words = words_of(alloc, line)?;
     let mut out = Counted::new(out);
     let mut err = Counted::new(Vec::new(alloc));

@@ -52,12 +52,15 @@ pub fn holding<'a>(text: &'a [u8]) -> Disk<'a> {
 }
 
 /// What the words tell over a disk.
-pub fn told_by<O: Folder>(
+pub fn told_by<O: Folder + Sync>(
     rt: &(impl Threads + Wait + Clock + Sync),
     alloc: Global,
     words: &[String],
     disk: &O,
-) -> Told {
+) -> Told
+where
+    O::Reader: Send,
+{
     let mut out = Counted::new(Vec::new(alloc));
     let mut err = Counted::new(Vec::new(alloc));
     let status = run(rt, alloc, words, disk, &mut out, &mut err);

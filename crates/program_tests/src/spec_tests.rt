@@ -1,6 +1,6 @@
 //! Specs beside their accepted texts, over files and folders of the test's own.
 use crate::disks::{Disk, assert_told, told_by};
-use book_tests::words_of;
+use book_tests::{Told, words_of};
 use library_tests::ByteReader;
 use program_commands::{Entry, Folder, Opener, Watched};
 use std::alloc::{AllocError, Global};
@@ -80,8 +80,37 @@ nothing
 marks
 ";
 
+/// A text that is read has an empty line.
+const EMPTY_LINE: &str = "setup { CREATE TABLE t (v text); INSERT INTO t VALUES ('a\n\nb'); }
+session a step s { SELECT v FROM t; } session b step t {}";
+
+/// What its first session alone was told.
+const EMPTY_LINE_CLASS: &str = "empty_line.spec: 1 order, 1 class
+
+letters
+
+class  orders  share %  shows   rank  order
+    1       1    100.0  ------     0  s
+
+ranks 0
+session a
+  step s
+  row 'a
+
+b'
+  rows 1
+  done
+left in t
+  'a\\u{a}\\u{a}b'
+
+marks
+";
+
+/// An accepted text that is opened and not read.
+const UNREAD: &str = "odd.accepted";
+
 /// The files that are there.
-const FILES: [(&str, &str); 12] = [
+const FILES: [(&str, &str); 17] = [
     ("one.spec", ONE),
     ("one.accepted", ONE_CLASS),
     ("new.spec", ONE),
@@ -94,10 +123,15 @@ const FILES: [(&str, &str); 12] = [
     ("broken.spec", "session"),
     ("deep/inner/one.spec", ONE),
     ("deep/inner/one.accepted", ONE_CLASS),
+    ("empty_line.spec", EMPTY_LINE),
+    ("empty_line.accepted", EMPTY_LINE_CLASS),
+    ("odd", ONE),
+    (UNREAD, ONE_CLASS),
+    ("shut/one.spec", ONE),
 ];
 
 /// The folders that are there, with what lies in them, and whether it is a folder.
-const FOLDERS: [(&str, &[(&str, bool)]); 3] = [
+const FOLDERS: [(&str, &[(&str, bool)]); 4] = [
     (
         "deep",
         &[
@@ -113,6 +147,8 @@ const FOLDERS: [(&str, &[(&str, bool)]); 3] = [
         &[("one.spec", false), ("one.accepted", false)],
     ),
     ("empty/", &[]),
+    // What lies in the inner folder is not read.
+    ("shut", &[("one.spec", false), ("inner", true)]),
 ];
 
 /// Files and folders, and the one file that may be written, with its text.
@@ -133,7 +169,7 @@ impl Opener for Cabinet {
                 let file = Disk {
                     path: name,
                     text: text.as_bytes(),
-                    calls_left: None,
+                    calls_left: if name == UNREAD { Some(0) } else { None },
                 };
                 return file.open(name);
             }
@@ -226,6 +262,14 @@ fn specs_are_beside_their_accepted_texts(rt: HostRuntime) -> Result<(), Fail> {
                 "deep/a.spec: read fault\ndeep/inner/one.spec: as accepted\ndeep/z.spec: read fault\n",
             ),
         ),
+        ("isofarm test odd", (5, "odd: odd.accepted: read fault\n")),
+        (
+            "isofarm test shut",
+            (
+                5,
+                "shut/inner: read fault\nshut/one.spec: no accepted text\n",
+            ),
+        ),
     ] {
         assert_tests(&rt, rt.alloc(), line, &READ_ONLY, want)?;
     }
@@ -269,13 +313,18 @@ const REPORT: &str = "<?xml version=\"1.0\" encoding=\"UTF-8\"?>
 fn a_report_is_written(rt: HostRuntime) -> Result<(), Fail> {
     let told =
         "one.spec: as accepted\nnew.spec: no accepted text\nbroken.spec: spec error 4 at 7\n";
-    for (written, status) in [(("out.xml", REPORT), 3), (("other.xml", REPORT), 5)] {
+    let not_written =
+        "one.spec: as accepted\nnew.spec: no accepted text\nbroken.spec: spec error 4 at 7\nout.xml: report not written\n";
+    for (written, want) in [
+        (("out.xml", REPORT), (3, told)),
+        (("other.xml", REPORT), (5, not_written)),
+    ] {
         assert_tests(
             &rt,
             rt.alloc(),
             "isofarm test one.spec new.spec broken.spec --junit out.xml",
             &Cabinet { written },
-            (status, told),
+            want,
         )?;
     }
     Ok(())
@@ -287,4 +336,137 @@ fn a_folder_without_specs_is_refused(rt: HostRuntime) -> Result<(), Fail> {
     let told = told_by(&rt, rt.alloc(), &words, &READ_ONLY);
     assert_told(&rt, &told, (3, "", "isofarm: empty/: no specs\n"), "empty/");
     Ok(())
+}
+
+/// A line that tests specs, the file that is written and its text, the status with memory, and of each spec its path and what is told of it.
+type Tests = (
+    &'static str,
+    (&'static str, &'static str),
+    u8,
+    &'static [(&'static str, &'static str)],
+);
+
+const TESTS: [Tests; 4] = [
+    (
+        "isofarm test one.spec new.spec two.spec --workers 1",
+        ("", ""),
+        1,
+        &[
+            ("one.spec: ", "as accepted\n"),
+            ("new.spec: ", "no accepted text\n"),
+            (
+                "two.spec: ",
+                "has 2 orders, accepted are 3; what they leave and who fails is compared\n  left no more\n    left in t\n      1\n  can fail no more\n    session a: error: deadlock\n",
+            ),
+        ],
+    ),
+    (
+        "isofarm test other/one.spec deep/inner --workers 1",
+        ("", ""),
+        1,
+        &[
+            (
+                "other/one.spec: ",
+                "differs in 1 of 1 order\n  first at rank 0: s\n  session a\n    was: waiting\n    is: done\n  gone\n        1       1    100.0  W-----     0  s:\n  new\n        1       1    100.0  ------     0  s\n",
+            ),
+            ("deep/inner/one.spec: ", "as accepted\n"),
+        ],
+    ),
+    (
+        "isofarm test one.spec new.spec broken.spec --junit out.xml --workers 1",
+        ("out.xml", REPORT),
+        3,
+        &[
+            ("one.spec: ", "as accepted\n"),
+            ("new.spec: ", "no accepted text\n"),
+            ("broken.spec: ", "spec error 4 at 7\n"),
+        ],
+    ),
+    (
+        "isofarm test --update other/one.spec one.spec --workers 1",
+        ("other/one.accepted", ONE_CLASS),
+        0,
+        &[
+            ("other/one.spec: ", "accepted\n"),
+            ("one.spec: ", "as accepted\n"),
+        ],
+    ),
+];
+
+/// What is told of a spec for which there is no memory.
+const NO_MEMORY: &str = "no memory\n";
+
+/// What is told of the report that is not written, behind all specs.
+const UNWRITTEN_REPORTS: [&str; 2] = ["out.xml: no memory\n", "out.xml: report not written\n"];
+
+/// What stands behind what is told of a spec: that, or that there is no memory for it. `None` where something else is told, or less.
+fn behind<'t>(out: &'t str, path: &str, told: &str) -> Option<&'t str> {
+    let rest = out.strip_prefix(path)?;
+    match rest.strip_prefix(told) {
+        Some(more) => Some(more),
+        None => rest.strip_prefix(NO_MEMORY),
+    }
+}
+
+/// Whether a text is a front of what is told of a spec.
+fn is_front(out: &str, path: &str, told: &str) -> bool {
+    match out.strip_prefix(path) {
+        Some(rest) => told.starts_with(rest) || NO_MEMORY.starts_with(rest),
+        None => path.starts_with(out),
+    }
+}
+
+/// Whether of each spec is told this or that there is no memory for it, or of those at the front.
+fn is_told_of_each(out: &str, specs: &[(&str, &str)]) -> bool {
+    let mut rest = out;
+    for (path, told) in specs {
+        match behind(rest, path, told) {
+            Some(more) => rest = more,
+            None => return is_front(rest, path, told),
+        }
+    }
+    UNWRITTEN_REPORTS.iter().any(|told| told.starts_with(rest))
+}
+
+/// Whether all of each spec is told.
+fn is_all(out: &str, specs: &[(&str, &str)]) -> bool {
+    let mut rest = out;
+    for (path, told) in specs {
+        match rest.strip_prefix(*path) {
+            Some(more) => match more.strip_prefix(*told) {
+                Some(more) => rest = more,
+                None => return false,
+            },
+            None => return false,
+        }
+    }
+    rest.is_empty()
+}
+
+/// All is told with its status, or want of memory is, of the specs that lack it or of all.
+fn assert_tested(rt: &impl Abort, told: &Told, status: u8, specs: &[(&str, &str)], line: &str) {
+    let Ok(out) = str::from_utf8(told.out.as_slice()) else {
+        assert!(rt; false, "{line} tells no text");
+        return;
+    };
+    if told.status == status {
+        assert!(rt; is_all(out, specs) && told.err.is_empty(), "{line}: {out}");
+        return;
+    }
+    // With 5 the writer of this test did not take what it was given.
+    assert!(rt; told.status == 4 || told.status == 5, "{line}: {out}");
+    assert!(rt; is_told_of_each(out, specs), "{line}: {out}");
+    if told.status == 4 {
+        assert!(rt; b"isofarm: no memory\n".starts_with(&told.err), "{line}");
+    }
+}
+
+#[test]
+fn specs_are_tested_whole_unless_memory_runs_out(rt: HostRuntime) {
+    for (line, written, status, specs) in TESTS {
+        if let Ok(words) = words_of(rt.alloc(), line) {
+            let told = told_by(&rt, rt.alloc(), &words, &Cabinet { written });
+            assert_tested(&rt, &told, status, specs, line);
+        }
+    }
 }

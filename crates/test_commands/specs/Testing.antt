@@ -1,11 +1,16 @@
 -- A spec beside the accepted text of its classes.
-use Rattle.std.specs.Prelude.{◌≡◌, ◌≢◌, ℕ, true, false, All, List, [], Option, None, IfSome}
+use Rattle.std.specs.Prelude.{◌≡◌, ◌≢◌, ◌⊎◌, ℕ, ◌<◌, ◌++◌, ◌∷◌, true, false, All, List, [], length, get_or, Option, None, IfSome}
 use Rattle.book_commands.specs.Joining.{Files}
 use Rattle.wanted_classes.specs.declared.wanted.WantedClasses.{WantedClasses}
+use Rattle.asked_classes.specs.declared.fault.AskedFault.TheVariants as asked
 use Rattle.class_commands.specs.declared.classing.ClassesFault.{ClassesFault}
 use Rattle.class_commands.specs.declared.classing.ClassesFault.TheVariants as fault
 use Rattle.spec_binding.specs.SpecFiles.{IsNoSpec}
 use Rattle.class_commands.specs.Classing.{IsTellingOf, IsNotAsked, IsNotRun}
+use Rattle.test_commands.specs.declared.listing.TheConstants.{MAX_SPECS}
+use Rattle.test_commands.specs.declared.listing.SpecsFault.{SpecsFault}
+use Rattle.test_commands.specs.declared.listing.SpecsFault.TheVariants.{NoneIn, TooMany}
+use Rattle.test_commands.specs.declared.listing.SpecsFault.TheVariants as specs
 use Rattle.test_commands.specs.declared.testing.Tested.{Tested}
 use Rattle.test_commands.specs.declared.testing.Verdict.{Verdict}
 use Rattle.test_commands.specs.declared.testing.Verdict.TheVariants.{Same, Other, Missing}
@@ -42,7 +47,8 @@ pub record IsTested (known : Option (List ℕ)) (bytes name : List ℕ) (tested 
 -- file's classes is asked is refused of no file
 abbrev pub IsNotTested : Option (List ℕ) → List ℕ → List ℕ → TestFault → Type 0
 IsNotTested known bytes name (Classes (fault.Spec error)) = IsNoSpec bytes error
-IsNotTested known bytes name (Classes (fault.Asked error)) = Unit {0}
+IsNotTested known bytes name (Classes (fault.Asked asked.NoMemory)) = Unit {0}
+IsNotTested known bytes name (Classes (fault.Asked error)) = ⊥
 IsNotTested known bytes name (Classes (fault.Run error)) =
     (wanted : WantedClasses) × WantsAll wanted × IsNotAsked bytes wanted (λ file tables. IsNotRun file tables wanted error)
 IsNotTested known bytes name (Classes fault.NoMemory) = ⊥
@@ -58,6 +64,43 @@ told_as (fault.Run error) = Classes (fault.Run error)
 told_as fault.NoMemory = NoMemory
 told_as (fault.Write error) = NoMemory
 
--- where each path is that of a file whose bytes are known, the specs are those files
+-- ---- which specs
+
+-- the paths are those of files whose bytes are known
+abbrev pub AreKnown : Files → List (List ℕ) → Type 0
+AreKnown files paths = All (λ path. files path ≢ None) paths
+
+-- where they are, the specs are those files
 abbrev pub AreSpecsAt : Files → List (List ℕ) → List (List ℕ) → Type 0
-AreSpecsAt files paths specs = All (λ path. files path ≢ None) paths → specs ≡ paths
+AreSpecsAt files paths specs = AreKnown files paths → specs ≡ paths
+
+-- why it is not known which specs there are: at one of the paths is a folder that has none; or there are too many, of files whose bytes are known more
+-- paths than a test may have specs; or memory ran out
+abbrev pub AreNoSpecs : Files → List (List ℕ) → SpecsFault → Type 0
+AreNoSpecs files paths (NoneIn path) = (files path.now ≡ None) × ((place : ℕ) × (place < length paths) × (path.now ≡ get_or paths place []))
+AreNoSpecs files paths TooMany = AreKnown files paths → MAX_SPECS < length paths
+AreNoSpecs files paths specs.NoMemory = Unit {0}
+
+-- ---- steps on the way
+
+-- the file at a path is one spec more; where its bytes are not known it may be a folder
+abbrev pub IsPathAdded : Option (List ℕ) → List ℕ → List (List ℕ) → List (List ℕ) → Type 0
+IsPathAdded known path before specs = (known ≡ None) ⊎ (specs ≡ before ++ path ∷ [])
+
+-- why a path is not taken, where so many are
+abbrev pub IsPathRefused : Option (List ℕ) → List ℕ → ℕ → SpecsFault → Type 0
+IsPathRefused known path count (NoneIn told) = (told.now ≡ path) × (known ≡ None)
+IsPathRefused known path count TooMany = (known ≡ None) ⊎ (count ≡ MAX_SPECS)
+IsPathRefused known path count specs.NoMemory = Unit {0}
+
+-- of the folder at this path there are none; or there are too many, or memory ran out
+abbrev pub IsNoneIn : List ℕ → SpecsFault → Type 0
+IsNoneIn path (NoneIn told) = told.now ≡ path
+IsNoneIn path TooMany = Unit {0}
+IsNoneIn path specs.NoMemory = Unit {0}
+
+-- one more is too many, or memory ran out
+abbrev pub IsNoMore : ℕ → SpecsFault → Type 0
+IsNoMore count (NoneIn told) = ⊥
+IsNoMore count TooMany = count ≡ MAX_SPECS
+IsNoMore count specs.NoMemory = Unit {0}

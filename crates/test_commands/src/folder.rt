@@ -16,8 +16,8 @@ pub struct Entry {
 
 /// Files and folders from which specs and accepted texts are read, and to which accepted texts are written.
 pub trait Folder: Opener {
-    /// What lies in the folder at a path, in any order; names that are no UTF-8 are left out. `None` where it is no folder, or is not read. A file whose bytes
-    /// are known is no folder.
+    /// What lies in the folder at a path, in any order; names that are no UTF-8 and links to folders are left out. `None` where it is no folder, or is
+    /// not read to its end. A file whose bytes are known is no folder.
     fn entries(&self, alloc: Global, path: &str) -> Result<Option<Vec<Entry>>, AllocError>
         ensures { IfOk result (λ found. (found ≡ None) ⊎ (Self.bytes self.now path.now ≡ None)) };
 

@@ -1,7 +1,7 @@
 //! Which spec files are tested.
 
-ghost use Rattle.std.specs.Prelude.{◌≡◌, ◌++◌, ◌∷◌, [], IfOk, OnOk, map, string_bytes};
-ghost use Rattle.test_commands.specs.Testing.{AreSpecsAt};
+ghost use Rattle.std.specs.Prelude.{◌≡◌, ◌++◌, ◌∷◌, ℕ, List, [], IfErr, IfOk, OnOk, map, string_bytes, vec_len};
+ghost use Rattle.test_commands.specs.Testing.{AreNoSpecs, AreSpecsAt, IsNoMore, IsNoneIn, IsPathAdded, IsPathRefused};
 
 use crate::folder::{Entry, Folder};
 use std::alloc::{AllocError, Global};
@@ -26,30 +26,41 @@ pub enum SpecsFault<'a> {
     NoMemory,
 }
 
-impl From<AllocError> for SpecsFault<'_> {
-    fn from(_error: AllocError) -> Self {
-        SpecsFault::NoMemory
-    }
-}
-
 /// The spec files at some paths, in the order of the paths. A folder stands for all files in it, and in the folders in it, whose names end in
-/// `.spec`, in the order of their names. Names that begin with a point are passed over.
+/// `.spec`, in the order of their names. Names that begin with a point are passed over. A folder that is not read stands for itself.
 pub fn specs_in<'a, F: Folder>(
     alloc: Global,
     folder: &F,
     paths: &[&'a str],
 ) -> Result<Vec<String>, SpecsFault<'a>>
-    ensures { IfOk result (λ specs. AreSpecsAt (F.bytes folder.now) (map (λ p. p.now) paths.now) (map string_bytes specs.items)) }
+    ensures specs { IfOk result (λ specs. AreSpecsAt (F.bytes folder.now) (map (λ p. p.now) paths.now) (map string_bytes specs.items)) }
+    ensures refused { IfErr result (AreNoSpecs (F.bytes folder.now) (map (λ p. p.now) paths.now)) }
 {
     let mut specs = Vec::new(alloc);
     for place in 0..paths.len() {
         let path = paths[place];
-        match folder.entries(alloc, path)? {
-            Some(entries) => add_folder(alloc, folder, path, entries, &mut specs)?,
-            None => add_spec(alloc, path, &mut specs)?,
+        if let Err(fault) = add_path(alloc, folder, path, &mut specs) {
+            return Err(fault);
         }
     }
     Ok(specs)
+}
+
+/// Adds the spec at a path, or those of the folder there.
+fn add_path<'a, F: Folder>(
+    alloc: Global,
+    folder: &F,
+    path: &'a str,
+    specs: &mut Vec<String>,
+) -> Result<(), SpecsFault<'a>>
+    ensures added { OnOk result (IsPathAdded (F.bytes folder.now path.now) path.now (map string_bytes specs.old.items) (map string_bytes specs.new.items)) }
+    ensures refused { IfErr result (IsPathRefused (F.bytes folder.now path.now) path.now (vec_len specs.old)) }
+{
+    match folder.entries(alloc, path) {
+        Ok(Some(entries)) => add_folder(alloc, folder, path, entries, specs),
+        Ok(None) => add_spec(alloc, path, specs),
+        Err(_) => Err(SpecsFault::NoMemory),
+    }
 }
 
 /// Adds the specs of a folder, of which there has to be one.
@@ -59,13 +70,15 @@ fn add_folder<'a, F: Folder>(
     path: &'a str,
     entries: Vec<Entry>,
     specs: &mut Vec<String>,
-) -> Result<(), SpecsFault<'a>> {
+) -> Result<(), SpecsFault<'a>>
+    ensures { IfErr result (IsNoneIn path.now) }
+{
     let before = specs.len();
-    add_entries(alloc, folder, path, entries, specs)?;
-    if specs.len() == before {
-        return Err(SpecsFault::NoneIn(path));
+    match add_entries(alloc, folder, path, entries, specs) {
+        Ok(()) if specs.len() == before => Err(SpecsFault::NoneIn(path)),
+        Ok(()) => Ok(()),
+        Err(fault) => Err(fault),
     }
-    Ok(())
 }
 
 /// Adds the specs of a folder, and of the folders in it.
@@ -75,22 +88,18 @@ fn add_entries<'a, F: Folder>(
     path: &str,
     entries: Vec<Entry>,
     specs: &mut Vec<String>,
-) -> Result<(), SpecsFault<'a>> {
+) -> Result<(), SpecsFault<'a>>
+    ensures { IfErr result (λ fault. (folder : List ℕ) → IsNoneIn folder fault) }
+{
     let mut waiting = Vec::new(alloc);
-    push_entries(alloc, path, 0, entries, &mut waiting)?;
+    if push_entries(alloc, path, 0, entries, &mut waiting).is_err() {
+        return Err(SpecsFault::NoMemory);
+    }
     for _ in 0..u64::MAX {
         let Some(next) = waiting.pop() else {
             return Ok(());
         };
-        if !next.is_folder {
-            if next.path.ends_with(SPEC) {
-                add_spec(alloc, &next.path, specs)?;
-            }
-        } else if next.depth < MAX_DEPTH {
-            if let Some(entries) = folder.entries(alloc, &next.path)? {
-                push_entries(alloc, &next.path, next.depth + 1, entries, &mut waiting)?;
-            }
-        }
+        add_next(alloc, folder, &next, &mut waiting, specs)?;
     }
     Ok(())
 }
@@ -101,6 +110,45 @@ struct Waiting {
     path: String,
     is_folder: bool,
     depth: usize,
+}
+
+/// Adds what waited, where it is a spec; of a folder what lies in it waits from then on, unless it lies too deep. One that is not read is told as a
+/// spec that is not, since what is in it is not known.
+fn add_next<'a, F: Folder>(
+    alloc: Global,
+    folder: &F,
+    next: &Waiting,
+    waiting: &mut Vec<Waiting>,
+    specs: &mut Vec<String>,
+) -> Result<(), SpecsFault<'a>>
+    ensures { IfErr result (λ fault. (folder : List ℕ) → IsNoneIn folder fault) }
+{
+    if !next.is_folder {
+        return add_named(alloc, &next.path, specs);
+    }
+    if next.depth >= MAX_DEPTH {
+        return Ok(());
+    }
+    match folder.entries(alloc, &next.path) {
+        Ok(Some(entries)) => {
+            match push_entries(alloc, &next.path, next.depth + 1, entries, waiting) {
+                Ok(()) => Ok(()),
+                Err(_) => Err(SpecsFault::NoMemory),
+            }
+        }
+        Ok(None) => add_spec(alloc, &next.path, specs),
+        Err(_) => Err(SpecsFault::NoMemory),
+    }
+}
+
+/// Adds the file at a path in a folder, if its name is that of a spec.
+fn add_named<'a>(alloc: Global, path: &str, specs: &mut Vec<String>) -> Result<(), SpecsFault<'a>>
+    ensures { IfErr result (λ fault. (folder : List ℕ) → IsNoneIn folder fault) }
+{
+    if path.ends_with(SPEC) {
+        return add_spec(alloc, path, specs);
+    }
+    Ok(())
 }
 
 /// Puts what lies in a folder on top of what waits, so that it comes in the order of the names.
@@ -137,7 +185,8 @@ fn path_in(alloc: Global, path: &str, name: &str) -> Result<String, AllocError> 
 }
 
 fn add_spec<'a>(alloc: Global, path: &str, specs: &mut Vec<String>) -> Result<(), SpecsFault<'a>>
-    ensures { OnOk result (map string_bytes specs.new.items ≡ map string_bytes specs.old.items ++ path.now ∷ []) }
+    ensures added { OnOk result (map string_bytes specs.new.items ≡ map string_bytes specs.old.items ++ path.now ∷ []) }
+    ensures refused { IfErr result (IsNoMore (vec_len specs.old)) }
 {
     if specs.len() == MAX_SPECS {
         return Err(SpecsFault::TooMany);

@@ -1,21 +1,39 @@
-use Rattle.std.proofs.Common.{◌≡◌, ◌∙◌, ◌<◌, sym, ap, subst, length, map, string_bytes, arith, [], List, ℕ}
-use Rattle.std.proofs.lemmas.List.{get_or-map, length-map}
-use Rattle.program_commands.specs.Testing.{IsFoundOf}
-use Rattle.program_commands.proofs.TestLemmas.{worst-next}
+use Rattle.std.proofs.Common.{◌∙◌, ◌-◌, ◌≤◌, sym, ap, subst, length, map, string_bytes, take, drop, arith, List}
+use Rattle.std.proofs.lemmas.List.{length-map}
+use Rattle.std.proofs.lemmas.Slice.Zip.{AllZip-long}
+use Rattle.program_commands.specs.declared.one_spec.Found.{Found}
+use Rattle.program_commands.specs.Testing.{IsFoundOf, IsWorstOf, worst_with}
+use Rattle.program_commands.specs.SideBySide.{findings_in}
+use Rattle.program_commands.proofs.TestLemmas.{worst-with-more, some-more}
 use Rattle.program_commands.proofs.testing.test_each.Goals as goal
 
--- one spec more
-pub loop-place-preserved : goal.loop-place-preserved
-loop-place-preserved g c =
+pub tell_each-requires-clause-many : goal.tell_each-requires-clause-many
+tell_each-requires-clause-many g c =
+    let some = take (c.min-end.result - c.loop-told.told) (drop c.loop-told.told c.args.specs.now) in
+    ap (λ (l : List Found). length l) c.as_slice.ensures.value ∙ sym (length-map c.in-Ok.found.items (λ (f : Found). f.finding))
+    ∙ AllZip-long (IsFoundOf (g.F.Opener.bytes c.args.folder.now) c.args.updates) (map string_bytes some) (findings_in c.in-Ok.found.items) c.in-Ok.ensures
+    ∙ length-map some string_bytes
+
+-- some specs more
+pub loop-told-preserved : goal.loop-told-preserved
+loop-told-preserved g c =
     let files = g.F.Opener.bytes c.args.folder.now in
-    let specs = map string_bytes c.args.specs.now in
-    let place = c.loop-place.place in
-    let count = length-map c.args.specs.now string_bytes in
-    let lt : place < length specs = omega (arith, c.loop-place-test.true, count) in
-    let found = subst (λ p. IsFoundOf files c.args.updates p c.test_of_file-found.result.finding)
-    (c.as_str-path.ensures.value ∙ ap string_bytes c.index-specs-place.is ∙ sym {A = List ℕ} (get_or-map string_bytes c.args.specs.now place _ _ c.loop-place-test.true)) c.test_of_file-found.ensures in
+    let specs = c.args.specs.now in
+    let told = c.loop-told.told in
+    let end = c.min-end.result in
+    let some = take (end - told) (drop told specs) in
+    let least = c.min-end.ensures in
+    let sum = c.saturating_add.ensures in
+    let within : end ≤ length specs = omega (arith, least) in
+    let on : told ≤ end = omega (arith, least, sum, c.loop-told.auto.told-fits, c.loop-told-test.true) in
+    let found = c.in-Ok.found.items in
+    let before = worst-with-more files c.args.updates (take told (map string_bytes specs)) (map string_bytes some) c.loop-told.ended.specs (findings_in found)
+    c.loop-told.invariant.specs c.in-Ok.ensures in
+    let is = c.in-Ok-tell_each.ensures.specs ∙ ap (λ (l : List Found). worst_with c.loop-told.ended.specs (findings_in l)) c.as_slice.ensures.value in
     record {
-      specs = rw c.worse.ensures (worst-next files c.args.updates specs place c.loop-place.ended.specs c.test_of_file-found.result.finding lt c.loop-place.invariant.specs found);
-      report = c.with_case.ensures;
-      failures = c.in_ok-write_told.ensures;
+      within = within;
+      specs = subst (IsWorstOf files c.args.updates (take end (map string_bytes specs))) (sym is)
+          (subst (λ front. IsWorstOf files c.args.updates front (worst_with c.loop-told.ended.specs (findings_in found))) (some-more string_bytes specs told end on) before);
+      report = c.in-Ok-tell_each.ensures.report;
+      failures = c.in-Ok-tell_each.ensures.failures;
     }

@@ -1,0 +1,5 @@
+mod Adding
+mod Linking
+mod Listing
+mod Newest
+mod Searching
