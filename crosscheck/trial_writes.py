@@ -162,8 +162,8 @@ def moments(writes, seed):
 def full_disk(trial, folder, seed):
     """A disk with few pages left. What is left out is given."""
     folder.mkdir()
-    mounted = subprocess.run(["mount", "-t", "tmpfs", "-o", f"size={DISK}", "none", folder], capture_output=True, check=False)
-    if mounted.returncode:
+    mount = ["mount", "-t", "tmpfs", "-o", f"size={DISK}", "none", folder]
+    if not shutil.which("mount") or subprocess.run(mount, capture_output=True, check=False).returncode:
         return ["a full disk, since nothing may be mounted here"]
     try:
         writes = Writes(trial, folder / "repository", seed)
