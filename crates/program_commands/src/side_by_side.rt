@@ -1,6 +1,6 @@
 //! Specs that are tested side by side.
 
-ghost use Rattle.std.specs.Prelude.{◌≡◌, ◌<◌, ◌≤◌, ℕ, Bool, List, [], All, IfOk, IfSome, get_or, length, map, slice_index_or, string_bytes};
+ghost use Rattle.std.specs.Prelude.{◌≡◌, ◌<◌, ◌≤◌, ℕ, Bool, false, List, [], All, IfOk, IfSome, get_or, length, map, slice_index_or, string_bytes};
 ghost use Rattle.std.specs.List.{AllZip};
 ghost use Rattle.book_commands.specs.Joining.{Files};
 ghost use Rattle.program_commands.specs.Testing.{IsFoundOf};
@@ -21,37 +21,33 @@ struct Placed {
     found: Found,
 }
 
-/// What is found of each of some specs, in their order. As many are tested at a time as there are workers; where they are fewer, each has as many
+/// What is found of each of some specs, whose accepted texts are left as they are, in their order. As many are tested at a time as there are workers; where they are fewer, each has as many
 /// of the workers as are left for it.
 pub(crate) fn test_side_by_side<R: Threads + Sync, F: Folder + Sync>(
     rt: &R,
     alloc: Global,
     specs: &[String],
-    updates: bool,
     workers: &Workers,
     folder: &F,
 ) -> Result<Vec<Found>, AllocError>
 where
     F::Reader: Send,
-    ensures { IfOk result (λ found. AllZip (IsFoundOf (F.bytes folder.now) updates) (map string_bytes specs.now) (findings_in found.items)) }
+    ensures { IfOk result (λ found. AllZip (IsFoundOf (F.bytes folder.now) false) (map string_bytes specs.now) (findings_in found.items)) }
 {
-    let crew = crew_for(specs.len(), updates, workers);
+    let crew = crew_for(specs.len(), workers);
     let share = Workers::of(workers.number() / crew);
     let each = match &share {
         Some(share) => share,
         None => workers,
     };
-    let placed = test_with(rt, alloc, specs, updates, each, folder, crew)?;
-    in_order(rt, alloc, specs, updates, each, folder, placed)
+    let placed = test_with(rt, alloc, specs, each, folder, crew)?;
+    in_order(rt, alloc, specs, each, folder, placed)
 }
 
-/// How many specs are tested at a time. Accepted texts are written by one alone, since two paths may lead to one text.
-fn crew_for(specs: usize, updates: bool, workers: &Workers) -> u8
+/// How many specs are tested at a time.
+fn crew_for(specs: usize, workers: &Workers) -> u8
     ensures { 1 ≤ result }
 {
-    if updates {
-        return 1;
-    }
     specs.min(workers.number() as usize).max(1) as u8
 }
 
@@ -60,17 +56,16 @@ fn test_with<R: Threads + Sync, F: Folder + Sync>(
     rt: &R,
     alloc: Global,
     specs: &[String],
-    updates: bool,
     each: &Workers,
     folder: &F,
     crew: u8,
 ) -> Result<Vec<Placed>, AllocError>
 where
     F::Reader: Send,
-    ensures { IfOk result (λ placed. All (IsPlaced (F.bytes folder.now) updates (map string_bytes specs.now)) placed.items) }
+    ensures { IfOk result (λ placed. All (IsPlaced (F.bytes folder.now) false (map string_bytes specs.now)) placed.items) }
 {
     let next = AtomicUsize::new(0);
-    let found = found_by_each(rt, alloc, specs, updates, each, folder, &next, crew)?;
+    let found = found_by_each(rt, alloc, specs, each, folder, &next, crew)?;
     together(alloc, found)
 }
 
@@ -79,7 +74,6 @@ fn found_by_each<R: Threads + Sync, F: Folder + Sync>(
     rt: &R,
     alloc: Global,
     specs: &[String],
-    updates: bool,
     each: &Workers,
     folder: &F,
     next: &AtomicUsize,
@@ -88,15 +82,15 @@ fn found_by_each<R: Threads + Sync, F: Folder + Sync>(
 where
     F::Reader: Send,
     ensures len { IfOk result (λ found. length found.items ≡ crew) }
-    ensures each { IfOk result (λ found. (i : ℕ) (d : _) → i < crew → All (IsPlaced (F.bytes folder.now) updates (map string_bytes specs.now)) (slice_index_or found.items i d).items) }
+    ensures each { IfOk result (λ found. (i : ℕ) (d : _) → i < crew → All (IsPlaced (F.bytes folder.now) false (map string_bytes specs.now)) (slice_index_or found.items i d).items) }
 {
     thread::map_indices(
         rt,
         alloc,
         usize::from(crew),
         &|_worker: usize| -> Vec<Placed>
-            ensures { All (IsPlaced (F.bytes folder.entry.now) updates (map string_bytes specs.entry.now)) result.items }
-        { test_next(rt, alloc, specs, updates, each, folder, next) },
+            ensures { All (IsPlaced (F.bytes folder.entry.now) false (map string_bytes specs.entry.now)) result.items }
+        { test_next(rt, alloc, specs, each, folder, next) },
     )
 }
 
@@ -118,12 +112,11 @@ fn test_next<R: Threads + Sync, F: Folder>(
     rt: &R,
     alloc: Global,
     specs: &[String],
-    updates: bool,
     each: &Workers,
     folder: &F,
     next: &AtomicUsize,
 ) -> Vec<Placed>
-    ensures { All (IsPlaced (F.bytes folder.now) updates (map string_bytes specs.now)) result.items }
+    ensures { All (IsPlaced (F.bytes folder.now) false (map string_bytes specs.now)) result.items }
 {
     let mut placed = Vec::new(alloc);
     for _ in 0..specs.len() {
@@ -131,7 +124,7 @@ fn test_next<R: Threads + Sync, F: Folder>(
         if place >= specs.len() {
             return placed;
         }
-        let found = test_of_file(rt, alloc, specs[place].as_str(), updates, each, folder);
+        let found = test_of_file(rt, alloc, specs[place].as_str(), false, each, folder);
         let _kept = placed.push(Placed { place, found });
     }
     placed
@@ -142,13 +135,12 @@ fn in_order<R: Threads + Sync, F: Folder>(
     rt: &R,
     alloc: Global,
     specs: &[String],
-    updates: bool,
     each: &Workers,
     folder: &F,
     placed: Vec<Placed>,
 ) -> Result<Vec<Found>, AllocError>
-    requires { All (IsPlaced (F.bytes folder.now) updates (map string_bytes specs.now)) placed.items }
-    ensures { IfOk result (λ found. AllZip (IsFoundOf (F.bytes folder.now) updates) (map string_bytes specs.now) (findings_in found.items)) }
+    requires { All (IsPlaced (F.bytes folder.now) false (map string_bytes specs.now)) placed.items }
+    ensures { IfOk result (λ found. AllZip (IsFoundOf (F.bytes folder.now) false) (map string_bytes specs.now) (findings_in found.items)) }
 {
     let mut kept = placed;
     kept.sort_unstable_by(|a: &Placed, b: &Placed| b.place.cmp(&a.place));
@@ -156,7 +148,7 @@ fn in_order<R: Threads + Sync, F: Folder>(
     for place in 0..specs.len() {
         let found = match take_last(place, &mut kept) {
             Some(found) => found,
-            None => test_of_file(rt, alloc, specs[place].as_str(), updates, each, folder),
+            None => test_of_file(rt, alloc, specs[place].as_str(), false, each, folder),
         };
         all.push(found)?;
     }

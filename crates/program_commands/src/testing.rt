@@ -1,13 +1,13 @@
 //! Specs beside the accepted texts of their classes.
 
-ghost use Rattle.std.specs.Prelude.{◌≡◌, ℕ, Bool, Err, List, IfOk, IfErr, OnOk, is_some, length, map, string_bytes, vec_len};
+ghost use Rattle.std.specs.Prelude.{◌≡◌, ℕ, Bool, true, false, Err, List, IfOk, IfErr, OnOk, is_some, length, map, string_bytes, vec_len};
 ghost use Rattle.transcripts.specs.Counted.{failures_of};
 ghost use Rattle.book_commands.specs.Joining.{Files};
 ghost use Rattle.test_commands.specs.Testing.{AreNoSpecs};
 ghost use Rattle.program_commands.specs.Testing.{IsReportEnd, IsTestRun, IsWorstOf, worse, worst_with};
 ghost use Rattle.program_commands.specs.SideBySide.{findings_in};
 
-use crate::one_spec::Found;
+use crate::one_spec::{Found, test_of_file};
 use crate::side_by_side::test_side_by_side;
 use book_commands::Finding;
 use fault_texts::ProgramFault;
@@ -59,7 +59,7 @@ where
         Err(fault) => return Err(specs_fault(fault)),
     };
     let mut cases = Vec::new(alloc);
-    let ended = match test_each(
+    let ended = match test_all(
         rt,
         alloc,
         &specs,
@@ -95,8 +95,8 @@ fn specs_fault(fault: SpecsFault<'_>) -> ProgramFault<'_>
     }
 }
 
-/// Tells of each spec what is found of it, some at a time, and keeps that as a case.
-fn test_each<'a, R: Threads + Sync, F: Folder + Sync, W: Write>(
+/// Tells of each spec what is found of it, and keeps that as a case.
+fn test_all<'a, R: Threads + Sync, F: Folder + Sync, W: Write>(
     rt: &R,
     alloc: Global,
     specs: &[String],
@@ -114,6 +114,30 @@ where
     ensures failures { OnOk result (failures_of out.new ≡ 0) }
     ensures refused { IfErr result (λ fault. (files : Files) (paths : List (List ℕ)) (updates reports : Bool) → IsTestRun files paths updates reports (Err fault)) }
 {
+    if updates {
+        return update_each(rt, alloc, specs, workers, folder, cases, out);
+    }
+    test_each(rt, alloc, specs, workers, folder, cases, out)
+}
+
+/// Tests specs side by side, some at a time, and tells of them in their order.
+fn test_each<'a, R: Threads + Sync, F: Folder + Sync, W: Write>(
+    rt: &R,
+    alloc: Global,
+    specs: &[String],
+    workers: &Workers,
+    folder: &F,
+    cases: &mut Vec<Case>,
+    out: &mut Counted<W>,
+) -> Result<Ended, ProgramFault<'a>>
+where
+    F::Reader: Send,
+    requires { failures_of out.old ≡ 0 }
+    ensures specs { IfOk result (λ ended. IsWorstOf (F.bytes folder.now) false (map string_bytes specs.now) ended.specs) }
+    ensures report { IfOk result (λ ended. IsReportEnd ended.report) }
+    ensures failures { OnOk result (failures_of out.new ≡ 0) }
+    ensures refused { IfErr result (λ fault. (files : Files) (paths : List (List ℕ)) (updates reports : Bool) → IsTestRun files paths updates reports (Err fault)) }
+{
     let mut ended = Ended {
         specs: Finding::Good,
         report: Finding::Good,
@@ -122,7 +146,7 @@ where
     while told < specs.len() {
         let end = told.saturating_add(AHEAD).min(specs.len());
         let some = &specs[told..end];
-        let Ok(found) = test_side_by_side(rt, alloc, some, updates, workers, folder) else {
+        let Ok(found) = test_side_by_side(rt, alloc, some, workers, folder) else {
             return Err(ProgramFault::NoMemory);
         };
         ended = match tell_each(alloc, some, found.as_slice(), ended, cases, out) {
@@ -130,6 +154,38 @@ where
             Err(_) => return Err(ProgramFault::Write),
         };
         told = end;
+    }
+    Ok(ended)
+}
+
+/// Tests one spec after another and accepts its classes. It is told before the next is begun, so that whatever is written is told, and no two write
+/// one accepted text at a time.
+fn update_each<'a, R: Threads + Sync, F: Folder, W: Write>(
+    rt: &R,
+    alloc: Global,
+    specs: &[String],
+    workers: &Workers,
+    folder: &F,
+    cases: &mut Vec<Case>,
+    out: &mut Counted<W>,
+) -> Result<Ended, ProgramFault<'a>>
+    requires { failures_of out.old ≡ 0 }
+    ensures specs { IfOk result (λ ended. IsWorstOf (F.bytes folder.now) true (map string_bytes specs.now) ended.specs) }
+    ensures report { IfOk result (λ ended. IsReportEnd ended.report) }
+    ensures failures { OnOk result (failures_of out.new ≡ 0) }
+    ensures refused { IfErr result (λ fault. (files : Files) (paths : List (List ℕ)) (updates reports : Bool) → IsTestRun files paths updates reports (Err fault)) }
+{
+    let mut ended = Ended {
+        specs: Finding::Good,
+        report: Finding::Good,
+    };
+    for place in 0..specs.len() {
+        let path = specs[place].as_str();
+        let found = test_of_file(rt, alloc, path, true, workers, folder);
+        ended = match tell_one(alloc, path, &found, ended, cases, out) {
+            Ok(ended) => ended,
+            Err(_) => return Err(ProgramFault::Write),
+        };
     }
     Ok(ended)
 }
@@ -154,13 +210,31 @@ fn tell_each<W: Write>(
     for place in 0..specs.len() {
         let path = specs[place].as_str();
         let next = &found[place];
-        write_told(path, next.told.as_str(), out)?;
-        ended = Ended {
-            specs: worse(ended.specs, next.finding),
-            report: with_case(alloc, path, next, ended.report, cases),
-        };
+        ended = tell_one(alloc, path, next, ended, cases, out)?;
     }
     Ok(ended)
+}
+
+/// Tells what is found of a spec, and keeps that as a case.
+fn tell_one<W: Write>(
+    alloc: Global,
+    path: &str,
+    found: &Found,
+    before: Ended,
+    cases: &mut Vec<Case>,
+    out: &mut Counted<W>,
+) -> Result<Ended, WriteFault>
+    requires report { IsReportEnd before.report }
+    requires failures { failures_of out.old ≡ 0 }
+    ensures specs { IfOk result (λ ended. ended.specs ≡ worse before.specs found.now.finding) }
+    ensures report { IfOk result (λ ended. IsReportEnd ended.report) }
+    ensures failures { OnOk result (failures_of out.new ≡ 0) }
+{
+    write_told(path, found.told.as_str(), out)?;
+    Ok(Ended {
+        specs: worse(before.specs, found.finding),
+        report: with_case(alloc, path, found, before.report, cases),
+    })
 }
 
 /// Keeps what is found of a spec as a case. What is found of the report is worse where there is no memory for it.

@@ -1,4 +1,4 @@
-use Rattle.std.proofs.Common.{◌∙◌, ◌<◌, sym, ap, subst, arith, All, List, ℕ, [], length, map, string_bytes, get_or, is_ok}
+use Rattle.std.proofs.Common.{◌∙◌, ◌<◌, sym, ap, subst, arith, All, List, ℕ, [], length, map, string_bytes, get_or, is_ok, false}
 use Rattle.std.proofs.lemmas.List.{get_or-map}
 use Rattle.program_commands.specs.Testing.{IsFoundOf}
 use Rattle.program_commands.specs.SideBySide.{IsPlaced}
@@ -12,9 +12,9 @@ loop-preserved g c =
     let specs = map string_bytes c.args.specs.now in
     let place = c.fetch_add-place.result in
     let lt : place < length c.args.specs.now = omega (arith, c.if-place-specs.false) in
-    let here : IsFoundOf files c.args.updates (get_or specs place []) c.test_of_file-found.result.finding =
-    subst (λ p. IsFoundOf files c.args.updates p c.test_of_file-found.result.finding)
+    let here : IsFoundOf files false (get_or specs place []) c.test_of_file-found.result.finding =
+    subst (λ p. IsFoundOf files false p c.test_of_file-found.result.finding)
     (c.as_str.ensures.value ∙ ap string_bytes c.index-specs-place.is ∙ sym {A = List ℕ} (get_or-map string_bytes c.args.specs.now place _ _ lt))
     c.test_of_file-found.ensures in
-    subst (All (IsPlaced files c.args.updates specs)) (sym c.push-kept.ensures.items)
-    (all-more (IsPlaced files c.args.updates specs) (is_ok c.push-kept.result) c.loop.placed.items _ c.loop.invariant here)
+    subst (All (IsPlaced files false specs)) (sym c.push-kept.ensures.items)
+    (all-more (IsPlaced files false specs) (is_ok c.push-kept.result) c.loop.placed.items _ c.loop.invariant here)

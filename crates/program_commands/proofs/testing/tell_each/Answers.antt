@@ -18,8 +18,8 @@ loop-place-preserved g c =
     let here : get_or (findings_in found) place next.finding ≡ next.finding =
     get_or-map (λ (f : Found). f.finding) found place next next.finding within ∙ ap (λ (f : Found). f.finding) (sym c.index-found-place.is) in
     record {
-      specs = c.worse.ensures ∙ ap (λ (f : Finding). worse f next.finding) c.loop-place.invariant.specs
+      specs = c.in_ok-ended.ensures.specs ∙ ap (λ (f : Finding). worse f next.finding) c.loop-place.invariant.specs
           ∙ sym (worst-next c.args.before.specs (findings_in found) place next.finding lt here);
-      report = c.with_case.ensures;
-      failures = c.in_ok-write_told.ensures;
+      report = c.in_ok-ended.ensures.report;
+      failures = c.in_ok-ended.ensures.failures;
     }

@@ -1,4 +1,4 @@
-use Rattle.std.proofs.Common.{◌∙◌, ◌-◌, ◌≤◌, sym, ap, subst, length, map, string_bytes, take, drop, arith, List}
+use Rattle.std.proofs.Common.{◌∙◌, ◌-◌, ◌≤◌, sym, ap, subst, length, map, string_bytes, take, drop, arith, List, false}
 use Rattle.std.proofs.lemmas.List.{length-map}
 use Rattle.std.proofs.lemmas.Slice.Zip.{AllZip-long}
 use Rattle.program_commands.specs.declared.one_spec.Found.{Found}
@@ -11,7 +11,7 @@ pub tell_each-requires-clause-many : goal.tell_each-requires-clause-many
 tell_each-requires-clause-many g c =
     let some = take (c.min-end.result - c.loop-told.told) (drop c.loop-told.told c.args.specs.now) in
     ap (λ (l : List Found). length l) c.as_slice.ensures.value ∙ sym (length-map c.in-Ok.found.items (λ (f : Found). f.finding))
-    ∙ AllZip-long (IsFoundOf (g.F.Opener.bytes c.args.folder.now) c.args.updates) (map string_bytes some) (findings_in c.in-Ok.found.items) c.in-Ok.ensures
+    ∙ AllZip-long (IsFoundOf (g.F.Opener.bytes c.args.folder.now) false) (map string_bytes some) (findings_in c.in-Ok.found.items) c.in-Ok.ensures
     ∙ length-map some string_bytes
 
 -- some specs more
@@ -27,13 +27,13 @@ loop-told-preserved g c =
     let within : end ≤ length specs = omega (arith, least) in
     let on : told ≤ end = omega (arith, least, sum, c.loop-told.auto.told-fits, c.loop-told-test.true) in
     let found = c.in-Ok.found.items in
-    let before = worst-with-more files c.args.updates (take told (map string_bytes specs)) (map string_bytes some) c.loop-told.ended.specs (findings_in found)
+    let before = worst-with-more files false (take told (map string_bytes specs)) (map string_bytes some) c.loop-told.ended.specs (findings_in found)
     c.loop-told.invariant.specs c.in-Ok.ensures in
     let is = c.in-Ok-tell_each.ensures.specs ∙ ap (λ (l : List Found). worst_with c.loop-told.ended.specs (findings_in l)) c.as_slice.ensures.value in
     record {
       within = within;
-      specs = subst (IsWorstOf files c.args.updates (take end (map string_bytes specs))) (sym is)
-          (subst (λ front. IsWorstOf files c.args.updates front (worst_with c.loop-told.ended.specs (findings_in found))) (some-more string_bytes specs told end on) before);
+      specs = subst (IsWorstOf files false (take end (map string_bytes specs))) (sym is)
+          (subst (λ front. IsWorstOf files false front (worst_with c.loop-told.ended.specs (findings_in found))) (some-more string_bytes specs told end on) before);
       report = c.in-Ok-tell_each.ensures.report;
       failures = c.in-Ok-tell_each.ensures.failures;
     }

@@ -6,7 +6,7 @@ returns-in-Err-clause-done g c =
     c.specs_fault.ensures (g.F.Opener.bytes c.args.folder.now) (map (λ (p : Bor (List ℕ)). p.now) c.args.words.now.paths.now) c.args.words.now.updates
     (is_some c.args.words.now.junit) c.in-Err.ensures.refused
 
-pub returns-in-Err-test_each-clause-done : goal.returns-in-Err-test_each-clause-done
-returns-in-Err-test_each-clause-done g c =
-    c.in-Err-test_each.ensures.refused (g.F.Opener.bytes c.args.folder.now) (map (λ (p : Bor (List ℕ)). p.now) c.args.words.now.paths.now)
+pub returns-in-Err-test_all-clause-done : goal.returns-in-Err-test_all-clause-done
+returns-in-Err-test_all-clause-done g c =
+    c.in-Err-test_all.ensures.refused (g.F.Opener.bytes c.args.folder.now) (map (λ (p : Bor (List ℕ)). p.now) c.args.words.now.paths.now)
     c.args.words.now.updates (is_some c.args.words.now.junit)
