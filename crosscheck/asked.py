@@ -8,7 +8,9 @@ from looks import Expected, look_of
 from machine import DEADLOCK
 from orders import quoted
 
-ANSWERS, BRIEF, RANKS, OUTCOMES, LEFT, JSON = FLAGS = ["--answers", "--brief", "--ranks", "--outcomes", "--left", "--json"]
+ANSWERS, BRIEF, RANKS, OUTCOMES, LEFT, JSON, HTML = FLAGS = ["--answers", "--brief", "--ranks", "--outcomes", "--left", "--json", "--html"]
+# What does not go with a page.
+NOT_OF_PAGES = [BRIEF, JSON]
 WORKERS, PROGRESS, LOOK, EXPECT = "--workers", "--progress", "--look", "--expect"
 LOSES, LOSES_NOT = "--deadlock", "--no-deadlock"
 # A word that begins with a hyphen ends the values of an expectation, but where it is a number.
@@ -71,6 +73,10 @@ class Asked:
     @property
     def is_json(self):
         return JSON in self.flags
+
+    @property
+    def is_page(self):
+        return HTML in self.flags
 
     def passes(self, spec, told, letters):
         return all(one.passes(spec, told, letters) for one in self.filters)

@@ -201,7 +201,8 @@ class Asker(Maker):
 
     def words(self):
         """Some words behind the spec's path."""
-        groups = [[flag] for flag in asked.FLAGS if self.some(0.2 if flag in (asked.BRIEF, asked.JSON) else 0.35)]
+        flags = [flag for flag in asked.FLAGS if self.some(0.2 if flag in (asked.BRIEF, asked.JSON, asked.HTML) else 0.35)]
+        groups = [[flag] for flag in flags if asked.HTML not in flags or flag not in asked.NOT_OF_PAGES]
         groups += [[word] for word in self.filters()]
         # A spec without tables has no look.
         if self.tables or not self.spec:

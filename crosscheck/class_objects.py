@@ -8,9 +8,10 @@ from class_values import BY_ANSWERS, BY_OUTCOMES, BY_SHOWS
 from classes import OF_ANSWERS, OF_BOOKS, OF_SHOWS
 from machine import ABORTED, DEADLOCK, FAULTS, LINES, OUT_OF_RANGE
 from moments import WAITS
+from opened import objects_in
 from shown import LEFT_IN, json_text
 
-FRONT = b'{"format":'
+FRONT, DOCTYPE = b'{"format":', b"<!doctype html>"
 MARKUP = {*"<>&\u2028\u2029"}
 STRING = re.compile(r'"(?:[^"\\]|\\.)*"')
 MEMBERS = ["format", "name", "orders", "asked", "sessions", "steps", "by", "totals", "expected", "looks"]
@@ -204,5 +205,6 @@ class ReadObject:
 
 
 def read_back(out):
-    """What `isofarm classes` printed, a page or an object."""
-    return (ReadObject if out.startswith(FRONT) else Read)(out.decode())
+    """What `isofarm classes` printed: a text, an object, or the object of a page that a browser opens."""
+    text = objects_in(out.decode())[0] if out.startswith(DOCTYPE) else out.decode()
+    return (ReadObject if text.startswith(FRONT.decode()) else Read)(text)

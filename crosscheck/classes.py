@@ -20,6 +20,7 @@ from facts import shared
 from looks import NoLook, look_of, seen
 from machine import DEADLOCK, DUPLICATE, OUT_OF_RANGE, UNAVAILABLE, outcome_text, printed, start
 from moments import WAITS, rows_left, shown, standing_of
+from opened import page_html
 from orders import spelled
 from refusal import Refusal
 from shown import WIDTH, broken, cut, left_lines, marks, statements_of, visible, word_of
@@ -365,11 +366,17 @@ class Asking:
         return Classes(self.spec)
 
     def page(self, path, asked):
-        """The text or the JSON of what is asked for, and whether each order is as expected. Raises NotAsked, or NoLook, too."""
+        """What is printed of what is asked for, and whether each order is as expected. Raises NotAsked, or NoLook, too."""
         asked.check(self.spec)
         page = Page(self.classes, path, asked)
-        told = classes_json(page, statements_of(self.file)) if asked.is_json else page.text()
-        return told, page.is_as_expected()
+        return self.told(page), page.is_as_expected()
+
+    def told(self, page):
+        """What is printed of a page, in the form that is asked for."""
+        if not page.asked.is_json and not page.asked.is_page:
+            return page.text()
+        json = classes_json(page, statements_of(self.file))
+        return page_html(self.text, page.path, json, [group.least for group in page.groups]) if page.asked.is_page else json
 
     def answer(self, path, words):
         """The exit status, and what stands on the two outputs."""

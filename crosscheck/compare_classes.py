@@ -2,7 +2,7 @@
 
 usage: python3 crosscheck/compare_classes.py PROGRAM|--alone KIND FIRST_SEED SEEDS
 
-Each spec is run as a whole and by answers, brief and not, as text and as JSON, and with several numbers of workers, and then with some filters,
+Each spec is run as a whole and by answers, brief and not, as text, as JSON and as a page that a browser opens, and with several numbers of workers, and then with some filters,
 looks and expectations (`asking.py`). Of a spec with more orders than this implementation runs, some are made permutation lines. Before them come
 the specs of `classes/`, whose texts and JSON were worked out by hand. With `--alone` no program is run: classes, texts and JSON are held against
 what has to hold of each (`class_laws.py`, `class_pages.py`, `class_objects.py`). KIND is one of those below, or `all`: `crowd` has five to seven
@@ -19,10 +19,10 @@ from shlex import split
 from subprocess import run
 from tempfile import TemporaryDirectory
 
-from asked import ANSWERS, BRIEF, JSON, LEFT, OUTCOMES
+from asked import ANSWERS, BRIEF, HTML, JSON, LEFT, OUTCOMES
 from asking import Asker
 from class_laws import wrong_classes, wrong_expectation, wrong_filters, wrong_looks, wrong_objects
-from class_objects import read_back
+from class_objects import DOCTYPE, read_back
 from classes import Asking, joined, ranges_text, share, with_steps
 from compare import Comparison, ended, fault_of
 from compare_shown import ALL, ALL_KINDS, ALONE, FILES, bound, specs_of
@@ -32,8 +32,8 @@ from refusal import Refusal
 
 WORKED = Path(__file__).resolve().parent / "classes"
 MOST_ORDERS, MOST_LINES, NEAR_RANKS = 20_000, 60, 40
-TOLD = [[], [ANSWERS], [BRIEF], [ANSWERS, BRIEF], [JSON], [JSON, ANSWERS], [JSON, BRIEF]]
-RUNS = [*TOLD, ["--workers", "1"], ["--workers", "3"], [ANSWERS, "--workers", "3"], ["--workers", "3", JSON]]
+TOLD = [[], [ANSWERS], [BRIEF], [ANSWERS, BRIEF], [JSON], [JSON, ANSWERS], [JSON, BRIEF], [HTML]]
+RUNS = [*TOLD, ["--workers", "1"], ["--workers", "3"], [ANSWERS, "--workers", "3"], ["--workers", "3", JSON], [HTML, ANSWERS, "--workers", "3"]]
 # So many runs of a spec ask for something by filters, looks and expectations.
 RUNS_ASKED = 10
 EXPECTATIONS_LOOKED_AT = 3
@@ -312,8 +312,8 @@ class ClassComparison(Comparison):
         return got
 
 
-def kind_of(out):
-    return read_back(out).kinds()
+def kinds_of(out):
+    return ["page of a browser"] * out.startswith(DOCTYPE) + [*read_back(out).kinds()]
 
 
 def wrong_counts(program):
@@ -326,7 +326,7 @@ def wrong_counts(program):
 
 def compare_with(program, kinds, first, seeds):
     with TemporaryDirectory() as folder:
-        comparison = ClassComparison(program, folder, kind_of)
+        comparison = ClassComparison(program, folder, kinds_of)
         for wrong in wrong_counts(program):
             comparison.differences += 1
             print(f"by hand, {wrong}", flush=True)
@@ -350,7 +350,7 @@ def wrong_told(asking, seed, counts):
     random, path, asker = Random(seed), Random(seed).choice(FILES), asker_of(asking, seed)
     for words in [*TOLD, *(asker.words() for _ in range(RUNS_ASKED))]:
         status, out, error = asking.answer(path, words)
-        counts.update(kind_of(out) if out else [f"refused: {fault_of(error)}"])
+        counts.update(kinds_of(out) if out else [f"refused: {fault_of(error)}"])
         wrong = [*read_back(out).wrong(status)] if out else []
         wrong += wrong_objects(asking, path, words, random) if JSON in words else []
         yield from (f"{' '.join(words)}: {one}" for one in wrong)

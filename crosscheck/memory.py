@@ -42,6 +42,7 @@ OF_BOOKS += ["classes deadlock.spec --deadlock=b --no-error --ranks --outcomes -
 OF_BOOKS += ["classes deadlock.spec --no-serial --look 'SELECT * FROM t ORDER BY v DESC' --expect 'SELECT v FROM t WHERE id = 2' 42 --workers 1"]
 OF_BOOKS += ["classes deadlock.spec --json --ranks --look 'SELECT * FROM t WHERE v < 42' --expect 'SELECT v FROM t WHERE id = 2' 42 --workers 1"]
 OF_BOOKS += ["classes deadlock.spec --json --answers --brief --workers 1", "classes deadlock.spec --json --deadlock=c"]
+OF_BOOKS += ["classes lost_update.spec --html --workers 1", "classes deadlock.spec --html --deadlock=b --expect 'SELECT v FROM t WHERE id = 2' 42 --workers 1"]
 OF_BOOKS += ["classes --book all.book", "classes --book high.book low.book --ranks --outcomes", "classes --book low.book --json --ranks"]
 OF_BOOKS += ["classes --book all.book clash.book", "classes --book all.book wrong.spec"]
 OF_BOOKS += ["test", "test all.book --workers 0", "test - -"]

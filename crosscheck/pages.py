@@ -23,7 +23,7 @@ from compare import PROGRAM, ended
 
 TOP = Path(__file__).resolve().parent.parent
 PAGES = ["README.md", "docs/GUIDE.md", "docs/DIFFERENCES.md", "docs/FARM.md", "examples/README.md"]
-FOLDERS = ["crates", "docs", "crosscheck", "examples", "farm", "launcher", "wrong_bodies"]
+FOLDERS = ["crates", "docs", "crosscheck", "examples", "farm", "launcher", "page", "wrong_bodies"]
 
 
 def blocks_of(page):

@@ -68,6 +68,7 @@ TESTS = {
         "memory::a_step_is_refused_as_ever_unless_memory_runs_out",
         "memory::a_run_tells_all_unless_memory_runs_out",
         "memory::usage_is_told_unless_memory_runs_out",
+        "opened::a_page_is_told_whole_unless_memory_runs_out",
         "orders::an_order_and_its_rank_are_told_unless_memory_runs_out",
         "shows::an_order_is_shown_whole_unless_memory_runs_out",
         "outcomes::classes_of_books_are_told_whole_unless_memory_runs_out",

@@ -45,7 +45,11 @@ FAULTS = [
     (3, "too many specs", UNNAMED, {TEST}),
     (5, "write fault", UNNAMED, COMMANDS | {TEST}),
 ]
+FAULTS = [(status, re.compile(text), is_named, commands) for status, text, is_named, commands in FAULTS]
 CLASSES_TITLE = rb"[^\n]+: (?:%(n)s of )?%(n)s orders?, %(n)s (?:class(?:es)?|answers?)"
+# An object of classes, and one with expectations; what stands before it and behind it on a page.
+OBJECT, EXPECTING = rb'\{"format":1,[^\n]*\}', rb'\{"format":1,[^\n]*"expected":\[\{[^\n]*\}'
+PAGE_FRONT, PAGE_BACK = rb'<!doctype html>\n.+<script type="application/json" id="classes">', rb"</script><script.+</html>\n"
 OUTCOMES_TITLE = rb"[^\n]+: (?:%(n)s of )?%(n)s orders?, %(n)s outcomes?\n\nwhat orders leave is in no book, so S and R are not told\n"
 MISSING = rb"(?:no order is missing|1 order is missing, of rank %(n)s|%(n)s orders are missing, the first of rank %(n)s)\n"
 BOOK = rb'\{"facts":\[.*\],"format":2,"outcomes":\[.*\],"spec":".*"\}\n'
@@ -62,8 +66,8 @@ ANSWERS = {
     ("rank", 0): rb"%(n)s\n",
     ("order", 0): rb"[^ \n][^\n]*\n",
     ("show", 0): rb"\{\"format\":1,[^\n]*\}\n|[^ \n].*\n",
-    ("classes", 0): rb'\{"format":1,[^\n]*\}\n|' + CLASSES_TITLE + rb"\n\n.+\n",
-    ("classes", 1): rb'\{"format":1,[^\n]*"expected":\[\{[^\n]*\}\n|' + CLASSES_TITLE + rb"\n\nexpected of .+\n",
+    ("classes", 0): OBJECT + rb"\n|" + PAGE_FRONT + OBJECT + PAGE_BACK + rb"|" + CLASSES_TITLE + rb"\n\n.+\n",
+    ("classes", 1): EXPECTING + rb"\n|" + PAGE_FRONT + EXPECTING + PAGE_BACK + rb"|" + CLASSES_TITLE + rb"\n\nexpected of .+\n",
     (CLASSES_OF_BOOKS, 0): rb'\{"format":1,[^\n]*"missing":[^\n]*\}\n|' + OUTCOMES_TITLE + MISSING + rb"\n.+\n",
     ("run", 0): BOOK,
     ("join", 0): BOOK,
@@ -93,7 +97,8 @@ def fault_told(words, status, line):
     """The fault that a line tells, as a match and the path that it names; none where no such fault has this status and these words."""
     for fault_status, text, is_named, commands in FAULTS:
         for path in {*words[1:]} if is_named else {None}:
-            told = re.fullmatch(f"isofarm: {re.escape(f'{path}: ') if is_named else ''}{text}\n", line)
+            begins = f"isofarm: {path}: " if is_named else "isofarm: "
+            told = text.fullmatch(line.removeprefix(begins).removesuffix("\n")) if line.startswith(begins) and line.endswith("\n") else None
             if told and status == fault_status and called(words) in commands:
                 return told, path
     return None

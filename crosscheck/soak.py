@@ -33,7 +33,7 @@ import compare_book_classes
 import compare_classes
 import compare_files
 import compare_hostile
-from asked import ANSWERS, FILTERS, JSON, LEFT, OUTCOMES, RANKS
+from asked import ANSWERS, FILTERS, HTML, JSON, LEFT, OUTCOMES, RANKS
 from asking import opposite
 from book_class_laws import read_back as books_read_back
 from book_classes import FLAGS
@@ -190,8 +190,8 @@ class Soak:
                 self.hold_same([(ran.status, ran.out) for ran in (shown, named)], "an order is shown otherwise by its names", shown, named)
 
     def classes(self, path, number, starts):
-        """All orders in classes, as text or as JSON, by some workers and others, and those that pass a filter beside those that do not."""
-        flags = [flag for flag in (ANSWERS, RANKS, OUTCOMES, LEFT, JSON) if self.random.random() < 0.5]
+        """All orders in classes, as text, as JSON or as a page, by some workers and others, and those that pass a filter beside those that do not."""
+        flags = [flag for flag in (ANSWERS, RANKS, OUTCOMES, LEFT) if self.random.random() < 0.5] + self.random.choice([[], [JSON], [HTML]])
         ran, again = self.run("classes", path, *flags, *self.workers()), self.run("classes", path, *flags, "--workers", 1)
         self.hold(ran.status == (0 if starts else 3), "orders are not classed", ran)
         self.hold_same([ran.told, again.told], "some workers tell other classes than one", ran, again)

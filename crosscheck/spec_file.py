@@ -1,14 +1,17 @@
 """Reads spec files, a token at a time. A token is looked at only where the grammar has come to it."""
 
+import re
 from dataclasses import dataclass, field
 from enum import IntEnum
 
 from refusal import Refusal
-from tokens import Token, Tokens, is_digit, past_blanks, run_end
+from tokens import DIGITS, Token, Tokens, blanks
 
 MAX_BYTES = 65536
 MAX_ITEMS = 28
 MAX_LINES = 4096
+BLANKS = blanks(b"#")
+NAME, QUOTED = re.compile(rb"[A-Za-z_\x80-\xff][A-Za-z_\x80-\xff0-9$]*"), re.compile(rb'"([^"\n]*+(?:""[^"\n]*+)*+)"')
 KEYWORDS = {"notices", "permutation", "session", "setup", "step", "teardown"}
 
 
@@ -53,39 +56,24 @@ def refuse(kind, place):
     raise Refusal("spec", int(kind), place)
 
 
-def begins_name(byte):
-    return byte >= 0x80 or byte == ord("_") or chr(byte).isalpha()
-
-
-def goes_on_name(byte):
-    return begins_name(byte) or is_digit(byte) or byte == ord("$")
-
-
 def quoted_name(text, start):
-    name, place = b"", start + 1
-    while place < len(text) and text[place] != ord("\n"):
-        if text[place : place + 2] == b'""':
-            name, place = name + b'"', place + 2
-        elif text[place] != ord('"'):
-            name, place = name + text[place : place + 1], place + 1
-        elif name:
-            return Token("name", name.decode(), start, place + 1)
-        else:
-            refuse(Kind.BAD_TOKEN, start)
-    return refuse(Kind.UNCLOSED, start)
+    found = QUOTED.match(text, start)
+    if found is None:
+        refuse(Kind.UNCLOSED, start)
+    name = found.group(1).replace(b'""', b'"')
+    return Token("name", name.decode(), start, found.end()) if name else refuse(Kind.BAD_TOKEN, start)
 
 
 def token_at(text, place):
-    start = past_blanks(text, place, b"#")
+    start = BLANKS.match(text, place).end()
     if start == len(text):
         return Token("end", None, start, start)
+    if found := NAME.match(text, start):
+        word = found.group().decode()
+        return Token("keyword" if word in KEYWORDS else "name", word, start, found.end())
+    if number := DIGITS.match(text, start):
+        return Token("number", None, start, number.end())
     byte = text[start]
-    if begins_name(byte):
-        end = run_end(text, start, goes_on_name)
-        word = text[start:end].decode()
-        return Token("keyword" if word in KEYWORDS else "name", word, start, end)
-    if is_digit(byte):
-        return Token("number", None, start, run_end(text, start, is_digit))
     if byte in b"(),*":
         return Token(chr(byte), None, start, start + 1)
     if byte == ord("{"):

@@ -1,10 +1,11 @@
 """Reads blocks of SQL into statements, a token at a time."""
 
+import re
 from dataclasses import dataclass
 from enum import IntEnum
 
 from refusal import Refusal
-from tokens import Token, Tokens, is_digit, past_blanks, run_end
+from tokens import DIGITS, Token, Tokens, blanks
 
 LEAST, MOST = -(2**63), 2**63 - 1
 MAX_ROWS = 100
@@ -12,6 +13,8 @@ MAX_LEVELS = 32
 RESERVED = set(
     "and asc by desc from in into not or order primary select set table values where".split()
 )
+BLANKS = blanks(b"--")
+WORD, TEXT = re.compile(rb"[A-Za-z_][A-Za-z_0-9]*"), re.compile(rb"'([^']*+(?:''[^']*+)*+)'")
 PAIRS = (b"<>", b"!=", b"<=", b">=")
 COMPARISONS = ("=", "<>", "!=", "<", "<=", ">", ">=")
 NUMBER_TYPES = ("int", "integer", "int4", "bigint", "int8")
@@ -137,33 +140,21 @@ def refuse(kind, place):
     raise Refusal("sql", int(kind), place)
 
 
-def begins_word(byte):
-    return byte < 0x80 and (chr(byte).isalpha() or byte == ord("_"))
-
-
 def text_at(text, start):
-    value, place = b"", start + 1
-    while place < len(text):
-        if text[place : place + 2] == b"''":
-            value, place = value + b"'", place + 2
-        elif text[place] == ord("'"):
-            return Token("text", value, start, place + 1)
-        else:
-            value, place = value + text[place : place + 1], place + 1
+    if found := TEXT.match(text, start):
+        return Token("text", found.group(1).replace(b"''", b"'"), start, found.end())
     return refuse(Kind.UNCLOSED, start)
 
 
 def token_at(text, place):
-    start = past_blanks(text, place, b"--")
+    start = BLANKS.match(text, place).end()
     if start == len(text):
         return Token("end", None, start, start)
+    if word := WORD.match(text, start):
+        return Token("word", word.group().decode().lower(), start, word.end())
+    if number := DIGITS.match(text, start):
+        return Token("number", int(number.group()), start, number.end())
     byte = text[start]
-    if begins_word(byte):
-        end = run_end(text, start, lambda byte: begins_word(byte) or is_digit(byte))
-        return Token("word", text[start:end].decode().lower(), start, end)
-    if is_digit(byte):
-        end = run_end(text, start, is_digit)
-        return Token("number", int(text[start:end]), start, end)
     if byte == ord("'"):
         return text_at(text, start)
     if text[start : start + 2] in PAIRS:

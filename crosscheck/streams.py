@@ -66,12 +66,12 @@ FILES = {
     "empty": b"",
 }
 GOOD = ["one first.spec 0", "check first.spec", "count first.spec", "rank first.spec a1 b1", "order first.spec 1", "show first.spec 1", "run first.spec 0 2", "join all.book", "report all.book"]
-GOOD += ["show first.spec a1 b1 --json", "classes first.spec", "classes first.spec --answers --brief", "classes first.spec --workers 16", "classes first.spec --waits --no-serial --ranks --outcomes --left", "classes first.spec --json", "holds all.book first.spec 0 2", "run first.spec 0 2 --workers 16", "audit all.book", "judge all.book all.book", "judge all.book all.book --show"]
+GOOD += ["show first.spec a1 b1 --json", "classes first.spec", "classes first.spec --answers --brief", "classes first.spec --workers 16", "classes first.spec --waits --no-serial --ranks --outcomes --left", "classes first.spec --json", "classes first.spec --html", "classes --answers --html first.spec --ranks", "holds all.book first.spec 0 2", "run first.spec 0 2 --workers 16", "audit all.book", "judge all.book all.book", "judge all.book all.book --show"]
 GOOD += ["run first.spec", "missing one.book", "missing one.book --lines"]
 GOOD += ["test first.spec", "test first.spec many.spec --workers 16", "test --update first.spec", "test --junit report.xml first.spec folder.accepted"]
 GOOD += ["classes --book all.book", "classes --book one.book all.book --json --ranks", "classes --outcomes --book clash.book --ranks"]
 HELP = ["help", "--help", "--version", *(f"{line} --help" for line in ("one", "check", "count", "rank", "order", "show", "classes", "run", "join", "missing", "holds", "report", "audit", "judge", "test"))]
-FAULTS = {"one first.spec 2": 3, "classes first.spec --deadlock=c": 3, "classes --json first.spec --deadlock=c": 3, "classes first.spec --look SELECT": 3, "report one.book": 1, "classes --book all.book clash.book": 1, "missing all.book clash.book": 1, "missing nothing": 5, "run large.spec": 3, "classes --book one.book half.book": 3, "classes --book nothing": 5, "count nothing": 5, "two first.spec 0": 2, "test first.spec folder": 3}
+FAULTS = {"one first.spec 2": 3, "classes first.spec --deadlock=c": 3, "classes --json first.spec --deadlock=c": 3, "classes --html first.spec --deadlock=c": 3, "classes first.spec --look SELECT": 3, "report one.book": 1, "classes --book all.book clash.book": 1, "missing all.book clash.book": 1, "missing nothing": 5, "run large.spec": 3, "classes --book one.book half.book": 3, "classes --book nothing": 5, "count nothing": 5, "two first.spec 0": 2, "test first.spec folder": 3}
 NO_COMMANDS = ["", "one", "one first.spec", "one first.spec x", "one first.spec -1", f"one first.spec {U64}", "two first.spec 0"]
 NO_COMMANDS += ["check", "check first.spec 0", "count", "count first.spec 0", "run first.spec 0", f"run first.spec 0 {U64}", "run first.spec 0 1 --all", "join"]
 NO_COMMANDS += [f"join{' all.book' * 1001}", "report", "report all.book all.book", "report --every all.book"]
@@ -79,8 +79,9 @@ NO_COMMANDS += [f"run first.spec 0 1 --workers{number}" for number in ("", " 0",
 NO_COMMANDS += ["rank", "rank first.spec", f"rank first.spec{' a1' * 1001}", "order", "order first.spec", "order first.spec x", "order first.spec 0 1"]
 NO_COMMANDS += ["show", "show first.spec", "show first.spec --json", f"show first.spec{' a1' * 1001}", "show first.spec 0 --text"]
 NO_COMMANDS += ["classes", "classes first.spec 0", "classes first.spec --workers 0", "classes first.spec --json --json", "classes first.spec --json=1"]
+NO_COMMANDS += ["classes first.spec --html --json", "classes --json first.spec --html", "classes --brief --html first.spec", "classes first.spec --html --html", "classes first.spec --html=1", "classes --html", "show first.spec 0 --html"]
 NO_COMMANDS += ["classes --book", "classes --book --json", "classes --book all.book --json --json", "classes first.spec --book all.book", "classes --json first.spec --book all.book", f"classes --book{' all.book' * 1001}"]
-NO_COMMANDS += [f"classes --book all.book {flag}" for flag in ("--left", "--answers", "--waits", "--no-deadlock", "--look SELECT", "--workers 2", "--progress", "--every")]
+NO_COMMANDS += [f"classes --book all.book {flag}" for flag in ("--left", "--answers", "--waits", "--no-deadlock", "--look SELECT", "--workers 2", "--progress", "--html", "--every")]
 NO_COMMANDS += ["classes first.spec --look", "classes first.spec --expect", "classes first.spec --filter", "classes first.spec --expect SELECT"]
 NO_COMMANDS += ["classes first.spec --expect SELECT --brief", "classes first.spec --expect SELECT -x"]
 NO_COMMANDS += ["holds", "holds all.book first.spec 0", "holds all.book first.spec 0 x", "holds all.book first.spec 0 1 2"]
@@ -132,7 +133,7 @@ def unread():
     shut = ["shut"] if os.geteuid() else []
     for path in ["nothing", "folder", "first.spec/x", "/proc/self/mem", *shut]:
         commands = [["one", path, "0"], ["check", path], ["count", path], ["run", path, "0", "1"], ["join", path], ["join", "all.book", path]]
-        commands += [["rank", path, "a1", "b1"], ["order", path, "0"], ["show", path, "0"], ["show", path, "a1", "b1"], ["classes", path], ["classes", path, "--waits"], ["classes", path, "--json"], ["holds", path, "first.spec", "0", "1"], ["holds", "all.book", path, "0", "1"]]
+        commands += [["rank", path, "a1", "b1"], ["order", path, "0"], ["show", path, "0"], ["show", path, "a1", "b1"], ["classes", path], ["classes", path, "--waits"], ["classes", path, "--json"], ["classes", path, "--html"], ["holds", path, "first.spec", "0", "1"], ["holds", "all.book", path, "0", "1"]]
         commands += [["classes", "--book", path], ["classes", "--book", "all.book", path, "--json"]]
         commands += [["run", path], ["missing", path], ["missing", "all.book", path, "--lines"]]
         commands += [["judge", path, "all.book"], ["judge", "all.book", path], ["audit", path]]
@@ -285,7 +286,7 @@ def wrong_progress(folder, words, first, end):
 def progress_in(folder):
     """For runs that tell how far they are: what is wrong, or nothing."""
     for spec, ranks in [("first.spec", 2), ("many.spec", 1_680)]:
-        for flags in ("", "--workers 1", "--workers 16 --answers", "--no-waits --brief", "--json"):
+        for flags in ("", "--workers 1", "--workers 16 --answers", "--no-waits --brief", "--json", "--html"):
             yield wrong_progress(folder, ["classes", spec, *flags.split()], 0, ranks)
     for spec, first, end in [("first.spec", 0, 2), ("first.spec", 1, 1), ("large.spec", 7, 3_007), ("large.spec", U32, U32 + 60_020)]:
         for flags in ("", "--workers 1", "--workers 16", "--every", "--every --workers 1"):

@@ -1,8 +1,9 @@
 """What both readers have of tokens: one is looked at only where the grammar has come to it."""
 
+import re
 from dataclasses import dataclass
 
-WHITE = b" \t\r\x0c\n"
+WHITE, DIGITS = b" \t\r\f\n", re.compile(rb"[0-9]+")
 
 
 @dataclass
@@ -13,23 +14,10 @@ class Token:
     end: int
 
 
-def is_digit(byte):
-    return ord("0") <= byte <= ord("9")
-
-
-def run_end(text, place, belongs):
-    while place < len(text) and belongs(text[place]):
-        place += 1
-    return place
-
-
-def past_blanks(text, place, comment):
-    """Past white space and comments, which begin with these bytes and end with their line."""
-    while True:
-        place = run_end(text, place, lambda byte: byte in WHITE)
-        if not text.startswith(comment, place):
-            return place
-        place = run_end(text, place, lambda byte: byte != ord("\n"))
+def blanks(comment):
+    """White space and comments, which begin with these bytes and end with their line."""
+    white = b"[" + WHITE + b"]*"
+    return re.compile(white + b"(?:" + re.escape(comment) + rb"[^\n]*" + white + b")*")
 
 
 class Tokens:

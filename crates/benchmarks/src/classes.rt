@@ -10,7 +10,7 @@ use std::sync::Wait;
 use std::thread::Threads;
 use std::time::Instant;
 use transcripts::Counted;
-use wanted_classes::WantedClasses;
+use wanted_classes::{WantedClasses, WantedForm};
 
 /// Two sessions of two steps, which have six orders.
 const SMALL: &str = "session a step a1 {} step a2 {} session b step b1 {} step b2 {}";
@@ -34,7 +34,7 @@ fn page<R: Threads + Wait + Sync>(
         ranks: false,
         outcomes: false,
         left: false,
-        json: false,
+        form: WantedForm::Text,
     };
     let mut out = Counted::new(Vec::new(alloc));
     match classes(

@@ -30,7 +30,7 @@ use Rattle.book_commands.specs.declared.finding.Finding.TheVariants.{Good, Bad}
 use Rattle.class_commands.specs.declared.classing.ClassesFault.{ClassesFault}
 use Rattle.class_commands.specs.declared.classing.ClassesFault.TheVariants.{Spec, Asked, Run, NoMemory, Write}
 use Rattle.class_commands.specs.Classing.{IsClassesRun, IsFinding, IsMet, IsNotTold, IsTellingOf, expectation_over, grouping, page_of, seen_of}
-use Rattle.class_commands.specs.Written.{IsWritten}
+use Rattle.class_commands.specs.Opened.{IsWrittenAs}
 use Rattle.class_commands.specs.Parts.{IsNotFound, IsTextOf, Writes, finding_by}
 
 -- a spec file has the text that it is of
@@ -58,7 +58,7 @@ module _ {W : Type 0} (contents : W → Option (List ℕ)) (old new : Counted W)
     runs = is-text.0;
     are_ranks = is-text.1;
     written =
-        subst (λ t. IsWritten wanted.json t file (page_of path file tables wanted asked classed is-text.0) text) (text-is bytes file is) is-text.2;
+        subst (λ t. IsWrittenAs wanted.form t file (page_of path file tables wanted asked classed is-text.0) text) (text-is bytes file is) is-text.2;
   }
 
   -- what is written of them is the run's

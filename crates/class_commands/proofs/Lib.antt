@@ -1,2 +1,3 @@
 mod ClassLemmas
 mod BookLemmas
+mod OpenedLemmas

@@ -31,7 +31,8 @@ use Rattle.asked_classes.specs.declared.expectations.AskedExpectation.{AskedExpe
 use Rattle.asked_classes.specs.Asking.{IsAsked, IsRefused}
 use Rattle.book_commands.specs.declared.finding.Finding.{Finding}
 use Rattle.book_commands.specs.declared.finding.Finding.TheVariants.{Good}
-use Rattle.class_commands.specs.Written.{AreRanks, IsWritten}
+use Rattle.class_commands.specs.Written.{AreRanks}
+use Rattle.class_commands.specs.Opened.{IsWrittenAs}
 use Rattle.class_commands.specs.declared.classing.ClassesFault.{ClassesFault}
 use Rattle.class_commands.specs.declared.classing.ClassesFault.TheVariants.{Spec, Asked, Run, NoMemory, Write}
 
@@ -102,7 +103,7 @@ pub record IsTellingOf (bytes path : List ℕ) (wanted : WantedClasses) (text : 
   pub are : IsClassed tables file.run asked.filters.items (grouping wanted.answers) classed
   pub runs : List (List RankRun)
   pub are_ranks : AreRanks wanted.ranks classed.stretches runs
-  pub written : IsWritten wanted.json bytes file (page_of path file tables wanted asked classed runs) text
+  pub written : IsWrittenAs wanted.form bytes file (page_of path file tables wanted asked classed runs) text
 
 -- what is found of the orders that it tells of
 abbrev pub IsFoundIn : {bytes path : List ℕ} {wanted : WantedClasses} {text : List ℕ} → IsTellingOf bytes path wanted text → Finding → Type 0

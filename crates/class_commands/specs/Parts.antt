@@ -16,7 +16,8 @@ use Rattle.book_commands.specs.declared.finding.Finding.{Finding}
 use Rattle.book_commands.specs.declared.finding.Finding.TheVariants.{Good, Bad}
 use Rattle.class_commands.specs.declared.classing.ClassesFault.{ClassesFault}
 use Rattle.class_commands.specs.declared.classing.ClassesFault.TheVariants.{Run, NoMemory, Write}
-use Rattle.class_commands.specs.Written.{AreRanks, IsWritten}
+use Rattle.class_commands.specs.Written.{AreRanks}
+use Rattle.class_commands.specs.Opened.{IsWrittenAs}
 use Rattle.class_commands.specs.Classing.{page_of}
 
 -- classes are not found: the orders are not run, or memory ran out
@@ -28,7 +29,7 @@ IsNotFound file fault = ⊥
 -- the text is the page of what is found
 abbrev pub IsTextOf : List ℕ → SpecFile → List Table → WantedClasses → AskedClasses → Classed → List ℕ → Type 0
 IsTextOf path file tables wanted asked x text =
-    (runs : List (List RankRun)) × AreRanks wanted.ranks x.stretches runs × IsWritten wanted.json file.text file (page_of path file tables wanted asked x runs) text
+    (runs : List (List RankRun)) × AreRanks wanted.ranks x.stretches runs × IsWrittenAs wanted.form file.text file (page_of path file tables wanted asked x runs) text
 
 -- such a text is written and such a finding told; or a front of it is written, or nothing for want of memory
 abbrev pub Writes : {W : Type 0} → (W → Option (List ℕ)) → Counted W → Counted W → (List ℕ → Type 0) → (Finding → Type 0) → Result Finding ClassesFault → Type 0

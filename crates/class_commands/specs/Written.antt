@@ -7,7 +7,7 @@ use Rattle.class_stretches.specs.declared.rank_run.RankRun.{RankRun}
 use Rattle.class_texts.specs.Pages.{Page, page_bytes}
 use Rattle.class_values.specs.Page.{classes_json}
 use Rattle.class_commands.specs.declared.written.Written.{Written}
-use Rattle.class_commands.specs.declared.written.Written.TheVariants.{Text, Json}
+use Rattle.class_commands.specs.declared.written.Written.TheVariants.{Text, Bytes}
 
 -- what is written of a page of the spec file that the bytes are: its text, or its JSON with what the steps send
 abbrev pub IsWritten : Bool → List ℕ → SpecFile → Page → List ℕ → Type 0
@@ -22,4 +22,4 @@ AreRanks false s runs = runs ≡ []
 
 abbrev pub written_bytes : Written → List ℕ
 written_bytes (Text text) = string_bytes text
-written_bytes (Json bytes) = bytes.items
+written_bytes (Bytes bytes) = bytes.items

@@ -4,8 +4,10 @@ ghost use Rattle.std.specs.Prelude.{◌≡◌, ◌<◌, IfErr, IfOk, OnOk, false
 ghost use Rattle.transcripts.specs.Counted.{failures_of};
 ghost use Rattle.class_rows.specs.Pages.{IsClassed};
 ghost use Rattle.class_commands.specs.Classing.{IsClassesRun, IsFinding, grouping};
+ghost use Rattle.class_commands.specs.Opened.{HasOrders};
 ghost use Rattle.class_commands.specs.Parts.{IsNotFound, IsTextOf, Writes};
 
+use crate::opened::orders_for;
 use crate::telling::told;
 use asked_classes::{AskedClasses, AskedFault, asked_of};
 use binding_model::Table;
@@ -75,7 +77,14 @@ pub fn classes<'a, R: Threads + Sync, G: Gate + Sync, W: Write>(
         Ok(found) => found,
         Err(fault) => return Err(fault),
     };
-    write_classes(alloc, &spec, path, tables, wanted, &asked, &found, out)
+    let rows = found.rows.as_slice();
+    let orders = match orders_for(alloc, &spec, tables, path, wanted.form, rows) {
+        Ok(orders) => orders,
+        Err(error) => return Err(ClassesFault::Run(error)),
+    };
+    write_classes(
+        alloc, &spec, path, tables, wanted, &asked, &found, &orders, out,
+    )
 }
 
 /// Does as `classes`, and tells on `err` how far it is where that is wanted. What is not written there is no fault.
@@ -144,7 +153,7 @@ fn find_classes<'a, R: Threads + Sync, G: Gate + Sync>(
     }
 }
 
-fn write_classes<'a, W: Write>(
+pub(crate) fn write_classes<'a, W: Write>(
     alloc: Global,
     spec: &Spec,
     path: &str,
@@ -152,12 +161,15 @@ fn write_classes<'a, W: Write>(
     wanted: &WantedClasses<'a>,
     asked: &AskedClasses<'a>,
     found: &Classed,
+    orders: &[u8],
     out: &mut Counted<W>,
 ) -> Result<Finding, ClassesFault<'a>>
-    requires { failures_of out.old < u64.MAX }
+    requires fresh { failures_of out.old < u64.MAX }
+    requires orders { HasOrders wanted.now.form spec.now.text path.now spec.now found.now.rows.items orders.now }
     ensures { Writes W.contents out.old out.new (IsTextOf path.now spec.now tables.now wanted.now asked.now found.now) (IsFinding found.now.rows.items asked.now.expectations.items) result }
 {
-    let Ok((written, finding)) = told(alloc, spec, path, tables, wanted, asked, found) else {
+    let Ok((written, finding)) = told(alloc, spec, path, tables, wanted, asked, found, orders)
+    else {
         return Err(ClassesFault::NoMemory);
     };
     match out.write_all(written.bytes()) {

@@ -1,10 +1,14 @@
 //! Orders in classes, from the bytes of a spec or the files of books to what is written.
 #![tactic(auto)]
 
+mod alone;
 mod booking;
 mod classing;
+mod opened;
 mod telling;
 mod written;
 
+pub use alone::classes_alone;
 pub use booking::{BookClassesFault, book_classes};
 pub use classing::{ClassesFault, classes, classes_told};
+pub use opened::MAX_SHOWN;

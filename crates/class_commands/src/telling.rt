@@ -6,9 +6,11 @@ ghost use Rattle.class_texts.specs.Expected.{is_met};
 ghost use Rattle.class_commands.specs.Classing.{IsFinding, expectation_over, has_some, look_over, seen_of};
 ghost use Rattle.class_commands.specs.Parts.{IsTextOf, finding_by};
 ghost use Rattle.class_commands.specs.Written.{written_bytes};
+ghost use Rattle.class_commands.specs.Opened.{HasOrders};
 
 use crate::classing::grouping;
-use crate::written::{Written, ranks_of, written_page};
+use crate::opened::written_as;
+use crate::written::{Written, ranks_of};
 use asked_classes::{AskedClasses, AskedExpectation, AskedLook};
 use binding_model::Table;
 use book_commands::Finding;
@@ -21,7 +23,7 @@ use std::alloc::{AllocError, Global};
 use transcripts::Event;
 use wanted_classes::WantedClasses;
 
-/// What is written of what is found, and whether all is as expected.
+/// What is written of what is found, with these orders where the form has any, and whether all is as expected.
 pub(crate) fn told<'a>(
     alloc: Global,
     spec: &Spec,
@@ -30,7 +32,9 @@ pub(crate) fn told<'a>(
     wanted: &WantedClasses<'a>,
     asked: &AskedClasses<'a>,
     found: &Classed,
+    orders: &[u8],
 ) -> Result<(Written, Finding), AllocError>
+    requires { HasOrders wanted.now.form spec.now.text path.now spec.now found.now.rows.items orders.now }
     ensures text { IfOk result (λ x. IsTextOf path.now spec.now tables.now wanted.now asked.now found.now (written_bytes x.0)) }
     ensures finding { IfOk result (λ x. IsFinding found.now.rows.items asked.now.expectations.items x.1) }
 {
@@ -58,7 +62,7 @@ pub(crate) fn told<'a>(
         with_left: wanted.left,
         looks: looks.as_slice(),
     };
-    let written = written_page(alloc, spec, &page, wanted.json)?;
+    let written = written_as(alloc, spec, &page, wanted.form, orders)?;
     Ok((written, finding_of(expectations.as_slice())))
 }
 

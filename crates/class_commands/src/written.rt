@@ -16,7 +16,7 @@ use std::alloc::{AllocError, Global};
 #[derive(Drop)]
 pub(crate) enum Written {
     Text(String),
-    Json(Vec<u8>),
+    Bytes(Vec<u8>),
 }
 
 impl Written {
@@ -25,7 +25,7 @@ impl Written {
     {
         match self {
             Written::Text(text) => text.as_bytes(),
-            Written::Json(bytes) => bytes.as_slice(),
+            Written::Bytes(bytes) => bytes.as_slice(),
         }
     }
 }
@@ -47,7 +47,7 @@ pub(crate) fn written_page(
 }
 
 /// The page as JSON.
-fn json_of(alloc: Global, spec: &Spec, page: &Page<'_>) -> Result<Written, AllocError>
+pub(crate) fn json_of(alloc: Global, spec: &Spec, page: &Page<'_>) -> Result<Written, AllocError>
     ensures { IfOk result (λ w. IsWritten true spec.now.text spec.now page.now (written_bytes w)) }
 {
     let step_sessions = sessions_of_steps(alloc, spec)?;
@@ -58,7 +58,7 @@ fn json_of(alloc: Global, spec: &Spec, page: &Page<'_>) -> Result<Written, Alloc
         statements: statements.as_slice(),
     };
     let bytes = classes_json(alloc, &sheet)?;
-    Ok(Written::Json(bytes))
+    Ok(Written::Bytes(bytes))
 }
 
 /// The ranks of each class, where they are told.

@@ -44,7 +44,7 @@ pub(crate) fn part_of<G: Gate>(
     find_part(alloc, &spec, tables, number, workers, gate)
 }
 
-fn find_part<G: Gate>(
+pub(crate) fn find_part<G: Gate>(
     alloc: Global,
     spec: &Spec,
     tables: &[Table],

@@ -12,6 +12,7 @@ use Rattle.command_line.specs.declared.ranks.WantedRanks.{WantedRanks}
 use Rattle.command_line.specs.declared.ranks.WantedRanks.TheVariants as wanted_ranks
 use Rattle.command_line.specs.Inputs.{is_input, repeats}
 use Rattle.wanted_classes.specs.declared.wanted.WantedClasses.{WantedClasses}
+use Rattle.wanted_classes.specs.declared.wanted.WantedForm.TheVariants as wanted_form
 use Rattle.command_line.specs.declared.names.Name.{Name}
 use Rattle.command_line.specs.declared.names.Name.TheVariants as name
 
@@ -151,7 +152,7 @@ pub record AsksForNoMore (wanted : WantedClasses) : Type 0 where
   pub no_ranks : wanted.ranks ≡ false
   pub no_outcomes : wanted.outcomes ≡ false
   pub no_left : wanted.left ≡ false
-  pub no_json : wanted.json ≡ false
+  pub as_text : wanted.form ≡ wanted_form.Text
 
 -- the ranks from the first up to but not the end
 abbrev pub range : ℕ → ℕ → WantedRanks

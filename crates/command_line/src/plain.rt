@@ -13,7 +13,7 @@ use crate::wanted::wanted_of;
 use crate::words::{Asked, DEFAULT_WORKERS, MAX_BOOKS, MAX_NAMES};
 use shard_board::Workers;
 use std::alloc::{AllocError, Global};
-use wanted_classes::WantedClasses;
+use wanted_classes::{WantedClasses, WantedForm};
 
 /// What a plain line asks for, none where the words are no such line. The first of them is the program's name.
 pub(crate) fn plain_line<'a>(
@@ -202,7 +202,7 @@ fn classes_line<'a>(alloc: Global, rest: &'a [String]) -> Option<Asked<'a>>
                 ranks: false,
                 outcomes: false,
                 left: false,
-                json: false,
+                form: WantedForm::Text,
             },
             workers: Workers::of(DEFAULT_WORKERS)?,
             progress: false,

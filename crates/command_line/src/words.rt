@@ -16,7 +16,9 @@ use clap::error::ErrorKind;
 use clap::{Arg, ArgAction, ArgMatches, Command, Error, value_parser};
 use shard_board::{MAX_SEATS, Workers};
 use std::alloc::{AllocError, Global};
-use wanted_classes::{WantedClasses, WantedExpectation, WantedFilter, WantedOutcomes, WantedTest};
+use wanted_classes::{
+    WantedClasses, WantedExpectation, WantedFilter, WantedForm, WantedOutcomes, WantedTest,
+};
 
 /// What the program is called in its texts, however it was started.
 const PROGRAM: &str = "isofarm";
@@ -196,6 +198,7 @@ enum Word {
     Names,
     Order,
     Json,
+    Html,
     Answers,
     Waits,
     NoWaits,
@@ -297,6 +300,7 @@ static COMMANDS: [Row; 15] = [
             Word::Left,
             Word::Brief,
             Word::Json,
+            Word::Html,
             Word::Workers,
             Word::Progress,
         ],
@@ -388,6 +392,7 @@ fn ruled<'a>(word: Word, arg: Arg<'a>) -> Result<Arg<'a>, AllocError> {
     match word {
         Word::SpecOrBooks => arg.required(false).required_unless_present("book"),
         Word::OfBooks => arg.conflicts_with_all(NOT_OF_BOOKS),
+        Word::Html => arg.conflicts_with_all(NOT_OF_PAGES),
         Word::FirstOfAll => arg.required(false).requires_arg("END"),
         Word::EndOfAll => Ok(arg.required(false)),
         _ => Ok(arg),
@@ -413,9 +418,13 @@ static NOT_OF_BOOKS: &[&str] = &[
     "look",
     "expect",
     "left",
+    "html",
     "workers",
     "progress",
 ];
+
+/// What does not go with a page.
+static NOT_OF_PAGES: &[&str] = &["json", "brief"];
 
 fn arg_of<'a>(alloc: Global, word: Word) -> Arg<'a> {
     match word {
@@ -429,6 +438,11 @@ fn arg_of<'a>(alloc: Global, word: Word) -> Arg<'a> {
             "The number of a permutation, or the names of its steps in their order",
         ),
         Word::Json => flag_word(alloc, "json", "Prints it as JSON"),
+        Word::Html => flag_word(
+            alloc,
+            "html",
+            "Prints a page that a browser opens, with what happens in the first of each class",
+        ),
         Word::Answers => flag_word(
             alloc,
             "answers",
@@ -767,11 +781,21 @@ fn classes_with<'a>(
             ranks: words.get_flag("ranks"),
             outcomes: words.get_flag("outcomes"),
             left: words.get_flag("left"),
-            json: words.get_flag("json"),
+            form: form_of_words(words),
         },
         workers,
         progress: words.get_flag("progress"),
     })
+}
+
+fn form_of_words(words: &ArgMatches<'_>) -> WantedForm {
+    if words.get_flag("html") {
+        return WantedForm::Html;
+    }
+    if words.get_flag("json") {
+        return WantedForm::Json;
+    }
+    WantedForm::Text
 }
 
 /// A test with the flag that asks for the orders that pass it, and the one that asks for the others.

@@ -32,7 +32,7 @@ fn shown_column(statement: &Bound) -> Option<u16> {
 }
 
 /// The spec of a text. None where it does not bind, or memory ran out.
-fn bound(alloc: Global, text: &str) -> Option<Spec> {
+pub(crate) fn bound(alloc: Global, text: &str) -> Option<Spec> {
     let read = read_spec(alloc, text.as_bytes()).ok()?;
     bind(alloc, &read).ok()
 }

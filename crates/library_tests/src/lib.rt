@@ -19,6 +19,8 @@ mod marks;
 #[cfg(test)]
 mod modes;
 #[cfg(test)]
+mod numbers;
+#[cfg(test)]
 mod outcomes;
 #[cfg(test)]
 mod queues;

@@ -26,6 +26,8 @@ mod limits;
 #[cfg(test)]
 mod memory;
 #[cfg(test)]
+mod opened;
+#[cfg(test)]
 mod orders;
 #[cfg(test)]
 mod outcomes;

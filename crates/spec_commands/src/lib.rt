@@ -9,5 +9,5 @@ mod single;
 
 pub use counting::{CountFault, check, count};
 pub use ordering::{OrderFault, RankFault, order, rank};
-pub use showing::{ShowFault, ShowForm, WantedOrder, sessions_of_steps, show};
+pub use showing::{ShowFault, ShowForm, WantedOrder, order_json, sessions_of_steps, show};
 pub use single::{OneFault, one, one_of, write_outcome};

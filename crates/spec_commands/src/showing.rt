@@ -1,11 +1,15 @@
 //! What happens in one order, from the bytes of a spec to the text or the JSON that is written.
 
 ghost use Rattle.std.specs.Prelude.{◌≡◌, ◌<◌, ℕ, All, IfErr, IfOk, length, map};
-ghost use Rattle.bound_specs.specs.Spec.{Step, line_of};
+ghost use Rattle.bound_specs.specs.Spec.{Step, line_of, ranks};
+ghost use Rattle.machine_model.specs.Start.{start};
+ghost use Rattle.session_machine.specs.Running.{IsNotRunBy};
+ghost use Rattle.spec_texts.specs.Texts.{AreStepLines, Declares};
 ghost use Rattle.transcripts.specs.Counted.{failures_of};
-ghost use Rattle.spec_commands.specs.Showing.{IsFound, IsNotFound, IsShowRun, IsUnranked, IsWanted, IsWantedPlace, Writes, text_by};
+ghost use Rattle.spec_commands.specs.Showing.{IsFound, IsNotFound, IsShowRun, IsShowing, IsUnranked, IsWanted, IsWantedPlace, Writes, text_by};
 
 use crate::ordering::{RankFault, explained};
+use binding_model::Table;
 use bound_specs::{Line, Spec};
 use line_moments::Shown;
 use lock_modes::Text;
@@ -185,9 +189,37 @@ fn write_json<W: Write>(
     requires line { line.now.items ≡ line_of spec.now.run rank }
     ensures { Writes W.contents out.old out.new (text_by ShowForm.Json path.now spec.now rank found.now.statements.items found.now.shown) result }
 {
-    let Ok(step_sessions) = sessions_of_steps(alloc, spec) else {
+    let Ok(text) = json_of(
+        alloc,
+        spec,
+        path,
+        rank,
+        line,
+        &found.statements,
+        &found.shown,
+    ) else {
         return Err(ShowFault::NoMemory);
     };
+    match out.write_all(&text) {
+        Ok(()) => Ok(()),
+        Err(fault) => Err(ShowFault::Write(fault)),
+    }
+}
+
+/// What is shown of a line, as JSON.
+fn json_of(
+    alloc: Global,
+    spec: &Spec,
+    path: &str,
+    rank: u64,
+    line: &Line,
+    statements: &[Text],
+    shown: &Shown,
+) -> Result<Vec<u8>, AllocError>
+    requires { line.now.items ≡ line_of spec.now.run rank }
+    ensures { IfOk result (λ text. text.items ≡ text_by ShowForm.Json path.now spec.now rank statements.now shown.now) }
+{
+    let step_sessions = sessions_of_steps(alloc, spec)?;
     let page = shown_values::Page {
         name: path,
         rank,
@@ -195,16 +227,40 @@ fn write_json<W: Write>(
         session_names: spec.session_names(),
         step_names: spec.step_names(),
         step_sessions: &step_sessions,
-        statements: &found.statements,
+        statements,
         line: line.as_slice(),
-        shown: &found.shown,
+        shown,
     };
-    let Ok(text) = show_json(alloc, &page) else {
-        return Err(ShowFault::NoMemory);
+    let text = show_json(alloc, &page)?;
+    Ok(text)
+}
+
+/// What `show` writes as JSON of the order of a rank, with the path that the spec is told to lie at, where its main setups declare these tables and its
+/// steps send these statements. Of the refusals only `Start` and `NoMemory` come.
+pub fn order_json(
+    alloc: Global,
+    spec: &Spec,
+    tables: &[Table],
+    statements: &[Text],
+    path: &str,
+    rank: u64,
+) -> Result<Vec<u8>, RunError>
+    requires rank { rank < ranks spec.now.run }
+    requires tables { Declares spec.now.text spec.now tables.now }
+    requires statements { AreStepLines spec.now.text spec.now statements.now }
+    ensures shown { IfOk result (λ text. IsShowing spec.now.text path.now spec.now rank ShowForm.Json text.items) }
+    ensures refused { IfErr result (λ error. IsNotRunBy error (start spec.now.run)) }
+{
+    let Some(steps) = spec.line(rank) else {
+        unreachable!();
     };
-    match out.write_all(&text) {
-        Ok(()) => Ok(()),
-        Err(fault) => Err(ShowFault::Write(fault)),
+    let shown = match show_line(alloc, spec, tables, steps.as_slice()) {
+        Ok(shown) => shown,
+        Err(error) => return Err(error),
+    };
+    match json_of(alloc, spec, path, rank, &steps, statements, &shown) {
+        Ok(text) => Ok(text),
+        Err(_) => Err(RunError::NoMemory),
     }
 }
 

@@ -2,6 +2,7 @@
 use Rattle.std.specs.Prelude.{◌≡◌, ◌≢◌, ◌⊎◌, ℕ, ◌<◌, ◌++◌, ◌∷◌, true, false, All, List, [], length, get_or, Option, None, IfSome}
 use Rattle.book_commands.specs.Joining.{Files}
 use Rattle.wanted_classes.specs.declared.wanted.WantedClasses.{WantedClasses}
+use Rattle.wanted_classes.specs.declared.wanted.WantedForm.TheVariants.{Text}
 use Rattle.asked_classes.specs.declared.fault.AskedFault.TheVariants as asked
 use Rattle.class_commands.specs.declared.classing.ClassesFault.{ClassesFault}
 use Rattle.class_commands.specs.declared.classing.ClassesFault.TheVariants as fault
@@ -27,7 +28,7 @@ pub record WantsAll (wanted : WantedClasses) : Type 0 where
   pub ranks : wanted.ranks ≡ true
   pub outcomes : wanted.outcomes ≡ true
   pub left : wanted.left ≡ true
-  pub as_text : wanted.json ≡ false
+  pub as_text : wanted.form ≡ Text
 
 -- the text tells all of the classes of the spec file that the bytes are, under a name
 abbrev pub IsText : List ℕ → List ℕ → List ℕ → Type 0

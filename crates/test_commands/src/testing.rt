@@ -9,7 +9,7 @@ use shard_board::{OpenGate, Workers};
 use std::alloc::Global;
 use std::thread::Threads;
 use transcripts::{Counted, ReadError};
-use wanted_classes::WantedClasses;
+use wanted_classes::{WantedClasses, WantedForm};
 
 /// The bytes of an accepted text that are read, at most, but that one byte more is read than the text has with which it is compared.
 pub const MAX_ACCEPTED: usize = 67_108_864;
@@ -113,7 +113,7 @@ fn all_of_classes(alloc: Global) -> WantedClasses<'static>
         ranks: true,
         outcomes: true,
         left: true,
-        json: false,
+        form: WantedForm::Text,
     }
 }
 

@@ -3,4 +3,6 @@
 
 mod wanted;
 
-pub use wanted::{WantedClasses, WantedExpectation, WantedFilter, WantedOutcomes, WantedTest};
+pub use wanted::{
+    WantedClasses, WantedExpectation, WantedFilter, WantedForm, WantedOutcomes, WantedTest,
+};

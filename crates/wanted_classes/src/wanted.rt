@@ -34,6 +34,15 @@ pub struct WantedExpectation<'a> {
     pub values: Vec<&'a str>,
 }
 
+/// As what the classes of a spec are written.
+#[derive(Clone, Copy, Drop)]
+pub enum WantedForm {
+    Text,
+    Json,
+    /// A page that is opened in a browser.
+    Html,
+}
+
 /// What is wanted of the classes of a spec.
 #[derive(Drop)]
 pub struct WantedClasses<'a> {
@@ -53,8 +62,7 @@ pub struct WantedClasses<'a> {
     pub outcomes: bool,
     /// With what each class leaves.
     pub left: bool,
-    /// As JSON, and not as text.
-    pub json: bool,
+    pub form: WantedForm,
 }
 
 /// What is wanted of the classes of what books tell.

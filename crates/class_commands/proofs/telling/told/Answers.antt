@@ -1,7 +1,8 @@
 use Rattle.std.proofs.Common.{◌∙◌, None, ap, map, subst, sym}
 use Rattle.class_texts.specs.Letters.{kind_of}
 use Rattle.class_texts.specs.Pages.{Page}
-use Rattle.class_commands.specs.Written.{IsWritten, written_bytes}
+use Rattle.class_commands.specs.Opened.{IsWrittenAs}
+use Rattle.class_commands.specs.Written.{written_bytes}
 use Rattle.class_commands.specs.Classing.{IsFinding, expectation_over, has_some, look_over}
 use Rattle.class_commands.specs.Parts.{finding_by}
 use Rattle.class_commands.proofs.ClassLemmas.{finding-is}
@@ -17,7 +18,7 @@ returns-clause-text c =
     c.as_slice-6.ensures.value ∙ c.in_ok-looks.ensures ∙ (λ k. map (look_over (c.as_slice-rows.ensures.value k)) (c.as_slice.ensures.value k)) in (
       c.in_ok-ranks.ranks.items,
       c.in_ok-ranks.ensures,
-      subst (λ (p : Page). IsWritten c.args.wanted.now.json c.args.spec.now.text c.args.spec.now p (written_bytes c.in_ok-written.written))
+      subst (λ (p : Page). IsWrittenAs c.args.wanted.now.form c.args.spec.now.text c.args.spec.now p (written_bytes c.in_ok-written.written))
           (λ k. let p : Page = record {
             path = c.args.path.now;
             orders = c.ranks.ensures k;

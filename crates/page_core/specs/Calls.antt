@@ -1,0 +1,117 @@
+-- What each call answers, in the caller's buffer, and how it ends.
+use Rattle.std.specs.Prelude.{◌≡◌, ◌≢◌, ℕ, ◌<◌, ◌≤◌, ◌⊎◌, Bool, true, false, List, [], length, take, IsUtf8}
+use Rattle.bound_specs.specs.Binding.{IsFileOf}
+use Rattle.bound_specs.specs.Spec.{SpecFile, ranks}
+use Rattle.machine_model.specs.Start.{start}
+use Rattle.session_machine.specs.Running.{IsNotRunBy}
+use Rattle.spec_binding.specs.SpecFiles.{IsNoSpec}
+use Rattle.spec_binding.specs.declared.spec.SpecFault.{SpecFault}
+use Rattle.spec_checks.specs.Checking.{IsCheck}
+use Rattle.spec_commands.specs.Showing.{IsShowingOf}
+use Rattle.spec_commands.specs.declared.counting.CountFault.{CountFault}
+use Rattle.spec_commands.specs.declared.counting.CountFault.TheVariants as count_fault
+use Rattle.spec_commands.specs.declared.showing.ShowFault.{ShowFault}
+use Rattle.spec_commands.specs.declared.showing.ShowFault.TheVariants as show_fault
+use Rattle.spec_commands.specs.declared.showing.ShowForm.TheVariants.{Json}
+use Rattle.spec_commands.specs.declared.showing.WantedOrder.TheVariants.{Rank}
+use Rattle.spec_findings.specs.Told.{AreTold}
+use Rattle.wanted_classes.specs.declared.wanted.WantedClasses.{WantedClasses}
+use Rattle.wanted_classes.specs.declared.wanted.WantedForm.TheVariants as form
+use Rattle.class_commands.specs.Classing.{IsTellingOf}
+use Rattle.class_commands.specs.declared.classing.ClassesFault.{ClassesFault}
+use Rattle.class_commands.specs.declared.classing.ClassesFault.TheVariants as classes_fault
+use Rattle.page_core.specs.Ends.{classes_end, end_of, show_end, spec_end}
+use Rattle.page_core.specs.declared.ending.End.{End}
+use Rattle.page_core.specs.declared.ending.TheConstants.{ANSWERED, NO_MEMORY, NO_NAME, NO_ROOM}
+
+-- ---- the buffer
+
+-- a text is put to the front of the buffer, where it has room for all of it, and the call then ends so; its length is answered in any case
+pub record IsPut (text : List ℕ) (ended : End) (old new : List ℕ) (end : End) (answered : ℕ) : Type 0 where
+  pub length_is : answered ≡ length text
+  pub fits : length text ≤ length old → (end ≡ ended) × (take (length text) new ≡ text)
+  pub has_no_room : length old < length text → (end ≡ end_of NO_ROOM) × (new ≡ old)
+
+-- a call ends so without a text
+pub record IsRefused (ended end : End) (answered : ℕ) : Type 0 where
+  pub none : answered ≡ 0
+  pub end_is : end ≡ ended
+
+-- and the buffer is as it was
+abbrev pub HasNoText : End → List ℕ → List ℕ → End → ℕ → Type 0
+HasNoText ended old new end answered = IsRefused ended end answered × (new ≡ old)
+
+-- ---- how many orders there are
+
+-- the number of the spec's orders; or 0, where the bytes are no spec file
+abbrev pub IsRanksCall : List ℕ → End → ℕ → Type 0
+IsRanksCall bytes end answered =
+    ((end ≡ end_of ANSWERED) × ((file : SpecFile) × IsFileOf bytes file × (answered ≡ ranks file.run)))
+    ⊎ ((answered ≡ 0) × ((fault : SpecFault) × IsNoSpec bytes fault × (end ≡ spec_end fault)))
+
+-- ---- one order
+
+-- why an order is not shown: the bytes are no spec file; the rank is no rank; the line is not run; or memory ran out
+abbrev pub IsNotShown : List ℕ → ℕ → ShowFault → Type 0
+IsNotShown bytes rank (show_fault.Spec fault) = IsNoSpec bytes fault
+IsNotShown bytes rank (show_fault.NoRank fault) = ⊥
+IsNotShown bytes rank show_fault.OutOfRange = (file : SpecFile) × IsFileOf bytes file × (ranks file.run ≤ rank)
+IsNotShown bytes rank (show_fault.Run error) = (file : SpecFile) × IsFileOf bytes file × (rank < ranks file.run) × IsNotRunBy error (start file.run)
+IsNotShown bytes rank show_fault.NoMemory = Unit {0}
+IsNotShown bytes rank (show_fault.Write fault) = Unit {0}
+
+-- it is put in the buffer, or the call ends so; a name that is no UTF-8 is refused first
+abbrev pub IsShowCall : List ℕ → List ℕ → ℕ → List ℕ → List ℕ → End → ℕ → Type 0
+IsShowCall bytes name rank old new end answered =
+    (((text : List ℕ) × IsShowingOf bytes name (Rank rank) Json text × IsPut text (end_of ANSWERED) old new end answered)
+    ⊎ ((fault : ShowFault) × IsNotShown bytes rank fault × HasNoText (show_end fault) old new end answered))
+    ⊎ ((¬ (IsUtf8 name)) × HasNoText (end_of NO_NAME) old new end answered)
+
+-- ---- all orders in classes
+
+-- all orders as JSON, by all that they show or by what they answer, and with the ranks of each class where they are wanted
+pub record IsWanted (answers with_ranks : Bool) (wanted : WantedClasses) : Type 0 where
+  pub answers_are : wanted.answers ≡ answers
+  pub ranks_are : wanted.ranks ≡ with_ranks
+  pub all : wanted.filters.items ≡ []
+  pub no_looks : wanted.looks.items ≡ []
+  pub no_expectations : wanted.expectations.items ≡ []
+  pub whole : wanted.brief ≡ false
+  pub as_json : wanted.json ≡ true
+
+-- why classes are not told: the bytes are no spec file; the orders are not run; or memory ran out
+abbrev pub AreNotTold : List ℕ → ClassesFault → Type 0
+AreNotTold bytes (classes_fault.Spec fault) = IsNoSpec bytes fault
+AreNotTold bytes (classes_fault.Run error) = (file : SpecFile) × IsFileOf bytes file × IsNotRunBy error (start file.run)
+AreNotTold bytes (classes_fault.Asked fault) = Unit {0}
+AreNotTold bytes classes_fault.NoMemory = Unit {0}
+AreNotTold bytes (classes_fault.Write fault) = Unit {0}
+
+-- it is put in the buffer, or the call ends so; a name that is no UTF-8 is refused first
+abbrev pub IsClassesCall : List ℕ → List ℕ → Bool → Bool → List ℕ → List ℕ → End → ℕ → Type 0
+IsClassesCall bytes name answers with_ranks old new end answered =
+    (((wanted : WantedClasses) × IsWanted answers with_ranks wanted
+    × ((text : List ℕ) × IsTellingOf bytes name wanted text × IsPut text (end_of ANSWERED) old new end answered))
+    ⊎ ((fault : ClassesFault) × AreNotTold bytes fault × HasNoText (classes_end fault) old new end answered))
+    ⊎ ((¬ (IsUtf8 name)) × HasNoText (end_of NO_NAME) old new end answered)
+
+-- ---- what is wrong with a spec
+
+-- why it is not told how much the spec has: the bytes are no spec file, or memory ran out
+abbrev pub IsNotChecked : List ℕ → CountFault → Type 0
+IsNotChecked bytes (count_fault.Spec fault) = IsNoSpec bytes fault
+IsNotChecked bytes (count_fault.Write fault) = Unit {0}
+
+-- what is told of a fault is put in the buffer, and the call ends by the fault; or memory ran out
+abbrev pub IsExplainedCall : List ℕ → List ℕ → SpecFault → List ℕ → List ℕ → End → ℕ → Type 0
+IsExplainedCall bytes name fault old new end answered =
+    (((spec_end fault).fault ≢ NO_MEMORY) × ((told : List ℕ) × AreTold name bytes fault told × IsPut told (spec_end fault) old new end answered))
+    ⊎ HasNoText (end_of NO_MEMORY) old new end answered
+
+-- how much the spec has is put in the buffer, or what is told of its faults; a name that is no UTF-8 is refused first
+abbrev pub IsCheckCall : List ℕ → List ℕ → List ℕ → List ℕ → End → ℕ → Type 0
+IsCheckCall bytes name old new end answered =
+    (((text : List ℕ) × IsCheck bytes text × IsPut text (end_of ANSWERED) old new end answered)
+    ⊎ ((fault : SpecFault) × IsNoSpec bytes fault × IsExplainedCall bytes name fault old new end answered))
+    ⊎ (HasNoText (end_of NO_MEMORY) old new end answered
+    ⊎ ((¬ (IsUtf8 name)) × HasNoText (end_of NO_NAME) old new end answered))

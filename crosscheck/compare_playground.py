@@ -1,0 +1,283 @@
+"""Reads back what the playground shows in each browser, and compares it with what this second implementation tells.
+
+usage: python3 crosscheck/compare_playground.py [SEED]
+
+The playground is put together by `page/make`, first with a core that answers as this implementation does, and knows some texts: so page, worker
+and address are looked at alone, with a core that lacks memory, or breaks, among its answers. Where `page/core/make` has left the module in
+out/page/page.wasm, the playground is made of that too, and what it shows of the examples and of the specs of `page_specs/` is compared. The last
+line counts.
+"""
+
+import json
+import subprocess
+import sys
+from collections import Counter
+from concurrent.futures import ThreadPoolExecutor
+from pathlib import Path
+from tempfile import TemporaryDirectory
+
+from binding import bind
+from browser import there
+from checks import further, idle_lines
+from compare import ended
+from compare_pages import CONTRAST, CONTROLS, LEAST_CONTRAST, MAKE, SPECS, TOP, Reading, Wanted, plural
+from generate import fresh_seed
+from refusal import Refusal
+from shown import Order, show_json
+from spec_file import read_spec
+
+CORE, MODULE = TOP / "page/core.js", TOP / "out/page/page.wasm"
+EXAMPLES = TOP / "examples"
+NAME, MOST_ORDERS = "playground.spec", 20_000
+HEADS = {"name": "isofarm playground", "title": "isofarm playground"}
+SENTENCE = "Here <b>something</b> is wrong."
+LACKS, BREAKS, UNSTARTED, ENDLESS = b"# no memory for this\n", b"# this breaks the core\n", b"# this does not start\n", b"# this takes for ever\n"
+MISTAKEN = "setup { CREATE TABLE \u00e9 (id int PRIMARY KEY); }\nsession a\nstep a1 { INSERT INTO account VALUES (1 50); }\nstep a2 { COMMIT; SELECT 1 2; }\n".encode()
+# A core that knows some texts. What it answers of them stands in its table; it is spent by one of them.
+STUB = r"""
+async function makeCore(bytes) {
+  if (String(bytes.slice(0, 4)) !== '0,97,115,109') throw new Error('another module');
+  const table = TABLE, of = spec => table[new TextDecoder().decode(spec)];
+  let isSpent = false;
+  const ask = (spec, part) => {
+    if (isSpent) throw new Error('a spent core is asked');
+    while (of(spec).endless);
+    if (of(spec).breaks) { isSpent = true; return { fault: 'trap', kind: 0, place: 0 }; }
+    return of(spec)[part];
+  };
+  return {
+    check: spec => ask(spec, 'check'), classes: spec => ask(spec, 'classes'), show: (spec, rank) => ask(spec, 'shows')[String(rank)],
+    ranks: spec => { const found = ask(spec, 'ranks'); return typeof found === 'string' ? BigInt(found) : found; },
+    get isSpent() { return isSpent; },
+  };
+}
+"""
+
+
+# ---- the core that knows some texts
+
+
+def line_and_column(text, place):
+    before = text[:place].decode()
+    return before.count("\n") + 1, len(before) - before.rfind("\n")
+
+
+def faults_of(text):
+    """The places of the faults of a text."""
+    try:
+        bind(read_spec(text))
+    except Refusal as refusal:
+        try:
+            others = [other.place for other in further(read_spec(text), refusal)]
+        except Refusal:
+            others = []
+        return [refusal.place, *others]
+    return []
+
+
+def answers_of(text):
+    """What the core answers of a text that it knows."""
+    lines = {LACKS: {"check": {"fault": "memory", "kind": 0, "place": 0}}, BREAKS: {"breaks": True}, ENDLESS: {"endless": True}}
+    if text in lines:
+        return lines[text]
+    right = {"check": {"faults": [], "text": ""}}
+    if text == UNSTARTED:
+        return right | {"ranks": "1", "classes": {"fault": "start", "kind": 2, "place": 1}}
+    faults = [dict(zip(("line", "column"), line_and_column(text, place)), sentence=SENTENCE, place=place) for place in faults_of(text)]
+    if faults:
+        return {"check": {"faults": faults, "text": ""}}
+    spec = bind(read_spec(text))
+    right["check"]["text"] = f"sessions {len(spec.session_names)}\n{idle_lines(text, read_spec(text))}"
+    if spec.ranks() > MOST_ORDERS:
+        return right | {"ranks": str(spec.ranks())}
+    wanted = Wanted(text, NAME, [])
+    shows = {one["least"]: show_json(Order(text, NAME, one["least"])) for one in wanted.classes}
+    return right | {"ranks": str(spec.ranks()), "classes": json.dumps(wanted.value) + "\n", "shows": shows}
+
+
+def stub(texts):
+    # All of it is ASCII, and ends no script.
+    table = json.dumps({text.decode(): answers_of(text) for text in texts})
+    return STUB.replace("TABLE", table.replace("<", "\\u003c").replace(">", "\\u003e"))
+
+
+def made(core, module, page):
+    ran = subprocess.run([MAKE, "playground", core, module, page], capture_output=True, check=False)
+    if ran.returncode:
+        raise SystemExit(f"page/make playground: {ran.stderr.decode()}")
+    return page
+
+
+# ---- the page
+
+
+class Playing(Reading):
+    """The playground, used in one browser."""
+
+    def put(self, text):
+        """Puts a text in the place of what is there, as typing does. What is told of the one before is taken away, so that it is not taken for the answer."""
+        wipe = "document.getElementById('status').replaceChildren(); const it = document.getElementById('spec');"
+        self.browser.run(f"(() => {{ {wipe} it.value = {json.dumps(text.decode())}; it.dispatchEvent(new Event('input')); }})()")
+
+    def status(self, words):
+        """Waits until the page tells this of the text."""
+        return self.browser.wait_for(f"document.getElementById('status').textContent.includes({json.dumps(words)}) && document.getElementById('status').textContent")
+
+    def is_old(self):
+        return self.browser.run("document.getElementById('results').classList.contains('old')")
+
+    def expect(self, what, want, got):
+        if want != got:
+            self.wrong("playground", f"{what}: {want!r} was to be, and {got!r} is")
+
+    def told(self, text):
+        spec = bind(read_spec(text))
+        counts = [plural(len(spec.session_names), "session"), plural(len(spec.steps), "step"), plural(spec.ranks(), "order")]
+        return f"{', '.join(counts)}: "
+
+    def shows(self, page, text):
+        """The page shows all of a text."""
+        self.status(self.told(text))
+        self.read_open(page, Wanted(text, NAME, []), HEADS)
+        self.expect(f"{page} is old", False, self.is_old())
+
+    def mistakes(self, text):
+        """Faults are told with their places, and a button leads there; what was shown before is faint."""
+        self.put(text)
+        places = faults_of(text)
+        line, column = line_and_column(text, places[0])
+        self.status(f"Line {line}, column {column}. {SENTENCE}")
+        self.expect("faults", len(places), self.browser.run("document.querySelectorAll('#status div').length"))
+        self.expect("an old answer is faint", True, self.is_old())
+        marks = self.browser.run("[...document.querySelectorAll('#status pre')].map(one => one.textContent.split('\\n'))")
+        for place, (shown, mark) in zip(places, marks, strict=True):
+            line, column = line_and_column(text, place)
+            self.expect("the line of a fault", text.decode().split("\n")[line - 1][: column + 47], shown)
+            self.expect("the mark of a fault", " " * (column - 1) + "^", mark)
+        self.browser.run("(document.querySelectorAll('#status button')[1].click(), 1)")
+        self.expect("the way to a fault", len(text[: places[1]].decode()), self.browser.run("document.getElementById('spec').selectionStart"))
+        self.expect("the field with the way to a fault", "spec", self.browser.run("document.activeElement.id"))
+
+    def refused(self):
+        """A core that lacks memory, breaks, or does not start a text, is told of; the page goes on."""
+        for text, words in ((LACKS, "not enough memory"), (BREAKS, "core has stopped"), (UNSTARTED, "The setup of a session fails (number 1"), (BREAKS, "core has stopped")):
+            self.put(text)
+            self.status(words)
+            self.expect("an old answer is faint", True, self.is_old())
+
+    def stopped(self):
+        """A text that takes long is told so, and a new one stops it."""
+        self.put(ENDLESS)
+        self.status("All orders are run ..")
+        self.put(LACKS)
+        self.status("not enough memory")
+
+    def address(self, path, text):
+        """The address keeps the text, and the class; a page that is opened with it shows them."""
+        self.browser.run("(document.getElementById('class-1').click(), 1)")
+        fragment = self.browser.wait_for("location.hash.includes('&class=2') && location.hash")
+        self.browser.open(path, fragment)
+        self.shows("address", text)
+        self.browser.open(path, fragment)
+        self.status(self.told(text))
+        self.expect("the class of an address", "2", self.browser.run("document.getElementById('what').textContent").split()[1])
+        self.expect("the text of an address", text.decode(), self.browser.run("document.getElementById('spec').value"))
+
+    def typed(self, before, letters):
+        """Letters that are typed one after another are answered once, behind the last."""
+        self.put(before)
+        self.status(self.told(before))
+        self.browser.run("(() => { const it = document.getElementById('spec'); it.focus(); it.setSelectionRange(it.value.length, it.value.length); })()")
+        self.browser.type(letters)
+        self.status("column")
+
+    def reaches(self):
+        controls = self.browser.run(CONTROLS)
+        self.browser.run("(document.activeElement.blur(), 1)")
+        missing = {*controls} - {*self.reach(["Tab"] * (len(controls) + 6))}
+        if missing:
+            self.wrong("keys", f"Tab does not reach {missing}")
+        for theme in ("dark", "light"):
+            self.browser.run("(document.getElementById('theme').click(), 1)")
+            for text in self.browser.run(CONTRAST % LEAST_CONTRAST):
+                self.wrong(f"{theme} theme", f"does not stand out: {text}")
+
+
+def play(browser, path, seed, texts):
+    """Uses the playground with the core that knows these texts."""
+    playing, deadlock, hostile, skew, many = Playing(browser, seed), *(texts[name] for name in ("deadlock", "hostile", "write_skew", "transfers"))
+    browser.open(path)
+    playing.shows("first", deadlock)
+    playing.mistakes(MISTAKEN)
+    playing.reaches()
+    playing.put(hostile)
+    playing.shows("hostile", hostile)
+    playing.refused()
+    playing.stopped()
+    place = browser.run("[...document.getElementById('examples').options].findIndex(one => one.textContent === 'write_skew.spec')")
+    browser.run(f"(() => {{ const it = document.getElementById('examples'); it.selectedIndex = {place}; it.dispatchEvent(new Event('change')); }})()")
+    playing.shows("write_skew", skew)
+    playing.reaches()
+    playing.address(path, skew)
+    playing.put(many)
+    playing.status(f"{plural(bind(read_spec(many)).ranks(), 'order')}: more than the 20,000")
+    playing.typed(deadlock, "zz")
+    return playing
+
+
+def core_of(path, texts):
+    """Shows each text in the playground with the module."""
+
+    def use(browser, seed):
+        playing = Playing(browser, seed)
+        browser.open(path)
+        playing.status("run here")
+        for name, text in texts.items():
+            playing.put(text)
+            if bind(read_spec(text)).ranks() > MOST_ORDERS:
+                playing.status("more than the 20,000")
+            else:
+                playing.shows(name, text)
+        playing.put(MISTAKEN)
+        line, column = line_and_column(MISTAKEN, faults_of(MISTAKEN)[0])
+        playing.status(f"Line {line}, column {column}. ")
+        playing.expect("faults", len(faults_of(MISTAKEN)), browser.run("document.querySelectorAll('#status div').length"))
+        return playing
+
+    return use
+
+
+def main(seed):
+    browsers = there()
+    if not browsers:
+        print("0 pages: there is no browser here")
+        return 0
+    texts = {path.stem: path.read_bytes() for path in [*sorted(EXAMPLES.glob("*.spec")), *sorted(SPECS.glob("*.spec"))]}
+    known = [texts[name] for name in ("deadlock", "hostile", "write_skew", "transfers")]
+    known += [MISTAKEN, LACKS, BREAKS, UNSTARTED, ENDLESS, *(texts["deadlock"] + letters for letters in (b"z", b"zz"))]
+    with TemporaryDirectory() as name, ThreadPoolExecutor(len(browsers)) as pool:
+        folder = Path(name)
+        (folder / "stub.js").write_text(stub(known), encoding="ascii")
+        (folder / "stub.wasm").write_bytes(b"\0asm\1\0\0\0")
+        stubbed = made(folder / "stub.js", folder / "stub.wasm", folder / "stub.html")
+        uses = [lambda browser: play(browser, stubbed, seed, texts)]
+        has_core = CORE.is_file() and MODULE.is_file()
+        if has_core:
+            use = core_of(made(CORE, MODULE, folder / "core.html"), texts)
+            uses.append(lambda browser: use(browser, seed))
+
+        def in_browser(kind):
+            with kind() as browser:
+                return [each(browser) for each in uses]
+
+        playings = [one for several in pool.map(in_browser, browsers) for one in several]
+    counts, found = sum((one.counts for one in playings), Counter()), sum(len(one.found) for one in playings)
+    told = ", ".join(f"{counts[word]} {word}" for word in ("pages", "classes", "cells"))
+    print(f"{told} in {' and '.join(one.name for one in browsers)}{'' if has_core else ' without the module'}, {found} differences")
+    return 1 if found else 0
+
+
+if __name__ == "__main__":
+    if len(sys.argv) > 2:
+        sys.exit(__doc__)
+    sys.exit(ended(main, int(sys.argv[1]) if len(sys.argv) > 1 else fresh_seed()))
