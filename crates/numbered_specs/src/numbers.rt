@@ -73,12 +73,13 @@ impl SpecNumbers {
         number_in(self.resources.as_slice(), resource)
     }
 
-    /// What a statement of a step asks for, in order: its lock plan by numbers.
+    /// What a statement of a step asks for, in order: its lock plan by numbers. That is nothing where the spec has no such step or statement.
     pub fn plan(&self, step: u8, statement: usize) -> &[NumberedRequest]
-        requires step { step < length self.now.plans }
-        requires statement { statement < length (plans_of self.now.plans step) }
         ensures { result.now ≡ get_or (plans_of self.now.plans step) statement [] }
     {
-        self.steps[step as usize].plans[statement].requests()
+        match self.steps.get(step as usize) {
+            Some(plans) => plans.plan(statement),
+            None => &[],
+        }
     }
 }

@@ -72,3 +72,15 @@ impl Model for StepPlans {
 
     ghost view = { λ p. p.plans.items };
 }
+
+impl StepPlans {
+    /// What a statement asks for, nothing where there is none.
+    pub(crate) fn plan(&self, statement: usize) -> &[NumberedRequest]
+        ensures { result.now ≡ get_or self.now statement [] }
+    {
+        match self.plans.get(statement) {
+            Some(plan) => plan.requests(),
+            None => &[],
+        }
+    }
+}
