@@ -4,13 +4,15 @@ use Rattle.std.proofs.lemmas.Bool.{and_from, and_parts}
 use Rattle.std.proofs.lemmas.List.Elements.{All-cons, All-head, All-nil, All-tail}
 use Rattle.std.specs.List.{list_all}
 use Rattle.binding_model.specs.Refusals.{each}
-use Rattle.binding_model.specs.declared.tables.Table.{Table}
 use Rattle.bound_specs.specs.Binding.{IsFileOf, declared, main_setup, session, shaped}
 use Rattle.bound_specs.specs.Lines.{orders_of}
 use Rattle.bound_specs.proofs.FileLemmas.{bind}
 use Rattle.bound_specs.specs.Spec.{SpecFile}
 use Rattle.bound_statements.specs.declared.statement.Bound.{Bound}
 use Rattle.lock_modes.specs.declared.value.Value.{Value}
+use Rattle.machine_model.specs.Start.{start}
+use Rattle.session_machine.specs.Running.{IsNotRunBy}
+use Rattle.session_machine.specs.declared.error.RunError.{RunError}
 use Rattle.transcripts.specs.declared.counted.Counted.{Counted}
 use Rattle.transcripts.specs.declared.event.Event.{Event}
 use Rattle.order_classes.specs.Looks.{one_row}
@@ -22,16 +24,15 @@ use Rattle.class_rows.specs.declared.rows.Classed.{Classed}
 use Rattle.class_texts.specs.Expected.{Expectation, is_met, meets}
 use Rattle.class_texts.specs.Laws.{OneRowIsMet}
 use Rattle.wanted_classes.specs.declared.wanted.WantedClasses.{WantedClasses}
-use Rattle.asked_classes.specs.declared.asking.AskedClasses.{AskedClasses}
 use Rattle.asked_classes.specs.declared.expectations.AskedExpectation.{AskedExpectation}
-use Rattle.asked_classes.specs.Asking.{IsAsked}
 use Rattle.book_commands.specs.declared.finding.Finding.{Finding}
 use Rattle.book_commands.specs.declared.finding.Finding.TheVariants.{Good, Bad}
+use Rattle.class_commands.specs.declared.asking.AskedSpec.{AskedSpec}
 use Rattle.class_commands.specs.declared.classing.ClassesFault.{ClassesFault}
 use Rattle.class_commands.specs.declared.classing.ClassesFault.TheVariants.{Spec, Asked, Run, NoMemory, Write}
 use Rattle.class_commands.specs.Classing.{IsClassesRun, IsFinding, IsMet, IsNotTold, IsTellingOf, expectation_over, grouping, page_of, seen_of}
 use Rattle.class_commands.specs.Opened.{IsWrittenAs}
-use Rattle.class_commands.specs.Parts.{IsNotFound, IsTextOf, Writes, finding_by}
+use Rattle.class_commands.specs.Parts.{IsAskedSpec, IsNotAskedSpec, IsTextOf, Writes, finding_by}
 
 -- a spec file has the text that it is of
 pub text-is : (text : List ℕ) (file : SpecFile) → IsFileOf text file → file.text ≡ text
@@ -42,28 +43,27 @@ text-is text file is =
     let c = bind (each (session b.0.0) tree.sessions) _ file b.1.1 in
     cc (c.1.1)
 
-module _ {W : Type 0} (contents : W → Option (List ℕ)) (old new : Counted W) (bytes path : List ℕ) (wanted : WantedClasses) (file : SpecFile)
-    (is : IsFileOf bytes file) (tables : List Table) (declares : Declares file.text file tables) (asked : AskedClasses) (is-asked : IsAsked file tables wanted asked)
-    (classed : Classed) (are : IsClassed tables file.run asked.filters.items (grouping wanted.answers) classed) where
-  abbrev telling : (text : List ℕ) → IsTextOf path file tables wanted asked classed text → IsTellingOf bytes path wanted text
-  telling text is-text = record {
-    file = file;
-    is_file = is;
-    tables = tables;
-    declares = subst (λ t. Declares t file tables) (text-is bytes file is) declares;
-    asked = asked;
-    is_asked = is-asked;
-    classed = classed;
-    are = are;
-    runs = is-text.0;
-    are_ranks = is-text.1;
-    written =
-        subst (λ t. IsWrittenAs wanted.form t file (page_of path file tables wanted asked classed is-text.0) text) (text-is bytes file is) is-text.2;
-  }
+module _ {W : Type 0} (contents : W → Option (List ℕ)) (old new : Counted W) (bytes path : List ℕ) (wanted : WantedClasses) (a : AskedSpec)
+    (is : IsAskedSpec bytes wanted a) (classed : Classed) (are : IsClassed a.tables.items a.spec.run a.asked.filters.items (grouping wanted.answers) classed) where
+  abbrev telling : (text : List ℕ) → IsTextOf path a.spec a.tables.items wanted a.asked classed text → IsTellingOf bytes path wanted text
+  telling text is-text =
+      let same = text-is bytes a.spec is.is_file in record {
+        file = a.spec;
+        is_file = is.is_file;
+        tables = a.tables.items;
+        declares = subst (λ t. Declares t a.spec a.tables.items) same is.declares;
+        asked = a.asked;
+        is_asked = is.is_asked;
+        classed = classed;
+        are = are;
+        runs = is-text.0;
+        are_ranks = is-text.1;
+        written = subst (λ t. IsWrittenAs wanted.form t a.spec (page_of path a.spec a.tables.items wanted a.asked classed is-text.0) text) same is-text.2;
+      }
 
   -- what is written of them is the run's
   pub classes-run : (result : Result Finding ClassesFault)
-      → Writes contents old new (IsTextOf path file tables wanted asked classed) (IsFinding classed.rows.items asked.expectations.items) result
+      → Writes contents old new (IsTextOf path a.spec a.tables.items wanted a.asked classed) (IsFinding classed.rows.items a.asked.expectations.items) result
       → IsClassesRun contents old new bytes path wanted result
   classes-run (Ok finding) done = (done.0.0, (telling done.0.0 done.0.1, done.1), done.0.2)
   classes-run (Err (Spec fault)) never = absurd never
@@ -72,16 +72,20 @@ module _ {W : Type 0} (contents : W → Option (List ℕ)) (old new : Counted W)
   classes-run (Err NoMemory) kept = kept
   classes-run (Err (Write fault)) stopped = (stopped.0, telling stopped.0 stopped.1, stopped.2)
 
-module _ {W : Type 0} (contents : W → Option (List ℕ)) (old : Counted W) (bytes path : List ℕ) (wanted : WantedClasses) (file : SpecFile)
-    (is : IsFileOf bytes file) (tables : List Table) (declares : Declares file.text file tables) (asked : AskedClasses) (is-asked : IsAsked file tables wanted asked) where
-  -- why nothing is found is why nothing is written
-  pub not-found : (fault : ClassesFault) → IsNotFound file fault → IsNotTold contents old old bytes path wanted fault
-  not-found (Spec fault) never = absurd never
-  not-found (Asked fault) never = absurd never
-  not-found (Run error) is-not =
-      (refl, (file, is, (tables, subst (λ t. Declares t file tables) (text-is bytes file is) declares, ((asked, is-asked), is-not))))
-  not-found NoMemory any = refl
-  not-found (Write fault) never = absurd never
+module _ {W : Type 0} (contents : W → Option (List ℕ)) (old : Counted W) (bytes path : List ℕ) (wanted : WantedClasses) where
+  -- why nothing is asked is why nothing is written
+  pub not-asked : (fault : ClassesFault) → IsNotAskedSpec bytes wanted fault → IsNotTold contents old old bytes path wanted fault
+  not-asked (Spec fault) is = (refl, is)
+  not-asked (Asked fault) is = (refl, is)
+  not-asked (Run error) never = absurd never
+  not-asked NoMemory any = refl
+  not-asked (Write fault) never = absurd never
+
+  -- nor is anything where the orders are not run
+  pub not-run : (a : AskedSpec) → IsAskedSpec bytes wanted a → (error : RunError) → IsNotRunBy error (start a.spec.run) → IsNotTold contents old old bytes path wanted (Run error)
+  not-run a is error is-not =
+      let declares = subst (λ t. Declares t a.spec a.tables.items) (text-is bytes a.spec is.is_file) is.declares in
+      (refl, (a.spec, is.is_file, (a.tables.items, declares, ((a.asked, is.is_asked), is-not))))
 
 -- ---- what is found
 

@@ -2,29 +2,39 @@
 use Rattle.std.specs.Prelude.{◌≡◌, ℕ, Bool, cond, List, Option, Result, Ok, Err}
 use Rattle.std.specs.List.{list_all}
 use Rattle.binding_model.specs.declared.tables.Table.{Table}
+use Rattle.bound_specs.specs.Binding.{IsFileOf}
 use Rattle.bound_specs.specs.Spec.{SpecFile}
-use Rattle.machine_model.specs.Start.{start}
-use Rattle.session_machine.specs.Running.{IsNotRunBy}
+use Rattle.spec_binding.specs.SpecFiles.{IsNoSpec}
+use Rattle.spec_texts.specs.Texts.{Declares}
 use Rattle.transcripts.specs.Counted.{Wrote, Stopped}
 use Rattle.transcripts.specs.declared.counted.Counted.{Counted}
 use Rattle.class_stretches.specs.declared.rank_run.RankRun.{RankRun}
 use Rattle.class_rows.specs.declared.rows.Classed.{Classed}
 use Rattle.class_texts.specs.Expected.{Expectation, is_met}
 use Rattle.wanted_classes.specs.declared.wanted.WantedClasses.{WantedClasses}
+use Rattle.asked_classes.specs.Asking.{IsAsked, IsRefused}
 use Rattle.asked_classes.specs.declared.asking.AskedClasses.{AskedClasses}
 use Rattle.book_commands.specs.declared.finding.Finding.{Finding}
 use Rattle.book_commands.specs.declared.finding.Finding.TheVariants.{Good, Bad}
+use Rattle.class_commands.specs.declared.asking.AskedSpec.{AskedSpec}
 use Rattle.class_commands.specs.declared.classing.ClassesFault.{ClassesFault}
-use Rattle.class_commands.specs.declared.classing.ClassesFault.TheVariants.{Run, NoMemory, Write}
+use Rattle.class_commands.specs.declared.classing.ClassesFault.TheVariants.{Spec, Asked, NoMemory, Write}
 use Rattle.class_commands.specs.Written.{AreRanks}
 use Rattle.class_commands.specs.Opened.{IsWrittenAs}
-use Rattle.class_commands.specs.Classing.{page_of}
+use Rattle.class_commands.specs.Classing.{IsNotAsked, page_of}
 
--- classes are not found: the orders are not run, or memory ran out
-abbrev pub IsNotFound : SpecFile → ClassesFault → Type 0
-IsNotFound file (Run error) = IsNotRunBy error (start file.run)
-IsNotFound file NoMemory = Unit {0}
-IsNotFound file fault = ⊥
+-- the spec file that the bytes are, with the tables that its main setups declare, and what is asked of it
+pub record IsAskedSpec (bytes : List ℕ) (wanted : WantedClasses) (a : AskedSpec) : Type 0 where
+  pub is_file : IsFileOf bytes a.spec
+  pub declares : Declares a.spec.text a.spec a.tables.items
+  pub is_asked : IsAsked a.spec a.tables.items wanted a.asked
+
+-- the bytes are no spec file; nothing is asked of it; or memory ran out
+abbrev pub IsNotAskedSpec : List ℕ → WantedClasses → ClassesFault → Type 0
+IsNotAskedSpec bytes wanted (Spec fault) = IsNoSpec bytes fault
+IsNotAskedSpec bytes wanted (Asked fault) = IsNotAsked bytes wanted (λ file tables. IsRefused file tables wanted fault)
+IsNotAskedSpec bytes wanted NoMemory = Unit {0}
+IsNotAskedSpec bytes wanted fault = ⊥
 
 -- the text is the page of what is found
 abbrev pub IsTextOf : List ℕ → SpecFile → List Table → WantedClasses → AskedClasses → Classed → List ℕ → Type 0

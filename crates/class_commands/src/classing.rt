@@ -1,28 +1,30 @@
 //! Orders of a spec in classes, from the bytes of the spec to the text that is written.
 
-ghost use Rattle.std.specs.Prelude.{◌≡◌, ◌<◌, IfErr, IfOk, OnOk, false};
+ghost use Rattle.std.specs.Prelude.{◌≡◌, ◌<◌, ℕ, IfOk, List, false, length};
+ghost use Rattle.spec_texts.specs.Texts.{Declares};
 ghost use Rattle.transcripts.specs.Counted.{failures_of};
+ghost use Rattle.class_walks.specs.Found.{AreParts};
 ghost use Rattle.class_rows.specs.Pages.{IsClassed};
 ghost use Rattle.class_commands.specs.Classing.{IsClassesRun, IsFinding, grouping};
 ghost use Rattle.class_commands.specs.Opened.{HasOrders};
-ghost use Rattle.class_commands.specs.Parts.{IsNotFound, IsTextOf, Writes};
+ghost use Rattle.class_commands.specs.Parts.{IsAskedSpec, IsTextOf, Writes};
 
+use crate::asking::{AskedSpec, asked_spec};
 use crate::opened::orders_for;
 use crate::telling::told;
-use asked_classes::{AskedClasses, AskedFault, asked_of};
+use asked_classes::{AskedClasses, AskedFault};
 use binding_model::Table;
 use book_commands::Finding;
 use bound_specs::Spec;
 use class_groups::swept;
 use class_rows::{Asked, Classed, classed};
-use class_walks::parts_of;
+use class_walks::{Part, part_alone, parts_of};
 use order_classes::{Filter, Grouping};
 use range_progress::Progress;
 use session_machine::RunError;
 use shard_board::{Gate, OpenGate, Workers};
 use spec_binding::{SpecFault, spec_of};
-use spec_texts::tables_of;
-use std::alloc::Global;
+use std::alloc::{AllocError, Global};
 use std::io::Write;
 use std::thread::Threads;
 use std::time::Clock;
@@ -59,32 +61,38 @@ pub fn classes<'a, R: Threads + Sync, G: Gate + Sync, W: Write>(
     requires { failures_of out.old < u64.MAX }
     ensures { IsClassesRun W.contents out.old out.new bytes.now path.now wanted.now result }
 {
-    let spec = match spec_of(alloc, bytes) {
-        Ok(spec) => spec,
-        Err(fault) => return Err(ClassesFault::Spec(fault)),
-    };
-    let Ok(tables) = tables_of(alloc, &spec) else {
-        return Err(ClassesFault::NoMemory);
-    };
-    let tables = tables.as_slice();
-    let asked = match asked_of(alloc, &spec, tables, wanted) {
+    let asked = match asked_spec(alloc, bytes, wanted) {
         Ok(asked) => asked,
-        Err(fault) => return Err(ClassesFault::Asked(fault)),
-    };
-    let by = grouping(wanted.answers);
-    let filters = asked.filters.as_slice();
-    let found = match find_classes(rt, alloc, &spec, tables, by, filters, workers, gate) {
-        Ok(found) => found,
         Err(fault) => return Err(fault),
     };
-    let rows = found.rows.as_slice();
-    let orders = match orders_for(alloc, &spec, tables, path, wanted.form, rows) {
-        Ok(orders) => orders,
+    let number = workers.number();
+    let parts = match parts_of(rt, alloc, &asked.spec, &asked.tables, number, gate) {
+        Ok(parts) => parts,
         Err(error) => return Err(ClassesFault::Run(error)),
     };
-    write_classes(
-        alloc, &spec, path, tables, wanted, &asked, &found, &orders, out,
-    )
+    tell(alloc, &asked, path, wanted, &parts, out)
+}
+
+/// Does as `classes`, in the caller's thread.
+pub fn classes_alone<'a, W: Write>(
+    alloc: Global,
+    bytes: &[u8],
+    path: &str,
+    wanted: &WantedClasses<'a>,
+    out: &mut Counted<W>,
+) -> Result<Finding, ClassesFault<'a>>
+    requires { failures_of out.old < u64.MAX }
+    ensures { IsClassesRun W.contents out.old out.new bytes.now path.now wanted.now result }
+{
+    let asked = match asked_spec(alloc, bytes, wanted) {
+        Ok(asked) => asked,
+        Err(fault) => return Err(fault),
+    };
+    let parts = match part_alone(alloc, &asked.spec, &asked.tables) {
+        Ok(parts) => parts,
+        Err(error) => return Err(ClassesFault::Run(error)),
+    };
+    tell(alloc, &asked, path, wanted, &parts, out)
 }
 
 /// Does as `classes`, and tells on `err` how far it is where that is wanted. What is not written there is no fault.
@@ -126,34 +134,55 @@ pub(crate) fn grouping(answers: bool) -> Grouping
     }
 }
 
+/// Writes the classes of the orders that are asked for, by what all workers have found.
+fn tell<'a, W: Write>(
+    alloc: Global,
+    asked: &AskedSpec<'a>,
+    path: &str,
+    wanted: &WantedClasses<'a>,
+    parts: &[Part],
+    out: &mut Counted<W>,
+) -> Result<Finding, ClassesFault<'a>>
+    requires fresh { failures_of out.old < u64.MAX }
+    requires tables { Declares asked.now.spec.text asked.now.spec asked.now.tables.items }
+    requires parts { AreParts asked.now.tables.items asked.now.spec.run (length parts.now) parts.now }
+    requires some { 0 < length parts.now }
+    ensures { (bytes : List ℕ) → IsAskedSpec bytes wanted.now asked.now → IsClassesRun W.contents out.old out.new bytes path.now wanted.now result }
+{
+    let spec = &asked.spec;
+    let tables = asked.tables.as_slice();
+    let given = &asked.asked;
+    let by = grouping(wanted.answers);
+    let Ok(found) = found_in(alloc, spec, tables, by, &given.filters, parts) else {
+        return Err(ClassesFault::NoMemory);
+    };
+    let orders = match orders_for(alloc, spec, tables, path, wanted.form, &found.rows) {
+        Ok(orders) => orders,
+        Err(error) => return Err(ClassesFault::Run(error)),
+    };
+    write_classes(
+        alloc, spec, path, tables, wanted, given, &found, &orders, out,
+    )
+}
+
 /// What is found of the orders of a spec that pass filters.
-fn find_classes<'a, R: Threads + Sync, G: Gate + Sync>(
-    rt: &R,
+fn found_in(
     alloc: Global,
     spec: &Spec,
     tables: &[Table],
     by: Grouping,
     filters: &[Filter],
-    workers: &Workers,
-    gate: &G,
-) -> Result<Classed, ClassesFault<'a>>
-    ensures found { IfOk result (IsClassed tables.now spec.now.run filters.now by) }
-    ensures refused { IfErr result (IsNotFound spec.now) }
+    parts: &[Part],
+) -> Result<Classed, AllocError>
+    requires parts { AreParts tables.now spec.now.run (length parts.now) parts.now }
+    requires some { 0 < length parts.now }
+    ensures { IfOk result (IsClassed tables.now spec.now.run filters.now by) }
 {
-    let parts = match parts_of(rt, alloc, spec, tables, workers.number(), gate) {
-        Ok(parts) => parts,
-        Err(error) => return Err(ClassesFault::Run(error)),
-    };
-    let Ok(groups) = swept(alloc, spec, tables, parts.as_slice()) else {
-        return Err(ClassesFault::NoMemory);
-    };
-    match classed(alloc, spec, tables, &groups, Asked { by, filters }) {
-        Ok(found) => Ok(found),
-        Err(_) => Err(ClassesFault::NoMemory),
-    }
+    let groups = swept(alloc, spec, tables, parts)?;
+    classed(alloc, spec, tables, &groups, Asked { by, filters })
 }
 
-pub(crate) fn write_classes<'a, W: Write>(
+fn write_classes<'a, W: Write>(
     alloc: Global,
     spec: &Spec,
     path: &str,

@@ -1,14 +1,13 @@
 //! Orders in classes, from the bytes of a spec or the files of books to what is written.
 #![tactic(auto)]
 
-mod alone;
+mod asking;
 mod booking;
 mod classing;
 mod opened;
 mod telling;
 mod written;
 
-pub use alone::classes_alone;
 pub use booking::{BookClassesFault, book_classes};
-pub use classing::{ClassesFault, classes, classes_told};
+pub use classing::{ClassesFault, classes, classes_alone, classes_told};
 pub use opened::MAX_SHOWN;

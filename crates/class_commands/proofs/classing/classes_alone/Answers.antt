@@ -1,0 +1,14 @@
+use Rattle.class_commands.proofs.ClassLemmas.{not-asked, not-run}
+use Rattle.class_commands.proofs.classing.classes_alone.Goals as goal
+
+pub returns-in-Err : goal.returns-in-Err
+returns-in-Err g c =
+    not-asked g.W.Write.contents c.args.out.now c.args.bytes.now c.args.path.now c.args.wanted.now c.in-Err.fault c.in-Err.ensures.refused
+
+pub returns-in-Err-part_alone : goal.returns-in-Err-part_alone
+returns-in-Err-part_alone g c =
+    not-run g.W.Write.contents c.args.out.now c.args.bytes.now c.args.path.now c.args.wanted.now c.in-Ok.asked c.in-Ok.ensures.read c.in-Err-part_alone.error
+    c.in-Err-part_alone.ensures.refused
+
+pub returns : goal.returns
+returns g c = c.tell.ensures c.args.bytes.now c.in-Ok.ensures.read
