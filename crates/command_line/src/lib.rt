@@ -1,7 +1,10 @@
 //! What the words of a command line ask for.
 #![tactic(auto)]
 
+mod arguments;
+mod commands;
 mod inputs;
+mod matches;
 mod names;
 mod paths;
 mod plain;

@@ -1,0 +1,163 @@
+//! The commands of the command line, each with its words.
+
+use crate::arguments::{Word, arg_of, ruled};
+use clap::Command;
+use std::alloc::{AllocError, Global};
+
+/// What the program is called in its texts, however it was started.
+const PROGRAM: &str = "isofarm";
+
+/// The version of the program. From which commit and with which kit it was built is known to what builds it alone.
+const VERSION: &str = "0.1.0";
+
+/// A command as the command line has it: how it is spelled, what it does, and its words in their order.
+#[derive(Clone, Copy, Drop)]
+struct Row {
+    spelled: &'static str,
+    about: &'static str,
+    words: &'static [Word],
+}
+
+static COMMANDS: [Row; 15] = [
+    Row {
+        spelled: "check",
+        about: "Prints how much a spec has, or where it is wrong and why",
+        words: &[Word::Spec],
+    },
+    Row {
+        spelled: "one",
+        about: "Runs one permutation and prints what each session saw",
+        words: &[Word::Spec, Word::Rank],
+    },
+    Row {
+        spelled: "count",
+        about: "Prints how many permutations a spec has",
+        words: &[Word::Spec],
+    },
+    Row {
+        spelled: "rank",
+        about: "Prints the number of the permutation with these steps",
+        words: &[Word::Spec, Word::Names],
+    },
+    Row {
+        spelled: "order",
+        about: "Prints the steps of a permutation",
+        words: &[Word::Spec, Word::Rank],
+    },
+    Row {
+        spelled: "show",
+        about: "Prints what happens in one order, moment by moment, and why",
+        words: &[Word::Spec, Word::Order, Word::Json],
+    },
+    Row {
+        spelled: "classes",
+        about: "Prints which different things all permutations show, how often, and which one shows each first",
+        words: &[
+            Word::SpecOrBooks,
+            Word::OfBooks,
+            Word::Answers,
+            Word::Waits,
+            Word::NoWaits,
+            Word::Deadlock,
+            Word::NoDeadlock,
+            Word::Error,
+            Word::NoError,
+            Word::Unsent,
+            Word::NoUnsent,
+            Word::Stuck,
+            Word::NoStuck,
+            Word::NoSerial,
+            Word::Serial,
+            Word::Look,
+            Word::Expect,
+            Word::Ranks,
+            Word::Outcomes,
+            Word::Left,
+            Word::Brief,
+            Word::Json,
+            Word::Html,
+            Word::Workers,
+            Word::Progress,
+        ],
+    },
+    Row {
+        spelled: "run",
+        about: "Runs all permutations, or a range of them, and prints the book of what they show",
+        words: &[
+            Word::Spec,
+            Word::FirstOfAll,
+            Word::EndOfAll,
+            Word::Every,
+            Word::Workers,
+            Word::Progress,
+        ],
+    },
+    Row {
+        spelled: "join",
+        about: "Prints one book with the facts of all",
+        words: &[Word::Books],
+    },
+    Row {
+        spelled: "missing",
+        about: "Prints the numbers of the permutations of which books tell nothing",
+        words: &[Word::Books, Word::Lines],
+    },
+    Row {
+        spelled: "holds",
+        about: "Prints whether a book is of a spec and has a fact of each permutation of a range",
+        words: &[Word::Book, Word::Spec, Word::First, Word::End],
+    },
+    Row {
+        spelled: "report",
+        about: "Prints what each session saw in each permutation",
+        words: &[Word::Book],
+    },
+    Row {
+        spelled: "audit",
+        about: "Tests each fact of a book again, and prints the first permutation with a false one",
+        words: &[Word::Book],
+    },
+    Row {
+        spelled: "judge",
+        about: "Prints which accepted book tells the same, or where each differs first",
+        words: &[Word::Book, Word::Accepted, Word::Show],
+    },
+    Row {
+        spelled: "test",
+        about: "Prints whether the classes of specs are as accepted, or how they differ",
+        words: &[Word::Specs, Word::Update, Word::Junit, Word::Workers],
+    },
+];
+
+/// The commands and their words.
+pub fn command<'a>(alloc: Global) -> Result<Command<'a>, AllocError> {
+    let mut command = Command::new(alloc, PROGRAM)
+        .bin_name(PROGRAM)?
+        .about("Runs the steps of SQL sessions in their orders, under two-phase locking")
+        .version(VERSION)
+        .subcommand_required(true);
+    for row in &COMMANDS {
+        command = with(command, command_of(alloc, row))?;
+    }
+    Ok(command)
+}
+
+/// The command with one more below it.
+fn with<'a>(
+    command: Command<'a>,
+    below: Result<Command<'a>, AllocError>,
+) -> Result<Command<'a>, AllocError> {
+    match below {
+        Ok(below) => command.subcommand(below),
+        Err(error) => Err(error),
+    }
+}
+
+/// The command of a row.
+fn command_of<'a>(alloc: Global, row: &'static Row) -> Result<Command<'a>, AllocError> {
+    let mut command = Command::new(alloc, row.spelled).about(row.about);
+    for word in row.words {
+        command = command.arg(ruled(*word, arg_of(alloc, *word))?)?;
+    }
+    Ok(command)
+}
