@@ -34,6 +34,12 @@ mod outcomes;
 #[cfg(test)]
 mod over_books;
 #[cfg(test)]
+mod over_files;
+#[cfg(test)]
+mod over_ranges;
+#[cfg(test)]
+mod over_reports;
+#[cfg(test)]
 mod progress;
 #[cfg(test)]
 mod runs;
