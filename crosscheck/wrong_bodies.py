@@ -6,9 +6,9 @@ usage: python3 crosscheck/wrong_bodies.py [--seed N] [--count K] [NAME..]
 
 Each file of wrong_bodies/ is a wrong body: wrong_bodies/CRATE/NAME.edit has lines `file:`, `old:` and `new:` as an edit of must-fail/ has,
 its files named from the top, and a line `test: CRATE MODULE::TEST`, or `growths: CRATE MODULE::TEST` where the test tells it only when it is refused
-its growths in turn, or, where no test tells it, `clause: CRATE MODULE::FUNCTION LABEL`, without LABEL where the clause has none. A NAME is that
+its growths in turn, or, where no test is named, `clause: CRATE MODULE::FUNCTION LABEL`, without LABEL where the clause has none. A NAME is that
 of the file, or CRATE/NAME. Without names some that a test tells are tried, K of them (3), taken by the seed N, which is printed. One body at a time is
-put into the copy, and `rt try --test` builds it and runs the named test, which takes one to three minutes; refused_growths.py does so for growths. A body that a clause alone tells is tried where --prove stands before its name: then `rt check --only` has
+put into the copy, and `rt try --test` builds it and runs the named test, which takes one to three minutes; refused_growths.py does so for growths. A body with a clause is tried where --prove stands before its name: then `rt check --only` has
 to refuse the function. --check builds nothing: it looks whether all that the files name is there. The exit status is 1 where a body is not told.
 """
 
@@ -121,10 +121,10 @@ def faults_of(body):
 def check(all_bodies):
     faults = [fault for body in all_bodies for fault in faults_of(body)]
     by_test = sum(bool(body.test) for body in all_bodies)
-    said = f"{len(all_bodies)} more, one in a file, each with what tells it: {by_test} by a test and {len(all_bodies) - by_test} by a clause alone"
+    said = f"{len(all_bodies)} more, one in a file, each with what tells it: {by_test} by a test and {len(all_bodies) - by_test} by a clause"
     faults += [] if said in (TOP / "docs/PROMISES.md").read_text() else [f"docs/PROMISES.md does not say: {said}"]
     print("".join(f"{fault}\n" for fault in faults), end="")
-    print(f"{len(all_bodies)} wrong bodies, {by_test} by a test, {len(all_bodies) - by_test} by a clause alone; {len(faults)} faults")
+    print(f"{len(all_bodies)} wrong bodies, {by_test} by a test, {len(all_bodies) - by_test} by a clause; {len(faults)} faults")
     return 1 if faults else 0
 
 
@@ -227,9 +227,9 @@ def try_all(all_bodies, asked):
         top = copied(Path(folder))
         told = sum(tell(body, top) for body in wanted if body not in by_clause)
     for body in by_clause:
-        print(f"by a clause alone, not tried without --prove: {body.name}")
+        print(f"by a clause, not tried without --prove: {body.name}")
     missed = len(wanted) - len(by_clause) - told
-    print(f"{told} told, {missed} not told, {len(by_clause)} by a clause alone")
+    print(f"{told} told, {missed} not told, {len(by_clause)} by a clause")
     return 1 if missed else 0
 
 
