@@ -36,12 +36,13 @@ pub(crate) fn asked_spec<'a>(
     let Ok(tables) = tables_of(alloc, &spec) else {
         return Err(ClassesFault::NoMemory);
     };
-    match asked_of(alloc, &spec, &tables, wanted) {
-        Ok(asked) => Ok(AskedSpec {
-            spec,
-            tables,
-            asked,
-        }),
-        Err(fault) => Err(ClassesFault::Asked(fault)),
-    }
+    let asked = match asked_of(alloc, &spec, tables.as_slice(), wanted) {
+        Ok(asked) => asked,
+        Err(fault) => return Err(ClassesFault::Asked(fault)),
+    };
+    Ok(AskedSpec {
+        spec,
+        tables,
+        asked,
+    })
 }

@@ -66,11 +66,18 @@ pub fn classes<'a, R: Threads + Sync, G: Gate + Sync, W: Write>(
         Err(fault) => return Err(fault),
     };
     let number = workers.number();
-    let parts = match parts_of(rt, alloc, &asked.spec, &asked.tables, number, gate) {
+    let parts = match parts_of(
+        rt,
+        alloc,
+        &asked.spec,
+        asked.tables.as_slice(),
+        number,
+        gate,
+    ) {
         Ok(parts) => parts,
         Err(error) => return Err(ClassesFault::Run(error)),
     };
-    tell(alloc, &asked, path, wanted, &parts, out)
+    tell(alloc, &asked, path, wanted, parts.as_slice(), out)
 }
 
 /// Does as `classes`, in the caller's thread.
@@ -88,11 +95,11 @@ pub fn classes_alone<'a, W: Write>(
         Ok(asked) => asked,
         Err(fault) => return Err(fault),
     };
-    let parts = match part_alone(alloc, &asked.spec, &asked.tables) {
+    let parts = match part_alone(alloc, &asked.spec, asked.tables.as_slice()) {
         Ok(parts) => parts,
         Err(error) => return Err(ClassesFault::Run(error)),
     };
-    tell(alloc, &asked, path, wanted, &parts, out)
+    tell(alloc, &asked, path, wanted, parts.as_slice(), out)
 }
 
 /// Does as `classes`, and tells on `err` how far it is where that is wanted. What is not written there is no fault.
@@ -153,10 +160,12 @@ fn tell<'a, W: Write>(
     let tables = asked.tables.as_slice();
     let given = &asked.asked;
     let by = grouping(wanted.answers);
-    let Ok(found) = found_in(alloc, spec, tables, by, &given.filters, parts) else {
+    let filters = given.filters.as_slice();
+    let Ok(found) = found_in(alloc, spec, tables, by, filters, parts) else {
         return Err(ClassesFault::NoMemory);
     };
-    let orders = match orders_for(alloc, spec, tables, path, wanted.form, &found.rows) {
+    let rows = found.rows.as_slice();
+    let orders = match orders_for(alloc, spec, tables, path, wanted.form, rows) {
         Ok(orders) => orders,
         Err(error) => return Err(ClassesFault::Run(error)),
     };

@@ -1,9 +1,20 @@
-use Rattle.std.proofs.Common.{subst}
+use Rattle.std.proofs.Common.{subst, sym}
 use Rattle.spec_texts.specs.Texts.{Declares}
+use Rattle.asked_classes.specs.Asking.{IsAsked}
 use Rattle.class_commands.proofs.ClassLemmas.{text-is}
 use Rattle.class_commands.proofs.asking.asked_spec.Goals as goal
 
-pub returns-in-Err-asked_of : goal.returns-in-Err-asked_of
-returns-in-Err-asked_of c =
-    let declares = subst (λ t. Declares t c.in-Ok.spec c.in-Ok-tables_of.tables.items) (text-is c.args.bytes.now c.in-Ok.spec c.in-Ok.ensures.file) c.in-Ok-tables_of.ensures in
-    (c.in-Ok.spec, c.in-Ok.ensures.file, (c.in-Ok-tables_of.tables.items, declares, c.in-Err.ensures.refused))
+pub returns-in-Err-asked_of-clause-refused : goal.returns-in-Err-asked_of-clause-refused
+returns-in-Err-asked_of-clause-refused c =
+    let spec = c.in-Ok.spec in
+    let tables = c.as_slice.result.now in
+    let declares = subst (Declares spec.text spec) (sym c.as_slice.ensures.value) c.in-Ok-tables_of.ensures in
+    let of-bytes = subst (λ t. Declares t spec tables) (text-is c.args.bytes.now spec c.in-Ok.ensures.file) declares in
+    (spec, c.in-Ok.ensures.file, (tables, of-bytes, c.in-Err-asked_of.ensures.refused))
+
+pub returns-clause-read : goal.returns-clause-read
+returns-clause-read c = record {
+  is_file = c.in-Ok.ensures.file;
+  declares = c.in-Ok-tables_of.ensures;
+  is_asked = subst (λ ts. IsAsked c.in-Ok.spec ts c.args.wanted.now c.in-Ok-asked_of.asked) c.as_slice.ensures.value c.in-Ok-asked_of.ensures.asked;
+}
