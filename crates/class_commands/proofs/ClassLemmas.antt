@@ -1,5 +1,5 @@
 -- What is written of the classes of a spec, and what is found of them.
-use Rattle.std.proofs.Common.{◌≡◌, ◌↔◌, ◌⊎◌, refl, sym, ap, subst, ℕ, Bool, true, false, List, [], ◌∷◌, map, All, Option, Result, Ok, Err, cond}
+use Rattle.std.proofs.Common.{◌≡◌, refl, ap, subst, ℕ, Bool, true, false, List, [], ◌∷◌, map, All, Option, Result, Ok, Err, cond}
 use Rattle.std.proofs.lemmas.Bool.{and_from, and_parts}
 use Rattle.std.proofs.lemmas.List.Elements.{All-cons, All-head, All-nil, All-tail}
 use Rattle.std.specs.List.{list_all}
@@ -14,14 +14,13 @@ use Rattle.machine_model.specs.Start.{start}
 use Rattle.session_machine.specs.Running.{IsNotRunBy}
 use Rattle.session_machine.specs.declared.error.RunError.{RunError}
 use Rattle.transcripts.specs.declared.counted.Counted.{Counted}
-use Rattle.transcripts.specs.declared.event.Event.{Event}
 use Rattle.order_classes.specs.Looks.{one_row}
 use Rattle.order_classes.specs.declared.rows.ClassRow.{ClassRow}
 use Rattle.spec_texts.specs.Texts.{Declares}
 use Rattle.class_looks.specs.Seeing.{told_by}
 use Rattle.class_rows.specs.Pages.{IsClassed}
 use Rattle.class_rows.specs.declared.rows.Classed.{Classed}
-use Rattle.class_texts.specs.Expected.{Expectation, is_met, meets}
+use Rattle.class_texts.specs.Expected.{is_met, meets}
 use Rattle.class_texts.specs.Laws.{OneRowIsMet}
 use Rattle.wanted_classes.specs.declared.wanted.WantedClasses.{WantedClasses}
 use Rattle.asked_classes.specs.declared.expectations.AskedExpectation.{AskedExpectation}
