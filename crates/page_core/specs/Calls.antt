@@ -1,5 +1,5 @@
 -- What each call answers, in the caller's buffer, and how it ends.
-use Rattle.std.specs.Prelude.{◌≡◌, ◌≢◌, ℕ, ◌<◌, ◌≤◌, ◌⊎◌, Bool, true, false, List, [], length, take, IsUtf8}
+use Rattle.std.specs.Prelude.{◌≡◌, ◌≢◌, ℕ, ◌<◌, ◌≤◌, ◌⊎◌, Bool, false, List, [], length, take, IsUtf8}
 use Rattle.bound_specs.specs.Binding.{IsFileOf}
 use Rattle.bound_specs.specs.Spec.{SpecFile, ranks}
 use Rattle.machine_model.specs.Start.{start}
@@ -16,6 +16,7 @@ use Rattle.spec_commands.specs.declared.showing.ShowForm.TheVariants.{Json}
 use Rattle.spec_commands.specs.declared.showing.WantedOrder.TheVariants.{Rank}
 use Rattle.spec_findings.specs.Told.{AreTold}
 use Rattle.wanted_classes.specs.declared.wanted.WantedClasses.{WantedClasses}
+use Rattle.wanted_classes.specs.declared.wanted.WantedForm.TheVariants as form
 use Rattle.wanted_classes.specs.declared.wanted.WantedForm.TheVariants as form
 use Rattle.class_commands.specs.Classing.{IsTellingOf}
 use Rattle.class_commands.specs.declared.classing.ClassesFault.{ClassesFault}
@@ -77,7 +78,9 @@ pub record IsWanted (answers with_ranks : Bool) (wanted : WantedClasses) : Type 
   pub no_looks : wanted.looks.items ≡ []
   pub no_expectations : wanted.expectations.items ≡ []
   pub whole : wanted.brief ≡ false
-  pub as_json : wanted.json ≡ true
+  pub no_outcomes : wanted.outcomes ≡ false
+  pub nothing_left : wanted.left ≡ false
+  pub as_json : wanted.form ≡ form.Json
 
 -- why classes are not told: the bytes are no spec file; the orders are not run; or memory ran out
 abbrev pub AreNotTold : List ℕ → ClassesFault → Type 0
