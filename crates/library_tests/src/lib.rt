@@ -13,6 +13,8 @@ mod effects;
 #[cfg(test)]
 mod event_trees;
 #[cfg(test)]
+mod holders;
+#[cfg(test)]
 mod lines;
 #[cfg(test)]
 mod marks;
