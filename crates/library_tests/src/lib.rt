@@ -13,8 +13,6 @@ mod effects;
 #[cfg(test)]
 mod event_trees;
 #[cfg(test)]
-mod holders;
-#[cfg(test)]
 mod lines;
 #[cfg(test)]
 mod marks;

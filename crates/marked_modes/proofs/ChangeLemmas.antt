@@ -1,5 +1,5 @@
 -- What is kept, and held, behind each change.
-use Rattle.std.specs.Prelude.{◌≡◌, refl, ℕ, true, ◌<◌, not, ◌==◌, List, [], ◌∷◌, ◌++◌, length, map, get_or, take, Some, Result, Ok, Err, OnOk, OnErr}
+use Rattle.std.specs.Prelude.{◌≡◌, ℕ, ◌<◌, not, ◌==◌, List, [], ◌∷◌, ◌++◌, length, map, get_or, take, Some, Result, Ok, Err, OnOk, OnErr}
 use Rattle.std.proofs.Common.{sym, ap, ◌∙◌, subst, inl, inr}
 use Rattle.std.specs.declared.alloc.AllocError.{AllocError}
 use Rattle.finite_maps.specs.Map.{insert, keep}

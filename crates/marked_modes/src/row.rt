@@ -6,9 +6,10 @@ ghost use Rattle.marked_modes.specs.Held.{mode_in};
 ghost use Rattle.marked_modes.specs.Kept.{with_mode};
 
 use lock_modes::{Mode, compatible};
+use perm_ranks::MAX_SESSIONS;
 
-/// Sessions that may hold something are numbered below it: those of a spec, of which there are at most eight, and the one of its main setups.
-pub const MAX_HOLDERS: usize = 9;
+/// Sessions that may hold something are numbered below it: those of a spec, and the one that runs its main setups.
+pub const MAX_HOLDERS: usize = MAX_SESSIONS + 1;
 
 /// The modes that sessions hold on a resource, by the number of the session.
 #[derive(Clone, Copy)]

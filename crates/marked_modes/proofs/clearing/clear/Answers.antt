@@ -1,7 +1,7 @@
-use Rattle.std.proofs.Common.{◌<◌, ℕ, List, length, subst, sym, ap, ◌∙◌, take, get_or}
+use Rattle.std.proofs.Common.{◌<◌, List, length, subst, sym, ap, ◌∙◌, take, get_or}
 use Rattle.std.proofs.lemmas.List.Elements.{All-get_or}
 use Rattle.marked_lists.specs.Versions.{Versions}
-use Rattle.marked_modes.specs.Kept.{IsInside, cleared, cleared_of}
+use Rattle.marked_modes.specs.Kept.{IsInside, cleared_of}
 use Rattle.marked_modes.specs.declared.row.Given.{Given}
 use Rattle.marked_modes.specs.declared.row.ModeRow.{ModeRow}
 use Rattle.marked_modes.proofs.HeldLemmas.{cleared-more, length-cleared}

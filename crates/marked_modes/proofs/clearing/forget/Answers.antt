@@ -1,4 +1,4 @@
-use Rattle.std.proofs.Common.{◌≡◌, ◌==◌, ◌∙◌, ap, inr, subst, sym, true}
+use Rattle.std.proofs.Common.{◌==◌, ◌∙◌, ap, inr, sym}
 use Rattle.std.specs.List.{list_all}
 use Rattle.marked_modes.specs.declared.row.Given.{Given}
 use Rattle.marked_modes.proofs.clearing.forget.Goals as goal

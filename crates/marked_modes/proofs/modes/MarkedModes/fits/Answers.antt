@@ -1,4 +1,4 @@
-use Rattle.std.proofs.Common.{◌≡◌, ◌≢◌, ◌<◌, ◌∙◌, ap, ℕ, Some, length, slice_get, subst, sym, true}
+use Rattle.std.proofs.Common.{◌≡◌, ◌<◌, ◌∙◌, ap, ℕ, Some, length, slice_get, subst, sym}
 use Rattle.finite_maps.specs.Map.{get}
 use Rattle.lock_modes.specs.declared.resource.Resource.TheVariants.{Table}
 use Rattle.lock_queues.specs.Locks.{fits_with}

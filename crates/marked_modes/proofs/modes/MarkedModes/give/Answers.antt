@@ -1,11 +1,11 @@
-use Rattle.std.proofs.Common.{◌≡◌, ◌<◌, ◌∙◌, ap, List, OnOk, Some, get_or, length, set, slice_get, subst, sym}
+use Rattle.std.proofs.Common.{◌≡◌, ◌<◌, ◌∙◌, ap, OnOk, Some, get_or, length, set, subst, sym}
 use Rattle.std.proofs.lemmas.Option.{get_or_from_slice_get}
 use Rattle.finite_maps.specs.Map.{insert}
 use Rattle.lock_modes.specs.declared.resource.Resource.TheVariants.{Table}
 use Rattle.marked_lists.specs.Versions.{Versions}
 use Rattle.numbered_specs.specs.Numbers.{place_of, resource_of}
 use Rattle.marked_modes.specs.Held.{MarkedHolds}
-use Rattle.marked_modes.specs.Kept.{holds_of, no_modes, put_mode, with_mode}
+use Rattle.marked_modes.specs.Kept.{holds_of, no_modes, with_mode}
 use Rattle.marked_modes.specs.declared.row.ModeRow.{ModeRow}
 use Rattle.marked_modes.specs.declared.row.Given.{Given}
 use Rattle.marked_modes.proofs.ChangeLemmas.{give-held, give-kept}

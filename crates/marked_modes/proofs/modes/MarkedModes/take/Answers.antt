@@ -1,4 +1,4 @@
-use Rattle.std.proofs.Common.{◌≡◌, ◌==◌, List, not, subst}
+use Rattle.std.proofs.Common.{◌≡◌, ◌==◌, not, subst}
 use Rattle.finite_maps.specs.Map.{keep}
 use Rattle.lock_queues.specs.LockTable.{Holding}
 use Rattle.marked_lists.specs.Versions.{Versions}
