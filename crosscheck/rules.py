@@ -53,7 +53,7 @@ PAGE_FRONT, PAGE_BACK = rb'<!doctype html>\n.+<script type="application/json" id
 OUTCOMES_TITLE = rb"[^\n]+: (?:%(n)s of )?%(n)s orders?, %(n)s outcomes?\n\nwhat orders leave is in no book, so S and R are not told\n"
 MISSING = rb"(?:no order is missing|1 order is missing, of rank %(n)s|%(n)s orders are missing, the first of rank %(n)s)\n"
 BOOK = rb'\{"facts":\[.*\],"format":2,"outcomes":\[.*\],"spec":".*"\}\n'
-DIFFERS = rb"differs in %(n)s of %(n)s orders?\n  first at rank %(n)s: .+\n    was: [^\n]+\n    is: .+"
+DIFFERS = rb"differs in %(n)s of %(n)s orders?\n  first at rank %(n)s: .+\n    was: [^\n]*\n(?:[^\n]*\n)*?    is: .+"
 HAS_OTHERS = rb"has %(n)s orders?, accepted are %(n)s; what they leave and who fails is compared\n  .+"
 NO_ORDER = rb"differs, and (?:no order does|what is accepted is no text of classes)"
 REFUSED = rb"(?:spec error [1-9]|sql error [1-7]|bind error [2-8]|start error [1-3]) at %(n)s"
