@@ -1,13 +1,13 @@
 """Gives specs and books made from a seed, whole and damaged, to all commands of the program, for so many minutes.
 
-usage: python3 crosscheck/soak.py MINUTES [SEED] [--jobs N]
+usage: python3 crosscheck/soak.py MINUTES [SEED] [--jobs N] [--from SET]
 
 The seed is SEED, or a fresh one; it is printed first. As many jobs run side by side as there are cores, or N. Each makes one set of files
-after another: a spec of some kind, its text with other bytes, books of its ranks, and damaged ones. Of every run holds what `rules.py`
-says, and of some runs that they tell the same; of one set in four, and of short files, the answers are those of this second
-implementation. A set ends with its first finding, whose files are left in `out/soak/SEED-NUMBER`, with the command lines in `command` and
-what was told in `told`. The last lines count what was made and told. The exit status is 1 where there is a finding. Ctrl-C ends it, with
-the counts so far.
+after another, by the numbers of sets from 0 on, or from SET on, so that a run goes on behind an earlier one of its seed: a spec of some
+kind, its text with other bytes, books of its ranks, and damaged ones. Of every run holds what `rules.py` says, and of some runs that they
+tell the same; of one set in four, and of short files, the answers are those of this second implementation. A set ends with its first
+finding, whose files are left in `out/soak/SEED-NUMBER`, with the command lines in `command` and what was told in `told`. The last lines
+count what was made and told. The exit status is 1 where there is a finding. Ctrl-C ends it, with the counts so far.
 """
 
 import json
@@ -412,36 +412,39 @@ def job(seed, place, jobs, deadline):
             soak.one_set(place)
             place += jobs
         os.chdir("/")
-    return soak.counts, soak.told
+    return soak.counts, soak.told, place
 
 
 def stop(_signal, _frame):
     STOP.set()
 
 
-def main(minutes, seed, jobs):
-    began, counts, told = monotonic(), Counter(), Counter()
+def main(minutes, seed, jobs, first):
+    began, counts, told, after = monotonic(), Counter(), Counter(), first
     print(f"seed {seed}", flush=True)
     # The jobs and the programs that they run leave Ctrl-C to this process.
     signal.signal(signal.SIGINT, signal.SIG_IGN)
     with ProcessPoolExecutor(jobs, multiprocessing.get_context("fork")) as pool:
-        running = [pool.submit(job, seed, place, jobs, began + 60 * minutes) for place in range(jobs)]
+        running = [pool.submit(job, seed, place, jobs, began + 60 * minutes) for place in range(first, first + jobs)]
         for one in (signal.SIGINT, signal.SIGTERM):
             signal.signal(one, stop)
         for done in as_completed(running):
-            counts, told = counts + done.result()[0], told + done.result()[1]
+            of_job = done.result()
+            counts, told, after = counts + of_job[0], told + of_job[1], max(after, of_job[2])
     made = [f"{counts[what]} {what}" for what in ("files", "runs", "compared", "findings")]
     print(f"{', '.join(made)}; seed {seed}, {monotonic() - began:.0f} seconds; what was told:")
     for word, number in sorted(told.items()):
         print(f"  {number:7} {word}")
+    print(f"to go on with these sets: {seed} --from {after}")
     return 1 if counts["findings"] else 0
 
 
 if __name__ == "__main__":
-    words = "python3 crosscheck/soak.py MINUTES [SEED] [--jobs N]"
+    words = "python3 crosscheck/soak.py MINUTES [SEED] [--jobs N] [--from SET]"
     parser = ArgumentParser(description=__doc__, usage=words, formatter_class=RawDescriptionHelpFormatter)
     parser.add_argument("minutes", type=float, metavar="MINUTES")
     parser.add_argument("seed", type=int, nargs="?", default=fresh_seed(), metavar="SEED")
     parser.add_argument("--jobs", type=int, default=len(os.sched_getaffinity(0)), metavar="N")
+    parser.add_argument("--from", type=int, default=0, metavar="SET", dest="first")
     asked = parser.parse_args()
-    sys.exit(compare.ended(main, asked.minutes, asked.seed, asked.jobs))
+    sys.exit(compare.ended(main, asked.minutes, asked.seed, asked.jobs, asked.first))

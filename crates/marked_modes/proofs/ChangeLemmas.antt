@@ -7,11 +7,11 @@ use Rattle.lock_modes.specs.declared.mode.Mode.{Mode}
 use Rattle.lock_modes.specs.declared.resource.Resource.{Resource}
 use Rattle.lock_queues.specs.LockTable.{Holding}
 use Rattle.marked_lists.specs.Versions.{Versions}
-use Rattle.marked_modes.specs.Held.{MarkedHolds, held_map}
+use Rattle.marked_modes.specs.Held.{MarkedHolds, TakesSome, held_map}
 use Rattle.marked_modes.specs.Kept.{Forgets, IsKept, cleared, holds_of, no_modes, put_mode}
 use Rattle.marked_modes.specs.declared.row.ModeRow.{ModeRow}
 use Rattle.marked_modes.specs.declared.row.Given.{Given}
-use Rattle.marked_modes.proofs.HeldLemmas.{held-put, held-take, kept-all, kept-cleared, kept-given, kept-noted}
+use Rattle.marked_modes.proofs.HeldLemmas.{held-part, held-put, held-take, kept-all, kept-cleared, kept-given, kept-noted}
 
 module _ (rs : List Resource) (rows : Versions ModeRow) (given : Versions Given) (kept : IsKept rs rows given) where
   abbrev put : ℕ → ℕ → Mode → Versions ModeRow
@@ -72,3 +72,10 @@ module _ (rs : List Resource) (rows : Versions ModeRow) (given : Versions Given)
       ap (holds_of rs) all
       ∙ ap (λ now. let x : MarkedHolds = record { resources = rs; now = now; marked = map (held_map rs) rows.marked } in x)
       (held-take rs rows.list given.list s kept.now)
+
+  -- what is cleared in part is taken from the session alone
+  pub part-held : (rows' : Versions ModeRow) (s : ℕ) (gs : List Given) (result : Result (Unit {0}) AllocError)
+      → (n : ℕ) × (rows' ≡ clear s (take n gs)) → OnErr result (TakesSome s (held_map rs rows.list) (held_map rs rows'.list))
+  part-held rows' s gs (Ok u) some = tt
+  part-held rows' s gs (Err e) some =
+      subst (λ (r : Versions ModeRow). TakesSome s (held_map rs rows.list) (held_map rs r.list)) (sym some.1) (held-part rs rows.list s (take some.0 gs))

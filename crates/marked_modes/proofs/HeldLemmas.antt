@@ -18,7 +18,7 @@ use Rattle.lock_modes.specs.declared.mode.Mode.{Mode}
 use Rattle.lock_modes.specs.declared.resource.Resource.{Resource}
 use Rattle.lock_queues.specs.LockTable.{Holding, holding_order}
 use Rattle.lock_queues.specs.Tabulate.{get-tabulate}
-use Rattle.marked_modes.specs.Held.{below, held_in, held_map, holdings, mode_in}
+use Rattle.marked_modes.specs.Held.{TakesSome, below, held_in, held_map, holdings, mode_in}
 use Rattle.marked_modes.specs.Kept.{IsBlank, IsGiven, IsInside, IsKeptAt, cleared, cleared_of, mode_at, no_modes, put_mode, with_mode}
 use Rattle.marked_modes.specs.declared.row.ModeRow.{ModeRow}
 use Rattle.marked_modes.specs.declared.row.Given.{Given}
@@ -310,6 +310,59 @@ held-take rs rows given s kept = same_map _ _ (λ h.
     get-held rs (cleared s given rows) h
     ∙ held-gone rs rows (cleared s given rows) s (length-cleared s given rows) (gone rs rows given s kept) h
     ∙ ap (λ v. cond (not (h.0 == s)) v None) (sym (get-held rs rows h)) ∙ sym (get-keep (λ (h : Holding). not (h.0 == s)) (held_map rs rows) h))
+
+-- ---- what is cleared in part
+
+-- a mode stays, or it is of the session and gone
+abbrev StaysOr : ℕ → ℕ → Option Mode → Option Mode → Type 0
+StaysOr s c old new = (new ≡ old) ⊎ ((c ≡ s) × (new ≡ None))
+
+stays-then : (s c : ℕ) (old mid new : Option Mode) → StaysOr s c old mid → StaysOr s c mid new → StaysOr s c old new
+stays-then s c old mid new (inl a) (inl b) = inl (b ∙ a)
+stays-then s c old mid new (inr a) (inl b) = inr (a.0, b ∙ a.1)
+stays-then s c old mid new a (inr b) = inr b
+
+of-part : (s : ℕ) (g : Given) (rows : List ModeRow) (k c : ℕ) → StaysOr s c (mode_at rows k c) (mode_at (cleared_of s g rows) k c)
+of-part s g rows k c = ⊎_elim (λ same. here same.1) (λ other. inl (of-other s g rows k c other.1)) (eqb_tells c s)
+  where
+    at : (b : Bool) → c ≡ s → StaysOr s c (mode_at rows k c) (mode_at (cond b (put_mode rows g.place s None) rows) k c)
+    at true is = ⊎_elim
+        (λ there. inr (
+          is,
+          ap (mode_at (put_mode rows g.place s None) k) is
+              ∙ subst (λ p. mode_at (put_mode rows p s None) k s ≡ None) there.1 (put-at rows k s),
+        ))
+        (λ away. inl (put-away rows g.place s k c None away.1)) (eqb_tells k g.place)
+    at false is = inl refl
+
+    here : c ≡ s → StaysOr s c (mode_at rows k c) (mode_at (cleared_of s g rows) k c)
+    here is = at (g.session == s) is
+
+cleared-part : (s : ℕ) (gs : List Given) (rows : List ModeRow) (k c : ℕ) → StaysOr s c (mode_at rows k c) (mode_at (cleared s gs rows) k c)
+cleared-part s [] rows k c = inl refl
+cleared-part s (g ∷ gs) rows k c =
+    stays-then s c (mode_at rows k c) (mode_at (cleared_of s g rows) k c) (mode_at (cleared s gs (cleared_of s g rows)) k c) (of-part s g rows k c)
+    (cleared-part s gs (cleared_of s g rows) k c)
+
+part-in : (rs : List Resource) (rows rows' : List ModeRow) (s : ℕ) → length rows' ≡ length rows
+    → ((k c : ℕ) → StaysOr s c (mode_at rows k c) (mode_at rows' k c)) → (h : Holding) → StaysOr s h.0 (held_in rs rows h) (held_in rs rows' h)
+part-in [] rows rows' s same each h = inl refl
+part-in (r ∷ rs) [] [] s same each h = inl refl
+part-in (r ∷ rs) [] (row' ∷ rows') s same each h = absurd (omega (arith, same))
+part-in (r ∷ rs) (row ∷ rows) [] s same each h = absurd (omega (arith, same))
+part-in (r ∷ rs) (row ∷ rows) (row' ∷ rows') s same each h =
+    at (same_resource h.1 r) (each 0 h.0) (part-in rs rows rows' s (omega (arith, same)) (λ k c. each (suc k) c) h)
+  where
+    at : (b : Bool) → StaysOr s h.0 (mode_in row h.0) (mode_in row' h.0) → StaysOr s h.0 (held_in rs rows h) (held_in rs rows' h)
+        → StaysOr s h.0 (cond b (mode_in row h.0) (held_in rs rows h)) (cond b (mode_in row' h.0) (held_in rs rows' h))
+    at true first rest = first
+    at false first rest = rest
+
+-- some of what the session holds is taken from the map
+pub held-part : (rs : List Resource) (rows : List ModeRow) (s : ℕ) (gs : List Given) → TakesSome s (held_map rs rows) (held_map rs (cleared s gs rows))
+held-part rs rows s gs h =
+    ⊎_elim (λ e. inl (get-held rs (cleared s gs rows) h ∙ e ∙ sym (get-held rs rows h))) (λ p. inr (p.0, get-held rs (cleared s gs rows) h ∙ p.1))
+    (part-in rs rows (cleared s gs rows) s (length-cleared s gs rows) (cleared-part s gs rows) h)
 
 -- ---- what is kept
 

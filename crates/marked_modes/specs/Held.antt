@@ -1,6 +1,6 @@
 -- Who holds which mode, by a row of modes for each resource.
-use Rattle.std.specs.Prelude.{ℕ, zero, suc, cond, List, [], ◌∷◌, ◌++◌, length, map, get_or, Option, None}
-use Rattle.finite_maps.specs.Map.{Map}
+use Rattle.std.specs.Prelude.{◌≡◌, ◌⊎◌, ℕ, zero, suc, cond, List, [], ◌∷◌, ◌++◌, length, map, get_or, Option, None}
+use Rattle.finite_maps.specs.Map.{Map, get}
 use Rattle.lock_modes.specs.Resource.{same_resource}
 use Rattle.lock_modes.specs.declared.mode.Mode.{Mode}
 use Rattle.lock_modes.specs.declared.resource.Resource.{Resource}
@@ -13,6 +13,10 @@ pub record MarkedHolds : Type 0 where
   pub resources : List Resource
   pub now : Map holding_order Mode
   pub marked : List (Map holding_order Mode)
+
+-- some of what a session holds is taken away from it, and nothing from others
+abbrev pub TakesSome : ℕ → Map holding_order Mode → Map holding_order Mode → Type 0
+TakesSome session old new = (h : Holding) → (get new h ≡ get old h) ⊎ ((h.0 ≡ session) × (get new h ≡ None))
 
 -- ---- rows
 

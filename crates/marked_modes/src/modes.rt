@@ -5,6 +5,7 @@ ghost use Rattle.std.specs.List.Sorted.{IsStrictlySortedBy};
 ghost use Rattle.finite_maps.specs.Map.{empty, get, insert, keep};
 ghost use Rattle.lock_modes.specs.Resource.{resource_cmp};
 ghost use Rattle.lock_queues.specs.LockTable.{Fits, Holding, look_at};
+ghost use Rattle.marked_modes.specs.Held.{TakesSome};
 ghost use Rattle.numbered_specs.specs.Numbers.{HasNumber, resource_of};
 
 use crate::clearing::{clear, forget};
@@ -101,10 +102,11 @@ impl MarkedModes<'_> {
         self.rows.set(place, row)
     }
 
-    /// Takes everything away from a session. Where memory runs out some of it is.
+    /// Takes everything away from a session. Where memory runs out some of it is, and nothing from others.
     pub fn take(&mut self, session: u8) -> Result<(), AllocError>
         requires { session < MAX_HOLDERS }
         ensures taken { OnOk result (self.new ≡ record self.old { now = keep (λ (h : Holding). not (h.0 == session)) self.old.now }) }
+        ensures refused { OnErr result (TakesSome session self.old.now self.new.now) }
         ensures resources { self.new.resources ≡ self.old.resources }
         ensures marked { self.new.marked ≡ self.old.marked }
     {

@@ -1,3 +1,4 @@
 mod NumberLemmas
 mod AskedLemmas
 mod PlaceLemmas
+mod KeyLemmas

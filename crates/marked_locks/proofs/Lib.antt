@@ -1,0 +1,5 @@
+mod SeenLemmas
+mod RingLemmas
+mod LeavingLemmas
+mod TableLemmas
+mod KeepLemmas

@@ -1,0 +1,3 @@
+pub mod Queued
+pub mod Kept
+pub mod Places

@@ -1,0 +1,41 @@
+-- A lock table by the numbers of a spec's resources, now and at marks.
+use Rattle.std.specs.Prelude.{List, [], ◌∷◌, map}
+use Rattle.finite_maps.specs.Map.{Map}
+use Rattle.lock_modes.specs.declared.mode.Mode.{Mode}
+use Rattle.lock_modes.specs.declared.resource.Resource.{Resource}
+use Rattle.lock_queues.specs.declared.wait.Wait.{Wait}
+use Rattle.lock_queues.specs.LockTable.{Locks, holding_order}
+use Rattle.numbered_specs.specs.Numbers.{resource_of}
+use Rattle.marked_lists.specs.Versions.{Versions}
+use Rattle.marked_modes.specs.Held.{MarkedHolds}
+use Rattle.marked_locks.specs.declared.wait.NumberedWait.{NumberedWait}
+
+-- the resources, and the lock table now, and at the marks that stand, the newest first
+pub record MarkedTable : Type 0 where
+  pub resources : List Resource
+  pub now : Locks
+  pub marked : List Locks
+
+-- a wait by number, as one for the resource with that number
+abbrev pub wait_of : List Resource → NumberedWait → Wait
+wait_of rs w = record { session = w.session; resource = resource_of rs w.resource; mode = w.mode }
+
+abbrev pub waits_of : List Resource → List NumberedWait → List Wait
+waits_of rs ws = map (wait_of rs) ws
+
+-- the lock table of what is held and who waits
+abbrev pub locks_of : List Resource → Map holding_order Mode → List NumberedWait → Locks
+locks_of rs held ws = record { held = held; waits = waits_of rs ws }
+
+-- the lock tables at marks
+abbrev pub marked_of : List Resource → List (Map holding_order Mode) → List (List NumberedWait) → List Locks
+marked_of rs [] lists = []
+marked_of rs (held ∷ maps) [] = []
+marked_of rs (held ∷ maps) (ws ∷ lists) = locks_of rs held ws ∷ marked_of rs maps lists
+
+abbrev pub table_of : MarkedHolds → Versions NumberedWait → MarkedTable
+table_of modes waits = record {
+  resources = modes.resources;
+  now = locks_of modes.resources modes.now waits.list;
+  marked = marked_of modes.resources modes.marked waits.marked;
+}

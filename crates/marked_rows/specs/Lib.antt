@@ -1,0 +1,4 @@
+pub mod Cells
+pub mod Kept
+pub mod Pool
+pub mod Shown
