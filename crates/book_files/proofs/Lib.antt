@@ -1,1 +1,3 @@
 pub mod BookLaws
+mod MemberLemmas
+mod PartLaws

@@ -2,7 +2,10 @@
 #![tactic(auto)]
 
 mod cursor;
+mod guess;
 mod outcomes;
+mod parts;
+mod pieces;
 mod reading;
 mod rows;
 mod spec_of_text;

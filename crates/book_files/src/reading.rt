@@ -8,6 +8,7 @@ ghost use Rattle.book_format.specs.declared.error.BookError.TheVariants as book_
 ghost use Rattle.book_format.specs.Reading.{Given, Gives, Meets};
 ghost use Rattle.book_format.specs.ReadingBooks.{AreTakenFor, IsBookFile, IsBookOf, IsBookValue, IsFactsBook, IsReadOf, IsRunsBook, IsValueOf, read_faults_of};
 
+use crate::pieces::book_by_pieces;
 use crate::spec_of_text::spec_of_text;
 use crate::written::written_book;
 use book_format::{
@@ -84,6 +85,16 @@ fn book_of_text(alloc: Global, bytes: Vec<u8>) -> Result<Book, BookError>
     ensures { Meets (λ book. book) (Given book_error.NotJson (IsValueOf bytes.items) IsBookValue) result }
 {
     match written_book(alloc, bytes.as_slice()) {
+        Some(book) => Ok(book),
+        None => book_of_any(alloc, bytes),
+    }
+}
+
+/// The book that bytes are in any layout: piece by piece, or what tells that they are none.
+fn book_of_any(alloc: Global, bytes: Vec<u8>) -> Result<Book, BookError>
+    ensures { Meets (λ book. book) (Given book_error.NotJson (IsValueOf bytes.items) IsBookValue) result }
+{
+    match book_by_pieces(alloc, bytes.as_slice()) {
         Some(book) => Ok(book),
         None => book_of_json(alloc, bytes),
     }

@@ -16,7 +16,7 @@ use std::str;
 use transcripts::Outcome;
 
 /// A run has so many bytes at least: `[0,1,"ran",0]`.
-const MIN_RUN: usize = 13;
+pub(crate) const MIN_RUN: usize = 13;
 
 /// The book that bytes are the one text of. There may be none for want of memory too.
 pub(crate) fn written_book(alloc: Global, bytes: &[u8]) -> Option<Book>
@@ -85,7 +85,15 @@ fn tag_at(cursor: &mut Cursor<'_>) -> Option<Tag> {
 
 /// The outcomes behind the runs.
 fn outcomes_at(alloc: Global, cursor: &mut Cursor<'_>) -> Option<Vec<Outcome>> {
-    if !cursor.passes(b",\"format\":2,\"outcomes\":[") {
+    if !cursor.passes(b",\"format\":2,\"outcomes\":") {
+        return None;
+    }
+    listed_outcomes(alloc, cursor)
+}
+
+/// The outcomes of the array that is next.
+pub(crate) fn listed_outcomes(alloc: Global, cursor: &mut Cursor<'_>) -> Option<Vec<Outcome>> {
+    if !cursor.passes(b"[") {
         return None;
     }
     let mut rows = Rows::new(alloc, cursor.len()).ok()?;

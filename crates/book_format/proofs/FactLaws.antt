@@ -31,7 +31,7 @@ use Rattle.book_format.proofs.RunLaws.{some-bind, some-cond}
 -- ---- one fact
 
 -- an outcome that a run of the spec may tell, or a place that is a byte
-abbrev IsFactFor : Spec → Fact → Type 0
+abbrev pub IsFactFor : Spec → Fact → Type 0
 IsFactFor spec (Ran outcome) = IsOutcomeOf spec outcome × OutcomeFits outcome
 IsFactFor spec (Swap k) = k < 256
 
@@ -63,13 +63,13 @@ entry-for spec d entry (inl (parts, told, inl (fact, is, same))) =
 entry-for spec d entry (inl (parts, told, inr (e, refused, is))) = absurd (cc)
 entry-for spec d entry (inr (none, is)) = absurd (cc)
 
-record IsLawfulEntry (spec : Spec) (before : List Entry) (entry : Entry) : Type 0 where
-  fact : IsFactFor spec entry.1
-  below : entry.0 < ranks spec
-  led : IsFactLed spec entry.0 entry.1
-  after : StandsAfter ComesUnder before entry
+pub record IsLawfulEntry (spec : Spec) (before : List Entry) (entry : Entry) : Type 0 where
+  pub fact : IsFactFor spec entry.1
+  pub below : entry.0 < ranks spec
+  pub led : IsFactLed spec entry.0 entry.1
+  pub after : StandsAfter ComesUnder before entry
 
-next-entry : (spec : Spec) (before : List Entry) (d : Data) (entry : Entry) → IsNextEntry spec before d (Ok entry) → IsLawfulEntry spec before entry
+pub next-entry : (spec : Spec) (before : List Entry) (d : Data) (entry : Entry) → IsNextEntry spec before d (Ok entry) → IsLawfulEntry spec before entry
 next-entry spec before d entry (inl (e, read, inl (below, inl (led, inl (after, is))))) =
     let same : entry ≡ e = cc in
     subst (IsLawfulEntry spec before) (sym same) (record { fact = entry-for spec d e read; below = below; led = led; after = after })
@@ -88,7 +88,7 @@ each-push : (P : Entry → Type 0) (es : List Entry) (e : Entry) → EachEntry P
 each-push P [] e each p = (p, tt)
 each-push P (x ∷ xs) e each p = (each.0, each-push P xs e each.1 p)
 
-under-first : (a b : Entry) → ComesUnder a b → a.0 ≤ b.0
+pub under-first : (a b : Entry) → ComesUnder a b → a.0 ≤ b.0
 under-first a b is = on (nat_cmp a.0 b.0) refl is
   where
     on : (o : Ordering) → nat_cmp a.0 b.0 ≡ o → ordering_then o (fact_cmp a.1 b.1) ≡ Less → a.0 ≤ b.0

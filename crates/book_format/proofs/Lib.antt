@@ -21,3 +21,5 @@ pub mod Utf8Lemmas
 pub mod TextBooks
 pub mod OneBook
 pub mod CopyLemmas
+pub mod TokenLemmas
+pub mod ArrayLemmas

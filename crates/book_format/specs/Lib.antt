@@ -12,3 +12,5 @@ pub mod ReadingFacts
 pub mod ReadingBooks
 pub mod ReadingLaws
 pub mod Compacting
+pub mod Tokens
+pub mod ReadingTokens

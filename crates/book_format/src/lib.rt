@@ -24,8 +24,8 @@ pub use laws::{
 };
 pub use pieces::{MAX_FACTS, MAX_TEXT};
 pub use reading::{
-    FactParts, RunParts, Version, book_of_facts, book_of_runs, fact_parts, forms_read_back,
-    run_parts, version_of,
+    FactParts, RunParts, Version, book_of_facts, book_of_runs, fact_parts, facts_at,
+    forms_read_back, outcomes_at, run_parts, runs_at, value_at, version_of,
 };
 pub use write_error::WriteError;
 pub use writing::write_book;

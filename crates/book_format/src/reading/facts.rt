@@ -89,7 +89,7 @@ fn facts_of(alloc: Global, spec: &Spec, values: &[Json]) -> Result<Vec<RankFact>
 }
 
 /// The fact that a value is, behind others.
-fn next_fact(
+pub(super) fn next_fact(
     alloc: Global,
     spec: &Spec,
     before: &[RankFact],

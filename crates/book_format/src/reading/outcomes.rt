@@ -33,7 +33,7 @@ pub(crate) fn outcomes_of(
 }
 
 /// The outcome that a value is, behind others.
-fn next_outcome(
+pub(super) fn next_outcome(
     alloc: Global,
     spec: &Spec,
     before: &[Outcome],

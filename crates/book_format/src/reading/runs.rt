@@ -134,7 +134,7 @@ pub(crate) fn runs_of(
 }
 
 /// The run that a value is, behind others that have so many facts.
-fn next_run(
+pub(super) fn next_run(
     spec: &Spec,
     outcomes: usize,
     value: &Json,
