@@ -4,12 +4,13 @@ usage: python3 crosscheck/wrong_bodies.py [--seed N] [--count K] [NAME..]
        python3 crosscheck/wrong_bodies.py --prove NAME..
        python3 crosscheck/wrong_bodies.py --check
 
-Each file of wrong_bodies/ is a wrong body: wrong_bodies/CRATE/NAME.edit has lines `file:`, `old:` and `new:` as an edit of must-fail/ has,
-its files named from the top, and a line `test: CRATE MODULE::TEST`, or `growths: CRATE MODULE::TEST` where the test tells it only when it is refused
-its growths in turn, or, where no test is named, `clause: CRATE MODULE::FUNCTION LABEL`, without LABEL where the clause has none. A NAME is that
-of the file, or CRATE/NAME. Without names some that a test tells are tried, K of them (3), taken by the seed N, which is printed. One body at a time is
-put into the copy, and `rt try --test` builds it and runs the named test, which takes one to three minutes; refused_growths.py does so for growths. A body with a clause is tried where --prove stands before its name: then `rt check --only` has
-to refuse the function. --check builds nothing: it looks whether all that the files name is there. The exit status is 1 where a body is not told.
+Each file of wrong_bodies/ is a wrong body, or a wrong definition: wrong_bodies/CRATE/NAME.edit has lines `file:`, `old:` and `new:` as an edit of
+must-fail/ has, its files named from the top, and a line `test: CRATE MODULE::TEST`, or `growths: CRATE MODULE::TEST` where the test tells it only when
+it is refused its growths in turn, or, where no test is named, `clause: CRATE MODULE::FUNCTION LABEL`, without LABEL where the clause has none. A NAME is
+that of the file, or CRATE/NAME. Without names some that a test tells are tried, K of them (3), taken by the seed N, which is printed. One body at a time
+is put into the copy, and `rt try --test` builds it and runs the named test, which takes one to three minutes; refused_growths.py does so for growths. A
+body with a clause is tried where --prove stands before its name: then `rt check --only` has to refuse the function. --check builds nothing: it looks
+whether all that the files name is there. The exit status is 1 where a body is not told.
 """
 
 import argparse
@@ -76,7 +77,7 @@ def changed(body, top):
     texts, faults = {}, []
     for file, old, new in body.changes:
         path = top / file
-        if not re.fullmatch(r"crates/\w+/src/[\w/]+\.rt", file) or not path.is_file():
+        if not re.fullmatch(r"crates/\w+/(src/[\w/]+\.rt|specs/[\w/]+\.antt)", file) or not path.is_file():
             faults.append(f"names {file}, which is not there")
             continue
         text = texts.get(path, path.read_text())
@@ -92,7 +93,7 @@ def contract_of(crate, path):
     for length in range(len(words) - 1, 0, -1):
         file = src.joinpath(*words[:length]).with_suffix(".rt")
         if file.is_file():
-            heads = re.findall(rf"^ *(?:pub(?:\(crate\))? )?(?:extern \"C\" )?fn {words[-1]}\b.*?^ *\{{$", file.read_text(), re.M | re.S)
+            heads = re.findall(rf"^ *(?:pub(?:\(crate\))? )?(?:extern \"C\" )?fn {words[-1]}\b.*?^ *\{{\}}?$", file.read_text(), re.M | re.S)
             return [head for head in heads if length == len(words) - 1 or words[-2] in file.read_text()]
     return []
 
