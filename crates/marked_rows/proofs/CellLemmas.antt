@@ -1,6 +1,6 @@
 -- The layers of cells, by one cell more and by one that changes.
-use Rattle.std.proofs.Common.{◌≡◌, ◌≢◌, refl, sym, ap, ◌∙◌, ℕ, zero, suc, ◌<◌, ◌==◌, Bool, true, false, cond, ◌⊎◌, inl, inr, ⊎_elim, arith}
-use Rattle.std.proofs.Common.{List, [], ◌∷◌, length, map, get_or, set, Option, Some, None}
+use Rattle.std.proofs.Common.{◌≡◌, ◌≢◌, refl, sym, ap, ◌∙◌, ℕ, ◌<◌, ◌==◌, Bool, true, false, cond, ◌⊎◌, inl, inr, ⊎_elim}
+use Rattle.std.proofs.Common.{List, [], ◌∷◌, length, get_or, set, Option, Some, None, get_or-set_other, get_or-set_same, subst}
 use Rattle.std.proofs.lemmas.Bool.Decides.{eqb_tells}
 use Rattle.finite_maps.specs.Map
 use Rattle.finite_maps.specs.Map.{empty, get, get-empty, get-insert, same_key, same_key-refl}
@@ -9,29 +9,15 @@ use Rattle.lock_modes.specs.Rows.{Rows', Tuple}
 use Rattle.row_tables.specs.Layers.{IsOnlyWriterAt, Layers, kept, overlay_of, session_order, sight, undone, wrote}
 use Rattle.row_tables.proofs.OverlayLemmas.{get-laid, get-lay, over}
 use Rattle.row_tables.proofs.LayersLemmas.{overlay_of-wrote}
-use Rattle.marked_rows.specs.Cells.{committed_at, layers_by, left_at, row_with, seen, seen_over, with_cell}
-use Rattle.marked_rows.specs.Kept.{blank, ended, ended_by, ended_layers, with_end}
+use Rattle.marked_rows.specs.Cells.{blank, committed_at, layers_of, left_at, row_with, seen, seen_over, with_cell}
+use Rattle.marked_rows.specs.Kept.{ended, ended_by, ended_layers, with_end}
+use Rattle.marked_rows.specs.Places.{AreApart, IsAbsent, IsFree, IsPlaceOf}
 use Rattle.marked_rows.specs.declared.cell.Cell.{Cell}
 use Rattle.marked_rows.specs.declared.cell.Ending.{Ending}
 use Rattle.marked_rows.specs.declared.cell.Ending.TheVariants.{Keep, Undo}
 use Rattle.marked_rows.specs.declared.cell.Left.{Left}
 use Rattle.marked_rows.proofs.StepLemmas.{kept-committed, kept-nothing, kept-other, kept-own, key-other}
 use Rattle.marked_rows.proofs.StepLemmas.{overlay_of-nothing, undone-nothing, undone-other, undone-own, wrote-again, wrote-swap}
-
--- ---- places of which none is there twice
-
-abbrev pub IsAbsent : RowPlace → List RowPlace → Type 0
-IsAbsent p [] = Unit {0}
-IsAbsent p (q ∷ qs) = (p ≢ q) × IsAbsent p qs
-
-abbrev pub AreApart : List RowPlace → Type 0
-AreApart [] = Unit {0}
-AreApart (p ∷ ps) = IsAbsent p ps × AreApart ps
-
-absent-at : (ps : List RowPlace) (p : RowPlace) (k : ℕ) (d : RowPlace) → IsAbsent p ps → k < length ps → p ≢ get_or ps k d
-absent-at [] p k d absent lt = absurd (omega (arith, lt))
-absent-at (q ∷ ps) p zero d absent lt = absent.0
-absent-at (q ∷ ps) p (suc k) d absent lt = absent-at ps p k d absent.1 (omega (arith, lt))
 
 -- the cell with what a session leaves there
 abbrev pub with_left : Cell → ℕ → Option ℕ → Cell
@@ -89,65 +75,79 @@ overlay-here rows p (Some left) l s none =
 
 -- ---- look-ups
 
-module _ (rows : List Tuple) where
-  -- where no row may lie nothing is written
-  overlay-absent : (ps : List RowPlace) (cells : List Cell) (s : ℕ) (p : RowPlace) → IsAbsent p ps → get (overlay_of s (layers_by rows ps cells)) p ≡ None
-  unfolding layers_by
-  overlay-absent [] cells s p absent = ap (λ o. get o p) (overlay_of-nothing s) ∙ get-empty place_order (Option Tuple) p
-  overlay-absent (q ∷ ps) [] s p absent = ap (λ o. get o p) (overlay_of-nothing s) ∙ get-empty place_order (Option Tuple) p
-  overlay-absent (q ∷ ps) (c ∷ cells) s p absent =
-      overlay-away rows q c.left (committed_at q (row_with rows c.committed) (layers_by rows ps cells)) s p absent.0
-      ∙ overlay-absent ps cells s p absent.1
+-- a place that is there is none that is not
+other-place : (es : List (RowPlace × ℕ)) (p q : RowPlace) (n : ℕ) → IsAbsent p es → IsPlaceOf es q n → p ≢ q
+other-place [] p q n absent never same = never
+other-place (e ∷ es) p q n absent (inl here) same = absent.0 (same ∙ sym here.0)
+other-place (e ∷ es) p q n absent (inr later) same = other-place es p q n absent.1 later same
+
+-- nor has it the same cell
+other-cell : (es : List (RowPlace × ℕ)) (m : ℕ) (q : RowPlace) (n : ℕ) → IsFree m es → IsPlaceOf es q n → m ≢ n
+other-cell [] m q n free never same = never
+other-cell (e ∷ es) m q n free (inl here) same = free.0 (same ∙ sym here.1)
+other-cell (e ∷ es) m q n free (inr later) same = other-cell es m q n free.1 later same
+
+module _ (rows : List Tuple) (cells : List Cell) where
+  abbrev cell_at : ℕ → Cell
+  cell_at n = get_or cells n blank
+
+  -- at a place that is not there nothing is written
+  overlay-absent : (es : List (RowPlace × ℕ)) (s : ℕ) (p : RowPlace) → IsAbsent p es → get (overlay_of s (layers_of rows cells es)) p ≡ None
+  unfolding layers_of
+  overlay-absent [] s p absent = ap (λ o. get o p) (overlay_of-nothing s) ∙ get-empty place_order (Option Tuple) p
+  overlay-absent (e ∷ es) s p absent =
+      overlay-away rows e.0 (cell_at e.1).left (committed_at e.0 (row_with rows (cell_at e.1).committed) (layers_of rows cells es)) s p absent.0
+      ∙ overlay-absent es s p absent.1
 
   -- nor committed
-  committed-absent : (ps : List RowPlace) (cells : List Cell) (p : RowPlace) → IsAbsent p ps → get (layers_by rows ps cells).committed p ≡ None
-  unfolding layers_by
-  committed-absent [] cells p absent = get-empty place_order Tuple p
-  committed-absent (q ∷ ps) [] p absent = get-empty place_order Tuple p
-  committed-absent (q ∷ ps) (c ∷ cells) p absent =
-      get-committed rows q c (layers_by rows ps cells) p
-      ∙ ap (λ b. cond b (row_with rows c.committed) (get (layers_by rows ps cells).committed p)) (key-other place_order p q absent.0)
-      ∙ committed-absent ps cells p absent.1
+  pub committed-absent : (es : List (RowPlace × ℕ)) (p : RowPlace) → IsAbsent p es → get (layers_of rows cells es).committed p ≡ None
+  unfolding layers_of
+  committed-absent [] p absent = get-empty place_order Tuple p
+  committed-absent (e ∷ es) p absent =
+      get-committed rows e.0 (cell_at e.1) (layers_of rows cells es) p
+      ∙ ap (λ b. cond b (row_with rows (cell_at e.1).committed) (get (layers_of rows cells es).committed p)) (key-other place_order p e.0 absent.0)
+      ∙ committed-absent es p absent.1
 
-  pub sight-absent : (ps : List RowPlace) (cells : List Cell) (s : ℕ) (p : RowPlace) → IsAbsent p ps → get (sight s (layers_by rows ps cells)) p ≡ None
-  sight-absent ps cells s p absent =
-      get-lay (overlay_of s (layers_by rows ps cells)) (layers_by rows ps cells).committed p
-      ∙ ap (λ o. over o (get (layers_by rows ps cells).committed p)) (overlay-absent ps cells s p absent) ∙ committed-absent ps cells p absent
+  pub sight-absent : (es : List (RowPlace × ℕ)) (s : ℕ) (p : RowPlace) → IsAbsent p es → get (sight s (layers_of rows cells es)) p ≡ None
+  sight-absent es s p absent =
+      get-lay (overlay_of s (layers_of rows cells es)) (layers_of rows cells es).committed p
+      ∙ ap (λ o. over o (get (layers_of rows cells es).committed p)) (overlay-absent es s p absent) ∙ committed-absent es p absent
 
-  committed-there : (ps : List RowPlace) (cells : List Cell) (k : ℕ) (d : RowPlace) → AreApart ps → length cells ≡ length ps → k < length ps
-      → get (layers_by rows ps cells).committed (get_or ps k d) ≡ row_with rows (get_or cells k blank).committed
-  unfolding layers_by
-  committed-there [] cells k d apart same lt = absurd (omega (arith, lt))
-  committed-there (p ∷ ps) [] k d apart same lt = absurd (omega (arith, same))
-  committed-there (p ∷ ps) (c ∷ cells) zero d apart same lt =
-      get-committed rows p c (layers_by rows ps cells) p
-      ∙ ap (λ b. cond b (row_with rows c.committed) (get (layers_by rows ps cells).committed p)) (same_key-refl place_order p)
-  committed-there (p ∷ ps) (c ∷ cells) (suc k) d apart same lt =
-      let inside : k < length ps = omega (arith, lt) in
-      let ne = absent-at ps p k d apart.0 inside in
-      get-committed rows p c (layers_by rows ps cells) (get_or ps k d)
-      ∙ ap (λ b. cond b (row_with rows c.committed) (get (layers_by rows ps cells).committed (get_or ps k d)))
-      (key-other place_order (get_or ps k d) p (λ e. ne (sym e)))
-      ∙ committed-there ps cells k d apart.1 (omega (arith, same)) inside
+  committed-there : (es : List (RowPlace × ℕ)) (p : RowPlace) (n : ℕ) → AreApart es → IsPlaceOf es p n
+      → get (layers_of rows cells es).committed p ≡ row_with rows (cell_at n).committed
+  unfolding layers_of
+  committed-there [] p n apart never = absurd never
+  committed-there (e ∷ es) p n apart (inl here) =
+      get-committed rows e.0 (cell_at e.1) (layers_of rows cells es) p
+      ∙ ap (λ q. cond (same_key place_order q e.0) (row_with rows (cell_at e.1).committed) (get (layers_of rows cells es).committed p)) (sym here.0)
+      ∙ ap (λ b. cond b (row_with rows (cell_at e.1).committed) (get (layers_of rows cells es).committed p)) (same_key-refl place_order e.0)
+      ∙ ap (λ m. row_with rows (cell_at m).committed) here.1
+  committed-there (e ∷ es) p n apart (inr later) =
+      get-committed rows e.0 (cell_at e.1) (layers_of rows cells es) p
+      ∙ ap (λ b. cond b (row_with rows (cell_at e.1).committed) (get (layers_of rows cells es).committed p))
+      (key-other place_order p e.0 (λ f. other-place es e.0 p n apart.0 later (sym f)))
+      ∙ committed-there es p n apart.2 later
 
-  overlay-there : (ps : List RowPlace) (cells : List Cell) (k : ℕ) (d : RowPlace) (s : ℕ) → AreApart ps → length cells ≡ length ps → k < length ps
-      → get (overlay_of s (layers_by rows ps cells)) (get_or ps k d) ≡ own rows s (get_or cells k blank).left
-  unfolding layers_by
-  overlay-there [] cells k d s apart same lt = absurd (omega (arith, lt))
-  overlay-there (p ∷ ps) [] k d s apart same lt = absurd (omega (arith, same))
-  overlay-there (p ∷ ps) (c ∷ cells) zero d s apart same lt =
-      overlay-here rows p c.left (committed_at p (row_with rows c.committed) (layers_by rows ps cells)) s (overlay-absent ps cells s p apart.0)
-  overlay-there (p ∷ ps) (c ∷ cells) (suc k) d s apart same lt =
-      let inside : k < length ps = omega (arith, lt) in
-      let ne = absent-at ps p k d apart.0 inside in
-      overlay-away rows p c.left (committed_at p (row_with rows c.committed) (layers_by rows ps cells)) s (get_or ps k d) (λ e. ne (sym e))
-      ∙ overlay-there ps cells k d s apart.1 (omega (arith, same)) inside
+  overlay-there : (es : List (RowPlace × ℕ)) (p : RowPlace) (n s : ℕ) → AreApart es → IsPlaceOf es p n
+      → get (overlay_of s (layers_of rows cells es)) p ≡ own rows s (cell_at n).left
+  unfolding layers_of
+  overlay-there [] p n s apart never = absurd never
+  overlay-there (e ∷ es) p n s apart (inl here) =
+      subst (λ q. get (overlay_of s (layers_of rows cells (e ∷ es))) q ≡ own rows s (cell_at n).left) here.0
+      (overlay-here rows e.0 (cell_at e.1).left (committed_at e.0 (row_with rows (cell_at e.1).committed) (layers_of rows cells es)) s
+      (overlay-absent es s e.0 apart.0)
+      ∙ ap (λ m. own rows s (cell_at m).left) here.1)
+  overlay-there (e ∷ es) p n s apart (inr later) =
+      overlay-away rows e.0 (cell_at e.1).left (committed_at e.0 (row_with rows (cell_at e.1).committed) (layers_of rows cells es)) s p
+      (λ f. other-place es e.0 p n apart.0 later (sym f))
+      ∙ overlay-there es p n s apart.2 later
 
-  -- no other session has left anything in the cell
-  abbrev IsOpen : ℕ → Option Left → Type 0
-  IsOpen session left = (other : ℕ) → other ≢ session → own rows other left ≡ None
+-- no other session has left anything in the cell
+abbrev IsOpen : List Tuple → ℕ → Option Left → Type 0
+IsOpen rows session left = (other : ℕ) → other ≢ session → own rows other left ≡ None
 
-  mine : (left : Left) (s : ℕ) → IsOpen s (Some left) → left.session ≡ s
+module _ (rows : List Tuple) where
+  mine : (left : Left) (s : ℕ) → IsOpen rows s (Some left) → left.session ≡ s
   mine left s open_to = ⊎_elim (λ same. same) (λ other. absurd (never (open_to left.session other))) (decided left.session s)
     where
       never : own rows left.session (Some left) ≡ None → ⊥
@@ -157,26 +157,25 @@ module _ (rows : List Tuple) where
           cc
 
   -- what is seen of a cell in which no other session has left anything
-  seen-over : (s : ℕ) (committed : Option ℕ) (left : Option Left) → IsOpen s left
+  seen-over : (s : ℕ) (committed : Option ℕ) (left : Option Left) → IsOpen rows s left
       → over (own rows s left) (row_with rows committed) ≡ row_with rows (seen_over committed left)
   seen-over s committed None open_to = refl
   seen-over s committed (Some left) open_to =
       ap (λ t. over (cond (same_key session_order t left.session) (Some (row_with rows left.row)) None) (row_with rows committed)) (sym (mine left s open_to))
       ∙ ap (λ b. over (cond b (Some (row_with rows left.row)) None) (row_with rows committed)) (same_key-refl session_order left.session)
 
-  only-writer : (ps : List RowPlace) (cells : List Cell) (k : ℕ) (d : RowPlace) (s : ℕ) → AreApart ps → length cells ≡ length ps → k < length ps
-      → IsOnlyWriterAt s (get_or ps k d) (layers_by rows ps cells) → IsOpen s (get_or cells k blank).left
-  only-writer ps cells k d s apart same lt only other ne = sym (overlay-there ps cells k d other apart same lt) ∙ only other ne
+  only-writer : (cells : List Cell) (es : List (RowPlace × ℕ)) (p : RowPlace) (n s : ℕ) → AreApart es → IsPlaceOf es p n
+      → IsOnlyWriterAt s p (layers_of rows cells es) → IsOpen rows s (get_or cells n blank).left
+  only-writer cells es p n s apart there only other ne = sym (overlay-there rows cells es p n other apart there) ∙ only other ne
 
   -- a session sees what the place's cell shows
-  pub sight-there : (ps : List RowPlace) (cells : List Cell) (k : ℕ) (d : RowPlace) (s : ℕ) → AreApart ps → length cells ≡ length ps → k < length ps
-      → IsOnlyWriterAt s (get_or ps k d) (layers_by rows ps cells)
-      → get (sight s (layers_by rows ps cells)) (get_or ps k d) ≡ row_with rows (seen (get_or cells k blank))
-  sight-there ps cells k d s apart same lt only =
-      get-lay (overlay_of s (layers_by rows ps cells)) (layers_by rows ps cells).committed (get_or ps k d)
-      ∙ ap (λ o. over o (get (layers_by rows ps cells).committed (get_or ps k d))) (overlay-there ps cells k d s apart same lt)
-      ∙ ap (over (own rows s (get_or cells k blank).left)) (committed-there ps cells k d apart same lt)
-      ∙ seen-over s (get_or cells k blank).committed (get_or cells k blank).left (only-writer ps cells k d s apart same lt only)
+  pub sight-there : (cells : List Cell) (es : List (RowPlace × ℕ)) (p : RowPlace) (n s : ℕ) → AreApart es → IsPlaceOf es p n
+      → IsOnlyWriterAt s p (layers_of rows cells es) → get (sight s (layers_of rows cells es)) p ≡ row_with rows (seen (get_or cells n blank))
+  sight-there cells es p n s apart there only =
+      get-lay (overlay_of s (layers_of rows cells es)) (layers_of rows cells es).committed p
+      ∙ ap (λ o. over o (get (layers_of rows cells es).committed p)) (overlay-there rows cells es p n s apart there)
+      ∙ ap (over (own rows s (get_or cells n blank).left)) (committed-there rows cells es p n apart there)
+      ∙ seen-over s (get_or cells n blank).committed (get_or cells n blank).left (only-writer cells es p n s apart there only)
 
   -- ---- a write
 
@@ -191,31 +190,46 @@ module _ (rows : List Tuple) where
       at (Some left) = wrote-swap (committed_at p (row_with rows c.committed) l) left.session s p q (row_with rows left.row) row (decided left.session s) ne
 
   -- a write in a cell in which no other session has left anything
-  write-cell : (p : RowPlace) (left : Option Left) (l : Layers) (s : ℕ) (row : Option Tuple) → IsOpen s left
+  write-cell : (p : RowPlace) (left : Option Left) (l : Layers) (s : ℕ) (row : Option Tuple) → IsOpen rows s left
       → wrote s p row l ≡ wrote s p row (left_at rows p left l)
   write-cell p None l s row open_to = refl
   write-cell p (Some left) l s row open_to =
       sym (ap (λ t. wrote s p row (wrote t p (row_with rows left.row) l)) (mine left s open_to) ∙ wrote-again l s p (row_with rows left.row) row)
 
-  write-open : (ps : List RowPlace) (cells : List Cell) (k : ℕ) (d : RowPlace) (s : ℕ) (n : Option ℕ) → AreApart ps → length cells ≡ length ps → k < length ps
-      → IsOpen s (get_or cells k blank).left
-      → layers_by rows ps (set cells k (with_left (get_or cells k blank) s n)) ≡ wrote s (get_or ps k d) (row_with rows n) (layers_by rows ps cells)
-  unfolding layers_by
-  write-open [] cells k d s n apart same lt open_to = absurd (omega (arith, lt))
-  write-open (p ∷ ps) [] k d s n apart same lt open_to = absurd (omega (arith, same))
-  write-open (p ∷ ps) (c ∷ cells) zero d s n apart same lt open_to =
-      write-cell p c.left (committed_at p (row_with rows c.committed) (layers_by rows ps cells)) s (row_with rows n) open_to
-  write-open (p ∷ ps) (c ∷ cells) (suc k) d s n apart same lt open_to =
-      let inside : k < length ps = omega (arith, lt) in
-      ap (with_cell rows p c) (write-open ps cells k d s n apart.1 (omega (arith, same)) inside open_to)
-      ∙ swap-cell p c (layers_by rows ps cells) s (get_or ps k d) (row_with rows n) (absent-at ps p k d apart.0 inside)
+  -- cells that no place has are of no matter
+  free-cell : (cells : List Cell) (c : Cell) (es : List (RowPlace × ℕ)) (n : ℕ) → IsFree n es
+      → layers_of rows (set cells n c) es ≡ layers_of rows cells es
+  unfolding layers_of
+  free-cell cells c [] n free = refl
+  free-cell cells c (e ∷ es) n free =
+      ap (with_cell rows e.0 (get_or (set cells n c) e.1 blank)) (free-cell cells c es n free.1)
+      ∙ ap (λ (x : Cell). with_cell rows e.0 x (layers_of rows cells es)) (get_or-set_other cells n e.1 c blank (λ f. free.0 (sym f)))
+
+  write-open : (cells : List Cell) (es : List (RowPlace × ℕ)) (p : RowPlace) (n s : ℕ) (r : Option ℕ) → AreApart es → n < length cells → IsPlaceOf es p n
+      → IsOpen rows s (get_or cells n blank).left
+      → layers_of rows (set cells n (with_left (get_or cells n blank) s r)) es ≡ wrote s p (row_with rows r) (layers_of rows cells es)
+  unfolding layers_of
+  write-open cells [] p n s r apart lt never open_to = absurd never
+  write-open cells (e ∷ es) p n s r apart lt (inl here) open_to =
+      let new = with_left (get_or cells n blank) s r in
+      ap (λ m. with_cell rows e.0 (get_or (set cells n new) m blank) (layers_of rows (set cells n new) es)) here.1
+      ∙ ap (λ (x : Cell). with_cell rows e.0 x (layers_of rows (set cells n new) es)) (get_or-set_same cells n new blank lt)
+      ∙ ap (with_cell rows e.0 new) (free-cell cells new es n (subst (λ m. IsFree m es) here.1 apart.1))
+      ∙ write-cell e.0 (get_or cells n blank).left (committed_at e.0 (row_with rows (get_or cells n blank).committed) (layers_of rows cells es)) s (row_with rows r) open_to
+      ∙ ap (λ m. wrote s e.0 (row_with rows r) (with_cell rows e.0 (get_or cells m blank) (layers_of rows cells es))) (sym here.1)
+      ∙ ap (λ q. wrote s q (row_with rows r) (layers_of rows cells (e ∷ es))) here.0
+  write-open cells (e ∷ es) p n s r apart lt (inr later) open_to =
+      let new = with_left (get_or cells n blank) s r in
+      ap (λ (x : Cell). with_cell rows e.0 x (layers_of rows (set cells n new) es))
+      (get_or-set_other cells n e.1 new blank (λ f. other-cell es e.1 p n apart.1 later f))
+      ∙ ap (with_cell rows e.0 (get_or cells e.1 blank)) (write-open cells es p n s r apart.2 lt later open_to)
+      ∙ swap-cell e.0 (get_or cells e.1 blank) (layers_of rows cells es) s p (row_with rows r) (other-place es e.0 p n apart.0 later)
 
   -- a cell that a session has changed shows its write
-  pub written-cells : (ps : List RowPlace) (cells : List Cell) (k : ℕ) (d : RowPlace) (s : ℕ) (n : Option ℕ) → AreApart ps → length cells ≡ length ps
-      → k < length ps
-      → IsOnlyWriterAt s (get_or ps k d) (layers_by rows ps cells)
-      → layers_by rows ps (set cells k (with_left (get_or cells k blank) s n)) ≡ wrote s (get_or ps k d) (row_with rows n) (layers_by rows ps cells)
-  written-cells ps cells k d s n apart same lt only = write-open ps cells k d s n apart same lt (only-writer ps cells k d s apart same lt only)
+  pub written-cells : (cells : List Cell) (es : List (RowPlace × ℕ)) (p : RowPlace) (n s : ℕ) (r : Option ℕ) → AreApart es → n < length cells
+      → IsPlaceOf es p n → IsOnlyWriterAt s p (layers_of rows cells es)
+      → layers_of rows (set cells n (with_left (get_or cells n blank) s r)) es ≡ wrote s p (row_with rows r) (layers_of rows cells es)
+  written-cells cells es p n s r apart lt there only = write-open cells es p n s r apart lt there (only-writer cells es p n s apart there only)
 
   -- ---- the end of a session's writes
 
@@ -266,15 +280,16 @@ module _ (rows : List Tuple) where
           ∙ sym (kept-other under s left.session p (row_with rows left.row) other.1)
 
   -- where the writes of a session have ended in each cell they have ended
-  pub ended-cells : (ending : Ending) (ps : List RowPlace) (cells : List Cell) (s : ℕ) → AreApart ps
-      → layers_by rows ps (map (ended s ending) cells) ≡ ended_layers ending s (layers_by rows ps cells)
-  unfolding layers_by
-  ended-cells Keep [] cells s apart = sym (kept-nothing s)
-  ended-cells Keep (p ∷ ps) [] s apart = sym (kept-nothing s)
-  ended-cells Keep (p ∷ ps) (c ∷ cells) s apart =
-      ap (with_cell rows p (ended s Keep c)) (ended-cells Keep ps cells s apart.1)
-      ∙ keep-cell p c.committed c.left (layers_by rows ps cells) s (overlay-absent ps cells s p apart.0)
-  ended-cells Undo [] cells s apart = sym (undone-nothing s)
-  ended-cells Undo (p ∷ ps) [] s apart = sym (undone-nothing s)
-  ended-cells Undo (p ∷ ps) (c ∷ cells) s apart =
-      ap (with_cell rows p (ended s Undo c)) (ended-cells Undo ps cells s apart.1) ∙ undo-cell p c.committed c.left (layers_by rows ps cells) s
+  pub ended-cells : (ending : Ending) (cells new : List Cell) (s : ℕ) → ((n : ℕ) → get_or new n blank ≡ ended s ending (get_or cells n blank))
+      → (es : List (RowPlace × ℕ)) → AreApart es → layers_of rows new es ≡ ended_layers ending s (layers_of rows cells es)
+  unfolding layers_of
+  ended-cells Keep cells new s each [] apart = sym (kept-nothing s)
+  ended-cells Keep cells new s each (e ∷ es) apart =
+      ap (λ (x : Cell). with_cell rows e.0 x (layers_of rows new es)) (each e.1)
+      ∙ ap (with_cell rows e.0 (ended s Keep (get_or cells e.1 blank))) (ended-cells Keep cells new s each es apart.2)
+      ∙ keep-cell e.0 (get_or cells e.1 blank).committed (get_or cells e.1 blank).left (layers_of rows cells es) s (overlay-absent rows cells es s e.0 apart.0)
+  ended-cells Undo cells new s each [] apart = sym (undone-nothing s)
+  ended-cells Undo cells new s each (e ∷ es) apart =
+      ap (λ (x : Cell). with_cell rows e.0 x (layers_of rows new es)) (each e.1)
+      ∙ ap (with_cell rows e.0 (ended s Undo (get_or cells e.1 blank))) (ended-cells Undo cells new s each es apart.2)
+      ∙ undo-cell e.0 (get_or cells e.1 blank).committed (get_or cells e.1 blank).left (layers_of rows cells es) s

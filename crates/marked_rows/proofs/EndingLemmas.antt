@@ -1,9 +1,10 @@
 -- The cells behind the end of what a session wrote.
-use Rattle.std.proofs.Common.{◌≡◌, ◌≢◌, refl, sym, ap, ◌∙◌, subst, ℕ, zero, suc, ◌+◌, ◌<◌, ◌==◌, Bool, true, false, cond, ◌⊎◌, inl, inr, ⊎_elim, arith}
-use Rattle.std.proofs.Common.{List, [], ◌∷◌, ◌++◌, length, map, take, get_or, set, Option, Some, None, get_or-set_other}
+use Rattle.std.proofs.Common.{◌≡◌, ◌≢◌, refl, sym, ap, ◌∙◌, subst, ℕ, zero, suc, ◌+◌, ◌<◌, ◌==◌, Bool, true, false, cond, ◌⊎◌, inl, inr, ⊎_elim}
+use Rattle.std.proofs.Common.{List, [], ◌∷◌, ◌++◌, length, take, get_or, set, Option, Some, None, get_or-set_other}
 use Rattle.std.proofs.lemmas.Bool.Decides.{eqb_tells}
-use Rattle.std.proofs.lemmas.List.{length-map, length-set, take_more}
-use Rattle.marked_rows.specs.Kept.{IsWritten, blank, ended, ended_at, ended_by, ended_in, is_left_by, is_of, is_of_at, with_end}
+use Rattle.std.proofs.lemmas.List.{length-set, take_more}
+use Rattle.marked_rows.specs.Cells.{blank}
+use Rattle.marked_rows.specs.Kept.{IsWritten, ended, ended_at, ended_by, ended_in, is_left_by, is_of, is_of_at, with_end}
 use Rattle.marked_rows.specs.declared.cell.Cell.{Cell}
 use Rattle.marked_rows.specs.declared.cell.Ending.{Ending}
 use Rattle.marked_rows.specs.declared.cell.Ending.TheVariants.{Keep, Undo}
@@ -149,17 +150,6 @@ module _ (s : ℕ) (e : Ending) where
       let before = ended-was ws (ended_at s e w cells) k t is_so in
       ⊎_elim (λ h. subst (λ c. is_of t c ≡ true) h before) (λ h. ended-of (get_or cells k blank) t (subst (λ c. is_of t c ≡ true) h before)) (ended-or w cells k)
 
-  get-map : (cells : List Cell) (k : ℕ) → get_or (map (ended s e) cells) k blank ≡ ended s e (get_or cells k blank)
-  get-map [] k = refl
-  get-map (c ∷ cells) zero = refl
-  get-map (c ∷ cells) (suc k) = get-map cells k
-
-same-list : (xs ys : List Cell) → length xs ≡ length ys → ((k : ℕ) → get_or xs k blank ≡ get_or ys k blank) → xs ≡ ys
-same-list [] [] same each = refl
-same-list [] (y ∷ ys) same each = absurd (omega (arith, same))
-same-list (x ∷ xs) [] same each = absurd (omega (arith, same))
-same-list (x ∷ xs) (y ∷ ys) same each = ap (λ z. z ∷ xs) (each 0) ∙ ap (λ zs. y ∷ zs) (same-list xs ys (omega (arith, same)) (λ k. each (suc k)))
-
 -- where what was written is noted the end of what is noted is the end in each cell
 pub ended-each : (s : ℕ) (e : Ending) (ws : List Written) (cells : List Cell) → ((k t : ℕ) → is_of_at cells t k ≡ true → IsWritten ws t k) → (k : ℕ)
     → get_or (ended_in s e ws cells) k blank ≡ ended s e (get_or cells k blank)
@@ -168,8 +158,3 @@ ended-each s e ws cells complete k = at (is_of_at cells s k) refl
     at : (b : Bool) → is_of_at cells s k ≡ b → get_or (ended_in s e ws cells) k blank ≡ ended s e (get_or cells k blank)
     at true is = ended-done s e ws cells k (complete k s is)
     at false is = let stays = ended-other s e (get_or cells k blank) is in ended-fixed s e ws cells k stays ∙ sym stays
-
-pub ended-all : (s : ℕ) (e : Ending) (ws : List Written) (cells : List Cell) → ((k t : ℕ) → is_of_at cells t k ≡ true → IsWritten ws t k)
-    → ended_in s e ws cells ≡ map (ended s e) cells
-ended-all s e ws cells complete =
-    same-list _ _ (length-ended s e ws cells ∙ sym (length-map cells (ended s e))) (λ k. ended-each s e ws cells complete k ∙ sym (get-map s e cells k))

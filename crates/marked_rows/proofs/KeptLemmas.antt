@@ -1,15 +1,15 @@
 -- What is kept behind each change.
-use Rattle.std.proofs.Common.{◌≡◌, refl, sym, ap, ◌∙◌, subst, ℕ, zero, suc, ◌<◌, ◌==◌, Bool, true, false, cond, inl, inr, ⊎_elim, arith, length-append}
+use Rattle.std.proofs.Common.{◌≡◌, refl, sym, ap, ◌∙◌, subst, ℕ, zero, suc, ◌+◌, ◌<◌, ◌≤◌, ◌==◌, Bool, true, false, cond, inl, inr, ⊎_elim, arith, length-append}
 use Rattle.std.proofs.Common.{List, [], ◌∷◌, ◌++◌, length, get_or, set, Option, Some, None, All, get_or-set_other, get_or-set_same}
 use Rattle.std.specs.List.{list_all}
 use Rattle.std.proofs.lemmas.Bool.{and_parts, eqb-true}
 use Rattle.std.proofs.lemmas.Bool.Decides.{eqb_tells}
-use Rattle.std.proofs.lemmas.List.{length-set}
+use Rattle.std.proofs.lemmas.List.{append_assoc, length-set}
 use Rattle.std.proofs.lemmas.List.Elements.{All-cons, All-head, All-nil, All-push, All-tail, All-weaker}
 use Rattle.lock_modes.specs.Rows.{Tuple}
-use Rattle.lock_modes.specs.declared.value.Value.{Value}
-use Rattle.marked_rows.specs.Cells.{places_of}
-use Rattle.marked_rows.specs.Kept.{HasRows, IsBlank, IsInside, IsKeptAt, IsLeft, IsNumber, IsWritten, blank}
+use Rattle.marked_lists.specs.Versions.{Versions}
+use Rattle.marked_rows.specs.Cells.{blank}
+use Rattle.marked_rows.specs.Kept.{AreKept, HasRows, IsInside, IsKeptAt, IsLeft, IsNumber, IsWritten, HasBlanks, blanks}
 use Rattle.marked_rows.specs.Kept.{ended, ended_at, ended_by, ended_in, is_of, is_of_at, noted, with_end}
 use Rattle.marked_rows.specs.declared.cell.Cell.{Cell}
 use Rattle.marked_rows.specs.declared.cell.Ending.{Ending}
@@ -68,6 +68,33 @@ all-ended rows s e (w ∷ ws) cells all = all-ended rows s e ws (ended_at s e w 
         (ended-rows rows s e (get_or cells w.cell blank) (all-get rows cells w.cell all))
     at false = all
 
+-- ---- blank cells
+
+blank-at : (k n : ℕ) → get_or (blanks k) n blank ≡ blank
+blank-at zero n = refl
+blank-at (suc k) zero = refl
+blank-at (suc k) (suc n) = blank-at k n
+
+-- cells that are blank say as much as none
+pub blank-more : (cells : List Cell) (k n : ℕ) → get_or (cells ++ blanks k) n blank ≡ get_or cells n blank
+blank-more [] k n = blank-at k n
+blank-more (c ∷ cells) k zero = refl
+blank-more (c ∷ cells) k (suc n) = blank-more cells k n
+
+-- one more, where there is room up to the place
+pub blank-push : (place : ℕ) (old now new : Versions Cell) → HasBlanks place old now → length now.list ≤ place
+    → new ≡ record now { list = now.list ++ blank ∷ [] } → HasBlanks place old new
+blank-push place old now new has le is = record {
+  count = suc has.count;
+  is = is ∙ ap (λ (v : Versions Cell). let w : Versions Cell = record v { list = v.list ++ blank ∷ [] } in w) has.is
+      ∙ ap (λ cs. let w : Versions Cell = record old { list = cs } in w) (append_assoc old.list (blanks has.count) (blank ∷ []) ∙ ap (λ bs. old.list ++ bs) (last has.count));
+  few = inr (let long = ap (λ (v : Versions Cell). length v.list) is in omega (arith, le, long, length-append now.list (blank ∷ [])));
+}
+  where
+    last : (n : ℕ) → blanks n ++ blank ∷ [] ≡ blank ∷ blanks n
+    last zero = refl
+    last (suc n) = ap (λ bs. blank ∷ bs) (last n)
+
 -- ---- what is noted
 
 written-first : (ws : List Written) (w : Written) (s k : ℕ) → IsWritten ws s k → IsWritten (ws ++ w ∷ []) s k
@@ -105,19 +132,19 @@ inside-same cells cells' ws same all = All-weaker (IsInside cells) (IsInside cel
 
 -- ---- what is kept
 
-module _ (keys : List (List Value)) (rows : List Tuple) (cells : List Cell) (written : List Written) (kept : IsKeptAt keys rows cells written) where
+module _ (next : ℕ) (rows : List Tuple) (cells : List Cell) (written : List Written) (kept : IsKeptAt next rows cells written) where
   -- there may be more rows, and more may be noted than is written
-  pub kept-noted : (more : List Tuple) (c : Cell) (s k : ℕ) → k < length cells → IsKeptAt keys (rows ++ more) cells (noted written c s k)
+  pub kept-noted : (more : List Tuple) (c : Cell) (s k : ℕ) → k < length cells → IsKeptAt next (rows ++ more) cells (noted written c s k)
   kept-noted more c s k lt = record {
-    count = kept.count;
+    few = kept.few;
     there = All-weaker (HasRows rows) (HasRows (rows ++ more)) (λ c has. cell-more rows more c has) cells kept.there;
     inside = noted-inside cells written c s k kept.inside lt;
     complete = λ j t is. noted-more written c s k t j (kept.complete j t is);
   }
 
-  pub kept-more : (more : List Tuple) → IsKeptAt keys (rows ++ more) cells written
+  pub kept-more : (more : List Tuple) → IsKeptAt next (rows ++ more) cells written
   kept-more more = record {
-    count = kept.count;
+    few = kept.few;
     there = All-weaker (HasRows rows) (HasRows (rows ++ more)) (λ c has. cell-more rows more c has) cells kept.there;
     inside = kept.inside;
     complete = kept.complete;
@@ -125,9 +152,9 @@ module _ (keys : List (List Value)) (rows : List Tuple) (cells : List Cell) (wri
 
   -- what is noted may be written
   pub kept-written : (more : List Tuple) (s k : ℕ) (n : Option ℕ) → k < length cells → IsNumber (rows ++ more) n
-      → IsKeptAt keys (rows ++ more) (set cells k (with_left (get_or cells k blank) s n)) (noted written (get_or cells k blank) s k)
+      → IsKeptAt next (rows ++ more) (set cells k (with_left (get_or cells k blank) s n)) (noted written (get_or cells k blank) s k)
   kept-written more s k n lt there = record {
-    count = length-set cells k new ∙ kept.count;
+    few = subst (λ m. m ≤ next) (sym (length-set cells k new)) kept.few;
     there = all-set (HasRows (rows ++ more)) cells k new (kept-more more).there ((cell-more rows more (get_or cells k blank) (all-get rows cells k kept.there)).0, there);
     inside = inside-same cells (set cells k new) (noted written (get_or cells k blank) s k) (length-set cells k new)
         (noted-inside cells written (get_or cells k blank) s k kept.inside lt);
@@ -147,18 +174,18 @@ module _ (keys : List (List Value)) (rows : List Tuple) (cells : List Cell) (wri
           (subst (λ x. IsWritten (noted written (get_or cells k blank) s k) s x) (sym same) (noted-has written (get_or cells k blank) s k (kept.complete k s)))
 
   -- what a session wrote may end in part
-  pub kept-ended : (s : ℕ) (e : Ending) (ws : List Written) → IsKeptAt keys rows (ended_in s e ws cells) written
+  pub kept-ended : (s : ℕ) (e : Ending) (ws : List Written) → IsKeptAt next rows (ended_in s e ws cells) written
   kept-ended s e ws = record {
-    count = length-ended s e ws cells ∙ kept.count;
+    few = subst (λ m. m ≤ next) (sym (length-ended s e ws cells)) kept.few;
     there = all-ended rows s e ws cells kept.there;
     inside = inside-same cells (ended_in s e ws cells) written (length-ended s e ws cells) kept.inside;
     complete = λ j t is. kept.complete j t (ended-was s e ws cells j t is);
   }
 
   -- where all that is noted was of one session nothing is left of it once it has ended
-  pub kept-all : (s : ℕ) (e : Ending) → list_all (λ (w : Written). w.session == s) written ≡ true → IsKeptAt keys rows (ended_in s e written cells) []
+  pub kept-all : (s : ℕ) (e : Ending) → list_all (λ (w : Written). w.session == s) written ≡ true → IsKeptAt next rows (ended_in s e written cells) []
   kept-all s e all = record {
-    count = length-ended s e written cells ∙ kept.count;
+    few = subst (λ m. m ≤ next) (sym (length-ended s e written cells)) kept.few;
     there = all-ended rows s e written cells kept.there;
     inside = All-nil (IsInside (ended_in s e written cells));
     complete = λ j t is. absurd (never j t is);
@@ -180,19 +207,44 @@ module _ (keys : List (List Value)) (rows : List Tuple) (cells : List Cell) (wri
           let contra : false ≡ true = sym (ended-gone s e (get_or cells j blank)) ∙ gone in
           cc
 
--- nothing has been written
-pub kept-new : (keys : List (List Value)) (cells : List Cell) → length cells ≡ length (places_of keys) → All IsBlank cells → IsKeptAt keys [] cells []
-kept-new keys cells count all = record {
-  count = count;
-  there = All-weaker IsBlank (HasRows []) (λ c is. subst (HasRows []) (sym is) (tt, tt)) cells all;
-  inside = All-nil (IsInside cells);
-  complete = λ j t is. absurd (never j t is);
-}
-  where
-    blank-at : (xs : List Cell) → All IsBlank xs → (j : ℕ) → get_or xs j blank ≡ blank
-    blank-at [] all j = refl
-    blank-at (x ∷ xs) all zero = All-head IsBlank x xs all
-    blank-at (x ∷ xs) all (suc j) = blank-at xs (All-tail IsBlank x xs all) j
+  -- blank cells may be there, and places more
+  pub kept-blank : (k more : ℕ) → length cells + k ≤ more → IsKeptAt more rows (cells ++ blanks k) written
+  kept-blank k more le = record {
+    few = omega (arith, le, length-append cells (blanks k), blanks-length k);
+    there = all-blank cells k kept.there;
+    inside = All-weaker (IsInside cells) (IsInside (cells ++ blanks k)) (λ w lt. omega (arith, lt, length-append cells (blanks k))) written kept.inside;
+    complete = λ j t is. kept.complete j t (subst (λ c. is_of t c ≡ true) (blank-more cells k j) is);
+  }
+    where
+      blanks-length : (n : ℕ) → length (blanks n) ≡ n
+      blanks-length zero = refl
+      blanks-length (suc n) = ap suc (blanks-length n)
 
-    never : (j t : ℕ) → is_of_at cells t j ≡ true → ⊥
-    never j t is = let contra : false ≡ true = sym (ap (is_of t) (blank-at cells all j)) ∙ is in cc
+      all-blanks : (n : ℕ) → All (HasRows rows) (blanks n)
+      all-blanks zero = All-nil (HasRows rows)
+      all-blanks (suc n) = All-cons (HasRows rows) blank (blanks n) (tt, tt) (all-blanks n)
+
+      all-blank : (cs : List Cell) (n : ℕ) → All (HasRows rows) cs → All (HasRows rows) (cs ++ blanks n)
+      all-blank [] n all = all-blanks n
+      all-blank (c ∷ cs) n all =
+          All-cons (HasRows rows) c (cs ++ blanks n) (All-head (HasRows rows) c cs all) (all-blank cs n (All-tail (HasRows rows) c cs all))
+
+  -- and there may be more places
+  pub kept-next : (more : ℕ) → next ≤ more → IsKeptAt more rows cells written
+  kept-next more le = record {
+    few = (let f = kept.few in omega (arith, le, f));
+    there = kept.there;
+    inside = kept.inside;
+    complete = kept.complete;
+  }
+
+-- also at marks
+pub marks-next : (next more : ℕ) → next ≤ more → (rows : List (List Tuple)) (cells : List (List Cell)) (written : List (List Written))
+    → AreKept next rows cells written → AreKept more rows cells written
+marks-next next more le [] [] [] kept = tt
+marks-next next more le [] [] (ws ∷ written) kept = absurd kept
+marks-next next more le [] (cs ∷ cells) written kept = absurd kept
+marks-next next more le (rs ∷ rows) [] written kept = absurd kept
+marks-next next more le (rs ∷ rows) (cs ∷ cells) [] kept = absurd kept
+marks-next next more le (rs ∷ rows) (cs ∷ cells) (ws ∷ written) kept =
+    (kept-next next rs cs ws kept.0 more le, marks-next next more le rows cells written kept.1)

@@ -1,28 +1,40 @@
--- The places where rows may lie, and their cells.
-use Rattle.std.proofs.Common.{◌≡◌, ◌≢◌, refl, sym, ap, ◌∙◌, subst, ℕ, zero, suc, ◌+◌, ◌<◌, ◌≤◌, ◌^◌, arith, ◌⊎◌, inl, inr}
-use Rattle.std.proofs.Common.{List, [], ◌∷◌, ◌++◌, length, map, get_or, Option, Some, Ordering, Less, Equal, Greater, length-append}
-use Rattle.std.specs.Prelude.{Err, slice_get}
-use Rattle.std.specs.Ordering.{is_lt, ordering_reverse}
+-- The places where rows have lain, and their cells.
+use Rattle.std.proofs.Common.{◌≡◌, ◌≢◌, refl, sym, ap, ◌∙◌, subst, ℕ, zero, suc, ◌+◌, ◌<◌, ◌≤◌, arith, inl, inr}
+use Rattle.std.proofs.Common.{List, [], ◌∷◌, ◌++◌, length, map, get_or, set, take, drop, All, Option, Some, None, Ordering, Less, Equal, Greater}
+use Rattle.std.specs.Prelude.{Result, Ok, Err, IfOk, IfErr, slice_get}
+use Rattle.std.specs.Option.{option_map}
+use Rattle.std.specs.Global.{Vec}
+use Rattle.std.specs.Vec.{vec_items}
+use Rattle.std.specs.Ordering.{is_lt, ordering_index, ordering_reverse}
 use Rattle.std.specs.List.{AllByRecursion, Contains, HoldsAt}
-use Rattle.std.specs.List.Sorted.{IsBinarySearchResult, IsSorted, IsStrictlySortedBy}
-use Rattle.std.proofs.lemmas.Bool.{cases_lt}
-use Rattle.std.proofs.lemmas.List.{get_or_append_left, get_or_at, get_or_default, length-map}
-use Rattle.std.proofs.lemmas.List.Elements.{All-get_or, All-head, All-tail, at_from_Contains}
+use Rattle.std.specs.List.Sorted.{IsBinarySearchResult, IsNonDecreasingBy, IsSearchInRange, IsSortedBy, IsStrictlySortedBy}
+use Rattle.std.proofs.lemmas.List.{append_assoc, length-map, map-append, set-get_or, take-append-drop}
+use Rattle.std.proofs.lemmas.List.Elements.{All-cons, All-get_or, All-head, All-push, All-tail, All-weaker}
 use Rattle.std.proofs.lemmas.List.Sorted.{searchable_from_sorted}
 use Rattle.std.proofs.lemmas.Map.Keys.{Less-from_sorted}
 use Rattle.lock_modes.specs.RowPlace.{RowPlace}
 use Rattle.lock_modes.specs.Value.{value_cmp, value_same, value_total}
 use Rattle.lock_modes.specs.declared.value.Value.{Value}
-use Rattle.marked_rows.specs.Cells.{AllRise, HasKey, places_from, places_of}
-use Rattle.marked_rows.specs.Kept.{ArePlaces, IsCellOf, cells_before}
-use Rattle.marked_rows.proofs.CellLemmas.{AreApart, IsAbsent}
+use Rattle.marked_rows.specs.Places.{AllRise, AreApart, HasMore, Index, IsAbsent, IsBefore, IsFree, IsGap, IsIndexOf, IsMore, IsPlaceOf}
+use Rattle.marked_rows.specs.Places.{key_cmp, keys_of, placed, placed_from}
+use Rattle.marked_rows.specs.declared.places.KeyedCell.{KeyedCell}
+
+abbrev Placed : Type 0
+Placed = RowPlace × ℕ
+
+abbrev entry : ℕ → KeyedCell → Placed
+entry n e = ((n, e.key), e.cell)
 
 -- ---- searching the keys of a table
 
-rising-sorted : (ks : List Value) → IsStrictlySortedBy value_cmp ks → IsSorted value_cmp ks
-rising-sorted ks rise k d low lt =
-    let less = Less-from_sorted value_cmp ks k (k + 1) d rise (omega arith) lt in
-    ap is_lt (value_total.antisymm (get_or ks (k + 1) d) (get_or ks k d) ∙ ap ordering_reverse less)
+rising-sorted : (es : List KeyedCell) → IsStrictlySortedBy key_cmp es → IsSortedBy (λ (a b : KeyedCell). is_lt (value_cmp a.key b.key)) es
+rising-sorted es rise k d low lt =
+    let less = Less-from_sorted key_cmp es k (k + 1) d rise (omega arith) lt in
+    ap is_lt (value_total.antisymm (get_or es (k + 1) d).key (get_or es k d).key ∙ ap ordering_reverse less)
+
+-- keys that rise may be searched
+searchable : (es : List KeyedCell) (k : Value) → IsStrictlySortedBy key_cmp es → IsNonDecreasingBy (λ (e : KeyedCell). ordering_index (value_cmp e.key k)) es
+searchable es k rise = searchable_from_sorted value_total (λ (e : KeyedCell). e.key) es k (rising-sorted es rise)
 
 itself : (o : Ordering) → o ≡ ordering_reverse o → o ≡ Equal
 itself Less e = cc
@@ -32,213 +44,339 @@ itself Greater e = cc
 less-equal : Less ≡ Equal → ⊥
 less-equal e = cc
 
-greater-equal : Greater ≡ Equal → ⊥
-greater-equal e = cc
-
 pub get-at : {A : Type 0} (xs : List A) (i : ℕ) (d : A) → i < length xs → slice_get xs i ≡ Some (get_or xs i d)
 get-at [] i d lt = absurd (omega (arith, lt))
 get-at (x ∷ xs) zero d lt = refl
 get-at (x ∷ xs) (suc i) d lt = get-at xs i d (omega (arith, lt))
 
-pub found : (ks : List Value) (k : Value) (i : ℕ) → i < length ks → HoldsAt (λ y. value_cmp y k ≡ Equal) ks i → slice_get ks i ≡ Some k
-found ks k i lt at = get-at ks i k lt ∙ ap Some (value_same _ _ (at k))
+found : (es : List KeyedCell) (k : Value) (i : ℕ) → i < length es → HoldsAt (λ (e : KeyedCell). value_cmp e.key k ≡ Equal) es i → IsIndexOf es k i
+found es k i lt at =
+    let d : KeyedCell = record { key = k; cell = 0 } in
+    ap (option_map (λ (e : KeyedCell). e.key)) (get-at es i d lt) ∙ ap Some (value_same _ _ (at d))
 
-pub not-found : (ks : List Value) (k : Value) (i : ℕ) → IsStrictlySortedBy value_cmp ks → IsBinarySearchResult (λ y. value_cmp y k) ks (Err i)
-    → Contains ks k → ⊥
-not-found ks k i rise h c = on (cases_lt at.0 i)
-  where
-    at : (n : ℕ) × (n < length ks) × HoldsAt (λ y. y ≡ k) ks n
-    at = at_from_Contains ks k c
+gap : (es : List KeyedCell) (k : Value) (i : ℕ) → i ≤ length es → IsStrictlySortedBy key_cmp es
+    → IsBinarySearchResult (λ (e : KeyedCell). value_cmp e.key k) es (Err i) → IsGap es k i
+gap es k i le rise h =
+    let parts = h (searchable es k rise) in
+    record {
+      inside = le;
+      before = λ j d lt. parts.0 j d (omega arith) lt;
+      behind = λ j d from lt.
+          value_total.antisymm k (get_or es j d).key ∙ ap ordering_reverse (parts.1 j d from lt);
+    }
 
-    there : value_cmp (get_or ks at.0 k) k ≡ Equal
-    there = ap (λ x. value_cmp x k) (at.2 k) ∙ itself (value_cmp k k) (value_total.antisymm k k)
+-- what a search among the keys tells
+pub searched : (es : List KeyedCell) (k : Value) (r : Result ℕ ℕ) → IsStrictlySortedBy key_cmp es → IsSearchInRange r (length es)
+    → IsBinarySearchResult (λ (e : KeyedCell). value_cmp e.key k) es r → IfOk r (IsIndexOf es k) × IfErr r (IsGap es k)
+searched es k (Ok i) rise range h = (found es k i range h, tt)
+searched es k (Err i) rise range h = (tt, gap es k i range rise h)
 
-    on : (at.0 < i) ⊎ (i ≤ at.0) → ⊥
-    on (inl lt) =
-        let parts = h (searchable_from_sorted value_total (λ (x : Value). x) ks k (rising-sorted ks rise)) in
-        less-equal (sym (parts.0 at.0 k (omega arith) lt) ∙ there)
-    on (inr le) =
-        let parts = h (searchable_from_sorted value_total (λ (x : Value). x) ks k (rising-sorted ks rise)) in
-        greater-equal (sym (parts.1 at.0 k le at.1) ∙ there)
+-- ---- a key more
 
--- ---- no place is there twice
+all-by : (c : KeyedCell → Ordering) (es : List KeyedCell) → ((j : ℕ) (d : KeyedCell) → j < length es → c (get_or es j d) ≡ Less)
+    → AllByRecursion (λ e. c e ≡ Less) es
+all-by c [] each = tt
+all-by c (e ∷ es) each = (each 0 e (omega arith), all-by c es (λ j d lt. each (suc j) d (omega (arith, lt))))
 
-abbrev in_table : ℕ → List Value → List RowPlace
-in_table n ks = map (λ k. let p : RowPlace = (n, k) in p) ks
+all-more : (c : KeyedCell → Ordering) (es : List KeyedCell) (i : ℕ) (e : KeyedCell) → AllByRecursion (λ x. c x ≡ Less) es → c e ≡ Less
+    → AllByRecursion (λ x. c x ≡ Less) (take i es ++ e ∷ drop i es)
+all-more c [] zero e all is = (is, tt)
+all-more c [] (suc i) e all is = (is, tt)
+all-more c (x ∷ es) zero e all is = (is, all)
+all-more c (x ∷ es) (suc i) e all is = (all.0, all-more c es i e all.1 is)
 
-absent-append : (p : RowPlace) (xs ys : List RowPlace) → IsAbsent p xs → IsAbsent p ys → IsAbsent p (xs ++ ys)
-absent-append p [] ys left right = right
-absent-append p (x ∷ xs) ys left right = (left.0, absent-append p xs ys left.1 right)
-
-absent-table : (t n : ℕ) (k : Value) (ks : List Value) → t ≢ n → IsAbsent (t, k) (in_table n ks)
-absent-table t n k [] ne = tt
-absent-table t n k (x ∷ ks) ne = ((λ e. ne (ap (λ (p : RowPlace). p.0) e)), absent-table t n k ks ne)
-
--- a table before the first one has no place
-absent-before : (t n : ℕ) (k : Value) (keys : List (List Value)) → t < n → IsAbsent (t, k) (places_from n keys)
-absent-before t n k [] lt = tt
-absent-before t n k (ks ∷ keys) lt =
-    absent-append (t, k) (in_table n ks) (places_from (suc n) keys) (absent-table t n k ks (λ e. omega (arith, lt, e))) (absent-before t (suc n) k keys (omega (arith, lt)))
-
-lower : (n : ℕ) (k : Value) (ks : List Value) → AllByRecursion (λ y. value_cmp k y ≡ Less) ks → IsAbsent (n, k) (in_table n ks)
-lower n k [] all = tt
-lower n k (x ∷ ks) all = (
-  (λ e. less-equal (sym (subst (λ y. value_cmp k y ≡ Less) (sym (ap (λ (p : RowPlace). p.1) e)) all.0) ∙ itself (value_cmp k k) (value_total.antisymm k k))),
-  lower n k ks all.1,
+rise-insert : (es : List KeyedCell) (i : ℕ) (e : KeyedCell) → IsStrictlySortedBy key_cmp es
+    → ((j : ℕ) (d : KeyedCell) → j < i → j < length es → key_cmp (get_or es j d) e ≡ Less)
+    → ((j : ℕ) (d : KeyedCell) → i ≤ j → j < length es → key_cmp e (get_or es j d) ≡ Less) → IsStrictlySortedBy key_cmp (take i es ++ e ∷ drop i es)
+unfolding IsStrictlySortedBy
+rise-insert [] zero e rise before behind = (tt, tt)
+rise-insert [] (suc i) e rise before behind = (tt, tt)
+rise-insert (x ∷ es) zero e rise before behind = (all-by (key_cmp e) (x ∷ es) (λ j d lt. behind j d (omega arith) lt), rise)
+rise-insert (x ∷ es) (suc i) e rise before behind = (
+  all-more (key_cmp x) es i e rise.0 (before 0 x (omega arith) (omega arith)),
+  rise-insert es i e rise.1 (λ j d lt inside. before (suc j) d (omega (arith, lt)) (omega (arith, inside)))
+      (λ j d le lt. behind (suc j) d (omega (arith, le)) (omega (arith, lt))),
 )
 
-apart-table : (n : ℕ) (ks : List Value) (rest : List RowPlace) → IsStrictlySortedBy value_cmp ks → AreApart rest → ((k : Value) → IsAbsent (n, k) rest)
-    → AreApart (in_table n ks ++ rest)
+-- keys still rise where one is put into its gap
+pub rise-more : (es : List KeyedCell) (k : Value) (n i : ℕ) → IsStrictlySortedBy key_cmp es → IsGap es k i
+    → IsStrictlySortedBy key_cmp (take i es ++ record { key = k; cell = n } ∷ drop i es)
+rise-more es k n i rise there =
+    rise-insert es i (record { key = k; cell = n }) rise (λ j d lt inside. there.before j d lt) (λ j d le lt. there.behind j d le lt)
+
+pub keys-rise : (es : List KeyedCell) → IsStrictlySortedBy key_cmp es → IsStrictlySortedBy value_cmp (keys_of es)
 unfolding IsStrictlySortedBy
-apart-table n [] rest rise apart none = apart
-apart-table n (k ∷ ks) rest rise apart none =
-    (absent-append (n, k) (in_table n ks) rest (lower n k ks rise.0) (none k), apart-table n ks rest rise.1 apart none)
-
-apart-from : (n : ℕ) (keys : List (List Value)) → AllRise keys → AreApart (places_from n keys)
-apart-from n [] rise = tt
-apart-from n (ks ∷ keys) rise =
-    apart-table n ks (places_from (suc n) keys) (All-head (IsStrictlySortedBy value_cmp) ks keys rise)
-    (apart-from (suc n) keys (All-tail (IsStrictlySortedBy value_cmp) ks keys rise)) (λ k. absent-before n (suc n) k keys (omega arith))
-
-pub apart-places : (keys : List (List Value)) → AllRise keys → AreApart (places_of keys)
-apart-places keys rise = apart-from 0 keys rise
-
--- ---- a key that is not among those of its table
-
-absent-key : (n : ℕ) (ks : List Value) (k : Value) → (Contains ks k → ⊥) → IsAbsent (n, k) (in_table n ks)
-absent-key n [] k never = tt
-absent-key n (x ∷ ks) k never =
-    ((λ e. never (0, omega arith, sym (ap (λ (p : RowPlace). p.1) e))), absent-key n ks k (λ c. never (suc c.0, (let lt = c.1 in omega (arith, lt)), c.2)))
-
-absent-from : (n : ℕ) (keys : List (List Value)) (t m : ℕ) (k : Value) → m ≡ n + t → (HasKey keys t k → ⊥) → IsAbsent (m, k) (places_from n keys)
-absent-from n [] t m k is never = tt
-absent-from n (ks ∷ keys) zero m k is never =
-    absent-append (m, k) (in_table n ks) (places_from (suc n) keys)
-    (let e : n ≡ m = omega (arith, is) in subst (λ x. IsAbsent (x, k) (in_table n ks)) e (absent-key n ks k never))
-    (absent-before m (suc n) k keys (omega (arith, is)))
-absent-from n (ks ∷ keys) (suc t) m k is never =
-    absent-append (m, k) (in_table n ks) (places_from (suc n) keys) (absent-table m n k ks (λ e. omega (arith, is, e)))
-    (absent-from (suc n) keys t m k (omega (arith, is)) never)
-
-pub absent-place : (keys : List (List Value)) (t : ℕ) (k : Value) → (HasKey keys t k → ⊥) → IsAbsent (t, k) (places_of keys)
-absent-place keys t k never = absent-from 0 keys t t k (omega arith) never
-
--- ---- the cell of a key
-
-get-left : {A : Type 0} (xs ys : List A) (i : ℕ) → i < length xs → slice_get (xs ++ ys) i ≡ slice_get xs i
-get-left [] ys i lt = absurd (omega (arith, lt))
-get-left (x ∷ xs) ys zero lt = refl
-get-left (x ∷ xs) ys (suc i) lt = get-left xs ys i (omega (arith, lt))
-
-get-right : {A : Type 0} (xs ys : List A) (n i : ℕ) → n ≡ length xs + i → slice_get (xs ++ ys) n ≡ slice_get ys i
-get-right [] ys n i is = let e : n ≡ i = omega (arith, is) in ap (slice_get ys) e
-get-right (x ∷ xs) ys zero i is = absurd (omega (arith, is))
-get-right (x ∷ xs) ys (suc n) i is = get-right xs ys n i (omega (arith, is))
-
-get-table : (n : ℕ) (ks : List Value) (i : ℕ) (k : Value) → slice_get ks i ≡ Some k → slice_get (in_table n ks) i ≡ Some (n, k)
-get-table n [] i k e = cc
-get-table n (x ∷ ks) zero k e = let same : x ≡ k = grind (arith, e) in ap (λ y. let o : Option RowPlace = Some (n, y) in o) same
-get-table n (x ∷ ks) (suc i) k e = get-table n ks i k e
-
-within : {A : Type 0} (xs : List A) (i : ℕ) (x : A) → slice_get xs i ≡ Some x → i < length xs
-within [] i x e = cc
-within (y ∷ xs) zero x e = omega arith
-within (y ∷ xs) (suc i) x e = let lt = within xs i x e in omega (arith, lt)
-
-pub cell-within : (keys : List (List Value)) (p : RowPlace) (i : ℕ) → IsCellOf keys p i → i < length (places_of keys)
-cell-within keys p i is = within (places_of keys) i p is
-
--- the cells of a table stand behind those of the tables before it
-cell-from : (n : ℕ) (keys : List (List Value)) (t i m at : ℕ) (k : Value) → m ≡ n + t → at ≡ cells_before keys t + i → slice_get (get_or keys t []) i ≡ Some k
-    → slice_get (places_from n keys) at ≡ Some (m, k)
-cell-from n [] t i m at k is here e = cc
-cell-from n (ks ∷ keys) zero i m at k is here e =
-    let lt : i < length (in_table n ks) = (let l = within ks i k e in omega (arith, l, length-map ks (λ k. let p : RowPlace = (n, k) in p))) in
-    let same : m ≡ n = omega (arith, is) in
-    let place : at ≡ i = omega (arith, here) in
-    ap (slice_get (in_table n ks ++ places_from (suc n) keys)) place ∙ get-left (in_table n ks) (places_from (suc n) keys) i lt ∙ get-table n ks i k e
-    ∙ ap (λ x. let o : Option RowPlace = Some (x, k) in o) (sym same)
-cell-from n (ks ∷ keys) (suc t) i m at k is here e =
-    get-right (in_table n ks) (places_from (suc n) keys) at (cells_before keys t + i)
-    (omega (arith, here, length-map ks (λ k. let p : RowPlace = (n, k) in p)))
-    ∙ cell-from (suc n) keys t i m (cells_before keys t + i) k (omega (arith, is)) refl e
-
-cell-of : (keys : List (List Value)) (t i at : ℕ) (k : Value) → at ≡ cells_before keys t + i → slice_get (get_or keys t []) i ≡ Some k → IsCellOf keys (t, k) at
-cell-of keys t i at k here e = cell-from 0 keys t i t at k (omega arith) here e
-
--- ---- lists that a vector keeps
-
--- a list by its place, as it is kept
-pub items-at : {A : Type 0} (f : A → List Value) (vs : List A) (t : ℕ) (v : A) → t < length vs → v ≡ get_or vs t v → f v ≡ get_or (map f vs) t []
-items-at {A} f vs t v lt is = ap f is ∙ at vs t lt
+keys-rise [] rise = tt
+keys-rise (e ∷ es) rise = (lower es rise.0, keys-rise es rise.1)
   where
-    at : (xs : List A) (n : ℕ) → n < length xs → f (get_or xs n v) ≡ get_or (map f xs) n []
-    at [] n lt = absurd (omega (arith, lt))
-    at (x ∷ xs) zero lt = refl
-    at (x ∷ xs) (suc n) lt = at xs n (omega (arith, lt))
+    lower : (xs : List KeyedCell) → AllByRecursion (λ x. key_cmp e x ≡ Less) xs → AllByRecursion (λ y. value_cmp e.key y ≡ Less) (keys_of xs)
+    lower [] all = tt
+    lower (x ∷ xs) all = (all.0, lower xs all.1)
 
-module _ (keys : List (List Value)) (first : List ℕ) (kept : ArePlaces keys first) (t : ℕ) (lt : t < length keys) where
-  -- the keys of a table rise
-  pub table-rises : (ks : List Value) → ks ≡ get_or keys t [] → IsStrictlySortedBy value_cmp ks
-  table-rises ks is = subst (IsStrictlySortedBy value_cmp) (sym is) (All-get_or (IsStrictlySortedBy value_cmp) keys t [] lt kept.rise)
-
-  pub cell-sum : (ks : List Value) (f i : ℕ) (k : Value) → ks ≡ get_or keys t [] → f ≡ get_or first t f → slice_get ks i ≡ Some k → IsCellOf keys (t, k) (f + i)
-  cell-sum ks f i k is at e =
-      let inside : t < length first = (let l = kept.count in omega (arith, lt, l)) in
-      let start : f ≡ cells_before keys t = at ∙ get_or_default first t f 0 inside ∙ kept.each t lt in
-      cell-of keys t i (f + i) k (omega (arith, start)) (subst (λ xs. slice_get xs i ≡ Some k) is e)
-
--- ---- counting cells
-
-pub before-more : (keys : List (List Value)) (t : ℕ) → t < length keys → cells_before keys (t + 1) ≡ cells_before keys t + length (get_or keys t [])
-before-more [] t lt = absurd (omega (arith, lt))
-before-more (ks ∷ []) zero lt = omega arith
-before-more (ks ∷ next ∷ keys) zero lt = omega arith
-before-more (ks ∷ keys) (suc t) lt =
-    let more = before-more keys t (omega (arith, lt)) in
-    let next : suc t + 1 ≡ suc (t + 1) = omega arith in
-    ap (cells_before (ks ∷ keys)) next ∙ omega (arith, more)
-
-all-from : (n : ℕ) (keys : List (List Value)) → length (places_from n keys) ≡ cells_before keys (length keys)
-all-from n [] = refl
-all-from n (ks ∷ keys) =
-    let rest = all-from (suc n) keys in
-    omega (arith, rest, length-append (in_table n ks) (places_from (suc n) keys), length-map ks (λ k. let p : RowPlace = (n, k) in p))
-
-all-cells : (keys : List (List Value)) → length (places_of keys) ≡ cells_before keys (length keys)
-all-cells keys = all-from 0 keys
-
-before-all : (keys : List (List Value)) (t : ℕ) → t < length keys → cells_before keys t + length (get_or keys t []) ≤ cells_before keys (length keys)
-before-all [] t lt = absurd (omega (arith, lt))
-before-all (ks ∷ keys) zero lt = omega arith
-before-all (ks ∷ keys) (suc t) lt = let rest = before-all keys t (omega (arith, lt)) in omega (arith, rest)
-
--- the cells of a table are among all cells
-pub cells-inside : (keys : List (List Value)) (first : List ℕ) → ArePlaces keys first → (t : ℕ) → t < length keys → (ks : List Value) (f : ℕ)
-    → ks ≡ get_or keys t []
-    → f ≡ get_or first t f → f + length ks ≤ length (places_of keys)
-cells-inside keys first kept t lt ks f is at =
-    let count = kept.count in
-    let start : f ≡ cells_before keys t = at ∙ get_or_default first t f 0 (omega (arith, lt, count)) ∙ kept.each t lt in
-    omega (arith, start, ap length is, before-all keys t lt, all-cells keys)
-
-pub none-rises : IsStrictlySortedBy value_cmp []
+pub none-rises : IsStrictlySortedBy key_cmp []
 unfolding IsStrictlySortedBy
 none-rises = tt
 
--- the first cell of one table more
-pub first-more : (keys : List (List Value)) (first new : List ℕ) (t n : ℕ) → length first ≡ t → ((j : ℕ) → j < t → get_or first j 0 ≡ cells_before keys j)
-    → n ≡ cells_before keys t → new ≡ first ++ n ∷ [] → (length new ≡ t + 1) × ((j : ℕ) → j < t + 1 → get_or new j 0 ≡ cells_before keys j)
-first-more keys first new t n long each is more =
-    (ap length more ∙ omega (arith, long, length-append first (n ∷ [])), λ j lt. ap (λ xs. get_or xs j 0) more ∙ at j lt (cases_lt j t))
-  where
-    at : (j : ℕ) → j < t + 1 → (j < t) ⊎ (t ≤ j) → get_or (first ++ n ∷ []) j 0 ≡ cells_before keys j
-    at j lt (inl below) = get_or_append_left first (n ∷ []) 0 j (omega (arith, below, long)) ∙ each j below
-    at j lt (inr here) = let same : t ≡ j = omega (arith, lt, here) in get_or_at first n [] 0 j (omega (arith, long, same)) ∙ is ∙ ap (cells_before keys) same
+-- ---- the places of a table
 
--- behind the last table all cells are there
-pub laid-out : (keys : List (List Value)) (first : List ℕ) (t n : ℕ) → AllRise keys → t ≡ length keys → length first ≡ t
-    → ((j : ℕ) → j < t → get_or first j 0 ≡ cells_before keys j) → n ≡ cells_before keys t → n < 2 ^ 64 → ArePlaces keys first × (n ≡ length (places_of keys))
-laid-out keys first t n rise all long each is few =
-    let count : n ≡ length (places_of keys) = is ∙ ap (cells_before keys) all ∙ sym (all-cells keys) in
-    (record { rise = rise; count = long ∙ all; each = (λ j lt. each j (omega (arith, lt, all))); few = omega (arith, count, few) }, count)
+place-left : (xs ys : List Placed) (p : RowPlace) (n : ℕ) → IsPlaceOf xs p n → IsPlaceOf (xs ++ ys) p n
+place-left [] ys p n never = absurd never
+place-left (x ∷ xs) ys p n (inl here) = inl here
+place-left (x ∷ xs) ys p n (inr later) = inr (place-left xs ys p n later)
+
+place-right : (xs ys : List Placed) (p : RowPlace) (n : ℕ) → IsPlaceOf ys p n → IsPlaceOf (xs ++ ys) p n
+place-right [] ys p n there = there
+place-right (x ∷ xs) ys p n there = inr (place-right xs ys p n there)
+
+place-in : (n : ℕ) (es : List KeyedCell) (i : ℕ) (e : KeyedCell) → slice_get es i ≡ Some e → IsPlaceOf (placed n es) (n, e.key) e.cell
+place-in n [] i e at = cc
+place-in n (x ∷ es) zero e at =
+    let same : x ≡ e = grind (arith, at) in inl (ap (λ (y : KeyedCell). let p : RowPlace = (n, y.key) in p) same, ap (λ (y : KeyedCell). y.cell) same)
+place-in n (x ∷ es) (suc i) e at = inr (place-in n es i e at)
+
+place-from : (n : ℕ) (tables : List (List KeyedCell)) (t m i : ℕ) (e : KeyedCell) → m ≡ n + t → slice_get (get_or tables t []) i ≡ Some e
+    → IsPlaceOf (placed_from n tables) (m, e.key) e.cell
+place-from n [] t m i e is at = cc
+place-from n (es ∷ tables) zero m i e is at =
+    let same : n ≡ m = omega (arith, is) in
+    subst (λ x. IsPlaceOf (placed n es ++ placed_from (suc n) tables) (x, e.key) e.cell) same
+    (place-left (placed n es) (placed_from (suc n) tables) (n, e.key) e.cell (place-in n es i e at))
+place-from n (es ∷ tables) (suc t) m i e is at =
+    place-right (placed n es) (placed_from (suc n) tables) (m, e.key) e.cell (place-from (suc n) tables t m i e (omega (arith, is)) at)
+
+-- the cell of each key of a table is that of its place
+pub place-there : (tables : List (List KeyedCell)) (t i : ℕ) (e : KeyedCell) → slice_get (get_or tables t []) i ≡ Some e
+    → IsPlaceOf (placed_from 0 tables) (t, e.key) e.cell
+place-there tables t i e at = place-from 0 tables t t i e (omega arith) at
+
+absent-append : (p : RowPlace) (xs ys : List Placed) → IsAbsent p xs → IsAbsent p ys → IsAbsent p (xs ++ ys)
+absent-append p [] ys left right = right
+absent-append p (x ∷ xs) ys left right = (left.0, absent-append p xs ys left.1 right)
+
+absent-table : (t n : ℕ) (k : Value) (es : List KeyedCell) → t ≢ n → IsAbsent (t, k) (placed n es)
+absent-table t n k [] ne = tt
+absent-table t n k (x ∷ es) ne = ((λ e. ne (ap (λ (p : RowPlace). p.0) e)), absent-table t n k es ne)
+
+-- a table before the first one has no place
+absent-before : (t n : ℕ) (k : Value) (tables : List (List KeyedCell)) → t < n → IsAbsent (t, k) (placed_from n tables)
+absent-before t n k [] lt = tt
+absent-before t n k (es ∷ tables) lt =
+    absent-append (t, k) (placed n es) (placed_from (suc n) tables) (absent-table t n k es (λ e. omega (arith, lt, e)))
+    (absent-before t (suc n) k tables (omega (arith, lt)))
+
+absent-key : (n : ℕ) (es : List KeyedCell) (k : Value) → (Contains (keys_of es) k → ⊥) → IsAbsent (n, k) (placed n es)
+absent-key n [] k never = tt
+absent-key n (x ∷ es) k never =
+    ((λ e. never (0, omega arith, sym (ap (λ (p : RowPlace). p.1) e))), absent-key n es k (λ c. never (suc c.0, (let lt = c.1 in omega (arith, lt)), c.2)))
+
+absent-from : (n : ℕ) (tables : List (List KeyedCell)) (t m : ℕ) (k : Value) → m ≡ n + t → (Contains (keys_of (get_or tables t [])) k → ⊥)
+    → IsAbsent (m, k) (placed_from n tables)
+absent-from n [] t m k is never = tt
+absent-from n (es ∷ tables) zero m k is never =
+    absent-append (m, k) (placed n es) (placed_from (suc n) tables)
+    (let e : n ≡ m = omega (arith, is) in subst (λ x. IsAbsent (x, k) (placed n es)) e (absent-key n es k never))
+    (absent-before m (suc n) k tables (omega (arith, is)))
+absent-from n (es ∷ tables) (suc t) m k is never =
+    absent-append (m, k) (placed n es) (placed_from (suc n) tables) (absent-table m n k es (λ e. omega (arith, is, e)))
+    (absent-from (suc n) tables t m k (omega (arith, is)) never)
+
+pub absent-place : (tables : List (List KeyedCell)) (t : ℕ) (k : Value) → (Contains (keys_of (get_or tables t [])) k → ⊥)
+    → IsAbsent (t, k) (placed_from 0 tables)
+absent-place tables t k never = absent-from 0 tables t t k (omega arith) never
+
+-- a key that has a gap is not there
+pub absent-gap : (es : List KeyedCell) (k : Value) (i : ℕ) → IsGap es k i → Contains (keys_of es) k → ⊥
+absent-gap es k i there c = at es i c.0 there.before there.behind c.1 c.2
+  where
+    same : value_cmp k k ≡ Equal
+    same = itself (value_cmp k k) (value_total.antisymm k k)
+
+    at : (xs : List KeyedCell) (m j : ℕ) → ((l : ℕ) (d : KeyedCell) → l < m → value_cmp (get_or xs l d).key k ≡ Less)
+        → ((l : ℕ) (d : KeyedCell) → m ≤ l → l < length xs → value_cmp k (get_or xs l d).key ≡ Less) → j < length (keys_of xs) → get_or (keys_of xs) j k ≡ k → ⊥
+    at [] m j before behind lt is = absurd (omega (arith, lt))
+    at (x ∷ xs) zero zero before behind lt is = less-equal (sym (ap (value_cmp k) (sym is) ∙ behind 0 x (omega arith) (omega arith)) ∙ same)
+    at (x ∷ xs) (suc m) zero before behind lt is = less-equal (sym (ap (λ y. value_cmp y k) (sym is) ∙ before 0 x (omega arith)) ∙ same)
+    at (x ∷ xs) zero (suc j) before behind lt is =
+        at xs zero j (λ l d low. absurd (omega (arith, low))) (λ l d le inside. behind (suc l) d (omega arith) (omega (arith, inside))) (omega (arith, lt)) is
+    at (x ∷ xs) (suc m) (suc j) before behind lt is =
+        at xs m j (λ l d low. before (suc l) d (omega (arith, low))) (λ l d le inside. behind (suc l) d (omega (arith, le)) (omega (arith, inside)))
+        (omega (arith, lt)) is
+
+-- ---- more tables, and more keys
+
+-- a table without keys has no places
+pub reach-same : (n : ℕ) (tables : List (List KeyedCell)) → placed_from n (tables ++ [] ∷ []) ≡ placed_from n tables
+reach-same n [] = refl
+reach-same n (es ∷ tables) = ap (λ xs. placed n es ++ xs) (reach-same (suc n) tables)
+
+pub reach-rise : (tables : List (List KeyedCell)) → AllRise tables → AllRise (tables ++ [] ∷ [])
+reach-rise tables rise = All-push (IsStrictlySortedBy key_cmp) tables [] rise none-rises
+
+-- the keys of a table that is there
+pub items-of : (vs : List (Vec KeyedCell)) (t : ℕ) (v : Vec KeyedCell) → t < length vs → v ≡ get_or vs t v → v.items ≡ get_or (map vec_items vs) t []
+items-of [] t v lt is = absurd (omega (arith, lt))
+items-of (x ∷ vs) zero v lt is = ap vec_items is
+items-of (x ∷ vs) (suc t) v lt is = items-of vs t v (omega (arith, lt)) is
+
+-- one that is not there has none
+pub no-items : (tables : List (List KeyedCell)) (t : ℕ) → length tables ≤ t → get_or tables t [] ≡ []
+no-items [] t le = refl
+no-items (x ∷ tables) zero le = absurd (omega (arith, le))
+no-items (x ∷ tables) (suc t) le = no-items tables t (omega (arith, le))
+
+pub table-rises : (tables : List (List KeyedCell)) (t : ℕ) → t < length tables → AllRise tables → IsStrictlySortedBy key_cmp (get_or tables t [])
+table-rises tables t lt rise = All-get_or (IsStrictlySortedBy key_cmp) tables t [] lt rise
+
+pub set-rises : (tables : List (List KeyedCell)) (t : ℕ) (es : List KeyedCell) → AllRise tables → IsStrictlySortedBy key_cmp es → AllRise (set tables t es)
+set-rises [] t es all rise = all
+set-rises (x ∷ tables) zero es all rise = All-cons (IsStrictlySortedBy key_cmp) es tables rise (All-tail (IsStrictlySortedBy key_cmp) x tables all)
+set-rises (x ∷ tables) (suc t) es all rise =
+    All-cons (IsStrictlySortedBy key_cmp) x (set tables t es) (All-head (IsStrictlySortedBy key_cmp) x tables all)
+    (set-rises tables t es (All-tail (IsStrictlySortedBy key_cmp) x tables all) rise)
+
+module _ (e : KeyedCell) (i : ℕ) where
+  abbrev with_key : List KeyedCell → List KeyedCell
+  with_key es = take i es ++ e ∷ drop i es
+
+  here-was : (n : ℕ) (es : List KeyedCell) (rest : List Placed) → placed n es ++ rest ≡ placed n (take i es) ++ (placed n (drop i es) ++ rest)
+  here-was n es rest =
+      ap (λ xs. placed n xs ++ rest) (sym (take-append-drop i es)) ∙ ap (λ xs. xs ++ rest) (map-append (entry n) (take i es) (drop i es))
+      ∙ append_assoc (placed n (take i es)) (placed n (drop i es)) rest
+
+  here-is : (n : ℕ) (es : List KeyedCell) (rest : List Placed)
+      → placed n (with_key es) ++ rest ≡ placed n (take i es) ++ entry n e ∷ (placed n (drop i es) ++ rest)
+  here-is n es rest =
+      ap (λ xs. xs ++ rest) (map-append (entry n) (take i es) (e ∷ drop i es))
+      ∙ append_assoc (placed n (take i es)) (placed n (e ∷ drop i es)) rest
+
+  -- a key more in a table is a place more
+  more-from : (n : ℕ) (tables : List (List KeyedCell)) (t m : ℕ) → m ≡ n + t → t < length tables
+      → HasMore (m, e.key) e.cell (placed_from n tables) (placed_from n (set tables t (with_key (get_or tables t []))))
+  more-from n [] t m is lt = absurd (omega (arith, lt))
+  more-from n (es ∷ tables) zero m is lt =
+      let same : n ≡ m = omega (arith, is) in
+      subst (λ x. HasMore (x, e.key) e.cell (placed_from n (es ∷ tables)) (placed_from n (with_key es ∷ tables))) same (record {
+        front = placed n (take i es);
+        back = placed n (drop i es) ++ placed_from (suc n) tables;
+        was = here-was n es (placed_from (suc n) tables);
+        is = here-is n es (placed_from (suc n) tables);
+      })
+  more-from n (es ∷ tables) (suc t) m is lt =
+      let rest = more-from (suc n) tables t m (omega (arith, is)) (omega (arith, lt)) in
+      record {
+        front = placed n es ++ rest.front;
+        back = rest.back;
+        was = ap (λ xs. placed n es ++ xs) rest.was ∙ sym (append_assoc (placed n es) rest.front rest.back);
+        is = ap (λ xs. placed n es ++ xs) rest.is ∙ sym (append_assoc (placed n es) rest.front (((m, e.key), e.cell) ∷ rest.back));
+      }
+
+  pub more-in : (tables : List (List KeyedCell)) (t : ℕ) → t < length tables
+      → HasMore (t, e.key) e.cell (placed_from 0 tables) (placed_from 0 (set tables t (with_key (get_or tables t []))))
+  more-in tables t lt = more-from 0 tables t t (omega arith) lt
+
+-- ---- tables as vectors of vectors
+
+set-items : (vs : List (Vec KeyedCell)) (t : ℕ) (v : Vec KeyedCell) → map vec_items (set vs t v) ≡ set (map vec_items vs) t v.items
+set-items [] t v = refl
+set-items (x ∷ vs) zero v = refl
+set-items (x ∷ vs) (suc t) v = ap (λ ts. x.items ∷ ts) (set-items vs t v)
+
+module _ (vs : List (Vec KeyedCell)) (t : ℕ) (lt : t < length vs) (old new : Vec KeyedCell) (is : old ≡ get_or vs t old) where
+  own-keys : old.items ≡ get_or (map vec_items vs) t []
+  own-keys = items-of vs t old lt is
+
+  -- a table that stays leaves all as they are
+  pub same-tables : new.items ≡ old.items → map vec_items (set vs t new) ≡ map vec_items vs
+  same-tables same = set-items vs t new ∙ ap (set (map vec_items vs) t) (same ∙ own-keys) ∙ set-get_or (map vec_items vs) t []
+
+  -- a key more in it
+  pub rise-tables : (k : Value) (n i : ℕ) → AllRise (map vec_items vs) → IsGap old.items k i
+      → new.items ≡ take i old.items ++ record { key = k; cell = n } ∷ drop i old.items → AllRise (map vec_items (set vs t new))
+  rise-tables k n i rise there more =
+      subst AllRise (sym (set-items vs t new)) (set-rises (map vec_items vs) t new.items rise
+      (subst (IsStrictlySortedBy key_cmp) (sym more) (rise-more old.items k n i
+      (subst (IsStrictlySortedBy key_cmp) (sym own-keys) (table-rises (map vec_items vs) t (omega (arith, lt, length-map vs vec_items)) rise)) there)))
+
+  pub more-tables : (k : Value) (n i : ℕ) → new.items ≡ take i old.items ++ record { key = k; cell = n } ∷ drop i old.items
+      → HasMore (t, k) n (placed_from 0 (map vec_items vs)) (placed_from 0 (map vec_items (set vs t new)))
+  more-tables k n i more =
+      let e : KeyedCell = record { key = k; cell = n } in
+      subst (λ ts. HasMore (t, k) n (placed_from 0 (map vec_items vs)) (placed_from 0 ts))
+      (sym (set-items vs t new ∙ ap (set (map vec_items vs) t) (more ∙ ap (λ es. take i es ++ e ∷ drop i es) own-keys)))
+      (more-in e i (map vec_items vs) t (omega (arith, lt, length-map vs vec_items)))
+
+  never-there : (es : List Placed) (p : RowPlace) (n : ℕ) → IsAbsent p es → IsPlaceOf es p n → ⊥
+  never-there [] p n absent never = never
+  never-there (e ∷ es) p n absent (inl here) = absent.0 (sym here.0)
+  never-there (e ∷ es) p n absent (inr later) = never-there es p n absent.1 later
+
+  -- a key that is found is not absent
+  pub found-there : (k : Value) (i : ℕ) → IsAbsent (t, k) (placed_from 0 (map vec_items vs)) → IsIndexOf old.items k i → ⊥
+  found-there k i absent there = at (slice_get old.items i) refl there
+    where
+      at : (o : Option KeyedCell) → slice_get old.items i ≡ o → option_map (λ (e : KeyedCell). e.key) o ≡ Some k → ⊥
+      at None e h = cc
+      at (Some e) f h =
+          let same : e.key ≡ k = grind (arith, h) in
+          never-there (placed_from 0 (map vec_items vs)) (t, k) e.cell absent
+          (subst (λ x. IsPlaceOf (placed_from 0 (map vec_items vs)) (t, x) e.cell) same
+          (place-there (map vec_items vs) t i e (subst (λ es. slice_get es i ≡ Some e) own-keys f)))
+
+-- ---- one place more
+
+free-before : (n : ℕ) (es : List Placed) → All (IsBefore n) es → IsFree n es
+free-before n [] all = tt
+free-before n (e ∷ es) all =
+    let lt = All-head (IsBefore n) e es all in ((λ same. omega (arith, same, lt)), free-before n es (All-tail (IsBefore n) e es all))
+
+module _ (p : RowPlace) (n : ℕ) where
+  absent-more : (q : RowPlace) (front back : List Placed) → q ≢ p → IsAbsent q (front ++ back) → IsAbsent q (front ++ (p, n) ∷ back)
+  absent-more q [] back ne absent = (ne, absent)
+  absent-more q (e ∷ front) back ne absent = (absent.0, absent-more q front back ne absent.1)
+
+  free-more : (m : ℕ) (front back : List Placed) → m ≢ n → IsFree m (front ++ back) → IsFree m (front ++ (p, n) ∷ back)
+  free-more m [] back ne free = (ne, free)
+  free-more m (e ∷ front) back ne free = (free.0, free-more m front back ne free.1)
+
+  pub absent-behind : (front back : List Placed) → IsAbsent p (front ++ back) → IsAbsent p back
+  absent-behind [] back absent = absent
+  absent-behind (e ∷ front) back absent = absent-behind front back absent.1
+
+  apart-more : (front back : List Placed) → AreApart (front ++ back) → IsAbsent p (front ++ back) → IsFree n (front ++ back)
+      → AreApart (front ++ (p, n) ∷ back)
+  apart-more [] back apart absent free = (absent, free, apart)
+  apart-more (e ∷ front) back apart absent free = (
+    absent-more e.0 front back (λ f. absent.0 (sym f)) apart.0,
+    free-more e.1 front back (λ f. free.0 (sym f)) apart.1,
+    apart-more front back apart.2 absent.1 free.1,
+  )
+
+  before-more : (front back : List Placed) → All (IsBefore n) (front ++ back) → All (IsBefore (n + 1)) (front ++ (p, n) ∷ back)
+  before-more [] back all =
+      All-cons (IsBefore (n + 1)) (p, n) back (omega arith) (All-weaker (IsBefore n) (IsBefore (n + 1)) (λ e lt. omega (arith, lt)) back all)
+  before-more (e ∷ front) back all =
+      let lt = All-head (IsBefore n) e (front ++ back) all in
+      All-cons (IsBefore (n + 1)) e (front ++ (p, n) ∷ back) (omega (arith, lt)) (before-more front back (All-tail (IsBefore n) e (front ++ back) all))
+
+  last-place : (front back : List Placed) → IsPlaceOf (front ++ (p, n) ∷ back) p n
+  last-place [] back = inl (refl, refl)
+  last-place (e ∷ front) back = inr (last-place front back)
+
+-- what is new is there
+pub more-known : (p : RowPlace) (n : ℕ) (old new : List Placed) → HasMore p n old new → IsPlaceOf new p n
+more-known p n old new more = subst (λ es. IsPlaceOf es p n) (sym more.is) (last-place p n more.front more.back)
+
+pub grown-apart : (p : RowPlace) (old new : Index) → AreApart old.entries → All (IsBefore old.next) old.entries → IsMore p old new
+    → AreApart new.entries × All (IsBefore new.next) new.entries
+grown-apart p old new apart before more =
+    let m = more.more in (
+      subst AreApart (sym m.is) (apart-more p old.next m.front m.back (subst AreApart m.was apart) (subst (IsAbsent p) m.was more.absent)
+          (subst (IsFree old.next) m.was (free-before old.next old.entries before))),
+      subst (λ es. All (IsBefore new.next) es) (sym m.is) (subst (λ n. All (IsBefore n) (m.front ++ (p, old.next) ∷ m.back)) (sym more.next)
+          (before-more p old.next m.front m.back (subst (λ es. All (IsBefore old.next) es) m.was before))),
+    )
+
+pub place-before : (n : ℕ) (es : List Placed) (p : RowPlace) (m : ℕ) → All (IsBefore n) es → IsPlaceOf es p m → m < n
+place-before n [] p m all never = absurd never
+place-before n (e ∷ es) p m all (inl here) = subst (λ x. x < n) here.1 (All-head (IsBefore n) e es all)
+place-before n (e ∷ es) p m all (inr later) = place-before n es p m (All-tail (IsBefore n) e es all) later

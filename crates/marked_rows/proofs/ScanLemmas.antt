@@ -6,6 +6,7 @@ use Rattle.std.specs.Prelude.{T, slice_get}
 use Rattle.std.specs.Ordering.{is_eq, is_lt}
 use Rattle.std.proofs.lemmas.Bool.{cases_lt}
 use Rattle.std.specs.List.{AllByRecursion, Contains}
+use Rattle.std.proofs.lemmas.List.{length-map}
 use Rattle.std.specs.List.Sorted.{IsStrictlySortedBy}
 use Rattle.std.specs.FinMap.Entries.{below_all, find, is_sorted}
 use Rattle.finite_maps.specs.Map.{same_key, same_key-refl, same_key-true}
@@ -13,10 +14,11 @@ use Rattle.lock_modes.specs.Rows.{Tuple}
 use Rattle.lock_modes.specs.Value.{value_cmp, value_order}
 use Rattle.lock_modes.specs.declared.value.Value.{Value}
 use Rattle.lock_modes.specs.declared.value.Value.TheVariants.{Text}
-use Rattle.marked_rows.specs.Cells.{row_with, seen}
-use Rattle.marked_rows.specs.Kept.{blank}
-use Rattle.marked_rows.specs.Shown.{AreUnseen, IsNext, shown, with_row}
+use Rattle.marked_rows.specs.Cells.{blank, row_with, seen}
+use Rattle.marked_rows.specs.Places.{keys_of}
+use Rattle.marked_rows.specs.Shown.{AreUnseen, IsNext, cells_of, shown, with_row}
 use Rattle.marked_rows.specs.declared.cell.Cell.{Cell}
+use Rattle.marked_rows.specs.declared.places.KeyedCell.{KeyedCell}
 use Rattle.marked_rows.proofs.StepLemmas.{key-other}
 
 abbrev same_value : Value → Value → Bool
@@ -190,3 +192,32 @@ module _ (rows : List Tuple) where
       ∙ shown-step ks cells m d lt same
       ∙ ap (λ o. with_row (get_or ks m d) (row_with rows o) (shown rows (drop (m + 1) ks) (drop (m + 1) cells))) is.number
       ∙ ap (λ o. with_row (get_or ks m d) o (shown rows (drop (m + 1) ks) (drop (m + 1) cells))) there
+
+-- ---- keys with their cells
+
+-- each key has a cell
+pub same-count : (cells : List Cell) (es : List KeyedCell) → length (cells_of cells es) ≡ length (keys_of es)
+same-count cells es = length-map es (λ (e : KeyedCell). get_or cells e.cell blank) ∙ sym (length-map es (λ (e : KeyedCell). e.key))
+
+pub count-keys : (es : List KeyedCell) → length (keys_of es) ≡ length es
+count-keys es = length-map es (λ (e : KeyedCell). e.key)
+
+-- the cell and the key at an index
+pub cell-key : (cells : List Cell) (es : List KeyedCell) (i : ℕ) (d : KeyedCell) → i < length es
+    → get_or (cells_of cells es) i blank ≡ get_or cells (get_or es i d).cell blank
+cell-key cells [] i d lt = absurd (omega (arith, lt))
+cell-key cells (x ∷ es) zero d lt = refl
+cell-key cells (x ∷ es) (suc i) d lt = cell-key cells es i d (omega (arith, lt))
+
+pub key-at : (es : List KeyedCell) (i : ℕ) (d : KeyedCell) (k : Value) → i < length es → get_or (keys_of es) i k ≡ (get_or es i d).key
+key-at [] i d k lt = absurd (omega (arith, lt))
+key-at (x ∷ es) zero d k lt = refl
+key-at (x ∷ es) (suc i) d k lt = key-at es i d k (omega (arith, lt))
+
+-- one cell more in which nothing is seen
+pub unseen-more : (cs : List Cell) (from n : ℕ) → AreUnseen cs from n → seen (get_or cs n blank) ≡ None → AreUnseen cs from (n + 1)
+unseen-more cs from n unseen none place low lt = at (cases_lt place n)
+  where
+    at : (place < n) ⊎ (n ≤ place) → seen (get_or cs place blank) ≡ None
+    at (inl before) = unseen place low before
+    at (inr past) = let same : n ≡ place = omega (arith, lt, past) in subst (λ i. seen (get_or cs i blank) ≡ None) same none

@@ -189,5 +189,11 @@ kept-nothing s = same_parts _ _ _ _ (same_map _ _ (λ q.
     get-lay (overlay_of s no_rows) no_rows.committed q ∙ ap (λ (o : Overlay). over (get o q) (get no_rows.committed q)) (overlay_of-nothing s)
     ∙ ap (λ o. over o (get no_rows.committed q)) (get-empty place_order (Option Tuple) q))) (remove-empty session_order s)
 
-pub laid-nothing : (p : RowPlace) → committed_at p None no_rows ≡ no_rows
-laid-nothing p = same_parts _ _ _ _ (remove-empty place_order p) refl
+-- where no row is committed none may be left
+pub laid-absent : (l : Layers) (p : RowPlace) → get l.committed p ≡ None → committed_at p None l ≡ l
+laid-absent l p none = same_parts _ _ _ _ (same_map _ _ (λ q. get-remove l.committed p q ∙ at q (same_place q p) refl)) refl
+  where
+    at : (q : RowPlace) (b : Bool) → same_place q p ≡ b → cond (same_place q p) None (get l.committed q) ≡ get l.committed q
+    at q true is =
+        ap (λ b. cond b None (get l.committed q)) is ∙ sym none ∙ ap (get l.committed) (sym (same_key-true place_order q p is))
+    at q false is = ap (λ b. cond b None (get l.committed q)) is

@@ -1,22 +1,17 @@
 -- How rows are kept so that what a session wrote is found at once. No public clause cites this module.
-use Rattle.std.specs.Prelude.{◌≡◌, ◌<◌, ◌⊎◌, ◌==◌, ℕ, zero, suc, ◌+◌, ◌^◌, Bool, true, false}
-use Rattle.std.specs.Prelude.{cond, List, [], ◌∷◌, ◌++◌, length, get_or, set, slice_get, All, Option, Some, None}
+use Rattle.std.specs.Prelude.{◌≡◌, ◌<◌, ◌≤◌, ◌⊎◌, ◌==◌, ℕ, zero, suc, ◌+◌, Bool, true, false}
+use Rattle.std.specs.Prelude.{cond, List, [], ◌∷◌, ◌++◌, length, get_or, set, All, Option, Some, None}
 use Rattle.std.specs.List.{list_all}
-use Rattle.lock_modes.specs.RowPlace.{RowPlace}
 use Rattle.lock_modes.specs.Rows.{Tuple}
-use Rattle.lock_modes.specs.declared.value.Value.{Value}
 use Rattle.row_tables.specs.Layers.{Layers, kept, undone}
 use Rattle.marked_lists.specs.Versions.{Versions}
-use Rattle.marked_rows.specs.Cells.{AllRise, MarkedRows, layers_at, layers_of, places_of}
+use Rattle.marked_rows.specs.Cells.{MarkedRows, blank, layers_at, layers_of}
+use Rattle.marked_rows.specs.Places.{AreApart, Index, IsBefore}
 use Rattle.marked_rows.specs.declared.cell.Cell.{Cell}
 use Rattle.marked_rows.specs.declared.cell.Left.{Left}
 use Rattle.marked_rows.specs.declared.cell.Written.{Written}
 use Rattle.marked_rows.specs.declared.cell.Ending.{Ending}
 use Rattle.marked_rows.specs.declared.cell.Ending.TheVariants.{Keep, Undo}
-
--- no row, and nothing written
-abbrev pub blank : Cell
-blank = record { committed = None; left = None }
 
 -- ---- which cells are whose
 
@@ -67,36 +62,11 @@ abbrev pub ended_in : ℕ → Ending → List Written → List Cell → List Cel
 ended_in session ending [] cells = cells
 ended_in session ending (w ∷ ws) cells = ended_in session ending ws (ended_at session ending w cells)
 
--- nobody has written, and no row lies anywhere
-abbrev pub IsBlank : Cell → Type 0
-IsBlank cell = cell ≡ blank
-
--- so it is of all cells, and no mark stands
-abbrev pub AreNew : Versions Cell → Type 0
-AreNew cells = All IsBlank cells.list × (cells.marked ≡ [])
-
 -- nothing is forgotten, or all that was noted, where it was of the session
 abbrev pub Forgets : ℕ → Versions Written → Versions Written → Type 0
 Forgets session old new = (new ≡ old) ⊎ ((list_all (λ (w : Written). w.session == session) old.list ≡ true) × (new ≡ record old { list = [] }))
 
 -- ---- what is kept
-
--- how many cells the tables before one have
-abbrev pub cells_before : List (List Value) → ℕ → ℕ
-cells_before [] table = 0
-cells_before (keys ∷ rest) zero = 0
-cells_before (keys ∷ rest) (suc table) = length keys + cells_before rest table
-
--- it is the number of the place's cell
-abbrev pub IsCellOf : List (List Value) → RowPlace → ℕ → Type 0
-IsCellOf keys place cell = slice_get (places_of keys) cell ≡ Some place
-
--- the first cell of each table is the one behind those of the tables before it
-pub record ArePlaces (keys : List (List Value)) (first : List ℕ) : Type 0 where
-  pub rise : AllRise keys
-  pub count : length first ≡ length keys
-  pub each : (table : ℕ) → table < length keys → get_or first table 0 ≡ cells_before keys table
-  pub few : length (places_of keys) < 2 ^ 64
 
 -- a row that is there, or none
 abbrev pub IsNumber : List Tuple → Option ℕ → Type 0
@@ -114,24 +84,38 @@ HasRows rows cell = IsNumber rows cell.committed × IsLeft rows cell.left
 abbrev pub IsInside : List Cell → Written → Type 0
 IsInside cells w = w.cell < length cells
 
--- each place has a cell, its rows are there, what is noted is of cells, and what was written is noted
-pub record IsKeptAt (keys : List (List Value)) (rows : List Tuple) (cells : List Cell) (written : List Written) : Type 0 where
-  pub count : length cells ≡ length (places_of keys)
+-- no cell is numbered past those of places, their rows are there, what is noted is of cells, and what was written is noted
+pub record IsKeptAt (next : ℕ) (rows : List Tuple) (cells : List Cell) (written : List Written) : Type 0 where
+  pub few : length cells ≤ next
   pub there : All (HasRows rows) cells
   pub inside : All (IsInside cells) written
   pub complete : (place session : ℕ) → is_of_at cells session place ≡ true → IsWritten written session place
 
 -- so it is at each mark
-abbrev pub AreKept : List (List Value) → List (List Tuple) → List (List Cell) → List (List Written) → Type 0
-AreKept keys [] [] [] = Unit {0}
-AreKept keys (rows ∷ more) (cells ∷ marked) (written ∷ others) = IsKeptAt keys rows cells written × AreKept keys more marked others
-AreKept keys more marked others = ⊥
+abbrev pub AreKept : ℕ → List (List Tuple) → List (List Cell) → List (List Written) → Type 0
+AreKept next [] [] [] = Unit {0}
+AreKept next (rows ∷ more) (cells ∷ marked) (written ∷ others) = IsKeptAt next rows cells written × AreKept next more marked others
+AreKept next more marked others = ⊥
 
--- and now, and the keys of each table rise
-pub record IsKept (keys : List (List Value)) (rows : Versions Tuple) (cells : Versions Cell) (written : Versions Written) : Type 0 where
-  pub rise : AllRise keys
-  pub now : IsKeptAt keys rows.list cells.list written.list
-  pub marked : AreKept keys rows.marked cells.marked written.marked
+-- and now, and no place is there twice
+pub record IsKept (index : Index) (rows : Versions Tuple) (cells : Versions Cell) (written : Versions Written) : Type 0 where
+  pub apart : AreApart index.entries
+  pub before : All (IsBefore index.next) index.entries
+  pub now : IsKeptAt index.next rows.list cells.list written.list
+  pub marked : AreKept index.next rows.marked cells.marked written.marked
 
-abbrev pub seen_rows : List (List Value) → Versions Tuple → Versions Cell → MarkedRows
-seen_rows keys rows cells = record { keys = keys; now = layers_of keys rows.list cells.list; marked = layers_at keys rows.marked cells.marked }
+abbrev pub seen_rows : Index → Versions Tuple → Versions Cell → MarkedRows
+seen_rows index rows cells = record { now = layers_of rows.list cells.list index.entries; marked = layers_at index.entries rows.marked cells.marked }
+
+-- ---- cells that are not there yet
+
+-- so many blank cells
+abbrev pub blanks : ℕ → List Cell
+blanks zero = []
+blanks (suc n) = blank ∷ blanks n
+
+-- there are as many cells as before, or blank ones more, no more than up to one of this number
+pub record HasBlanks (place : ℕ) (old new : Versions Cell) : Type 0 where
+  pub count : ℕ
+  pub is : new ≡ record old { list = old.list ++ blanks count }
+  pub few : (length new.list ≤ length old.list) ⊎ (length new.list ≤ place + 1)

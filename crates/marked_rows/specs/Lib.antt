@@ -1,4 +1,5 @@
 pub mod Cells
 pub mod Kept
+pub mod Places
 pub mod Pool
 pub mod Shown

@@ -1,14 +1,19 @@
 -- The rows of a table that are shown one by one. No public clause cites this module.
-use Rattle.std.specs.Prelude.{◌≡◌, ◌<◌, ◌≤◌, ℕ, List, [], ◌∷◌, length, get_or, All, Option, Some, None}
+use Rattle.std.specs.Prelude.{◌≡◌, ◌<◌, ◌≤◌, ℕ, List, [], ◌∷◌, length, map, get_or, All, Option, Some, None}
 use Rattle.lock_modes.specs.Rows.{Tuple}
 use Rattle.lock_modes.specs.declared.value.Value.{Value}
-use Rattle.marked_rows.specs.Cells.{row_with, seen}
-use Rattle.marked_rows.specs.Kept.{HasRows, blank}
+use Rattle.marked_rows.specs.Cells.{blank, row_with, seen}
+use Rattle.marked_rows.specs.Kept.{HasRows}
+use Rattle.marked_rows.specs.declared.places.KeyedCell.{KeyedCell}
 use Rattle.marked_rows.specs.declared.cell.Cell.{Cell}
 
 abbrev pub with_row : Value → Option Tuple → List (Value × Tuple) → List (Value × Tuple)
 with_row key None rest = rest
 with_row key (Some row) rest = (key, row) ∷ rest
+
+-- the cells of keys
+abbrev pub cells_of : List Cell → List KeyedCell → List Cell
+cells_of cells es = map (λ (e : KeyedCell). get_or cells e.cell blank) es
 
 -- the rows that are seen in the cells of keys, each with its key
 abbrev pub shown : List Tuple → List Value → List Cell → List (Value × Tuple)

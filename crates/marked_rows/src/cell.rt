@@ -1,8 +1,8 @@
 //! What lies at one place.
 
 ghost use Rattle.std.specs.Prelude.{◌≡◌, Some};
-ghost use Rattle.marked_rows.specs.Cells.{seen};
-ghost use Rattle.marked_rows.specs.Kept.{blank, ended, is_of};
+ghost use Rattle.marked_rows.specs.Cells.{blank, seen};
+ghost use Rattle.marked_rows.specs.Kept.{ended, is_of};
 
 /// The committed row of a place, and what a session has left there of its own, if one has. Rows are numbers of the pool.
 #[derive(Clone, Copy)]

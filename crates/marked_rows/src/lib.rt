@@ -2,6 +2,7 @@
 #![tactic(auto)]
 
 mod cell;
+mod cells;
 mod ending;
 mod places;
 mod pool;

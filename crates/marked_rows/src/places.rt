@@ -1,107 +1,160 @@
-//! The places where rows may lie, and which cell is that of a place.
+//! The places where rows have lain, and which cell is that of a place.
 
-ghost use Rattle.std.specs.Prelude.{◌≡◌, ◌+◌, ◌<◌, ◌≤◌, ◌^◌, ℕ, [], get_or, length, map, slice_get, IfOk, MatchOption, OnOk, Some};
+ghost use Rattle.std.specs.Prelude.{◌≡◌, ℕ, ◌<◌, [], IfErr, IfOk, MatchOption, OnErr, OnOk, Some, length, map, slice_get};
 ghost use Rattle.std.specs.List.{Contains};
 ghost use Rattle.std.specs.List.Sorted.{IsStrictlySortedBy};
 ghost use Rattle.std.specs.Vec.{vec_items};
 ghost use Rattle.lock_modes.specs.Value.{value_cmp};
 ghost use Rattle.lock_modes.specs.declared.value.Value.{Value as Key};
-ghost use Rattle.marked_rows.specs.Cells.{AllRise, HasKey, places_of};
-ghost use Rattle.marked_rows.specs.Kept.{AreNew, IsCellOf};
+ghost use Rattle.marked_rows.specs.declared.places.KeyedCell.{KeyedCell as Keyed};
+ghost use Rattle.marked_rows.specs.Places.{AllRise, HasMore, IsAbsent, IsGap, IsGrown, IsIndexOf, IsPlaceOf, key_cmp, keys_of, placed_from};
 
-use crate::cell::Cell;
+use finite_maps::Fork;
 use lock_modes::Value;
-use marked_lists::MarkedList;
 use std::alloc::{AllocError, Global};
+use std::cmp::Ordering;
 use std::marker::Model;
 
-/// For each table the keys at which a row may lie. Each such place has a cell, table behind table.
+/// A key of a table, and the number of its cell.
+#[derive(Drop)]
+pub(crate) struct KeyedCell {
+    pub(crate) key: Value,
+    pub(crate) cell: usize,
+}
+
+/// The places where rows have lain. They become more, and stay where cells go back to a mark.
+///
+/// Contracts see each place with the number of its cell, and the number of the next one.
 #[derive(Drop)]
 pub(crate) struct Places {
-    keys: Vec<Vec<Value>>,
-    /// For each table the number of its first cell.
-    first: Vec<usize>,
+    /// For each table its keys, in order.
+    tables: Vec<Vec<KeyedCell>>,
+    next: usize,
 }
 
 impl Model for Places {
-    ghost use Rattle.std.specs.Prelude.{List, map};
+    ghost use Rattle.std.specs.Prelude.{map};
     ghost use Rattle.std.specs.Vec.{vec_items};
-    ghost use Rattle.lock_modes.specs.declared.value.Value.{Value as Key};
-    ghost use Rattle.marked_rows.specs.Kept.{ArePlaces};
+    ghost use Rattle.marked_rows.specs.Places.{AllRise, Index, placed_from};
 
-    ghost Value = { List (List Key) };
+    ghost Value = { Index };
 
-    ghost view = { λ p. map vec_items p.keys.items };
+    ghost view = { λ p. record { entries = placed_from 0 (map vec_items p.tables.items); next = p.next } };
 
-    ghost invariant = { λ p. ArePlaces (map vec_items p.keys.items) p.first.items };
+    ghost invariant = { λ p. AllRise (map vec_items p.tables.items) };
 }
 
 impl Places {
-    /// The number of the cell for a key of a table, none where no row may lie there.
-    pub fn cell_of(&self, table: u16, key: &Value) -> Option<usize>
-        ensures { MatchOption result (HasKey self.now table key.now → ⊥) (IsCellOf self.now (table, key.now)) }
+    /// No places.
+    pub fn new(alloc: Global) -> Places
+        ensures { result ≡ record { entries = []; next = 0 } }
     {
-        let (keys, first) = self.table(table);
-        let index = index_in(keys, key)?;
-        Some(first + index)
+        Places {
+            tables: Vec::new(alloc),
+            next: 0,
+        }
     }
 
-    /// The keys of a table, none where there is no such table, and the number of the first one's cell. Each other key's cell stands behind that of
-    /// the key before it.
-    pub fn table(&self, table: u16) -> (&[Value], usize)
-        ensures keys { result.0.now ≡ get_or self.now table [] }
-        ensures rise { IsStrictlySortedBy value_cmp result.0.now }
-        ensures cells { (index : ℕ) (key : Key) → slice_get result.0.now index ≡ Some key → IsCellOf self.now (table, key) (result.1 + index) }
-        ensures inside { result.1 + length result.0.now ≤ length (places_of self.now) }
-        ensures few { length (places_of self.now) < 2 ^ 64 }
+    /// The number of the cell for a key of a table, none where no row has lain there.
+    pub fn cell_of(&self, table: u16, key: &Value) -> Option<usize>
+        ensures { MatchOption result (IsAbsent (table, key.now) self.now.entries) (IsPlaceOf self.now.entries (table, key.now)) }
+    {
+        let keys = self.table(table);
+        match index_in(keys, key) {
+            Ok(index) => Some(keys[index].cell),
+            Err(_) => None,
+        }
+    }
+
+    /// The keys of a table at which rows have lain, each with its cell.
+    pub fn table(&self, table: u16) -> &[KeyedCell]
+        ensures rise { IsStrictlySortedBy key_cmp result.now }
+        ensures there { (index : ℕ) (e : Keyed) → slice_get result.now index ≡ Some e → IsPlaceOf self.now.entries (table, e.key) e.cell }
+        ensures absent { (key : Key) → (Contains (keys_of result.now) key → ⊥) → IsAbsent (table, key) self.now.entries }
     {
         let table = table as usize;
-        if table >= self.keys.len() {
-            return (&[], 0);
+        if table >= self.tables.len() {
+            return &[];
         }
-        (self.keys[table].as_slice(), self.first[table])
+        self.tables[table].as_slice()
+    }
+
+    /// The number of the cell for a key of a table, the next one where no row has lain there.
+    pub fn number_of(&mut self, table: u16, key: &Value) -> Result<usize, AllocError>
+        ensures known { IfOk result (IsPlaceOf self.new.entries (table, key.now)) }
+        ensures grown { IsGrown (table, key.now) self.old self.new }
+    {
+        match self.cell_of(table, key) {
+            Some(cell) => Ok(cell),
+            None => self.add(table, key.fork()?),
+        }
+    }
+
+    /// The number of the cell for a key of a table at which no row has lain.
+    fn add(&mut self, table: u16, key: Value) -> Result<usize, AllocError>
+        requires { IsAbsent (table, key) self.old.entries }
+        ensures known { IfOk result (IsPlaceOf self.new.entries (table, key)) }
+        ensures grown { IsGrown (table, key) self.old self.new }
+    {
+        let cell = self.next;
+        // No memory has room for so many.
+        if cell == usize::MAX {
+            return Err(AllocError);
+        }
+        reach(&mut self.tables, table as usize)?;
+        add_key(&mut self.tables, table as usize, key, cell)?;
+        self.next = cell + 1;
+        Ok(cell)
     }
 }
 
-/// The index of a key, none where it is not there.
-fn index_in(keys: &[Value], key: &Value) -> Option<usize>
-    requires { IsStrictlySortedBy value_cmp keys.now }
-    ensures { MatchOption result (Contains keys.now key.now → ⊥) (λ index. slice_get keys.now index ≡ Some key.now) }
+/// Makes tables, without keys, up to this one.
+fn reach(tables: &mut Vec<Vec<KeyedCell>>, table: usize) -> Result<(), AllocError>
+    requires { AllRise (map vec_items tables.old.items) }
+    ensures there { OnOk result (table < length tables.new.items) }
+    ensures rise { AllRise (map vec_items tables.new.items) }
+    ensures same { placed_from 0 (map vec_items tables.new.items) ≡ placed_from 0 (map vec_items tables.old.items) }
 {
-    match keys.binary_search(key) {
-        Ok(index) => Some(index),
-        Err(_) => None,
-    }
-}
-
-/// The places of these keys, and for each a cell without a row.
-pub(crate) fn lay_out(
-    alloc: Global,
-    keys: Vec<Vec<Value>>,
-) -> Result<(Places, MarkedList<Cell>), AllocError>
-    requires { AllRise (map vec_items keys.items) }
-    ensures places { IfOk result (λ made. made.0 ≡ map vec_items keys.items) }
-    ensures count { IfOk result (λ made. length made.1.list ≡ length (places_of (map vec_items keys.items))) }
-    ensures new { IfOk result (λ made. AreNew made.1) }
-{
-    let mut first = Vec::with_capacity(alloc, keys.len())?;
-    let mut cells = MarkedList::new(alloc);
-    for table in 0..keys.len() {
-        first.push(cells.len())?;
-        push_cells(&mut cells, keys[table].len())?;
-    }
-    let _count = cells.len(); // for the proof
-    Ok((Places { keys, first }, cells))
-}
-
-/// Pushes so many cells without a row.
-fn push_cells(cells: &mut MarkedList<Cell>, count: usize) -> Result<(), AllocError>
-    requires { AreNew cells.old }
-    ensures count { OnOk result (length cells.new.list ≡ length cells.old.list + count) }
-    ensures new { OnOk result (AreNew cells.new) }
-{
-    for _cell in 0..count {
-        cells.push(Cell::new())?;
+    let alloc = *tables.allocator();
+    while tables.len() <= table {
+        tables.push(Vec::new(alloc))?;
     }
     Ok(())
+}
+
+/// Adds a key, which is not there yet, to a table.
+fn add_key(
+    tables: &mut Vec<Vec<KeyedCell>>,
+    table: usize,
+    key: Value,
+    cell: usize,
+) -> Result<(), AllocError>
+    requires there { table < length tables.old.items }
+    requires rise { AllRise (map vec_items tables.old.items) }
+    requires absent { IsAbsent (table, key) (placed_from 0 (map vec_items tables.old.items)) }
+    ensures rise { AllRise (map vec_items tables.new.items) }
+    ensures added { OnOk result (HasMore (table, key) cell (placed_from 0 (map vec_items tables.old.items)) (placed_from 0 (map vec_items tables.new.items))) }
+    ensures refused { OnErr result (placed_from 0 (map vec_items tables.new.items) ≡ placed_from 0 (map vec_items tables.old.items)) }
+{
+    let keys = &mut tables[table];
+    match index_in(keys.as_slice(), &key) {
+        Ok(_) => unreachable!(),
+        Err(index) => {
+            keys.insert(index, KeyedCell { key, cell })?;
+            Ok(())
+        }
+    }
+}
+
+/// The index of a key, or where it would stand.
+fn index_in(keys: &[KeyedCell], key: &Value) -> Result<usize, usize>
+    requires { IsStrictlySortedBy key_cmp keys.now }
+    ensures found { IfOk result (IsIndexOf keys.now key.now) }
+    ensures gap { IfErr result (IsGap keys.now key.now) }
+{
+    keys.binary_search_by(
+        |other: &KeyedCell| -> Ordering
+            ensures { result ≡ value_cmp other.now.key key.entry.now }
+        { other.key.cmp(key) },
+    )
 }

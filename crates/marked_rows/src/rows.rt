@@ -1,20 +1,19 @@
 //! The rows of all tables, now and at marks.
 
-ghost use Rattle.std.specs.Prelude.{◌≡◌, ◌<◌, ◌∷◌, [], length, map, IfOk, OnErr, OnOk};
+ghost use Rattle.std.specs.Prelude.{◌≡◌, ◌<◌, ◌∷◌, [], length, OnErr, OnOk};
 ghost use Rattle.std.specs.Option.{option_copied};
-ghost use Rattle.std.specs.Vec.{vec_items};
 ghost use Rattle.std.specs.FinMap.Entries.{find};
 ghost use Rattle.finite_maps.specs.Entries.{IsInOrder};
 ghost use Rattle.finite_maps.specs.Map.{get};
 ghost use Rattle.lock_modes.specs.Value.{value_cmp};
 ghost use Rattle.lock_modes.specs.declared.value.Value.{Value as Key};
 ghost use Rattle.row_tables.specs.Layers.{IsOnlyWriterAt, IsOnlyWriterIn, kept, no_rows, rows_of, sight, undone, wrote};
-ghost use Rattle.marked_rows.specs.Cells.{AllRise, HasKey};
 ghost use Rattle.marked_rows.specs.Kept.{ended_layers};
 
 use crate::cell::{Cell, Ending, Written};
+use crate::cells::{reach, seen_in};
 use crate::ending::{end, forget, note};
-use crate::places::{Places, lay_out};
+use crate::places::Places;
 use crate::pool::RowPool;
 use crate::scan::Scan;
 use lock_modes::{Row, Value};
@@ -24,12 +23,12 @@ use std::marker::Model;
 
 /// The rows of all tables, with marks to go back to.
 ///
-/// Contracts see for each table the keys at which a row may lie, committed rows with an overlay for each session now, and what they were at the marks
-/// that stand, the newest first. A call that takes memory fails for want of it alone, and what was there at marks stays.
+/// Contracts see committed rows with an overlay for each session now, and what they were at the marks that stand, the newest first. A call that takes
+/// memory fails for want of it alone, and what was there at marks stays.
 #[derive(Drop)]
 pub struct MarkedRows {
     places: Places,
-    /// For each place a cell.
+    /// What lies at places, by the numbers of their cells. A place whose cell is not there has no row.
     cells: MarkedList<Cell>,
     /// The rows that cells name, with more than are named still.
     rows: RowPool,
@@ -55,18 +54,16 @@ impl Model for MarkedRows {
 }
 
 impl MarkedRows {
-    /// No rows, with the keys of each table, in order, at which one may lie. No mark stands.
-    pub fn new(alloc: Global, keys: Vec<Vec<Value>>) -> Result<MarkedRows, AllocError>
-        requires { AllRise (map vec_items keys.items) }
-        ensures { IfOk result (λ rows. rows ≡ record { keys = map vec_items keys.items; now = no_rows; marked = [] }) }
+    /// No rows, and no mark.
+    pub fn new(alloc: Global) -> MarkedRows
+        ensures { result ≡ record { now = no_rows; marked = [] } }
     {
-        let (places, cells) = lay_out(alloc, keys)?;
-        Ok(MarkedRows {
-            places,
-            cells,
+        MarkedRows {
+            places: Places::new(alloc),
+            cells: MarkedList::new(alloc),
             rows: RowPool::new(alloc),
             written: MarkedList::new(alloc),
-        })
+        }
     }
 
     /// The row that a session sees at a key of a table. No other session may have a write there that is neither kept nor undone.
@@ -74,8 +71,8 @@ impl MarkedRows {
         requires { IsOnlyWriterAt session (table, key.now) self.now.now }
         ensures { option_copied result ≡ get (sight session self.now.now) (table, key.now) }
     {
-        let cell = self.places.cell_of(table, key)?;
-        let number = self.cells.get(cell).seen()?;
+        let place = self.places.cell_of(table, key)?;
+        let number = seen_in(self.cells.as_slice(), place)?;
         Some(self.rows.get(number))
     }
 
@@ -89,9 +86,8 @@ impl MarkedRows {
         ensures in_order { IsInOrder value_cmp result }
         ensures each { (key : Key) → find value_cmp key result ≡ get (sight session self.now.now) (table, key) }
     {
-        let (keys, first) = self.places.table(table);
-        let cells = &self.cells.as_slice()[first..first + keys.len()];
-        Scan::new(&self.rows, keys, cells)
+        let keys = self.places.table(table);
+        Scan::new(&self.rows, keys, self.cells.as_slice())
     }
 
     /// Leaves a row, or none, at a key of a table, seen by the session alone until it keeps its writes. No other session may have a write there that
@@ -103,14 +99,12 @@ impl MarkedRows {
         key: &Value,
         row: Option<Row>,
     ) -> Result<(), AllocError>
-        requires key { HasKey self.old.keys table key.now }
-        requires alone { IsOnlyWriterAt session (table, key.now) self.old.now }
+        requires { IsOnlyWriterAt session (table, key.now) self.old.now }
         ensures written { OnOk result (self.new ≡ record self.old { now = wrote session (table, key.now) row self.old.now }) }
         ensures refused { OnErr result (self.new ≡ self.old) }
     {
-        let Some(place) = self.places.cell_of(table, key) else {
-            unreachable!()
-        };
+        let place = self.places.number_of(table, key)?;
+        reach(&mut self.cells, place)?;
         let cell = self.cells.get(place);
         let number = self.rows.add(row)?;
         note(&mut self.written, &cell, session, place)?;
@@ -120,7 +114,6 @@ impl MarkedRows {
     /// Drops what a session wrote. Where memory runs out some of it is dropped.
     pub fn undo(&mut self, session: u8) -> Result<(), AllocError>
         ensures undone { OnOk result (self.new ≡ record self.old { now = undone session self.old.now }) }
-        ensures keys { self.new.keys ≡ self.old.keys }
         ensures marked { self.new.marked ≡ self.old.marked }
     {
         self.end(session, Ending::Undo)
@@ -129,7 +122,6 @@ impl MarkedRows {
     /// Makes what a session wrote committed. Where memory runs out some of it is.
     pub fn keep(&mut self, session: u8) -> Result<(), AllocError>
         ensures kept { OnOk result (self.new ≡ record self.old { now = kept session self.old.now }) }
-        ensures keys { self.new.keys ≡ self.old.keys }
         ensures marked { self.new.marked ≡ self.old.marked }
     {
         self.end(session, Ending::Keep)
@@ -138,7 +130,6 @@ impl MarkedRows {
     /// Ends what a session wrote.
     fn end(&mut self, session: u8, ending: Ending) -> Result<(), AllocError>
         ensures ended { OnOk result (self.new ≡ record self.old { now = ended_layers ending session self.old.now }) }
-        ensures keys { self.new.keys ≡ self.old.keys }
         ensures marked { self.new.marked ≡ self.old.marked }
     {
         end(&mut self.cells, self.written.as_slice(), session, ending)?;
@@ -168,7 +159,6 @@ impl MarkedRows {
     pub fn go_back(&mut self)
         requires { 0 < length self.old.marked }
         ensures marked { self.old.marked ≡ self.new.now ∷ self.new.marked }
-        ensures keys { self.new.keys ≡ self.old.keys }
     {
         self.rows.go_back();
         self.cells.go_back();

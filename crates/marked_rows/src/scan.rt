@@ -1,9 +1,12 @@
 //! The rows of a table one by one.
 
 ghost use Rattle.std.specs.Prelude.{◌≡◌, length, MatchOption};
-ghost use Rattle.marked_rows.specs.Shown.{AreUnseen, CanShow, IsNext, shown};
+ghost use Rattle.marked_rows.specs.Places.{keys_of};
+ghost use Rattle.marked_rows.specs.Shown.{AreUnseen, CanShow, IsNext, cells_of, shown};
 
 use crate::cell::Cell;
+use crate::cells::seen_in;
+use crate::places::KeyedCell;
 use crate::pool::RowPool;
 use lock_modes::{Row, Value};
 use std::marker::Model;
@@ -12,8 +15,8 @@ use std::marker::Model;
 #[derive(Drop)]
 pub struct Scan<'a> {
     rows: &'a RowPool,
-    keys: &'a [Value],
-    /// For each key its cell.
+    keys: &'a [KeyedCell],
+    /// The cells of all tables.
     cells: &'a [Cell],
     /// How many keys are passed.
     passed: usize,
@@ -23,20 +26,21 @@ impl<'a> Model for Scan<'a> {
     ghost use Rattle.std.specs.Prelude.{drop, List};
     ghost use Rattle.lock_modes.specs.Rows.{Tuple};
     ghost use Rattle.lock_modes.specs.declared.value.Value.{Value as Key};
-    ghost use Rattle.marked_rows.specs.Shown.{CanShow, shown};
+    ghost use Rattle.marked_rows.specs.Places.{keys_of};
+    ghost use Rattle.marked_rows.specs.Shown.{CanShow, cells_of, shown};
 
     ghost Value = { List (Key × Tuple) };
 
-    ghost view = { λ s. shown s.rows.now.list (drop s.passed s.keys.now) (drop s.passed s.cells.now) };
+    ghost view = { λ s. shown s.rows.now.list (drop s.passed (keys_of s.keys.now)) (drop s.passed (cells_of s.cells.now s.keys.now)) };
 
-    ghost invariant = { λ s. CanShow s.rows.now.list s.keys.now s.cells.now };
+    ghost invariant = { λ s. CanShow s.rows.now.list (keys_of s.keys.now) (cells_of s.cells.now s.keys.now) };
 }
 
 impl<'a> Scan<'a> {
     /// The rows in the cells of these keys.
-    pub(crate) fn new(rows: &'a RowPool, keys: &'a [Value], cells: &'a [Cell]) -> Scan<'a>
-        requires { CanShow rows.now.list keys.now cells.now }
-        ensures { result ≡ shown rows.now.list keys.now cells.now }
+    pub(crate) fn new(rows: &'a RowPool, keys: &'a [KeyedCell], cells: &'a [Cell]) -> Scan<'a>
+        requires { CanShow rows.now.list (keys_of keys.now) (cells_of cells.now keys.now) }
+        ensures { result ≡ shown rows.now.list (keys_of keys.now) (cells_of cells.now keys.now) }
     {
         Scan {
             rows,
@@ -58,18 +62,18 @@ impl<'a> Iterator for Scan<'a> {
     ghost remaining = { item_count (λ items. items) };
 
     fn next(&mut self) -> Option<(&'a Value, &'a Row)> {
-        let (place, number) = next_seen(self.cells, self.passed)?;
+        let (place, number) = next_seen(self.keys, self.cells, self.passed)?;
         self.passed = place + 1;
-        Some((&self.keys[place], self.rows.get(number)))
+        Some((&self.keys[place].key, self.rows.get(number)))
     }
 }
 
-/// The next cell from one on in which a row is seen, and the row's number.
-fn next_seen(cells: &[Cell], from: usize) -> Option<(usize, usize)>
-    ensures { MatchOption result (AreUnseen cells.now from (length cells.now)) (IsNext cells.now from) }
+/// The next key from one on in whose cell a row is seen, and the row's number.
+fn next_seen(keys: &[KeyedCell], cells: &[Cell], from: usize) -> Option<(usize, usize)>
+    ensures { MatchOption result (AreUnseen (cells_of cells.now keys.now) from (length keys.now)) (IsNext (cells_of cells.now keys.now) from) }
 {
-    for place in from..cells.len() {
-        if let Some(number) = cells[place].seen() {
+    for place in from..keys.len() {
+        if let Some(number) = seen_in(cells, keys[place].cell) {
             return Some((place, number));
         }
     }

@@ -1,38 +1,45 @@
-use Rattle.std.proofs.Common.{◌<◌, ◌≤◌, ◌+◌, ◌∙◌, arith, length, map, subst}
+use Rattle.std.proofs.Common.{◌<◌, ◌≤◌, ◌≡◌, ◌∙◌, arith, length, map, sym, subst}
+use Rattle.std.specs.Prelude.{Some, slice_get}
+use Rattle.std.specs.List.{Contains}
+use Rattle.std.specs.List.Sorted.{IsStrictlySortedBy}
 use Rattle.std.specs.Vec.{vec_items}
 use Rattle.std.proofs.lemmas.List.{length-map}
-use Rattle.marked_rows.specs.Cells.{places_of}
-use Rattle.marked_rows.specs.Kept.{IsCellOf}
-use Rattle.marked_rows.proofs.PlaceLemmas.{cell-sum, cells-inside, items-at, none-rises, table-rises}
+use Rattle.marked_rows.specs.Places.{Index, IsAbsent, IsPlaceOf, key_cmp, keys_of}
+use Rattle.marked_rows.proofs.PlaceLemmas.{absent-place, items-of, no-items, none-rises, place-there, table-rises}
 use Rattle.marked_rows.proofs.places.Places.table.Goals as goal
 
 pub returns-then-table-len-clause-rise : goal.returns-then-table-len-clause-rise
 returns-then-table-len-clause-rise c = none-rises
 
+pub returns-then-table-len-clause-absent : goal.returns-then-table-len-clause-absent
+returns-then-table-len-clause-absent c key never =
+    let tables = map vec_items c.self.inside.tables.items in
+    let past : length tables ≤ c.args.table = omega (arith, c.if-table-len.true, c.len.ensures, c.self.inside.tables.ok.0, length-map c.self.inside.tables.items vec_items) in
+    subst (λ (x : Index). IsAbsent (c.args.table, key) x.entries) c.self.view_is
+    (absent-place tables c.args.table key (λ h. never (subst (λ es. Contains (keys_of es) key) (no-items tables c.args.table past) h)))
+
 pub returns-clause-rise : goal.returns-clause-rise
 returns-clause-rise c =
-    let s = c.self.inside in
-    let lt : c.args.table < length s.keys.items = omega (arith, c.if-table-len.false, c.len.ensures, s.keys.ok.0) in
-    let inside : c.args.table < length (map vec_items s.keys.items) = omega (arith, lt, length-map s.keys.items vec_items) in
-    table-rises (map vec_items s.keys.items) s.first.items c.self.invariant c.args.table inside c.as_slice.result.now
-    (c.as_slice.ensures.value ∙ items-at vec_items s.keys.items c.args.table c.index.result.now lt c.index.ensures)
+    let vs = c.self.inside.tables.items in
+    let tables = map vec_items vs in
+    let lt : c.args.table < length vs = omega (arith, c.if-table-len.false, c.len.ensures, c.self.inside.tables.ok.0) in
+    let there = c.as_slice.ensures.value ∙ items-of vs c.args.table c.index.result.now lt c.index.ensures in
+    subst (IsStrictlySortedBy key_cmp) (sym there) (table-rises tables c.args.table (omega (arith, lt, length-map vs vec_items)) c.self.invariant)
 
-pub returns-clause-cells : goal.returns-clause-cells
-returns-clause-cells c index key at =
-    let s = c.self.inside in
-    let keys = map vec_items s.keys.items in
-    let lt : c.args.table < length s.keys.items = omega (arith, c.if-table-len.false, c.len.ensures, s.keys.ok.0) in
-    let inside : c.args.table < length keys = omega (arith, lt, length-map s.keys.items vec_items) in
-    let there = c.as_slice.ensures.value ∙ items-at vec_items s.keys.items c.args.table c.index.result.now lt c.index.ensures in
-    subst (λ ks. IsCellOf ks (c.args.table, key) (c.index-2.result.now + index)) c.self.view_is
-    (cell-sum keys s.first.items c.self.invariant c.args.table inside c.as_slice.result.now c.index-2.result.now index key there c.index-2.ensures at)
+pub returns-clause-there : goal.returns-clause-there
+returns-clause-there c index e at =
+    let vs = c.self.inside.tables.items in
+    let tables = map vec_items vs in
+    let lt : c.args.table < length vs = omega (arith, c.if-table-len.false, c.len.ensures, c.self.inside.tables.ok.0) in
+    let there = c.as_slice.ensures.value ∙ items-of vs c.args.table c.index.result.now lt c.index.ensures in
+    subst (λ (x : Index). IsPlaceOf x.entries (c.args.table, e.key) e.cell) c.self.view_is
+    (place-there tables c.args.table index e (subst (λ es. slice_get es index ≡ Some e) there at))
 
-pub returns-clause-inside : goal.returns-clause-inside
-returns-clause-inside c =
-    let s = c.self.inside in
-    let keys = map vec_items s.keys.items in
-    let lt : c.args.table < length s.keys.items = omega (arith, c.if-table-len.false, c.len.ensures, s.keys.ok.0) in
-    let inside : c.args.table < length keys = omega (arith, lt, length-map s.keys.items vec_items) in
-    let there = c.as_slice.ensures.value ∙ items-at vec_items s.keys.items c.args.table c.index.result.now lt c.index.ensures in
-    subst (λ ks. c.index-2.result.now + length c.as_slice.result.now ≤ length (places_of ks)) c.self.view_is
-    (cells-inside keys s.first.items c.self.invariant c.args.table inside c.as_slice.result.now c.index-2.result.now there c.index-2.ensures)
+pub returns-clause-absent : goal.returns-clause-absent
+returns-clause-absent c key never =
+    let vs = c.self.inside.tables.items in
+    let tables = map vec_items vs in
+    let lt : c.args.table < length vs = omega (arith, c.if-table-len.false, c.len.ensures, c.self.inside.tables.ok.0) in
+    let there = c.as_slice.ensures.value ∙ items-of vs c.args.table c.index.result.now lt c.index.ensures in
+    subst (λ (x : Index). IsAbsent (c.args.table, key) x.entries) c.self.view_is
+    (absent-place tables c.args.table key (λ h. never (subst (λ es. Contains (keys_of es) key) (sym there) h)))

@@ -1,16 +1,9 @@
-use Rattle.std.proofs.Common.{map}
-use Rattle.std.specs.Vec.{vec_items}
 use Rattle.marked_rows.proofs.ChangeLemmas.{new-kept, new-seen}
 use Rattle.marked_rows.proofs.rows.MarkedRows.new.Goals as goal
 
 pub invariant_of-result : goal.invariant_of-result
 invariant_of-result c =
-    let made = c.in_ok-places in
-    new-kept (map vec_items c.args.keys.items) made.places c.new.result made.cells c.new-2.result c.requires made.ensures.places made.ensures.count
-    made.ensures.new c.new.ensures c.new-2.ensures
+    new-kept c.new.result c.new-3.result c.new-2.result c.new-4.result c.new.ensures c.new-2.ensures c.new-3.ensures c.new-4.ensures
 
 pub returns : goal.returns
-returns c =
-    let made = c.in_ok-places in
-    new-seen (map vec_items c.args.keys.items) made.places c.new.result made.cells c.new-2.result c.requires made.ensures.places made.ensures.count
-    made.ensures.new c.new.ensures c.new-2.ensures
+returns c = new-seen c.new.result c.new-3.result c.new-2.result c.new-4.result c.new.ensures c.new-2.ensures c.new-3.ensures c.new-4.ensures

@@ -1,35 +1,33 @@
-use Rattle.std.proofs.Common.{◌+◌, ◌∙◌, ap, length, subst, sym}
+use Rattle.std.proofs.Common.{◌∙◌, ap, subst, sym}
 use Rattle.std.specs.FinMap.Entries.{find}
-use Rattle.std.specs.List.{between}
 use Rattle.finite_maps.specs.Entries.{IsInOrder}
 use Rattle.lock_modes.specs.Value.{value_cmp}
 use Rattle.row_tables.specs.Layers.{IsOnlyWriterIn, rows_of, sight}
 use Rattle.row_tables.proofs.TableLemmas.{find-rows_of, sorted-rows_of}
 use Rattle.marked_rows.specs.Cells.{MarkedRows}
-use Rattle.marked_rows.specs.Shown.{CanShow, shown}
+use Rattle.marked_rows.specs.Places.{keys_of}
+use Rattle.marked_rows.specs.Shown.{CanShow, cells_of, shown}
 use Rattle.marked_rows.proofs.SightLemmas.{scan-rows, scan-shows}
 use Rattle.marked_rows.proofs.rows.MarkedRows.scan.Goals as goal
 
 pub new-requires : goal.new-requires
 new-requires c =
     let i = c.self.inside in
-    let table = c.table-first in
-    let ks = table.result.0.now in
-    let first = table.result.1 in
-    subst (λ cs. CanShow i.rows.list ks (between first (first + length ks) cs)) (sym c.as_slice.ensures)
-    (scan-shows i.places i.rows i.cells i.written c.self.invariant c.args.table ks first table.ensures.keys table.ensures.rise table.ensures.cells table.ensures.inside)
+    let table = c.table-keys in
+    let es = table.result.now in
+    subst (λ cs. CanShow i.rows.list (keys_of es) (cells_of cs es)) (sym c.as_slice.ensures)
+    (scan-shows i.places i.rows i.cells i.written c.self.invariant c.args.table es table.ensures.rise table.ensures.there table.ensures.absent)
 
 pub returns-clause-rows : goal.returns-clause-rows
 returns-clause-rows c =
     let i = c.self.inside in
-    let table = c.table-first in
-    let ks = table.result.0.now in
-    let first = table.result.1 in
+    let table = c.table-keys in
+    let es = table.result.now in
     let s = c.args.session in
     let t = c.args.table in
     let only = subst (λ (m : MarkedRows). IsOnlyWriterIn s t m.now) (sym c.self.view_is) c.requires in
-    let rows = scan-rows i.places i.rows i.cells i.written c.self.invariant t ks first table.ensures.keys table.ensures.rise table.ensures.cells table.ensures.inside s only in
-    c.new.ensures ∙ ap (λ cs. shown i.rows.list ks (between first (first + length ks) cs)) c.as_slice.ensures ∙ rows
+    let rows = scan-rows i.places i.rows i.cells i.written c.self.invariant t es table.ensures.rise table.ensures.there table.ensures.absent s only in
+    c.new.ensures ∙ ap (λ cs. shown i.rows.list (keys_of es) (cells_of cs es)) c.as_slice.ensures ∙ rows
     ∙ ap (λ (m : MarkedRows). rows_of t (sight s m.now)) c.self.view_is
 
 pub returns-clause-in_order : goal.returns-clause-in_order
