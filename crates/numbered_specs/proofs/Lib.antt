@@ -1,4 +1,3 @@
 mod NumberLemmas
 mod AskedLemmas
 mod PlaceLemmas
-mod KeyLemmas

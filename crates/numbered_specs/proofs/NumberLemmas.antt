@@ -28,7 +28,7 @@ rising-sorted rs rise k d low lt =
     let less = Less-from_sorted resource_cmp rs k (k + 1) d rise (omega arith) lt in
     ap is_lt (resource_total.antisymm (get_or rs (k + 1) d) (get_or rs k d) ∙ ap ordering_reverse less)
 
-pub itself : (o : Ordering) → o ≡ ordering_reverse o → o ≡ Equal
+itself : (o : Ordering) → o ≡ ordering_reverse o → o ≡ Equal
 itself Less e = cc
 itself Equal e = refl
 itself Greater e = cc

@@ -1,4 +1,3 @@
 pub mod Numbers
 pub mod Kept
 pub mod Places
-pub mod Keys

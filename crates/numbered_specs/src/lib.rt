@@ -7,6 +7,6 @@ mod numbering;
 mod numbers;
 mod request;
 
-pub use laws::{keys_are_asked, numbers_are_apart, writes_are_known};
+pub use laws::{numbers_are_apart, writes_are_known};
 pub use numbers::SpecNumbers;
 pub use request::{NumberedPlan, NumberedRequest, ResourceNumber, StepPlans};

@@ -1,15 +1,13 @@
-ghost use Rattle.std.specs.Prelude.{◌≡◌, ◌<◌, ◌↔◌, ◌++◌, length, get_or, [], IfOk, MatchOption, OnOk};
+ghost use Rattle.std.specs.Prelude.{◌≡◌, ◌<◌, ◌↔◌, length, get_or, [], IfOk, MatchOption};
 ghost use Rattle.std.specs.List.{Contains};
 ghost use Rattle.lock_modes.specs.Resource.{resource_at};
-ghost use Rattle.numbered_specs.specs.Keys.{key_in, keys_in};
 ghost use Rattle.numbered_specs.specs.Numbers.{place_of, resource_of, plans_of, HasNumber, IsNumbering};
 
 use crate::named::all_named;
 use crate::numbering::{number_in, step_plans};
 use crate::request::{NumberedRequest, ResourceNumber, StepPlans};
 use bound_specs::Spec;
-use finite_maps::Fork;
-use lock_modes::{Place, Resource, Value};
+use lock_modes::{Place, Resource};
 use std::alloc::{AllocError, Global};
 use std::marker::Model;
 
@@ -82,33 +80,6 @@ impl SpecNumbers {
         match self.steps.get(step as usize) {
             Some(plans) => plans.plan(statement),
             None => &[],
-        }
-    }
-
-    /// The keys of a table that statements of the spec ask for, in their order. Where the table has a key, each row that ever lies in it lies at one of
-    /// them. It fails for want of memory alone.
-    pub fn keys_of(&self, alloc: Global, table: u16) -> Result<Vec<Value>, AllocError>
-        ensures { IfOk result (λ keys. keys.items ≡ keys_in self.now.resources table) }
-    {
-        let mut keys = Vec::new(alloc);
-        for resource in &self.resources {
-            push_key(&mut keys, resource, table)?;
-        }
-        Ok(keys)
-    }
-}
-
-/// Adds the key of a resource that is a row of the table.
-fn push_key(keys: &mut Vec<Value>, resource: &Resource, table: u16) -> Result<(), AllocError>
-    ensures { OnOk result (keys.new.items ≡ keys.old.items ++ key_in table resource.now) }
-{
-    match resource {
-        Resource::Table(_) => Ok(()),
-        Resource::Row(at, key) => {
-            if *at == table {
-                keys.push(key.fork()?)?;
-            }
-            Ok(())
         }
     }
 }
