@@ -21,6 +21,7 @@ use marked_modes::{MAX_HOLDERS, MarkedModes};
 use numbered_specs::{ResourceNumber, SpecNumbers};
 use std::alloc::{AllocError, Global};
 use std::marker::Model;
+use std::sync::Arc;
 
 /// Who holds which mode on the resources of a spec, and who waits, in the order of arrival, with marks to go back to.
 ///
@@ -28,13 +29,13 @@ use std::marker::Model;
 /// compatible, no session waits twice, and none waits for itself by way of others, now and at marks. A call that takes memory fails for want of it
 /// alone, and what was at marks stays.
 #[derive(Drop)]
-pub struct MarkedLocks<'a> {
-    modes: MarkedModes<'a>,
+pub struct MarkedLocks {
+    modes: MarkedModes,
     /// In the order of arrival.
     waits: MarkedList<NumberedWait>,
 }
 
-impl<'a> Model for MarkedLocks<'a> {
+impl Model for MarkedLocks {
     ghost use Rattle.std.specs.Coded.{codes};
     ghost use Rattle.finite_maps.specs.Codes.{map_code};
     ghost use Rattle.lock_modes.specs.contracts.resource.Resource as resource;
@@ -51,11 +52,11 @@ impl<'a> Model for MarkedLocks<'a> {
     ghost invariant = { λ t. IsKept t.modes t.waits };
 }
 
-impl<'a> MarkedLocks<'a> {
+impl MarkedLocks {
     /// Nobody holds anything or waits, and no mark stands. It fails for want of memory alone.
-    pub fn new(alloc: Global, numbers: &'a SpecNumbers) -> Result<MarkedLocks<'a>, AllocError>
-        requires { IsStrictlySortedBy resource_cmp numbers.now.resources }
-        ensures { IfOk result (λ table. table ≡ record { resources = numbers.now.resources; now = spec.no_locks; marked = [] }) }
+    pub fn new(alloc: Global, numbers: Arc<SpecNumbers>) -> Result<MarkedLocks, AllocError>
+        requires { IsStrictlySortedBy resource_cmp numbers.value.resources }
+        ensures { IfOk result (λ table. table ≡ record { resources = numbers.value.resources; now = spec.no_locks; marked = [] }) }
     {
         tables_stay_sound(); // for the proof
         let modes = MarkedModes::new(alloc, numbers)?;
@@ -64,9 +65,7 @@ impl<'a> MarkedLocks<'a> {
             waits: MarkedList::new(alloc),
         })
     }
-}
 
-impl MarkedLocks<'_> {
     /// Whether the session waits.
     pub fn waits(&self, session: u8) -> bool
         ensures { result ≡ locks.waits_now self.now.now.waits session }

@@ -28,14 +28,14 @@ pub(crate) fn wanted_mode(held: Option<Mode>, mode: Mode) -> Mode
 }
 
 /// The mode that a wait is to be granted.
-pub(crate) fn wanted(modes: &MarkedModes<'_>, wait: NumberedWait) -> Mode
+pub(crate) fn wanted(modes: &MarkedModes, wait: NumberedWait) -> Mode
     requires { IsKnown modes.now.resources wait }
     ensures { result ≡ locks.wanted_by (look_at modes.now.now) (wait_of modes.now.resources wait) }
 {
     wanted_mode(modes.mode_of(wait.session, wait.resource), wait.mode)
 }
 
-fn converts(modes: &MarkedModes<'_>, wait: NumberedWait) -> bool
+fn converts(modes: &MarkedModes, wait: NumberedWait) -> bool
     requires { IsKnown modes.now.resources wait }
     ensures { result ≡ locks.converts (look_at modes.now.now) (wait_of modes.now.resources wait) }
 {
@@ -44,7 +44,7 @@ fn converts(modes: &MarkedModes<'_>, wait: NumberedWait) -> bool
 
 /// Whether a session that holds this may have a mode at once.
 pub(crate) fn may_have(
-    modes: &MarkedModes<'_>,
+    modes: &MarkedModes,
     waits: &[NumberedWait],
     own: Option<Mode>,
     session: u8,
@@ -60,7 +60,7 @@ pub(crate) fn may_have(
         && modes.fits(session, number, wanted_mode(own, mode))
 }
 
-fn nobody_waits(modes: &MarkedModes<'_>, waits: &[NumberedWait], number: ResourceNumber) -> bool
+fn nobody_waits(modes: &MarkedModes, waits: &[NumberedWait], number: ResourceNumber) -> bool
     requires known { AreKnown modes.now.resources waits.now }
     requires number { HasNumber modes.now.resources number }
     ensures { result ≡ locks.nobody_waits (waits_of modes.now.resources waits.now) (resource_of modes.now.resources number) }
@@ -72,7 +72,7 @@ fn nobody_waits(modes: &MarkedModes<'_>, waits: &[NumberedWait], number: Resourc
 /// Whether a wait of this session, or of any, stands ahead of the one at a place: of a conversion the conversions that came earlier, of another
 /// wait all conversions and the other waits that came earlier.
 pub(crate) fn is_any_ahead(
-    modes: &MarkedModes<'_>,
+    modes: &MarkedModes,
     waits: &[NumberedWait],
     place: usize,
     whose: Option<u8>,
@@ -95,7 +95,7 @@ pub(crate) fn is_any_ahead(
 
 /// Whether one of these waits is at the resource, of a session that is looked for.
 fn is_any_there(
-    modes: &MarkedModes<'_>,
+    modes: &MarkedModes,
     waits: &[NumberedWait],
     number: ResourceNumber,
     converting: bool,
@@ -113,7 +113,7 @@ fn is_any_there(
 }
 
 fn is_there(
-    modes: &MarkedModes<'_>,
+    modes: &MarkedModes,
     wait: NumberedWait,
     number: ResourceNumber,
     converting: bool,
@@ -135,7 +135,7 @@ fn is_whose(whose: Option<u8>, session: u8) -> bool
 }
 
 /// Whether the wanted mode of the wait at a place is compatible with every other session's there, and no wait is ahead.
-fn is_ripe(modes: &MarkedModes<'_>, waits: &[NumberedWait], place: usize) -> bool
+fn is_ripe(modes: &MarkedModes, waits: &[NumberedWait], place: usize) -> bool
     requires known { AreKnown modes.now.resources waits.now }
     requires place { place < length waits.now }
     ensures { IsTrue result ↔ IsRipe (look_at modes.now.now) (spot_at modes.now.resources waits.now place) }
@@ -146,7 +146,7 @@ fn is_ripe(modes: &MarkedModes<'_>, waits: &[NumberedWait], place: usize) -> boo
 }
 
 /// The session of the ripe wait that came first.
-pub(crate) fn next_ripe(modes: &MarkedModes<'_>, waits: &[NumberedWait]) -> Option<u8>
+pub(crate) fn next_ripe(modes: &MarkedModes, waits: &[NumberedWait]) -> Option<u8>
     requires { AreKnown modes.now.resources waits.now }
     ensures { MatchOption result
         (NothingRipe (locks_of modes.now.resources modes.now.now waits.now))

@@ -20,7 +20,7 @@ use marked_modes::{MAX_HOLDERS, MarkedModes};
 ///
 /// Each session that is reached is passed once, and marks those that it waits for. Only sessions that wait are marked, as no way leads on from
 /// others.
-pub(crate) fn is_in_ring(modes: &MarkedModes<'_>, waits: &[NumberedWait], session: u8) -> bool
+pub(crate) fn is_in_ring(modes: &MarkedModes, waits: &[NumberedWait], session: u8) -> bool
     requires known { AreKnown modes.now.resources waits.now }
     requires session { session < MAX_HOLDERS }
     ensures { IsTrue result ↔ IsInRing (locks_of modes.now.resources modes.now.now waits.now) session }
@@ -64,12 +64,7 @@ fn is_open(reached: &[bool; MAX_HOLDERS], passed: &[bool; MAX_HOLDERS], session:
 }
 
 /// Marks the sessions that wait and that this one waits for.
-fn mark(
-    modes: &MarkedModes<'_>,
-    waits: &[NumberedWait],
-    session: u8,
-    reached: &mut [bool; MAX_HOLDERS],
-)
+fn mark(modes: &MarkedModes, waits: &[NumberedWait], session: u8, reached: &mut [bool; MAX_HOLDERS])
     requires { AreKnown modes.now.resources waits.now }
     ensures { (b : ℕ) → marks reached.new b
         ≡ (marks reached.old b || (list_any (λ (w : NumberedWait). w.session == b) waits.now
@@ -84,7 +79,7 @@ fn mark(
 }
 
 /// Whether a session waits for another one.
-fn waits_for(modes: &MarkedModes<'_>, waits: &[NumberedWait], session: u8, other: u8) -> bool
+fn waits_for(modes: &MarkedModes, waits: &[NumberedWait], session: u8, other: u8) -> bool
     requires known { AreKnown modes.now.resources waits.now }
     requires other { other < MAX_HOLDERS }
     ensures { result ≡ locks.waits_for (look_at modes.now.now) (waits_of modes.now.resources waits.now) session other }
@@ -98,7 +93,7 @@ fn waits_for(modes: &MarkedModes<'_>, waits: &[NumberedWait], session: u8, other
 }
 
 /// Whether another session has to go before the wait at a place is granted: its mode there keeps the wanted one away, or its wait is ahead.
-fn holds_up(modes: &MarkedModes<'_>, waits: &[NumberedWait], place: usize, other: u8) -> bool
+fn holds_up(modes: &MarkedModes, waits: &[NumberedWait], place: usize, other: u8) -> bool
     requires known { AreKnown modes.now.resources waits.now }
     requires place { place < length waits.now }
     requires other { other < MAX_HOLDERS }

@@ -15,14 +15,15 @@ use marked_lists::MarkedList;
 use numbered_specs::{ResourceNumber, SpecNumbers};
 use std::alloc::{AllocError, Global};
 use std::marker::Model;
+use std::sync::Arc;
 
 /// Who holds which mode on the resources of a spec, with marks to go back to.
 ///
 /// Contracts see the resources, who holds which mode now, and who held which at the marks that stand, the newest first. A call that takes memory
 /// fails for want of it alone, and what was held at marks stays.
 #[derive(Drop)]
-pub struct MarkedModes<'a> {
-    numbers: &'a SpecNumbers,
+pub struct MarkedModes {
+    numbers: Arc<SpecNumbers>,
     /// For each resource a row.
     rows: MarkedList<ModeRow>,
     /// What was given, the newest last, with more than is held still. It is empty again where only one session held anything and lets it go, so that what
@@ -30,7 +31,7 @@ pub struct MarkedModes<'a> {
     given: MarkedList<Given>,
 }
 
-impl<'a> Model for MarkedModes<'a> {
+impl Model for MarkedModes {
     ghost use Rattle.std.specs.Coded.{codes};
     ghost use Rattle.finite_maps.specs.Codes.{map_code};
     ghost use Rattle.lock_modes.specs.contracts.resource.Resource as resource;
@@ -41,16 +42,16 @@ impl<'a> Model for MarkedModes<'a> {
 
     ghost coded = { Prim.hlevel (codes, map_code, resource.the_row.coded) };
 
-    ghost view = { λ m. holds_of m.numbers.now.resources m.rows };
+    ghost view = { λ m. holds_of m.numbers.value.resources m.rows };
 
-    ghost invariant = { λ m. IsKept m.numbers.now.resources m.rows m.given };
+    ghost invariant = { λ m. IsKept m.numbers.value.resources m.rows m.given };
 }
 
-impl<'a> MarkedModes<'a> {
+impl MarkedModes {
     /// Nobody holds anything, and no mark stands.
-    pub fn new(alloc: Global, numbers: &'a SpecNumbers) -> Result<MarkedModes<'a>, AllocError>
-        requires { IsStrictlySortedBy resource_cmp numbers.now.resources }
-        ensures { IfOk result (λ modes. modes ≡ record { resources = numbers.now.resources; now = empty; marked = [] }) }
+    pub fn new(alloc: Global, numbers: Arc<SpecNumbers>) -> Result<MarkedModes, AllocError>
+        requires { IsStrictlySortedBy resource_cmp numbers.value.resources }
+        ensures { IfOk result (λ modes. modes ≡ record { resources = numbers.value.resources; now = empty; marked = [] }) }
     {
         let mut rows = MarkedList::new(alloc);
         for _resource in 0..numbers.count() {
@@ -64,9 +65,7 @@ impl<'a> MarkedModes<'a> {
             given: MarkedList::new(alloc),
         })
     }
-}
 
-impl MarkedModes<'_> {
     /// The mode that a session holds on a resource.
     pub fn mode_of(&self, session: u8, number: ResourceNumber) -> Option<Mode>
         requires session { session < MAX_HOLDERS }

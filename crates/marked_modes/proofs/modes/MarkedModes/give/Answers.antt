@@ -14,7 +14,7 @@ use Rattle.marked_modes.proofs.modes.MarkedModes.give.Goals as goal
 pub invariant_of-self-2 : goal.invariant_of-self-2
 invariant_of-self-2 c =
     let s = c.args.session in
-    let rs = c.self.inside.numbers.now.resources in
+    let rs = c.self.inside.numbers.value.resources in
     let rows : Versions ModeRow = c.self.inside.rows in
     let place = c.place-place.result in
     let inside = subst (λ (m : MarkedHolds). place_of c.args.number < length m.resources) (sym c.self.view_is) c.requires.number in
@@ -30,7 +30,7 @@ returns-clause-given c =
     let s = c.args.session in
     let number = c.args.number in
     let mode = c.args.mode in
-    let rs = c.self.inside.numbers.now.resources in
+    let rs = c.self.inside.numbers.value.resources in
     let rows : Versions ModeRow = c.self.inside.rows in
     let place = c.place-place.result in
     let inside = subst (λ (m : MarkedHolds). place_of number < length m.resources) (sym c.self.view_is) c.requires.number in

@@ -10,7 +10,7 @@ pub returns : goal.returns
 returns c =
     let s = c.args.session in
     let number = c.args.number in
-    let rs = c.self.inside.numbers.now.resources in
+    let rs = c.self.inside.numbers.value.resources in
     let rows = c.self.inside.rows.list in
     let place = place_of number in
     let inside = subst (λ (m : MarkedHolds). place < length m.resources) (sym c.self.view_is) c.requires.number in

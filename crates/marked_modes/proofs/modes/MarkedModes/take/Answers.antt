@@ -10,7 +10,7 @@ use Rattle.marked_modes.proofs.modes.MarkedModes.take.Goals as goal
 
 pub invariant_of-self : goal.invariant_of-self
 invariant_of-self c =
-    part-kept c.self.inside.numbers.now.resources c.self.inside.rows c.self.inside.given c.self.invariant c.clear.new.rows c.args.session
+    part-kept c.self.inside.numbers.value.resources c.self.inside.rows c.self.inside.given c.self.invariant c.clear.new.rows c.args.session
     c.as_slice.result.now c.in_err-clear.ensures.refused
 
 pub invariant_of-self-2 : goal.invariant_of-self-2
@@ -18,12 +18,12 @@ invariant_of-self-2 c =
     let s = c.args.session in
     let rows : Versions ModeRow = c.self.inside.rows in
     let all = subst (λ gs. c.clear.new.rows ≡ record rows { list = cleared s gs rows.list }) c.as_slice.ensures c.in_ok-clear.ensures.cleared in
-    clear-kept c.self.inside.numbers.now.resources rows c.self.inside.given c.self.invariant c.clear.new.rows c.forget.new.given s all c.forget.ensures
+    clear-kept c.self.inside.numbers.value.resources rows c.self.inside.given c.self.invariant c.clear.new.rows c.forget.new.given s all c.forget.ensures
 
 pub returns-clause-taken : goal.returns-clause-taken
 returns-clause-taken c =
     let s = c.args.session in
-    let rs = c.self.inside.numbers.now.resources in
+    let rs = c.self.inside.numbers.value.resources in
     let rows : Versions ModeRow = c.self.inside.rows in
     let all = subst (λ gs. c.clear.new.rows ≡ record rows { list = cleared s gs rows.list }) c.as_slice.ensures c.in_ok-clear.ensures.cleared in
     subst (λ (m : MarkedHolds). holds_of rs c.clear.new.rows ≡ record m { now = keep (λ (h : Holding). not (h.0 == s)) m.now }) c.self.view_is
@@ -32,7 +32,7 @@ returns-clause-taken c =
 pub returns-in_err-clear-clause-refused : goal.returns-in_err-clear-clause-refused
 returns-in_err-clear-clause-refused c =
     let s = c.args.session in
-    let rs = c.self.inside.numbers.now.resources in
+    let rs = c.self.inside.numbers.value.resources in
     subst (λ (m : MarkedHolds). OnErr c.from_residual.result (TakesSome s m.now (held_map rs c.clear.new.rows.list))) c.self.view_is
     (part-held rs c.self.inside.rows c.self.inside.given c.self.invariant c.clear.new.rows s c.as_slice.result.now c.from_residual.result
     c.in_err-clear.ensures.refused)
