@@ -1,15 +1,15 @@
 -- The lock table behind each change of the waits.
-use Rattle.std.specs.Prelude.{◌≡◌, ◌≢◌, refl, ℕ, zero, suc, ◌+◌, ◌<◌, ◌≤◌, Bool, true, false, cond, not, ◌==◌, Option, Some, None, Result, Ok, Err, OnOk}
+use Rattle.std.specs.Prelude.{◌≡◌, ◌≢◌, refl, ℕ, zero, suc, ◌+◌, ◌<◌, ◌≤◌, Bool, true, false, cond, not, ◌==◌, Option, Some, None, Result, Ok, Err, OnErr, OnOk, ◌⊎◌}
 use Rattle.std.specs.Prelude.{List, [], ◌∷◌, ◌++◌, length, get_or, take, drop, filter}
-use Rattle.std.proofs.Common.{sym, ap, ◌∙◌, subst, arith, eqb-true, eq-eqb, nat_lt}
+use Rattle.std.proofs.Common.{inl, inr, sym, ap, ◌∙◌, subst, arith, eqb-true, eq-eqb, nat_lt}
 use Rattle.std.specs.declared.alloc.AllocError.{AllocError}
-use Rattle.std.specs.List.{list_any, position, position_or_len, remove}
+use Rattle.std.specs.List.{find, list_any, position, position_or_len, remove}
 use Rattle.std.proofs.lemmas.Bool.{both_ways, ltb-false, or_parts}
 use Rattle.std.proofs.lemmas.List.{map-append}
 use Rattle.std.proofs.lemmas.List.Folds.{list_any_none}
 use Rattle.std.proofs.lemmas.List.Quantifiers.{position-Some}
 use Rattle.std.proofs.lemmas.List.Sums.{fails_before_first}
-use Rattle.finite_maps.specs.Map.{Map, insert, keep}
+use Rattle.finite_maps.specs.Map.{Map, get, get-keep, insert, keep}
 use Rattle.lock_modes.specs.declared.mode.Mode.{Mode}
 use Rattle.lock_modes.specs.declared.resource.Resource.{Resource}
 use Rattle.lock_queues.specs.declared.wait.Wait.{Wait}
@@ -19,8 +19,8 @@ use Rattle.lock_queues.specs.Rules.{IsNext, IsNextOf, IsSpot}
 use Rattle.lock_queues.specs.Sound.{Distinct, EachWait}
 use Rattle.marked_lists.specs.Versions.{Versions}
 use Rattle.numbered_specs.specs.Numbers.{resource_of}
-use Rattle.marked_modes.specs.Held.{MarkedHolds}
-use Rattle.marked_locks.specs.Queued.{MarkedTable, locks_of, marked_of, table_of, wait_of, waits_of}
+use Rattle.marked_modes.specs.Held.{MarkedHolds, TakesSome}
+use Rattle.marked_locks.specs.Queued.{GrantsOnly, LosesSome, MarkedTable, locks_of, marked_of, table_of, wait_of, waits_of}
 use Rattle.marked_locks.specs.Kept.{IsKept}
 use Rattle.marked_locks.specs.Places.{no_wait, spot_at}
 use Rattle.marked_locks.specs.declared.wait.NumberedWait.{NumberedWait}
@@ -126,6 +126,37 @@ none-found rs i ws e = each ws absent
     each [] e = tt
     each (w ∷ us) e = let p = or_parts (w.session == i) _ e in ((λ k. both_ways _ p.0 (eq-eqb w.session i k)), each us p.1)
 
+-- then none is found
+pub find-none : (rs : List Resource) (i : ℕ) (ws : List NumberedWait) → position (is_of_session i) ws ≡ None
+    → find (λ (w : Wait). w.session == i) (waits_of rs ws) ≡ None
+find-none rs i ws e = at (waits_of rs ws) (none-found rs i ws e)
+  where
+    at : (us : List Wait) → EachWait (Not i) us → find (λ (w : Wait). w.session == i) us ≡ None
+    at [] each = refl
+    at (u ∷ us) each = on (u.session == i) refl (at us each.1)
+      where
+        on : (b : Bool) → (u.session == i) ≡ b → find (λ (w : Wait). w.session == i) us ≡ None
+            → cond (u.session == i) (Some u) (find (λ (w : Wait). w.session == i) us) ≡ None
+        on true is rest = absurd (each.0 (eqb-true u.session i is))
+        on false is rest = ap (λ b. cond b (Some u) (find (λ (w : Wait). w.session == i) us)) is ∙ rest
+
+-- where a wait of the session is found, it is the one of the table
+pub find-some : (rs : List Resource) (i : ℕ) (ws : List NumberedWait) (k : ℕ) → position (is_of_session i) ws ≡ Some k
+    → find (λ (w : Wait). w.session == i) (waits_of rs ws) ≡ Some (wait_of rs (get_or ws k no_wait))
+find-some rs i ws k e =
+    let found = position-Some (is_of_session i) ws k no_wait e in
+    at ws k found.0 found.1 found.2
+  where
+    at : (us : List NumberedWait) (j : ℕ) → j < length us → is_of_session i (get_or us j no_wait) ≡ true
+        → ((l : ℕ) → l < j → is_of_session i (get_or us l no_wait) ≡ false)
+        → find (λ (w : Wait). w.session == i) (waits_of rs us) ≡ Some (wait_of rs (get_or us j no_wait))
+    at [] j lt here before = absurd (omega (arith, lt))
+    at (u ∷ us) zero lt here before =
+        ap (λ b. cond b (Some (wait_of rs u)) (find (λ (w : Wait). w.session == i) (waits_of rs us))) here
+    at (u ∷ us) (suc j) lt here before =
+        ap (λ b. cond b (Some (wait_of rs u)) (find (λ (w : Wait). w.session == i) (waits_of rs us))) (before 0 (omega arith))
+        ∙ at us j (omega (arith, lt)) here (λ l less. before (suc l) (omega (arith, less)))
+
 -- then all are of the others
 pub without-none : (rs : List Resource) (i : ℕ) (ws : List NumberedWait) → position (is_of_session i) ws ≡ None → waits_of rs ws ≡ others i (waits_of rs ws)
 without-none rs i ws e = sym (all-others i (waits_of rs ws) (none-found rs i ws e))
@@ -156,6 +187,15 @@ changed modes now waits left held us modes-are marks-are waits-are =
 abbrev pub keep_others : ℕ → Map holding_order Mode → Map holding_order Mode
 keep_others i held = keep (λ (h : Holding). not (h.0 == i)) held
 
+-- all that the session held is some of it
+takes-all : (i : ℕ) (held : Map holding_order Mode) → TakesSome i held (keep_others i held)
+takes-all i held h = at (h.0 == i) refl
+  where
+    at : (b : Bool) → (h.0 == i) ≡ b → (get (keep_others i held) h ≡ get held h) ⊎ ((h.0 ≡ i) × (get (keep_others i held) h ≡ None))
+    at true is =
+        inr (eqb-true h.0 i is, get-keep (λ (x : Holding). not (x.0 == i)) held h ∙ ap (λ b. cond (not b) (get held h) None) is)
+    at false is = inl (get-keep (λ (x : Holding). not (x.0 == i)) held h ∙ ap (λ b. cond (not b) (get held h) None) is)
+
 module _ (modes now : MarkedHolds) (waits : Versions NumberedWait) (i : ℕ) (taken-is : now ≡ record modes { now = keep_others i modes.now }) where
   -- a session that does not wait lets go
   pub gone-none : position (is_of_session i) waits.list ≡ None → table_of now waits ≡ table_with (table_of modes waits) (let_go (table_of modes waits).now i)
@@ -174,6 +214,15 @@ module _ (modes now : MarkedHolds) (waits : Versions NumberedWait) (i : ℕ) (ta
       ∙ without-session modes.resources i waits.list k at kept.now.sound.distinct)
   gone-waiting left k (Err e) kept at removed = tt
 
+  -- where its wait could not be taken out, nobody waits
+  pub gone-refused : (left : Versions NumberedWait) (result : Result (Unit {0}) AllocError) → OnErr result (left ≡ record waits { list = [] })
+      → OnErr result (LosesSome i (table_of modes waits).now (table_of now left).now)
+  gone-refused left (Ok u) cut = tt
+  gone-refused left (Err e) cut = (
+    ap (λ (v : Versions NumberedWait). waits_of now.resources v.list) cut,
+    subst (λ (m : MarkedHolds). TakesSome i modes.now m.now) (sym taken-is) (takes-all i modes.now),
+  )
+
 -- the next wait is granted
 module _ (modes now : MarkedHolds) (waits : Versions NumberedWait) (i k : ℕ) (m : Mode) (w : NumberedWait) (kept : IsKept modes waits)
     (at : position (is_of_session i) waits.list ≡ Some k) (there : get_or waits.list k no_wait ≡ w)
@@ -187,6 +236,9 @@ module _ (modes now : MarkedHolds) (waits : Versions NumberedWait) (i k : ℕ) (
 
   within : k < length waits.list
   within = (position-Some (is_of_session i) waits.list k no_wait at).0
+
+  its-mode : m ≡ wanted_by (look_at modes.now) (wait_of modes.resources (get_or waits.list k no_wait))
+  its-mode = wanted-is ∙ ap (λ v. wanted_by (look_at modes.now) (wait_of modes.resources v)) (sym there)
 
   the-spot : (s : Spot) → IsNext (table_of modes waits).now s → IsNextOf (table_of modes waits).now i → spot ≡ s
   the-spot s next of =
@@ -211,13 +263,24 @@ module _ (modes now : MarkedHolds) (waits : Versions NumberedWait) (i k : ℕ) (
       (ap (λ (v : Versions NumberedWait). v.marked) removed)
       (ap (λ (v : Versions NumberedWait). waits_of modes.resources v.list) removed ∙ removed-spot modes.resources waits.list k)
       ∙ (λ j. table_with (table_of modes waits) (record {
-        held = insert modes.now (sym of-session j, resource_of modes.resources (sym there j).resource) (mode j);
+        held = insert modes.now (sym of-session j, resource_of modes.resources (sym there j).resource) (its-mode j);
         waits = spot.before ++ spot.after;
       }))
       ∙ ap (λ t. table_with (table_of modes waits) (grant (table_of modes waits).now t)) (the-spot s next of)
-    where
-      mode : m ≡ wanted_by (look_at modes.now) (wait_of modes.resources (get_or waits.list k no_wait))
-      mode = wanted-is ∙ ap (λ v. wanted_by (look_at modes.now) (wait_of modes.resources v)) (sym there)
+
+  -- where its wait could not be taken out, nobody waits
+  pub granted-refused : (left : Versions NumberedWait) (result : Result (Unit {0}) AllocError) → IsNextOf (table_of modes waits).now i
+      → OnErr result (left ≡ record waits { list = [] }) → OnErr result (GrantsOnly (table_of modes waits).now (table_of now left).now)
+  granted-refused left (Ok u) of cut = tt
+  granted-refused left (Err e) of cut = λ s next.
+      inr (ap (λ (t : MarkedTable). t.now)
+      (changed modes now waits left (insert modes.now (i, resource_of modes.resources w.resource) m) [] given-is
+      (ap (λ (v : Versions NumberedWait). v.marked) cut) (ap (λ (v : Versions NumberedWait). waits_of modes.resources v.list) cut))
+      ∙ (λ j. let x : Locks = record {
+        held = insert modes.now (sym of-session j, resource_of modes.resources (sym there j).resource) (its-mode j);
+        waits = [];
+      } in x)
+      ∙ ap (λ t. let x : Locks = record (grant (table_of modes waits).now t) { waits = [] } in x) (the-spot s next of))
 
   -- what its table keeps
   abbrev without-it : Versions NumberedWait

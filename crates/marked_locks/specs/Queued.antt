@@ -1,13 +1,15 @@
 -- A lock table by the numbers of a spec's resources, now and at marks.
-use Rattle.std.specs.Prelude.{List, [], ◌∷◌, map}
+use Rattle.std.specs.Prelude.{◌≡◌, ◌⊎◌, ℕ, List, [], ◌∷◌, map}
 use Rattle.finite_maps.specs.Map.{Map}
 use Rattle.lock_modes.specs.declared.mode.Mode.{Mode}
 use Rattle.lock_modes.specs.declared.resource.Resource.{Resource}
 use Rattle.lock_queues.specs.declared.wait.Wait.{Wait}
-use Rattle.lock_queues.specs.LockTable.{Locks, holding_order}
+use Rattle.lock_queues.specs.Locks.{Spot}
+use Rattle.lock_queues.specs.LockTable.{Locks, grant, holding_order}
+use Rattle.lock_queues.specs.Rules.{IsNext}
 use Rattle.numbered_specs.specs.Numbers.{resource_of}
 use Rattle.marked_lists.specs.Versions.{Versions}
-use Rattle.marked_modes.specs.Held.{MarkedHolds}
+use Rattle.marked_modes.specs.Held.{MarkedHolds, TakesSome}
 use Rattle.marked_locks.specs.declared.wait.NumberedWait.{NumberedWait}
 
 -- the resources, and the lock table now, and at the marks that stand, the newest first
@@ -39,3 +41,13 @@ table_of modes waits = record {
   now = locks_of modes.resources modes.now waits.list;
   marked = marked_of modes.resources modes.marked waits.marked;
 }
+
+-- ---- what a refusal leaves
+
+-- nobody waits any more, and some of what the session held is taken away from it, nothing from others
+abbrev pub LosesSome : ℕ → Locks → Locks → Type 0
+LosesSome session old new = (new.waits ≡ []) × TakesSome session old.held new.held
+
+-- nothing is changed, or the next wait is granted and nobody waits any more
+abbrev pub GrantsOnly : Locks → Locks → Type 0
+GrantsOnly old new = (s : Spot) → IsNext old s → (new ≡ old) ⊎ (new ≡ record (grant old s) { waits = [] })

@@ -1,6 +1,7 @@
 //! The lock table by numbers, now and at marks.
 
-ghost use Rattle.std.specs.Prelude.{◌≡◌, ◌<◌, ◌∷◌, [], false, length, IfOk, MatchOption, OnErr, OnOk};
+ghost use Rattle.std.specs.Prelude.{◌≡◌, ◌<◌, ◌↔◌, ◌∷◌, [], false, length, IfOk, IfSome, IsTrue, MatchOption, OnErr, OnOk};
+ghost use Rattle.std.specs.Option.{option_map};
 ghost use Rattle.std.specs.List.Sorted.{IsStrictlySortedBy};
 ghost use Rattle.lock_modes.specs.Resource.{resource_cmp};
 ghost use Rattle.lock_queues.specs.Locks as locks;
@@ -9,6 +10,7 @@ ghost use Rattle.lock_queues.specs.Rules as rule;
 ghost use Rattle.lock_queues.specs.Sound.{IsSound};
 ghost use Rattle.lock_queues.specs.declared.answer.Taken.TheVariants.{Refused};
 ghost use Rattle.numbered_specs.specs.Numbers.{HasNumber, resource_of};
+ghost use Rattle.marked_locks.specs.Queued.{GrantsOnly, LosesSome};
 
 use crate::leaving::remove_wait;
 use crate::queue::{may_have, next_ripe, wanted, wanted_mode};
@@ -71,6 +73,29 @@ impl MarkedLocks {
         ensures { result ≡ locks.waits_now self.now.now.waits session }
     {
         is_waiting(self.waits.as_slice(), session)
+    }
+
+    /// What the session waits for, if it waits: the number of the resource, and the mode that it is to get there.
+    pub fn wait_of(&self, session: u8) -> Option<(ResourceNumber, Mode)>
+        ensures known { IfSome result (λ found. HasNumber self.now.resources found.0) }
+        ensures wait { option_map (λ found. (resource_of self.now.resources found.0, found.1)) result ≡ rule.wait_of self.now.now session }
+    {
+        let waits = self.waits.as_slice();
+        match place_of_wait(waits, session) {
+            None => None,
+            Some(place) => {
+                let wait = waits[place];
+                Some((wait.resource, wanted(&self.modes, wait)))
+            }
+        }
+    }
+
+    /// Whether the mode is compatible with what every other session holds on a resource.
+    pub fn fits(&self, session: u8, number: ResourceNumber, mode: Mode) -> bool
+        requires { HasNumber self.now.resources number }
+        ensures { IsTrue result ↔ spec.Fits (spec.look_in self.now.now) session (resource_of self.now.resources number) mode }
+    {
+        self.modes.fits(session, number, mode)
     }
 
     /// The mode that the session holds on a resource, if it holds one there.
@@ -174,11 +199,12 @@ impl MarkedLocks {
         Ok(Taken::Refused)
     }
 
-    /// Takes all modes from a session, and its wait if it has one. Where memory runs out all waits are gone, and some of its
-    /// modes may be; what was at marks stays.
+    /// Takes all modes from a session, and its wait if it has one. Where memory runs out nobody waits any more, and the session may have lost some of
+    /// its modes; what was at marks stays.
     pub fn let_go(&mut self, session: u8) -> Result<(), AllocError>
         requires { session < MAX_HOLDERS }
         ensures gone { OnOk result (self.new ≡ record self.old { now = spec.let_go self.old.now session }) }
+        ensures refused { OnErr result (LosesSome session self.old.now self.new.now) }
         ensures resources { self.new.resources ≡ self.old.resources }
         ensures marked { self.new.marked ≡ self.old.marked }
     {
@@ -202,11 +228,12 @@ impl MarkedLocks {
         next_ripe(&self.modes, self.waits.as_slice())
     }
 
-    /// Gives the session of `next_grant` its wanted mode. Where memory runs out it may have the mode, and all waits be gone; what was at marks
-    /// stays.
+    /// Gives the session of `next_grant` its wanted mode. Where memory runs out all is as it was, or the session has the mode and nobody waits any
+    /// more; what was at marks stays.
     pub fn grant(&mut self, session: u8) -> Result<(), AllocError>
         requires { rule.IsNextOf self.old.now session }
         ensures granted { OnOk result ((s : locks.Spot) → rule.IsNext self.old.now s → self.new ≡ record self.old { now = spec.grant self.old.now s }) }
+        ensures refused { OnErr result (GrantsOnly self.old.now self.new.now) }
         ensures resources { self.new.resources ≡ self.old.resources }
         ensures marked { self.new.marked ≡ self.old.marked }
     {

@@ -1,4 +1,4 @@
-use Rattle.std.proofs.Common.{◌≡◌, ◌<◌, ◌∙◌, ◌==◌, OnOk, ap, eqb-true, subst, sym}
+use Rattle.std.proofs.Common.{◌≡◌, ◌<◌, ◌∙◌, ◌==◌, OnErr, OnOk, ap, eqb-true, subst, sym}
 use Rattle.std.specs.List.{position}
 use Rattle.std.proofs.lemmas.List.Quantifiers.{position-Some}
 use Rattle.std.proofs.lemmas.Option.{get_or_from_slice_get}
@@ -6,13 +6,13 @@ use Rattle.lock_queues.specs.Locks.{Spot}
 use Rattle.lock_queues.specs.LockTable.{grant}
 use Rattle.lock_queues.specs.Rules.{IsNext, IsNextOf}
 use Rattle.marked_modes.specs.declared.row.TheConstants.{MAX_HOLDERS}
-use Rattle.marked_locks.specs.Queued.{MarkedTable, table_of}
+use Rattle.marked_locks.specs.Queued.{GrantsOnly, MarkedTable, table_of}
 use Rattle.marked_locks.specs.Kept.{IsKnown}
 use Rattle.marked_locks.specs.Places.{no_wait}
 use Rattle.marked_locks.specs.declared.wait.NumberedWait.{NumberedWait}
 use Rattle.marked_locks.proofs.KeepLemmas.{granted-kept}
 use Rattle.marked_locks.proofs.SeenLemmas.{known-at}
-use Rattle.marked_locks.proofs.TableLemmas.{granted-next, none-next}
+use Rattle.marked_locks.proofs.TableLemmas.{granted-next, granted-refused, none-next}
 use Rattle.marked_locks.proofs.locks.MarkedLocks.grant.Goals as goal
 
 pub unreachable-requires : goal.unreachable-requires
@@ -77,3 +77,15 @@ returns-clause-granted c =
     → table_of c.give.new.self c.remove_wait.new.waits ≡ record t { now = grant t.now s })) c.self.view_is
     (granted-next c.self.inside.modes c.give.new.self c.self.inside.waits i k c.wanted-mode.result c.get-wait.result c.self.invariant found there
     c.wanted-mode.ensures c.in_ok-give.ensures.given c.remove_wait.new.waits c.remove_wait.result next c.remove_wait.ensures.removed)
+
+pub returns-clause-refused : goal.returns-clause-refused
+returns-clause-refused c =
+    let ws = c.self.inside.waits.list in
+    let k = c.in-Some.place in
+    let i = c.args.session in
+    let found = ap (position (λ (w : NumberedWait). w.session == i)) (sym c.as_slice.ensures) ∙ sym c.place_of_wait.ensures ∙ c.in-Some.is in
+    let there = get_or_from_slice_get ws k c.get-wait.result no_wait c.get-wait.ensures in
+    let next = subst (λ (t : MarkedTable). IsNextOf t.now i) (sym c.self.view_is) c.requires in
+    subst (λ (t : MarkedTable). OnErr c.remove_wait.result (GrantsOnly t.now (table_of c.give.new.self c.remove_wait.new.waits).now)) c.self.view_is
+    (granted-refused c.self.inside.modes c.give.new.self c.self.inside.waits i k c.wanted-mode.result c.get-wait.result c.self.invariant found there
+    c.wanted-mode.ensures c.in_ok-give.ensures.given c.remove_wait.new.waits c.remove_wait.result next c.remove_wait.ensures.refused)

@@ -1,10 +1,10 @@
-use Rattle.std.proofs.Common.{◌≡◌, ◌∙◌, ◌==◌, OnOk, ap, subst, sym}
+use Rattle.std.proofs.Common.{◌≡◌, ◌∙◌, ◌==◌, OnErr, OnOk, ap, subst, sym}
 use Rattle.std.specs.List.{position}
 use Rattle.lock_queues.specs.LockTable.{let_go}
-use Rattle.marked_locks.specs.Queued.{MarkedTable, table_of}
+use Rattle.marked_locks.specs.Queued.{LosesSome, MarkedTable, table_of}
 use Rattle.marked_locks.specs.declared.wait.NumberedWait.{NumberedWait}
 use Rattle.marked_locks.proofs.KeepLemmas.{gone-kept, gone-none-kept, refused-kept}
-use Rattle.marked_locks.proofs.TableLemmas.{gone-none, gone-waiting}
+use Rattle.marked_locks.proofs.TableLemmas.{gone-none, gone-refused, gone-waiting}
 use Rattle.marked_locks.proofs.locks.MarkedLocks.let_go.Goals as goal
 
 pub invariant_of-self : goal.invariant_of-self
@@ -39,3 +39,10 @@ returns-in-Some-clause-gone c =
     subst (λ (t : MarkedTable). OnOk c.remove_wait.result (table_of c.take.new.self c.remove_wait.new.waits ≡ record t { now = let_go t.now i })) c.self.view_is
     (gone-waiting c.self.inside.modes c.take.new.self c.self.inside.waits i c.in_default.ensures.taken c.remove_wait.new.waits c.in-Some.place
     c.remove_wait.result c.self.invariant found c.remove_wait.ensures.removed)
+
+pub returns-in-Some-clause-refused : goal.returns-in-Some-clause-refused
+returns-in-Some-clause-refused c =
+    let i = c.args.session in
+    subst (λ (t : MarkedTable). OnErr c.remove_wait.result (LosesSome i t.now (table_of c.take.new.self c.remove_wait.new.waits).now)) c.self.view_is
+    (gone-refused c.self.inside.modes c.take.new.self c.self.inside.waits i c.in_default.ensures.taken c.remove_wait.new.waits c.remove_wait.result
+    c.remove_wait.ensures.refused)
