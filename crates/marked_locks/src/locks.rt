@@ -209,7 +209,7 @@ impl MarkedLocks {
         ensures marked { self.new.marked ≡ self.old.marked }
     {
         tables_stay_sound(); // for the proof
-        if let Err(error) = self.modes.take(session) {
+        if let Err(error) = self.modes.let_go(session) {
             // Who waits for whom may be otherwise now.
             self.waits.truncate(0);
             return Err(error);

@@ -5,9 +5,9 @@ use Rattle.std.specs.Prelude.{All, Result}
 use Rattle.std.proofs.lemmas.Option.{get_or_from_slice_get}
 use Rattle.std.proofs.lemmas.List.{get_or-map, length-map, map-append, map-set, reverse-append}
 use Rattle.event_tree.specs.declared.node.NodeId.{NodeId}
-use Rattle.event_tree.specs.Lists.{HasNode, Keeps, list_of}
+use Rattle.event_tree.specs.Lists.{Grows, HasNode, Keeps, list_of}
 use Rattle.marked_lists.specs.Versions.{Versions}
-use Rattle.marked_logs.specs.Logs.{forgetting, telling}
+use Rattle.marked_logs.specs.Logs.{forgetting, telling, told_to}
 use Rattle.marked_logs.specs.Kept.{IsKept, lists_at, logs_of}
 
 same-marks : {X Y : Type 0} (r : Result X Y) (logs left : Versions NodeId) (s : ℕ) (after : NodeId)
@@ -52,6 +52,10 @@ module _ {E : Type 0} where
       ∙ (λ i. set (lists-kept old new logs.list keeps kept.now i) s (told i))
       ∙ ap (λ l. set (lists_at old logs.list) s (l ++ e ∷ [])) (sym (at-session old logs.list s before lt got))
   tell-told (Err y) old new logs left s before after e keeps kept lt got told put = tt
+
+  pub tell-grows : (old new : List (List E)) (logs : Versions NodeId) (s : ℕ) (before : NodeId) (e : E) → s < length logs.list
+      → slice_get logs.list s ≡ Some before → Grows old (list_of old before ++ e ∷ []) new → Grows old (told_to (lists_at old logs.list) s ++ e ∷ []) new
+  tell-grows old new logs s before e lt got grows = subst (λ l. Grows old (l ++ e ∷ []) new) (sym (at-session old logs.list s before lt got)) grows
 
   pub tell-kept : {X Y : Type 0} (r : Result X Y) (old new : List (List E)) (logs left : Versions NodeId) → Keeps old new → IsKept old logs
       → OnErr r (left ≡ logs) → OnErr r (lists_at new left.list ≡ lists_at old logs.list)

@@ -1,7 +1,7 @@
 //! What sessions were told, now and at marks.
 
-ghost use Rattle.std.specs.Prelude.{◌≡◌, ◌<◌, ◌∷◌, [], ◌↔◌, IfOk, IsTrue, OnErr, OnOk, length, map, replicate};
-ghost use Rattle.event_tree.specs.Lists.{HasNode, Keeps, list_of};
+ghost use Rattle.std.specs.Prelude.{◌≡◌, ◌<◌, ◌∷◌, ◌++◌, [], ◌↔◌, IfOk, IsTrue, OnErr, OnOk, length, map, replicate};
+ghost use Rattle.event_tree.specs.Lists.{Grows, HasNode, Keeps, list_of};
 ghost use Rattle.marked_logs.specs.Logs.{forgetting, telling, told_to};
 
 use event_tree::{EventTree, NodeId, Same};
@@ -57,7 +57,7 @@ impl<E: Same> MarkedLogs<E> {
         self.logs.get(session as usize)
     }
 
-    /// Whether two nodes are one, which they are exactly where their lists are the same.
+    /// Whether two nodes stand for the same list, by one look.
     pub fn is_same(&self, one: NodeId, other: NodeId) -> bool
         requires one { HasNode self.now.lists one }
         requires other { HasNode self.now.lists other }
@@ -81,8 +81,9 @@ impl<E: Same> MarkedLogs<E> {
         ensures kept { OnErr result (self.new.now ≡ self.old.now) }
         ensures marked { self.new.marked ≡ self.old.marked }
 
-        // What nodes stand for stays.
+        // What nodes stand for stays, and no list comes but the session's.
         ensures lists { Keeps self.old.lists self.new.lists }
+        ensures grows { Grows self.old.lists (told_to self.old.now session ++ event ∷ []) self.new.lists }
     {
         let before = self.logs.get(session as usize);
         let after = self.tree.child(before, event)?;

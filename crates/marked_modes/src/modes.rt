@@ -102,9 +102,9 @@ impl MarkedModes {
     }
 
     /// Takes everything away from a session. Where memory runs out some of it is, and nothing from others.
-    pub fn take(&mut self, session: u8) -> Result<(), AllocError>
+    pub fn let_go(&mut self, session: u8) -> Result<(), AllocError>
         requires { session < MAX_HOLDERS }
-        ensures taken { OnOk result (self.new ≡ record self.old { now = keep (λ (h : Holding). not (h.0 == session)) self.old.now }) }
+        ensures gone { OnOk result (self.new ≡ record self.old { now = keep (λ (h : Holding). not (h.0 == session)) self.old.now }) }
         ensures refused { OnErr result (TakesSome session self.old.now self.new.now) }
         ensures resources { self.new.resources ≡ self.old.resources }
         ensures marked { self.new.marked ≡ self.old.marked }

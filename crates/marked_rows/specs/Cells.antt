@@ -1,4 +1,4 @@
--- The rows that sessions see, by a cell for each place where a row has lain.
+-- The rows that sessions see, by a cell for each place that was ever written.
 use Rattle.std.specs.Prelude.{ℕ, List, [], ◌∷◌, get_or, slice_get, Option, Some, None}
 use Rattle.lock_modes.specs.RowPlace.{RowPlace}
 use Rattle.lock_modes.specs.Rows.{Tuple}

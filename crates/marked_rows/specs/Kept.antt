@@ -1,4 +1,4 @@
--- How rows are kept so that what a session wrote is found at once. No public clause cites this module.
+-- How rows are kept so that what a session wrote is found at once. No clause of `MarkedRows` cites this module.
 use Rattle.std.specs.Prelude.{◌≡◌, ◌<◌, ◌≤◌, ◌⊎◌, ◌==◌, ℕ, zero, suc, ◌+◌, Bool, true, false}
 use Rattle.std.specs.Prelude.{cond, List, [], ◌∷◌, ◌++◌, length, get_or, set, All, Option, Some, None}
 use Rattle.std.specs.List.{list_all}
@@ -114,7 +114,7 @@ abbrev pub blanks : ℕ → List Cell
 blanks zero = []
 blanks (suc n) = blank ∷ blanks n
 
--- there are as many cells as before, or blank ones more, no more than up to one of this number
+-- there are as many cells as before, or blank ones more, so many at most that the one with this number is the last
 pub record HasBlanks (place : ℕ) (old new : Versions Cell) : Type 0 where
   pub count : ℕ
   pub is : new ≡ record old { list = old.list ++ blanks count }

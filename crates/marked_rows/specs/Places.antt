@@ -1,4 +1,4 @@
--- The places where rows have lain, each with the number of its cell. No public clause cites this module.
+-- The places that were ever written, each with the number of its cell. No clause of `MarkedRows` cites this module.
 use Rattle.std.specs.Prelude.{◌≡◌, ◌≢◌, ◌<◌, ◌≤◌, ◌⊎◌, ℕ, suc, ◌+◌, List, [], ◌∷◌, ◌++◌, length, map, get_or, slice_get, All, Some}
 use Rattle.std.specs.Option.{option_map}
 use Rattle.std.specs.declared.cmp.Ordering.{Ordering}
@@ -18,7 +18,7 @@ pub record Index : Type 0 where
 abbrev pub placed : ℕ → List KeyedCell → List (RowPlace × ℕ)
 placed table es = map (λ (e : KeyedCell). let p : RowPlace × ℕ = ((table, e.key), e.cell) in p) es
 
--- the places of tables that are numbered from one on, table behind table
+-- the places of tables from this number on, table behind table
 abbrev pub placed_from : ℕ → List (List KeyedCell) → List (RowPlace × ℕ)
 placed_from table [] = []
 placed_from table (es ∷ rest) = placed table es ++ placed_from (suc table) rest

@@ -43,7 +43,7 @@ impl Cell {
         }
     }
 
-    /// The row that the session sees which has written there, or everybody where none has.
+    /// The row that the session has left which has written there, else the committed one.
     pub fn seen(&self) -> Option<usize>
         ensures { result ≡ seen self.now }
     {
@@ -63,7 +63,7 @@ impl Cell {
         }
     }
 
-    /// The cell with what a session leaves there.
+    /// The cell with what a session leaves there, in the place of what was left.
     pub fn with(&self, session: u8, row: Option<usize>) -> Cell
         ensures { result ≡ record self.now { left = Some (record { session = session; row = row }) } }
     {

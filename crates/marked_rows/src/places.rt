@@ -1,4 +1,4 @@
-//! The places where rows have lain, and which cell is that of a place.
+//! The places that were ever written, and which cell is that of a place.
 
 ghost use Rattle.std.specs.Prelude.{◌≡◌, ℕ, ◌<◌, [], IfErr, IfOk, MatchOption, OnErr, OnOk, Some, length, map, slice_get};
 ghost use Rattle.std.specs.List.{Contains};
@@ -22,7 +22,7 @@ pub(crate) struct KeyedCell {
     pub(crate) cell: usize,
 }
 
-/// The places where rows have lain. They become more, and stay where cells go back to a mark.
+/// The places that were ever written. They become more, and stay where cells go back to a mark.
 ///
 /// Contracts see each place with the number of its cell, and the number of the next one.
 #[derive(Drop)]
@@ -55,7 +55,7 @@ impl Places {
         }
     }
 
-    /// The number of the cell for a key of a table, none where no row has lain there.
+    /// The number of the cell for a key of a table, none where nothing was ever written.
     pub fn cell_of(&self, table: u16, key: &Value) -> Option<usize>
         ensures { MatchOption result (IsAbsent (table, key.now) self.now.entries) (IsPlaceOf self.now.entries (table, key.now)) }
     {
@@ -66,7 +66,7 @@ impl Places {
         }
     }
 
-    /// The keys of a table at which rows have lain, each with its cell.
+    /// The keys of a table at which something was ever written, each with its cell.
     pub fn table(&self, table: u16) -> &[KeyedCell]
         ensures rise { IsStrictlySortedBy key_cmp result.now }
         ensures there { (index : ℕ) (e : Keyed) → slice_get result.now index ≡ Some e → IsPlaceOf self.now.entries (table, e.key) e.cell }
@@ -79,7 +79,7 @@ impl Places {
         self.tables[table].as_slice()
     }
 
-    /// The number of the cell for a key of a table, the next one where no row has lain there.
+    /// The number of the cell for a key of a table, the next one where nothing was ever written. Without memory the place may be there already.
     pub fn number_of(&mut self, table: u16, key: &Value) -> Result<usize, AllocError>
         ensures known { IfOk result (IsPlaceOf self.new.entries (table, key.now)) }
         ensures grown { IsGrown (table, key.now) self.old self.new }
@@ -90,7 +90,7 @@ impl Places {
         }
     }
 
-    /// The number of the cell for a key of a table at which no row has lain.
+    /// The number of the cell for a key of a table at which nothing was ever written.
     fn add(&mut self, table: u16, key: Value) -> Result<usize, AllocError>
         requires { IsAbsent (table, key) self.old.entries }
         ensures known { IfOk result (IsPlaceOf self.new.entries (table, key)) }

@@ -1,4 +1,4 @@
--- What contracts see of numbers. No public clause cites this module.
+-- How numbers are kept. No public clause cites this module.
 use Rattle.std.specs.Prelude.{◌≡◌, ℕ, List, ◌<◌, length, get_or, All}
 use Rattle.std.specs.List.{Contains}
 use Rattle.std.specs.List.Sorted.{IsStrictlySortedBy}

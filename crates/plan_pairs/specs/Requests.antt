@@ -16,6 +16,6 @@ fit q p = not (place_of q.resource == place_of p.resource) || compatible q.mode 
 abbrev pub all_fit : List NumberedRequest → List NumberedRequest → Bool
 all_fit qs ps = list_all (λ q. list_all (fit q) ps) qs
 
--- what one step's requests are beside those of each
+-- for each of the others, whether these requests fit it
 abbrev pub row_of : List NumberedRequest → List (List NumberedRequest) → List Bool
 row_of qs others = map (all_fit qs) others

@@ -61,7 +61,7 @@ impl StepPairs {
         Ok(StepPairs { rows })
     }
 
-    /// Whether two steps ask for modes that go together, by one look. Of a step that the spec does not have it says no.
+    /// Whether two steps ask for modes that go together, by one look.
     pub fn go_together(&self, first: u8, second: u8) -> bool
         ensures { result ≡ together self.now first second }
     {

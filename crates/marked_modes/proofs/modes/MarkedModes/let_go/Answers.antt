@@ -6,7 +6,7 @@ use Rattle.marked_modes.specs.Held.{MarkedHolds, TakesSome, held_map}
 use Rattle.marked_modes.specs.Kept.{cleared, holds_of}
 use Rattle.marked_modes.specs.declared.row.ModeRow.{ModeRow}
 use Rattle.marked_modes.proofs.ChangeLemmas.{clear-held, clear-kept, part-held, part-kept}
-use Rattle.marked_modes.proofs.modes.MarkedModes.take.Goals as goal
+use Rattle.marked_modes.proofs.modes.MarkedModes.let_go.Goals as goal
 
 pub invariant_of-self : goal.invariant_of-self
 invariant_of-self c =
@@ -20,8 +20,8 @@ invariant_of-self-2 c =
     let all = subst (λ gs. c.clear.new.rows ≡ record rows { list = cleared s gs rows.list }) c.as_slice.ensures c.in_ok-clear.ensures.cleared in
     clear-kept c.self.inside.numbers.value.resources rows c.self.inside.given c.self.invariant c.clear.new.rows c.forget.new.given s all c.forget.ensures
 
-pub returns-clause-taken : goal.returns-clause-taken
-returns-clause-taken c =
+pub returns-clause-gone : goal.returns-clause-gone
+returns-clause-gone c =
     let s = c.args.session in
     let rs = c.self.inside.numbers.value.resources in
     let rows : Versions ModeRow = c.self.inside.rows in
