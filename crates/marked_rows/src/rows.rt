@@ -111,7 +111,7 @@ impl MarkedRows {
         self.cells.set(place, cell.with(session, number))
     }
 
-    /// Drops what a session wrote. Where memory runs out some of it is dropped.
+    /// Drops what a session wrote. Where memory runs out the rows now are good for nothing more; what was at marks stays.
     pub fn undo(&mut self, session: u8) -> Result<(), AllocError>
         ensures undone { OnOk result (self.new ≡ record self.old { now = undone session self.old.now }) }
         ensures marked { self.new.marked ≡ self.old.marked }
@@ -119,7 +119,7 @@ impl MarkedRows {
         self.end(session, Ending::Undo)
     }
 
-    /// Makes what a session wrote committed. Where memory runs out some of it is.
+    /// Makes what a session wrote committed. Where memory runs out the rows now are good for nothing more; what was at marks stays.
     pub fn keep(&mut self, session: u8) -> Result<(), AllocError>
         ensures kept { OnOk result (self.new ≡ record self.old { now = kept session self.old.now }) }
         ensures marked { self.new.marked ≡ self.old.marked }
