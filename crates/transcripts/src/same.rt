@@ -5,6 +5,7 @@ ghost use Rattle.std.specs.Prelude.{◌≡◌, ◌↔◌, IsTrue};
 use crate::event::Event;
 use crate::order::{kind, number, values};
 use crate::outcome::Transcript;
+use event_tree::Same;
 use lock_modes::Value;
 
 /// Whether two lists of sessions are told the same, each in its place.
@@ -20,6 +21,12 @@ pub(crate) fn are_same_sessions(a: &[Transcript], b: &[Transcript]) -> bool
         }
     }
     true
+}
+
+impl Same for Event {
+    fn is_same(&self, other: &Event) -> bool {
+        is_same_event(self, other)
+    }
 }
 
 /// Whether two lists of events are the same.

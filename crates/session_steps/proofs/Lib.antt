@@ -1,0 +1,12 @@
+pub mod Going
+pub mod States
+pub mod Moves
+pub mod Requests
+pub mod Steps
+pub mod Worlds
+pub mod Waiting
+pub mod Stages
+pub mod SetUpLemmas
+pub mod Answered
+pub mod Standing
+pub mod Acted
