@@ -1,3 +1,3 @@
-mod NumberLemmas
-mod AskedLemmas
+pub mod NumberLemmas
+pub mod AskedLemmas
 mod PlaceLemmas

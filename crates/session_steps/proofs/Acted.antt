@@ -1,6 +1,7 @@
 -- Calls on a stage in turn: what they do together to where a session stands, and what stays of the others.
 use Rattle.std.proofs.Common.{◌≡◌, refl, sym, ap, ◌∙◌, subst, ℕ, zero, suc, ◌<◌, List, [], ◌∷◌, length, set, get_or, drop, Option, Some, None, is_some, append_assoc}
-use Rattle.std.proofs.Common.{length-set, get_or-set_same}
+use Rattle.std.proofs.Common.{length-set, get_or-set_same, set-set}
+use Rattle.std.proofs.lemmas.List.{set-get_or}
 use Rattle.transcripts.specs.declared.event.Event.{Event}
 use Rattle.transcripts.specs.declared.event.Event.TheVariants.{Failed, Done}
 use Rattle.transcripts.specs.declared.event.Fault.{Fault}
@@ -15,19 +16,13 @@ use Rattle.session_steps.specs.Acting as act
 use Rattle.session_steps.specs.Going.{Standing, standing, tasks_from, told, failed_in, StopsIn, WaitsIf, GoesUntil}
 use Rattle.session_steps.specs.Stage.{Member, Staged, no_member, member_at, note_member, standing_at, others, with_rest, statements_of, rest_of, rest_at}
 use Rattle.session_steps.specs.Stage.{own_of, RestIsOf, HasTold, HasGone}
-use Rattle.session_steps.proofs.Stages.{set-set}
 
 -- ---- the other sessions
-
-set-get : {A : Type 0} (xs : List A) (i : ℕ) (d : A) → set xs i (get_or xs i d) ≡ xs
-set-get [] i d = refl
-set-get (x ∷ xs) zero d = refl
-set-get (x ∷ xs) (suc i) d = ap (λ ys. x ∷ ys) (set-get xs i d)
 
 -- where the others stay, the sessions are as before but for this one
 pub others-set : (i : ℕ) (x y : Staged) → others i y ≡ others i x → y.members ≡ set x.members i (member_at y i)
 others-set i x y same =
-    sym (set-get y.members i no_member)
+    sym (set-get_or y.members i no_member)
     ∙ sym (set-set y.members i (record { state = no_member.state; rest = (member_at y i).rest }) (member_at y i))
     ∙ ap (λ ms. set ms i (member_at y i)) same
     ∙ set-set x.members i (record { state = no_member.state; rest = (member_at x i).rest }) (member_at y i)
@@ -119,4 +114,4 @@ same-members i x y lt own same =
       state = record { status = (own k).status; transcript = (own k).transcript };
       rest = rest k;
     } in
-    others-set i x y same ∙ ap (set x.members i) member ∙ set-get x.members i no_member
+    others-set i x y same ∙ ap (set x.members i) member ∙ set-get_or x.members i no_member

@@ -2,7 +2,7 @@
 use Rattle.std.specs.List.{All, list_any}
 use Rattle.std.proofs.lemmas.List.Elements.{All-get_or, All-set, All-nil, All-cons}
 use Rattle.std.proofs.lemmas.List.{length-map, length-replicate}
-use Rattle.std.proofs.Common.{◌≡◌, refl, sym, ap, ◌∙◌, subst, ℕ, zero, suc, ◌<◌, Bool, true, false, List, [], ◌∷◌, length, drop, map, set, get_or, replicate}
+use Rattle.std.proofs.Common.{◌≡◌, refl, sym, ap, ◌∙◌, subst, ℕ, zero, suc, ◌<◌, Bool, true, false, List, [], ◌∷◌, length, drop, map, set, get_or, replicate, set-set}
 use Rattle.std.proofs.Common.{Option, Some, None, is_some, arith, length-set, get_or-set_same, not, ◌||◌}
 use Rattle.finite_maps.specs.Map.{empty, get-empty}
 use Rattle.lock_modes.specs.Resource.{resource_order}
@@ -33,7 +33,7 @@ use Rattle.session_steps.proofs.Steps.{tasks_from-start}
 use Rattle.session_steps.proofs.States.{length-sessions_from, session_at-is, sessions-set, same-refl}
 use Rattle.machine_model.proofs.Settles.{Entering, entering, goes-steady, touched-steady}
 use Rattle.machine_model.proofs.Starts.{first_world, first-steady, get_or-replicate, alone-goes, alone-forgets, idle-goes}
-use Rattle.session_steps.proofs.Stages.{get_or-owns, set-set, world-set, stage-gone}
+use Rattle.session_steps.proofs.Stages.{get_or-owns, world-set, stage-gone}
 use Rattle.session_steps.proofs.Worlds.{goes-is, to-go}
 use Rattle.transcripts.specs.declared.event.Event.{Event}
 use Rattle.machine_model.specs.Outcome.{IsToldOf, TellsOwn}

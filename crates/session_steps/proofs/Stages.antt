@@ -3,7 +3,7 @@ use Rattle.std.specs.List.{All}
 use Rattle.std.proofs.lemmas.List.Elements.{All-set}
 use Rattle.std.proofs.lemmas.List.{length-map, map-set}
 use Rattle.std.proofs.Common.{◌≡◌, ◌≢◌, refl, sym, ap, ◌∙◌, subst, ℕ, zero, suc, ◌<◌, true, false, ◌||◌, ◌==◌, List, [], ◌∷◌, ◌++◌, length, drop, map}
-use Rattle.std.proofs.Common.{set, get_or, Option, Some, None, is_some, ⊎_elim, arith, length-set, get_or-set_other, get_or-set_same, eq-eqb}
+use Rattle.std.proofs.Common.{set, get_or, Option, Some, None, is_some, ⊎_elim, arith, length-set, set-set, get_or-set_other, get_or-set_same, eq-eqb}
 use Rattle.lock_queues.specs.declared.wait.Wait.{Wait}
 use Rattle.lock_queues.specs.Locks.{Spot, waits_now}
 use Rattle.lock_queues.specs.LockTable.{Locks, grant}
@@ -38,11 +38,6 @@ pub get_or-owns : (steps : List Step) (ms : List Member) (i : ℕ) → get_or (m
 get_or-owns steps [] i = refl
 get_or-owns steps (m ∷ ms) zero = refl
 get_or-owns steps (m ∷ ms) (suc i) = get_or-owns steps ms i
-
-pub set-set : {A : Type 0} (xs : List A) (i : ℕ) (x y : A) → set (set xs i x) i y ≡ set xs i y
-set-set [] i x y = refl
-set-set (z ∷ xs) zero x y = refl
-set-set (z ∷ xs) (suc i) x y = ap (λ ys. z ∷ ys) (set-set xs i x y)
 
 -- at a place of the list the default does not matter
 pub get_or-any : {A : Type 0} (xs : List A) (i : ℕ) (d e : A) → i < length xs → get_or xs i d ≡ get_or xs i e

@@ -10,7 +10,7 @@ use Rattle.machine_model.specs.Outcome.{TellsOwn}
 use Rattle.transcripts.specs.declared.event.Event.{Event}
 use Rattle.transcripts.specs.declared.event.Event.TheVariants.{Sent}
 use Rattle.bound_statements.specs.declared.statement.Bound.{Bound}
-use Rattle.bound_specs.specs.Spec.{Step, no_step}
+use Rattle.bound_specs.specs.Spec.{Spec, Step, no_step}
 use Rattle.machine_model.specs.declared.status.Status.TheVariants.{Outside}
 use Rattle.session_steps.specs.declared.point.Origin.{Origin}
 use Rattle.session_steps.specs.declared.point.Origin.TheVariants.{Step as StepOf}
@@ -156,3 +156,8 @@ KnowsAll knows sts = (k : ℕ) (d : Bound) → k < length sts → knows k (get_o
 -- and those of each step
 abbrev pub KnowsSteps : (Origin → ℕ → Bound → Type 0) → List Step → Type 0
 KnowsSteps knows steps = (k : ℕ) → k < length steps → KnowsAll (knows (StepOf k)) (statements_of steps k)
+
+-- and those of each setup
+pub record KnowsSetups (knows : ℕ → Bound → Type 0) (spec : Spec) : Type 0 where
+  pub mains : All (KnowsAll knows) spec.setups
+  pub own : All (KnowsAll knows) spec.session_setups

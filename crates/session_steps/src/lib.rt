@@ -15,5 +15,5 @@ pub use asking::Asked;
 pub use error::{SendError, StartError};
 pub use point::{Origin, Point, Rest};
 pub use sending::{resume, send, start_step};
-pub use setups::{SetUp, main_setups, session_setups};
+pub use setups::{SetUp, main_setups, run_setups, session_setups};
 pub use stage::Stage;

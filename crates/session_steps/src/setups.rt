@@ -4,9 +4,9 @@ ghost use Rattle.std.specs.Prelude.{◌≡◌, ◌<◌, ◌≤◌, [], length, s
 ghost use Rattle.std.specs.List.{list_any};
 ghost use Rattle.bound_statements.specs.Plan.{HasKeys, IsShort};
 ghost use Rattle.bound_specs.specs.Spec.{AllHaveKeys, AllAreShort};
-ghost use Rattle.machine_model.specs.Start.{Started, is_failure, is_outside, main_setups, session_setups};
+ghost use Rattle.machine_model.specs.Start.{Started, is_failure, is_outside, main_setups, session_setups, start};
 ghost use Rattle.session_steps.specs.Refused.{IsRefusedBy};
-ghost use Rattle.session_steps.specs.Stage.{member_at, world_in, IsStage, KnowsAll};
+ghost use Rattle.session_steps.specs.Stage.{member_at, world_in, IsBlank, IsSettled, IsStage, KnowsAll, KnowsSetups};
 ghost use Rattle.session_steps.specs.SetUp as spec;
 ghost use Rattle.session_steps.specs.SetUp.{HasEnded, IsReadyForMains, IsReadyForSessions};
 ghost use Rattle.session_steps.specs.declared.point.Origin.TheVariants as origin;
@@ -15,7 +15,7 @@ use crate::error::StartError;
 use crate::point::{Origin, Point};
 use crate::stage::Stage;
 use crate::stepping::go_on;
-use bound_specs::Block;
+use bound_specs::{Block, Spec};
 use std::alloc::{AllocError, Global};
 
 /// How a setup ended.
@@ -29,6 +29,26 @@ pub enum SetUp {
     Open,
     /// All of it went through, and no transaction block is open.
     Closed,
+}
+
+/// Runs the setups of a spec on a stage on which nothing was done: its main setups in order, then the setup of each session. The first that is refused
+/// refuses the start.
+pub fn run_setups<S: Stage>(
+    alloc: Global,
+    stage: &mut S,
+    spec: &Spec,
+) -> Result<(), StartError>
+    requires blank { IsBlank (suc spec.now.run.sessions) (S.staged stage.old) }
+    requires known { KnowsSetups (S.knows (S.past stage.old) origin.Setup) spec.now.run }
+    ensures started { OnOk result (start spec.now.run ≡ Started (world_in spec.now.run.steps (S.staged stage.new))) }
+    ensures settled { OnOk result (IsSettled spec.now.run.sessions spec.now.run.steps (S.staged stage.new)) }
+    ensures refused { IfErr result (λ error. IsRefusedBy error (start spec.now.run)) }
+    ensures past { S.past stage.new ≡ S.past stage.old }
+{
+    let control = spec.sessions();
+    let own = spec.session_setups();
+    main_setups(alloc, stage, control, spec.setups())?;
+    session_setups(alloc, stage, own)
 }
 
 /// Runs the main setup blocks in order, each in the control session. The first that fails or leaves a transaction block

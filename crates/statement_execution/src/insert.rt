@@ -13,9 +13,9 @@ ghost use Rattle.statement_evaluation.specs.Borrowed.{effect_at};
 ghost use Rattle.statement_execution.specs.Run.{SeesAlone};
 ghost use Rattle.statement_execution.specs.Seen.{named, number_after, KeysAlone};
 
+use crate::sights::Sight;
 use finite_maps::Fork;
 use lock_modes::{Row, Value};
-use row_tables::Store;
 use statement_evaluation::{Given, ValueRef, Write, Writes, telling};
 use std::alloc::{AllocError, Global};
 use transcripts::{Event, Fault};
@@ -33,41 +33,41 @@ pub(crate) fn inserted(alloc: Global, writes: Option<Writes>) -> Result<Given, A
 }
 
 /// The writes of new rows, or none where a key is there already or comes twice.
-pub(crate) fn made(
+pub(crate) fn made<'a, S: Sight<'a>>(
     alloc: Global,
-    store: &Store,
+    rows: S,
     session: u8,
     table: u16,
     key_column: Option<u16>,
     new: &[Row],
 ) -> Result<Option<Writes>, AllocError>
-    requires { SeesAlone session (Insert table key_column new.now) store.now }
-    ensures { IfOk result (λ writes. spec.or_fault Duplicate writes Inserted ≡ spec.effect (Insert table key_column new.now) (sight session store.now)) }
+    requires { SeesAlone session (Insert table key_column new.now) (S.layers rows) }
+    ensures { IfOk result (λ writes. spec.or_fault Duplicate writes Inserted ≡ spec.effect (Insert table key_column new.now) (sight session (S.layers rows))) }
 {
     match key_column {
-        Some(key_column) => placed(alloc, store, session, table, key_column, new),
-        None => Ok(Some(numbered(alloc, store, session, table, new)?)),
+        Some(key_column) => placed(alloc, rows, session, table, key_column, new),
+        None => Ok(Some(numbered(alloc, rows, session, table, new)?)),
     }
 }
 
 /// The writes of new rows at their keys, or none where a key is there already or comes twice.
-fn placed(
+fn placed<'a, S: Sight<'a>>(
     alloc: Global,
-    store: &Store,
+    rows: S,
     session: u8,
     table: u16,
     key_column: u16,
     new: &[Row],
 ) -> Result<Option<Writes>, AllocError>
-    requires { KeysAlone session table key_column new.now store.now }
-    ensures { IfOk result (λ writes. writes ≡ spec.placed table key_column new.now (sight session store.now)) }
+    requires { KeysAlone session table key_column new.now (S.layers rows) }
+    ensures { IfOk result (λ writes. writes ≡ spec.placed table key_column new.now (sight session (S.layers rows))) }
 {
     let mut writes = Writes::new(alloc);
     // The keys of the rows so far. What they lead to does not matter.
     let mut keys = VMap::new(alloc);
     for row in new {
         let key = ValueRef::in_column(row, key_column).to_value()?;
-        if is_taken(store, session, table, &key, &keys) {
+        if is_taken(rows, session, table, &key, &keys) {
             return Ok(None);
         }
         writes.push(Write::new(table, key.fork()?, Some(row.fork()?)))?;
@@ -77,40 +77,35 @@ fn placed(
 }
 
 /// Whether a key is there or came before.
-fn is_taken(store: &Store, session: u8, table: u16, key: &Value, keys: &VMap<Value, u8>) -> bool
-    requires { IsOnlyWriterAt session (table, key.now) store.now }
-    ensures { result ≡ (is_some (get (sight session store.now) (table, key.now)) || is_some (find value_cmp key.now keys.now)) }
+fn is_taken<'a, S: Sight<'a>>(
+    rows: S,
+    session: u8,
+    table: u16,
+    key: &Value,
+    keys: &VMap<Value, u8>,
+) -> bool
+    requires { IsOnlyWriterAt session (table, key.now) (S.layers rows) }
+    ensures { result ≡ (is_some (get (sight session (S.layers rows)) (table, key.now)) || is_some (find value_cmp key.now keys.now)) }
 {
-    store.read(session, table, key).is_some() || keys.get(key).is_some()
+    rows.read(session, table, key).is_some() || keys.get(key).is_some()
 }
 
 /// The writes of new rows whose keys are numbers one after another, the first one more than the greatest that is there, or 1.
-fn numbered(
+fn numbered<'a, S: Sight<'a>>(
     alloc: Global,
-    store: &Store,
+    rows: S,
     session: u8,
     table: u16,
     new: &[Row],
 ) -> Result<Writes, AllocError>
-    requires { IsOnlyWriterIn session table store.now }
-    ensures { IfOk result (λ writes. writes ≡ spec.numbered table (spec.next_number 1 (named table None (sight session store.now))) new.now) }
+    requires { IsOnlyWriterIn session table (S.layers rows) }
+    ensures { IfOk result (λ writes. writes ≡ spec.numbered table (spec.next_number 1 (named table None (sight session (S.layers rows)))) new.now) }
 {
-    numbered_from(alloc, table, next_number(store, session, table), new)
-}
-
-fn next_number(store: &Store, session: u8, table: u16) -> u64
-    requires { IsOnlyWriterIn session table store.now }
-    ensures { result ≡ spec.next_number 1 (named table None (sight session store.now)) }
-{
-    let mut next = 1;
-    for (key, _) in store.scan(session, table) {
-        next = number_after(key, next);
-    }
-    next
+    numbered_from(alloc, table, rows.next_number(session, table), new)
 }
 
 /// One more than the number that a key is, or else `next`.
-fn number_after(key: &Value, next: u64) -> u64
+pub fn number_after(key: &Value, next: u64) -> u64
     ensures { result ≡ number_after key.now next }
 {
     match key {

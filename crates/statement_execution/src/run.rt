@@ -3,14 +3,12 @@
 ghost use Rattle.std.specs.Prelude.{◌≡◌, ◌++◌, IfOk, OnOk};
 ghost use Rattle.row_tables.specs.Layers.{sight};
 ghost use Rattle.statement_evaluation.specs.Effect.{effect};
-ghost use Rattle.statement_evaluation.specs.Borrowed.{effect_at};
 ghost use Rattle.statement_execution.specs.Run.{SeesAlone, fault_of, left_by, events_of, wrote_each, WritesAlone};
 
-use crate::insert::{inserted, made};
-use crate::matching::matching;
+use crate::effects::effect_of;
 use bound_statements::Bound;
 use row_tables::Store;
-use statement_evaluation::{Given, Writes, deleted, nothing, selected, telling, updated};
+use statement_evaluation::{Given, Writes};
 use std::alloc::{AllocError, Global};
 use transcripts::{Event, Fault, Log};
 
@@ -28,41 +26,13 @@ pub fn run_statement(
     ensures left { OnOk result (store.new ≡ left_by session (effect statement.now (sight session store.old)) store.old) }
     ensures told { OnOk result (log.new ≡ log.old ++ events_of (effect statement.now (sight session store.old))) }
 {
-    match given(alloc, statement, session, store)? {
+    match effect_of(alloc, statement, session, &*store)? {
         Given::Failed(fault) => Ok(Some(fault)),
         Given::Told(events, writes) => {
             write_each(store, session, writes)?;
             tell_each(log, events)?;
             Ok(None)
         }
-    }
-}
-
-/// The effect of a statement on the rows that a session sees.
-fn given(alloc: Global, statement: &Bound, session: u8, store: &Store) -> Result<Given, AllocError>
-    requires { SeesAlone session statement.now store.now }
-    ensures { IfOk result (λ given. effect_at given ≡ effect statement.now (sight session store.now)) }
-{
-    match statement {
-        Bound::Select(table, key, condition, order, output, _) => {
-            let found = matching(alloc, store, session, *table, key.as_ref(), condition)?;
-            selected(alloc, order.as_slice(), output, found)
-        }
-        Bound::Insert(table, key_column, new) => {
-            let writes = made(alloc, store, session, *table, *key_column, new.as_slice())?;
-            inserted(alloc, writes)
-        }
-        Bound::Update(table, key, sets, condition) => {
-            let found = matching(alloc, store, session, *table, key.as_ref(), condition)?;
-            updated(alloc, sets.as_slice(), found)
-        }
-        Bound::Delete(table, key, condition) => {
-            let found = matching(alloc, store, session, *table, key.as_ref(), condition)?;
-            deleted(alloc, found)
-        }
-        Bound::Lock(_, _, _) => telling(alloc, Event::Locked, Writes::new(alloc)),
-        Bound::SetVariable => telling(alloc, Event::Set, Writes::new(alloc)),
-        Bound::Begin | Bound::Commit | Bound::Rollback => Ok(nothing(alloc)),
     }
 }
 

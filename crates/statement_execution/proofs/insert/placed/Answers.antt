@@ -10,8 +10,8 @@ use Rattle.statement_execution.proofs.PlaceLemmas.{Placing, placing-starts, plac
 use Rattle.statement_execution.proofs.insert.placed.Goals as goal
 
 pub loop-row-init : goal.loop-row-init
-loop-row-init c =
-    let rows = sight c.args.session c.args.store.now in
+loop-row-init g c =
+    let rows = sight c.args.session (g.S.Sight.layers c.args.rows) in
     let new = c.args.new.now in
     subst (λ (ws : List Write). Placing c.args.table c.args.key_column rows new new ws c.new-keys.result) (sym c.new-writes.ensures)
     (subst (λ (ks : List (Value × ℕ)). Placing c.args.table c.args.key_column rows new new [] ks) (sym c.new-keys.ensures)
@@ -19,13 +19,13 @@ loop-row-init c =
 
 -- the row goes in at its key, where none was
 pub loop-row-preserved : goal.loop-row-preserved
-loop-row-preserved c =
+loop-row-preserved g c =
     let t = c.args.table in
     let k = c.args.key_column in
     let i = c.loop-row.row-index in
     let row : Tuple = c.row-item.result in
     let new : List Tuple = c.args.new.now in
-    let rows = sight c.args.session c.args.store.now in
+    let rows = sight c.args.session (g.S.Sight.layers c.args.rows) in
     let writes : List Write = c.loop-row.writes in
     let keys : List (Value × ℕ) = c.loop-row.keys in
     let more : List Tuple = drop (i + 1) new in

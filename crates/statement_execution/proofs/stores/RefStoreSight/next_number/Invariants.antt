@@ -2,8 +2,8 @@ use Rattle.std.proofs.Common.{◌≡◌}
 use Rattle.row_tables.specs.Layers.{sight, rows_of}
 use Rattle.statement_evaluation.specs.Effect.{next_number}
 use Rattle.statement_execution.specs.Seen.{in_table}
-use Rattle.statement_execution.proofs.insert.next_number.Given as goal
+use Rattle.statement_execution.proofs.stores.RefStoreSight.next_number.Given as goal
 
 -- the rows that are left lead to the same number
 abbrev pub invariant-loop-key : goal.invariant-loop-key
-invariant-loop-key l = next_number l.next (in_table l.table l.key-iterator) ≡ next_number 1 (in_table l.table (rows_of l.table (sight l.session l.store)))
+invariant-loop-key l = next_number l.next (in_table l.table l.key-iterator) ≡ next_number 1 (in_table l.table (rows_of l.table (sight l.session l.self)))

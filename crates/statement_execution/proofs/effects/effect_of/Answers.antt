@@ -9,12 +9,12 @@ use Rattle.statement_evaluation.specs.Borrowed.{effect_at}
 use Rattle.statement_execution.specs.Seen.{named}
 use Rattle.statement_execution.proofs.GivenLemmas.{effect-select, effect-update, effect-delete, effect-locked, effect-set, effect-begin, effect-commit}
 use Rattle.statement_execution.proofs.GivenLemmas.{effect-rollback}
-use Rattle.statement_execution.proofs.run.given.Goals as goal
+use Rattle.statement_execution.proofs.effects.effect_of.Goals as goal
 
 pub returns-in_ok-found-in-Select : goal.returns-in_ok-found-in-Select
-returns-in_ok-found-in-Select c =
+returns-in_ok-found-in-Select g c =
     let s = c.in-Select in
-    let rows = sight c.args.session c.args.store.now in
+    let rows = sight c.args.session (g.S.Sight.layers c.args.rows) in
     let is : selected c.as_slice.result.now s.output c.in_ok-found-in-Select.found ≡ effect c.args.statement.now rows =
     (λ i. selected (c.as_slice.ensures i) s.output ((c.in_ok-found-in-Select.ensures
     ∙ ap (λ o. matching s.condition (named s.table o rows)) c.as_ref.ensures.value) i))
@@ -22,9 +22,9 @@ returns-in_ok-found-in-Select c =
     subst (λ (e : Effect). IfOk c.selected.result (λ given. effect_at given ≡ e)) is c.selected.ensures
 
 pub returns-in_ok-found-in-Update : goal.returns-in_ok-found-in-Update
-returns-in_ok-found-in-Update c =
+returns-in_ok-found-in-Update g c =
     let s = c.in-Update in
-    let rows = sight c.args.session c.args.store.now in
+    let rows = sight c.args.session (g.S.Sight.layers c.args.rows) in
     let is : updated c.as_slice-in-Update.result.now c.in_ok-found-in-Update.found ≡ effect c.args.statement.now rows =
     (λ i. updated (c.as_slice-in-Update.ensures i) ((c.in_ok-found-in-Update.ensures
     ∙ ap (λ o. matching s.condition (named s.table o rows)) c.as_ref-in-Update.ensures.value) i))
@@ -32,31 +32,31 @@ returns-in_ok-found-in-Update c =
     subst (λ (e : Effect). IfOk c.updated.result (λ given. effect_at given ≡ e)) is c.updated.ensures
 
 pub returns-in_ok-found-in-Delete : goal.returns-in_ok-found-in-Delete
-returns-in_ok-found-in-Delete c =
+returns-in_ok-found-in-Delete g c =
     let s = c.in-Delete in
-    let rows = sight c.args.session c.args.store.now in
+    let rows = sight c.args.session (g.S.Sight.layers c.args.rows) in
     let is : deleted c.in_ok-found-in-Delete.found ≡ effect c.args.statement.now rows =
     ap deleted (c.in_ok-found-in-Delete.ensures ∙ ap (λ o. matching s.condition (named s.table o rows)) c.as_ref-in-Delete.ensures.value)
     ∙ sym (effect-delete rows s.table s.key s.condition) ∙ ap (λ (st : Bound). effect st rows) (sym s.is) in
     subst (λ (e : Effect). IfOk c.deleted.result (λ given. effect_at given ≡ e)) is c.deleted.ensures
 
 pub returns-in-Lock : goal.returns-in-Lock
-returns-in-Lock c =
+returns-in-Lock g c =
     subst (λ (e : Effect). IfOk c.telling.result (λ given. effect_at given ≡ e))
-    (ap (Gives (Locked ∷ [])) c.new.ensures ∙ sym (effect-locked (sight c.args.session c.args.store.now) c.in-Lock.field-0 c.in-Lock.field-1 c.in-Lock.field-2)
-    ∙ ap (λ (st : Bound). effect st (sight c.args.session c.args.store.now)) (sym c.in-Lock.is))
+    (ap (Gives (Locked ∷ [])) c.new.ensures ∙ sym (effect-locked (sight c.args.session (g.S.Sight.layers c.args.rows)) c.in-Lock.field-0 c.in-Lock.field-1 c.in-Lock.field-2)
+    ∙ ap (λ (st : Bound). effect st (sight c.args.session (g.S.Sight.layers c.args.rows))) (sym c.in-Lock.is))
     c.telling.ensures
 
 pub returns-in-SetVariable : goal.returns-in-SetVariable
-returns-in-SetVariable c =
+returns-in-SetVariable g c =
     subst (λ (e : Effect). IfOk c.telling-in-SetVariable.result (λ given. effect_at given ≡ e))
-    (ap (Gives (Set ∷ [])) c.new-in-SetVariable.ensures ∙ sym (effect-set (sight c.args.session c.args.store.now))
-    ∙ ap (λ (st : Bound). effect st (sight c.args.session c.args.store.now)) (sym c.in-SetVariable.is))
+    (ap (Gives (Set ∷ [])) c.new-in-SetVariable.ensures ∙ sym (effect-set (sight c.args.session (g.S.Sight.layers c.args.rows)))
+    ∙ ap (λ (st : Bound). effect st (sight c.args.session (g.S.Sight.layers c.args.rows))) (sym c.in-SetVariable.is))
     c.telling-in-SetVariable.ensures
 
 pub returns-in-Begin : goal.returns-in-Begin
-returns-in-Begin c =
-    let rows = sight c.args.session c.args.store.now in
+returns-in-Begin g c =
+    let rows = sight c.args.session (g.S.Sight.layers c.args.rows) in
     c.nothing.ensures
     ∙ elim c.in-Begin.is [
       | inl e ↦ sym (effect-begin rows) ∙ ap (λ (st : Bound). effect st rows) (sym e)

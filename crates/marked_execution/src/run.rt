@@ -1,0 +1,78 @@
+//! Running a statement whose locks are had.
+
+ghost use Rattle.std.specs.Prelude.{◌≡◌, ◌<◌, ◌++◌, IfOk, OnOk, length, set};
+ghost use Rattle.row_tables.specs.Layers.{sight};
+ghost use Rattle.statement_evaluation.specs.Effect.{effect};
+ghost use Rattle.statement_execution.specs.Run.{SeesAlone, WritesAlone, events_of, fault_of, left_by, wrote_each};
+ghost use Rattle.marked_logs.specs.Logs.{told_to};
+
+use crate::marked_sight::MarkedSight;
+use bound_statements::Bound;
+use marked_logs::MarkedLogs;
+use marked_rows::MarkedRows;
+use statement_evaluation::{Given, Writes};
+use statement_execution::effect_of;
+use std::alloc::{AllocError, Global};
+use transcripts::{Event, Fault};
+
+/// Runs a statement whose locks are had: its whole effect on the rows that its session sees now, or none where it fails. Tells the session of it; where it
+/// fails, the fault is the answer and nothing is told.
+///
+/// It fails for want of memory alone. Then some of it may be done; what was there at marks stays.
+pub fn run_statement(
+    alloc: Global,
+    statement: &Bound,
+    session: u8,
+    rows: &mut MarkedRows,
+    logs: &mut MarkedLogs<Event>,
+) -> Result<Option<Fault>, AllocError>
+    requires alone { SeesAlone session statement.now rows.old.now }
+    requires inside { session < length logs.old.now }
+    ensures fault { IfOk result (λ fault. fault ≡ fault_of (effect statement.now (sight session rows.old.now))) }
+    ensures left { OnOk result (rows.new.now ≡ left_by session (effect statement.now (sight session rows.old.now)) rows.old.now) }
+    ensures told { OnOk result (logs.new.now ≡ set logs.old.now session (told_to logs.old.now session ++ events_of (effect statement.now (sight session rows.old.now)))) }
+
+    // Whatever comes of it, also after want of memory.
+    ensures rows_marked { rows.new.marked ≡ rows.old.marked }
+    ensures logs_marked { logs.new.marked ≡ logs.old.marked }
+    ensures sessions { length logs.new.now ≡ length logs.old.now }
+{
+    match effect_of(alloc, statement, session, MarkedSight { rows: &*rows })? {
+        Given::Failed(fault) => Ok(Some(fault)),
+        Given::Told(events, writes) => {
+            write_each(rows, session, writes)?;
+            tell_each(logs, session, events)?;
+            Ok(None)
+        }
+    }
+}
+
+/// Leaves these in the rows. Where memory runs out, some of them may be left there.
+fn write_each(rows: &mut MarkedRows, session: u8, writes: Writes) -> Result<(), AllocError>
+    requires { WritesAlone session writes rows.old.now }
+    ensures left { OnOk result (rows.new.now ≡ wrote_each session writes rows.old.now) }
+    ensures marked { rows.new.marked ≡ rows.old.marked }
+{
+    for write in writes.into_vec() {
+        let (table, key, left) = write.into_parts();
+        rows.write(session, table, &key, left)?;
+    }
+    Ok(())
+}
+
+/// Tells the session of these. Where memory runs out, it may be told of some of them.
+fn tell_each(
+    logs: &mut MarkedLogs<Event>,
+    session: u8,
+    events: Vec<Event>,
+) -> Result<(), AllocError>
+    requires { session < length logs.old.now }
+    ensures told { OnOk result (logs.new.now ≡ set logs.old.now session (told_to logs.old.now session ++ events.items)) }
+    ensures marked { logs.new.marked ≡ logs.old.marked }
+    ensures sessions { length logs.new.now ≡ length logs.old.now }
+{
+    for event in events {
+        logs.tell(session, event)?;
+    }
+    Ok(())
+}

@@ -1,0 +1,58 @@
+-- Sessions as they are kept: what each was told, and beside it the rest.
+use Rattle.std.specs.Prelude.{◌≡◌, List, [], ◌∷◌, ◌++◌, length, Option, None}
+use Rattle.std.specs.List.{AllZip}
+use Rattle.transcripts.specs.declared.event.Event.{Event}
+use Rattle.machine_model.specs.declared.status.Status.{Status}
+use Rattle.machine_model.specs.declared.status.Status.TheVariants.{Outside}
+use Rattle.session_steps.specs.declared.point.Rest.{Rest}
+use Rattle.session_steps.specs.Stage.{Member}
+use Rattle.marked_lists.specs.Versions.{Versions}
+use Rattle.marked_logs.specs.Logs.{Logs}
+use Rattle.marked_worlds.specs.declared.members.Kept.{Kept}
+
+-- ---- a session that is changed
+
+-- it is told of these events
+abbrev pub told_all : Member → List Event → Member
+told_all m es = record { state = record { status = m.state.status; transcript = m.state.transcript ++ es }; rest = m.rest }
+
+-- it was told nothing
+abbrev pub silenced : Member → Member
+silenced m = record { state = record { status = m.state.status; transcript = [] }; rest = m.rest }
+
+abbrev pub with_status : Member → Status → Member
+with_status m status = record { state = record { status = status; transcript = m.state.transcript }; rest = m.rest }
+
+abbrev pub with_rest : Member → Option Rest → Member
+with_rest m rest = record { state = m.state; rest = rest }
+
+-- ---- how sessions are kept
+
+abbrev pub no_kept : Kept
+no_kept = record { status = Outside; rest = None }
+
+abbrev pub member_of : List Event → Kept → Member
+member_of told k = record { state = record { status = k.status; transcript = told }; rest = k.rest }
+
+abbrev pub members_of : List (List Event) → List Kept → List Member
+members_of [] ks = []
+members_of (told ∷ logs) [] = []
+members_of (told ∷ logs) (k ∷ ks) = member_of told k ∷ members_of logs ks
+
+-- the sessions at marks
+abbrev pub marked_of : List (List (List Event)) → List (List Kept) → List (List Member)
+marked_of [] marked = []
+marked_of (logs ∷ more) [] = []
+marked_of (logs ∷ more) (ks ∷ marked) = members_of logs ks ∷ marked_of more marked
+
+abbrev pub versions_of : Logs Event → Versions Kept → Versions Member
+versions_of logs kept = record { list = members_of logs.now kept.list; marked = marked_of logs.marked kept.marked }
+
+-- each session has both parts
+abbrev pub IsWhole : List (List Event) → List Kept → Type 0
+IsWhole logs ks = length logs ≡ length ks
+
+-- so it is now and at each mark
+pub record AreWhole (logs : Logs Event) (kept : Versions Kept) : Type 0 where
+  pub now : IsWhole logs.now kept.list
+  pub marked : AllZip IsWhole logs.marked kept.marked

@@ -1,0 +1,9 @@
+//! The sequential machine of a spec, with marks to go back to: for who would else fork a world before each step.
+#![tactic(auto)]
+
+mod asking;
+mod members;
+mod stage;
+mod world;
+
+pub use world::MarkedWorld;

@@ -1,0 +1,210 @@
+//! The rows, the locks and the sessions of a world, now and at marks.
+
+ghost use Rattle.std.specs.Prelude.{◌≡◌, ◌≤◌, ◌<◌, ◌∷◌, [], length, refl, take, IfOk, OnErr, OnOk};
+ghost use Rattle.std.specs.List.Sorted.{IsStrictlySortedBy};
+ghost use Rattle.lock_modes.specs.Resource.{resource_cmp};
+ghost use Rattle.session_steps.specs.Stage.{IsBlank, transcripts_of};
+ghost use Rattle.marked_worlds.specs.Stages as spec;
+
+use crate::asking::{ask_one, request_at};
+use crate::members::MarkedMembers;
+use bound_statements::Bound;
+use machine_model::{Reply, Status};
+use marked_locks::MarkedLocks;
+use marked_modes::MAX_HOLDERS;
+use marked_rows::MarkedRows;
+use numbered_specs::SpecNumbers;
+use session_steps::{Origin, Rest, Stage};
+use std::alloc::{AllocError, Global};
+use std::marker::Model;
+use std::sync::Arc;
+use transcripts::{Event, Fault, Transcript};
+
+/// The rows, the locks and the sessions of a world, with marks to go back to.
+///
+/// Contracts see the numbers of the spec, the stage now, and the stages at the marks that stand, the newest first. After want of memory the stage now
+/// is good for nothing but going back; what was at marks stays.
+#[derive(Drop)]
+pub(crate) struct MarkedStage {
+    alloc: Global,
+    numbers: Arc<SpecNumbers>,
+    rows: MarkedRows,
+    locks: MarkedLocks,
+    members: MarkedMembers,
+}
+
+impl Model for MarkedStage {
+    ghost use Rattle.std.specs.Coded.{codes};
+    ghost use Rattle.finite_maps.specs.Codes.{map_code};
+    ghost use Rattle.lock_modes.specs.contracts.value.Value as value;
+    ghost use Rattle.lock_modes.specs.contracts.resource.Resource as resource;
+    ghost use Rattle.lock_queues.specs.contracts.wait.Wait as waiting;
+    ghost use Rattle.numbered_specs.specs.contracts.request.NumberedRequest as request;
+    ghost use Rattle.transcripts.specs.contracts.event.Event as event;
+    ghost use Rattle.marked_worlds.specs.Stages.{IsKept, MarkedStages, marked_stages};
+
+    ghost Value = { MarkedStages };
+
+    ghost coded = { Prim.hlevel (codes, map_code, value.the_row.coded, resource.the_row.coded, waiting.the_row.coded, request.the_row.coded, event.the_row.coded) };
+
+    ghost view = { λ s. marked_stages s.numbers.value s.rows s.locks s.members };
+
+    ghost invariant = { λ s. IsKept s.numbers.value s.rows s.locks s.members };
+}
+
+impl MarkedStage {
+    /// So many sessions that have done nothing, over no rows, and no mark.
+    pub(crate) fn new(
+        alloc: Global,
+        numbers: Arc<SpecNumbers>,
+        count: u8,
+    ) -> Result<MarkedStage, AllocError>
+        requires rise { IsStrictlySortedBy resource_cmp numbers.value.resources }
+        requires few { count ≤ MAX_HOLDERS }
+        ensures numbers { IfOk result (λ stage. stage.numbers ≡ numbers.value) }
+        ensures blank { IfOk result (λ stage. IsBlank count stage.now) }
+        ensures marked { IfOk result (λ stage. stage.marked ≡ []) }
+    {
+        let own = numbers.clone()?;
+        let locks = MarkedLocks::new(alloc, own)?;
+        let members = MarkedMembers::new(alloc, count)?;
+        Ok(MarkedStage {
+            alloc,
+            numbers,
+            rows: MarkedRows::new(alloc),
+            locks,
+            members,
+        })
+    }
+
+    /// Copies of what the first so many sessions were told.
+    pub(crate) fn transcripts(&self, count: u8) -> Result<Vec<Transcript>, AllocError>
+        requires { count ≤ length self.now.now.members }
+        ensures { IfOk result (λ transcripts. transcripts.items ≡ transcripts_of (take count self.now.now.members)) }
+    {
+        self.members.transcripts(self.alloc, count)
+    }
+
+    /// Sets a mark. Without memory everything stays as it was.
+    pub(crate) fn mark(&mut self) -> Result<(), AllocError>
+        ensures marked { OnOk result (self.new ≡ record self.old { marked = self.old.now ∷ self.old.marked }) }
+        ensures kept { OnErr result (self.new ≡ self.old) }
+    {
+        self.rows.mark()?;
+        if let Err(error) = self.locks.mark() {
+            self.rows.go_back();
+            return Err(error);
+        }
+        if let Err(error) = self.members.mark() {
+            self.rows.go_back();
+            self.locks.go_back();
+            return Err(error);
+        }
+        Ok(())
+    }
+
+    /// Goes back to the newest mark, which is gone then. It takes no memory.
+    pub(crate) fn go_back(&mut self)
+        requires { 0 < length self.old.marked }
+        ensures marked { self.old.marked ≡ self.new.now ∷ self.new.marked }
+        ensures numbers { self.new.numbers ≡ self.old.numbers }
+    {
+        self.rows.go_back();
+        self.locks.go_back();
+        self.members.go_back();
+    }
+}
+
+impl Stage for MarkedStage {
+    ghost staged = { λ s. s.now };
+
+    ghost Past = { spec.Past };
+
+    ghost past = { spec.past_of };
+
+    ghost count = { λ p. p.count };
+
+    ghost knows = { λ p. spec.IsKnown p.numbers };
+
+    fn waits(&self, session: u8) -> bool {
+        self.locks.waits(session)
+    }
+
+    fn next_grant(&self) -> Option<u8> {
+        self.locks.next_grant()
+    }
+
+    fn sound(&self) {
+        self.locks.known()
+    }
+
+    fn status(&self, session: u8) -> Status {
+        self.members.status(session)
+    }
+
+    fn rest(&self, session: u8) -> Option<Rest> {
+        self.members.rest(session)
+    }
+
+    fn has_failed(&self, session: u8) -> Result<bool, AllocError> {
+        self.members.has_failed(self.alloc, session)
+    }
+
+    fn ask(
+        &mut self,
+        session: u8,
+        statement: &Bound,
+        origin: Origin,
+        place: usize,
+        number: u8,
+    ) -> Result<Option<Reply>, AllocError> {
+        let Some(request) = request_at(&self.numbers, statement, origin, place, number)? else {
+            return Ok(None);
+        };
+        let reply = ask_one(&mut self.locks, session, statement, request)?;
+        Ok(Some(reply))
+    }
+
+    fn run(
+        &mut self,
+        alloc: Global,
+        session: u8,
+        statement: &Bound,
+    ) -> Result<Option<Fault>, AllocError> {
+        self.members.run(alloc, statement, session, &mut self.rows)
+    }
+
+    fn undo(&mut self, session: u8) -> Result<(), AllocError> {
+        self.rows.undo(session)
+    }
+
+    fn keep(&mut self, session: u8) -> Result<(), AllocError> {
+        self.rows.keep(session)
+    }
+
+    fn let_go(&mut self, session: u8) -> Result<(), AllocError> {
+        self.locks.let_go(session)
+    }
+
+    fn grant(&mut self, session: u8) -> Result<(), AllocError> {
+        self.locks.grant(session)
+    }
+
+    fn tell(&mut self, session: u8, event: Event) -> Result<(), AllocError> {
+        self.members.tell(session, event)
+    }
+
+    fn forget(&mut self, session: u8) -> Result<(), AllocError> {
+        self.members.forget(session)
+    }
+
+    fn set_status(&mut self, session: u8, status: Status) -> Result<(), AllocError> {
+        self.members.set_status(session, status)
+    }
+
+    fn set_rest(&mut self, session: u8, rest: Option<Rest>) -> Result<(), AllocError> {
+        self.members.set_rest(session, rest)
+    }
+
+    ghost counts = { λ x. refl };
+}

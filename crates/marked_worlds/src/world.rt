@@ -1,0 +1,164 @@
+//! A world of a spec that goes back to marks.
+
+ghost use Rattle.std.specs.Prelude.{◌≡◌, ◌<◌, ◌↔◌, ◌∷◌, [], true, false, length, All, IfErr, IfOk, IsErrOf, OnErr, OnOk};
+ghost use Rattle.bound_specs.specs.Spec.{IsBound};
+ghost use Rattle.numbered_specs.specs.Numbers.{IsNumbering};
+ghost use Rattle.machine_model.specs.World.{send, outcome_of};
+ghost use Rattle.machine_model.specs.Outcome.{IsOutcomeOf};
+ghost use Rattle.machine_model.specs.Start.{Started, start};
+ghost use Rattle.session_steps.specs.Refused.{IsRefusedBy};
+ghost use Rattle.marked_worlds.specs.Worlds.{IsOfSpec};
+
+use crate::stage::MarkedStage;
+use bound_specs::Spec;
+use numbered_specs::SpecNumbers;
+use session_steps::{SendError, StartError, run_setups, send};
+use std::alloc::{AllocError, Global};
+use std::marker::Model;
+use std::sync::Arc;
+use transcripts::Outcome;
+
+/// The sequential machine over a spec, with marks to go back to, in place of forks.
+///
+/// Contracts see the spec and its numbers, the world now, the worlds at the marks that stand, the newest first, and whether the world is spent. A world
+/// is spent by a step that is refused memory; what was at marks stays, and where it goes back to one it is spent no more.
+#[derive(Drop)]
+pub struct MarkedWorld<'a> {
+    spec: &'a Spec,
+    alloc: Global,
+    stage: MarkedStage,
+    is_spent: bool,
+}
+
+impl<'a> Model for MarkedWorld<'a> {
+    ghost use Rattle.std.specs.Coded.{codes};
+    ghost use Rattle.finite_maps.specs.Codes.{map_code};
+    ghost use Rattle.lock_modes.specs.contracts.value.Value as value;
+    ghost use Rattle.lock_modes.specs.contracts.resource.Resource as resource;
+    ghost use Rattle.lock_queues.specs.contracts.wait.Wait as waiting;
+    ghost use Rattle.bound_statements.specs.contracts.statement.Bound as bound;
+    ghost use Rattle.numbered_specs.specs.contracts.request.NumberedRequest as request;
+    ghost use Rattle.transcripts.specs.contracts.event.Event as event;
+    ghost use Rattle.marked_worlds.specs.Worlds.{AreSettled, MarkedRunning, running_of};
+
+    ghost Value = { MarkedRunning };
+
+    ghost coded = { Prim.hlevel (codes, map_code, value.the_row.coded, bound.the_row.coded, resource.the_row.coded, waiting.the_row.coded, request.the_row.coded, event.the_row.coded) };
+
+    ghost view = { λ w. running_of w.spec.now w.stage w.is_spent };
+
+    ghost invariant = { λ w. AreSettled w.spec.now w.stage w.is_spent };
+}
+
+impl<'a> MarkedWorld<'a> {
+    /// The world after the setups of a spec: its main setups in order, then the setup of each session. No mark stands.
+    pub fn start(
+        alloc: Global,
+        spec: &'a Spec,
+        numbers: Arc<SpecNumbers>,
+    ) -> Result<MarkedWorld<'a>, StartError>
+        requires { IsNumbering spec.now.run numbers.value }
+        ensures started { IfOk result (λ world. start spec.now.run ≡ Started world.world) }
+        ensures of_spec { IfOk result (λ world. world.file ≡ spec.now) }
+        ensures numbers { IfOk result (λ world. world.numbers ≡ numbers.value) }
+        ensures marked { IfOk result (λ world. world.marked ≡ []) }
+        ensures whole { IfOk result (λ world. world.spent ≡ false) }
+        ensures refused { IfErr result (λ error. IsRefusedBy error (start spec.now.run)) }
+    {
+        let mut stage = MarkedStage::new(alloc, numbers, spec.sessions() + 1)?;
+        run_setups(alloc, &mut stage, spec)?;
+        Ok(MarkedWorld {
+            spec,
+            alloc,
+            stage,
+            is_spent: false,
+        })
+    }
+
+    /// The spec that the world is of.
+    pub fn spec(&self) -> &'a Spec
+        ensures { result.now ≡ self.now.file }
+    {
+        self.spec
+    }
+}
+
+impl MarkedWorld<'_> {
+    /// Sends a step. A session that waits is not sent it. Else its statements run in order, until the step ends, a request
+    /// waits or a fault ends it; then the waits that are ripe are granted in turn, and their sessions go on. After want of
+    /// memory the world is spent.
+    pub fn send(&mut self, step: u8) -> Result<(), SendError>
+        requires { step < length self.old.file.run.steps }
+        ensures sent { OnOk result (self.new.world ≡ send self.old.file.run.steps self.old.world step) }
+        ensures whole { OnOk result (self.new.spent ≡ false) }
+        ensures spent { IsErrOf result SendError.Spent ↔ (self.old.spent ≡ true) }
+        ensures after { OnErr result (self.new.spent ≡ true) }
+        ensures of_spec { self.new.file ≡ self.old.file }
+        ensures numbers { self.new.numbers ≡ self.old.numbers }
+        ensures marked { self.new.marked ≡ self.old.marked }
+    {
+        if self.is_spent {
+            return Err(SendError::Spent);
+        }
+        self.is_spent = true;
+        send(self.alloc, &mut self.stage, self.spec, step)?;
+        self.is_spent = false;
+        Ok(())
+    }
+
+    /// Sets a mark, to which the world can go back. Without memory everything stays as it was.
+    pub fn mark(&mut self) -> Result<(), SendError>
+        ensures marked { OnOk result (self.new ≡ record self.old { marked = self.old.world ∷ self.old.marked }) }
+        ensures spent { IsErrOf result SendError.Spent ↔ (self.old.spent ≡ true) }
+        ensures kept { OnErr result (self.new ≡ self.old) }
+    {
+        if self.is_spent {
+            return Err(SendError::Spent);
+        }
+        self.stage.mark()?;
+        Ok(())
+    }
+
+    /// Goes back to the newest mark, which is gone then. The world is not spent then, whatever it was. It takes no memory.
+    pub fn go_back(&mut self)
+        requires { 0 < length self.old.marked }
+        ensures marked { self.old.marked ≡ self.new.world ∷ self.new.marked }
+        ensures whole { self.new.spent ≡ false }
+        ensures of_spec { self.new.file ≡ self.old.file }
+        ensures numbers { self.new.numbers ≡ self.old.numbers }
+    {
+        self.stage.go_back();
+        self.is_spent = false;
+    }
+
+    /// The transcripts so far, a copy for each session.
+    pub fn outcome(&self) -> Result<Outcome, SendError>
+        ensures told { IfOk result (λ outcome. outcome ≡ outcome_of self.now.file.run.sessions self.now.world) }
+        ensures own { IfOk result (IsOutcomeOf self.now.file.run) }
+        ensures spent { IsErrOf result SendError.Spent ↔ (self.now.spent ≡ true) }
+    {
+        if self.is_spent {
+            return Err(SendError::Spent);
+        }
+        let transcripts = self.stage.transcripts(self.spec.sessions())?;
+        Ok(Outcome::new(self.alloc, transcripts)?)
+    }
+
+    /// What holds of every world that is not spent, and of those at marks: held modes of different sessions are compatible, what a session wrote
+    /// lies under its locks, no wait is ripe and no session waits for itself; and nobody was told of a step of another session.
+    pub fn known(&self)
+        ensures now { self.now.spent ≡ false → IsOfSpec self.now.file self.now.world }
+        ensures marked { All (IsOfSpec self.now.file) self.now.marked }
+        ensures numbering { IsNumbering self.now.file.run self.now.numbers }
+        ensures bound { IsBound self.now.file.run }
+    {
+        let _sessions = self.spec.sessions(); // for the proof
+    }
+
+    /// Whether a step since the newest mark was refused memory.
+    pub fn spent(&self) -> bool
+        ensures { result ≡ self.now.spent }
+    {
+        self.is_spent
+    }
+}
