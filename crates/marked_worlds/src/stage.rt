@@ -1,19 +1,25 @@
 //! The rows, the locks and the sessions of a world, now and at marks.
 
-ghost use Rattle.std.specs.Prelude.{◌≡◌, ◌≤◌, ◌<◌, ◌∷◌, [], length, refl, take, IfOk, OnErr, OnOk};
+ghost use Rattle.std.specs.Prelude.{◌≡◌, ◌≤◌, ◌<◌, ◌↔◌, ◌==◌, ◌∷◌, [], length, refl, take, IfOk, IfSome, IsTrue, OnErr, OnOk};
+ghost use Rattle.std.specs.List.{find};
+ghost use Rattle.std.specs.Option.{option_map};
 ghost use Rattle.std.specs.List.Sorted.{IsStrictlySortedBy};
 ghost use Rattle.lock_modes.specs.Resource.{resource_cmp};
+ghost use Rattle.lock_queues.specs.declared.wait.Wait.{Wait};
+ghost use Rattle.lock_queues.specs.LockTable.{Fits, look_in};
+ghost use Rattle.numbered_specs.specs.Numbers.{HasNumber, resource_of};
 ghost use Rattle.session_steps.specs.Stage.{IsBlank, transcripts_of};
 ghost use Rattle.marked_worlds.specs.Stages as spec;
 
 use crate::asking::{ask_one, request_at};
 use crate::members::MarkedMembers;
 use bound_statements::Bound;
+use lock_modes::Mode;
 use machine_model::{Reply, Status};
 use marked_locks::MarkedLocks;
 use marked_modes::MAX_HOLDERS;
 use marked_rows::MarkedRows;
-use numbered_specs::SpecNumbers;
+use numbered_specs::{ResourceNumber, SpecNumbers};
 use session_steps::{Origin, Rest, Stage};
 use std::alloc::{AllocError, Global};
 use std::marker::Model;
@@ -75,6 +81,42 @@ impl MarkedStage {
             locks,
             members,
         })
+    }
+
+    /// The numbers of the spec.
+    pub(crate) fn numbers(&self) -> &SpecNumbers
+        ensures { result.now ≡ self.now.numbers }
+    {
+        &self.numbers
+    }
+
+    /// For which resource the session waits, if it waits.
+    pub(crate) fn wait_at(&self, session: u8) -> Option<ResourceNumber>
+        ensures known { IfSome result (HasNumber self.now.numbers.resources) }
+        ensures wait { option_map (resource_of self.now.numbers.resources) result
+            ≡ option_map (λ (w : Wait). w.resource) (find (λ (w : Wait). w.session == session) self.now.now.locks.waits) }
+    {
+        match self.locks.wait_of(session) {
+            None => None,
+            Some((resource, _mode)) => Some(resource),
+        }
+    }
+
+    /// The mode that the session holds on a resource, if it holds one there.
+    pub(crate) fn holds(&self, session: u8, number: ResourceNumber) -> Option<Mode>
+        requires session { session < length self.now.now.members }
+        requires number { HasNumber self.now.numbers.resources number }
+        ensures { result ≡ look_in self.now.now.locks session (resource_of self.now.numbers.resources number) }
+    {
+        self.locks.holds(session, number)
+    }
+
+    /// Whether the mode is compatible with what every other session holds on a resource.
+    pub(crate) fn fits(&self, session: u8, number: ResourceNumber, mode: Mode) -> bool
+        requires { HasNumber self.now.numbers.resources number }
+        ensures { IsTrue result ↔ Fits (look_in self.now.now.locks) session (resource_of self.now.numbers.resources number) mode }
+    {
+        self.locks.fits(session, number, mode)
     }
 
     /// Copies of what the first so many sessions were told.

@@ -1,9 +1,14 @@
 //! A world of a spec that goes back to marks.
 
-ghost use Rattle.std.specs.Prelude.{◌≡◌, ◌<◌, ◌↔◌, ◌∷◌, [], true, false, length, All, IfErr, IfOk, IsErrOf, OnErr, OnOk};
+ghost use Rattle.std.specs.Prelude.{◌≡◌, ◌≤◌, ◌<◌, ◌↔◌, ◌==◌, ◌∷◌, [], true, false, length, All, IfErr, IfOk, IfSome, IsErrOf, IsTrue, OnErr, OnOk};
+ghost use Rattle.std.specs.List.{find};
+ghost use Rattle.std.specs.Option.{option_map};
+ghost use Rattle.lock_queues.specs.declared.wait.Wait.{Wait};
+ghost use Rattle.lock_queues.specs.Locks.{waits_now};
+ghost use Rattle.lock_queues.specs.LockTable.{Fits};
 ghost use Rattle.bound_specs.specs.Spec.{IsBound};
-ghost use Rattle.numbered_specs.specs.Numbers.{IsNumbering};
-ghost use Rattle.machine_model.specs.World.{send, outcome_of};
+ghost use Rattle.numbered_specs.specs.Numbers.{HasNumber, IsNumbering, resource_of};
+ghost use Rattle.machine_model.specs.World.{look_of, send, outcome_of};
 ghost use Rattle.machine_model.specs.Outcome.{IsOutcomeOf};
 ghost use Rattle.machine_model.specs.Start.{Started, start};
 ghost use Rattle.session_steps.specs.Refused.{IsRefusedBy};
@@ -11,8 +16,9 @@ ghost use Rattle.marked_worlds.specs.Worlds.{IsOfSpec};
 
 use crate::stage::MarkedStage;
 use bound_specs::Spec;
-use numbered_specs::SpecNumbers;
-use session_steps::{SendError, StartError, run_setups, send};
+use lock_modes::Mode;
+use numbered_specs::{ResourceNumber, SpecNumbers};
+use session_steps::{SendError, Stage, StartError, run_setups, send};
 use std::alloc::{AllocError, Global};
 use std::marker::Model;
 use std::sync::Arc;
@@ -153,6 +159,48 @@ impl MarkedWorld<'_> {
         ensures bound { IsBound self.now.file.run }
     {
         let _sessions = self.spec.sessions(); // for the proof
+    }
+
+    /// The numbers of the resources that the spec's statements ask for, and their plans by them.
+    pub fn numbers(&self) -> &SpecNumbers
+        ensures { result.now ≡ self.now.numbers }
+    {
+        self.stage.numbers()
+    }
+
+    /// Whether the session waits.
+    pub fn waits(&self, session: u8) -> bool
+        ensures { result ≡ waits_now self.now.world.waits session }
+    {
+        self.stage.waits(session)
+    }
+
+    /// The number of the resource for which the session waits, if it waits.
+    pub fn wait_at(&self, session: u8) -> Option<ResourceNumber>
+        ensures known { IfSome result (HasNumber self.now.numbers.resources) }
+        ensures wait { option_map (resource_of self.now.numbers.resources) result
+            ≡ option_map (λ (w : Wait). w.resource) (find (λ (w : Wait). w.session == session) self.now.world.waits) }
+    {
+        self.stage.wait_at(session)
+    }
+
+    /// The mode that a session, or the control session behind all others, holds on a resource, if it holds one there.
+    pub fn holds(&self, session: u8, number: ResourceNumber) -> Option<Mode>
+        requires whole { self.now.spent ≡ false }
+        requires session { session ≤ self.now.file.run.sessions }
+        requires number { HasNumber self.now.numbers.resources number }
+        ensures { result ≡ look_of self.now.world session (resource_of self.now.numbers.resources number) }
+    {
+        self.stage.holds(session, number)
+    }
+
+    /// Whether the mode is compatible with what every other session holds on a resource.
+    pub fn fits(&self, session: u8, number: ResourceNumber, mode: Mode) -> bool
+        requires whole { self.now.spent ≡ false }
+        requires number { HasNumber self.now.numbers.resources number }
+        ensures { IsTrue result ↔ Fits (look_of self.now.world) session (resource_of self.now.numbers.resources number) mode }
+    {
+        self.stage.fits(session, number, mode)
     }
 
     /// Whether a step since the newest mark was refused memory.
