@@ -38,6 +38,7 @@ TESTS = {
         "walks::a_shard_is_run_whole_unless_memory_runs_out",
         "walks::a_new_walker_gives_the_rest_where_memory_ran_out",
         "walks::runs_follow_on_each_other_where_memory_ran_out_too",
+        "marks::a_world_without_memory_goes_back_to_its_mark",
         "worlds::a_world_without_memory_is_spent_and_its_forks_go_on",
         "worlds::a_run_without_memory_is_refused",
         "books::books_are_whole_unless_memory_runs_out",

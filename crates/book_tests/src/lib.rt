@@ -15,6 +15,8 @@ mod books;
 mod farms;
 mod gates;
 #[cfg(test)]
+mod marks;
+#[cfg(test)]
 mod one_text;
 #[cfg(test)]
 mod read_books;

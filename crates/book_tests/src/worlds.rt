@@ -12,18 +12,18 @@ use std::process::Abort;
 use transcripts::{Counted, Names, Outcome, print};
 
 /// The spec of two rows and these sessions. None where memory ran out.
-fn spec_where_memory(alloc: Global, sessions: &str) -> Option<Spec> {
+pub(crate) fn spec_where_memory(alloc: Global, sessions: &str) -> Option<Spec> {
     let text = format!(in alloc; "{TABLE} {sessions}").ok()?;
     let text = read_spec(alloc, text.as_bytes()).ok()?;
     bind(alloc, &text).ok()
 }
 
-fn spec_of(rt: &impl Abort, alloc: Global, sessions: &str) -> Spec {
+pub(crate) fn spec_of(rt: &impl Abort, alloc: Global, sessions: &str) -> Spec {
     spec_where_memory(alloc, sessions).expect(rt, "a spec that binds")
 }
 
 /// The text of an outcome. None where memory ran out.
-fn text_where_memory(
+pub(crate) fn text_where_memory(
     rt: &impl Abort,
     alloc: Global,
     spec: &Spec,
@@ -43,7 +43,7 @@ fn text_of(rt: &impl Abort, alloc: Global, spec: &Spec, outcome: &Outcome) -> St
     text_where_memory(rt, alloc, spec, outcome).expect(rt, "a text")
 }
 
-fn assert_outcome(rt: &impl Abort, alloc: Global, spec: &Spec, outcome: &Outcome, want: &str) {
+pub(crate) fn assert_outcome(rt: &impl Abort, alloc: Global, spec: &Spec, outcome: &Outcome, want: &str) {
     let text = text_of(rt, alloc, spec, outcome);
     assert_text(rt, &text, want, "an outcome");
 }
@@ -55,7 +55,7 @@ fn assert_rank_tells(rt: &impl Abort, alloc: Global, sessions: &str, rank: u64, 
     assert_outcome(rt, alloc, &spec, &outcome, want);
 }
 
-const INSERT_AND_READ: &str = "session a step a1 { INSERT INTO t VALUES (3, 30); }
+pub(crate) const INSERT_AND_READ: &str = "session a step a1 { INSERT INTO t VALUES (3, 30); }
     session b step b1 { SELECT v FROM t WHERE id = 3; }";
 
 const FAILS_THEN_COUNTS: &str =
@@ -147,14 +147,15 @@ fn assert_tells(rt: &impl Abort, alloc: Global, world: &World<'_>, want: &str) {
 fn a_world_tells_what_was_sent_so_far(rt: HostRuntime) {
     let spec = spec_of(&rt, rt.alloc(), INSERT_AND_READ);
     let world = world_after(&rt, rt.alloc(), &spec, 1);
-    let text = "session a\nsession b\n  step b1\n  rows 0\n  done\n";
-    assert_tells(&rt, rt.alloc(), &world, text);
+    assert_tells(&rt, rt.alloc(), &world, SECOND_TOLD);
 }
 
-const BOTH_TOLD: &str =
+pub(crate) const SECOND_TOLD: &str = "session a\nsession b\n  step b1\n  rows 0\n  done\n";
+
+pub(crate) const BOTH_TOLD: &str =
     "session a\n  step a1\n  inserted 1\n  done\nsession b\n  step b1\n  row 30\n  rows 1\n  done\n";
 
-const FIRST_TOLD: &str = "session a\n  step a1\n  inserted 1\n  done\nsession b\n";
+pub(crate) const FIRST_TOLD: &str = "session a\n  step a1\n  inserted 1\n  done\nsession b\n";
 
 fn assert_fork_goes_on(rt: &impl Abort, alloc: Global, world: &World<'_>) {
     let mut fork = world.fork().expect(rt, "a fork");
@@ -170,12 +171,12 @@ fn a_fork_goes_on_as_its_world_would(rt: HostRuntime) {
     assert_tells(&rt, rt.alloc(), &world, FIRST_TOLD);
 }
 
-const LOST_UPDATE: &str =
+pub(crate) const LOST_UPDATE: &str =
     "session a setup { BEGIN; } step a1 { UPDATE t SET v = v + 1 WHERE id = 1; } step a2 { COMMIT; }
     session b setup { BEGIN; } step b1 { UPDATE t SET v = v + 10 WHERE id = 1; } step b2 { COMMIT; }
     permutation a1 b1 a2 b2";
 
-const LOST_UPDATE_TELLS: &str =
+pub(crate) const LOST_UPDATE_TELLS: &str =
     "session a\n  step a1\n  updated 1\n  done\n  step a2\n  committed\n  done\nsession b\n  step b1\n  waiting\n  resumed\n  updated 1\n  done\n  step b2\n  committed\n  done\n";
 
 /// What a session holds on the table, and on its row of key 1.
@@ -285,7 +286,7 @@ fn start_where_memory<'a>(rt: &impl Abort, alloc: Global, spec: &'a Spec) -> Opt
     }
 }
 
-static LOST_UPDATE_SENDS: [u8; 4] = [0, 2, 1, 3];
+pub(crate) static LOST_UPDATE_SENDS: [u8; 4] = [0, 2, 1, 3];
 
 fn assert_goes_on(rt: &impl Abort, alloc: Global, world: &mut World<'_>) {
     for step in &LOST_UPDATE_SENDS {

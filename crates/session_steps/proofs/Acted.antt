@@ -1,5 +1,5 @@
 -- Calls on a stage in turn: what they do together to where a session stands, and what stays of the others.
-use Rattle.std.proofs.Common.{◌≡◌, refl, sym, ap, ◌∙◌, subst, ℕ, zero, suc, ◌<◌, List, [], ◌∷◌, length, set, get_or, drop, Option, Some, None, is_some, append_assoc}
+use Rattle.std.proofs.Common.{◌≡◌, refl, sym, ap, ◌∙◌, subst, ℕ, ◌<◌, List, [], ◌∷◌, length, set, get_or, drop, Option, Some, None, is_some, append_assoc}
 use Rattle.std.proofs.Common.{length-set, get_or-set_same, set-set}
 use Rattle.std.proofs.lemmas.List.{set-get_or}
 use Rattle.transcripts.specs.declared.event.Event.{Event}

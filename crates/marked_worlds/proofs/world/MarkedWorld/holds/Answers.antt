@@ -1,4 +1,4 @@
-use Rattle.std.proofs.Common.{◌≡◌, ◌∙◌, sym, ap, false}
+use Rattle.std.proofs.Common.{◌∙◌, sym, ap}
 use Rattle.numbered_specs.specs.Numbers.{resource_of}
 use Rattle.machine_model.specs.World.{look_of}
 use Rattle.session_steps.proofs.Standing.{look-now}
