@@ -7,21 +7,21 @@ use Rattle.marked_lists.specs.Versions.{Versions}
 use Rattle.marked_logs.specs.Logs.{Logs}
 use Rattle.transcripts.specs.declared.event.Event.{Event}
 use Rattle.session_steps.specs.Stage.{Member, no_member}
-use Rattle.marked_worlds.specs.declared.members.Kept.{Kept}
+use Rattle.marked_worlds.specs.declared.members.StatusAndRest.{StatusAndRest}
 use Rattle.marked_worlds.specs.Members.{member_of, members_of, no_kept, versions_of, IsWhole, AreWhole}
 
 -- what it was told is changed
 abbrev pub with_told : (List Event → List Event) → Member → Member
 with_told f m = record { state = record { status = m.state.status; transcript = f m.state.transcript }; rest = m.rest }
 
-pub members-count : (logs : List (List Event)) (ks : List Kept) → IsWhole logs ks → length (members_of logs ks) ≡ length ks
+pub members-count : (logs : List (List Event)) (ks : List StatusAndRest) → IsWhole logs ks → length (members_of logs ks) ≡ length ks
 members-count [] [] whole = refl
 members-count [] (k ∷ ks) whole = cc
 members-count (t ∷ logs) [] whole = cc
 members-count (t ∷ logs) (k ∷ ks) whole = ap suc (members-count logs ks (omega (arith, whole)))
 
 -- a session has its parts
-pub members-at : (logs : List (List Event)) (ks : List Kept) (i : ℕ) → IsWhole logs ks → get_or (members_of logs ks) i no_member
+pub members-at : (logs : List (List Event)) (ks : List StatusAndRest) (i : ℕ) → IsWhole logs ks → get_or (members_of logs ks) i no_member
     ≡ member_of (get_or logs i []) (get_or ks i no_kept)
 members-at [] [] i whole = refl
 members-at [] (k ∷ ks) i whole = cc
@@ -30,7 +30,7 @@ members-at (t ∷ logs) (k ∷ ks) zero whole = refl
 members-at (t ∷ logs) (k ∷ ks) (suc i) whole = members-at logs ks i (omega (arith, whole))
 
 -- one was told something else
-pub members-told : (logs : List (List Event)) (ks : List Kept) (i : ℕ) (t : List Event) → IsWhole logs ks
+pub members-told : (logs : List (List Event)) (ks : List StatusAndRest) (i : ℕ) (t : List Event) → IsWhole logs ks
     → members_of (set logs i t) ks ≡ set (members_of logs ks) i (member_of t (get_or ks i no_kept))
 members-told [] [] i t whole = refl
 members-told [] (k ∷ ks) i t whole = cc
@@ -39,7 +39,7 @@ members-told (u ∷ logs) (k ∷ ks) zero t whole = refl
 members-told (u ∷ logs) (k ∷ ks) (suc i) t whole = ap (λ ms. member_of u k ∷ ms) (members-told logs ks i t (omega (arith, whole)))
 
 -- or the rest of it is another
-pub members-kept : (logs : List (List Event)) (ks : List Kept) (i : ℕ) (k : Kept) → IsWhole logs ks
+pub members-kept : (logs : List (List Event)) (ks : List StatusAndRest) (i : ℕ) (k : StatusAndRest) → IsWhole logs ks
     → members_of logs (set ks i k) ≡ set (members_of logs ks) i (member_of (get_or logs i []) k)
 members-kept [] [] i k whole = refl
 members-kept [] (q ∷ ks) i k whole = cc
@@ -54,11 +54,11 @@ members-blank (suc n) = ap (λ ms. no_member ∷ ms) (members-blank n)
 
 -- ---- sessions as contracts see them
 
-module _ (logs : Logs Event) (kept : Versions Kept) (seen : Versions Member) (i : ℕ) (whole : AreWhole logs kept) (is : versions_of logs kept ≡ seen) where
+module _ (logs : Logs Event) (kept : Versions StatusAndRest) (seen : Versions Member) (i : ℕ) (whole : AreWhole logs kept) (is : versions_of logs kept ≡ seen) where
   abbrev told : List Event
   told = get_or logs.now i []
 
-  abbrev own : Kept
+  abbrev own : StatusAndRest
   own = get_or kept.list i no_kept
 
   pub inside-kept : i < length seen.list → i < length kept.list
@@ -80,10 +80,10 @@ module _ (logs : Logs Event) (kept : Versions Kept) (seen : Versions Member) (i 
   told-by (Err y) left f put = tt
 
   -- the rest of it is another
-  pub kept-by : {X Y : Type 0} (r : Result X Y) (left : Versions Kept) (k : Kept) (m : Member) → member_of told k ≡ m
+  pub kept-by : {X Y : Type 0} (r : Result X Y) (left : Versions StatusAndRest) (k : StatusAndRest) (m : Member) → member_of told k ≡ m
       → OnOk r (left ≡ record kept { list = set kept.list i k }) → OnOk r (members_of logs.now left.list ≡ set seen.list i m)
   kept-by (Ok x) left k m same put =
-      ap (λ (v : Versions Kept). members_of logs.now v.list) put ∙ members-kept logs.now kept.list i k whole.now
+      ap (λ (v : Versions StatusAndRest). members_of logs.now v.list) put ∙ members-kept logs.now kept.list i k whole.now
       ∙ (λ j. set (is j).list i (same j))
   kept-by (Err y) left k m same put = tt
 

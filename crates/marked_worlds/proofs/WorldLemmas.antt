@@ -1,7 +1,7 @@
 -- Worlds at marks, and what the numbers of a spec tell of its setups.
 use Rattle.std.specs.List.{Contains}
 use Rattle.std.proofs.lemmas.List.Elements.{All-nil, All-cons, All-head, All-tail, Contains-append_left, Contains-append_right, Contains-get_or}
-use Rattle.std.proofs.Common.{◌≡◌, sym, subst, false, List, [], ◌∷◌, get_or, map}
+use Rattle.std.proofs.Common.{◌≡◌, ◌∙◌, sym, subst, false, List, [], ◌∷◌, get_or, map}
 use Rattle.std.specs.Prelude.{All}
 use Rattle.bound_statements.specs.declared.statement.Bound.{Bound}
 use Rattle.bound_specs.specs.Spec.{Spec, SpecFile}
@@ -9,7 +9,7 @@ use Rattle.numbered_specs.specs.Numbers.{asked_by, asked_in, blocks_of, IsNumber
 use Rattle.numbered_specs.proofs.AskedLemmas.{contains-given}
 use Rattle.session_steps.specs.declared.point.Origin.TheVariants.{Setup}
 use Rattle.session_steps.specs.Stage.{Staged, world_in, IsSettled, KnowsAll, KnowsSetups}
-use Rattle.session_steps.proofs.Standing.{sound-now, outcome-of}
+use Rattle.session_steps.proofs.Standing.{length-world, sound-now, outcome-of}
 use Rattle.marked_worlds.specs.Stages.{MarkedStages, IsKnown}
 use Rattle.marked_worlds.specs.Worlds.{AreSettled, IsOfSpec}
 
@@ -35,6 +35,7 @@ setups-known spec numbers numbering = record {
 pub of-spec : (file : SpecFile) (s : Staged) → IsSettled file.run.sessions file.run.steps s → IsOfSpec file (world_in file.run.steps s)
 of-spec file s settled = record {
   sound = sound-now file.run.sessions file.run.steps s settled;
+  sessions = length-world file.run.steps s ∙ settled.count;
   own = outcome-of file.run s settled;
 }
 

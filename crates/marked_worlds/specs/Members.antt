@@ -8,7 +8,7 @@ use Rattle.session_steps.specs.declared.point.Rest.{Rest}
 use Rattle.session_steps.specs.Stage.{Member}
 use Rattle.marked_lists.specs.Versions.{Versions}
 use Rattle.marked_logs.specs.Logs.{Logs}
-use Rattle.marked_worlds.specs.declared.members.Kept.{Kept}
+use Rattle.marked_worlds.specs.declared.members.StatusAndRest.{StatusAndRest}
 
 -- ---- a session that is changed
 
@@ -28,31 +28,31 @@ with_rest m rest = record { state = m.state; rest = rest }
 
 -- ---- how sessions are kept
 
-abbrev pub no_kept : Kept
+abbrev pub no_kept : StatusAndRest
 no_kept = record { status = Outside; rest = None }
 
-abbrev pub member_of : List Event → Kept → Member
+abbrev pub member_of : List Event → StatusAndRest → Member
 member_of told k = record { state = record { status = k.status; transcript = told }; rest = k.rest }
 
-abbrev pub members_of : List (List Event) → List Kept → List Member
+abbrev pub members_of : List (List Event) → List StatusAndRest → List Member
 members_of [] ks = []
 members_of (told ∷ logs) [] = []
 members_of (told ∷ logs) (k ∷ ks) = member_of told k ∷ members_of logs ks
 
 -- the sessions at marks
-abbrev pub marked_of : List (List (List Event)) → List (List Kept) → List (List Member)
+abbrev pub marked_of : List (List (List Event)) → List (List StatusAndRest) → List (List Member)
 marked_of [] marked = []
 marked_of (logs ∷ more) [] = []
 marked_of (logs ∷ more) (ks ∷ marked) = members_of logs ks ∷ marked_of more marked
 
-abbrev pub versions_of : Logs Event → Versions Kept → Versions Member
+abbrev pub versions_of : Logs Event → Versions StatusAndRest → Versions Member
 versions_of logs kept = record { list = members_of logs.now kept.list; marked = marked_of logs.marked kept.marked }
 
 -- each session has both parts
-abbrev pub IsWhole : List (List Event) → List Kept → Type 0
+abbrev pub IsWhole : List (List Event) → List StatusAndRest → Type 0
 IsWhole logs ks = length logs ≡ length ks
 
 -- so it is now and at each mark
-pub record AreWhole (logs : Logs Event) (kept : Versions Kept) : Type 0 where
+pub record AreWhole (logs : Logs Event) (kept : Versions StatusAndRest) : Type 0 where
   pub now : IsWhole logs.now kept.list
   pub marked : AllZip IsWhole logs.marked kept.marked

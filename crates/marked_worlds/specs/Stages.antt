@@ -48,14 +48,14 @@ pub record Past : Type 0 where
 abbrev pub past_of : MarkedStages → Past
 past_of s = record { numbers = s.numbers; marked = s.marked; count = length s.now.members }
 
--- a statement of a setup asks for resources with numbers alone, and that of a step for what the plan at its place says
+-- a statement of a setup asks only for resources that have numbers, and that of a step for what the plan at its place says
 abbrev pub IsKnown : Numbers → Origin → ℕ → Bound → Type 0
 IsKnown numbers Setup place st = (r : Resource) → Contains (asked_by st) r → Contains numbers.resources r
 IsKnown numbers (Step k) place st = IsPlan numbers.resources st (get_or (plans_of numbers.plans k) place [])
 
 -- ---- what is kept
 
--- there are as many of each, and sessions that may hold something alone
+-- there are as many of each, and no more sessions than may hold modes
 abbrev pub AreAlike : List Layers → List Locks → List (List Member) → Type 0
 AreAlike [] [] [] = Unit {0}
 AreAlike [] [] (ms ∷ lists) = ⊥

@@ -1,5 +1,5 @@
 -- A world of a spec as the program holds it, with the worlds at marks.
-use Rattle.std.specs.Prelude.{Bool, List, All, map}
+use Rattle.std.specs.Prelude.{◌≡◌, suc, Bool, List, All, length, map}
 use Rattle.bound_specs.specs.Spec.{SpecFile}
 use Rattle.numbered_specs.specs.Numbers.{IsNumbering, Numbers}
 use Rattle.machine_model.specs.World.{World, outcome_of}
@@ -8,7 +8,8 @@ use Rattle.machine_model.specs.Sound.{Sound}
 use Rattle.session_steps.specs.Stage.{world_in, IsSettled, IsSettledUnless}
 use Rattle.marked_worlds.specs.Stages.{MarkedStages}
 
--- a spec with its numbers, the world now, the worlds at the marks that stand, the newest first, and whether an earlier step was refused memory
+-- a spec with its numbers, the world now, the worlds at the marks that stand, the newest first, and whether a step was refused memory and the world
+-- has not gone back since
 pub record MarkedRunning : Type 0 where
   pub file : SpecFile
   pub numbers : Numbers
@@ -25,9 +26,11 @@ running_of file s spent = record {
   spent = spent;
 }
 
--- what holds of a world of the spec: it is sound, and tells of each session's own steps alone
+-- what holds of a world of the spec: it is sound, has a part for each session and one for the control session behind them, and tells of each session's
+-- own steps alone
 pub record IsOfSpec (file : SpecFile) (w : World) : Type 0 where
   pub sound : Sound w
+  pub sessions : length w.sessions ≡ suc file.run.sessions
   pub own : IsOutcomeOf file.run (outcome_of file.run.sessions w)
 
 -- what is kept: the numbers are the spec's, and stages are as they are between the steps, at marks whatever has become of the one now

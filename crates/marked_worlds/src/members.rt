@@ -23,7 +23,7 @@ use transcripts::{Event, Fault, Transcript};
 
 /// What is kept of a session beside what it was told.
 #[derive(Clone, Copy)]
-pub(crate) struct Kept {
+pub(crate) struct StatusAndRest {
     pub(crate) status: Status,
     pub(crate) rest: Option<Rest>,
 }
@@ -35,7 +35,7 @@ pub(crate) struct Kept {
 #[derive(Drop)]
 pub(crate) struct MarkedMembers {
     logs: MarkedLogs<Event>,
-    kept: MarkedList<Kept>,
+    kept: MarkedList<StatusAndRest>,
 }
 
 impl Model for MarkedMembers {
@@ -138,7 +138,8 @@ impl MarkedMembers {
         ensures marked { self.new.marked ≡ self.old.marked }
     {
         let rest = self.kept.get(session as usize).rest;
-        self.kept.set(session as usize, Kept { status, rest })
+        self.kept
+            .set(session as usize, StatusAndRest { status, rest })
     }
 
     pub(crate) fn set_rest(&mut self, session: u8, rest: Option<Rest>) -> Result<(), AllocError>
@@ -148,7 +149,8 @@ impl MarkedMembers {
         ensures marked { self.new.marked ≡ self.old.marked }
     {
         let status = self.kept.get(session as usize).status;
-        self.kept.set(session as usize, Kept { status, rest })
+        self.kept
+            .set(session as usize, StatusAndRest { status, rest })
     }
 
     /// Runs a statement whose locks are had on these rows, and tells the session of it. Where it fails, the fault is the answer and nothing is done.
@@ -198,12 +200,12 @@ impl MarkedMembers {
 }
 
 /// So many sessions outside a block, with nothing left to do.
-fn blank_members(alloc: Global, count: u8) -> Result<MarkedList<Kept>, AllocError>
+fn blank_members(alloc: Global, count: u8) -> Result<MarkedList<StatusAndRest>, AllocError>
     ensures { IfOk result (λ kept. kept ≡ record { list = replicate count (record { status = Status.Outside; rest = None }); marked = [] }) }
 {
     let mut kept = MarkedList::new(alloc);
     for _session in 0..count {
-        kept.push(Kept {
+        kept.push(StatusAndRest {
             status: Status::Outside,
             rest: None,
         })?;

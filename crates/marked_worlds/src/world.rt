@@ -90,15 +90,16 @@ impl<'a> MarkedWorld<'a> {
 }
 
 impl MarkedWorld<'_> {
-    /// Sends a step. A session that waits is not sent it. Else its statements run in order, until the step ends, a request
-    /// waits or a fault ends it; then the waits that are ripe are granted in turn, and their sessions go on. After want of
-    /// memory the world is spent.
+    /// Sends a step. A session that waits is not sent it, and is told so. Else its statements run in order, until the step ends, a request waits or a
+    /// fault ends it; then the waits that are ripe are granted in turn, and their sessions go on. After want of memory the world is spent, and a spent
+    /// one takes no step.
     pub fn send(&mut self, step: u8) -> Result<(), SendError>
         requires { step < length self.old.file.run.steps }
         ensures sent { OnOk result (self.new.world ≡ send self.old.file.run.steps self.old.world step) }
         ensures whole { OnOk result (self.new.spent ≡ false) }
         ensures spent { IsErrOf result SendError.Spent ↔ (self.old.spent ≡ true) }
         ensures after { OnErr result (self.new.spent ≡ true) }
+        ensures kept { IsErrOf result SendError.Spent → self.new ≡ self.old }
         ensures of_spec { self.new.file ≡ self.old.file }
         ensures numbers { self.new.numbers ≡ self.old.numbers }
         ensures marked { self.new.marked ≡ self.old.marked }
@@ -112,7 +113,7 @@ impl MarkedWorld<'_> {
         Ok(())
     }
 
-    /// Sets a mark, to which the world can go back. Without memory everything stays as it was.
+    /// Sets a mark, to which the world can go back; a spent one sets none. Where it is refused everything stays as it was.
     pub fn mark(&mut self) -> Result<(), SendError>
         ensures marked { OnOk result (self.new ≡ record self.old { marked = self.old.world ∷ self.old.marked }) }
         ensures spent { IsErrOf result SendError.Spent ↔ (self.old.spent ≡ true) }
@@ -137,7 +138,7 @@ impl MarkedWorld<'_> {
         self.is_spent = false;
     }
 
-    /// The transcripts so far, a copy for each session.
+    /// The transcripts so far, a copy for each session. A spent world tells of none.
     pub fn outcome(&self) -> Result<Outcome, SendError>
         ensures told { IfOk result (λ outcome. outcome ≡ outcome_of self.now.file.run.sessions self.now.world) }
         ensures own { IfOk result (IsOutcomeOf self.now.file.run) }
@@ -151,7 +152,8 @@ impl MarkedWorld<'_> {
     }
 
     /// What holds of every world that is not spent, and of those at marks: held modes of different sessions are compatible, what a session wrote
-    /// lies under its locks, no wait is ripe and no session waits for itself; and nobody was told of a step of another session.
+    /// lies under its locks, no wait is ripe and no session waits for itself; and nobody was told of a step of another session. The numbers are those of
+    /// the spec.
     pub fn known(&self)
         ensures now { self.now.spent ≡ false → IsOfSpec self.now.file self.now.world }
         ensures marked { All (IsOfSpec self.now.file) self.now.marked }
@@ -170,6 +172,7 @@ impl MarkedWorld<'_> {
 
     /// Whether the session waits.
     pub fn waits(&self, session: u8) -> bool
+        requires { self.now.spent ≡ false }
         ensures { result ≡ waits_now self.now.world.waits session }
     {
         self.stage.waits(session)
@@ -177,6 +180,7 @@ impl MarkedWorld<'_> {
 
     /// The number of the resource for which the session waits, if it waits.
     pub fn wait_at(&self, session: u8) -> Option<ResourceNumber>
+        requires { self.now.spent ≡ false }
         ensures known { IfSome result (HasNumber self.now.numbers.resources) }
         ensures wait { option_map (resource_of self.now.numbers.resources) result
             ≡ option_map (λ (w : Wait). w.resource) (find (λ (w : Wait). w.session == session) self.now.world.waits) }
@@ -203,7 +207,7 @@ impl MarkedWorld<'_> {
         self.stage.fits(session, number, mode)
     }
 
-    /// Whether a step since the newest mark was refused memory.
+    /// Whether a step was refused memory and the world has not gone back to a mark since.
     pub fn spent(&self) -> bool
         ensures { result ≡ self.now.spent }
     {

@@ -9,7 +9,7 @@ use Rattle.statement_execution.specs.Run.{events_of, left_by}
 use Rattle.machine_model.specs.declared.status.Status.{Status}
 use Rattle.session_steps.specs.Going.{Standing}
 
--- its lock table is another one
+-- its lock table is this one
 abbrev pub locked : Standing → locks.Locks → Standing
 locked x t = record x { locks = t }
 

@@ -46,7 +46,8 @@ abbrev pub tasks_from : List Bound → ℕ → List Task
 tasks_from [] n = []
 tasks_from (st ∷ sts) n = asks (nowait st) (drop n (plan st)) (Do st ∷ tasks_of sts)
 
--- the scene in which a session began to go, and the table now: the others hold what they held, and the same sessions wait
+-- the scene in which a session began to go, and the table now: the others hold what they held, the waits are the same in their order, and all sessions
+-- are below the scene's count
 pub record IsScene (e : Scene) (i : ℕ) (t : Locks) : Type 0 where
   pub others : (c : ℕ) (r : Resource) → c ≢ i → look_in t c r ≡ e.look c r
   pub waits : t.waits ≡ e.waits
@@ -108,6 +109,7 @@ finished_in i x = finished_by_status x.own.status i x
 abbrev pub standing : Layers → Locks → SessionState → Standing
 standing l t s = record { layers = l; locks = t; own = record { status = s.status; rest = []; transcript = s.transcript } }
 
+-- in a block that has failed none begins: such a statement fails
 abbrev pub begun_by : Status → List Event → SessionState
 begun_by InBlock t = record { status = InBlock; transcript = (t ++ Warned AlreadyInBlock ∷ []) ++ Began ∷ [] }
 begun_by Outside t = record { status = InBlock; transcript = t ++ Began ∷ [] }
@@ -129,11 +131,11 @@ block_ended s e = ended_by s.status s.transcript e
 abbrev pub state_of : Standing → SessionState
 state_of x = record { status = x.own.status; transcript = x.own.transcript }
 
--- a block begins in a session
+-- a block begins, or goes on: its status and what it is told, no more
 abbrev pub begins_in : Standing → Standing
 begins_in x = standing x.layers x.locks (begun_in (state_of x))
 
--- and ends
+-- a block ends: its status and what it is told, no more; what it wrote and holds is kept or dropped beside it
 abbrev pub ends_block_in : Standing → Event → Standing
 ends_block_in x e = standing x.layers x.locks (block_ended (state_of x) e)
 
@@ -187,13 +189,14 @@ after_reply l i r m reply.Had = taken l i r m
 after_reply l i r m reply.Waits = queued l i r m
 after_reply l i r m (reply.Refused f) = l
 
--- the request with this number of the statement's lock plan gets this reply, or there is no such request
+-- the request with this number of the statement's lock plan gets this reply
 pub record Replied (i : ℕ) (t : Locks) (st : Bound) (n : ℕ) (u : Locks) (reply : Reply) : Type 0 where
   pub request : Request
   pub here : slice_get (plan st) n ≡ Some request
   pub gets : IsReply t i request.resource request.mode (nowait st) reply
   pub changed : u ≡ after_reply t i request.resource request.mode reply
 
+-- or there is no such request, and nothing is changed
 abbrev pub AsksOne : ℕ → Locks → Bound → ℕ → Locks → Option Reply → Type 0
 AsksOne i t st n u None = (slice_get (plan st) n ≡ None) × (u ≡ t)
 AsksOne i t st n u (Some reply) = Replied i t st n u reply

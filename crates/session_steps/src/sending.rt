@@ -16,8 +16,8 @@ use bound_specs::Spec;
 use std::alloc::{AllocError, Global};
 use transcripts::Event;
 
-/// Sends a step: its session goes, unless it waits, and then each wait that is ripe is granted, the first one first. It fails for want of memory
-/// alone.
+/// Sends a step: its session goes, and then each wait that is ripe is granted, the first one first. A session that waits is told that it was not sent.
+/// It fails for want of memory alone; of the stage no more than its past is told then.
 pub fn send<S: Stage>(alloc: Global, stage: &mut S, spec: &Spec, step: u8) -> Result<(), AllocError>
     requires known { step < length spec.now.run.steps }
     requires knows { KnowsSteps (S.knows (S.past stage.old)) spec.now.run.steps }

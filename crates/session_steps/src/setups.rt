@@ -32,7 +32,7 @@ pub enum SetUp {
 }
 
 /// Runs the setups of a spec on a stage on which nothing was done: its main setups in order, then the setup of each session. The first that is refused
-/// refuses the start.
+/// refuses the start; of the stage no more than its past is told then.
 pub fn run_setups<S: Stage>(alloc: Global, stage: &mut S, spec: &Spec) -> Result<(), StartError>
     requires blank { IsBlank (suc spec.now.run.sessions) (S.staged stage.old) }
     requires known { KnowsSetups (S.knows (S.past stage.old) origin.Setup) spec.now.run }

@@ -1,4 +1,4 @@
-//! What sessions that go change, and the calls by which they do.
+//! What a step changes, and the calls that change it.
 
 ghost use Rattle.std.specs.Prelude.{◌≡◌, ◌<◌, ℕ, false, length, IfOk, MatchOption, OnOk};
 ghost use Rattle.std.specs.List.{list_any};
@@ -24,8 +24,8 @@ use transcripts::{Event, Fault};
 
 /// The rows, the locks and the sessions of a world, with the calls of which a session's step is made.
 ///
-/// Sessions are numbered from 0 on. A call that answers by a `Result` fails for want of memory alone; what it leaves then is as each stage says, and
-/// no more than its past is told by all.
+/// Sessions are numbered from 0 on. A call that answers by a `Result` fails for want of memory alone. After such a failure these contracts tell only
+/// that the past is as it was; what else is left, each stage says.
 pub trait Stage: Drop {
     // the rows, the locks and the sessions, as the definitions have them
     ghost staged: { Self → Staged };
@@ -49,7 +49,7 @@ pub trait Stage: Drop {
     fn next_grant(&self) -> Option<u8>
         ensures { MatchOption result (NothingRipe (staged self.now).locks) (IsNextOf (staged self.now).locks) };
 
-    /// What every lock table keeps.
+    /// Changes nothing: its contract tells that the lock table is sound, which it is also after want of memory.
     fn sound(&self)
         ensures { IsSound (staged self.now).locks };
 
@@ -68,8 +68,8 @@ pub trait Stage: Drop {
         requires { session < count (past self.now) }
         ensures { IfOk result (λ failed. failed ≡ list_any is_failure (member_at (staged self.now) session).state.transcript) };
 
-    /// Asks for the request with a number of a statement's lock plan, none where the plan has no such request. The statement stands at this place of
-    /// what is sent.
+    /// Asks for the request with a number, from 0 on, of a statement's lock plan; none where the plan has no such request. The statement is that with
+    /// this place, from 0 on, among those of the setup or the step that it is of.
     fn ask(
         &mut self,
         session: u8,
@@ -88,8 +88,8 @@ pub trait Stage: Drop {
         ensures others { OnOk result (others session (staged self.new) ≡ others session (staged self.old)) }
         ensures past { past self.new ≡ past self.old };
 
-    /// Does a statement that begins and ends no block, whose locks are had: its whole effect on the rows that the session sees, or none where it
-    /// fails. Tells of it; where it fails, the fault is the answer and nothing is told.
+    /// Does a statement whose effect is on rows, where no other session has written where it looks: its whole effect on the rows that the session
+    /// sees, or none where it fails. Tells of it; where it fails, the fault is the answer and nothing is told.
     fn run(
         &mut self,
         alloc: Global,
@@ -122,7 +122,7 @@ pub trait Stage: Drop {
         ensures others { OnOk result (others session (staged self.new) ≡ others session (staged self.old)) }
         ensures past { past self.new ≡ past self.old };
 
-    /// Gives the session of `next_grant` the mode that it waits for.
+    /// Gives the session of `next_grant` the mode that it waits for, and takes its wait from the list.
     fn grant(&mut self, session: u8) -> Result<(), AllocError>
         requires { IsNextOf (staged self.old).locks session }
         ensures granted { OnOk result ((s : Spot) → IsNext (staged self.old).locks s

@@ -1,7 +1,7 @@
 use Rattle.std.proofs.Common.{◌≡◌, ◌∙◌, sym, ap, get_or, []}
 use Rattle.std.proofs.lemmas.Option.{get_or_from_slice_get}
 use Rattle.session_steps.specs.Stage.{Member, no_member}
-use Rattle.marked_worlds.specs.declared.members.Kept.{Kept}
+use Rattle.marked_worlds.specs.declared.members.StatusAndRest.{StatusAndRest}
 use Rattle.marked_worlds.specs.Members.{member_of, no_kept, with_status}
 use Rattle.marked_worlds.proofs.MemberLemmas.{inside-kept, kept-by, member-is}
 use Rattle.marked_worlds.proofs.members.MarkedMembers.set_status.Goals as goal
@@ -17,7 +17,7 @@ returns-clause-stands c =
     let logs = c.self.inside.logs in
     let kept = c.self.inside.kept in
     let i = c.args.session in
-    let k : Kept = record { status = c.args.status; rest = c.get-rest.result.rest } in
+    let k : StatusAndRest = record { status = c.args.status; rest = c.get-rest.result.rest } in
     let there : get_or kept.list i no_kept ≡ c.get-rest.result = get_or_from_slice_get kept.list i c.get-rest.result no_kept c.get-rest.ensures in
     let member = member-is c.self.inside.logs c.self.inside.kept c.args.self.now c.args.session c.self.invariant c.self.view_is in
     let same : member_of (get_or logs.now i []) k ≡ with_status (get_or c.args.self.now.list i no_member) c.args.status =

@@ -1,7 +1,7 @@
 use Rattle.std.proofs.Common.{◌∙◌, sym, ap}
 use Rattle.std.proofs.lemmas.Option.{get_or_from_slice_get}
 use Rattle.session_steps.specs.Stage.{Member}
-use Rattle.marked_worlds.specs.declared.members.Kept.{Kept}
+use Rattle.marked_worlds.specs.declared.members.StatusAndRest.{StatusAndRest}
 use Rattle.marked_worlds.specs.Members.{no_kept}
 use Rattle.marked_worlds.proofs.MemberLemmas.{inside-kept, member-is}
 use Rattle.marked_worlds.proofs.members.MarkedMembers.status.Goals as goal
@@ -11,5 +11,5 @@ get-requires c = inside-kept c.self.inside.logs c.self.inside.kept c.args.self.n
 
 pub returns : goal.returns
 returns c =
-    ap (λ (k : Kept). k.status) (sym (get_or_from_slice_get c.self.inside.kept.list c.args.session c.get.result no_kept c.get.ensures))
+    ap (λ (k : StatusAndRest). k.status) (sym (get_or_from_slice_get c.self.inside.kept.list c.args.session c.get.result no_kept c.get.ensures))
     ∙ ap (λ (m : Member). m.state.status) (sym (member-is c.self.inside.logs c.self.inside.kept c.args.self.now c.args.session c.self.invariant c.self.view_is))
