@@ -7,8 +7,8 @@ use Rattle.sql_grammar.specs.Refusals.{number_of as sql_number}
 use Rattle.binding_model.specs.declared.error.BindErrorKind.{BindErrorKind}
 use Rattle.binding_model.specs.declared.error.BindErrorKind.TheVariants as bind_kind
 use Rattle.binding_model.specs.Refusals.{bind_number_of}
-use Rattle.session_machine.specs.declared.error.StartError.{StartError}
-use Rattle.session_machine.specs.declared.error.StartError.TheVariants as start_error
+use Rattle.session_steps.specs.declared.error.StartError.{StartError}
+use Rattle.session_steps.specs.declared.error.StartError.TheVariants as start_error
 use Rattle.session_machine.specs.declared.error.RunError.{RunError}
 use Rattle.session_machine.specs.declared.error.RunError.TheVariants as run_error
 use Rattle.spec_binding.specs.declared.spec.SpecFault.{SpecFault}

@@ -11,7 +11,7 @@ use Rattle.spec_reader.specs.declared.error.Kind.{Kind as SpecErrorKind}
 use Rattle.spec_reader.specs.declared.error.Kind.TheVariants as spec_kind
 use Rattle.binding_model.specs.declared.error.BindErrorKind.{BindErrorKind}
 use Rattle.binding_model.specs.declared.error.BindErrorKind.TheVariants as bind_kind
-use Rattle.session_machine.specs.declared.error.StartError.TheVariants as start_error
+use Rattle.session_steps.specs.declared.error.StartError.TheVariants as start_error
 use Rattle.session_machine.specs.declared.error.RunError.TheVariants as run_error
 use Rattle.spec_binding.specs.declared.spec.SpecFault.TheVariants as spec_fault
 use Rattle.asked_classes.specs.declared.fault.AskedFault.TheVariants as asked_fault

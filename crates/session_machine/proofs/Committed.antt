@@ -10,8 +10,8 @@ use Rattle.row_tables.specs.Overlay.{lay}
 use Rattle.machine_model.specs.World.{World}
 use Rattle.line_moments.specs.Left.{left_from}
 use Rattle.session_machine.specs.Showing.{IsCommitted, NothingOpen, lefts_from}
-use Rattle.session_machine.specs.Stage.{IsWithin}
-use Rattle.session_machine.proofs.States.{overlay-undone, same-undone}
+use Rattle.session_steps.specs.Stage.{IsWithin}
+use Rattle.session_steps.proofs.States.{overlay-undone, same-undone}
 
 -- one session more has nothing open
 pub committed-more : (n : ℕ) (l m o : Layers) → IsCommitted n l m → o ≡ undone n m → IsCommitted (n + 1) l o

@@ -1,15 +1,4 @@
-pub mod Going
-pub mod States
-pub mod Moves
-pub mod Requests
-pub mod Steps
 pub mod Tracing
-pub mod Worlds
-pub mod Waiting
-pub mod Stages
-pub mod SetUpLemmas
-pub mod Answered
-pub mod Standing
 pub mod Seeing
 pub mod WorldMoments
 pub mod Committed

@@ -10,7 +10,6 @@ use Rattle.lock_queues.specs.Reasons.{same_reason, same_edges, want_of}
 use Rattle.lock_queues.specs.Sound.{EachWait}
 use Rattle.bound_specs.specs.Spec.{Step}
 use Rattle.bound_statements.specs.declared.statement.Bound.{Bound}
-use Rattle.row_tables.specs.Layers.{Layers}
 use Rattle.transcripts.specs.declared.event.Event.{Event}
 use Rattle.transcripts.specs.declared.event.Event.TheVariants.{Resumed}
 use Rattle.line_moments.specs.Moments.{ending_by, last_sent}
@@ -19,17 +18,16 @@ use Rattle.line_moments.specs.declared.moment.Manner.{Manner}
 use Rattle.line_moments.specs.declared.moment.Manner.TheVariants.{IsResumed}
 use Rattle.line_moments.specs.declared.moment.Moment.{Moment}
 use Rattle.line_moments.specs.declared.moment.Still.{Still}
-use Rattle.session_machine.specs.declared.member.Rest.{Rest}
-use Rattle.session_machine.specs.declared.session.SessionState.{SessionState}
-use Rattle.session_machine.specs.declared.stage.Stage.{Stage}
-use Rattle.session_machine.specs.declared.stepping.Point.{Point}
+use Rattle.session_steps.specs.declared.point.Rest.{Rest}
+use Rattle.session_steps.specs.Stage.{Staged}
+use Rattle.session_steps.specs.declared.point.Point.{Point}
 use Rattle.session_machine.specs.declared.trace.Trace.{Trace}
-use Rattle.session_machine.specs.Going.{standing, tasks_from}
+use Rattle.session_steps.specs.Going.{Standing, standing, tasks_from}
 use Rattle.session_machine.specs.Tracing.{Traces}
 use Rattle.session_machine.specs.Telling.{still_told, told_since, moment_told, had_of, IsTold, IsResumedSo}
-use Rattle.session_machine.specs.Stage.{statements_of, member_at, IsStage}
-use Rattle.session_machine.proofs.Stages.{session-known}
-use Rattle.session_machine.proofs.States.{same-taken}
+use Rattle.session_steps.specs.Stage.{statements_of, member_at, IsStage}
+use Rattle.session_steps.proofs.Stages.{session-known}
+use Rattle.session_steps.proofs.States.{same-taken}
 use Rattle.session_machine.proofs.Tracing.{below-still}
 
 never : (p q : Bool) → false ≡ (p && q && false)
@@ -48,19 +46,19 @@ lengths-differ (e ∷ es) (f ∷ fs) h =
     ∙ ap (λ b. (e.session == f.session) && same_reason e.reason f.reason && b) (lengths-differ es fs (λ k. h (ap suc k)))
 
 -- the same trace, by equal parts
-pub traces-at : (m n i : ℕ) (cs ds : List Change) (l : Layers) (t : Locks) (s u : SessionState) (sts uts : List Bound) (p q : Point) (trace : Trace) → m ≡ n
-    → cs ≡ ds → s ≡ u → sts ≡ uts → p ≡ q
-    → Traces m i cs (standing l t s) (tasks_from (drop p.statement sts) p.request) trace
-    → Traces n i ds (standing l t u) (tasks_from (drop q.statement uts) q.request) trace
-traces-at m n i cs ds l t s u sts uts p q trace e f g h k x =
-    subst (λ c. Traces c i ds (standing l t u) (tasks_from (drop q.statement uts) q.request) trace) e
-    (subst (λ c. Traces m i c (standing l t u) (tasks_from (drop q.statement uts) q.request) trace) f
-    (subst (λ c. Traces m i cs (standing l t c) (tasks_from (drop q.statement uts) q.request) trace) g
-    (subst (λ c. Traces m i cs (standing l t s) (tasks_from (drop q.statement c) q.request) trace) h
-    (subst (λ (c : Point). Traces m i cs (standing l t s) (tasks_from (drop c.statement sts) c.request) trace) k x))))
+pub traces-at : (m n i : ℕ) (cs ds : List Change) (x y : Standing) (sts uts : List Bound) (p q : Point) (trace : Trace) → m ≡ n → cs ≡ ds → x ≡ y → sts ≡ uts
+    → p ≡ q
+    → Traces m i cs x (tasks_from (drop p.statement sts) p.request) trace
+    → Traces n i ds y (tasks_from (drop q.statement uts) q.request) trace
+traces-at m n i cs ds x y sts uts p q trace e f g h k traces =
+    subst (λ c. Traces c i ds y (tasks_from (drop q.statement uts) q.request) trace) e
+    (subst (λ c. Traces m i c y (tasks_from (drop q.statement uts) q.request) trace) f
+    (subst (λ (c : Standing). Traces m i cs c (tasks_from (drop q.statement uts) q.request) trace) g
+    (subst (λ c. Traces m i cs x (tasks_from (drop q.statement c) q.request) trace) h
+    (subst (λ (c : Point). Traces m i cs x (tasks_from (drop c.statement sts) c.request) trace) k traces))))
 
 -- a moment that tells this is the one that is told
-pub told-is : (m n : ℕ) (x y : Stage) (i : ℕ) (manner : Manner) (step : Option ℕ) (trace : Trace) (es : List Event) (ss : List Still) (moment : Moment) → m ≡ n
+pub told-is : (m n : ℕ) (x y : Staged) (i : ℕ) (manner : Manner) (step : Option ℕ) (trace : Trace) (es : List Event) (ss : List Still) (moment : Moment) → m ≡ n
     → es ≡ told_since i x y → ss ≡ still_told m m i x.locks y.locks
     → moment ≡ record {
       session = i;
@@ -85,7 +83,7 @@ told-is m n x y i manner step trace es ss moment e f g is = is ∙ (λ k. record
 })
 
 -- of the session whose wait was granted
-pub resumed-so : (count : ℕ) (steps : List Step) (x y : Stage) (s : Spot) (m : Moment) (i : ℕ) (rest : Rest) → s.wait.session ≡ i
+pub resumed-so : (count : ℕ) (steps : List Step) (x y : Staged) (s : Spot) (m : Moment) (i : ℕ) (rest : Rest) → s.wait.session ≡ i
     → (member_at x i).rest ≡ Some rest
     → IsTold count x y i IsResumed (last_sent None (member_at x i).state.transcript) (had_of (wait_of x.locks i))
     (standing x.store (grant x.locks s) (record { status = (member_at x i).state.status; transcript = Resumed ∷ [] }))
@@ -99,9 +97,9 @@ resumed-so count steps x y s m i rest same =
     → IsResumedSo count steps x y s m) same (λ there told. record { rest = rest; there = there; told = told })
 
 -- a wait that is granted leaves all below the count
-pub granted-below : (steps : List Step) (x : Stage) (s : Spot) → IsStage steps x → IsNext x.locks s → IsBelow (length x.members.items) (grant x.locks s)
+pub granted-below : (steps : List Step) (x : Staged) (s : Spot) → IsStage steps x → IsNext x.locks s → IsBelow (length x.members) (grant x.locks s)
 granted-below steps x s stage next =
-    let n = length x.members.items in
+    let n = length x.members in
     let i = s.wait.session in
     let t1 : Locks = record { held = x.locks.held; waits = s.before ++ s.after } in
     let waiters = subst (EachWait (λ w. w.session < n)) (sym next.there) stage.within.below.waiters in

@@ -24,13 +24,13 @@ use Rattle.line_moments.specs.declared.moment.Change.{Change}
 use Rattle.line_moments.specs.declared.moment.Change.TheVariants.{Had}
 use Rattle.line_moments.specs.declared.moment.Refusal.TheVariants.{Closes, Wants}
 use Rattle.session_machine.specs.declared.trace.Trace.{Trace}
-use Rattle.session_machine.specs.State.{SameOthers}
-use Rattle.session_machine.specs.Going.{Standing, session_in, tasks_from, IsScene, GoesOnTo, DoesTo, FailsBy, IsReply}
+use Rattle.session_steps.specs.State.{SameOthers}
+use Rattle.session_steps.specs.Going.{Standing, session_in, tasks_from, IsScene, GoesOnTo, DoesTo, FailsBy, IsReply}
 use Rattle.session_machine.specs.Tracing.{trace_in, IsSceneOf, Traces, TracesOn, had_by, refusal_at}
-use Rattle.session_machine.proofs.Going.{look-now, ring-is, reply-is}
-use Rattle.session_machine.proofs.Moves.{still-scene}
-use Rattle.session_machine.proofs.States.{session-taken, same-taken}
-use Rattle.session_machine.proofs.Steps.{tasks_from-start}
+use Rattle.session_steps.proofs.Going.{look-now, ring-is, reply-is}
+use Rattle.session_steps.proofs.Moves.{still-scene}
+use Rattle.session_steps.proofs.States.{session-taken, same-taken}
+use Rattle.session_steps.proofs.Steps.{tasks_from-start}
 
 -- ---- moves in turn
 
@@ -189,7 +189,7 @@ module _ (count i : ℕ) (bs : List Change) (x y : Standing) (first : List Task)
           (Do st ∷ tasks_of (drop (k + 1) sts)) came.others came.waits traced-here (had (Do st ∷ tasks_of (drop (k + 1) sts)))
 
       others : SameOthers i x.layers z.layers x.locks z.locks
-      others = Rattle.session_machine.proofs.States.same-trans i x.layers y.layers z.layers x.locks y.locks z.locks came.others (goes []).others
+      others = Rattle.session_steps.proofs.States.same-trans i x.layers y.layers z.layers x.locks y.locks z.locks came.others (goes []).others
 
       waits : z.locks.waits ≡ x.locks.waits
       waits = (goes []).waits ∙ came.waits

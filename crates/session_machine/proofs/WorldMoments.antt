@@ -31,68 +31,45 @@ use Rattle.line_moments.specs.declared.moment.Change.TheVariants.{Had}
 use Rattle.line_moments.specs.declared.moment.Manner.TheVariants.{IsSent, IsNotSent}
 use Rattle.line_moments.specs.declared.moment.Moment.{Moment}
 use Rattle.line_moments.proofs.Telling.{goes-grows, granted-grows}
-use Rattle.session_machine.specs.declared.member.Member.{Member}
-use Rattle.session_machine.specs.declared.stage.Stage.{Stage}
 use Rattle.session_machine.specs.declared.trace.Trace.{Trace}
-use Rattle.session_machine.specs.State.{Own, session_of}
-use Rattle.session_machine.specs.Going.{session_in, tasks_from}
+use Rattle.session_steps.specs.State.{Own, session_of}
+use Rattle.session_steps.specs.Going.{session_in, tasks_from}
 use Rattle.session_machine.specs.Tracing.{IsSceneOf}
-use Rattle.session_machine.specs.Stage.{no_member, statements_of, rest_of, own_of, world_in, member_at, IsStage, note_member, HasSameParts, HasTold, HasStarted}
+use Rattle.session_steps.specs.Stage.{Member, Staged, no_member, statements_of, rest_of, own_of, world_in, member_at, IsStage, note_member, HasTold, HasStarted}
 use Rattle.session_machine.specs.Telling.{edges_told, still_told, told_since, moment_told, no_trace, had_of, IsTold, sent_standing, resumed_standing, IsResumedSo}
 use Rattle.session_machine.specs.Telling.{moment_in, settling}
 use Rattle.session_machine.specs.Showing.{begun_in, standings_in}
-use Rattle.session_machine.proofs.Stages.{get_or-owns, none-rests, session-known}
-use Rattle.session_machine.proofs.Standing.{look-now, length-world, same-world}
-use Rattle.session_machine.proofs.States.{session_at-is, session-taken, same-taken, same-refl}
-use Rattle.session_machine.proofs.Steps.{tasks_from-start}
-use Rattle.session_machine.proofs.Worlds.{scene-is}
-
--- ---- a stage and its fork
-
-pub told-from : (x b y : Stage) (i : ℕ) (e : Event) → HasSameParts x b → HasTold i e x y → HasTold i e b y
-told-from x b y i e same told = record {
-  store = told.store ∙ sym same.store;
-  locks = told.locks ∙ sym same.locks;
-  members = told.members ∙ ap (λ (ms : List Member). Rattle.std.specs.Prelude.set ms i (note_member (get_or ms i no_member) e)) (sym same.members);
-}
-
-pub started-from : (steps : List Step) (x b y : Stage) (k : ℕ) → HasSameParts x b → HasStarted steps k x y → HasStarted steps k b y
-started-from steps x b y k same started = record {
-  world = started.world
-      ∙ ap (λ (w : World). goes w (get_or steps k no_step).session (note (session_at w (get_or steps k no_step).session) (Sent k))
-      (tasks_of (statements_of steps k))) (sym (same-world steps x b same));
-  stage = started.stage;
-  count = started.count ∙ sym (ap length same.members);
-}
-
-pub same-cause : (steps : List Step) (x b : Stage) → HasSameParts x b → (cause : Cause) → moment_in steps b cause ≡ moment_in steps x cause
-same-cause steps x b same cause = ap (λ w. moment_of steps (record { world = w; cause = cause })) (same-world steps x b same)
+use Rattle.session_steps.proofs.Stages.{get_or-owns, none-rests, session-known}
+use Rattle.session_steps.proofs.Standing.{look-now, length-world}
+use Rattle.session_steps.proofs.States.{session_at-is, session-taken, same-taken, same-refl}
+use Rattle.session_steps.proofs.Steps.{tasks_from-start}
+use Rattle.session_steps.proofs.Worlds.{scene-is}
 
 -- ---- what the world tells of waits
 
 module _ (steps : List Step) (n : ℕ) where
-  pub want-in : (s : Stage) → IsStage steps s → length s.members.items ≡ n → (c : ℕ)
+  pub want-in : (s : Staged) → IsStage steps s → length s.members ≡ n → (c : ℕ)
       → want_in (world_in steps s) c ≡ want_of n (look_in s.locks) s.locks.waits c
   want-in s stage many c = λ k. want_of ((length-world steps s ∙ many) k) (look-now steps s stage k) s.locks.waits c
 
-  edges-in : (s : Stage) → IsStage steps s → length s.members.items ≡ n → (c : ℕ) → edges_in (world_in steps s) c ≡ edges_told n s.locks c
+  edges-in : (s : Staged) → IsStage steps s → length s.members ≡ n → (c : ℕ) → edges_in (world_in steps s) c ≡ edges_told n s.locks c
   edges-in s stage many c = ap (λ (o : Option Want). let es : List Rattle.lock_queues.specs.declared.reason.Edge.Edge =
       elim o [ None ↦ [] | Some want ↦ want.edges ] in es) (want-in s stage many c)
 
-  still-in : (x y : Stage) → IsStage steps x → IsStage steps y → length x.members.items ≡ n → length y.members.items ≡ n → (i m : ℕ)
+  still-in : (x y : Staged) → IsStage steps x → IsStage steps y → length x.members ≡ n → length y.members ≡ n → (i m : ℕ)
       → still_below m i (world_in steps x) (world_in steps y) ≡ still_told m n i x.locks y.locks
   still-in x y sx sy cx cy i zero = refl
   still-in x y sx sy cx cy i (suc m) = λ k. still-in x y sx sy cx cy i m k
       ++ cond (m == i) [] (changed_edges m (edges-in x sx cx m k) (edges-in y sy cy m k))
 
-  pub at-session : (s : Stage) (i : ℕ) → i < length s.members.items
+  pub at-session : (s : Staged) (i : ℕ) → i < length s.members
       → session_at (world_in steps s) i ≡ session_of s.store s.locks i (own_of steps (member_at s i))
   at-session s i lt =
-      session_at-is s.store s.locks (map (own_of steps) s.members.items) i (subst (λ k. i < k) (sym (length-map s.members.items (own_of steps))) lt)
-      ∙ ap (session_of s.store s.locks i) (get_or-owns steps s.members.items i)
+      session_at-is s.store s.locks (map (own_of steps) s.members) i (subst (λ k. i < k) (sym (length-map s.members (own_of steps))) lt)
+      ∙ ap (session_of s.store s.locks i) (get_or-owns steps s.members i)
 
   -- what is told is the moment, by its parts
-  moment-is : (x y : Stage) → IsStage steps x → IsStage steps y → length x.members.items ≡ n → length y.members.items ≡ n → (cause : Cause) (i : ℕ)
+  moment-is : (x y : Staged) → IsStage steps x → IsStage steps y → length x.members ≡ n → length y.members ≡ n → (cause : Cause) (i : ℕ)
       (step : Option ℕ) (trace : Trace) → i < n
       → world_in steps y ≡ behind_by steps (world_in steps x) cause → i ≡ session_by steps cause → step ≡ step_by (world_in steps x) cause
       → told_since i x y ≡ events_by steps (world_in steps x) cause → trace.changes ≡ changes_by steps (world_in steps x) cause
@@ -101,7 +78,7 @@ module _ (steps : List Step) (n : ℕ) where
   moment-is x y sx sy cx cy cause i step trace lt world is which events changes refused =
       let w = world_in steps x in
       let v = world_in steps y in
-      let inside : i < length y.members.items = subst (λ k. i < k) (sym cy) lt in
+      let inside : i < length y.members = subst (λ k. i < k) (sym cy) lt in
       λ j. record {
         session = is j;
         manner = manner_by cause;
@@ -117,7 +94,7 @@ module _ (steps : List Step) (n : ℕ) where
 -- ---- events
 
 -- what was told since, where the transcript grew so
-since-is : (i : ℕ) (x y : Stage) (es : List Event) → (member_at y i).state.transcript ≡ (member_at x i).state.transcript ++ es → told_since i x y ≡ es
+since-is : (i : ℕ) (x y : Staged) (es : List Event) → (member_at y i).state.transcript ≡ (member_at x i).state.transcript ++ es → told_since i x y ≡ es
 since-is i x y es grew =
     ap (drop (length (member_at x i).state.transcript)) grew ∙ drop-append_seam (member_at x i).state.transcript es
 
@@ -136,41 +113,41 @@ sent-skips steps w k waits = ap (λ b. let v : World =
           (goes w (get_or steps k no_step).session (note (session_at w (get_or steps k no_step).session) (Sent k)) (tasks_of (get_or steps k no_step).statements))
     ] in v) waits
 
-pub skipped-is : (steps : List Step) (n : ℕ) (x y : Stage) (k i : ℕ) → IsStage steps x → IsStage steps y → length x.members.items ≡ n
-    → length y.members.items ≡ n → i < n
+pub skipped-is : (steps : List Step) (n : ℕ) (x y : Staged) (k i : ℕ) → IsStage steps x → IsStage steps y → length x.members ≡ n
+    → length y.members ≡ n → i < n
     → i ≡ (get_or steps k no_step).session → HasTold i (NotSent k) x y → world_in steps y ≡ send steps (world_in steps x) k
     → waits_now x.locks.waits i ≡ true
     → moment_told n x y i IsNotSent (Some k) no_trace ≡ moment_in steps x (Skips k)
 skipped-is steps n x y k i sx sy cx cy lt is told sent waits =
     let there : member_at y i ≡ note_member (member_at x i) (NotSent k) = ap (λ (ms : List Member). get_or ms i no_member) told.members
-    ∙ get_or-set_same x.members.items i (note_member (member_at x i) (NotSent k)) no_member (subst (λ m. i < m) (sym cx) lt) in
+    ∙ get_or-set_same x.members i (note_member (member_at x i) (NotSent k)) no_member (subst (λ m. i < m) (sym cx) lt) in
     moment-is steps n x y sx sy cx cy (Skips k) i (Some k) no_trace lt
     (sent ∙ sent-skips steps (world_in steps x) k (subst (λ c. waits_now x.locks.waits c ≡ true) is waits)) is refl
     (since-is i x y (NotSent k ∷ []) (ap (λ (m : Member). m.state.transcript) there)) refl refl
 
 -- ---- a step that is sent
 
-module _ (steps : List Step) (n : ℕ) (x y : Stage) (sx : IsStage steps x) (sy : IsStage steps y) (cx : length x.members.items ≡ n)
-    (cy : length y.members.items ≡ n) where
+module _ (steps : List Step) (n : ℕ) (x y : Staged) (sx : IsStage steps x) (sy : IsStage steps y) (cx : length x.members ≡ n)
+    (cy : length y.members ≡ n) where
   abbrev w : World
   w = world_in steps x
 
   abbrev owns : List Own
-  owns = map (own_of steps) x.members.items
+  owns = map (own_of steps) x.members
 
   long : length owns ≡ n
-  long = length-map x.members.items (own_of steps) ∙ cx
+  long = length-map x.members (own_of steps) ∙ cx
 
   below : IsBelow (length owns) x.locks
-  below = subst (λ k. IsBelow k x.locks) (sym (length-map x.members.items (own_of steps))) sx.within.below
+  below = subst (λ k. IsBelow k x.locks) (sym (length-map x.members (own_of steps))) sx.within.below
 
   many : length w.sessions ≡ n
   many = length-world steps x ∙ cx
 
-  in-x : (i : ℕ) → i < n → i < length x.members.items
+  in-x : (i : ℕ) → i < n → i < length x.members
   in-x i lt = subst (λ k. i < k) (sym cx) lt
 
-  in-y : (i : ℕ) → i < n → i < length y.members.items
+  in-y : (i : ℕ) → i < n → i < length y.members
   in-y i lt = subst (λ k. i < k) (sym cy) lt
 
   -- the transcripts of the worlds are those of the stages
@@ -333,7 +310,7 @@ settling-grant steps w spot st is =
 
 -- ---- the moments of a step
 
-pub moments-skip : (steps : List Step) (x : Stage) (k : ℕ) → waits_now x.locks.waits (get_or steps k no_step).session ≡ true
+pub moments-skip : (steps : List Step) (x : Staged) (k : ℕ) → waits_now x.locks.waits (get_or steps k no_step).session ≡ true
     → moments steps (world_in steps x) k ≡ moment_in steps x (Skips k) ∷ []
 moments-skip steps x k waits =
     let w = world_in steps x in
@@ -345,7 +322,7 @@ moments-skip steps x k waits =
     ])
     in ms) waits
 
-pub moments-send : (steps : List Step) (x : Stage) (k : ℕ) → waits_now x.locks.waits (get_or steps k no_step).session ≡ false
+pub moments-send : (steps : List Step) (x : Staged) (k : ℕ) → waits_now x.locks.waits (get_or steps k no_step).session ≡ false
     → moments steps (world_in steps x) k ≡ moment_in steps x (Sends k) ∷ settling steps (behind_by steps (world_in steps x) (Sends k))
 moments-send steps x k idle =
     let w = world_in steps x in
@@ -359,7 +336,7 @@ moments-send steps x k idle =
 
 -- ---- what is shown beside the moments
 
-module _ (steps : List Step) (n : ℕ) (s : Stage) (stage : IsStage steps s) (count : length s.members.items ≡ n) where
+module _ (steps : List Step) (n : ℕ) (s : Staged) (stage : IsStage steps s) (count : length s.members ≡ n) where
   pub begun-is : (m : ℕ) → m ≤ n → begun_in m s ≡ begun m (world_in steps s)
   begun-is zero le = refl
   begun-is (suc m) le = λ k. begun-is m (omega arith) k

@@ -1,8 +1,5 @@
 pub mod Running
-pub mod State
-pub mod Going
+pub mod SharedStage
 pub mod Tracing
-pub mod Stage
-pub mod SetUp
 pub mod Telling
 pub mod Showing

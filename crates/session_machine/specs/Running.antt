@@ -11,9 +11,8 @@ use Rattle.machine_model.specs.Sound.{Sound}
 use Rattle.machine_model.specs.Outcome.{IsOutcomeOf}
 use Rattle.machine_model.specs.World.{World, look_of, outcome_of}
 use Rattle.machine_model.specs.Start.{Start, SetupFailed, SessionSetupFailed, SessionSetupWaits}
-use Rattle.session_machine.specs.declared.error.StartError.{StartError}
+use Rattle.session_steps.specs.declared.error.StartError.TheVariants as start_error
 use Rattle.session_machine.specs.declared.error.RunError.{RunError}
-use Rattle.session_machine.specs.declared.error.StartError.TheVariants as start_error
 use Rattle.session_machine.specs.declared.error.RunError.TheVariants as run_error
 
 -- a spec, a world of it, and whether an earlier step was refused memory
@@ -41,13 +40,6 @@ wait_in r i = elim r.spent [
       option_map (λ (v : Wait). (v.resource, wanted_by (look_of r.world) v)) (find (λ (v : Wait). v.session == i) r.world.waits)
 ]
 
--- the spec does not start for that reason, unless memory ran out
-abbrev pub IsRefusedBy : StartError → Start → Type 0
-IsRefusedBy (start_error.SetupFailed n) s = s ≡ SetupFailed n
-IsRefusedBy (start_error.SessionSetupFailed i) s = s ≡ SessionSetupFailed i
-IsRefusedBy (start_error.SessionSetupWaits i) s = s ≡ SessionSetupWaits i
-IsRefusedBy start_error.NoMemory s = Unit {0}
-
 -- a line is run to no outcome since the spec does not start, unless memory ran out; a want of memory in a start is the run's own
 abbrev pub IsNotRunBy : RunError → Start → Type 0
 IsNotRunBy (run_error.Start start_error.NoMemory) s = ⊥
@@ -58,10 +50,3 @@ IsNotRunBy run_error.NoMemory s = Unit {0}
 IsNotRunBy run_error.OutOfRange s = ⊥
 IsNotRunBy run_error.TooLong s = ⊥
 IsNotRunBy run_error.TooDeep s = ⊥
-
--- the number of a refused start in fault lines
-abbrev pub number_of : StartError → ℕ
-number_of (start_error.SetupFailed n) = 1
-number_of (start_error.SessionSetupFailed i) = 2
-number_of (start_error.SessionSetupWaits i) = 3
-number_of start_error.NoMemory = 4

@@ -10,8 +10,8 @@ use Rattle.line_moments.specs.Left.{standing_by}
 use Rattle.line_moments.specs.declared.shown.Begun.{Begun}
 use Rattle.line_moments.specs.declared.shown.Left.{Left}
 use Rattle.line_moments.specs.declared.shown.Standing.{Standing}
-use Rattle.session_machine.specs.declared.stage.Stage.{Stage}
-use Rattle.session_machine.specs.Stage.{member_at}
+use Rattle.session_steps.specs.Stage.{Staged}
+use Rattle.session_steps.specs.Stage.{member_at}
 
 -- the same rows are committed, and no session below the count has an overlay; others have what they had
 pub record IsCommitted (count : ℕ) (l m : Layers) : Type 0 where
@@ -29,11 +29,11 @@ lefts_from n [] rows = []
 lefts_from n (t ∷ ts) rows = record { table = t; rows = rows_of n rows } ∷ lefts_from (suc n) ts rows
 
 -- of the sessions below the number, in their order
-abbrev pub begun_in : ℕ → Stage → List Begun
+abbrev pub begun_in : ℕ → Staged → List Begun
 begun_in zero s = []
 begun_in (suc n) s = begun_in n s ++ record { status = (member_at s n).state.status; locks = entries (slice n s.locks.held) } ∷ []
 
-abbrev pub standings_in : ℕ → ℕ → Stage → List Standing
+abbrev pub standings_in : ℕ → ℕ → Staged → List Standing
 standings_in zero count s = []
 standings_in (suc n) count s =
     standings_in n count s ++ standing_by (want_of count (look_in s.locks) s.locks.waits n) (member_at s n).state.status ∷ []

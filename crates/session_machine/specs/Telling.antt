@@ -19,12 +19,12 @@ use Rattle.line_moments.specs.declared.moment.Manner.{Manner}
 use Rattle.line_moments.specs.declared.moment.Manner.TheVariants.{IsResumed}
 use Rattle.line_moments.specs.declared.moment.Moment.{Moment}
 use Rattle.line_moments.specs.declared.moment.Still.{Still}
-use Rattle.session_machine.specs.declared.stage.Stage.{Stage}
+use Rattle.session_steps.specs.Stage.{Staged}
 use Rattle.session_machine.specs.declared.trace.Trace.{Trace}
-use Rattle.session_machine.specs.declared.member.Rest.{Rest}
-use Rattle.session_machine.specs.Going.{Standing, standing, tasks_from}
+use Rattle.session_steps.specs.declared.point.Rest.{Rest}
+use Rattle.session_steps.specs.Going.{Standing, standing, tasks_from}
 use Rattle.session_machine.specs.Tracing.{Traces}
-use Rattle.session_machine.specs.Stage.{statements_of, world_in, member_at}
+use Rattle.session_steps.specs.Stage.{statements_of, world_in, member_at}
 
 -- what is had where this wait is granted
 abbrev pub had_of : Option (Resource × Mode) → List Change
@@ -45,11 +45,11 @@ abbrev pub sent_last : Option ℕ → Event → Option ℕ
 sent_last k e = elim (sent_step e) [ None ↦ k | Some n ↦ Some n ]
 
 -- what the session was told since
-abbrev pub told_since : ℕ → Stage → Stage → List Event
+abbrev pub told_since : ℕ → Staged → Staged → List Event
 told_since i x y = drop (length (member_at x i).state.transcript) (member_at y i).state.transcript
 
 -- the moment of a session that came to this
-abbrev pub moment_told : ℕ → Stage → Stage → ℕ → Manner → Option ℕ → Trace → Moment
+abbrev pub moment_told : ℕ → Staged → Staged → ℕ → Manner → Option ℕ → Trace → Moment
 moment_told count x y i manner step trace = record {
   session = i;
   manner = manner;
@@ -66,28 +66,28 @@ abbrev pub no_trace : Trace
 no_trace = record { changes = []; refusal = None }
 
 -- what the moment tells is what the tasks come to, behind these changes, of a session that stood there
-pub record IsTold (count : ℕ) (x y : Stage) (i : ℕ) (manner : Manner) (step : Option ℕ) (cs : List Change) (from : Standing) (ts : List Task) (m : Moment) : Type 0 where
+pub record IsTold (count : ℕ) (x y : Staged) (i : ℕ) (manner : Manner) (step : Option ℕ) (cs : List Change) (from : Standing) (ts : List Task) (m : Moment) : Type 0 where
   pub trace : Trace
   pub traces : Traces count i cs from ts trace
   pub is : m ≡ moment_told count x y i manner step trace
 
 -- where a session stands that is sent a step, and was told of nothing else
-abbrev pub sent_standing : Stage → ℕ → ℕ → Standing
+abbrev pub sent_standing : Staged → ℕ → ℕ → Standing
 sent_standing x i k = standing x.store x.locks (record { status = (member_at x i).state.status; transcript = Sent k ∷ [] })
 
 -- where a session stands whose wait is granted, and was told of nothing else
-abbrev pub resumed_standing : Stage → Spot → Standing
+abbrev pub resumed_standing : Staged → Spot → Standing
 resumed_standing x s = standing x.store (grant x.locks s) (record { status = (member_at x s.wait.session).state.status; transcript = Resumed ∷ [] })
 
 -- the moment of the session whose wait was granted
-pub record IsResumedSo (count : ℕ) (steps : List Step) (x y : Stage) (s : Spot) (m : Moment) : Type 0 where
+pub record IsResumedSo (count : ℕ) (steps : List Step) (x y : Staged) (s : Spot) (m : Moment) : Type 0 where
   pub rest : Rest
   pub there : (member_at x s.wait.session).rest ≡ Some rest
   pub told : IsTold count x y s.wait.session IsResumed (last_sent None (member_at x s.wait.session).state.transcript) (had_of (wait_of x.locks s.wait.session))
       (resumed_standing x s) (tasks_from (drop rest.point.statement (statements_of steps rest.step)) rest.point.request) m
 
 -- the moment of a going from the world of the stage
-abbrev pub moment_in : List Step → Stage → Cause → Moment
+abbrev pub moment_in : List Step → Staged → Cause → Moment
 moment_in steps x cause = moment_of steps (record { world = world_in steps x; cause = cause })
 
 -- the moments of a world that settles

@@ -18,11 +18,11 @@ use Rattle.line_moments.specs.declared.moment.Change.{Change}
 use Rattle.line_moments.specs.declared.moment.Change.TheVariants.{Had}
 use Rattle.line_moments.specs.declared.moment.Refusal.{Refusal}
 use Rattle.line_moments.specs.declared.moment.Refusal.TheVariants.{Closes, Wants}
-use Rattle.session_machine.specs.declared.session.SessionState.{SessionState}
+use Rattle.session_steps.specs.State.{SessionState}
 use Rattle.session_machine.specs.declared.trace.Trace.{Trace}
 use Rattle.session_machine.specs.declared.trace.Course.{Course}
 use Rattle.session_machine.specs.declared.trace.Course.TheVariants.{AllHad, Stops}
-use Rattle.session_machine.specs.Going.{Standing, standing, session_in, IsScene, GoesOnTo}
+use Rattle.session_steps.specs.Going.{Standing, standing, session_in, IsScene, GoesOnTo}
 
 -- what the tasks come to
 abbrev pub trace_of : Scene → ℕ → Session → Rows' → List Task → Trace

@@ -3,43 +3,34 @@
 ghost use Rattle.std.specs.Prelude.{◌≡◌, ◌++◌, ◌<◌, suc, true, false, [], ◌∷◌, Some, IfOk, OnOk, length, get_or, drop};
 ghost use Rattle.bound_specs.specs.Spec.{no_step};
 ghost use Rattle.line_moments.specs.Moments as moments;
-ghost use Rattle.lock_queues.specs.LockTable.{grant, look_in};
+ghost use Rattle.lock_queues.specs.LockTable.{look_in};
 ghost use Rattle.lock_queues.specs.Locks as locks;
 ghost use Rattle.lock_queues.specs.Reasons.{want_of};
-ghost use Rattle.lock_queues.specs.Rules.{IsNext, IsNextOf, wait_of};
+ghost use Rattle.lock_queues.specs.Rules.{IsNext, IsNextOf};
 ghost use Rattle.machine_model.specs.World.{send, settle};
-ghost use Rattle.session_machine.specs.Going.{standing, tasks_from};
-ghost use Rattle.session_machine.specs.Stage.{statements_of, world_in, member_at, IsStage, IsSettled, HasTold, HasStarted, HasResumed};
+ghost use Rattle.session_machine.specs.SharedStage.{staged_of};
 ghost use Rattle.session_machine.specs.Telling as telling;
+ghost use Rattle.session_steps.specs.Going.{tasks_from};
+ghost use Rattle.session_steps.specs.Stage.{statements_of, world_in, member_at, IsStage, IsSettled, HasTold, HasStarted, HasResumed};
 ghost use Rattle.transcripts.specs.declared.event.Event.TheVariants as event;
 
-use crate::stage::Stage;
-use crate::stepping::Point;
-use crate::telling::{events_behind, had_of, last_step, still_of, told_only};
+use crate::stage::SharedStage;
+use crate::telling::{events_behind, had_of, last_step, still_of};
 use crate::trace::{Trace, trace_on};
 use bound_specs::Spec;
-use finite_maps::Fork;
 use line_moments::{Ending, Manner, Moment, Still};
-use machine_model::Status;
+use session_steps::{Point, Stage, resume, start_step};
 use sqlite_items::Items;
 use std::alloc::{AllocError, Global};
 use transcripts::{Event, Log, Transcript};
 
-impl Stage {
+impl SharedStage {
     /// What a session was told.
     fn log(&self, session: u8) -> &Log
         requires { session < length self.now.members.items }
-        ensures { result.now ≡ (member_at self.now session).state.transcript }
+        ensures { result.now ≡ (member_at (staged_of self.now) session).state.transcript }
     {
-        &self.members[session as usize].state.transcript
-    }
-
-    /// How the block of a session stands.
-    pub(crate) fn status(&self, session: u8) -> Status
-        requires { session < length self.now.members.items }
-        ensures { result ≡ (member_at self.now session).state.status }
-    {
-        self.members[session as usize].state.status
+        self.members[session as usize].log()
     }
 
     /// The moment of a session that stands so at its end.
@@ -62,7 +53,7 @@ impl Stage {
               step = step;
               events = events;
               changes = trace.changes;
-              status = (member_at self.now session).state.status;
+              status = (member_at (staged_of self.now) session).state.status;
               ending = moments.ending_by (want_of count (look_in self.now.locks) self.now.locks.waits session) trace.refusal;
               still = still;
             }) }
@@ -86,15 +77,15 @@ impl Stage {
         &self,
         alloc: Global,
         spec: &Spec,
-        before: &Stage,
+        before: &SharedStage,
         session: u8,
         step: u8,
     ) -> Result<Moment, AllocError>
         requires inside { session < length before.now.members.items }
         requires count { length before.now.members.items ≡ suc spec.now.run.sessions }
-        requires told { HasTold session (event.NotSent step) before.now self.now }
+        requires told { HasTold session (event.NotSent step) (staged_of before.now) (staged_of self.now) }
         ensures { IfOk result (λ moment. moment
-            ≡ telling.moment_told (suc spec.now.run.sessions) before.now self.now session Manner.IsNotSent (Some step) telling.no_trace) }
+            ≡ telling.moment_told (suc spec.now.run.sessions) (staged_of before.now) (staged_of self.now) session Manner.IsNotSent (Some step) telling.no_trace) }
     {
         let count = spec.sessions() + 1;
         let still = still_of(alloc, &before.locks, &self.locks, session, count)?;
@@ -118,31 +109,30 @@ impl Stage {
         &self,
         alloc: Global,
         spec: &Spec,
-        mut before: Stage,
+        mut before: SharedStage,
         session: u8,
         step: u8,
     ) -> Result<Moment, AllocError>
-        requires stage { IsStage spec.now.run.steps before }
+        requires stage { IsStage spec.now.run.steps (staged_of before) }
         requires known { step < length spec.now.run.steps }
         requires inside { session < length before.members.items }
         requires count { length before.members.items ≡ suc spec.now.run.sessions }
         requires same { length self.now.members.items ≡ length before.members.items }
         requires sender { session ≡ (get_or spec.now.run.steps step no_step).session }
         requires idle { locks.waits_now before.locks.waits session ≡ false }
-        ensures { IfOk result (telling.IsTold (suc spec.now.run.sessions) before self.now session Manner.IsSent (Some step) []
-            (telling.sent_standing before session step) (tasks_from (drop 0 (statements_of spec.now.run.steps step)) 0)) }
+        ensures { IfOk result (telling.IsTold (suc spec.now.run.sessions) (staged_of before) (staged_of self.now) session Manner.IsSent (Some step) []
+            (telling.sent_standing (staged_of before) session step) (tasks_from (drop 0 (statements_of spec.now.run.steps step)) 0)) }
     {
         let count = spec.sessions() + 1;
         let still = still_of(alloc, &before.locks, &self.locks, session, count)?;
         let events = events_behind(alloc, before.log(session), self.log(session))?;
-        let mut state = told_only(alloc, before.status(session), Event::Sent(step))?;
+        before.forget(session)?;
+        before.tell(session, Event::Sent(step))?;
         let trace = trace_on(
             alloc,
             count,
-            &mut before.store,
-            &mut before.locks,
+            &mut before,
             session,
-            &mut state,
             spec.statements(step),
             Point::start(),
             Items::new(alloc),
@@ -166,34 +156,33 @@ impl Stage {
         &self,
         alloc: Global,
         spec: &Spec,
-        mut before: Stage,
+        mut before: SharedStage,
         session: u8,
     ) -> Result<Moment, AllocError>
-        requires stage { IsStage spec.now.run.steps before }
+        requires stage { IsStage spec.now.run.steps (staged_of before) }
         requires next { IsNextOf before.locks session }
         requires inside { session < length before.members.items }
         requires count { length before.members.items ≡ suc spec.now.run.sessions }
         requires same { length self.now.members.items ≡ length before.members.items }
         ensures { IfOk result (λ moment. (s : locks.Spot) → IsNext before.locks s → s.wait.session ≡ session
-            → telling.IsResumedSo (suc spec.now.run.sessions) spec.now.run.steps before self.now s moment) }
+            → telling.IsResumedSo (suc spec.now.run.sessions) spec.now.run.steps (staged_of before) (staged_of self.now) s moment) }
     {
         let count = spec.sessions() + 1;
         let still = still_of(alloc, &before.locks, &self.locks, session, count)?;
         let events = events_behind(alloc, before.log(session), self.log(session))?;
         let step = last_step(before.log(session))?;
         let changes = had_of(alloc, &before.locks, session)?;
-        let mut state = told_only(alloc, before.status(session), Event::Resumed)?;
-        let Some(rest) = before.members[session as usize].rest else {
+        let Some(rest) = before.rest(session) else {
             unreachable!()
         };
-        before.locks.grant(session)?;
+        before.grant(session)?;
+        before.forget(session)?;
+        before.tell(session, Event::Resumed)?;
         let trace = trace_on(
             alloc,
             count,
-            &mut before.store,
-            &mut before.locks,
+            &mut before,
             session,
-            &mut state,
             spec.statements(rest.step),
             rest.point,
             changes,
@@ -204,7 +193,7 @@ impl Stage {
     }
 }
 
-impl Stage {
+impl SharedStage {
     /// Tells a session that waits that it is not sent a step, and tells the moment.
     fn skip_told(
         &mut self,
@@ -215,13 +204,13 @@ impl Stage {
         told: &mut Items<Moment>,
     ) -> Result<(), AllocError>
         requires known { step < length spec.now.run.steps }
-        requires settled { IsSettled spec.now.run.sessions spec.now.run.steps self.old }
+        requires settled { IsSettled spec.now.run.sessions spec.now.run.steps (staged_of self.old) }
         requires sender { session ≡ (get_or spec.now.run.steps step no_step).session }
         requires inside { session < length self.old.members.items }
         requires waits { locks.waits_now self.old.locks.waits session ≡ true }
-        ensures kept { OnOk result (HasTold session (event.NotSent step) self.old self.new) }
+        ensures kept { OnOk result (HasTold session (event.NotSent step) (staged_of self.old) (staged_of self.new)) }
         ensures told { OnOk result (told.new
-            ≡ told.old ++ telling.moment_in spec.now.run.steps self.old (moments.Skips step) ∷ []) }
+            ≡ told.old ++ telling.moment_in spec.now.run.steps (staged_of self.old) (moments.Skips step) ∷ []) }
     {
         let before = self.fork()?;
         self.tell(session, Event::NotSent(step))?;
@@ -240,17 +229,17 @@ impl Stage {
         told: &mut Items<Moment>,
     ) -> Result<(), AllocError>
         requires known { step < length spec.now.run.steps }
-        requires stage { IsStage spec.now.run.steps self.old }
+        requires stage { IsStage spec.now.run.steps (staged_of self.old) }
         requires count { length self.old.members.items ≡ suc spec.now.run.sessions }
         requires sender { session ≡ (get_or spec.now.run.steps step no_step).session }
         requires inside { session < length self.old.members.items }
         requires idle { locks.waits_now self.old.locks.waits session ≡ false }
-        ensures started { OnOk result (HasStarted spec.now.run.steps step self.old self.new) }
+        ensures started { OnOk result (HasStarted spec.now.run.steps step (staged_of self.old) (staged_of self.new)) }
         ensures told { OnOk result (told.new
-            ≡ told.old ++ telling.moment_in spec.now.run.steps self.old (moments.Sends step) ∷ []) }
+            ≡ told.old ++ telling.moment_in spec.now.run.steps (staged_of self.old) (moments.Sends step) ∷ []) }
     {
         let before = self.fork()?;
-        self.start_step(alloc, spec, session, step)?;
+        start_step(alloc, self, spec, session, step)?;
         let moment = self.sent_moment(alloc, spec, before, session, step)?;
         told.push(moment)?;
         Ok(())
@@ -264,17 +253,17 @@ impl Stage {
         session: u8,
         told: &mut Items<Moment>,
     ) -> Result<(), AllocError>
-        requires stage { IsStage spec.now.run.steps self.old }
+        requires stage { IsStage spec.now.run.steps (staged_of self.old) }
         requires count { length self.old.members.items ≡ suc spec.now.run.sessions }
         requires next { IsNextOf self.old.locks session }
         requires inside { session < length self.old.members.items }
-        ensures resumed { OnOk result (HasResumed spec.now.run.steps self.old self.new) }
+        ensures resumed { OnOk result (HasResumed spec.now.run.steps (staged_of self.old) (staged_of self.new)) }
         ensures told { OnOk result ((s : locks.Spot) → IsNext self.old.locks s → s.wait.session ≡ session
-            → told.new ≡ told.old ++ telling.moment_in spec.now.run.steps self.old (moments.GoesOn s) ∷ []) }
+            → told.new ≡ told.old ++ telling.moment_in spec.now.run.steps (staged_of self.old) (moments.GoesOn s) ∷ []) }
     {
         self.locks.known();
         let before = self.fork()?;
-        self.resume(alloc, spec, session)?;
+        resume(alloc, self, spec, session)?;
         let moment = self.resumed_moment(alloc, spec, before, session)?;
         told.push(moment)?;
         Ok(())
@@ -287,13 +276,13 @@ impl Stage {
         spec: &Spec,
         told: &mut Items<Moment>,
     ) -> Result<(), AllocError>
-        requires stage { IsStage spec.now.run.steps self.old }
+        requires stage { IsStage spec.now.run.steps (staged_of self.old) }
         requires count { length self.old.members.items ≡ suc spec.now.run.sessions }
-        ensures settled { OnOk result (world_in spec.now.run.steps self.new ≡ settle (world_in spec.now.run.steps self.old)) }
-        ensures stage { OnOk result (IsStage spec.now.run.steps self.new) }
+        ensures settled { OnOk result (world_in spec.now.run.steps (staged_of self.new) ≡ settle (world_in spec.now.run.steps (staged_of self.old))) }
+        ensures stage { OnOk result (IsStage spec.now.run.steps (staged_of self.new)) }
         ensures count { OnOk result (length self.new.members.items ≡ length self.old.members.items) }
         ensures told { OnOk result (told.new
-            ≡ told.old ++ telling.settling spec.now.run.steps (world_in spec.now.run.steps self.old)) }
+            ≡ told.old ++ telling.settling spec.now.run.steps (world_in spec.now.run.steps (staged_of self.old))) }
     {
         'ripe: while let Some(session) = self.locks.next_grant() {
             self.resume_told(alloc, spec, session, told)?;
@@ -310,11 +299,11 @@ impl Stage {
         told: &mut Items<Moment>,
     ) -> Result<(), AllocError>
         requires known { step < length spec.now.run.steps }
-        requires settled { IsSettled spec.now.run.sessions spec.now.run.steps self.old }
-        ensures sent { OnOk result (world_in spec.now.run.steps self.new ≡ send spec.now.run.steps (world_in spec.now.run.steps self.old) step) }
-        ensures settled { OnOk result (IsSettled spec.now.run.sessions spec.now.run.steps self.new) }
+        requires settled { IsSettled spec.now.run.sessions spec.now.run.steps (staged_of self.old) }
+        ensures sent { OnOk result (world_in spec.now.run.steps (staged_of self.new) ≡ send spec.now.run.steps (world_in spec.now.run.steps (staged_of self.old)) step) }
+        ensures settled { OnOk result (IsSettled spec.now.run.sessions spec.now.run.steps (staged_of self.new)) }
         ensures told { OnOk result (told.new
-            ≡ told.old ++ moments.moments spec.now.run.steps (world_in spec.now.run.steps self.old) step) }
+            ≡ told.old ++ moments.moments spec.now.run.steps (world_in spec.now.run.steps (staged_of self.old)) step) }
     {
         let session = spec.session_of(step);
         if self.locks.waits(session) {

@@ -6,11 +6,13 @@ ghost use Rattle.machine_model.specs.Start.{Start, Started, start};
 ghost use Rattle.machine_model.specs.World.{send_all};
 ghost use Rattle.machine_model.specs.Outcome.{IsOutcomeOf, outcome_of_line};
 ghost use Rattle.serial_history.specs.Serial.{IsSerial};
-ghost use Rattle.session_machine.specs.Running.{IsRefusedBy, IsNotRunBy};
+ghost use Rattle.session_machine.specs.Running.{IsNotRunBy};
+ghost use Rattle.session_steps.specs.Refused.{IsRefusedBy};
 
-use crate::error::{RunError, SendError, StartError};
+use crate::error::RunError;
 use crate::world::World;
 use bound_specs::{Line, Spec};
+use session_steps::{SendError, StartError};
 use std::alloc::Global;
 use transcripts::Outcome;
 

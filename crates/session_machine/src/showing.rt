@@ -8,24 +8,26 @@ ghost use Rattle.machine_model.specs.Start.{Start, Started, start};
 ghost use Rattle.machine_model.specs.World.{send, send_all};
 ghost use Rattle.session_machine.specs.Running.{IsNotRunBy};
 ghost use Rattle.session_machine.specs.Showing as spec;
-ghost use Rattle.session_machine.specs.Stage.{IsWithin};
+ghost use Rattle.session_machine.specs.SharedStage.{staged_of};
+ghost use Rattle.session_steps.specs.Stage.{IsWithin};
 
-use crate::error::{RunError, SendError};
+use crate::error::RunError;
 use crate::leaving::{committed, lefts_of};
 use crate::runs::not_started;
-use crate::stage::Stage;
+use crate::stage::SharedStage;
 use crate::world::World;
 use binding_model::Table;
 use bound_specs::Spec;
 use line_moments::{Begun, Left, Moment, Shown, Standing};
+use session_steps::{SendError, Stage};
 use sqlite_items::Items;
 use std::alloc::{AllocError, Global};
 
-impl Stage {
+impl SharedStage {
     /// How so many sessions stand, and what they hold, in their order.
     pub(crate) fn begun(&self, alloc: Global, sessions: u8) -> Result<Items<Begun>, AllocError>
         requires { sessions ≤ length self.now.members.items }
-        ensures { IfOk result (λ begun. begun ≡ spec.begun_in sessions self.now) }
+        ensures { IfOk result (λ begun. begun ≡ spec.begun_in sessions (staged_of self.now)) }
     {
         let mut all = Items::new(alloc);
         for session in 0..sessions {
@@ -46,7 +48,7 @@ impl Stage {
         count: u8,
     ) -> Result<Items<Standing>, AllocError>
         requires { sessions ≤ length self.now.members.items }
-        ensures { IfOk result (λ standings. standings ≡ spec.standings_in sessions count self.now) }
+        ensures { IfOk result (λ standings. standings ≡ spec.standings_in sessions count (staged_of self.now)) }
     {
         let mut all = Items::new(alloc);
         for session in 0..sessions {

@@ -6,11 +6,9 @@ ghost use Rattle.lock_queues.specs.Reasons.{same_edges};
 ghost use Rattle.lock_queues.specs.Rules.{wait_of};
 ghost use Rattle.session_machine.specs.Telling as spec;
 
-use crate::session::SessionState;
 use finite_maps::Fork;
 use line_moments::{Change, Still};
 use lock_queues::{Edge, LockTable};
-use machine_model::Status;
 use sqlite_items::Items;
 use std::alloc::{AllocError, Global};
 use transcripts::{Event, Log, Transcript};
@@ -153,19 +151,6 @@ pub(crate) fn still_of(
         }
     }
     Ok(still)
-}
-
-/// A session of this status that was told of nothing but this.
-pub(crate) fn told_only(
-    alloc: Global,
-    status: Status,
-    event: Event,
-) -> Result<SessionState, AllocError>
-    ensures { IfOk result (λ state. state ≡ record { status = status; transcript = event ∷ [] }) }
-{
-    let mut transcript = Log::new(alloc);
-    transcript.push(event)?;
-    Ok(SessionState { status, transcript })
 }
 
 /// What is had where the wait of a session is granted.

@@ -1,6 +1,6 @@
 //! What a session comes to while it goes: the locks that it gets and lets go, and why it is refused a request, if it is.
 
-ghost use Rattle.std.specs.Prelude.{◌≡◌, ◌++◌, ◌<◌, ℕ, All, IfOk, OnOk, true, false, drop, None};
+ghost use Rattle.std.specs.Prelude.{◌≡◌, ◌++◌, ◌<◌, All, IfOk, OnOk, length, true, false, drop, None};
 ghost use Rattle.bound_statements.specs.Plan as plan;
 ghost use Rattle.bound_statements.specs.Plan.{HasKeys, IsShort};
 ghost use Rattle.line_moments.specs.Moments as moments;
@@ -9,19 +9,20 @@ ghost use Rattle.lock_queues.specs.Laws.{IsBelow};
 ghost use Rattle.lock_queues.specs.Locks.{waits_now, closes_ring};
 ghost use Rattle.lock_queues.specs.LockTable.{look_in, queued, slice};
 ghost use Rattle.machine_model.specs.Session.{Held, kind};
-ghost use Rattle.session_machine.specs.Going.{standing, tasks_from, IsToAsk, IsToGo};
+ghost use Rattle.session_machine.specs.SharedStage.{staged_of};
 ghost use Rattle.session_machine.specs.Tracing.{Traces, TracesAsking, had_by, refusal_at};
+ghost use Rattle.session_steps.specs.Going.{tasks_from, IsToAsk, IsToGo};
+ghost use Rattle.session_steps.specs.Stage.{standing_at};
+ghost use Rattle.session_steps.specs.State.{SessionState};
 
 use crate::asking::ask_one;
-use crate::performing::perform;
-use crate::session::SessionState;
-use crate::stepping::Point;
+use crate::stage::SharedStage;
 use bound_statements::{Bound, lock_plan, nowait};
 use line_moments::{Change, Refusal};
 use lock_modes::{Mode, Place, Resource};
 use lock_queues::LockTable;
 use machine_model::{Reply, Status};
-use row_tables::Store;
+use session_steps::{Point, Stage, perform};
 use sqlite_items::Items;
 use std::alloc::{AllocError, Global};
 
@@ -152,13 +153,14 @@ fn refusal_of(
     Ok(Refusal::Closes(Items::from_vec(ring)))
 }
 
-/// Asks for the locks of a statement as `ask_all`, and tells those that are had, and where one is refused, why and what is let go.
+/// Asks for the locks of a statement in the order of its plan, from the request with this number on, until one is not had. Tells those that are had, and
+/// where one is refused, why and what is let go.
 fn trace_asks(
     alloc: Global,
     count: u8,
     locks: &mut LockTable,
     session: u8,
-    state: &SessionState,
+    status: Status,
     statement: &Bound,
     first: u8,
     trace: &mut Trace,
@@ -169,13 +171,14 @@ fn trace_asks(
     requires known { session < count }
     requires below { IsBelow count locks.old }
     requires whole { trace.old.refusal ≡ None }
-    ensures { IfOk result (TracesAsking count session locks.old state.now statement.now first locks.new trace.old.changes trace.new) }
+    ensures { IfOk result (λ course. (s : SessionState) → s.status ≡ status
+        → TracesAsking count session locks.old s statement.now first locks.new trace.old.changes trace.new course) }
 {
     for number in first..u8::MAX {
         let Some((place, mode)) = lock_plan(statement, number) else {
             return Ok(Course::AllHad);
         };
-        if state.status.is_broken() {
+        if status.is_broken() {
             let gone = let_go(alloc, locks, session)?;
             trace.changes.append(gone)?;
             return Ok(Course::Stops);
@@ -195,47 +198,54 @@ fn trace_asks(
     Ok(Course::AllHad)
 }
 
-/// Goes on with statements as `go_on`, and tells what that comes to behind these changes.
+/// Goes on with statements from a request of one of them, as a step does, and tells what that comes to behind these changes.
 pub(crate) fn trace_on(
     alloc: Global,
     count: u8,
-    store: &mut Store,
-    locks: &mut LockTable,
+    stage: &mut SharedStage,
     session: u8,
-    state: &mut SessionState,
     statements: &[Bound],
     from: Point,
     changes: Items<Change>,
 ) -> Result<Trace, AllocError>
     requires keys { All HasKeys statements.now }
     requires short { All IsShort statements.now }
-    requires ready { IsToGo session store.old locks.old statements.now from.statement from.request }
+    requires ready { IsToGo session stage.old.store stage.old.locks statements.now from.statement from.request }
+    requires inside { session < length stage.old.members.items }
     requires known { session < count }
-    requires below { IsBelow count locks.old }
-    ensures { IfOk result (Traces count session changes (standing store.old locks.old state.old) (tasks_from (drop from.statement statements.now) from.request)) }
+    requires below { IsBelow count stage.old.locks }
+    ensures { IfOk result (Traces count session changes (standing_at session (staged_of stage.old)) (tasks_from (drop from.statement statements.now) from.request)) }
 {
     let mut trace = Trace::of(changes);
     let mut request = from.request;
     for number in from.statement..statements.len() {
         let statement = &statements[number];
+        let status = stage.status(session);
         match trace_asks(
-            alloc, count, locks, session, state, statement, request, &mut trace,
+            alloc,
+            count,
+            &mut stage.locks,
+            session,
+            status,
+            statement,
+            request,
+            &mut trace,
         )? {
             Course::AllHad => {}
             Course::Stops => return Ok(trace),
         }
-        locks.known();
-        let gone = let_go(alloc, locks, session)?;
-        if let Some(_fault) = perform(alloc, store, locks, session, state, statement)? {
+        stage.sound();
+        let gone = let_go(alloc, &stage.locks, session)?;
+        if let Some(_fault) = perform(alloc, stage, session, statement)? {
             trace.changes.append(gone)?;
             return Ok(trace);
         }
         trace.changes.append(did_changes(alloc, statement, gone))?;
         request = 0;
     }
-    let gone = let_go(alloc, locks, session)?;
+    let gone = let_go(alloc, &stage.locks, session)?;
     trace
         .changes
-        .append(end_changes(alloc, state.status, gone))?;
+        .append(end_changes(alloc, stage.status(session), gone))?;
     Ok(trace)
 }

@@ -9,18 +9,18 @@ ghost use Rattle.line_moments.specs.Moments.{moments, line_moments};
 ghost use Rattle.machine_model.specs.World.{send, send_all, outcome_of};
 ghost use Rattle.machine_model.specs.Outcome.{IsOutcomeOf};
 ghost use Rattle.machine_model.specs.Start.{Started, start};
-ghost use Rattle.session_machine.specs.Stage.{transcripts_of};
-ghost use Rattle.session_machine.specs.Running.{IsKnown, IsRefusedBy, held_in, wait_in};
+ghost use Rattle.session_machine.specs.Running.{IsKnown, held_in, wait_in};
+ghost use Rattle.session_steps.specs.Refused.{IsRefusedBy};
+ghost use Rattle.session_steps.specs.Stage.{transcripts_of};
 
-use crate::error::{SendError, StartError};
 use crate::member::Member;
-use crate::setups::{main_setups, session_setups};
-use crate::stage::Stage;
+use crate::stage::SharedStage;
 use binding_model::Table;
 use bound_specs::Spec;
 use finite_maps::Fork;
 use line_moments::{Begun, Left, Moment, Shown, Standing};
 use lock_modes::{Mode, Place};
+use session_steps::{SendError, StartError, run_setups, send};
 use sqlite_items::Items;
 use std::alloc::{AllocError, Global};
 use std::marker::Model;
@@ -30,7 +30,7 @@ use transcripts::{Outcome, Transcript};
 pub struct World<'a> {
     spec: &'a Spec,
     alloc: Global,
-    stage: Stage,
+    stage: SharedStage,
     is_spent: bool,
 }
 
@@ -54,16 +54,17 @@ impl<'a> Model for World<'a> {
     ghost use Rattle.lock_queues.specs.contracts.wait.Wait as waiting;
     ghost use Rattle.bound_statements.specs.contracts.statement.Bound as bound;
     ghost use Rattle.transcripts.specs.contracts.event.Event as event;
-    ghost use Rattle.session_machine.specs.Stage.{world_in, IsSettledUnless};
+    ghost use Rattle.session_steps.specs.Stage.{world_in, IsSettledUnless};
+    ghost use Rattle.session_machine.specs.SharedStage.{staged_of};
     ghost use Rattle.session_machine.specs.Running.{Running};
 
     ghost Value = { Running };
 
     ghost coded = { Prim.hlevel (codes, map_code, value.the_row.coded, bound.the_row.coded, resource.the_row.coded, waiting.the_row.coded, event.the_row.coded) };
 
-    ghost view = { λ w. record { file = w.spec.now; world = world_in w.spec.now.run.steps w.stage; spent = w.is_spent } };
+    ghost view = { λ w. record { file = w.spec.now; world = world_in w.spec.now.run.steps (staged_of w.stage); spent = w.is_spent } };
 
-    ghost invariant = { λ w. IsSettledUnless w.is_spent w.spec.now.run.sessions w.spec.now.run.steps w.stage };
+    ghost invariant = { λ w. IsSettledUnless w.is_spent w.spec.now.run.sessions w.spec.now.run.steps (staged_of w.stage) };
 }
 
 impl<'a> World<'a> {
@@ -75,11 +76,8 @@ impl<'a> World<'a> {
         ensures whole { IfOk result (λ world. world.spent ≡ false) }
         ensures refused { IfErr result (λ error. IsRefusedBy error (start spec.now.run)) }
     {
-        let control = spec.sessions();
-        let own = spec.session_setups();
-        let stage = Stage::new(alloc, control + 1)?;
-        let stage = main_setups(alloc, stage, control, spec.setups())?;
-        let stage = session_setups(alloc, stage, own)?;
+        let mut stage = SharedStage::new(alloc, spec.sessions() + 1)?;
+        run_setups(alloc, &mut stage, spec)?;
         Ok(World {
             spec,
             alloc,
@@ -128,7 +126,7 @@ impl World<'_> {
             return Err(SendError::Spent);
         }
         self.is_spent = true;
-        self.stage.send(self.alloc, self.spec, step)?;
+        send(self.alloc, &mut self.stage, self.spec, step)?;
         self.is_spent = false;
         Ok(())
     }
@@ -282,7 +280,7 @@ fn transcripts_of(alloc: Global, members: &[Member]) -> Result<Vec<Transcript>, 
 {
     let mut transcripts = Vec::with_capacity(alloc, members.len())?;
     for member in members {
-        transcripts.push(member.state.transcript.to_transcript()?)?;
+        transcripts.push(member.log().to_transcript()?)?;
     }
     Ok(transcripts)
 }

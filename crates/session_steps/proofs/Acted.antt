@@ -16,6 +16,7 @@ use Rattle.session_steps.specs.Acting as act
 use Rattle.session_steps.specs.Going.{Standing, standing, tasks_from, told, failed_in, StopsIn, WaitsIf, GoesUntil}
 use Rattle.session_steps.specs.Stage.{Member, Staged, no_member, member_at, note_member, standing_at, others, with_rest, statements_of, rest_of, rest_at}
 use Rattle.session_steps.specs.Stage.{own_of, RestIsOf, HasTold, HasGone}
+use Rattle.session_steps.proofs.Stages.{get_or-any}
 
 -- ---- the other sessions
 
@@ -38,6 +39,16 @@ others-rest i x y lt same =
     (sym (get_or-set_same y.members i (record { state = no_member.state; rest = (member_at y i).rest }) no_member there)
     ∙ ap (λ ms. get_or ms i no_member) same
     ∙ get_or-set_same x.members i (record { state = no_member.state; rest = (member_at x i).rest }) no_member lt)
+
+-- a session is changed but for what is left of its step
+pub others-still : (i : ℕ) (x : Staged) (r m : Member) → i < length x.members → r ≡ get_or x.members i r → m.rest ≡ r.rest
+    → others i (record x { members = set x.members i m }) ≡ others i x
+others-still i x r m lt here same =
+    let there : (get_or (set x.members i m) i no_member).rest ≡ (member_at x i).rest =
+    ap (λ (q : Member). q.rest) (get_or-set_same x.members i m no_member lt) ∙ same
+    ∙ ap (λ (q : Member). q.rest) (here ∙ get_or-any x.members i r no_member lt) in
+    (λ k. set (set x.members i m) i (record { state = no_member.state; rest = there k }))
+    ∙ set-set x.members i m (record { state = no_member.state; rest = (member_at x i).rest })
 
 -- a session is told of an event
 pub told-there : (i : ℕ) (e : Event) (x y : Staged) → i < length x.members → standing_at i y ≡ told (standing_at i x) e → others i y ≡ others i x → HasTold i e x y

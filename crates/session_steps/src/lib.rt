@@ -13,6 +13,7 @@ mod stepping;
 
 pub use asking::Asked;
 pub use error::{SendError, StartError};
+pub use performing::perform;
 pub use point::{Origin, Point, Rest};
 pub use sending::{resume, send, start_step};
 pub use setups::{SetUp, main_setups, run_setups, session_setups};

@@ -14,7 +14,7 @@ use std::alloc::{AllocError, Global};
 use transcripts::Fault;
 
 /// Does a statement whose requests are had. Where it fails, its fault is returned and nothing is changed.
-pub(crate) fn perform<S: Stage>(
+pub fn perform<S: Stage>(
     alloc: Global,
     stage: &mut S,
     session: u8,

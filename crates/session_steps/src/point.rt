@@ -20,7 +20,7 @@ pub struct Point {
 
 impl Point {
     /// The first request of the first statement.
-    pub(crate) fn start() -> Point
+    pub fn start() -> Point
         ensures { result ≡ record { statement = 0; request = 0 } }
     {
         Point {

@@ -15,7 +15,7 @@ use Rattle.rank_facts.specs.declared.shard.Shard.{Shard}
 use Rattle.rank_facts.specs.Shards.{IsShardOf}
 use Rattle.session_machine.specs.declared.error.RunError.{RunError}
 use Rattle.session_machine.specs.declared.error.RunError.TheVariants as run_error
-use Rattle.session_machine.specs.declared.error.StartError.TheVariants as start_error
+use Rattle.session_steps.specs.declared.error.StartError.TheVariants as start_error
 use Rattle.step_reducer.specs.Walking.{IsNotWalked, Starts}
 use Rattle.fact_books.specs.Entries.{FactSet}
 use Rattle.fact_books.specs.Books.{Contents}

@@ -6,7 +6,7 @@ use Rattle.std.proofs.lemmas.List.Folds.{list_all-append}
 use Rattle.bound_statements.specs.Plan.{Request, plan}
 use Rattle.bound_statements.specs.declared.statement.Bound.{Bound}
 use Rattle.machine_model.specs.Claims.{plans}
-use Rattle.session_machine.proofs.Requests.{plan-ends, plan-next}
+use Rattle.session_steps.proofs.Requests.{plan-ends, plan-next}
 
 module _ (test : Request → Bool) where
   -- all pass where those from this number on do

@@ -3,18 +3,19 @@ use Rattle.row_tables.specs.Layers.{Layers}
 use Rattle.bound_statements.specs.Plan.{plan, nowait}
 use Rattle.lock_queues.specs.Laws.{IsBelow}
 use Rattle.machine_model.specs.Session.{Task, asks}
-use Rattle.session_machine.specs.Going.{standing, IsToAsk, GoesOnTo}
+use Rattle.session_steps.specs.State.{SessionState}
+use Rattle.session_steps.specs.Going.{standing, IsToAsk, GoesOnTo}
 use Rattle.session_machine.specs.Tracing.{TracesOn}
 use Rattle.session_machine.proofs.trace.trace_asks.Given as goal
 
 -- the requests so far are had
 abbrev pub invariant-loop-number : goal.invariant-loop-number
 invariant-loop-number l = record {
-  goes : (layers : Layers) (ts : List Task) → GoesOnTo l.session (standing layers l.initial.locks l.state) (asks (nowait l.statement) (drop l.first (plan l.statement)) ts)
-      (standing layers l.locks l.state) (asks (nowait l.statement) (drop l.number (plan l.statement)) ts);
-  traces : (layers : Layers) (ts : List Task) → TracesOn l.count l.session l.initial.trace.changes (standing layers l.initial.locks l.state)
+  goes : (s : SessionState) → s.status ≡ l.status → (layers : Layers) (ts : List Task) → GoesOnTo l.session (standing layers l.initial.locks s) (asks (nowait l.statement) (drop l.first (plan l.statement)) ts)
+      (standing layers l.locks s) (asks (nowait l.statement) (drop l.number (plan l.statement)) ts);
+  traces : (s : SessionState) → s.status ≡ l.status → (layers : Layers) (ts : List Task) → TracesOn l.count l.session l.initial.trace.changes (standing layers l.initial.locks s)
       (asks (nowait l.statement) (drop l.first (plan l.statement)) ts)
-      l.trace.changes (standing layers l.locks l.state) (asks (nowait l.statement) (drop l.number (plan l.statement)) ts);
+      l.trace.changes (standing layers l.locks s) (asks (nowait l.statement) (drop l.number (plan l.statement)) ts);
   ready : IsToAsk l.session l.locks l.statement l.number;
   below : IsBelow l.count l.locks;
   whole : l.trace.refusal ≡ None;

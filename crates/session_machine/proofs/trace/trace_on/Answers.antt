@@ -1,16 +1,18 @@
-use Rattle.std.proofs.Common.{◌≡◌, ◌++◌, ◌+◌, sym, ap, ◌∙◌, subst, List, drop, [], ◌∷◌, None, drop-cons, add-one}
+use Rattle.std.proofs.Common.{◌≡◌, ◌++◌, ◌+◌, sym, ap, ◌∙◌, subst, ◌<◌, List, drop, [], ◌∷◌, None, drop-cons, add-one}
 use Rattle.lock_queues.specs.Locks.{waits_now}
 use Rattle.lock_queues.specs.LockTable.{slice}
 use Rattle.line_moments.specs.Moments.{let_go, did_changes}
 use Rattle.line_moments.specs.declared.moment.Change.{Change}
 use Rattle.machine_model.specs.Session.{kind}
 use Rattle.session_machine.specs.declared.trace.Trace.{Trace}
-use Rattle.session_machine.specs.Going.{standing, tasks_from, Does}
+use Rattle.session_steps.specs.Going.{standing, tasks_from, Does}
+use Rattle.session_steps.specs.Stage.{member_at, standing_at}
+use Rattle.session_machine.specs.SharedStage.{staged_of}
 use Rattle.session_machine.specs.Tracing.{Traces, TracesOn, TracesAsking}
-use Rattle.session_machine.proofs.Going.{sees-alone}
-use Rattle.session_machine.proofs.Moves.{goes-there}
-use Rattle.session_machine.proofs.States.{same-trans}
-use Rattle.session_machine.proofs.Steps.{to-ask, still-under, next-to-go, done-then}
+use Rattle.session_steps.proofs.Going.{sees-alone}
+use Rattle.session_steps.proofs.Moves.{goes-there}
+use Rattle.session_steps.proofs.States.{same-trans}
+use Rattle.session_steps.proofs.Steps.{to-ask, still-under, next-to-go, done-then}
 use Rattle.session_machine.proofs.Tracing.{below-still, stops-trace, done-trace-then, fails-trace-then}
 use Rattle.session_machine.proofs.trace.trace_on.Goals as goal
 
@@ -22,7 +24,7 @@ trace_asks-requires-clause-ready c =
     let st = c.index-statements-number.result in
     let here : drop k sts ≡ st ∷ drop (k + 1) sts = drop-cons sts k st c.loop-number-test.true
     ∙ (λ j. sym c.index-statements-number.is j ∷ drop (sym (add-one k) j) sts) in
-    to-ask i c.loop-number.store c.loop-number.locks sts k c.loop-number.request st here c.loop-number.invariant.ready
+    to-ask i c.loop-number.stage.store c.loop-number.stage.locks sts k c.loop-number.request st here c.loop-number.invariant.ready
 
 -- a request waits or is refused
 pub returns-in-Stops : goal.returns-in-Stops
@@ -31,41 +33,41 @@ returns-in-Stops c =
     let sts = c.args.statements.now in
     let k = c.loop-number.number in
     let n = c.loop-number.request in
-    let l = c.loop-number.store in
-    let t = c.loop-number.locks in
-    let s = c.loop-number.state in
+    let l = c.loop-number.stage.store in
+    let t = c.loop-number.stage.locks in
+    let s = (member_at (staged_of c.loop-number.stage) i).state in
     let st = c.index-statements-number.result in
     let here : drop k sts ≡ st ∷ drop (k + 1) sts = drop-cons sts k st c.loop-number-test.true
     ∙ (λ j. sym c.index-statements-number.is j ∷ drop (sym (add-one k) j) sts) in
-    let x = standing c.args.store.now c.args.locks.now c.args.state.now in
+    let x = standing_at i (staged_of c.args.stage.now) in
     let first = tasks_from (drop c.args.from.statement sts) c.args.from.request in
     let cs = c.loop-number.trace.changes in
-    let stops = subst (TracesAsking c.args.count i t s st n c.trace_asks.new.locks cs c.trace_asks.new.trace) c.in-Stops.is c.in_ok-trace_asks.ensures in
+    let stops = subst (TracesAsking c.args.count i t s st n c.trace_asks.new.locks cs c.trace_asks.new.trace) c.in-Stops.is (c.in_ok-trace_asks.ensures s (sym c.status-status.ensures)) in
     stops-trace c.args.count i c.args.changes x (standing l t s) first sts k n st cs here c.loop-number.invariant.came c.loop-number.invariant.traced c.trace_asks.new.trace
     (stops l)
 
 pub perform-requires-clause-idle : goal.perform-requires-clause-idle
 perform-requires-clause-idle c =
     let i = c.args.session in
-    let t = c.loop-number.locks in
-    let s = c.loop-number.state in
+    let t = c.loop-number.stage.locks in
+    let s = (member_at (staged_of c.loop-number.stage) i).state in
     let st = c.index-statements-number.result in
     let had = subst (TracesAsking c.args.count i t s st c.loop-number.request c.trace_asks.new.locks c.loop-number.trace.changes c.trace_asks.new.trace)
-    c.in-AllHad.is c.in_ok-trace_asks.ensures in
-    ap (λ ws. waits_now ws i) (had.goes c.loop-number.store []).waits ∙ c.loop-number.invariant.ready.idle
+    c.in-AllHad.is (c.in_ok-trace_asks.ensures s (sym c.status-status.ensures)) in
+    ap (λ ws. waits_now ws i) (had.goes c.loop-number.stage.store []).waits ∙ c.loop-number.invariant.ready.idle
 
 -- the session holds what the statement asks for, and the others write under their locks
 pub perform-requires-clause-alone : goal.perform-requires-clause-alone
 perform-requires-clause-alone c =
     let i = c.args.session in
-    let l = c.loop-number.store in
-    let t = c.loop-number.locks in
-    let s = c.loop-number.state in
+    let l = c.loop-number.stage.store in
+    let t = c.loop-number.stage.locks in
+    let s = (member_at (staged_of c.loop-number.stage) i).state in
     let st = c.index-statements-number.result in
     let u = c.trace_asks.new.locks in
     let had = subst (TracesAsking c.args.count i t s st c.loop-number.request u c.loop-number.trace.changes c.trace_asks.new.trace)
-    c.in-AllHad.is c.in_ok-trace_asks.ensures in
-    sees-alone i st l u c.known.ensures.together (still-under i l l t u (had.goes l []).others c.loop-number.invariant.ready.under) had.holds
+    c.in-AllHad.is (c.in_ok-trace_asks.ensures s (sym c.status-status.ensures)) in
+    sees-alone i st l u c.sound.ensures.together (still-under i l l t u (had.goes l []).others c.loop-number.invariant.ready.under) had.holds
 
 -- the statement fails
 pub returns-in-Some : goal.returns-in-Some
@@ -74,20 +76,20 @@ returns-in-Some c =
     let sts = c.args.statements.now in
     let k = c.loop-number.number in
     let n = c.loop-number.request in
-    let l = c.loop-number.store in
-    let t = c.loop-number.locks in
-    let s = c.loop-number.state in
+    let l = c.loop-number.stage.store in
+    let t = c.loop-number.stage.locks in
+    let s = (member_at (staged_of c.loop-number.stage) i).state in
     let st = c.index-statements-number.result in
     let here : drop k sts ≡ st ∷ drop (k + 1) sts = drop-cons sts k st c.loop-number-test.true
     ∙ (λ j. sym c.index-statements-number.is j ∷ drop (sym (add-one k) j) sts) in
-    let x = standing c.args.store.now c.args.locks.now c.args.state.now in
+    let x = standing_at i (staged_of c.args.stage.now) in
     let first = tasks_from (drop c.args.from.statement sts) c.args.from.request in
     let cs = c.loop-number.trace.changes in
     let ds = c.trace_asks.new.trace.changes in
     let u = c.trace_asks.new.locks in
-    let had = subst (TracesAsking c.args.count i t s st n u cs c.trace_asks.new.trace) c.in-AllHad.is c.in_ok-trace_asks.ensures in
+    let had = subst (TracesAsking c.args.count i t s st n u cs c.trace_asks.new.trace) c.in-AllHad.is (c.in_ok-trace_asks.ensures s (sym c.status-status.ensures)) in
     let z = standing l u s in
-    let w = standing c.perform.new.store c.perform.new.locks c.perform.new.state in
+    let w = standing_at i (staged_of c.perform.new.stage) in
     let fails = subst (Does i z st w) c.in-Some.is c.in_ok-_fault.ensures.does in
     let ended : record { changes = ds ++ let_go (slice i u.held); refusal = None }
     ≡ record { changes = c.append.new.self; refusal = c.trace_asks.new.trace.refusal } =
@@ -106,20 +108,20 @@ loop-number-preserved c =
     let sts = c.args.statements.now in
     let k = c.loop-number.number in
     let n = c.loop-number.request in
-    let l = c.loop-number.store in
-    let t = c.loop-number.locks in
-    let s = c.loop-number.state in
+    let l = c.loop-number.stage.store in
+    let t = c.loop-number.stage.locks in
+    let s = (member_at (staged_of c.loop-number.stage) i).state in
     let st = c.index-statements-number.result in
     let here : drop k sts ≡ st ∷ drop (k + 1) sts = drop-cons sts k st c.loop-number-test.true
     ∙ (λ j. sym c.index-statements-number.is j ∷ drop (sym (add-one k) j) sts) in
-    let x = standing c.args.store.now c.args.locks.now c.args.state.now in
+    let x = standing_at i (staged_of c.args.stage.now) in
     let first = tasks_from (drop c.args.from.statement sts) c.args.from.request in
     let cs = c.loop-number.trace.changes in
     let ds = c.trace_asks.new.trace.changes in
     let u = c.trace_asks.new.locks in
-    let had = subst (TracesAsking c.args.count i t s st n u cs c.trace_asks.new.trace) c.in-AllHad.is c.in_ok-trace_asks.ensures in
+    let had = subst (TracesAsking c.args.count i t s st n u cs c.trace_asks.new.trace) c.in-AllHad.is (c.in_ok-trace_asks.ensures s (sym c.status-status.ensures)) in
     let z = standing l u s in
-    let w = standing c.perform.new.store c.perform.new.locks c.perform.new.state in
+    let w = standing_at i (staged_of c.perform.new.stage) in
     let does = subst (Does i z st w) c.in_default.is c.in_ok-_fault.ensures.does in
     let told : ds ++ did_changes (kind st) (slice i u.held) ≡ c.append-in-loop-number.new.self =
     ap (λ g. ds ++ g) (sym (c.did_changes.ensures (slice i u.held) c.in_ok-gone.ensures)) ∙ sym c.in_ok-append-2.ensures in
@@ -128,9 +130,10 @@ loop-number-preserved c =
       traced = subst (λ (es : List Change). TracesOn c.args.count i c.args.changes x first es w (tasks_from (drop (k + 1) sts) 0)) told
           (done-trace-then c.args.count i c.args.changes x (standing l t s) first sts k n st cs here c.loop-number.invariant.came c.loop-number.invariant.traced z ds
           (had.goes l) (had.traces l) w does);
-      ready = next-to-go i l c.perform.new.store t c.perform.new.locks sts k n
-          (same-trans i l l c.perform.new.store t u c.perform.new.locks (had.goes l []).others does.others) (does.waits
+      ready = next-to-go i l c.perform.new.stage.store t c.perform.new.stage.locks sts k n
+          (same-trans i l l c.perform.new.stage.store t u c.perform.new.stage.locks (had.goes l []).others does.others) (does.waits
           ∙ (had.goes l []).waits) c.loop-number.invariant.ready;
-      below = below-still c.args.count i l c.perform.new.store u c.perform.new.locks had.below c.requires.known does.others does.waits;
+      inside = subst (λ m. i < m) (sym c.in_ok-_fault.ensures.past) c.loop-number.invariant.inside;
+      below = below-still c.args.count i l c.perform.new.stage.store u c.perform.new.stage.locks had.below c.requires.known does.others does.waits;
       whole = had.whole;
     }

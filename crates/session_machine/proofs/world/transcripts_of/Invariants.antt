@@ -1,5 +1,5 @@
 use Rattle.std.proofs.Common.{◌≡◌, take}
-use Rattle.session_machine.specs.Stage.{transcripts_of}
+use Rattle.session_steps.specs.Stage.{transcripts_of}
 use Rattle.session_machine.proofs.world.transcripts_of.Given as goal
 
 -- the transcripts of the sessions so far

@@ -1,6 +1,0 @@
-use Rattle.std.proofs.Common.{◌≡◌}
-use Rattle.session_machine.specs.Showing.{begun_in}
-use Rattle.session_machine.proofs.stage.Stage.begun.Given as goal
-
-abbrev pub invariant-loop-session : goal.invariant-loop-session
-invariant-loop-session l = l.all ≡ begun_in l.session l.self

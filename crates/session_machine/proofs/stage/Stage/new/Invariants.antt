@@ -1,7 +1,0 @@
-use Rattle.std.proofs.Common.{◌≡◌, replicate}
-use Rattle.session_machine.specs.Stage.{no_member}
-use Rattle.session_machine.proofs.stage.Stage.new.Given as goal
-
--- as many as were counted
-abbrev pub invariant-loop-session : goal.invariant-loop-session
-invariant-loop-session l = l.members.items ≡ replicate l._session no_member
