@@ -156,7 +156,10 @@ fn assert_spent(rt: &impl Abort, world: &mut MarkedWorld<'_>, step: u8)
     ensures { world.new.marked ≡ world.old.marked }
 {
     assert!(rt; world.spent(), "a step without memory");
-    assert_is_spent(rt, send(rt, world, step).err().expect(rt, "no step is sent"));
+    assert_is_spent(
+        rt,
+        send(rt, world, step).err().expect(rt, "no step is sent"),
+    );
     assert_is_spent(rt, world.mark().err().expect(rt, "no mark is set"));
     assert_is_spent(rt, world.outcome().err().expect(rt, "no outcome"));
 }

@@ -43,7 +43,13 @@ fn text_of(rt: &impl Abort, alloc: Global, spec: &Spec, outcome: &Outcome) -> St
     text_where_memory(rt, alloc, spec, outcome).expect(rt, "a text")
 }
 
-pub(crate) fn assert_outcome(rt: &impl Abort, alloc: Global, spec: &Spec, outcome: &Outcome, want: &str) {
+pub(crate) fn assert_outcome(
+    rt: &impl Abort,
+    alloc: Global,
+    spec: &Spec,
+    outcome: &Outcome,
+    want: &str,
+) {
     let text = text_of(rt, alloc, spec, outcome);
     assert_text(rt, &text, want, "an outcome");
 }

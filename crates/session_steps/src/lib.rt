@@ -16,5 +16,5 @@ pub use error::{SendError, StartError};
 pub use performing::perform;
 pub use point::{Origin, Point, Rest};
 pub use sending::{resume, send, start_step};
-pub use setups::{SetUp, main_setups, run_setups, session_setups};
+pub use setups::{SetUp, run_setups};
 pub use stage::Stage;

@@ -49,7 +49,7 @@ pub fn run_setups<S: Stage>(alloc: Global, stage: &mut S, spec: &Spec) -> Result
 
 /// Runs the main setup blocks in order, each in the control session. The first that fails or leaves a transaction block
 /// open refuses the start.
-pub fn main_setups<S: Stage>(
+pub(crate) fn main_setups<S: Stage>(
     alloc: Global,
     stage: &mut S,
     control: u8,
@@ -79,7 +79,7 @@ pub fn main_setups<S: Stage>(
 }
 
 /// Runs the setup of each session in order. The first that fails or has to wait refuses the start.
-pub fn session_setups<S: Stage>(
+pub(crate) fn session_setups<S: Stage>(
     alloc: Global,
     stage: &mut S,
     blocks: &[Block],
