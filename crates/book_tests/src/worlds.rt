@@ -1,5 +1,7 @@
 //! The machine by its calls: a world takes steps, is forked, and tells its outcome and its locks. The tests without memory are
 //! to be read under `rt try --test --fail-alloc` too.
+ghost use Rattle.std.specs.Prelude.{◌≡◌};
+
 use crate::asserts::assert_text;
 use crate::texts::TABLE;
 use bound_specs::Spec;
@@ -127,13 +129,17 @@ fn a_setup_that_fails_refuses_the_start(rt: HostRuntime) {
 }
 
 /// Sends a step of the world's spec.
-fn send(rt: &impl Abort, world: &mut World<'_>, step: u8) -> Result<(), SendError> {
+fn send(rt: &impl Abort, world: &mut World<'_>, step: u8) -> Result<(), SendError>
+    ensures { world.new.file ≡ world.old.file }
+{
     assert!(rt; step < world.spec().steps(), "a step of the spec");
     world.send(step)
 }
 
 /// Sends a step, for which there is memory.
-fn go_on(rt: &impl Abort, world: &mut World<'_>, step: u8) {
+pub(crate) fn go_on(rt: &impl Abort, world: &mut World<'_>, step: u8)
+    ensures { world.new.file ≡ world.old.file }
+{
     send(rt, world, step).expect(rt, "a step is sent");
 }
 

@@ -1,0 +1,4 @@
+pub mod AskedLemmas
+pub mod FitLemmas
+pub mod WaitLemmas
+pub mod QuietLemmas
