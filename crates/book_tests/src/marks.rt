@@ -111,11 +111,11 @@ const LOST_UPDATE_ORDERS: &str =
     "session a setup { BEGIN; } step a1 { UPDATE t SET v = v + 1 WHERE id = 1; } step a2 { COMMIT; }
     session b setup { BEGIN; } step b1 { UPDATE t SET v = v + 10 WHERE id = 1; } step b2 { COMMIT; }";
 
-fn send_all(rt: &impl Abort, world: &mut MarkedWorld<'_>, steps: &[u8])
-    ensures { world.new.marked ≡ world.old.marked }
+fn send_all(rt: &impl Abort, marked: &mut MarkedWorld<'_>, steps: &[u8])
+    ensures { marked.new.marked ≡ marked.old.marked }
 {
     for step in steps {
-        go_on(rt, world, *step);
+        go_on(rt, marked, *step);
     }
 }
 
@@ -174,17 +174,17 @@ fn assert_quiet_alike(
 
 fn assert_quiet_along(
     rt: &impl Abort,
-    world: &mut MarkedWorld<'_>,
+    marked: &mut MarkedWorld<'_>,
     forked: &mut World<'_>,
     pairs: &StepPairs,
     steps: &[u8],
 )
-    requires file { forked.old.file ≡ world.old.file }
-    requires pairs { ArePairs world.old.file.run pairs.now }
+    requires file { forked.old.file ≡ marked.old.file }
+    requires pairs { ArePairs marked.old.file.run pairs.now }
 {
     for step in steps {
-        assert_quiet_alike(rt, world, forked, pairs);
-        go_on(rt, world, *step);
+        assert_quiet_alike(rt, marked, forked, pairs);
+        go_on(rt, marked, *step);
         crate::worlds::go_on(rt, forked, *step);
     }
 }
@@ -204,7 +204,7 @@ fn assert_quiet(rt: &impl Abort, alloc: Global, spec: &Spec, rank: u64) -> Optio
 fn steps_are_quiet_as_in_forked_worlds(rt: HostRuntime) {
     for (sessions, count) in &ORDERS {
         let spec = spec_of(&rt, rt.alloc(), sessions);
-        for rank in [0, *count / 2, *count - 1] {
+        for rank in [0, *count / 2, count.saturating_sub(1)] {
             assert_quiet(&rt, rt.alloc(), &spec, rank).expect(&rt, "both machines");
         }
     }
