@@ -7,7 +7,7 @@ use Rattle.machine_model.specs.World.{World}
 use Rattle.machine_model.specs.Start.{Started, start}
 use Rattle.rank_facts.specs.Facts.{IsTrueAt}
 use Rattle.rank_facts.specs.declared.fact.Fact.{Fact}
-use Rattle.step_reducer.specs.Paths.{IsPath}
+use Rattle.marked_paths.specs.Paths.{IsPath}
 use Rattle.book_audit.specs.declared.ground.Ground.{Ground}
 use Rattle.book_audit.specs.declared.ground.Ground.TheVariants as ground
 

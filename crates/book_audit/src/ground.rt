@@ -3,21 +3,21 @@
 ghost use Rattle.std.specs.Prelude.{◌≡◌, ◌<◌, length, IfOk, OnOk};
 ghost use Rattle.rank_facts.specs.declared.fact.Fact.TheVariants as fact;
 ghost use Rattle.fact_books.specs.Runs.{IsNumbered, fact_in};
-ghost use Rattle.step_reducer.specs.Paths.{IsPath};
+ghost use Rattle.marked_paths.specs.Paths.{IsPath};
 ghost use Rattle.book_audit.specs.Grounds.{IsGround, IsTrueUntil};
 ghost use Rattle.book_audit.specs.Findings.{IsFirstFalse};
 
 use crate::testing::{is_ran, swap_until};
 use bound_specs::Spec;
 use fact_books::{Run, Tag};
-use session_machine::{StartError, World};
+use marked_paths::MarkedPath;
+use session_steps::StartError;
 use std::alloc::{AllocError, Global};
-use step_reducer::Path;
 use transcripts::Outcome;
 
 /// What facts of a spec are tested on.
 pub(crate) enum Ground<'a> {
-    Started(Path<'a>),
+    Started(MarkedPath<'a>),
     /// The spec does not start: nothing is true.
     Refused,
 }
@@ -36,8 +36,8 @@ impl<'a> Ground<'a> {
     pub(crate) fn of(alloc: Global, spec: &'a Spec) -> Result<Ground<'a>, AllocError>
         ensures { IfOk result (IsGround spec.now) }
     {
-        match World::start(alloc, spec) {
-            Ok(world) => Ok(Ground::Started(Path::new(alloc, spec, world))),
+        match MarkedPath::start(alloc, spec) {
+            Ok(path) => Ok(Ground::Started(path)),
             Err(StartError::NoMemory) => Err(AllocError),
             Err(
                 StartError::SetupFailed { .. }
@@ -95,11 +95,15 @@ impl<'a> Ground<'a> {
 }
 
 /// Behind the rank, if this is its outcome.
-fn ran_until(path: &mut Path<'_>, told: &Outcome, rank: u64) -> Result<Option<u64>, AllocError>
-    requires path { IsPath path.old.spec.now path.old }
+fn ran_until(
+    path: &mut MarkedPath<'_>,
+    told: &Outcome,
+    rank: u64,
+) -> Result<Option<u64>, AllocError>
+    requires path { IsPath path.old.world.file path.old }
     requires last { rank < u64.MAX }
-    ensures path { OnOk result (IsPath path.old.spec.now path.new) }
-    ensures answer { IfOk result (IsTrueUntil path.old.spec.now.run (fact.Ran told.now) rank) }
+    ensures path { OnOk result (IsPath path.old.world.file path.new) }
+    ensures answer { IfOk result (IsTrueUntil path.old.world.file.run (fact.Ran told.now) rank) }
 {
     if is_ran(path, rank, told)? {
         Ok(Some(rank + 1))

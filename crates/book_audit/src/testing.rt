@@ -5,39 +5,42 @@ ghost use Rattle.bound_specs.specs.Spec.{ranks, line_of};
 ghost use Rattle.rank_facts.specs.Facts.{IsTrueAt};
 ghost use Rattle.rank_facts.specs.Swap.{are_quiet_at};
 ghost use Rattle.rank_facts.specs.declared.fact.Fact.TheVariants as fact;
-ghost use Rattle.step_reducer.specs.Paths.{IsPath};
+ghost use Rattle.marked_paths.specs.Paths.{IsPath};
 ghost use Rattle.step_reducer.specs.Reduced.{first_world};
 ghost use Rattle.perm_ranks.specs.Words.{all_words, total};
 ghost use Rattle.book_audit.specs.Grounds.{IsTrueUntil, AreAlikeTo};
 
+use marked_paths::MarkedPath;
 use perm_ranks::{Shape, shared_block, swapped};
 use std::alloc::AllocError;
-use step_reducer::{Path, quiet};
 use transcripts::Outcome;
 
 /// Whether this is the outcome of a rank.
-pub(crate) fn is_ran(path: &mut Path<'_>, rank: u64, told: &Outcome) -> Result<bool, AllocError>
-    requires { IsPath path.old.spec.now path.old }
-    ensures path { OnOk result (IsPath path.old.spec.now path.new) }
-    ensures answer { IfOk result (λ yes. IsTrue yes ↔ IsTrueAt path.old.spec.now.run rank (fact.Ran told.now)) }
+pub(crate) fn is_ran(
+    path: &mut MarkedPath<'_>,
+    rank: u64,
+    told: &Outcome,
+) -> Result<bool, AllocError>
+    requires { IsPath path.old.world.file path.old }
+    ensures path { OnOk result (IsPath path.old.world.file path.new) }
+    ensures answer { IfOk result (λ yes. IsTrue yes ↔ IsTrueAt path.old.world.file.run rank (fact.Ran told.now)) }
 {
     let Some(line) = path.spec().line(rank) else {
         return Ok(false);
     };
     path.go_to(line)?;
-    let outcome = path.outcome()?;
-    Ok(outcome.is_same(told))
+    path.tells(told)
 }
 
 /// Up to which rank the swap at a place is true from this rank on. None where it is not true there.
 pub(crate) fn swap_until(
-    path: &mut Path<'_>,
+    path: &mut MarkedPath<'_>,
     rank: u64,
     place: u8,
 ) -> Result<Option<u64>, AllocError>
-    requires { IsPath path.old.spec.now path.old }
-    ensures path { OnOk result (IsPath path.old.spec.now path.new) }
-    ensures answer { IfOk result (IsTrueUntil path.old.spec.now.run (fact.Swap place) rank) }
+    requires { IsPath path.old.world.file path.old }
+    ensures path { OnOk result (IsPath path.old.world.file path.new) }
+    ensures answer { IfOk result (IsTrueUntil path.old.world.file.run (fact.Swap place) rank) }
 {
     let spec = path.spec();
     let Some(shape) = spec.shape() else {
@@ -57,12 +60,12 @@ pub(crate) fn swap_until(
 }
 
 /// Whether the steps at a place of the line of a rank and behind it are quiet in the world before them.
-fn are_quiet(path: &mut Path<'_>, rank: u64, place: u8) -> Result<bool, AllocError>
-    requires path { IsPath path.old.spec.now path.old }
-    requires has { rank < ranks path.old.spec.now.run }
-    requires steps { place + 1 < length (line_of path.old.spec.now.run rank) }
-    ensures path { OnOk result (IsPath path.old.spec.now path.new) }
-    ensures answer { IfOk result (λ yes. yes ≡ are_quiet_at path.old.spec.now.run (first_world path.old.spec.now.run) rank place) }
+fn are_quiet(path: &mut MarkedPath<'_>, rank: u64, place: u8) -> Result<bool, AllocError>
+    requires path { IsPath path.old.world.file path.old }
+    requires has { rank < ranks path.old.world.file.run }
+    requires steps { place + 1 < length (line_of path.old.world.file.run rank) }
+    ensures path { OnOk result (IsPath path.old.world.file path.new) }
+    ensures answer { IfOk result (λ yes. yes ≡ are_quiet_at path.old.world.file.run (first_world path.old.world.file.run) rank place) }
 {
     let Some(mut line) = path.spec().line(rank) else {
         unreachable!()
@@ -72,7 +75,7 @@ fn are_quiet(path: &mut Path<'_>, rank: u64, place: u8) -> Result<bool, AllocErr
     let next = line[place + 1];
     line.truncate(place);
     path.go_to(line)?;
-    Ok(quiet(path.world(), step, next))
+    Ok(path.is_quiet(step, next))
 }
 
 /// Behind which ranks the words no longer share the letters up to the one behind a place. Words that share them are exchanged alike.

@@ -1,6 +1,6 @@
 //! The sessions of a world, now and at marks.
 
-ghost use Rattle.std.specs.Prelude.{◌≡◌, ◌≤◌, ◌<◌, ◌∷◌, [], IfOk, None, OnErr, OnOk, get_or, length, map, replicate, set, take};
+ghost use Rattle.std.specs.Prelude.{◌≡◌, ◌≤◌, ◌<◌, ◌∷◌, ◌↔◌, [], IfOk, IsTrue, None, OnErr, OnOk, get_or, length, map, replicate, set, take};
 ghost use Rattle.std.specs.List.{list_any};
 ghost use Rattle.row_tables.specs.Layers.{sight};
 ghost use Rattle.statement_evaluation.specs.Effect.{effect};
@@ -10,6 +10,7 @@ ghost use Rattle.session_steps.specs.Stage.{no_member, note_member, transcripts_
 ghost use Rattle.marked_worlds.specs.Members.{silenced, told_all, with_rest, with_status};
 
 use bound_statements::Bound;
+use event_tree::Same;
 use finite_maps::Fork;
 use machine_model::Status;
 use marked_execution::run_statement;
@@ -110,6 +111,36 @@ impl MarkedMembers {
             transcripts.push(self.transcript(alloc, session)?)?;
         }
         Ok(transcripts)
+    }
+
+    /// Whether this is what the session was told.
+    fn is_told(&self, alloc: Global, session: u8, told: &Transcript) -> Result<bool, AllocError>
+        requires { session < length self.now.list }
+        ensures { IfOk result (λ yes. IsTrue yes ↔ (get_or self.now.list session no_member).state.transcript ≡ told.now) }
+    {
+        let events = self.logs.events(alloc, self.logs.log(session))?;
+        Ok(are_same(events.as_slice(), told.events()))
+    }
+
+    /// Whether this is what the first so many sessions were told. Nothing is copied.
+    pub(crate) fn are_told(
+        &self,
+        alloc: Global,
+        count: u8,
+        told: &[Transcript],
+    ) -> Result<bool, AllocError>
+        requires { count ≤ length self.now.list }
+        ensures { IfOk result (λ yes. IsTrue yes ↔ transcripts_of (take count self.now.list) ≡ told.now) }
+    {
+        if told.len() != count as usize {
+            return Ok(false);
+        }
+        for session in 0..count {
+            if !self.is_told(alloc, session, &told[session as usize])? {
+                return Ok(false);
+            }
+        }
+        Ok(true)
     }
 
     pub(crate) fn tell(&mut self, session: u8, event: Event) -> Result<(), AllocError>
@@ -231,6 +262,20 @@ fn is_failure(event: &Event) -> bool
 }
 
 /// A transcript of copies of these.
+fn are_same(events: &[&Event], told: &[Event]) -> bool
+    ensures { IsTrue result ↔ map (λ e. e.now) events.now ≡ told.now }
+{
+    if events.len() != told.len() {
+        return false;
+    }
+    for place in 0..told.len() {
+        if !events[place].is_same(&told[place]) {
+            return false;
+        }
+    }
+    true
+}
+
 fn copied(alloc: Global, events: &[&Event]) -> Result<Transcript, AllocError>
     ensures { IfOk result (λ told. told ≡ map (λ e. e.now) events.now) }
 {

@@ -127,6 +127,14 @@ impl MarkedStage {
         self.members.transcripts(self.alloc, count)
     }
 
+    /// Whether this is what the first so many members were told.
+    pub(crate) fn are_told(&self, count: u8, told: &[Transcript]) -> Result<bool, AllocError>
+        requires { count ≤ length self.now.now.members }
+        ensures { IfOk result (λ yes. IsTrue yes ↔ transcripts_of (take count self.now.now.members) ≡ told.now) }
+    {
+        self.members.are_told(self.alloc, count, told)
+    }
+
     /// Sets a mark. Without memory everything stays as it was.
     pub(crate) fn mark(&mut self) -> Result<(), AllocError>
         ensures marked { OnOk result (self.new ≡ record self.old { marked = self.old.now ∷ self.old.marked }) }

@@ -3,7 +3,7 @@ use Rattle.std.proofs.lemmas.Bool.{false≢true}
 use Rattle.bound_specs.specs.Spec.{SpecFile, ranks, line_of}
 use Rattle.machine_model.specs.World.{send_all, outcome_of}
 use Rattle.step_reducer.specs.Reduced.{first_world}
-use Rattle.step_reducer.proofs.Trails.{path-own, path-told}
+use Rattle.marked_paths.proofs.PathLemmas.{path-own, path-told}
 use Rattle.book_audit.proofs.Tests.{ran-is}
 use Rattle.book_audit.proofs.testing.is_ran.Goals as goal
 
@@ -14,15 +14,16 @@ returns-in_default-clause-answer c = (
   λ fact. absurd (false≢true (c.in_default.ensures.some.1 (subst (λ (f : SpecFile). c.args.rank < ranks f.run) (sym c.spec.ensures) fact.0))),
 )
 
-pub outcome-requires : goal.outcome-requires
-outcome-requires c = path-own c.args.path.now.spec.now c.go_to.new.self c.in_ok-go_to.ensures.path
+pub tells-requires : goal.tells-requires
+tells-requires c = path-own c.args.path.now.world.file c.go_to.new.self c.in_ok-go_to.ensures.path
 
 pub returns-clause-answer : goal.returns-clause-answer
 returns-clause-answer c =
-    let file = c.args.path.now.spec.now in
+    let file = c.args.path.now.world.file in
     let run = file.run in
+    let y = c.go_to.new.self in
     let line = c.in_ok-go_to.ensures.line ∙ c.in-Some.ensures.line ∙ ap (λ (f : SpecFile). line_of f.run c.args.rank) c.spec.ensures in
-    let told = c.in_ok-outcome.ensures ∙ path-told file c.go_to.new.self c.in_ok-go_to.ensures.path
-    ∙ ap (λ ks. outcome_of run.sessions (send_all run.steps (first_world run) ks)) line in
-    ran-is run (first_world run) c.requires.starts c.args.rank c.in_ok-outcome.outcome c.args.told.now c.is_same.result
-    (subst (λ (f : SpecFile). c.args.rank < ranks f.run) c.spec.ensures (c.in-Some.ensures.some.0 refl)) told c.is_same.ensures
+    let told = path-told file y c.in_ok-go_to.ensures.path ∙ ap (λ ks. outcome_of run.sessions (send_all run.steps (first_world run) ks)) line in
+    ran-is run (first_world run) c.requires.starts c.args.rank
+    (outcome_of y.world.file.run.sessions (send_all y.world.file.run.steps (first_world y.world.file.run) y.line.items)) c.args.told.now c.in-Ok.field-0
+    (subst (λ (f : SpecFile). c.args.rank < ranks f.run) c.spec.ensures (c.in-Some.ensures.some.0 refl)) told c.in-Ok.ensures

@@ -9,7 +9,7 @@ use Rattle.book_audit.proofs.testing.swap_until.Goals as goal
 
 pub are_quiet-requires-clause-steps : goal.are_quiet-requires-clause-steps
 are_quiet-requires-clause-steps c =
-    let run = c.args.path.now.spec.now.run in
+    let run = c.args.path.now.world.file.run in
     let rank = c.args.rank in
     let counts = c.in-Some.ensures.counts ∙ ap (λ (f : SpecFile). counts_of (queues_of f.run)) c.spec-spec.ensures in
     let lt = c.in-Some-unrank.ensures.some.0 refl in
@@ -24,7 +24,7 @@ are_quiet-requires-clause-steps c =
 
 pub alike_to-requires-clause-letters : goal.alike_to-requires-clause-letters
 alike_to-requires-clause-letters c =
-    let run = c.args.path.now.spec.now.run in
+    let run = c.args.path.now.world.file.run in
     let rank = c.args.rank in
     let counts = c.in-Some.ensures.counts ∙ ap (λ (f : SpecFile). counts_of (queues_of f.run)) c.spec-spec.ensures in
     let lt = c.in-Some-unrank.ensures.some.0 refl in
@@ -36,7 +36,7 @@ alike_to-requires-clause-letters c =
 
 pub returns-clause-answer : goal.returns-clause-answer
 returns-clause-answer c =
-    let run = c.args.path.now.spec.now.run in
+    let run = c.args.path.now.world.file.run in
     let rank = c.args.rank in
     let counts = c.in-Some.ensures.counts ∙ ap (λ (f : SpecFile). counts_of (queues_of f.run)) c.spec-spec.ensures in
     let lt = c.in-Some-unrank.ensures.some.0 refl in

@@ -1,0 +1,2 @@
+mod AlongLemmas
+pub mod PathLemmas

@@ -1,0 +1,16 @@
+-- What a path tells, by the spec that it is of.
+use Rattle.std.proofs.Common.{◌≡◌, sym, ap, subst}
+use Rattle.bound_specs.specs.Spec.{SpecFile}
+use Rattle.machine_model.specs.World.{send_all, outcome_of}
+use Rattle.step_reducer.specs.Reduced.{first_world}
+use Rattle.marked_paths.specs.Paths.{IsPath}
+use Rattle.marked_paths.specs.declared.path.MarkedPath.{MarkedPath}
+
+-- a path is one of its own spec
+pub path-own : (file : SpecFile) (p : MarkedPath) → IsPath file p → IsPath p.world.file p
+path-own file p is = subst (λ f. IsPath f p) (sym is.file_is) is
+
+pub path-told : (file : SpecFile) (p : MarkedPath) → IsPath file p
+    → outcome_of p.world.file.run.sessions (send_all p.world.file.run.steps (first_world p.world.file.run) p.line.items)
+    ≡ outcome_of file.run.sessions (send_all file.run.steps (first_world file.run) p.line.items)
+path-told file p is = ap (λ (f : SpecFile). outcome_of f.run.sessions (send_all f.run.steps (first_world f.run) p.line.items)) is.file_is

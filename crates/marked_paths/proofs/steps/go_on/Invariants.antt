@@ -1,0 +1,7 @@
+use Rattle.std.proofs.Common.{◌≡◌, take}
+use Rattle.marked_paths.specs.Paths.{IsAlong}
+use Rattle.marked_paths.proofs.steps.go_on.Given as goal
+
+-- so many steps are sent
+abbrev pub invariant-loop-place : goal.invariant-loop-place
+invariant-loop-place l = record { along : IsAlong (take l.place l.line) l.world; file : l.world.file ≡ l.initial.world.file }

@@ -1,0 +1,99 @@
+//! A line with the world behind it.
+
+ghost use Rattle.std.specs.Prelude.{◌≡◌, ◌<◌, ◌↔◌, All, IfErr, IfOk, IsTrue, OnOk, [], get_or, length};
+ghost use Rattle.bound_specs.specs.Spec.{no_step};
+ghost use Rattle.machine_model.specs.Start.{start};
+ghost use Rattle.machine_model.specs.World.{outcome_of, send_all};
+ghost use Rattle.rank_facts.specs.Quiet as quiet;
+ghost use Rattle.session_steps.specs.Refused.{IsRefusedBy};
+ghost use Rattle.step_reducer.specs.Reduced.{first_world};
+ghost use Rattle.marked_paths.specs.Paths.{IsPath};
+
+use crate::front::shared_front;
+use crate::steps::{go_back, go_on};
+use bound_specs::{Line, Spec};
+use marked_quiet::quiet;
+use marked_worlds::MarkedWorld;
+use numbered_specs::SpecNumbers;
+use plan_pairs::StepPairs;
+use session_steps::StartError;
+use std::alloc::{AllocError, Global};
+use std::sync::Arc;
+use transcripts::Outcome;
+
+/// The steps of a spec that were sent last, in a world with a mark before each of them. Lines that begin alike share what was sent of them.
+#[derive(Drop)]
+pub struct MarkedPath<'a> {
+    pub(crate) world: MarkedWorld<'a>,
+    pub(crate) pairs: StepPairs,
+    pub(crate) line: Line,
+}
+
+impl<'a> MarkedPath<'a> {
+    /// No steps yet, in the world in which the spec starts.
+    pub fn start(alloc: Global, spec: &'a Spec) -> Result<MarkedPath<'a>, StartError>
+        ensures path { IfOk result (IsPath spec.now) }
+        ensures line { IfOk result (λ path. path.line.items ≡ []) }
+        ensures refused { IfErr result (λ error. IsRefusedBy error (start spec.now.run)) }
+    {
+        let numbers = SpecNumbers::of_spec(alloc, spec)?;
+        let pairs = StepPairs::of_spec(alloc, spec, &numbers)?;
+        let numbers = shared(alloc, numbers)?;
+        let world = MarkedWorld::start(alloc, spec, numbers)?;
+        Ok(MarkedPath {
+            world,
+            pairs,
+            line: Line::new(),
+        })
+    }
+
+    /// The spec.
+    pub fn spec(&self) -> &'a Spec
+        ensures { result.now ≡ self.now.world.file }
+    {
+        self.world.spec()
+    }
+
+    /// Goes to other steps. Only those behind the front that both lines share are sent. Where memory is refused the path is good for nothing more.
+    pub fn go_to(&mut self, line: Line) -> Result<(), AllocError>
+        requires path { IsPath self.old.world.file self.old }
+        requires known { All (λ k. k < length self.old.world.file.run.steps) line.items }
+        ensures path { OnOk result (IsPath self.old.world.file self.new) }
+        ensures line { OnOk result (self.new.line.items ≡ line.items) }
+    {
+        let shared = shared_front(self.line.as_slice(), line.as_slice());
+        go_back(&mut self.world, self.line.as_slice(), shared);
+        go_on(&mut self.world, line.as_slice(), shared)?;
+        self.line = line;
+        Ok(())
+    }
+
+    /// Whether these are the transcripts behind all steps.
+    pub fn tells(&self, outcome: &Outcome) -> Result<bool, AllocError>
+        requires { IsPath self.now.world.file self.now }
+        ensures { IfOk result (λ yes. IsTrue yes ↔ outcome_of self.now.world.file.run.sessions
+            (send_all self.now.world.file.run.steps (first_world self.now.world.file.run) self.now.line.items) ≡ outcome.now) }
+    {
+        match self.world.tells(outcome) {
+            Ok(yes) => Ok(yes),
+            Err(_) => Err(AllocError),
+        }
+    }
+
+    /// Whether two steps are quiet behind all steps.
+    pub fn is_quiet(&self, step: u8, other: u8) -> bool
+        requires path { IsPath self.now.world.file self.now }
+        requires step { step < length self.now.world.file.run.steps }
+        requires other { other < length self.now.world.file.run.steps }
+        ensures { result ≡ quiet.is_quiet (send_all self.now.world.file.run.steps (first_world self.now.world.file.run) self.now.line.items)
+            (get_or self.now.world.file.run.steps step no_step) (get_or self.now.world.file.run.steps other no_step) }
+    {
+        quiet(&self.world, &self.pairs, step, other)
+    }
+}
+
+fn shared(alloc: Global, numbers: SpecNumbers) -> Result<Arc<SpecNumbers>, AllocError>
+    ensures { IfOk result (λ shared. shared.value ≡ numbers) }
+{
+    Ok(Arc::new(alloc, numbers)?)
+}

@@ -1,0 +1,59 @@
+//! Steps of a line that are sent, each behind a mark, and gone back from.
+
+ghost use Rattle.std.specs.Prelude.{◌≡◌, ◌<◌, ◌≤◌, ◌∷◌, ◌++◌, [], ℕ, All, List, OnOk, false, length, take};
+ghost use Rattle.marked_paths.specs.Paths.{IsAlong};
+
+use marked_worlds::MarkedWorld;
+use std::alloc::AllocError;
+
+/// Goes back from a line to the first so many of its steps.
+pub(crate) fn go_back(world: &mut MarkedWorld<'_>, line: &[u8], shared: usize)
+    requires along { IsAlong line.now world.old }
+    requires inside { shared ≤ length line.now }
+    ensures along { IsAlong (take shared line.now) world.new }
+    ensures file { world.new.file ≡ world.old.file }
+{
+    let mut left = line.len();
+    'later: while left > shared {
+        world.go_back();
+        left -= 1;
+    }
+}
+
+/// Goes on with the steps of a line from this one on.
+pub(crate) fn go_on(world: &mut MarkedWorld<'_>, line: &[u8], from: usize) -> Result<(), AllocError>
+    requires along { IsAlong (take from line.now) world.old }
+    requires known { All (λ k. k < length world.old.file.run.steps) line.now }
+    requires inside { from ≤ length line.now }
+    ensures along { OnOk result (IsAlong line.now world.new) }
+    ensures file { world.new.file ≡ world.old.file }
+{
+    for place in from..line.len() {
+        step_on(world, line[place])?;
+    }
+    Ok(())
+}
+
+/// Sets a mark and sends a step.
+fn step_on(world: &mut MarkedWorld<'_>, step: u8) -> Result<(), AllocError>
+    requires whole { world.old.spent ≡ false }
+    requires known { step < length world.old.file.run.steps }
+    ensures along { OnOk result ((ks : List ℕ) → IsAlong ks world.old → IsAlong (ks ++ step ∷ []) world.new) }
+    ensures file { world.new.file ≡ world.old.file }
+{
+    mark(world)?;
+    match world.send(step) {
+        Ok(()) => Ok(()),
+        Err(_) => Err(AllocError),
+    }
+}
+
+fn mark(world: &mut MarkedWorld<'_>) -> Result<(), AllocError>
+    ensures marked { OnOk result (world.new ≡ record world.old { marked = world.old.world ∷ world.old.marked }) }
+    ensures file { world.new.file ≡ world.old.file }
+{
+    match world.mark() {
+        Ok(()) => Ok(()),
+        Err(_) => Err(AllocError),
+    }
+}
