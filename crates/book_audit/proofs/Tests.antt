@@ -1,6 +1,6 @@
 -- What tests of facts come to.
 use Rattle.std.proofs.Common.{◌≡◌, ◌↔◌, refl, sym, ap, ◌∙◌, subst, ℕ, ◌+◌, ◌<◌, ◌≤◌, Bool, true, false, IsTrue, List, [], length, Option, Some, None, is_some}
-use Rattle.std.proofs.Common.{option_map, ◌⊎◌, ⊎_elim, arith}
+use Rattle.std.proofs.Common.{option_map, ◌⊎◌, ⊎_elim, arith, Result, Ok, Err, IfOk}
 use Rattle.perm_ranks.specs.Words.{Word, total, all_words, word_at}
 use Rattle.perm_ranks.specs.Swapped.{exchanged}
 use Rattle.perm_ranks.proofs.WordLemmas.{Takes, takes-length, words-take, each-at}
@@ -68,13 +68,20 @@ line-inside spec r k words lt falls =
 
 module _ (spec : Spec) (w : World) (starts : start spec ≡ Started w) (r : ℕ) where
   -- the outcome of a rank is what its line tells
-  pub ran-is : (outcome other : List (List Event)) (same : Bool) → r < ranks spec → outcome ≡ outcome_of spec.sessions (send_all spec.steps w (line_of spec r))
+  ran-is : (outcome other : List (List Event)) (same : Bool) → r < ranks spec → outcome ≡ outcome_of spec.sessions (send_all spec.steps w (line_of spec r))
       → (IsTrue same ↔ (outcome ≡ other)) → IsTrue same ↔ IsTrueAt spec r (Ran other)
   ran-is outcome other same lt is tells =
       let told = outcome-started spec w (line_of spec r) starts in (
         λ yes. (lt, told ∙ ap (λ o. Some o) (sym is ∙ tells.0 yes)),
         λ fact. tells.1 (is ∙ some-same _ _ (sym told ∙ fact.1)),
       )
+
+  -- and where memory may be refused
+  pub ran-told : {E : Type 0} (outcome other : List (List Event)) (result : Result Bool E) → r < ranks spec
+      → outcome ≡ outcome_of spec.sessions (send_all spec.steps w (line_of spec r)) → IfOk result (λ yes. IsTrue yes ↔ (outcome ≡ other))
+      → IfOk result (λ yes. IsTrue yes ↔ IsTrueAt spec r (Ran other))
+  ran-told outcome other (Ok same) lt is tells = ran-is outcome other same lt is tells
+  ran-told outcome other (Err e) lt is tells = tells
 
   pub swap-from : (k : ℕ) → spec.lines ≡ [] → r < ranks spec → falls_at k (word_of spec r) ≡ true → are_quiet_at spec w r k ≡ true → IsTrueAt spec r (Swap k)
   swap-from k words lt falls quiet = (lt, (w, starts, record { words = words; falls = falls; quiet = quiet }))

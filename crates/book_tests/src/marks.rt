@@ -1,7 +1,6 @@
 //! Worlds that go back to marks, by their calls, beside worlds that are run for each order. The tests without memory are to be read under
 //! `rt try --test --fail-alloc` too.
 ghost use Rattle.std.specs.Prelude.{◌≡◌, ◌∷◌};
-ghost use Rattle.plan_pairs.specs.Pairs.{ArePairs};
 
 use crate::asserts::assert_text;
 use crate::worlds::{
@@ -11,8 +10,7 @@ use crate::worlds::{
 use bound_specs::Spec;
 use marked_worlds::MarkedWorld;
 use numbered_specs::SpecNumbers;
-use plan_pairs::StepPairs;
-use session_machine::{SendError, World, run_one};
+use session_machine::{SendError, run_one};
 use std::alloc::Global;
 use std::process::Abort;
 use std::sync::Arc;
@@ -30,8 +28,7 @@ fn start_of<'a>(rt: &impl Abort, alloc: Global, spec: &'a Spec) -> MarkedWorld<'
 
 /// Sends a step of the world's spec.
 fn send(rt: &impl Abort, world: &mut MarkedWorld<'_>, step: u8) -> Result<(), SendError>
-    ensures marked { world.new.marked ≡ world.old.marked }
-    ensures file { world.new.file ≡ world.old.file }
+    ensures { world.new.marked ≡ world.old.marked }
 {
     assert!(rt; step < world.spec().steps(), "a step of the spec");
     world.send(step)
@@ -39,8 +36,7 @@ fn send(rt: &impl Abort, world: &mut MarkedWorld<'_>, step: u8) -> Result<(), Se
 
 /// Sends a step, for which there is memory.
 fn go_on(rt: &impl Abort, world: &mut MarkedWorld<'_>, step: u8)
-    ensures marked { world.new.marked ≡ world.old.marked }
-    ensures file { world.new.file ≡ world.old.file }
+    ensures { world.new.marked ≡ world.old.marked }
 {
     send(rt, world, step).expect(rt, "a step is sent");
 }
@@ -111,11 +107,11 @@ const LOST_UPDATE_ORDERS: &str =
     "session a setup { BEGIN; } step a1 { UPDATE t SET v = v + 1 WHERE id = 1; } step a2 { COMMIT; }
     session b setup { BEGIN; } step b1 { UPDATE t SET v = v + 10 WHERE id = 1; } step b2 { COMMIT; }";
 
-fn send_all(rt: &impl Abort, marked: &mut MarkedWorld<'_>, steps: &[u8])
-    ensures { marked.new.marked ≡ marked.old.marked }
+fn send_all(rt: &impl Abort, world: &mut MarkedWorld<'_>, steps: &[u8])
+    ensures { world.new.marked ≡ world.old.marked }
 {
     for step in steps {
-        go_on(rt, marked, *step);
+        go_on(rt, world, *step);
     }
 }
 
@@ -149,64 +145,6 @@ fn each_order_is_told_as_by_a_world_of_its_own(rt: HostRuntime) {
     for (sessions, count) in &ORDERS {
         let spec = spec_of(&rt, rt.alloc(), sessions);
         assert_orders(&rt, rt.alloc(), &spec, *count);
-    }
-}
-
-/// Of each two steps both machines say whether they are quiet.
-fn assert_quiet_alike(
-    rt: &impl Abort,
-    world: &MarkedWorld<'_>,
-    forked: &World<'_>,
-    pairs: &StepPairs,
-)
-    requires file { forked.now.file ≡ world.now.file }
-    requires pairs { ArePairs world.now.file.run pairs.now }
-{
-    let count = world.spec().steps();
-    for first in 0..count {
-        for second in 0..count {
-            let is_quiet = marked_quiet::quiet(world, pairs, first, second);
-            let is_quiet_forked = step_reducer::quiet(forked, first, second);
-            assert!(rt; is_quiet == is_quiet_forked, "steps {first} and {second}");
-        }
-    }
-}
-
-fn assert_quiet_along(
-    rt: &impl Abort,
-    marked: &mut MarkedWorld<'_>,
-    forked: &mut World<'_>,
-    pairs: &StepPairs,
-    steps: &[u8],
-)
-    requires file { forked.old.file ≡ marked.old.file }
-    requires pairs { ArePairs marked.old.file.run pairs.now }
-{
-    for step in steps {
-        assert_quiet_alike(rt, marked, forked, pairs);
-        go_on(rt, marked, *step);
-        crate::worlds::go_on(rt, forked, *step);
-    }
-}
-
-fn assert_quiet(rt: &impl Abort, alloc: Global, spec: &Spec, rank: u64) -> Option<()> {
-    let line = spec.line(rank)?;
-    let numbers = SpecNumbers::of_spec(alloc, spec).ok()?;
-    let pairs = StepPairs::of_spec(alloc, spec, &numbers).ok()?;
-    let numbers = Arc::new(alloc, numbers).ok()?;
-    let mut world = MarkedWorld::start(alloc, spec, numbers).ok()?;
-    let mut forked = World::start(alloc, spec).ok()?;
-    assert_quiet_along(rt, &mut world, &mut forked, &pairs, line.as_slice());
-    Some(())
-}
-
-#[test]
-fn steps_are_quiet_as_in_forked_worlds(rt: HostRuntime) {
-    for (sessions, count) in &ORDERS {
-        let spec = spec_of(&rt, rt.alloc(), sessions);
-        for rank in [0, *count / 2, count.saturating_sub(1)] {
-            assert_quiet(&rt, rt.alloc(), &spec, rank).expect(&rt, "both machines");
-        }
     }
 }
 

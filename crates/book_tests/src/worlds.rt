@@ -1,7 +1,5 @@
 //! The machine by its calls: a world takes steps, is forked, and tells its outcome and its locks. The tests without memory are
 //! to be read under `rt try --test --fail-alloc` too.
-ghost use Rattle.std.specs.Prelude.{◌≡◌};
-
 use crate::asserts::assert_text;
 use crate::texts::TABLE;
 use bound_specs::Spec;
@@ -129,17 +127,13 @@ fn a_setup_that_fails_refuses_the_start(rt: HostRuntime) {
 }
 
 /// Sends a step of the world's spec.
-fn send(rt: &impl Abort, world: &mut World<'_>, step: u8) -> Result<(), SendError>
-    ensures { world.new.file ≡ world.old.file }
-{
+fn send(rt: &impl Abort, world: &mut World<'_>, step: u8) -> Result<(), SendError> {
     assert!(rt; step < world.spec().steps(), "a step of the spec");
     world.send(step)
 }
 
 /// Sends a step, for which there is memory.
-pub(crate) fn go_on(rt: &impl Abort, world: &mut World<'_>, step: u8)
-    ensures { world.new.file ≡ world.old.file }
-{
+fn go_on(rt: &impl Abort, world: &mut World<'_>, step: u8) {
     send(rt, world, step).expect(rt, "a step is sent");
 }
 

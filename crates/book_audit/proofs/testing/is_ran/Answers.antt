@@ -4,7 +4,7 @@ use Rattle.bound_specs.specs.Spec.{SpecFile, ranks, line_of}
 use Rattle.machine_model.specs.World.{send_all, outcome_of}
 use Rattle.step_reducer.specs.Reduced.{first_world}
 use Rattle.marked_paths.proofs.PathLemmas.{path-own, path-told}
-use Rattle.book_audit.proofs.Tests.{ran-is}
+use Rattle.book_audit.proofs.Tests.{ran-told}
 use Rattle.book_audit.proofs.testing.is_ran.Goals as goal
 
 -- the spec has no such rank
@@ -24,6 +24,6 @@ returns-clause-answer c =
     let y = c.go_to.new.self in
     let line = c.in_ok-go_to.ensures.line ∙ c.in-Some.ensures.line ∙ ap (λ (f : SpecFile). line_of f.run c.args.rank) c.spec.ensures in
     let told = path-told file y c.in_ok-go_to.ensures.path ∙ ap (λ ks. outcome_of run.sessions (send_all run.steps (first_world run) ks)) line in
-    ran-is run (first_world run) c.requires.starts c.args.rank
-    (outcome_of y.world.file.run.sessions (send_all y.world.file.run.steps (first_world y.world.file.run) y.line.items)) c.args.told.now c.in-Ok.field-0
-    (subst (λ (f : SpecFile). c.args.rank < ranks f.run) c.spec.ensures (c.in-Some.ensures.some.0 refl)) told c.in-Ok.ensures
+    ran-told run (first_world run) c.requires.starts c.args.rank
+    (outcome_of y.world.file.run.sessions (send_all y.world.file.run.steps (first_world y.world.file.run) y.line.items)) c.args.told.now c.tells.result
+    (subst (λ (f : SpecFile). c.args.rank < ranks f.run) c.spec.ensures (c.in-Some.ensures.some.0 refl)) told c.tells.ensures

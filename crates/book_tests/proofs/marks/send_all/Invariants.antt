@@ -3,4 +3,4 @@ use Rattle.book_tests.proofs.marks.send_all.Given as goal
 
 -- marks stay
 abbrev pub invariant-loop-step : goal.invariant-loop-step
-invariant-loop-step l = l.marked.marked ≡ l.initial.marked.marked
+invariant-loop-step g l = l.world.marked ≡ l.initial.world.marked
