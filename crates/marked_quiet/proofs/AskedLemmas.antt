@@ -1,6 +1,7 @@
 -- What a step asks for is what its statements' plans by numbers ask for.
 use Rattle.std.specs.List.{list_all}
-use Rattle.std.proofs.Common.{◌≡◌, ◌≢◌, ◌<◌, ◌≤◌, ◌∙◌, ◌⊎◌, refl, sym, ap, subst, inl, inr, arith, ℕ, suc, Bool, true, false, not, ◌&&◌, ◌==◌, List, [], ◌∷◌, length, map, take, get_or, All}
+use Rattle.std.proofs.Common.{◌≡◌, ◌≢◌, ◌<◌, ◌≤◌, ◌∙◌, ◌⊎◌, refl, sym, ap, subst, inl, inr, arith, ℕ, suc}
+use Rattle.std.proofs.Common.{Bool, true, false, not, ◌&&◌, ◌==◌, List, [], ◌∷◌, length, map, take, get_or, All}
 use Rattle.std.proofs.lemmas.Bool.{false_from_ne_true}
 use Rattle.std.proofs.lemmas.Bool.Decides.{eqb_tells}
 use Rattle.std.proofs.lemmas.List.{take_all}

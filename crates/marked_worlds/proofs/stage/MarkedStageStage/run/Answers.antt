@@ -12,5 +12,6 @@ pub returns-clause-others : goal.returns-clause-others
 returns-clause-others c =
     let i = c.args.session in
     let ms = c.self.inside.members.list in
-    others-acts c.run.result i c.args.self.now.now c.run.new.rows.now c.self.inside.locks.now ms c.run.new.self.list (told_all (get_or ms i no_member) (events_of (effect c.args.statement.now (sight i c.self.inside.rows.now))))
+    others-acts c.run.result i c.args.self.now.now c.run.new.rows.now c.self.inside.locks.now ms c.run.new.self.list
+    (told_all (get_or ms i no_member) (events_of (effect c.args.statement.now (sight i c.self.inside.rows.now))))
     (ap (λ (v : MarkedStages). v.now.members) c.self.view_is) c.requires.inside refl c.run.ensures.told
