@@ -8,10 +8,15 @@ use std::hash::{FoldHasher, Hasher};
 /// More than there are kinds of events.
 const KINDS: u64 = 32;
 
-/// A number that equal outcomes share, and others seldom.
+/// A number that equal outcomes share, and others seldom. It is made when an outcome is, and shared by its forks.
 pub fn fingerprint(outcome: &Outcome) -> u64 {
+    outcome.print()
+}
+
+/// The number of the outcome of these transcripts.
+pub(crate) fn print_of(transcripts: &[Transcript]) -> u64 {
     let mut hasher = FoldHasher::default();
-    for transcript in outcome.sessions() {
+    for transcript in transcripts {
         hash_transcript(transcript, &mut hasher);
     }
     hasher.finish()

@@ -7,6 +7,7 @@ ghost use Rattle.transcripts.specs.Compact.{bytes_cmp, outcome_json};
 ghost use Rattle.transcripts.specs.Outcome.{CellFits, EventFits, OutcomeFits};
 
 use crate::event::Event;
+use crate::fingerprinting::print_of;
 use crate::order::outcome_order;
 use crate::same::{are_same_events, are_same_sessions};
 use crate::turn::copied;
@@ -105,6 +106,8 @@ impl Fork for Transcript {
 /// copies none.
 pub struct Outcome {
     sessions: Arc<Vec<Transcript>>,
+    /// The number by which it is looked for, which is made once. Contracts do not see it.
+    print: u64,
 }
 
 // Written out and not derived, so that who owns one calls this and does not let its parts go one by one.
@@ -112,6 +115,7 @@ impl Drop for Outcome {
     fn drop(self) {
         let Outcome {
             sessions: _sessions,
+            print: _,
         } = self;
     }
 }
@@ -130,9 +134,16 @@ impl Outcome {
     pub fn new(alloc: Global, transcripts: Vec<Transcript>) -> Result<Outcome, AllocError>
         ensures { IfOk result (λ outcome. outcome ≡ transcripts.items) }
     {
+        let print = print_of(transcripts.as_slice());
         Ok(Outcome {
             sessions: Arc::new(alloc, transcripts)?,
+            print,
         })
+    }
+
+    /// A number that equal outcomes share, and others seldom.
+    pub(crate) fn print(&self) -> u64 {
+        self.print
     }
 
     /// What holds of every outcome: its numbers have the widths of their types.
@@ -218,6 +229,7 @@ impl Fork for Outcome {
     fn fork(&self) -> Result<Outcome, AllocError> {
         Ok(Outcome {
             sessions: self.sessions.clone()?,
+            print: self.print,
         })
     }
 }
