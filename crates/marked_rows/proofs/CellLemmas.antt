@@ -113,7 +113,7 @@ module _ (rows : List Tuple) (cells : List Cell) where
       get-lay (overlay_of s (layers_of rows cells es)) (layers_of rows cells es).committed p
       ∙ ap (λ o. over o (get (layers_of rows cells es).committed p)) (overlay-absent es s p absent) ∙ committed-absent es p absent
 
-  committed-there : (es : List (RowPlace × ℕ)) (p : RowPlace) (n : ℕ) → AreApart es → IsPlaceOf es p n
+  pub committed-there : (es : List (RowPlace × ℕ)) (p : RowPlace) (n : ℕ) → AreApart es → IsPlaceOf es p n
       → get (layers_of rows cells es).committed p ≡ row_with rows (cell_at n).committed
   unfolding layers_of
   committed-there [] p n apart never = absurd never

@@ -12,12 +12,15 @@ use Rattle.row_tables.specs.Layers.{IsOnlyWriterAt, Layers, no_rows, sight, wrot
 use Rattle.marked_lists.specs.Versions.{Versions}
 use Rattle.marked_rows.specs.Cells.{MarkedRows, blank, layers_at, layers_of, row_with, seen, seen_over}
 use Rattle.marked_rows.specs.Kept.{Forgets, HasBlanks, HasRows, IsInside, IsKept, IsLeft, IsNumber, blanks, ended_in, ended_layers, noted, seen_rows}
+use Rattle.marked_rows.specs.Shown.{shown_of}
 use Rattle.marked_rows.specs.Places.{Index, IsAbsent, IsBefore, IsGrown, IsPlaceOf}
 use Rattle.marked_rows.specs.declared.cell.Cell.{Cell}
 use Rattle.marked_rows.specs.declared.cell.Ending.{Ending}
 use Rattle.marked_rows.specs.declared.cell.Left.{Left}
+use Rattle.marked_rows.specs.declared.cell.Sight.{Sight}
+use Rattle.marked_rows.specs.declared.cell.Sight.TheVariants.{Committed, Own}
 use Rattle.marked_rows.specs.declared.cell.Written.{Written}
-use Rattle.marked_rows.proofs.CellLemmas.{ended-cells, sight-absent, sight-there, with_left, written-cells}
+use Rattle.marked_rows.proofs.CellLemmas.{committed-absent, committed-there, ended-cells, sight-absent, sight-there, with_left, written-cells}
 use Rattle.marked_rows.proofs.PlaceLemmas.{absent-behind, grown-apart, place-before}
 use Rattle.marked_rows.proofs.RowLemmas.{marks-more, more-rows, place-more, same-cells}
 use Rattle.marked_rows.proofs.EndingLemmas.{ended-each}
@@ -143,12 +146,25 @@ module _ (index : Index) (rows : Versions Tuple) (cells : Versions Cell) (writte
       → get (sight s Seen) p ≡ row_with rows.list (seen (get_or cells.list n blank))
   read-cell s p n is only = sight-there rows.list cells.list index.entries p n s kept.apart is only
 
+  -- no row is committed at a place that is not there
+  pub committed-none : (p : RowPlace) → IsAbsent p index.entries → get Seen.committed p ≡ None
+  committed-none p absent = committed-absent rows.list cells.list index.entries p absent
+
+  -- the committed row of a place's cell lies there
+  pub committed-cell : (p : RowPlace) (n : ℕ) → IsPlaceOf index.entries p n
+      → get Seen.committed p ≡ row_with rows.list (get_or cells.list n blank).committed
+  committed-cell p n is = committed-there rows.list cells.list index.entries p n kept.apart is
+
   seen-number : (c : Cell) → HasRows rows.list c → IsNumber rows.list (seen c)
   seen-number c has = at c.left has.1
     where
       at : (left : Option Left) → IsLeft rows.list left → IsNumber rows.list (seen_over c.committed left)
       at None there = has.0
       at (Some left) there = there
+
+  pub shown-number : (which : Sight) (c : Cell) → HasRows rows.list c → IsNumber rows.list (shown_of which c)
+  shown-number Own c has = seen-number c has
+  shown-number Committed c has = has.0
 
   -- its number is that of a row
   pub read-number : (n number : ℕ) → seen (get_or cells.list n blank) ≡ Some number → number < length rows.list

@@ -3,6 +3,7 @@
 ghost use Rattle.std.specs.Prelude.{◌≡◌, Some};
 ghost use Rattle.marked_rows.specs.Cells.{blank, seen};
 ghost use Rattle.marked_rows.specs.Kept.{ended, is_of};
+ghost use Rattle.marked_rows.specs.Shown.{shown_of};
 
 /// The committed row of a place, and what a session has left there of its own, if one has. Rows are numbers of the pool.
 #[derive(Clone, Copy)]
@@ -32,6 +33,15 @@ pub(crate) enum Ending {
     Undo,
 }
 
+/// Which row of a cell is shown.
+#[derive(Clone, Copy)]
+pub(crate) enum Sight {
+    /// What the session that has written there has left, else the committed one.
+    Own,
+    /// The committed one, whatever was left there.
+    Committed,
+}
+
 impl Cell {
     /// No row, and nothing written.
     pub fn new() -> Cell
@@ -50,6 +60,16 @@ impl Cell {
         match self.left {
             Some(left) => left.row,
             None => self.committed,
+        }
+    }
+
+    /// The row that is shown of the cell.
+    pub fn shown(&self, sight: Sight) -> Option<usize>
+        ensures { result ≡ shown_of sight self.now }
+    {
+        match sight {
+            Sight::Own => self.seen(),
+            Sight::Committed => self.committed,
         }
     }
 

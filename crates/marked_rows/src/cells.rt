@@ -1,19 +1,20 @@
 //! Cells by their numbers. One that is not there has no row.
 
 ghost use Rattle.std.specs.Prelude.{◌≡◌, ◌<◌, OnOk, get_or, length};
-ghost use Rattle.marked_rows.specs.Cells.{blank, seen};
+ghost use Rattle.marked_rows.specs.Cells.{blank};
 ghost use Rattle.marked_rows.specs.Kept.{HasBlanks};
+ghost use Rattle.marked_rows.specs.Shown.{shown_of};
 
-use crate::cell::Cell;
+use crate::cell::{Cell, Sight};
 use marked_lists::MarkedList;
 use std::alloc::AllocError;
 
-/// What is seen in the cell with a number.
-pub(crate) fn seen_in(cells: &[Cell], number: usize) -> Option<usize>
-    ensures { result ≡ seen (get_or cells.now number blank) }
+/// What is shown of the cell with a number.
+pub(crate) fn shown_in(cells: &[Cell], number: usize, sight: Sight) -> Option<usize>
+    ensures { result ≡ shown_of sight (get_or cells.now number blank) }
 {
     match cells.get(number) {
-        Some(cell) => cell.seen(),
+        Some(cell) => cell.shown(sight),
         None => None,
     }
 }

@@ -10,8 +10,8 @@ ghost use Rattle.lock_modes.specs.declared.value.Value.{Value as Key};
 ghost use Rattle.row_tables.specs.Layers.{IsOnlyWriterAt, IsOnlyWriterIn, kept, no_rows, rows_of, sight, undone, wrote};
 ghost use Rattle.marked_rows.specs.Kept.{ended_layers};
 
-use crate::cell::{Cell, Ending, Written};
-use crate::cells::{reach, seen_in};
+use crate::cell::{Cell, Ending, Sight, Written};
+use crate::cells::{reach, shown_in};
 use crate::ending::{end, forget, note};
 use crate::places::Places;
 use crate::pool::RowPool;
@@ -72,7 +72,7 @@ impl MarkedRows {
         ensures { option_copied result ≡ get (sight session self.now.now) (table, key.now) }
     {
         let place = self.places.cell_of(table, key)?;
-        let number = seen_in(self.cells.as_slice(), place)?;
+        let number = shown_in(self.cells.as_slice(), place, Sight::Own)?;
         Some(self.rows.get(number))
     }
 
@@ -87,7 +87,15 @@ impl MarkedRows {
         ensures each { (key : Key) → find value_cmp key result ≡ get (sight session self.now.now) (table, key) }
     {
         let keys = self.places.table(table);
-        Scan::new(&self.rows, keys, self.cells.as_slice())
+        Scan::new(&self.rows, keys, self.cells.as_slice(), Sight::Own)
+    }
+
+    /// The committed rows of a table in the order of their keys, whatever sessions have written and not kept. It takes no memory.
+    pub fn committed(&self, table: u16) -> Scan<'_>
+        ensures { result ≡ rows_of table self.now.now.committed }
+    {
+        let keys = self.places.table(table);
+        Scan::new(&self.rows, keys, self.cells.as_slice(), Sight::Committed)
     }
 
     /// Leaves a row, or none, at a key of a table, seen by the session alone until it keeps its writes. No other session may have a write there that

@@ -6,8 +6,9 @@ use Rattle.row_tables.specs.Layers.{IsOnlyWriterIn, rows_of, sight}
 use Rattle.row_tables.proofs.TableLemmas.{find-rows_of, sorted-rows_of}
 use Rattle.marked_rows.specs.Cells.{MarkedRows}
 use Rattle.marked_rows.specs.Places.{keys_of}
-use Rattle.marked_rows.specs.Shown.{CanShow, cells_of, shown}
-use Rattle.marked_rows.proofs.SightLemmas.{scan-rows, scan-shows}
+use Rattle.marked_rows.specs.Shown.{CanShow, numbers_of, shown}
+use Rattle.marked_rows.specs.declared.cell.Sight.TheVariants.{Own}
+use Rattle.marked_rows.proofs.SightLemmas.{scan-shows, seen-rows}
 use Rattle.marked_rows.proofs.rows.MarkedRows.scan.Goals as goal
 
 pub new-requires : goal.new-requires
@@ -15,8 +16,8 @@ new-requires c =
     let i = c.self.inside in
     let table = c.table-keys in
     let es = table.result.now in
-    subst (λ cs. CanShow i.rows.list (keys_of es) (cells_of cs es)) (sym c.as_slice.ensures)
-    (scan-shows i.places i.rows i.cells i.written c.self.invariant c.args.table es table.ensures.rise table.ensures.there table.ensures.absent)
+    subst (λ cs. CanShow i.rows.list (keys_of es) (numbers_of Own cs es)) (sym c.as_slice.ensures)
+    (scan-shows i.places i.rows i.cells i.written c.self.invariant c.args.table es table.ensures.rise table.ensures.there table.ensures.absent Own)
 
 pub returns-clause-rows : goal.returns-clause-rows
 returns-clause-rows c =
@@ -26,8 +27,8 @@ returns-clause-rows c =
     let s = c.args.session in
     let t = c.args.table in
     let only = subst (λ (m : MarkedRows). IsOnlyWriterIn s t m.now) (sym c.self.view_is) c.requires in
-    let rows = scan-rows i.places i.rows i.cells i.written c.self.invariant t es table.ensures.rise table.ensures.there table.ensures.absent s only in
-    c.new.ensures ∙ ap (λ cs. shown i.rows.list (keys_of es) (cells_of cs es)) c.as_slice.ensures ∙ rows
+    let rows = seen-rows i.places i.rows i.cells i.written c.self.invariant t es table.ensures.rise table.ensures.there table.ensures.absent s only in
+    c.new.ensures ∙ ap (λ cs. shown i.rows.list (keys_of es) (numbers_of Own cs es)) c.as_slice.ensures ∙ rows
     ∙ ap (λ (m : MarkedRows). rows_of t (sight s m.now)) c.self.view_is
 
 pub returns-clause-in_order : goal.returns-clause-in_order
