@@ -4,6 +4,7 @@ ghost use Rattle.std.specs.Prelude.{◌≡◌, ◌<◌, ◌++◌, IfOk, OnOk, le
 ghost use Rattle.row_tables.specs.Layers.{sight};
 ghost use Rattle.statement_evaluation.specs.Effect.{effect};
 ghost use Rattle.statement_execution.specs.Run.{SeesAlone, WritesAlone, events_of, fault_of, left_by, wrote_each};
+ghost use Rattle.event_tree.specs.Lists.{Keeps};
 ghost use Rattle.marked_logs.specs.Logs.{told_to};
 
 use crate::marked_sight::MarkedSight;
@@ -36,6 +37,7 @@ pub fn run_statement(
     ensures rows_marked { rows.new.marked ≡ rows.old.marked }
     ensures logs_marked { logs.new.marked ≡ logs.old.marked }
     ensures sessions { length logs.new.now ≡ length logs.old.now }
+    ensures lists { Keeps logs.old.lists logs.new.lists }
 {
     match effect_of(alloc, statement, session, MarkedSight { rows: &*rows })? {
         Given::Failed(fault) => Ok(Some(fault)),
@@ -70,6 +72,7 @@ fn tell_each(
     ensures told { OnOk result (logs.new.now ≡ set logs.old.now session (told_to logs.old.now session ++ events.items)) }
     ensures marked { logs.new.marked ≡ logs.old.marked }
     ensures sessions { length logs.new.now ≡ length logs.old.now }
+    ensures lists { Keeps logs.old.lists logs.new.lists }
 {
     for event in events {
         logs.tell(session, event)?;

@@ -22,6 +22,7 @@ loop-event-preserved c =
           ∙ ap (telling_each logs session) (sym all) ∙ before.told;
       marked = c.in_ok-tell.ensures.marked ∙ before.marked;
       sessions = ap length after ∙ length-set logs session _ ∙ before.sessions;
+      lists = λ id has. let one = before.lists id has in let two = c.in_ok-tell.ensures.lists id one.0 in (two.0, two.1 ∙ one.1);
     }
 
 -- none is left
