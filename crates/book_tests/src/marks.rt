@@ -47,7 +47,9 @@ fn mark(rt: &impl Abort, world: &mut MarkedWorld<'_>)
     world.mark().expect(rt, "a mark");
 }
 
-fn assert_tells(rt: &impl Abort, alloc: Global, world: &MarkedWorld<'_>, want: &str) {
+fn assert_tells(rt: &impl Abort, alloc: Global, world: &mut MarkedWorld<'_>, want: &str)
+    ensures { world.new ≡ world.old }
+{
     let outcome = world.outcome().expect(rt, "an outcome");
     assert_outcome(rt, alloc, world.spec(), &outcome, want);
 }

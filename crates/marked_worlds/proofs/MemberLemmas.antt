@@ -1,14 +1,19 @@
 -- Sessions by their two parts.
-use Rattle.std.specs.Result.{OnOk}
-use Rattle.std.specs.Prelude.{Result, Ok, Err}
-use Rattle.std.proofs.Common.{◌≡◌, ◌<◌, ◌∙◌, refl, sym, ap, subst, arith, ℕ, zero, suc, List, [], ◌∷◌, length, map, get_or, set, replicate, Bool, ◌||◌}
-use Rattle.std.specs.List.{list_any}
+use Rattle.std.specs.Result.{OnErr, OnOk}
+use Rattle.std.specs.Prelude.{All, Result, Ok, Err}
+use Rattle.std.proofs.Common.{◌≡◌, ◌<◌, ◌≤◌, ◌∙◌, refl, sym, ap, subst, arith, ℕ, zero, suc, List, [], ◌∷◌}
+use Rattle.std.proofs.Common.{length, map, length-set, get_or, set, take, replicate, Bool, ◌||◌}
+use Rattle.event_tree.specs.declared.node.NodeId.{NodeId}
+use Rattle.event_tree.specs.Lists.{HasNode, Keeps, list_of}
+use Rattle.std.specs.List.{AllZip, list_any}
 use Rattle.marked_lists.specs.Versions.{Versions}
 use Rattle.marked_logs.specs.Logs.{Logs}
 use Rattle.transcripts.specs.declared.event.Event.{Event}
-use Rattle.session_steps.specs.Stage.{Member, no_member}
+use Rattle.session_steps.specs.Stage.{Member, no_member, transcripts_of}
 use Rattle.marked_worlds.specs.declared.members.StatusAndRest.{StatusAndRest}
-use Rattle.marked_worlds.specs.Members.{member_of, members_of, no_kept, versions_of, IsWhole, AreWhole}
+use Rattle.marked_worlds.specs.declared.told.ToldOutcome.{ToldOutcome}
+use Rattle.marked_worlds.specs.Told.{AreTold, IsTold}
+use Rattle.marked_worlds.specs.Members.{member_of, members_of, no_kept, versions_of, AreKept, AreWhole, IsWhole}
 
 -- what it was told is changed
 abbrev pub with_told : (List Event → List Event) → Member → Member
@@ -52,6 +57,49 @@ pub members-blank : (n : ℕ) → members_of (replicate n []) (replicate n no_ke
 members-blank zero = refl
 members-blank (suc n) = ap (λ ms. no_member ∷ ms) (members-blank n)
 
+-- what the first so many sessions were told
+pub told-first : (logs : List (List Event)) (ks : List StatusAndRest) (n : ℕ) → IsWhole logs ks → transcripts_of (take n (members_of logs ks)) ≡ take n logs
+told-first logs ks zero whole = refl
+told-first [] [] (suc n) whole = refl
+told-first [] (k ∷ ks) (suc n) whole = cc
+told-first (t ∷ logs) [] (suc n) whole = cc
+told-first (t ∷ logs) (k ∷ ks) (suc n) whole = ap (λ ts. t ∷ ts) (told-first logs ks n (omega (arith, whole)))
+
+-- ---- outcomes that are kept
+
+-- nodes that are kept stand for the same lists
+lists-kept : (old new : List (List Event)) (ids : List NodeId) → Keeps old new → All (HasNode old) ids → map (list_of new) ids ≡ map (list_of old) ids
+lists-kept old new [] keeps all = refl
+lists-kept old new (id ∷ ids) keeps all =
+    λ i. (keeps id (all 0 id (omega arith))).1 i ∷ lists-kept old new ids keeps (λ k d lt. all (suc k) d (omega (arith, lt))) i
+
+-- so what was told is told by the same nodes
+pub told-kept : (old new : List (List Event)) (kept : List ToldOutcome) → Keeps old new → AreTold old kept → AreTold new kept
+told-kept old new kept keeps all k d lt =
+    let t = get_or kept k d in
+    let is : IsTold old t = all k d lt in
+    record {
+      inside = λ n id inside. (keeps (get_or t.nodes.items n id) (is.inside n id inside)).0;
+      outcome = lists-kept old new t.nodes.items keeps is.inside ∙ is.outcome;
+    }
+
+-- where the lists stay, what is kept holds of logs of as many sessions
+pub still-kept : (old new : Logs Event) (kept : Versions StatusAndRest) (outcomes : List ToldOutcome) → AreKept old kept outcomes
+    → length new.now ≡ length old.now → new.marked ≡ old.marked → Keeps old.lists new.lists → AreKept new kept outcomes
+still-kept old new kept outcomes are count marked keeps = record {
+  whole = record {
+    now = count ∙ are.whole.now;
+    marked = subst (λ (ms : List (List (List Event))). AllZip IsWhole ms kept.marked) (sym marked) are.whole.marked;
+  };
+  told = told-kept old.lists new.lists outcomes keeps are.told;
+}
+
+-- whatever comes of telling one, there are as many
+pub told-count : {X Y : Type 0} (r : Result X Y) (old left : List (List Event)) (i : ℕ) (t : List Event) → OnOk r (left ≡ set old i t) → OnErr r (left ≡ old)
+    → length left ≡ length old
+told-count (Ok x) old left i t put same = ap length put ∙ length-set old i t
+told-count (Err y) old left i t put same = ap length same
+
 -- ---- sessions as contracts see them
 
 module _ (logs : Logs Event) (kept : Versions StatusAndRest) (seen : Versions Member) (i : ℕ) (whole : AreWhole logs kept) (is : versions_of logs kept ≡ seen) where
@@ -67,6 +115,14 @@ module _ (logs : Logs Event) (kept : Versions StatusAndRest) (seen : Versions Me
 
   pub inside-logs : i < length seen.list → i < length logs.now
   inside-logs lt = subst (λ n. i < n) (sym whole.now) (inside-kept lt)
+
+  pub up-to-logs : i ≤ length seen.list → i ≤ length logs.now
+  up-to-logs le = subst (λ n. i ≤ n) (sym whole.now)
+      (subst (λ n. i ≤ n) (members-count logs.now kept.list whole.now) (subst (λ (v : Versions Member). i ≤ length v.list) (sym is) le))
+
+  -- what the first so many were told
+  pub first-is : take i logs.now ≡ transcripts_of (take i seen.list)
+  first-is = sym (told-first logs.now kept.list i whole.now) ∙ ap (λ (v : Versions Member). transcripts_of (take i v.list)) is
 
   pub member-is : get_or seen.list i no_member ≡ member_of told own
   member-is = ap (λ (v : Versions Member). get_or v.list i no_member) (sym is) ∙ members-at logs.now kept.list i whole.now

@@ -1,14 +1,18 @@
 -- Worlds at marks, and what the numbers of a spec tell of its setups.
 use Rattle.std.specs.List.{Contains}
 use Rattle.std.proofs.lemmas.List.Elements.{All-nil, All-cons, All-head, All-tail, Contains-append_left, Contains-append_right, Contains-get_or}
-use Rattle.std.proofs.Common.{◌≡◌, ◌∙◌, sym, subst, false, List, [], ◌∷◌, get_or, map}
+use Rattle.std.proofs.Common.{◌≡◌, ◌∙◌, refl, sym, subst, false, ℕ, zero, suc, List, [], ◌∷◌, get_or, map}
 use Rattle.std.specs.Prelude.{All}
 use Rattle.bound_statements.specs.declared.statement.Bound.{Bound}
-use Rattle.bound_specs.specs.Spec.{Spec, SpecFile}
+use Rattle.bound_specs.specs.Spec.{Spec, SpecFile, Step}
+use Rattle.lock_queues.specs.LockTable.{Locks}
+use Rattle.row_tables.specs.Layers.{Layers}
+use Rattle.machine_model.specs.World.{fresh, session_at}
+use Rattle.session_steps.specs.State.{sessions_from}
 use Rattle.numbered_specs.specs.Numbers.{asked_by, asked_in, blocks_of, IsNumbering, Numbers}
 use Rattle.numbered_specs.proofs.AskedLemmas.{contains-given}
 use Rattle.session_steps.specs.declared.point.Origin.TheVariants.{Setup}
-use Rattle.session_steps.specs.Stage.{Staged, world_in, IsSettled, KnowsAll, KnowsSetups}
+use Rattle.session_steps.specs.Stage.{Member, Staged, member_at, no_member, own_of, world_in, IsSettled, KnowsAll, KnowsSetups}
 use Rattle.session_steps.proofs.Standing.{length-world, sound-now, outcome-of}
 use Rattle.marked_worlds.specs.Stages.{MarkedStages, IsKnown}
 use Rattle.marked_worlds.specs.Worlds.{AreSettled, IsOfSpec}
@@ -29,6 +33,18 @@ setups-known spec numbers numbering = record {
   own = λ k d lt. asked-there spec numbers numbering (get_or spec.session_setups k d)
       (Contains-append_right spec.setups _ _ (Contains-append_left spec.session_setups _ _ (Contains-get_or spec.session_setups k d lt)));
 }
+
+-- ---- sessions of a world
+
+status-from : (l : Layers) (t : Locks) (steps : List Step) (k i : ℕ) (ms : List Member)
+    → (get_or (sessions_from l t k (map (own_of steps) ms)) i fresh).status ≡ (get_or ms i no_member).state.status
+status-from l t steps k i [] = refl
+status-from l t steps k zero (m ∷ ms) = refl
+status-from l t steps k (suc i) (m ∷ ms) = status-from l t steps (suc k) i ms
+
+-- how a session stands to its block
+pub status-now : (steps : List Step) (s : Staged) (i : ℕ) → (member_at s i).state.status ≡ (session_at (world_in steps s) i).status
+status-now steps s i = sym (status-from s.store s.locks steps 0 i s.members)
 
 -- ---- worlds between the steps
 

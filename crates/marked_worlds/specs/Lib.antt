@@ -1,3 +1,4 @@
 pub mod Members
 pub mod Stages
 pub mod Worlds
+pub mod Told

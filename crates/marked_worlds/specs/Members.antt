@@ -9,6 +9,8 @@ use Rattle.session_steps.specs.Stage.{Member}
 use Rattle.marked_lists.specs.Versions.{Versions}
 use Rattle.marked_logs.specs.Logs.{Logs}
 use Rattle.marked_worlds.specs.declared.members.StatusAndRest.{StatusAndRest}
+use Rattle.marked_worlds.specs.declared.told.ToldOutcome.{ToldOutcome}
+use Rattle.marked_worlds.specs.Told.{AreTold}
 
 -- ---- a session that is changed
 
@@ -56,3 +58,8 @@ IsWhole logs ks = length logs ≡ length ks
 pub record AreWhole (logs : Logs Event) (kept : Versions StatusAndRest) : Type 0 where
   pub now : IsWhole logs.now kept.list
   pub marked : AllZip IsWhole logs.marked kept.marked
+
+-- and each outcome that is kept was told, by its nodes
+pub record AreKept (logs : Logs Event) (kept : Versions StatusAndRest) (outcomes : List ToldOutcome) : Type 0 where
+  pub whole : AreWhole logs kept
+  pub told : AreTold logs.lists outcomes

@@ -4,6 +4,7 @@
 mod asking;
 mod members;
 mod stage;
+mod told;
 mod world;
 
 pub use world::MarkedWorld;

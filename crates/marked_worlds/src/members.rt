@@ -9,9 +9,9 @@ ghost use Rattle.machine_model.specs.Start.{is_failure};
 ghost use Rattle.session_steps.specs.Stage.{no_member, note_member, transcripts_of};
 ghost use Rattle.marked_worlds.specs.Members.{silenced, told_all, with_rest, with_status};
 
+use crate::told::ToldTable;
 use bound_statements::Bound;
 use event_tree::Same;
-use finite_maps::Fork;
 use machine_model::Status;
 use marked_execution::run_statement;
 use marked_lists::MarkedList;
@@ -20,7 +20,7 @@ use marked_rows::MarkedRows;
 use session_steps::Rest;
 use std::alloc::{AllocError, Global};
 use std::marker::Model;
-use transcripts::{Event, Fault, Transcript};
+use transcripts::{Event, Fault, Outcome, Transcript};
 
 /// What is kept of a session beside what it was told.
 #[derive(Clone, Copy)]
@@ -37,6 +37,8 @@ pub(crate) struct StatusAndRest {
 pub(crate) struct MarkedMembers {
     logs: MarkedLogs<Event>,
     kept: MarkedList<StatusAndRest>,
+    /// What was told so far, also where the world has gone back since.
+    told: ToldTable,
 }
 
 impl Model for MarkedMembers {
@@ -44,7 +46,7 @@ impl Model for MarkedMembers {
     ghost use Rattle.transcripts.specs.contracts.event.Event as event;
     ghost use Rattle.session_steps.specs.Stage.{Member};
     ghost use Rattle.marked_lists.specs.Versions.{Versions, versions_code};
-    ghost use Rattle.marked_worlds.specs.Members.{AreWhole, versions_of};
+    ghost use Rattle.marked_worlds.specs.Members.{AreKept, versions_of};
 
     ghost Value = { Versions Member };
 
@@ -52,7 +54,7 @@ impl Model for MarkedMembers {
 
     ghost view = { λ m. versions_of m.logs m.kept };
 
-    ghost invariant = { λ m. AreWhole m.logs m.kept };
+    ghost invariant = { λ m. AreKept m.logs m.kept m.told.kept.items };
 }
 
 impl MarkedMembers {
@@ -62,7 +64,11 @@ impl MarkedMembers {
     {
         let logs = MarkedLogs::new(alloc, count)?;
         let kept = blank_members(alloc, count)?;
-        Ok(MarkedMembers { logs, kept })
+        Ok(MarkedMembers {
+            logs,
+            kept,
+            told: ToldTable::new(alloc),
+        })
     }
 
     pub(crate) fn status(&self, session: u8) -> Status
@@ -88,29 +94,13 @@ impl MarkedMembers {
         Ok(any_failure(events.as_slice()))
     }
 
-    /// A copy of what the session was told.
-    fn transcript(&self, alloc: Global, session: u8) -> Result<Transcript, AllocError>
-        requires { session < length self.now.list }
-        ensures { IfOk result (λ told. told ≡ (get_or self.now.list session no_member).state.transcript) }
+    /// What the first so many sessions were told. It is made where they were not told so before, and else shared.
+    pub(crate) fn outcome(&mut self, alloc: Global, count: u8) -> Result<Outcome, AllocError>
+        requires { count ≤ length self.old.list }
+        ensures outcome { IfOk result (λ outcome. outcome ≡ transcripts_of (take count self.old.list)) }
+        ensures same { self.new ≡ self.old }
     {
-        let events = self.logs.events(alloc, self.logs.log(session))?;
-        copied(alloc, events.as_slice())
-    }
-
-    /// Copies of what the first so many sessions were told.
-    pub(crate) fn transcripts(
-        &self,
-        alloc: Global,
-        count: u8,
-    ) -> Result<Vec<Transcript>, AllocError>
-        requires { count ≤ length self.now.list }
-        ensures { IfOk result (λ transcripts. transcripts.items ≡ transcripts_of (take count self.now.list)) }
-    {
-        let mut transcripts = Vec::with_capacity(alloc, count as usize)?;
-        for session in 0..count {
-            transcripts.push(self.transcript(alloc, session)?)?;
-        }
-        Ok(transcripts)
+        self.told.outcome(alloc, &self.logs, count)
     }
 
     /// Whether this is what the session was told.
@@ -261,7 +251,7 @@ fn is_failure(event: &Event) -> bool
     matches!(event, Event::Failed(_))
 }
 
-/// A transcript of copies of these.
+/// Whether these are the same events.
 fn are_same(events: &[&Event], told: &[Event]) -> bool
     ensures { IsTrue result ↔ map (λ e. e.now) events.now ≡ told.now }
 {
@@ -274,14 +264,4 @@ fn are_same(events: &[&Event], told: &[Event]) -> bool
         }
     }
     true
-}
-
-fn copied(alloc: Global, events: &[&Event]) -> Result<Transcript, AllocError>
-    ensures { IfOk result (λ told. told ≡ map (λ e. e.now) events.now) }
-{
-    let mut told = Transcript::new(alloc);
-    for event in events {
-        told.push(event.fork()?)?;
-    }
-    Ok(told)
 }

@@ -7,6 +7,7 @@ ghost use Rattle.std.specs.List.Sorted.{IsStrictlySortedBy};
 ghost use Rattle.lock_modes.specs.Resource.{resource_cmp};
 ghost use Rattle.lock_queues.specs.declared.wait.Wait.{Wait};
 ghost use Rattle.lock_queues.specs.LockTable.{Fits, look_in};
+ghost use Rattle.row_tables.specs.Layers.{rows_of};
 ghost use Rattle.numbered_specs.specs.Numbers.{HasNumber, resource_of};
 ghost use Rattle.session_steps.specs.Stage.{IsBlank, transcripts_of};
 ghost use Rattle.marked_worlds.specs.Stages as spec;
@@ -18,13 +19,13 @@ use lock_modes::Mode;
 use machine_model::{Reply, Status};
 use marked_locks::MarkedLocks;
 use marked_modes::MAX_HOLDERS;
-use marked_rows::MarkedRows;
+use marked_rows::{MarkedRows, Scan};
 use numbered_specs::{ResourceNumber, SpecNumbers};
 use session_steps::{Origin, Rest, Stage};
 use std::alloc::{AllocError, Global};
 use std::marker::Model;
 use std::sync::Arc;
-use transcripts::{Event, Fault, Transcript};
+use transcripts::{Event, Fault, Outcome, Transcript};
 
 /// The rows, the locks and the sessions of a world, with marks to go back to.
 ///
@@ -119,12 +120,20 @@ impl MarkedStage {
         self.locks.fits(session, number, mode)
     }
 
-    /// Copies of what the first so many sessions were told.
-    pub(crate) fn transcripts(&self, count: u8) -> Result<Vec<Transcript>, AllocError>
-        requires { count ≤ length self.now.now.members }
-        ensures { IfOk result (λ transcripts. transcripts.items ≡ transcripts_of (take count self.now.now.members)) }
+    /// The committed rows of a table in the order of their keys.
+    pub(crate) fn committed(&self, table: u16) -> Scan<'_>
+        ensures { result ≡ rows_of table self.now.now.store.committed }
     {
-        self.members.transcripts(self.alloc, count)
+        self.rows.committed(table)
+    }
+
+    /// What the first so many sessions were told. It is made where they were not told so before, and else shared.
+    pub(crate) fn outcome(&mut self, count: u8) -> Result<Outcome, AllocError>
+        requires { count ≤ length self.old.now.members }
+        ensures outcome { IfOk result (λ outcome. outcome ≡ transcripts_of (take count self.old.now.members)) }
+        ensures same { self.new ≡ self.old }
+    {
+        self.members.outcome(self.alloc, count)
     }
 
     /// Whether this is what the first so many members were told.

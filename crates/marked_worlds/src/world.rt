@@ -3,12 +3,13 @@
 ghost use Rattle.std.specs.Prelude.{◌≡◌, ◌≤◌, ◌<◌, ◌↔◌, ◌==◌, ◌∷◌, [], true, false, length, All, IfErr, IfOk, IfSome, IsErrOf, IsTrue, OnErr, OnOk};
 ghost use Rattle.std.specs.List.{find};
 ghost use Rattle.std.specs.Option.{option_map};
+ghost use Rattle.row_tables.specs.Layers.{rows_of};
 ghost use Rattle.lock_queues.specs.declared.wait.Wait.{Wait};
 ghost use Rattle.lock_queues.specs.Locks.{waits_now};
 ghost use Rattle.lock_queues.specs.LockTable.{Fits};
 ghost use Rattle.bound_specs.specs.Spec.{IsBound};
 ghost use Rattle.numbered_specs.specs.Numbers.{HasNumber, IsNumbering, resource_of};
-ghost use Rattle.machine_model.specs.World.{look_of, send, outcome_of};
+ghost use Rattle.machine_model.specs.World.{look_of, outcome_of, send, session_at};
 ghost use Rattle.machine_model.specs.Outcome.{IsOutcomeOf};
 ghost use Rattle.machine_model.specs.Start.{Started, start};
 ghost use Rattle.session_steps.specs.Refused.{IsRefusedBy};
@@ -17,6 +18,8 @@ ghost use Rattle.marked_worlds.specs.Worlds.{IsOfSpec};
 use crate::stage::MarkedStage;
 use bound_specs::Spec;
 use lock_modes::Mode;
+use machine_model::Status;
+use marked_rows::Scan;
 use numbered_specs::{ResourceNumber, SpecNumbers};
 use session_steps::{SendError, Stage, StartError, run_setups, send};
 use std::alloc::{AllocError, Global};
@@ -138,17 +141,18 @@ impl MarkedWorld<'_> {
         self.is_spent = false;
     }
 
-    /// The transcripts so far, a copy for each session. A spent world tells of none.
-    pub fn outcome(&self) -> Result<Outcome, SendError>
-        ensures told { IfOk result (λ outcome. outcome ≡ outcome_of self.now.file.run.sessions self.now.world) }
-        ensures own { IfOk result (IsOutcomeOf self.now.file.run) }
-        ensures spent { IsErrOf result SendError.Spent ↔ (self.now.spent ≡ true) }
+    /// The transcripts so far, one for each session. They are copied where the sessions were not told the same before, also on the way to other worlds,
+    /// and else shared with the outcomes of before. A spent world tells of none.
+    pub fn outcome(&mut self) -> Result<Outcome, SendError>
+        ensures told { IfOk result (λ outcome. outcome ≡ outcome_of self.old.file.run.sessions self.old.world) }
+        ensures own { IfOk result (IsOutcomeOf self.old.file.run) }
+        ensures spent { IsErrOf result SendError.Spent ↔ (self.old.spent ≡ true) }
+        ensures same { self.new ≡ self.old }
     {
         if self.is_spent {
             return Err(SendError::Spent);
         }
-        let transcripts = self.stage.transcripts(self.spec.sessions())?;
-        Ok(Outcome::new(self.alloc, transcripts)?)
+        Ok(self.stage.outcome(self.spec.sessions())?)
     }
 
     /// Whether these are the transcripts so far, of which none is copied. A spent world tells of none.
@@ -200,6 +204,22 @@ impl MarkedWorld<'_> {
             ≡ option_map (λ (w : Wait). w.resource) (find (λ (w : Wait). w.session == session) self.now.world.waits) }
     {
         self.stage.wait_at(session)
+    }
+
+    /// How a session, or the control session behind all others, stands to its block.
+    pub fn status(&self, session: u8) -> Status
+        requires whole { self.now.spent ≡ false }
+        requires session { session ≤ self.now.file.run.sessions }
+        ensures { result ≡ (session_at self.now.world session).status }
+    {
+        self.stage.status(session)
+    }
+
+    /// The committed rows of a table in the order of their keys, whatever sessions have written and not kept. It takes no memory.
+    pub fn committed(&self, table: u16) -> Scan<'_>
+        ensures { result ≡ rows_of table self.now.world.rows }
+    {
+        self.stage.committed(table)
     }
 
     /// The mode that a session, or the control session behind all others, holds on a resource, if it holds one there.

@@ -1,5 +1,5 @@
 use Rattle.std.proofs.Common.{◌≡◌, map, take}
-use Rattle.marked_worlds.proofs.members.copied.Given as goal
+use Rattle.marked_worlds.proofs.told.copied.Given as goal
 
 -- those so far are copied
 abbrev pub invariant-loop-event : goal.invariant-loop-event

@@ -1,0 +1,165 @@
+//! The outcomes that were told, each of which is made once.
+
+ghost use Rattle.std.specs.Prelude.{◌≡◌, ◌≤◌, ◌<◌, All, IfOk, IfSome, [], length, map, take, true};
+ghost use Rattle.event_tree.specs.Lists.{HasNode, list_of};
+ghost use Rattle.marked_logs.specs.Logs.{told_to};
+ghost use Rattle.marked_worlds.specs.Told.{AreTold};
+
+use event_tree::NodeId;
+use finite_maps::Fork;
+use marked_logs::MarkedLogs;
+use std::alloc::{AllocError, Global};
+use std::collections::BTreeMap;
+use std::hash::{FoldHasher, Hasher};
+use transcripts::{Event, Outcome, Transcript};
+
+/// An outcome, with the node of what each session was told.
+#[derive(Drop)]
+pub(crate) struct ToldOutcome {
+    pub(crate) nodes: Vec<NodeId>,
+    pub(crate) outcome: Outcome,
+}
+
+/// Outcomes that were told, found by the nodes of what sessions were told. The index has a place for a number made of nodes. What it tells is compared
+/// node by node, so that nothing but speed and size depends on it.
+#[derive(Drop)]
+pub(crate) struct ToldTable {
+    pub(crate) kept: Vec<ToldOutcome>,
+    pub(crate) index: BTreeMap<u64, usize>,
+}
+
+impl ToldTable {
+    /// No outcomes.
+    pub(crate) fn new(alloc: Global) -> ToldTable
+        ensures { result.kept.items ≡ [] }
+    {
+        ToldTable {
+            kept: Vec::new(alloc),
+            index: BTreeMap::new(alloc),
+        }
+    }
+
+    /// What the first so many sessions were told. It is made, and kept, where they were not told so before; else what was kept is shared, and nothing is
+    /// copied.
+    pub(crate) fn outcome(
+        &mut self,
+        alloc: Global,
+        logs: &MarkedLogs<Event>,
+        count: u8,
+    ) -> Result<Outcome, AllocError>
+        requires few { count ≤ length logs.now.now }
+        requires told { AreTold logs.now.lists self.old.kept.items }
+        ensures outcome { IfOk result (λ outcome. outcome ≡ take count logs.now.now) }
+        ensures told { AreTold logs.now.lists self.new.kept.items }
+    {
+        let print = print_of(logs, count);
+        if let Some(outcome) = self.known(print, logs, count) {
+            return outcome.fork();
+        }
+        let nodes = nodes_of(alloc, logs, count)?;
+        let outcome = Outcome::new(alloc, transcripts_of(alloc, logs, count)?)?;
+        let told = ToldOutcome {
+            nodes,
+            outcome: outcome.fork()?,
+        };
+        self.index.insert(print, self.kept.len())?;
+        self.kept.push(told)?;
+        Ok(outcome)
+    }
+
+    /// What was kept of what the first so many sessions were told, looked for by the number that is made of their nodes.
+    fn known(&self, print: u64, logs: &MarkedLogs<Event>, count: u8) -> Option<&Outcome>
+        requires few { count ≤ length logs.now.now }
+        requires told { AreTold logs.now.lists self.now.kept.items }
+        ensures { IfSome result (λ outcome. outcome.now ≡ take count logs.now.now) }
+    {
+        let place = *self.index.get(&print)?;
+        let told = self.kept.as_slice().get(place)?;
+        if are_of(told.nodes.as_slice(), logs, count) {
+            Some(&told.outcome)
+        } else {
+            None
+        }
+    }
+}
+
+/// Whether the first so many sessions were told the lists of these nodes.
+fn are_of(nodes: &[NodeId], logs: &MarkedLogs<Event>, count: u8) -> bool
+    requires few { count ≤ length logs.now.now }
+    requires inside { All (HasNode logs.now.lists) nodes.now }
+    ensures { result ≡ true → map (list_of logs.now.lists) nodes.now ≡ take count logs.now.now }
+{
+    if nodes.len() != count as usize {
+        return false;
+    }
+    for session in 0..count {
+        if !logs.is_same(nodes[session as usize], logs.log(session)) {
+            return false;
+        }
+    }
+    true
+}
+
+/// A number that is the same where the first so many sessions were told the same, and seldom else.
+fn print_of(logs: &MarkedLogs<Event>, count: u8) -> u64
+    requires { count ≤ length logs.now.now }
+{
+    let mut hasher = FoldHasher::default();
+    for session in 0..count {
+        hasher.write_usize(logs.log(session).number());
+    }
+    hasher.finish()
+}
+
+/// The nodes of what the first so many sessions were told.
+fn nodes_of(alloc: Global, logs: &MarkedLogs<Event>, count: u8) -> Result<Vec<NodeId>, AllocError>
+    requires { count ≤ length logs.now.now }
+    ensures inside { IfOk result (λ nodes. All (HasNode logs.now.lists) nodes.items) }
+    ensures lists { IfOk result (λ nodes. map (list_of logs.now.lists) nodes.items ≡ take count logs.now.now) }
+{
+    let mut nodes = Vec::with_capacity(alloc, count as usize)?;
+    for session in 0..count {
+        nodes.push(logs.log(session))?;
+    }
+    Ok(nodes)
+}
+
+/// Copies of what the first so many sessions were told.
+fn transcripts_of(
+    alloc: Global,
+    logs: &MarkedLogs<Event>,
+    count: u8,
+) -> Result<Vec<Transcript>, AllocError>
+    requires { count ≤ length logs.now.now }
+    ensures { IfOk result (λ transcripts. transcripts.items ≡ take count logs.now.now) }
+{
+    let mut transcripts = Vec::with_capacity(alloc, count as usize)?;
+    for session in 0..count {
+        transcripts.push(transcript_of(alloc, logs, session)?)?;
+    }
+    Ok(transcripts)
+}
+
+/// A copy of what a session was told.
+fn transcript_of(
+    alloc: Global,
+    logs: &MarkedLogs<Event>,
+    session: u8,
+) -> Result<Transcript, AllocError>
+    requires { session < length logs.now.now }
+    ensures { IfOk result (λ told. told ≡ told_to logs.now.now session) }
+{
+    let events = logs.events(alloc, logs.log(session))?;
+    copied(alloc, events.as_slice())
+}
+
+/// A transcript of copies of these.
+fn copied(alloc: Global, events: &[&Event]) -> Result<Transcript, AllocError>
+    ensures { IfOk result (λ told. told ≡ map (λ e. e.now) events.now) }
+{
+    let mut told = Transcript::new(alloc);
+    for event in events {
+        told.push(event.fork()?)?;
+    }
+    Ok(told)
+}
