@@ -31,12 +31,23 @@ use transcripts::Outcome;
 ///
 /// Contracts see the spec and its numbers, the world now, the worlds at the marks that stand, the newest first, and whether the world is spent. A world
 /// is spent by a step that is refused memory; what was at marks stays, and where it goes back to one it is spent no more.
-#[derive(Drop)]
 pub struct MarkedWorld<'a> {
     spec: &'a Spec,
     alloc: Global,
     stage: MarkedStage,
     is_spent: bool,
+}
+
+// Written out and not derived, so that who owns one calls this and does not let its parts go one by one.
+impl Drop for MarkedWorld<'_> {
+    fn drop(self) {
+        let MarkedWorld {
+            spec: _,
+            alloc: _,
+            stage: _stage,
+            is_spent: _,
+        } = self;
+    }
 }
 
 impl<'a> Model for MarkedWorld<'a> {
