@@ -6,7 +6,7 @@ ghost use Rattle.rank_facts.specs.Facts.{IsTrueAt};
 ghost use Rattle.rank_facts.specs.Swap.{are_quiet_at};
 ghost use Rattle.rank_facts.specs.declared.fact.Fact.TheVariants as fact;
 ghost use Rattle.marked_paths.specs.Paths.{IsPath};
-ghost use Rattle.step_reducer.specs.Reduced.{first_world};
+ghost use Rattle.marked_paths.specs.Paths.{first_world};
 ghost use Rattle.perm_ranks.specs.Words.{all_words, total};
 ghost use Rattle.book_audit.specs.Grounds.{IsTrueUntil, AreAlikeTo};
 

@@ -1,8 +1,6 @@
 -- The world that a walk shows is the one behind the line of the rank that was run, and shows what the rank does.
-use Rattle.std.proofs.Common.{◌≡◌, refl, sym, ap, ◌∙◌, subst, ℕ, ◌<◌, ◌≤◌, List, [], ◌∷◌, map, slice_get, Option, Some, None, option_map, arith}
+use Rattle.std.proofs.Common.{◌≡◌, sym, ap, ◌∙◌, subst, ℕ, ◌<◌, ◌≤◌, List, slice_get, Option, Some, None, option_map, arith}
 use Rattle.std.proofs.lemmas.Option.{none-some}
-use Rattle.lock_modes.specs.Rows.{Tuple}
-use Rattle.lock_modes.specs.declared.value.Value.{Value}
 use Rattle.binding_model.specs.declared.tables.Table.{Table}
 use Rattle.bound_specs.specs.Spec.{Spec, line_of}
 use Rattle.transcripts.specs.declared.event.Event.{Event}
@@ -11,22 +9,18 @@ use Rattle.machine_model.specs.Start.{Start, Started, start}
 use Rattle.machine_model.specs.Outcome.{outcome_of_line}
 use Rattle.rank_facts.specs.Facts.{IsTrueAt, IsFactOf}
 use Rattle.rank_facts.specs.declared.fact.Fact.TheVariants.{Ran, Swap}
-use Rattle.session_machine.specs.Running.{Running}
-use Rattle.step_reducer.specs.Reduced.{first_world, line_world}
+use Rattle.marked_worlds.specs.Worlds.{MarkedRunning}
+use Rattle.marked_paths.specs.Paths.{first_world}
+use Rattle.step_reducer.specs.Reduced.{line_world}
 use Rattle.step_reducer.specs.Shardwise.{Shardwise, behind_line, Shows as ShowsWorld}
 use Rattle.step_reducer.specs.Walking.{Starts}
 use Rattle.step_reducer.specs.declared.fact.FactRun.{FactRun}
 use Rattle.order_classes.specs.declared.shows.Shows.{Shows}
-use Rattle.order_classes.specs.Shows.{shows_in, shows_at, unnumbered}
+use Rattle.order_classes.specs.Shows.{shows_in, shows_at}
 use Rattle.order_classes.proofs.Swaps.{world-started}
 use Rattle.class_walks.specs.declared.found.What.TheVariants.{Shown}
 use Rattle.class_walks.specs.Found.{IsSo}
-use Rattle.class_walks.specs.Working.{IsGiven, at_zero}
-
--- the rows of a table without a key, each at 0
-pub zeros-unnumbered : (es : List (Value × Tuple)) → map at_zero es ≡ unnumbered es
-zeros-unnumbered [] = refl
-zeros-unnumbered (e ∷ es) = ap (λ rows. at_zero e ∷ rows) (zeros-unnumbered es)
+use Rattle.class_walks.specs.Working.{IsGiven}
 
 first-started : (spec : Spec) (w : World) → start spec ≡ Started w → first_world spec ≡ w
 first-started spec w e = ap (λ (s : Start). let v : World = elim s [ Started u ↦ u | _ ↦ blank ] in v) e
@@ -62,20 +56,20 @@ module _ (x : Shardwise) (run : FactRun) (o : List (List Event)) (given : IsGive
   pub shows_some : x.behind ≡ None → ⊥
   shows_some none = none-some (line_world x.file.run run.first) (sym none ∙ world-is)
 
-  shown-world : (r : Running) → ShowsWorld x r → r.world ≡ line_world x.file.run run.first
+  shown-world : (r : MarkedRunning) → ShowsWorld x r → r.world ≡ line_world x.file.run run.first
   shown-world r shows = (let e : Some r.world ≡ Some (line_world x.file.run run.first) = sym shows.behind ∙ world-is in cc)
 
   is-true : IsTrueAt x.file.run run.first (Ran o)
   is-true = (subst (IsFactOf x.reduce x.file.run run.first) fact (given.facts run.first (omega arith) given.some)).0
 
   -- the outcome is told by the world that the walk shows
-  pub told_shown : (r : Running) → Starts x.file.run → ShowsWorld x r → o ≡ outcome_of r.file.run.sessions r.world
+  pub told_shown : (r : MarkedRunning) → Starts x.file.run → ShowsWorld x r → o ≡ outcome_of r.file.run.sessions r.world
   told_shown r starts shows =
       told-there x.file.run run.first o starts is-true ∙ ap (outcome_of x.file.run.sessions) (sym (shown-world r shows))
       ∙ ap (λ f. outcome_of f.run.sessions r.world) (sym shows.file_is)
 
   -- and its number is noted
-  pub noted_so : (tables : List Table) (all : List Shows) (n : ℕ) (r : Running) → Starts x.file.run → ShowsWorld x r
+  pub noted_so : (tables : List Table) (all : List Shows) (n : ℕ) (r : MarkedRunning) → Starts x.file.run → ShowsWorld x r
       → slice_get all n ≡ Some (shows_in tables r.file.run.sessions r.world) → IsSo tables x.file.run all run.first run.end (Shown n)
   noted_so tables all n r starts shows at =
       let there : shows_at tables x.file.run run.first ≡ Some (shows_in tables r.file.run.sessions r.world) =

@@ -8,6 +8,10 @@ use Rattle.binding_model.specs.declared.tables.Table.{Table}
 use Rattle.bound_specs.specs.Spec.{SpecFile}
 use Rattle.range_progress.specs.declared.cutting.TheConstants.{SHARD_RANKS}
 use Rattle.order_classes.specs.declared.shows.Shows.{Shows}
+use Rattle.machine_model.specs.declared.status.Status.{Status}
+use Rattle.machine_model.specs.declared.status.Status.TheVariants.{Outside, InBlock, Broken}
+use Rattle.order_classes.specs.declared.shows.Rest.{Rest}
+use Rattle.order_classes.specs.declared.shows.Rest.TheVariants.{HasEnded, IsOpen, HasFailed}
 use Rattle.rank_facts.specs.declared.fact.Fact.TheVariants.{Ran}
 use Rattle.step_reducer.specs.Shardwise.{Shardwise, world_behind}
 use Rattle.step_reducer.specs.Walks.{AllHave}
@@ -31,6 +35,12 @@ pub record IsGiven (walk : Shardwise) (run : FactRun) : Type 0 where
 -- a row whose number nobody sees
 abbrev pub at_zero : Value × Tuple → Value × Tuple
 at_zero e = (Int (pos 0), e.1)
+
+-- how a session stands that does not wait
+abbrev pub rest_by : Status → Rest
+rest_by Outside = HasEnded
+rest_by InBlock = IsOpen
+rest_by Broken = HasFailed
 
 -- what was noted up to where the walk stands
 pub record IsGathering (tables : List Table) (file : SpecFile) (from to : ℕ) (before : List Shows) (walk : Shardwise) (shows : List Shows) (runs : List FoundRun) : Type 0 where

@@ -1,17 +1,18 @@
 //! What a world shows behind a line.
 
-ghost use Rattle.std.specs.Prelude.{◌≡◌, map, false, IfOk};
+ghost use Rattle.std.specs.Prelude.{◌≡◌, ◌<◌, map, false, IfOk};
 ghost use Rattle.machine_model.specs.World.{outcome_of};
-ghost use Rattle.line_moments.specs.Left.{left_in, standings};
-ghost use Rattle.order_classes.specs.Shows.{rest_of, seen, shows_in, unnumbered};
-ghost use Rattle.class_walks.specs.Working.{at_zero};
+ghost use Rattle.row_tables.specs.Layers.{rows_of};
+ghost use Rattle.line_moments.specs.Left.{left_in, standing_of, standings};
+ghost use Rattle.order_classes.specs.Shows.{rest_of, seen, shows_in};
+ghost use Rattle.class_walks.specs.Working.{at_zero, rest_by};
 
 use binding_model::Table;
 use finite_maps::Fork;
-use line_moments::{Left, Standing};
 use lock_modes::{Row, Value};
-use order_classes::{Rest, Shows, copied_rows};
-use session_machine::{SendError, World};
+use machine_model::Status;
+use marked_worlds::MarkedWorld;
+use order_classes::{Rest, Shows};
 use sqlite_items::Items;
 use std::alloc::{AllocError, Global};
 use transcripts::Outcome;
@@ -19,7 +20,7 @@ use transcripts::Outcome;
 /// What a world shows that has told this.
 pub(crate) fn shows_of(
     alloc: Global,
-    world: &World<'_>,
+    world: &MarkedWorld<'_>,
     told: &Outcome,
     tables: &[Table],
 ) -> Result<Shows, AllocError>
@@ -36,93 +37,106 @@ pub(crate) fn shows_of(
 /// What is seen of the rows that are left.
 fn left_behind(
     alloc: Global,
-    world: &World<'_>,
+    world: &MarkedWorld<'_>,
     tables: &[Table],
 ) -> Result<Items<Items<(Value, Row)>>, AllocError>
     requires { world.now.spent ≡ false }
     ensures { IfOk result (λ left. left ≡ map seen (left_in tables.now world.now.world)) }
 {
-    match world.left(tables) {
-        Ok(left) => seen_of(alloc, left.as_slice()),
-        Err(SendError::NoMemory) => Err(AllocError),
-        Err(SendError::Spent) => unreachable!(),
-    }
-}
-
-fn rests_behind(alloc: Global, world: &World<'_>) -> Result<Items<Rest>, AllocError>
-    requires { world.now.spent ≡ false }
-    ensures { IfOk result (λ rests. rests ≡ map rest_of (standings world.now.file.run.sessions world.now.world)) }
-{
-    match world.standings() {
-        Ok(standings) => rests_of(alloc, standings.as_slice()),
-        Err(SendError::NoMemory) => Err(AllocError),
-        Err(SendError::Spent) => unreachable!(),
-    }
-}
-
-fn rests_of(alloc: Global, standings: &[Standing]) -> Result<Items<Rest>, AllocError>
-    ensures { IfOk result (λ rests. rests ≡ map rest_of standings.now) }
-{
-    let mut rests = Items::new(alloc);
-    for standing in standings {
-        rests.push(rest_of(standing))?;
-    }
-    Ok(rests)
-}
-
-fn rest_of(standing: &Standing) -> Rest
-    ensures { result ≡ rest_of standing.now }
-{
-    match standing {
-        Standing::HasEnded => Rest::HasEnded,
-        Standing::IsOpen => Rest::IsOpen,
-        Standing::HasFailed => Rest::HasFailed,
-        Standing::StillWaits(_) => Rest::StillWaits,
-    }
-}
-
-fn seen_of(alloc: Global, lefts: &[Left]) -> Result<Items<Items<(Value, Row)>>, AllocError>
-    ensures { IfOk result (λ all. all ≡ map seen lefts.now) }
-{
     let mut all = Items::new(alloc);
-    for left in lefts {
-        let rows = seen_in(alloc, left)?;
+    for number in 0..tables.len() {
+        let rows = seen_in(alloc, world, &tables[number], number)?;
         all.push(rows)?;
     }
     Ok(all)
 }
 
-/// The rows of a table, as its readers see them.
-fn seen_in(alloc: Global, left: &Left) -> Result<Items<(Value, Row)>, AllocError>
-    ensures { IfOk result (λ rows. rows ≡ seen left.now) }
+/// The rows of the table with this number, as its readers see them.
+fn seen_in(
+    alloc: Global,
+    world: &MarkedWorld<'_>,
+    table: &Table,
+    number: usize,
+) -> Result<Items<(Value, Row)>, AllocError>
+    requires { world.now.spent ≡ false }
+    ensures { IfOk result (λ rows. rows ≡ seen (record { table = table.now; rows = rows_of number world.now.world.rows })) }
 {
-    match left.table.key() {
-        Some(_) => copied_rows(alloc, left.rows.as_slice()),
-        None => unnumbered(alloc, left.rows.as_slice()),
+    // No file has room for so many tables.
+    let Ok(number) = u16::try_from(number) else {
+        return Err(AllocError);
+    };
+    match table.key() {
+        Some(_) => rows_behind(alloc, world, number),
+        None => unnumbered(alloc, world, number),
     }
 }
 
-/// The rows, each at 0.
-fn unnumbered(alloc: Global, rows: &[(Value, Row)]) -> Result<Items<(Value, Row)>, AllocError>
-    ensures { IfOk result (λ all. all ≡ unnumbered rows.now) }
+/// The rows of a table in the order of their keys.
+fn rows_behind(
+    alloc: Global,
+    world: &MarkedWorld<'_>,
+    table: u16,
+) -> Result<Items<(Value, Row)>, AllocError>
+    requires { world.now.spent ≡ false }
+    ensures { IfOk result (λ rows. rows ≡ rows_of table world.now.world.rows) }
 {
-    all_at_zero(alloc, rows)
-}
-
-fn all_at_zero(alloc: Global, rows: &[(Value, Row)]) -> Result<Items<(Value, Row)>, AllocError>
-    ensures { IfOk result (λ all. all ≡ map at_zero rows.now) }
-{
-    let mut all = Items::new(alloc);
-    for entry in rows {
-        let row = at_zero(entry)?;
-        all.push(row)?;
+    let mut rows = Items::new(alloc);
+    for (key, row) in world.committed(table) {
+        let key = key.fork()?;
+        let row = row.fork()?;
+        rows.push((key, row))?;
     }
-    Ok(all)
+    Ok(rows)
 }
 
-fn at_zero(entry: &(Value, Row)) -> Result<(Value, Row), AllocError>
-    ensures { IfOk result (λ row. row ≡ at_zero entry.now) }
+/// The rows of a table, each at 0.
+fn unnumbered(
+    alloc: Global,
+    world: &MarkedWorld<'_>,
+    table: u16,
+) -> Result<Items<(Value, Row)>, AllocError>
+    requires { world.now.spent ≡ false }
+    ensures { IfOk result (λ rows. rows ≡ map at_zero (rows_of table world.now.world.rows)) }
 {
-    let row = entry.1.fork()?;
-    Ok((Value::Int(0), row))
+    let mut rows = Items::new(alloc);
+    for (_key, row) in world.committed(table) {
+        let row = row.fork()?;
+        rows.push((Value::Int(0), row))?;
+    }
+    Ok(rows)
+}
+
+/// How sessions stand, in their order.
+fn rests_behind(alloc: Global, world: &MarkedWorld<'_>) -> Result<Items<Rest>, AllocError>
+    requires { world.now.spent ≡ false }
+    ensures { IfOk result (λ rests. rests ≡ map rest_of (standings world.now.file.run.sessions world.now.world)) }
+{
+    let mut rests = Items::new(alloc);
+    for session in 0..world.spec().sessions() {
+        rests.push(rest_of(world, session))?;
+    }
+    Ok(rests)
+}
+
+/// How a session stands.
+fn rest_of(world: &MarkedWorld<'_>, session: u8) -> Rest
+    requires whole { world.now.spent ≡ false }
+    requires session { session < world.now.file.run.sessions }
+    ensures { result ≡ rest_of (standing_of world.now.world session) }
+{
+    if world.waits(session) {
+        return Rest::StillWaits;
+    }
+    rest_outside(world.status(session))
+}
+
+/// How a session stands that does not wait.
+fn rest_outside(status: Status) -> Rest
+    ensures { result ≡ rest_by status }
+{
+    match status {
+        Status::Outside => Rest::HasEnded,
+        Status::InBlock => Rest::IsOpen,
+        Status::Broken => Rest::HasFailed,
+    }
 }

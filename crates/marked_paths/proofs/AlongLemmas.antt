@@ -2,7 +2,7 @@
 use Rattle.std.proofs.Common.{◌≡◌, ◌<◌, ◌∙◌, refl, sym, ap, subst, arith, ℕ, zero, suc, false, List, [], ◌∷◌, ◌++◌, length, get_or, take}
 use Rattle.bound_specs.specs.Spec.{Step}
 use Rattle.machine_model.specs.World.{World, send, send_all}
-use Rattle.step_reducer.specs.Reduced.{first_world}
+use Rattle.marked_paths.specs.Paths.{first_world}
 use Rattle.marked_worlds.specs.Worlds.{MarkedRunning}
 use Rattle.marked_paths.specs.Paths.{worlds_before, IsAlong}
 

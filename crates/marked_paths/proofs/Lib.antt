@@ -1,2 +1,3 @@
 mod AlongLemmas
+pub mod FrontLemmas
 pub mod PathLemmas

@@ -1,8 +1,8 @@
 -- What a path tells, by the spec that it is of.
-use Rattle.std.proofs.Common.{◌≡◌, sym, ap, subst}
+use Rattle.std.proofs.Common.{◌≡◌, ◌∙◌, sym, ap, subst}
 use Rattle.bound_specs.specs.Spec.{SpecFile}
 use Rattle.machine_model.specs.World.{send_all, outcome_of}
-use Rattle.step_reducer.specs.Reduced.{first_world}
+use Rattle.marked_paths.specs.Paths.{first_world}
 use Rattle.marked_paths.specs.Paths.{IsPath}
 use Rattle.marked_paths.specs.declared.path.MarkedPath.{MarkedPath}
 
@@ -14,3 +14,7 @@ pub path-told : (file : SpecFile) (p : MarkedPath) → IsPath file p
     → outcome_of p.world.file.run.sessions (send_all p.world.file.run.steps (first_world p.world.file.run) p.line.items)
     ≡ outcome_of file.run.sessions (send_all file.run.steps (first_world file.run) p.line.items)
 path-told file p is = ap (λ (f : SpecFile). outcome_of f.run.sessions (send_all f.run.steps (first_world f.run) p.line.items)) is.file_is
+
+-- the world behind all steps
+pub path-world : (file : SpecFile) (p : MarkedPath) → IsPath file p → p.world.world ≡ send_all file.run.steps (first_world file.run) p.line.items
+path-world file p is = is.along.now ∙ ap (λ (f : SpecFile). send_all f.run.steps (first_world f.run) p.line.items) is.file_is

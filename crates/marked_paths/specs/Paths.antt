@@ -1,12 +1,15 @@
 -- A line of a spec with the worlds along it, each at a mark.
 use Rattle.std.specs.Prelude.{◌≡◌, ℕ, false, List, [], ◌∷◌}
-use Rattle.bound_specs.specs.Spec.{SpecFile, Step}
-use Rattle.machine_model.specs.World.{World, send, send_all}
+use Rattle.bound_specs.specs.Spec.{Spec, SpecFile, Step}
+use Rattle.machine_model.specs.World.{World, blank, send, send_all}
 use Rattle.machine_model.specs.Start.{Started, start}
 use Rattle.plan_pairs.specs.Pairs.{ArePairs}
-use Rattle.step_reducer.specs.Reduced.{first_world}
 use Rattle.marked_worlds.specs.Worlds.{MarkedRunning}
 use Rattle.marked_paths.specs.declared.path.MarkedPath.{MarkedPath}
+
+-- the world in which a spec starts, and a blank one where it does not
+abbrev pub first_world : Spec → World
+first_world spec = (let w : World = elim (start spec) [ Started w ↦ w | _ ↦ blank ] in w)
 
 -- the worlds before each of these steps, the last one first, and behind them those that were there
 abbrev pub worlds_before : List Step → List World → World → List ℕ → List World

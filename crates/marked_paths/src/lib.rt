@@ -2,7 +2,9 @@
 #![tactic(auto)]
 
 mod front;
+mod paired_world;
 mod path;
 mod steps;
 
+pub use paired_world::PairedWorld;
 pub use path::MarkedPath;

@@ -6,19 +6,18 @@ ghost use Rattle.machine_model.specs.Start.{start};
 ghost use Rattle.machine_model.specs.World.{outcome_of, send_all};
 ghost use Rattle.rank_facts.specs.Quiet as quiet;
 ghost use Rattle.session_steps.specs.Refused.{IsRefusedBy};
-ghost use Rattle.step_reducer.specs.Reduced.{first_world};
-ghost use Rattle.marked_paths.specs.Paths.{IsPath};
+ghost use Rattle.marked_paths.specs.Fronts.{front};
+ghost use Rattle.marked_paths.specs.Paths.{first_world, IsPath};
 
 use crate::front::shared_front;
+use crate::paired_world::PairedWorld;
 use crate::steps::{go_back, go_on};
 use bound_specs::{Line, Spec};
 use marked_quiet::quiet;
 use marked_worlds::MarkedWorld;
-use numbered_specs::SpecNumbers;
 use plan_pairs::StepPairs;
 use session_steps::StartError;
 use std::alloc::{AllocError, Global};
-use std::sync::Arc;
 use transcripts::Outcome;
 
 /// The steps of a spec that were sent last, in a world with a mark before each of them. Lines that begin alike share what was sent of them.
@@ -36,10 +35,7 @@ impl<'a> MarkedPath<'a> {
         ensures line { IfOk result (λ path. path.line.items ≡ []) }
         ensures refused { IfErr result (λ error. IsRefusedBy error (start spec.now.run)) }
     {
-        let numbers = SpecNumbers::of_spec(alloc, spec)?;
-        let pairs = StepPairs::of_spec(alloc, spec, &numbers)?;
-        let numbers = shared(alloc, numbers)?;
-        let world = MarkedWorld::start(alloc, spec, numbers)?;
+        let PairedWorld { world, pairs } = PairedWorld::start(alloc, spec)?;
         Ok(MarkedPath {
             world,
             pairs,
@@ -54,18 +50,43 @@ impl<'a> MarkedPath<'a> {
         self.world.spec()
     }
 
-    /// Goes to other steps. Only those behind the front that both lines share are sent. Where memory is refused the path is good for nothing more.
-    pub fn go_to(&mut self, line: Line) -> Result<(), AllocError>
+    /// Goes to other steps, and answers how many of them were sent already: only those behind the front that both lines share are sent.
+    /// Where memory is refused the path is good for nothing more.
+    #[tactic(auto, using(crate::proofs::FrontLemmas::few_old, crate::proofs::FrontLemmas::few_new, crate::proofs::FrontLemmas::same_front))]
+    pub fn go_to(&mut self, line: Line) -> Result<usize, AllocError>
         requires path { IsPath self.old.world.file self.old }
         requires known { All (λ k. k < length self.old.world.file.run.steps) line.items }
         ensures path { OnOk result (IsPath self.old.world.file self.new) }
         ensures line { OnOk result (self.new.line.items ≡ line.items) }
+        ensures shared { IfOk result (λ n. n ≡ front self.old.line.items line.items) }
+        ensures file { self.new.world.file ≡ self.old.world.file }
+        ensures numbers { self.new.world.numbers ≡ self.old.world.numbers }
     {
         let shared = shared_front(self.line.as_slice(), line.as_slice());
         go_back(&mut self.world, self.line.as_slice(), shared);
         go_on(&mut self.world, line.as_slice(), shared)?;
         self.line = line;
-        Ok(())
+        Ok(shared)
+    }
+
+    /// The world behind all steps.
+    pub fn world(&self) -> &MarkedWorld<'a>
+        ensures { result.now ≡ self.now.world }
+    {
+        &self.world
+    }
+
+    /// The transcripts behind all steps. Equal ones are shared.
+    pub fn outcome(&mut self) -> Result<Outcome, AllocError>
+        requires { IsPath self.old.world.file self.old }
+        ensures told { IfOk result (λ outcome. outcome ≡ outcome_of self.old.world.file.run.sessions
+            (send_all self.old.world.file.run.steps (first_world self.old.world.file.run) self.old.line.items)) }
+        ensures same { self.new ≡ self.old }
+    {
+        match self.world.outcome() {
+            Ok(outcome) => Ok(outcome),
+            Err(_) => Err(AllocError),
+        }
     }
 
     /// Whether these are the transcripts behind all steps.
@@ -90,10 +111,4 @@ impl<'a> MarkedPath<'a> {
     {
         quiet(&self.world, &self.pairs, step, other)
     }
-}
-
-fn shared(alloc: Global, numbers: SpecNumbers) -> Result<Arc<SpecNumbers>, AllocError>
-    ensures { IfOk result (λ shared. shared.value ≡ numbers) }
-{
-    Ok(Arc::new(alloc, numbers)?)
 }

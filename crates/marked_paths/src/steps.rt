@@ -12,6 +12,7 @@ pub(crate) fn go_back(world: &mut MarkedWorld<'_>, line: &[u8], shared: usize)
     requires inside { shared ≤ length line.now }
     ensures along { IsAlong (take shared line.now) world.new }
     ensures file { world.new.file ≡ world.old.file }
+    ensures numbers { world.new.numbers ≡ world.old.numbers }
 {
     let mut left = line.len();
     'later: while left > shared {
@@ -27,6 +28,7 @@ pub(crate) fn go_on(world: &mut MarkedWorld<'_>, line: &[u8], from: usize) -> Re
     requires inside { from ≤ length line.now }
     ensures along { OnOk result (IsAlong line.now world.new) }
     ensures file { world.new.file ≡ world.old.file }
+    ensures numbers { world.new.numbers ≡ world.old.numbers }
 {
     for place in from..line.len() {
         step_on(world, line[place])?;
@@ -40,6 +42,7 @@ fn step_on(world: &mut MarkedWorld<'_>, step: u8) -> Result<(), AllocError>
     requires known { step < length world.old.file.run.steps }
     ensures along { OnOk result ((ks : List ℕ) → IsAlong ks world.old → IsAlong (ks ++ step ∷ []) world.new) }
     ensures file { world.new.file ≡ world.old.file }
+    ensures numbers { world.new.numbers ≡ world.old.numbers }
 {
     mark(world)?;
     match world.send(step) {
@@ -51,6 +54,7 @@ fn step_on(world: &mut MarkedWorld<'_>, step: u8) -> Result<(), AllocError>
 fn mark(world: &mut MarkedWorld<'_>) -> Result<(), AllocError>
     ensures marked { OnOk result (world.new ≡ record world.old { marked = world.old.world ∷ world.old.marked }) }
     ensures file { world.new.file ≡ world.old.file }
+    ensures numbers { world.new.numbers ≡ world.old.numbers }
 {
     match world.mark() {
         Ok(()) => Ok(()),

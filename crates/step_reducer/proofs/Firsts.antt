@@ -9,8 +9,9 @@ use Rattle.machine_model.specs.Outcome.{outcome_of_line}
 use Rattle.rank_facts.specs.Facts.{IsFactOf}
 use Rattle.rank_facts.specs.declared.fact.Fact.TheVariants.{Ran}
 use Rattle.transcripts.specs.declared.event.Event.{Event}
-use Rattle.step_reducer.specs.Reduced.{tour_of, first_world, IsTour, IsPlace}
-use Rattle.step_reducer.specs.declared.frame.Frame.{Frame}
+use Rattle.marked_paths.specs.Paths.{first_world}
+use Rattle.step_reducer.specs.Reduced.{tour_of, IsTour, IsPlace}
+use Rattle.step_reducer.specs.Framed.{Framed}
 use Rattle.step_reducer.specs.declared.word_walk.WordWalk.{WordWalk}
 use Rattle.step_reducer.specs.Walks.{lowest, AreAbove}
 use Rattle.step_reducer.specs.Walking.{IsWords}
@@ -26,7 +27,7 @@ tour-is spec reduce w e words = record { starts = e ∙ ap Started (sym (first-i
 pub words-first : (file : SpecFile) (w : WordWalk) (counts : List ℕ)
     → counts ≡ counts_of (queues_of file.run) → file.run.lines ≡ [] → start file.run ≡ Started w.stack.top.world.world → w.stack.top.world.spent ≡ false
     → w.stack.top.world.file ≡ file
-    → IsBlockOf counts [] w.stack.top.block → w.stack.top.block ≡ record { left = counts; first = 0 } → w.stack.top.swaps.items ≡ [] → w.stack.below.items ≡ []
+    → IsBlockOf counts [] w.stack.top.block → w.stack.top.block ≡ record { left = counts; first = 0 } → w.stack.top.swaps ≡ [] → w.stack.below ≡ []
     → w.table ≡ queues_of file.run → w.steps ≡ total counts → w.end ≤ length (all_words counts) → w.at ≤ w.end → IsWords file w.reduce w.at w.end w
 words-first file w counts is_counts words started whole is_file block all none below table steps few order = record {
   walk = record {
@@ -34,11 +35,11 @@ words-first file w counts is_counts words started whole is_file block all none b
     table = table;
     steps = steps ∙ ap total is_counts;
     stack = record {
-      below = λ k d lt. absurd (let len = ap (λ (fs : List Frame). length fs) below in omega (arith, len, lt));
+      below = λ k d lt. absurd (let len = ap (λ (fs : List Framed). length fs) below in omega (arith, len, lt));
       top = record {
         frame = record {
           shared = [];
-          stands = subst (λ v. IsPlace (tour_of file.run w.reduce) [] w.stack.top.block v w.stack.top.swaps.items)
+          stands = subst (λ v. IsPlace (tour_of file.run w.reduce) [] w.stack.top.block v w.stack.top.swaps)
               (first-is file.run w.stack.top.world.world started)
               (subst (λ s. IsPlace (tour_of file.run w.reduce) [] w.stack.top.block (first_world file.run) s) (sym none)
               (place-first (tour_of file.run w.reduce) w.stack.top.block (subst (λ c. IsBlockOf c [] w.stack.top.block) is_counts block)

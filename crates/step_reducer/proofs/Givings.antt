@@ -50,7 +50,7 @@ module _ (file : SpecFile) (reduce : Bool) (first : ℕ) where
       (let r : IsRest file reduce at w (Some run) = subst (IsRest file reduce at w) (sym is) standing.rest_is in
       let few = walk-few file reduce first end w standing.walk in
       let behind = r.2 in (
-        record { first = r.0; some = r.1; few = omega (arith, few, behind); one = λ run. never-skips reduce file.run r.4 run; facts = r.3 },
+        record { first = r.0; some = r.1; few = omega (arith, few, behind); one = λ run. never-skips reduce file.run r.4 run; ran = r.5; facts = r.3 },
         record { least = omega arith; most = omega arith; few = omega arith; exact = λ run. never-skips reduce file.run r.4 run },
         ap (λ l. now run.end end sent l spent) none,
       ))
@@ -85,7 +85,7 @@ module _ (file : SpecFile) (reduce : Bool) (first : ℕ) where
       let sent_few = walked.sent_few in
       let begin : given.run.first ≡ at = walked.moved.begin ∙ r in
       let most : given.sent ≤ most_steps file.run at given.run.fact = subst (λ m. given.sent ≤ most_steps file.run m given.run.fact) begin walked.most in (
-        record { first = begin; some = walked.moved.some; few = omega (arith, few, behind); one = walked.moved.one; facts = walked.moved.facts },
+        record { first = begin; some = walked.moved.some; few = omega (arith, few, behind); one = walked.moved.one; ran = walked.moved.ran.one; facts = walked.moved.facts },
         record {
           least = omega arith;
           most = omega (arith, most);
@@ -167,7 +167,7 @@ module _ (file : SpecFile) (reduce : Bool) (first : ℕ) where
       subst (λ (y : Walking). skips y.reduce y.file.run ≡ true) (sym same) (must-skip x.reduce x.file.run run.first run.end is.one more) in
       record {
         walk = standing.walk;
-        rest_is = (refl, omega (arith, some, more), sym ends ∙ sym behind, λ r le lt. facts r (omega (arith, le)) lt, skipped);
+        rest_is = (refl, omega (arith, some, more), sym ends ∙ sym behind, λ r le lt. facts r (omega (arith, le)) lt, skipped, λ o e. absurd (more (sym (is.ran o e))));
         from = omega (arith, firsts, begin, from);
         few = standing.few;
         sent_few = omega (arith, firsts, begin, from, sents, most, sent_few);

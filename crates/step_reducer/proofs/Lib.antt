@@ -4,14 +4,13 @@ pub mod FactsAt
 pub mod Tables
 pub mod Turns
 pub mod Stacks
+pub mod Framing
 pub mod Listed
 pub mod Asked
 pub mod Quiets
-pub mod FrontLemmas
 pub mod Partings
 pub mod Sendings
 pub mod Firsts
-pub mod Trails
 pub mod Walkings
 pub mod Givings
 pub mod Shards

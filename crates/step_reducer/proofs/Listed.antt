@@ -9,6 +9,8 @@ use Rattle.machine_model.specs.World.{World}
 use Rattle.rank_facts.specs.Quiet.{is_quiet}
 use Rattle.rank_facts.specs.Swap.{quiet_heads}
 use Rattle.session_machine.specs.Running.{Running}
+use Rattle.marked_worlds.specs.Worlds.{MarkedRunning}
+use Rattle.marked_quiet.specs.Quiet.{is_quiet_at}
 use Rattle.step_reducer.specs.Pairs.{is_quiet_in}
 use Rattle.step_reducer.specs.Reduced.{is_pair}
 
@@ -40,10 +42,13 @@ listed-all xs n steps w rest letter len le ge below b = ⊎_elim first last case
     last h = get_or_past xs b false (omega arith) ∙ sym (ap (λ t. t && quiet_heads steps w (get_or rest letter []) (get_or rest b [])) (le-ltb b letter h))
 
 -- in a world that is not spent
+unspent : (spent answer : Bool) → spent ≡ false → (let x : Bool = elim spent [ true ↦ false | false ↦ answer ] in x) ≡ answer
+unspent spent answer e = ap (λ s. (let x : Bool = elim s [ true ↦ false | false ↦ answer ] in x)) e
+
 pub quiet-whole : (r : Running) (a b : ℕ) → r.spent ≡ false
     → is_quiet_in r a b ≡ is_quiet r.world (get_or r.file.run.steps a no_step) (get_or r.file.run.steps b no_step)
-quiet-whole r a b e = ap (λ s. (let x : Bool = elim s [
-  | true ↦ false
-  | false ↦ is_quiet r.world (get_or r.file.run.steps a no_step)
-      (get_or r.file.run.steps b no_step)
-] in x)) e
+quiet-whole r a b e = unspent r.spent (is_quiet r.world (get_or r.file.run.steps a no_step) (get_or r.file.run.steps b no_step)) e
+
+pub quiet-unspent : (r : MarkedRunning) (a b : ℕ) → r.spent ≡ false
+    → is_quiet_at r a b ≡ is_quiet r.world (get_or r.file.run.steps a no_step) (get_or r.file.run.steps b no_step)
+quiet-unspent r a b e = unspent r.spent (is_quiet r.world (get_or r.file.run.steps a no_step) (get_or r.file.run.steps b no_step)) e

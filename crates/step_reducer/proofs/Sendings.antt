@@ -4,9 +4,10 @@ use Rattle.perm_ranks.specs.Words.{total}
 use Rattle.perm_ranks.specs.Blocks.{Block, HasRank, end_of, narrowed}
 use Rattle.bound_specs.specs.Spec.{Spec, SpecFile, line_of, counts_of, queues_of}
 use Rattle.rank_facts.specs.Facts.{has_no_lines}
-use Rattle.step_reducer.specs.declared.stack.Stack.{Stack}
+use Rattle.step_reducer.specs.Framed.{Stacked}
 use Rattle.step_reducer.specs.declared.word_walk.WordWalk.{WordWalk}
-use Rattle.step_reducer.specs.Fronts.{front, new_steps}
+use Rattle.marked_paths.specs.Fronts.{front}
+use Rattle.step_reducer.specs.Fronts.{new_steps}
 use Rattle.step_reducer.specs.Walks.{IsAt, HasParted, IsFresh, IsBehind, Follows}
 use Rattle.step_reducer.specs.Walking.{skips}
 use Rattle.step_reducer.proofs.Partings.{line-length, parted-front}
@@ -19,7 +20,7 @@ words-run reduce spec words run = at reduce (ap (λ ls. reduce && has_no_lines l
     at true e = e
     at false e = e
 
-module _ (file : SpecFile) (reduce : Bool) (first : ℕ) (w : WordWalk) (g : Stack) (words : file.run.lines ≡ []) (some : w.at < w.end)
+module _ (file : SpecFile) (reduce : Bool) (first : ℕ) (w : WordWalk) (g : Stacked) (words : file.run.lines ≡ []) (some : w.at < w.end)
     (is : IsAt reduce file w.at w.end g)
     (back : (g.top.block ≡ w.stack.top.block) ⊎ HasParted (w.at - 1) w.at w.stack.top.block g.top.block) where
   abbrev spec : Spec
@@ -78,6 +79,6 @@ module _ (file : SpecFile) (reduce : Bool) (first : ℕ) (w : WordWalk) (g : Sta
           (λ p. (let from = p.from in
           let within = p.within in
           let has_last : HasRank (narrowed g.top.block p.letter) (w.at - 1) = (from, omega (arith, within, to)) in
-          let shared = parted-front spec reduce frame.shared g.top.block g.top.world.world g.top.swaps.items words frame.stands
+          let shared = parted-front spec reduce frame.shared g.top.block g.top.world.world g.top.swaps words frame.stands
           (w.at - 1) w.at p.letter p.left has_last is.has p.behind in
           new-later lt (omega (arith, shared, letters)))) back

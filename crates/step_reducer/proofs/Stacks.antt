@@ -10,43 +10,42 @@ use Rattle.perm_ranks.specs.Blocks.{Block, HasRank, end_of, narrowed}
 use Rattle.perm_ranks.proofs.BlockLemmas.{narrowed-le}
 use Rattle.perm_ranks.proofs.CountLemmas.{total-taken}
 use Rattle.bound_specs.specs.Spec.{SpecFile}
-use Rattle.step_reducer.specs.declared.frame.Frame.{Frame}
 use Rattle.step_reducer.specs.declared.frame.Turn.{Turn}
-use Rattle.step_reducer.specs.declared.stack.Stack.{Stack}
-use Rattle.step_reducer.specs.Walks.{IsSame, IsTurn, HasTurned, IsBefore, lowest, IsAbove, AreAbove, IsStack, HasParted, IsAt, HasGone}
-use Rattle.step_reducer.proofs.Turns.{frame-same, frame-turned}
+use Rattle.step_reducer.specs.Framed.{Framed, Stacked}
+use Rattle.step_reducer.specs.Walks.{IsTurn, HasTurned, IsBefore, lowest, IsAbove, AreAbove, IsStack, HasParted, IsAt, HasGone}
+use Rattle.step_reducer.proofs.Turns.{frame-turned}
 
-lowest-push : (fs : List Frame) (f g : Frame) → lowest (fs ++ f ∷ []) g ≡ lowest fs f
+lowest-push : (fs : List Framed) (f g : Framed) → lowest (fs ++ f ∷ []) g ≡ lowest fs f
 lowest-push [] f g = refl
 lowest-push (x ∷ fs) f g = refl
 
-all-front : (P : Frame → Type 0) (fs gs : List Frame) → All P (fs ++ gs) → All P fs
+all-front : (P : Framed → Type 0) (fs gs : List Framed) → All P (fs ++ gs) → All P fs
 all-front P fs gs all = λ k d lt. subst P (get_or-append fs gs d k lt) (all k d (omega (arith, length-append fs gs)))
 
-all-back : (P : Frame → Type 0) (fs : List Frame) (f : Frame) → All P (fs ++ f ∷ []) → P f
+all-back : (P : Framed → Type 0) (fs : List Framed) (f : Framed) → All P (fs ++ f ∷ []) → P f
 all-back P fs f all = subst P (get_or-append_seam fs f [] f) (all (length fs) f (omega (arith, length-append fs (f ∷ []))))
 
 -- ---- frames above one another
 
-above-popped : (at end : ℕ) (fs : List Frame) (f g : Frame) → AreAbove at end (fs ++ f ∷ []) g → AreAbove at end fs f × IsAbove at end f.block g.block
+above-popped : (at end : ℕ) (fs : List Framed) (f g : Framed) → AreAbove at end (fs ++ f ∷ []) g → AreAbove at end fs f × IsAbove at end f.block g.block
 above-popped at end [] f g all = (tt, all.0)
 above-popped at end (x ∷ fs) f g all =
     let rest = above-popped at end fs f g all.1 in
-    ((subst (λ (h : Frame). IsAbove at end x.block h.block) (lowest-push fs f g) all.0, rest.0), rest.1)
+    ((subst (λ (h : Framed). IsAbove at end x.block h.block) (lowest-push fs f g) all.0, rest.0), rest.1)
 
-above-pushed : (at end : ℕ) (fs : List Frame) (f g : Frame) → AreAbove at end fs f → IsAbove at end f.block g.block → AreAbove at end (fs ++ f ∷ []) g
+above-pushed : (at end : ℕ) (fs : List Framed) (f g : Framed) → AreAbove at end fs f → IsAbove at end f.block g.block → AreAbove at end (fs ++ f ∷ []) g
 above-pushed at end [] f g all one = (one, tt)
 above-pushed at end (x ∷ fs) f g all one =
-    (subst (λ (h : Frame). IsAbove at end x.block h.block) (sym (lowest-push fs f g)) all.0, above-pushed at end fs f g all.1 one)
+    (subst (λ (h : Framed). IsAbove at end x.block h.block) (sym (lowest-push fs f g)) all.0, above-pushed at end fs f g all.1 one)
 
 -- with another frame on top
-above-top : (at end : ℕ) (fs : List Frame) (f g : Frame) → ((b : Block) → IsAbove at end b f.block → IsAbove at end b g.block) → AreAbove at end fs f
+above-top : (at end : ℕ) (fs : List Framed) (f g : Framed) → ((b : Block) → IsAbove at end b f.block → IsAbove at end b g.block) → AreAbove at end fs f
     → AreAbove at end fs g
 above-top at end [] f g to all = tt
 above-top at end (x ∷ []) f g to all = (to x.block all.0, tt)
 above-top at end (x ∷ y ∷ fs) f g to all = (all.0, above-top at end (y ∷ fs) f g to all.1)
 
-above-later : (at later end : ℕ) (fs : List Frame) (top : Frame) → at ≤ later → AreAbove at end fs top → AreAbove later end fs top
+above-later : (at later end : ℕ) (fs : List Framed) (top : Framed) → at ≤ later → AreAbove at end fs top → AreAbove later end fs top
 above-later at later end [] top le all = tt
 above-later at later end (x ∷ fs) top le all =
     let one = all.0 in
@@ -81,23 +80,23 @@ above-narrowed at end b letter left from = record { letter = letter; left = left
 -- ---- what comes off the stack
 
 -- the frame below the topmost one, which is let go
-pub stack-popped : (reduce : Bool) (file : SpecFile) (at end : ℕ) (x y : Stack) → x.below.items ≡ y.below.items ++ y.top ∷ [] → IsStack reduce file at end x
+pub stack-popped : (reduce : Bool) (file : SpecFile) (at end : ℕ) (x y : Stacked) → x.below ≡ y.below ++ y.top ∷ [] → IsStack reduce file at end x
     → IsStack reduce file at end y
 stack-popped reduce file at end x y pops is =
-    let all : All (IsBefore reduce file at) (y.below.items ++ y.top ∷ []) = subst (All (IsBefore reduce file at)) pops is.below in
+    let all : All (IsBefore reduce file at) (y.below ++ y.top ∷ []) = subst (All (IsBefore reduce file at)) pops is.below in
     record {
-      below = all-front (IsBefore reduce file at) y.below.items (y.top ∷ []) all;
-      top = all-back (IsBefore reduce file at) y.below.items y.top all;
-      to = subst (λ (f : Frame). end ≤ end_of f.block) (ap (λ fs. lowest fs x.top) pops ∙ lowest-push y.below.items y.top x.top) is.to;
-      above = (above-popped at end y.below.items y.top x.top (subst (λ fs. AreAbove at end fs x.top) pops is.above)).0;
+      below = all-front (IsBefore reduce file at) y.below (y.top ∷ []) all;
+      top = all-back (IsBefore reduce file at) y.below y.top all;
+      to = subst (λ (f : Framed). end ≤ end_of f.block) (ap (λ fs. lowest fs x.top) pops ∙ lowest-push y.below y.top x.top) is.to;
+      above = (above-popped at end y.below y.top x.top (subst (λ fs. AreAbove at end fs x.top) pops is.above)).0;
     }
 
 -- of the frame below, the words that share one letter more are behind the rank to come
-pub parted-popped : (reduce : Bool) (file : SpecFile) (last at end : ℕ) (b : Block) (x y : Stack) → x.below.items ≡ y.below.items ++ y.top ∷ [] → at < end
+pub parted-popped : (reduce : Bool) (file : SpecFile) (last at end : ℕ) (b : Block) (x y : Stacked) → x.below ≡ y.below ++ y.top ∷ [] → at < end
     → end_of x.top.block ≤ at
     → IsStack reduce file last end x → (x.top.block ≡ b) ⊎ HasParted last at b x.top.block → HasParted last at b y.top.block
 parted-popped reduce file last at end b x y pops lt behind is before =
-    let one = (above-popped last end y.below.items y.top x.top (subst (λ fs. AreAbove last end fs x.top) pops is.above)).1 in
+    let one = (above-popped last end y.below y.top x.top (subst (λ fs. AreAbove last end fs x.top) pops is.above)).1 in
     let inside = one.within in
     record {
       letter = one.letter;
@@ -109,41 +108,41 @@ parted-popped reduce file last at end b x y pops lt behind is before =
     }
 
 -- where no frame is below, the topmost one has all ranks that are to come
-pub stack-alone : (reduce : Bool) (file : SpecFile) (at end : ℕ) (x : Stack) → x.below.items ≡ [] → IsStack reduce file at end x → end ≤ end_of x.top.block
-stack-alone reduce file at end x none is = subst (λ (fs : List Frame). end ≤ end_of (lowest fs x.top).block) none is.to
+pub stack-alone : (reduce : Bool) (file : SpecFile) (at end : ℕ) (x : Stacked) → x.below ≡ [] → IsStack reduce file at end x → end ≤ end_of x.top.block
+stack-alone reduce file at end x none is = subst (λ (fs : List Framed). end ≤ end_of (lowest fs x.top).block) none is.to
 
-before-turned : (reduce : Bool) (file : SpecFile) (at : ℕ) (f g : Frame) (u : Turn) → IsBefore reduce file at f → IsTurn reduce f at u
-    → get_or f.swaps.items u.letter false ≡ false → HasTurned f u g → IsBefore reduce file at g
+before-turned : (reduce : Bool) (file : SpecFile) (at : ℕ) (f g : Framed) (u : Turn) → IsBefore reduce file at f → IsTurn reduce f at u
+    → get_or f.swaps u.letter false ≡ false → HasTurned f u g → IsBefore reduce file at g
 before-turned reduce file at f g u is turn unlisted done = record {
   frame = frame-turned reduce file f g u at is.frame turn unlisted done;
   from = subst (λ (b : Block). b.first ≤ at) (sym done.block) turn.inside.0;
 }
 
-less-turned : (reduce : Bool) (at : ℕ) (f g : Frame) (u : Turn) → IsTurn reduce f at u → HasTurned f u g → total g.block.left < total f.block.left
+less-turned : (reduce : Bool) (at : ℕ) (f g : Framed) (u : Turn) → IsTurn reduce f at u → HasTurned f u g → total g.block.left < total f.block.left
 less-turned reduce at f g u turn done =
     let one = total-taken f.block.left u.letter turn.left in
     let same : total g.block.left ≡ total (taken f.block.left u.letter) = ap (λ (b : Block). total b.left) (done.block ∙ turn.block_is) in
     omega (arith, one, same)
 
 -- a letter is gone, and no later word before the end shares what was there
-pub gone-alone : (reduce : Bool) (file : SpecFile) (at end : ℕ) (x y : Stack) (u : Turn) → IsAt reduce file at end x → IsTurn reduce x.top at u
-    → get_or x.top.swaps.items u.letter false ≡ false
-    → HasTurned x.top u y.top → y.below.items ≡ x.below.items → (end ≤ end_of u.block) ⊎ (end_of x.top.block ≤ end_of u.block) → HasGone reduce file at end x y
+pub gone-alone : (reduce : Bool) (file : SpecFile) (at end : ℕ) (x y : Stacked) (u : Turn) → IsAt reduce file at end x → IsTurn reduce x.top at u
+    → get_or x.top.swaps u.letter false ≡ false
+    → HasTurned x.top u y.top → y.below ≡ x.below → (end ≤ end_of u.block) ⊎ (end_of x.top.block ≤ end_of u.block) → HasGone reduce file at end x y
 gone-alone reduce file at end x y u is turn unlisted done below last = record {
   now = record {
     stack = record {
       below = subst (All (IsBefore reduce file at)) (sym below) is.stack.below;
       top = before-turned reduce file at x.top y.top u is.stack.top turn unlisted done;
-      to = subst (λ fs. end ≤ end_of (lowest fs y.top).block) (sym below) (to-end x.below.items is.stack.to);
+      to = subst (λ fs. end ≤ end_of (lowest fs y.top).block) (sym below) (to-end x.below is.stack.to);
       above = subst (λ fs. AreAbove at end fs y.top) (sym below)
-          (above-top at end x.below.items x.top y.top (λ b one. above-part at end b x.top.block y.top.block part far one) is.stack.above);
+          (above-top at end x.below x.top y.top (λ b one. above-part at end b x.top.block y.top.block part far one) is.stack.above);
     };
     has = subst (λ b. HasRank b at) (sym done.block) turn.inside;
   };
   less = less-turned reduce at x.top y.top u turn done;
 }
   where
-    to-end : (fs : List Frame) → end ≤ end_of (lowest fs x.top).block → end ≤ end_of (lowest fs y.top).block
+    to-end : (fs : List Framed) → end ≤ end_of (lowest fs x.top).block → end ≤ end_of (lowest fs y.top).block
     to-end [] le = subst (λ b. end ≤ end_of b) (sym done.block) (⊎_elim (λ h. h) (λ h. omega (arith, h, le)) last)
     to-end (f ∷ fs) le = le
 
@@ -154,54 +153,41 @@ gone-alone reduce file at end x y u is turn unlisted done below last = record {
     far = subst (λ b. (end ≤ end_of b) ⊎ (end_of x.top.block ≤ end_of b)) (sym done.block) last
 
 -- a letter is gone, and what was there is kept below
-pub gone-kept : (reduce : Bool) (file : SpecFile) (at end : ℕ) (x y : Stack) (u : Turn) (kept : Frame) → IsAt reduce file at end x → IsTurn reduce x.top at u
-    → get_or x.top.swaps.items u.letter false ≡ false
-    → HasTurned x.top u y.top → IsSame x.top kept → y.below.items ≡ x.below.items ++ kept ∷ [] → HasGone reduce file at end x y
-gone-kept reduce file at end x y u kept is turn unlisted done same below = record {
+pub gone-kept : (reduce : Bool) (file : SpecFile) (at end : ℕ) (x y : Stacked) (u : Turn) → IsAt reduce file at end x → IsTurn reduce x.top at u
+    → get_or x.top.swaps u.letter false ≡ false → HasTurned x.top u y.top → y.below ≡ x.below ++ x.top ∷ [] → HasGone reduce file at end x y
+gone-kept reduce file at end x y u is turn unlisted done below = record {
   now = record {
     stack = record {
-      below = subst (All (IsBefore reduce file at)) (sym below) (All-push (IsBefore reduce file at) x.below.items kept is.stack.below
-          (record {
-            frame = frame-same reduce file x.top kept same is.stack.top.frame;
-            from = subst (λ (b : Block). b.first ≤ at)
-                (sym same.block) is.stack.top.from;
-          }));
+      below = subst (All (IsBefore reduce file at)) (sym below) (All-push (IsBefore reduce file at) x.below x.top is.stack.below is.stack.top);
       top = before-turned reduce file at x.top y.top u is.stack.top turn unlisted done;
-      to = subst (λ (f : Frame). end ≤ end_of f.block) (sym (ap (λ fs. lowest fs y.top) below ∙ lowest-push x.below.items kept y.top))
-          (to-end x.below.items is.stack.to);
-      above = subst (λ fs. AreAbove at end fs y.top) (sym below)
-          (above-pushed at end x.below.items kept y.top
-          (above-top at end x.below.items x.top kept (λ b one. subst (IsAbove at end b) (sym same.block) one) is.stack.above) on-top);
+      to = subst (λ (f : Framed). end ≤ end_of f.block) (sym (ap (λ fs. lowest fs y.top) below ∙ lowest-push x.below x.top y.top)) is.stack.to;
+      above = subst (λ fs. AreAbove at end fs y.top) (sym below) (above-pushed at end x.below x.top y.top is.stack.above on-top);
     };
     has = subst (λ b. HasRank b at) (sym done.block) turn.inside;
   };
   less = less-turned reduce at x.top y.top u turn done;
 }
   where
-    to-end : (fs : List Frame) → end ≤ end_of (lowest fs x.top).block → end ≤ end_of (lowest fs kept).block
-    to-end [] le = subst (λ b. end ≤ end_of b) (sym same.block) le
-    to-end (f ∷ fs) le = le
-
-    on-top : IsAbove at end kept.block y.top.block
-    on-top = subst (λ b. IsAbove at end b y.top.block) (sym same.block) (subst (IsAbove at end x.top.block) (sym (done.block ∙ turn.block_is))
-        (above-narrowed at end x.top.block u.letter turn.left (subst (λ (b : Block). b.first ≤ at) turn.block_is turn.inside.0)))
+    on-top : IsAbove at end x.top.block y.top.block
+    on-top = subst (IsAbove at end x.top.block) (sym (done.block ∙ turn.block_is))
+        (above-narrowed at end x.top.block u.letter turn.left (subst (λ (b : Block). b.first ≤ at) turn.block_is turn.inside.0))
 
 -- a rank further
-pub before-later : (reduce : Bool) (file : SpecFile) (at later : ℕ) (f : Frame) → at ≤ later → IsBefore reduce file at f → IsBefore reduce file later f
+pub before-later : (reduce : Bool) (file : SpecFile) (at later : ℕ) (f : Framed) → at ≤ later → IsBefore reduce file at f → IsBefore reduce file later f
 before-later reduce file at later f le is = record { frame = is.frame; from = (let from = is.from in omega (arith, le, from)) }
 
-pub stack-later : (reduce : Bool) (file : SpecFile) (at later end : ℕ) (x : Stack) → at ≤ later → IsStack reduce file at end x → IsStack reduce file later end x
+pub stack-later : (reduce : Bool) (file : SpecFile) (at later end : ℕ) (x : Stacked) → at ≤ later → IsStack reduce file at end x → IsStack reduce file later end x
 stack-later reduce file at later end x le is = record {
   below = λ k d lt. before-later reduce file at later _ le (is.below k d lt);
   top = before-later reduce file at later x.top le is.top;
   to = is.to;
-  above = above-later at later end x.below.items x.top le is.above;
+  above = above-later at later end x.below x.top le is.above;
 }
 
 -- the topmost frame has the rank
-pub stack-at : (reduce : Bool) (file : SpecFile) (at end : ℕ) (x : Stack) → at < end_of x.top.block → IsStack reduce file at end x → IsAt reduce file at end x
+pub stack-at : (reduce : Bool) (file : SpecFile) (at end : ℕ) (x : Stacked) → at < end_of x.top.block → IsStack reduce file at end x → IsAt reduce file at end x
 stack-at reduce file at end x lt is = record { stack = is; has = (is.top.from, lt) }
 
-pub empty-frames : (fs : List Frame) → length fs ≡ 0 → fs ≡ []
+pub empty-frames : (fs : List Framed) → length fs ≡ 0 → fs ≡ []
 empty-frames [] e = refl
 empty-frames (f ∷ fs) e = absurd (omega arith)

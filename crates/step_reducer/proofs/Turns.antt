@@ -4,20 +4,20 @@ use Rattle.perm_ranks.specs.Blocks.{HasRank, narrowed}
 use Rattle.bound_specs.specs.Spec.{Spec, SpecFile, queues_of}
 use Rattle.machine_model.specs.World.{send}
 use Rattle.step_reducer.specs.Reduced.{tour_of, rest_after, is_pair, LeftOf, IsPlace}
-use Rattle.step_reducer.specs.declared.frame.Frame.{Frame}
+use Rattle.step_reducer.specs.Framed.{Framed}
 use Rattle.step_reducer.specs.declared.frame.Turn.{Turn}
-use Rattle.step_reducer.specs.Walks.{StandsAt, IsFrame, IsSame, IsTurn, HasTurned}
+use Rattle.step_reducer.specs.Walks.{StandsAt, IsFrame, IsTurn, HasTurned}
 use Rattle.step_reducer.proofs.Places.{place-next}
 use Rattle.step_reducer.proofs.Tables.{step-known}
 
 -- the letters listed are those that make a swap, wherever the frame stands
-abbrev pub Lists : Bool → Frame → List (List ℕ) → Turn → Type 0
+abbrev pub Lists : Bool → Framed → List (List ℕ) → Turn → Type 0
 Lists reduce f table u =
     (rest : List (List ℕ)) (ks : List ℕ) → get_or rest u.letter [] ≡ u.step ∷ ks
     → ((a : ℕ) → LeftOf (get_or table a []) (get_or f.block.left a 0) (get_or rest a []))
     → (b : ℕ) → get_or u.swaps.items b false ≡ is_pair reduce f.world.file.run.steps f.world.world rest u.letter b
 
-pub turn-is : (reduce : Bool) (f : Frame) (rank : ℕ) (table : List (List ℕ)) (u : Turn) (ks : List ℕ)
+pub turn-is : (reduce : Bool) (f : Framed) (rank : ℕ) (table : List (List ℕ)) (u : Turn) (ks : List ℕ)
     → table ≡ queues_of f.world.file.run → 0 < get_or f.block.left u.letter 0 → u.block ≡ narrowed f.block u.letter → HasRank u.block rank
     → drop (length (get_or table u.letter []) - get_or f.block.left u.letter 0) (get_or table u.letter []) ≡ u.step ∷ ks
     → Lists reduce f table u → IsTurn reduce f rank u
@@ -35,7 +35,7 @@ turn-is reduce f rank table u ks is_table left block_is inside first lists = rec
       λ a. subst (λ (t : List (List ℕ)). LeftOf (get_or t a []) (get_or f.block.left a 0) (get_or (rest_after (queues_of run) shared) a [])) (sym is_table)
       (stands.left a) in
       subst (λ b. IsPlace (tour_of run reduce) (shared ++ u.letter ∷ []) b (send run.steps f.world.world u.step) u.swaps.items) (sym block_is)
-      (place-next (tour_of run reduce) shared f.block f.world.world (send run.steps f.world.world u.step) f.swaps.items u.swaps.items u.letter u.step ks
+      (place-next (tour_of run reduce) shared f.block f.world.world (send run.steps f.world.world u.step) f.swaps u.swaps.items u.letter u.step ks
       stands left unlisted rests refl
       (lists (rest_after (queues_of run) shared) ks rests lefts)));
 }
@@ -43,21 +43,9 @@ turn-is reduce f rank table u ks is_table left block_is inside first lists = rec
     run : Spec
     run = f.world.file.run
 
--- an equal frame stands there too
-pub frame-same : (reduce : Bool) (file : SpecFile) (f g : Frame) → IsSame f g → IsFrame reduce file f → IsFrame reduce file g
-frame-same reduce file f g same is = record {
-  shared = is.shared;
-  stands = subst (λ b. IsPlace (tour_of file.run reduce) is.shared b g.world.world g.swaps.items) (sym same.block)
-      (subst (λ s. IsPlace (tour_of file.run reduce) is.shared f.block g.world.world s) (sym same.swaps)
-      (subst (λ (w : Rattle.session_machine.specs.Running.Running). IsPlace (tour_of file.run reduce) is.shared f.block w.world f.swaps.items)
-      (sym same.world) is.stands));
-  file_is = ap (λ (w : Rattle.session_machine.specs.Running.Running). w.file) same.world ∙ is.file_is;
-  whole = ap (λ (w : Rattle.session_machine.specs.Running.Running). w.spent) same.world ∙ is.whole;
-}
-
 -- the words that share the letter too, with the world after its step
-pub turn-place : (reduce : Bool) (file : SpecFile) (f : Frame) (u : Turn) (rank : ℕ) (is : IsFrame reduce file f) → IsTurn reduce f rank u
-    → get_or f.swaps.items u.letter false ≡ false
+pub turn-place : (reduce : Bool) (file : SpecFile) (f : Framed) (u : Turn) (rank : ℕ) (is : IsFrame reduce file f) → IsTurn reduce f rank u
+    → get_or f.swaps u.letter false ≡ false
     → IsPlace (tour_of file.run reduce) (is.shared ++ u.letter ∷ []) u.block (send f.world.file.run.steps f.world.world u.step) u.swaps.items
 turn-place reduce file f u rank is turn unlisted =
     subst (λ (x : SpecFile). IsPlace (tour_of x.run reduce) (is.shared ++ u.letter ∷ []) u.block (send f.world.file.run.steps f.world.world u.step)
@@ -65,11 +53,11 @@ turn-place reduce file f u rank is turn unlisted =
     (turn.next is.shared (subst (λ (x : SpecFile). StandsAt reduce x.run is.shared f) (sym is.file_is) is.stands) unlisted)
 
 -- the frame that has gone on stands behind the letter
-pub frame-turned : (reduce : Bool) (file : SpecFile) (f g : Frame) (u : Turn) (rank : ℕ) → IsFrame reduce file f → IsTurn reduce f rank u
-    → get_or f.swaps.items u.letter false ≡ false → HasTurned f u g → IsFrame reduce file g
+pub frame-turned : (reduce : Bool) (file : SpecFile) (f g : Framed) (u : Turn) (rank : ℕ) → IsFrame reduce file f → IsTurn reduce f rank u
+    → get_or f.swaps u.letter false ≡ false → HasTurned f u g → IsFrame reduce file g
 frame-turned reduce file f g u rank is turn unlisted done = record {
   shared = is.shared ++ u.letter ∷ [];
-  stands = subst (λ b. IsPlace (tour_of file.run reduce) (is.shared ++ u.letter ∷ []) b g.world.world g.swaps.items) (sym done.block)
+  stands = subst (λ b. IsPlace (tour_of file.run reduce) (is.shared ++ u.letter ∷ []) b g.world.world g.swaps) (sym done.block)
       (subst (λ s. IsPlace (tour_of file.run reduce) (is.shared ++ u.letter ∷ []) u.block g.world.world s) (sym done.swaps)
       (subst (λ w. IsPlace (tour_of file.run reduce) (is.shared ++ u.letter ∷ []) u.block w u.swaps.items) (sym done.world)
       (turn-place reduce file f u rank is turn unlisted)));

@@ -5,19 +5,21 @@ use Rattle.machine_model.specs.World.{World}
 use Rattle.session_machine.specs.Running.{Running}
 use Rattle.rank_facts.specs.declared.fact.Fact.{Fact}
 use Rattle.rank_facts.specs.declared.fact.Fact.TheVariants.{Ran, Swap}
+use Rattle.marked_worlds.specs.Worlds.{MarkedRunning}
 use Rattle.step_reducer.specs.declared.fact.Given.{Given}
 use Rattle.step_reducer.specs.declared.word_walk.WordWalk.{WordWalk}
 use Rattle.step_reducer.specs.declared.line_walk.LineWalk.{LineWalk}
 use Rattle.step_reducer.specs.declared.walk.Walk.{Walk}
 use Rattle.step_reducer.specs.declared.walk.Walk.TheVariants.{Words, Lines}
-use Rattle.step_reducer.specs.Fronts.{front, line_before, new_steps, most_steps}
+use Rattle.marked_paths.specs.Fronts.{front}
+use Rattle.step_reducer.specs.Fronts.{line_before, new_steps, most_steps}
+use Rattle.step_reducer.specs.Framed.{standing}
 use Rattle.step_reducer.specs.Walks.{AllHave, LiesBehind, IsWalk, HasGiven}
 use Rattle.step_reducer.specs.Lines.{IsLines, HasRun}
 use Rattle.step_reducer.specs.Walking.{IsWords, IsLinesTo, IsWalkOf, IsGoing, walk_at, walk_end, moved_to, standing_in, HasMoved, HasWalked}
 use Rattle.step_reducer.specs.Shardwise.{Shardwise, GivesPart, Shows, IsOnward, IsKept, behind_line, world_behind, was_run, shown_by}
 use Rattle.step_reducer.proofs.Sendings.{words-run}
 use Rattle.step_reducer.proofs.Stacks.{stack-later}
-use Rattle.step_reducer.proofs.Trails.{path-top}
 
 -- ---- a walk of a shard is one of the spec, up to the shard's end and maybe further
 
@@ -129,7 +131,7 @@ module _ (file : SpecFile) (first end : ℕ) (w : LineWalk) (given : Given) (v :
 pub lines-moved : (file : SpecFile) (reduce : Bool) (end : ℕ) (w : LineWalk) (given : Given) (v : LineWalk)
     → IsGoing file reduce (Lines w) → w.at < end → HasRun w given v → HasMoved file reduce end (Lines w) given (Lines v)
 lines-moved file reduce end w given v is some ran =
-    let same : w.path.spec.now ≡ file = is.0.file_is in
+    let same : w.path.world.file ≡ file = is.0.file_is in
     let begin = ran.first in
     let behind = ran.end in
     record {
@@ -141,13 +143,13 @@ lines-moved file reduce end w given v is some ran =
       one = λ run. omega (arith, begin, behind);
       at = ran.at ∙ sym behind;
       facts = subst (λ (f : SpecFile). AllHave reduce f.run given.run.first given.run.end given.run.fact) same (ran.facts reduce);
-      ran = subst (λ (f : SpecFile). LiesBehind f.run given.run.first given.run.end given.run.fact v.path.trail.top.world) same ran.ran;
+      ran = subst (λ (f : SpecFile). LiesBehind f.run given.run.first given.run.end given.run.fact v.path.world.world) same ran.ran;
     }
 
 pub lines-walked : (file : SpecFile) (reduce : Bool) (first end : ℕ) (w : LineWalk) (given : Given) (v : LineWalk)
     → IsLinesTo file first end w → w.at < end → HasRun w given v → HasWalked file reduce first end (Lines w) given (Lines v)
 lines-walked file reduce first end w given v is some ran =
-    let same : w.path.spec.now ≡ file = is.walk.file_is in
+    let same : w.path.world.file ≡ file = is.walk.file_is in
     let from = is.from in
     let at = ran.at in
     let sent = ran.sent in
@@ -177,9 +179,7 @@ onward-moved file reduce at end w given v is moved = record { going = moved.goin
 -- the world that it stands in is one of the spec, and not spent
 pub going-stands : (file : SpecFile) (reduce : Bool) (w : Walk) → IsGoing file reduce w → ((standing_in w).file ≡ file) × ((standing_in w).spent ≡ false)
 going-stands file reduce (Words w) is = (is.0.stack.top.frame.file_is, is.0.stack.top.frame.whole)
-going-stands file reduce (Lines w) is =
-    let top = path-top file w.path is.0 in
-    (ap (λ (r : Running). r.file) top, ap (λ (r : Running). r.spent) top)
+going-stands file reduce (Lines w) is = (is.0.file_is, is.0.along.whole)
 
 -- what is shown is the world behind the line of what was run
 world-shown : (file : SpecFile) (given : Given) (v : Walk) (ran : Bool) → ran ≡ was_run given.run.fact
@@ -205,8 +205,8 @@ part-given file reduce at end behind spent ran w given v x is moved ran_is unspe
     )
 
 -- the world that a walk shows, which is not spent then
-pub world-told : (file : SpecFile) (reduce : Bool) (at end : ℕ) (spent ran : Bool) (w : Walk) (r : Running) (x : Shardwise) → IsKept spent ran file reduce at end w
-    → ran ≡ true → r ≡ standing_in w
+pub world-told : (file : SpecFile) (reduce : Bool) (at end : ℕ) (spent ran : Bool) (w : Walk) (r : MarkedRunning) (x : Shardwise) → IsKept spent ran file reduce at end w
+    → ran ≡ true → standing r ≡ standing_in w
     → (let y : Shardwise = record { file = file; reduce = reduce; at = at; end = end; behind = shown_by ran w; spent = spent } in y) ≡ x → Shows x r
 world-told file reduce at end spent ran w r x kept was is here = by spent refl
   where

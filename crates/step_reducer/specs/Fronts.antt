@@ -1,14 +1,9 @@
--- How much two lines share, and the steps sent for lines that share what they can.
-use Rattle.std.specs.Prelude.{◌≡◌, ℕ, zero, suc, ◌+◌, ◌-◌, ◌==◌, cond, List, [], ◌∷◌, length}
+-- The steps sent for lines that share what they can.
+use Rattle.std.specs.Prelude.{ℕ, zero, suc, ◌+◌, ◌-◌, List, [], length}
 use Rattle.bound_specs.specs.Spec.{Spec, line_of}
+use Rattle.marked_paths.specs.Fronts.{front}
 use Rattle.rank_facts.specs.declared.fact.Fact.{Fact}
 use Rattle.rank_facts.specs.declared.fact.Fact.TheVariants.{Ran, Swap}
-
--- how many items the lists begin with alike
-abbrev pub front : List ℕ → List ℕ → ℕ
-front [] ys = 0
-front (x ∷ xs) [] = 0
-front (x ∷ xs) (y ∷ ys) = cond (x == y) (suc (front xs ys)) 0
 
 -- the line of the rank before, of so many from the first one on; before the first there is none
 abbrev pub line_before : Spec → ℕ → ℕ → List ℕ

@@ -1,8 +1,8 @@
 pub mod Fronts
 pub mod Pairs
 pub mod Reduced
+pub mod Framed
 pub mod Walks
-pub mod Paths
 pub mod Lines
 pub mod Walking
 pub mod Shardwise

@@ -2,8 +2,9 @@
 use Rattle.std.specs.Prelude.{◌≡◌, ◌+◌, ◌≤◌, Bool, length}
 use Rattle.spec_reader.specs.declared.TheConstants.{MAX_ITEMS}
 use Rattle.bound_specs.specs.Spec.{SpecFile, line_of}
-use Rattle.step_reducer.specs.Fronts.{front, most_steps}
-use Rattle.step_reducer.specs.Paths.{IsPath}
+use Rattle.marked_paths.specs.Fronts.{front}
+use Rattle.marked_paths.specs.Paths.{IsPath}
+use Rattle.step_reducer.specs.Fronts.{most_steps}
 use Rattle.step_reducer.specs.Walks.{AllHave, LiesBehind}
 use Rattle.step_reducer.specs.declared.line_walk.LineWalk.{LineWalk}
 use Rattle.step_reducer.specs.declared.fact.Given.{Given}
@@ -14,13 +15,13 @@ IsLines file w = IsPath file w.path
 
 -- the walk has given the fact of the next line
 pub record HasRun (x : LineWalk) (given : Given) (y : LineWalk) : Type 0 where
-  pub lines : IsLines x.path.spec.now y
+  pub lines : IsLines x.path.world.file y
   pub first : given.run.first ≡ x.at
   pub end : given.run.end ≡ x.at + 1
   pub at : y.at ≡ x.at + 1
-  pub line : y.path.line.items ≡ line_of x.path.spec.now.run x.at
+  pub line : y.path.line.items ≡ line_of x.path.world.file.run x.at
   pub short : length y.path.line.items ≤ MAX_ITEMS
   pub sent : given.sent + front x.path.line.items y.path.line.items ≡ length y.path.line.items
-  pub most : given.sent ≤ most_steps x.path.spec.now.run given.run.first given.run.fact
-  pub facts : (reduce : Bool) → AllHave reduce x.path.spec.now.run given.run.first given.run.end given.run.fact
-  pub ran : LiesBehind x.path.spec.now.run given.run.first given.run.end given.run.fact y.path.trail.top.world
+  pub most : given.sent ≤ most_steps x.path.world.file.run given.run.first given.run.fact
+  pub facts : (reduce : Bool) → AllHave reduce x.path.world.file.run given.run.first given.run.end given.run.fact
+  pub ran : LiesBehind x.path.world.file.run given.run.first given.run.end given.run.fact y.path.world.world

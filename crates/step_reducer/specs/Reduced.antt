@@ -3,8 +3,9 @@ use Rattle.std.specs.Prelude.{◌≡◌, ℕ, suc, ◌+◌, ◌-◌, ◌<◌, �
 use Rattle.perm_ranks.specs.Words.{Word}
 use Rattle.perm_ranks.specs.Blocks.{Block, IsBlockOf}
 use Rattle.bound_specs.specs.Spec.{Step, Spec, Queues, line, line_of, counts_of, queues_of}
-use Rattle.machine_model.specs.World.{World, blank, send_all}
+use Rattle.machine_model.specs.World.{World, send_all}
 use Rattle.machine_model.specs.Start.{Started, start}
+use Rattle.marked_paths.specs.Paths.{first_world}
 use Rattle.rank_facts.specs.Swap.{quiet_heads, quiet_at, falls_at}
 
 -- a spec, a world, and whether the ranks are reduced
@@ -12,10 +13,6 @@ pub record Tour : Type 0 where
   pub spec : Spec
   pub world : World
   pub reduce : Bool
-
--- the world in which a spec starts, and a blank one where it does not
-abbrev pub first_world : Spec → World
-first_world spec = (let w : World = elim (start spec) [ Started w ↦ w | _ ↦ blank ] in w)
 
 -- the world behind the line of a rank
 abbrev pub line_world : Spec → ℕ → World

@@ -2,7 +2,7 @@
 use Rattle.std.specs.Prelude.{◌≡◌, ℕ, ◌+◌, ◌<◌, ◌≤◌, Bool, true, false, List, Option, Some, None}
 use Rattle.bound_specs.specs.Spec.{Spec, SpecFile, ranks}
 use Rattle.machine_model.specs.World.{World}
-use Rattle.session_machine.specs.Running.{Running}
+use Rattle.marked_worlds.specs.Worlds.{MarkedRunning}
 use Rattle.transcripts.specs.declared.event.Event.{Event}
 use Rattle.rank_facts.specs.declared.fact.Fact.{Fact}
 use Rattle.rank_facts.specs.declared.fact.Fact.TheVariants.{Ran, Swap}
@@ -50,7 +50,7 @@ GivesPart x y None = (x.at ≡ x.end) × (y ≡ x)
 GivesPart x y (Some run) = IsPart x run × (y ≡ record x { at = run.end; behind = world_behind x.file.run run })
 
 -- the walk shows this world, which may be asked
-pub record Shows (x : Shardwise) (r : Running) : Type 0 where
+pub record Shows (x : Shardwise) (r : MarkedRunning) : Type 0 where
   pub file_is : r.file ≡ x.file
   pub whole : r.spent ≡ false
   pub behind : x.behind ≡ Some r.world

@@ -7,6 +7,8 @@ use Rattle.machine_model.specs.World.{World}
 use Rattle.machine_model.specs.Start.{Started, start}
 use Rattle.rank_facts.specs.Facts.{IsFactOf, has_no_lines}
 use Rattle.rank_facts.specs.declared.fact.Fact.{Fact}
+use Rattle.rank_facts.specs.declared.fact.Fact.TheVariants.{Ran}
+use Rattle.transcripts.specs.declared.event.Event.{Event}
 use Rattle.session_machine.specs.Running.{Running, IsNotRunBy}
 use Rattle.session_machine.specs.declared.error.RunError.{RunError}
 use Rattle.session_machine.specs.declared.error.RunError.TheVariants as run_error
@@ -18,6 +20,7 @@ use Rattle.step_reducer.specs.declared.word_walk.WordWalk.{WordWalk}
 use Rattle.step_reducer.specs.declared.line_walk.LineWalk.{LineWalk}
 use Rattle.step_reducer.specs.declared.walk.Walk.{Walk}
 use Rattle.step_reducer.specs.declared.walk.Walk.TheVariants.{Words, Lines}
+use Rattle.step_reducer.specs.Framed.{standing}
 use Rattle.step_reducer.specs.Fronts.{line_before, new_steps, sent_by, most_steps}
 use Rattle.step_reducer.specs.Walks.{AllHave, LiesBehind, IsWalk, Follows}
 use Rattle.step_reducer.specs.Lines.{IsLines}
@@ -46,12 +49,13 @@ skips reduce spec = reduce && has_no_lines spec.lines
 abbrev pub AreSent : Bool → Spec → ℕ → ℕ → ℕ → Type 0
 AreSent reduce spec first at sent = skips reduce spec ≡ false → sent ≡ sent_by spec first (at - first)
 
--- the fact of some ranks from the next one on, of this one alone where none is skipped
+-- the fact of some ranks from the next one on, of this one alone where none is skipped or it was run
 pub record IsRun (x : Walking) (run : FactRun) : Type 0 where
   pub first : run.first ≡ x.at
   pub some : run.first < run.end
   pub few : run.end ≤ x.end
   pub one : skips x.reduce x.file.run ≡ false → run.end ≡ run.first + 1
+  pub ran : (o : List (List Event)) → run.fact ≡ Ran o → run.end ≡ run.first + 1
   pub facts : AllHave x.reduce x.file.run run.first run.end run.fact
 
 -- the steps sent, with those for the fact of the next rank: no more than the fact and a line may take, and where no rank is skipped
@@ -87,7 +91,7 @@ walk_at (Lines w) = w.at
 -- the world that a walk stands in
 abbrev pub standing_in : Walk → Running
 standing_in (Words w) = w.stack.top.world
-standing_in (Lines w) = w.path.trail.top
+standing_in (Lines w) = standing w.path.world
 
 -- a walk of the spec's words from the first rank up to the end
 pub record IsWords (file : SpecFile) (reduce : Bool) (first end : ℕ) (w : WordWalk) : Type 0 where
@@ -150,11 +154,13 @@ abbrev pub IsRest : SpecFile → Bool → ℕ → Walk → Option FactRun → Ty
 IsRest file reduce at w None = walk_at w ≡ at
 IsRest file reduce at w (Some run) =
     (run.first ≡ at) × (run.first < run.end) × (run.end ≡ walk_at w) × AllHave reduce file.run run.first run.end run.fact × (skips reduce file.run ≡ true)
+    × ((o : List (List Event)) → run.fact ≡ Ran o → run.end ≡ run.first + 1)
 
 abbrev pub is_whole : Option FactRun → Bool
 is_whole None = true
 is_whole (Some run) = false
 
+-- the walk of a walker that is not spent, and what is left of a run
 pub record IsStanding (file : SpecFile) (reduce : Bool) (first at end sent : ℕ) (w : Walk) (rest : Option FactRun) : Type 0 where
   pub walk : IsWalkOf file reduce first end w
   pub rest_is : IsRest file reduce at w rest

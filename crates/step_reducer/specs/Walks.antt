@@ -11,10 +11,9 @@ use Rattle.rank_facts.specs.declared.fact.Fact.TheVariants.{Ran}
 use Rattle.transcripts.specs.declared.event.Event.{Event}
 use Rattle.step_reducer.specs.Fronts.{new_steps, most_steps}
 use Rattle.step_reducer.specs.Reduced.{tour_of, line_world, IsTour, IsPlace}
-use Rattle.step_reducer.specs.declared.frame.Frame.{Frame}
+use Rattle.step_reducer.specs.Framed.{Framed, Stacked}
 use Rattle.step_reducer.specs.declared.frame.Turn.{Turn}
 use Rattle.step_reducer.specs.declared.fact.Given.{Given}
-use Rattle.step_reducer.specs.declared.stack.Stack.{Stack}
 use Rattle.step_reducer.specs.declared.word_walk.Found.{Found}
 use Rattle.step_reducer.specs.declared.word_walk.WordWalk.{WordWalk}
 
@@ -28,29 +27,23 @@ pub record LiesBehind (spec : Spec) (first end : ℕ) (fact : Fact) (world : Wor
   pub world_is : (o : List (List Event)) → fact ≡ Ran o → world ≡ line_world spec first
 
 -- the frame stands at these letters
-abbrev pub StandsAt : Bool → Spec → Word → Frame → Type 0
-StandsAt reduce spec shared f = IsPlace (tour_of spec reduce) shared f.block f.world.world f.swaps.items
+abbrev pub StandsAt : Bool → Spec → Word → Framed → Type 0
+StandsAt reduce spec shared f = IsPlace (tour_of spec reduce) shared f.block f.world.world f.swaps
 
 -- the frame stands somewhere, with a world of the spec that is not spent
-pub record IsFrame (reduce : Bool) (file : SpecFile) (f : Frame) : Type 0 where
+pub record IsFrame (reduce : Bool) (file : SpecFile) (f : Framed) : Type 0 where
   pub shared : Word
   pub stands : StandsAt reduce file.run shared f
   pub file_is : f.world.file ≡ file
   pub whole : f.world.spent ≡ false
 
--- an equal frame
-pub record IsSame (f g : Frame) : Type 0 where
-  pub block : g.block ≡ f.block
-  pub swaps : g.swaps.items ≡ f.swaps.items
-  pub world : g.world ≡ f.world
-
 -- where the words go on from a frame with the letter of a rank's word
-pub record IsTurn (reduce : Bool) (f : Frame) (rank : ℕ) (u : Turn) : Type 0 where
+pub record IsTurn (reduce : Bool) (f : Framed) (rank : ℕ) (u : Turn) : Type 0 where
   pub left : 0 < get_or f.block.left u.letter 0
   pub block_is : u.block ≡ narrowed f.block u.letter
   pub inside : HasRank u.block rank
   pub known : u.step < length f.world.file.run.steps
-  pub next : (shared : Word) → StandsAt reduce f.world.file.run shared f → get_or f.swaps.items u.letter false ≡ false
+  pub next : (shared : Word) → StandsAt reduce f.world.file.run shared f → get_or f.swaps u.letter false ≡ false
       → IsPlace (tour_of f.world.file.run reduce) (shared ++ u.letter ∷ []) u.block (send f.world.file.run.steps f.world.world u.step) u.swaps.items
 
 -- some letter is left, and each one that is makes a swap
@@ -59,23 +52,23 @@ pub record IsCovered (u : Turn) : Type 0 where
   pub all : (letter : ℕ) → 0 < get_or u.block.left letter 0 → get_or u.swaps.items letter false ≡ true
 
 -- the frame has gone on
-pub record HasTurned (f : Frame) (u : Turn) (g : Frame) : Type 0 where
+pub record HasTurned (f : Framed) (u : Turn) (g : Framed) : Type 0 where
   pub block : g.block ≡ u.block
-  pub swaps : g.swaps.items ≡ u.swaps.items
+  pub swaps : g.swaps ≡ u.swaps.items
   pub world : g.world.world ≡ send f.world.file.run.steps f.world.world u.step
   pub file : g.world.file ≡ f.world.file
   pub whole : g.world.spent ≡ false
 
 -- the frame stands at letters of a word of this rank or one before it
-pub record IsBefore (reduce : Bool) (file : SpecFile) (at : ℕ) (f : Frame) : Type 0 where
+pub record IsBefore (reduce : Bool) (file : SpecFile) (at : ℕ) (f : Framed) : Type 0 where
   pub frame : IsFrame reduce file f
   pub from : f.block.first ≤ at
 
-abbrev pub lowest : List Frame → Frame → Frame
+abbrev pub lowest : List Framed → Framed → Framed
 lowest [] top = top
 lowest (f ∷ fs) top = f
 
--- of two blocks, one below the other: those of the lower one's words that have one letter more begin at this rank or before it, and the upper block ends
+-- of two blocks, one below the other: those of the lower one's words that share one letter more begin at this rank or before it, and the upper block ends
 -- no later than they do and, up to the end, no sooner
 pub record IsAbove (at end : ℕ) (lower upper : Block) : Type 0 where
   pub letter : ℕ
@@ -85,18 +78,18 @@ pub record IsAbove (at end : ℕ) (lower upper : Block) : Type 0 where
   pub last : (end ≤ end_of upper) ⊎ (end_of (narrowed lower letter) ≤ end_of upper)
 
 -- each frame is above the one below it
-abbrev pub AreAbove : ℕ → ℕ → List Frame → Frame → Type 0
+abbrev pub AreAbove : ℕ → ℕ → List Framed → Framed → Type 0
 AreAbove at end [] top = Unit {0}
 AreAbove at end (f ∷ fs) top = IsAbove at end f.block (lowest fs top).block × AreAbove at end fs top
 
 -- frames of words up to this rank, of which the lowest has all that are to come up to the end
-pub record IsStack (reduce : Bool) (file : SpecFile) (at end : ℕ) (s : Stack) : Type 0 where
-  pub below : All (IsBefore reduce file at) s.below.items
+pub record IsStack (reduce : Bool) (file : SpecFile) (at end : ℕ) (s : Stacked) : Type 0 where
+  pub below : All (IsBefore reduce file at) s.below
   pub top : IsBefore reduce file at s.top
-  pub to : end ≤ end_of (lowest s.below.items s.top).block
-  pub above : AreAbove at end s.below.items s.top
+  pub to : end ≤ end_of (lowest s.below s.top).block
+  pub above : AreAbove at end s.below s.top
 
--- from the one block back to the other, where the ranks that share one letter more, from this one or before it on, end at the rank to come
+-- from the one block back to the other, where the ranks that share one letter more, from this one or before it on, end at the rank to come or before it
 pub record HasParted (last at : ℕ) (upper lower : Block) : Type 0 where
   pub letter : ℕ
   pub left : 0 < get_or lower.left letter 0
@@ -105,22 +98,22 @@ pub record HasParted (last at : ℕ) (upper lower : Block) : Type 0 where
   pub behind : end_of (narrowed lower letter) ≤ at
 
 -- the topmost frame has the rank
-pub record IsAt (reduce : Bool) (file : SpecFile) (at end : ℕ) (s : Stack) : Type 0 where
+pub record IsAt (reduce : Bool) (file : SpecFile) (at end : ℕ) (s : Stacked) : Type 0 where
   pub stack : IsStack reduce file at end s
   pub has : HasRank s.top.block at
 
--- from the one stack, which has the rank, to the other, which has it with a letter less to go
-pub record HasGone (reduce : Bool) (file : SpecFile) (at end : ℕ) (x y : Stack) : Type 0 where
+-- from the one stack to the other, which has the rank, with fewer letters to go
+pub record HasGone (reduce : Bool) (file : SpecFile) (at end : ℕ) (x y : Stacked) : Type 0 where
   pub now : IsAt reduce file at end y
   pub less : total y.top.block.left < total x.top.block.left
 
 -- the topmost frame has all words up to the end
-pub record IsFresh (spec : Spec) (end : ℕ) (s : Stack) : Type 0 where
+pub record IsFresh (spec : Spec) (end : ℕ) (s : Stacked) : Type 0 where
   pub all : total s.top.block.left ≡ total (counts_of (queues_of spec))
   pub to : end ≤ end_of s.top.block
 
 -- the topmost frame has the word of the rank, and none behind it
-pub record IsBehind (rank : ℕ) (s : Stack) : Type 0 where
+pub record IsBehind (rank : ℕ) (s : Stacked) : Type 0 where
   pub has : HasRank s.top.block rank
   pub alone : end_of s.top.block ≤ rank + 1
 
@@ -143,7 +136,7 @@ pub record IsFound (reduce : Bool) (file : SpecFile) (at end : ℕ) (found : Fou
   pub sent_few : found.sent ≤ MAX_ITEMS
 
 -- the steps sent on the way: no more than the fact may take; where nothing is reduced, those of all letters that were left, for one rank
-pub record HasSent (reduce : Bool) (spec : Spec) (at : ℕ) (x : Stack) (found : Found) (y : Stack) : Type 0 where
+pub record HasSent (reduce : Bool) (spec : Spec) (at : ℕ) (x : Stacked) (found : Found) (y : Stacked) : Type 0 where
   pub most : found.sent ≤ most_steps spec at found.fact
   pub one : reduce ≡ false → found.end ≡ at + 1
   pub all : reduce ≡ false → found.sent ≡ total x.top.block.left

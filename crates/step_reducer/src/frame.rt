@@ -1,40 +1,30 @@
-//! The words that begin with the same letters, with the world after these.
+//! The words that begin with the same letters.
 
-ghost use Rattle.std.specs.Prelude.{◌≡◌, ℕ, ◌<◌, ◌≤◌, true, false, [], ◌∷◌, length, slice_index, get_or, IfOk, OnOk, IfErr, All, List};
-ghost use Rattle.perm_ranks.specs.Words.{Word, total};
+ghost use Rattle.std.specs.Prelude.{◌≡◌, ℕ, ◌<◌, ◌≤◌, true, false, [], ◌∷◌, length, slice_index, get_or, List};
+ghost use Rattle.perm_ranks.specs.Words.{total};
 ghost use Rattle.perm_ranks.specs.Blocks.{HasRank};
 ghost use Rattle.bound_specs.specs.Spec.{queues_of};
+ghost use Rattle.plan_pairs.specs.Pairs.{ArePairs};
 ghost use Rattle.rank_facts.specs.Swap.{quiet_heads};
+ghost use Rattle.step_reducer.specs.Framed.{framed, standing};
 ghost use Rattle.step_reducer.specs.Reduced.{is_pair, LeftOf};
-ghost use Rattle.step_reducer.specs.Walks.{IsFrame, IsSame, IsTurn, IsCovered, HasTurned};
+ghost use Rattle.step_reducer.specs.Walks.{IsFrame, IsTurn, IsCovered};
 
-use crate::pairs::quiet;
 use crate::step_table::StepTable;
-use crate::worlds::{forked, send};
 use arrayvec::ArrayVec;
+use marked_quiet::quiet;
+use marked_worlds::MarkedWorld;
 use perm_ranks::{Block, MAX_SESSIONS};
-use session_machine::World;
-use std::alloc::AllocError;
+use plan_pairs::StepPairs;
 
 /// For each letter whether it and the one before it make a swap. Letters that are not listed make none.
 pub(crate) type Swaps = ArrayVec<bool, MAX_SESSIONS>;
 
-/// The words that begin with the same letters, the world after these, and with which next letters the last one makes a swap.
-pub(crate) struct Frame<'a> {
+/// The words that begin with the same letters, and with which next letters the last one makes a swap.
+#[derive(Drop)]
+pub(crate) struct Frame {
     pub(crate) block: Block,
     pub(crate) swaps: Swaps,
-    pub(crate) world: World<'a>,
-}
-
-// Written out and not derived, so that who owns one calls this and does not let its parts go one by one.
-impl Drop for Frame<'_> {
-    fn drop(self) {
-        let Frame {
-            block: _block,
-            swaps: _swaps,
-            world: _world,
-        } = self;
-    }
 }
 
 /// Where the word of a rank goes on from a frame: its next letter, the step of it, the words that share the letter too, and with
@@ -47,65 +37,86 @@ pub(crate) struct Turn {
     pub(crate) swaps: Swaps,
 }
 
-impl<'a> Frame<'a> {
-    /// An equal frame, which goes on alone.
-    pub(crate) fn fork(&self) -> Result<Frame<'a>, AllocError>
-        requires { self.now.world.spent ≡ false }
-        ensures { IfOk result (IsSame self.now) }
+impl Frame {
+    /// The frame of a block whose words share no letter.
+    pub(crate) fn new(block: Block) -> Frame
+        ensures block { result.block ≡ block }
+        ensures swaps { result.swaps.items ≡ [] }
     {
-        Ok(Frame {
-            block: self.block.copy(),
-            swaps: copied(&self.swaps),
-            world: forked(&self.world)?,
-        })
-    }
-
-    /// Whether the letter makes a swap with the one before it.
-    pub(crate) fn is_swap(&self, letter: u8) -> bool
-        ensures { result ≡ get_or self.now.swaps.items letter false }
-    {
-        is_listed(&self.swaps, letter)
-    }
-
-    /// How the word of a rank goes on.
-    pub(crate) fn turn(&self, table: &StepTable, reduce: bool, rank: u64) -> Turn
-        requires table { table.now ≡ queues_of self.now.world.file.run }
-        requires frame { IsFrame reduce self.now.world.file self.now }
-        requires some { 0 < total self.now.block.left }
-        requires has { HasRank self.now.block rank }
-        ensures { IsTurn reduce self.now rank result }
-    {
-        let (letter, block) = self.block.at(rank);
-        let step = table.next(letter, self.block.left_of(letter));
-        let swaps = if reduce {
-            swaps_with(&self.block, &self.world, table, letter, step)
-        } else {
-            Swaps::new()
-        };
-        Turn {
-            letter,
-            step,
+        Frame {
             block,
-            swaps,
+            swaps: Swaps::new(),
         }
     }
 
-    /// Goes on with the letter of a turn.
-    pub(crate) fn go(&mut self, turn: Turn) -> Result<(), AllocError>
-        requires whole { self.old.world.spent ≡ false }
-        requires known { turn.step < length self.old.world.file.run.steps }
-        ensures { OnOk result (HasTurned self.old turn self.new) }
+    /// The frame behind a turn.
+    pub(crate) fn of_turn(turn: Turn) -> Frame
+        ensures block { result.block ≡ turn.block }
+        ensures swaps { result.swaps.items ≡ turn.swaps.items }
     {
-        send(&mut self.world, turn.step)?;
-        self.block = turn.block;
-        self.swaps = turn.swaps;
-        Ok(())
+        let Turn {
+            letter: _,
+            step: _,
+            block,
+            swaps,
+        } = turn;
+        Frame { block, swaps }
+    }
+
+    /// An equal frame.
+    pub(crate) fn copy(&self) -> Frame
+        ensures block { result.block ≡ self.now.block }
+        ensures swaps { result.swaps.items ≡ self.now.swaps.items }
+    {
+        Frame {
+            block: self.block.copy(),
+            swaps: copied(&self.swaps),
+        }
+    }
+}
+
+/// How the word of a rank goes on from a frame, with the world behind its letters.
+pub(crate) fn turn_of(
+    frame: &Frame,
+    world: &MarkedWorld<'_>,
+    pairs: &StepPairs,
+    table: &StepTable,
+    reduce: bool,
+    rank: u64,
+) -> Turn
+    requires table { table.now ≡ queues_of world.now.file.run }
+    requires pairs { ArePairs world.now.file.run pairs.now }
+    requires frame { IsFrame reduce world.now.file (framed frame.now (standing world.now)) }
+    requires some { 0 < total frame.now.block.left }
+    requires has { HasRank frame.now.block rank }
+    ensures { IsTurn reduce (framed frame.now (standing world.now)) rank result }
+{
+    let (letter, block) = frame.block.at(rank);
+    let step = table.next(letter, frame.block.left_of(letter));
+    let swaps = if reduce {
+        swaps_with(&frame.block, world, pairs, table, letter, step)
+    } else {
+        Swaps::new()
+    };
+    Turn {
+        letter,
+        step,
+        block,
+        swaps,
     }
 }
 
 /// With which smaller letters the letter makes a swap.
-fn swaps_with(block: &Block, world: &World<'_>, table: &StepTable, letter: u8, step: u8) -> Swaps
+fn swaps_with(
+    block: &Block,
+    world: &MarkedWorld<'_>,
+    pairs: &StepPairs,
+    table: &StepTable,
+    letter: u8,
+    step: u8,
+) -> Swaps
     requires table { table.now ≡ queues_of world.now.file.run }
+    requires pairs { ArePairs world.now.file.run pairs.now }
     requires whole { world.now.spent ≡ false }
     requires left { 0 < slice_index block.now.left letter }
     requires step { step < length world.now.file.run.steps }
@@ -117,7 +128,7 @@ fn swaps_with(block: &Block, world: &World<'_>, table: &StepTable, letter: u8, s
     let _sessions = world.spec().sessions(); // for the proof
     let mut swaps = Swaps::new();
     for smaller in 0..letter {
-        swaps.push(is_quiet_beside(block, world, table, step, smaller));
+        swaps.push(is_quiet_beside(block, world, pairs, table, step, smaller));
     }
     swaps
 }
@@ -125,12 +136,14 @@ fn swaps_with(block: &Block, world: &World<'_>, table: &StepTable, letter: u8, s
 /// Whether the next step of a session is there and quiet beside the step.
 fn is_quiet_beside(
     block: &Block,
-    world: &World<'_>,
+    world: &MarkedWorld<'_>,
+    pairs: &StepPairs,
     table: &StepTable,
     step: u8,
     smaller: u8,
 ) -> bool
     requires table { table.now ≡ queues_of world.now.file.run }
+    requires pairs { ArePairs world.now.file.run pairs.now }
     requires whole { world.now.spent ≡ false }
     requires step { step < length world.now.file.run.steps }
     requires few { get_or block.now.left smaller 0 ≤ length (get_or table.now smaller []) }
@@ -138,7 +151,7 @@ fn is_quiet_beside(
         → result ≡ quiet_heads world.now.file.run.steps world.now.world (step ∷ ks) rest }
 {
     let left = block.left_of(smaller);
-    left > 0 && quiet(world, step, table.next(smaller, left))
+    left > 0 && quiet(world, pairs, step, table.next(smaller, left))
 }
 
 fn copied(swaps: &Swaps) -> Swaps
@@ -150,7 +163,7 @@ fn copied(swaps: &Swaps) -> Swaps
 }
 
 /// Whether a letter is among those that make a swap.
-fn is_listed(swaps: &Swaps, letter: u8) -> bool
+pub(crate) fn is_listed(swaps: &Swaps, letter: u8) -> bool
     ensures { result ≡ get_or swaps.now.items letter false }
 {
     let letter = letter as usize;

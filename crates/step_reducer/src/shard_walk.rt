@@ -8,11 +8,12 @@ ghost use Rattle.step_reducer.specs.Shardwise.{standing_at, GivesPart, Shows};
 
 use crate::error::WalkError;
 use crate::fact::FactRun;
-use crate::start::start_for;
+use crate::start::{check, walk_for};
 use crate::walk::Walk;
 use bound_specs::Spec;
+use marked_worlds::MarkedWorld;
 use rank_facts::Shard;
-use session_machine::{RunError, World};
+use session_machine::RunError;
 use std::alloc::Global;
 use std::marker::Model;
 
@@ -83,9 +84,8 @@ impl<'a> ShardWalk<'a> {
         ensures started { OnOk result (Starts spec.now.run) }
         ensures begun { IfOk result (λ walk. walk ≡ standing_at spec.now shard reduce) }
     {
-        let world = start_for(alloc, spec, shard)?;
-        let all = spec.ranks();
-        let walk = Walk::new(alloc, spec, world, shard.first, all, reduce)?;
+        check(spec, shard)?;
+        let walk = walk_for(alloc, spec, shard, spec.ranks(), reduce)?;
         Ok(ShardWalk {
             spec,
             reduce,
@@ -142,7 +142,7 @@ impl<'a> ShardWalk<'a> {
 
     /// The world behind the line of the rank that was given last, where it was run. None where that was a swap, before the shard's
     /// first rank is given, and once memory was refused.
-    pub fn world(&self) -> Option<&World<'a>>
+    pub fn world(&self) -> Option<&MarkedWorld<'a>>
         ensures { MatchOption result (self.now.behind ≡ None) (λ world. Shows self.now world.now) }
     {
         if self.has_run {

@@ -1,13 +1,28 @@
 //! Frames of prefixes that later words share.
 
-ghost use Rattle.std.specs.Prelude.{◌≡◌, ℕ, ◌<◌, ◌≤◌, Bool, OnOk, false, length, get_or, ◌++◌, ◌∷◌, [], ◌⊎◌};
-ghost use Rattle.bound_specs.specs.Spec.{SpecFile};
-ghost use Rattle.step_reducer.specs.Walks.{IsStack, IsAt, IsTurn, HasGone, HasParted};
+ghost use Rattle.std.specs.Prelude.{◌≡◌, ℕ, ◌<◌, ◌≤◌, Bool, true, IfOk, OnOk, IsTrue, false, length, get_or, ◌++◌, ◌∷◌, [], ◌⊎◌};
+ghost use Rattle.perm_ranks.specs.Words.{total};
+ghost use Rattle.perm_ranks.specs.Blocks.{HasRank, end_of};
+ghost use Rattle.perm_ranks.specs.declared.TheConstants.{MAX_STEPS};
+ghost use Rattle.bound_specs.specs.Spec.{SpecFile, queues_of};
+ghost use Rattle.machine_model.specs.World.{outcome_of};
+ghost use Rattle.plan_pairs.specs.Pairs.{ArePairs};
+ghost use Rattle.step_reducer.specs.Framed.{standing};
+ghost use Rattle.step_reducer.specs.Walks.{IsFrame, IsStack, IsAt, IsTurn, HasGone, HasParted, HasTurned};
 
-use crate::frame::{Frame, Turn};
-use std::alloc::AllocError;
+use crate::frame::{Frame, Turn, is_listed, turn_of};
+use crate::step_table::StepTable;
+use crate::worlds::{mark, outcome, send};
+use marked_paths::PairedWorld;
+use marked_worlds::MarkedWorld;
+use perm_ranks::Block;
+use plan_pairs::StepPairs;
+use std::alloc::{AllocError, Global};
+use std::marker::Model;
+use transcripts::Outcome;
 
-/// The frame of the longest prefix, and below it frames of shorter ones that later words share.
+/// The frame of the longest prefix, and below it frames of shorter ones that later words share. The world stands behind the
+/// longest one, and has a mark for each frame below.
 ///
 /// ```text
 /// word     a   b   b   a   c ..
@@ -15,9 +30,13 @@ use std::alloc::AllocError;
 /// below    [ a b ]                a later word begins so
 ///          [ ]                    the start, while a later word is left
 /// ```
+///
+/// Contracts see each frame with the world behind its letters.
 pub(crate) struct Stack<'a> {
-    pub(crate) below: Vec<Frame<'a>>,
-    pub(crate) top: Frame<'a>,
+    below: Vec<Frame>,
+    top: Frame,
+    world: MarkedWorld<'a>,
+    pairs: StepPairs,
 }
 
 // Written out and not derived, so that who owns one calls this and does not let its parts go one by one.
@@ -26,23 +45,126 @@ impl Drop for Stack<'_> {
         let Stack {
             below: _below,
             top: _top,
+            world: _world,
+            pairs: _pairs,
         } = self;
     }
 }
 
+impl<'a> Model for Stack<'a> {
+    ghost use Rattle.std.specs.Coded.{codes};
+    ghost use Rattle.finite_maps.specs.Codes.{map_code};
+    ghost use Rattle.lock_modes.specs.contracts.value.Value as value;
+    ghost use Rattle.lock_modes.specs.contracts.resource.Resource as resource;
+    ghost use Rattle.lock_queues.specs.contracts.wait.Wait as waiting;
+    ghost use Rattle.bound_statements.specs.contracts.statement.Bound as bound;
+    ghost use Rattle.transcripts.specs.contracts.event.Event as event;
+    ghost use Rattle.step_reducer.specs.Framed.{IsStacked, Stacked, stacked};
+
+    ghost Value = { Stacked };
+
+    ghost coded = { Prim.hlevel (codes, map_code, value.the_row.coded, bound.the_row.coded, resource.the_row.coded, waiting.the_row.coded, event.the_row.coded) };
+
+    ghost view = { λ s. stacked s.below.items s.top s.world };
+
+    ghost invariant = { λ s. IsStacked s.below.items s.world s.pairs };
+}
+
 impl<'a> Stack<'a> {
+    /// The frame of no letters, with the world in which the spec starts.
+    pub(crate) fn new(alloc: Global, start: PairedWorld<'a>, block: Block) -> Stack<'a>
+        requires marked { start.world.marked ≡ [] }
+        requires pairs { ArePairs start.world.file.run start.pairs }
+        ensures below { result.below ≡ [] }
+        ensures block { result.top.block ≡ block }
+        ensures swaps { result.top.swaps ≡ [] }
+        ensures world { result.top.world ≡ standing start.entry.world }
+    {
+        let PairedWorld { world, pairs } = start;
+        Stack {
+            below: Vec::new(alloc),
+            top: Frame::new(block),
+            world,
+            pairs,
+        }
+    }
+
+    /// The world behind the longest prefix.
+    pub(crate) fn world(&self) -> &MarkedWorld<'a>
+        ensures { standing result.now ≡ self.now.top.world }
+    {
+        &self.world
+    }
+}
+
+impl Stack<'_> {
+    /// How many letters the words have behind the longest prefix.
+    pub(crate) fn letters_left(&self) -> u8
+        ensures all { result ≡ total self.now.top.block.left }
+        ensures few { result ≤ MAX_STEPS }
+    {
+        self.top.block.letters_left()
+    }
+
+    /// Behind which rank the words of the longest prefix end.
+    fn end(&self) -> u64
+        ensures { result ≡ end_of self.now.top.block }
+    {
+        self.top.block.end()
+    }
+
+    /// Whether the letter makes a swap with the last one of the longest prefix.
+    pub(crate) fn is_swap(&self, letter: u8) -> bool
+        ensures { result ≡ get_or self.now.top.swaps letter false }
+    {
+        is_listed(&self.top.swaps, letter)
+    }
+
+    /// How the word of a rank goes on.
+    pub(crate) fn turn(&self, table: &StepTable, reduce: bool, rank: u64) -> Turn
+        requires table { table.now ≡ queues_of self.now.top.world.file.run }
+        requires frame { IsFrame reduce self.now.top.world.file self.now.top }
+        requires some { 0 < total self.now.top.block.left }
+        requires has { HasRank self.now.top.block rank }
+        ensures { IsTurn reduce self.now.top rank result }
+    {
+        turn_of(&self.top, &self.world, &self.pairs, table, reduce, rank)
+    }
+
+    /// What was told up to the end of the longest prefix.
+    pub(crate) fn outcome(&mut self) -> Result<Outcome, AllocError>
+        requires { self.old.top.world.spent ≡ false }
+        ensures told { IfOk result (λ outcome. outcome ≡ outcome_of self.old.top.world.file.run.sessions self.old.top.world.world) }
+        ensures same { self.new ≡ self.old }
+    {
+        outcome(&mut self.world)
+    }
+
     /// Goes back to the longest prefix that the word of the rank shares.
     pub(crate) fn go_back(&mut self, at: u64)
         ensures at { (reduce : Bool) (file : SpecFile) (end : ℕ) → at < end → IsStack reduce file at end self.old → IsAt reduce file at end self.new }
         ensures parted { (reduce : Bool) (file : SpecFile) (last end : ℕ) → at < end → IsStack reduce file last end self.old
             → (self.new.top.block ≡ self.old.top.block) ⊎ HasParted last at self.old.top.block self.new.top.block }
     {
-        'shared: while self.top.block.end() <= at {
-            let Some(frame) = self.below.pop() else {
+        'shared: while self.end() <= at {
+            if !self.pop() {
                 return;
-            };
-            self.top = frame;
+            }
         }
+    }
+
+    /// Goes back to the frame below, if there is one.
+    fn pop(&mut self) -> bool
+        ensures popped { result ≡ true → self.old.below ≡ self.new.below ++ self.new.top ∷ [] }
+        ensures none { result ≡ false → self.old.below ≡ [] }
+        ensures same { result ≡ false → self.new ≡ self.old }
+    {
+        let Some(frame) = self.below.pop() else {
+            return false;
+        };
+        self.top = frame;
+        self.world.go_back();
+        true
     }
 
     /// Goes on by a letter. The frame is kept where a later rank before the end has a word that shares it.
@@ -50,21 +172,37 @@ impl<'a> Stack<'a> {
         requires whole { self.old.top.world.spent ≡ false }
         requires known { turn.step < length self.old.top.world.file.run.steps }
         ensures { OnOk result ((reduce : Bool) (file : SpecFile) (at : ℕ) → at < end → IsAt reduce file at end self.old → IsTurn reduce self.old.top at turn
-            → get_or self.old.top.swaps.items turn.letter false ≡ false → HasGone reduce file at end self.old self.new) }
+            → get_or self.old.top.swaps turn.letter false ≡ false → HasGone reduce file at end self.old self.new) }
     {
         let behind = turn.block.end();
-        if behind < end && behind < self.top.block.end() {
-            let kept = self.top.fork()?;
-            keep(&mut self.below, kept)?;
+        if behind < end && behind < self.end() {
+            self.keep()?;
         }
-        self.top.go(turn)?;
+        self.go(turn)?;
         Ok(())
     }
-}
 
-fn keep<'a>(below: &mut Vec<Frame<'a>>, frame: Frame<'a>) -> Result<(), AllocError>
-    ensures { OnOk result (below.new.items ≡ below.old.items ++ frame.entry ∷ []) }
-{
-    below.push(frame)?;
-    Ok(())
+    /// Keeps the topmost frame below.
+    fn keep(&mut self) -> Result<(), AllocError>
+        requires whole { self.old.top.world.spent ≡ false }
+        ensures below { OnOk result (self.new.below ≡ self.old.below ++ self.old.top ∷ []) }
+        ensures top { OnOk result (self.new.top ≡ self.old.top) }
+    {
+        self.below.reserve(1)?;
+        mark(&mut self.world)?;
+        self.below.push_reserved(self.top.copy());
+        Ok(())
+    }
+
+    /// Goes on by a letter, from the topmost frame.
+    fn go(&mut self, turn: Turn) -> Result<(), AllocError>
+        requires whole { self.old.top.world.spent ≡ false }
+        requires known { turn.step < length self.old.top.world.file.run.steps }
+        ensures turned { OnOk result (HasTurned self.old.top turn self.new.top) }
+        ensures below { OnOk result (self.new.below ≡ self.old.below) }
+    {
+        send(&mut self.world, turn.step)?;
+        self.top = Frame::of_turn(turn);
+        Ok(())
+    }
 }

@@ -1,15 +1,19 @@
 //! A walk of words or of lines.
 
-ghost use Rattle.std.specs.Prelude.{◌≡◌, ℕ, ◌<◌, ◌≤◌, false, IfOk};
+ghost use Rattle.std.specs.Prelude.{◌≡◌, ℕ, ◌<◌, ◌≤◌, IfErr, IfOk, OnOk};
 ghost use Rattle.bound_specs.specs.Spec.{ranks};
-ghost use Rattle.machine_model.specs.Start.{Started, start};
-ghost use Rattle.step_reducer.specs.Walking.{walk_at, walk_end, moved_to, standing_in, IsGoing, IsWalkOf, HasMoved, HasWalked};
+ghost use Rattle.machine_model.specs.Start.{start};
+ghost use Rattle.session_steps.specs.Refused.{IsRefusedBy};
+ghost use Rattle.step_reducer.specs.Framed.{standing};
+ghost use Rattle.step_reducer.specs.Walking.{walk_at, walk_end, moved_to, standing_in, IsGoing, IsWalkOf, HasMoved, HasWalked, Starts};
 
 use crate::fact::Given;
 use crate::line_walk::LineWalk;
 use crate::word_walk::WordWalk;
 use bound_specs::Spec;
-use session_machine::World;
+use marked_paths::PairedWorld;
+use marked_worlds::MarkedWorld;
+use session_steps::StartError;
 use std::alloc::{AllocError, Global};
 
 /// How the ranks are walked.
@@ -29,29 +33,31 @@ impl Drop for Walk<'_> {
 }
 
 impl<'a> Walk<'a> {
-    /// A walk in the world of a spec's start, which stands before the first rank and may be asked for those up to the end.
-    pub(crate) fn new(
+    /// A walk from the start of a spec, which stands before the first rank and may be asked for those up to the end.
+    pub(crate) fn start(
         alloc: Global,
         spec: &'a Spec,
-        world: World<'a>,
         first: u64,
         end: u64,
         reduce: bool,
-    ) -> Result<Walk<'a>, AllocError>
-        requires started { start spec.now.run ≡ Started world.world }
-        requires whole { world.spent ≡ false }
-        requires of_spec { world.file ≡ spec.now }
+    ) -> Result<Walk<'a>, StartError>
         requires order { first ≤ end }
         requires few { end ≤ ranks spec.now.run }
         ensures walk { IfOk result (IsWalkOf spec.now reduce first end) }
         ensures at { IfOk result (λ walk. walk_at walk ≡ first) }
+        ensures started { OnOk result (Starts spec.now.run) }
+        ensures refused { IfErr result (λ error. IsRefusedBy error (start spec.now.run)) }
     {
         match spec.shape() {
             Some(shape) => {
-                let walk = WordWalk::new(alloc, spec, shape, world, first, end, reduce)?;
+                let start = PairedWorld::start(alloc, spec)?;
+                let walk = WordWalk::new(alloc, spec, shape, start, first, end, reduce)?;
                 Ok(Walk::Words(walk))
             }
-            None => Ok(Walk::Lines(LineWalk::new(alloc, spec, world, first))),
+            None => {
+                let walk = LineWalk::start(alloc, spec, first)?;
+                Ok(Walk::Lines(walk))
+            }
         }
     }
 
@@ -77,12 +83,12 @@ impl<'a> Walk<'a> {
     }
 
     /// The world that the walk stands in. Where the rank given last was run, it is the world behind its line.
-    pub(crate) fn world(&self) -> &World<'a>
-        ensures { result.now ≡ standing_in self.now }
+    pub(crate) fn world(&self) -> &MarkedWorld<'a>
+        ensures { standing result.now ≡ standing_in self.now }
     {
         match self {
-            Walk::Words(walk) => &walk.stack.top.world,
-            Walk::Lines(walk) => &walk.path.trail.top,
+            Walk::Words(walk) => walk.stack.world(),
+            Walk::Lines(walk) => walk.path.world(),
         }
     }
 

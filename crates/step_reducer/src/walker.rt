@@ -7,7 +7,7 @@ ghost use Rattle.step_reducer.specs.Walking.{begun_at, AreSent, GivesRun, GivesF
 
 use crate::error::WalkError;
 use crate::fact::FactRun;
-use crate::start::start_for;
+use crate::start::{check, walk_for};
 use crate::walk::Walk;
 use bound_specs::Spec;
 use finite_maps::Fork;
@@ -86,8 +86,8 @@ impl<'a> Walker<'a> {
         ensures started { OnOk result (Starts spec.now.run) }
         ensures begun { IfOk result (λ walker. walker ≡ begun_at spec.now shard reduce) }
     {
-        let world = start_for(alloc, spec, shard)?;
-        let walk = Walk::new(alloc, spec, world, shard.first, shard.end, reduce)?;
+        check(spec, shard)?;
+        let walk = walk_for(alloc, spec, shard, shard.end, reduce)?;
         Ok(Walker {
             spec,
             reduce,

@@ -3,20 +3,19 @@
 ghost use Rattle.std.specs.Prelude.{◌≡◌, ◌<◌, ◌≤◌, [], length, OnOk, IfOk, false};
 ghost use Rattle.perm_ranks.specs.Words.{total, all_words};
 ghost use Rattle.bound_specs.specs.Spec.{counts_of, queues_of};
-ghost use Rattle.machine_model.specs.Start.{Started, start};
+ghost use Rattle.machine_model.specs.Start.{Started, start as begins};
+ghost use Rattle.plan_pairs.specs.Pairs.{ArePairs};
 ghost use Rattle.step_reducer.specs.Walking.{IsWords};
 ghost use Rattle.step_reducer.specs.Reduced.{tour_of, IsTour};
 ghost use Rattle.step_reducer.specs.Walks.{LiesBehind, IsAt, IsWalk, IsFound, HasSent, HasGiven};
 
 use crate::fact::{FactRun, Given};
-use crate::frame::{Frame, Swaps};
 use crate::stack::Stack;
 use crate::step_table::StepTable;
-use crate::worlds::outcome;
 use bound_specs::Spec;
+use marked_paths::PairedWorld;
 use perm_ranks::Shape;
 use rank_facts::Fact;
-use session_machine::World;
 use std::alloc::{AllocError, Global};
 
 /// Stands before a rank, with worlds of prefixes of its word that later words share.
@@ -56,16 +55,18 @@ impl<'a> WordWalk<'a> {
         alloc: Global,
         spec: &'a Spec,
         shape: &Shape,
-        world: World<'a>,
+        start: PairedWorld<'a>,
         first: u64,
         end: u64,
         reduce: bool,
     ) -> Result<WordWalk<'a>, AllocError>
         requires shape { shape.now ≡ counts_of (queues_of spec.now.run) }
         requires words { spec.now.run.lines ≡ [] }
-        requires started { start spec.now.run ≡ Started world.world }
-        requires whole { world.spent ≡ false }
-        requires of_spec { world.file ≡ spec.now }
+        requires started { begins spec.now.run ≡ Started start.world.world }
+        requires whole { start.world.spent ≡ false }
+        requires of_spec { start.world.file ≡ spec.now }
+        requires marked { start.world.marked ≡ [] }
+        requires pairs { ArePairs spec.now.run start.pairs }
         requires few { end ≤ length (all_words shape.now) }
         requires order { first ≤ end }
         ensures { IfOk result (λ walk. IsWords spec.now reduce first end walk × (walk.at ≡ first)) }
@@ -73,20 +74,14 @@ impl<'a> WordWalk<'a> {
         let block = shape.block();
         let steps = block.letters_left();
         let table = StepTable::of(alloc, spec)?;
-        let swaps = Swaps::new();
-        let below = Vec::new(alloc);
-        let top = Frame {
-            block,
-            swaps,
-            world,
-        };
+        let stack = Stack::new(alloc, start, block);
         Ok(WordWalk {
             table,
             reduce,
             end,
             steps,
             at: first,
-            stack: Stack { below, top },
+            stack,
         })
     }
 
@@ -142,12 +137,12 @@ fn find(
     ensures sent { IfOk result (λ found. HasSent reduce stack.old.top.world.file.run at stack.old found stack.new) }
     ensures ran { IfOk result (λ found. LiesBehind stack.old.top.world.file.run at found.end found.fact stack.new.top.world.world) }
 {
-    let before = stack.top.block.letters_left();
-    'letter: while stack.top.block.letters_left() > 0 {
-        let turn = stack.top.turn(table, reduce, at);
-        let left = stack.top.block.letters_left();
+    let before = stack.letters_left();
+    'letter: while stack.letters_left() > 0 {
+        let turn = stack.turn(table, reduce, at);
+        let left = stack.letters_left();
         let behind = end.min(turn.block.end());
-        if stack.top.is_swap(turn.letter) {
+        if stack.is_swap(turn.letter) {
             return Ok(Found {
                 end: behind,
                 fact: Fact::Swap(steps - left - 1),
@@ -163,7 +158,7 @@ fn find(
         }
         stack.descend(turn, all)?;
     }
-    let outcome = outcome(&stack.top.world)?;
+    let outcome = stack.outcome()?;
     Ok(Found {
         end: at + 1,
         fact: Fact::Ran(outcome),

@@ -2,7 +2,7 @@ use Rattle.std.proofs.Common.{◌≡◌, sym, ap, ◌∙◌, subst, ℕ, suc, �
 use Rattle.bound_specs.specs.Spec.{SpecFile, no_step, line_of}
 use Rattle.machine_model.specs.World.{send_all}
 use Rattle.rank_facts.specs.Quiet.{is_quiet}
-use Rattle.step_reducer.specs.Reduced.{first_world}
+use Rattle.marked_paths.specs.Paths.{first_world}
 use Rattle.marked_paths.proofs.PathLemmas.{path-own}
 use Rattle.book_audit.proofs.testing.are_quiet.Goals as goal
 

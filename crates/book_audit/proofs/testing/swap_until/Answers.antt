@@ -2,7 +2,7 @@ use Rattle.std.proofs.Common.{◌≡◌, refl, sym, ap, ◌∙◌, subst, ◌<�
 use Rattle.perm_ranks.specs.Words.{all_words, word_at}
 use Rattle.bound_specs.specs.Spec.{SpecFile, counts_of, queues_of}
 use Rattle.rank_facts.specs.Swap.{falls_at, word_of}
-use Rattle.step_reducer.specs.Reduced.{first_world}
+use Rattle.marked_paths.specs.Paths.{first_world}
 use Rattle.book_audit.specs.Grounds.{AreAlikeTo}
 use Rattle.book_audit.proofs.Tests.{falls-where, falls-inside, line-inside, in-ranks, swap-from, swap-alike}
 use Rattle.book_audit.proofs.testing.swap_until.Goals as goal

@@ -1,6 +1,7 @@
-use Rattle.std.proofs.Common.{◌≡◌, subst, IfOk}
-use Rattle.class_walks.proofs.Showing.{zeros-unnumbered}
+use Rattle.std.proofs.Common.{◌++◌, sym, ap, ◌∙◌, append-nil, map}
+use Rattle.class_walks.specs.Working.{at_zero}
 use Rattle.class_walks.proofs.reading.unnumbered.Goals as goal
 
 pub returns : goal.returns
-returns c = subst (λ rows. IfOk c.all_at_zero.result (λ all. all ≡ rows)) (zeros-unnumbered c.args.rows.now) c.all_at_zero.ensures
+returns c =
+    sym (append-nil c.loop-key.rows) ∙ sym (ap (λ es. c.loop-key.rows ++ map at_zero es) c.in-None.ensures.steps.0) ∙ c.loop-key.invariant

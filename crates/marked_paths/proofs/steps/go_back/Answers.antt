@@ -24,4 +24,5 @@ later-preserved c =
       few = omega (arith, next, c.later.invariant.few);
       more = omega (arith, next, c.later-test.true);
       file = c.go_back.ensures.of_spec ∙ c.later.invariant.file;
+      numbers = c.go_back.ensures.numbers ∙ c.later.invariant.numbers;
     }

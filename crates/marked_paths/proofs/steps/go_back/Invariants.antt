@@ -9,6 +9,7 @@ invariant-later l = record {
   few : l.left ≤ length l.line;
   more : l.shared ≤ l.left;
   file : l.world.file ≡ l.initial.world.file;
+  numbers : l.world.numbers ≡ l.initial.world.numbers;
 }
 
 abbrev pub decreases-later : goal.decreases-later

@@ -1,7 +1,7 @@
 use Rattle.std.proofs.Common.{◌≡◌, sym, ap, ◌∙◌, ℕ, suc, ◌-◌, List, [], ◌∷◌, length, drop, get_or, arith, le-ltb}
 use Rattle.std.proofs.lemmas.List.{drop_all}
 use Rattle.rank_facts.specs.Swap.{quiet_heads}
-use Rattle.step_reducer.proofs.Listed.{quiet-whole}
+use Rattle.step_reducer.proofs.Listed.{quiet-unspent}
 use Rattle.step_reducer.proofs.Tables.{step-known}
 use Rattle.step_reducer.proofs.frame.is_quiet_beside.Goals as goal
 
@@ -22,7 +22,7 @@ returns-then-left-gt0 c = λ ks rest left.
     let all = get_or c.args.table.now s [] in
     let first : rest ≡ c.next.result ∷ drop (suc (length all - c.left_of-left.result)) all = left.1
     ∙ ap (λ n. drop (length all - n) all) (sym c.left_of-left.ensures) ∙ c.next.ensures in
-    c.quiet.ensures.answer ∙ quiet-whole r c.args.step c.next.result c.requires.whole ∙ sym (ap (quiet_heads r.file.run.steps r.world (c.args.step ∷ ks)) first)
+    c.quiet.ensures.answer ∙ quiet-unspent r c.args.step c.next.result c.requires.whole ∙ sym (ap (quiet_heads r.file.run.steps r.world (c.args.step ∷ ks)) first)
 
 pub returns-else-left-gt0 : goal.returns-else-left-gt0
 returns-else-left-gt0 c = λ ks rest left.

@@ -8,6 +8,7 @@ use Rattle.rank_facts.specs.Facts.{IsFactOf}
 use Rattle.rank_facts.specs.declared.fact.Fact.TheVariants.{Ran, Swap}
 use Rattle.transcripts.specs.declared.event.Event.{Event}
 use Rattle.step_reducer.specs.Reduced.{tour_of, line_world}
+use Rattle.step_reducer.specs.Framed.{Stacked}
 use Rattle.step_reducer.specs.Walks.{LiesBehind}
 use Rattle.step_reducer.proofs.FactsAt.{swap-within, swap-all, ran-at, world-at}
 use Rattle.step_reducer.proofs.Partings.{line-length}
@@ -38,7 +39,7 @@ returns-then-is_swap-clause-found c =
     let frame = c.letter.invariant.at.stack.top.frame in
     let turn = c.turn-turn.ensures in
     let u = c.turn-turn.result in
-    let listed : get_or top.swaps.items u.letter false ≡ true = sym c.is_swap.ensures ∙ c.if-is_swap.true in
+    let listed : get_or top.swaps u.letter false ≡ true = sym c.is_swap.ensures ∙ c.if-is_swap.true in
     let letters = frame.stands.ranks.letters in
     let some = frame.stands.some u.letter listed in
     let k = c.args.steps - c.letters_left-left.result - 1 in
@@ -52,7 +53,7 @@ returns-then-is_swap-clause-found c =
       facts = λ r le lt. (
           let behind : r < end_of u.block = omega (arith, lt, c.min-behind.ensures, c.end.ensures.end) in
           let has : HasRank u.block r = (omega (arith, from, le), behind) in
-          swap-within (tour_of file.run c.args.reduce) frame.shared top.block top.world.world top.swaps.items
+          swap-within (tour_of file.run c.args.reduce) frame.shared top.block top.world.world top.swaps
           u.letter k r c.requires.tour frame.stands turn.left listed last
           (subst (λ b. HasRank b r) turn.block_is has));
     }
@@ -64,14 +65,14 @@ returns-then-is_swap-clause-sent c =
     let frame = c.letter.invariant.at.stack.top.frame in
     let turn = c.turn-turn.ensures in
     let u = c.turn-turn.result in
-    let listed : get_or top.swaps.items u.letter false ≡ true = sym c.is_swap.ensures ∙ c.if-is_swap.true in
+    let listed : get_or top.swaps u.letter false ≡ true = sym c.is_swap.ensures ∙ c.if-is_swap.true in
     let letters = frame.stands.ranks.letters in
     let before = c.requires.has.stack.top.frame.stands.ranks.letters in
     let some = frame.stands.some u.letter listed in
     let k = c.args.steps - c.letters_left-left.result - 1 in
     let last : suc k ≡ length frame.shared = omega (arith, letters, some, c.requires.steps, c.letters_left-left.ensures.all) in
     let fact = swap-within
-    (tour_of file.run c.args.reduce) frame.shared top.block top.world.world top.swaps.items u.letter
+    (tour_of file.run c.args.reduce) frame.shared top.block top.world.world top.swaps u.letter
     k c.args.at c.requires.tour frame.stands turn.left listed last
     (subst (λ b. HasRank b c.args.at) turn.block_is turn.inside) in
     let never = reduces c.args.reduce file.run c.args.at k fact in
@@ -89,7 +90,7 @@ returns-then-is_covered-clause-found c =
     let frame = c.letter.invariant.at.stack.top.frame in
     let turn = c.turn-turn.ensures in
     let u = c.turn-turn.result in
-    let unlisted : get_or top.swaps.items u.letter false ≡ false = sym c.is_swap.ensures ∙ c.if-is_swap.false in
+    let unlisted : get_or top.swaps u.letter false ≡ false = sym c.is_swap.ensures ∙ c.if-is_swap.false in
     let covered = c.is_covered.ensures c.if-is_covered.true in
     let letters = frame.stands.ranks.letters in
     let k = c.args.steps - c.letters_left-left.result in
@@ -116,7 +117,7 @@ returns-then-is_covered-clause-sent c =
     let frame = c.letter.invariant.at.stack.top.frame in
     let turn = c.turn-turn.ensures in
     let u = c.turn-turn.result in
-    let unlisted : get_or top.swaps.items u.letter false ≡ false = sym c.is_swap.ensures ∙ c.if-is_swap.false in
+    let unlisted : get_or top.swaps u.letter false ≡ false = sym c.is_swap.ensures ∙ c.if-is_swap.false in
     let covered = c.is_covered.ensures c.if-is_covered.true in
     let letters = frame.stands.ranks.letters in
     let before = c.requires.has.stack.top.frame.stands.ranks.letters in
@@ -146,7 +147,8 @@ returns-clause-sent c =
       most = omega (arith, len, before, c.letters_left-before.ensures.all);
       one = λ e. refl;
       all = λ e. c.letters_left-before.ensures.all;
-      whole = λ e. omega (arith, c.letter-test.false, c.letters_left.ensures.all);
+      whole = λ e. (let none : total c.letter.stack.top.block.left ≡ 0 = omega (arith, c.letter-test.false, c.letters_left.ensures.all) in
+          ap (λ (s : Stacked). total s.top.block.left) c.in_ok-outcome.ensures.same ∙ none);
     }
 
 pub returns-clause-ran : goal.returns-clause-ran
@@ -162,8 +164,8 @@ returns-clause-ran c =
     let same : top.block.first ≡ c.args.at = omega (arith, one, from, to) in
     record {
       one = λ o e. refl;
-      world_is = λ o e. subst (λ n. top.world.world ≡ line_world file.run n) same
-          (world-at (tour_of file.run c.args.reduce) frame.shared top.block top.world.world top.swaps.items c.requires.tour frame.stands none);
+      world_is = λ o e. ap (λ (s : Stacked). s.top.world.world) c.in_ok-outcome.ensures.same ∙ subst (λ n. top.world.world ≡ line_world file.run n) same
+          (world-at (tour_of file.run c.args.reduce) frame.shared top.block top.world.world top.swaps c.requires.tour frame.stands none);
     }
 
 pub letter-smaller : goal.letter-smaller
@@ -191,7 +193,7 @@ returns-clause-found c =
     let from = has.0 in
     let to = has.1 in
     let told : Ran (outcome_of file.run.sessions top.world.world) ≡ Ran c.in_ok-outcome.outcome =
-    ap Ran (sym (c.in_ok-outcome.ensures ∙ ap (λ (f : SpecFile). outcome_of f.run.sessions top.world.world) frame.file_is)) in
+    ap Ran (sym (c.in_ok-outcome.ensures.told ∙ ap (λ (f : SpecFile). outcome_of f.run.sessions top.world.world) frame.file_is)) in
     record {
       some = omega arith;
       few = omega (arith, c.requires.some);
@@ -200,5 +202,5 @@ returns-clause-found c =
           let same : r ≡ top.block.first = omega (arith, one, from, to, le, lt) in
           subst (λ n. IsFactOf c.args.reduce file.run n (Ran c.in_ok-outcome.outcome)) (sym same)
           (subst (IsFactOf c.args.reduce file.run top.block.first) told
-          (ran-at (tour_of file.run c.args.reduce) frame.shared top.block top.world.world top.swaps.items c.requires.tour frame.stands none)));
+          (ran-at (tour_of file.run c.args.reduce) frame.shared top.block top.world.world top.swaps c.requires.tour frame.stands none)));
     }

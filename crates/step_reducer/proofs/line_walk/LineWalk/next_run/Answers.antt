@@ -1,17 +1,19 @@
 use Rattle.std.proofs.Common.{◌≡◌, refl, ℕ, Some, sym, ap, ◌∙◌, subst, List, length, arith}
+use Rattle.bound_specs.specs.Spec.{SpecFile, line_of}
 use Rattle.machine_model.specs.World.{send_all, outcome_of}
-use Rattle.session_machine.specs.Running.{Running}
 use Rattle.rank_facts.specs.Facts.{IsFactOf}
 use Rattle.rank_facts.specs.declared.fact.Fact.TheVariants.{Ran}
-use Rattle.step_reducer.specs.Fronts.{front}
-use Rattle.step_reducer.specs.Reduced.{first_world}
-use Rattle.step_reducer.proofs.FrontLemmas.{front-new}
-use Rattle.step_reducer.proofs.Trails.{path-own, path-told, path-top}
+use Rattle.marked_paths.specs.Fronts.{front}
+use Rattle.marked_paths.specs.Paths.{first_world}
+use Rattle.marked_paths.proofs.FrontLemmas.{front-new}
+use Rattle.marked_paths.specs.declared.path.MarkedPath.{MarkedPath}
+use Rattle.marked_paths.specs.Paths.{IsPath}
+use Rattle.marked_paths.proofs.PathLemmas.{path-own, path-told, path-world}
 use Rattle.step_reducer.proofs.Firsts.{line-fact, line-ran}
 use Rattle.step_reducer.proofs.line_walk.LineWalk.next_run.Goals as goal
 
 pub outcome-requires : goal.outcome-requires
-outcome-requires c = path-own c.args.self.now.path.spec.now c.go_to.new.self c.in_ok-shared.ensures.path
+outcome-requires c = path-own c.args.self.now.path.world.file c.go_to.new.self c.in_ok-shared.ensures.path
 
 pub overflow_sub-sent : goal.overflow_sub-sent
 overflow_sub-sent c =
@@ -21,20 +23,25 @@ overflow_sub-sent c =
 pub returns : goal.returns
 returns c =
     let x = c.args.self.now in
-    let file = x.path.spec.now in
+    let file = x.path.world.file in
     let run = file.run in
     let line = c.in-Some.line.items in
-    let y = c.go_to.new.self in
+    let y = c.outcome.new.self in
     let went = c.in_ok-shared.ensures in
-    let long = ap (λ (l : List ℕ). length l) went.line in
+    let same = c.in_ok-outcome.ensures.same in
+    let path : IsPath file y = subst (IsPath file) (sym same) went.path in
+    let goes : y.line.items ≡ line = ap (λ (p : MarkedPath). p.line.items) same ∙ went.line in
+    let line_is : line ≡ line_of run x.at = c.in-Some.ensures.line ∙ ap (λ (f : SpecFile). line_of f.run x.at) c.spec-spec.ensures in
+    let long = ap (λ (l : List ℕ). length l) goes in
     let told : outcome_of run.sessions (send_all run.steps (first_world run) line) ≡ c.in_ok-outcome.outcome =
-    sym (c.in_ok-outcome.ensures ∙ path-told file y went.path ∙ ap (λ ks. outcome_of run.sessions (send_all run.steps (first_world run) ks)) went.line) in
+    sym (c.in_ok-outcome.ensures.told ∙ path-told file c.go_to.new.self went.path
+    ∙ ap (λ ks. outcome_of run.sessions (send_all run.steps (first_world run) ks)) went.line) in
     record {
-      lines = went.path;
+      lines = path;
       first = refl;
       end = refl;
       at = refl;
-      line = went.line ∙ c.in-Some.ensures.line;
+      line = goes ∙ line_is;
       short = omega (arith, long, c.len-steps.ensures.value, c.len-steps.ensures.fits);
       sent = omega (
         arith,
@@ -42,16 +49,15 @@ returns c =
         front-new x.path.line.items line,
         went.shared,
         c.len-steps.ensures.value,
-        ap (λ (l : List ℕ). front x.path.line.items l) went.line,
+        ap (λ (l : List ℕ). front x.path.line.items l) goes,
       );
-      most = (let all = ap (λ (l : List ℕ). length l) c.in-Some.ensures.line in omega (arith, c.len-steps.ensures.value, all));
+      most = (let all = ap (λ (l : List ℕ). length l) line_is in omega (arith, c.len-steps.ensures.value, all));
       facts = λ reduce r le lt. (let here : r ≡ x.at = omega (arith, le, lt) in
           subst (λ m. IsFactOf reduce run m (Ran c.in_ok-outcome.outcome)) (sym here)
-          (line-fact reduce run x.at line c.in_ok-outcome.outcome c.requires.lines c.requires.inside c.in-Some.ensures.line
+          (line-fact reduce run x.at line c.in_ok-outcome.outcome c.requires.lines c.requires.inside line_is
           (line-ran run line c.requires.walk.starts ∙ ap (λ o. Some o) told)));
       ran = record {
         one = λ o e. refl;
-        world_is = λ o e. ap (λ (r : Running). r.world) (path-top file y went.path)
-            ∙ ap (λ ks. send_all run.steps (first_world run) ks) (went.line ∙ c.in-Some.ensures.line);
+        world_is = λ o e. path-world file y path ∙ ap (λ ks. send_all run.steps (first_world run) ks) (goes ∙ line_is);
       };
     }

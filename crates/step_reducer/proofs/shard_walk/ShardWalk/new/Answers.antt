@@ -10,13 +10,10 @@ invariant_of-result c =
     let reduce = c.args.reduce in
     let first = c.args.shard.first in
     let walk = c.in_ok-walk.walk in
-    let is : IsWalkOf file reduce first (ranks file.run) walk = subst (λ end. IsWalkOf file reduce first end walk) c.ranks-all.ensures c.in_ok-walk.ensures.walk in
+    let is : IsWalkOf file reduce first (ranks file.run) walk = subst (λ end. IsWalkOf file reduce first end walk) c.ranks.ensures c.in_ok-walk.ensures.walk in
     record {
       walk = λ whole. record { going = going-of file reduce first (ranks file.run) walk is; to = all-ranks file reduce first walk is; here = c.in_ok-walk.ensures.at };
       none = λ spent. refl;
-      order = c.in_ok-world.ensures.lawful.order;
-      inside = c.in_ok-world.ensures.lawful.inside;
+      order = c.in_ok-check.ensures.lawful.order;
+      inside = c.in_ok-check.ensures.lawful.inside;
     }
-
-pub returns-clause-started : goal.returns-clause-started
-returns-clause-started c = (c.in_ok-world.world.world, c.in_ok-world.ensures.started)

@@ -8,4 +8,4 @@ invariant-shared l = (reduce : Bool) (file : SpecFile) (last end : ℕ) → l.at
     → IsStack reduce file last end l.self × ((l.self.top.block ≡ l.initial.self.top.block) ⊎ HasParted last l.at l.initial.self.top.block l.self.top.block)
 
 abbrev pub decreases-shared : goal.decreases-shared
-decreases-shared l = length l.self.below.items
+decreases-shared l = length l.self.below

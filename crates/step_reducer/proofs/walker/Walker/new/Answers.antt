@@ -11,9 +11,6 @@ invariant_of-result c =
       walk = c.in_ok-walk.ensures.walk;
       rest_is = c.in_ok-walk.ensures.at;
       from = omega arith;
-      few = c.in_ok-world.ensures.lawful.few;
+      few = c.in_ok-check.ensures.lawful.few;
       sent_few = omega arith;
     } in (λ whole. stands, λ run. ap (sent_by file.run c.args.shard.first) none)
-
-pub returns-clause-started : goal.returns-clause-started
-returns-clause-started c = (c.in_ok-world.world.world, c.in_ok-world.ensures.started)

@@ -1,6 +1,8 @@
-use Rattle.std.proofs.Common.{refl, ap, ◌∙◌}
+use Rattle.std.proofs.Common.{refl, sym, ap, ◌∙◌, subst, []}
 use Rattle.perm_ranks.specs.Words.{total}
-use Rattle.perm_ranks.specs.Blocks.{Block}
+use Rattle.perm_ranks.specs.Blocks.{Block, IsBlockOf}
+use Rattle.machine_model.specs.Start.{Started}
+use Rattle.session_machine.specs.Running.{Running}
 use Rattle.step_reducer.specs.declared.word_walk.WordWalk.{WordWalk}
 use Rattle.step_reducer.proofs.Firsts.{words-first}
 use Rattle.step_reducer.proofs.word_walk.WordWalk.new.Goals as goal
@@ -13,10 +15,15 @@ returns c =
       end = c.args.end;
       steps = c.letters_left-steps.result;
       at = c.args.first;
-      stack = record { below = c.new-below.result; top = record { block = c.block-block.result; swaps = c.new-swaps.result; world = c.args.world } };
-    } in (
-      words-first c.args.spec.now w c.args.shape.now c.requires.shape c.requires.words c.requires.started c.requires.whole c.requires.of_spec
-          c.block-block.ensures.whole c.block-block.ensures.all c.new-swaps.ensures c.new-below.ensures.items
+      stack = c.new-stack.result;
+    } in
+    let made = c.new-stack.ensures in (
+      words-first c.args.spec.now w c.args.shape.now c.requires.shape c.requires.words
+          (c.requires.started ∙ ap (λ (r : Running). Started r.world) (sym made.world))
+          (ap (λ (r : Running). r.spent) made.world ∙ c.requires.whole)
+          (ap (λ (r : Running). r.file) made.world ∙ c.requires.of_spec)
+          (subst (λ b. IsBlockOf c.args.shape.now [] b) (sym made.block) c.block-block.ensures.whole)
+          (made.block ∙ c.block-block.ensures.all) made.swaps made.below
           c.in_ok-table.ensures (c.letters_left-steps.ensures.all ∙ ap (λ (b : Block). total b.left) c.block-block.ensures.all) c.requires.few c.requires.order,
       refl,
     )

@@ -4,7 +4,7 @@ use Rattle.perm_ranks.specs.Blocks.{HasRank}
 use Rattle.perm_ranks.proofs.CountLemmas.{length-all_words}
 use Rattle.bound_specs.specs.Spec.{SpecFile, counts_of, queues_of}
 use Rattle.step_reducer.specs.Reduced.{tour_of, IsTour}
-use Rattle.step_reducer.specs.declared.stack.Stack.{Stack}
+use Rattle.step_reducer.specs.Framed.{Stacked}
 use Rattle.step_reducer.specs.declared.word_walk.WordWalk.{WordWalk}
 use Rattle.step_reducer.specs.Walks.{LiesBehind, IsAt, IsFound, IsStack, IsBehind, HasSent}
 use Rattle.step_reducer.proofs.Stacks.{stack-later}
@@ -12,7 +12,7 @@ use Rattle.step_reducer.proofs.Sendings.{left-new}
 use Rattle.step_reducer.proofs.word_walk.WordWalk.next_run.Goals as goal
 
 -- the stack that was gone back is one of the same file
-back-file : (x : WordWalk) (file : SpecFile) (s : Stack) → IsAt x.reduce file x.at x.end s → s.top.world.file ≡ file
+back-file : (x : WordWalk) (file : SpecFile) (s : Stacked) → IsAt x.reduce file x.at x.end s → s.top.world.file ≡ file
 back-file x file s is = is.stack.top.frame.file_is
 
 -- the stack as one of the next rank
@@ -20,7 +20,7 @@ stack-now : (x : WordWalk) (file : SpecFile) → IsStack x.reduce file (x.at - 1
 stack-now x file is = stack-later x.reduce file (x.at - 1) x.at x.end x.stack (omega arith) is
 
 -- behind the word of a rank
-now-behind : (rank next : ℕ) (s : Stack) → next ≡ rank + 1 → HasRank s.top.block rank → total s.top.block.left ≡ 0 → IsBehind (next - 1) s
+now-behind : (rank next : ℕ) (s : Stacked) → next ≡ rank + 1 → HasRank s.top.block rank → total s.top.block.left ≡ 0 → IsBehind (next - 1) s
 now-behind rank next s is has none =
     let same : next - 1 ≡ rank = omega (arith, is) in
     let one = length-all_words s.top.block.left 0 none in
