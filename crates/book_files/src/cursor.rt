@@ -75,19 +75,14 @@ impl<'a> Cursor<'a> {
         None
     }
 
-    /// The text of a row behind its bracket, and the bracket that ends it.
-    pub(crate) fn row_text(&mut self) -> Option<&'a [u8]> {
-        let mut is_quoted = false;
-        let mut is_escaped = false;
-        for (n, byte) in self.rest.iter().enumerate() {
-            if is_escaped {
-                is_escaped = false;
-            } else if is_quoted && *byte == b'\\' {
-                is_escaped = true;
-            } else if *byte == b'"' {
-                is_quoted = !is_quoted;
-            } else if *byte == b']' && !is_quoted {
-                return Some(self.cut(n + 1));
+    /// The bytes up to where a word stands last.
+    pub(crate) fn up_to_last(&mut self, word: &[u8]) -> Option<&'a [u8]> {
+        let len = self.rest.len();
+        for passed in 0..len {
+            let place = len - 1 - passed;
+            let (_, behind) = self.rest.split_at(place.min(self.rest.len()));
+            if behind.starts_with(word) {
+                return Some(self.cut(place));
             }
         }
         None

@@ -3,13 +3,11 @@
 ghost use Rattle.std.specs.Prelude.{IfSome};
 ghost use Rattle.book_files.specs.Pieces.{IsGuess};
 
-use crate::cursor::Cursor;
 use crate::spec_of_text::spec_of_text;
-use crate::written::{MIN_RUN, listed_outcomes};
+use crate::written::MIN_RUN;
 use bound_specs::Spec;
 use json::{MAX_DEPTH, Reader, Scratch, Token};
 use std::alloc::Global;
-use transcripts::Outcome;
 
 /// A guess: whatever it says is looked over when the members are read.
 #[derive(Drop)]
@@ -24,8 +22,6 @@ pub(crate) struct Guess {
     pub(crate) facts: usize,
     /// How many outcomes there are.
     pub(crate) outcomes: usize,
-    /// The outcomes as the writer lays them out, which share rows. There may be none.
-    pub(crate) listed: Vec<Outcome>,
 }
 
 /// What is seen of the members in a first pass.
@@ -35,8 +31,6 @@ struct Hints {
     format: u64,
     facts: usize,
     outcomes: usize,
-    /// Where the text of the outcomes begins.
-    place: usize,
 }
 
 /// A guess from the tokens of a text.
@@ -44,25 +38,13 @@ pub(crate) fn guess_of(alloc: Global, text: &str, scratch: &mut Scratch) -> Opti
     ensures { IfSome result IsGuess }
 {
     match hints_of(alloc, text, scratch) {
-        Some(hints) => {
-            let listed = listed_at(alloc, text.as_bytes(), hints.place);
-            guess_from(alloc, hints, listed)
-        }
+        Some(hints) => guess_from(alloc, hints),
         None => None,
     }
 }
 
-/// The outcomes that are laid out at a place of a text as the writer does, or none.
-fn listed_at(alloc: Global, text: &[u8], place: usize) -> Vec<Outcome> {
-    let (_, behind) = text.split_at(place.min(text.len()));
-    match listed_outcomes(alloc, &mut Cursor::new(behind)) {
-        Some(outcomes) => outcomes,
-        None => Vec::new(alloc),
-    }
-}
-
 /// The guess of what was seen.
-fn guess_from(alloc: Global, hints: Hints, listed: Vec<Outcome>) -> Option<Guess>
+fn guess_from(alloc: Global, hints: Hints) -> Option<Guess>
     ensures { IfSome result IsGuess }
 {
     match spec_of_text(alloc, hints.text.as_str()) {
@@ -72,7 +54,6 @@ fn guess_from(alloc: Global, hints: Hints, listed: Vec<Outcome>) -> Option<Guess
             format: hints.format,
             facts: hints.facts,
             outcomes: hints.outcomes,
-            listed,
         }),
         Err(_) => None,
     }
@@ -84,7 +65,6 @@ fn hints_of(alloc: Global, text: &str, scratch: &mut Scratch) -> Option<Hints> {
         format: 0,
         facts: 0,
         outcomes: 0,
-        place: 0,
     };
     let mut reader = match Reader::new(text, scratch) {
         Ok(reader) => reader,
@@ -121,10 +101,7 @@ fn sees(hints: &mut Hints, name: &str, limit: usize, reader: &mut Reader<'_>) ->
     match name {
         "facts" => sees_count(&mut hints.facts, limit, reader),
         "format" => sees_number(&mut hints.format, reader),
-        "outcomes" => {
-            hints.place = reader.offset();
-            sees_count(&mut hints.outcomes, limit, reader)
-        }
+        "outcomes" => sees_count(&mut hints.outcomes, limit, reader),
         "spec" => sees_text(&mut hints.text, reader),
         _ => false,
     }

@@ -1,25 +1,18 @@
 //! Outcomes as the writer lays them out.
 
 use crate::cursor::Cursor;
-use crate::rows::Rows;
-use finite_maps::Fork;
+use crate::rows::row_at;
 use std::alloc::Global;
 use transcripts::{Event, Fault, Outcome, Transcript, Warning};
 
 /// The outcome that is next.
-pub(crate) fn outcome_at<'a>(
-    alloc: Global,
-    cursor: &mut Cursor<'a>,
-    rows: &mut Rows<'a>,
-) -> Option<Outcome> {
+pub(crate) fn outcome_at(alloc: Global, cursor: &mut Cursor<'_>) -> Option<Outcome> {
     let mut transcripts = Vec::new(alloc);
     if !cursor.passes(b"[") {
         return None;
     }
     for _ in 0..cursor.len() {
-        // A fork has no more room than it needs.
-        let transcript = transcript_at(alloc, cursor, rows)?;
-        transcripts.push(transcript.fork().ok()?).ok()?;
+        transcripts.push(transcript_at(alloc, cursor)?).ok()?;
         if !cursor.passes(b",") {
             break;
         }
@@ -31,11 +24,7 @@ pub(crate) fn outcome_at<'a>(
 }
 
 /// The transcript that is next.
-fn transcript_at<'a>(
-    alloc: Global,
-    cursor: &mut Cursor<'a>,
-    rows: &mut Rows<'a>,
-) -> Option<Transcript> {
+fn transcript_at(alloc: Global, cursor: &mut Cursor<'_>) -> Option<Transcript> {
     let mut transcript = Transcript::new(alloc);
     if !cursor.passes(b"[") {
         return None;
@@ -44,7 +33,7 @@ fn transcript_at<'a>(
         return Some(transcript);
     }
     for _ in 0..cursor.len() {
-        transcript.push(event_at(alloc, cursor, rows)?).ok()?;
+        transcript.push(event_at(alloc, cursor)?).ok()?;
         if !cursor.passes(b",") {
             break;
         }
@@ -56,9 +45,9 @@ fn transcript_at<'a>(
 }
 
 /// The event that is next. Those that come most are tried first.
-fn event_at<'a>(alloc: Global, cursor: &mut Cursor<'a>, rows: &mut Rows<'a>) -> Option<Event> {
+fn event_at(alloc: Global, cursor: &mut Cursor<'_>) -> Option<Event> {
     if cursor.passes(b"[\"") {
-        let event = tagged_at(alloc, cursor, rows)?;
+        let event = tagged_at(alloc, cursor)?;
         if !cursor.passes(b"]") {
             return None;
         }
@@ -86,11 +75,11 @@ fn event_at<'a>(alloc: Global, cursor: &mut Cursor<'a>, rows: &mut Rows<'a>) -> 
 }
 
 /// The event of the word that is next, and of what it is said of.
-fn tagged_at<'a>(alloc: Global, cursor: &mut Cursor<'a>, rows: &mut Rows<'a>) -> Option<Event> {
+fn tagged_at(alloc: Global, cursor: &mut Cursor<'_>) -> Option<Event> {
     if cursor.passes(b"sent\",") {
         Some(Event::Sent(u8::try_from(cursor.number()?).ok()?))
     } else if cursor.passes(b"row\",[") {
-        Some(Event::Row(rows.next(alloc, cursor)?))
+        Some(Event::Row(row_at(alloc, cursor)?))
     } else if cursor.passes(b"rows\",") {
         Some(Event::Rows(cursor.number()?))
     } else if cursor.passes(b"updated\",") {

@@ -9,10 +9,10 @@ ghost use Rattle.book_files.specs.Pieces.{AreAllParts, AreNone, IsFactsPart, IsF
 
 use crate::guess::Guess;
 use book_format::{facts_at, outcomes_at, runs_at, value_at};
+use compact_outcomes::CompactOutcome;
 use fact_books::{Builder, Run};
 use json::{Reader, Scratch, Token};
 use std::alloc::Global;
-use transcripts::Outcome;
 
 /// How deep a member may be.
 const MEMBER_DEPTH: usize = 126;
@@ -29,7 +29,7 @@ pub(crate) enum Facts {
 pub(crate) struct Parts {
     pub(crate) facts: Option<Facts>,
     pub(crate) format: Option<u64>,
-    pub(crate) outcomes: Option<Vec<Outcome>>,
+    pub(crate) outcomes: Option<Vec<CompactOutcome>>,
     /// Whether the text of the spec is read, which is the one that was guessed.
     pub(crate) spec: bool,
 }
@@ -196,7 +196,7 @@ fn takes_outcomes(alloc: Global, guess: &Guess, parts: &mut Parts, reader: &mut 
     if parts.outcomes.is_some() {
         return false;
     }
-    match outcomes_at(alloc, &guess.spec, guess.listed.as_slice(), reader) {
+    match outcomes_at(alloc, &guess.spec, reader) {
         Some(outcomes) => {
             parts.outcomes = Some(outcomes);
             true

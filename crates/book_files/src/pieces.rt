@@ -11,11 +11,11 @@ ghost use Rattle.book_files.specs.Pieces.{AreParts, HasParts, IsFactsPart, IsGue
 use crate::guess::{Guess, guess_of};
 use crate::parts::{Facts, Parts, parts_of};
 use book_format::MAX_TEXT;
+use compact_outcomes::CompactOutcome;
 use fact_books::{Book, Builder, Run};
 use json::Scratch;
 use std::alloc::Global;
 use std::str;
-use transcripts::Outcome;
 
 /// The book that bytes are. There may be none for want of memory too.
 pub(crate) fn book_by_pieces(alloc: Global, bytes: &[u8]) -> Option<Book>
@@ -89,7 +89,12 @@ fn facts_book(alloc: Global, guess: &Guess, builder: Builder) -> Option<Book>
 }
 
 /// The book of runs.
-fn runs_book(alloc: Global, guess: &Guess, outcomes: Vec<Outcome>, runs: Vec<Run>) -> Option<Book>
+fn runs_book(
+    alloc: Global,
+    guess: &Guess,
+    outcomes: Vec<CompactOutcome>,
+    runs: Vec<Run>,
+) -> Option<Book>
     requires size { length outcomes.items ≡ guess.now.outcomes }
     requires outcomes { (d : Data) × IsOutcomesPart guess.now outcomes d }
     requires runs { (d : Data) × IsFactsPart guess.now (Facts.Runs runs) d }

@@ -6,28 +6,35 @@ ghost use Rattle.book_format.specs.ReadingBooks.{IsBookFile};
 
 use crate::cursor::Cursor;
 use crate::outcomes::outcome_at;
-use crate::rows::Rows;
 use crate::spec_of_text::spec_of_text;
-use book_format::book_of_text;
+use book_format::{Listed, book_of_text};
+use bound_specs::Spec;
 use fact_books::{Book, Run, Tag};
 use serde_json::Value as Json;
 use std::alloc::Global;
 use std::str;
-use transcripts::Outcome;
 
 /// A run has so many bytes at least: `[0,1,"ran",0]`.
 pub(crate) const MIN_RUN: usize = 13;
+
+/// What stands before the text of the spec. It stands nowhere else: quotes are escaped in texts.
+const SPEC: &[u8] = b",\"spec\":\"";
 
 /// The book that bytes are the one text of. There may be none for want of memory too.
 pub(crate) fn written_book(alloc: Global, bytes: &[u8]) -> Option<Book>
     ensures { IfSome result (λ book. IsBookFile bytes.now (Ok book)) }
 {
+    // Else all of it would be read in vain.
+    if !bytes.ends_with(b"}\n") {
+        return None;
+    }
     let mut cursor = Cursor::new(bytes);
     let runs = runs_at(alloc, &mut cursor)?;
-    let outcomes = outcomes_at(alloc, &mut cursor)?;
+    let outcomes = outcomes_text(&mut cursor)?;
     let text = spec_at(alloc, &mut cursor)?;
     let spec = spec_of_text(alloc, text.as_str()).ok()?;
-    book_of_text(alloc, bytes, &spec, outcomes, runs).ok()?
+    let listed = listed_in(alloc, &spec, &mut Cursor::new(outcomes))?;
+    book_of_text(alloc, bytes, listed, runs).ok()?
 }
 
 /// The runs that a text begins with.
@@ -83,26 +90,28 @@ fn tag_at(cursor: &mut Cursor<'_>) -> Option<Tag> {
     None
 }
 
-/// The outcomes behind the runs.
-fn outcomes_at(alloc: Global, cursor: &mut Cursor<'_>) -> Option<Vec<Outcome>> {
+/// The text of the outcomes, behind the runs.
+fn outcomes_text<'a>(cursor: &mut Cursor<'a>) -> Option<&'a [u8]> {
     if !cursor.passes(b",\"format\":2,\"outcomes\":") {
         return None;
     }
-    listed_outcomes(alloc, cursor)
+    cursor.up_to_last(SPEC)
 }
 
-/// The outcomes of the array that is next.
-pub(crate) fn listed_outcomes(alloc: Global, cursor: &mut Cursor<'_>) -> Option<Vec<Outcome>> {
+/// The outcomes of the array that is next, which are those of a spec.
+fn listed_in<'a>(alloc: Global, spec: &'a Spec, cursor: &mut Cursor<'_>) -> Option<Listed<'a>> {
     if !cursor.passes(b"[") {
         return None;
     }
-    let mut rows = Rows::new(alloc, cursor.len()).ok()?;
-    let mut outcomes = Vec::new(alloc);
+    let mut listed = Listed::new(alloc, spec);
     if cursor.passes(b"]") {
-        return Some(outcomes);
+        return Some(listed);
     }
     for _ in 0..cursor.len() {
-        outcomes.push(outcome_at(alloc, cursor, &mut rows)?).ok()?;
+        let outcome = outcome_at(alloc, cursor)?;
+        if !listed.push(alloc, &outcome).ok()? {
+            return None;
+        }
         if !cursor.passes(b",") {
             break;
         }
@@ -110,12 +119,12 @@ pub(crate) fn listed_outcomes(alloc: Global, cursor: &mut Cursor<'_>) -> Option<
     if !cursor.passes(b"]") {
         return None;
     }
-    Some(outcomes)
+    Some(listed)
 }
 
 /// The text of the spec, behind the outcomes.
 fn spec_at(alloc: Global, cursor: &mut Cursor<'_>) -> Option<String> {
-    if !cursor.passes(b",\"spec\":\"") {
+    if !cursor.passes(SPEC) {
         return None;
     }
     let (text, _) = cursor.quoted()?;

@@ -1,12 +1,12 @@
 -- Lengths and numbers of facts, counted up to a largest number.
 use Rattle.std.proofs.Common.{◌≡◌, ap, ◌∙◌, ℕ, ◌+◌, ◌-◌, ◌<◌, List, [], ◌∷◌, ◌++◌, length, get_or, take, codes, arith, min}
-use Rattle.std.specs.Prelude.{flat_map, string_bytes}
+use Rattle.std.specs.Prelude.{flat_map}
 use Rattle.std.proofs.lemmas.List.{length-append, take_more}
 use Rattle.std.specs.List.{join_by}
-use Rattle.std.specs.declared.string.String.{String}
 use Rattle.fact_books.specs.declared.run.Run.{Run}
+use Rattle.fact_books.specs.Runs.{Table}
 use Rattle.book_format.specs.BookText.{total_of}
-use Rattle.book_format.specs.Pieces.{run_text, facts_text, outcomes_text, spec_text, pieces_text}
+use Rattle.book_format.specs.Pieces.{run_text, facts_text, parts_text, spec_text, table_text, told_text}
 
 -- one more item of a list
 pub length-more : {X : Type 0} (f : X → List ℕ) (xs : List X) (i : ℕ) (d : X) → i < length xs
@@ -29,14 +29,14 @@ total-more runs i d lt = ap total_of (take_more runs i d lt) ∙ pushed (take i 
     pushed [] run = omega arith
     pushed (y ∷ ys) run = let c = pushed ys run in omega (arith, c)
 
--- the pieces' lengths
-pub length-pieces : (runs : List Run) {A : Type 0} (texts : List (String A)) (quoted : List ℕ)
-    → length (pieces_text runs texts quoted) ≡ length (join_by run_text (codes ",") runs) + length (join_by string_bytes (codes ",") texts) + length quoted + 46
-length-pieces runs texts quoted =
-    let a = length-append (facts_text runs ++ outcomes_text texts) (spec_text quoted) in
-    let b = length-append (facts_text runs) (outcomes_text texts) in
+-- the lengths of the parts
+pub length-parts : (runs : List Run) (table : Table) (quoted : List ℕ)
+    → length (parts_text runs table quoted) ≡ length (join_by run_text (codes ",") runs) + length (join_by told_text (codes ",") table) + length quoted + 46
+length-parts runs table quoted =
+    let a = length-append (facts_text runs ++ table_text table) (spec_text quoted) in
+    let b = length-append (facts_text runs) (table_text table) in
     let c = length-append (codes "{\"facts\":[") (join_by run_text (codes ",") runs) in
-    let d = length-append (codes "],\"format\":2,\"outcomes\":[") (join_by string_bytes (codes ",") texts) in
+    let d = length-append (codes "],\"format\":2,\"outcomes\":[") (join_by told_text (codes ",") table) in
     let e = length-append (codes "],\"spec\":" ++ quoted) (codes "}\n") in
     let f = length-append (codes "],\"spec\":") quoted in
     omega (arith, a, b, c, d, e, f)

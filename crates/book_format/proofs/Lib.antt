@@ -2,14 +2,11 @@ pub mod CanonicalLemmas
 pub mod InTurnLemmas
 pub mod TagLemmas
 pub mod OneForm
-pub mod DataLemmas
 pub mod NumberingLemmas
 pub mod PiecesLemmas
-pub mod CompactLemmas
 pub mod LengthLemmas
 pub mod TextLemmas
 pub mod ItemLemmas
-pub mod OutcomeValues
 pub mod ReadLemmas
 pub mod RunLaws
 pub mod EndLemmas

@@ -20,9 +20,10 @@ use Rattle.book_format.specs.Forms.{ComesBefore}
 use Rattle.book_format.specs.Reading.{Read, Unless, Given, Then, Gives, StandsAfter, IsOutcomeValue, IsOutcome, IsNextOutcome, AreOutcomes}
 use Rattle.book_format.specs.ReadingRuns.{span_in, run_of, IsLed, IsPast, IsNextRun, AreRuns, AllNamed, AreRunsOf}
 use Rattle.book_format.specs.ReadingFacts.{place_in, IsRan, IsSwap, IsFact, entry_parts, IsEntry, IsFactLed, ComesUnder, IsNextEntry, AreEntries}
-use Rattle.book_format.specs.ReadingBooks.{FactParts, RunParts, fact_parts, run_parts, format_in, version_with, IsFactsOf, IsRunsOf, IsFactsBook, IsRunsBook, IsBookOf}
+use Rattle.book_format.specs.ReadingBooks.{FactParts, RunParts, fact_parts, run_parts, format_in, version_with, IsFactsOf, IsRunsOf, IsFactsBook, IsRunsBook}
+use Rattle.book_format.specs.ReadingBooks.{IsBookOf}
 use Rattle.book_format.specs.ReadingBooks.{IsBookValue, IsValueOf, IsBookFile}
-use Rattle.book_format.proofs.OutcomeValues.{told-one}
+use Rattle.compact_outcomes.proofs.OutcomeValues.{told-one}
 
 -- ---- relations with one answer
 

@@ -14,46 +14,21 @@ use Rattle.fact_books.specs.declared.run.Tag.{Tag}
 use Rattle.fact_books.specs.declared.run.Tag.TheVariants.{Ran, Swap}
 use Rattle.fact_books.specs.Runs.{Table}
 use Rattle.fact_books.specs.Books.{Contents}
+use Rattle.compact_outcomes.specs.CompactTexts.{after_comma}
+use Rattle.compact_outcomes.proofs.CompactLemmas.{others-text}
 use Rattle.book_format.specs.Forms.{IsForm, tag_number}
 use Rattle.book_format.specs.BookText.{tag_data, run_data, book_data, book_text}
 use Rattle.book_format.specs.declared.pieces.Pieces.{Pieces}
-use Rattle.book_format.specs.Pieces.{tag_front, run_text, after_comma, told_text, facts_text, spec_text, pieces_text, parts_text}
+use Rattle.book_format.specs.Pieces.{tag_front, run_text, told_text, facts_text, spec_text, parts_text}
 use Rattle.book_format.specs.Writing.{ArePieces}
 
 -- ---- lists
-
-pub others-text : {X : Type 0} (enc : X → Data) (f : X → List ℕ) → ((x : X) → compact_text (enc x) ≡ f x) → (xs : List X)
-    → items_text true (items_of (map enc xs)) ≡ flat_map (after_comma f) xs ++ 93 ∷ []
-others-text enc f each [] = refl
-others-text enc f each (x ∷ xs) =
-    (λ i. 44 ∷ (each x i ++ others-text enc f each xs i)) ∙ sym (append_assoc (after_comma f x) (flat_map (after_comma f) xs) (93 ∷ []))
 
 items-text : {X : Type 0} (enc : X → Data) (f : X → List ℕ) → ((x : X) → compact_text (enc x) ≡ f x) → (xs : List X)
     → items_text false (items_of (map enc xs)) ≡ join_by f (codes ",") xs ++ 93 ∷ []
 items-text enc f each [] = refl
 items-text enc f each (x ∷ xs) =
     (λ i. each x i ++ others-text enc f each xs i) ∙ sym (append_assoc (f x) (flat_map (after_comma f) xs) (93 ∷ []))
-
--- lists whose items have the same texts
-others-same : {X Y : Type 0} (f : X → List ℕ) (g : Y → List ℕ) (xs : List X) (ys : List Y) → map f xs ≡ map g ys
-    → flat_map (after_comma f) xs ≡ flat_map (after_comma g) ys
-others-same f g xs ys e = whole f xs ∙ ap (flat_map (after_comma (λ (t : List ℕ). t))) e ∙ sym (whole g ys)
-  where
-    whole : {X : Type 0} (f : X → List ℕ) (xs : List X) → flat_map (after_comma f) xs ≡ flat_map (after_comma (λ (t : List ℕ). t)) (map f xs)
-    whole f [] = refl
-    whole f (x ∷ xs) = ap (λ l. after_comma f x ++ l) (whole f xs)
-
-joined-same : {X Y : Type 0} (f : X → List ℕ) (g : Y → List ℕ) (xs : List X) (ys : List Y) → map f xs ≡ map g ys
-    → join_by f (codes ",") xs ≡ join_by g (codes ",") ys
-joined-same f g xs ys e = whole f xs ∙ ap (join_by (λ (t : List ℕ). t) (codes ",")) e ∙ sym (whole g ys)
-  where
-    whole : {X : Type 0} (f : X → List ℕ) (xs : List X) → join_by f (codes ",") xs ≡ join_by (λ (t : List ℕ). t) (codes ",") (map f xs)
-    whole f [] = refl
-    whole f (x ∷ xs) = ap (λ l. f x ++ l) (others-same f (λ (t : List ℕ). t) xs (map f xs) (id-map (map f xs)))
-      where
-        id-map : (ts : List (List ℕ)) → ts ≡ map (λ (t : List ℕ). t) ts
-        id-map [] = refl
-        id-map (t ∷ ts) = ap (λ l. t ∷ l) (id-map ts)
 
 -- ---- a run
 
@@ -104,23 +79,15 @@ parts-text text table runs q whole =
     ++ (items-text outcome_data told_text (λ o. refl) table i ++ (codes ",\"spec\":" ++ (back i ++ codes "}")))))) ++ 10 ∷ [])
     ∙ laid-out (join_by run_text (codes ",") runs) (join_by told_text (codes ",") table) q)
 
-pub pieces-text : (text : List ℕ) (table : Table) (runs : List Run) {A : Type 0} (texts : List (String A)) (q : List ℕ)
-    → map string_bytes texts ≡ map (λ o. compact_text (outcome_data o)) table → q ≡ compact_text (string text)
-    → pieces_text runs texts q ≡ book_text text table runs
-pieces-text text table runs texts q each whole =
-    ap (λ t. facts_text runs ++ (codes "],\"format\":2,\"outcomes\":[" ++ t) ++ spec_text q) (joined-same string_bytes told_text texts table each)
-    ∙ parts-text text table runs q whole
-
 -- the pieces of the one form
-pub are-pieces : (book : Contents) (table : Table) (pieces : Pieces) → IsForm book.facts table pieces.runs.items
-    → map string_bytes pieces.texts.items ≡ map (λ o. compact_text (outcome_data o)) table → string_bytes pieces.quoted ≡ compact_text (string book.file.text)
-    → ArePieces book pieces
-are-pieces book table pieces form each whole = record {
+pub are-pieces : (book : Contents) (pieces : Pieces) → IsForm book.facts pieces.outcomes.items pieces.runs.items
+    → string_bytes pieces.quoted ≡ compact_text (string book.file.text) → ArePieces book pieces
+are-pieces book pieces form whole = record {
   text = record {
-    table = table;
+    table = pieces.outcomes.items;
     runs = pieces.runs.items;
     form = form;
-    text_is = pieces-text book.file.text table pieces.runs.items pieces.texts.items (string_bytes pieces.quoted) each whole;
+    text_is = parts-text book.file.text pieces.outcomes.items pieces.runs.items (string_bytes pieces.quoted) whole;
   };
   runs_are = refl;
 }

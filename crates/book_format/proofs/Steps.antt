@@ -26,7 +26,7 @@ use Rattle.book_format.specs.Reading.{Read, last, StandsAfter, IsOutcomeValue, I
 use Rattle.book_format.specs.ReadingRuns.{IsNextRun, AreRuns, AreRunsOf, AreEnds, IsApart, IsReadingRuns}
 use Rattle.book_format.specs.ReadingFacts.{ComesUnder, IsNextEntry, AreEntries, entry_of, entries_of, AllUnder, AreUnder, RanksBelow}
 use Rattle.book_format.proofs.ItemLemmas.{items-next, items-end}
-use Rattle.book_format.proofs.OutcomeValues.{told-one}
+use Rattle.compact_outcomes.proofs.OutcomeValues.{told-one}
 use Rattle.book_format.proofs.RunLaws.{next-lawful}
 use Rattle.book_format.proofs.FactLaws.{one-more}
 

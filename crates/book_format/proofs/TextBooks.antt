@@ -1,5 +1,6 @@
 -- Outcomes and runs that are read already, and the text of a book of these.
-use Rattle.std.proofs.Common.{◌≡◌, refl, sym, ap, subst, ◌∙◌, ℕ, ◌+◌, ◌-◌, ◌<◌, ◌≤◌, List, [], ◌∷◌, ◌++◌, map, length, get_or, drop, take}
+use Rattle.std.proofs.Common.{◌≡◌, refl, sym, ap, subst, ◌∙◌, ℕ, ◌+◌, ◌-◌, ◌<◌, ◌≤◌, List, [], ◌∷◌, ◌++◌, append_assoc, append-nil, map, length, get_or, drop}
+use Rattle.std.proofs.Common.{take}
 use Rattle.std.proofs.Common.{Option, Some, Result, Ok, Err, Bool, inl, inr, arith}
 use Rattle.std.specs.Prelude.{All, IsTrue, IsUtf8, OnOk, nat_eq}
 use Rattle.std.specs.Io.KnownBytes.{Appends}
@@ -20,6 +21,7 @@ use Rattle.transcripts.proofs.Writing.{wrote-append}
 use Rattle.transcripts.specs.Json.{outcome_data}
 use Rattle.bound_specs.specs.Spec.{Spec, SpecFile}
 use Rattle.bound_specs.specs.Binding.{IsFileOf}
+use Rattle.compact_outcomes.proofs.OutcomeValues.{told-one}
 use Rattle.fact_books.specs.declared.run.Run.{Run}
 use Rattle.fact_books.specs.Entries.{Told}
 use Rattle.fact_books.specs.Runs.{Table}
@@ -47,26 +49,33 @@ front-is xs i x lt at = take_more xs i x lt ∙ ap (λ y. take i xs ++ y ∷ [])
 
 -- ---- outcomes
 
+-- the outcome that the value of one is read as
+next-same : (spec : Spec) (before : Table) (x p : Told) → IsNextOutcome spec before (outcome_data x) (Ok p) → p ≡ x
+next-same spec before x p (inl (q, value, inl (after, is))) = let same : p ≡ q = cc in same ∙ told-one q x value.value
+next-same spec before x p (inl (q, value, inr (not, is))) = absurd (cc)
+next-same spec before x p (inr (none, is)) = absurd (cc)
+
 abbrev pub outcome_values : Table → Items
 outcome_values os = items_of (map outcome_data os)
 
--- what is left goes on from so many outcomes
-abbrev pub GoesOn : Spec → Table → ℕ → Type 0
-GoesOn spec os i = (r : Read Table) → AreOutcomes spec (take i os) (outcome_values (drop i os)) r → AreOutcomes spec [] (outcome_values os) r
-
-pub outcome-next : (spec : Spec) (os before : Table) (i : ℕ) (o : Told) → i < length os → o ≡ get_or os i o → before ≡ take i os
-    → IsNextOutcome spec before (outcome_data o) (Ok o) → GoesOn spec os i → GoesOn spec os (i + 1)
-outcome-next spec os before i o lt at same next so_far r rest =
-    so_far r (subst (λ xs. AreOutcomes spec (take i os) (outcome_values xs) r) (rest-is os i o lt at)
-    (inl (
-      o,
-      subst (λ b. IsNextOutcome spec b (outcome_data o) (Ok o)) same next,
-      subst (λ t. AreOutcomes spec t (outcome_values (drop (i + 1) os)) r) (front-is os i o lt at) rest,
-    )))
-
-pub outcomes-end : (spec : Spec) (os : Table) (i : ℕ) → length os ≤ i → GoesOn spec os i → AreOutcomes spec [] (outcome_values os) (Ok os)
-outcomes-end spec os i le so_far =
-    so_far (Ok os) (subst (λ xs. AreOutcomes spec (take i os) (outcome_values xs) (Ok os)) (sym (drop_all i os le)) (ap Ok (sym (take_all i os le))))
+-- one outcome more
+pub outcomes-push : (spec : Spec) (before os : Table) (o : Told) → AreOutcomes spec before (outcome_values os) (Ok (before ++ os))
+    → IsNextOutcome spec (before ++ os) (outcome_data o) (Ok o)
+    → AreOutcomes spec before (outcome_values (os ++ o ∷ [])) (Ok (before ++ (os ++ o ∷ [])))
+outcomes-push spec before [] o are next = inl (o, subst (λ b. IsNextOutcome spec b (outcome_data o) (Ok o)) (append-nil before) next, refl)
+outcomes-push spec before (x ∷ os) o (inl (p, first, rest)) next =
+    let same : p ≡ x = next-same spec before x p first in
+    let past : before ++ (x ∷ os) ≡ (before ++ p ∷ []) ++ os =
+    sym (append_assoc before (x ∷ []) os) ∙ ap (λ y. (before ++ y ∷ []) ++ os) (sym same) in
+    let more = outcomes-push spec (before ++ p ∷ []) os o (subst (λ t. AreOutcomes spec (before ++ p ∷ []) (outcome_values os) (Ok t)) past rest)
+    (subst (λ t. IsNextOutcome spec t (outcome_data o) (Ok o)) past next) in
+    inl (
+      p,
+      first,
+      subst (λ t. AreOutcomes spec (before ++ p ∷ []) (outcome_values (os ++ o ∷ [])) (Ok t))
+          (append_assoc before (p ∷ []) (os ++ o ∷ []) ∙ ap (λ y. before ++ y ∷ (os ++ o ∷ [])) same) more,
+    )
+outcomes-push spec before (x ∷ os) o (inr (e, refused, is)) next = absurd (cc)
 
 -- ---- runs
 

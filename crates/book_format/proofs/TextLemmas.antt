@@ -39,7 +39,8 @@ use Rattle.fact_books.specs.Runs.{Table}
 use Rattle.book_format.specs.Forms.{tag_number}
 use Rattle.book_format.specs.BookText.{tag_data, run_data, book_data, book_text}
 use Rattle.book_format.specs.Laws.{RunFits}
-use Rattle.book_format.proofs.DataLemmas.{items-deep, told-deep}
+use Rattle.compact_outcomes.proofs.DataLemmas.{items-deep, told-deep}
+use Rattle.compact_outcomes.proofs.TextLemmas.{IsPlain, of-outline, has-numbers, deep-outline, items-plain, told-plain}
 
 -- ---- a line feed behind a text
 
@@ -123,78 +124,6 @@ lex-line c (t ∷ ts) h =
 pub tokens-line : (ts : List Token) → ArePrintable ts → tokens (print ts ++ 10 ∷ []) ≡ ts
 tokens-line ts h = ap (punctuate fresh) (lex-line false ts h) ∙ tokens-print ts h
 
--- ---- values
-
-abbrev NumFits : value.Num → Type 0
-NumFits (value.unsigned n) = n < 2 ^ 64
-NumFits (value.negative (pos n)) = ⊥
-NumFits (value.negative (negsuc n)) = n < 2 ^ 63
-NumFits (value.float x) = ⊥
-
--- no object, no float, and numbers of 64 bits
-abbrev mutual
-  pub IsPlain : value.Data → Type 0
-  IsPlain value.null = ⊤
-  IsPlain (value.boolean b) = ⊤
-  IsPlain (value.number n) = NumFits n
-  IsPlain (value.string s) = ⊤
-  IsPlain (value.array ds) = ArePlain ds
-  IsPlain (value.object ms) = ⊥
-
-  pub ArePlain : value.Items → Type 0
-  ArePlain value.no_items = ⊤
-  ArePlain (value.item d ds) = IsPlain d × ArePlain ds
-
-mutual
-  of-outline : (d : value.Data) → IsPlain d → of_json (outline d) ≡ Some d
-  of-outline value.null h = refl
-  of-outline (value.boolean b) h = refl
-  of-outline (value.number (value.unsigned n)) h = ap (option_map value.number) (number_of-decimal n h)
-  of-outline (value.number (value.negative (pos n))) h = absurd h
-  of-outline (value.number (value.negative (negsuc n))) h = ap (option_map value.number) (number_of-negative n h)
-  of-outline (value.number (value.float x)) h = absurd h
-  of-outline (value.string s) h = refl
-  of-outline (value.array ds) h = ap (option_map value.array) (of-items ds h)
-  of-outline (value.object ms) h = absurd h
-
-  of-items : (ds : value.Items) → ArePlain ds → of_items (items_outline ds) ≡ Some ds
-  of-items value.no_items h = refl
-  of-items (value.item d ds) h = λ i. option_and_then (λ e. option_map (value.item e) (of-items ds h.1 i)) (of-outline d h.0 i)
-
-mutual
-  has-numbers : (d : value.Data) → IsPlain d → tree.HasNumbers (outline d)
-  has-numbers value.null h = tt
-  has-numbers (value.boolean b) h = tt
-  has-numbers (value.number (value.unsigned n)) h = IsNumber-decimal n h
-  has-numbers (value.number (value.negative (pos n))) h = absurd h
-  has-numbers (value.number (value.negative (negsuc n))) h = IsNumber-signed_decimal (negsuc n) h
-  has-numbers (value.number (value.float x)) h = absurd h
-  has-numbers (value.string s) h = tt
-  has-numbers (value.array ds) h = items-numbers ds h
-  has-numbers (value.object ms) h = absurd h
-
-  items-numbers : (ds : value.Items) → ArePlain ds → tree.ItemsHaveNumbers (items_outline ds)
-  items-numbers value.no_items h = tt
-  items-numbers (value.item d ds) h = (has-numbers d h.0, items-numbers ds h.1)
-
--- what is told is no deeper than the value
-mutual
-  deep-outline : (d : value.Data) → tree.depth (outline d) ≡ value.depth d
-  deep-outline value.null = refl
-  deep-outline (value.boolean b) = refl
-  deep-outline (value.number n) = refl
-  deep-outline (value.string s) = refl
-  deep-outline (value.array ds) = ap suc (deep-items ds)
-  deep-outline (value.object ms) = ap suc (deep-members ms)
-
-  deep-items : (ds : value.Items) → tree.items_depth (items_outline ds) ≡ value.items_depth ds
-  deep-items value.no_items = refl
-  deep-items (value.item d ds) = λ i. max (deep-outline d i) (deep-items ds i)
-
-  deep-members : (ms : value.Members) → tree.members_depth (members_outline ms) ≡ value.members_depth ms
-  deep-members value.no_members = refl
-  deep-members (value.member k d ms) = λ i. max (deep-outline d i) (deep-members ms i)
-
 -- a text of a value, and a line feed
 read-line : (d : value.Data) → of_json (outline d) ≡ Some d → tree.HasNumbers (outline d) → value.depth d ≤ max_depth
     → read (compact_text d ++ 10 ∷ []) ≡ Some d
@@ -207,47 +136,7 @@ read-line d of numbers shallow =
     (ap (json.value max_depth) (same ∙ sym (append-nil ts)) ∙ value-json_tokens (outline d) max_depth [] low))
     ∙ of
 
--- ---- the values of runs and outcomes
-
-items-plain : {X : Type 0} (enc : X → value.Data) (Fits : X → Type 0) → ((x : X) → Fits x → IsPlain (enc x)) → (xs : List X) → All Fits xs
-    → ArePlain (items_of (map enc xs))
-items-plain enc Fits each [] h = tt
-items-plain enc Fits each (x ∷ xs) h = (each x (All-head Fits x xs h), items-plain enc Fits each xs (All-tail Fits x xs h))
-
-cell-plain : (v : Value) → CellFits v → IsPlain (cell_data v)
-cell-plain (Int (pos n)) fits = omega (arith, fits)
-cell-plain (Int (negsuc n)) fits = omega (arith, fits)
-cell-plain (Text text) fits = tt
-
-event-plain : (e : Event) → EventFits e → IsPlain (event_data e)
-event-plain (Sent step) fits = (tt, (omega (arith, fits), tt))
-event-plain (Row values) fits = (tt, (items-plain cell_data CellFits cell-plain values fits, tt))
-event-plain (Rows count) fits = (tt, (fits, tt))
-event-plain (Inserted count) fits = (tt, (fits, tt))
-event-plain (Updated count) fits = (tt, (fits, tt))
-event-plain (Deleted count) fits = (tt, (fits, tt))
-event-plain Began fits = tt
-event-plain Committed fits = tt
-event-plain RolledBack fits = tt
-event-plain Locked fits = tt
-event-plain Set fits = tt
-event-plain (Warned InBlock) fits = (tt, (omega arith, tt))
-event-plain (Warned NoBlock) fits = (tt, (omega arith, tt))
-event-plain (Failed Duplicate) fits = (tt, (omega arith, tt))
-event-plain (Failed OutOfRange) fits = (tt, (omega arith, tt))
-event-plain (Failed Deadlock) fits = (tt, (omega arith, tt))
-event-plain (Failed Aborted) fits = (tt, (omega arith, tt))
-event-plain (Failed Unavailable) fits = (tt, (omega arith, tt))
-event-plain Waiting fits = tt
-event-plain Resumed fits = tt
-event-plain Done fits = tt
-event-plain (NotSent step) fits = (tt, (omega (arith, fits), tt))
-
-session-plain : (es : List Event) → All EventFits es → IsPlain (session_data es)
-session-plain es fits = items-plain event_data EventFits event-plain es fits
-
-told-plain : (o : Told) → OutcomeFits o → IsPlain (outcome_data o)
-told-plain o fits = items-plain session_data (All EventFits) session-plain o fits
+-- ---- the values of runs
 
 run-plain : (run : Run) → RunFits run → IsPlain (run_data run)
 run-plain run fits = on run.tag fits.2

@@ -3,7 +3,6 @@ pub mod Canonical
 pub mod Numbering
 pub mod BookText
 pub mod Pieces
-pub mod OutcomeTexts
 pub mod Writing
 pub mod Laws
 pub mod Reading

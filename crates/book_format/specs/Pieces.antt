@@ -1,7 +1,6 @@
 -- A book's text in the pieces in which it is written.
-use Rattle.std.specs.Prelude.{ℕ, ◌-◌, List, ◌++◌, codes, decimal, string_bytes}
+use Rattle.std.specs.Prelude.{ℕ, ◌-◌, IsUtf8, List, ◌++◌, codes, decimal, string_bytes}
 use Rattle.std.specs.List.{join_by}
-use Rattle.std.specs.declared.string.String.{String}
 use Rattle.serde_json.specs.Written.{compact_text}
 use Rattle.transcripts.specs.Json.{outcome_data}
 use Rattle.fact_books.specs.declared.run.Run.{Run}
@@ -21,9 +20,6 @@ abbrev pub run_text : Run → List ℕ
 run_text run =
     (codes "[" ++ decimal run.first) ++ (codes "," ++ decimal (run.end - run.first)) ++ (tag_front run.tag ++ decimal (tag_number run.tag)) ++ codes "]"
 
-abbrev pub after_comma : {X : Type 0} → (X → List ℕ) → X → List ℕ
-after_comma f x = codes "," ++ f x
-
 -- the text of an outcome
 abbrev pub told_text : Told → List ℕ
 told_text outcome = compact_text (outcome_data outcome)
@@ -32,11 +28,7 @@ told_text outcome = compact_text (outcome_data outcome)
 abbrev pub facts_text : List Run → List ℕ
 facts_text runs = codes "{\"facts\":[" ++ join_by run_text (codes ",") runs
 
--- and up to the outcomes, whose texts these are
-abbrev pub outcomes_text : {A : Type 0} → List (String A) → List ℕ
-outcomes_text texts = codes "],\"format\":2,\"outcomes\":[" ++ join_by string_bytes (codes ",") texts
-
--- the same of outcomes
+-- and up to the outcomes
 abbrev pub table_text : Table → List ℕ
 table_text table = codes "],\"format\":2,\"outcomes\":[" ++ join_by told_text (codes ",") table
 
@@ -44,12 +36,13 @@ table_text table = codes "],\"format\":2,\"outcomes\":[" ++ join_by told_text (c
 abbrev pub spec_text : List ℕ → List ℕ
 spec_text quoted = codes "],\"spec\":" ++ quoted ++ codes "}\n"
 
-abbrev pub pieces_text : {A : Type 0} → List Run → List (String A) → List ℕ → List ℕ
-pieces_text runs texts quoted = facts_text runs ++ outcomes_text texts ++ spec_text quoted
-
-abbrev pub text_in : Pieces → List ℕ
-text_in pieces = pieces_text pieces.runs.items pieces.texts.items (string_bytes pieces.quoted)
-
 -- the text of runs, of outcomes, and of a spec's text, which is quoted
 abbrev pub parts_text : List Run → Table → List ℕ → List ℕ
 parts_text runs table quoted = facts_text runs ++ table_text table ++ spec_text quoted
+
+abbrev pub text_in : Pieces → List ℕ
+text_in pieces = parts_text pieces.runs.items pieces.outcomes.items (string_bytes pieces.quoted)
+
+-- the text of an outcome is UTF-8
+abbrev pub IsUtf8Told : Told → Type 0
+IsUtf8Told outcome = IsUtf8 (told_text outcome)

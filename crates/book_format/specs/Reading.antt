@@ -1,7 +1,8 @@
 -- How a first refusal is told, and what JSON values are as the outcomes of a spec.
-use Rattle.std.specs.Prelude.{◌≡◌, ℕ, ◌-◌, List, [], ◌∷◌, ◌++◌, length, Option, Some, option_and_then, slice_get, Result, Ok, Err, ◌⊎◌}
+use Rattle.std.specs.Prelude.{◌≡◌, ℕ, ◌-◌, List, [], ◌∷◌, ◌++◌, length, map, Option, Some, option_and_then, slice_get, Result, Ok, Err, ◌⊎◌}
 use Rattle.serde_json.specs.Data.{Data, Items, no_items, item}
 use Rattle.serde_json.specs.Find.{as_number, as_u64}
+use Rattle.serde_json.specs.View.{items_of}
 use Rattle.transcripts.specs.Outcome.{OutcomeFits}
 use Rattle.transcripts.specs.Json.{outcome_data}
 use Rattle.machine_model.specs.Outcome.{IsOutcomeOf}
@@ -80,3 +81,7 @@ IsNextOutcome spec before d = Given BadField (IsOutcomeValue spec d) (λ outcome
 abbrev pub AreOutcomes : Spec → Table → Items → Read Table → Type 0
 AreOutcomes spec before no_items = Gives before
 AreOutcomes spec before (item d ds) = Then (IsNextOutcome spec before d) (λ outcome. AreOutcomes spec (before ++ outcome ∷ []) ds)
+
+-- these outcomes may be told by runs of the spec, and rise by their texts: their values are read as these
+abbrev pub IsListed : Spec → Table → Type 0
+IsListed spec table = AreOutcomes spec [] (items_of (map outcome_data table)) (Ok table)

@@ -1,40 +1,50 @@
 //! The book of a text that is written of it, without a look at the text's JSON value.
 
-ghost use Rattle.std.specs.Prelude.{◌≡◌, ◌+◌, ◌<◌, ◌≤◌, ◌++◌, codes, flat_map, length, take, Ok, IfOk, IfSome, IsTrue, IsUtf8, OnOk, Some};
-ghost use Rattle.std.specs.List.{join_by};
-ghost use Rattle.transcripts.specs.Counted.{Wrote, failures_of};
+ghost use Rattle.std.specs.Prelude.{◌≡◌, ◌+◌, ◌<◌, ◌≤◌, ◌++◌, length, take, Ok, IfOk, IfSome, IsTrue, IsUtf8, Some};
 ghost use Rattle.book_format.specs.declared.pieces.TheConstants.{MAX_TEXT};
-ghost use Rattle.book_format.specs.Pieces.{after_comma, parts_text, table_text, told_text};
+ghost use Rattle.book_format.specs.Pieces.{parts_text};
+ghost use Rattle.book_format.specs.Reading.{IsListed};
 ghost use Rattle.book_format.specs.ReadingBooks.{IsBookFile};
 
 use crate::lengths::facts_in;
 use crate::pieces::{MAX_FACTS, MAX_TEXT};
-use crate::printing::{print_facts, print_spec};
-use crate::reading::{are_outcomes, are_runs};
-use crate::texts::{make_text, string_text};
+use crate::printing::print_parts;
+use crate::reading::{Listed, are_runs};
 use bound_specs::Spec;
+use compact_outcomes::{CompactOutcome, string_text};
 use fact_books::{Book, Run};
 use std::alloc::{AllocError, Global};
 use std::io::Write;
 use std::{io, str};
-use transcripts::{Counted, Outcome, WriteFault};
+use transcripts::Counted;
 
-/// The book of a spec with these outcomes and runs, if these bytes are the text that is written of it. The text is never in memory a
-/// second time, as a whole or in pieces.
+/// The book of a spec with these outcomes and runs, if these bytes are the text that is written of it. Where there is none the bytes are to be read in
+/// full.
 pub fn book_of_text(
     alloc: Global,
     bytes: &[u8],
-    spec: &Spec,
-    outcomes: Vec<Outcome>,
+    listed: Listed<'_>,
     runs: Vec<Run>,
 ) -> Result<Option<Book>, AllocError>
     ensures { IfOk result (λ book. IfSome book (λ book. IsBookFile bytes.now (Ok book))) }
 {
+    let (spec, outcomes) = listed.into_parts();
+    book_of_listed(alloc, bytes, spec, outcomes, runs)
+}
+
+/// The same of outcomes that are read as a file has them.
+fn book_of_listed(
+    alloc: Global,
+    bytes: &[u8],
+    spec: &Spec,
+    outcomes: Vec<CompactOutcome>,
+    runs: Vec<Run>,
+) -> Result<Option<Book>, AllocError>
+    requires { IsListed spec.now.run outcomes.items }
+    ensures { IfOk result (λ book. IfSome book (λ book. IsBookFile bytes.now (Ok book))) }
+{
     spec.known();
     if !are_text(bytes) || facts_in(runs.as_slice()) > MAX_FACTS {
-        return Ok(None);
-    }
-    if !are_outcomes(spec, outcomes.as_slice()) {
         return Ok(None);
     }
     let stand = are_runs(alloc, spec, outcomes.len(), runs.as_slice())?;
@@ -42,13 +52,7 @@ pub fn book_of_text(
         return Ok(None);
     }
     let quoted = string_text(alloc, spec.text())?;
-    if !is_text(
-        alloc,
-        bytes,
-        runs.as_slice(),
-        outcomes.as_slice(),
-        quoted.as_str(),
-    ) {
+    if !is_text(bytes, runs.as_slice(), outcomes.as_slice(), quoted.as_str()) {
         return Ok(None);
     }
     Ok(Some(Book::of_runs(alloc, spec, outcomes, runs)?))
@@ -63,101 +67,13 @@ fn are_text(bytes: &[u8]) -> bool
 }
 
 /// Whether these bytes are the text of runs, of outcomes and of a spec's text as a JSON string.
-fn is_text(alloc: Global, bytes: &[u8], runs: &[Run], outcomes: &[Outcome], quoted: &str) -> bool
+fn is_text(bytes: &[u8], runs: &[Run], outcomes: &[CompactOutcome], quoted: &str) -> bool
     ensures { IsTrue result → bytes.now ≡ parts_text runs.now outcomes.now quoted.now }
 {
     let mut out = Counted::new(Expected { bytes, done: 0 });
-    match print_parts(alloc, runs, outcomes, quoted, &mut out) {
+    match print_parts(runs, outcomes, quoted, &mut out) {
         Ok(()) => has_taken(&out.into_inner(), bytes),
         Err(_) => false,
-    }
-}
-
-/// Writes the text of runs, of outcomes and of a spec's text as a JSON string. Want of memory is told as a fault.
-fn print_parts<W: Write>(
-    alloc: Global,
-    runs: &[Run],
-    outcomes: &[Outcome],
-    quoted: &str,
-    out: &mut Counted<W>,
-) -> Result<(), WriteFault>
-    requires { failures_of out.old < u64.MAX }
-    ensures { OnOk result (Wrote W.contents out.old out.new (parts_text runs.now outcomes.now quoted.now)) }
-{
-    print_facts(runs, out)?;
-    print_table(alloc, outcomes, out)?;
-    print_spec(quoted, out)
-}
-
-fn print_table<W: Write>(
-    alloc: Global,
-    outcomes: &[Outcome],
-    out: &mut Counted<W>,
-) -> Result<(), WriteFault>
-    requires { failures_of out.old < u64.MAX }
-    ensures { OnOk result (Wrote W.contents out.old out.new (table_text outcomes.now)) }
-{
-    let mut scratch = String::new(alloc);
-    out.write_str("],\"format\":2,\"outcomes\":[")?;
-    print_each(outcomes, &mut scratch, out)
-}
-
-fn print_each<W: Write>(
-    outcomes: &[Outcome],
-    scratch: &mut String,
-    out: &mut Counted<W>,
-) -> Result<(), WriteFault>
-    requires { failures_of out.old < u64.MAX }
-    ensures { OnOk result (Wrote W.contents out.old out.new (join_by told_text (codes ",") outcomes.now)) }
-{
-    match outcomes.split_first() {
-        None => Ok(()),
-        Some((first, others)) => {
-            print_outcome(first, scratch, out)?;
-            print_others(others, scratch, out)
-        }
-    }
-}
-
-/// Each outcome after a comma.
-fn print_others<W: Write>(
-    outcomes: &[Outcome],
-    scratch: &mut String,
-    out: &mut Counted<W>,
-) -> Result<(), WriteFault>
-    requires { failures_of out.old < u64.MAX }
-    ensures { OnOk result (Wrote W.contents out.old out.new (flat_map (after_comma told_text) outcomes.now)) }
-{
-    for outcome in outcomes {
-        print_other(outcome, scratch, out)?;
-    }
-    Ok(())
-}
-
-fn print_other<W: Write>(
-    outcome: &Outcome,
-    scratch: &mut String,
-    out: &mut Counted<W>,
-) -> Result<(), WriteFault>
-    requires { failures_of out.old < u64.MAX }
-    ensures { OnOk result (Wrote W.contents out.old out.new (after_comma told_text outcome.now)) }
-{
-    out.write_str(",")?;
-    print_outcome(outcome, scratch, out)
-}
-
-/// Writes the text of an outcome, which is made in a text that is used again.
-fn print_outcome<W: Write>(
-    outcome: &Outcome,
-    scratch: &mut String,
-    out: &mut Counted<W>,
-) -> Result<(), WriteFault>
-    requires { failures_of out.old < u64.MAX }
-    ensures { OnOk result (Wrote W.contents out.old out.new (told_text outcome.now)) }
-{
-    match make_text(outcome, scratch) {
-        Ok(()) => out.write_str(scratch.as_str()),
-        Err(_) => Err(WriteFault),
     }
 }
 

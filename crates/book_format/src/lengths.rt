@@ -1,12 +1,14 @@
 //! How long the parts of a book's text are, and how many facts a book has.
 
-ghost use Rattle.std.specs.Prelude.{◌≡◌, ◌<◌, ◌≤◌, ◌-◌, ◌^◌, All, codes, decimal, flat_map, length, min, string_bytes};
+ghost use Rattle.std.specs.Prelude.{◌≡◌, ◌<◌, ◌≤◌, ◌-◌, ◌^◌, All, codes, decimal, flat_map, length, min};
 ghost use Rattle.std.specs.List.{join_by};
+ghost use Rattle.compact_outcomes.specs.CompactTexts.{after_comma};
 ghost use Rattle.book_format.specs.BookText.{total_of};
 ghost use Rattle.book_format.specs.Laws.{RunFits};
-ghost use Rattle.book_format.specs.Pieces.{run_text, tag_front, after_comma};
+ghost use Rattle.book_format.specs.Pieces.{run_text, tag_front, told_text};
 
 use crate::canonical::number;
+use compact_outcomes::CompactOutcome;
 use fact_books::{Run, Tag};
 use itoa::Buffer;
 
@@ -93,22 +95,29 @@ fn digits(number: u64) -> u64
     Buffer::new().format(number).len() as u64
 }
 
-/// How long the texts are with commas between them, or the largest number where they are longer.
-pub(crate) fn texts_len(texts: &[String]) -> u64
-    ensures { result ≡ min (length (join_by string_bytes (codes ",") texts.now)) u64.MAX }
+/// How long the texts of outcomes are with commas between them, or the largest number where they are longer.
+pub(crate) fn outcomes_len(outcomes: &[CompactOutcome]) -> u64
+    ensures { result ≡ min (length (join_by told_text (codes ",") outcomes.now)) u64.MAX }
 {
-    match texts.split_first() {
+    match outcomes.split_first() {
         None => 0,
-        Some((first, others)) => (first.len() as u64).saturating_add(other_texts_len(others)),
+        Some((first, others)) => outcome_len(first).saturating_add(other_outcomes_len(others)),
     }
 }
 
-fn other_texts_len(texts: &[String]) -> u64
-    ensures { result ≡ min (length (flat_map (after_comma string_bytes) texts.now)) u64.MAX }
+fn other_outcomes_len(outcomes: &[CompactOutcome]) -> u64
+    ensures { result ≡ min (length (flat_map (after_comma told_text) outcomes.now)) u64.MAX }
 {
     let mut len: u64 = 0;
-    for text in texts {
-        len = len.saturating_add(text.len() as u64).saturating_add(1);
+    for outcome in outcomes {
+        len = len.saturating_add(outcome_len(outcome)).saturating_add(1);
     }
     len
+}
+
+/// How long the text of an outcome is.
+fn outcome_len(outcome: &CompactOutcome) -> u64
+    ensures { result ≡ length (told_text outcome.now) }
+{
+    outcome.as_str().len() as u64
 }

@@ -2,7 +2,6 @@
 #![tactic(auto)]
 
 mod canonical;
-mod compact;
 mod compacting;
 mod comparing;
 mod error;
@@ -12,7 +11,6 @@ mod one_form;
 mod pieces;
 mod printing;
 mod reading;
-mod texts;
 mod write_error;
 mod writing;
 
@@ -24,7 +22,7 @@ pub use laws::{
 };
 pub use pieces::{MAX_FACTS, MAX_TEXT};
 pub use reading::{
-    FactParts, RunParts, Version, book_of_facts, book_of_runs, fact_parts, facts_at,
+    FactParts, Listed, RunParts, Version, book_of_facts, book_of_runs, fact_parts, facts_at,
     forms_read_back, outcomes_at, run_parts, runs_at, value_at, version_of,
 };
 pub use write_error::WriteError;

@@ -7,22 +7,22 @@ ghost use Rattle.book_format.specs.Forms.{Rises, ComesBefore, IsForm};
 ghost use Rattle.book_format.specs.Numbering.{AreFlags, AreFlagged, AreNumbers, IsNumber};
 
 use crate::canonical::canonical;
+use compact_outcomes::CompactOutcome;
 use fact_books::{Run, Tag, renumber};
 use finite_maps::Fork;
 use std::alloc::{AllocError, Global};
-use transcripts::Outcome;
 
 /// Outcomes in the order of their texts, and runs that name them.
 #[derive(Drop)]
 pub(crate) struct OneForm {
-    pub(crate) outcomes: Vec<Outcome>,
+    pub(crate) outcomes: Vec<CompactOutcome>,
     pub(crate) runs: Vec<Run>,
 }
 
 /// The one form of what these runs say of these outcomes.
 pub(crate) fn one_form(
     alloc: Global,
-    outcomes: &[Outcome],
+    outcomes: &[CompactOutcome],
     runs: &[Run],
 ) -> Result<OneForm, AllocError>
     requires { AllSound (length outcomes.now) runs.now }
@@ -56,7 +56,11 @@ fn flags_of(alloc: Global, outcomes: usize, runs: &[Run]) -> Result<Vec<bool>, A
 }
 
 /// The outcomes with a flag, once each, in the order of their texts.
-fn named(alloc: Global, outcomes: &[Outcome], flags: &[bool]) -> Result<Vec<Outcome>, AllocError>
+fn named(
+    alloc: Global,
+    outcomes: &[CompactOutcome],
+    flags: &[bool],
+) -> Result<Vec<CompactOutcome>, AllocError>
     requires { length flags.now ≡ length outcomes.now }
     ensures rises { IfOk result (λ out. Rises ComesBefore out.items) }
     ensures named { IfOk result (λ out. AreFlagged outcomes.now flags.now out.items) }
@@ -68,7 +72,11 @@ fn named(alloc: Global, outcomes: &[Outcome], flags: &[bool]) -> Result<Vec<Outc
 }
 
 /// The outcomes with a flag.
-fn flagged(alloc: Global, outcomes: &[Outcome], flags: &[bool]) -> Result<Vec<Outcome>, AllocError>
+fn flagged(
+    alloc: Global,
+    outcomes: &[CompactOutcome],
+    flags: &[bool],
+) -> Result<Vec<CompactOutcome>, AllocError>
     requires { length flags.now ≡ length outcomes.now }
     ensures { IfOk result (λ out. AreFlagged outcomes.now flags.now out.items) }
 {
@@ -84,8 +92,8 @@ fn flagged(alloc: Global, outcomes: &[Outcome], flags: &[bool]) -> Result<Vec<Ou
 /// Where each outcome stands among those that rise, or 0 where it is not there.
 fn numbers_of(
     alloc: Global,
-    outcomes: &[Outcome],
-    named: &[Outcome],
+    outcomes: &[CompactOutcome],
+    named: &[CompactOutcome],
 ) -> Result<Vec<usize>, AllocError>
     requires { Rises ComesBefore named.now }
     ensures { IfOk result (λ numbers. AreNumbers outcomes.now named.now numbers.items) }
@@ -98,7 +106,7 @@ fn numbers_of(
 }
 
 /// Where the outcome stands among those that rise, or 0 where it is not there.
-fn number_of(outcome: &Outcome, named: &[Outcome]) -> usize
+fn number_of(outcome: &CompactOutcome, named: &[CompactOutcome]) -> usize
     requires { Rises ComesBefore named.now }
     ensures { IsNumber named.now outcome.now result }
 {

@@ -2,13 +2,13 @@
 
 ghost use Rattle.std.specs.Prelude.{◌≡◌, ◌↔◌, All, IsTrue, false, IfOk, IfErr, length, min};
 ghost use Rattle.book_format.specs.Laws.{RunFits};
-ghost use Rattle.book_format.specs.Pieces.{text_in};
+ghost use Rattle.book_format.specs.Pieces.{text_in, IsUtf8Told};
 ghost use Rattle.book_format.specs.Writing.{ArePieces, AreTooLarge, IsRefused};
 
-use crate::lengths::{facts_in, runs_len, texts_len};
+use crate::lengths::{facts_in, outcomes_len, runs_len};
 use crate::one_form::one_form;
-use crate::texts::{outcome_texts, string_text};
 use crate::write_error::WriteError;
+use compact_outcomes::{CompactOutcome, string_text};
 use fact_books::{Book, Run};
 use std::alloc::{AllocError, Global};
 
@@ -21,10 +21,10 @@ pub const MAX_FACTS: u64 = 30_000_000;
 /// How many bytes stand in every book's text beside its runs, its outcomes and its spec's text.
 const FIXED_LEN: u64 = 46;
 
-/// The runs of a book, the texts of its outcomes, and its spec's text as a JSON string.
+/// The runs of a book, its outcomes, and its spec's text as a JSON string.
 pub(crate) struct Pieces {
     pub(crate) runs: Vec<Run>,
-    pub(crate) texts: Vec<String>,
+    pub(crate) outcomes: Vec<CompactOutcome>,
     pub(crate) quoted: String,
 }
 
@@ -33,7 +33,7 @@ impl Drop for Pieces {
     fn drop(self) {
         let Pieces {
             runs: _runs,
-            texts: _texts,
+            outcomes: _outcomes,
             quoted: _quoted,
         } = self;
     }
@@ -44,12 +44,14 @@ pub(crate) fn pieces_of(alloc: Global, book: &Book) -> Result<Pieces, WriteError
     ensures pieces { IfOk result (ArePieces book.now) }
     ensures fit { IfOk result (λ pieces. AreTooLarge pieces → ⊥) }
     ensures widths { IfOk result (λ pieces. All RunFits pieces.runs.items) }
+    ensures utf8 { IfOk result (λ pieces. All IsUtf8Told pieces.outcomes.items) }
     ensures refused { IfErr result (IsRefused book.now) }
 {
     let pieces = all_pieces(alloc, book)?;
     if are_too_large(&pieces) {
         return Err(WriteError::TooLarge);
     }
+    known_texts(pieces.outcomes.as_slice());
     Ok(pieces)
 }
 
@@ -58,13 +60,21 @@ fn all_pieces(alloc: Global, book: &Book) -> Result<Pieces, AllocError>
 {
     let (outcomes, runs) = book.parts();
     let form = one_form(alloc, outcomes, runs)?;
-    let texts = outcome_texts(alloc, form.outcomes.as_slice())?;
     let quoted = string_text(alloc, book.text())?;
     Ok(Pieces {
         runs: form.runs,
-        texts,
+        outcomes: form.outcomes,
         quoted,
     })
+}
+
+/// What holds of outcomes that are kept as texts.
+fn known_texts(outcomes: &[CompactOutcome])
+    ensures { All IsUtf8Told outcomes.now }
+{
+    for outcome in outcomes {
+        outcome.known();
+    }
 }
 
 /// Whether the text that the pieces make, or the number of facts, is over its limit.
@@ -80,7 +90,7 @@ fn text_len(pieces: &Pieces) -> u64
     ensures { result ≡ min (length (text_in pieces.now)) u64.MAX }
 {
     runs_len(pieces.runs.as_slice())
-        .saturating_add(texts_len(pieces.texts.as_slice()))
+        .saturating_add(outcomes_len(pieces.outcomes.as_slice()))
         .saturating_add(pieces.quoted.len() as u64)
         .saturating_add(FIXED_LEN)
 }

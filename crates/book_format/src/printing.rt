@@ -1,13 +1,15 @@
 //! A book's text, piece by piece.
 
-ghost use Rattle.std.specs.Prelude.{◌<◌, ◌++◌, codes, decimal, flat_map, string_bytes};
+ghost use Rattle.std.specs.Prelude.{◌<◌, ◌++◌, codes, decimal, flat_map};
 ghost use Rattle.std.specs.List.{join_by};
 ghost use Rattle.transcripts.specs.Counted.{Prints, failures_of};
-ghost use Rattle.book_format.specs.Pieces.{run_text, after_comma, facts_text, outcomes_text, spec_text, text_in};
+ghost use Rattle.compact_outcomes.specs.CompactTexts.{after_comma};
+ghost use Rattle.book_format.specs.Pieces.{run_text, facts_text, parts_text, spec_text, table_text, text_in, told_text};
 
 use crate::canonical::number;
 use crate::lengths::{front, ranks_in};
 use crate::pieces::Pieces;
+use compact_outcomes::CompactOutcome;
 use fact_books::Run;
 use itoa::Buffer;
 use std::io::Write;
@@ -18,12 +20,30 @@ pub(crate) fn print_book<W: Write>(pieces: &Pieces, out: &mut Counted<W>) -> Res
     requires { failures_of out.old < u64.MAX }
     ensures { Prints W.contents out.old out.new result (text_in pieces.now) }
 {
-    print_facts(pieces.runs.as_slice(), out)?;
-    print_outcomes(pieces.texts.as_slice(), out)?;
-    print_spec(pieces.quoted.as_str(), out)
+    print_parts(
+        pieces.runs.as_slice(),
+        pieces.outcomes.as_slice(),
+        pieces.quoted.as_str(),
+        out,
+    )
 }
 
-pub(crate) fn print_facts<W: Write>(runs: &[Run], out: &mut Counted<W>) -> Result<(), WriteFault>
+/// Writes the text of runs, of outcomes and of a spec's text as a JSON string. It takes no memory.
+pub(crate) fn print_parts<W: Write>(
+    runs: &[Run],
+    outcomes: &[CompactOutcome],
+    quoted: &str,
+    out: &mut Counted<W>,
+) -> Result<(), WriteFault>
+    requires { failures_of out.old < u64.MAX }
+    ensures { Prints W.contents out.old out.new result (parts_text runs.now outcomes.now quoted.now) }
+{
+    print_facts(runs, out)?;
+    print_outcomes(outcomes, out)?;
+    print_spec(quoted, out)
+}
+
+fn print_facts<W: Write>(runs: &[Run], out: &mut Counted<W>) -> Result<(), WriteFault>
     requires { failures_of out.old < u64.MAX }
     ensures { Prints W.contents out.old out.new result (facts_text runs.now) }
 {
@@ -73,39 +93,56 @@ fn print_number<W: Write>(before: &str, number: u64, out: &mut Counted<W>) -> Re
     print_pair(before, Buffer::new().format(number), out)
 }
 
-fn print_outcomes<W: Write>(texts: &[String], out: &mut Counted<W>) -> Result<(), WriteFault>
+fn print_outcomes<W: Write>(
+    outcomes: &[CompactOutcome],
+    out: &mut Counted<W>,
+) -> Result<(), WriteFault>
     requires { failures_of out.old < u64.MAX }
-    ensures { Prints W.contents out.old out.new result (outcomes_text texts.now) }
+    ensures { Prints W.contents out.old out.new result (table_text outcomes.now) }
 {
     out.write_str("],\"format\":2,\"outcomes\":[")?;
-    print_texts(texts, out)
+    print_texts(outcomes, out)
 }
 
-fn print_texts<W: Write>(texts: &[String], out: &mut Counted<W>) -> Result<(), WriteFault>
+fn print_texts<W: Write>(
+    outcomes: &[CompactOutcome],
+    out: &mut Counted<W>,
+) -> Result<(), WriteFault>
     requires { failures_of out.old < u64.MAX }
-    ensures { Prints W.contents out.old out.new result (join_by string_bytes (codes ",") texts.now) }
+    ensures { Prints W.contents out.old out.new result (join_by told_text (codes ",") outcomes.now) }
 {
-    match texts.split_first() {
+    match outcomes.split_first() {
         None => Ok(()),
         Some((first, others)) => {
-            out.write_str(first.as_str())?;
+            print_text(first, out)?;
             print_other_texts(others, out)
         }
     }
 }
 
 /// Each text after a comma.
-fn print_other_texts<W: Write>(texts: &[String], out: &mut Counted<W>) -> Result<(), WriteFault>
+fn print_other_texts<W: Write>(
+    outcomes: &[CompactOutcome],
+    out: &mut Counted<W>,
+) -> Result<(), WriteFault>
     requires { failures_of out.old < u64.MAX }
-    ensures { Prints W.contents out.old out.new result (flat_map (after_comma string_bytes) texts.now) }
+    ensures { Prints W.contents out.old out.new result (flat_map (after_comma told_text) outcomes.now) }
 {
-    for text in texts {
-        print_pair(",", text.as_str(), out)?;
+    for outcome in outcomes {
+        out.write_str(",")?;
+        print_text(outcome, out)?;
     }
     Ok(())
 }
 
-pub(crate) fn print_spec<W: Write>(quoted: &str, out: &mut Counted<W>) -> Result<(), WriteFault>
+fn print_text<W: Write>(outcome: &CompactOutcome, out: &mut Counted<W>) -> Result<(), WriteFault>
+    requires { failures_of out.old < u64.MAX }
+    ensures { Prints W.contents out.old out.new result (told_text outcome.now) }
+{
+    out.write_str(outcome.as_str())
+}
+
+fn print_spec<W: Write>(quoted: &str, out: &mut Counted<W>) -> Result<(), WriteFault>
     requires { failures_of out.old < u64.MAX }
     ensures { Prints W.contents out.old out.new result (spec_text quoted.now) }
 {

@@ -8,11 +8,10 @@ ghost use Rattle.book_rows.specs.Classes.{letters_of, told_alone};
 use book_stretches::ToldRanks;
 use bound_specs::Spec;
 use class_stretches::Tally;
-use finite_maps::Fork;
+use compact_outcomes::CompactOutcome;
 use order_classes::{ClassRow, Letters, Shows};
 use sqlite_items::Items;
 use std::alloc::{AllocError, Global};
-use transcripts::Outcome;
 
 /// A row for each class, in the order of their numbers.
 pub(crate) fn rows_of(
@@ -39,7 +38,7 @@ fn row_of(
     alloc: Global,
     spec: &Spec,
     tally: Tally,
-    outcome: &Outcome,
+    outcome: &CompactOutcome,
 ) -> Result<ClassRow, AllocError>
     requires { tally.least < ranks spec.now.run }
     ensures { IfOk result (IsRowOf spec.now.run tally outcome.now) }
@@ -58,11 +57,11 @@ fn row_of(
 }
 
 /// What is told alone, with nothing of what is left.
-fn shown(alloc: Global, outcome: &Outcome) -> Result<Shows, AllocError>
+fn shown(alloc: Global, outcome: &CompactOutcome) -> Result<Shows, AllocError>
     ensures { IfOk result (λ shows. shows ≡ told_alone outcome.now) }
 {
     Ok(Shows {
-        told: outcome.fork()?,
+        told: outcome.read(alloc)?,
         left: Items::new(alloc),
         rests: Items::new(alloc),
     })

@@ -5,14 +5,14 @@ ghost use Rattle.class_stretches.specs.Groups.{AllDiffer};
 ghost use Rattle.book_stretches.specs.Classes.{HasNumber};
 
 use crate::numbers::Numbers;
+use compact_outcomes::CompactOutcome;
 use finite_maps::Fork;
 use std::alloc::{AllocError, Global};
 use std::marker::Model;
-use transcripts::Outcome;
 
 /// Outcomes, each once, in the order of the classes that tell them, seen by contracts as that list.
 pub(crate) struct Classes {
-    outcomes: Vec<Outcome>,
+    outcomes: Vec<CompactOutcome>,
     numbers: Numbers,
 }
 
@@ -56,7 +56,7 @@ impl Classes {
     }
 
     /// The outcome of a class.
-    pub fn outcome(&self, class: u32) -> &Outcome
+    pub fn outcome(&self, class: u32) -> &CompactOutcome
         requires { class < length self.now }
         ensures { slice_get self.now class ≡ Some result.now }
     {
@@ -64,7 +64,7 @@ impl Classes {
     }
 
     /// The class of an outcome, if it is there.
-    fn find(&self, outcome: &Outcome) -> Option<u32>
+    fn find(&self, outcome: &CompactOutcome) -> Option<u32>
         ensures number { MatchOption result ((n : ℕ) → slice_get self.now n ≡ Some outcome.now → ⊥) (λ n. slice_get self.now n ≡ Some outcome.now) }
         ensures few { length self.now < 2 ^ 32 }
     {
@@ -75,7 +75,7 @@ impl Classes {
     }
 
     /// The class of an outcome, which is added behind the others where it is not there.
-    pub fn number(&mut self, outcome: &Outcome) -> Result<u32, AllocError>
+    pub fn number(&mut self, outcome: &CompactOutcome) -> Result<u32, AllocError>
         ensures ok { IfOk result (HasNumber self.old self.new outcome.now) }
         ensures err { OnErr result (self.new ≡ self.old) }
     {
@@ -86,7 +86,7 @@ impl Classes {
     }
 
     /// Adds what is not there.
-    fn add(&mut self, outcome: &Outcome) -> Result<u32, AllocError>
+    fn add(&mut self, outcome: &CompactOutcome) -> Result<u32, AllocError>
         requires { (n : ℕ) → slice_get self.old n ≡ Some outcome.now → ⊥ }
         ensures ok { IfOk result (λ n. (n ≡ length self.old) × (n + 1 < 2 ^ 32) × (self.new ≡ self.old ++ outcome.now ∷ [])) }
         ensures err { OnErr result (self.new ≡ self.old) }
@@ -107,7 +107,7 @@ impl Classes {
     }
 
     /// All of them, in the order of their classes.
-    pub fn into_outcomes(self) -> Vec<Outcome>
+    pub fn into_outcomes(self) -> Vec<CompactOutcome>
         ensures { result.items ≡ self }
     {
         let Classes {

@@ -8,8 +8,8 @@ ghost use Rattle.book_stretches.specs.Sweep.{end, said, IsKnown, IsTelling, IsVe
 
 use crate::leading::lead_of;
 use crate::telling::Telling;
+use compact_outcomes::CompactOutcome;
 use fact_books::{Lead, Run, Tag};
-use transcripts::Outcome;
 
 /// The outcome that a fact gives: the one with this number in the book's table, or that of a class.
 #[derive(Clone, Copy)]
@@ -102,7 +102,7 @@ impl Telling<'_> {
         self.outcome_of(a).is_same(self.outcome_of(b))
     }
 
-    fn outcome_of(&self, vote: Vote) -> &Outcome
+    fn outcome_of(&self, vote: Vote) -> &CompactOutcome
         requires { IsKnown self.now (Some vote) }
         ensures { said self.now vote ≡ Some result.now }
     {

@@ -4,15 +4,15 @@ ghost use Rattle.std.specs.Prelude.{◌≡◌, OnOk, OnErr};
 ghost use Rattle.std.specs.Option.{option_copied};
 ghost use Rattle.finite_maps.specs.Map as map;
 
+use compact_outcomes::CompactOutcome;
 use std::alloc::{AllocError, Global};
 use std::collections::BTreeMap;
 use std::marker::Model;
-use transcripts::Outcome;
 
 /// A number for each outcome, seen by contracts as a finite map.
 #[derive(Drop)]
 pub(crate) struct Numbers {
-    numbers: BTreeMap<Outcome, u32>,
+    numbers: BTreeMap<CompactOutcome, u32>,
 }
 
 impl Model for Numbers {
@@ -40,13 +40,13 @@ impl Numbers {
         }
     }
 
-    pub fn get(&self, outcome: &Outcome) -> Option<&u32>
+    pub fn get(&self, outcome: &CompactOutcome) -> Option<&u32>
         ensures { option_copied result ≡ map.get self.now outcome.now }
     {
         self.numbers.get(outcome)
     }
 
-    pub fn put(&mut self, outcome: Outcome, number: u32) -> Result<(), AllocError>
+    pub fn put(&mut self, outcome: CompactOutcome, number: u32) -> Result<(), AllocError>
         ensures ok { OnOk result (self.new ≡ map.insert self.old outcome number) }
         ensures err { OnErr result (self.new ≡ self.old) }
     {

@@ -15,15 +15,15 @@ use crate::sweep::{active_at, border};
 use crate::told::ToldRanks;
 use bound_specs::Spec;
 use class_stretches::Stretches;
+use compact_outcomes::CompactOutcome;
 use fact_books::{Lead, Run};
 use std::alloc::{AllocError, Global};
-use transcripts::Outcome;
 
 /// What is told of the ranks up to here: the book's spec, outcomes and runs; the class of each of these outcomes, where it is known; the
 /// outcomes of the classes; and the ranks in classes.
 pub(crate) struct Telling<'a> {
     pub(crate) spec: &'a Spec,
-    pub(crate) outcomes: &'a [Outcome],
+    pub(crate) outcomes: &'a [CompactOutcome],
     pub(crate) runs: &'a [Run],
     pub(crate) classes: Vec<Option<u32>>,
     pub(crate) told: Classes,
@@ -49,7 +49,7 @@ impl<'a> Telling<'a> {
     pub(crate) fn new(
         alloc: Global,
         spec: &'a Spec,
-        outcomes: &'a [Outcome],
+        outcomes: &'a [CompactOutcome],
         runs: &'a [Run],
     ) -> Result<Telling<'a>, AllocError>
         ensures { IfOk result (IsBegun spec.now outcomes.now runs.now) }

@@ -9,14 +9,14 @@ use crate::source::spec_of_book;
 use crate::telling::Telling;
 use bound_specs::Spec;
 use class_stretches::Stretches;
+use compact_outcomes::CompactOutcome;
 use fact_books::{Book, Run};
 use std::alloc::Global;
-use transcripts::Outcome;
 
 /// The ranks of a book's spec in classes by what is told of them, and the outcomes that the classes tell, in their order. A rank of no
 /// class has no value: nothing is told of it.
 pub struct ToldRanks {
-    pub outcomes: Vec<Outcome>,
+    pub outcomes: Vec<CompactOutcome>,
     pub stretches: Stretches,
 }
 
@@ -46,7 +46,7 @@ pub fn told_ranks(alloc: Global, book: &Book) -> Result<ToldRanks, TellError>
 fn told_of(
     alloc: Global,
     spec: &Spec,
-    outcomes: &[Outcome],
+    outcomes: &[CompactOutcome],
     runs: &[Run],
 ) -> Result<ToldRanks, TellError>
     requires { IsKept outcomes.now runs.now }

@@ -48,10 +48,10 @@ fn mark(rt: &impl Abort, world: &mut MarkedWorld<'_>)
 }
 
 fn assert_tells(rt: &impl Abort, alloc: Global, world: &mut MarkedWorld<'_>, want: &str)
-    ensures { world.new ≡ world.old }
+    ensures { world.new ≡ record world.old { told = world.new.told } }
 {
-    let outcome = world.outcome().expect(rt, "an outcome");
-    assert_outcome(rt, alloc, world.spec(), &outcome, want);
+    let number = world.outcome().expect(rt, "an outcome");
+    assert_outcome(rt, alloc, world.spec(), world.told(number), want);
 }
 
 const NOTHING_TOLD: &str = "session a\nsession b\n";
@@ -75,6 +75,22 @@ fn a_world_goes_back_to_its_marks(rt: HostRuntime) {
     let spec = spec_of(&rt, rt.alloc(), INSERT_AND_READ);
     let mut world = start_of(&rt, rt.alloc(), &spec);
     assert_marks(&rt, rt.alloc(), &mut world);
+}
+
+#[test]
+fn an_outcome_that_is_told_again_has_the_number_that_it_had(rt: HostRuntime) {
+    let spec = spec_of(&rt, rt.alloc(), INSERT_AND_READ);
+    let mut world = start_of(&rt, rt.alloc(), &spec);
+    let nothing = world.outcome().expect(&rt, "an outcome");
+    mark(&rt, &mut world);
+    go_on(&rt, &mut world, 0);
+    let first = world.outcome().expect(&rt, "an outcome");
+    world.go_back();
+    let again = world.outcome().expect(&rt, "an outcome");
+    assert!(rt;
+        nothing == 0 && first == 1 && again == 0,
+        "{nothing}, {first}, {again}"
+    );
 }
 
 /// Sessions, and how many orders their steps have.
@@ -128,9 +144,9 @@ fn assert_order(
     let line = spec.line(rank).expect(rt, "a rank of the spec");
     mark(rt, world);
     send_all(rt, world, line.as_slice());
-    let told = world.outcome().expect(rt, "an outcome");
+    let number = world.outcome().expect(rt, "an outcome");
     let alone = run_one(alloc, spec, &line).expect(rt, "an outcome");
-    assert!(rt; told.is_same(&alone), "rank {rank}");
+    assert!(rt; world.told(number).is_same(&alone), "rank {rank}");
     world.go_back();
 }
 
@@ -199,10 +215,10 @@ fn assert_goes_on(rt: &impl Abort, alloc: Global, world: &mut MarkedWorld<'_>) {
             return;
         }
     }
-    let Ok(outcome) = world.outcome() else {
+    let Ok(number) = world.outcome() else {
         return;
     };
-    if let Some(text) = text_where_memory(rt, alloc, world.spec(), &outcome) {
+    if let Some(text) = text_where_memory(rt, alloc, world.spec(), world.told(number)) {
         assert_text(rt, &text, LOST_UPDATE_TELLS, "the lost update");
     }
 }

@@ -3,12 +3,13 @@
 use crate::asserts::assert_text;
 use book_files::read_book;
 use book_stretches::{TellError, ToldRanks, told_ranks};
+use compact_outcomes::CompactOutcome;
 use fact_books::Book;
 use library_tests::ByteReader;
 use std::alloc::Global;
 use std::process::Abort;
 use std::test::Fail;
-use transcripts::{Counted, Outcome};
+use transcripts::Counted;
 
 /// Books of the six ranks of two sessions with two steps each, whose words are aabb, abab, abba, baab, baba and bbaa: a name, outcomes,
 /// facts that name them by their numbers, outcomes and facts that are added, and what is told. In outcome X both sessions are done, and in
@@ -103,7 +104,8 @@ fn push_class(text: &mut String, class: Option<u32>) -> Option<()> {
 }
 
 /// X or Y.
-fn push_outcome(text: &mut String, outcome: &Outcome) -> Option<()> {
+fn push_outcome(alloc: Global, text: &mut String, outcome: &CompactOutcome) -> Option<()> {
+    let outcome = outcome.read(alloc).ok()?;
     if outcome.sessions().last()?.events().len() == 1 {
         text.push_str(" X").ok()
     } else {
@@ -118,7 +120,7 @@ fn text_of(alloc: Global, told: &ToldRanks) -> Option<String> {
     }
     text.push_str("=").ok()?;
     for outcome in &told.outcomes {
-        push_outcome(&mut text, outcome)?;
+        push_outcome(alloc, &mut text, outcome)?;
     }
     Some(text)
 }

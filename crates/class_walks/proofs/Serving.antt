@@ -8,7 +8,8 @@ use Rattle.rank_facts.specs.declared.shard.Shard.{Shard}
 use Rattle.range_progress.specs.declared.cutting.TheConstants.{SHARD_RANKS}
 use Rattle.step_reducer.specs.Shardwise.{Shardwise, GivesPart, standing_at}
 use Rattle.step_reducer.specs.Walking.{Starts}
-use Rattle.step_reducer.specs.declared.fact.FactRun.{FactRun}
+use Rattle.step_reducer.specs.declared.said.SaidRun.{SaidRun}
+use Rattle.step_reducer.specs.Saying.{run_of}
 use Rattle.order_classes.specs.declared.shows.Shows.{Shows}
 use Rattle.class_walks.specs.declared.found.FoundRun.{FoundRun}
 use Rattle.class_walks.specs.Found.{Extends, IsRunSo, AreSo, IsShardAt, AreServed, IsServed}
@@ -18,17 +19,17 @@ use Rattle.class_walks.proofs.Noting.{extends-none, extends-more, noted-next, se
 -- ---- a run more
 
 -- the walk gave it last
-pub given-of : (x y : Shardwise) (o : Option FactRun) (run : FactRun) → o ≡ Some run → GivesPart x y o → IsGiven y run
+pub given-of : (x y : Shardwise) (o : Option SaidRun) (run : SaidRun) → o ≡ Some run → GivesPart x y o → IsGiven y (run_of y.told run)
 given-of x y o run is gives =
     let r = subst (GivesPart x y) is gives in
-    subst (λ (v : Shardwise). IsGiven v run) (sym r.1) (record { some = r.0.some; ran = r.0.ran; facts = r.0.facts; behind = refl })
+    subst (λ (v : Shardwise). IsGiven v (run_of y.told run)) (sym r.1) (record { some = r.0.some; ran = r.0.ran; facts = r.0.facts; behind = refl })
 
-pub stands-on : (file : SpecFile) (x y : Shardwise) (o : Option FactRun) (run : FactRun) → IsFor file x → o ≡ Some run → GivesPart x y o → IsFor file y
+pub stands-on : (file : SpecFile) (x y : Shardwise) (o : Option SaidRun) (run : SaidRun) → IsFor file x → o ≡ Some run → GivesPart x y o → IsFor file y
 stands-on file x y o run stands is gives =
     let r = subst (GivesPart x y) is gives in
     subst (IsFor file) (sym r.1) (record { file_is = stands.file_is; reduce = stands.reduce; whole = stands.whole })
 
-pub starts-on : (file : SpecFile) (x y : Shardwise) (o : Option FactRun) (run : FactRun) → IsFor file x → o ≡ Some run → GivesPart x y o → Starts file.run
+pub starts-on : (file : SpecFile) (x y : Shardwise) (o : Option SaidRun) (run : SaidRun) → IsFor file x → o ≡ Some run → GivesPart x y o → Starts file.run
     → Starts y.file.run
 starts-on file x y o run stands is gives starts =
     subst (λ (f : SpecFile). Starts f.run) (sym (stands-on file x y o run stands is gives).file_is) starts
@@ -42,7 +43,7 @@ gather-none tables walk shows runs stands none = record {
   extends = extends-none shows shows refl;
 }
 
-pub gather-next : (tables : List Table) (file : SpecFile) (from to : ℕ) (before : List Shows) (x y : Shardwise) (o : Option FactRun) (run : FactRun)
+pub gather-next : (tables : List Table) (file : SpecFile) (from to : ℕ) (before : List Shows) (x y : Shardwise) (o : Option SaidRun) (run : SaidRun)
     (old new : List Shows) (runs after : List FoundRun) (found : FoundRun) → IsGathering tables file from to before x old runs → o ≡ Some run → GivesPart x y o
     → after ≡ runs ++ found ∷ [] → IsRunSo tables y.file.run new run.first run.end found → Extends old new → IsGathering tables file from to before y new after
 gather-next tables file from to before x y o run old new runs after found g is gives now so more =
@@ -63,7 +64,7 @@ gather-next tables file from to before x y o run old new runs after found g is g
     }
 
 -- at the end of the shard
-pub gathered : (tables : List Table) (file : SpecFile) (from to : ℕ) (before : List Shows) (x y : Shardwise) (o : Option FactRun) (shows : List Shows)
+pub gathered : (tables : List Table) (file : SpecFile) (from to : ℕ) (before : List Shows) (x y : Shardwise) (o : Option SaidRun) (shows : List Shows)
     (runs : List FoundRun) → IsGathering tables file from to before x shows runs → o ≡ None → GivesPart x y o
     → AreSo tables file.run shows from to runs × IsFor file y × (y.at ≡ to)
 gathered tables file from to before x y o shows runs g is gives =
@@ -117,17 +118,17 @@ serve-none tables walk shows shards number workers next stands is early none =
     }
 
 -- the walk goes on to a shard
-pub reached-for : (x y : Shardwise) (shard : Shard) → IsFor x.file x → y ≡ standing_at x.file shard x.reduce → IsFor y.file y
+pub reached-for : (x y : Shardwise) (shard : Shard) → IsFor x.file x → y ≡ record (standing_at x.file shard x.reduce) { told = x.told } → IsFor y.file y
 reached-for x y shard stands is = subst (λ (v : Shardwise). IsFor v.file v) (sym is) (record { file_is = refl; reduce = stands.reduce; whole = refl })
 
-pub reached-starts : (x y : Shardwise) (shard : Shard) → y ≡ standing_at x.file shard x.reduce → Starts x.file.run → Starts y.file.run
+pub reached-starts : (x y : Shardwise) (shard : Shard) → y ≡ record (standing_at x.file shard x.reduce) { told = x.told } → Starts x.file.run → Starts y.file.run
 reached-starts x y shard is starts = subst (λ (v : Shardwise). Starts v.file.run) (sym is) starts
 
-pub reached-runs : (tables : List Table) (x y : Shardwise) (shard : Shard) (shows : List Shows) (runs : List FoundRun) → y ≡ standing_at x.file shard x.reduce
+pub reached-runs : (tables : List Table) (x y : Shardwise) (shard : Shard) (shows : List Shows) (runs : List FoundRun) → y ≡ record (standing_at x.file shard x.reduce) { told = x.told }
     → AreSo tables y.file.run shows y.at y.end runs → AreSo tables x.file.run shows shard.first shard.end runs
 reached-runs tables x y shard shows runs is are = subst (λ (v : Shardwise). AreSo tables v.file.run shows v.at v.end runs) is are
 
-pub reached-end : (x y z : Shardwise) (shard : Shard) → y ≡ standing_at x.file shard x.reduce → IsFor y.file z × (z.at ≡ y.end)
+pub reached-end : (x y z : Shardwise) (shard : Shard) → y ≡ record (standing_at x.file shard x.reduce) { told = x.told } → IsFor y.file z × (z.at ≡ y.end)
     → IsFor x.file z × (z.at ≡ shard.end)
 reached-end x y z shard is h = subst (λ (v : Shardwise). IsFor v.file z × (z.at ≡ v.end)) is h
 

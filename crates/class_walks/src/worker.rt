@@ -5,6 +5,7 @@ ghost use Rattle.bound_specs.specs.Spec.{SpecFile, ranks};
 ghost use Rattle.bound_specs.specs.Binding.{IsFileOf};
 ghost use Rattle.rank_facts.specs.Shards.{IsShardOf};
 ghost use Rattle.rank_facts.specs.declared.fact.Fact.TheVariants.{Ran};
+ghost use Rattle.step_reducer.specs.Saying.{IsTold, fact_of, run_of};
 ghost use Rattle.step_reducer.specs.Walking.{Starts};
 ghost use Rattle.class_walks.specs.Found.{Extends, AreSo, IsPart, IsRunSo, IsServed, IsShardAt, IsSo};
 ghost use Rattle.class_walks.specs.Working.{IsFor, IsGiven};
@@ -16,12 +17,12 @@ use crate::table::ShowsTable;
 use binding_model::Table;
 use bound_specs::Spec;
 use range_progress::SHARD_RANKS;
-use rank_facts::{Fact, Shard};
+use rank_facts::Shard;
 use shard_board::Gate;
 use shard_farm::{bound_again, walk_at};
 use sqlite_items::Items;
 use std::alloc::{AllocError, Global};
-use step_reducer::{FactRun, ShardWalk};
+use step_reducer::{Said, SaidRun, ShardWalk};
 use transcripts::Outcome;
 
 /// What a worker of this number finds in its shards, of which each is so many behind the one before. It calls the gate before each and
@@ -192,7 +193,7 @@ fn gather(
 {
     'runs: loop {
         match walk.next_run() {
-            Ok(Some(run)) => add(alloc, walk, table, runs, &run, tables)?,
+            Ok(Some(run)) => add(alloc, walk, table, runs, run, tables)?,
             Ok(None) => return Ok(()),
             Err(_) => return Err(AllocError),
         }
@@ -205,12 +206,13 @@ fn add(
     walk: &ShardWalk<'_>,
     table: &mut ShowsTable,
     runs: &mut Items<FoundRun>,
-    run: &FactRun,
+    run: SaidRun,
     tables: &[Table],
 ) -> Result<(), AllocError>
     requires starts { Starts walk.now.file.run }
-    requires given { IsGiven walk.now run.now }
-    ensures so { OnOk result ((found : FoundRunSpec) × (runs.new ≡ runs.old ++ found ∷ []) × IsRunSo tables.now walk.now.file.run table.new run.now.first run.now.end found) }
+    requires number { IsTold walk.now.told run.said }
+    requires given { IsGiven walk.now (run_of walk.now.told run) }
+    ensures so { OnOk result ((found : FoundRunSpec) × (runs.new ≡ runs.old ++ found ∷ []) × IsRunSo tables.now walk.now.file.run table.new run.first run.end found) }
     ensures extends { Extends table.old table.new }
 {
     let what = what_of(alloc, walk, table, run, tables)?;
@@ -224,17 +226,18 @@ fn what_of(
     alloc: Global,
     walk: &ShardWalk<'_>,
     table: &mut ShowsTable,
-    run: &FactRun,
+    run: SaidRun,
     tables: &[Table],
 ) -> Result<What, AllocError>
     requires starts { Starts walk.now.file.run }
-    requires given { IsGiven walk.now run.now }
-    ensures so { IfOk result (IsSo tables.now walk.now.file.run table.new run.now.first run.now.end) }
+    requires number { IsTold walk.now.told run.said }
+    requires given { IsGiven walk.now (run_of walk.now.told run) }
+    ensures so { IfOk result (IsSo tables.now walk.now.file.run table.new run.first run.end) }
     ensures extends { Extends table.old table.new }
 {
-    match &run.fact {
-        Fact::Swap(place) => Ok(What::Swapped(*place)),
-        Fact::Ran(told) => number_behind(alloc, walk, table, run, told, tables),
+    match run.said {
+        Said::Swap(place) => Ok(What::Swapped(place)),
+        Said::Ran(number) => number_behind(alloc, walk, table, run, walk.told(number), tables),
     }
 }
 
@@ -244,14 +247,14 @@ fn number_behind(
     alloc: Global,
     walk: &ShardWalk<'_>,
     table: &mut ShowsTable,
-    _run: &FactRun,
+    _run: SaidRun,
     told: &Outcome,
     tables: &[Table],
 ) -> Result<What, AllocError>
     requires starts { Starts walk.now.file.run }
-    requires given { IsGiven walk.now _run.now }
-    requires told { _run.now.fact ≡ Ran told.now }
-    ensures so { IfOk result (IsSo tables.now walk.now.file.run table.new _run.now.first _run.now.end) }
+    requires given { IsGiven walk.now (run_of walk.now.told _run) }
+    requires told { fact_of walk.now.told _run.said ≡ Ran told.now }
+    ensures so { IfOk result (IsSo tables.now walk.now.file.run table.new _run.first _run.end) }
     ensures extends { Extends table.old table.new }
 {
     let Some(world) = walk.world() else {

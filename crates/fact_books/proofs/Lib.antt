@@ -2,6 +2,7 @@ pub mod Orders
 pub mod RunLemmas
 pub mod SetLemmas
 pub mod TableLemmas
+pub mod KnownLemmas
 pub mod GapLemmas
 pub mod BookLemmas
 pub mod AddLemmas

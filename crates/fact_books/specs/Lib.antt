@@ -3,6 +3,7 @@ pub mod Runs
 pub mod Tables
 pub mod About
 pub mod Books
+pub mod Known
 pub mod Building
 pub mod Recording
 pub mod Values

@@ -10,6 +10,7 @@ mod filling;
 mod gaps;
 mod joining;
 mod judging;
+mod known;
 mod laws;
 mod leading;
 mod merging;

@@ -13,16 +13,16 @@ use crate::leading::{Lead, lead_of};
 use crate::run::{Run, Tag};
 use crate::table::Table;
 use bound_specs::Spec;
+use compact_outcomes::CompactOutcome;
 use std::alloc::{AllocError, Global};
 use std::sync::Arc;
-use transcripts::Outcome;
 
 impl Book {
     /// What runs say of the ranks of a spec, in the order of their first ranks. Each names its outcome by the number in the list.
     pub fn of_runs(
         alloc: Global,
         spec: &Spec,
-        outcomes: Vec<Outcome>,
+        outcomes: Vec<CompactOutcome>,
         runs: Vec<Run>,
     ) -> Result<Book, AllocError>
         requires rising { IsRising (firsts runs.items) }

@@ -15,10 +15,9 @@ use crate::error::{MAX_REPORTED, ReportError};
 use crate::reports::Report;
 use crate::run::Run;
 use crate::sweep::sweep;
-use crate::table::forked;
+use compact_outcomes::{CompactOutcome, outcomes_of};
 use perm_ranks::Shape;
 use std::alloc::Global;
-use transcripts::Outcome;
 
 /// The one value of each rank of a book's spec: its recorded outcome, or the value of the rank to which its recorded swap leads. Else
 /// the least rank that has no value or more than one. It does not matter whether the spec starts.
@@ -44,7 +43,7 @@ pub fn report(alloc: Global, book: &Book) -> Result<Report, ReportError>
 /// The report over so many ranks.
 fn report_of(
     alloc: Global,
-    outcomes: &[Outcome],
+    outcomes: &[CompactOutcome],
     runs: &[Run],
     shape: &Option<Shape>,
     ranks: u64,
@@ -58,6 +57,6 @@ fn report_of(
         Ok(numbers) => numbers,
         Err(error) => return Err(error),
     };
-    let outcomes = forked(alloc, outcomes)?;
+    let outcomes = outcomes_of(alloc, outcomes)?;
     Ok(Report::from_parts(outcomes, numbers))
 }

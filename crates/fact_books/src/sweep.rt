@@ -9,15 +9,15 @@ ghost use Rattle.fact_books.specs.Sweep.{leads_of, values_of, AllBelow, AllCover
 use crate::error::ReportError;
 use crate::filling::fill;
 use crate::run::Run;
+use compact_outcomes::CompactOutcome;
 use perm_ranks::Shape;
 use std::alloc::{AllocError, Global};
-use transcripts::Outcome;
 
 /// The numbers of the values of so many ranks, or the least rank that has not exactly one. A stretch in which the same runs say
 /// all is filled at once.
 pub(crate) fn sweep(
     alloc: Global,
-    outcomes: &[Outcome],
+    outcomes: &[CompactOutcome],
     runs: &[Run],
     shape: &Option<Shape>,
     ranks: u64,

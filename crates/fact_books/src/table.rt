@@ -3,16 +3,16 @@
 ghost use Rattle.std.specs.Prelude.{◌≡◌, ◌<◌, IfOk, IfSome, length, slice_index_or, []};
 ghost use Rattle.fact_books.specs.Tables.{Extends, Names};
 
+use compact_outcomes::CompactOutcome;
 use finite_maps::Fork;
 use std::alloc::{AllocError, Global};
 use std::collections::BTreeMap;
 use std::marker::Model;
-use transcripts::{Outcome, fingerprint};
 
 /// Outcomes in the order of their numbers, seen by contracts as their list. The index has a number for a fingerprint. What it tells is
 /// looked up and compared, so that nothing but the table's size depends on it.
 pub(crate) struct Table {
-    outcomes: Vec<Outcome>,
+    outcomes: Vec<CompactOutcome>,
     index: BTreeMap<u64, usize>,
 }
 
@@ -46,7 +46,7 @@ impl Table {
     }
 
     /// These outcomes under their numbers, none of which is found again.
-    pub(crate) fn of(alloc: Global, outcomes: Vec<Outcome>) -> Table
+    pub(crate) fn of(alloc: Global, outcomes: Vec<CompactOutcome>) -> Table
         ensures { result ≡ outcomes.items }
     {
         Table {
@@ -56,14 +56,14 @@ impl Table {
     }
 
     /// The outcomes in the order of their numbers.
-    pub(crate) fn outcomes(&self) -> &[Outcome]
+    pub(crate) fn outcomes(&self) -> &[CompactOutcome]
         ensures { result.now ≡ self.now }
     {
         self.outcomes.as_slice()
     }
 
     /// The number of an outcome with this fingerprint, if the index knows it.
-    fn find(&self, print: u64, outcome: &Outcome) -> Option<usize>
+    fn find(&self, print: u64, outcome: &CompactOutcome) -> Option<usize>
         ensures bound { IfSome result (λ n. n < length self.now) }
         ensures at { IfSome result (λ n. slice_index_or self.now n [] ≡ outcome.now) }
     {
@@ -75,12 +75,12 @@ impl Table {
     }
 
     /// The outcome's number; it is added where it is not known.
-    pub(crate) fn number(&mut self, outcome: &Outcome) -> Result<usize, AllocError>
+    pub(crate) fn number(&mut self, outcome: &CompactOutcome) -> Result<usize, AllocError>
         ensures bound { IfOk result (λ n. n < length self.new) }
         ensures at { IfOk result (λ n. slice_index_or self.new n [] ≡ outcome.now) }
         ensures extends { Extends self.old self.new }
     {
-        let print = fingerprint(outcome);
+        let print = outcome.fingerprint();
         if let Some(n) = self.find(print, outcome) {
             return Ok(n);
         }
@@ -94,7 +94,7 @@ impl Table {
     pub(crate) fn numbers(
         &mut self,
         alloc: Global,
-        more: &[Outcome],
+        more: &[CompactOutcome],
     ) -> Result<Vec<usize>, AllocError>
         ensures names { IfOk result (λ ns. Names self.new ns.items more.now) }
         ensures extends { Extends self.old self.new }
@@ -113,14 +113,17 @@ impl Table {
         let outcomes = forked(alloc, self.outcomes.as_slice())?;
         let mut index = BTreeMap::new(alloc);
         for (n, outcome) in self.outcomes.iter().enumerate() {
-            index.insert(fingerprint(outcome), n)?;
+            index.insert(outcome.fingerprint(), n)?;
         }
         Ok(Table { outcomes, index })
     }
 }
 
 /// The same outcomes, which are shared.
-pub(crate) fn forked(alloc: Global, outcomes: &[Outcome]) -> Result<Vec<Outcome>, AllocError>
+pub(crate) fn forked(
+    alloc: Global,
+    outcomes: &[CompactOutcome],
+) -> Result<Vec<CompactOutcome>, AllocError>
     ensures { IfOk result (λ v. v.items ≡ outcomes.now) }
 {
     let mut all = Vec::with_capacity(alloc, outcomes.len())?;

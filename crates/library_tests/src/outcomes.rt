@@ -1,4 +1,5 @@
 use crate::lines::outcome_in;
+use compact_outcomes::CompactOutcome;
 use std::alloc::Global;
 use std::process::Abort;
 use std::test::Fail;
@@ -52,6 +53,32 @@ fn assert_rise(rt: &impl Abort, rising: &[Outcome]) {
     for (place, outcome) in rising.iter().enumerate() {
         assert_order(rt, rising, place, outcome);
     }
+}
+
+/// An outcome is kept as its text, which tells it again.
+fn assert_kept(rt: &impl Abort, alloc: Global, text: &str) -> Result<CompactOutcome, Fail> {
+    let outcome = outcome_in(alloc, text)?;
+    let kept = CompactOutcome::of(alloc, &outcome)?;
+    assert!(rt; kept.as_str() == text, "{text}");
+    let read = kept.read(alloc)?;
+    assert!(rt; read.is_same(&outcome), "{text}");
+    Ok(kept)
+}
+
+#[test]
+fn outcomes_are_kept_as_their_texts(rt: HostRuntime) -> Result<(), Fail> {
+    let alloc = rt.alloc();
+    let mut before: Option<CompactOutcome> = None;
+    for text in RISING.lines() {
+        let kept = assert_kept(&rt, alloc, text)?;
+        if let Some(before) = &before {
+            assert!(rt; before.order(&kept).is_lt(), "{text}");
+            assert!(rt; !before.is_same(&kept), "{text}");
+            assert!(rt; before.fingerprint() != kept.fingerprint(), "{text}");
+        }
+        before = Some(kept);
+    }
+    Ok(())
 }
 
 #[test]

@@ -1,6 +1,7 @@
 -- What a path tells, by the spec that it is of.
-use Rattle.std.proofs.Common.{◌≡◌, ◌∙◌, sym, ap, subst}
+use Rattle.std.proofs.Common.{◌≡◌, ◌∙◌, sym, ap, subst, List}
 use Rattle.bound_specs.specs.Spec.{SpecFile}
+use Rattle.transcripts.specs.declared.event.Event.{Event}
 use Rattle.machine_model.specs.World.{send_all, outcome_of}
 use Rattle.marked_paths.specs.Paths.{first_world}
 use Rattle.marked_paths.specs.Paths.{IsPath}
@@ -18,3 +19,13 @@ path-told file p is = ap (λ (f : SpecFile). outcome_of f.run.sessions (send_all
 -- the world behind all steps
 pub path-world : (file : SpecFile) (p : MarkedPath) → IsPath file p → p.world.world ≡ send_all file.run.steps (first_world file.run) p.line.items
 path-world file p is = is.along.now ∙ ap (λ (f : SpecFile). send_all f.run.steps (first_world f.run) p.line.items) is.file_is
+
+-- where more was told, the path is the same
+pub path-told-more : (file : SpecFile) (p : MarkedPath) (told : List (List (List Event))) → IsPath file p
+    → IsPath file (record p { world = record p.world { told = told } })
+path-told-more file p told is = record {
+  file_is = is.file_is;
+  starts = is.starts;
+  along = record { whole = is.along.whole; now = is.along.now; marked = is.along.marked };
+  pairs = is.pairs;
+}

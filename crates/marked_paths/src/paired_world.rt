@@ -21,11 +21,12 @@ pub struct PairedWorld<'a> {
 }
 
 impl<'a> PairedWorld<'a> {
-    /// The world in which the spec starts, without a mark.
+    /// The world in which the spec starts, without a mark. No outcome was told of it.
     pub fn start(alloc: Global, spec: &'a Spec) -> Result<PairedWorld<'a>, StartError>
         ensures started { IfOk result (λ paired. start spec.now.run ≡ Started paired.world.world) }
         ensures of_spec { IfOk result (λ paired. paired.world.file ≡ spec.now) }
         ensures marked { IfOk result (λ paired. paired.world.marked ≡ []) }
+        ensures told { IfOk result (λ paired. paired.world.told ≡ []) }
         ensures whole { IfOk result (λ paired. paired.world.spent ≡ false) }
         ensures pairs { IfOk result (λ paired. ArePairs spec.now.run paired.pairs) }
         ensures refused { IfErr result (λ error. IsRefusedBy error (start spec.now.run)) }

@@ -1,6 +1,7 @@
 //! A line with the world behind it.
 
-ghost use Rattle.std.specs.Prelude.{◌≡◌, ◌<◌, ◌↔◌, All, IfErr, IfOk, IsTrue, OnOk, [], get_or, length};
+ghost use mathlib.Core.List.{IsPrefix};
+ghost use Rattle.std.specs.Prelude.{◌≡◌, ◌<◌, ◌↔◌, All, IfErr, IfOk, IsTrue, OnOk, Some, [], get_or, length, slice_get};
 ghost use Rattle.bound_specs.specs.Spec.{no_step};
 ghost use Rattle.machine_model.specs.Start.{start};
 ghost use Rattle.machine_model.specs.World.{outcome_of, send_all};
@@ -33,6 +34,7 @@ impl<'a> MarkedPath<'a> {
     pub fn start(alloc: Global, spec: &'a Spec) -> Result<MarkedPath<'a>, StartError>
         ensures path { IfOk result (IsPath spec.now) }
         ensures line { IfOk result (λ path. path.line.items ≡ []) }
+        ensures told { IfOk result (λ path. path.world.told ≡ []) }
         ensures refused { IfErr result (λ error. IsRefusedBy error (start spec.now.run)) }
     {
         let PairedWorld { world, pairs } = PairedWorld::start(alloc, spec)?;
@@ -61,6 +63,7 @@ impl<'a> MarkedPath<'a> {
         ensures shared { IfOk result (λ n. n ≡ front self.old.line.items line.items) }
         ensures file { self.new.world.file ≡ self.old.world.file }
         ensures numbers { self.new.world.numbers ≡ self.old.world.numbers }
+        ensures told { self.new.world.told ≡ self.old.world.told }
     {
         let shared = shared_front(self.line.as_slice(), line.as_slice());
         go_back(&mut self.world, self.line.as_slice(), shared);
@@ -76,17 +79,26 @@ impl<'a> MarkedPath<'a> {
         &self.world
     }
 
-    /// The transcripts behind all steps. Equal ones are shared.
-    pub fn outcome(&mut self) -> Result<Outcome, AllocError>
+    /// Tells the transcripts behind all steps: the answer is their number among the outcomes that were told.
+    pub fn outcome(&mut self) -> Result<usize, AllocError>
         requires { IsPath self.old.world.file self.old }
-        ensures told { IfOk result (λ outcome. outcome ≡ outcome_of self.old.world.file.run.sessions
-            (send_all self.old.world.file.run.steps (first_world self.old.world.file.run) self.old.line.items)) }
-        ensures same { self.new ≡ self.old }
+        ensures told { IfOk result (λ number. slice_get self.new.world.told number ≡ Some (outcome_of self.old.world.file.run.sessions
+            (send_all self.old.world.file.run.steps (first_world self.old.world.file.run) self.old.line.items))) }
+        ensures front { IsPrefix self.old.world.told self.new.world.told }
+        ensures same { self.new ≡ record self.old { world = record self.old.world { told = self.new.world.told } } }
     {
         match self.world.outcome() {
-            Ok(outcome) => Ok(outcome),
+            Ok(number) => Ok(number),
             Err(_) => Err(AllocError),
         }
+    }
+
+    /// The outcome that was told with a number.
+    pub fn told(&self, number: usize) -> &Outcome
+        requires { number < length self.now.world.told }
+        ensures { slice_get self.now.world.told number ≡ Some result.now }
+    {
+        self.world.told(number)
     }
 
     /// Whether these are the transcripts behind all steps.

@@ -13,6 +13,7 @@ pub(crate) fn go_back(world: &mut MarkedWorld<'_>, line: &[u8], shared: usize)
     ensures along { IsAlong (take shared line.now) world.new }
     ensures file { world.new.file ≡ world.old.file }
     ensures numbers { world.new.numbers ≡ world.old.numbers }
+    ensures told { world.new.told ≡ world.old.told }
 {
     let mut left = line.len();
     'later: while left > shared {
@@ -29,6 +30,7 @@ pub(crate) fn go_on(world: &mut MarkedWorld<'_>, line: &[u8], from: usize) -> Re
     ensures along { OnOk result (IsAlong line.now world.new) }
     ensures file { world.new.file ≡ world.old.file }
     ensures numbers { world.new.numbers ≡ world.old.numbers }
+    ensures told { world.new.told ≡ world.old.told }
 {
     for place in from..line.len() {
         step_on(world, line[place])?;
@@ -43,6 +45,7 @@ fn step_on(world: &mut MarkedWorld<'_>, step: u8) -> Result<(), AllocError>
     ensures along { OnOk result ((ks : List ℕ) → IsAlong ks world.old → IsAlong (ks ++ step ∷ []) world.new) }
     ensures file { world.new.file ≡ world.old.file }
     ensures numbers { world.new.numbers ≡ world.old.numbers }
+    ensures told { world.new.told ≡ world.old.told }
 {
     mark(world)?;
     match world.send(step) {
@@ -55,6 +58,7 @@ fn mark(world: &mut MarkedWorld<'_>) -> Result<(), AllocError>
     ensures marked { OnOk result (world.new ≡ record world.old { marked = world.old.world ∷ world.old.marked }) }
     ensures file { world.new.file ≡ world.old.file }
     ensures numbers { world.new.numbers ≡ world.old.numbers }
+    ensures told { world.new.told ≡ world.old.told }
 {
     match world.mark() {
         Ok(()) => Ok(()),

@@ -1,7 +1,9 @@
 -- Sessions by their two parts.
+use mathlib.Core.List.{IsPrefix}
 use Rattle.std.specs.Result.{OnErr, OnOk}
 use Rattle.std.specs.Prelude.{All, Result, Ok, Err}
-use Rattle.std.proofs.Common.{◌≡◌, ◌<◌, ◌≤◌, ◌∙◌, refl, sym, ap, subst, arith, ℕ, zero, suc, List, [], ◌∷◌}
+use Rattle.std.proofs.lemmas.List.{map-append}
+use Rattle.std.proofs.Common.{◌≡◌, ◌<◌, ◌≤◌, ◌∙◌, refl, sym, ap, subst, arith, ℕ, zero, suc, List, [], ◌∷◌, ◌++◌}
 use Rattle.std.proofs.Common.{length, map, length-set, get_or, set, take, replicate, Bool, ◌||◌}
 use Rattle.event_tree.specs.declared.node.NodeId.{NodeId}
 use Rattle.event_tree.specs.Lists.{HasNode, Keeps, list_of}
@@ -12,8 +14,8 @@ use Rattle.transcripts.specs.declared.event.Event.{Event}
 use Rattle.session_steps.specs.Stage.{Member, no_member, transcripts_of}
 use Rattle.marked_worlds.specs.declared.members.StatusAndRest.{StatusAndRest}
 use Rattle.marked_worlds.specs.declared.told.ToldOutcome.{ToldOutcome}
-use Rattle.marked_worlds.specs.Told.{AreTold, IsTold}
-use Rattle.marked_worlds.specs.Members.{member_of, members_of, no_kept, versions_of, AreKept, AreWhole, IsWhole}
+use Rattle.marked_worlds.specs.Told.{AreTold, IsTold, outcomes_of}
+use Rattle.marked_worlds.specs.Members.{member_of, members_of, no_kept, sessions_of, AreKept, AreWhole, IsWhole, MarkedSessions}
 
 -- what it was told is changed
 abbrev pub with_told : (List Event → List Event) → Member → Member
@@ -83,6 +85,10 @@ told-kept old new kept keeps all k d lt =
       outcome = lists-kept old new t.nodes.items keeps is.inside ∙ is.outcome;
     }
 
+-- one more comes behind those that were told
+pub told-behind : (kept left : List ToldOutcome) (t : ToldOutcome) → left ≡ kept ++ t ∷ [] → IsPrefix (outcomes_of kept) (outcomes_of left)
+told-behind kept left t is = (t.outcome ∷ [], sym (ap outcomes_of is ∙ map-append (λ (u : ToldOutcome). u.outcome) kept (t ∷ [])))
+
 -- where the lists stay, what is kept holds of logs of as many sessions
 pub still-kept : (old new : Logs Event) (kept : Versions StatusAndRest) (outcomes : List ToldOutcome) → AreKept old kept outcomes
     → length new.now ≡ length old.now → new.marked ≡ old.marked → Keeps old.lists new.lists → AreKept new kept outcomes
@@ -102,7 +108,7 @@ told-count (Err y) old left i t put same = ap length same
 
 -- ---- sessions as contracts see them
 
-module _ (logs : Logs Event) (kept : Versions StatusAndRest) (seen : Versions Member) (i : ℕ) (whole : AreWhole logs kept) (is : versions_of logs kept ≡ seen) where
+module _ (logs : Logs Event) (kept : Versions StatusAndRest) (outcomes : List ToldOutcome) (seen : MarkedSessions) (i : ℕ) (whole : AreWhole logs kept) (is : sessions_of logs kept outcomes ≡ seen) where
   abbrev told : List Event
   told = get_or logs.now i []
 
@@ -111,21 +117,21 @@ module _ (logs : Logs Event) (kept : Versions StatusAndRest) (seen : Versions Me
 
   pub inside-kept : i < length seen.list → i < length kept.list
   inside-kept lt = subst (λ n. i < n) (members-count logs.now kept.list whole.now)
-      (subst (λ (v : Versions Member). i < length v.list) (sym is) lt)
+      (subst (λ (v : MarkedSessions). i < length v.list) (sym is) lt)
 
   pub inside-logs : i < length seen.list → i < length logs.now
   inside-logs lt = subst (λ n. i < n) (sym whole.now) (inside-kept lt)
 
   pub up-to-logs : i ≤ length seen.list → i ≤ length logs.now
   up-to-logs le = subst (λ n. i ≤ n) (sym whole.now)
-      (subst (λ n. i ≤ n) (members-count logs.now kept.list whole.now) (subst (λ (v : Versions Member). i ≤ length v.list) (sym is) le))
+      (subst (λ n. i ≤ n) (members-count logs.now kept.list whole.now) (subst (λ (v : MarkedSessions). i ≤ length v.list) (sym is) le))
 
   -- what the first so many were told
   pub first-is : take i logs.now ≡ transcripts_of (take i seen.list)
-  first-is = sym (told-first logs.now kept.list i whole.now) ∙ ap (λ (v : Versions Member). transcripts_of (take i v.list)) is
+  first-is = sym (told-first logs.now kept.list i whole.now) ∙ ap (λ (v : MarkedSessions). transcripts_of (take i v.list)) is
 
   pub member-is : get_or seen.list i no_member ≡ member_of told own
-  member-is = ap (λ (v : Versions Member). get_or v.list i no_member) (sym is) ∙ members-at logs.now kept.list i whole.now
+  member-is = ap (λ (v : MarkedSessions). get_or v.list i no_member) (sym is) ∙ members-at logs.now kept.list i whole.now
 
   -- it was told something else
   pub told-by : {X Y : Type 0} (r : Result X Y) (left : List (List Event)) (f : List Event → List Event) → OnOk r (left ≡ set logs.now i (f told))

@@ -10,7 +10,13 @@ use Rattle.marked_lists.specs.Versions.{Versions}
 use Rattle.marked_logs.specs.Logs.{Logs}
 use Rattle.marked_worlds.specs.declared.members.StatusAndRest.{StatusAndRest}
 use Rattle.marked_worlds.specs.declared.told.ToldOutcome.{ToldOutcome}
-use Rattle.marked_worlds.specs.Told.{AreTold}
+use Rattle.marked_worlds.specs.Told.{AreTold, outcomes_of}
+
+-- the sessions now and at the marks that stand, the newest first, and the outcomes that were told of them, in the order in which they were told first
+pub record MarkedSessions : Type 0 where
+  pub list : List Member
+  pub marked : List (List Member)
+  pub told : List (List (List Event))
 
 -- ---- a session that is changed
 
@@ -47,8 +53,12 @@ marked_of [] marked = []
 marked_of (logs ∷ more) [] = []
 marked_of (logs ∷ more) (ks ∷ marked) = members_of logs ks ∷ marked_of more marked
 
-abbrev pub versions_of : Logs Event → Versions StatusAndRest → Versions Member
-versions_of logs kept = record { list = members_of logs.now kept.list; marked = marked_of logs.marked kept.marked }
+abbrev pub sessions_of : Logs Event → Versions StatusAndRest → List ToldOutcome → MarkedSessions
+sessions_of logs kept outcomes = record {
+  list = members_of logs.now kept.list;
+  marked = marked_of logs.marked kept.marked;
+  told = outcomes_of outcomes;
+}
 
 -- each session has both parts
 abbrev pub IsWhole : List (List Event) → List StatusAndRest → Type 0

@@ -1,4 +1,4 @@
--- Outcomes that were told, as they are kept. No public clause cites this module.
+-- Outcomes that were told, as they are kept.
 use Rattle.std.specs.Prelude.{◌≡◌, List, All, map}
 use Rattle.event_tree.specs.Lists.{HasNode, list_of}
 use Rattle.transcripts.specs.declared.event.Event.{Event}
@@ -12,3 +12,7 @@ pub record IsTold (lists : List (List Event)) (t : ToldOutcome) : Type 0 where
 -- so it is with each
 abbrev pub AreTold : List (List Event) → List ToldOutcome → Type 0
 AreTold lists kept = All (IsTold lists) kept
+
+-- the outcomes by themselves
+abbrev pub outcomes_of : List ToldOutcome → List (List (List Event))
+outcomes_of kept = map (λ (t : ToldOutcome). t.outcome) kept

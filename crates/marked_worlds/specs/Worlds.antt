@@ -5,16 +5,18 @@ use Rattle.numbered_specs.specs.Numbers.{IsNumbering, Numbers}
 use Rattle.machine_model.specs.World.{World, outcome_of}
 use Rattle.machine_model.specs.Outcome.{IsOutcomeOf}
 use Rattle.machine_model.specs.Sound.{Sound}
+use Rattle.transcripts.specs.declared.event.Event.{Event}
 use Rattle.session_steps.specs.Stage.{world_in, IsSettled, IsSettledUnless}
 use Rattle.marked_worlds.specs.Stages.{MarkedStages}
 
--- a spec with its numbers, the world now, the worlds at the marks that stand, the newest first, and whether a step was refused memory and the world
--- has not gone back since
+-- a spec with its numbers, the world now, the worlds at the marks that stand, the newest first, the outcomes that were told of it, in the order in which
+-- they were told first, and whether a step was refused memory and the world has not gone back since
 pub record MarkedRunning : Type 0 where
   pub file : SpecFile
   pub numbers : Numbers
   pub world : World
   pub marked : List World
+  pub told : List (List (List Event))
   pub spent : Bool
 
 abbrev pub running_of : SpecFile → MarkedStages → Bool → MarkedRunning
@@ -23,6 +25,7 @@ running_of file s spent = record {
   numbers = s.numbers;
   world = world_in file.run.steps s.now;
   marked = map (world_in file.run.steps) s.marked;
+  told = s.told;
   spent = spent;
 }
 

@@ -1,6 +1,7 @@
 //! The sessions of a world, now and at marks.
 
-ghost use Rattle.std.specs.Prelude.{◌≡◌, ◌≤◌, ◌<◌, ◌∷◌, ◌↔◌, [], IfOk, IsTrue, None, OnErr, OnOk, get_or, length, map, replicate, set, take};
+ghost use mathlib.Core.List.{IsPrefix};
+ghost use Rattle.std.specs.Prelude.{◌≡◌, ◌≤◌, ◌<◌, ◌∷◌, ◌↔◌, [], IfOk, IsTrue, None, OnErr, OnOk, Some, get_or, length, map, replicate, set, slice_get, take};
 ghost use Rattle.std.specs.List.{list_any};
 ghost use Rattle.row_tables.specs.Layers.{sight};
 ghost use Rattle.statement_evaluation.specs.Effect.{effect};
@@ -31,8 +32,8 @@ pub(crate) struct StatusAndRest {
 
 /// The sessions of a world, with marks to go back to.
 ///
-/// Contracts see the sessions now, and at the marks that stand, the newest first. What a call leaves for want of memory is told of each; what was at
-/// marks stays.
+/// Contracts see the sessions now, and at the marks that stand, the newest first, and the outcomes that were told of them. What a call leaves for want of
+/// memory is told of each; what was at marks stays, and so do outcomes.
 #[derive(Drop)]
 pub(crate) struct MarkedMembers {
     logs: MarkedLogs<Event>,
@@ -44,15 +45,13 @@ pub(crate) struct MarkedMembers {
 impl Model for MarkedMembers {
     ghost use Rattle.std.specs.Coded.{codes};
     ghost use Rattle.transcripts.specs.contracts.event.Event as event;
-    ghost use Rattle.session_steps.specs.Stage.{Member};
-    ghost use Rattle.marked_lists.specs.Versions.{Versions, versions_code};
-    ghost use Rattle.marked_worlds.specs.Members.{AreKept, versions_of};
+    ghost use Rattle.marked_worlds.specs.Members.{AreKept, MarkedSessions, sessions_of};
 
-    ghost Value = { Versions Member };
+    ghost Value = { MarkedSessions };
 
-    ghost coded = { versions_code (Prim.hlevel (codes, event.the_row.coded)) };
+    ghost coded = { Prim.hlevel (codes, event.the_row.coded) };
 
-    ghost view = { λ m. versions_of m.logs m.kept };
+    ghost view = { λ m. sessions_of m.logs m.kept m.told.kept.items };
 
     ghost invariant = { λ m. AreKept m.logs m.kept m.told.kept.items };
 }
@@ -60,7 +59,7 @@ impl Model for MarkedMembers {
 impl MarkedMembers {
     /// So many sessions that have done nothing, and no mark.
     pub(crate) fn new(alloc: Global, count: u8) -> Result<MarkedMembers, AllocError>
-        ensures { IfOk result (λ members. members ≡ record { list = replicate count no_member; marked = [] }) }
+        ensures { IfOk result (λ members. members ≡ record { list = replicate count no_member; marked = []; told = [] }) }
     {
         let logs = MarkedLogs::new(alloc, count)?;
         let kept = blank_members(alloc, count)?;
@@ -94,13 +93,22 @@ impl MarkedMembers {
         Ok(any_failure(events.as_slice()))
     }
 
-    /// What the first so many sessions were told. It is made where they were not told so before, and else shared.
-    pub(crate) fn outcome(&mut self, alloc: Global, count: u8) -> Result<Outcome, AllocError>
+    /// The number of what the first so many sessions were told, among the outcomes that were told. It is made where they were not told so before.
+    pub(crate) fn number(&mut self, alloc: Global, count: u8) -> Result<usize, AllocError>
         requires { count ≤ length self.old.list }
-        ensures outcome { IfOk result (λ outcome. outcome ≡ transcripts_of (take count self.old.list)) }
-        ensures same { self.new ≡ self.old }
+        ensures outcome { IfOk result (λ number. slice_get self.new.told number ≡ Some (transcripts_of (take count self.old.list))) }
+        ensures front { IsPrefix self.old.told self.new.told }
+        ensures same { self.new ≡ record self.old { told = self.new.told } }
     {
-        self.told.outcome(alloc, &self.logs, count)
+        self.told.number(alloc, &self.logs, count)
+    }
+
+    /// The outcome with a number.
+    pub(crate) fn outcome(&self, number: usize) -> &Outcome
+        requires { number < length self.now.told }
+        ensures { slice_get self.now.told number ≡ Some result.now }
+    {
+        self.told.outcome(number)
     }
 
     /// Whether this is what the session was told.
@@ -138,6 +146,7 @@ impl MarkedMembers {
         ensures told { OnOk result (self.new.list ≡ set self.old.list session (note_member (get_or self.old.list session no_member) event)) }
         ensures kept { OnErr result (self.new.list ≡ self.old.list) }
         ensures marked { self.new.marked ≡ self.old.marked }
+        ensures outcomes { self.new.told ≡ self.old.told }
     {
         self.logs.tell(session, event)
     }
@@ -148,6 +157,7 @@ impl MarkedMembers {
         ensures forgot { OnOk result (self.new.list ≡ set self.old.list session (silenced (get_or self.old.list session no_member))) }
         ensures kept { OnErr result (self.new.list ≡ self.old.list) }
         ensures marked { self.new.marked ≡ self.old.marked }
+        ensures outcomes { self.new.told ≡ self.old.told }
     {
         self.logs.forget(session)
     }
@@ -157,6 +167,7 @@ impl MarkedMembers {
         ensures stands { OnOk result (self.new.list ≡ set self.old.list session (with_status (get_or self.old.list session no_member) status)) }
         ensures kept { OnErr result (self.new.list ≡ self.old.list) }
         ensures marked { self.new.marked ≡ self.old.marked }
+        ensures outcomes { self.new.told ≡ self.old.told }
     {
         let rest = self.kept.get(session as usize).rest;
         self.kept
@@ -168,6 +179,7 @@ impl MarkedMembers {
         ensures left { OnOk result (self.new.list ≡ set self.old.list session (with_rest (get_or self.old.list session no_member) rest)) }
         ensures kept { OnErr result (self.new.list ≡ self.old.list) }
         ensures marked { self.new.marked ≡ self.old.marked }
+        ensures outcomes { self.new.told ≡ self.old.told }
     {
         let status = self.kept.get(session as usize).status;
         self.kept
@@ -191,6 +203,7 @@ impl MarkedMembers {
         ensures sessions { length self.new.list ≡ length self.old.list }
         ensures rows_marked { rows.new.marked ≡ rows.old.marked }
         ensures marked { self.new.marked ≡ self.old.marked }
+        ensures outcomes { self.new.told ≡ self.old.told }
     {
         run_statement(alloc, statement, session, rows, &mut self.logs)
     }
@@ -213,7 +226,8 @@ impl MarkedMembers {
     /// Goes back to the newest mark, which is gone then. It takes no memory.
     pub(crate) fn go_back(&mut self)
         requires { 0 < length self.old.marked }
-        ensures { self.old.marked ≡ self.new.list ∷ self.new.marked }
+        ensures marked { self.old.marked ≡ self.new.list ∷ self.new.marked }
+        ensures outcomes { self.new.told ≡ self.old.told }
     {
         self.logs.go_back();
         self.kept.go_back();

@@ -1,6 +1,7 @@
 //! The rows, the locks and the sessions of a world, now and at marks.
 
-ghost use Rattle.std.specs.Prelude.{◌≡◌, ◌≤◌, ◌<◌, ◌↔◌, ◌==◌, ◌∷◌, [], length, refl, take, IfOk, IfSome, IsTrue, OnErr, OnOk};
+ghost use mathlib.Core.List.{IsPrefix};
+ghost use Rattle.std.specs.Prelude.{◌≡◌, ◌≤◌, ◌<◌, ◌↔◌, ◌==◌, ◌∷◌, [], length, refl, slice_get, take, IfOk, IfSome, IsTrue, OnErr, OnOk, Some};
 ghost use Rattle.std.specs.List.{find};
 ghost use Rattle.std.specs.Option.{option_map};
 ghost use Rattle.std.specs.List.Sorted.{IsStrictlySortedBy};
@@ -29,8 +30,8 @@ use transcripts::{Event, Fault, Outcome, Transcript};
 
 /// The rows, the locks and the sessions of a world, with marks to go back to.
 ///
-/// Contracts see the numbers of the spec, the stage now, and the stages at the marks that stand, the newest first. After want of memory the stage now
-/// is good for nothing but going back; what was at marks stays.
+/// Contracts see the numbers of the spec, the stage now, the stages at the marks that stand, the newest first, and the outcomes that were told. After want
+/// of memory the stage now is good for nothing but going back; what was at marks stays, and so do outcomes.
 #[derive(Drop)]
 pub(crate) struct MarkedStage {
     alloc: Global,
@@ -71,6 +72,7 @@ impl MarkedStage {
         ensures numbers { IfOk result (λ stage. stage.numbers ≡ numbers.value) }
         ensures blank { IfOk result (λ stage. IsBlank count stage.now) }
         ensures marked { IfOk result (λ stage. stage.marked ≡ []) }
+        ensures told { IfOk result (λ stage. stage.told ≡ []) }
     {
         let own = numbers.clone()?;
         let locks = MarkedLocks::new(alloc, own)?;
@@ -127,13 +129,22 @@ impl MarkedStage {
         self.rows.committed(table)
     }
 
-    /// What the first so many sessions were told. It is made where they were not told so before, and else shared.
-    pub(crate) fn outcome(&mut self, count: u8) -> Result<Outcome, AllocError>
+    /// The number of what the first so many sessions were told, among the outcomes that were told. It is made where they were not told so before.
+    pub(crate) fn number(&mut self, count: u8) -> Result<usize, AllocError>
         requires { count ≤ length self.old.now.members }
-        ensures outcome { IfOk result (λ outcome. outcome ≡ transcripts_of (take count self.old.now.members)) }
-        ensures same { self.new ≡ self.old }
+        ensures outcome { IfOk result (λ number. slice_get self.new.told number ≡ Some (transcripts_of (take count self.old.now.members))) }
+        ensures front { IsPrefix self.old.told self.new.told }
+        ensures same { self.new ≡ record self.old { told = self.new.told } }
     {
-        self.members.outcome(self.alloc, count)
+        self.members.number(self.alloc, count)
+    }
+
+    /// The outcome with a number.
+    pub(crate) fn outcome(&self, number: usize) -> &Outcome
+        requires { number < length self.now.told }
+        ensures { slice_get self.now.told number ≡ Some result.now }
+    {
+        self.members.outcome(number)
     }
 
     /// Whether this is what the first so many members were told.
@@ -167,6 +178,7 @@ impl MarkedStage {
         requires { 0 < length self.old.marked }
         ensures marked { self.old.marked ≡ self.new.now ∷ self.new.marked }
         ensures numbers { self.new.numbers ≡ self.old.numbers }
+        ensures told { self.new.told ≡ self.old.told }
     {
         self.rows.go_back();
         self.locks.go_back();

@@ -1,9 +1,10 @@
 //! The outcomes that were told, each of which is made once.
 
-ghost use Rattle.std.specs.Prelude.{◌≡◌, ◌≤◌, ◌<◌, All, IfOk, IfSome, [], length, map, take, true};
+ghost use mathlib.Core.List.{IsPrefix};
+ghost use Rattle.std.specs.Prelude.{◌≡◌, ◌≤◌, ◌<◌, All, IfOk, IfSome, Some, [], length, map, slice_get, take, true};
 ghost use Rattle.event_tree.specs.Lists.{HasNode, list_of};
 ghost use Rattle.marked_logs.specs.Logs.{told_to};
-ghost use Rattle.marked_worlds.specs.Told.{AreTold};
+ghost use Rattle.marked_worlds.specs.Told.{AreTold, outcomes_of};
 
 use event_tree::NodeId;
 use finite_maps::Fork;
@@ -20,8 +21,8 @@ pub(crate) struct ToldOutcome {
     pub(crate) outcome: Outcome,
 }
 
-/// Outcomes that were told, found by the nodes of what sessions were told. The index has a place for a number made of nodes. What it tells is compared
-/// node by node, so that nothing but speed and size depends on it.
+/// Outcomes that were told, in the order in which they were told first, found by the nodes of what sessions were told. The index has a place for a number
+/// made of nodes. What it tells is compared node by node, so that nothing but speed and size depends on it.
 #[derive(Drop)]
 pub(crate) struct ToldTable {
     pub(crate) kept: Vec<ToldOutcome>,
@@ -39,47 +40,53 @@ impl ToldTable {
         }
     }
 
-    /// What the first so many sessions were told. It is made, and kept, where they were not told so before; else what was kept is shared, and nothing is
-    /// copied.
-    pub(crate) fn outcome(
+    /// The number of what the first so many sessions were told, among the outcomes that are kept. It is made, and kept behind all others, where they were
+    /// not told so before. What is kept stays, whatever comes of it.
+    pub(crate) fn number(
         &mut self,
         alloc: Global,
         logs: &MarkedLogs<Event>,
         count: u8,
-    ) -> Result<Outcome, AllocError>
+    ) -> Result<usize, AllocError>
         requires few { count ≤ length logs.now.now }
         requires told { AreTold logs.now.lists self.old.kept.items }
-        ensures outcome { IfOk result (λ outcome. outcome ≡ take count logs.now.now) }
+        ensures outcome { IfOk result (λ number. slice_get (outcomes_of self.new.kept.items) number ≡ Some (take count logs.now.now)) }
+        ensures front { IsPrefix (outcomes_of self.old.kept.items) (outcomes_of self.new.kept.items) }
         ensures told { AreTold logs.now.lists self.new.kept.items }
     {
         let print = print_of(logs, count);
-        if let Some(outcome) = self.known(print, logs, count) {
-            return outcome.fork();
+        if let Some(number) = self.known(print, logs, count) {
+            return Ok(number);
         }
         let nodes = nodes_of(alloc, logs, count)?;
         let outcome = Outcome::new(alloc, transcripts_of(alloc, logs, count)?)?;
-        let told = ToldOutcome {
-            nodes,
-            outcome: outcome.fork()?,
-        };
-        self.index.insert(print, self.kept.len())?;
-        self.kept.push(told)?;
-        Ok(outcome)
+        let number = self.kept.len();
+        self.index.insert(print, number)?;
+        self.kept.push(ToldOutcome { nodes, outcome })?;
+        Ok(number)
     }
 
-    /// What was kept of what the first so many sessions were told, looked for by the number that is made of their nodes.
-    fn known(&self, print: u64, logs: &MarkedLogs<Event>, count: u8) -> Option<&Outcome>
+    /// The number of what the first so many sessions were told, looked for by the number that is made of their nodes.
+    fn known(&self, print: u64, logs: &MarkedLogs<Event>, count: u8) -> Option<usize>
         requires few { count ≤ length logs.now.now }
         requires told { AreTold logs.now.lists self.now.kept.items }
-        ensures { IfSome result (λ outcome. outcome.now ≡ take count logs.now.now) }
+        ensures { IfSome result (λ number. slice_get (outcomes_of self.now.kept.items) number ≡ Some (take count logs.now.now)) }
     {
-        let place = *self.index.get(&print)?;
-        let told = self.kept.as_slice().get(place)?;
+        let number = *self.index.get(&print)?;
+        let told = self.kept.as_slice().get(number)?;
         if are_of(told.nodes.as_slice(), logs, count) {
-            Some(&told.outcome)
+            Some(number)
         } else {
             None
         }
+    }
+
+    /// The outcome with a number.
+    pub(crate) fn outcome(&self, number: usize) -> &Outcome
+        requires { number < length (outcomes_of self.now.kept.items) }
+        ensures { slice_get (outcomes_of self.now.kept.items) number ≡ Some result.now }
+    {
+        &self.kept[number].outcome
     }
 }
 

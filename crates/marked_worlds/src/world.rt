@@ -1,6 +1,7 @@
 //! A world of a spec that goes back to marks.
 
-ghost use Rattle.std.specs.Prelude.{◌≡◌, ◌≤◌, ◌<◌, ◌↔◌, ◌==◌, ◌∷◌, [], true, false, length, All, IfErr, IfOk, IfSome, IsErrOf, IsTrue, OnErr, OnOk};
+ghost use mathlib.Core.List.{IsPrefix};
+ghost use Rattle.std.specs.Prelude.{◌≡◌, ◌≤◌, ◌<◌, ◌↔◌, ◌==◌, ◌∷◌, [], true, false, length, slice_get, All, IfErr, IfOk, IfSome, IsErrOf, IsTrue, OnErr, OnOk, Some};
 ghost use Rattle.std.specs.List.{find};
 ghost use Rattle.std.specs.Option.{option_map};
 ghost use Rattle.row_tables.specs.Layers.{rows_of};
@@ -29,8 +30,9 @@ use transcripts::Outcome;
 
 /// The sequential machine over a spec, with marks to go back to, in place of forks.
 ///
-/// Contracts see the spec and its numbers, the world now, the worlds at the marks that stand, the newest first, and whether the world is spent. A world
-/// is spent by a step that is refused memory; what was at marks stays, and where it goes back to one it is spent no more.
+/// Contracts see the spec and its numbers, the world now, the worlds at the marks that stand, the newest first, the outcomes that were told of it, and
+/// whether the world is spent. A world is spent by a step that is refused memory; what was at marks stays, and where it goes back to one it is spent no
+/// more. Outcomes that were told stay told, wherever the world goes.
 pub struct MarkedWorld<'a> {
     spec: &'a Spec,
     alloc: Global,
@@ -82,6 +84,7 @@ impl<'a> MarkedWorld<'a> {
         ensures of_spec { IfOk result (λ world. world.file ≡ spec.now) }
         ensures numbers { IfOk result (λ world. world.numbers ≡ numbers.value) }
         ensures marked { IfOk result (λ world. world.marked ≡ []) }
+        ensures told { IfOk result (λ world. world.told ≡ []) }
         ensures whole { IfOk result (λ world. world.spent ≡ false) }
         ensures refused { IfErr result (λ error. IsRefusedBy error (start spec.now.run)) }
     {
@@ -117,6 +120,7 @@ impl MarkedWorld<'_> {
         ensures of_spec { self.new.file ≡ self.old.file }
         ensures numbers { self.new.numbers ≡ self.old.numbers }
         ensures marked { self.new.marked ≡ self.old.marked }
+        ensures told { self.new.told ≡ self.old.told }
     {
         if self.is_spent {
             return Err(SendError::Spent);
@@ -147,23 +151,33 @@ impl MarkedWorld<'_> {
         ensures whole { self.new.spent ≡ false }
         ensures of_spec { self.new.file ≡ self.old.file }
         ensures numbers { self.new.numbers ≡ self.old.numbers }
+        ensures told { self.new.told ≡ self.old.told }
     {
         self.stage.go_back();
         self.is_spent = false;
     }
 
-    /// The transcripts so far, one for each session. They are copied where the sessions were not told the same before, also on the way to other worlds,
-    /// and else shared with the outcomes of before. A spent world tells of none.
-    pub fn outcome(&mut self) -> Result<Outcome, SendError>
-        ensures told { IfOk result (λ outcome. outcome ≡ outcome_of self.old.file.run.sessions self.old.world) }
-        ensures own { IfOk result (IsOutcomeOf self.old.file.run) }
+    /// Tells the transcripts so far, one for each session: the answer is their number among the outcomes that were told. They are copied where the sessions
+    /// were not told the same before, also on the way to other worlds. A spent world tells of none.
+    pub fn outcome(&mut self) -> Result<usize, SendError>
+        ensures told { IfOk result (λ number. slice_get self.new.told number ≡ Some (outcome_of self.old.file.run.sessions self.old.world)) }
+        ensures own { IfOk result (λ number. IfSome (slice_get self.new.told number) (IsOutcomeOf self.old.file.run)) }
         ensures spent { IsErrOf result SendError.Spent ↔ (self.old.spent ≡ true) }
-        ensures same { self.new ≡ self.old }
+        ensures front { IsPrefix self.old.told self.new.told }
+        ensures same { self.new ≡ record self.old { told = self.new.told } }
     {
         if self.is_spent {
             return Err(SendError::Spent);
         }
-        Ok(self.stage.outcome(self.spec.sessions())?)
+        Ok(self.stage.number(self.spec.sessions())?)
+    }
+
+    /// The outcome that was told with a number.
+    pub fn told(&self, number: usize) -> &Outcome
+        requires { number < length self.now.told }
+        ensures { slice_get self.now.told number ≡ Some result.now }
+    {
+        self.stage.outcome(number)
     }
 
     /// Whether these are the transcripts so far, of which none is copied. A spent world tells of none.

@@ -1,9 +1,9 @@
 -- The facts of a spec may stand in its books.
-use Rattle.std.proofs.Common.{◌≡◌, ◌≢◌, refl, sym, ap, ◌∙◌, subst, ℕ, zero, suc, ◌+◌, ◌<◌, ◌≤◌, Bool, true, false, cond, ◌==◌, List, [], ◌∷◌, length, set}
-use Rattle.std.proofs.Common.{get_or, All, Option, Some, None, Ok, ◌⊎◌, ⊎_elim, arith, eqb-true, get_or-set_other, get_or-set_same, inl, inr}
+use Rattle.std.proofs.Common.{◌≡◌, ◌≢◌, refl, sym, ◌∙◌, subst, ℕ, zero, suc, ◌+◌, ◌<◌, ◌≤◌, Bool, true, false, cond, ◌==◌, List, [], ◌∷◌, length, set}
+use Rattle.std.proofs.Common.{get_or, All, Option, Some, None, ◌⊎◌, ⊎_elim, arith, eqb-true, get_or-set_other, get_or-set_same, inl, inr}
 use Rattle.std.proofs.lemmas.Bool.{eq-eqb}
 use Rattle.std.proofs.lemmas.List.{get_or_past}
-use Rattle.std.proofs.lemmas.List.Elements.{All-nil, All-cons, All-head, All-tail}
+use Rattle.std.proofs.lemmas.List.Elements.{All-nil, All-cons}
 use Rattle.bound_specs.specs.Spec.{Step, Spec, SpecFile, Queues, line, line_by, line_of, counts_of, steps_of, queues_from, queues_of, ranks, ranks_by, IsBound}
 use Rattle.bound_specs.specs.Spec.{IsLine, IsReady}
 use Rattle.perm_ranks.specs.Words.{Word, word_at}

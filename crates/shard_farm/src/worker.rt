@@ -92,7 +92,7 @@ fn go_to<'a>(
     requires started { Starts spec.now.run }
     requires lawful { IsShardOf spec.now.run shard }
     requires walk { IsWalkFor spec.now reduce walk.old }
-    ensures { OnOk result (walk.new ≡ standing_at spec.now shard reduce) }
+    ensures { OnOk result (walk.new ≡ record (standing_at spec.now shard reduce) { told = walk.new.told }) }
 {
     if walk.at() <= shard.first {
         walk.reach(shard);

@@ -5,9 +5,9 @@ use Rattle.rank_facts.specs.Facts.{IsFactOf}
 use Rattle.rank_facts.specs.declared.fact.Fact.{Fact}
 use Rattle.spec_reader.specs.declared.TheConstants.{MAX_ITEMS}
 use Rattle.step_reducer.specs.declared.fact.FactRun.{FactRun}
-use Rattle.step_reducer.specs.declared.fact.Given.{Given}
 use Rattle.step_reducer.specs.declared.walk.Walk.{Walk}
 use Rattle.step_reducer.specs.declared.walk.Walk.TheVariants.{Words, Lines}
+use Rattle.step_reducer.specs.Saying.{Giving}
 use Rattle.step_reducer.specs.Fronts.{new_steps, sent_by, most_steps}
 use Rattle.step_reducer.specs.Walks.{AllHave}
 use Rattle.step_reducer.specs.Walking.{Walking, skips, AreSent, HasAdded, GivesRun, GivesFact, walk_at, IsWalkOf, HasWalked, IsRest, is_whole, IsStanding}
@@ -73,7 +73,7 @@ module _ (file : SpecFile) (reduce : Bool) (first : ℕ) where
       }
 
   -- a run of the walk
-  pub gives-run : (at end sent : ℕ) (w v : Walk) (rest left : Option FactRun) (spent : Bool) (given : Given) (x : Walking)
+  pub gives-run : (at end sent : ℕ) (w v : Walk) (rest left : Option FactRun) (spent : Bool) (given : Giving) (x : Walking)
       → None ≡ rest → left ≡ None → spent ≡ false → IsStanding file reduce first at end sent w rest → HasWalked file reduce first end w given v
       → now at end sent rest spent ≡ x
       → GivesRun x (now given.run.end end (sent + given.sent) left false) (Some given.run)
@@ -105,7 +105,7 @@ module _ (file : SpecFile) (reduce : Bool) (first : ℕ) where
             } in y)),
       ))
 
-  pub stands-after-run : (at end sent : ℕ) (w v : Walk) (rest left : Option FactRun) (given : Given)
+  pub stands-after-run : (at end sent : ℕ) (w v : Walk) (rest left : Option FactRun) (given : Giving)
       → None ≡ rest → left ≡ None → IsStanding file reduce first at end sent w rest → HasWalked file reduce first end w given v
       → IsStanding file reduce first given.run.end end (sent + given.sent) v left
   stands-after-run at end sent w v rest left given is none standing walked =
@@ -124,7 +124,7 @@ module _ (file : SpecFile) (reduce : Bool) (first : ℕ) where
       }
 
   -- and the steps sent are counted
-  pub sent-after-run : (at end sent : ℕ) (w v : Walk) (rest : Option FactRun) (given : Given)
+  pub sent-after-run : (at end sent : ℕ) (w v : Walk) (rest : Option FactRun) (given : Giving)
       → None ≡ rest → IsStanding file reduce first at end sent w rest → HasWalked file reduce first end w given v → AreSent reduce file.run first at sent
       → AreSent reduce file.run first given.run.end (sent + given.sent)
   sent-after-run at end sent w v rest given is standing walked so_far =

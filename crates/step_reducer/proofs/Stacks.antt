@@ -10,6 +10,7 @@ use Rattle.perm_ranks.specs.Blocks.{Block, HasRank, end_of, narrowed}
 use Rattle.perm_ranks.proofs.BlockLemmas.{narrowed-le}
 use Rattle.perm_ranks.proofs.CountLemmas.{total-taken}
 use Rattle.bound_specs.specs.Spec.{SpecFile}
+use Rattle.transcripts.specs.declared.event.Event.{Event}
 use Rattle.step_reducer.specs.declared.frame.Turn.{Turn}
 use Rattle.step_reducer.specs.Framed.{Framed, Stacked}
 use Rattle.step_reducer.specs.Walks.{IsTurn, HasTurned, IsBefore, lowest, IsAbove, AreAbove, IsStack, HasParted, IsAt, HasGone}
@@ -191,3 +192,11 @@ stack-at reduce file at end x lt is = record { stack = is; has = (is.top.from, l
 pub empty-frames : (fs : List Framed) → length fs ≡ 0 → fs ≡ []
 empty-frames [] e = refl
 empty-frames (f ∷ fs) e = absurd (omega arith)
+
+-- where more was told, the stack is the same
+pub at-told : (reduce : Bool) (file : SpecFile) (at end : ℕ) (x : Stacked) (told : List (List (List Event))) → IsAt reduce file at end x
+    → IsAt reduce file at end (record x { told = told })
+at-told reduce file at end x told is = record {
+  stack = record { below = is.stack.below; top = is.stack.top; to = is.stack.to; above = is.stack.above };
+  has = is.has;
+}

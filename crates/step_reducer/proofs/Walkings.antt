@@ -3,6 +3,7 @@ use Rattle.std.proofs.Common.{◌≡◌, refl, sym, ap, ◌∙◌, subst, ℕ, s
 use Rattle.bound_specs.specs.Spec.{SpecFile, ranks, line_of}
 use Rattle.machine_model.specs.World.{World}
 use Rattle.session_machine.specs.Running.{Running}
+use Rattle.transcripts.specs.declared.event.Event.{Event}
 use Rattle.rank_facts.specs.declared.fact.Fact.{Fact}
 use Rattle.rank_facts.specs.declared.fact.Fact.TheVariants.{Ran, Swap}
 use Rattle.marked_worlds.specs.Worlds.{MarkedRunning}
@@ -14,9 +15,10 @@ use Rattle.step_reducer.specs.declared.walk.Walk.TheVariants.{Words, Lines}
 use Rattle.marked_paths.specs.Fronts.{front}
 use Rattle.step_reducer.specs.Fronts.{line_before, new_steps, most_steps}
 use Rattle.step_reducer.specs.Framed.{standing}
+use Rattle.step_reducer.specs.Saying.{Giving, fact_of, giving_of}
 use Rattle.step_reducer.specs.Walks.{AllHave, LiesBehind, IsWalk, HasGiven}
 use Rattle.step_reducer.specs.Lines.{IsLines, HasRun}
-use Rattle.step_reducer.specs.Walking.{IsWords, IsLinesTo, IsWalkOf, IsGoing, walk_at, walk_end, moved_to, standing_in, HasMoved, HasWalked}
+use Rattle.step_reducer.specs.Walking.{IsWords, IsLinesTo, IsWalkOf, IsGoing, walk_at, walk_end, walk_told, moved_to, standing_in, HasMoved, HasWalked}
 use Rattle.step_reducer.specs.Shardwise.{Shardwise, GivesPart, Shows, IsOnward, IsKept, behind_line, world_behind, was_run, shown_by}
 use Rattle.step_reducer.proofs.Sendings.{words-run}
 use Rattle.step_reducer.proofs.Stacks.{stack-later}
@@ -69,7 +71,7 @@ onward-later file reduce at rank w le is =
 
 -- ---- behind what it has given
 
-pub words-moved : (file : SpecFile) (reduce : Bool) (end : ℕ) (w : WordWalk) (given : Given) (v : WordWalk)
+pub words-moved : (file : SpecFile) (reduce : Bool) (end : ℕ) (w : WordWalk) (given : Giving) (v : WordWalk)
     → IsWalk file w → w.reduce ≡ reduce → HasGiven w.stack.top.world.file end w given v → HasMoved file reduce end (Words w) given (Words v)
 words-moved file reduce end w given v is reduces gave =
     let gives = subst (λ f. HasGiven f end w given v) is.stack.top.frame.file_is gave in
@@ -85,7 +87,7 @@ words-moved file reduce end w given v is reduces gave =
       ran = gives.ran;
     }
 
-pub words-walked : (file : SpecFile) (reduce : Bool) (first end : ℕ) (w : WordWalk) (given : Given) (v : WordWalk)
+pub words-walked : (file : SpecFile) (reduce : Bool) (first end : ℕ) (w : WordWalk) (given : Giving) (v : WordWalk)
     → IsWords file reduce first end w → HasGiven w.stack.top.world.file end w given v → HasWalked file reduce first end (Words w) given (Words v)
 words-walked file reduce first end w given v is gave =
     let gives = subst (λ f. HasGiven f end w given v) is.walk.stack.top.frame.file_is gave in
@@ -106,7 +108,7 @@ words-walked file reduce first end w given v is gave =
     }
 
 -- the next line is that of the rank, and the steps sent are its new ones
-module _ (file : SpecFile) (first end : ℕ) (w : LineWalk) (given : Given) (v : LineWalk) (is : IsLinesTo file first end w) (ran : HasRun w given v) where
+module _ (file : SpecFile) (first end : ℕ) (w : LineWalk) (given : Giving) (v : LineWalk) (is : IsLinesTo file first end w) (ran : HasRun w given v) where
   line-at : v.path.line.items ≡ line_of file.run (first + (w.at - first))
   line-at =
       let from = is.from in
@@ -128,7 +130,7 @@ module _ (file : SpecFile) (first end : ℕ) (w : LineWalk) (given : Given) (v :
       λ k. front (is.line k) (line-at k) in
       omega (arith, sent, len, shared)
 
-pub lines-moved : (file : SpecFile) (reduce : Bool) (end : ℕ) (w : LineWalk) (given : Given) (v : LineWalk)
+pub lines-moved : (file : SpecFile) (reduce : Bool) (end : ℕ) (w : LineWalk) (given : Giving) (v : LineWalk)
     → IsGoing file reduce (Lines w) → w.at < end → HasRun w given v → HasMoved file reduce end (Lines w) given (Lines v)
 lines-moved file reduce end w given v is some ran =
     let same : w.path.world.file ≡ file = is.0.file_is in
@@ -146,7 +148,7 @@ lines-moved file reduce end w given v is some ran =
       ran = subst (λ (f : SpecFile). LiesBehind f.run given.run.first given.run.end given.run.fact v.path.world.world) same ran.ran;
     }
 
-pub lines-walked : (file : SpecFile) (reduce : Bool) (first end : ℕ) (w : LineWalk) (given : Given) (v : LineWalk)
+pub lines-walked : (file : SpecFile) (reduce : Bool) (first end : ℕ) (w : LineWalk) (given : Giving) (v : LineWalk)
     → IsLinesTo file first end w → w.at < end → HasRun w given v → HasWalked file reduce first end (Lines w) given (Lines v)
 lines-walked file reduce first end w given v is some ran =
     let same : w.path.world.file ≡ file = is.walk.file_is in
@@ -172,7 +174,7 @@ lines-walked file reduce first end w given v is some ran =
 
 -- ---- a walk that goes on from shard to shard
 
-pub onward-moved : (file : SpecFile) (reduce : Bool) (at end : ℕ) (w : Walk) (given : Given) (v : Walk) → IsOnward file reduce at w
+pub onward-moved : (file : SpecFile) (reduce : Bool) (at end : ℕ) (w : Walk) (given : Giving) (v : Walk) → IsOnward file reduce at w
     → HasMoved file reduce end w given v → IsOnward file reduce given.run.end v
 onward-moved file reduce at end w given v is moved = record { going = moved.going; to = moved.to ∙ is.to; here = moved.at }
 
@@ -182,7 +184,7 @@ going-stands file reduce (Words w) is = (is.0.stack.top.frame.file_is, is.0.stac
 going-stands file reduce (Lines w) is = (is.0.file_is, is.0.along.whole)
 
 -- what is shown is the world behind the line of what was run
-world-shown : (file : SpecFile) (given : Given) (v : Walk) (ran : Bool) → ran ≡ was_run given.run.fact
+world-shown : (file : SpecFile) (given : Giving) (v : Walk) (ran : Bool) → ran ≡ was_run given.run.fact
     → LiesBehind file.run given.run.first given.run.end given.run.fact (standing_in v).world → shown_by ran v ≡ world_behind file.run given.run
 world-shown file given v ran is lies = ap (λ b. shown_by b v) is ∙ at given.run.fact refl
   where
@@ -191,24 +193,28 @@ world-shown file given v ran is lies = ap (λ b. shown_by b v) is ∙ at given.r
     at (Swap k) e = refl
 
 -- what it gives, and where it stands then
-pub part-given : (file : SpecFile) (reduce : Bool) (at end : ℕ) (behind : Option World) (spent ran : Bool) (w : Walk) (given : Given) (v : Walk) (x : Shardwise)
-    → IsOnward file reduce at w → HasMoved file reduce end w given v → ran ≡ was_run given.run.fact → spent ≡ false
-    → (let y : Shardwise = record { file = file; reduce = reduce; at = at; end = end; behind = behind; spent = spent } in y) ≡ x
-    → GivesPart x (record { file = file; reduce = reduce; at = given.run.end; end = end; behind = shown_by ran v; spent = false }) (Some given.run)
-part-given file reduce at end behind spent ran w given v x is moved ran_is unspent here =
-    let same : (let y : Shardwise = record { file = file; reduce = reduce; at = at; end = end; behind = behind; spent = false } in y) ≡ x =
-    (λ k. (let y : Shardwise = record { file = file; reduce = reduce; at = at; end = end; behind = behind; spent = sym unspent k } in y)) ∙ here in
-    let shown = world-shown file given v ran ran_is moved.ran in
-    subst (λ z. GivesPart z (record { file = file; reduce = reduce; at = given.run.end; end = end; behind = shown_by ran v; spent = false }) (Some given.run)) same (
+pub part-given : (file : SpecFile) (reduce : Bool) (at end : ℕ) (behind : Option World) (told : List (List (List Event))) (spent ran : Bool) (w : Walk)
+    (given : Given) (v : Walk) (x : Shardwise) → IsOnward file reduce at w → HasMoved file reduce end w (giving_of (walk_told v) given) v
+    → ran ≡ was_run (fact_of (walk_told v) given.run.said) → spent ≡ false
+    → (let y : Shardwise = record { file = file; reduce = reduce; at = at; end = end; behind = behind; told = told; spent = spent } in y) ≡ x
+    → GivesPart x (record { file = file; reduce = reduce; at = given.run.end; end = end; behind = shown_by ran v; told = walk_told v; spent = false })
+    (Some given.run)
+part-given file reduce at end behind told spent ran w given v x is moved ran_is unspent here =
+    let same : (let y : Shardwise = record { file = file; reduce = reduce; at = at; end = end; behind = behind; told = told; spent = false } in y) ≡ x =
+    (λ k. (let y : Shardwise = record { file = file; reduce = reduce; at = at; end = end; behind = behind; told = told; spent = sym unspent k } in y)) ∙ here in
+    let shown = world-shown file (giving_of (walk_told v) given) v ran ran_is moved.ran in
+    subst (λ z. GivesPart z (record { file = file; reduce = reduce; at = given.run.end; end = end; behind = shown_by ran v; told = walk_told v; spent = false })
+    (Some given.run)) same (
       record { first = moved.begin ∙ is.here; some = moved.some; few = moved.few; one = moved.one; ran = moved.ran.one; facts = moved.facts },
-      λ k. (let y : Shardwise = record { file = file; reduce = reduce; at = given.run.end; end = end; behind = shown k; spent = false } in y),
+      λ k. (let y : Shardwise = record { file = file; reduce = reduce; at = given.run.end; end = end; behind = shown k; told = walk_told v; spent = false } in y),
     )
 
 -- the world that a walk shows, which is not spent then
-pub world-told : (file : SpecFile) (reduce : Bool) (at end : ℕ) (spent ran : Bool) (w : Walk) (r : MarkedRunning) (x : Shardwise) → IsKept spent ran file reduce at end w
-    → ran ≡ true → standing r ≡ standing_in w
-    → (let y : Shardwise = record { file = file; reduce = reduce; at = at; end = end; behind = shown_by ran w; spent = spent } in y) ≡ x → Shows x r
-world-told file reduce at end spent ran w r x kept was is here = by spent refl
+pub world-told : (file : SpecFile) (reduce : Bool) (at end : ℕ) (told : List (List (List Event))) (spent ran : Bool) (w : Walk) (r : MarkedRunning)
+    (x : Shardwise) → IsKept spent ran file reduce at end w → ran ≡ true → standing r ≡ standing_in w
+    → (let y : Shardwise = record { file = file; reduce = reduce; at = at; end = end; behind = shown_by ran w; told = told; spent = spent } in y) ≡ x
+    → Shows x r
+world-told file reduce at end told spent ran w r x kept was is here = by spent refl
   where
     by : (b : Bool) → spent ≡ b → Shows x r
     by true e = absurd (let bad : true ≡ false = sym was ∙ kept.none e in cc)

@@ -3,6 +3,7 @@ use Rattle.std.specs.Prelude.{◌≡◌, Bool, false, List, [], ◌∷◌, lengt
 use Rattle.perm_ranks.specs.Blocks.{Block}
 use Rattle.bound_specs.specs.Spec.{SpecFile}
 use Rattle.machine_model.specs.World.{World}
+use Rattle.transcripts.specs.declared.event.Event.{Event}
 use Rattle.session_machine.specs.Running.{Running}
 use Rattle.plan_pairs.specs.Pairs.{ArePairs}
 use Rattle.marked_worlds.specs.Worlds.{MarkedRunning}
@@ -14,10 +15,11 @@ pub record Framed : Type 0 where
   pub swaps : List Bool
   pub world : Running
 
--- the frame of the most letters, and those below it, the lowest first
+-- the frame of the most letters, and those below it, the lowest first, with the outcomes that were told
 pub record Stacked : Type 0 where
   pub below : List Framed
   pub top : Framed
+  pub told : List (List (List Event))
 
 -- the world now, without those at marks
 abbrev pub standing : MarkedRunning → Running
@@ -34,7 +36,7 @@ framed_each file (f ∷ fs) (w ∷ ws) = framed f (record { file = file; world =
 
 -- the frames below stand at the marks, of which the newest is told first
 abbrev pub stacked : List Frame → Frame → MarkedRunning → Stacked
-stacked fs f r = record { below = framed_each r.file fs (reverse r.marked); top = framed f (standing r) }
+stacked fs f r = record { below = framed_each r.file fs (reverse r.marked); top = framed f (standing r); told = r.told }
 
 -- there is a mark for each frame below, and the pairs are those of the spec
 pub record IsStacked (fs : List Frame) (r : MarkedRunning) (pairs : List (List Bool)) : Type 0 where

@@ -5,5 +5,6 @@ pub mod Framed
 pub mod Walks
 pub mod Lines
 pub mod Walking
+pub mod Saying
 pub mod Shardwise
 pub mod Laws

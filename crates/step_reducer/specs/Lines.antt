@@ -7,14 +7,14 @@ use Rattle.marked_paths.specs.Paths.{IsPath}
 use Rattle.step_reducer.specs.Fronts.{most_steps}
 use Rattle.step_reducer.specs.Walks.{AllHave, LiesBehind}
 use Rattle.step_reducer.specs.declared.line_walk.LineWalk.{LineWalk}
-use Rattle.step_reducer.specs.declared.fact.Given.{Given}
+use Rattle.step_reducer.specs.Saying.{Giving}
 
 -- the walk stands on a path of the spec
 abbrev pub IsLines : SpecFile → LineWalk → Type 0
 IsLines file w = IsPath file w.path
 
 -- the walk has given the fact of the next line
-pub record HasRun (x : LineWalk) (given : Given) (y : LineWalk) : Type 0 where
+pub record HasRun (x : LineWalk) (given : Giving) (y : LineWalk) : Type 0 where
   pub lines : IsLines x.path.world.file y
   pub first : given.run.first ≡ x.at
   pub end : given.run.end ≡ x.at + 1

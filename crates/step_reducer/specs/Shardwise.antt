@@ -1,5 +1,5 @@
 -- A walk that goes on from shard to shard, between its calls, and what they give.
-use Rattle.std.specs.Prelude.{◌≡◌, ℕ, ◌+◌, ◌<◌, ◌≤◌, Bool, true, false, List, Option, Some, None}
+use Rattle.std.specs.Prelude.{◌≡◌, ℕ, ◌+◌, ◌<◌, ◌≤◌, Bool, true, false, List, [], Option, Some, None}
 use Rattle.bound_specs.specs.Spec.{Spec, SpecFile, ranks}
 use Rattle.machine_model.specs.World.{World}
 use Rattle.marked_worlds.specs.Worlds.{MarkedRunning}
@@ -8,23 +8,27 @@ use Rattle.rank_facts.specs.declared.fact.Fact.{Fact}
 use Rattle.rank_facts.specs.declared.fact.Fact.TheVariants.{Ran, Swap}
 use Rattle.rank_facts.specs.declared.shard.Shard.{Shard}
 use Rattle.step_reducer.specs.declared.fact.FactRun.{FactRun}
+use Rattle.step_reducer.specs.declared.said.SaidRun.{SaidRun}
+use Rattle.step_reducer.specs.Saying.{run_of}
 use Rattle.step_reducer.specs.declared.walk.Walk.{Walk}
 use Rattle.step_reducer.specs.Reduced.{line_world}
 use Rattle.step_reducer.specs.Walks.{AllHave}
 use Rattle.step_reducer.specs.Walking.{skips, walk_at, walk_end, standing_in, IsGoing}
 
--- the next rank and the end of the shard, the world behind the line of the rank that was given last, where it was run, and whether memory was refused
+-- the next rank and the end of the shard, the world behind the line of the rank that was given last, where it was run, the outcomes that were told, in
+-- the order in which they were told first, and whether memory was refused
 pub record Shardwise : Type 0 where
   pub file : SpecFile
   pub reduce : Bool
   pub at : ℕ
   pub end : ℕ
   pub behind : Option World
+  pub told : List (List (List Event))
   pub spent : Bool
 
--- a walk that has given nothing of the shard
+-- a walk that has given nothing of the shard, and told nothing before
 abbrev pub standing_at : SpecFile → Shard → Bool → Shardwise
-standing_at file shard reduce = record { file = file; reduce = reduce; at = shard.first; end = shard.end; behind = None; spent = false }
+standing_at file shard reduce = record { file = file; reduce = reduce; at = shard.first; end = shard.end; behind = None; told = []; spent = false }
 
 -- the world behind the line of a rank that was run
 abbrev pub behind_line : Spec → ℕ → Fact → Option World
@@ -44,10 +48,11 @@ pub record IsPart (x : Shardwise) (run : FactRun) : Type 0 where
   pub ran : (o : List (List Event)) → run.fact ≡ Ran o → run.end ≡ run.first + 1
   pub facts : AllHave x.reduce x.file.run run.first run.end run.fact
 
--- none at the end of the shard alone, where the walk stays; else a run, behind which it stands
-abbrev pub GivesPart : Shardwise → Shardwise → Option FactRun → Type 0
+-- none at the end of the shard alone, where the walk stays; else a run, behind which it stands. Its fact is read by the outcomes that are told then
+abbrev pub GivesPart : Shardwise → Shardwise → Option SaidRun → Type 0
 GivesPart x y None = (x.at ≡ x.end) × (y ≡ x)
-GivesPart x y (Some run) = IsPart x run × (y ≡ record x { at = run.end; behind = world_behind x.file.run run })
+GivesPart x y (Some run) =
+    IsPart x (run_of y.told run) × (y ≡ record x { at = run.end; behind = world_behind x.file.run (run_of y.told run); told = y.told })
 
 -- the walk shows this world, which may be asked
 pub record Shows (x : Shardwise) (r : MarkedRunning) : Type 0 where

@@ -15,7 +15,7 @@ use Rattle.session_machine.specs.declared.error.RunError.TheVariants as run_erro
 use Rattle.rank_facts.specs.declared.shard.Shard.{Shard}
 use Rattle.rank_facts.specs.Shards.{IsShardOf}
 use Rattle.step_reducer.specs.declared.fact.FactRun.{FactRun}
-use Rattle.step_reducer.specs.declared.fact.Given.{Given}
+use Rattle.step_reducer.specs.Saying.{Giving}
 use Rattle.step_reducer.specs.declared.word_walk.WordWalk.{WordWalk}
 use Rattle.step_reducer.specs.declared.line_walk.LineWalk.{LineWalk}
 use Rattle.step_reducer.specs.declared.walk.Walk.{Walk}
@@ -88,6 +88,11 @@ abbrev pub walk_at : Walk → ℕ
 walk_at (Words w) = w.at
 walk_at (Lines w) = w.at
 
+-- the outcomes that a walk told
+abbrev pub walk_told : Walk → List (List (List Event))
+walk_told (Words w) = w.stack.told
+walk_told (Lines w) = w.path.world.told
+
 -- the world that a walk stands in
 abbrev pub standing_in : Walk → Running
 standing_in (Words w) = w.stack.top.world
@@ -130,7 +135,7 @@ moved_to rank (Words w) = Words (record w { at = rank })
 moved_to rank (Lines w) = Lines (record w { at = rank })
 
 -- the walk has given the fact of ranks from where it stood on, none of them past the end, and stands behind them
-pub record HasMoved (file : SpecFile) (reduce : Bool) (end : ℕ) (x : Walk) (given : Given) (y : Walk) : Type 0 where
+pub record HasMoved (file : SpecFile) (reduce : Bool) (end : ℕ) (x : Walk) (given : Giving) (y : Walk) : Type 0 where
   pub going : IsGoing file reduce y
   pub to : walk_end file y ≡ walk_end file x
   pub begin : given.run.first ≡ walk_at x
@@ -142,7 +147,7 @@ pub record HasMoved (file : SpecFile) (reduce : Bool) (end : ℕ) (x : Walk) (gi
   pub ran : LiesBehind file.run given.run.first given.run.end given.run.fact (standing_in y).world
 
 -- a walk from the first rank up to the end has moved, with the steps sent for that
-pub record HasWalked (file : SpecFile) (reduce : Bool) (first end : ℕ) (x : Walk) (given : Given) (y : Walk) : Type 0 where
+pub record HasWalked (file : SpecFile) (reduce : Bool) (first end : ℕ) (x : Walk) (given : Giving) (y : Walk) : Type 0 where
   pub moved : HasMoved file reduce end x given y
   pub walk : IsWalkOf file reduce first end y
   pub most : given.sent ≤ most_steps file.run given.run.first given.run.fact

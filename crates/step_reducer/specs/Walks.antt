@@ -13,8 +13,7 @@ use Rattle.step_reducer.specs.Fronts.{new_steps, most_steps}
 use Rattle.step_reducer.specs.Reduced.{tour_of, line_world, IsTour, IsPlace}
 use Rattle.step_reducer.specs.Framed.{Framed, Stacked}
 use Rattle.step_reducer.specs.declared.frame.Turn.{Turn}
-use Rattle.step_reducer.specs.declared.fact.Given.{Given}
-use Rattle.step_reducer.specs.declared.word_walk.Found.{Found}
+use Rattle.step_reducer.specs.Saying.{Finding, Giving}
 use Rattle.step_reducer.specs.declared.word_walk.WordWalk.{WordWalk}
 
 -- each of these ranks has the fact
@@ -129,21 +128,21 @@ pub record IsWalk (file : SpecFile) (w : WordWalk) : Type 0 where
   pub stack : IsStack w.reduce file (w.at - 1) w.end w.stack
 
 -- the fact of ranks from this one on, up to an end
-pub record IsFound (reduce : Bool) (file : SpecFile) (at end : ℕ) (found : Found) : Type 0 where
+pub record IsFound (reduce : Bool) (file : SpecFile) (at end : ℕ) (found : Finding) : Type 0 where
   pub some : at < found.end
   pub few : found.end ≤ end
   pub facts : AllHave reduce file.run at found.end found.fact
   pub sent_few : found.sent ≤ MAX_ITEMS
 
 -- the steps sent on the way: no more than the fact may take; where nothing is reduced, those of all letters that were left, for one rank
-pub record HasSent (reduce : Bool) (spec : Spec) (at : ℕ) (x : Stacked) (found : Found) (y : Stacked) : Type 0 where
+pub record HasSent (reduce : Bool) (spec : Spec) (at : ℕ) (x : Stacked) (found : Finding) (y : Stacked) : Type 0 where
   pub most : found.sent ≤ most_steps spec at found.fact
   pub one : reduce ≡ false → found.end ≡ at + 1
   pub all : reduce ≡ false → found.sent ≡ total x.top.block.left
   pub whole : reduce ≡ false → total y.top.block.left ≡ 0
 
 -- the walk has given the fact of ranks from where it stood on, none of them past the end that was named, and stands behind them
-pub record HasGiven (file : SpecFile) (end : ℕ) (x : WordWalk) (given : Given) (y : WordWalk) : Type 0 where
+pub record HasGiven (file : SpecFile) (end : ℕ) (x : WordWalk) (given : Giving) (y : WordWalk) : Type 0 where
   pub walk : IsWalk file y
   pub first : given.run.first ≡ x.at
   pub some : given.run.first < given.run.end

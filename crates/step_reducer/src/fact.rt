@@ -1,8 +1,6 @@
 //! Facts of ranks in runs.
 
-ghost use Rattle.std.specs.Prelude.{◌≡◌};
-ghost use Rattle.step_reducer.specs.Shardwise.{was_run};
-
+use crate::said::SaidRun;
 use rank_facts::Fact;
 
 /// One fact of each rank from `first` up to but not `end`.
@@ -13,21 +11,9 @@ pub struct FactRun {
     pub fact: Fact,
 }
 
-impl FactRun {
-    /// Whether the fact is an outcome.
-    pub(crate) fn was_run(&self) -> bool
-        ensures { result ≡ was_run self.now.fact }
-    {
-        match &self.fact {
-            Fact::Ran(_) => true,
-            Fact::Swap(_) => false,
-        }
-    }
-}
-
-/// A run of facts, and how many steps were sent for it.
-#[derive(Drop)]
+/// What is said of a run of ranks, and how many steps were sent for it.
+#[derive(Clone, Copy)]
 pub(crate) struct Given {
-    pub(crate) run: FactRun,
+    pub(crate) run: SaidRun,
     pub(crate) sent: u8,
 }

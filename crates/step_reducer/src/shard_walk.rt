@@ -1,13 +1,15 @@
 //! The facts of the ranks of one shard after another.
 
-ghost use Rattle.std.specs.Prelude.{◌≡◌, ◌↔◌, ◌≤◌, true, false, None, IfOk, IfErr, OnOk, OnErr, IsErrOf, MatchOption};
+ghost use mathlib.Core.List.{IsPrefix};
+ghost use Rattle.std.specs.Prelude.{◌≡◌, ◌↔◌, ◌≤◌, ◌<◌, true, false, None, Some, IfOk, IfErr, IfSome, OnOk, OnErr, IsErrOf, MatchOption, length, slice_get};
 ghost use Rattle.step_reducer.specs.declared.error.WalkError.TheVariants as walk_error;
 ghost use Rattle.rank_facts.specs.Shards.{IsShardOf};
 ghost use Rattle.step_reducer.specs.Walking.{IsNotWalked, Starts};
+ghost use Rattle.step_reducer.specs.Saying.{IsTold};
 ghost use Rattle.step_reducer.specs.Shardwise.{standing_at, GivesPart, Shows};
 
 use crate::error::WalkError;
-use crate::fact::FactRun;
+use crate::said::SaidRun;
 use crate::start::{check, walk_for};
 use crate::walk::Walk;
 use bound_specs::Spec;
@@ -16,10 +18,12 @@ use rank_facts::Shard;
 use session_machine::RunError;
 use std::alloc::Global;
 use std::marker::Model;
+use transcripts::Outcome;
 
 /// Gives the facts of the ranks of a shard as a walker does, and then goes on with a shard of later ranks: the spec starts once,
 /// and what the ranks of both share stays. Contracts see the spec, whether facts are reduced, the next rank, the end of the shard,
-/// the world behind the line of the rank that was given last, where it was run, and whether memory was refused.
+/// the world behind the line of the rank that was given last, where it was run, the outcomes that were told, and whether memory was
+/// refused.
 pub struct ShardWalk<'a> {
     spec: &'a Spec,
     reduce: bool,
@@ -53,6 +57,7 @@ impl<'a> Model for ShardWalk<'a> {
     ghost use Rattle.lock_queues.specs.contracts.wait.Wait as waiting;
     ghost use Rattle.bound_statements.specs.contracts.statement.Bound as bound;
     ghost use Rattle.transcripts.specs.contracts.event.Event as event;
+    ghost use Rattle.step_reducer.specs.Walking.{walk_told};
     ghost use Rattle.step_reducer.specs.Shardwise.{Shardwise, IsKept, shown_by};
 
     ghost Value = { Shardwise };
@@ -65,6 +70,7 @@ impl<'a> Model for ShardWalk<'a> {
       at = w.at;
       end = w.end;
       behind = shown_by w.has_run w.walk;
+      told = walk_told w.walk;
       spent = w.is_spent;
     } };
 
@@ -104,12 +110,12 @@ impl<'a> ShardWalk<'a> {
         self.at
     }
 
-    /// Goes on with a shard of later ranks.
+    /// Goes on with a shard of later ranks. What was told stays told.
     pub fn reach(&mut self, shard: Shard)
         requires whole { self.old.spent ≡ false }
         requires lawful { IsShardOf self.old.file.run shard }
         requires later { self.old.at ≤ shard.first }
-        ensures { self.new ≡ standing_at self.old.file shard self.old.reduce }
+        ensures { self.new ≡ record (standing_at self.old.file shard self.old.reduce) { told = self.old.told } }
     {
         self.walk.reach(shard.first);
         self.at = shard.first;
@@ -117,12 +123,15 @@ impl<'a> ShardWalk<'a> {
         self.has_run = false;
     }
 
-    /// The fact of the next ranks, at least of one, in time that does not grow with their number. None at the end of the shard.
-    pub fn next_run(&mut self) -> Result<Option<FactRun>, WalkError>
+    /// What is said of the next ranks, at least of one, in time that does not grow with their number. None at the end of the shard. Whatever
+    /// comes of it, what was told stays told.
+    pub fn next_run(&mut self) -> Result<Option<SaidRun>, WalkError>
         ensures run { IfOk result (GivesPart self.old self.new) }
+        ensures number { IfOk result (λ given. IfSome given (λ run. IsTold self.new.told run.said)) }
+        ensures front { IsPrefix self.old.told self.new.told }
         ensures whole { OnOk result (self.new.spent ≡ false) }
         ensures spent { IsErrOf result walk_error.Spent ↔ (self.old.spent ≡ true) }
-        ensures after { OnErr result (self.new ≡ record self.old { behind = None; spent = true }) }
+        ensures after { OnErr result (self.new ≡ record self.old { behind = None; told = self.new.told; spent = true }) }
     {
         if self.is_spent {
             return Err(WalkError::Spent);
@@ -133,11 +142,19 @@ impl<'a> ShardWalk<'a> {
         self.is_spent = true;
         self.has_run = false;
         let given = self.walk.next_run(self.spec, self.reduce, self.end)?;
-        let was_run = given.run.was_run();
+        let was_run = given.run.said.was_run();
         self.is_spent = false;
         self.has_run = was_run;
         self.at = given.run.end;
         Ok(Some(given.run))
+    }
+
+    /// The outcome that was told with a number.
+    pub fn told(&self, number: usize) -> &Outcome
+        requires { number < length self.now.told }
+        ensures { slice_get self.now.told number ≡ Some result.now }
+    {
+        self.walk.told(number)
     }
 
     /// The world behind the line of the rank that was given last, where it was run. None where that was a swap, before the shard's

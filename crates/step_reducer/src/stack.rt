@@ -1,6 +1,7 @@
 //! Frames of prefixes that later words share.
 
-ghost use Rattle.std.specs.Prelude.{◌≡◌, ℕ, ◌<◌, ◌≤◌, Bool, true, IfOk, OnOk, IsTrue, false, length, get_or, ◌++◌, ◌∷◌, [], ◌⊎◌};
+ghost use mathlib.Core.List.{IsPrefix};
+ghost use Rattle.std.specs.Prelude.{◌≡◌, ℕ, ◌<◌, ◌≤◌, Bool, true, IfOk, OnOk, IsTrue, false, length, get_or, slice_get, Some, ◌++◌, ◌∷◌, [], ◌⊎◌};
 ghost use Rattle.perm_ranks.specs.Words.{total};
 ghost use Rattle.perm_ranks.specs.Blocks.{HasRank, end_of};
 ghost use Rattle.perm_ranks.specs.declared.TheConstants.{MAX_STEPS};
@@ -31,7 +32,7 @@ use transcripts::Outcome;
 ///          [ ]                    the start, while a later word is left
 /// ```
 ///
-/// Contracts see each frame with the world behind its letters.
+/// Contracts see each frame with the world behind its letters, and the outcomes that were told.
 pub(crate) struct Stack<'a> {
     below: Vec<Frame>,
     top: Frame,
@@ -79,6 +80,7 @@ impl<'a> Stack<'a> {
         ensures block { result.top.block ≡ block }
         ensures swaps { result.top.swaps ≡ [] }
         ensures world { result.top.world ≡ standing start.entry.world }
+        ensures told { result.told ≡ start.entry.world.told }
     {
         let PairedWorld { world, pairs } = start;
         Stack {
@@ -131,13 +133,22 @@ impl Stack<'_> {
         turn_of(&self.top, &self.world, &self.pairs, table, reduce, rank)
     }
 
-    /// What was told up to the end of the longest prefix.
-    pub(crate) fn outcome(&mut self) -> Result<Outcome, AllocError>
+    /// Tells what was told up to the end of the longest prefix: the answer is its number among the outcomes that were told.
+    pub(crate) fn outcome(&mut self) -> Result<usize, AllocError>
         requires { self.old.top.world.spent ≡ false }
-        ensures told { IfOk result (λ outcome. outcome ≡ outcome_of self.old.top.world.file.run.sessions self.old.top.world.world) }
-        ensures same { self.new ≡ self.old }
+        ensures told { IfOk result (λ number. slice_get self.new.told number ≡ Some (outcome_of self.old.top.world.file.run.sessions self.old.top.world.world)) }
+        ensures front { IsPrefix self.old.told self.new.told }
+        ensures same { self.new ≡ record self.old { told = self.new.told } }
     {
         outcome(&mut self.world)
+    }
+
+    /// The outcome that was told with a number.
+    pub(crate) fn told(&self, number: usize) -> &Outcome
+        requires { number < length self.now.told }
+        ensures { slice_get self.now.told number ≡ Some result.now }
+    {
+        self.world.told(number)
     }
 
     /// Goes back to the longest prefix that the word of the rank shares.
@@ -145,6 +156,7 @@ impl Stack<'_> {
         ensures at { (reduce : Bool) (file : SpecFile) (end : ℕ) → at < end → IsStack reduce file at end self.old → IsAt reduce file at end self.new }
         ensures parted { (reduce : Bool) (file : SpecFile) (last end : ℕ) → at < end → IsStack reduce file last end self.old
             → (self.new.top.block ≡ self.old.top.block) ⊎ HasParted last at self.old.top.block self.new.top.block }
+        ensures told { self.new.told ≡ self.old.told }
     {
         'shared: while self.end() <= at {
             if !self.pop() {
@@ -158,6 +170,7 @@ impl Stack<'_> {
         ensures popped { result ≡ true → self.old.below ≡ self.new.below ++ self.new.top ∷ [] }
         ensures none { result ≡ false → self.old.below ≡ [] }
         ensures same { result ≡ false → self.new ≡ self.old }
+        ensures told { self.new.told ≡ self.old.told }
     {
         let Some(frame) = self.below.pop() else {
             return false;
@@ -171,8 +184,9 @@ impl Stack<'_> {
     pub(crate) fn descend(&mut self, turn: Turn, end: u64) -> Result<(), AllocError>
         requires whole { self.old.top.world.spent ≡ false }
         requires known { turn.step < length self.old.top.world.file.run.steps }
-        ensures { OnOk result ((reduce : Bool) (file : SpecFile) (at : ℕ) → at < end → IsAt reduce file at end self.old → IsTurn reduce self.old.top at turn
+        ensures gone { OnOk result ((reduce : Bool) (file : SpecFile) (at : ℕ) → at < end → IsAt reduce file at end self.old → IsTurn reduce self.old.top at turn
             → get_or self.old.top.swaps turn.letter false ≡ false → HasGone reduce file at end self.old self.new) }
+        ensures told { self.new.told ≡ self.old.told }
     {
         let behind = turn.block.end();
         if behind < end && behind < self.end() {
@@ -187,6 +201,7 @@ impl Stack<'_> {
         requires whole { self.old.top.world.spent ≡ false }
         ensures below { OnOk result (self.new.below ≡ self.old.below ++ self.old.top ∷ []) }
         ensures top { OnOk result (self.new.top ≡ self.old.top) }
+        ensures told { self.new.told ≡ self.old.told }
     {
         self.below.reserve(1)?;
         mark(&mut self.world)?;
@@ -200,6 +215,7 @@ impl Stack<'_> {
         requires known { turn.step < length self.old.top.world.file.run.steps }
         ensures turned { OnOk result (HasTurned self.old.top turn self.new.top) }
         ensures below { OnOk result (self.new.below ≡ self.old.below) }
+        ensures told { self.new.told ≡ self.old.told }
     {
         send(&mut self.world, turn.step)?;
         self.top = Frame::of_turn(turn);

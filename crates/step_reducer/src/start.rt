@@ -1,9 +1,9 @@
 //! The start of a walk of a shard.
 
-ghost use Rattle.std.specs.Prelude.{◌≡◌, ◌≤◌, IfErr, IfOk, OnOk};
+ghost use Rattle.std.specs.Prelude.{◌≡◌, ◌≤◌, [], IfErr, IfOk, OnOk};
 ghost use Rattle.bound_specs.specs.Spec.{ranks};
 ghost use Rattle.rank_facts.specs.Shards.{IsShardOf};
-ghost use Rattle.step_reducer.specs.Walking.{IsNotWalked, IsWalkOf, Starts, walk_at};
+ghost use Rattle.step_reducer.specs.Walking.{IsNotWalked, IsWalkOf, Starts, walk_at, walk_told};
 
 use crate::walk::Walk;
 use bound_specs::Spec;
@@ -43,6 +43,7 @@ pub(crate) fn walk_for<'a>(
     ensures started { OnOk result (Starts spec.now.run) }
     ensures walk { IfOk result (IsWalkOf spec.now reduce shard.first end) }
     ensures at { IfOk result (λ walk. walk_at walk ≡ shard.first) }
+    ensures told { IfOk result (λ walk. walk_told walk ≡ []) }
 {
     match Walk::start(alloc, spec, shard.first, end, reduce) {
         Ok(walk) => Ok(walk),

@@ -1,11 +1,13 @@
 //! A walk of words or of lines.
 
-ghost use Rattle.std.specs.Prelude.{◌≡◌, ℕ, ◌<◌, ◌≤◌, IfErr, IfOk, OnOk};
+ghost use mathlib.Core.List.{IsPrefix};
+ghost use Rattle.std.specs.Prelude.{◌≡◌, ℕ, ◌<◌, ◌≤◌, IfErr, IfOk, OnOk, Some, [], length, slice_get};
 ghost use Rattle.bound_specs.specs.Spec.{ranks};
 ghost use Rattle.machine_model.specs.Start.{start};
 ghost use Rattle.session_steps.specs.Refused.{IsRefusedBy};
 ghost use Rattle.step_reducer.specs.Framed.{standing};
-ghost use Rattle.step_reducer.specs.Walking.{walk_at, walk_end, moved_to, standing_in, IsGoing, IsWalkOf, HasMoved, HasWalked, Starts};
+ghost use Rattle.step_reducer.specs.Saying.{IsTold, giving_of};
+ghost use Rattle.step_reducer.specs.Walking.{walk_at, walk_end, walk_told, moved_to, standing_in, IsGoing, IsWalkOf, HasMoved, HasWalked, Starts};
 
 use crate::fact::Given;
 use crate::line_walk::LineWalk;
@@ -15,6 +17,7 @@ use marked_paths::PairedWorld;
 use marked_worlds::MarkedWorld;
 use session_steps::StartError;
 use std::alloc::{AllocError, Global};
+use transcripts::Outcome;
 
 /// How the ranks are walked.
 pub(crate) enum Walk<'a> {
@@ -45,6 +48,7 @@ impl<'a> Walk<'a> {
         requires few { end ≤ ranks spec.now.run }
         ensures walk { IfOk result (IsWalkOf spec.now reduce first end) }
         ensures at { IfOk result (λ walk. walk_at walk ≡ first) }
+        ensures told { IfOk result (λ walk. walk_told walk ≡ []) }
         ensures started { OnOk result (Starts spec.now.run) }
         ensures refused { IfErr result (λ error. IsRefusedBy error (start spec.now.run)) }
     {
@@ -61,7 +65,7 @@ impl<'a> Walk<'a> {
         }
     }
 
-    /// The fact of the next ranks, at least of one, none of them past an end. Of a walk that came from a first rank on, the steps sent
+    /// What is said of the next ranks, at least of one, none of them past an end. Of a walk that came from a first rank on, the steps sent
     /// may be counted.
     pub(crate) fn next_run(
         &mut self,
@@ -72,9 +76,11 @@ impl<'a> Walk<'a> {
         requires going { IsGoing spec.now reduce self.old }
         requires some { walk_at self.old < end }
         requires inside { end ≤ walk_end spec.now self.old }
-        ensures moved { IfOk result (λ given. HasMoved spec.now reduce end self.old given self.new) }
+        ensures moved { IfOk result (λ given. HasMoved spec.now reduce end self.old (giving_of (walk_told self.new) given) self.new) }
         ensures walked { IfOk result (λ given. (first : ℕ) → IsWalkOf spec.now reduce first end self.old
-            → HasWalked spec.now reduce first end self.old given self.new) }
+            → HasWalked spec.now reduce first end self.old (giving_of (walk_told self.new) given) self.new) }
+        ensures number { IfOk result (λ given. IsTold (walk_told self.new) given.run.said) }
+        ensures front { IsPrefix (walk_told self.old) (walk_told self.new) }
     {
         match self {
             Walk::Words(walk) => walk.next_run(end),
@@ -89,6 +95,17 @@ impl<'a> Walk<'a> {
         match self {
             Walk::Words(walk) => walk.stack.world(),
             Walk::Lines(walk) => walk.path.world(),
+        }
+    }
+
+    /// The outcome that was told with a number.
+    pub(crate) fn told(&self, number: usize) -> &Outcome
+        requires { number < length (walk_told self.now) }
+        ensures { slice_get (walk_told self.now) number ≡ Some result.now }
+    {
+        match self {
+            Walk::Words(walk) => walk.stack.told(number),
+            Walk::Lines(walk) => walk.path.told(number),
         }
     }
 

@@ -3,10 +3,13 @@
 ghost use Rattle.std.specs.Prelude.{◌≡◌, ◌↔◌, ◌-◌, ◌++◌, [], ◌∷◌, true, false, IfOk, IfErr, OnOk, OnErr, IsErrOf, ◌≤◌};
 ghost use Rattle.step_reducer.specs.declared.error.WalkError.TheVariants as walk_error;
 ghost use Rattle.rank_facts.specs.Shards.{IsShardOf};
-ghost use Rattle.step_reducer.specs.Walking.{begun_at, AreSent, GivesRun, GivesFact, HasStopped, IsNotWalked, Starts, AreFacts};
+ghost use Rattle.step_reducer.specs.Saying as spec;
+ghost use Rattle.step_reducer.specs.Saying.{IsTold, run_of};
+ghost use Rattle.step_reducer.specs.Walking.{walk_told, begun_at, AreSent, GivesRun, GivesFact, HasStopped, IsNotWalked, Starts, AreFacts};
 
 use crate::error::WalkError;
 use crate::fact::FactRun;
+use crate::said::{Said, SaidRun};
 use crate::start::{check, walk_for};
 use crate::walk::Walk;
 use bound_specs::Spec;
@@ -129,10 +132,11 @@ impl<'a> Walker<'a> {
         }
         self.is_spent = true;
         let given = self.walk.next_run(self.spec, self.reduce, self.end)?;
+        let run = fact_run(&self.walk, given.run)?;
         self.is_spent = false;
         self.at = given.run.end;
         self.sent += given.sent as u64;
-        Ok(Some(given.run))
+        Ok(Some(run))
     }
 
     /// The fact of the next rank. None at the end of the shard.
@@ -162,6 +166,30 @@ impl<'a> Walker<'a> {
             fact,
         });
         Ok(Some((first, one)))
+    }
+}
+
+/// What a walk said of a run, with its fact.
+fn fact_run(walk: &Walk<'_>, run: SaidRun) -> Result<FactRun, AllocError>
+    requires { IsTold (walk_told walk.now) run.said }
+    ensures { IfOk result (λ made. made ≡ run_of (walk_told walk.now) run) }
+{
+    let fact = fact_of(walk, run.said)?;
+    Ok(FactRun {
+        first: run.first,
+        end: run.end,
+        fact,
+    })
+}
+
+/// The fact that a walk said. An outcome is shared with the walk.
+fn fact_of(walk: &Walk<'_>, said: Said) -> Result<Fact, AllocError>
+    requires { IsTold (walk_told walk.now) said }
+    ensures { IfOk result (λ fact. fact ≡ spec.fact_of (walk_told walk.now) said) }
+{
+    match said {
+        Said::Ran(number) => Ok(Fact::Ran(walk.told(number).fork()?)),
+        Said::Swap(place) => Ok(Fact::Swap(place)),
     }
 }
 

@@ -1,21 +1,23 @@
 //! The facts of ranks of a spec whose orders are all words.
 
+ghost use mathlib.Core.List.{IsPrefix};
 ghost use Rattle.std.specs.Prelude.{◌≡◌, ◌<◌, ◌≤◌, [], length, OnOk, IfOk, false};
 ghost use Rattle.perm_ranks.specs.Words.{total, all_words};
 ghost use Rattle.bound_specs.specs.Spec.{counts_of, queues_of};
 ghost use Rattle.machine_model.specs.Start.{Started, start as begins};
 ghost use Rattle.plan_pairs.specs.Pairs.{ArePairs};
+ghost use Rattle.step_reducer.specs.Saying.{IsTold, fact_of, finding_of, giving_of};
 ghost use Rattle.step_reducer.specs.Walking.{IsWords};
 ghost use Rattle.step_reducer.specs.Reduced.{tour_of, IsTour};
 ghost use Rattle.step_reducer.specs.Walks.{LiesBehind, IsAt, IsWalk, IsFound, HasSent, HasGiven};
 
-use crate::fact::{FactRun, Given};
+use crate::fact::Given;
+use crate::said::{Said, SaidRun};
 use crate::stack::Stack;
 use crate::step_table::StepTable;
 use bound_specs::Spec;
 use marked_paths::PairedWorld;
 use perm_ranks::Shape;
-use rank_facts::Fact;
 use std::alloc::{AllocError, Global};
 
 /// Stands before a rank, with worlds of prefixes of its word that later words share.
@@ -42,11 +44,11 @@ impl Drop for WordWalk<'_> {
     }
 }
 
-/// A fact, the rank behind the last one that has it, and how many steps were sent for it.
-#[derive(Drop)]
+/// What is said of ranks, the rank behind the last one of which it is said, and how many steps were sent for it.
+#[derive(Clone, Copy)]
 pub(crate) struct Found {
     pub(crate) end: u64,
-    pub(crate) fact: Fact,
+    pub(crate) said: Said,
     pub(crate) sent: u8,
 }
 
@@ -66,10 +68,12 @@ impl<'a> WordWalk<'a> {
         requires whole { start.world.spent ≡ false }
         requires of_spec { start.world.file ≡ spec.now }
         requires marked { start.world.marked ≡ [] }
+        requires untold { start.world.told ≡ [] }
         requires pairs { ArePairs spec.now.run start.pairs }
         requires few { end ≤ length (all_words shape.now) }
         requires order { first ≤ end }
-        ensures { IfOk result (λ walk. IsWords spec.now reduce first end walk × (walk.at ≡ first)) }
+        ensures walk { IfOk result (λ walk. IsWords spec.now reduce first end walk × (walk.at ≡ first)) }
+        ensures told { IfOk result (λ walk. walk.stack.told ≡ []) }
     {
         let block = shape.block();
         let steps = block.letters_left();
@@ -85,12 +89,14 @@ impl<'a> WordWalk<'a> {
         })
     }
 
-    /// The fact of the next ranks, at least of one, none of them past an end. What is kept on the way serves ranks behind that end too.
+    /// What is said of the next ranks, at least of one, none of them past an end. What is kept on the way serves ranks behind that end too.
     pub(crate) fn next_run(&mut self, end: u64) -> Result<Given, AllocError>
         requires walk { IsWalk self.old.stack.top.world.file self.old }
         requires some { self.old.at < end }
         requires inside { end ≤ self.old.end }
-        ensures { IfOk result (λ given. HasGiven self.old.stack.top.world.file end self.old given self.new) }
+        ensures given { IfOk result (λ given. HasGiven self.old.stack.top.world.file end self.old (giving_of self.new.stack.told given) self.new) }
+        ensures number { IfOk result (λ given. IsTold self.new.stack.told given.run.said) }
+        ensures front { IsPrefix self.old.stack.told self.new.stack.told }
     {
         let first = self.at;
         self.stack.go_back(first);
@@ -105,10 +111,10 @@ impl<'a> WordWalk<'a> {
         )?;
         self.at = found.end;
         Ok(Given {
-            run: FactRun {
+            run: SaidRun {
                 first,
                 end: found.end,
-                fact: found.fact,
+                said: found.said,
             },
             sent: found.sent,
         })
@@ -132,10 +138,12 @@ fn find(
     requires some { at < end }
     requires inside { end ≤ all }
     requires has { IsAt reduce stack.old.top.world.file at all stack.old }
-    ensures found { IfOk result (IsFound reduce stack.old.top.world.file at end) }
+    ensures found { IfOk result (λ found. IsFound reduce stack.old.top.world.file at end (finding_of stack.new.told found)) }
     ensures has { OnOk result (IsAt reduce stack.old.top.world.file at all stack.new) }
-    ensures sent { IfOk result (λ found. HasSent reduce stack.old.top.world.file.run at stack.old found stack.new) }
-    ensures ran { IfOk result (λ found. LiesBehind stack.old.top.world.file.run at found.end found.fact stack.new.top.world.world) }
+    ensures sent { IfOk result (λ found. HasSent reduce stack.old.top.world.file.run at stack.old (finding_of stack.new.told found) stack.new) }
+    ensures ran { IfOk result (λ found. LiesBehind stack.old.top.world.file.run at found.end (fact_of stack.new.told found.said) stack.new.top.world.world) }
+    ensures number { IfOk result (λ found. IsTold stack.new.told found.said) }
+    ensures front { IsPrefix stack.old.told stack.new.told }
 {
     let before = stack.letters_left();
     'letter: while stack.letters_left() > 0 {
@@ -145,23 +153,23 @@ fn find(
         if stack.is_swap(turn.letter) {
             return Ok(Found {
                 end: behind,
-                fact: Fact::Swap(steps - left - 1),
+                said: Said::Swap(steps - left - 1),
                 sent: before - left,
             });
         }
         if turn.is_covered() {
             return Ok(Found {
                 end: behind,
-                fact: Fact::Swap(steps - left),
+                said: Said::Swap(steps - left),
                 sent: before - left,
             });
         }
         stack.descend(turn, all)?;
     }
-    let outcome = stack.outcome()?;
+    let number = stack.outcome()?;
     Ok(Found {
         end: at + 1,
-        fact: Fact::Ran(outcome),
+        said: Said::Ran(number),
         sent: before,
     })
 }

@@ -1,12 +1,12 @@
 //! Calls on worlds that are not spent: only memory can be refused.
 
-ghost use Rattle.std.specs.Prelude.{◌≡◌, ◌<◌, ◌∷◌, false, length, IfOk, OnErr, OnOk};
+ghost use mathlib.Core.List.{IsPrefix};
+ghost use Rattle.std.specs.Prelude.{◌≡◌, ◌<◌, ◌∷◌, false, length, slice_get, IfOk, OnErr, OnOk, Some};
 ghost use Rattle.machine_model.specs.World.{send as world_sent, outcome_of};
 
 use marked_worlds::MarkedWorld;
 use session_steps::SendError;
 use std::alloc::AllocError;
-use transcripts::Outcome;
 
 /// Sets a mark. Without memory everything stays as it was.
 pub(crate) fn mark(world: &mut MarkedWorld<'_>) -> Result<(), AllocError>
@@ -21,7 +21,7 @@ pub(crate) fn mark(world: &mut MarkedWorld<'_>) -> Result<(), AllocError>
     }
 }
 
-/// Sends a step. What was at marks stays, whatever comes of it.
+/// Sends a step. What was at marks stays, whatever comes of it, and so do the outcomes that were told.
 pub(crate) fn send(world: &mut MarkedWorld<'_>, step: u8) -> Result<(), AllocError>
     requires whole { world.old.spent ≡ false }
     requires known { step < length world.old.file.run.steps }
@@ -29,6 +29,7 @@ pub(crate) fn send(world: &mut MarkedWorld<'_>, step: u8) -> Result<(), AllocErr
     ensures whole { OnOk result (world.new.spent ≡ false) }
     ensures of_spec { world.new.file ≡ world.old.file }
     ensures marked { world.new.marked ≡ world.old.marked }
+    ensures told { world.new.told ≡ world.old.told }
 {
     match world.send(step) {
         Ok(()) => Ok(()),
@@ -37,14 +38,15 @@ pub(crate) fn send(world: &mut MarkedWorld<'_>, step: u8) -> Result<(), AllocErr
     }
 }
 
-/// The transcripts so far.
-pub(crate) fn outcome(world: &mut MarkedWorld<'_>) -> Result<Outcome, AllocError>
+/// Tells the transcripts so far: the answer is their number among the outcomes that were told.
+pub(crate) fn outcome(world: &mut MarkedWorld<'_>) -> Result<usize, AllocError>
     requires { world.old.spent ≡ false }
-    ensures told { IfOk result (λ outcome. outcome ≡ outcome_of world.old.file.run.sessions world.old.world) }
-    ensures same { world.new ≡ world.old }
+    ensures told { IfOk result (λ number. slice_get world.new.told number ≡ Some (outcome_of world.old.file.run.sessions world.old.world)) }
+    ensures front { IsPrefix world.old.told world.new.told }
+    ensures same { world.new ≡ record world.old { told = world.new.told } }
 {
     match world.outcome() {
-        Ok(outcome) => Ok(outcome),
+        Ok(number) => Ok(number),
         Err(SendError::NoMemory) => Err(AllocError),
         Err(SendError::Spent) => unreachable!(),
     }

@@ -14,25 +14,23 @@ use super::outcomes::next_outcome;
 use super::runs::{Ends, next_run};
 use super::tokens::{begins_array, next_item};
 use bound_specs::Spec;
+use compact_outcomes::CompactOutcome;
 use fact_books::{Builder, Run};
-use finite_maps::Fork;
 use json::Reader;
 use serde_json::Value as Json;
 use std::alloc::Global;
-use transcripts::Outcome;
 
-/// The outcomes that the next value of a text is, an array of them in the order of their texts. Where some are given that it may have,
-/// one that it has at the same place is shared. None where it is no such value, and for want of memory.
+/// The outcomes that the next value of a text is, an array of them in the order of their texts. None where it is no such
+/// value, and for want of memory.
 pub fn outcomes_at(
     alloc: Global,
     spec: &Spec,
-    given: &[Outcome],
     reader: &mut Reader<'_>,
-) -> Option<Vec<Outcome>>
+) -> Option<Vec<CompactOutcome>>
     ensures { IfSome result (λ outcomes. AreOutcomesAt spec.now.run reader.old outcomes.items reader.new) }
 {
-    let mut outcomes = Vec::with_capacity(alloc, given.len()).ok()?;
-    if read_outcomes(alloc, spec, given, &mut outcomes, reader) {
+    let mut outcomes = Vec::new(alloc);
+    if read_outcomes(alloc, spec, &mut outcomes, reader) {
         Some(outcomes)
     } else {
         None
@@ -43,8 +41,7 @@ pub fn outcomes_at(
 fn read_outcomes(
     alloc: Global,
     spec: &Spec,
-    given: &[Outcome],
-    outcomes: &mut Vec<Outcome>,
+    outcomes: &mut Vec<CompactOutcome>,
     reader: &mut Reader<'_>,
 ) -> bool
     requires { outcomes.old.items ≡ [] }
@@ -57,7 +54,7 @@ fn read_outcomes(
         match next {
             None => return true,
             Some(value) => {
-                if !takes_outcome(alloc, spec, given, outcomes, &value) {
+                if !takes_outcome(alloc, spec, outcomes, &value) {
                     return false;
                 }
             }
@@ -70,41 +67,15 @@ fn read_outcomes(
 fn takes_outcome(
     alloc: Global,
     spec: &Spec,
-    given: &[Outcome],
-    outcomes: &mut Vec<Outcome>,
+    outcomes: &mut Vec<CompactOutcome>,
     value: &Json,
 ) -> bool
     ensures { IsTrue result → (o : Told) × IsNextOutcome spec.now.run outcomes.old.items (view value.now) (Ok o)
         × (outcomes.new.items ≡ outcomes.old.items ++ o ∷ []) }
 {
     match next_outcome(alloc, spec, outcomes.as_slice(), value) {
-        Ok(outcome) => {
-            let outcome = shared(given.get(outcomes.len()), outcome);
-            outcomes.push(outcome).is_ok()
-        }
+        Ok(outcome) => outcomes.push(outcome).is_ok(),
         Err(_) => false,
-    }
-}
-
-/// The same outcome, as a fork of another one where that is the same.
-fn shared(given: Option<&Outcome>, outcome: Outcome) -> Outcome
-    ensures { result ≡ outcome }
-{
-    match given {
-        Some(other) => shared_with(other, outcome),
-        None => outcome,
-    }
-}
-
-fn shared_with(other: &Outcome, outcome: Outcome) -> Outcome
-    ensures { result ≡ outcome }
-{
-    if !other.is_same(&outcome) {
-        return outcome;
-    }
-    match other.fork() {
-        Ok(fork) => fork,
-        Err(_) => outcome,
     }
 }
 

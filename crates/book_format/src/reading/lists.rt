@@ -1,40 +1,16 @@
-//! Whether outcomes and runs that are read already stand as those of a file do.
+//! Whether runs that are read already stand as those of a file do.
 
-ghost use Rattle.std.specs.Prelude.{◌≤◌, IfOk, IsTrue, Ok, [], map};
+ghost use Rattle.std.specs.Prelude.{◌≤◌, IfOk, IsTrue, Ok, map};
 ghost use Rattle.serde_json.specs.View.{items_of};
-ghost use Rattle.transcripts.specs.Json.{outcome_data};
 ghost use Rattle.book_format.specs.declared.pieces.TheConstants.{MAX_FACTS};
 ghost use Rattle.book_format.specs.BookText.{run_data};
-ghost use Rattle.book_format.specs.Reading.{AreOutcomes, IsNextOutcome};
 ghost use Rattle.book_format.specs.ReadingRuns.{AreEnds, AreRunsOf, IsNextRun, IsTagOf};
 
-use super::outcomes::{is_outcome_of, stands_after};
 use super::runs::{Ends, is_led, is_past};
 use crate::pieces::MAX_FACTS;
 use bound_specs::Spec;
 use fact_books::{Run, Tag};
 use std::alloc::{AllocError, Global};
-use transcripts::Outcome;
-
-/// Whether the values of these outcomes are read as these.
-pub(crate) fn are_outcomes(spec: &Spec, outcomes: &[Outcome]) -> bool
-    ensures { IsTrue result → AreOutcomes spec.now.run [] (items_of (map outcome_data outcomes.now)) (Ok outcomes.now) }
-{
-    for i in 0..outcomes.len() {
-        if !is_next_outcome(spec, &outcomes[..i], &outcomes[i]) {
-            return false;
-        }
-    }
-    true
-}
-
-/// Whether the value of an outcome is read as this one, behind others.
-fn is_next_outcome(spec: &Spec, before: &[Outcome], outcome: &Outcome) -> bool
-    ensures { IsTrue result → IsNextOutcome spec.now.run before.now (outcome_data outcome.now) (Ok outcome.now) }
-{
-    outcome.known();
-    is_outcome_of(spec, outcome.sessions()) && stands_after(before, outcome)
-}
 
 /// Whether the values of these runs are read as these, of a spec and so many outcomes.
 pub(crate) fn are_runs(

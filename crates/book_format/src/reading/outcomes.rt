@@ -9,6 +9,7 @@ ghost use Rattle.book_format.specs.Reading.{AreOutcomes, IsNextOutcome, IsOutcom
 
 use crate::error::BookError;
 use bound_specs::Spec;
+use compact_outcomes::CompactOutcome;
 use serde_json::Value as Json;
 use std::alloc::Global;
 use transcripts::{Event, Outcome, Transcript, ValueError, outcome_of_value};
@@ -18,7 +19,7 @@ pub(crate) fn outcomes_of(
     alloc: Global,
     spec: &Spec,
     values: &[Json],
-) -> Result<Vec<Outcome>, BookError>
+) -> Result<Vec<CompactOutcome>, BookError>
     ensures { Meets (λ outcomes. outcomes.items) (AreOutcomes spec.now.run [] (items_view values.now)) result }
 {
     let mut outcomes = Vec::new(alloc);
@@ -36,15 +37,16 @@ pub(crate) fn outcomes_of(
 pub(super) fn next_outcome(
     alloc: Global,
     spec: &Spec,
-    before: &[Outcome],
+    before: &[CompactOutcome],
     value: &Json,
-) -> Result<Outcome, BookError>
+) -> Result<CompactOutcome, BookError>
     ensures { Meets (λ outcome. outcome) (IsNextOutcome spec.now.run before.now (view value.now)) result }
 {
     let outcome = match outcome_of(alloc, spec, value) {
         Ok(outcome) => outcome,
         Err(error) => return Err(error),
     };
+    let outcome = CompactOutcome::of(alloc, &outcome)?;
     if !stands_after(before, &outcome) {
         return Err(BookError::OutOfOrder);
     }
@@ -52,7 +54,7 @@ pub(super) fn next_outcome(
 }
 
 /// Whether the text of an outcome comes after that of the last one.
-pub(crate) fn stands_after(before: &[Outcome], outcome: &Outcome) -> bool
+pub(super) fn stands_after(before: &[CompactOutcome], outcome: &CompactOutcome) -> bool
     ensures { IsTrue result ↔ StandsAfter ComesBefore before.now outcome.now }
 {
     match before.last() {
@@ -79,7 +81,7 @@ pub(crate) fn outcome_of(alloc: Global, spec: &Spec, value: &Json) -> Result<Out
 }
 
 /// Whether there is a transcript for each session, which names steps of that session alone.
-pub(crate) fn is_outcome_of(spec: &Spec, sessions: &[Transcript]) -> bool
+pub(super) fn is_outcome_of(spec: &Spec, sessions: &[Transcript]) -> bool
     ensures { IsTrue result ↔ IsOutcomeOf spec.now.run sessions.now }
 {
     let count = spec.sessions();

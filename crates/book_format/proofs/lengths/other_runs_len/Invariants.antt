@@ -1,6 +1,7 @@
 use Rattle.std.proofs.Common.{◌≡◌, min, take, length}
 use Rattle.std.specs.Prelude.{flat_map}
-use Rattle.book_format.specs.Pieces.{run_text, after_comma}
+use Rattle.compact_outcomes.specs.CompactTexts.{after_comma}
+use Rattle.book_format.specs.Pieces.{run_text}
 use Rattle.book_format.proofs.lengths.other_runs_len.Given as goal
 
 -- the length of the first runs

@@ -13,7 +13,10 @@ loop-n-preserved c =
     elim c.if-flags-n.branch [
       | then-flags-n+in_ok-fork+in_ok-push w ↦
           subst (AreFlaggedTo outcomes flags (n + 1)) (sym (ap (λ v. v.items) w.out-is ∙ w.in_ok-push.ensures.items))
-          (flagged-push outcomes flags n c.loop-n.out.items w.in_ok-fork.field-0 (search rules) (search rules) (w.in_ok-fork.ensures ∙ w.index-outcomes-n.is ∙ get_or_default outcomes n w.index-outcomes-n.result [] c.loop-n-test.true) c.loop-n.invariant)
+          (flagged-push outcomes flags n c.loop-n.out.items w.in_ok-fork.field-0 (search rules) (search rules)
+          (w.in_ok-fork.ensures ∙ w.index-outcomes-n.is ∙ get_or_default outcomes n w.index-outcomes-n.result [] c.loop-n-test.true)
+          c.loop-n.invariant)
       | else-flags-n w ↦
-          subst (AreFlaggedTo outcomes flags (n + 1)) (sym (ap (λ v. v.items) w.out-is)) (flagged-skip outcomes flags n c.loop-n.out.items (search rules) c.loop-n.invariant)
+          subst (AreFlaggedTo outcomes flags (n + 1)) (sym (ap (λ v. v.items) w.out-is))
+          (flagged-skip outcomes flags n c.loop-n.out.items (search rules) c.loop-n.invariant)
     ]

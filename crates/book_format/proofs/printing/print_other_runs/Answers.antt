@@ -1,7 +1,8 @@
 use Rattle.std.proofs.Common.{refl}
 use Rattle.std.specs.Prelude.{[], codes}
 use Rattle.fact_books.specs.declared.run.Tag.TheVariants.{Ran}
-use Rattle.book_format.specs.Pieces.{run_text, after_comma}
+use Rattle.compact_outcomes.specs.CompactTexts.{after_comma}
+use Rattle.book_format.specs.Pieces.{run_text}
 use Rattle.transcripts.proofs.Writing.{prints-stopped, stopped-after, stopped-append, stopped-next_of}
 use Rattle.book_format.proofs.printing.print_other_runs.Goals as goal
 

@@ -1,6 +1,7 @@
 use Rattle.std.specs.Prelude.{flat_map, take}
 use Rattle.transcripts.specs.Counted.{Wrote}
-use Rattle.book_format.specs.Pieces.{run_text, after_comma}
+use Rattle.compact_outcomes.specs.CompactTexts.{after_comma}
+use Rattle.book_format.specs.Pieces.{run_text}
 use Rattle.book_format.proofs.printing.print_other_runs.Given as goal
 
 -- the first runs are written

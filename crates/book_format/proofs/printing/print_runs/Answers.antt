@@ -1,5 +1,6 @@
 use Rattle.std.specs.Prelude.{flat_map}
-use Rattle.book_format.specs.Pieces.{run_text, after_comma}
+use Rattle.compact_outcomes.specs.CompactTexts.{after_comma}
+use Rattle.book_format.specs.Pieces.{run_text}
 use Rattle.transcripts.proofs.Writing.{prints-after, prints-stopped, stopped-append}
 use Rattle.book_format.proofs.printing.print_runs.Goals as goal
 

@@ -17,7 +17,7 @@ returns-in-Ok-clause-back g c =
     let are = c.in_ok-pieces.ensures.pieces in (
       text_in c.in_ok-pieces.pieces,
       c.in-Ok.ensures,
-      pieces-back c.args.book.now c.in_ok-pieces.pieces are c.in_ok-pieces.ensures.fit c.in_ok-pieces.ensures.widths c.known.ensures.file c.known.ensures.facts,
+      pieces-back c.args.book.now c.in_ok-pieces.pieces are c.in_ok-pieces.ensures.fit c.in_ok-pieces.ensures.widths c.in_ok-pieces.ensures.utf8 c.known.ensures.file c.known.ensures.facts,
     )
 
 -- and else a front of it

@@ -25,4 +25,5 @@ later-preserved c =
       more = omega (arith, next, c.later-test.true);
       file = c.go_back.ensures.of_spec ∙ c.later.invariant.file;
       numbers = c.go_back.ensures.numbers ∙ c.later.invariant.numbers;
+      told = c.go_back.ensures.told ∙ c.later.invariant.told;
     }

@@ -10,6 +10,7 @@ invariant-later l = record {
   more : l.shared ≤ l.left;
   file : l.world.file ≡ l.initial.world.file;
   numbers : l.world.numbers ≡ l.initial.world.numbers;
+  told : l.world.told ≡ l.initial.world.told;
 }
 
 abbrev pub decreases-later : goal.decreases-later

@@ -4,4 +4,9 @@ use Rattle.marked_paths.proofs.steps.go_on.Given as goal
 
 -- so many steps are sent
 abbrev pub invariant-loop-place : goal.invariant-loop-place
-invariant-loop-place l = record { along : IsAlong (take l.place l.line) l.world; file : l.world.file ≡ l.initial.world.file; numbers : l.world.numbers ≡ l.initial.world.numbers }
+invariant-loop-place l = record {
+  along : IsAlong (take l.place l.line) l.world;
+  file : l.world.file ≡ l.initial.world.file;
+  numbers : l.world.numbers ≡ l.initial.world.numbers;
+  told : l.world.told ≡ l.initial.world.told;
+}

@@ -1,4 +1,6 @@
+use mathlib.Core.List.{IsPrefix}
 use Rattle.std.proofs.Common.{◌≡◌, refl, sym, ap, ◌∙◌, subst, ℕ, suc, ◌-◌, ◌<◌, Bool, true, false, List, [], ◌∷◌, ◌++◌, length, get_or, arith, length-append}
+use Rattle.std.proofs.lemmas.Option.{get_or_from_slice_get, slice_get_within}
 use Rattle.perm_ranks.specs.Words.{total, all_words}
 use Rattle.perm_ranks.specs.Blocks.{HasRank, end_of}
 use Rattle.perm_ranks.proofs.CountLemmas.{length-all_words}
@@ -9,9 +11,10 @@ use Rattle.rank_facts.specs.declared.fact.Fact.TheVariants.{Ran, Swap}
 use Rattle.transcripts.specs.declared.event.Event.{Event}
 use Rattle.step_reducer.specs.Reduced.{tour_of, line_world}
 use Rattle.step_reducer.specs.Framed.{Stacked}
-use Rattle.step_reducer.specs.Walks.{LiesBehind}
+use Rattle.step_reducer.specs.Walks.{LiesBehind, IsAt}
 use Rattle.step_reducer.proofs.FactsAt.{swap-within, swap-all, ran-at, world-at}
 use Rattle.step_reducer.proofs.Partings.{line-length}
+use Rattle.step_reducer.proofs.Stacks.{at-told}
 use Rattle.step_reducer.proofs.Turns.{turn-place}
 use Rattle.step_reducer.proofs.word_walk.find.Goals as goal
 
@@ -148,7 +151,7 @@ returns-clause-sent c =
       one = λ e. refl;
       all = λ e. c.letters_left-before.ensures.all;
       whole = λ e. (let none : total c.letter.stack.top.block.left ≡ 0 = omega (arith, c.letter-test.false, c.letters_left.ensures.all) in
-          ap (λ (s : Stacked). total s.top.block.left) c.in_ok-outcome.ensures.same ∙ none);
+          ap (λ (s : Stacked). total s.top.block.left) c.in_ok-number.ensures.same ∙ none);
     }
 
 pub returns-clause-ran : goal.returns-clause-ran
@@ -164,23 +167,23 @@ returns-clause-ran c =
     let same : top.block.first ≡ c.args.at = omega (arith, one, from, to) in
     record {
       one = λ o e. refl;
-      world_is = λ o e. ap (λ (s : Stacked). s.top.world.world) c.in_ok-outcome.ensures.same ∙ subst (λ n. top.world.world ≡ line_world file.run n) same
+      world_is = λ o e. ap (λ (s : Stacked). s.top.world.world) c.in_ok-number.ensures.same ∙ subst (λ n. top.world.world ≡ line_world file.run n) same
           (world-at (tour_of file.run c.args.reduce) frame.shared top.block top.world.world top.swaps c.requires.tour frame.stands none);
     }
 
 pub letter-smaller : goal.letter-smaller
 letter-smaller c =
-    (c.in_ok-descend.ensures c.args.reduce c.args.stack.now.top.world.file c.args.at (omega (arith, c.requires.some, c.requires.inside))
+    (c.in_ok-descend.ensures.gone c.args.reduce c.args.stack.now.top.world.file c.args.at (omega (arith, c.requires.some, c.requires.inside))
     c.letter.invariant.at c.turn-turn.ensures
     (sym c.is_swap.ensures ∙ c.if-is_swap.false)).less
 
 pub letter-preserved : goal.letter-preserved
 letter-preserved c =
-    let gone = c.in_ok-descend.ensures c.args.reduce c.args.stack.now.top.world.file c.args.at (omega (arith, c.requires.some, c.requires.inside))
+    let gone = c.in_ok-descend.ensures.gone c.args.reduce c.args.stack.now.top.world.file c.args.at (omega (arith, c.requires.some, c.requires.inside))
     c.letter.invariant.at c.turn-turn.ensures
     (sym c.is_swap.ensures ∙ c.if-is_swap.false) in
     let less = gone.less in
-    record { at = gone.now; letters = omega (arith, less, c.letter.invariant.letters) }
+    record { at = gone.now; letters = omega (arith, less, c.letter.invariant.letters); told = c.in_ok-descend.ensures.told ∙ c.letter.invariant.told }
 
 pub returns-clause-found : goal.returns-clause-found
 returns-clause-found c =
@@ -192,15 +195,31 @@ returns-clause-found c =
     let one : length (all_words top.block.left) ≡ 1 = length-all_words top.block.left 0 none in
     let from = has.0 in
     let to = has.1 in
-    let told : Ran (outcome_of file.run.sessions top.world.world) ≡ Ran c.in_ok-outcome.outcome =
-    ap Ran (sym (c.in_ok-outcome.ensures.told ∙ ap (λ (f : SpecFile). outcome_of f.run.sessions top.world.world) frame.file_is)) in
+    let outcome = outcome_of top.world.file.run.sessions top.world.world in
+    let all = c.outcome.new.self.told in
+    let said = get_or all c.in_ok-number.number [] in
+    let told : Ran (outcome_of file.run.sessions top.world.world) ≡ Ran said =
+    ap Ran (sym (get_or_from_slice_get all c.in_ok-number.number outcome [] c.in_ok-number.ensures.told
+    ∙ ap (λ (f : SpecFile). outcome_of f.run.sessions top.world.world) frame.file_is)) in
     record {
       some = omega arith;
       few = omega (arith, c.requires.some);
       sent_few = omega (arith, c.letters_left-before.ensures.few);
       facts = λ r le lt. (
           let same : r ≡ top.block.first = omega (arith, one, from, to, le, lt) in
-          subst (λ n. IsFactOf c.args.reduce file.run n (Ran c.in_ok-outcome.outcome)) (sym same)
+          subst (λ n. IsFactOf c.args.reduce file.run n (Ran said)) (sym same)
           (subst (IsFactOf c.args.reduce file.run top.block.first) told
           (ran-at (tour_of file.run c.args.reduce) frame.shared top.block top.world.world top.swaps c.requires.tour frame.stands none)));
     }
+
+pub returns-clause-has : goal.returns-clause-has
+returns-clause-has c =
+    let file = c.args.stack.now.top.world.file in
+    subst (IsAt c.args.reduce file c.args.at c.args.all) (sym c.in_ok-number.ensures.same)
+    (at-told c.args.reduce file c.args.at c.args.all c.letter.stack c.outcome.new.self.told c.letter.invariant.at)
+
+pub returns-clause-number : goal.returns-clause-number
+returns-clause-number c = slice_get_within c.outcome.new.self.told c.in_ok-number.number _ c.in_ok-number.ensures.told
+
+pub returns-clause-front : goal.returns-clause-front
+returns-clause-front c = subst (λ told. IsPrefix told c.outcome.new.self.told) c.letter.invariant.told c.in_ok-number.ensures.front

@@ -2,19 +2,18 @@ use Rattle.std.proofs.Common.{◌∙◌, ◌++◌, sym, ap, length}
 use Rattle.row_tables.specs.Layers.{sight}
 use Rattle.statement_evaluation.specs.Effect.{effect}
 use Rattle.statement_execution.specs.Run.{events_of}
-use Rattle.session_steps.specs.Stage.{Member}
-use Rattle.marked_lists.specs.Versions.{Versions}
+use Rattle.marked_worlds.specs.Members.{MarkedSessions}
 use Rattle.marked_worlds.proofs.MemberLemmas.{inside-logs, members-count, still-kept, told-by}
 use Rattle.marked_worlds.proofs.members.MarkedMembers.run.Goals as goal
 
 pub run_statement-requires-clause-inside : goal.run_statement-requires-clause-inside
-run_statement-requires-clause-inside c = inside-logs c.self.inside.logs c.self.inside.kept c.args.self.now c.args.session
+run_statement-requires-clause-inside c = inside-logs c.self.inside.logs c.self.inside.kept c.self.inside.told.kept.items c.args.self.now c.args.session
     c.self.invariant.whole c.self.view_is c.requires.inside
 
 pub returns-clause-told : goal.returns-clause-told
 returns-clause-told c =
     let events = events_of (effect c.args.statement.now (sight c.args.session c.args.rows.now.now)) in
-    told-by c.self.inside.logs c.self.inside.kept c.args.self.now c.args.session c.self.invariant.whole c.self.view_is
+    told-by c.self.inside.logs c.self.inside.kept c.self.inside.told.kept.items c.args.self.now c.args.session c.self.invariant.whole c.self.view_is
     c.run_statement.result c.run_statement.new.logs.now (λ told. told ++ events) c.run_statement.ensures.told
 
 pub returns-clause-sessions : goal.returns-clause-sessions
@@ -22,7 +21,7 @@ returns-clause-sessions c =
     let logs = c.self.inside.logs in
     let kept = c.self.inside.kept in
     members-count c.run_statement.new.logs.now kept.list (c.run_statement.ensures.sessions ∙ c.self.invariant.whole.now)
-    ∙ sym (members-count logs.now kept.list c.self.invariant.whole.now) ∙ ap (λ (v : Versions Member). length v.list) c.self.view_is
+    ∙ sym (members-count logs.now kept.list c.self.invariant.whole.now) ∙ ap (λ (v : MarkedSessions). length v.list) c.self.view_is
 
 pub invariant_of-self : goal.invariant_of-self
 invariant_of-self c =

@@ -3,10 +3,10 @@ use Rattle.marked_worlds.proofs.MemberLemmas.{inside-logs, still-kept, told-by, 
 use Rattle.marked_worlds.proofs.members.MarkedMembers.tell.Goals as goal
 
 pub tell-requires : goal.tell-requires
-tell-requires c = inside-logs c.self.inside.logs c.self.inside.kept c.args.self.now c.args.session c.self.invariant.whole c.self.view_is c.requires
+tell-requires c = inside-logs c.self.inside.logs c.self.inside.kept c.self.inside.told.kept.items c.args.self.now c.args.session c.self.invariant.whole c.self.view_is c.requires
 
 pub returns-clause-told : goal.returns-clause-told
-returns-clause-told c = told-by c.self.inside.logs c.self.inside.kept c.args.self.now c.args.session c.self.invariant.whole c.self.view_is
+returns-clause-told c = told-by c.self.inside.logs c.self.inside.kept c.self.inside.told.kept.items c.args.self.now c.args.session c.self.invariant.whole c.self.view_is
     c.tell.result c.tell.new.self.now (λ told. told ++ c.args.event ∷ []) c.tell.ensures.told
 
 pub invariant_of-self : goal.invariant_of-self

@@ -8,8 +8,8 @@ use Rattle.step_reducer.proofs.stack.Stack.descend.Goals as goal
 use Rattle.step_reducer.proofs.stack.Stack.descend.Goals.{then-behind-end+then-behind-end-2+in_ok-keep, else-behind-end}
 use Rattle.step_reducer.proofs.stack.Stack.descend.Goals.{else-behind-end-via-then-behind-end+else-behind-end-2, else-behind-end-via-else-behind-end}
 
-pub returns : goal.returns
-returns c = λ reduce file at lt is turn unlisted.
+pub returns-clause-gone : goal.returns-clause-gone
+returns-clause-gone c = λ reduce file at lt is turn unlisted.
     let x : Stacked = c.args.self.now in
     let y : Stacked = c.go.new.self in
     let u : Turn = c.args.turn in

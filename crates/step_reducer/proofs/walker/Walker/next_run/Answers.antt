@@ -1,5 +1,7 @@
-use Rattle.std.proofs.Common.{sym, ◌∙◌}
-use Rattle.step_reducer.proofs.Givings.{gives-rest, gives-run, stands-after-run, sent-after-run}
+use Rattle.std.proofs.Common.{sym, ◌∙◌, ◌+◌, subst, Some, false}
+use Rattle.step_reducer.specs.Saying.{giving_of}
+use Rattle.step_reducer.specs.Walking.{walk_told, GivesRun}
+use Rattle.step_reducer.proofs.Givings.{now, gives-rest, gives-run, stands-after-run, sent-after-run}
 use Rattle.step_reducer.proofs.Walkings.{going-of, far-enough}
 use Rattle.step_reducer.proofs.walker.Walker.next_run.Goals as goal
 
@@ -18,11 +20,12 @@ invariant_of-self-2 c =
     let x = c.self.inside in
     let none = sym c.in_default.is ∙ c.take.ensures.value in
     let standing = c.self.invariant.0 c.if-self.false in
+    let given = giving_of (walk_told c.next_run.new.self) c.in_ok-given.given in
     let walked = c.in_ok-given.ensures.walked x.first standing.walk in (
       λ whole. stands-after-run x.spec.now x.reduce x.first x.at x.end x.sent x.walk c.next_run.new.self x.rest c.take.new.self
-          c.in_ok-given.given none c.take.ensures.after standing walked,
+          given none c.take.ensures.after standing walked,
       sent-after-run x.spec.now x.reduce x.first x.at x.end x.sent x.walk c.next_run.new.self x.rest
-          c.in_ok-given.given none standing walked c.self.invariant.1,
+          given none standing walked c.self.invariant.1,
     )
 
 pub returns-in-Some-clause-run : goal.returns-in-Some-clause-run
@@ -35,6 +38,9 @@ pub returns-clause-run : goal.returns-clause-run
 returns-clause-run c =
     let x = c.self.inside in
     let standing = c.self.invariant.0 c.if-self.false in
-    gives-run x.spec.now x.reduce x.first x.at x.end x.sent x.walk c.next_run.new.self x.rest c.take.new.self x.is_spent c.in_ok-given.given c.args.self.now
+    let given = giving_of (walk_told c.next_run.new.self) c.in_ok-given.given in
+    subst (λ run. GivesRun c.args.self.now (now x.spec.now x.reduce x.first given.run.end x.end (x.sent + given.sent) c.take.new.self false) (Some run))
+    (sym c.in_ok-run.ensures)
+    (gives-run x.spec.now x.reduce x.first x.at x.end x.sent x.walk c.next_run.new.self x.rest c.take.new.self x.is_spent given c.args.self.now
     (sym c.in_default.is ∙ c.take.ensures.value) c.take.ensures.after c.if-self.false
-    standing (c.in_ok-given.ensures.walked x.first standing.walk) c.self.view_is
+    standing (c.in_ok-given.ensures.walked x.first standing.walk) c.self.view_is)

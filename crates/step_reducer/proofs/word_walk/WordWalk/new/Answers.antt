@@ -7,8 +7,8 @@ use Rattle.step_reducer.specs.declared.word_walk.WordWalk.{WordWalk}
 use Rattle.step_reducer.proofs.Firsts.{words-first}
 use Rattle.step_reducer.proofs.word_walk.WordWalk.new.Goals as goal
 
-pub returns : goal.returns
-returns c =
+pub returns-clause-walk : goal.returns-clause-walk
+returns-clause-walk c =
     let w : WordWalk = record {
       table = c.in_ok-table.table;
       reduce = c.args.reduce;

@@ -7,6 +7,7 @@ use Rattle.step_reducer.specs.Reduced.{tour_of, IsTour}
 use Rattle.step_reducer.specs.Framed.{Stacked}
 use Rattle.step_reducer.specs.declared.word_walk.WordWalk.{WordWalk}
 use Rattle.step_reducer.specs.Walks.{LiesBehind, IsAt, IsFound, IsStack, IsBehind, HasSent}
+use Rattle.step_reducer.specs.Saying.{finding_of}
 use Rattle.step_reducer.proofs.Stacks.{stack-later}
 use Rattle.step_reducer.proofs.Sendings.{left-new}
 use Rattle.step_reducer.proofs.word_walk.WordWalk.next_run.Goals as goal
@@ -55,15 +56,16 @@ find-requires-clause-has c =
     let is = c.go_back.ensures.at x.reduce file x.end (omega (arith, c.requires.some, c.requires.inside)) (stack-now x file c.requires.walk.stack) in
     subst (λ (f : SpecFile). IsAt x.reduce f x.at x.end c.go_back.new.self) (sym (back-file x file c.go_back.new.self is)) is
 
-pub returns : goal.returns
-returns c =
+pub returns-clause-given : goal.returns-clause-given
+returns-clause-given c =
     let x = c.args.self.now in
     let file = x.stack.top.world.file in
     let is = c.go_back.ensures.at x.reduce file x.end (omega (arith, c.requires.some, c.requires.inside)) (stack-now x file c.requires.walk.stack) in
     let same = back-file x file c.go_back.new.self is in
-    let found = subst (λ (f : SpecFile). IsFound x.reduce f x.at c.args.end c.in_ok-found.found) same c.in_ok-found.ensures.found in
+    let says = finding_of c.find.new.stack.told c.in_ok-found.found in
+    let found = subst (λ (f : SpecFile). IsFound x.reduce f x.at c.args.end says) same c.in_ok-found.ensures.found in
     let some = found.some in
-    let sends = subst (λ (f : SpecFile). HasSent x.reduce f.run x.at c.go_back.new.self c.in_ok-found.found c.find.new.stack) same c.in_ok-found.ensures.sent in
+    let sends = subst (λ (f : SpecFile). HasSent x.reduce f.run x.at c.go_back.new.self says c.find.new.stack) same c.in_ok-found.ensures.sent in
     let now = subst (λ (f : SpecFile). IsAt x.reduce f x.at x.end c.find.new.stack) same c.in_ok-found.ensures.has in
     record {
       walk = record {
@@ -82,7 +84,7 @@ returns c =
       reduce = refl;
       most = sends.most;
       one = sends.one;
-      ran = subst (λ (f : SpecFile). LiesBehind f.run x.at c.in_ok-found.found.end c.in_ok-found.found.fact c.find.new.stack.top.world.world) same
+      ran = subst (λ (f : SpecFile). LiesBehind f.run x.at says.end says.fact c.find.new.stack.top.world.world) same
           c.in_ok-found.ensures.ran;
       sent = λ first run follows. (
           let one = sends.one run in

@@ -1,9 +1,0 @@
-use Rattle.std.proofs.Common.{◌≡◌, ◌++◌, take}
-use Rattle.std.specs.Prelude.{flat_map, string_bytes}
-use Rattle.book_format.specs.Pieces.{after_comma}
-use Rattle.book_format.specs.OutcomeTexts.{event_text}
-use Rattle.book_format.proofs.compact.push_other_events.Given as goal
-
--- the first events are pushed
-abbrev pub invariant-loop-event : goal.invariant-loop-event
-invariant-loop-event l = string_bytes l.text ≡ string_bytes l.fn.text ++ flat_map (after_comma event_text) (take l.event-index l.events)

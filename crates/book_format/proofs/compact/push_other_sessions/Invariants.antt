@@ -1,9 +1,0 @@
-use Rattle.std.proofs.Common.{◌≡◌, ◌++◌, take}
-use Rattle.std.specs.Prelude.{flat_map, string_bytes}
-use Rattle.book_format.specs.Pieces.{after_comma}
-use Rattle.book_format.specs.OutcomeTexts.{session_text}
-use Rattle.book_format.proofs.compact.push_other_sessions.Given as goal
-
--- the first sessions are pushed
-abbrev pub invariant-loop-session : goal.invariant-loop-session
-invariant-loop-session l = string_bytes l.text ≡ string_bytes l.fn.text ++ flat_map (after_comma session_text) (take l.session-index l.sessions)

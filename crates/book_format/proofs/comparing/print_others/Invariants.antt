@@ -1,8 +1,0 @@
-use Rattle.std.specs.Prelude.{flat_map, take}
-use Rattle.transcripts.specs.Counted.{Wrote}
-use Rattle.book_format.specs.Pieces.{after_comma, told_text}
-use Rattle.book_format.proofs.comparing.print_others.Given as goal
-
--- the first outcomes are written
-abbrev pub invariant-loop-outcome : goal.invariant-loop-outcome
-invariant-loop-outcome g l = Wrote g.W.Write.contents l.fn.out l.out (flat_map (after_comma told_text) (take l.outcome-index l.outcomes))

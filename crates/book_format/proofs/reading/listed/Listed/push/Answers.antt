@@ -1,0 +1,15 @@
+use Rattle.std.proofs.Common.{sym, subst, [], Ok}
+use Rattle.transcripts.specs.Json.{outcome_data}
+use Rattle.book_format.specs.Reading.{IsListed, IsNextOutcome}
+use Rattle.book_format.proofs.TextBooks.{outcomes-push}
+use Rattle.book_format.proofs.reading.listed.Listed.push.Goals as goal
+
+-- the values of those before, and of the one behind them, are read
+pub invariant_of-self-2 : goal.invariant_of-self-2
+invariant_of-self-2 c =
+    let spec = c.self.inside.spec.now.run in
+    let before = c.self.inside.outcomes.items in
+    let text = c.in_ok-text.text in
+    subst (IsListed spec) (sym c.in_ok-push.ensures.items)
+    (outcomes-push spec [] before text c.self.invariant
+    (subst (λ b. IsNextOutcome spec b (outcome_data text) (Ok text)) c.as_slice.ensures.value (c.is_next_outcome.ensures c.if-not-is_next_outcome.false)))

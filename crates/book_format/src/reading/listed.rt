@@ -1,0 +1,90 @@
+//! Outcomes of a spec as a book's file has them.
+
+ghost use Rattle.std.specs.Prelude.{◌≡◌, ◌++◌, ◌∷◌, [], IfOk, IsTrue, OnErr, Ok, false};
+ghost use Rattle.transcripts.specs.Json.{outcome_data};
+ghost use Rattle.book_format.specs.Reading.{IsListed, IsNextOutcome};
+
+use super::outcomes::{is_outcome_of, stands_after};
+use bound_specs::Spec;
+use compact_outcomes::CompactOutcome;
+use std::alloc::{AllocError, Global};
+use std::marker::Model;
+use transcripts::Outcome;
+
+/// Outcomes that runs of a spec may tell, which rise by their texts, seen by contracts as their list.
+pub struct Listed<'a> {
+    spec: &'a Spec,
+    outcomes: Vec<CompactOutcome>,
+}
+
+// Written out and not derived, so that who owns one calls this and does not let its parts go one by one.
+impl Drop for Listed<'_> {
+    fn drop(self) {
+        let Listed {
+            spec: _,
+            outcomes: _outcomes,
+        } = self;
+    }
+}
+
+impl<'a> Model for Listed<'a> {
+    ghost use Rattle.std.specs.Prelude.{List};
+    ghost use Rattle.fact_books.specs.Entries.{Told};
+    ghost use Rattle.book_format.specs.Reading.{IsListed};
+
+    ghost Value = { List Told };
+
+    ghost view = { λ l. l.outcomes.items };
+
+    ghost invariant = { λ l. IsListed l.spec.now.run l.outcomes.items };
+}
+
+impl<'a> Listed<'a> {
+    /// No outcomes.
+    pub fn new(alloc: Global, spec: &'a Spec) -> Listed<'a>
+        ensures { result ≡ [] }
+    {
+        Listed {
+            spec,
+            outcomes: Vec::new(alloc),
+        }
+    }
+
+    /// The spec and the outcomes.
+    pub(crate) fn into_parts(self) -> (&'a Spec, Vec<CompactOutcome>)
+        ensures { IsListed result.0.now.run result.1.items }
+    {
+        let Listed { spec, outcomes } = self;
+        (spec, outcomes)
+    }
+}
+
+impl Listed<'_> {
+    /// Puts an outcome behind the others. False where no run of the spec may tell it, or its text does not come after theirs; then it is not put there.
+    pub fn push(&mut self, alloc: Global, outcome: &Outcome) -> Result<bool, AllocError>
+        ensures pushed { IfOk result (λ is. IsTrue is → self.new ≡ self.old ++ outcome.now ∷ []) }
+        ensures refused { IfOk result (λ is. is ≡ false → self.new ≡ self.old) }
+        ensures err { OnErr result (self.new ≡ self.old) }
+    {
+        let text = CompactOutcome::of(alloc, outcome)?;
+        if !is_next_outcome(self.spec, self.outcomes.as_slice(), outcome, &text) {
+            return Ok(false);
+        }
+        self.outcomes.push(text)?;
+        Ok(true)
+    }
+}
+
+/// Whether the value of an outcome, which is kept as this text, is read as that one behind others.
+fn is_next_outcome(
+    spec: &Spec,
+    before: &[CompactOutcome],
+    outcome: &Outcome,
+    text: &CompactOutcome,
+) -> bool
+    requires { text.now ≡ outcome.now }
+    ensures { IsTrue result → IsNextOutcome spec.now.run before.now (outcome_data text.now) (Ok text.now) }
+{
+    outcome.known();
+    is_outcome_of(spec, outcome.sessions()) && stands_after(before, text)
+}

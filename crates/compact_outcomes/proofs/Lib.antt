@@ -1,0 +1,4 @@
+pub mod CompactLemmas
+pub mod DataLemmas
+pub mod OutcomeValues
+pub mod TextLemmas

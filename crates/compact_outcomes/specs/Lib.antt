@@ -1,0 +1,2 @@
+pub mod CompactTexts
+pub mod Told
