@@ -9,7 +9,6 @@ use crate::finding::{finding_of, told};
 use crate::pieces::pieces_of;
 use crate::sharing::{all_of, findings_of, most_pieces};
 use crate::source::spec_of_book;
-use compact_outcomes::outcomes_of;
 use fact_books::{Book, Run};
 use std::alloc::Global;
 use std::thread::Threads;
@@ -23,7 +22,7 @@ pub fn audit_plain(alloc: Global, book: &Book) -> Result<(), AuditError>
     ensures { IsAudit book.now result }
 {
     let (texts, runs) = book.parts();
-    let outcomes = outcomes_of(alloc, texts)?;
+    let outcomes = texts.read(alloc)?;
     plain_of(alloc, book, outcomes.as_slice(), runs)
 }
 
@@ -48,7 +47,7 @@ pub fn audit<R: Threads + Sync>(threads: &R, alloc: Global, book: &Book) -> Resu
     ensures { IsAudit book.now result }
 {
     let (texts, runs) = book.parts();
-    let outcomes = outcomes_of(alloc, texts)?;
+    let outcomes = texts.read(alloc)?;
     audit_of(threads, alloc, book, outcomes.as_slice(), runs)
 }
 

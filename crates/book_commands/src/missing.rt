@@ -84,7 +84,7 @@ fn missing_in(alloc: Global, book: &Book, asked: MissingRanks) -> Result<Vec<Ran
 fn asked_runs(
     alloc: Global,
     book: &Book,
-    told: &ToldRanks,
+    told: &ToldRanks<'_>,
     asked: MissingRanks,
 ) -> Result<Vec<RankRun>, AllocError>
     requires { AreTold book.now told.now }

@@ -76,7 +76,7 @@ with-format guess d old n found none part h = record {
       omega (arith, more, so_far, was);
 }
 
-pub with-outcomes : (guess : Guess) (d : Data) (old : Parts) (outcomes : Vec Told Global) (found : Members) → old.outcomes ≡ None
+pub with-outcomes : (guess : Guess) (d : Data) (old : Parts) (outcomes : List Told) (found : Members) → old.outcomes ≡ None
     → IsOutcomesPart guess outcomes d → AreParts guess found old
     → AreParts guess (put (codes "outcomes") d found) (record { facts = old.facts; format = old.format; outcomes = Some outcomes; spec = old.spec })
 with-outcomes guess d old outcomes found none part h = record {
@@ -115,7 +115,7 @@ pub runs-part : (guess : Guess) (ts left : List Token) (runs : Vec Run Global) �
     → (d : Data) × IsValueAt member_depth ts d left × IsFactsPart guess (Runs runs) d
 runs-part guess ts left runs (ds, at, are) = (array ds, at, (ds, refl, are))
 
-pub outcomes-part : (guess : Guess) (ts left : List Token) (outcomes : Vec Told Global) → AreOutcomesAt guess.spec.run ts outcomes.items left
+pub outcomes-part : (guess : Guess) (ts left : List Token) (outcomes : List Told) → AreOutcomesAt guess.spec.run ts outcomes left
     → (d : Data) × IsValueAt member_depth ts d left × IsOutcomesPart guess outcomes d
 outcomes-part guess ts left outcomes (ds, at, are) = (array ds, at, (ds, refl, are))
 
@@ -223,8 +223,8 @@ module _ (guess : Guess) (found : Members) (spec : IsGuess guess) (book : Conten
         ),
       )
 
-  run-value : (runs : Vec Run Global) (outcomes : Vec Told Global) → count_of found ≡ 4 → length outcomes.items ≡ guess.outcomes
-      → book ≡ contents guess.spec (facts_in outcomes.items runs.items)
+  run-value : (runs : Vec Run Global) (outcomes : List Told) → count_of found ≡ 4 → length outcomes ≡ guess.outcomes
+      → book ≡ contents guess.spec (facts_in outcomes runs.items)
       → IsMember (IsFactsPart guess) (codes "facts") found (Some (Runs runs)) → IsMember IsFormatPart (codes "format") found (Some 2)
       → IsMember (IsOutcomesPart guess) (codes "outcomes") found (Some outcomes) → IsNoted (IsSpecPart guess) (codes "spec") found true
       → IsBookValue (object found) (Ok book)
@@ -240,7 +240,7 @@ module _ (guess : Guess) (found : Members) (spec : IsGuess guess) (book : Conten
             guess.spec,
             spec,
             inl (
-              outcomes.items,
+              outcomes,
               told,
               inl (runs.items, subst (λ m. AreRunsOf guess.spec.run m ds (Ok runs.items)) (sym size) are, λ i. Ok (is i)),
             ),
@@ -255,9 +255,9 @@ pub facts-value : (guess : Guess) (found : Members) (built : Building) (book : C
 facts-value guess found built book spec h is = each-value guess found spec book built h.count is h.facts h.format h.spec
 
 -- the book of runs
-pub runs-value : (guess : Guess) (found : Members) (runs : Vec Run Global) (outcomes : Vec Told Global) (book : Contents) → IsGuess guess
+pub runs-value : (guess : Guess) (found : Members) (runs : Vec Run Global) (outcomes : List Told) (book : Contents) → IsGuess guess
     → AreParts guess found (record { facts = Some (Runs runs); format = Some 2; outcomes = Some outcomes; spec = true })
-    → length outcomes.items ≡ guess.outcomes → book ≡ record { file = guess.spec; facts = facts_in outcomes.items runs.items }
+    → length outcomes ≡ guess.outcomes → book ≡ record { file = guess.spec; facts = facts_in outcomes runs.items }
     → IsBookValue (object found) (Ok book)
 runs-value guess found runs outcomes book spec h size is =
     run-value guess found spec book runs outcomes h.count size is h.facts h.format h.outcomes h.spec
@@ -268,21 +268,21 @@ pub each-recordable : (guess : Guess) (built : Building) → (d : Data) × IsFac
 each-recordable guess built (d, (ds, entries, items, are, all)) =
     subst (AllRecordable guess.spec.run) (sym all) (facts-recordable guess.spec.run ds entries are)
 
-module _ (guess : Guess) (outcomes : Vec Told Global) (runs : Vec Run Global) (size : length outcomes.items ≡ guess.outcomes) where
-  sized : (ds : Items) → AreRunsOf guess.spec.run guess.outcomes ds (Ok runs.items) → AreRunsOf guess.spec.run (length outcomes.items) ds (Ok runs.items)
+module _ (guess : Guess) (outcomes : List Told) (runs : Vec Run Global) (size : length outcomes ≡ guess.outcomes) where
+  sized : (ds : Items) → AreRunsOf guess.spec.run guess.outcomes ds (Ok runs.items) → AreRunsOf guess.spec.run (length outcomes) ds (Ok runs.items)
   sized ds are = subst (λ m. AreRunsOf guess.spec.run m ds (Ok runs.items)) (sym size) are
 
   pub runs-rising : (d : Data) × IsFactsPart guess (Runs runs) d → IsRising (firsts runs.items)
-  runs-rising (d, (ds, items, are)) = read-rising guess.spec.run outcomes.items ds runs.items (sized ds are)
+  runs-rising (d, (ds, items, are)) = read-rising guess.spec.run outcomes ds runs.items (sized ds are)
 
-  pub runs-sound : (d : Data) × IsFactsPart guess (Runs runs) d → AllSound (length outcomes.items) runs.items
-  runs-sound (d, (ds, items, are)) = read-sound guess.spec.run outcomes.items ds runs.items (sized ds are)
+  pub runs-sound : (d : Data) × IsFactsPart guess (Runs runs) d → AllSound (length outcomes) runs.items
+  runs-sound (d, (ds, items, are)) = read-sound guess.spec.run outcomes ds runs.items (sized ds are)
 
   pub runs-recordable : (d : Data) × IsFactsPart guess (Runs runs) d → (e : Data) × IsOutcomesPart guess outcomes e
-      → EachRun (IsRecordableRun guess.spec.run outcomes.items) runs.items
+      → EachRun (IsRecordableRun guess.spec.run outcomes) runs.items
   runs-recordable (d, (ds, items, are)) (e, (os, others, told)) =
-      read-recordable guess.spec.run outcomes.items ds runs.items (sized ds are)
-      (outcomes-told guess.spec.run [] os outcomes.items (All-nil (IsToldBy guess.spec.run)) told)
+      read-recordable guess.spec.run outcomes ds runs.items (sized ds are)
+      (outcomes-told guess.spec.run [] os outcomes (All-nil (IsToldBy guess.spec.run)) told)
 
 -- ---- steps of reading
 
@@ -316,7 +316,7 @@ bytes-value bytes text None few same utf8 is = tt
 bytes-value bytes text (Some book) few same utf8 (d, reads, value) = inl (few, inl (d, (utf8, ap read (sym same) ∙ reads), value))
 
 -- the outcomes of a book that has them
-pub outcomes-there : (guess : Guess) (parts : Parts) (outcomes : Vec Told Global) → parts.outcomes ≡ Some outcomes → (found : Members) × AreParts guess found parts
+pub outcomes-there : (guess : Guess) (parts : Parts) (outcomes : List Told) → parts.outcomes ≡ Some outcomes → (found : Members) × AreParts guess found parts
     → (d : Data) × IsOutcomesPart guess outcomes d
 outcomes-there guess parts outcomes is (found, h) =
     let at = subst (λ o. IsMember (IsOutcomesPart guess) (codes "outcomes") found o) is h.outcomes in
@@ -330,11 +330,11 @@ facts-there guess parts facts is (found, h) =
     (at.0, at.2)
 
 -- parts that are these
-abbrev AreThese : Parts → Option Facts → Option ℕ → Option (Vec Told Global) → Type 0
+abbrev AreThese : Parts → Option Facts → Option ℕ → Option (List Told) → Type 0
 AreThese parts facts format outcomes =
     (parts.facts ≡ facts) × (parts.format ≡ format) × (parts.outcomes ≡ outcomes) × (parts.spec ≡ true)
 
-these : (guess : Guess) (found : Members) (parts : Parts) (facts : Option Facts) (format : Option ℕ) (outcomes : Option (Vec Told Global))
+these : (guess : Guess) (found : Members) (parts : Parts) (facts : Option Facts) (format : Option ℕ) (outcomes : Option (List Told))
     → AreThese parts facts format outcomes → AreParts guess found parts
     → AreParts guess found (record { facts = facts; format = format; outcomes = outcomes; spec = true })
 these guess found parts facts format outcomes is h =
@@ -348,9 +348,9 @@ facts-book guess parts built (Some book) spec is made = λ found h.
     facts-value guess found built book spec (these guess found parts (Some (Each built)) (Some 1) None is h)
     (λ i. record { file = made.0 i; facts = made.1 i })
 
-pub runs-book : (guess : Guess) (parts : Parts) (runs : Vec Run Global) (outcomes : Vec Told Global) (o : Option Contents) → IsGuess guess
-    → AreThese parts (Some (Runs runs)) (Some 2) (Some outcomes) → length outcomes.items ≡ guess.outcomes
-    → IfSome o (λ book. (book.file ≡ guess.spec) × (book.facts ≡ facts_in outcomes.items runs.items))
+pub runs-book : (guess : Guess) (parts : Parts) (runs : Vec Run Global) (outcomes : List Told) (o : Option Contents) → IsGuess guess
+    → AreThese parts (Some (Runs runs)) (Some 2) (Some outcomes) → length outcomes ≡ guess.outcomes
+    → IfSome o (λ book. (book.file ≡ guess.spec) × (book.facts ≡ facts_in outcomes runs.items))
     → IfSome o (λ book. (found : Members) → AreParts guess found parts → IsBookValue (object found) (Ok book))
 runs-book guess parts runs outcomes None spec is size made = tt
 runs-book guess parts runs outcomes (Some book) spec is size made = λ found h.

@@ -1,6 +1,5 @@
 -- What the members of a book's object are that were read so far, whose spec, number of outcomes and format were guessed.
-use Rattle.std.specs.Prelude.{◌≡◌, ℕ, ◌+◌, Bool, true, false, List, [], codes, Option, Some, None, Ok, Vec, string_bytes}
-use Rattle.std.specs.declared.alloc.Global.{Global}
+use Rattle.std.specs.Prelude.{◌≡◌, ℕ, ◌+◌, Bool, true, false, List, [], codes, Option, Some, None, Ok, string_bytes}
 use Rattle.std.specs.FinSet.{from_list}
 use Rattle.json.specs.Token.{Token}
 use Rattle.serde_json.specs.Data.{Data, array, object, Items, Members, put}
@@ -29,8 +28,8 @@ IsFactsPart guess (Each built) d =
 IsFactsPart guess (Runs runs) d = (ds : Items) × (d ≡ array ds) × AreRunsOf guess.spec.run guess.outcomes ds (Ok runs.items)
 
 -- a value is the outcomes of a book
-abbrev pub IsOutcomesPart : Guess → Vec Told Global → Data → Type 0
-IsOutcomesPart guess outcomes d = (ds : Items) × (d ≡ array ds) × AreOutcomes guess.spec.run [] ds (Ok outcomes.items)
+abbrev pub IsOutcomesPart : Guess → List Told → Data → Type 0
+IsOutcomesPart guess outcomes d = (ds : Items) × (d ≡ array ds) × AreOutcomes guess.spec.run [] ds (Ok outcomes)
 
 -- a value is the number of a format
 abbrev pub IsFormatPart : ℕ → Data → Type 0

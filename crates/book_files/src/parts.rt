@@ -9,7 +9,7 @@ ghost use Rattle.book_files.specs.Pieces.{AreAllParts, AreNone, IsFactsPart, IsF
 
 use crate::guess::Guess;
 use book_format::{facts_at, outcomes_at, runs_at, value_at};
-use compact_outcomes::CompactOutcome;
+use compact_outcomes::CompactOutcomes;
 use fact_books::{Builder, Run};
 use json::{Reader, Scratch, Token};
 use std::alloc::Global;
@@ -29,7 +29,7 @@ pub(crate) enum Facts {
 pub(crate) struct Parts {
     pub(crate) facts: Option<Facts>,
     pub(crate) format: Option<u64>,
-    pub(crate) outcomes: Option<Vec<CompactOutcome>>,
+    pub(crate) outcomes: Option<CompactOutcomes>,
     /// Whether the text of the spec is read, which is the one that was guessed.
     pub(crate) spec: bool,
 }

@@ -11,7 +11,7 @@ ghost use Rattle.book_files.specs.Pieces.{AreParts, HasParts, IsFactsPart, IsGue
 use crate::guess::{Guess, guess_of};
 use crate::parts::{Facts, Parts, parts_of};
 use book_format::MAX_TEXT;
-use compact_outcomes::CompactOutcome;
+use compact_outcomes::CompactOutcomes;
 use fact_books::{Book, Builder, Run};
 use json::Scratch;
 use std::alloc::Global;
@@ -92,13 +92,13 @@ fn facts_book(alloc: Global, guess: &Guess, builder: Builder) -> Option<Book>
 fn runs_book(
     alloc: Global,
     guess: &Guess,
-    outcomes: Vec<CompactOutcome>,
+    outcomes: CompactOutcomes,
     runs: Vec<Run>,
 ) -> Option<Book>
-    requires size { length outcomes.items ≡ guess.now.outcomes }
+    requires size { length outcomes ≡ guess.now.outcomes }
     requires outcomes { (d : Data) × IsOutcomesPart guess.now outcomes d }
     requires runs { (d : Data) × IsFactsPart guess.now (Facts.Runs runs) d }
-    ensures { IfSome result (λ book. (book.file ≡ guess.now.spec) × (book.facts ≡ facts_in outcomes.items runs.items)) }
+    ensures { IfSome result (λ book. (book.file ≡ guess.now.spec) × (book.facts ≡ facts_in outcomes runs.items)) }
 {
     match Book::of_runs(alloc, &guess.spec, outcomes, runs) {
         Ok(book) => Some(book),

@@ -9,7 +9,6 @@ use Rattle.json.specs.Print.{print, ArePrintable, IsPrintable}
 use Rattle.json.specs.Written.{Written}
 use Rattle.json.proofs.Printed.Utf8.{IsUtf8-are_ascii}
 use Rattle.serde_json.specs.Read.{max_depth, of_json, read}
-use Rattle.book_format.specs.ReadingBooks.{IsValueOf}
 use Rattle.book_format.specs.Compacting.{AreAlike, IsCopied}
 use Rattle.book_format.proofs.TextLemmas.{tokens-line}
 

@@ -14,7 +14,7 @@ use Rattle.fact_books.specs.Sweep.{IsIn}
 use Rattle.fact_books.proofs.RunLemmas.{has-grown, AllSound-push, AllSound-at}
 use Rattle.fact_books.proofs.VerdictLemmas.{in-push}
 use Rattle.fact_books.proofs.SweepLemmas.{any-push, any-taken, take-past}
-use Rattle.book_format.specs.Forms.{AllAfter, Rises, IsLater, run_cmp, tag_kind, tag_number}
+use Rattle.book_format.specs.Forms.{AllAfter, Rises, IsLater}
 use Rattle.book_format.specs.Canonical.{AreInTurn, IsBefore, IsJoiningInTurn}
 use Rattle.book_format.proofs.CanonicalLemmas.{rises-push, sound-last}
 

@@ -1,15 +1,14 @@
 -- What bytes are read as is one: each relation of reading has one answer at most.
-use Rattle.std.proofs.Common.{◌≡◌, ◌≢◌, sym, ap, subst, ◌∙◌, ℕ, ◌+◌, ◌-◌, ◌<◌, ◌≤◌, List, [], ◌∷◌, ◌++◌, length, codes, Option, Some, None, Ok, Err, inl, inr}
+use Rattle.std.proofs.Common.{◌≡◌, sym, subst, ◌∙◌, ℕ, ◌+◌, ◌-◌, ◌<◌, ◌≤◌, List, [], ◌∷◌, ◌++◌, length, codes, Option, Some, Ok, Err, inl, inr}
 use Rattle.serde_json.specs.Data.{Data, Items, no_items, item}
-use Rattle.bound_specs.specs.Spec.{Spec, SpecFile, ranks}
+use Rattle.bound_specs.specs.Spec.{Spec, ranks}
 use Rattle.bound_specs.specs.Binding.{IsFileOf}
 use Rattle.bound_specs.proofs.FileLemmas.{one-file}
-use Rattle.rank_facts.specs.declared.fact.Fact.{Fact}
 use Rattle.rank_facts.specs.declared.fact.Fact.TheVariants.{Ran, Swap}
 use Rattle.fact_books.specs.declared.run.Run.{Run}
 use Rattle.fact_books.specs.Entries.{Told, Entry}
 use Rattle.fact_books.specs.Runs.{Table}
-use Rattle.fact_books.specs.Books.{Contents, facts_in}
+use Rattle.fact_books.specs.Books.{facts_in}
 use Rattle.std.specs.FinSet.{from_list}
 use Rattle.book_format.specs.declared.error.BookError.{BookError}
 use Rattle.book_format.specs.declared.error.BookError.TheVariants.{NotJson, BadField, BadVersion, BadSpec, BadRank, OutOfOrder, BadSwap, TooLarge}
@@ -19,8 +18,8 @@ use Rattle.book_format.specs.declared.reading.parts.Version.TheVariants.{Facts, 
 use Rattle.book_format.specs.Forms.{ComesBefore}
 use Rattle.book_format.specs.Reading.{Read, Unless, Given, Then, Gives, StandsAfter, IsOutcomeValue, IsOutcome, IsNextOutcome, AreOutcomes}
 use Rattle.book_format.specs.ReadingRuns.{span_in, run_of, IsLed, IsPast, IsNextRun, AreRuns, AllNamed, AreRunsOf}
-use Rattle.book_format.specs.ReadingFacts.{place_in, IsRan, IsSwap, IsFact, entry_parts, IsEntry, IsFactLed, ComesUnder, IsNextEntry, AreEntries}
-use Rattle.book_format.specs.ReadingBooks.{FactParts, RunParts, fact_parts, run_parts, format_in, version_with, IsFactsOf, IsRunsOf, IsFactsBook, IsRunsBook}
+use Rattle.book_format.specs.ReadingFacts.{place_in, IsFact, entry_parts, IsEntry, IsFactLed, ComesUnder, IsNextEntry, AreEntries}
+use Rattle.book_format.specs.ReadingBooks.{fact_parts, run_parts, format_in, version_with, IsFactsOf, IsRunsOf, IsFactsBook, IsRunsBook}
 use Rattle.book_format.specs.ReadingBooks.{IsBookOf}
 use Rattle.book_format.specs.ReadingBooks.{IsBookValue, IsValueOf, IsBookFile}
 use Rattle.compact_outcomes.proofs.OutcomeValues.{told-one}

@@ -1,9 +1,8 @@
 -- A book's text is the pieces in which it is written.
-use Rattle.std.proofs.Common.{◌≡◌, refl, sym, ap, ◌∙◌, ℕ, ◌-◌, true, false, List, [], ◌∷◌, ◌++◌, map, codes, append_assoc}
+use Rattle.std.proofs.Common.{◌≡◌, refl, sym, ap, ◌∙◌, ℕ, ◌-◌, false, List, [], ◌∷◌, ◌++◌, map, codes, append_assoc}
 use Rattle.std.specs.Prelude.{decimal, flat_map, string_bytes}
 use Rattle.std.specs.Fmt.{digits}
 use Rattle.std.specs.List.{join_by}
-use Rattle.std.specs.declared.string.String.{String}
 use Rattle.json.specs.Print.{quoted, escape_byte}
 use Rattle.serde_json.specs.Data.{Data, string}
 use Rattle.serde_json.specs.View.{items_of}
@@ -19,7 +18,7 @@ use Rattle.compact_outcomes.proofs.CompactLemmas.{others-text}
 use Rattle.book_format.specs.Forms.{IsForm, tag_number}
 use Rattle.book_format.specs.BookText.{tag_data, run_data, book_data, book_text}
 use Rattle.book_format.specs.declared.pieces.Pieces.{Pieces}
-use Rattle.book_format.specs.Pieces.{tag_front, run_text, told_text, facts_text, spec_text, parts_text}
+use Rattle.book_format.specs.Pieces.{tag_front, run_text, told_text, parts_text}
 use Rattle.book_format.specs.Writing.{ArePieces}
 
 -- ---- lists

@@ -1,7 +1,7 @@
 -- Outcomes and runs that are read already, and the text of a book of these.
 use Rattle.std.proofs.Common.{◌≡◌, refl, sym, ap, subst, ◌∙◌, ℕ, ◌+◌, ◌-◌, ◌<◌, ◌≤◌, List, [], ◌∷◌, ◌++◌, append_assoc, append-nil, map, length, get_or, drop}
 use Rattle.std.proofs.Common.{take}
-use Rattle.std.proofs.Common.{Option, Some, Result, Ok, Err, Bool, inl, inr, arith}
+use Rattle.std.proofs.Common.{Option, Some, Result, Ok, Err, Bool, inl, inr}
 use Rattle.std.specs.Prelude.{All, IsTrue, IsUtf8, OnOk, nat_eq}
 use Rattle.std.specs.Io.KnownBytes.{Appends}
 use Rattle.std.specs.List.{starts_with}
@@ -14,7 +14,6 @@ use Rattle.serde_json.specs.View.{items_of}
 use Rattle.serde_json.specs.Read.{read}
 use Rattle.serde_json.specs.Written.{compact_text}
 use Rattle.serde_json.proofs.OnLiterals.{serde_json_on_literals}
-use Rattle.transcripts.specs.Outcome.{OutcomeFits}
 use Rattle.transcripts.specs.Counted.{Wrote, Prints}
 use Rattle.transcripts.specs.declared.counted.Counted.{Counted}
 use Rattle.transcripts.proofs.Writing.{wrote-append}
@@ -31,7 +30,7 @@ use Rattle.book_format.specs.declared.reading.runs.Ends.{Ends}
 use Rattle.book_format.specs.BookText.{run_data, book_data}
 use Rattle.book_format.specs.Laws.{RunFits}
 use Rattle.book_format.specs.Pieces.{parts_text}
-use Rattle.book_format.specs.Reading.{Read, IsNextOutcome, AreOutcomes}
+use Rattle.book_format.specs.Reading.{IsNextOutcome, AreOutcomes}
 use Rattle.book_format.specs.ReadingBooks.{IsBookFile}
 use Rattle.book_format.specs.ReadingRuns.{IsApart, IsNextRun, AreRuns, AreRunsOf, AreEnds, IsReadingRuns}
 use Rattle.book_format.proofs.PiecesLemmas.{parts-text}

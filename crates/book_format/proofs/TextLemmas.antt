@@ -1,9 +1,8 @@
 -- The text of a book reads as the book's value.
-use Rattle.std.proofs.Common.{◌≡◌, refl, sym, ap, ap₂, ◌∙◌, subst, ℕ, suc, ◌-◌, ◌^◌, ◌<◌, ◌≤◌}
-use Rattle.std.proofs.Common.{max, pos, negsuc, Bool, true, false, cond, ◌&&◌, List, [], ◌∷◌, ◌++◌, map}
+use Rattle.std.proofs.Common.{◌≡◌, refl, sym, ap, ap₂, ◌∙◌, subst, ℕ, ◌-◌, ◌^◌, ◌<◌, ◌≤◌}
+use Rattle.std.proofs.Common.{Bool, true, false, cond, ◌&&◌, List, [], ◌∷◌, ◌++◌, map}
 use Rattle.std.proofs.Common.{codes, Some, append_assoc, append-nil, arith}
-use Rattle.std.specs.Prelude.{⊤, All, option_map, option_and_then}
-use Rattle.std.proofs.lemmas.List.Elements.{All-head, All-tail}
+use Rattle.std.specs.Prelude.{All, option_map, option_and_then}
 use Rattle.json.specs.Token.{Token, begin_object, end_object, begin_array, end_array, key, string, number, boolean, null, bad}
 use Rattle.json.specs.Word.{ends_word, word}
 use Rattle.json.specs.Lex.{Lexeme, token, comma, colon, string_token, lex, between, fresh, punctuate, tokens}
@@ -12,29 +11,18 @@ use Rattle.json.specs.Json as json
 use Rattle.json.specs.Tree as tree
 use Rattle.json.proofs.Printed.Strings.{content-escape, lex-escape}
 use Rattle.json.proofs.Printed.Numbers.{lex-number, in_word-ended}
-use Rattle.json.proofs.Printed.Decimals.{IsNumber-decimal, IsNumber-signed_decimal}
 use Rattle.json.proofs.Printed.Tokens.{tokens-print}
 use Rattle.json.proofs.Printed.Trees.{value-json_tokens, ArePrintable-json_tokens}
 use Rattle.serde_json.specs.Data as value
-use Rattle.serde_json.specs.View.{items_of}
-use Rattle.serde_json.specs.Read.{read, max_depth, of_json, of_items}
-use Rattle.serde_json.specs.Written.{compact_text, outline, items_outline, members_outline}
-use Rattle.serde_json.proofs.Numbers.{number_of-decimal, number_of-negative}
+use Rattle.serde_json.specs.Read.{read, max_depth, of_json}
+use Rattle.serde_json.specs.Written.{compact_text, outline}
 use Rattle.serde_json.proofs.Texts.{print-outline}
 use Rattle.serde_json.proofs.OnLiterals.{serde_json_on_literals}
-use Rattle.lock_modes.specs.declared.value.Value.{Value}
-use Rattle.lock_modes.specs.declared.value.Value.TheVariants.{Int, Text}
-use Rattle.transcripts.specs.declared.event.Fault.TheVariants.{Duplicate, OutOfRange, Deadlock, Aborted, Unavailable}
-use Rattle.transcripts.specs.declared.event.Warning.TheVariants.{InBlock, NoBlock}
-use Rattle.transcripts.specs.declared.event.Event.{Event}
-use Rattle.transcripts.specs.declared.event.Event.TheVariants.{Sent, Row, Rows, Inserted, Updated, Deleted, Began, Committed, RolledBack, Locked, Set, Warned}
-use Rattle.transcripts.specs.declared.event.Event.TheVariants.{Failed, Waiting, Resumed, Done, NotSent}
-use Rattle.transcripts.specs.Outcome.{CellFits, EventFits, OutcomeFits}
-use Rattle.transcripts.specs.Json.{list, whole, cell_data, event_data, session_data, outcome_data}
+use Rattle.transcripts.specs.Outcome.{OutcomeFits}
+use Rattle.transcripts.specs.Json.{list, whole, outcome_data}
 use Rattle.fact_books.specs.declared.run.Run.{Run}
 use Rattle.fact_books.specs.declared.run.Tag.{Tag}
 use Rattle.fact_books.specs.declared.run.Tag.TheVariants.{Ran, Swap}
-use Rattle.fact_books.specs.Entries.{Told}
 use Rattle.fact_books.specs.Runs.{Table}
 use Rattle.book_format.specs.Forms.{tag_number}
 use Rattle.book_format.specs.BookText.{tag_data, run_data, book_data, book_text}

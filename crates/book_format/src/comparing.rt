@@ -11,7 +11,7 @@ use crate::pieces::{MAX_FACTS, MAX_TEXT};
 use crate::printing::print_parts;
 use crate::reading::{Listed, are_runs};
 use bound_specs::Spec;
-use compact_outcomes::{CompactOutcome, string_text};
+use compact_outcomes::{CompactOutcome, CompactOutcomes, string_text};
 use fact_books::{Book, Run};
 use std::alloc::{AllocError, Global};
 use std::io::Write;
@@ -37,10 +37,10 @@ fn book_of_listed(
     alloc: Global,
     bytes: &[u8],
     spec: &Spec,
-    outcomes: Vec<CompactOutcome>,
+    outcomes: CompactOutcomes,
     runs: Vec<Run>,
 ) -> Result<Option<Book>, AllocError>
-    requires { IsListed spec.now.run outcomes.items }
+    requires { IsListed spec.now.run outcomes }
     ensures { IfOk result (λ book. IfSome book (λ book. IsBookFile bytes.now (Ok book))) }
 {
     spec.known();
@@ -52,7 +52,8 @@ fn book_of_listed(
         return Ok(None);
     }
     let quoted = string_text(alloc, spec.text())?;
-    if !is_text(bytes, runs.as_slice(), outcomes.as_slice(), quoted.as_str()) {
+    let same = is_text_of(alloc, bytes, runs.as_slice(), &outcomes, quoted.as_str())?;
+    if !same {
         return Ok(None);
     }
     Ok(Some(Book::of_runs(alloc, spec, outcomes, runs)?))
@@ -67,7 +68,21 @@ fn are_text(bytes: &[u8]) -> bool
 }
 
 /// Whether these bytes are the text of runs, of outcomes and of a spec's text as a JSON string.
-fn is_text(bytes: &[u8], runs: &[Run], outcomes: &[CompactOutcome], quoted: &str) -> bool
+fn is_text_of(
+    alloc: Global,
+    bytes: &[u8],
+    runs: &[Run],
+    outcomes: &CompactOutcomes,
+    quoted: &str,
+) -> Result<bool, AllocError>
+    ensures { IfOk result (λ is. IsTrue is → bytes.now ≡ parts_text runs.now outcomes.now quoted.now) }
+{
+    let outcomes = outcomes.all(alloc)?;
+    Ok(is_text(bytes, runs, outcomes.as_slice(), quoted))
+}
+
+/// The same of outcomes one by one.
+fn is_text(bytes: &[u8], runs: &[Run], outcomes: &[CompactOutcome<'_>], quoted: &str) -> bool
     ensures { IsTrue result → bytes.now ≡ parts_text runs.now outcomes.now quoted.now }
 {
     let mut out = Counted::new(Expected { bytes, done: 0 });

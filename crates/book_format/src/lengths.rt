@@ -96,7 +96,7 @@ fn digits(number: u64) -> u64
 }
 
 /// How long the texts of outcomes are with commas between them, or the largest number where they are longer.
-pub(crate) fn outcomes_len(outcomes: &[CompactOutcome]) -> u64
+pub(crate) fn outcomes_len(outcomes: &[CompactOutcome<'_>]) -> u64
     ensures { result ≡ min (length (join_by told_text (codes ",") outcomes.now)) u64.MAX }
 {
     match outcomes.split_first() {
@@ -105,7 +105,7 @@ pub(crate) fn outcomes_len(outcomes: &[CompactOutcome]) -> u64
     }
 }
 
-fn other_outcomes_len(outcomes: &[CompactOutcome]) -> u64
+fn other_outcomes_len(outcomes: &[CompactOutcome<'_>]) -> u64
     ensures { result ≡ min (length (flat_map (after_comma told_text) outcomes.now)) u64.MAX }
 {
     let mut len: u64 = 0;
@@ -116,8 +116,8 @@ fn other_outcomes_len(outcomes: &[CompactOutcome]) -> u64
 }
 
 /// How long the text of an outcome is.
-fn outcome_len(outcome: &CompactOutcome) -> u64
+fn outcome_len(outcome: &CompactOutcome<'_>) -> u64
     ensures { result ≡ length (told_text outcome.now) }
 {
-    outcome.as_str().len() as u64
+    outcome.as_bytes().len() as u64
 }

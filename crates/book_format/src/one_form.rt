@@ -9,22 +9,21 @@ ghost use Rattle.book_format.specs.Numbering.{AreFlags, AreFlagged, AreNumbers, 
 use crate::canonical::canonical;
 use compact_outcomes::CompactOutcome;
 use fact_books::{Run, Tag, renumber};
-use finite_maps::Fork;
 use std::alloc::{AllocError, Global};
 
 /// Outcomes in the order of their texts, and runs that name them.
 #[derive(Drop)]
-pub(crate) struct OneForm {
-    pub(crate) outcomes: Vec<CompactOutcome>,
+pub(crate) struct OneForm<'a> {
+    pub(crate) outcomes: Vec<CompactOutcome<'a>>,
     pub(crate) runs: Vec<Run>,
 }
 
 /// The one form of what these runs say of these outcomes.
-pub(crate) fn one_form(
+pub(crate) fn one_form<'a>(
     alloc: Global,
-    outcomes: &[CompactOutcome],
+    outcomes: &[CompactOutcome<'a>],
     runs: &[Run],
-) -> Result<OneForm, AllocError>
+) -> Result<OneForm<'a>, AllocError>
     requires { AllSound (length outcomes.now) runs.now }
     ensures { IfOk result (λ form. IsForm (facts_in outcomes.now runs.now) form.outcomes.items form.runs.items) }
 {
@@ -56,11 +55,11 @@ fn flags_of(alloc: Global, outcomes: usize, runs: &[Run]) -> Result<Vec<bool>, A
 }
 
 /// The outcomes with a flag, once each, in the order of their texts.
-fn named(
+fn named<'a>(
     alloc: Global,
-    outcomes: &[CompactOutcome],
+    outcomes: &[CompactOutcome<'a>],
     flags: &[bool],
-) -> Result<Vec<CompactOutcome>, AllocError>
+) -> Result<Vec<CompactOutcome<'a>>, AllocError>
     requires { length flags.now ≡ length outcomes.now }
     ensures rises { IfOk result (λ out. Rises ComesBefore out.items) }
     ensures named { IfOk result (λ out. AreFlagged outcomes.now flags.now out.items) }
@@ -72,18 +71,18 @@ fn named(
 }
 
 /// The outcomes with a flag.
-fn flagged(
+fn flagged<'a>(
     alloc: Global,
-    outcomes: &[CompactOutcome],
+    outcomes: &[CompactOutcome<'a>],
     flags: &[bool],
-) -> Result<Vec<CompactOutcome>, AllocError>
+) -> Result<Vec<CompactOutcome<'a>>, AllocError>
     requires { length flags.now ≡ length outcomes.now }
     ensures { IfOk result (λ out. AreFlagged outcomes.now flags.now out.items) }
 {
     let mut out = Vec::new(alloc);
     for n in 0..outcomes.len() {
         if flags[n] {
-            out.push(outcomes[n].fork()?)?;
+            out.push(outcomes[n].again())?;
         }
     }
     Ok(out)
@@ -92,8 +91,8 @@ fn flagged(
 /// Where each outcome stands among those that rise, or 0 where it is not there.
 fn numbers_of(
     alloc: Global,
-    outcomes: &[CompactOutcome],
-    named: &[CompactOutcome],
+    outcomes: &[CompactOutcome<'_>],
+    named: &[CompactOutcome<'_>],
 ) -> Result<Vec<usize>, AllocError>
     requires { Rises ComesBefore named.now }
     ensures { IfOk result (λ numbers. AreNumbers outcomes.now named.now numbers.items) }
@@ -106,7 +105,7 @@ fn numbers_of(
 }
 
 /// Where the outcome stands among those that rise, or 0 where it is not there.
-fn number_of(outcome: &CompactOutcome, named: &[CompactOutcome]) -> usize
+fn number_of(outcome: &CompactOutcome<'_>, named: &[CompactOutcome<'_>]) -> usize
     requires { Rises ComesBefore named.now }
     ensures { IsNumber named.now outcome.now result }
 {

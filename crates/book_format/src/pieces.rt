@@ -22,14 +22,14 @@ pub const MAX_FACTS: u64 = 30_000_000;
 const FIXED_LEN: u64 = 46;
 
 /// The runs of a book, its outcomes, and its spec's text as a JSON string.
-pub(crate) struct Pieces {
+pub(crate) struct Pieces<'a> {
     pub(crate) runs: Vec<Run>,
-    pub(crate) outcomes: Vec<CompactOutcome>,
+    pub(crate) outcomes: Vec<CompactOutcome<'a>>,
     pub(crate) quoted: String,
 }
 
 // Written out and not derived, so that who owns one calls this and does not let its parts go one by one.
-impl Drop for Pieces {
+impl Drop for Pieces<'_> {
     fn drop(self) {
         let Pieces {
             runs: _runs,
@@ -40,7 +40,7 @@ impl Drop for Pieces {
 }
 
 /// The pieces of a book's one text, if neither it nor the facts are over their limit.
-pub(crate) fn pieces_of(alloc: Global, book: &Book) -> Result<Pieces, WriteError>
+pub(crate) fn pieces_of(alloc: Global, book: &Book) -> Result<Pieces<'_>, WriteError>
     ensures pieces { IfOk result (ArePieces book.now) }
     ensures fit { IfOk result (λ pieces. AreTooLarge pieces → ⊥) }
     ensures widths { IfOk result (λ pieces. All RunFits pieces.runs.items) }
@@ -55,11 +55,12 @@ pub(crate) fn pieces_of(alloc: Global, book: &Book) -> Result<Pieces, WriteError
     Ok(pieces)
 }
 
-fn all_pieces(alloc: Global, book: &Book) -> Result<Pieces, AllocError>
+fn all_pieces(alloc: Global, book: &Book) -> Result<Pieces<'_>, AllocError>
     ensures { IfOk result (ArePieces book.now) }
 {
     let (outcomes, runs) = book.parts();
-    let form = one_form(alloc, outcomes, runs)?;
+    let outcomes = outcomes.all(alloc)?;
+    let form = one_form(alloc, outcomes.as_slice(), runs)?;
     let quoted = string_text(alloc, book.text())?;
     Ok(Pieces {
         runs: form.runs,
@@ -69,7 +70,7 @@ fn all_pieces(alloc: Global, book: &Book) -> Result<Pieces, AllocError>
 }
 
 /// What holds of outcomes that are kept as texts.
-fn known_texts(outcomes: &[CompactOutcome])
+fn known_texts(outcomes: &[CompactOutcome<'_>])
     ensures { All IsUtf8Told outcomes.now }
 {
     for outcome in outcomes {
@@ -78,7 +79,7 @@ fn known_texts(outcomes: &[CompactOutcome])
 }
 
 /// Whether the text that the pieces make, or the number of facts, is over its limit.
-fn are_too_large(pieces: &Pieces) -> bool
+fn are_too_large(pieces: &Pieces<'_>) -> bool
     ensures large { IsTrue result ↔ AreTooLarge pieces.now }
     ensures widths { result ≡ false → All RunFits pieces.now.runs.items }
 {
@@ -86,7 +87,7 @@ fn are_too_large(pieces: &Pieces) -> bool
 }
 
 /// How long the text is that the pieces make, or the largest number where it is longer.
-fn text_len(pieces: &Pieces) -> u64
+fn text_len(pieces: &Pieces<'_>) -> u64
     ensures { result ≡ min (length (text_in pieces.now)) u64.MAX }
 {
     runs_len(pieces.runs.as_slice())

@@ -16,7 +16,10 @@ use std::io::Write;
 use transcripts::{Counted, WriteFault};
 
 /// Writes the text that the pieces make. It takes no memory. After a fault the writer has a front of the text.
-pub(crate) fn print_book<W: Write>(pieces: &Pieces, out: &mut Counted<W>) -> Result<(), WriteFault>
+pub(crate) fn print_book<W: Write>(
+    pieces: &Pieces<'_>,
+    out: &mut Counted<W>,
+) -> Result<(), WriteFault>
     requires { failures_of out.old < u64.MAX }
     ensures { Prints W.contents out.old out.new result (text_in pieces.now) }
 {
@@ -31,7 +34,7 @@ pub(crate) fn print_book<W: Write>(pieces: &Pieces, out: &mut Counted<W>) -> Res
 /// Writes the text of runs, of outcomes and of a spec's text as a JSON string. It takes no memory.
 pub(crate) fn print_parts<W: Write>(
     runs: &[Run],
-    outcomes: &[CompactOutcome],
+    outcomes: &[CompactOutcome<'_>],
     quoted: &str,
     out: &mut Counted<W>,
 ) -> Result<(), WriteFault>
@@ -94,7 +97,7 @@ fn print_number<W: Write>(before: &str, number: u64, out: &mut Counted<W>) -> Re
 }
 
 fn print_outcomes<W: Write>(
-    outcomes: &[CompactOutcome],
+    outcomes: &[CompactOutcome<'_>],
     out: &mut Counted<W>,
 ) -> Result<(), WriteFault>
     requires { failures_of out.old < u64.MAX }
@@ -105,7 +108,7 @@ fn print_outcomes<W: Write>(
 }
 
 fn print_texts<W: Write>(
-    outcomes: &[CompactOutcome],
+    outcomes: &[CompactOutcome<'_>],
     out: &mut Counted<W>,
 ) -> Result<(), WriteFault>
     requires { failures_of out.old < u64.MAX }
@@ -122,7 +125,7 @@ fn print_texts<W: Write>(
 
 /// Each text after a comma.
 fn print_other_texts<W: Write>(
-    outcomes: &[CompactOutcome],
+    outcomes: &[CompactOutcome<'_>],
     out: &mut Counted<W>,
 ) -> Result<(), WriteFault>
     requires { failures_of out.old < u64.MAX }
@@ -135,11 +138,14 @@ fn print_other_texts<W: Write>(
     Ok(())
 }
 
-fn print_text<W: Write>(outcome: &CompactOutcome, out: &mut Counted<W>) -> Result<(), WriteFault>
+fn print_text<W: Write>(
+    outcome: &CompactOutcome<'_>,
+    out: &mut Counted<W>,
+) -> Result<(), WriteFault>
     requires { failures_of out.old < u64.MAX }
     ensures { Prints W.contents out.old out.new result (told_text outcome.now) }
 {
-    out.write_str(outcome.as_str())
+    out.write_all(outcome.as_bytes())
 }
 
 fn print_spec<W: Write>(quoted: &str, out: &mut Counted<W>) -> Result<(), WriteFault>

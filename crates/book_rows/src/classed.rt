@@ -14,7 +14,7 @@ use order_classes::{ClassRow, Totals};
 use std::alloc::{AllocError, Global};
 
 /// What books tell, in classes.
-pub struct BookClasses {
+pub struct BookClasses<'a> {
     /// How many ranks show what: the letters S and R are not told.
     pub totals: Totals,
     /// The classes in the order of their least ranks, with nothing of what is left.
@@ -22,11 +22,11 @@ pub struct BookClasses {
     /// Which ranks are missing, where any are.
     pub missing: Option<Missing>,
     /// Which ranks are in which class: its number is the place of its row. A rank that is missing is in none.
-    pub told: ToldRanks,
+    pub told: ToldRanks<'a>,
 }
 
 // Written out and not derived, so that who owns one calls this and does not let its parts go one by one.
-impl Drop for BookClasses {
+impl Drop for BookClasses<'_> {
     fn drop(self) {
         let BookClasses {
             totals: _,
@@ -38,12 +38,12 @@ impl Drop for BookClasses {
 }
 
 /// The ranks of a book's spec in classes by what is told of them.
-pub fn classes_of(
+pub fn classes_of<'a>(
     alloc: Global,
     book: &Book,
     spec: &Spec,
-    told: ToldRanks,
-) -> Result<BookClasses, AllocError>
+    told: ToldRanks<'a>,
+) -> Result<BookClasses<'a>, AllocError>
     requires spec { spec.now ≡ book.now.file }
     requires told { AreTold book.now told }
     ensures { IfOk result (IsClassedBook book.now) }

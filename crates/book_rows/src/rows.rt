@@ -17,7 +17,7 @@ use std::alloc::{AllocError, Global};
 pub(crate) fn rows_of(
     alloc: Global,
     spec: &Spec,
-    told: &ToldRanks,
+    told: &ToldRanks<'_>,
 ) -> Result<Vec<ClassRow>, AllocError>
     requires { AreInClasses (ranks spec.now.run) told.now }
     ensures { IfOk result (λ rows. AreRowsOf spec.now.run told.now rows.items) }
@@ -38,7 +38,7 @@ fn row_of(
     alloc: Global,
     spec: &Spec,
     tally: Tally,
-    outcome: &CompactOutcome,
+    outcome: &CompactOutcome<'_>,
 ) -> Result<ClassRow, AllocError>
     requires { tally.least < ranks spec.now.run }
     ensures { IfOk result (IsRowOf spec.now.run tally outcome.now) }
@@ -57,7 +57,7 @@ fn row_of(
 }
 
 /// What is told alone, with nothing of what is left.
-fn shown(alloc: Global, outcome: &CompactOutcome) -> Result<Shows, AllocError>
+fn shown(alloc: Global, outcome: &CompactOutcome<'_>) -> Result<Shows, AllocError>
     ensures { IfOk result (λ shows. shows ≡ told_alone outcome.now) }
 {
     Ok(Shows {

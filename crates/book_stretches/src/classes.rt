@@ -6,18 +6,17 @@ ghost use Rattle.book_stretches.specs.Classes.{HasNumber};
 
 use crate::numbers::Numbers;
 use compact_outcomes::CompactOutcome;
-use finite_maps::Fork;
 use std::alloc::{AllocError, Global};
 use std::marker::Model;
 
 /// Outcomes, each once, in the order of the classes that tell them, seen by contracts as that list.
-pub(crate) struct Classes {
-    outcomes: Vec<CompactOutcome>,
-    numbers: Numbers,
+pub(crate) struct Classes<'a> {
+    outcomes: Vec<CompactOutcome<'a>>,
+    numbers: Numbers<'a>,
 }
 
 // Written out and not derived, so that who owns one calls this and does not let its parts go one by one.
-impl Drop for Classes {
+impl Drop for Classes<'_> {
     fn drop(self) {
         let Classes {
             outcomes: _outcomes,
@@ -26,7 +25,7 @@ impl Drop for Classes {
     }
 }
 
-impl Model for Classes {
+impl<'a> Model for Classes<'a> {
     ghost use Rattle.std.specs.Prelude.{List};
     ghost use Rattle.fact_books.specs.Entries.{Told};
     ghost use Rattle.book_stretches.specs.Classes.{AreNumbered};
@@ -38,8 +37,8 @@ impl Model for Classes {
     ghost invariant = { λ c. AreNumbered c.outcomes.items c.numbers };
 }
 
-impl Classes {
-    pub fn new(alloc: Global) -> Classes
+impl<'a> Classes<'a> {
+    pub fn new(alloc: Global) -> Classes<'a>
         ensures { result ≡ [] }
     {
         Classes {
@@ -56,7 +55,7 @@ impl Classes {
     }
 
     /// The outcome of a class.
-    pub fn outcome(&self, class: u32) -> &CompactOutcome
+    pub fn outcome(&self, class: u32) -> &CompactOutcome<'a>
         requires { class < length self.now }
         ensures { slice_get self.now class ≡ Some result.now }
     {
@@ -64,7 +63,7 @@ impl Classes {
     }
 
     /// The class of an outcome, if it is there.
-    fn find(&self, outcome: &CompactOutcome) -> Option<u32>
+    fn find(&self, outcome: &CompactOutcome<'a>) -> Option<u32>
         ensures number { MatchOption result ((n : ℕ) → slice_get self.now n ≡ Some outcome.now → ⊥) (λ n. slice_get self.now n ≡ Some outcome.now) }
         ensures few { length self.now < 2 ^ 32 }
     {
@@ -75,7 +74,7 @@ impl Classes {
     }
 
     /// The class of an outcome, which is added behind the others where it is not there.
-    pub fn number(&mut self, outcome: &CompactOutcome) -> Result<u32, AllocError>
+    pub fn number(&mut self, outcome: &CompactOutcome<'a>) -> Result<u32, AllocError>
         ensures ok { IfOk result (HasNumber self.old self.new outcome.now) }
         ensures err { OnErr result (self.new ≡ self.old) }
     {
@@ -86,7 +85,7 @@ impl Classes {
     }
 
     /// Adds what is not there.
-    fn add(&mut self, outcome: &CompactOutcome) -> Result<u32, AllocError>
+    fn add(&mut self, outcome: &CompactOutcome<'a>) -> Result<u32, AllocError>
         requires { (n : ℕ) → slice_get self.old n ≡ Some outcome.now → ⊥ }
         ensures ok { IfOk result (λ n. (n ≡ length self.old) × (n + 1 < 2 ^ 32) × (self.new ≡ self.old ++ outcome.now ∷ [])) }
         ensures err { OnErr result (self.new ≡ self.old) }
@@ -98,16 +97,14 @@ impl Classes {
         if number == u32::MAX {
             return Err(AllocError);
         }
-        let copy = outcome.fork()?;
-        let key = outcome.fork()?;
         self.outcomes.reserve(1)?;
-        self.numbers.put(key, number)?;
-        self.outcomes.push_reserved(copy);
+        self.numbers.put(outcome.again(), number)?;
+        self.outcomes.push_reserved(outcome.again());
         Ok(number)
     }
 
     /// All of them, in the order of their classes.
-    pub fn into_outcomes(self) -> Vec<CompactOutcome>
+    pub fn into_outcomes(self) -> Vec<CompactOutcome<'a>>
         ensures { result.items ≡ self }
     {
         let Classes {

@@ -29,7 +29,7 @@ pub(crate) enum Verdict {
     Several,
 }
 
-impl Telling<'_> {
+impl Telling<'_, '_> {
     /// What the runs in hand give the next rank.
     pub(crate) fn judged(&self, active: &[Run], until: u64) -> Verdict
         requires telling { IsTelling self.now }
@@ -99,16 +99,16 @@ impl Telling<'_> {
         requires b { IsKnown self.now (Some b) }
         ensures { IsTrue result ↔ (said self.now a ≡ said self.now b) }
     {
-        self.outcome_of(a).is_same(self.outcome_of(b))
+        self.outcome_of(a).is_same(&self.outcome_of(b))
     }
 
-    fn outcome_of(&self, vote: Vote) -> &CompactOutcome
+    fn outcome_of(&self, vote: Vote) -> CompactOutcome<'_>
         requires { IsKnown self.now (Some vote) }
-        ensures { said self.now vote ≡ Some result.now }
+        ensures { said self.now vote ≡ Some result }
     {
         match vote {
-            Vote::Table(n) => &self.outcomes[n],
-            Vote::Class(class) => self.told.outcome(class),
+            Vote::Table(n) => self.outcomes.get(n),
+            Vote::Class(class) => self.told.outcome(class).again(),
         }
     }
 }

@@ -12,7 +12,11 @@ use fact_books::{Book, Run};
 use std::alloc::{AllocError, Global};
 
 /// The ranks of a book's spec that are missing, of which the book tells nothing, where it is told what it tells of each.
-pub fn untold_runs(alloc: Global, book: &Book, told: &ToldRanks) -> Result<Vec<RankRun>, AllocError>
+pub fn untold_runs(
+    alloc: Global,
+    book: &Book,
+    told: &ToldRanks<'_>,
+) -> Result<Vec<RankRun>, AllocError>
     requires { AreTold book.now told.now }
     ensures runs { IfOk result (λ runs. AreUntold book.now (map run_of runs.items)) }
     ensures one { HasNoClash book.now }

@@ -11,11 +11,11 @@ use std::marker::Model;
 
 /// A number for each outcome, seen by contracts as a finite map.
 #[derive(Drop)]
-pub(crate) struct Numbers {
-    numbers: BTreeMap<CompactOutcome, u32>,
+pub(crate) struct Numbers<'a> {
+    numbers: BTreeMap<CompactOutcome<'a>, u32>,
 }
 
-impl Model for Numbers {
+impl<'a> Model for Numbers<'a> {
     ghost use Rattle.std.specs.Coded.{codes};
     ghost use Rattle.finite_maps.specs.Codes.{map_code};
     ghost use Rattle.finite_maps.specs.Map.{of_entries};
@@ -31,8 +31,8 @@ impl Model for Numbers {
     ghost view = { λ n. of_entries outcome_order n.numbers.entries };
 }
 
-impl Numbers {
-    pub fn new(alloc: Global) -> Numbers
+impl<'a> Numbers<'a> {
+    pub fn new(alloc: Global) -> Numbers<'a>
         ensures { result ≡ map.empty }
     {
         Numbers {
@@ -40,13 +40,13 @@ impl Numbers {
         }
     }
 
-    pub fn get(&self, outcome: &CompactOutcome) -> Option<&u32>
+    pub fn get(&self, outcome: &CompactOutcome<'a>) -> Option<&u32>
         ensures { option_copied result ≡ map.get self.now outcome.now }
     {
         self.numbers.get(outcome)
     }
 
-    pub fn put(&mut self, outcome: CompactOutcome, number: u32) -> Result<(), AllocError>
+    pub fn put(&mut self, outcome: CompactOutcome<'a>, number: u32) -> Result<(), AllocError>
         ensures ok { OnOk result (self.new ≡ map.insert self.old outcome number) }
         ensures err { OnErr result (self.new ≡ self.old) }
     {

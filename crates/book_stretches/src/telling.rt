@@ -15,23 +15,23 @@ use crate::sweep::{active_at, border};
 use crate::told::ToldRanks;
 use bound_specs::Spec;
 use class_stretches::Stretches;
-use compact_outcomes::CompactOutcome;
+use compact_outcomes::CompactOutcomes;
 use fact_books::{Lead, Run};
 use std::alloc::{AllocError, Global};
 
 /// What is told of the ranks up to here: the book's spec, outcomes and runs; the class of each of these outcomes, where it is known; the
 /// outcomes of the classes; and the ranks in classes.
-pub(crate) struct Telling<'a> {
+pub(crate) struct Telling<'a, 'b> {
     pub(crate) spec: &'a Spec,
-    pub(crate) outcomes: &'a [CompactOutcome],
+    pub(crate) outcomes: &'b CompactOutcomes,
     pub(crate) runs: &'a [Run],
     pub(crate) classes: Vec<Option<u32>>,
-    pub(crate) told: Classes,
+    pub(crate) told: Classes<'b>,
     pub(crate) stretches: Stretches,
 }
 
 // Written out and not derived, so that who owns one calls this and does not let its parts go one by one.
-impl Drop for Telling<'_> {
+impl Drop for Telling<'_, '_> {
     fn drop(self) {
         let Telling {
             spec: _,
@@ -44,14 +44,14 @@ impl Drop for Telling<'_> {
     }
 }
 
-impl<'a> Telling<'a> {
+impl<'a, 'b> Telling<'a, 'b> {
     /// Nothing is told yet.
     pub(crate) fn new(
         alloc: Global,
         spec: &'a Spec,
-        outcomes: &'a [CompactOutcome],
+        outcomes: &'b CompactOutcomes,
         runs: &'a [Run],
-    ) -> Result<Telling<'a>, AllocError>
+    ) -> Result<Telling<'a, 'b>, AllocError>
         ensures { IfOk result (IsBegun spec.now outcomes.now runs.now) }
     {
         let classes = vec![in alloc; None; outcomes.len()]?;
@@ -66,7 +66,7 @@ impl<'a> Telling<'a> {
     }
 }
 
-impl Telling<'_> {
+impl<'b> Telling<'_, 'b> {
     /// Tells all ranks of the spec. A stretch of which the same runs say all is told at once.
     pub(crate) fn tell_all(&mut self, alloc: Global) -> Result<(), TellError>
         requires telling { IsTelling self.old }
@@ -213,13 +213,13 @@ impl Telling<'_> {
             return Ok(class);
         }
         let outcomes = self.outcomes;
-        let class = self.told.number(&outcomes[n])?;
+        let class = self.told.number(&outcomes.get(n))?;
         mark(&mut self.classes, n, class);
         Ok(class)
     }
 
     /// The ranks and the outcomes of their classes.
-    pub(crate) fn into_told(self) -> ToldRanks
+    pub(crate) fn into_told(self) -> ToldRanks<'b>
         requires telling { IsTelling self }
         requires all { end self ≡ ranks self.spec.now.run }
         ensures { AreTold (book_of self.entry) result }

@@ -104,7 +104,7 @@ fn push_class(text: &mut String, class: Option<u32>) -> Option<()> {
 }
 
 /// X or Y.
-fn push_outcome(alloc: Global, text: &mut String, outcome: &CompactOutcome) -> Option<()> {
+fn push_outcome(alloc: Global, text: &mut String, outcome: &CompactOutcome<'_>) -> Option<()> {
     let outcome = outcome.read(alloc).ok()?;
     if outcome.sessions().last()?.events().len() == 1 {
         text.push_str(" X").ok()
@@ -113,7 +113,7 @@ fn push_outcome(alloc: Global, text: &mut String, outcome: &CompactOutcome) -> O
     }
 }
 
-fn text_of(alloc: Global, told: &ToldRanks) -> Option<String> {
+fn text_of(alloc: Global, told: &ToldRanks<'_>) -> Option<String> {
     let mut text = String::new(alloc);
     for rank in 0..told.stretches.end() {
         push_class(&mut text, told.stretches.class_of(rank))?;

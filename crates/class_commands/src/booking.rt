@@ -58,12 +58,12 @@ pub fn book_classes<O: Opener, W: Write>(
 
 /// The spec of books, and the classes of what they tell.
 #[derive(Drop)]
-struct Found {
+struct Found<'a> {
     spec: Spec,
-    classes: BookClasses,
+    classes: BookClasses<'a>,
 }
 
-fn find_outcomes(alloc: Global, book: &Book) -> Result<Found, BookClassesFault>
+fn find_outcomes(alloc: Global, book: &Book) -> Result<Found<'_>, BookClassesFault>
     ensures found { IfOk result (IsBookFound book.now) }
     ensures refused { IfErr result (IsBookNotFound book.now) }
 {
@@ -84,7 +84,7 @@ fn find_outcomes(alloc: Global, book: &Book) -> Result<Found, BookClassesFault>
 fn write_outcomes<W: Write>(
     alloc: Global,
     paths: &[&str],
-    found: &Found,
+    found: &Found<'_>,
     wanted: &WantedOutcomes,
     out: &mut Counted<W>,
 ) -> Result<(), BookClassesFault>
@@ -104,7 +104,7 @@ fn write_outcomes<W: Write>(
 fn outcomes_told(
     alloc: Global,
     paths: &[&str],
-    found: &Found,
+    found: &Found<'_>,
     wanted: &WantedOutcomes,
 ) -> Result<Written, AllocError>
     ensures { IfOk result (λ w. IsBookText (map (λ p. p.now) paths.now) found.now.spec found.now.classes wanted.now (written_bytes w)) }

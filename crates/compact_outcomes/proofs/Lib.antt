@@ -1,4 +1,5 @@
 pub mod CompactLemmas
 pub mod DataLemmas
 pub mod OutcomeValues
+pub mod PieceLemmas
 pub mod TextLemmas

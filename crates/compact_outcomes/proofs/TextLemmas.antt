@@ -1,7 +1,7 @@
 -- The compact text of an outcome reads as its value.
-use Rattle.std.proofs.Common.{◌≡◌, refl, sym, ap, ◌∙◌, subst, ℕ, suc, ◌^◌, ◌<◌, ◌≤◌, max, pos, negsuc, List, [], ◌∷◌, map}
+use Rattle.std.proofs.Common.{◌≡◌, refl, sym, ap, ◌∙◌, subst, suc, ◌^◌, ◌<◌, ◌≤◌, max, pos, negsuc, List, [], ◌∷◌, map}
 use Rattle.std.proofs.Common.{Some, None, Ok, Err, Option, append-nil, arith}
-use Rattle.std.specs.Prelude.{⊤, All, option_map, option_and_then, unwrap_or}
+use Rattle.std.specs.Prelude.{⊤, All, IsUtf8, option_map, option_and_then, unwrap_or}
 use Rattle.std.proofs.lemmas.List.Elements.{All-head, All-tail}
 use Rattle.json.specs.Json as json
 use Rattle.json.specs.Lex.{tokens}
@@ -180,10 +180,11 @@ unfolding told_in
 text-told o fits =
     ap (λ r. unwrap_or (option_and_then outcome_in r) []) (outcome-read o fits) ∙ ap (λ r. unwrap_or r []) (value-told o fits)
 
-pub text-is : (o : List (List Event)) → OutcomeFits o → IsCompactOutcome (outcome_json o)
-text-is o fits = record {
+pub text-is : (o : List (List Event)) → OutcomeFits o → IsUtf8 (outcome_json o) → IsCompactOutcome (outcome_json o)
+text-is o fits utf8 = record {
   fits = subst OutcomeFits (sym (text-told o fits)) fits;
   compact = ap outcome_json (text-told o fits);
+  utf8 = utf8;
 }
 
 -- which tells no other outcome

@@ -1,2 +1,3 @@
 pub mod CompactTexts
+pub mod Pieces
 pub mod Told

@@ -1,5 +1,5 @@
 -- The outcome that a text tells.
-use Rattle.std.specs.Prelude.{◌≡◌, ℕ, List, [], option_and_then, unwrap_or}
+use Rattle.std.specs.Prelude.{◌≡◌, ℕ, List, [], IsUtf8, option_and_then, unwrap_or}
 use Rattle.serde_json.specs.Read.{read}
 use Rattle.transcripts.specs.declared.event.Event.{Event}
 use Rattle.transcripts.specs.Compact.{outcome_json}
@@ -14,3 +14,4 @@ told_in text = unwrap_or (option_and_then outcome_in (read text)) []
 pub record IsCompactOutcome (text : List ℕ) : Type 0 where
   pub fits : OutcomeFits (told_in text)
   pub compact : outcome_json (told_in text) ≡ text
+  pub utf8 : IsUtf8 text

@@ -2,8 +2,12 @@
 #![tactic(auto)]
 
 mod compact;
+mod list;
+mod own;
 mod quoted;
 mod text;
 
+pub use list::CompactOutcomes;
+pub use own::CompactText;
 pub use quoted::string_text;
-pub use text::{CompactOutcome, outcomes_of};
+pub use text::CompactOutcome;

@@ -12,7 +12,7 @@ ghost use Rattle.rank_facts.specs.declared.fact.Fact.TheVariants.{Ran};
 use crate::known::{KnownPlaces, known_place};
 use crate::run::{Run, Tag, add_run};
 use crate::table::Table;
-use compact_outcomes::CompactOutcome;
+use compact_outcomes::CompactText;
 use rank_facts::Fact;
 use std::alloc::{AllocError, Global};
 use std::marker::Model;
@@ -131,8 +131,8 @@ fn tag_of(alloc: Global, table: &mut Table, fact: &Fact) -> Result<Tag, AllocErr
 {
     match fact {
         Fact::Ran(outcome) => {
-            let text = CompactOutcome::of(alloc, outcome)?;
-            Ok(Tag::Ran(table.number(&text)?))
+            let text = CompactText::of(alloc, outcome)?;
+            Ok(Tag::Ran(table.number(&text.as_outcome())?))
         }
         Fact::Swap(place) => Ok(Tag::Swap(*place)),
     }

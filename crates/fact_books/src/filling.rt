@@ -8,14 +8,14 @@ use crate::error::ReportError;
 use crate::judging::{judged, last_of, one_of};
 use crate::leading::{Lead, lead_of};
 use crate::run::Run;
-use compact_outcomes::CompactOutcome;
+use compact_outcomes::CompactOutcomes;
 use perm_ranks::Shape;
 use std::alloc::{AllocError, Global};
 
 /// Adds the numbers of the values up to a rank, where the runs in hand say all.
 pub(crate) fn fill(
     done: &mut Vec<usize>,
-    outcomes: &[CompactOutcome],
+    outcomes: &CompactOutcomes,
     shape: &Option<Shape>,
     active: &[Run],
     until: u64,
@@ -66,7 +66,7 @@ fn leads_at(
 /// Adds the numbers of the values up to the end of a block, in which each run has its lead.
 fn fill_block(
     done: &mut Vec<usize>,
-    outcomes: &[CompactOutcome],
+    outcomes: &CompactOutcomes,
     shape: &Option<Shape>,
     active: &[Run],
     leads: &[Lead],

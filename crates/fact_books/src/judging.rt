@@ -8,7 +8,7 @@ ghost use Rattle.fact_books.specs.Sweep.{IsVerdict, IsWith, IsNamed, IsOneOf, On
 use crate::error::ReportError;
 use crate::leading::Lead;
 use crate::run::{Run, Tag};
-use compact_outcomes::CompactOutcome;
+use compact_outcomes::CompactOutcomes;
 use perm_ranks::Shape;
 
 /// What the facts of a rank give.
@@ -24,7 +24,7 @@ pub(crate) enum Verdict {
 
 /// What the runs in hand give at the next rank, where each has its lead for the ranks from `first` up to `last`.
 pub(crate) fn judged(
-    outcomes: &[CompactOutcome],
+    outcomes: &CompactOutcomes,
     shape: &Option<Shape>,
     done: &[usize],
     active: &[Run],
@@ -49,7 +49,7 @@ pub(crate) fn judged(
 
 /// The number of the outcome that a tag gives at the next rank.
 fn vote_of(
-    outcomes: &[CompactOutcome],
+    outcomes: &CompactOutcomes,
     shape: &Option<Shape>,
     done: &[usize],
     tag: Tag,
@@ -78,7 +78,7 @@ fn vote_of(
 }
 
 /// The verdict with one more vote.
-fn with_vote(outcomes: &[CompactOutcome], found: Verdict, vote: Option<usize>) -> Verdict
+fn with_vote(outcomes: &CompactOutcomes, found: Verdict, vote: Option<usize>) -> Verdict
     requires found { IsNamed (length outcomes.now) found }
     requires vote { IfSome vote (λ n. n < length outcomes.now) }
     ensures { IsWith outcomes.now found vote result }
@@ -89,7 +89,7 @@ fn with_vote(outcomes: &[CompactOutcome], found: Verdict, vote: Option<usize>) -
     }
 }
 
-fn with_number(outcomes: &[CompactOutcome], found: Verdict, n: usize) -> Verdict
+fn with_number(outcomes: &CompactOutcomes, found: Verdict, n: usize) -> Verdict
     requires found { IsNamed (length outcomes.now) found }
     requires vote { n < length outcomes.now }
     ensures { IsWith outcomes.now found (Some n) result }
@@ -97,7 +97,7 @@ fn with_number(outcomes: &[CompactOutcome], found: Verdict, n: usize) -> Verdict
     match found {
         Verdict::Nothing => Verdict::One(n),
         Verdict::One(m) => {
-            if n == m || outcomes[n].is_same(&outcomes[m]) {
+            if n == m || outcomes.get(n).is_same(&outcomes.get(m)) {
                 Verdict::One(m)
             } else {
                 Verdict::Several

@@ -5,7 +5,7 @@ ghost use Rattle.fact_books.specs.Known.{known_in, AreInside, IsKnown, KnowsAtMo
 ghost use Rattle.fact_books.specs.Tables.{Extends};
 
 use crate::table::Table;
-use compact_outcomes::CompactOutcome;
+use compact_outcomes::CompactText;
 use std::alloc::{AllocError, Global};
 use std::collections::BTreeMap;
 use transcripts::Outcome;
@@ -79,8 +79,8 @@ pub(crate) fn known_place(
     if let Some(place) = known.get(number) {
         return Ok(place);
     }
-    let text = CompactOutcome::of(alloc, outcome)?;
-    let place = table.number(&text)?;
+    let text = CompactText::of(alloc, outcome)?;
+    let place = table.number(&text.as_outcome())?;
     known.note(number, place)?;
     Ok(place)
 }

@@ -8,6 +8,7 @@ mod builder;
 mod error;
 mod filling;
 mod gaps;
+mod index;
 mod joining;
 mod judging;
 mod known;

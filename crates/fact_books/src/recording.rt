@@ -13,7 +13,7 @@ use crate::leading::{Lead, lead_of};
 use crate::run::{Run, Tag};
 use crate::table::Table;
 use bound_specs::Spec;
-use compact_outcomes::CompactOutcome;
+use compact_outcomes::CompactOutcomes;
 use std::alloc::{AllocError, Global};
 use std::sync::Arc;
 
@@ -22,14 +22,14 @@ impl Book {
     pub fn of_runs(
         alloc: Global,
         spec: &Spec,
-        outcomes: Vec<CompactOutcome>,
+        outcomes: CompactOutcomes,
         runs: Vec<Run>,
     ) -> Result<Book, AllocError>
         requires rising { IsRising (firsts runs.items) }
-        requires sound { AllSound (length outcomes.items) runs.items }
-        requires recordable { EachRun (IsRecordableRun spec.now.run outcomes.items) runs.items }
+        requires sound { AllSound (length outcomes) runs.items }
+        requires recordable { EachRun (IsRecordableRun spec.now.run outcomes) runs.items }
         ensures file { IfOk result (λ book. book.file ≡ spec.now) }
-        ensures facts { IfOk result (λ book. book.facts ≡ facts_in outcomes.items runs.items) }
+        ensures facts { IfOk result (λ book. book.facts ≡ facts_in outcomes runs.items) }
     {
         let about = About::of(alloc, spec)?;
         Ok(Book {

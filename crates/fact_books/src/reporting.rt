@@ -15,7 +15,7 @@ use crate::error::{MAX_REPORTED, ReportError};
 use crate::reports::Report;
 use crate::run::Run;
 use crate::sweep::sweep;
-use compact_outcomes::{CompactOutcome, outcomes_of};
+use compact_outcomes::CompactOutcomes;
 use perm_ranks::Shape;
 use std::alloc::Global;
 
@@ -43,7 +43,7 @@ pub fn report(alloc: Global, book: &Book) -> Result<Report, ReportError>
 /// The report over so many ranks.
 fn report_of(
     alloc: Global,
-    outcomes: &[CompactOutcome],
+    outcomes: &CompactOutcomes,
     runs: &[Run],
     shape: &Option<Shape>,
     ranks: u64,
@@ -57,6 +57,6 @@ fn report_of(
         Ok(numbers) => numbers,
         Err(error) => return Err(error),
     };
-    let outcomes = outcomes_of(alloc, outcomes)?;
+    let outcomes = outcomes.read(alloc)?;
     Ok(Report::from_parts(outcomes, numbers))
 }

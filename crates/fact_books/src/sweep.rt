@@ -9,7 +9,7 @@ ghost use Rattle.fact_books.specs.Sweep.{leads_of, values_of, AllBelow, AllCover
 use crate::error::ReportError;
 use crate::filling::fill;
 use crate::run::Run;
-use compact_outcomes::CompactOutcome;
+use compact_outcomes::CompactOutcomes;
 use perm_ranks::Shape;
 use std::alloc::{AllocError, Global};
 
@@ -17,7 +17,7 @@ use std::alloc::{AllocError, Global};
 /// all is filled at once.
 pub(crate) fn sweep(
     alloc: Global,
-    outcomes: &[CompactOutcome],
+    outcomes: &CompactOutcomes,
     runs: &[Run],
     shape: &Option<Shape>,
     ranks: u64,

@@ -1,19 +1,18 @@
 //! The outcomes that a book has, each under its number.
 
-ghost use Rattle.std.specs.Prelude.{◌≡◌, ◌<◌, IfOk, IfSome, length, slice_index_or, []};
+ghost use Rattle.std.specs.Prelude.{◌≡◌, ◌<◌, IfOk, IfSome, IsTrue, length, slice_index_or, []};
 ghost use Rattle.fact_books.specs.Tables.{Extends, Names};
 
-use compact_outcomes::CompactOutcome;
-use finite_maps::Fork;
+use crate::index::{Index, LOOKS};
+use compact_outcomes::{CompactOutcome, CompactOutcomes};
 use std::alloc::{AllocError, Global};
-use std::collections::BTreeMap;
 use std::marker::Model;
 
-/// Outcomes in the order of their numbers, seen by contracts as their list. The index has a number for a fingerprint. What it tells is
-/// looked up and compared, so that nothing but the table's size depends on it.
+/// Outcomes in the order of their numbers, seen by contracts as their list. What the index tells is looked up and compared, so that nothing
+/// but the table's size depends on it.
 pub(crate) struct Table {
-    outcomes: Vec<CompactOutcome>,
-    index: BTreeMap<u64, usize>,
+    outcomes: CompactOutcomes,
+    index: Index,
 }
 
 // Written out and not derived, so that who owns one calls this and does not let its parts go one by one.
@@ -32,103 +31,111 @@ impl Model for Table {
 
     ghost Value = { List Told };
 
-    ghost view = { λ t. t.outcomes.items };
+    ghost view = { λ t. t.outcomes };
 }
 
 impl Table {
     pub(crate) fn new(alloc: Global) -> Table
         ensures { result ≡ [] }
     {
-        Table {
-            outcomes: Vec::new(alloc),
-            index: BTreeMap::new(alloc),
-        }
+        Table::of(alloc, CompactOutcomes::new(alloc))
     }
 
-    /// These outcomes under their numbers, none of which is found again.
-    pub(crate) fn of(alloc: Global, outcomes: Vec<CompactOutcome>) -> Table
-        ensures { result ≡ outcomes.items }
+    /// These outcomes under their numbers.
+    pub(crate) fn of(alloc: Global, outcomes: CompactOutcomes) -> Table
+        ensures { result ≡ outcomes }
     {
         Table {
             outcomes,
-            index: BTreeMap::new(alloc),
+            index: Index::new(alloc),
         }
     }
 
     /// The outcomes in the order of their numbers.
-    pub(crate) fn outcomes(&self) -> &[CompactOutcome]
+    pub(crate) fn outcomes(&self) -> &CompactOutcomes
         ensures { result.now ≡ self.now }
     {
-        self.outcomes.as_slice()
+        &self.outcomes
     }
 
     /// The number of an outcome with this fingerprint, if the index knows it.
-    fn find(&self, print: u64, outcome: &CompactOutcome) -> Option<usize>
+    fn find(&self, print: u64, outcome: &CompactOutcome<'_>) -> Option<usize>
         ensures bound { IfSome result (λ n. n < length self.now) }
         ensures at { IfSome result (λ n. slice_index_or self.now n [] ≡ outcome.now) }
     {
-        let n = *self.index.get(&print)?;
-        if n < self.outcomes.len() && self.outcomes[n].is_same(outcome) {
-            return Some(n);
+        for others in 0..LOOKS {
+            let n = self.index.number(print, others)?;
+            if self.is_at(n, outcome) {
+                return Some(n);
+            }
         }
         None
     }
 
+    /// Whether an outcome has this number.
+    fn is_at(&self, n: usize, outcome: &CompactOutcome<'_>) -> bool
+        ensures bound { IsTrue result → n < length self.now }
+        ensures at { IsTrue result → slice_index_or self.now n [] ≡ outcome.now }
+    {
+        n < self.outcomes.len() && self.outcomes.get(n).is_same(outcome)
+    }
+
     /// The outcome's number; it is added where it is not known.
-    pub(crate) fn number(&mut self, outcome: &CompactOutcome) -> Result<usize, AllocError>
+    pub(crate) fn number(&mut self, outcome: &CompactOutcome<'_>) -> Result<usize, AllocError>
         ensures bound { IfOk result (λ n. n < length self.new) }
         ensures at { IfOk result (λ n. slice_index_or self.new n [] ≡ outcome.now) }
         ensures extends { Extends self.old self.new }
     {
+        self.make_room()?;
         let print = outcome.fingerprint();
         if let Some(n) = self.find(print, outcome) {
             return Ok(n);
         }
         let n = self.outcomes.len();
-        self.index.insert(print, n)?;
-        self.outcomes.push(outcome.fork()?)?;
+        self.outcomes.push(outcome)?;
+        self.index.note(print, n);
         Ok(n)
+    }
+
+    /// Makes room in the index for one outcome more.
+    fn make_room(&mut self) -> Result<(), AllocError>
+        ensures { self.new ≡ self.old }
+    {
+        if self.index.has_room(self.outcomes.len()) {
+            return Ok(());
+        }
+        fill(&mut self.index, &self.outcomes)
     }
 
     /// The numbers of these outcomes, which are added where they are not known.
     pub(crate) fn numbers(
         &mut self,
         alloc: Global,
-        more: &[CompactOutcome],
+        more: &CompactOutcomes,
     ) -> Result<Vec<usize>, AllocError>
         ensures names { IfOk result (λ ns. Names self.new ns.items more.now) }
         ensures extends { Extends self.old self.new }
     {
         let mut all = Vec::with_capacity(alloc, more.len())?;
-        for outcome in more {
-            all.push(self.number(outcome)?)?;
+        for n in 0..more.len() {
+            all.push(self.number(&more.get(n))?)?;
         }
         Ok(all)
     }
 
-    /// The same outcomes, which are shared, under the same numbers.
+    /// The same outcomes under the same numbers.
     pub(crate) fn copied(&self, alloc: Global) -> Result<Table, AllocError>
         ensures { IfOk result (λ t. t ≡ self.now) }
     {
-        let outcomes = forked(alloc, self.outcomes.as_slice())?;
-        let mut index = BTreeMap::new(alloc);
-        for (n, outcome) in self.outcomes.iter().enumerate() {
-            index.insert(outcome.fingerprint(), n)?;
-        }
-        Ok(Table { outcomes, index })
+        Ok(Table::of(alloc, self.outcomes.copied(alloc)?))
     }
 }
 
-/// The same outcomes, which are shared.
-pub(crate) fn forked(
-    alloc: Global,
-    outcomes: &[CompactOutcome],
-) -> Result<Vec<CompactOutcome>, AllocError>
-    ensures { IfOk result (λ v. v.items ≡ outcomes.now) }
-{
-    let mut all = Vec::with_capacity(alloc, outcomes.len())?;
-    for outcome in outcomes {
-        all.push(outcome.fork()?)?;
+/// Notes all outcomes in an index, with room for more.
+fn fill(index: &mut Index, outcomes: &CompactOutcomes) -> Result<(), AllocError> {
+    index.clear_for(outcomes.len())?;
+    for n in 0..outcomes.len() {
+        index.note(outcomes.get(n).fingerprint(), n);
     }
-    Ok(all)
+    Ok(())
 }

@@ -1,5 +1,5 @@
 use crate::lines::outcome_in;
-use compact_outcomes::CompactOutcome;
+use compact_outcomes::{CompactOutcomes, CompactText};
 use std::alloc::Global;
 use std::process::Abort;
 use std::test::Fail;
@@ -56,27 +56,33 @@ fn assert_rise(rt: &impl Abort, rising: &[Outcome]) {
 }
 
 /// An outcome is kept as its text, which tells it again.
-fn assert_kept(rt: &impl Abort, alloc: Global, text: &str) -> Result<CompactOutcome, Fail> {
+fn assert_kept(rt: &impl Abort, alloc: Global, text: &str) -> Result<CompactText, Fail> {
     let outcome = outcome_in(alloc, text)?;
-    let kept = CompactOutcome::of(alloc, &outcome)?;
-    assert!(rt; kept.as_str() == text, "{text}");
+    let text_of = CompactText::of(alloc, &outcome)?;
+    let kept = text_of.as_outcome();
+    assert!(rt; kept.as_bytes() == text.as_bytes(), "{text}");
     let read = kept.read(alloc)?;
     assert!(rt; read.is_same(&outcome), "{text}");
-    Ok(kept)
+    Ok(text_of)
 }
 
 #[test]
 fn outcomes_are_kept_as_their_texts(rt: HostRuntime) -> Result<(), Fail> {
     let alloc = rt.alloc();
-    let mut before: Option<CompactOutcome> = None;
+    let mut all = CompactOutcomes::new(alloc);
     for text in RISING.lines() {
-        let kept = assert_kept(&rt, alloc, text)?;
-        if let Some(before) = &before {
+        let text_of = assert_kept(&rt, alloc, text)?;
+        let kept = text_of.as_outcome();
+        if let Some(before) = all.last() {
             assert!(rt; before.order(&kept).is_lt(), "{text}");
             assert!(rt; !before.is_same(&kept), "{text}");
             assert!(rt; before.fingerprint() != kept.fingerprint(), "{text}");
         }
-        before = Some(kept);
+        all.push(&kept)?;
+    }
+    for (place, text) in RISING.lines().enumerate() {
+        assert!(rt; place < all.len(), "{text}");
+        assert!(rt; all.get(place).as_bytes() == text.as_bytes(), "{text}");
     }
     Ok(())
 }

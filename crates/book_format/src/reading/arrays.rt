@@ -14,7 +14,7 @@ use super::outcomes::next_outcome;
 use super::runs::{Ends, next_run};
 use super::tokens::{begins_array, next_item};
 use bound_specs::Spec;
-use compact_outcomes::CompactOutcome;
+use compact_outcomes::CompactOutcomes;
 use fact_books::{Builder, Run};
 use json::Reader;
 use serde_json::Value as Json;
@@ -22,14 +22,10 @@ use std::alloc::Global;
 
 /// The outcomes that the next value of a text is, an array of them in the order of their texts. None where it is no such
 /// value, and for want of memory.
-pub fn outcomes_at(
-    alloc: Global,
-    spec: &Spec,
-    reader: &mut Reader<'_>,
-) -> Option<Vec<CompactOutcome>>
-    ensures { IfSome result (λ outcomes. AreOutcomesAt spec.now.run reader.old outcomes.items reader.new) }
+pub fn outcomes_at(alloc: Global, spec: &Spec, reader: &mut Reader<'_>) -> Option<CompactOutcomes>
+    ensures { IfSome result (λ outcomes. AreOutcomesAt spec.now.run reader.old outcomes reader.new) }
 {
-    let mut outcomes = Vec::new(alloc);
+    let mut outcomes = CompactOutcomes::new(alloc);
     if read_outcomes(alloc, spec, &mut outcomes, reader) {
         Some(outcomes)
     } else {
@@ -41,11 +37,11 @@ pub fn outcomes_at(
 fn read_outcomes(
     alloc: Global,
     spec: &Spec,
-    outcomes: &mut Vec<CompactOutcome>,
+    outcomes: &mut CompactOutcomes,
     reader: &mut Reader<'_>,
 ) -> bool
-    requires { outcomes.old.items ≡ [] }
-    ensures { IsTrue result → AreOutcomesAt spec.now.run reader.old outcomes.new.items reader.new }
+    requires { outcomes.old ≡ [] }
+    ensures { IsTrue result → AreOutcomesAt spec.now.run reader.old outcomes.new reader.new }
 {
     if !begins_array(reader) {
         return false;
@@ -64,17 +60,12 @@ fn read_outcomes(
 }
 
 /// Puts the outcome that a value is behind the others, if it is the next one.
-fn takes_outcome(
-    alloc: Global,
-    spec: &Spec,
-    outcomes: &mut Vec<CompactOutcome>,
-    value: &Json,
-) -> bool
-    ensures { IsTrue result → (o : Told) × IsNextOutcome spec.now.run outcomes.old.items (view value.now) (Ok o)
-        × (outcomes.new.items ≡ outcomes.old.items ++ o ∷ []) }
+fn takes_outcome(alloc: Global, spec: &Spec, outcomes: &mut CompactOutcomes, value: &Json) -> bool
+    ensures { IsTrue result → (o : Told) × IsNextOutcome spec.now.run outcomes.old (view value.now) (Ok o)
+        × (outcomes.new ≡ outcomes.old ++ o ∷ []) }
 {
-    match next_outcome(alloc, spec, outcomes.as_slice(), value) {
-        Ok(outcome) => outcomes.push(outcome).is_ok(),
+    match next_outcome(alloc, spec, outcomes, value) {
+        Ok(outcome) => outcomes.push(&outcome.as_outcome()).is_ok(),
         Err(_) => false,
     }
 }

@@ -6,7 +6,7 @@ ghost use Rattle.book_format.specs.Reading.{IsListed, IsNextOutcome};
 
 use super::outcomes::{is_outcome_of, stands_after};
 use bound_specs::Spec;
-use compact_outcomes::CompactOutcome;
+use compact_outcomes::{CompactOutcome, CompactOutcomes, CompactText};
 use std::alloc::{AllocError, Global};
 use std::marker::Model;
 use transcripts::Outcome;
@@ -14,7 +14,7 @@ use transcripts::Outcome;
 /// Outcomes that runs of a spec may tell, which rise by their texts, seen by contracts as their list.
 pub struct Listed<'a> {
     spec: &'a Spec,
-    outcomes: Vec<CompactOutcome>,
+    outcomes: CompactOutcomes,
 }
 
 // Written out and not derived, so that who owns one calls this and does not let its parts go one by one.
@@ -34,9 +34,9 @@ impl<'a> Model for Listed<'a> {
 
     ghost Value = { List Told };
 
-    ghost view = { λ l. l.outcomes.items };
+    ghost view = { λ l. l.outcomes };
 
-    ghost invariant = { λ l. IsListed l.spec.now.run l.outcomes.items };
+    ghost invariant = { λ l. IsListed l.spec.now.run l.outcomes };
 }
 
 impl<'a> Listed<'a> {
@@ -46,13 +46,13 @@ impl<'a> Listed<'a> {
     {
         Listed {
             spec,
-            outcomes: Vec::new(alloc),
+            outcomes: CompactOutcomes::new(alloc),
         }
     }
 
     /// The spec and the outcomes.
-    pub(crate) fn into_parts(self) -> (&'a Spec, Vec<CompactOutcome>)
-        ensures { IsListed result.0.now.run result.1.items }
+    pub(crate) fn into_parts(self) -> (&'a Spec, CompactOutcomes)
+        ensures { IsListed result.0.now.run result.1 }
     {
         let Listed { spec, outcomes } = self;
         (spec, outcomes)
@@ -66,11 +66,11 @@ impl Listed<'_> {
         ensures refused { IfOk result (λ is. is ≡ false → self.new ≡ self.old) }
         ensures err { OnErr result (self.new ≡ self.old) }
     {
-        let text = CompactOutcome::of(alloc, outcome)?;
-        if !is_next_outcome(self.spec, self.outcomes.as_slice(), outcome, &text) {
+        let text = CompactText::of(alloc, outcome)?;
+        if !is_next_outcome(self.spec, &self.outcomes, outcome, &text.as_outcome()) {
             return Ok(false);
         }
-        self.outcomes.push(text)?;
+        self.outcomes.push(&text.as_outcome())?;
         Ok(true)
     }
 }
@@ -78,9 +78,9 @@ impl Listed<'_> {
 /// Whether the value of an outcome, which is kept as this text, is read as that one behind others.
 fn is_next_outcome(
     spec: &Spec,
-    before: &[CompactOutcome],
+    before: &CompactOutcomes,
     outcome: &Outcome,
-    text: &CompactOutcome,
+    text: &CompactOutcome<'_>,
 ) -> bool
     requires { text.now ≡ outcome.now }
     ensures { IsTrue result → IsNextOutcome spec.now.run before.now (outcome_data text.now) (Ok text.now) }

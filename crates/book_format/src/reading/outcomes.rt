@@ -9,7 +9,7 @@ ghost use Rattle.book_format.specs.Reading.{AreOutcomes, IsNextOutcome, IsOutcom
 
 use crate::error::BookError;
 use bound_specs::Spec;
-use compact_outcomes::CompactOutcome;
+use compact_outcomes::{CompactOutcome, CompactOutcomes, CompactText};
 use serde_json::Value as Json;
 use std::alloc::Global;
 use transcripts::{Event, Outcome, Transcript, ValueError, outcome_of_value};
@@ -19,16 +19,16 @@ pub(crate) fn outcomes_of(
     alloc: Global,
     spec: &Spec,
     values: &[Json],
-) -> Result<Vec<CompactOutcome>, BookError>
-    ensures { Meets (λ outcomes. outcomes.items) (AreOutcomes spec.now.run [] (items_view values.now)) result }
+) -> Result<CompactOutcomes, BookError>
+    ensures { Meets (λ outcomes. outcomes) (AreOutcomes spec.now.run [] (items_view values.now)) result }
 {
-    let mut outcomes = Vec::new(alloc);
+    let mut outcomes = CompactOutcomes::new(alloc);
     for value in values {
-        let outcome = match next_outcome(alloc, spec, outcomes.as_slice(), value) {
+        let outcome = match next_outcome(alloc, spec, &outcomes, value) {
             Ok(outcome) => outcome,
             Err(error) => return Err(error),
         };
-        outcomes.push(outcome)?;
+        outcomes.push(&outcome.as_outcome())?;
     }
     Ok(outcomes)
 }
@@ -37,24 +37,24 @@ pub(crate) fn outcomes_of(
 pub(super) fn next_outcome(
     alloc: Global,
     spec: &Spec,
-    before: &[CompactOutcome],
+    before: &CompactOutcomes,
     value: &Json,
-) -> Result<CompactOutcome, BookError>
+) -> Result<CompactText, BookError>
     ensures { Meets (λ outcome. outcome) (IsNextOutcome spec.now.run before.now (view value.now)) result }
 {
     let outcome = match outcome_of(alloc, spec, value) {
         Ok(outcome) => outcome,
         Err(error) => return Err(error),
     };
-    let outcome = CompactOutcome::of(alloc, &outcome)?;
-    if !stands_after(before, &outcome) {
+    let outcome = CompactText::of(alloc, &outcome)?;
+    if !stands_after(before, &outcome.as_outcome()) {
         return Err(BookError::OutOfOrder);
     }
     Ok(outcome)
 }
 
 /// Whether the text of an outcome comes after that of the last one.
-pub(super) fn stands_after(before: &[CompactOutcome], outcome: &CompactOutcome) -> bool
+pub(super) fn stands_after(before: &CompactOutcomes, outcome: &CompactOutcome<'_>) -> bool
     ensures { IsTrue result ↔ StandsAfter ComesBefore before.now outcome.now }
 {
     match before.last() {

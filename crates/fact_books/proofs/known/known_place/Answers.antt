@@ -41,11 +41,11 @@ returns-clause-inside c =
 pub returns-clause-more : goal.returns-clause-more
 returns-clause-more c =
     inr (knows-noted _ _ _ _ c.args.number c.in_ok-place.place c.args.outcome.now c.number.ensures.extends c.requires.inside c.in_ok-note.ensures.ok
-    (c.in_ok-place.ensures.at ∙ c.in_ok-text.ensures))
+    (c.in_ok-place.ensures.at ∙ (c.as_outcome.ensures ∙ c.in_ok-text.ensures)))
 
 pub returns-clause-known : goal.returns-clause-known
 returns-clause-known c =
     let now = knows-noted _ _ _ _ c.args.number c.in_ok-place.place c.args.outcome.now c.number.ensures.extends c.requires.inside c.in_ok-note.ensures.ok
-    (c.in_ok-place.ensures.at ∙ c.in_ok-text.ensures) in
+    (c.in_ok-place.ensures.at ∙ (c.as_outcome.ensures ∙ c.in_ok-text.ensures)) in
     let before = known_in c.args.table.now c.args.known.now.places.items in
     subst (λ known. IsKnown known c.args.number c.args.outcome.now) (sym now) (length before, known-last before (c.args.number, c.args.outcome.now))

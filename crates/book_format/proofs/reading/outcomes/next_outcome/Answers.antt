@@ -13,7 +13,7 @@ returns-then-not-stands_after c =
       inr (
         λ after.
             (let f : true ≡ false = sym (c.stands_after.ensures.1
-            (subst (StandsAfter ComesBefore c.args.before.now) (sym c.in_ok-outcome.ensures) after)) ∙ c.if-not-stands_after.true in absurd (cc)),
+            (subst (StandsAfter ComesBefore c.args.before.now) (sym (c.as_outcome.ensures ∙ c.in_ok-outcome.ensures)) after)) ∙ c.if-not-stands_after.true in absurd (cc)),
         refl,
       ),
     ))

@@ -16,7 +16,7 @@ invariant_of-self-2 c =
     let below : length items + 1 < 2 ^ 32 = grind (arith, number, few, c.if-number.false) in
     let base = numbered-more items by o c.self.invariant (λ n e. c.requires n (subst (λ xs. slice_get xs n ≡ Some o) c.self.view_is e)) below in
     let more : c.push_reserved.new.self.items ≡ items ++ o ∷ [] =
-    c.push_reserved.ensures.items ∙ ap (λ xs. xs ++ c.in_ok-copy.copy ∷ []) c.in_ok-reserve.ensures.items ∙ ap (λ z. items ++ z ∷ []) c.in_ok-copy.ensures in
+    c.push_reserved.ensures.items ∙ ap (λ xs. xs ++ c.again-2.result ∷ []) c.in_ok-reserve.ensures.items ∙ ap (λ z. items ++ z ∷ []) c.again-2.ensures in
     let put : c.put.new.self ≡ insert by o (length items) =
-    c.in_ok-put.ensures.ok ∙ ap (λ k. insert by k c.in-Ok.number) c.in_ok-key.ensures ∙ ap (insert by o) number in
+    c.in_ok-put.ensures.ok ∙ ap (λ k. insert by k c.in-Ok.number) c.again.ensures ∙ ap (insert by o) number in
     subst (λ xs. AreNumbered xs c.put.new.self) (sym more) (subst (AreNumbered (items ++ o ∷ [])) (sym put) base)

@@ -7,6 +7,6 @@ use Rattle.compact_outcomes.proofs.text.CompactOutcome.is_same.Goals as goal
 pub returns : goal.returns
 returns c = (
   λ yes. json-one c.args.self.now c.args.other.now c.known.ensures.fits c.known-2.ensures.fits
-      (sym c.as_str.ensures.json ∙ c.are_same.ensures.0 yes ∙ c.as_str-2.ensures.json),
-  λ same. c.are_same.ensures.1 (c.as_str.ensures.json ∙ ap outcome_json same ∙ sym c.as_str-2.ensures.json),
+      (sym c.as_bytes.ensures.json ∙ c.are_same.ensures.0 yes ∙ c.as_bytes-2.ensures.json),
+  λ same. c.are_same.ensures.1 (c.as_bytes.ensures.json ∙ ap outcome_json same ∙ sym c.as_bytes-2.ensures.json),
 )

@@ -3,7 +3,7 @@ use Rattle.std.specs.Prelude.{OnOk, string_bytes}
 use Rattle.transcripts.proofs.CompactText.{outcome-text}
 use Rattle.compact_outcomes.specs.CompactTexts.{array_text, session_text}
 use Rattle.compact_outcomes.proofs.CompactLemmas.{told-text}
-use Rattle.compact_outcomes.proofs.text.make_text.Goals as goal
+use Rattle.compact_outcomes.proofs.own.make_text.Goals as goal
 
 -- the text was made in an empty one, and is the compact text
 pub returns : goal.returns
