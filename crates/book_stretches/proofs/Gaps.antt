@@ -3,7 +3,7 @@ use Rattle.std.proofs.Common.{◌≡◌, refl, sym, ◌∙◌, subst, ℕ, suc, 
 use Rattle.std.proofs.Common.{Option, Some, None, Result, Ok, Err, IfOk, length, ltb, arith, ⊎_elim}
 use Rattle.std.proofs.lemmas.Bool.{ltb-true, ltb-false, false≢true, or_cases, or_left, or_right}
 use Rattle.std.specs.List.{list_any}
-use Rattle.order_classes.specs.Classes.{Run as Ranks, AreApart, in_run, in_runs}
+use Rattle.order_classes.specs.Classes.{Run as Ranks, AreApart, in_runs}
 use Rattle.class_stretches.specs.Stretches.{class_at, IsStretched, runs_with}
 use Rattle.class_stretches.proofs.Groups.{runs-apart, runs-have, runs-within}
 use Rattle.bound_specs.specs.Spec.{ranks}
@@ -16,7 +16,7 @@ use Rattle.fact_books.proofs.RunLemmas.{within-true, within-from}
 use Rattle.fact_books.proofs.SetLemmas.{contains-runs}
 use Rattle.book_stretches.specs.declared.told.ToldRanks.{ToldRanks}
 use Rattle.book_stretches.specs.Telling.{AreTold, IsToldAt, Tells}
-use Rattle.book_stretches.specs.Missing.{AreRanksOf, AreToRun, AreUntold, HasNoClash, gap, gaps}
+use Rattle.book_stretches.specs.Missing.{AreToRun, AreUntold, HasNoClash, gap, gaps}
 
 -- ---- the ranks that no run covers
 

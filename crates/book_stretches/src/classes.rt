@@ -105,7 +105,7 @@ impl<'a> Classes<'a> {
 
     /// All of them, in the order of their classes.
     pub fn into_outcomes(self) -> Vec<CompactOutcome<'a>>
-        ensures { result.items ≡ self }
+        ensures { result.items ≡ self.entry }
     {
         let Classes {
             outcomes,

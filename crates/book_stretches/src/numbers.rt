@@ -47,7 +47,7 @@ impl<'a> Numbers<'a> {
     }
 
     pub fn put(&mut self, outcome: CompactOutcome<'a>, number: u32) -> Result<(), AllocError>
-        ensures ok { OnOk result (self.new ≡ map.insert self.old outcome number) }
+        ensures ok { OnOk result (self.new ≡ map.insert self.old outcome.entry number) }
         ensures err { OnErr result (self.new ≡ self.old) }
     {
         self.numbers.insert(outcome, number)?;

@@ -1,4 +1,4 @@
-use Rattle.std.proofs.Common.{◌≡◌, ◌∙◌, sym, subst}
+use Rattle.std.proofs.Common.{◌∙◌, sym, subst}
 use Rattle.bound_specs.specs.Binding.{IsFileOf}
 use Rattle.bound_specs.proofs.FileLemmas.{one-file}
 use Rattle.book_stretches.proofs.source.spec_of_book.Goals as goal

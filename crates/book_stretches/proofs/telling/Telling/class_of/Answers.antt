@@ -1,4 +1,4 @@
-use Rattle.std.proofs.Common.{refl, sym, ap, ◌∙◌, ◌<◌, Some, length, arith}
+use Rattle.std.proofs.Common.{refl, sym, ap, ◌∙◌, ◌<◌, [], Some, length, arith}
 use Rattle.std.proofs.lemmas.Option.{slice_get-get_or}
 use Rattle.book_stretches.specs.declared.telling.Telling.{Telling}
 use Rattle.book_stretches.proofs.Going.{class-known, class-found}
@@ -15,7 +15,7 @@ pub returns : goal.returns
 returns c =
     let x = c.args.self.now in
     let y : Telling = record x { classes = c.mark.new.classes; told = c.number.new.self } in
-    let o = c.index-outcomes-n.result in
+    let o = c.get.result in
     class-found x y c.args.n c.in_ok-class.class o c.requires.telling c.requires.known
-    (slice_get-get_or x.outcomes.now c.args.n o c.requires.known ∙ ap (λ p. Some p) (sym c.index-outcomes-n.is))
+    (slice_get-get_or x.outcomes.now c.args.n [] c.requires.known ∙ ap (λ p. Some p) (sym c.get.ensures))
     c.in_ok-class.ensures.ok (record { file = refl; outcomes = refl; runs = refl }) refl c.mark.ensures
