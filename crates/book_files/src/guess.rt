@@ -22,6 +22,8 @@ pub(crate) struct Guess {
     pub(crate) facts: usize,
     /// How many outcomes there are.
     pub(crate) outcomes: usize,
+    /// How many bytes the text has.
+    pub(crate) bytes: usize,
 }
 
 /// What is seen of the members in a first pass.
@@ -38,13 +40,13 @@ pub(crate) fn guess_of(alloc: Global, text: &str, scratch: &mut Scratch) -> Opti
     ensures { IfSome result IsGuess }
 {
     match hints_of(alloc, text, scratch) {
-        Some(hints) => guess_from(alloc, hints),
+        Some(hints) => guess_from(alloc, hints, text.len()),
         None => None,
     }
 }
 
 /// The guess of what was seen.
-fn guess_from(alloc: Global, hints: Hints) -> Option<Guess>
+fn guess_from(alloc: Global, hints: Hints, bytes: usize) -> Option<Guess>
     ensures { IfSome result IsGuess }
 {
     match spec_of_text(alloc, hints.text.as_str()) {
@@ -54,6 +56,7 @@ fn guess_from(alloc: Global, hints: Hints) -> Option<Guess>
             format: hints.format,
             facts: hints.facts,
             outcomes: hints.outcomes,
+            bytes,
         }),
         Err(_) => None,
     }

@@ -151,7 +151,7 @@ fn facts_part(alloc: Global, guess: &Guess, reader: &mut Reader<'_>) -> Option<F
     ensures { IfSome result (λ facts. (d : Data) × IsValueAt member_depth reader.old d reader.new × IsFactsPart guess.now facts d) }
 {
     if guess.format == 1 {
-        match facts_at(alloc, &guess.spec, reader) {
+        match facts_at(alloc, &guess.spec, guess.facts, guess.bytes, reader) {
             Some(builder) => Some(Facts::Each(builder)),
             None => None,
         }

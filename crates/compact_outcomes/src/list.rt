@@ -49,6 +49,20 @@ impl CompactOutcomes {
         }
     }
 
+    /// No outcomes, with room for so many whose texts have so many bytes in all.
+    pub fn with_room(
+        alloc: Global,
+        outcomes: usize,
+        bytes: usize,
+    ) -> Result<CompactOutcomes, AllocError>
+        ensures { IfOk result (λ outcomes. outcomes ≡ []) }
+    {
+        Ok(CompactOutcomes {
+            texts: Vec::with_capacity(alloc, bytes)?,
+            ends: Vec::with_capacity(alloc, outcomes)?,
+        })
+    }
+
     /// How many there are.
     pub fn len(&self) -> usize
         ensures { result ≡ length self.now }

@@ -12,7 +12,7 @@ ghost use Rattle.rank_facts.specs.declared.fact.Fact.TheVariants.{Ran};
 use crate::known::{KnownPlaces, known_place};
 use crate::run::{Run, Tag, add_run};
 use crate::table::Table;
-use compact_outcomes::CompactText;
+use compact_outcomes::{CompactOutcomes, CompactText};
 use rank_facts::Fact;
 use std::alloc::{AllocError, Global};
 use std::marker::Model;
@@ -60,9 +60,34 @@ impl Builder {
         ensures next { result.next ≡ 0 }
         ensures known { result.known ≡ [] }
     {
+        Builder::of_none(alloc, Table::new(alloc), Vec::new(alloc))
+    }
+
+    /// The same, with room for so many runs and outcomes whose texts have so many bytes in all.
+    pub fn with_room(alloc: Global, runs: usize, bytes: usize) -> Result<Builder, AllocError>
+        ensures facts { IfOk result (λ builder. builder.facts ≡ set.empty) }
+        ensures next { IfOk result (λ builder. builder.next ≡ 0) }
+        ensures known { IfOk result (λ builder. builder.known ≡ []) }
+    {
+        let outcomes = CompactOutcomes::with_room(alloc, runs, bytes)?;
+        Ok(Builder::of_none(
+            alloc,
+            Table::of(alloc, outcomes),
+            Vec::with_capacity(alloc, runs)?,
+        ))
+    }
+
+    /// No facts yet, with what there is room in.
+    fn of_none(alloc: Global, table: Table, runs: Vec<Run>) -> Builder
+        requires table { table ≡ [] }
+        requires runs { runs.items ≡ [] }
+        ensures facts { result.facts ≡ set.empty }
+        ensures next { result.next ≡ 0 }
+        ensures known { result.known ≡ [] }
+    {
         Builder {
-            table: Table::new(alloc),
-            runs: Vec::new(alloc),
+            table,
+            runs,
             next: 0,
             known: KnownPlaces::new(alloc),
         }

@@ -133,12 +133,18 @@ fn pushes(runs: &mut Vec<Run>, run: Run) -> bool
     runs.push(run).is_ok()
 }
 
-/// The facts that the next value of a text is, an array of them, whose ranks rise. None where it is no such value, and for want of
-/// memory.
-pub fn facts_at(alloc: Global, spec: &Spec, reader: &mut Reader<'_>) -> Option<Builder>
+/// The facts that the next value of a text is, an array of them, whose ranks rise. There is room for so many facts at once, of a text of so
+/// many bytes. None where it is no such value, and for want of memory.
+pub fn facts_at(
+    alloc: Global,
+    spec: &Spec,
+    room: usize,
+    bytes: usize,
+    reader: &mut Reader<'_>,
+) -> Option<Builder>
     ensures { IfSome result (λ builder. AreFactsAt spec.now.run reader.old builder.facts reader.new) }
 {
-    let mut builder = Builder::new(alloc);
+    let mut builder = Builder::with_room(alloc, room, bytes).ok()?;
     if read_facts(alloc, spec, &mut builder, reader) {
         Some(builder)
     } else {
