@@ -8,7 +8,10 @@ use Rattle.std.specs.List.{list_any, AllByRecursion, list_all}
 use Rattle.std.specs.List.Sorted.{IsStrictlySortedBy}
 use Rattle.std.proofs.lemmas.Bool.{and_parts, eq-eqb, eqb-true, or_left, or_right, false_from_ne_true}
 use Rattle.std.proofs.lemmas.Bool.Decides.{eqb_tells}
-use Rattle.std.proofs.lemmas.List.{length-set, take_more}
+use Rattle.std.proofs.lemmas.List.{length-set, set-get_or, take_more}
+use Rattle.std.specs.Prelude.{Result, Ok, Err, OnOk}
+use Rattle.std.specs.declared.alloc.AllocError.{AllocError}
+use Rattle.marked_lists.specs.Versions.{Versions}
 use Rattle.std.proofs.lemmas.List.Elements.{All-nil, All-push, All-weaker, All-head, All-tail}
 use Rattle.std.proofs.lemmas.List.Folds.{list_any-append}
 use Rattle.std.proofs.lemmas.Option.{get_or_from_slice_get}
@@ -188,6 +191,29 @@ put-away (row ∷ rows) zero s zero c mode ne = absurd (ne refl)
 put-away (row ∷ rows) zero s (suc k) c mode ne = refl
 put-away (row ∷ rows) (suc p) s zero c mode ne = refl
 put-away (row ∷ rows) (suc p) s (suc k) c mode ne = put-away rows p s k c mode (λ e. ne (ap suc e))
+
+-- where a session has no mode, there is none to take away
+put-nothing : (rows : List ModeRow) (p s : ℕ) → mode_at rows p s ≡ None → put_mode rows p s None ≡ rows
+put-nothing rows p s e =
+    ap (set rows p) (λ i. record { modes = (ap (set (get_or rows p no_modes).modes s) (sym e) ∙ set-get_or (get_or rows p no_modes).modes s None) i })
+    ∙ set-get_or rows p no_modes
+
+pub clear-nothing : (s : ℕ) (g : Given) (rows : List ModeRow) (row : ModeRow) → get_or rows g.place no_modes ≡ row → mode_in row s ≡ None
+    → cleared_of s g rows ≡ rows
+clear-nothing s g rows row is none = at (g.session == s)
+  where
+    at : (b : Bool) → cond b (put_mode rows g.place s None) rows ≡ rows
+    at true = put-nothing rows g.place s (ap (λ (r : ModeRow). mode_in r s) is ∙ none)
+    at false = refl
+
+-- where it has one, the row is put
+pub clear-put : (r : Result (Unit {0}) AllocError) (s : ℕ) (g : Given) (old left : Versions ModeRow) (row with : ModeRow) → get_or old.list g.place no_modes ≡ row
+    → with ≡ with_mode row s None → (g.session == s) ≡ true → OnOk r (left ≡ record old { list = set old.list g.place with })
+    → OnOk r (left ≡ record old { list = cleared_of s g old.list })
+clear-put (Ok u) s g old left row with is without own put =
+    put ∙ ap (λ (list : List ModeRow). record old { list = list }) (ap (set old.list g.place) (without ∙ ap (λ (r : ModeRow). with_mode r s None) (sym is))
+    ∙ sym (ap (λ b. cond b (put_mode old.list g.place s None) old.list) own))
+clear-put (Err x) s g old left row with is without own put = tt
 
 set-none : (xs : List (Option Mode)) (s : ℕ) → get_or (set xs s None) s None ≡ None
 set-none [] s = refl

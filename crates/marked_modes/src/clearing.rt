@@ -36,8 +36,12 @@ fn clear_one(rows: &mut MarkedList<ModeRow>, given: Given, session: u8) -> Resul
     if given.session != session {
         return Ok(());
     }
-    let row = rows.get(given.place).with(session, None);
-    rows.set(given.place, row)
+    let row = rows.get(given.place);
+    // What was taken away before takes no write that would have to be undone.
+    if row.mode_of(session).is_none() {
+        return Ok(());
+    }
+    rows.set(given.place, row.with(session, None))
 }
 
 /// Forgets what was given where all of it was given to this session, which holds nothing any more.
