@@ -2,7 +2,10 @@
 use Rattle.std.proofs.Common.{◌≡◌, ◌≢◌, refl, sym, ap, ◌∙◌, subst, ℕ, zero, suc, ◌+◌, ◌<◌, ◌==◌, Bool, true, false, cond, ◌⊎◌, inl, inr, ⊎_elim}
 use Rattle.std.proofs.Common.{List, [], ◌∷◌, ◌++◌, length, take, get_or, set, Option, Some, None, get_or-set_other}
 use Rattle.std.proofs.lemmas.Bool.Decides.{eqb_tells}
-use Rattle.std.proofs.lemmas.List.{length-set, take_more}
+use Rattle.std.proofs.lemmas.List.{length-set, set-get_or, take_more}
+use Rattle.std.specs.Prelude.{Result, Ok, Err, OnOk}
+use Rattle.std.specs.declared.alloc.AllocError.{AllocError}
+use Rattle.marked_lists.specs.Versions.{Versions}
 use Rattle.marked_rows.specs.Cells.{blank}
 use Rattle.marked_rows.specs.Kept.{IsWritten, ended, ended_at, ended_by, ended_in, is_left_by, is_of, is_of_at, with_end}
 use Rattle.marked_rows.specs.declared.cell.Cell.{Cell}
@@ -51,6 +54,22 @@ module _ (s : ℕ) (e : Ending) where
       at : (left : Option Left) → is_left_by s left ≡ false → ended_by s e c.committed left ≡ record { committed = c.committed; left = left }
       at None is_not = refl
       at (Some left) is_not = ap (λ b. cond b (with_end e c.committed left) (record { committed = c.committed; left = Some left })) is_not
+
+  -- so where the session has left nothing at a cell, all stay
+  pub end-nothing : (w : Written) (cells : List Cell) (c : Cell) → get_or cells w.cell blank ≡ c → is_of s c ≡ false → ended_at s e w cells ≡ cells
+  end-nothing w cells c is is_not = at (w.session == s)
+    where
+      at : (b : Bool) → cond b (set cells w.cell (ended s e (get_or cells w.cell blank))) cells ≡ cells
+      at true = ap (set cells w.cell) (ended-other (get_or cells w.cell blank) (ap (is_of s) is ∙ is_not)) ∙ set-get_or cells w.cell blank
+      at false = refl
+
+  -- where it has, the cell is put
+  pub end-put : (r : Result (Unit {0}) AllocError) (w : Written) (old left : Versions Cell) (c v : Cell) → get_or old.list w.cell blank ≡ c → v ≡ ended s e c
+      → (w.session == s) ≡ true → OnOk r (left ≡ record old { list = set old.list w.cell v }) → OnOk r (left ≡ record old { list = ended_at s e w old.list })
+  end-put (Ok u) w old left c v is ends own put =
+      put ∙ ap (λ (list : List Cell). record old { list = list }) (ap (set old.list w.cell) (ends ∙ ap (ended s e) (sym is))
+      ∙ sym (ap (λ b. cond b (set old.list w.cell (ended s e (get_or old.list w.cell blank))) old.list) own))
+  end-put (Err x) w old left c v is ends own put = tt
 
   -- nothing ends twice
   ended-again : (c : Cell) → ended s e (ended s e c) ≡ ended s e c

@@ -60,6 +60,10 @@ fn end_one(
         return Ok(());
     }
     let cell = cells.get(written.cell);
+    // What has ended before takes no write that would have to be undone.
+    if !cell.is_of(session) {
+        return Ok(());
+    }
     cells.set(written.cell, cell.ended(session, ending))
 }
 
