@@ -206,3 +206,13 @@ module _ (ks : List SortKey) where
   sorted-is xs ys up stable =
       same-climb stands_before is-order ys (sorted_by ks xs) (climbs-sorted stands_before is-order ys up) (climbs-sorted_by xs) (λ z. stable z
       ∙ sym (filter-sorted_by z xs))
+
+-- without keys nothing is sorted
+pub sorted-none : (keys : List SortKey) (es : List (RowPlace × Tuple)) → length keys ≡ 0 → es ≡ sorted_by keys es
+sorted-none [] [] none = refl
+sorted-none [] (e ∷ es) none = sym (ap (put_in [] e) (sym (sorted-none [] es none)) ∙ at es)
+  where
+    at : (xs : List (RowPlace × Tuple)) → put_in [] e xs ≡ e ∷ xs
+    at [] = refl
+    at (x ∷ xs) = refl
+sorted-none (k ∷ keys) es none = absurd (omega (arith, none))

@@ -103,6 +103,9 @@ impl<'a> Entries<'a> {
     pub fn sort(&mut self, keys: &[SortKey]) -> Result<(), AllocError>
         ensures { OnOk result (self.new ≡ sorted_by keys.now self.old) }
     {
+        if keys.is_empty() {
+            return Ok(());
+        }
         self.items.sort_by(|x, y| compare(keys, x.row(), y.row()))
     }
 }

@@ -1,6 +1,7 @@
 //! Expressions and conditions over a row. Nothing is copied.
 
-ghost use Rattle.std.specs.Prelude.{◌≡◌, Some, ◌*ℤ◌};
+ghost use Rattle.std.specs.Prelude.{◌≡◌, IfSome, List, Some, ◌*ℤ◌};
+ghost use Rattle.lock_modes.specs.declared.value.Value.{Value};
 ghost use Rattle.statement_evaluation.specs.Borrowed.{value_at, value_if, int_if};
 ghost use Rattle.statement_evaluation.specs.Evaluate as spec;
 ghost use Rattle.statement_evaluation.specs.Evaluate.{on_numbers, plus_or_minus, operand_value, product_value, value_of};
@@ -21,6 +22,7 @@ pub(crate) fn value_of<'a>(row: &'a Row, expression: &'a Expression) -> Option<V
     value
 }
 
+#[inline(always)]
 fn product<'a>(row: &'a Row, product: &'a Product) -> Option<ValueRef<'a>>
     ensures { value_if result ≡ product_value row.now product.now }
 {
@@ -74,9 +76,7 @@ pub fn holds(row: &Row, condition: &Condition) -> Option<bool>
 {
     match condition {
         Condition::Always => Some(true),
-        Condition::Compares(a, comparison, b) => {
-            compares(value_of(row, a), *comparison, value_of(row, b))
-        }
+        Condition::Compares(a, comparison, b) => compared(row, a, *comparison, b),
         Condition::Not(part) => Some(!holds(row, part.get())?),
         Condition::And(a, b) => {
             if holds(row, a.get())? {
@@ -92,6 +92,28 @@ pub fn holds(row: &Row, condition: &Condition) -> Option<bool>
                 holds(row, b.get())
             }
         }
+    }
+}
+
+/// Whether the values of two expressions pass. Most are of one operand each, of which nothing is computed.
+fn compared(row: &Row, a: &Expression, comparison: Comparison, b: &Expression) -> Option<bool>
+    ensures { result ≡ spec.compared comparison (value_of row.now a.now) (value_of row.now b.now) }
+{
+    match (alone(a), alone(b)) {
+        (Some(a), Some(b)) => Some(passes(comparison, operand(row, a).order(operand(row, b)))),
+        (None, Some(b)) => compares(value_of(row, a), comparison, Some(operand(row, b))),
+        _ => compares(value_of(row, a), comparison, value_of(row, b)),
+    }
+}
+
+/// The operand that is all of an expression, if one is.
+fn alone(expression: &Expression) -> Option<&Operand>
+    ensures { IfSome result (λ part. (row : List Value) → value_of row expression.now ≡ operand_value row part.now) }
+{
+    if expression.more.as_slice().is_empty() && expression.first.more.as_slice().is_empty() {
+        Some(&expression.first.first)
+    } else {
+        None
     }
 }
 

@@ -1,6 +1,6 @@
 //! What a select tells of the rows that match.
 
-ghost use Rattle.std.specs.Prelude.{◌≡◌, [], ◌∷◌, ◌++◌, IfOk, length, map};
+ghost use Rattle.std.specs.Prelude.{◌≡◌, [], ◌∷◌, ◌++◌, IfOk, length, map, true};
 ghost use Rattle.transcripts.specs.declared.event.Event.TheVariants.{Row as RowEvent, Rows};
 ghost use Rattle.statement_evaluation.specs.Effect as spec;
 ghost use Rattle.statement_evaluation.specs.Borrowed.{effect_at};
@@ -12,6 +12,7 @@ use crate::entry::{Entries, Entry};
 use crate::value_ref::ValueRef;
 use crate::write::Writes;
 use bound_statements::{Aggregate, Output, SortKey};
+use finite_maps::Fork;
 use lock_modes::{Row, Value};
 use std::alloc::{AllocError, Global};
 use transcripts::{Event, Fault};
@@ -57,7 +58,7 @@ fn show(alloc: Global, output: &Output, found: &[Entry<'_>]) -> Result<Given, Al
 fn rows(alloc: Global, columns: &[u16], found: &[Entry<'_>]) -> Result<Vec<Event>, AllocError>
     ensures { IfOk result (λ events. events.items ≡ map (λ e. RowEvent (spec.projected columns.now e.1)) found.now ++ Rows (length found.now) ∷ []) }
 {
-    let mut events = Vec::new(alloc);
+    let mut events = Vec::with_capacity(alloc, found.len() + 1)?;
     for entry in found {
         events.push(Event::Row(projection(alloc, columns, entry.row())?))?;
     }
@@ -69,11 +70,29 @@ fn rows(alloc: Global, columns: &[u16], found: &[Entry<'_>]) -> Result<Vec<Event
 fn projection(alloc: Global, columns: &[u16], row: &Row) -> Result<Row, AllocError>
     ensures { IfOk result (λ shown. shown ≡ spec.projected columns.now row.now) }
 {
+    if shows_all(columns, row) {
+        return row.fork();
+    }
     let mut values = Vec::with_capacity(alloc, columns.len())?;
     for column in columns {
         values.push(ValueRef::in_column(row, *column).to_value()?)?;
     }
     Ok(Row::from_values(values)?)
+}
+
+/// Whether these are all columns of the row in their order.
+fn shows_all(columns: &[u16], row: &Row) -> bool
+    ensures { result ≡ true → spec.projected columns.now row.now ≡ row.now }
+{
+    if columns.len() != row.values().len() {
+        return false;
+    }
+    for place in 0..columns.len() {
+        if columns[place] as usize != place {
+            return false;
+        }
+    }
+    true
 }
 
 /// One row of these numbers, or none where one leaves the range of 64 bits.

@@ -3,7 +3,7 @@ use Rattle.std.specs.Prelude.{Result, Ok, Err}
 use Rattle.std.specs.Result.{OnOk}
 use Rattle.std.proofs.lemmas.Fn.{always_returns_same}
 use Rattle.statement_evaluation.specs.Effect.{sorted_by}
-use Rattle.statement_evaluation.proofs.SortLemmas.{sorted-is, is-order, stands_before}
+use Rattle.statement_evaluation.proofs.SortLemmas.{sorted-is, sorted-none, is-order, stands_before}
 use Rattle.statement_evaluation.proofs.entry.Entries.sort.Goals as goal
 
 on_ok : {A E : Type 0} {P Q : Type 0} (result : Result A E) → (P → Q) → OnOk result P → OnOk result Q
@@ -20,3 +20,7 @@ returns c =
     (c.sort_by.ensures.stable (stands_before keys) (is-order keys) (always_returns_same _ _ _ (λ a r f' called. (search rules, search rules))))
     ∙ ap (sorted_by keys) c.self.view_is)
     c.sort_by.ensures.sorted
+
+-- without keys entries stay in their order
+pub returns-then-is_empty : goal.returns-then-is_empty
+returns-then-is_empty c = sorted-none c.args.keys.now c.args.self.now (search rules)
