@@ -2,20 +2,21 @@
 use mathlib.Core.List.{IsPrefix}
 use Rattle.std.specs.Result.{OnErr, OnOk}
 use Rattle.std.specs.Prelude.{All, Result, Ok, Err}
-use Rattle.std.proofs.lemmas.List.{map-append}
+use Rattle.std.proofs.lemmas.List.{map-append, set-get_or}
 use Rattle.std.proofs.Common.{◌≡◌, ◌<◌, ◌≤◌, ◌∙◌, refl, sym, ap, subst, arith, ℕ, zero, suc, List, [], ◌∷◌, ◌++◌}
-use Rattle.std.proofs.Common.{length, map, length-set, get_or, set, take, replicate, Bool, ◌||◌}
+use Rattle.std.proofs.Common.{length, map, length-set, get_or, set, take, replicate, Bool, false, ◌||◌, Option, Some, None, is_some}
 use Rattle.event_tree.specs.declared.node.NodeId.{NodeId}
 use Rattle.event_tree.specs.Lists.{HasNode, Keeps, list_of}
 use Rattle.std.specs.List.{AllZip, list_any}
 use Rattle.marked_lists.specs.Versions.{Versions}
 use Rattle.marked_logs.specs.Logs.{Logs}
 use Rattle.transcripts.specs.declared.event.Event.{Event}
+use Rattle.session_steps.specs.declared.point.Rest.{Rest}
 use Rattle.session_steps.specs.Stage.{Member, no_member, transcripts_of}
 use Rattle.marked_worlds.specs.declared.members.StatusAndRest.{StatusAndRest}
 use Rattle.marked_worlds.specs.declared.told.ToldOutcome.{ToldOutcome}
 use Rattle.marked_worlds.specs.Told.{AreTold, IsTold, outcomes_of}
-use Rattle.marked_worlds.specs.Members.{member_of, members_of, no_kept, sessions_of, AreKept, AreWhole, IsWhole, MarkedSessions}
+use Rattle.marked_worlds.specs.Members.{member_of, members_of, no_kept, sessions_of, with_rest, AreKept, AreWhole, IsWhole, MarkedSessions}
 
 -- what it was told is changed
 abbrev pub with_told : (List Event → List Event) → Member → Member
@@ -106,6 +107,10 @@ pub told-count : {X Y : Type 0} (r : Result X Y) (old left : List (List Event)) 
 told-count (Ok x) old left i t put same = ap length put ∙ length-set old i t
 told-count (Err y) old left i t put same = ap length same
 
+none-left : (rest : Option Rest) → is_some rest ≡ false → rest ≡ None
+none-left None e = refl
+none-left (Some rest) e = cc
+
 -- ---- sessions as contracts see them
 
 module _ (logs : Logs Event) (kept : Versions StatusAndRest) (outcomes : List ToldOutcome) (seen : MarkedSessions) (i : ℕ) (whole : AreWhole logs kept) (is : sessions_of logs kept outcomes ≡ seen) where
@@ -132,6 +137,15 @@ module _ (logs : Logs Event) (kept : Versions StatusAndRest) (outcomes : List To
 
   pub member-is : get_or seen.list i no_member ≡ member_of told own
   member-is = ap (λ (v : MarkedSessions). get_or v.list i no_member) (sym is) ∙ members-at logs.now kept.list i whole.now
+
+  -- where nothing is left of a step and nothing was, all stay
+  pub rest-stays : (k : StatusAndRest) (rest : Option Rest) → get_or kept.list i no_kept ≡ k → is_some k.rest ≡ false → is_some rest ≡ false
+      → seen.list ≡ set seen.list i (with_rest (get_or seen.list i no_member) rest)
+  rest-stays k rest there before none =
+      let m : Member = get_or seen.list i no_member in
+      let was : m.rest ≡ k.rest = ap (λ (n : Member). n.rest) member-is ∙ ap (λ (n : StatusAndRest). n.rest) there in
+      let same : m.rest ≡ rest = was ∙ none-left k.rest before ∙ sym (none-left rest none) in
+      sym (ap (set seen.list i) (λ j. record { state = m.state; rest = (sym same) j }) ∙ set-get_or seen.list i no_member)
 
   -- it was told something else
   pub told-by : {X Y : Type 0} (r : Result X Y) (left : List (List Event)) (f : List Event → List Event) → OnOk r (left ≡ set logs.now i (f told))

@@ -181,7 +181,14 @@ impl MarkedMembers {
         ensures marked { self.new.marked ≡ self.old.marked }
         ensures outcomes { self.new.told ≡ self.old.told }
     {
-        let status = self.kept.get(session as usize).status;
+        let StatusAndRest {
+            status,
+            rest: before,
+        } = self.kept.get(session as usize);
+        // So it is at most steps, and then nothing has to be undone.
+        if before.is_none() && rest.is_none() {
+            return Ok(());
+        }
         self.kept
             .set(session as usize, StatusAndRest { status, rest })
     }
