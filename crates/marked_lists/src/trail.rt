@@ -20,6 +20,7 @@ pub(crate) struct Mark {
 }
 
 /// Puts a value in the place of an item, or at the end. What is overwritten is kept where a mark stands.
+#[inline(always)]
 pub(crate) fn put<T: Copy>(
     items: &mut Vec<T>,
     trail: &mut Vec<Overwritten<T>>,
@@ -43,6 +44,7 @@ pub(crate) fn put<T: Copy>(
 }
 
 /// Keeps what is about to be overwritten, where a mark stands.
+#[inline(always)]
 fn keep<T: Copy>(
     trail: &mut Vec<Overwritten<T>>,
     marks: &[Mark],
