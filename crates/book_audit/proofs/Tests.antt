@@ -1,8 +1,7 @@
 -- What tests of facts come to.
-use Rattle.std.proofs.Common.{◌≡◌, ◌↔◌, refl, sym, ap, ◌∙◌, subst, ℕ, ◌+◌, ◌<◌, ◌≤◌, Bool, true, false, IsTrue, List, [], length, Option, Some, None, is_some}
-use Rattle.std.proofs.Common.{option_map, ◌⊎◌, ⊎_elim, arith, Result, Ok, Err, IfOk}
-use Rattle.perm_ranks.specs.Words.{Word, total, all_words, word_at}
-use Rattle.perm_ranks.specs.Swapped.{exchanged}
+use Rattle.std.proofs.Common.{◌≡◌, ◌↔◌, refl, sym, ap, ◌∙◌, subst, ℕ, ◌+◌, ◌<◌, ◌≤◌, Bool, true, false, IsTrue, List, [], length, Option, Some, None}
+use Rattle.std.proofs.Common.{◌⊎◌, ⊎_elim, arith, Result, Ok, Err, IfOk}
+use Rattle.perm_ranks.specs.Words.{total, all_words, word_at}
 use Rattle.perm_ranks.proofs.WordLemmas.{Takes, takes-length, words-take, each-at}
 use Rattle.bound_specs.specs.Spec.{Spec, ranks, ranks_by, line_of, counts_of, queues_of}
 use Rattle.transcripts.specs.declared.event.Event.{Event}
@@ -34,6 +33,13 @@ none-true spec refused r (Ran outcome) is = never (start spec) refl is.1
     never (SessionSetupWaits n) e h = cc
 none-true spec refused r (Swap k) is = refused is.1.0 is.1.1
 
+-- a fact that is true at a rank is true up to the next one
+pub true-once : (spec : Spec) (fact : Fact) (rank end : ℕ) → rank + 1 ≡ end → IsTrueAt spec rank fact → IsTrueUntil spec fact rank (Some end)
+true-once spec fact rank end next is = (
+  omega (arith, next),
+  λ r le lt. (let here : rank ≡ r = omega (arith, next, le, lt) in subst (λ m. IsTrueAt spec m fact) here is),
+)
+
 -- ---- a spec without lines
 
 -- its ranks are those of its words
@@ -42,12 +48,6 @@ in-ranks spec r words lt = subst (λ ls. r < ranks_by ls (queues_of spec)) (sym 
 
 pub in-words : (spec : Spec) (r : ℕ) → spec.lines ≡ [] → r < ranks spec → r < length (all_words (counts_of (queues_of spec)))
 in-words spec r words lt = subst (λ ls. r < ranks_by ls (queues_of spec)) words lt
-
--- where a word is exchanged, it falls
-pub falls-where : {A : Type 0} (items : A → Word) (o : Option A) (k : ℕ) (word : Word) → option_map items o ≡ exchanged k word → is_some o ≡ true
-    → falls_at k word ≡ true
-falls-where items None k word e some = cc
-falls-where items (Some x) k word e some = sym (ap (λ p. is_some p) e)
 
 -- a word that falls at a place has a letter there and behind it
 pub falls-inside : (counts : List ℕ) (r k : ℕ) → r < length (all_words counts) → falls_at k (word_at counts r) ≡ true → k + 2 ≤ total counts

@@ -8,13 +8,15 @@ use Rattle.machine_model.specs.Start.{Started, start}
 use Rattle.rank_facts.specs.Facts.{IsTrueAt}
 use Rattle.rank_facts.specs.declared.fact.Fact.{Fact}
 use Rattle.marked_paths.specs.Paths.{IsPath}
+use Rattle.fact_books.specs.Runs.{Table}
+use Rattle.book_audit.specs.Compared.{AreCompared}
 use Rattle.book_audit.specs.declared.ground.Ground.{Ground}
 use Rattle.book_audit.specs.declared.ground.Ground.TheVariants as ground
 
--- a path of the spec, or the spec starts in no world
-abbrev pub IsGround : SpecFile → Ground → Type 0
-IsGround file (ground.Started path) = IsPath file path
-IsGround file ground.Refused = (w : World) → start file.run ≡ Started w → ⊥
+-- a path of the spec, with what was told on it compared with the outcomes of a table, or the spec starts in no world
+abbrev pub IsGround : SpecFile → Table → Ground → Type 0
+IsGround file table (ground.Started tester) = IsPath file tester.path × AreCompared tester.path.world.told table tester.comparisons.last.items
+IsGround file table ground.Refused = (w : World) → start file.run ≡ Started w → ⊥
 
 -- the fact is true from the rank on up to an end behind it; none where it is not true at the rank
 abbrev pub IsTrueUntil : Spec → Fact → ℕ → Option ℕ → Type 0

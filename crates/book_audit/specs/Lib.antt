@@ -1,4 +1,5 @@
 pub mod Audit
+pub mod Compared
 pub mod Grounds
 pub mod Findings
 pub mod Pieces

@@ -55,7 +55,7 @@ fn least_false(
     outcomes: &[Outcome],
     runs: &[Run],
 ) -> Result<Option<u64>, AllocError>
-    requires ground { IsGround spec.now ground.old }
+    requires ground { IsGround spec.now outcomes.now ground.old }
     requires sound { AllSound (length outcomes.now) runs.now }
     ensures { IfOk result (IsLeast spec.now.run (said outcomes.now runs.now)) }
 {
@@ -74,9 +74,9 @@ fn with_run(
     run: Run,
     least: Option<u64>,
 ) -> Result<Option<u64>, AllocError>
-    requires ground { IsGround spec.now ground.old }
+    requires ground { IsGround spec.now outcomes.now ground.old }
     requires sound { IsSound (length outcomes.now) run }
-    ensures ground { OnOk result (IsGround spec.now ground.new) }
+    ensures ground { OnOk result (IsGround spec.now outcomes.now ground.new) }
     ensures least { IfOk result (λ now. (has : Facts) → IsLeast spec.now.run has least → IsLeast spec.now.run (with_said has outcomes.now run) now) }
 {
     let found = ground.first_false(spec, outcomes, run, limit(run.end, least))?;

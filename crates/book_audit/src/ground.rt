@@ -1,12 +1,14 @@
 //! Whether facts of a spec are true, whether it starts or not.
 
-ghost use Rattle.std.specs.Prelude.{◌≡◌, ◌<◌, length, IfOk, OnOk};
+ghost use Rattle.std.specs.Prelude.{◌≡◌, ◌<◌, [], length, slice_index_or, IfOk, OnOk};
 ghost use Rattle.rank_facts.specs.declared.fact.Fact.TheVariants as fact;
-ghost use Rattle.fact_books.specs.Runs.{IsNumbered, fact_in};
+ghost use Rattle.fact_books.specs.Runs.{IsNumbered, Table, fact_in};
 ghost use Rattle.marked_paths.specs.Paths.{IsPath};
+ghost use Rattle.book_audit.specs.Compared.{AreCompared};
 ghost use Rattle.book_audit.specs.Grounds.{IsGround, IsTrueUntil};
 ghost use Rattle.book_audit.specs.Findings.{IsFirstFalse};
 
+use crate::comparing::Comparisons;
 use crate::testing::{is_ran, swap_until};
 use bound_specs::Spec;
 use fact_books::{Run, Tag};
@@ -15,9 +17,16 @@ use session_steps::StartError;
 use std::alloc::{AllocError, Global};
 use transcripts::Outcome;
 
+/// A path of a spec, with what the outcomes that were told on it were compared with.
+#[derive(Drop)]
+pub(crate) struct Tester<'a> {
+    pub(crate) path: MarkedPath<'a>,
+    pub(crate) comparisons: Comparisons,
+}
+
 /// What facts of a spec are tested on.
 pub(crate) enum Ground<'a> {
-    Started(MarkedPath<'a>),
+    Started(Tester<'a>),
     /// The spec does not start: nothing is true.
     Refused,
 }
@@ -26,7 +35,7 @@ pub(crate) enum Ground<'a> {
 impl Drop for Ground<'_> {
     fn drop(self) {
         match self {
-            Ground::Started(_path) => {}
+            Ground::Started(_tester) => {}
             Ground::Refused => {}
         }
     }
@@ -34,10 +43,13 @@ impl Drop for Ground<'_> {
 
 impl<'a> Ground<'a> {
     pub(crate) fn of(alloc: Global, spec: &'a Spec) -> Result<Ground<'a>, AllocError>
-        ensures { IfOk result (IsGround spec.now) }
+        ensures { IfOk result (λ ground. (table : Table) → IsGround spec.now table ground) }
     {
         match MarkedPath::start(alloc, spec) {
-            Ok(path) => Ok(Ground::Started(path)),
+            Ok(path) => Ok(Ground::Started(Tester {
+                path,
+                comparisons: Comparisons::new(alloc),
+            })),
             Err(StartError::NoMemory) => Err(AllocError),
             Err(
                 StartError::SetupFailed { .. }
@@ -55,14 +67,14 @@ impl<'a> Ground<'a> {
         run: Run,
         end: u64,
     ) -> Result<Option<u64>, AllocError>
-        requires ground { IsGround spec.now self.old }
+        requires ground { IsGround spec.now outcomes.now self.old }
         requires numbered { IsNumbered (length outcomes.now) run.tag }
-        ensures ground { OnOk result (IsGround spec.now self.new) }
+        ensures ground { OnOk result (IsGround spec.now outcomes.now self.new) }
         ensures answer { IfOk result (IsFirstFalse spec.now.run (fact_in outcomes.now run.tag) run.first end) }
     {
         let mut rank = run.first;
         while rank < end {
-            let Some(after) = self.true_until(spec, outcomes, run.tag, rank)? else {
+            let Some(after) = self.true_until(spec, outcomes, run.tag, rank, end)? else {
                 return Ok(Some(rank));
             };
             rank = after;
@@ -70,44 +82,52 @@ impl<'a> Ground<'a> {
         Ok(None)
     }
 
-    /// Up to which rank what a tag says is true from this rank on. None where it is not true there.
+    /// Up to which rank what a tag says is true from this rank on, of those up to an end at least. None where it is not true there.
     fn true_until(
         &mut self,
         spec: &Spec,
         outcomes: &[Outcome],
         tag: Tag,
         rank: u64,
+        end: u64,
     ) -> Result<Option<u64>, AllocError>
-        requires ground { IsGround spec.now self.old }
+        requires ground { IsGround spec.now outcomes.now self.old }
         requires numbered { IsNumbered (length outcomes.now) tag }
-        requires last { rank < u64.MAX }
-        ensures ground { OnOk result (IsGround spec.now self.new) }
+        requires inside { rank < end }
+        ensures ground { OnOk result (IsGround spec.now outcomes.now self.new) }
         ensures answer { IfOk result (IsTrueUntil spec.now.run (fact_in outcomes.now tag) rank) }
     {
         match self {
-            Ground::Started(path) => match tag {
-                Tag::Ran(number) => ran_until(path, &outcomes[number], rank),
-                Tag::Swap(place) => swap_until(path, rank, place),
+            Ground::Started(tester) => match tag {
+                Tag::Ran(number) => ran_until(tester, outcomes, number, rank),
+                Tag::Swap(place) => swap_until(&mut tester.path, rank, place, end),
             },
             Ground::Refused => Ok(None),
         }
     }
 }
 
-/// Behind the rank, if this is its outcome.
+/// Behind the rank, if its outcome has this number in the table.
 fn ran_until(
-    path: &mut MarkedPath<'_>,
-    told: &Outcome,
+    tester: &mut Tester<'_>,
+    outcomes: &[Outcome],
+    number: usize,
     rank: u64,
 ) -> Result<Option<u64>, AllocError>
-    requires path { IsPath path.old.world.file path.old }
+    requires path { IsPath tester.old.path.world.file tester.old.path }
+    requires compared { AreCompared tester.old.path.world.told outcomes.now tester.old.comparisons.last.items }
+    requires number { number < length outcomes.now }
     requires last { rank < u64.MAX }
-    ensures path { OnOk result (IsPath path.old.world.file path.new) }
-    ensures answer { IfOk result (IsTrueUntil path.old.world.file.run (fact.Ran told.now) rank) }
+    ensures path { OnOk result (IsPath tester.old.path.world.file tester.new.path) }
+    ensures compared { OnOk result (AreCompared tester.new.path.world.told outcomes.now tester.new.comparisons.last.items) }
+    ensures answer { IfOk result (IsTrueUntil tester.old.path.world.file.run (fact.Ran (slice_index_or outcomes.now number [])) rank) }
 {
-    if is_ran(path, rank, told)? {
-        Ok(Some(rank + 1))
-    } else {
-        Ok(None)
-    }
+    let is_ran = is_ran(
+        &mut tester.path,
+        &mut tester.comparisons,
+        outcomes,
+        number,
+        rank,
+    )?;
+    if is_ran { Ok(Some(rank + 1)) } else { Ok(None) }
 }

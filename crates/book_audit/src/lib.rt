@@ -2,6 +2,7 @@
 #![tactic(auto)]
 
 mod auditing;
+mod comparing;
 mod error;
 mod finding;
 mod ground;

@@ -11,30 +11,28 @@ is_quiet-requires-clause-path c = path-own c.args.path.now.world.file c.go_to.ne
 
 pub is_quiet-requires-clause-step : goal.is_quiet-requires-clause-step
 is_quiet-requires-clause-step c =
-    let line = c.in-Some.line.items in
-    let same = c.in_ok-go_to.ensures.path.file_is ∙ sym c.spec.ensures in
-    let long = ap (λ (ks : List ℕ). length ks) (c.in-Some.ensures.line ∙ ap (λ (f : SpecFile). line_of f.run c.args.rank) c.spec.ensures) in
+    let line = c.args.line.items in
+    let long = ap (λ (ks : List ℕ). length ks) c.requires.line in
     let steps = c.requires.steps in
     subst (λ ks. get_or ks c.args.place 0 < length c.go_to.new.self.world.file.run.steps) (sym c.deref.ensures.0)
-    (subst (λ (f : SpecFile). get_or line c.args.place 0 < length f.run.steps) (sym same)
-    (c.in-Some.ensures.known c.args.place 0 (omega (arith, long, steps))))
+    (subst (λ (f : SpecFile). get_or line c.args.place 0 < length f.run.steps) (sym c.in_ok-go_to.ensures.path.file_is)
+    (c.requires.known c.args.place 0 (omega (arith, long, steps))))
 
 pub is_quiet-requires-clause-other : goal.is_quiet-requires-clause-other
 is_quiet-requires-clause-other c =
-    let line = c.in-Some.line.items in
-    let same = c.in_ok-go_to.ensures.path.file_is ∙ sym c.spec.ensures in
-    let long = ap (λ (ks : List ℕ). length ks) (c.in-Some.ensures.line ∙ ap (λ (f : SpecFile). line_of f.run c.args.rank) c.spec.ensures) in
+    let line = c.args.line.items in
+    let long = ap (λ (ks : List ℕ). length ks) c.requires.line in
     let steps = c.requires.steps in
     subst (λ ks. get_or ks (c.args.place + 1) 0 < length c.go_to.new.self.world.file.run.steps) (sym c.deref-2.ensures.0)
-    (subst (λ (f : SpecFile). get_or line (c.args.place + 1) 0 < length f.run.steps) (sym same)
-    (c.in-Some.ensures.known (c.args.place + 1) 0 (omega (arith, long, steps))))
+    (subst (λ (f : SpecFile). get_or line (c.args.place + 1) 0 < length f.run.steps) (sym c.in_ok-go_to.ensures.path.file_is)
+    (c.requires.known (c.args.place + 1) 0 (omega (arith, long, steps))))
 
 pub returns-clause-answer : goal.returns-clause-answer
 returns-clause-answer c =
     let run = c.args.path.now.world.file.run in
     let place = c.args.place in
     let all = line_of run c.args.rank in
-    let all_is = c.in-Some.ensures.line ∙ ap (λ (f : SpecFile). line_of f.run c.args.rank) c.spec.ensures in
+    let all_is = c.requires.line in
     let same = c.in_ok-go_to.ensures.path.file_is in
     let first : get_or c.deref.result.now place 0 ≡ get_or all place 0 = ap (λ ks. get_or ks place 0) (c.deref.ensures.0 ∙ all_is) in
     let second : get_or c.deref-2.result.now (place + 1) 0 ≡ get_or all (suc place) 0 =
