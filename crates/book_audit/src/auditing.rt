@@ -9,10 +9,10 @@ use crate::finding::{finding_of, told};
 use crate::pieces::pieces_of;
 use crate::sharing::{all_of, findings_of, most_pieces};
 use crate::source::spec_of_book;
+use compact_outcomes::CompactOutcomes;
 use fact_books::{Book, Run};
 use std::alloc::Global;
 use std::thread::Threads;
-use transcripts::Outcome;
 
 /// Tests each fact of a book, on one thread: an outcome is true at the rank whose line tells it, and a swap at each place of a word
 /// where it may be made, the least of them or not. Where the spec does not start, no fact is true; a book without facts is good.
@@ -21,16 +21,15 @@ use transcripts::Outcome;
 pub fn audit_plain(alloc: Global, book: &Book) -> Result<(), AuditError>
     ensures { IsAudit book.now result }
 {
-    let (texts, runs) = book.parts();
-    let outcomes = texts.read(alloc)?;
-    plain_of(alloc, book, outcomes.as_slice(), runs)
+    let (outcomes, runs) = book.parts();
+    plain_of(alloc, book, outcomes, runs)
 }
 
 /// The audit of a book that has these outcomes and runs.
 fn plain_of(
     alloc: Global,
     book: &Book,
-    outcomes: &[Outcome],
+    outcomes: &CompactOutcomes,
     runs: &[Run],
 ) -> Result<(), AuditError>
     requires facts { facts_in outcomes.now runs.now ≡ book.now.facts }
@@ -46,9 +45,8 @@ fn plain_of(
 pub fn audit<R: Threads + Sync>(threads: &R, alloc: Global, book: &Book) -> Result<(), AuditError>
     ensures { IsAudit book.now result }
 {
-    let (texts, runs) = book.parts();
-    let outcomes = texts.read(alloc)?;
-    audit_of(threads, alloc, book, outcomes.as_slice(), runs)
+    let (outcomes, runs) = book.parts();
+    audit_of(threads, alloc, book, outcomes, runs)
 }
 
 /// The same of a book that has these outcomes and runs.
@@ -56,7 +54,7 @@ fn audit_of<R: Threads + Sync>(
     threads: &R,
     alloc: Global,
     book: &Book,
-    outcomes: &[Outcome],
+    outcomes: &CompactOutcomes,
     runs: &[Run],
 ) -> Result<(), AuditError>
     requires facts { facts_in outcomes.now runs.now ≡ book.now.facts }

@@ -7,9 +7,9 @@ ghost use Rattle.fact_books.specs.Runs.{Table};
 ghost use Rattle.fact_books.specs.Entries.{Told};
 ghost use Rattle.book_audit.specs.Compared.{AreCompared, IsCompared};
 
+use compact_outcomes::{CompactOutcomes, CompactText};
 use marked_paths::MarkedPath;
 use std::alloc::{AllocError, Global};
-use transcripts::Outcome;
 
 /// Whether the outcome that was told with a number is the one at a place of a table.
 #[derive(Clone, Copy)]
@@ -70,7 +70,7 @@ impl Comparisons {
 pub(crate) fn tells(
     path: &mut MarkedPath<'_>,
     comparisons: &mut Comparisons,
-    outcomes: &[Outcome],
+    outcomes: &CompactOutcomes,
     place: usize,
 ) -> Result<bool, AllocError>
     requires path { IsPath path.old.world.file path.old }
@@ -85,7 +85,9 @@ pub(crate) fn tells(
     if let Some(is_same) = comparisons.get(number, place) {
         return Ok(is_same);
     }
-    let is_same = path.told(number).is_same(&outcomes[place]);
+    let alloc = *comparisons.last.allocator();
+    let told = CompactText::of(alloc, path.told(number))?;
+    let is_same = told.as_outcome().is_same(&outcomes.get(place));
     comparisons.note(Comparison {
         number,
         place,

@@ -12,9 +12,9 @@ ghost use Rattle.book_audit.specs.Findings.{IsFinding, IsLeast, said, with_said,
 use crate::error::AuditError;
 use crate::ground::Ground;
 use bound_specs::Spec;
+use compact_outcomes::CompactOutcomes;
 use fact_books::Run;
 use std::alloc::{AllocError, Global};
-use transcripts::Outcome;
 
 /// What is found of the facts of some runs.
 #[derive(Clone, Copy, Drop)]
@@ -28,7 +28,12 @@ pub(crate) enum Finding {
 }
 
 /// What is found of the facts that runs say.
-pub(crate) fn finding_of(alloc: Global, spec: &Spec, outcomes: &[Outcome], runs: &[Run]) -> Finding
+pub(crate) fn finding_of(
+    alloc: Global,
+    spec: &Spec,
+    outcomes: &CompactOutcomes,
+    runs: &[Run],
+) -> Finding
     requires { AllSound (length outcomes.now) runs.now }
     ensures { IsFinding spec.now.run (said outcomes.now runs.now) result }
 {
@@ -52,7 +57,7 @@ fn found(least: Result<Option<u64>, AllocError>) -> Finding
 fn least_false(
     ground: &mut Ground<'_>,
     spec: &Spec,
-    outcomes: &[Outcome],
+    outcomes: &CompactOutcomes,
     runs: &[Run],
 ) -> Result<Option<u64>, AllocError>
     requires ground { IsGround spec.now outcomes.now ground.old }
@@ -70,7 +75,7 @@ fn least_false(
 fn with_run(
     ground: &mut Ground<'_>,
     spec: &Spec,
-    outcomes: &[Outcome],
+    outcomes: &CompactOutcomes,
     run: Run,
     least: Option<u64>,
 ) -> Result<Option<u64>, AllocError>

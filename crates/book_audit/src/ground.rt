@@ -11,11 +11,11 @@ ghost use Rattle.book_audit.specs.Findings.{IsFirstFalse};
 use crate::comparing::Comparisons;
 use crate::testing::{is_ran, swap_until};
 use bound_specs::Spec;
+use compact_outcomes::CompactOutcomes;
 use fact_books::{Run, Tag};
 use marked_paths::MarkedPath;
 use session_steps::StartError;
 use std::alloc::{AllocError, Global};
-use transcripts::Outcome;
 
 /// A path of a spec, with what the outcomes that were told on it were compared with.
 #[derive(Drop)]
@@ -63,7 +63,7 @@ impl<'a> Ground<'a> {
     pub(crate) fn first_false(
         &mut self,
         spec: &Spec,
-        outcomes: &[Outcome],
+        outcomes: &CompactOutcomes,
         run: Run,
         end: u64,
     ) -> Result<Option<u64>, AllocError>
@@ -86,7 +86,7 @@ impl<'a> Ground<'a> {
     fn true_until(
         &mut self,
         spec: &Spec,
-        outcomes: &[Outcome],
+        outcomes: &CompactOutcomes,
         tag: Tag,
         rank: u64,
         end: u64,
@@ -110,7 +110,7 @@ impl<'a> Ground<'a> {
 /// Behind the rank, if its outcome has this number in the table.
 fn ran_until(
     tester: &mut Tester<'_>,
-    outcomes: &[Outcome],
+    outcomes: &CompactOutcomes,
     number: usize,
     rank: u64,
 ) -> Result<Option<u64>, AllocError>

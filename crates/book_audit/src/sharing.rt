@@ -11,13 +11,13 @@ ghost use Rattle.book_audit.specs.declared.finding.Finding.TheVariants as found;
 
 use crate::finding::{Finding, finding_of};
 use crate::source::bound_spec;
+use compact_outcomes::CompactOutcomes;
 use fact_books::Run;
 use rayon::current_num_threads;
 use rayon::prelude::*;
 use sqlite_items::Items;
 use std::alloc::{AllocError, Global};
 use std::thread::Threads;
-use transcripts::Outcome;
 
 /// How many parts `rayon` makes of a list at most, and so how often an audit binds and starts its spec at most.
 const MOST_PIECES: usize = 64;
@@ -37,7 +37,7 @@ pub(crate) fn findings_of<R: Threads + Sync>(
     threads: &R,
     alloc: Global,
     text: &str,
-    outcomes: &[Outcome],
+    outcomes: &CompactOutcomes,
     pieces: &[Items<Run>],
 ) -> Result<Vec<Finding>, AllocError>
     requires { All (AllSound (length outcomes.now)) pieces.now }
@@ -59,7 +59,7 @@ pub(crate) fn findings_of<R: Threads + Sync>(
 
 /// What is found of the facts that runs say of the spec with this text. Threads share the text, and each piece binds and starts the
 /// spec for itself.
-fn finding_in(alloc: Global, text: &str, outcomes: &[Outcome], runs: &[Run]) -> Finding
+fn finding_in(alloc: Global, text: &str, outcomes: &CompactOutcomes, runs: &[Run]) -> Finding
     requires { AllSound (length outcomes.now) runs.now }
     ensures { (file : SpecFile) → IsFileOf text.now file → IsFinding file.run (said outcomes.now runs.now) result }
 {

@@ -13,16 +13,16 @@ ghost use Rattle.book_audit.specs.Grounds.{IsTrueUntil, AreAlikeTo};
 
 use crate::comparing::{Comparisons, tells};
 use bound_specs::{Line, Spec};
+use compact_outcomes::CompactOutcomes;
 use marked_paths::MarkedPath;
 use perm_ranks::{Shape, shared_block};
 use std::alloc::AllocError;
-use transcripts::Outcome;
 
 /// Whether the outcome of a rank has this number in the table.
 pub(crate) fn is_ran(
     path: &mut MarkedPath<'_>,
     comparisons: &mut Comparisons,
-    outcomes: &[Outcome],
+    outcomes: &CompactOutcomes,
     number: usize,
     rank: u64,
 ) -> Result<bool, AllocError>
