@@ -43,7 +43,7 @@ impl Drop for Ground<'_> {
 
 impl<'a> Ground<'a> {
     pub(crate) fn of(alloc: Global, spec: &'a Spec) -> Result<Ground<'a>, AllocError>
-        ensures { IfOk result (λ ground. (table : Table) → IsGround spec.now table ground) }
+        ensures { IfOk result (λ made. (table : Table) → IsGround spec.now table made) }
     {
         match MarkedPath::start(alloc, spec) {
             Ok(path) => Ok(Ground::Started(Tester {
