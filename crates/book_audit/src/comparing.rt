@@ -19,8 +19,7 @@ pub(crate) struct Comparison {
     pub(crate) is_same: bool,
 }
 
-/// The last comparison of each outcome that was told, where its number is. What it tells is looked up, so that nothing but speed depends
-/// on it.
+/// For each outcome that was told, the last comparison of it, if one is noted. Each is right; where one stands matters for speed alone.
 #[derive(Drop)]
 pub(crate) struct Comparisons {
     pub(crate) last: Vec<Comparison>,

@@ -59,7 +59,7 @@ impl<'a> Ground<'a> {
         }
     }
 
-    /// The least rank of a run, and below an end, at which what the run says is not true.
+    /// The least rank from a run's first one up to but not `end`, at which what the run says is not true.
     pub(crate) fn first_false(
         &mut self,
         spec: &Spec,
@@ -82,7 +82,8 @@ impl<'a> Ground<'a> {
         Ok(None)
     }
 
-    /// Up to which rank what a tag says is true from this rank on, of those up to an end at least. None where it is not true there.
+    /// A rank behind this one, up to which what a tag says is true at each from this one on. None where it is not true here. Ranks from `end`
+    /// on need not be looked at.
     fn true_until(
         &mut self,
         spec: &Spec,

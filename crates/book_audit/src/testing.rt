@@ -18,7 +18,7 @@ use marked_paths::MarkedPath;
 use perm_ranks::{Shape, shared_block};
 use std::alloc::AllocError;
 
-/// Whether the outcome of a rank has this number in the table.
+/// Whether the outcome with this number in the table is that of a rank.
 pub(crate) fn is_ran(
     path: &mut MarkedPath<'_>,
     comparisons: &mut Comparisons,
@@ -40,7 +40,8 @@ pub(crate) fn is_ran(
     tells(path, comparisons, outcomes, number)
 }
 
-/// Up to which rank the swap at a place is true from this rank on, of those up to an end at least. None where it is not true there.
+/// A rank behind this one, up to which the swap at a place is true at each from this one on. None where it is not true here. Ranks from
+/// `end` on need not be looked at.
 pub(crate) fn swap_until(
     path: &mut MarkedPath<'_>,
     rank: u64,
