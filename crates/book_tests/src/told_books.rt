@@ -150,7 +150,7 @@ fn books_tell_of_each_rank_its_one_value_or_nothing(rt: HostRuntime) -> Result<(
 }
 
 /// What the book tells; where memory is refused to it, once more.
-fn told_again(rt: &impl Abort, alloc: Global, book: &Book) -> Option<ToldRanks> {
+fn told_again<'a>(rt: &impl Abort, alloc: Global, book: &'a Book) -> Option<ToldRanks<'a>> {
     match told_ranks(alloc, book) {
         Ok(told) => return Some(told),
         Err(error) => assert!(rt; error == TellError::NoMemory, "telling"),
