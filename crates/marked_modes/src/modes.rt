@@ -76,6 +76,7 @@ impl MarkedModes {
     }
 
     /// Whether a mode is compatible with what every other session holds on a resource.
+    #[inline(always)]
     pub fn fits(&self, session: u8, number: ResourceNumber, mode: Mode) -> bool
         requires { HasNumber self.now.resources number }
         ensures { IsTrue result ↔ Fits (look_at self.now.now) session (resource_of self.now.resources number) mode }
@@ -84,6 +85,7 @@ impl MarkedModes {
     }
 
     /// Gives a session a mode on a resource, in the place of the one that it has there. Without memory everything is held as it was.
+    #[inline(always)]
     pub fn give(
         &mut self,
         session: u8,

@@ -44,6 +44,7 @@ impl ModeRow {
     }
 
     /// Whether a mode is compatible with what every other session holds.
+    #[inline(always)]
     pub(crate) fn fits(&self, session: u8, mode: Mode) -> bool
         ensures { IsTrue result ↔ ((c : ℕ) → c ≢ session → fits mode (mode_in self.now c) ≡ true) }
     {
@@ -57,6 +58,7 @@ impl ModeRow {
 }
 
 /// Whether a mode goes with the one that another session holds, if it holds one.
+#[inline(always)]
 fn fits_with(mode: Mode, held: Option<Mode>) -> bool
     ensures { result ≡ fits mode held }
 {

@@ -12,6 +12,7 @@ use lock_modes::Row;
 use std::cmp::Ordering;
 
 /// The value of an expression, or none where a number leaves the range of 64 bits.
+#[inline(always)]
 pub(crate) fn value_of<'a>(row: &'a Row, expression: &'a Expression) -> Option<ValueRef<'a>>
     ensures { value_if result ≡ value_of row.now expression.now }
 {

@@ -60,6 +60,7 @@ pub fn are_same_values(a: &[Value], b: &[Value]) -> bool
 }
 
 /// Whether two events are the same: an event is told by its kind, its number and its row.
+#[inline(always)]
 fn is_same_event(a: &Event, b: &Event) -> bool
     ensures { IsTrue result ↔ (a.now ≡ b.now) }
 {
