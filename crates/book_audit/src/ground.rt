@@ -100,7 +100,7 @@ impl<'a> Ground<'a> {
     {
         match self {
             Ground::Started(tester) => match tag {
-                Tag::Ran(number) => ran_until(tester, outcomes, number, rank),
+                Tag::Ran(number) => ran_until(tester, outcomes, number as usize, rank),
                 Tag::Swap(place) => swap_until(&mut tester.path, rank, place, end),
             },
             Ground::Refused => Ok(None),

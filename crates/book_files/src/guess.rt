@@ -21,7 +21,7 @@ pub(crate) struct Guess {
     /// How many facts or runs there are, or fewer where the text is too short for so many runs.
     pub(crate) facts: usize,
     /// How many outcomes there are.
-    pub(crate) outcomes: usize,
+    pub(crate) outcomes: u32,
     /// How many bytes the text has.
     pub(crate) bytes: usize,
 }
@@ -49,13 +49,14 @@ pub(crate) fn guess_of(alloc: Global, text: &str, scratch: &mut Scratch) -> Opti
 fn guess_from(alloc: Global, hints: Hints, bytes: usize) -> Option<Guess>
     ensures { IfSome result IsGuess }
 {
+    let outcomes = u32::try_from(hints.outcomes).ok()?;
     match spec_of_text(alloc, hints.text.as_str()) {
         Ok(spec) => Some(Guess {
             text: hints.text,
             spec,
             format: hints.format,
             facts: hints.facts,
-            outcomes: hints.outcomes,
+            outcomes,
             bytes,
         }),
         Err(_) => None,

@@ -84,7 +84,7 @@ fn tag_at(cursor: &mut Cursor<'_>) -> Option<Tag> {
         return Some(Tag::Swap(place));
     }
     if cursor.passes(b",\"ran\",") {
-        let number = usize::try_from(cursor.number()?).ok()?;
+        let number = u32::try_from(cursor.number()?).ok()?;
         return Some(Tag::Ran(number));
     }
     None

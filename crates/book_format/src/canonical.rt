@@ -63,7 +63,7 @@ pub(crate) fn number(tag: Tag) -> usize
     ensures { result ≡ tag_number tag }
 {
     match tag {
-        Tag::Ran(n) => n,
+        Tag::Ran(n) => n as usize,
         Tag::Swap(k) => k as usize,
     }
 }

@@ -47,7 +47,10 @@ fn book_of_listed(
     if !are_text(bytes) || facts_in(runs.as_slice()) > MAX_FACTS {
         return Ok(None);
     }
-    let stand = are_runs(alloc, spec, outcomes.len(), runs.as_slice())?;
+    let Ok(count) = u32::try_from(outcomes.len()) else {
+        return Ok(None);
+    };
+    let stand = are_runs(alloc, spec, count, runs.as_slice())?;
     if !stand {
         return Ok(None);
     }

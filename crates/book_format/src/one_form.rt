@@ -47,7 +47,7 @@ fn flags_of(alloc: Global, outcomes: usize, runs: &[Run]) -> Result<Vec<bool>, A
     let mut flags = vec![in alloc; false; outcomes]?;
     for run in runs {
         match run.tag {
-            Tag::Ran(n) => flags[n] = true,
+            Tag::Ran(n) => flags[n as usize] = true,
             Tag::Swap(_) => {}
         }
     }
@@ -93,24 +93,24 @@ fn numbers_of(
     alloc: Global,
     outcomes: &[CompactOutcome<'_>],
     named: &[CompactOutcome<'_>],
-) -> Result<Vec<usize>, AllocError>
+) -> Result<Vec<u32>, AllocError>
     requires { Rises ComesBefore named.now }
     ensures { IfOk result (λ numbers. AreNumbers outcomes.now named.now numbers.items) }
 {
     let mut numbers = Vec::with_capacity(alloc, outcomes.len())?;
     for outcome in outcomes {
-        numbers.push(number_of(outcome, named))?;
+        numbers.push(number_of(outcome, named)?)?;
     }
     Ok(numbers)
 }
 
-/// Where the outcome stands among those that rise, or 0 where it is not there.
-fn number_of(outcome: &CompactOutcome<'_>, named: &[CompactOutcome<'_>]) -> usize
+/// Where the outcome stands among those that rise, or 0 where it is not there. A place past 32 bits is refused as one for which there is no memory.
+fn number_of(outcome: &CompactOutcome<'_>, named: &[CompactOutcome<'_>]) -> Result<u32, AllocError>
     requires { Rises ComesBefore named.now }
-    ensures { IsNumber named.now outcome.now result }
+    ensures { IfOk result (λ n. IsNumber named.now outcome.now n) }
 {
     match named.binary_search(outcome) {
-        Ok(n) => n,
-        Err(_) => 0,
+        Ok(place) => u32::try_from(place).map_err(|_| AllocError),
+        Err(_) => Ok(0),
     }
 }

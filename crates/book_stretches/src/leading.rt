@@ -15,7 +15,7 @@ pub(crate) fn lead_of(spec: &Spec, tag: Tag, rank: u64, until: u64) -> (Lead, u6
     ensures few { result.1 ≤ until }
 {
     match tag {
-        Tag::Ran(n) => (Lead::Value(n), until),
+        Tag::Ran(n) => (Lead::Value(n as usize), until),
         Tag::Swap(place) => match spec.shape() {
             Some(shape) => swap_lead(shape, place, rank, until),
             None => (Lead::Nowhere, until),

@@ -2,14 +2,15 @@
 
 use std::alloc::{AllocError, Global};
 
-/// No number: no table has so many outcomes in memory.
+/// No number. The outcome with it is not found, and stands in the table again where it comes again.
 const EMPTY: u32 = u32::MAX;
 
 /// How many slots are looked at for one outcome.
 pub(crate) const LOOKS: usize = 32;
 
 /// Numbers of outcomes in slots, each near the one that its fingerprint names: some eight bytes an outcome. What it tells is looked up and
-/// compared, so that nothing but time and the table's size depends on it.
+/// compared, so that nothing but time, the
+/// table's size and the number of an outcome that stands there twice depends on it.
 #[derive(Drop)]
 pub(crate) struct Index {
     slots: Vec<u32>,
@@ -38,19 +39,16 @@ impl Index {
     }
 
     /// The number that is found near the slot of a fingerprint, after so many others.
-    pub(crate) fn number(&self, print: u64, others: usize) -> Option<usize> {
+    pub(crate) fn number(&self, print: u64, others: usize) -> Option<u32> {
         let number = *self.slots.get(self.slot(print, others)?)?;
         if number == EMPTY {
             return None;
         }
-        Some(number as usize)
+        Some(number)
     }
 
     /// Notes a number near the slot of a fingerprint, if one is free there.
-    pub(crate) fn note(&mut self, print: u64, number: usize) {
-        let Ok(number) = u32::try_from(number) else {
-            return;
-        };
+    pub(crate) fn note(&mut self, print: u64, number: u32) {
         for others in 0..LOOKS {
             let Some(slot) = self.slot(print, others) else {
                 return;

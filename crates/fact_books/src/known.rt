@@ -14,7 +14,7 @@ use transcripts::Outcome;
 #[derive(Clone, Copy)]
 pub(crate) struct Known {
     pub(crate) number: usize,
-    pub(crate) place: usize,
+    pub(crate) place: u32,
 }
 
 /// Outcomes that are known by numbers. The index has where a number stands. What it tells is looked up, so that nothing but speed depends on it.
@@ -36,7 +36,7 @@ impl KnownPlaces {
     }
 
     /// The place with a number, if it is known.
-    fn get(&self, number: usize) -> Option<usize>
+    fn get(&self, number: usize) -> Option<u32>
         ensures { IfSome result (λ place. (k : ℕ) × (slice_get self.now.places.items k ≡ Some (record { number = number; place = place }))) }
     {
         let at = *self.index.get(&number)?;
@@ -49,7 +49,7 @@ impl KnownPlaces {
     }
 
     /// Notes the place with a number.
-    fn note(&mut self, number: usize, place: usize) -> Result<(), AllocError>
+    fn note(&mut self, number: usize, place: u32) -> Result<(), AllocError>
         ensures ok { OnOk result (self.new.places.items ≡ self.old.places.items ++ record { number = number; place = place } ∷ []) }
         ensures err { OnErr result (self.new.places.items ≡ self.old.places.items) }
     {
@@ -66,7 +66,7 @@ pub(crate) fn known_place(
     known: &mut KnownPlaces,
     number: usize,
     outcome: &Outcome,
-) -> Result<usize, AllocError>
+) -> Result<u32, AllocError>
     requires inside { AreInside (length table.old) known.old.places.items }
     requires name { MayName (known_in table.old known.old.places.items) number outcome.now }
     ensures bound { IfOk result (λ n. n < length table.new) }

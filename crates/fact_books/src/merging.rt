@@ -17,7 +17,7 @@ struct Hints {
 impl Hints {
     fn of(&self, tag: Tag) -> usize {
         match tag {
-            Tag::Ran(n) if n < self.ran.len() => self.ran[n],
+            Tag::Ran(n) if (n as usize) < self.ran.len() => self.ran[n as usize],
             Tag::Ran(_) => 0,
             Tag::Swap(k) => self.swap[k as usize],
         }
@@ -26,8 +26,8 @@ impl Hints {
     fn note(&mut self, tag: Tag, at: usize) {
         match tag {
             Tag::Ran(n) => {
-                if n < self.ran.len() {
-                    self.ran[n] = at;
+                if (n as usize) < self.ran.len() {
+                    self.ran[n as usize] = at;
                 }
             }
             Tag::Swap(k) => self.swap[k as usize] = at,
@@ -89,14 +89,14 @@ pub(crate) fn merge(
 }
 
 /// The runs with other numbers for their outcomes: at the place of each number stands the one that it becomes.
-pub fn renumber(alloc: Global, numbers: &[usize], runs: &[Run]) -> Result<Vec<Run>, AllocError>
+pub fn renumber(alloc: Global, numbers: &[u32], runs: &[Run]) -> Result<Vec<Run>, AllocError>
     requires sound { AllSound (length numbers.now) runs.now }
     ensures { IfOk result (λ v. v.items ≡ map (renamed numbers.now) runs.now) }
 {
     let mut out = Vec::with_capacity(alloc, runs.len())?;
     for run in runs {
         let tag = match run.tag {
-            Tag::Ran(n) => Tag::Ran(numbers[n]),
+            Tag::Ran(n) => Tag::Ran(numbers[n as usize]),
             Tag::Swap(k) => Tag::Swap(k),
         };
         out.push(Run {

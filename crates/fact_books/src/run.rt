@@ -5,10 +5,11 @@ ghost use Rattle.fact_books.specs.Runs.{Adds, KeepsSound, KeepsFrom, firsts, IsR
 
 use std::alloc::AllocError;
 
-/// What a run says of each of its ranks: the outcome with this number in a table, or a swap at this place.
+/// What a run says of each of its ranks: the outcome with this number in a table, or a swap at this place. Numbers have 32 bits, since a book has
+/// millions of runs in memory.
 #[derive(Clone, Copy, Drop)]
 pub enum Tag {
-    Ran(usize),
+    Ran(u32),
     Swap(u8),
 }
 

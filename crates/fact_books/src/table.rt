@@ -9,7 +9,8 @@ use std::alloc::{AllocError, Global};
 use std::marker::Model;
 
 /// Outcomes in the order of their numbers, seen by contracts as their list. What the index tells is looked up and compared, so that nothing
-/// but the table's size depends on it.
+/// but the table's size, and the number of an outcome that stands there twice, depends on it. A number has 32 bits: an outcome more than these is
+/// refused as one for which there is no memory.
 pub(crate) struct Table {
     outcomes: CompactOutcomes,
     index: Index,
@@ -59,7 +60,7 @@ impl Table {
     }
 
     /// The number of an outcome with this fingerprint, if the index knows it.
-    fn find(&self, print: u64, outcome: &CompactOutcome<'_>) -> Option<usize>
+    fn find(&self, print: u64, outcome: &CompactOutcome<'_>) -> Option<u32>
         ensures bound { IfSome result (λ n. n < length self.now) }
         ensures at { IfSome result (λ n. slice_index_or self.now n [] ≡ outcome.now) }
     {
@@ -73,15 +74,16 @@ impl Table {
     }
 
     /// Whether an outcome has this number.
-    fn is_at(&self, n: usize, outcome: &CompactOutcome<'_>) -> bool
+    fn is_at(&self, n: u32, outcome: &CompactOutcome<'_>) -> bool
         ensures bound { IsTrue result → n < length self.now }
         ensures at { IsTrue result → slice_index_or self.now n [] ≡ outcome.now }
     {
-        n < self.outcomes.len() && self.outcomes.get(n).is_same(outcome)
+        let place = n as usize;
+        place < self.outcomes.len() && self.outcomes.get(place).is_same(outcome)
     }
 
     /// The outcome's number; it is added where it is not known.
-    pub(crate) fn number(&mut self, outcome: &CompactOutcome<'_>) -> Result<usize, AllocError>
+    pub(crate) fn number(&mut self, outcome: &CompactOutcome<'_>) -> Result<u32, AllocError>
         ensures bound { IfOk result (λ n. n < length self.new) }
         ensures at { IfOk result (λ n. slice_index_or self.new n [] ≡ outcome.now) }
         ensures extends { Extends self.old self.new }
@@ -91,7 +93,9 @@ impl Table {
         if let Some(n) = self.find(print, outcome) {
             return Ok(n);
         }
-        let n = self.outcomes.len();
+        let Ok(n) = u32::try_from(self.outcomes.len()) else {
+            return Err(AllocError);
+        };
         self.outcomes.push(outcome)?;
         self.index.note(print, n);
         Ok(n)
@@ -112,7 +116,7 @@ impl Table {
         &mut self,
         alloc: Global,
         more: &CompactOutcomes,
-    ) -> Result<Vec<usize>, AllocError>
+    ) -> Result<Vec<u32>, AllocError>
         ensures names { IfOk result (λ ns. Names self.new ns.items more.now) }
         ensures extends { Extends self.old self.new }
     {
@@ -134,8 +138,10 @@ impl Table {
 /// Notes all outcomes in an index, with room for more.
 fn fill(index: &mut Index, outcomes: &CompactOutcomes) -> Result<(), AllocError> {
     index.clear_for(outcomes.len())?;
-    for n in 0..outcomes.len() {
-        index.note(outcomes.get(n).fingerprint(), n);
+    for place in 0..outcomes.len() {
+        if let Ok(n) = u32::try_from(place) {
+            index.note(outcomes.get(place).fingerprint(), n);
+        }
     }
     Ok(())
 }

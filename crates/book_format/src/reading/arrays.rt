@@ -75,13 +75,13 @@ fn takes_outcome(alloc: Global, spec: &Spec, outcomes: &mut CompactOutcomes, val
 pub fn runs_at(
     alloc: Global,
     spec: &Spec,
-    outcomes: usize,
+    outcomes: u32,
     room: usize,
     reader: &mut Reader<'_>,
 ) -> Option<Vec<Run>>
     ensures { IfSome result (λ runs. AreRunsAt spec.now.run outcomes reader.old runs.items reader.new) }
 {
-    let mut ends = Ends::new(alloc, outcomes).ok()?;
+    let mut ends = Ends::new(alloc, outcomes as usize).ok()?;
     let mut runs = Vec::with_capacity(alloc, room).ok()?;
     if read_runs(alloc, spec, outcomes, &mut ends, &mut runs, reader) {
         Some(runs)
@@ -94,7 +94,7 @@ pub fn runs_at(
 fn read_runs(
     alloc: Global,
     spec: &Spec,
-    outcomes: usize,
+    outcomes: u32,
     ends: &mut Ends,
     runs: &mut Vec<Run>,
     reader: &mut Reader<'_>,

@@ -56,7 +56,10 @@ pub fn book_of_runs(
         Ok(table) => table,
         Err(error) => return Err(error),
     };
-    let runs = match runs_of(alloc, spec, table.len(), facts) {
+    let Ok(count) = u32::try_from(table.len()) else {
+        return Err(BookError::NoMemory);
+    };
+    let runs = match runs_of(alloc, spec, count, facts) {
         Ok(runs) => runs,
         Err(error) => return Err(error),
     };

@@ -16,12 +16,12 @@ use std::alloc::{AllocError, Global};
 pub(crate) fn are_runs(
     alloc: Global,
     spec: &Spec,
-    outcomes: usize,
+    outcomes: u32,
     runs: &[Run],
 ) -> Result<bool, AllocError>
     ensures { IfOk result (λ are. IsTrue are → AreRunsOf spec.now.run outcomes (items_of (map run_data runs.now)) (Ok runs.now)) }
 {
-    let mut ends = Ends::new(alloc, outcomes)?;
+    let mut ends = Ends::new(alloc, outcomes as usize)?;
     let mut facts = 0;
     for i in 0..runs.len() {
         let run = runs[i];
@@ -37,7 +37,7 @@ pub(crate) fn are_runs(
 /// Whether the value of a run is read as this one, behind others that have so many facts.
 fn is_next_run(
     spec: &Spec,
-    outcomes: usize,
+    outcomes: u32,
     run: &Run,
     facts: u64,
     before: &[Run],
@@ -57,7 +57,7 @@ fn is_next_run(
 }
 
 /// Whether a tag names one of so many outcomes, if it names one.
-fn is_tag_of(outcomes: usize, tag: Tag) -> bool
+fn is_tag_of(outcomes: u32, tag: Tag) -> bool
     ensures { IsTrue result → IsTagOf outcomes tag }
 {
     match tag {

@@ -59,7 +59,7 @@ impl Ends {
         ensures { result ≡ end_at self.now tag }
     {
         match tag {
-            Tag::Ran(n) => self.ran[n],
+            Tag::Ran(n) => self.ran[n as usize],
             Tag::Swap(k) => self.swap[k as usize],
         }
     }
@@ -72,7 +72,7 @@ impl Ends {
         ensures { (outcomes : ℕ) (runs : List Run) → AreEnds outcomes self.old runs → IsApart runs run → AreEnds outcomes self.new (runs ++ run ∷ []) }
     {
         match run.tag {
-            Tag::Ran(n) => self.ran[n] = run.end,
+            Tag::Ran(n) => self.ran[n as usize] = run.end,
             Tag::Swap(k) => self.swap[k as usize] = run.end,
         }
     }
@@ -110,12 +110,12 @@ fn zeros(alloc: Global, count: usize) -> Result<Vec<u64>, AllocError>
 pub(crate) fn runs_of(
     alloc: Global,
     spec: &Spec,
-    outcomes: usize,
+    outcomes: u32,
     values: &[Json],
 ) -> Result<Vec<Run>, BookError>
     ensures { Meets (λ runs. runs.items) (AreRunsOf spec.now.run outcomes (items_view values.now)) result }
 {
-    let mut ends = Ends::new(alloc, outcomes)?;
+    let mut ends = Ends::new(alloc, outcomes as usize)?;
     let mut runs = Vec::new(alloc);
     let mut facts = 0;
     for value in values {
@@ -136,7 +136,7 @@ pub(crate) fn runs_of(
 /// The run that a value is, behind others that have so many facts.
 pub(super) fn next_run(
     spec: &Spec,
-    outcomes: usize,
+    outcomes: u32,
     value: &Json,
     facts: u64,
     before: &[Run],
@@ -186,7 +186,7 @@ pub(crate) fn is_led(spec: &Spec, run: &Run) -> bool
 }
 
 /// Whether a run stands after the last one, and apart from those that say the same.
-pub(crate) fn is_past(outcomes: usize, before: &[Run], ends: &Ends, run: &Run) -> bool
+pub(crate) fn is_past(outcomes: u32, before: &[Run], ends: &Ends, run: &Run) -> bool
     requires tag { IsTagOf outcomes run.now.tag }
     requires ends { AreEnds outcomes ends.now before.now }
     ensures { IsTrue result ↔ IsPast before.now run.now }
@@ -214,7 +214,7 @@ fn order(a: &Run, b: &Run) -> Ordering
 }
 
 /// The first rank, the count, the word and the number that a value has.
-fn span_of(value: &Json, outcomes: usize) -> Option<Span>
+fn span_of(value: &Json, outcomes: u32) -> Option<Span>
     ensures { result ≡ span_in outcomes (view value.now) }
 {
     match value {
@@ -227,7 +227,7 @@ fn span_of(value: &Json, outcomes: usize) -> Option<Span>
     }
 }
 
-fn span_of_items(items: &[Json], outcomes: usize) -> Option<Span>
+fn span_of_items(items: &[Json], outcomes: u32) -> Option<Span>
     ensures { result ≡ span_in_items outcomes (items_view items.now) }
 {
     if items.len() != 4 {
@@ -241,7 +241,7 @@ fn span_of_four(
     count: &Json,
     word: &Json,
     number: &Json,
-    outcomes: usize,
+    outcomes: u32,
 ) -> Option<Span>
     ensures { result ≡ span_in_four outcomes (view first.now) (view count.now) (view word.now) (view number.now) }
 {
@@ -257,7 +257,7 @@ fn span_of_four(
 }
 
 /// What is said of each rank, of so many outcomes.
-fn tag_of(word: &str, number: u64, outcomes: usize) -> Option<Tag>
+fn tag_of(word: &str, number: u64, outcomes: u32) -> Option<Tag>
     ensures { result ≡ tag_in outcomes word.now number }
 {
     if word == "ran" {
@@ -269,11 +269,11 @@ fn tag_of(word: &str, number: u64, outcomes: usize) -> Option<Tag>
     }
 }
 
-fn ran_of(number: u64, outcomes: usize) -> Option<Tag>
+fn ran_of(number: u64, outcomes: u32) -> Option<Tag>
     ensures { result ≡ cond (nat_lt number outcomes) (Some (Tag.Ran number)) None }
 {
-    if number < outcomes as u64 {
-        Some(Tag::Ran(number as usize))
+    if number < u64::from(outcomes) {
+        Some(Tag::Ran(number as u32))
     } else {
         None
     }
