@@ -10,7 +10,7 @@ ghost use Rattle.class_looks.specs.Seeing.{told_by, entries_at, sees, SeesRanks}
 use bound_statements::{Bound, Condition};
 use lock_modes::{Row, Value};
 use sqlite_items::Items;
-use statement_evaluation::{Entries, Entry, Given, holds, selected};
+use statement_evaluation::{Entries, Entry, Few, Given, holds, selected};
 use std::alloc::{AllocError, Global};
 use std::marker::Model;
 use transcripts::Event;
@@ -118,12 +118,25 @@ fn is_at(key: Option<&Value>, at: &Value) -> bool
     }
 }
 
+/// These events as a list.
+fn listed(alloc: Global, events: Few<Event>) -> Result<Vec<Event>, AllocError>
+    ensures { IfOk result (λ listed. listed.items ≡ events) }
+{
+    let (one, items) = events.into_parts();
+    let Some(event) = one else {
+        return Ok(items);
+    };
+    let mut listed = Vec::new(alloc);
+    listed.push(event)?;
+    Ok(listed)
+}
+
 /// The events of an effect, or the one that tells why it fails.
 fn told(alloc: Global, given: Given) -> Result<Vec<Event>, AllocError>
     ensures { IfOk result (λ events. events.items ≡ told_by (effect_at given)) }
 {
     match given {
-        Given::Told(events, _writes) => Ok(events),
+        Given::Told(events, _writes) => listed(alloc, events),
         Given::Failed(fault) => {
             let mut events = Vec::new(alloc);
             events.push(Event::Failed(fault))?;

@@ -1,6 +1,6 @@
 //! Running a statement whose locks are had.
 
-ghost use Rattle.std.specs.Prelude.{◌≡◌, ◌<◌, ◌++◌, IfOk, OnOk, length, set};
+ghost use Rattle.std.specs.Prelude.{◌≡◌, ◌<◌, ◌++◌, ◌∷◌, [], IfOk, OnOk, length, set};
 ghost use Rattle.row_tables.specs.Layers.{sight};
 ghost use Rattle.statement_evaluation.specs.Effect.{effect};
 ghost use Rattle.statement_execution.specs.Run.{SeesAlone, WritesAlone, events_of, fault_of, left_by, wrote_each};
@@ -11,7 +11,7 @@ use crate::marked_sight::MarkedSight;
 use bound_statements::Bound;
 use marked_logs::MarkedLogs;
 use marked_rows::MarkedRows;
-use statement_evaluation::{Given, Writes};
+use statement_evaluation::{Few, Given, Write, Writes};
 use statement_execution::effect_of;
 use std::alloc::{AllocError, Global};
 use transcripts::{Event, Fault};
@@ -55,7 +55,28 @@ fn write_each(rows: &mut MarkedRows, session: u8, writes: Writes) -> Result<(), 
     ensures left { OnOk result (rows.new.now ≡ wrote_each session writes rows.old.now) }
     ensures marked { rows.new.marked ≡ rows.old.marked }
 {
-    for write in writes.into_vec() {
+    let (one, items) = writes.into_parts();
+    match one {
+        Some(write) => write_one(rows, session, write),
+        None => write_items(rows, session, items),
+    }
+}
+
+fn write_one(rows: &mut MarkedRows, session: u8, write: Write) -> Result<(), AllocError>
+    requires { WritesAlone session (write ∷ []) rows.old.now }
+    ensures left { OnOk result (rows.new.now ≡ wrote_each session (write ∷ []) rows.old.now) }
+    ensures marked { rows.new.marked ≡ rows.old.marked }
+{
+    let (table, key, left) = write.into_parts();
+    rows.write(session, table, &key, left)
+}
+
+fn write_items(rows: &mut MarkedRows, session: u8, writes: Vec<Write>) -> Result<(), AllocError>
+    requires { WritesAlone session writes.items rows.old.now }
+    ensures left { OnOk result (rows.new.now ≡ wrote_each session writes.items rows.old.now) }
+    ensures marked { rows.new.marked ≡ rows.old.marked }
+{
+    for write in writes {
         let (table, key, left) = write.into_parts();
         rows.write(session, table, &key, left)?;
     }
@@ -64,6 +85,38 @@ fn write_each(rows: &mut MarkedRows, session: u8, writes: Writes) -> Result<(), 
 
 /// Tells the session of these. Where memory runs out, it may be told of some of them.
 fn tell_each(
+    logs: &mut MarkedLogs<Event>,
+    session: u8,
+    events: Few<Event>,
+) -> Result<(), AllocError>
+    requires { session < length logs.old.now }
+    ensures told { OnOk result (logs.new.now ≡ set logs.old.now session (told_to logs.old.now session ++ events)) }
+    ensures marked { logs.new.marked ≡ logs.old.marked }
+    ensures sessions { length logs.new.now ≡ length logs.old.now }
+    ensures lists { Keeps logs.old.lists logs.new.lists }
+{
+    let (one, items) = events.into_parts();
+    match one {
+        Some(event) => tell_one(logs, session, event),
+        None => tell_items(logs, session, items),
+    }
+}
+
+fn tell_one(
+    logs: &mut MarkedLogs<Event>,
+    session: u8,
+    event: Event,
+) -> Result<(), AllocError>
+    requires { session < length logs.old.now }
+    ensures told { OnOk result (logs.new.now ≡ set logs.old.now session (told_to logs.old.now session ++ event ∷ [])) }
+    ensures marked { logs.new.marked ≡ logs.old.marked }
+    ensures sessions { length logs.new.now ≡ length logs.old.now }
+    ensures lists { Keeps logs.old.lists logs.new.lists }
+{
+    logs.tell(session, event)
+}
+
+fn tell_items(
     logs: &mut MarkedLogs<Event>,
     session: u8,
     events: Vec<Event>,

@@ -24,5 +24,5 @@ int_if (Some z) = Some (Int z)
 
 -- the effect that is meant
 abbrev pub effect_at : Given → Effect
-effect_at (Told events writes) = Gives events.items writes
+effect_at (Told events writes) = Gives events writes
 effect_at (Failed f) = Faults f

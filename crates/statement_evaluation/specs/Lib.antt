@@ -1,4 +1,5 @@
 pub mod Evaluate
 pub mod Effect
+pub mod Few
 pub mod Matched
 pub mod Borrowed

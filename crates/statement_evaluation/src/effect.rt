@@ -1,34 +1,33 @@
 //! The effect of a statement, before any of it is done.
 
-ghost use Rattle.std.specs.Prelude.{◌≡◌, ◌∷◌, [], IfOk};
+ghost use Rattle.std.specs.Prelude.{◌≡◌, ◌∷◌, []};
 ghost use Rattle.statement_evaluation.specs.Effect as spec;
 ghost use Rattle.statement_evaluation.specs.Borrowed.{effect_at};
 
+use crate::few::Few;
 use crate::write::Writes;
-use std::alloc::{AllocError, Global};
+use std::alloc::Global;
 use transcripts::{Event, Fault};
 
 /// What a statement tells and writes, or why it fails.
 #[derive(Drop)]
 pub enum Given {
     /// It tells these events and leaves these writes.
-    Told(Vec<Event>, Writes),
+    Told(Few<Event>, Writes),
     /// It fails: it tells nothing and leaves nothing.
     Failed(Fault),
 }
 
-/// One event, and writes. It fails for want of memory alone.
-pub fn telling(alloc: Global, event: Event, writes: Writes) -> Result<Given, AllocError>
-    ensures { IfOk result (λ given. effect_at given ≡ spec.Gives (event ∷ []) writes) }
+/// One event, and writes.
+pub fn telling(alloc: Global, event: Event, writes: Writes) -> Given
+    ensures { effect_at result ≡ spec.Gives (event ∷ []) writes }
 {
-    let mut events = Vec::new(alloc);
-    events.push(event)?;
-    Ok(Given::Told(events, writes))
+    Given::Told(Few::of_one(alloc, event), writes)
 }
 
 /// Neither an event nor a write.
 pub fn nothing(alloc: Global) -> Given
     ensures { effect_at result ≡ spec.Gives [] [] }
 {
-    Given::Told(Vec::new(alloc), Writes::new(alloc))
+    Given::Told(Few::new(alloc), Writes::new(alloc))
 }

@@ -1,13 +1,15 @@
 //! Rows with their places, borrowed from where they lie.
 
-ghost use Rattle.std.specs.Prelude.{◌≡◌, [], ◌∷◌, ◌++◌, OnOk, cond};
+ghost use Rattle.std.specs.Prelude.{◌≡◌, [], ◌∷◌, ◌++◌, IfOk, OnOk, cond};
 ghost use Rattle.statement_evaluation.specs.Effect.{sorted_by};
 
+use crate::few::Few;
 use crate::sorting::compare;
 use bound_statements::SortKey;
 use lock_modes::{Row, Value};
 use std::alloc::{AllocError, Global};
 use std::marker::Model;
+use std::slice;
 
 /// A row and where it lies, seen by contracts as its place and its values.
 #[derive(Drop)]
@@ -56,10 +58,10 @@ impl<'a> Entry<'a> {
     }
 }
 
-/// Entries in an order, seen by contracts as their list.
+/// Entries in an order, seen by contracts as their list. One alone takes no memory.
 #[derive(Drop)]
 pub struct Entries<'a> {
-    items: Vec<Entry<'a>>,
+    items: Few<Entry<'a>>,
 }
 
 impl<'a> Model for Entries<'a> {
@@ -69,7 +71,7 @@ impl<'a> Model for Entries<'a> {
 
     ghost Value = { List (RowPlace × Tuple) };
 
-    ghost view = { λ e. e.items.items };
+    ghost view = { λ e. e.items };
 }
 
 impl<'a> Entries<'a> {
@@ -78,7 +80,7 @@ impl<'a> Entries<'a> {
         ensures { result ≡ [] }
     {
         Entries {
-            items: Vec::new(alloc),
+            items: Few::new(alloc),
         }
     }
 
@@ -96,16 +98,28 @@ impl<'a> Entries<'a> {
     pub fn as_slice(&self) -> &[Entry<'a>]
         ensures { result.now ≡ self.now }
     {
-        self.items.as_slice()
+        let (one, entries) = self.items.parts();
+        if let Some(entry) = one {
+            return slice::from_ref(entry);
+        }
+        entries
     }
 
-    /// Sorts by one column after another. Entries that tie stay in their order. It fails for want of memory alone.
-    pub fn sort(&mut self, keys: &[SortKey]) -> Result<(), AllocError>
-        ensures { OnOk result (self.new ≡ sorted_by keys.now self.old) }
+    /// The entries by one column after another. Those that tie stay in their order. It fails for want of memory alone.
+    pub fn sorted(self, keys: &[SortKey]) -> Result<Entries<'a>, AllocError>
+        ensures { IfOk result (λ sorted. sorted ≡ sorted_by keys.now self.entry) }
     {
         if keys.is_empty() {
-            return Ok(());
+            return Ok(self);
         }
-        self.items.sort_by(|x, y| compare(keys, x.row(), y.row()))
+        let (one, mut items) = self.items.into_parts();
+        if let Some(entry) = one {
+            let items = Few::of_one(*items.allocator(), entry);
+            return Ok(Entries { items });
+        }
+        items.sort_by(|x, y| compare(keys, x.row(), y.row()))?;
+        Ok(Entries {
+            items: Few::of_items(items),
+        })
     }
 }

@@ -4,6 +4,7 @@
 mod effect;
 mod entry;
 mod evaluate;
+mod few;
 mod select;
 mod sorting;
 mod update;
@@ -13,6 +14,7 @@ mod write;
 pub use effect::{Given, nothing, telling};
 pub use entry::{Entries, Entry};
 pub use evaluate::holds;
+pub use few::Few;
 pub use select::selected;
 pub use update::{deleted, updated};
 pub use value_ref::ValueRef;

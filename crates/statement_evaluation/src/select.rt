@@ -9,6 +9,7 @@ ghost use Rattle.statement_evaluation.specs.Matched.{selected};
 
 use crate::effect::Given;
 use crate::entry::{Entries, Entry};
+use crate::few::Few;
 use crate::value_ref::ValueRef;
 use crate::write::Writes;
 use bound_statements::{Aggregate, Output, SortKey};
@@ -27,10 +28,10 @@ pub fn selected(
 ) -> Result<Given, AllocError>
     ensures { IfOk result (λ given. effect_at given ≡ selected order.now output.now found.entry) }
 {
-    let Some(mut found) = found else {
+    let Some(found) = found else {
         return Ok(Given::Failed(Fault::OutOfRange));
     };
-    found.sort(order)?;
+    let found = found.sorted(order)?;
     show(alloc, output, found.as_slice())
 }
 
@@ -45,8 +46,7 @@ fn show(alloc: Global, output: &Output, found: &[Entry<'_>]) -> Result<Given, Al
         Output::Aggregates(each) => match aggregates(alloc, each.as_slice(), found)? {
             None => Ok(Given::Failed(Fault::OutOfRange)),
             Some(row) => {
-                let mut events = Vec::new(alloc);
-                events.push(Event::Row(row))?;
+                let mut events = Few::of_one(alloc, Event::Row(row));
                 events.push(Event::Rows(1))?;
                 Ok(Given::Told(events, Writes::new(alloc)))
             }
@@ -55,15 +55,19 @@ fn show(alloc: Global, output: &Output, found: &[Entry<'_>]) -> Result<Given, Al
 }
 
 /// These columns of each row, and how many rows there are.
-fn rows(alloc: Global, columns: &[u16], found: &[Entry<'_>]) -> Result<Vec<Event>, AllocError>
-    ensures { IfOk result (λ events. events.items ≡ map (λ e. RowEvent (spec.projected columns.now e.1)) found.now ++ Rows (length found.now) ∷ []) }
+fn rows(alloc: Global, columns: &[u16], found: &[Entry<'_>]) -> Result<Few<Event>, AllocError>
+    ensures { IfOk result (λ events. events ≡ map (λ e. RowEvent (spec.projected columns.now e.1)) found.now ++ Rows (length found.now) ∷ []) }
 {
+    let last = Event::Rows(found.len() as u64);
+    if found.is_empty() {
+        return Ok(Few::of_one(alloc, last));
+    }
     let mut events = Vec::with_capacity(alloc, found.len() + 1)?;
     for entry in found {
         events.push(Event::Row(projection(alloc, columns, entry.row())?))?;
     }
-    events.push(Event::Rows(found.len() as u64))?;
-    Ok(events)
+    events.push(last)?;
+    Ok(Few::of_items(events))
 }
 
 /// The values in these columns.

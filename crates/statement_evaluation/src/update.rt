@@ -33,7 +33,7 @@ pub fn updated(
         return Ok(Given::Failed(Fault::OutOfRange));
     };
     let event = Event::Updated(writes.len() as u64);
-    telling(alloc, event, writes)
+    Ok(telling(alloc, event, writes))
 }
 
 /// What removing the rows that match comes to. Where the condition has faulted there are none, and the statement fails for a number
@@ -46,7 +46,7 @@ pub fn deleted(alloc: Global, found: Option<Entries<'_>>) -> Result<Given, Alloc
     };
     let writes = remove_each(alloc, found.as_slice())?;
     let event = Event::Deleted(writes.len() as u64);
-    telling(alloc, event, writes)
+    Ok(telling(alloc, event, writes))
 }
 
 /// The writes of these rows with their columns set, or none where a number leaves the range of 64 bits.

@@ -1,8 +1,9 @@
 //! What a statement writes.
 
-ghost use Rattle.std.specs.Prelude.{◌≡◌, [], ◌∷◌, ◌++◌, OnOk, length};
+ghost use Rattle.std.specs.Prelude.{◌≡◌, [], ◌∷◌, ◌++◌, MatchOption, OnOk, length};
 ghost use Rattle.lock_modes.specs.Rows as rows;
 
+use crate::few::Few;
 use lock_modes::{Row, Value};
 use std::alloc::{AllocError, Global};
 use std::marker::Model;
@@ -51,10 +52,10 @@ impl Write {
     }
 }
 
-/// Writes in their order, seen by contracts as their list.
+/// Writes in their order, seen by contracts as their list. One alone takes no memory.
 #[derive(Drop)]
 pub struct Writes {
-    items: Vec<Write>,
+    items: Few<Write>,
 }
 
 impl Model for Writes {
@@ -63,7 +64,7 @@ impl Model for Writes {
 
     ghost Value = { List rows.Write };
 
-    ghost view = { λ w. w.items.items };
+    ghost view = { λ w. w.items };
 }
 
 impl Writes {
@@ -72,7 +73,7 @@ impl Writes {
         ensures { result ≡ [] }
     {
         Writes {
-            items: Vec::new(alloc),
+            items: Few::new(alloc),
         }
     }
 
@@ -91,10 +92,10 @@ impl Writes {
         self.items.len()
     }
 
-    /// The writes as a list, in their order.
-    pub fn into_vec(self) -> Vec<Write>
-        ensures { result.items ≡ self }
+    /// The one write, or else all writes in their order.
+    pub fn into_parts(self) -> (Option<Write>, Vec<Write>)
+        ensures { MatchOption result.0 (self ≡ result.1.items) (λ write. self ≡ write ∷ []) }
     {
-        self.items
+        self.items.into_parts()
     }
 }

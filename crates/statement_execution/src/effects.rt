@@ -32,7 +32,7 @@ pub fn effect_of<'a, S: Sight<'a>>(
         }
         Bound::Insert(table, key_column, new) => {
             let writes = made(alloc, rows, session, *table, *key_column, new.as_slice())?;
-            inserted(alloc, writes)
+            Ok(inserted(alloc, writes))
         }
         Bound::Update(table, key, sets, condition) => {
             let found = matching(alloc, rows, session, *table, key.as_ref(), condition)?;
@@ -42,8 +42,8 @@ pub fn effect_of<'a, S: Sight<'a>>(
             let found = matching(alloc, rows, session, *table, key.as_ref(), condition)?;
             deleted(alloc, found)
         }
-        Bound::Lock(_, _, _) => telling(alloc, Event::Locked, Writes::new(alloc)),
-        Bound::SetVariable => telling(alloc, Event::Set, Writes::new(alloc)),
+        Bound::Lock(_, _, _) => Ok(telling(alloc, Event::Locked, Writes::new(alloc))),
+        Bound::SetVariable => Ok(telling(alloc, Event::Set, Writes::new(alloc))),
         Bound::Begin | Bound::Commit | Bound::Rollback => Ok(nothing(alloc)),
     }
 }

@@ -22,11 +22,11 @@ use transcripts::{Event, Fault};
 use version_tree::VMap;
 
 /// How many rows are made, or a fault where a key is there already or comes twice.
-pub(crate) fn inserted(alloc: Global, writes: Option<Writes>) -> Result<Given, AllocError>
-    ensures { IfOk result (λ given. effect_at given ≡ spec.or_fault Duplicate writes Inserted) }
+pub(crate) fn inserted(alloc: Global, writes: Option<Writes>) -> Given
+    ensures { effect_at result ≡ spec.or_fault Duplicate writes Inserted }
 {
     let Some(writes) = writes else {
-        return Ok(Given::Failed(Fault::Duplicate));
+        return Given::Failed(Fault::Duplicate);
     };
     let event = Event::Inserted(writes.len() as u64);
     telling(alloc, event, writes)

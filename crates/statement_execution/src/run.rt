@@ -1,6 +1,6 @@
 //! Running a statement whose locks are had.
 
-ghost use Rattle.std.specs.Prelude.{◌≡◌, ◌++◌, IfOk, OnOk};
+ghost use Rattle.std.specs.Prelude.{◌≡◌, ◌++◌, ◌∷◌, [], IfOk, OnOk};
 ghost use Rattle.row_tables.specs.Layers.{sight};
 ghost use Rattle.statement_evaluation.specs.Effect.{effect};
 ghost use Rattle.statement_execution.specs.Run.{SeesAlone, fault_of, left_by, events_of, wrote_each, WritesAlone};
@@ -8,7 +8,7 @@ ghost use Rattle.statement_execution.specs.Run.{SeesAlone, fault_of, left_by, ev
 use crate::effects::effect_of;
 use bound_statements::Bound;
 use row_tables::Store;
-use statement_evaluation::{Given, Writes};
+use statement_evaluation::{Few, Given, Write, Writes};
 use std::alloc::{AllocError, Global};
 use transcripts::{Event, Fault, Log};
 
@@ -41,14 +41,43 @@ fn write_each(store: &mut Store, session: u8, writes: Writes) -> Result<(), Allo
     requires { WritesAlone session writes store.old }
     ensures { OnOk result (store.new ≡ wrote_each session writes store.old) }
 {
-    for write in writes.into_vec() {
+    let (one, items) = writes.into_parts();
+    match one {
+        Some(write) => write_one(store, session, write),
+        None => write_items(store, session, items),
+    }
+}
+
+fn write_one(store: &mut Store, session: u8, write: Write) -> Result<(), AllocError>
+    requires { WritesAlone session (write ∷ []) store.old }
+    ensures { OnOk result (store.new ≡ wrote_each session (write ∷ []) store.old) }
+{
+    let (table, key, left) = write.into_parts();
+    store.write(session, table, key, left)
+}
+
+fn write_items(store: &mut Store, session: u8, writes: Vec<Write>) -> Result<(), AllocError>
+    requires { WritesAlone session writes.items store.old }
+    ensures { OnOk result (store.new ≡ wrote_each session writes.items store.old) }
+{
+    for write in writes {
         let (table, key, left) = write.into_parts();
         store.write(session, table, key, left)?;
     }
     Ok(())
 }
 
-fn tell_each(log: &mut Log, events: Vec<Event>) -> Result<(), AllocError>
+fn tell_each(log: &mut Log, events: Few<Event>) -> Result<(), AllocError>
+    ensures { OnOk result (log.new ≡ log.old ++ events) }
+{
+    let (one, items) = events.into_parts();
+    match one {
+        Some(event) => log.push(event),
+        None => tell_items(log, items),
+    }
+}
+
+fn tell_items(log: &mut Log, events: Vec<Event>) -> Result<(), AllocError>
     ensures { OnOk result (log.new ≡ log.old ++ events.items) }
 {
     for event in events {

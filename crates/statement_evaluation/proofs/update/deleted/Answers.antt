@@ -15,4 +15,4 @@ returns c =
     ap (λ n. Gives (Deleted n ∷ []) writes) c.len.ensures
     ∙ ap (counted Deleted) (c.in_ok-writes.ensures ∙ ap (map (λ (e : RowPlace × Tuple). record { place = e.0; left = None })) c.as_slice.ensures)
     ∙ ap deleted (sym c.in-Some.is) in
-    subst (λ (e : Effect). IfOk c.telling.result (λ given. effect_at given ≡ e)) is c.telling.ensures
+    c.telling.ensures ∙ is

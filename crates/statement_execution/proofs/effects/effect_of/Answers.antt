@@ -42,17 +42,13 @@ returns-in_ok-found-in-Delete g c =
 
 pub returns-in-Lock : goal.returns-in-Lock
 returns-in-Lock g c =
-    subst (λ (e : Effect). IfOk c.telling.result (λ given. effect_at given ≡ e))
-    (ap (Gives (Locked ∷ [])) c.new.ensures ∙ sym (effect-locked (sight c.args.session (g.S.Sight.layers c.args.rows)) c.in-Lock.field-0 c.in-Lock.field-1 c.in-Lock.field-2)
+    c.telling.ensures ∙ (ap (Gives (Locked ∷ [])) c.new.ensures ∙ sym (effect-locked (sight c.args.session (g.S.Sight.layers c.args.rows)) c.in-Lock.field-0 c.in-Lock.field-1 c.in-Lock.field-2)
     ∙ ap (λ (st : Bound). effect st (sight c.args.session (g.S.Sight.layers c.args.rows))) (sym c.in-Lock.is))
-    c.telling.ensures
 
 pub returns-in-SetVariable : goal.returns-in-SetVariable
 returns-in-SetVariable g c =
-    subst (λ (e : Effect). IfOk c.telling-in-SetVariable.result (λ given. effect_at given ≡ e))
-    (ap (Gives (Set ∷ [])) c.new-in-SetVariable.ensures ∙ sym (effect-set (sight c.args.session (g.S.Sight.layers c.args.rows)))
+    c.telling-in-SetVariable.ensures ∙ (ap (Gives (Set ∷ [])) c.new-in-SetVariable.ensures ∙ sym (effect-set (sight c.args.session (g.S.Sight.layers c.args.rows)))
     ∙ ap (λ (st : Bound). effect st (sight c.args.session (g.S.Sight.layers c.args.rows))) (sym c.in-SetVariable.is))
-    c.telling-in-SetVariable.ensures
 
 pub returns-in-Begin : goal.returns-in-Begin
 returns-in-Begin g c =

@@ -4,7 +4,7 @@ use Rattle.lock_modes.specs.Rows.{Write}
 use Rattle.row_tables.specs.Layers.{Layers, wrote}
 use Rattle.statement_execution.specs.Run.{wrote_each, WritesAlone}
 use Rattle.statement_execution.proofs.AloneLemmas.{WritesAlone-wrote}
-use Rattle.statement_execution.proofs.run.write_each.Goals as goal
+use Rattle.statement_execution.proofs.run.write_items.Goals as goal
 
 -- the write that is done was the first of those left
 pub loop-write-preserved : goal.loop-write-preserved

@@ -4,7 +4,7 @@ use Rattle.std.proofs.lemmas.List.{nil_from_length}
 use Rattle.transcripts.specs.declared.event.Event.{Event}
 use Rattle.marked_logs.specs.Logs.{telling}
 use Rattle.marked_execution.proofs.LogLemmas.{telling_each, telling_each-nil, telling_each-cons}
-use Rattle.marked_execution.proofs.run.tell_each.Goals as goal
+use Rattle.marked_execution.proofs.run.tell_items.Goals as goal
 
 -- the event that is told was the first of those left
 pub loop-event-preserved : goal.loop-event-preserved

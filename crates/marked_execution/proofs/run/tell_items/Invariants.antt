@@ -2,7 +2,7 @@ use Rattle.std.proofs.Common.{◌≡◌, ◌<◌, length}
 use Rattle.std.specs.Vec.Iter.{into_iter_items}
 use Rattle.event_tree.specs.Lists.{Keeps}
 use Rattle.marked_execution.proofs.LogLemmas.{telling_each}
-use Rattle.marked_execution.proofs.run.tell_each.Given as goal
+use Rattle.marked_execution.proofs.run.tell_items.Given as goal
 
 -- with those that are left all are told, and marks, sessions and lists stay
 abbrev pub invariant-loop-event : goal.invariant-loop-event

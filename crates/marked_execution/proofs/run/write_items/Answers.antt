@@ -5,7 +5,7 @@ use Rattle.row_tables.specs.Layers.{wrote}
 use Rattle.marked_rows.specs.Cells.{MarkedRows}
 use Rattle.statement_execution.specs.Run.{wrote_each, WritesAlone}
 use Rattle.statement_execution.proofs.AloneLemmas.{WritesAlone-wrote}
-use Rattle.marked_execution.proofs.run.write_each.Goals as goal
+use Rattle.marked_execution.proofs.run.write_items.Goals as goal
 
 -- the write that is done was the first of those left
 pub loop-write-preserved : goal.loop-write-preserved

@@ -1,6 +1,6 @@
 use Rattle.std.proofs.Common.{◌≡◌, ◌++◌}
 use Rattle.std.specs.Vec.Iter.{into_iter_items}
-use Rattle.statement_execution.proofs.run.tell_each.Given as goal
+use Rattle.statement_execution.proofs.run.tell_items.Given as goal
 
 -- with those that are left all are told
 abbrev pub invariant-loop-event : goal.invariant-loop-event
