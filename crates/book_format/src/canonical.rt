@@ -68,6 +68,16 @@ pub(crate) fn number(tag: Tag) -> usize
     }
 }
 
+/// The number with which a run names an outcome at a place. One past 32 bits is refused as an outcome is for which there is no memory.
+pub(crate) fn number_at(place: usize) -> Result<u32, AllocError>
+    ensures { IfOk result (λ number. number ≡ place) }
+{
+    let Ok(number) = u32::try_from(place) else {
+        return Err(AllocError);
+    };
+    Ok(number)
+}
+
 /// By what runs say, and then by their first ranks.
 fn tag_order(a: &Run, b: &Run) -> Ordering
     ensures { result ≡ tag_cmp a.now b.now }

@@ -6,6 +6,7 @@ ghost use Rattle.book_format.specs.Pieces.{parts_text};
 ghost use Rattle.book_format.specs.Reading.{IsListed};
 ghost use Rattle.book_format.specs.ReadingBooks.{IsBookFile};
 
+use crate::canonical::number_at;
 use crate::lengths::facts_in;
 use crate::pieces::{MAX_FACTS, MAX_TEXT};
 use crate::printing::print_parts;
@@ -47,9 +48,7 @@ fn book_of_listed(
     if !are_text(bytes) || facts_in(runs.as_slice()) > MAX_FACTS {
         return Ok(None);
     }
-    let Ok(count) = u32::try_from(outcomes.len()) else {
-        return Ok(None);
-    };
+    let count = number_at(outcomes.len())?;
     let stand = are_runs(alloc, spec, count, runs.as_slice())?;
     if !stand {
         return Ok(None);

@@ -6,7 +6,7 @@ ghost use Rattle.fact_books.specs.Books.{IsKept, facts_in};
 ghost use Rattle.book_format.specs.Forms.{Rises, ComesBefore, IsForm};
 ghost use Rattle.book_format.specs.Numbering.{AreFlags, AreFlagged, AreNumbers, IsNumber};
 
-use crate::canonical::canonical;
+use crate::canonical::{canonical, number_at};
 use compact_outcomes::CompactOutcome;
 use fact_books::{Run, Tag, renumber};
 use std::alloc::{AllocError, Global};
@@ -99,18 +99,19 @@ fn numbers_of(
 {
     let mut numbers = Vec::with_capacity(alloc, outcomes.len())?;
     for outcome in outcomes {
-        numbers.push(number_of(outcome, named)?)?;
+        let number = number_at(number_of(outcome, named))?;
+        numbers.push(number)?;
     }
     Ok(numbers)
 }
 
-/// Where the outcome stands among those that rise, or 0 where it is not there. A place past 32 bits is refused as one for which there is no memory.
-fn number_of(outcome: &CompactOutcome<'_>, named: &[CompactOutcome<'_>]) -> Result<u32, AllocError>
+/// Where the outcome stands among those that rise, or 0 where it is not there.
+fn number_of(outcome: &CompactOutcome<'_>, named: &[CompactOutcome<'_>]) -> usize
     requires { Rises ComesBefore named.now }
-    ensures { IfOk result (λ n. IsNumber named.now outcome.now n) }
+    ensures { IsNumber named.now outcome.now result }
 {
     match named.binary_search(outcome) {
-        Ok(place) => u32::try_from(place).map_err(|_| AllocError),
-        Err(_) => Ok(0),
+        Ok(n) => n,
+        Err(_) => 0,
     }
 }

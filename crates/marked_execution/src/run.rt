@@ -102,11 +102,7 @@ fn tell_each(
     }
 }
 
-fn tell_one(
-    logs: &mut MarkedLogs<Event>,
-    session: u8,
-    event: Event,
-) -> Result<(), AllocError>
+fn tell_one(logs: &mut MarkedLogs<Event>, session: u8, event: Event) -> Result<(), AllocError>
     requires { session < length logs.old.now }
     ensures told { OnOk result (logs.new.now ≡ set logs.old.now session (told_to logs.old.now session ++ event ∷ [])) }
     ensures marked { logs.new.marked ≡ logs.old.marked }

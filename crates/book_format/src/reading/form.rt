@@ -8,6 +8,7 @@ ghost use Rattle.book_format.specs.ReadingBooks.{IsRunsOf, run_parts};
 use super::outcomes::outcomes_of;
 use super::parts::{items_at, members_in, text_at};
 use super::runs::runs_of;
+use crate::canonical::number_at;
 use crate::error::BookError;
 use bound_specs::Spec;
 use fact_books::Book;
@@ -56,9 +57,7 @@ pub fn book_of_runs(
         Ok(table) => table,
         Err(error) => return Err(error),
     };
-    let Ok(count) = u32::try_from(table.len()) else {
-        return Err(BookError::NoMemory);
-    };
+    let count = number_at(table.len())?;
     let runs = match runs_of(alloc, spec, count, facts) {
         Ok(runs) => runs,
         Err(error) => return Err(error),

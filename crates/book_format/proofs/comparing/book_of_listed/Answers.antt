@@ -13,21 +13,21 @@ use Rattle.book_format.proofs.comparing.book_of_listed.Goals as goal
 pub of_runs-requires-clause-rising : goal.of_runs-requires-clause-rising
 of_runs-requires-clause-rising c =
     let spec = c.args.spec.now.run in
-    let size : c.len.result ≡ length c.args.outcomes = omega (arith, c.len.ensures) in
+    let size : c.in_ok-count.count ≡ length c.args.outcomes = omega (arith, c.len.ensures, c.in_ok-count.ensures) in
     read-rising spec c.args.outcomes (run_values c.args.runs.items) c.args.runs.items
     (runs-of spec _ _ _ c.args.runs.items size c.as_slice-2.ensures.value (c.in_ok-stand.ensures c.if-not-stand.false))
 
 pub of_runs-requires-clause-sound : goal.of_runs-requires-clause-sound
 of_runs-requires-clause-sound c =
     let spec = c.args.spec.now.run in
-    let size : c.len.result ≡ length c.args.outcomes = omega (arith, c.len.ensures) in
+    let size : c.in_ok-count.count ≡ length c.args.outcomes = omega (arith, c.len.ensures, c.in_ok-count.ensures) in
     read-sound spec c.args.outcomes (run_values c.args.runs.items) c.args.runs.items
     (runs-of spec _ _ _ c.args.runs.items size c.as_slice-2.ensures.value (c.in_ok-stand.ensures c.if-not-stand.false))
 
 pub of_runs-requires-clause-recordable : goal.of_runs-requires-clause-recordable
 of_runs-requires-clause-recordable c =
     let spec = c.args.spec.now.run in
-    let size : c.len.result ≡ length c.args.outcomes = omega (arith, c.len.ensures) in
+    let size : c.in_ok-count.count ≡ length c.args.outcomes = omega (arith, c.len.ensures, c.in_ok-count.ensures) in
     read-recordable spec c.args.outcomes (run_values c.args.runs.items) c.args.runs.items
     (runs-of spec _ _ _ c.args.runs.items size c.as_slice-2.ensures.value (c.in_ok-stand.ensures c.if-not-stand.false))
     (outcomes-told spec [] (outcome_values c.args.outcomes) c.args.outcomes (All-nil (IsToldBy spec)) c.requires)
@@ -35,7 +35,7 @@ of_runs-requires-clause-recordable c =
 pub returns : goal.returns
 returns c =
     let spec = c.args.spec.now.run in
-    let size : c.len.result ≡ length c.args.outcomes = omega (arith, c.len.ensures) in
+    let size : c.in_ok-count.count ≡ length c.args.outcomes = omega (arith, c.len.ensures, c.in_ok-count.ensures) in
     let text = c.in_ok-same.ensures c.if-not-same.false in
     text-book c.args.bytes.now c.args.spec.now c.args.outcomes c.args.runs.items (string_bytes c.in_ok-quoted.quoted) _
     (c.are_text.ensures.text c.if-not-are_text.false) (c.are_text.ensures.few c.if-not-are_text.false) c.known.ensures
