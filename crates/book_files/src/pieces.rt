@@ -67,7 +67,7 @@ fn book_of_parts(alloc: Global, guess: &Guess, parts: Parts) -> Option<Book>
     match (facts, format, outcomes, spec) {
         (Some(Facts::Each(builder)), Some(1), None, true) => facts_book(alloc, guess, builder),
         (Some(Facts::Runs(runs)), Some(2), Some(outcomes), true) => {
-            if outcomes.len() == guess.outcomes {
+            if outcomes.len() == guess.outcomes as usize {
                 runs_book(alloc, guess, outcomes, runs)
             } else {
                 None
