@@ -3,12 +3,12 @@ use Rattle.std.specs.Prelude.{◌≡◌, ℕ, zero, suc, ◌-◌, ◌≤◌, Lis
 use Rattle.transcripts.specs.declared.event.Event.{Event}
 use Rattle.compact_outcomes.specs.Told.{told_in, IsCompactOutcome}
 
--- what stands in a text from a start up to each of these ends
+-- the pieces of a text: each from where the one before ends, the first from the start, up to its own end
 unfoldable pub pieces_from : ℕ → List ℕ → List ℕ → List (List ℕ)
 pieces_from start [] text = []
 pieces_from start (end ∷ ends) text = take (end - start) (drop start text) ∷ pieces_from end ends text
 
--- the ends rise from a start, and the last of them is where the text ends
+-- the ends rise from a start, and the last of them is where the text ends; where there are none, the start is
 unfoldable pub AreEnds : ℕ → List ℕ → List ℕ → Type 0
 AreEnds start [] text = start ≡ length text
 AreEnds start (end ∷ ends) text = (start ≤ end) × AreEnds end ends text

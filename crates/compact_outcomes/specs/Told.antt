@@ -6,11 +6,11 @@ use Rattle.transcripts.specs.Compact.{outcome_json}
 use Rattle.transcripts.specs.JsonReading.{outcome_in}
 use Rattle.transcripts.specs.Outcome.{OutcomeFits}
 
--- the outcome whose JSON value the text is read as, and the one of no session where it is that of none
+-- the outcome that the JSON value of a text stands for, and the one of no session where it stands for none
 unfoldable pub told_in : List ℕ → List (List Event)
 told_in text = unwrap_or (option_and_then outcome_in (read text)) []
 
--- the text is the compact one of the outcome that it tells
+-- the text is UTF-8 and the compact one of the outcome that it tells, whose numbers have the widths of their types
 pub record IsCompactOutcome (text : List ℕ) : Type 0 where
   pub fits : OutcomeFits (told_in text)
   pub compact : outcome_json (told_in text) ≡ text

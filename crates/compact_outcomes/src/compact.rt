@@ -137,7 +137,7 @@ fn push_cell(value: &Value, text: &mut String) -> Result<(), AllocError>
     }
 }
 
-/// A text as a JSON string. Few texts have a byte that needs an escape; a string of its own is made of those.
+/// A text as a JSON string. Few texts have a byte that needs an escape; only for these is a string of its own made.
 fn push_quoted(words: &str, text: &mut String) -> Result<(), AllocError>
     ensures { OnOk result (string_bytes text.new ≡ string_bytes text.old ++ quoted words.now) }
 {
@@ -157,7 +157,7 @@ fn push_plain(words: &str, text: &mut String) -> Result<(), AllocError>
     push("\"", text)
 }
 
-/// Whether each byte stands for itself in a JSON string.
+/// Whether each byte stands for itself in a JSON string. A no costs time alone.
 fn are_plain(bytes: &[u8]) -> bool
     ensures { IsTrue result → EachIndex bytes.now (λ k. IsPlain (slice_index bytes.now k)) }
 {

@@ -49,13 +49,13 @@ impl CompactOutcomes {
         }
     }
 
-    /// No outcomes, with room for so many whose texts have so many bytes in all.
+    /// No outcomes, with room for so many whose texts have so many bytes in all. Contracts do not see the room.
     pub fn with_room(
         alloc: Global,
         outcomes: usize,
         bytes: usize,
     ) -> Result<CompactOutcomes, AllocError>
-        ensures { IfOk result (λ outcomes. outcomes ≡ []) }
+        ensures { IfOk result (λ made. made ≡ []) }
     {
         Ok(CompactOutcomes {
             texts: Vec::with_capacity(alloc, bytes)?,

@@ -10,7 +10,7 @@ use std::alloc::{AllocError, Global};
 use std::marker::Model;
 use transcripts::Outcome;
 
-/// The compact JSON text of an outcome by itself, seen by contracts as the list of the outcome's transcripts.
+/// The compact JSON text of an outcome, which it owns, seen by contracts as the list of the outcome's transcripts. A `CompactOutcome` borrows one.
 pub struct CompactText {
     text: String,
 }

@@ -18,7 +18,7 @@ use std::hash::{FoldHasher, Hasher};
 use std::marker::Model;
 use transcripts::{Outcome, ValueError, outcome_of_value};
 
-/// What a run tells by its compact JSON text, which others keep, seen by contracts as the list of its transcripts.
+/// An outcome by its compact JSON text, which it borrows, seen by contracts as the list of its transcripts.
 #[derive(Drop)]
 pub struct CompactOutcome<'a> {
     text: &'a [u8],
@@ -91,7 +91,7 @@ impl CompactOutcome<'_> {
         self.text
     }
 
-    /// A number that equal outcomes share, and others seldom. Contracts do not see it.
+    /// A number that equal outcomes share, and others seldom. Contracts do not see it: no more than time and sizes may rest on it.
     pub fn fingerprint(&self) -> u64 {
         let mut hasher = FoldHasher::default();
         hasher.write(self.text);

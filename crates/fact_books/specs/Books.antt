@@ -42,7 +42,7 @@ abbrev pub IsLeastMissing : FactSet → ℕ → Option ℕ → Type 0
 IsLeastMissing facts ranks None = (r : ℕ) → r < ranks → HasFact facts r
 IsLeastMissing facts ranks (Some m) = (m < ranks) × (HasFact facts m → ⊥) × ((r : ℕ) → r < m → HasFact facts r)
 
--- the least number from one on that has no fact
+-- the least number, from a given one on, that has no fact
 pub record IsFirstMissing (facts : FactSet) (from m : ℕ) : Type 0 where
   pub up : from ≤ m
   pub none : HasFact facts m → ⊥

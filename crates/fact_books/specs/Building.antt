@@ -13,7 +13,7 @@ use Rattle.fact_books.specs.Known.{known_in, AreInside}
 use Rattle.fact_books.specs.Runs.{Table, firsts, AllTo, repeated}
 use Rattle.fact_books.specs.Books.{facts_in, IsKept}
 
--- facts of runs that begin up to the next, and outcomes that are known by numbers
+-- facts of runs, of which no further one begins before the next, and outcomes that are known by numbers
 pub record Building : Type 0 where
   pub facts : FactSet
   pub next : ℕ

@@ -53,16 +53,17 @@ abbrev pub AllTo : ℕ → List ℕ → Type 0
 AllTo high [] = Unit {0}
 AllTo high (x ∷ xs) = (x ≤ high) × AllTo high xs
 
+-- none is less than one before it
 abbrev pub IsRising : List ℕ → Type 0
 IsRising [] = Unit {0}
 IsRising (x ∷ xs) = AllFrom x xs × IsRising xs
 
--- the number is one of n
+-- the number, if the tag has one, is one of n
 abbrev pub IsNumbered : ℕ → Tag → Type 0
 IsNumbered n (Ran m) = m < n
 IsNumbered n (Swap k) = Unit {0}
 
--- a run of at least one rank, about an outcome of a table of n
+-- a run of at least one rank, and of an outcome of a table of n, if of one
 abbrev pub IsSound : ℕ → Run → Type 0
 IsSound n run = IsNumbered n run.tag × (run.first < run.end)
 

@@ -12,13 +12,13 @@ ghost use Rattle.rank_facts.specs.declared.fact.Fact.TheVariants.{Ran};
 use crate::known::{KnownPlaces, known_place};
 use crate::run::{Run, Tag, add_run};
 use crate::table::Table;
-use compact_outcomes::{CompactOutcomes, CompactText};
+use compact_outcomes::CompactText;
 use rank_facts::Fact;
 use std::alloc::{AllocError, Global};
 use std::marker::Model;
 use transcripts::Outcome;
 
-/// Facts of runs that begin up to `next`. Who tells outcomes by numbers of its own, as a walk does, has each looked for once.
+/// Facts of runs, of which no further one may begin before `next`. Who tells outcomes by numbers of its own, as a walk does, has each looked for once.
 pub struct Builder {
     table: Table,
     runs: Vec<Run>,
@@ -63,16 +63,15 @@ impl Builder {
         Builder::of_none(alloc, Table::new(alloc), Vec::new(alloc))
     }
 
-    /// The same, with room for so many runs and outcomes whose texts have so many bytes in all.
+    /// The same, with room for so many runs and as many outcomes, whose texts have so many bytes in all.
     pub fn with_room(alloc: Global, runs: usize, bytes: usize) -> Result<Builder, AllocError>
         ensures facts { IfOk result (λ builder. builder.facts ≡ set.empty) }
         ensures next { IfOk result (λ builder. builder.next ≡ 0) }
         ensures known { IfOk result (λ builder. builder.known ≡ []) }
     {
-        let outcomes = CompactOutcomes::with_room(alloc, runs, bytes)?;
         Ok(Builder::of_none(
             alloc,
-            Table::of(alloc, outcomes),
+            Table::with_room(alloc, runs, bytes)?,
             Vec::with_capacity(alloc, runs)?,
         ))
     }
@@ -108,7 +107,7 @@ impl Builder {
         Ok(())
     }
 
-    /// The same of an outcome that has a number, by which it is known then.
+    /// The same of an outcome that has a number, by which it is known then. Where memory is refused it may be known already.
     pub fn push_known(
         &mut self,
         first: u64,

@@ -2,15 +2,14 @@
 
 use std::alloc::{AllocError, Global};
 
-/// No number. The outcome with it is not found, and stands in the table again where it comes again.
+/// Marks an empty slot. The outcome with this number is never found.
 const EMPTY: u32 = u32::MAX;
 
 /// How many slots are looked at for one outcome.
 pub(crate) const LOOKS: usize = 32;
 
-/// Numbers of outcomes in slots, each near the one that its fingerprint names: some eight bytes an outcome. What it tells is looked up and
-/// compared, so that nothing but time, the
-/// table's size and the number of an outcome that stands there twice depends on it.
+/// Numbers of outcomes in slots, each near the one that its fingerprint names: five to eight bytes an outcome. What it tells is looked up and
+/// compared, so that nothing but time, the table's size and the number of an outcome that stands there twice depends on it.
 #[derive(Drop)]
 pub(crate) struct Index {
     slots: Vec<u32>,
@@ -27,6 +26,14 @@ impl Index {
     /// Whether there is room for one more number than these.
     pub(crate) fn has_room(&self, numbers: usize) -> bool {
         numbers < self.slots.len() / 4 * 3
+    }
+
+    /// No numbers, with room for so many.
+    pub(crate) fn with_room(alloc: Global, numbers: usize) -> Result<Index, AllocError> {
+        let slots = (numbers / 3).saturating_add(1).saturating_mul(4);
+        Ok(Index {
+            slots: vec![in alloc; EMPTY; slots]?,
+        })
     }
 
     /// Lets all numbers go, and makes room for more than so many.

@@ -17,7 +17,7 @@ pub(crate) struct Known {
     pub(crate) place: u32,
 }
 
-/// Outcomes that are known by numbers. The index has where a number stands. What it tells is looked up, so that nothing but speed depends on it.
+/// Outcomes that are known by numbers. The index has where a number stands. What it tells is looked up, so that nothing but time and size depends on it.
 #[derive(Drop)]
 pub(crate) struct KnownPlaces {
     pub(crate) places: Vec<Known>,
@@ -35,7 +35,7 @@ impl KnownPlaces {
         }
     }
 
-    /// The place with a number, if it is known.
+    /// The place with a number, if the index finds it.
     fn get(&self, number: usize) -> Option<u32>
         ensures { IfSome result (λ place. (k : ℕ) × (slice_get self.now.places.items k ≡ Some (record { number = number; place = place }))) }
     {

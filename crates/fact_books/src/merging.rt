@@ -7,7 +7,7 @@ use crate::run::{Run, Tag, add_run};
 use rank_facts::MAX_PLACES;
 use std::alloc::{AllocError, Global};
 
-/// Where the last run of each tag went, so that a run can grow there. Nothing depends on its answers.
+/// Where the last run of each tag went, so that a run can grow there. No fact depends on its answers.
 #[derive(Drop)]
 struct Hints {
     ran: Vec<usize>,
@@ -50,7 +50,7 @@ fn is_left_next(left: &[Run], i: usize, right: &[Run], j: usize) -> bool
     left[i].first <= right[j].first
 }
 
-/// The runs of both, by one pass; equal facts grow together.
+/// The runs of both, which name outcomes of one table of so many, by one pass; those with equal tags grow together.
 pub(crate) fn merge(
     alloc: Global,
     outcomes: usize,

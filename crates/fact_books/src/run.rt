@@ -5,8 +5,8 @@ ghost use Rattle.fact_books.specs.Runs.{Adds, KeepsSound, KeepsFrom, firsts, IsR
 
 use std::alloc::AllocError;
 
-/// What a run says of each of its ranks: the outcome with this number in a table, or a swap at this place. Numbers have 32 bits, since a book has
-/// millions of runs in memory.
+/// What a run says of each of its ranks: the outcome with this number in a table, or a swap at this place. The outcome's number has 32 bits, to keep
+/// runs small: a book may have millions.
 #[derive(Clone, Copy, Drop)]
 pub enum Tag {
     Ran(u32),
@@ -23,7 +23,7 @@ impl Tag {
         }
     }
 
-    /// Whether the tags say the same by the numbers of one table.
+    /// Whether the tags are equal.
     pub fn is(self, other: Tag) -> bool
         ensures { IsTrue result ↔ (self ≡ other) }
     {
@@ -35,7 +35,7 @@ impl Tag {
     }
 }
 
-/// The same of each rank from `first` up to but not `end`.
+/// Says the same of each rank from `first` up to but not `end`.
 #[derive(Clone, Copy, Drop)]
 pub struct Run {
     pub first: u64,
@@ -43,8 +43,8 @@ pub struct Run {
     pub tag: Tag,
 }
 
-/// Adds a run that begins after each one there, and answers where it went. Where the hint leads to a run with the same tag that it
-/// overlaps or touches, that one grows; the answer is right for any hint.
+/// Adds a run that does not begin before any one there, and answers a hint for the next one: where it went. Where the hint leads to a run with the
+/// same tag that it overlaps or touches, that one grows; whatever the hint is, the runs say the right facts.
 pub(crate) fn add_run(runs: &mut Vec<Run>, hint: usize, run: Run) -> Result<usize, AllocError>
     requires rising { IsRising (firsts runs.old.items) }
     requires low { AllTo run.first (firsts runs.old.items) }

@@ -9,8 +9,8 @@ use std::alloc::{AllocError, Global};
 use std::marker::Model;
 
 /// Outcomes in the order of their numbers, seen by contracts as their list. What the index tells is looked up and compared, so that nothing
-/// but the table's size, and the number of an outcome that stands there twice, depends on it. A number has 32 bits: an outcome more than these is
-/// refused as one for which there is no memory.
+/// but time, the table's size and the number of an outcome that stands there twice depends on it. A number has 32 bits: the outcome that would get
+/// one past them is refused as if there were no memory for it.
 pub(crate) struct Table {
     outcomes: CompactOutcomes,
     index: Index,
@@ -40,6 +40,20 @@ impl Table {
         ensures { result ≡ [] }
     {
         Table::of(alloc, CompactOutcomes::new(alloc))
+    }
+
+    /// No outcomes, with room for so many whose texts have so many bytes in all.
+    pub(crate) fn with_room(
+        alloc: Global,
+        outcomes: usize,
+        bytes: usize,
+    ) -> Result<Table, AllocError>
+        ensures { IfOk result (λ table. table ≡ []) }
+    {
+        Ok(Table {
+            outcomes: CompactOutcomes::with_room(alloc, outcomes, bytes)?,
+            index: Index::with_room(alloc, outcomes)?,
+        })
     }
 
     /// These outcomes under their numbers.
@@ -82,7 +96,7 @@ impl Table {
         place < self.outcomes.len() && self.outcomes.get(place).is_same(outcome)
     }
 
-    /// The outcome's number; it is added where it is not known.
+    /// The outcome's number; it is added where the index does not find it. Where it is refused, what was there stays.
     pub(crate) fn number(&mut self, outcome: &CompactOutcome<'_>) -> Result<u32, AllocError>
         ensures bound { IfOk result (λ n. n < length self.new) }
         ensures at { IfOk result (λ n. slice_index_or self.new n [] ≡ outcome.now) }
@@ -111,7 +125,7 @@ impl Table {
         fill(&mut self.index, &self.outcomes)
     }
 
-    /// The numbers of these outcomes, which are added where they are not known.
+    /// The numbers of these outcomes, which are added where the index does not find them.
     pub(crate) fn numbers(
         &mut self,
         alloc: Global,

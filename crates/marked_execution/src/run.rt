@@ -19,7 +19,8 @@ use transcripts::{Event, Fault};
 /// Runs a statement whose locks are had: its whole effect on the rows that its session sees now, or none where it fails. Tells the session of it; where it
 /// fails, the fault is the answer and nothing is told.
 ///
-/// It fails for want of memory alone. Then some of it may be done; what was there at marks stays.
+/// The call fails for want of memory alone. Then what stands now is good for nothing more; what was there at marks stays. Lists that were told stay
+/// whatever comes of it, also where nobody is told them any more.
 pub fn run_statement(
     alloc: Global,
     statement: &Bound,
@@ -49,7 +50,7 @@ pub fn run_statement(
     }
 }
 
-/// Leaves these in the rows. Where memory runs out, some of them may be left there.
+/// Leaves these in the rows. Where memory runs out the rows now are good for nothing more.
 fn write_each(rows: &mut MarkedRows, session: u8, writes: Writes) -> Result<(), AllocError>
     requires { WritesAlone session writes rows.old.now }
     ensures left { OnOk result (rows.new.now ≡ wrote_each session writes rows.old.now) }
@@ -83,7 +84,7 @@ fn write_items(rows: &mut MarkedRows, session: u8, writes: Vec<Write>) -> Result
     Ok(())
 }
 
-/// Tells the session of these. Where memory runs out, it may be told of some of them.
+/// Tells the session of these. Where memory runs out what is told now is good for nothing more.
 fn tell_each(
     logs: &mut MarkedLogs<Event>,
     session: u8,

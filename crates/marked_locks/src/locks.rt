@@ -13,11 +13,11 @@ ghost use Rattle.numbered_specs.specs.Numbers.{HasNumber, resource_of};
 ghost use Rattle.marked_locks.specs.Queued.{GrantsOnly, LosesSome};
 
 use crate::leaving::remove_wait;
-use crate::queue::{may_have, next_ripe, wanted, wanted_mode};
+use crate::queue::{has_already, may_have, next_ripe, wanted, wanted_mode};
 use crate::ring::is_in_ring;
 use crate::wait::{NumberedWait, is_waiting, place_of_wait};
 use lock_modes::Mode;
-use lock_queues::{Answer, Taken, tables_stay_sound};
+use lock_queues::{Answer, Taken, covered_modes_are_had, tables_stay_sound};
 use marked_lists::MarkedList;
 use marked_modes::{MAX_HOLDERS, MarkedModes};
 use numbered_specs::{ResourceNumber, SpecNumbers};
@@ -184,6 +184,10 @@ impl MarkedLocks {
     {
         tables_stay_sound(); // for the proof
         let own = self.modes.mode_of(session, number);
+        if has_already(own, mode) {
+            covered_modes_are_had(); // for the proof
+            return Ok(Taken::Granted);
+        }
         if may_have(
             &self.modes,
             self.waits.as_slice(),

@@ -1,8 +1,10 @@
 //! Who is ahead of whom, and which wait is the next to be granted.
 
-ghost use Rattle.std.specs.Prelude.{◌≡◌, ◌<◌, ◌↔◌, All, IsTrue, length, MatchOption};
+ghost use Rattle.std.specs.Prelude.{◌≡◌, ◌<◌, ◌↔◌, All, IsTrue, length, MatchOption, Some};
 ghost use Rattle.std.specs.List.{list_any};
 ghost use Rattle.finite_maps.specs.Map.{get};
+ghost use Rattle.lock_modes.specs.declared.mode.Mode.{Mode as Held};
+ghost use Rattle.lock_modes.specs.Mode.{cover as covered};
 ghost use Rattle.lock_queues.specs.declared.wait.Wait.{Wait};
 ghost use Rattle.lock_queues.specs.Locks as locks;
 ghost use Rattle.lock_queues.specs.LockTable.{look_at};
@@ -40,6 +42,16 @@ fn converts(modes: &MarkedModes, wait: NumberedWait) -> bool
     ensures { result ≡ locks.converts (look_at modes.now.now) (wait_of modes.now.resources wait) }
 {
     modes.mode_of(wait.session, wait.resource).is_some()
+}
+
+/// Whether a session that holds this has a mode already.
+pub(crate) fn has_already(own: Option<Mode>, mode: Mode) -> bool
+    ensures { IsTrue result → (held : Held) × (own ≡ Some held) × (covered held mode ≡ held) }
+{
+    match own {
+        None => false,
+        Some(held) => cover(held, mode) == held,
+    }
 }
 
 /// Whether a session that holds this may have a mode at once.
