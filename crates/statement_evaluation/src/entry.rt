@@ -1,6 +1,6 @@
 //! Rows with their places, borrowed from where they lie.
 
-ghost use Rattle.std.specs.Prelude.{◌≡◌, [], ◌∷◌, ◌++◌, IfOk, OnOk, cond};
+ghost use Rattle.std.specs.Prelude.{◌≡◌, [], ◌∷◌, ◌++◌, IfOk, OnErr, OnOk, cond};
 ghost use Rattle.statement_evaluation.specs.Effect.{sorted_by};
 
 use crate::few::Few;
@@ -58,7 +58,7 @@ impl<'a> Entry<'a> {
     }
 }
 
-/// Entries in an order, seen by contracts as their list. One alone takes no memory.
+/// Entries in an order, seen by contracts as their list. One that was pushed alone takes no memory.
 #[derive(Drop)]
 pub struct Entries<'a> {
     items: Few<Entry<'a>>,
@@ -84,9 +84,11 @@ impl<'a> Entries<'a> {
         }
     }
 
-    /// Adds an entry at the end if it passes. It fails for want of memory alone.
+    /// Adds an entry at the end if it passes. It fails for want of memory alone, and then the entries stay as they were.
+    #[inline(always)]
     pub fn push_if(&mut self, passes: bool, entry: Entry<'a>) -> Result<(), AllocError>
-        ensures { OnOk result (self.new ≡ self.old ++ cond passes (entry.entry ∷ []) []) }
+        ensures pushed { OnOk result (self.new ≡ self.old ++ cond passes (entry.entry ∷ []) []) }
+        ensures refused { OnErr result (self.new ≡ self.old) }
     {
         if passes {
             self.items.push(entry)?;
@@ -109,9 +111,6 @@ impl<'a> Entries<'a> {
     pub fn sorted(self, keys: &[SortKey]) -> Result<Entries<'a>, AllocError>
         ensures { IfOk result (λ sorted. sorted ≡ sorted_by keys.now self.entry) }
     {
-        if keys.is_empty() {
-            return Ok(self);
-        }
         let (one, mut items) = self.items.into_parts();
         if let Some(entry) = one {
             let items = Few::of_one(*items.allocator(), entry);

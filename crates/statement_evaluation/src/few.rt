@@ -1,16 +1,19 @@
 //! Lists that take no memory where they have one item, as most of those have that a step makes.
 
-ghost use Rattle.std.specs.Prelude.{◌≡◌, [], ◌∷◌, ◌++◌, MatchOption, OnOk, length};
+ghost use Rattle.std.specs.Prelude.{◌≡◌, [], ◌∷◌, ◌++◌, MatchOption, OnErr, OnOk, length};
 
 use std::alloc::{AllocError, Global};
 use std::marker::Model;
 
-/// A list, seen by contracts as its items. One item alone takes no memory.
+/// How many items there is room for where a second one comes.
+const FIRST_ROOM: usize = 8;
+
+/// A list, seen by contracts as its items. One that was pushed alone takes no memory, which contracts do not see.
 #[derive(Drop)]
 pub struct Few<T> {
-    /// The item, where there is one alone.
+    /// An item that is kept alone.
     one: Option<T>,
-    /// All items, where there is not.
+    /// The items, where none is kept alone.
     items: Vec<T>,
 }
 
@@ -53,14 +56,14 @@ impl<T: Drop> Few<T> {
         Few { one: None, items }
     }
 
-    /// Adds an item at the end. It fails for want of memory alone.
+    /// Adds an item at the end. It fails for want of memory alone, and then the list stays as it was.
+    #[inline(always)]
     pub fn push(&mut self, item: T) -> Result<(), AllocError>
-        ensures { OnOk result (self.new ≡ self.old ++ item ∷ []) }
+        ensures pushed { OnOk result (self.new ≡ self.old ++ item ∷ []) }
+        ensures refused { OnErr result (self.new ≡ self.old) }
     {
-        if let Some(first) = self.one.take() {
-            self.items.push(first)?;
-            self.items.push(item)?;
-            return Ok(());
+        if self.one.is_some() {
+            return self.push_second(item);
         }
         if self.items.is_empty() {
             self.one = Some(item);
@@ -70,7 +73,20 @@ impl<T: Drop> Few<T> {
         Ok(())
     }
 
-    /// The one item, or else all items in their order.
+    /// Adds an item behind one that is kept alone, and keeps both in a list.
+    fn push_second(&mut self, item: T) -> Result<(), AllocError>
+        ensures pushed { OnOk result (self.new ≡ self.old ++ item ∷ []) }
+        ensures refused { OnErr result (self.new ≡ self.old) }
+    {
+        self.items.reserve(FIRST_ROOM)?;
+        if let Some(first) = self.one.take() {
+            self.items.push_reserved(first);
+        }
+        self.items.push_reserved(item);
+        Ok(())
+    }
+
+    /// The item that is kept alone, or else all items in their order.
     pub fn parts(&self) -> (Option<&T>, &[T])
         ensures { MatchOption result.0 (self.now ≡ result.1.now) (λ item. self.now ≡ item.now ∷ []) }
     {
@@ -88,7 +104,7 @@ impl<T: Drop> Few<T> {
         }
     }
 
-    /// The one item, or else all items in their order, no longer in the list.
+    /// The item that is kept alone, or else all items in their order, no longer in the list.
     pub fn into_parts(self) -> (Option<T>, Vec<T>)
         ensures { MatchOption result.0 (self ≡ result.1.items) (λ item. self ≡ item ∷ []) }
     {

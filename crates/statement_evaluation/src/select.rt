@@ -18,7 +18,7 @@ use lock_modes::{Row, Value};
 use std::alloc::{AllocError, Global};
 use transcripts::{Event, Fault};
 
-/// What showing the rows that match, sorted, comes to. Where the condition has faulted there are none, and the statement fails for
+/// What showing the rows that match, sorted, comes to. Where the condition has faulted, `found` is none, and the statement fails for
 /// a number out of range. The call fails for want of memory alone.
 pub fn selected(
     alloc: Global,
@@ -31,6 +31,10 @@ pub fn selected(
     let Some(found) = found else {
         return Ok(Given::Failed(Fault::OutOfRange));
     };
+    // Most selects have no order, and who sorts moves them.
+    if order.is_empty() {
+        return show(alloc, output, found.as_slice());
+    }
     let found = found.sorted(order)?;
     show(alloc, output, found.as_slice())
 }

@@ -17,7 +17,7 @@ use lock_modes::{Row, Value};
 use std::alloc::{AllocError, Global};
 use transcripts::{Event, Fault};
 
-/// What setting columns of the rows that match comes to. Where the condition has faulted there are none, and the statement fails for
+/// What setting columns of the rows that match comes to. Where the condition has faulted, `found` is none, and the statement fails for
 /// a number out of range. The call fails for want of memory alone.
 pub fn updated(
     alloc: Global,
@@ -36,7 +36,7 @@ pub fn updated(
     Ok(telling(alloc, event, writes))
 }
 
-/// What removing the rows that match comes to. Where the condition has faulted there are none, and the statement fails for a number
+/// What removing the rows that match comes to. Where the condition has faulted, `found` is none, and the statement fails for a number
 /// out of range. The call fails for want of memory alone.
 pub fn deleted(alloc: Global, found: Option<Entries<'_>>) -> Result<Given, AllocError>
     ensures { IfOk result (λ given. effect_at given ≡ deleted found.entry) }

@@ -1,6 +1,6 @@
 //! What a statement writes.
 
-ghost use Rattle.std.specs.Prelude.{◌≡◌, [], ◌∷◌, ◌++◌, MatchOption, OnOk, length};
+ghost use Rattle.std.specs.Prelude.{◌≡◌, [], ◌∷◌, ◌++◌, MatchOption, OnErr, OnOk, length};
 ghost use Rattle.lock_modes.specs.Rows as rows;
 
 use crate::few::Few;
@@ -52,7 +52,7 @@ impl Write {
     }
 }
 
-/// Writes in their order, seen by contracts as their list. One alone takes no memory.
+/// Writes in their order, seen by contracts as their list. One that was pushed alone takes no memory.
 #[derive(Drop)]
 pub struct Writes {
     items: Few<Write>,
@@ -77,9 +77,10 @@ impl Writes {
         }
     }
 
-    /// Adds a write at the end. It fails for want of memory alone.
+    /// Adds a write at the end. It fails for want of memory alone, and then the writes stay as they were.
     pub fn push(&mut self, write: Write) -> Result<(), AllocError>
-        ensures { OnOk result (self.new ≡ self.old ++ write ∷ []) }
+        ensures pushed { OnOk result (self.new ≡ self.old ++ write ∷ []) }
+        ensures refused { OnErr result (self.new ≡ self.old) }
     {
         self.items.push(write)?;
         Ok(())
@@ -92,7 +93,7 @@ impl Writes {
         self.items.len()
     }
 
-    /// The one write, or else all writes in their order.
+    /// The write that is kept alone, or else all writes in their order.
     pub fn into_parts(self) -> (Option<Write>, Vec<Write>)
         ensures { MatchOption result.0 (self ≡ result.1.items) (λ write. self ≡ write ∷ []) }
     {

@@ -1,11 +1,9 @@
-use Rattle.std.proofs.Common.{◌≡◌, sym, ap, ◌∙◌, subst, ◌∷◌, [], map, None}
-use Rattle.std.specs.Result.{IfOk}
+use Rattle.std.proofs.Common.{◌≡◌, sym, ap, ◌∙◌, ◌∷◌, [], map, None}
 use Rattle.transcripts.specs.declared.event.Event.TheVariants.{Deleted}
 use Rattle.lock_modes.specs.RowPlace.{RowPlace}
 use Rattle.lock_modes.specs.Rows.{Tuple}
-use Rattle.statement_evaluation.specs.Effect.{Effect, Gives, counted}
+use Rattle.statement_evaluation.specs.Effect.{Gives, counted}
 use Rattle.statement_evaluation.specs.Matched.{deleted}
-use Rattle.statement_evaluation.specs.Borrowed.{effect_at}
 use Rattle.statement_evaluation.proofs.update.deleted.Goals as goal
 
 pub returns : goal.returns

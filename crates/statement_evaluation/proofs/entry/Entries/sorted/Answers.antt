@@ -1,12 +1,8 @@
 use Rattle.std.proofs.Common.{◌≡◌, sym, ap, ◌∙◌, rules}
 use Rattle.std.proofs.lemmas.Fn.{always_returns_same}
 use Rattle.statement_evaluation.specs.Effect.{sorted_by}
-use Rattle.statement_evaluation.proofs.SortLemmas.{sorted-is, sorted-none, is-order, stands_before}
+use Rattle.statement_evaluation.proofs.SortLemmas.{sorted-is, is-order, stands_before}
 use Rattle.statement_evaluation.proofs.entry.Entries.sorted.Goals as goal
-
--- without keys entries stay in their order
-pub returns-then-is_empty : goal.returns-then-is_empty
-returns-then-is_empty c = sorted-none c.args.keys.now _ (search rules)
 
 pub returns : goal.returns
 returns c =
