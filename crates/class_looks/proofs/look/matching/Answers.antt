@@ -15,7 +15,7 @@ returns-in_default c =
 pub loop-entry-preserved : goal.loop-entry-preserved
 loop-entry-preserved c =
     ap (λ es. onto es (matching c.args.condition.now (entries_at c.args.table (option_copied c.args.key) (drop (c.loop-entry.entry-index + 1) c.args.rows.now))))
-    (c.in_ok-push_if.ensures ∙ (λ k. c.loop-entry.found ++ cond c.in-Some.passes (c.new.ensures k ∷ []) []))
+    (c.in_ok-push_if.ensures.pushed ∙ (λ k. c.loop-entry.found ++ cond c.in-Some.passes (c.new.ensures k ∷ []) []))
     ∙ sym (row-at c.args.table (option_copied c.args.key) c.args.condition.now c.args.rows.now c.loop-entry.entry-index c.entry-item.result
     c.loop-entry-test.true c.entry-item.is c.loop-entry.found c.in-Some.passes (sym c.is_at.ensures ∙ c.if-not-is_at.false) (sym c.in-Some.ensures))
     ∙ c.loop-entry.invariant

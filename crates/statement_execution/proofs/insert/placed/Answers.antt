@@ -39,7 +39,7 @@ loop-row-preserved g c =
     let after : Placing t k rows new more (writes ++ record { place = (t, key_at k row); left = Some row } ∷ []) (put value_cmp (key_at k row) 0 keys) =
     placing-goes t k rows new row more writes keys 0 before free in
     let written : c.push.new.self ≡ writes ++ record { place = (t, key_at k row); left = Some row } ∷ [] =
-    c.in_ok-push.ensures ∙ ap (λ (w : Write). writes ++ w ∷ []) (c.new.ensures
+    c.in_ok-push.ensures.pushed ∙ ap (λ (w : Write). writes ++ w ∷ []) (c.new.ensures
     ∙ λ j. record { place = (t, (c.in_ok-fork.ensures ∙ key) j); left = Some (c.in_ok-fork-2.ensures j) }) in
     let put_in : c.in_ok-keys.keys ≡ put value_cmp (key_at k row) 0 keys = c.in_ok-keys.ensures ∙ ap (λ (v : Value). put value_cmp v 0 keys) key in
     subst (λ (ws : List Write). Placing t k rows new more ws c.in_ok-keys.keys) (sym written)

@@ -17,7 +17,7 @@ returns-in_default-holds g c =
 -- the one row
 pub returns : goal.returns
 returns g c =
-    ap Some (c.in_ok-push_if.ensures
+    ap Some (c.in_ok-push_if.ensures.pushed
     ∙ (λ i. c.new-found.ensures i ++ cond c.in-Some-holds.passes (c.new.ensures i ∷ []) []))
     ∙ sym (matching-tested c.args.table c.args.key.now (sight c.args.session (g.S.Sight.layers c.args.rows)) c.args.condition.now c.in-Some.row.now c.in-Some-holds.passes
     (sym c.in-Some.ensures) (sym c.in-Some-holds.ensures))
