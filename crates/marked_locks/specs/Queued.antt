@@ -9,7 +9,9 @@ use Rattle.lock_queues.specs.LockTable.{Locks, grant, holding_order}
 use Rattle.lock_queues.specs.Rules.{IsNext}
 use Rattle.numbered_specs.specs.Numbers.{resource_of}
 use Rattle.marked_lists.specs.Versions.{Versions}
+use Rattle.marked_modes.specs.Held as modes
 use Rattle.marked_modes.specs.Held.{MarkedHolds, TakesSome}
+use Rattle.marked_locks.specs.declared.picture.LocksPicture.{LocksPicture}
 use Rattle.marked_locks.specs.declared.wait.NumberedWait.{NumberedWait}
 
 -- the resources, and the lock table now, and at the marks that stand, the newest first
@@ -41,6 +43,10 @@ table_of modes waits = record {
   now = locks_of modes.resources modes.now waits.list;
   marked = marked_of modes.resources modes.marked waits.marked;
 }
+
+-- what a picture shows, by the resources
+abbrev pub pictured : List Resource → LocksPicture → Locks
+pictured rs p = locks_of rs (modes.pictured rs p.modes) p.waits.items
 
 -- ---- what a refusal leaves
 

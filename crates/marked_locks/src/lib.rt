@@ -4,8 +4,10 @@
 
 mod leaving;
 mod locks;
+mod picture;
 mod queue;
 mod ring;
 mod wait;
 
 pub use locks::MarkedLocks;
+pub use picture::LocksPicture;

@@ -32,9 +32,9 @@ use std::sync::Arc;
 /// alone, and what was at marks stays.
 #[derive(Drop)]
 pub struct MarkedLocks {
-    modes: MarkedModes,
+    pub(crate) modes: MarkedModes,
     /// In the order of arrival.
-    waits: MarkedList<NumberedWait>,
+    pub(crate) waits: MarkedList<NumberedWait>,
 }
 
 impl Model for MarkedLocks {

@@ -1,6 +1,6 @@
 //! A wait by the number of its resource.
 
-ghost use Rattle.std.specs.Prelude.{◌≡◌, ◌==◌, not};
+ghost use Rattle.std.specs.Prelude.{◌≡◌, ◌==◌, not, true};
 ghost use Rattle.std.specs.List.{list_all, list_any, position};
 ghost use Rattle.numbered_specs.specs.Numbers.{place_of};
 ghost use Rattle.marked_locks.specs.declared.wait.NumberedWait.{NumberedWait};
@@ -23,6 +23,28 @@ impl NumberedWait {
     {
         self.resource.place() == number.place()
     }
+
+    /// Whether this is the same wait.
+    fn is_same(self, other: NumberedWait) -> bool
+        ensures { result ≡ true → self ≡ other }
+    {
+        self.session == other.session && self.resource == other.resource && self.mode == other.mode
+    }
+}
+
+/// Whether these are the same waits.
+pub(crate) fn are_same(waits: &[NumberedWait], others: &[NumberedWait]) -> bool
+    ensures { result ≡ true → waits.now ≡ others.now }
+{
+    if waits.len() != others.len() {
+        return false;
+    }
+    for place in 0..waits.len() {
+        if !waits[place].is_same(others[place]) {
+            return false;
+        }
+    }
+    true
 }
 
 /// Whether the session waits.

@@ -6,6 +6,7 @@ use Rattle.lock_modes.specs.declared.mode.Mode.{Mode}
 use Rattle.lock_modes.specs.declared.resource.Resource.{Resource}
 use Rattle.lock_queues.specs.LockTable.{Holding, holding_order}
 use Rattle.lock_queues.specs.Tabulate.{tabulate}
+use Rattle.marked_modes.specs.declared.picture.ModesPicture.{ModesPicture}
 use Rattle.marked_modes.specs.declared.row.ModeRow.{ModeRow}
 
 -- the resources, and who holds which mode now, and at the marks that stand, the newest first
@@ -43,3 +44,7 @@ holdings (r ∷ rs) (row ∷ rows) = map (λ s. (s, r)) (below (length row.modes
 -- who holds which mode
 abbrev pub held_map : List Resource → List ModeRow → Map holding_order Mode
 held_map rs rows = tabulate holding_order (held_in rs rows) (holdings rs rows)
+
+-- what a picture shows, by the resources
+abbrev pub pictured : List Resource → ModesPicture → Map holding_order Mode
+pictured rs p = held_map rs p.rows.items

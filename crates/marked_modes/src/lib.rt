@@ -3,7 +3,9 @@
 
 mod clearing;
 mod modes;
+mod picture;
 mod row;
 
 pub use modes::MarkedModes;
+pub use picture::ModesPicture;
 pub use row::MAX_HOLDERS;

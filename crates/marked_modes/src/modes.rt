@@ -25,7 +25,7 @@ use std::sync::Arc;
 pub struct MarkedModes {
     numbers: Arc<SpecNumbers>,
     /// For each resource a row.
-    rows: MarkedList<ModeRow>,
+    pub(crate) rows: MarkedList<ModeRow>,
     /// What was given, the newest last, with more than is held still. It is empty again where only one session held anything and lets it go, so that what
     /// setups have locked is not gone through at each end of a transaction.
     given: MarkedList<Given>,

@@ -43,6 +43,18 @@ impl ModeRow {
         ModeRow { modes }
     }
 
+    /// Whether all sessions hold the same in both.
+    fn is_same(&self, other: &ModeRow) -> bool
+        ensures { result ≡ true → self.now ≡ other.now }
+    {
+        for session in 0..MAX_HOLDERS {
+            if !is_same_mode(self.modes[session], other.modes[session]) {
+                return false;
+            }
+        }
+        true
+    }
+
     /// Whether a mode is compatible with what every other session holds.
     #[inline(always)]
     pub(crate) fn fits(&self, session: u8, mode: Mode) -> bool
@@ -54,6 +66,32 @@ impl ModeRow {
             }
         }
         true
+    }
+}
+
+/// Whether these are the same rows.
+pub(crate) fn are_same(rows: &[ModeRow], others: &[ModeRow]) -> bool
+    ensures { result ≡ true → rows.now ≡ others.now }
+{
+    if rows.len() != others.len() {
+        return false;
+    }
+    for place in 0..rows.len() {
+        if !rows[place].is_same(&others[place]) {
+            return false;
+        }
+    }
+    true
+}
+
+/// Whether these are the same mode, or none both.
+fn is_same_mode(mode: Option<Mode>, other: Option<Mode>) -> bool
+    ensures { result ≡ true → mode ≡ other }
+{
+    match (mode, other) {
+        (None, None) => true,
+        (Some(mode), Some(other)) => mode == other,
+        _ => false,
     }
 }
 

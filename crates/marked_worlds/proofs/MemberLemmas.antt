@@ -16,7 +16,8 @@ use Rattle.session_steps.specs.Stage.{Member, no_member, transcripts_of}
 use Rattle.marked_worlds.specs.declared.members.StatusAndRest.{StatusAndRest}
 use Rattle.marked_worlds.specs.declared.told.ToldOutcome.{ToldOutcome}
 use Rattle.marked_worlds.specs.Told.{AreTold, IsTold, outcomes_of}
-use Rattle.marked_worlds.specs.Members.{member_of, members_of, no_kept, sessions_of, with_rest, AreKept, AreWhole, IsWhole, MarkedSessions}
+use Rattle.marked_worlds.specs.declared.seen.SeenSessions.{SeenSessions}
+use Rattle.marked_worlds.specs.Members.{member_of, members_of, no_kept, sessions_of, sessions_seen, with_rest, AreKept, AreWhole, IsSeen, IsWhole, MarkedSessions}
 
 -- what it was told is changed
 abbrev pub with_told : (List Event → List Event) → Member → Member
@@ -86,19 +87,31 @@ told-kept old new kept keeps all k d lt =
       outcome = lists-kept old new t.nodes.items keeps is.inside ∙ is.outcome;
     }
 
+-- and so are the sessions that were noted
+nodes-kept : (old new : List (List Event)) (noted : List SeenSessions) → Keeps old new → All (IsSeen old) noted → All (IsSeen new) noted
+nodes-kept old new noted keeps all k d lt = λ n id inside. (keeps (get_or (get_or noted k d).nodes.items n id) (all k d lt n id inside)).0
+
+pub seen-kept : (old new : List (List Event)) (noted : List SeenSessions) → Keeps old new → All (IsSeen old) noted
+    → map (sessions_seen new) noted ≡ map (sessions_seen old) noted
+seen-kept old new [] keeps all = refl
+seen-kept old new (s ∷ noted) keeps all = λ i.
+    members_of (lists-kept old new s.nodes.items keeps (all 0 s (omega arith)) i) s.kept.items
+    ∷ seen-kept old new noted keeps (λ k d lt. all (suc k) d (omega (arith, lt))) i
+
 -- one more comes behind those that were told
 pub told-behind : (kept left : List ToldOutcome) (t : ToldOutcome) → left ≡ kept ++ t ∷ [] → IsPrefix (outcomes_of kept) (outcomes_of left)
 told-behind kept left t is = (t.outcome ∷ [], sym (ap outcomes_of is ∙ map-append (λ (u : ToldOutcome). u.outcome) kept (t ∷ [])))
 
 -- where the lists stay, what is kept holds of logs of as many sessions
-pub still-kept : (old new : Logs Event) (kept : Versions StatusAndRest) (outcomes : List ToldOutcome) → AreKept old kept outcomes
-    → length new.now ≡ length old.now → new.marked ≡ old.marked → Keeps old.lists new.lists → AreKept new kept outcomes
-still-kept old new kept outcomes are count marked keeps = record {
+pub still-kept : (old new : Logs Event) (kept : Versions StatusAndRest) (outcomes : List ToldOutcome) (noted : List SeenSessions) → AreKept old kept outcomes noted
+    → length new.now ≡ length old.now → new.marked ≡ old.marked → Keeps old.lists new.lists → AreKept new kept outcomes noted
+still-kept old new kept outcomes noted are count marked keeps = record {
   whole = record {
     now = count ∙ are.whole.now;
     marked = subst (λ (ms : List (List (List Event))). AllZip IsWhole ms kept.marked) (sym marked) are.whole.marked;
   };
   told = told-kept old.lists new.lists outcomes keeps are.told;
+  seen = nodes-kept old.lists new.lists noted keeps are.seen;
 }
 
 -- whatever comes of telling one, there are as many
@@ -113,7 +126,7 @@ none-left (Some rest) e = cc
 
 -- ---- sessions as contracts see them
 
-module _ (logs : Logs Event) (kept : Versions StatusAndRest) (outcomes : List ToldOutcome) (seen : MarkedSessions) (i : ℕ) (whole : AreWhole logs kept) (is : sessions_of logs kept outcomes ≡ seen) where
+module _ (logs : Logs Event) (kept : Versions StatusAndRest) (outcomes : List ToldOutcome) (noted : List SeenSessions) (seen : MarkedSessions) (i : ℕ) (whole : AreWhole logs kept) (is : sessions_of logs kept outcomes noted ≡ seen) where
   abbrev told : List Event
   told = get_or logs.now i []
 

@@ -1,6 +1,7 @@
 -- Sessions as they are kept: what each was told, and beside it the rest.
-use Rattle.std.specs.Prelude.{◌≡◌, List, [], ◌∷◌, ◌++◌, length, Option, None}
+use Rattle.std.specs.Prelude.{◌≡◌, List, [], ◌∷◌, ◌++◌, length, map, All, Option, None}
 use Rattle.std.specs.List.{AllZip}
+use Rattle.event_tree.specs.Lists.{HasNode, list_of}
 use Rattle.transcripts.specs.declared.event.Event.{Event}
 use Rattle.machine_model.specs.declared.status.Status.{Status}
 use Rattle.machine_model.specs.declared.status.Status.TheVariants.{Outside}
@@ -9,14 +10,17 @@ use Rattle.session_steps.specs.Stage.{Member}
 use Rattle.marked_lists.specs.Versions.{Versions}
 use Rattle.marked_logs.specs.Logs.{Logs}
 use Rattle.marked_worlds.specs.declared.members.StatusAndRest.{StatusAndRest}
+use Rattle.marked_worlds.specs.declared.seen.SeenSessions.{SeenSessions}
 use Rattle.marked_worlds.specs.declared.told.ToldOutcome.{ToldOutcome}
 use Rattle.marked_worlds.specs.Told.{AreTold, outcomes_of}
 
--- the sessions now and at the marks that stand, the newest first, and the outcomes that were told of them, in the order in which they were told first
+-- the sessions now and at the marks that stand, the newest first, the outcomes that were told of them, in the order in which they were told first, and
+-- the sessions as they were noted, in the order in which they were
 pub record MarkedSessions : Type 0 where
   pub list : List Member
   pub marked : List (List Member)
   pub told : List (List (List Event))
+  pub seen : List (List Member)
 
 -- ---- a session that is changed
 
@@ -53,11 +57,16 @@ marked_of [] marked = []
 marked_of (logs ∷ more) [] = []
 marked_of (logs ∷ more) (ks ∷ marked) = members_of logs ks ∷ marked_of more marked
 
-abbrev pub sessions_of : Logs Event → Versions StatusAndRest → List ToldOutcome → MarkedSessions
-sessions_of logs kept outcomes = record {
+-- the sessions that were noted, by the lists of the tree
+abbrev pub sessions_seen : List (List Event) → SeenSessions → List Member
+sessions_seen lists s = members_of (map (list_of lists) s.nodes.items) s.kept.items
+
+abbrev pub sessions_of : Logs Event → Versions StatusAndRest → List ToldOutcome → List SeenSessions → MarkedSessions
+sessions_of logs kept outcomes noted = record {
   list = members_of logs.now kept.list;
   marked = marked_of logs.marked kept.marked;
   told = outcomes_of outcomes;
+  seen = map (sessions_seen logs.lists) noted;
 }
 
 -- each session has both parts
@@ -69,7 +78,12 @@ pub record AreWhole (logs : Logs Event) (kept : Versions StatusAndRest) : Type 0
   pub now : IsWhole logs.now kept.list
   pub marked : AllZip IsWhole logs.marked kept.marked
 
+-- what was noted has nodes of the tree
+abbrev pub IsSeen : List (List Event) → SeenSessions → Type 0
+IsSeen lists s = All (HasNode lists) s.nodes.items
+
 -- and each outcome that is kept was told, by its nodes
-pub record AreKept (logs : Logs Event) (kept : Versions StatusAndRest) (outcomes : List ToldOutcome) : Type 0 where
+pub record AreKept (logs : Logs Event) (kept : Versions StatusAndRest) (outcomes : List ToldOutcome) (noted : List SeenSessions) : Type 0 where
   pub whole : AreWhole logs kept
   pub told : AreTold logs.lists outcomes
+  pub seen : All (IsSeen logs.lists) noted

@@ -10,13 +10,15 @@ use Rattle.session_steps.specs.Stage.{world_in, IsSettled, IsSettledUnless}
 use Rattle.marked_worlds.specs.Stages.{MarkedStages}
 
 -- a spec with its numbers, the world now, the worlds at the marks that stand, the newest first, the outcomes that were told of it, in the order in which
--- they were told first, and whether a step was refused memory and the world has not gone back since
+-- they were told first, the worlds that were noted, in the order in which they were, and whether a step was refused memory and the world has not gone
+-- back since
 pub record MarkedRunning : Type 0 where
   pub file : SpecFile
   pub numbers : Numbers
   pub world : World
   pub marked : List World
   pub told : List (List (List Event))
+  pub seen : List World
   pub spent : Bool
 
 abbrev pub running_of : SpecFile → MarkedStages → Bool → MarkedRunning
@@ -26,6 +28,7 @@ running_of file s spent = record {
   world = world_in file.run.steps s.now;
   marked = map (world_in file.run.steps) s.marked;
   told = s.told;
+  seen = map (world_in file.run.steps) s.seen;
   spent = spent;
 }
 

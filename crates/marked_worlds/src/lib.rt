@@ -3,6 +3,8 @@
 
 mod asking;
 mod members;
+mod seen;
+mod seen_stages;
 mod stage;
 mod told;
 mod world;

@@ -1,7 +1,7 @@
 //! The sessions of a world, now and at marks.
 
 ghost use mathlib.Core.List.{IsPrefix};
-ghost use Rattle.std.specs.Prelude.{◌≡◌, ◌≤◌, ◌<◌, ◌∷◌, ◌↔◌, [], IfOk, IsTrue, None, OnErr, OnOk, Some, get_or, length, map, replicate, set, slice_get, take};
+ghost use Rattle.std.specs.Prelude.{◌≡◌, ◌≤◌, ◌<◌, ◌∷◌, ◌↔◌, [], IfOk, IsTrue, None, OnErr, OnOk, Some, get_or, length, map, replicate, set, slice_get, take, true};
 ghost use Rattle.std.specs.List.{list_any};
 ghost use Rattle.row_tables.specs.Layers.{sight};
 ghost use Rattle.statement_evaluation.specs.Effect.{effect};
@@ -10,7 +10,8 @@ ghost use Rattle.machine_model.specs.Start.{is_failure};
 ghost use Rattle.session_steps.specs.Stage.{no_member, note_member, transcripts_of};
 ghost use Rattle.marked_worlds.specs.Members.{silenced, told_all, with_rest, with_status};
 
-use crate::told::ToldTable;
+use crate::seen::SeenSessions;
+use crate::told::{ToldTable, print_of};
 use bound_statements::Bound;
 use event_tree::Same;
 use machine_model::Status;
@@ -24,7 +25,7 @@ use std::marker::Model;
 use transcripts::{Event, Fault, Outcome, Transcript};
 
 /// What is kept of a session beside what it was told.
-#[derive(Clone, Copy)]
+#[derive(Clone, Copy, PartialEq, Eq)]
 pub(crate) struct StatusAndRest {
     pub(crate) status: Status,
     pub(crate) rest: Option<Rest>,
@@ -32,14 +33,16 @@ pub(crate) struct StatusAndRest {
 
 /// The sessions of a world, with marks to go back to.
 ///
-/// Contracts see the sessions now, and at the marks that stand, the newest first, and the outcomes that were told of them. What a call leaves for want of
-/// memory is told of each; what was at marks stays, and so do outcomes.
+/// Contracts see the sessions now, and at the marks that stand, the newest first, the outcomes that were told of them, and the sessions as they were noted.
+/// What a call leaves for want of memory is told of each; what was at marks stays, and so do outcomes and what was noted.
 #[derive(Drop)]
 pub(crate) struct MarkedMembers {
     logs: MarkedLogs<Event>,
     kept: MarkedList<StatusAndRest>,
     /// What was told so far, also where the world has gone back since.
     told: ToldTable,
+    /// The sessions as they were noted.
+    seen: Vec<SeenSessions>,
 }
 
 impl Model for MarkedMembers {
@@ -51,15 +54,15 @@ impl Model for MarkedMembers {
 
     ghost coded = { Prim.hlevel (codes, event.the_row.coded) };
 
-    ghost view = { λ m. sessions_of m.logs m.kept m.told.kept.items };
+    ghost view = { λ m. sessions_of m.logs m.kept m.told.kept.items m.seen.items };
 
-    ghost invariant = { λ m. AreKept m.logs m.kept m.told.kept.items };
+    ghost invariant = { λ m. AreKept m.logs m.kept m.told.kept.items m.seen.items };
 }
 
 impl MarkedMembers {
     /// So many sessions that have done nothing, and no mark.
     pub(crate) fn new(alloc: Global, count: u8) -> Result<MarkedMembers, AllocError>
-        ensures { IfOk result (λ members. members ≡ record { list = replicate count no_member; marked = []; told = [] }) }
+        ensures { IfOk result (λ members. members ≡ record { list = replicate count no_member; marked = []; told = []; seen = [] }) }
     {
         let logs = MarkedLogs::new(alloc, count)?;
         let kept = blank_members(alloc, count)?;
@@ -67,6 +70,7 @@ impl MarkedMembers {
             logs,
             kept,
             told: ToldTable::new(alloc),
+            seen: Vec::new(alloc),
         })
     }
 
@@ -111,6 +115,35 @@ impl MarkedMembers {
         self.told.outcome(number)
     }
 
+    /// A number that is the same where the first so many sessions were told the same, and seldom else.
+    pub(crate) fn print(&self, count: u8) -> u64
+        requires { count ≡ length self.now.list }
+    {
+        print_of(&self.logs, count)
+    }
+
+    /// Notes the sessions now, of which there are so many. The answer is their number among those that were noted.
+    pub(crate) fn note(&mut self, alloc: Global, count: u8) -> Result<usize, AllocError>
+        requires { count ≡ length self.old.list }
+        ensures number { IfOk result (λ number. slice_get self.new.seen number ≡ Some self.old.list) }
+        ensures front { IsPrefix self.old.seen self.new.seen }
+        ensures same { self.new ≡ record self.old { seen = self.new.seen } }
+    {
+        let now = SeenSessions::of(alloc, &self.logs, &self.kept, count)?;
+        let number = self.seen.len();
+        self.seen.push(now)?;
+        Ok(number)
+    }
+
+    /// Whether the sessions now, of which there are so many, are those that were noted with a number.
+    pub(crate) fn are_seen(&self, number: usize, count: u8) -> bool
+        requires number { number < length self.now.seen }
+        requires count { count ≡ length self.now.list }
+        ensures { result ≡ true → slice_get self.now.seen number ≡ Some self.now.list }
+    {
+        self.seen[number].are(&self.logs, &self.kept, count)
+    }
+
     /// Whether this is what the session was told.
     fn is_told(&self, alloc: Global, session: u8, told: &Transcript) -> Result<bool, AllocError>
         requires { session < length self.now.list }
@@ -147,6 +180,7 @@ impl MarkedMembers {
         ensures kept { OnErr result (self.new.list ≡ self.old.list) }
         ensures marked { self.new.marked ≡ self.old.marked }
         ensures outcomes { self.new.told ≡ self.old.told }
+        ensures seen { self.new.seen ≡ self.old.seen }
     {
         self.logs.tell(session, event)
     }
@@ -158,6 +192,7 @@ impl MarkedMembers {
         ensures kept { OnErr result (self.new.list ≡ self.old.list) }
         ensures marked { self.new.marked ≡ self.old.marked }
         ensures outcomes { self.new.told ≡ self.old.told }
+        ensures seen { self.new.seen ≡ self.old.seen }
     {
         self.logs.forget(session)
     }
@@ -168,6 +203,7 @@ impl MarkedMembers {
         ensures kept { OnErr result (self.new.list ≡ self.old.list) }
         ensures marked { self.new.marked ≡ self.old.marked }
         ensures outcomes { self.new.told ≡ self.old.told }
+        ensures seen { self.new.seen ≡ self.old.seen }
     {
         let rest = self.kept.get(session as usize).rest;
         self.kept
@@ -180,6 +216,7 @@ impl MarkedMembers {
         ensures kept { OnErr result (self.new.list ≡ self.old.list) }
         ensures marked { self.new.marked ≡ self.old.marked }
         ensures outcomes { self.new.told ≡ self.old.told }
+        ensures seen { self.new.seen ≡ self.old.seen }
     {
         let StatusAndRest {
             status,
@@ -211,6 +248,7 @@ impl MarkedMembers {
         ensures rows_marked { rows.new.marked ≡ rows.old.marked }
         ensures marked { self.new.marked ≡ self.old.marked }
         ensures outcomes { self.new.told ≡ self.old.told }
+        ensures seen { self.new.seen ≡ self.old.seen }
     {
         run_statement(alloc, statement, session, rows, &mut self.logs)
     }
@@ -235,6 +273,7 @@ impl MarkedMembers {
         requires { 0 < length self.old.marked }
         ensures marked { self.old.marked ≡ self.new.list ∷ self.new.marked }
         ensures outcomes { self.new.told ≡ self.old.told }
+        ensures seen { self.new.seen ≡ self.old.seen }
     {
         self.logs.go_back();
         self.kept.go_back();

@@ -15,6 +15,7 @@ ghost use Rattle.marked_worlds.specs.Stages as spec;
 
 use crate::asking::{ask_one, request_at};
 use crate::members::MarkedMembers;
+use crate::seen_stages::{SeenStage, SeenTable};
 use bound_statements::Bound;
 use lock_modes::Mode;
 use machine_model::{Reply, Status};
@@ -28,10 +29,16 @@ use std::marker::Model;
 use std::sync::Arc;
 use transcripts::{Event, Fault, Outcome, Transcript};
 
+/// As many resources and sessions are noted at most, over all stages, so that what is noted takes some tens of megabytes.
+const MOST_SEEN: usize = 1 << 19;
+
+/// A stage without resources is noted as if it had as many.
+const STAGE_SIZE: usize = 16;
+
 /// The rows, the locks and the sessions of a world, with marks to go back to.
 ///
-/// Contracts see the numbers of the spec, the stage now, the stages at the marks that stand, the newest first, and the outcomes that were told. After want
-/// of memory the stage now is good for nothing but going back; what was at marks stays, and so do outcomes.
+/// Contracts see the numbers of the spec, the stage now, the stages at the marks that stand, the newest first, the outcomes that were told, and the stages
+/// that were noted. After want of memory the stage now is good for nothing but going back; what was at marks stays, and so do outcomes and what was noted.
 #[derive(Drop)]
 pub(crate) struct MarkedStage {
     alloc: Global,
@@ -39,6 +46,7 @@ pub(crate) struct MarkedStage {
     rows: MarkedRows,
     locks: MarkedLocks,
     members: MarkedMembers,
+    seen: SeenTable,
 }
 
 impl Model for MarkedStage {
@@ -55,9 +63,9 @@ impl Model for MarkedStage {
 
     ghost coded = { Prim.hlevel (codes, map_code, value.the_row.coded, resource.the_row.coded, waiting.the_row.coded, request.the_row.coded, event.the_row.coded) };
 
-    ghost view = { λ s. marked_stages s.numbers.value s.rows s.locks s.members };
+    ghost view = { λ s. marked_stages s.numbers.value s.rows s.locks s.members s.seen.stages.items };
 
-    ghost invariant = { λ s. IsKept s.numbers.value s.rows s.locks s.members };
+    ghost invariant = { λ s. IsKept s.numbers.value s.rows s.locks s.members s.seen.stages.items };
 }
 
 impl MarkedStage {
@@ -73,6 +81,7 @@ impl MarkedStage {
         ensures blank { IfOk result (λ stage. IsBlank count stage.now) }
         ensures marked { IfOk result (λ stage. stage.marked ≡ []) }
         ensures told { IfOk result (λ stage. stage.told ≡ []) }
+        ensures seen { IfOk result (λ stage. stage.seen ≡ []) }
     {
         let own = numbers.clone()?;
         let locks = MarkedLocks::new(alloc, own)?;
@@ -83,6 +92,7 @@ impl MarkedStage {
             rows: MarkedRows::new(alloc),
             locks,
             members,
+            seen: SeenTable::new(alloc),
         })
     }
 
@@ -147,6 +157,53 @@ impl MarkedStage {
         self.members.outcome(number)
     }
 
+    /// The number of the stage now, with so many sessions, among those that were noted. It is noted behind all others where it was not found, none where
+    /// no more are noted.
+    pub(crate) fn note(&mut self, count: u8) -> Result<Option<usize>, AllocError>
+        requires { count ≡ length self.old.now.members }
+        ensures known { IfOk result (λ answer. IfSome answer (λ number. slice_get self.new.seen number ≡ Some self.old.now)) }
+        ensures front { IsPrefix self.old.seen self.new.seen }
+        ensures same { self.new ≡ record self.old { seen = self.new.seen } }
+    {
+        let print = self.members.print(count);
+        if let Some(number) = self.found(print, count) {
+            return Ok(Some(number));
+        }
+        if self.has_many() {
+            return Ok(None);
+        }
+        let number = self.seen.stages.len();
+        let stage = SeenStage::of(
+            self.alloc,
+            &self.rows,
+            &self.locks,
+            &mut self.members,
+            count,
+        )?;
+        self.seen.stages.push(stage)?;
+        self.seen.newest.insert(print, number)?;
+        Ok(Some(number))
+    }
+
+    /// The number of the stage now among those that were noted, looked for by the number that is made of what its sessions were told.
+    fn found(&self, print: u64, count: u8) -> Option<usize>
+        requires { count ≡ length self.now.now.members }
+        ensures { IfSome result (λ number. slice_get self.now.seen number ≡ Some self.now.now) }
+    {
+        let number = *self.seen.newest.get(&print)?;
+        let seen = self.seen.stages.as_slice().get(number)?;
+        if seen.is(&self.rows, &self.locks, &self.members, count) {
+            Some(number)
+        } else {
+            None
+        }
+    }
+
+    /// Whether so much was noted that no more is.
+    fn has_many(&self) -> bool {
+        self.seen.stages.len() >= MOST_SEEN / (self.numbers.count() + STAGE_SIZE)
+    }
+
     /// Whether this is what the first so many members were told.
     pub(crate) fn are_told(&self, count: u8, told: &[Transcript]) -> Result<bool, AllocError>
         requires { count ≤ length self.now.now.members }
@@ -179,6 +236,7 @@ impl MarkedStage {
         ensures marked { self.old.marked ≡ self.new.now ∷ self.new.marked }
         ensures numbers { self.new.numbers ≡ self.old.numbers }
         ensures told { self.new.told ≡ self.old.told }
+        ensures seen { self.new.seen ≡ self.old.seen }
     {
         self.rows.go_back();
         self.locks.go_back();

@@ -91,7 +91,7 @@ impl ToldTable {
 }
 
 /// Whether the first so many sessions were told the lists of these nodes.
-fn are_of(nodes: &[NodeId], logs: &MarkedLogs<Event>, count: u8) -> bool
+pub(crate) fn are_of(nodes: &[NodeId], logs: &MarkedLogs<Event>, count: u8) -> bool
     requires few { count ≤ length logs.now.now }
     requires inside { All (HasNode logs.now.lists) nodes.now }
     ensures { result ≡ true → map (list_of logs.now.lists) nodes.now ≡ take count logs.now.now }
@@ -108,7 +108,7 @@ fn are_of(nodes: &[NodeId], logs: &MarkedLogs<Event>, count: u8) -> bool
 }
 
 /// A number that is the same where the first so many sessions were told the same, and seldom else.
-fn print_of(logs: &MarkedLogs<Event>, count: u8) -> u64
+pub(crate) fn print_of(logs: &MarkedLogs<Event>, count: u8) -> u64
     requires { count ≤ length logs.now.now }
 {
     let mut hasher = FoldHasher::default();
@@ -119,7 +119,7 @@ fn print_of(logs: &MarkedLogs<Event>, count: u8) -> u64
 }
 
 /// The nodes of what the first so many sessions were told.
-fn nodes_of(alloc: Global, logs: &MarkedLogs<Event>, count: u8) -> Result<Vec<NodeId>, AllocError>
+pub(crate) fn nodes_of(alloc: Global, logs: &MarkedLogs<Event>, count: u8) -> Result<Vec<NodeId>, AllocError>
     requires { count ≤ length logs.now.now }
     ensures inside { IfOk result (λ nodes. All (HasNode logs.now.lists) nodes.items) }
     ensures lists { IfOk result (λ nodes. map (list_of logs.now.lists) nodes.items ≡ take count logs.now.now) }

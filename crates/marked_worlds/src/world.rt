@@ -30,9 +30,9 @@ use transcripts::Outcome;
 
 /// The sequential machine over a spec, with marks to go back to, in place of forks.
 ///
-/// Contracts see the spec and its numbers, the world now, the worlds at the marks that stand, the newest first, the outcomes that were told of it, and
-/// whether the world is spent. A world is spent by a step that is refused memory; what was at marks stays, and where it goes back to one it is spent no
-/// more. Outcomes that were told stay told, wherever the world goes.
+/// Contracts see the spec and its numbers, the world now, the worlds at the marks that stand, the newest first, the outcomes that were told of it, the
+/// worlds that were noted, and whether the world is spent. A world is spent by a step that is refused memory; what was at marks stays, and where it goes
+/// back to one it is spent no more. Outcomes that were told stay told, and worlds that were noted stay noted, wherever the world goes.
 pub struct MarkedWorld<'a> {
     spec: &'a Spec,
     alloc: Global,
@@ -85,6 +85,7 @@ impl<'a> MarkedWorld<'a> {
         ensures numbers { IfOk result (λ world. world.numbers ≡ numbers.value) }
         ensures marked { IfOk result (λ world. world.marked ≡ []) }
         ensures told { IfOk result (λ world. world.told ≡ []) }
+        ensures seen { IfOk result (λ world. world.seen ≡ []) }
         ensures whole { IfOk result (λ world. world.spent ≡ false) }
         ensures refused { IfErr result (λ error. IsRefusedBy error (start spec.now.run)) }
     {
@@ -121,6 +122,7 @@ impl MarkedWorld<'_> {
         ensures numbers { self.new.numbers ≡ self.old.numbers }
         ensures marked { self.new.marked ≡ self.old.marked }
         ensures told { self.new.told ≡ self.old.told }
+        ensures seen { self.new.seen ≡ self.old.seen }
     {
         if self.is_spent {
             return Err(SendError::Spent);
@@ -152,6 +154,7 @@ impl MarkedWorld<'_> {
         ensures of_spec { self.new.file ≡ self.old.file }
         ensures numbers { self.new.numbers ≡ self.old.numbers }
         ensures told { self.new.told ≡ self.old.told }
+        ensures seen { self.new.seen ≡ self.old.seen }
     {
         self.stage.go_back();
         self.is_spent = false;
@@ -170,6 +173,20 @@ impl MarkedWorld<'_> {
             return Err(SendError::Spent);
         }
         Ok(self.stage.number(self.spec.sessions())?)
+    }
+
+    /// The number of the world now among those that were noted. It is noted behind all others where it was not found among them; none where no more are
+    /// noted. A spent world is not.
+    pub fn number(&mut self) -> Result<Option<usize>, SendError>
+        ensures known { IfOk result (λ answer. IfSome answer (λ number. slice_get self.new.seen number ≡ Some self.old.world)) }
+        ensures spent { IsErrOf result SendError.Spent ↔ (self.old.spent ≡ true) }
+        ensures front { IsPrefix self.old.seen self.new.seen }
+        ensures same { self.new ≡ record self.old { seen = self.new.seen } }
+    {
+        if self.is_spent {
+            return Err(SendError::Spent);
+        }
+        Ok(self.stage.note(self.spec.sessions() + 1)?)
     }
 
     /// The outcome that was told with a number.

@@ -7,13 +7,13 @@ use Rattle.marked_worlds.proofs.MemberLemmas.{inside-logs, members-count, still-
 use Rattle.marked_worlds.proofs.members.MarkedMembers.run.Goals as goal
 
 pub run_statement-requires-clause-inside : goal.run_statement-requires-clause-inside
-run_statement-requires-clause-inside c = inside-logs c.self.inside.logs c.self.inside.kept c.self.inside.told.kept.items c.args.self.now c.args.session
+run_statement-requires-clause-inside c = inside-logs c.self.inside.logs c.self.inside.kept c.self.inside.told.kept.items c.self.inside.seen.items c.args.self.now c.args.session
     c.self.invariant.whole c.self.view_is c.requires.inside
 
 pub returns-clause-told : goal.returns-clause-told
 returns-clause-told c =
     let events = events_of (effect c.args.statement.now (sight c.args.session c.args.rows.now.now)) in
-    told-by c.self.inside.logs c.self.inside.kept c.self.inside.told.kept.items c.args.self.now c.args.session c.self.invariant.whole c.self.view_is
+    told-by c.self.inside.logs c.self.inside.kept c.self.inside.told.kept.items c.self.inside.seen.items c.args.self.now c.args.session c.self.invariant.whole c.self.view_is
     c.run_statement.result c.run_statement.new.logs.now (λ told. told ++ events) c.run_statement.ensures.told
 
 pub returns-clause-sessions : goal.returns-clause-sessions
@@ -26,5 +26,5 @@ returns-clause-sessions c =
 pub invariant_of-self : goal.invariant_of-self
 invariant_of-self c =
     let ran = c.run_statement in
-    still-kept c.self.inside.logs ran.new.logs c.self.inside.kept c.self.inside.told.kept.items c.self.invariant ran.ensures.sessions ran.ensures.logs_marked
+    still-kept c.self.inside.logs ran.new.logs c.self.inside.kept c.self.inside.told.kept.items c.self.inside.seen.items c.self.invariant ran.ensures.sessions ran.ensures.logs_marked
     ran.ensures.lists

@@ -1,0 +1,53 @@
+//! Sessions that were noted.
+
+ghost use Rattle.std.specs.Prelude.{◌≡◌, IfOk, length, true};
+ghost use Rattle.marked_worlds.specs.Members.{IsSeen, members_of, sessions_seen};
+
+use crate::members::StatusAndRest;
+use crate::told::{are_of, nodes_of};
+use event_tree::NodeId;
+use marked_lists::MarkedList;
+use marked_logs::MarkedLogs;
+use std::alloc::{AllocError, Global};
+use transcripts::Event;
+
+/// The sessions as they were noted, with the nodes of what they were told.
+#[derive(Drop)]
+pub(crate) struct SeenSessions {
+    pub(crate) nodes: Vec<NodeId>,
+    pub(crate) kept: Vec<StatusAndRest>,
+}
+
+impl SeenSessions {
+    /// The sessions now.
+    pub(crate) fn of(
+        alloc: Global,
+        logs: &MarkedLogs<Event>,
+        kept: &MarkedList<StatusAndRest>,
+        count: u8,
+    ) -> Result<SeenSessions, AllocError>
+        requires logs { count ≡ length logs.now.now }
+        requires kept { count ≡ length kept.now.list }
+        ensures seen { IfOk result (IsSeen logs.now.lists) }
+        ensures sessions { IfOk result (λ seen. sessions_seen logs.now.lists seen ≡ members_of logs.now.now kept.now.list) }
+    {
+        let nodes = nodes_of(alloc, logs, count)?;
+        let mut copy = Vec::with_capacity(alloc, kept.len())?;
+        copy.extend_from_slice(kept.as_slice())?;
+        Ok(SeenSessions { nodes, kept: copy })
+    }
+
+    /// Whether the sessions now are these.
+    pub(crate) fn are(
+        &self,
+        logs: &MarkedLogs<Event>,
+        kept: &MarkedList<StatusAndRest>,
+        count: u8,
+    ) -> bool
+        requires seen { IsSeen logs.now.lists self.now }
+        requires logs { count ≡ length logs.now.now }
+        ensures { result ≡ true → sessions_seen logs.now.lists self.now ≡ members_of logs.now.now kept.now.list }
+    {
+        are_of(self.nodes.as_slice(), logs, count) && self.kept.as_slice() == kept.as_slice()
+    }
+}

@@ -1,0 +1,82 @@
+//! Stages that were noted.
+
+ghost use mathlib.Core.List.{IsPrefix};
+ghost use Rattle.std.specs.Prelude.{◌≡◌, ◌<◌, IfOk, length, true};
+ghost use Rattle.marked_worlds.specs.Stages.{HasSessions, stage_seen, staged_of};
+
+use crate::members::MarkedMembers;
+use marked_locks::{LocksPicture, MarkedLocks};
+use marked_rows::{MarkedRows, RowsPicture};
+use std::alloc::{AllocError, Global};
+use std::collections::BTreeMap;
+
+/// A stage as it was noted: pictures of its rows and its locks, and the number of its sessions among those that were noted.
+#[derive(Drop)]
+pub(crate) struct SeenStage {
+    pub(crate) rows: RowsPicture,
+    pub(crate) locks: LocksPicture,
+    pub(crate) sessions: usize,
+}
+
+/// Stages that were noted, in the order in which they were. The index has the newest one with a number made of what its sessions were told. What it tells
+/// is compared, so that nothing but speed and size depends on it.
+#[derive(Drop)]
+pub(crate) struct SeenTable {
+    pub(crate) stages: Vec<SeenStage>,
+    pub(crate) newest: BTreeMap<u64, usize>,
+}
+
+impl SeenTable {
+    /// No stages.
+    pub(crate) fn new(alloc: Global) -> SeenTable
+        ensures { result.stages.items ≡ [] }
+    {
+        SeenTable {
+            stages: Vec::new(alloc),
+            newest: BTreeMap::new(alloc),
+        }
+    }
+}
+
+impl SeenStage {
+    /// The stage of these parts.
+    pub(crate) fn of(
+        alloc: Global,
+        rows: &MarkedRows,
+        locks: &MarkedLocks,
+        members: &mut MarkedMembers,
+        count: u8,
+    ) -> Result<SeenStage, AllocError>
+        requires { count ≡ length members.old.list }
+        ensures seen { IfOk result (λ seen. stage_seen locks.now.resources members.new.seen seen ≡ staged_of rows.now.now locks.now.now members.old.list) }
+        ensures inside { IfOk result (HasSessions members.new.seen) }
+        ensures front { IsPrefix members.old.seen members.new.seen }
+        ensures same { members.new ≡ record members.old { seen = members.new.seen } }
+    {
+        let rows = rows.picture(alloc)?;
+        let locks = locks.picture(alloc)?;
+        let sessions = members.note(alloc, count)?;
+        Ok(SeenStage {
+            rows,
+            locks,
+            sessions,
+        })
+    }
+
+    /// Whether the stage of these parts is this one.
+    pub(crate) fn is(
+        &self,
+        rows: &MarkedRows,
+        locks: &MarkedLocks,
+        members: &MarkedMembers,
+        count: u8,
+    ) -> bool
+        requires inside { HasSessions members.now.seen self.now }
+        requires count { count ≡ length members.now.list }
+        ensures { result ≡ true → stage_seen locks.now.resources members.now.seen self.now ≡ staged_of rows.now.now locks.now.now members.now.list }
+    {
+        members.are_seen(self.sessions, count)
+            && locks.is_pictured(&self.locks)
+            && rows.is_pictured(&self.rows)
+    }
+}
