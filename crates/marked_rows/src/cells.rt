@@ -19,6 +19,16 @@ pub(crate) fn shown_in(cells: &[Cell], number: usize, sight: Sight) -> Option<us
     }
 }
 
+/// The cell with a number, blank where it is not there.
+pub(crate) fn cell_in(cells: &[Cell], number: usize) -> Cell
+    ensures { result ≡ get_or cells.now number blank }
+{
+    match cells.get(number) {
+        Some(cell) => *cell,
+        None => Cell::new(),
+    }
+}
+
 /// Makes cells, without rows, up to the one with this number.
 pub(crate) fn reach(cells: &mut MarkedList<Cell>, number: usize) -> Result<(), AllocError>
     ensures there { OnOk result (number < length cells.new.list) }

@@ -4,10 +4,12 @@
 mod cell;
 mod cells;
 mod ending;
+mod picture;
 mod places;
 mod pool;
 mod rows;
 mod scan;
 
+pub use picture::RowsPicture;
 pub use rows::MarkedRows;
 pub use scan::Scan;

@@ -79,6 +79,13 @@ impl Places {
         self.tables[table].as_slice()
     }
 
+    /// The keys of all tables at which something was ever written, in the order of the tables.
+    pub fn tables(&self) -> &[Vec<KeyedCell>]
+        ensures { placed_from 0 (map vec_items result.now) ≡ self.now.entries }
+    {
+        self.tables.as_slice()
+    }
+
     /// The number of the cell for a key of a table, the next one where nothing was ever written. Without memory the place may be there already.
     pub fn number_of(&mut self, table: u16, key: &Value) -> Result<usize, AllocError>
         ensures known { IfOk result (IsPlaceOf self.new.entries (table, key.now)) }

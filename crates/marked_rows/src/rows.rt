@@ -1,6 +1,6 @@
 //! The rows of all tables, now and at marks.
 
-ghost use Rattle.std.specs.Prelude.{◌≡◌, ◌<◌, ◌∷◌, [], length, OnErr, OnOk};
+ghost use Rattle.std.specs.Prelude.{◌≡◌, ◌<◌, ◌∷◌, [], length, IfOk, IsTrue, OnErr, OnOk};
 ghost use Rattle.std.specs.Option.{option_copied};
 ghost use Rattle.std.specs.FinMap.Entries.{find};
 ghost use Rattle.finite_maps.specs.Entries.{IsInOrder};
@@ -13,6 +13,7 @@ ghost use Rattle.marked_rows.specs.Kept.{ended_layers};
 use crate::cell::{Cell, Ending, Sight, Written};
 use crate::cells::{reach, shown_in};
 use crate::ending::{end, forget, note};
+use crate::picture::RowsPicture;
 use crate::places::Places;
 use crate::pool::RowPool;
 use crate::scan::Scan;
@@ -96,6 +97,21 @@ impl MarkedRows {
     {
         let keys = self.places.table(table);
         Scan::new(&self.rows, keys, self.cells.as_slice(), Sight::Committed)
+    }
+
+    /// A picture of the rows now. It fails for want of memory alone.
+    pub fn picture(&self, alloc: Global) -> Result<RowsPicture, AllocError>
+        ensures { IfOk result (λ picture. picture ≡ self.now.now) }
+    {
+        RowsPicture::new(alloc, &self.places, self.cells.as_slice(), &self.rows)
+    }
+
+    /// Whether the rows now are those of a picture. Where something was written at a new place since the picture was taken the answer is false. It takes
+    /// no memory.
+    pub fn is_pictured(&self, picture: &RowsPicture) -> bool
+        ensures { IsTrue result → self.now.now ≡ picture.now }
+    {
+        picture.is_of(&self.places, self.cells.as_slice(), &self.rows)
     }
 
     /// Leaves a row, or none, at a key of a table, seen by the session alone until it keeps its writes. No other session may have a write there that
