@@ -1,3 +1,4 @@
 pub mod MemberLemmas
+pub mod SeenLemmas
 pub mod StageLemmas
 pub mod WorldLemmas

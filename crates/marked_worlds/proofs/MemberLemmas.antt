@@ -144,6 +144,13 @@ module _ (logs : Logs Event) (kept : Versions StatusAndRest) (outcomes : List To
   up-to-logs le = subst (λ n. i ≤ n) (sym whole.now)
       (subst (λ n. i ≤ n) (members-count logs.now kept.list whole.now) (subst (λ (v : MarkedSessions). i ≤ length v.list) (sym is) le))
 
+  -- all of them
+  pub all-kept : i ≡ length seen.list → i ≡ length kept.list
+  all-kept all = all ∙ ap (λ (v : MarkedSessions). length v.list) (sym is) ∙ members-count logs.now kept.list whole.now
+
+  pub all-logs : i ≡ length seen.list → i ≡ length logs.now
+  all-logs all = all-kept all ∙ sym whole.now
+
   -- what the first so many were told
   pub first-is : take i logs.now ≡ transcripts_of (take i seen.list)
   first-is = sym (told-first logs.now kept.list i whole.now) ∙ ap (λ (v : MarkedSessions). transcripts_of (take i v.list)) is

@@ -25,7 +25,7 @@ use std::marker::Model;
 use transcripts::{Event, Fault, Outcome, Transcript};
 
 /// What is kept of a session beside what it was told.
-#[derive(Clone, Copy, PartialEq, Eq)]
+#[derive(Clone, Copy)]
 pub(crate) struct StatusAndRest {
     pub(crate) status: Status,
     pub(crate) rest: Option<Rest>,

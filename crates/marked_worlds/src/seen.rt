@@ -8,6 +8,7 @@ use crate::told::{are_of, nodes_of};
 use event_tree::NodeId;
 use marked_lists::MarkedList;
 use marked_logs::MarkedLogs;
+use session_steps::Rest;
 use std::alloc::{AllocError, Global};
 use transcripts::Event;
 
@@ -48,6 +49,47 @@ impl SeenSessions {
         requires logs { count ≡ length logs.now.now }
         ensures { result ≡ true → sessions_seen logs.now.lists self.now ≡ members_of logs.now.now kept.now.list }
     {
-        are_of(self.nodes.as_slice(), logs, count) && self.kept.as_slice() == kept.as_slice()
+        are_of(self.nodes.as_slice(), logs, count)
+            && are_same(self.kept.as_slice(), kept.as_slice())
     }
+}
+
+/// Whether these are the same.
+fn are_same(kept: &[StatusAndRest], others: &[StatusAndRest]) -> bool
+    ensures { result ≡ true → kept.now ≡ others.now }
+{
+    if kept.len() != others.len() {
+        return false;
+    }
+    for place in 0..kept.len() {
+        if !is_same(kept[place], others[place]) {
+            return false;
+        }
+    }
+    true
+}
+
+fn is_same(one: StatusAndRest, other: StatusAndRest) -> bool
+    ensures { result ≡ true → one ≡ other }
+{
+    one.status == other.status && is_same_rest(one.rest, other.rest)
+}
+
+/// Whether the same is left of a step, or nothing both times.
+fn is_same_rest(rest: Option<Rest>, other: Option<Rest>) -> bool
+    ensures { result ≡ true → rest ≡ other }
+{
+    match (rest, other) {
+        (None, None) => true,
+        (Some(rest), Some(other)) => is_same_place(rest, other),
+        _ => false,
+    }
+}
+
+fn is_same_place(rest: Rest, other: Rest) -> bool
+    ensures { result ≡ true → rest ≡ other }
+{
+    rest.step == other.step
+        && rest.point.statement == other.point.statement
+        && rest.point.request == other.point.request
 }

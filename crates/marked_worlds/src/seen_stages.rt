@@ -1,7 +1,7 @@
 //! Stages that were noted.
 
 ghost use mathlib.Core.List.{IsPrefix};
-ghost use Rattle.std.specs.Prelude.{◌≡◌, ◌<◌, IfOk, length, true};
+ghost use Rattle.std.specs.Prelude.{◌≡◌, [], IfOk, length, true};
 ghost use Rattle.marked_worlds.specs.Stages.{HasSessions, stage_seen, staged_of};
 
 use crate::members::MarkedMembers;

@@ -201,7 +201,7 @@ impl MarkedStage {
 
     /// Whether so much was noted that no more is.
     fn has_many(&self) -> bool {
-        self.seen.stages.len() >= MOST_SEEN / (self.numbers.count() + STAGE_SIZE)
+        self.seen.stages.len() >= MOST_SEEN / self.numbers.count().saturating_add(STAGE_SIZE)
     }
 
     /// Whether this is what the first so many members were told.

@@ -119,7 +119,11 @@ pub(crate) fn print_of(logs: &MarkedLogs<Event>, count: u8) -> u64
 }
 
 /// The nodes of what the first so many sessions were told.
-pub(crate) fn nodes_of(alloc: Global, logs: &MarkedLogs<Event>, count: u8) -> Result<Vec<NodeId>, AllocError>
+pub(crate) fn nodes_of(
+    alloc: Global,
+    logs: &MarkedLogs<Event>,
+    count: u8,
+) -> Result<Vec<NodeId>, AllocError>
     requires { count ≤ length logs.now.now }
     ensures inside { IfOk result (λ nodes. All (HasNode logs.now.lists) nodes.items) }
     ensures lists { IfOk result (λ nodes. map (list_of logs.now.lists) nodes.items ≡ take count logs.now.now) }

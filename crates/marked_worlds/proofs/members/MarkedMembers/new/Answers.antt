@@ -5,5 +5,5 @@ use Rattle.marked_worlds.proofs.members.MarkedMembers.new.Goals as goal
 
 pub returns : goal.returns
 returns c =
-    (λ k. sessions_of (c.in_ok-logs.ensures k) (c.in_ok-kept.ensures k) (c.new-2.ensures k) [])
+    (λ k. sessions_of (c.in_ok-logs.ensures k) (c.in_ok-kept.ensures k) (c.new-2.ensures k) (c.new-3.ensures.items k))
     ∙ (λ k. let v : MarkedSessions = record { list = members-blank c.args.count k; marked = []; told = []; seen = [] } in v)

@@ -3,7 +3,7 @@ use Rattle.row_tables.specs.Layers.{sight}
 use Rattle.statement_evaluation.specs.Effect.{effect}
 use Rattle.statement_execution.specs.Run.{events_of}
 use Rattle.marked_worlds.specs.Members.{MarkedSessions}
-use Rattle.marked_worlds.proofs.MemberLemmas.{inside-logs, members-count, still-kept, told-by}
+use Rattle.marked_worlds.proofs.MemberLemmas.{inside-logs, members-count, seen-kept, still-kept, told-by}
 use Rattle.marked_worlds.proofs.members.MarkedMembers.run.Goals as goal
 
 pub run_statement-requires-clause-inside : goal.run_statement-requires-clause-inside
@@ -28,3 +28,9 @@ invariant_of-self c =
     let ran = c.run_statement in
     still-kept c.self.inside.logs ran.new.logs c.self.inside.kept c.self.inside.told.kept.items c.self.inside.seen.items c.self.invariant ran.ensures.sessions ran.ensures.logs_marked
     ran.ensures.lists
+
+pub returns-clause-seen : goal.returns-clause-seen
+returns-clause-seen c =
+    let ran = c.run_statement in
+    seen-kept c.self.inside.logs.lists ran.new.logs.lists c.self.inside.seen.items ran.ensures.lists c.self.invariant.seen
+    ∙ ap (λ (v : MarkedSessions). v.seen) c.self.view_is
