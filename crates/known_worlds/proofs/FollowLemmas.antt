@@ -6,8 +6,8 @@ use Rattle.machine_model.specs.World.{World}
 use Rattle.marked_worlds.specs.Worlds.{MarkedRunning}
 use Rattle.known_worlds.specs.declared.moves.Move.{Move}
 use Rattle.known_worlds.specs.declared.follower.Follower.{Follower}
-use Rattle.known_worlds.specs.Moves.{first_world, world_after, world_behind, marked_after, marked_behind, IsMarkAt, HaveNoMark}
-use Rattle.known_worlds.specs.Following.{aside, root, Follows}
+use Rattle.known_worlds.specs.Moves.{first_world, world_after, world_behind, marked_after, marked_behind, IsMarkAt, IsNewestMark, HaveNoMark}
+use Rattle.known_worlds.specs.Following.{aside, led, root, Follows}
 use Rattle.known_worlds.proofs.MoveLemmas.{world-last, marked-last}
 
 abbrev pub at : MarkedRunning → ℕ → Bool → Follower
@@ -175,3 +175,23 @@ refiled file path f is = subst (λ (g : SpecFile). Follows g path f) (sym is.of_
 -- what is the same but for where machines stand
 pub same-file : (x y : MarkedRunning) → aside y ≡ aside x → y.file ≡ x.file
 same-file x y same = ap (λ (m : MarkedRunning). m.file) same
+
+-- ---- the world behind the path
+
+pub led-moved : (x : MarkedRunning) (path : List Move) (m : Move) → led x (path ++ m ∷ []) ≡ record (led x path) {
+  world = world_after x.file.run.steps (led x path).world m;
+  marked = marked_after (led x path).world (led x path).marked m;
+}
+led-moved x path m =
+    let steps = x.file.run.steps in
+    let first = first_world x.file.run in
+    λ i. record x { world = world-last steps first path m i; marked = marked-last steps first [] path m i; spent = false }
+
+pub led-back : (x y : MarkedRunning) (path : List Move) (place : ℕ) → aside y ≡ aside x → IsNewestMark path (length path) place
+    → (led x path).marked ≡ (led y (take place path)).world ∷ (led y (take place path)).marked
+led-back x y path place same mark =
+    let first = first_world x.file.run in
+    ap (marked_behind x.file.run.steps first []) (sym (take_all (length path) path (omega arith)))
+    ∙ mark.newest (length path) mark.before (omega arith) x.file.run.steps first []
+    ∙ ap (λ (f : SpecFile). world_behind f.run.steps (first_world f.run) (take place path) ∷ marked_behind f.run.steps (first_world f.run) [] (take place path))
+    (sym (same-file x y same))

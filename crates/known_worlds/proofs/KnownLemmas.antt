@@ -41,7 +41,7 @@ all-noted-more old new (n ∷ ns) [] front are = are
 -- ---- items at places
 
 pub each-weaker : {T : Type 0} (P Q : T → Type 0) (items : List (Option T)) → ((x : T) → P x → Q x) → Each P items → Each Q items
-each-weaker P Q items weaker each place = at (get_or items place None) (each place)
+each-weaker {T} P Q items weaker each place = at (get_or items place None) (each place)
   where
     at : (o : Option T) → IfSome o P → IfSome o Q
     at None h = tt
@@ -49,7 +49,7 @@ each-weaker P Q items weaker each place = at (get_or items place None) (each pla
 
 pub each-put : {T : Type 0} (P : T → Type 0) (old new : List (Option T)) (x : T) → Each P old → P x
     → ((i : ℕ) → IfSome (get_or new i None) (λ y. (get_or old i None ≡ Some y) ⊎ (y ≡ x))) → Each P new
-each-put P old new x each is put place = at (get_or new place None) (put place)
+each-put {T} P old new x each is put place = at (get_or new place None) (put place)
   where
     one : (y : T) → (get_or old place None ≡ Some y) ⊎ (y ≡ x) → P y
     one y (inl was) = subst (λ o. IfSome o P) was (each place)

@@ -1,7 +1,7 @@
 //! A machine that falls behind what it is asked for, and catches up.
 
 ghost use Rattle.std.specs.Prelude.{◌≡◌, ◌+◌, ◌<◌, ◌≤◌, All, OnErr, OnOk, false, length, take, true};
-ghost use Rattle.known_worlds.specs.Moves.{first_world, HaveNoMark, IsMarkAt, IsMoveOf, marked_after, world_after, world_behind};
+ghost use Rattle.known_worlds.specs.Moves.{first_world, HaveNoMark, IsMarkAt, IsMoveOf, IsNewestMark, marked_after, world_after, world_behind};
 ghost use Rattle.known_worlds.specs.declared.moves.Move.TheVariants.{Mark, Send};
 ghost use Rattle.known_worlds.specs.Following.{aside, Follows};
 
@@ -52,8 +52,20 @@ impl Follower<'_> {
         }
     }
 
-    /// Goes back to the newest mark.
-    pub(crate) fn back_to(&mut self, path: &[Move], place: usize)
+    /// Leaves what is behind the newest mark of the path, and the mark.
+    pub(crate) fn leave(&mut self, path: &[Move], place: usize)
+        requires follows { Follows self.old.machine.file path.now self.old }
+        requires mark { IsNewestMark path.now (length path.now) place }
+        ensures follows { Follows self.old.machine.file (take place path.now) self.new }
+        ensures aside { aside self.new.machine ≡ aside self.old.machine }
+    {
+        if place < self.made {
+            self.back_to(path, place);
+        }
+    }
+
+    /// Goes back to the newest mark that the machine has.
+    fn back_to(&mut self, path: &[Move], place: usize)
         requires follows { Follows self.old.machine.file path.now self.old }
         requires inside { place ≤ length path.now }
         requires mark { IsMarkAt path.now self.old.made place }

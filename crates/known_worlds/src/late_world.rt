@@ -115,9 +115,7 @@ impl LateWorld<'_> {
         let Some(place) = newest_mark(self.path.as_slice(), self.path.len()) else {
             return;
         };
-        if place < self.follower.made {
-            self.follower.back_to(self.path.as_slice(), place);
-        }
+        self.follower.leave(self.path.as_slice(), place);
         self.path.truncate(place);
     }
 
