@@ -1,6 +1,7 @@
 -- What is remembered stays true.
 use Rattle.std.proofs.Common.{◌≡◌, ◌∙◌, refl, sym, ap, subst, ℕ, zero, suc, Bool, List, [], ◌∷◌, ◌++◌, get_or, Option, Some, None, ◌⊎◌, inl, inr}
-use Rattle.std.specs.Prelude.{IfSome, slice_get}
+use Rattle.std.specs.Prelude.{IfSome, reverse, slice_get}
+use Rattle.std.proofs.lemmas.List.{reverse-append}
 use mathlib.Core.List.{IsPrefix}
 use Rattle.bound_specs.specs.Spec.{SpecFile}
 use Rattle.machine_model.specs.World.{World, outcome_of, send}
@@ -114,3 +115,40 @@ pub answer-here : (r : MarkedRunning) (p : PairAnswer) (n k l : ℕ) (w : World)
     → p.is_quiet ≡ are_quiet r w k l
 answer-here r p n k l w is at same step other =
     is.answer ∙ (λ i. are_quiet r (one-world r.seen p.at n is.world w is.at at same i) (step i) (other i))
+
+-- ---- one call
+
+prefix-same : {A : Type 0} (xs ys : List A) → ys ≡ xs → IsPrefix xs ys
+prefix-same {A} xs ys same = subst (λ (zs : List A). IsPrefix xs zs) (sym same) (prefix-self xs)
+
+-- nothing more is noted or told
+pub graph-same : (r s : MarkedRunning) (g : Graph) → s.file ≡ r.file → s.seen ≡ r.seen → s.told ≡ r.told → IsGraph r g → IsGraph s g
+graph-same r s g file seen told is = graph-more r s g file (prefix-same r.seen s.seen seen) (prefix-same r.told s.told told) is
+
+-- something may be noted
+pub graph-noted : (r s : MarkedRunning) (g : Graph) → s ≡ record r { seen = s.seen } → IsPrefix r.seen s.seen → IsGraph r g → IsGraph s g
+graph-noted r s g same seen is =
+    graph-more r s g (ap (λ (v : MarkedRunning). v.file) same) seen (prefix-same r.told s.told (ap (λ (v : MarkedRunning). v.told) same)) is
+
+-- something may be told
+pub graph-told : (r s : MarkedRunning) (g : Graph) → s ≡ record r { told = s.told } → IsPrefix r.told s.told → IsGraph r g → IsGraph s g
+graph-told r s g same told is =
+    graph-more r s g (ap (λ (v : MarkedRunning). v.file) same) (prefix-same r.seen s.seen (ap (λ (v : MarkedRunning). v.seen) same)) told is
+
+-- ---- marks
+
+pub marks-more : (r s : MarkedRunning) (marks : List (Option ℕ)) → s.marked ≡ r.marked → IsPrefix r.seen s.seen → AreNoted r.seen (reverse marks) r.marked
+    → AreNoted s.seen (reverse marks) s.marked
+marks-more r s marks same front are = subst (AreNoted s.seen (reverse marks)) (sym same) (all-noted-more r.seen s.seen (reverse marks) r.marked front are)
+
+pub mark-more : (seen : List World) (marks new : List (Option ℕ)) (at : Option ℕ) (w : World) (ws : List World) → new ≡ marks ++ at ∷ [] → IsNoted seen at w
+    → AreNoted seen (reverse marks) ws → AreNoted seen (reverse new) (w ∷ ws)
+mark-more seen marks new at w ws is here are =
+    subst (λ ns. AreNoted seen ns (w ∷ ws)) (sym (ap reverse is ∙ reverse-append marks (at ∷ []))) (here, are)
+
+pub mark-less : (seen : List World) (marks new : List (Option ℕ)) (at : Option ℕ) (w : World) (ws : List World) → marks ≡ new ++ at ∷ []
+    → AreNoted seen (reverse marks) (w ∷ ws) → IsNoted seen at w × AreNoted seen (reverse new) ws
+mark-less seen marks new at w ws is are = subst (λ ns. AreNoted seen ns (w ∷ ws)) (ap reverse is ∙ reverse-append new (at ∷ [])) are
+
+pub no-mark : (seen : List World) (marks : List (Option ℕ)) (w : World) (ws : List World) → marks ≡ [] → AreNoted seen (reverse marks) (w ∷ ws) → ⊥
+no-mark seen marks w ws none are = subst (λ ms. AreNoted seen (reverse ms) (w ∷ ws)) none are

@@ -1,13 +1,13 @@
 //! A world that remembers.
 
 ghost use mathlib.Core.List.{IsPrefix};
-ghost use Rattle.std.specs.Prelude.{◌≡◌, ◌≤◌, ◌<◌, ◌↔◌, ◌∷◌, [], IfErr, IfOk, IfSome, IsErrOf, OnErr, OnOk, Some, false, length, slice_get, true};
+ghost use Rattle.std.specs.Prelude.{◌≡◌, ◌≤◌, ◌<◌, ◌↔◌, ◌∷◌, [], List, IfErr, IfOk, IfSome, IsErrOf, OnErr, OnOk, Some, false, length, reverse, slice_get, true};
 ghost use Rattle.machine_model.specs.Outcome.{IsOutcomeOf};
 ghost use Rattle.machine_model.specs.Start.{Started, start};
-ghost use Rattle.machine_model.specs.World.{outcome_of, send};
+ghost use Rattle.machine_model.specs.World.{World, outcome_of, send};
 ghost use Rattle.session_steps.specs.Refused.{IsRefusedBy};
 ghost use Rattle.marked_quiet.specs.Quiet.{is_quiet_at};
-ghost use Rattle.known_worlds.specs.Known.{are_quiet, IsGraph, IsNoted};
+ghost use Rattle.known_worlds.specs.Known.{are_quiet, AreNoted, IsGraph, IsNoted};
 
 use crate::graph::Graph;
 use crate::late_world::LateWorld;
@@ -139,7 +139,7 @@ impl KnownWorld<'_> {
         ensures told { self.new.told ≡ self.old.told }
     {
         self.late.go_back();
-        self.at = self.marks.pop().flatten();
+        self.at = newest(&mut self.marks);
         self.is_spent = false;
     }
 
@@ -177,6 +177,17 @@ impl KnownWorld<'_> {
             return Ok(false);
         }
         quiet_in(&mut self.late, &mut self.graph, self.at, step, other)
+    }
+}
+
+/// Takes the newest mark away, and answers the number of its world.
+fn newest(marks: &mut Vec<Option<u32>>) -> Option<u32>
+    ensures { (seen : List World) (w : World) (ws : List World) → AreNoted seen (reverse marks.old.items) (w ∷ ws)
+        → IsNoted seen result w × AreNoted seen (reverse marks.new.items) ws }
+{
+    match marks.pop() {
+        Some(at) => at,
+        None => None,
     }
 }
 

@@ -6,7 +6,7 @@ ghost use Rattle.machine_model.specs.Outcome.{IsOutcomeOf};
 ghost use Rattle.machine_model.specs.Start.{Started, start};
 ghost use Rattle.machine_model.specs.World.{outcome_of, send};
 ghost use Rattle.session_steps.specs.Refused.{IsRefusedBy};
-ghost use Rattle.marked_quiet.specs.Quiet.{is_quiet_at};
+ghost use Rattle.known_worlds.specs.Known.{are_quiet};
 
 use crate::follower::Follower;
 use crate::moves::{Move, newest_mark};
@@ -158,7 +158,7 @@ impl LateWorld<'_> {
     pub(crate) fn is_quiet(&mut self, step: u8, other: u8) -> Result<bool, AllocError>
         requires step { step < length self.old.file.run.steps }
         requires other { other < length self.old.file.run.steps }
-        ensures answer { IfOk result (λ yes. yes ≡ is_quiet_at self.old step other) }
+        ensures answer { IfOk result (λ yes. yes ≡ are_quiet self.old self.old.world step other) }
         ensures same { self.new ≡ self.old }
     {
         self.follower.catch_up(self.path.as_slice())?;
