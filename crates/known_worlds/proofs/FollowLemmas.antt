@@ -1,8 +1,7 @@
 -- A machine along its path.
-use Rattle.std.proofs.Common.{◌≡◌, ◌<◌, ◌≤◌, ◌+◌, ◌∙◌, refl, sym, ap, subst, arith, ℕ, Bool, true, false, List, [], ◌∷◌, ◌++◌, length, get_or, take, All}
+use Rattle.std.proofs.Common.{◌≡◌, ◌<◌, ◌≤◌, ◌+◌, ◌∙◌, refl, sym, ap, subst, arith, ℕ, Bool, true, false, List, [], ◌∷◌, ◌++◌, length, get_or, take}
 use Rattle.std.proofs.lemmas.List.{take_more, take_all, take-take, take-append-le, length-append}
-use Rattle.bound_specs.specs.Spec.{SpecFile, Step}
-use Rattle.machine_model.specs.World.{World}
+use Rattle.bound_specs.specs.Spec.{SpecFile}
 use Rattle.marked_worlds.specs.Worlds.{MarkedRunning}
 use Rattle.known_worlds.specs.declared.moves.Move.{Move}
 use Rattle.known_worlds.specs.declared.follower.Follower.{Follower}
@@ -88,7 +87,7 @@ module _ (file : SpecFile) (path : List Move) where
       let steps = file.run.steps in
       let first = first_world file.run in
       let both : y.world ∷ y.marked ≡ world_behind steps first (take place path) ∷ marked_behind steps first (root rooted first) (take place path)
-          = sym marked_is ∙ f.marked ∙ mark steps first (root rooted first) in
+      = sym marked_is ∙ f.marked ∙ mark steps first (root rooted first) in
       let here : y.world ≡ world_behind steps first (take place path) = cc in
       let below : y.marked ≡ marked_behind steps first (root rooted first) (take place path) = cc in
       record {
@@ -98,7 +97,7 @@ module _ (file : SpecFile) (path : List Move) where
         marked = below;
         bare = λ e.
             let none : [] ≡ world_behind steps first (take place path) ∷ marked_behind steps first [] (take place path)
-                = ap (λ k. marked_behind steps first [] (take k path)) (sym (f.bare e)) ∙ mark steps first [] in
+            = ap (λ k. marked_behind steps first [] (take k path)) (sym (f.bare e)) ∙ mark steps first [] in
             absurd (cc);
         whole = λ e. whole;
       }

@@ -1,5 +1,5 @@
 -- What is remembered stays true.
-use Rattle.std.proofs.Common.{◌≡◌, ◌∙◌, refl, sym, ap, subst, ℕ, zero, suc, Bool, List, [], ◌∷◌, ◌++◌, get_or, Option, Some, None, ◌⊎◌, inl, inr}
+use Rattle.std.proofs.Common.{◌≡◌, ◌∙◌, refl, sym, ap, subst, ℕ, zero, suc, List, [], ◌∷◌, ◌++◌, get_or, Option, Some, None, ◌⊎◌, inl, inr}
 use Rattle.std.specs.Prelude.{IfSome, reverse, slice_get}
 use Rattle.std.proofs.lemmas.List.{reverse-append}
 use mathlib.Core.List.{IsPrefix}
@@ -75,7 +75,8 @@ edge-more r s file seen e is = record {
 pub told-more : (r s : MarkedRunning) (w : World) (n : ℕ) → s.file ≡ r.file → IsPrefix r.told s.told → IsToldAs r w n → IsToldAs s w n
 told-more r s w n file told is = (
   in-front r.told s.told n _ told is.0 ∙ ap (λ (f : SpecFile). Some (outcome_of f.run.sessions w)) (sym file),
-  subst (λ (f : SpecFile). IsOutcomeOf f.run (outcome_of f.run.sessions w)) (sym file) is.1)
+  subst (λ (f : SpecFile). IsOutcomeOf f.run (outcome_of f.run.sessions w)) (sym file) is.1,
+)
 
 told-world-more : (r s : MarkedRunning) → s.file ≡ r.file → IsPrefix r.seen s.seen → IsPrefix r.told s.told → (t : ToldWorld) → IsToldWorld r t → IsToldWorld s t
 told-world-more r s file seen told t is = record {

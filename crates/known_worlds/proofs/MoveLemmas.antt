@@ -1,11 +1,11 @@
 -- Moves one behind the other.
-use Rattle.std.proofs.Common.{◌≡◌, ◌<◌, ◌≤◌, ◌+◌, ◌∙◌, refl, sym, ap, arith, ℕ, List, [], ◌∷◌, ◌++◌, length, get_or, take, ◌⊎◌, inl, inr}
+use Rattle.std.proofs.Common.{◌≡◌, ◌<◌, ◌≤◌, ◌+◌, ◌∙◌, refl, ap, arith, ℕ, List, [], ◌∷◌, ◌++◌, length, get_or, take, ◌⊎◌, inl, inr}
 use Rattle.std.proofs.lemmas.List.{take_more}
 use Rattle.bound_specs.specs.Spec.{Step}
 use Rattle.machine_model.specs.World.{World}
 use Rattle.known_worlds.specs.declared.moves.Move.{Move}
 use Rattle.known_worlds.specs.declared.moves.Move.TheVariants.{Mark, Send}
-use Rattle.known_worlds.specs.Moves.{world_after, world_behind, marked_after, marked_behind, IsMarkAt, IsNewestMark, HaveNoMark}
+use Rattle.known_worlds.specs.Moves.{world_after, world_behind, marked_after, marked_behind, IsNewestMark, HaveNoMark}
 
 -- one move more
 pub world-last : (steps : List Step) (w : World) (ms : List Move) (m : Move) → world_behind steps w (ms ++ m ∷ []) ≡ world_after steps (world_behind steps w ms) m

@@ -1,10 +1,9 @@
 -- What is remembered of worlds that were noted. No public clause cites this module.
 use Rattle.std.specs.Prelude.{◌≡◌, ℕ, Bool, List, [], ◌∷◌, Option, Some, None, IfSome, get_or, reverse, slice_get}
-use Rattle.bound_specs.specs.Spec.{Step, SpecFile, no_step}
+use Rattle.bound_specs.specs.Spec.{no_step}
 use Rattle.machine_model.specs.World.{World, outcome_of, send}
 use Rattle.machine_model.specs.Outcome.{IsOutcomeOf}
 use Rattle.rank_facts.specs.Quiet.{is_quiet}
-use Rattle.transcripts.specs.declared.event.Event.{Event}
 use Rattle.marked_worlds.specs.Worlds.{MarkedRunning}
 use Rattle.known_worlds.specs.declared.graph.Edge.{Edge}
 use Rattle.known_worlds.specs.declared.graph.ToldWorld.{ToldWorld}

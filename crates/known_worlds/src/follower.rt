@@ -1,6 +1,6 @@
 //! A machine that falls behind what it is asked for, and catches up.
 
-ghost use Rattle.std.specs.Prelude.{◌≡◌, ◌+◌, ◌<◌, ◌≤◌, All, OnErr, OnOk, false, length, take, true};
+ghost use Rattle.std.specs.Prelude.{◌≡◌, ◌+◌, ◌<◌, ◌≤◌, All, IfSome, OnErr, OnOk, false, length, take, true};
 ghost use Rattle.known_worlds.specs.Moves.{first_world, HaveNoMark, IsMarkAt, IsMoveOf, IsNewestMark, marked_after, world_after, world_behind};
 ghost use Rattle.known_worlds.specs.declared.moves.Move.TheVariants.{Mark, Send};
 ghost use Rattle.known_worlds.specs.Following.{aside, Follows};
@@ -17,6 +17,23 @@ pub(crate) struct Follower<'a> {
     pub(crate) made: usize,
     /// Whether the machine has a mark at the start, below all others.
     pub(crate) is_rooted: bool,
+}
+
+impl<'a> Follower<'a> {
+    /// The machine, if it has made all moves.
+    pub(crate) fn caught_up(&self, path: &[Move]) -> Option<&MarkedWorld<'a>>
+        requires { Follows self.now.machine.file path.now self.now }
+        ensures { IfSome result (λ machine. machine.now ≡ record self.now.machine {
+          world = world_behind self.now.machine.file.run.steps (first_world self.now.machine.file.run) path.now;
+          spent = false;
+        }) }
+    {
+        if self.made == path.len() && !self.machine.spent() {
+            Some(&self.machine)
+        } else {
+            None
+        }
+    }
 }
 
 impl Follower<'_> {

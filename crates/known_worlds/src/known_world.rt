@@ -1,7 +1,7 @@
 //! A world that remembers.
 
 ghost use mathlib.Core.List.{IsPrefix};
-ghost use Rattle.std.specs.Prelude.{◌≡◌, ◌≤◌, ◌<◌, ◌↔◌, ◌∷◌, [], List, IfErr, IfOk, IfSome, IsErrOf, OnErr, OnOk, Some, false, length, reverse, slice_get, true};
+ghost use Rattle.std.specs.Prelude.{◌≡◌, ◌≤◌, ◌<◌, ◌↔◌, ◌∷◌, [], List, IfErr, IfOk, IfSome, IsErrOf, IsTrue, OnErr, OnOk, Some, false, length, reverse, slice_get, true};
 ghost use Rattle.machine_model.specs.Outcome.{IsOutcomeOf};
 ghost use Rattle.machine_model.specs.Start.{Started, start};
 ghost use Rattle.machine_model.specs.World.{World, outcome_of, send};
@@ -12,6 +12,7 @@ ghost use Rattle.known_worlds.specs.Known.{are_quiet, AreNoted, IsGraph, IsNoted
 use crate::graph::Graph;
 use crate::late_world::LateWorld;
 use bound_specs::Spec;
+use marked_worlds::MarkedWorld;
 use session_steps::{SendError, StartError};
 use std::alloc::{AllocError, Global};
 use std::marker::Model;
@@ -21,7 +22,6 @@ use transcripts::Outcome;
 /// is known no machine runs.
 ///
 /// Contracts see what they see of a `MarkedWorld`, and its calls promise the same. What is remembered is not seen, nor which worlds were noted.
-#[derive(Drop)]
 pub struct KnownWorld<'a> {
     late: LateWorld<'a>,
     graph: Graph,
@@ -30,6 +30,19 @@ pub struct KnownWorld<'a> {
     /// The number of the world now, if it has one.
     at: Option<u32>,
     is_spent: bool,
+}
+
+// Written out and not derived, so that who owns one calls this and does not let its parts go one by one.
+impl Drop for KnownWorld<'_> {
+    fn drop(self) {
+        let KnownWorld {
+            late: _late,
+            graph: _graph,
+            marks: _marks,
+            at: _,
+            is_spent: _,
+        } = self;
+    }
 }
 
 impl<'a> Model for KnownWorld<'a> {
@@ -79,6 +92,16 @@ impl<'a> KnownWorld<'a> {
         ensures { result.now ≡ self.now.file }
     {
         self.late.spec()
+    }
+
+    /// The machine, if it has caught up with this world. It has marks of its own, and the worlds that it has noted.
+    pub fn machine(&self) -> Option<&MarkedWorld<'a>>
+        ensures { IfSome result (λ machine. machine.now ≡ record self.now { marked = machine.now.marked; seen = machine.now.seen }) }
+    {
+        if self.is_spent {
+            return None;
+        }
+        self.late.machine()
     }
 }
 
@@ -143,6 +166,18 @@ impl KnownWorld<'_> {
         self.is_spent = false;
     }
 
+    /// Lets the machine catch up with this world, for who asks it more. A spent one does not.
+    pub fn catch_up(&mut self) -> Result<(), SendError>
+        ensures spent { IsErrOf result SendError.Spent ↔ (self.old.spent ≡ true) }
+        ensures same { self.new ≡ self.old }
+    {
+        if self.is_spent {
+            return Err(SendError::Spent);
+        }
+        self.late.catch_up()?;
+        Ok(())
+    }
+
     /// Tells the transcripts so far, one for each session: the answer is their number among the outcomes that were told. They are copied where the sessions
     /// were not told the same before, also on the way to other worlds. A spent world tells of none.
     pub fn outcome(&mut self) -> Result<usize, SendError>
@@ -164,6 +199,18 @@ impl KnownWorld<'_> {
         ensures { slice_get self.now.told number ≡ Some result.now }
     {
         self.late.told(number)
+    }
+
+    /// Whether these are the transcripts so far, of which none is copied. A spent world tells of none.
+    pub fn tells(&mut self, outcome: &Outcome) -> Result<bool, SendError>
+        ensures told { IfOk result (λ yes. IsTrue yes ↔ outcome_of self.old.file.run.sessions self.old.world ≡ outcome.now) }
+        ensures spent { IsErrOf result SendError.Spent ↔ (self.old.spent ≡ true) }
+        ensures same { self.new ≡ self.old }
+    {
+        if self.is_spent {
+            return Err(SendError::Spent);
+        }
+        Ok(self.late.tells(outcome)?)
     }
 
     /// Whether two steps of different sessions are quiet in the world now, as `marked_quiet` has it. In a spent world nothing is quiet.

@@ -1,7 +1,7 @@
 //! A world whose machine runs only when something is asked of it.
 
 ghost use mathlib.Core.List.{IsPrefix};
-ghost use Rattle.std.specs.Prelude.{◌≡◌, ◌<◌, ◌∷◌, [], IfErr, IfOk, IfSome, OnErr, OnOk, Some, false, length, slice_get};
+ghost use Rattle.std.specs.Prelude.{◌≡◌, ◌<◌, ◌∷◌, ◌↔◌, [], IfErr, IfOk, IfSome, IsTrue, OnErr, OnOk, Some, false, length, slice_get};
 ghost use Rattle.machine_model.specs.Outcome.{IsOutcomeOf};
 ghost use Rattle.machine_model.specs.Start.{Started, start};
 ghost use Rattle.machine_model.specs.World.{outcome_of, send};
@@ -84,6 +84,13 @@ impl<'a> LateWorld<'a> {
     {
         self.follower.machine.spec()
     }
+
+    /// The machine, if it has made all moves. It has marks of its own.
+    pub(crate) fn machine(&self) -> Option<&MarkedWorld<'a>>
+        ensures { IfSome result (λ machine. machine.now ≡ record self.now { marked = machine.now.marked; spent = false }) }
+    {
+        self.follower.caught_up(self.path.as_slice())
+    }
 }
 
 impl LateWorld<'_> {
@@ -119,6 +126,14 @@ impl LateWorld<'_> {
         self.path.truncate(place);
     }
 
+    /// Lets the machine make all moves.
+    pub(crate) fn catch_up(&mut self) -> Result<(), AllocError>
+        ensures { self.new ≡ self.old }
+    {
+        self.follower.catch_up(self.path.as_slice())?;
+        Ok(())
+    }
+
     /// The number of the world now among those that were noted.
     pub(crate) fn number(&mut self) -> Result<Option<usize>, AllocError>
         ensures known { IfOk result (λ answer. IfSome answer (λ number. slice_get self.new.seen number ≡ Some self.old.world)) }
@@ -152,6 +167,18 @@ impl LateWorld<'_> {
         ensures { slice_get self.now.told number ≡ Some result.now }
     {
         self.follower.machine.told(number)
+    }
+
+    /// Whether these are the transcripts so far.
+    pub(crate) fn tells(&mut self, outcome: &Outcome) -> Result<bool, AllocError>
+        ensures told { IfOk result (λ yes. IsTrue yes ↔ outcome_of self.old.file.run.sessions self.old.world ≡ outcome.now) }
+        ensures same { self.new ≡ self.old }
+    {
+        self.follower.catch_up(self.path.as_slice())?;
+        match self.follower.machine.tells(outcome) {
+            Ok(yes) => Ok(yes),
+            Err(_) => Err(AllocError),
+        }
     }
 
     /// Whether two steps are quiet in the world now.

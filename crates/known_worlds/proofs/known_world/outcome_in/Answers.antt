@@ -21,6 +21,8 @@ returns-clause-graph c =
     let here : IsNoted t.seen c.args.at t.world = subst (λ (v : MarkedRunning). IsNoted v.seen c.args.at v.world) (sym same) c.requires.noted in
     let told = c.in_ok-number.ensures.told in
     let own : IsOutcomeOf r.file.run (outcome_of r.file.run.sessions r.world) = subst (λ o. IfSome o (IsOutcomeOf r.file.run)) told c.in_ok-number.ensures.own in
-    let is : IsToldAs t t.world n = (subst (λ (v : MarkedRunning). slice_get t.told n ≡ Some (outcome_of v.file.run.sessions v.world)) (sym same) told,
-    subst (λ (v : MarkedRunning). IsOutcomeOf v.file.run (outcome_of v.file.run.sessions v.world)) (sym same) own) in
+    let is : IsToldAs t t.world n = (
+      subst (λ (v : MarkedRunning). slice_get t.told n ≡ Some (outcome_of v.file.run.sessions v.world)) (sym same) told,
+      subst (λ (v : MarkedRunning). IsOutcomeOf v.file.run (outcome_of v.file.run.sessions v.world)) (sym same) own,
+    ) in
     c.note_outcome.ensures t graph here is

@@ -1,4 +1,4 @@
-use Rattle.std.proofs.Common.{◌≡◌, ◌+◌, ◌-◌, subst, arith, ℕ}
+use Rattle.std.proofs.Common.{◌≡◌, ◌+◌, ◌-◌, subst, arith}
 use Rattle.known_worlds.specs.declared.moves.Move.TheVariants.{Mark}
 use Rattle.known_worlds.proofs.MoveLemmas.{mark-found, stays-send, StaysMarked}
 use Rattle.known_worlds.proofs.moves.newest_mark.Goals as goal
@@ -19,5 +19,5 @@ later-preserved c =
     record {
       few = omega (arith, c.later.invariant.few);
       stays = stays-send path n c.args.end c.in-Send.field-0 Mark (omega (arith, c.later-test.true, c.later.invariant.few, c.requires))
-      c.in-Send.is (subst (λ m. StaysMarked path m c.args.end) next c.later.invariant.stays);
+          c.in-Send.is (subst (λ m. StaysMarked path m c.args.end) next c.later.invariant.stays);
     }

@@ -1,5 +1,4 @@
-use Rattle.std.proofs.Common.{◌≡◌, subst, Some}
-use Rattle.std.specs.Prelude.{slice_get}
+use Rattle.std.proofs.Common.{subst}
 use Rattle.machine_model.specs.World.{send}
 use Rattle.known_worlds.specs.declared.graph.Edge.{Edge}
 use Rattle.known_worlds.specs.Known.{IsEdge, IsNoted}

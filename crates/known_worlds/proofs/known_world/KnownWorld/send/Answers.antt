@@ -1,7 +1,5 @@
-use Rattle.std.proofs.Common.{sym, ap, subst}
-use Rattle.std.specs.Prelude.{reverse}
+use Rattle.std.proofs.Common.{ap}
 use Rattle.marked_worlds.specs.Worlds.{MarkedRunning}
-use Rattle.known_worlds.specs.Known.{AreNoted}
 use Rattle.known_worlds.proofs.KnownLemmas.{marks-more}
 use Rattle.known_worlds.proofs.known_world.KnownWorld.send.Goals as goal
 
