@@ -60,9 +60,6 @@ each-put {T} P old new x each is put place = at (get_or new place None) (put pla
     at None h = tt
     at (Some y) h = one y h
 
-pub each-at : {T : Type 0} (P : T → Type 0) (items : List (Option T)) (place : ℕ) (x : T) → Each P items → get_or items place None ≡ Some x → P x
-each-at P items place x each is = subst (λ o. IfSome o P) is (each place)
-
 -- ---- more is noted and told
 
 edge-more : (r s : MarkedRunning) → s.file ≡ r.file → IsPrefix r.seen s.seen → (e : Edge) → IsEdge r e → IsEdge s e
@@ -99,24 +96,6 @@ graph-more r s g file seen told is = record {
   quiet = each-weaker (IsPairAnswer r) (IsPairAnswer s) g.quiet.items (answer-more r s file seen) is.quiet;
 }
 
--- ---- what an item says of the world with its number
-
-one-world : (seen : List World) (n m : ℕ) (v w : World) → slice_get seen n ≡ Some v → slice_get seen m ≡ Some w → n ≡ m → v ≡ w
-one-world seen n m v w is at same = (let both : Some v ≡ Some w = sym is ∙ ap (slice_get seen) same ∙ at in cc)
-
-pub edge-leads : (r : MarkedRunning) (e : Edge) (n k : ℕ) (w : World) → IsEdge r e → IsNoted r.seen (Some n) w → e.from ≡ n → e.step ≡ k
-    → IsNoted r.seen (Some e.to) (send r.file.run.steps w k)
-edge-leads r e n k w is at from step =
-    is.to ∙ (λ i. Some (send r.file.run.steps (one-world r.seen e.from n is.world w is.from at from i) (step i)))
-
-pub told-here : (r : MarkedRunning) (t : ToldWorld) (n : ℕ) (w : World) → IsToldWorld r t → IsNoted r.seen (Some n) w → t.at ≡ n → IsToldAs r w t.outcome
-told-here r t n w is at same = subst (λ v. IsToldAs r v t.outcome) (one-world r.seen t.at n is.world w is.at at same) is.told
-
-pub answer-here : (r : MarkedRunning) (p : PairAnswer) (n k l : ℕ) (w : World) → IsPairAnswer r p → IsNoted r.seen (Some n) w → p.at ≡ n → p.step ≡ k → p.other ≡ l
-    → p.is_quiet ≡ are_quiet r w k l
-answer-here r p n k l w is at same step other =
-    is.answer ∙ (λ i. are_quiet r (one-world r.seen p.at n is.world w is.at at same i) (step i) (other i))
-
 -- ---- one call
 
 prefix-same : {A : Type 0} (xs ys : List A) → ys ≡ xs → IsPrefix xs ys
@@ -146,10 +125,3 @@ pub mark-more : (seen : List World) (marks new : List (Option ℕ)) (at : Option
     → AreNoted seen (reverse marks) ws → AreNoted seen (reverse new) (w ∷ ws)
 mark-more seen marks new at w ws is here are =
     subst (λ ns. AreNoted seen ns (w ∷ ws)) (sym (ap reverse is ∙ reverse-append marks (at ∷ []))) (here, are)
-
-pub mark-less : (seen : List World) (marks new : List (Option ℕ)) (at : Option ℕ) (w : World) (ws : List World) → marks ≡ new ++ at ∷ []
-    → AreNoted seen (reverse marks) (w ∷ ws) → IsNoted seen at w × AreNoted seen (reverse new) ws
-mark-less seen marks new at w ws is are = subst (λ ns. AreNoted seen ns (w ∷ ws)) (ap reverse is ∙ reverse-append new (at ∷ [])) are
-
-pub no-mark : (seen : List World) (marks : List (Option ℕ)) (w : World) (ws : List World) → marks ≡ [] → AreNoted seen (reverse marks) (w ∷ ws) → ⊥
-no-mark seen marks w ws none are = subst (λ ms. AreNoted seen (reverse ms) (w ∷ ws)) none are
