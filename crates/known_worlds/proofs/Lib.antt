@@ -1,0 +1,3 @@
+mod MoveLemmas
+mod FollowLemmas
+mod KnownLemmas
