@@ -70,7 +70,7 @@ impl<'a> MarkedPath<'a> {
 
     /// Sees to it that the machine stands behind all steps, for who looks at its world. The path stays as it is.
     pub fn settle(&mut self) -> Result<(), AllocError>
-        requires { IsPath self.old.world.file self.old }
+        requires { self.old.world.spent ≡ false }
         ensures level { OnOk result (self.new.world.level ≡ true) }
         ensures same { self.new ≡ record self.old { world = record self.old.world { level = self.new.world.level } } }
     {
