@@ -109,7 +109,7 @@ fn are_quiet(
     let next = line[place + 1];
     line.truncate(place);
     path.go_to(line)?;
-    Ok(path.is_quiet(step, next))
+    path.is_quiet(step, next)
 }
 
 /// Behind which ranks the words no longer share the letters up to the one behind a place. Words that share them are exchanged alike.

@@ -63,6 +63,17 @@ gather-next tables file from to before x y o run old new runs after found g is g
       extends = extends-more before old new g.extends more;
     }
 
+-- wherever the machine stands
+pub gather-leveled : (tables : List Table) (file : SpecFile) (from to : ℕ) (before : List Shows) (x y : Shardwise) (shows : List Shows) (runs : List FoundRun)
+    → IsGathering tables file from to before x shows runs → y ≡ record x { level = y.level } → IsGathering tables file from to before y shows runs
+gather-leveled tables file from to before x y shows runs g same =
+    subst (λ (v : Shardwise). IsGathering tables file from to before v shows runs) (sym same) (record {
+      stands = record { file_is = g.stands.file_is; reduce = g.stands.reduce; whole = g.stands.whole };
+      end_is = g.end_is;
+      are = g.are;
+      extends = g.extends;
+    })
+
 -- at the end of the shard
 pub gathered : (tables : List Table) (file : SpecFile) (from to : ℕ) (before : List Shows) (x y : Shardwise) (o : Option SaidRun) (shows : List Shows)
     (runs : List FoundRun) → IsGathering tables file from to before x shows runs → o ≡ None → GivesPart x y o

@@ -1,6 +1,6 @@
 //! One worker.
 
-ghost use Rattle.std.specs.Prelude.{◌≡◌, ℕ, ◌+◌, ◌*◌, ◌<◌, ◌≤◌, ◌++◌, ◌∷◌, [], length, false, Some, None, IfOk, OnOk, MatchOption};
+ghost use Rattle.std.specs.Prelude.{◌≡◌, ℕ, ◌+◌, ◌*◌, ◌<◌, ◌≤◌, ◌++◌, ◌∷◌, [], length, true, false, Some, None, IfOk, OnOk, MatchOption};
 ghost use Rattle.bound_specs.specs.Spec.{SpecFile, ranks};
 ghost use Rattle.bound_specs.specs.Binding.{IsFileOf};
 ghost use Rattle.rank_facts.specs.Shards.{IsShardOf};
@@ -200,20 +200,21 @@ fn gather(
     }
 }
 
-/// Adds what a walk found last.
+/// Adds what a walk found last. The walk stays as it is, but for where its machine stands.
 fn add(
     alloc: Global,
-    walk: &ShardWalk<'_>,
+    walk: &mut ShardWalk<'_>,
     table: &mut ShowsTable,
     runs: &mut Items<FoundRun>,
     run: SaidRun,
     tables: &[Table],
 ) -> Result<(), AllocError>
-    requires starts { Starts walk.now.file.run }
-    requires number { IsTold walk.now.told run.said }
-    requires given { IsGiven walk.now (run_of walk.now.told run) }
-    ensures so { OnOk result ((found : FoundRunSpec) × (runs.new ≡ runs.old ++ found ∷ []) × IsRunSo tables.now walk.now.file.run table.new run.first run.end found) }
+    requires starts { Starts walk.old.file.run }
+    requires number { IsTold walk.old.told run.said }
+    requires given { IsGiven walk.old (run_of walk.old.told run) }
+    ensures so { OnOk result ((found : FoundRunSpec) × (runs.new ≡ runs.old ++ found ∷ []) × IsRunSo tables.now walk.old.file.run table.new run.first run.end found) }
     ensures extends { Extends table.old table.new }
+    ensures walk { OnOk result (walk.new ≡ record walk.old { level = walk.new.level }) }
 {
     let what = what_of(alloc, walk, table, run, tables)?;
     let end = run.end;
@@ -221,23 +222,37 @@ fn add(
     Ok(())
 }
 
-/// What a walk found last.
+/// What a walk found last. The walk stays as it is, but for where its machine stands.
 fn what_of(
     alloc: Global,
-    walk: &ShardWalk<'_>,
+    walk: &mut ShardWalk<'_>,
     table: &mut ShowsTable,
     run: SaidRun,
     tables: &[Table],
 ) -> Result<What, AllocError>
-    requires starts { Starts walk.now.file.run }
-    requires number { IsTold walk.now.told run.said }
-    requires given { IsGiven walk.now (run_of walk.now.told run) }
-    ensures so { IfOk result (IsSo tables.now walk.now.file.run table.new run.first run.end) }
+    requires starts { Starts walk.old.file.run }
+    requires number { IsTold walk.old.told run.said }
+    requires given { IsGiven walk.old (run_of walk.old.told run) }
+    ensures so { IfOk result (IsSo tables.now walk.old.file.run table.new run.first run.end) }
     ensures extends { Extends table.old table.new }
+    ensures walk { OnOk result (walk.new ≡ record walk.old { level = walk.new.level }) }
 {
     match run.said {
         Said::Swap(place) => Ok(What::Swapped(place)),
-        Said::Ran(number) => number_behind(alloc, walk, table, run, walk.told(number), tables),
+        Said::Ran(number) => {
+            settle(walk)?;
+            number_behind(alloc, walk, table, run, walk.told(number), tables)
+        }
+    }
+}
+
+/// Has the machine of a walk stand in the walk's world, which is read then.
+fn settle(walk: &mut ShardWalk<'_>) -> Result<(), AllocError>
+    ensures { OnOk result (walk.new ≡ record walk.old { level = true }) }
+{
+    match walk.settle() {
+        Ok(()) => Ok(()),
+        Err(_) => Err(AllocError),
     }
 }
 
@@ -251,6 +266,7 @@ fn number_behind(
     told: &Outcome,
     tables: &[Table],
 ) -> Result<What, AllocError>
+    requires level { walk.now.level ≡ true }
     requires starts { Starts walk.now.file.run }
     requires given { IsGiven walk.now (run_of walk.now.told _run) }
     requires told { fact_of walk.now.told _run.said ≡ Ran told.now }

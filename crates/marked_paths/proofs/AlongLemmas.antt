@@ -3,7 +3,7 @@ use Rattle.std.proofs.Common.{◌≡◌, ◌<◌, ◌∙◌, refl, sym, ap, subs
 use Rattle.bound_specs.specs.Spec.{Step}
 use Rattle.machine_model.specs.World.{World, send, send_all}
 use Rattle.marked_paths.specs.Paths.{first_world}
-use Rattle.marked_worlds.specs.Worlds.{MarkedRunning}
+use Rattle.known_worlds.specs.Known.{KnownRunning}
 use Rattle.marked_paths.specs.Paths.{worlds_before, IsAlong}
 
 -- one step more
@@ -17,7 +17,7 @@ before-last steps ws w [] k = refl
 before-last steps ws w (j ∷ ks) k = before-last steps (w ∷ ws) (send steps w j) ks k
 
 -- a mark is set and a step sent
-pub goes-on : (ks : List ℕ) (k : ℕ) (x y : MarkedRunning) → IsAlong ks x → y.file ≡ x.file → y.spent ≡ false → y.world ≡ send x.file.run.steps x.world k
+pub goes-on : (ks : List ℕ) (k : ℕ) (x y : KnownRunning) → IsAlong ks x → y.file ≡ x.file → y.spent ≡ false → y.world ≡ send x.file.run.steps x.world k
     → y.marked ≡ x.world ∷ x.marked → IsAlong (ks ++ k ∷ []) y
 goes-on ks k x y along file whole sent marked =
     let steps = x.file.run.steps in
@@ -31,7 +31,7 @@ goes-on ks k x y along file whole sent marked =
     }
 
 -- and gone back from
-pub goes-back : (ks : List ℕ) (k : ℕ) (x y : MarkedRunning) → IsAlong (ks ++ k ∷ []) x → y.file ≡ x.file → y.spent ≡ false
+pub goes-back : (ks : List ℕ) (k : ℕ) (x y : KnownRunning) → IsAlong (ks ++ k ∷ []) x → y.file ≡ x.file → y.spent ≡ false
     → x.marked ≡ y.world ∷ y.marked → IsAlong ks y
 goes-back ks k x y along file whole marked =
     let steps = x.file.run.steps in
@@ -46,7 +46,7 @@ goes-back ks k x y along file whole marked =
     }
 
 -- where a step was sent a mark stands
-pub some-mark : (ks : List ℕ) (k : ℕ) (x : MarkedRunning) → IsAlong (ks ++ k ∷ []) x → 0 < length x.marked
+pub some-mark : (ks : List ℕ) (k : ℕ) (x : KnownRunning) → IsAlong (ks ++ k ∷ []) x → 0 < length x.marked
 some-mark ks k x along = subst (λ ws. 0 < length ws) (sym (along.marked ∙ before-last x.file.run.steps [] (first_world x.file.run) ks k)) (omega arith)
 
 pub take-last : (ks : List ℕ) (n d : ℕ) → n < length ks → take (suc n) ks ≡ take n ks ++ get_or ks n d ∷ []

@@ -1,5 +1,5 @@
 -- What a path tells, by the spec that it is of.
-use Rattle.std.proofs.Common.{◌≡◌, ◌∙◌, sym, ap, subst, List}
+use Rattle.std.proofs.Common.{◌≡◌, ◌∙◌, sym, ap, subst, Bool, List}
 use Rattle.bound_specs.specs.Spec.{SpecFile}
 use Rattle.transcripts.specs.declared.event.Event.{Event}
 use Rattle.machine_model.specs.World.{send_all, outcome_of}
@@ -20,12 +20,11 @@ path-told file p is = ap (λ (f : SpecFile). outcome_of f.run.sessions (send_all
 pub path-world : (file : SpecFile) (p : MarkedPath) → IsPath file p → p.world.world ≡ send_all file.run.steps (first_world file.run) p.line.items
 path-world file p is = is.along.now ∙ ap (λ (f : SpecFile). send_all f.run.steps (first_world f.run) p.line.items) is.file_is
 
--- where more was told, the path is the same
-pub path-told-more : (file : SpecFile) (p : MarkedPath) (told : List (List (List Event))) → IsPath file p
-    → IsPath file (record p { world = record p.world { told = told } })
-path-told-more file p told is = record {
+-- where more was told and the machine has caught up, the path is the same
+pub path-told-more : (file : SpecFile) (p : MarkedPath) (told : List (List (List Event))) (level : Bool) → IsPath file p
+    → IsPath file (record p { world = record p.world { told = told; level = level } })
+path-told-more file p told level is = record {
   file_is = is.file_is;
   starts = is.starts;
   along = record { whole = is.along.whole; now = is.along.now; marked = is.along.marked };
-  pairs = is.pairs;
 }

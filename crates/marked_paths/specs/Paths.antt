@@ -3,8 +3,7 @@ use Rattle.std.specs.Prelude.{◌≡◌, ℕ, false, List, [], ◌∷◌}
 use Rattle.bound_specs.specs.Spec.{Spec, SpecFile, Step}
 use Rattle.machine_model.specs.World.{World, blank, send, send_all}
 use Rattle.machine_model.specs.Start.{Started, start}
-use Rattle.plan_pairs.specs.Pairs.{ArePairs}
-use Rattle.marked_worlds.specs.Worlds.{MarkedRunning}
+use Rattle.known_worlds.specs.Known.{KnownRunning}
 use Rattle.marked_paths.specs.declared.path.MarkedPath.{MarkedPath}
 
 -- the world in which a spec starts, and a blank one where it does not
@@ -17,7 +16,7 @@ worlds_before steps ws w [] = ws
 worlds_before steps ws w (k ∷ ks) = worlds_before steps (w ∷ ws) (send steps w k) ks
 
 -- the world is the one behind these steps, from the one in which its spec starts, and at marks are those before each of them
-pub record IsAlong (ks : List ℕ) (r : MarkedRunning) : Type 0 where
+pub record IsAlong (ks : List ℕ) (r : KnownRunning) : Type 0 where
   pub whole : r.spent ≡ false
   pub now : r.world ≡ send_all r.file.run.steps (first_world r.file.run) ks
   pub marked : r.marked ≡ worlds_before r.file.run.steps [] (first_world r.file.run) ks
@@ -27,4 +26,3 @@ pub record IsPath (file : SpecFile) (p : MarkedPath) : Type 0 where
   pub file_is : p.world.file ≡ file
   pub starts : start file.run ≡ Started (first_world file.run)
   pub along : IsAlong p.line.items p.world
-  pub pairs : ArePairs file.run p.pairs

@@ -2,9 +2,7 @@
 #![tactic(auto)]
 
 mod front;
-mod paired_world;
 mod path;
 mod steps;
 
-pub use paired_world::PairedWorld;
 pub use path::MarkedPath;

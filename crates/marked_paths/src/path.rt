@@ -1,7 +1,7 @@
 //! A line with the world behind it.
 
 ghost use mathlib.Core.List.{IsPrefix};
-ghost use Rattle.std.specs.Prelude.{◌≡◌, ◌<◌, ◌↔◌, All, IfErr, IfOk, IsTrue, OnOk, Some, [], get_or, length, slice_get};
+ghost use Rattle.std.specs.Prelude.{◌≡◌, ◌<◌, All, IfErr, IfOk, OnOk, Some, [], false, true, get_or, length, slice_get};
 ghost use Rattle.bound_specs.specs.Spec.{no_step};
 ghost use Rattle.machine_model.specs.Start.{start};
 ghost use Rattle.machine_model.specs.World.{outcome_of, send_all};
@@ -11,12 +11,10 @@ ghost use Rattle.marked_paths.specs.Fronts.{front};
 ghost use Rattle.marked_paths.specs.Paths.{first_world, IsPath};
 
 use crate::front::shared_front;
-use crate::paired_world::PairedWorld;
 use crate::steps::{go_back, go_on};
 use bound_specs::{Line, Spec};
-use marked_quiet::quiet;
+use known_worlds::KnownWorld;
 use marked_worlds::MarkedWorld;
-use plan_pairs::StepPairs;
 use session_steps::StartError;
 use std::alloc::{AllocError, Global};
 use transcripts::Outcome;
@@ -24,8 +22,7 @@ use transcripts::Outcome;
 /// The steps of a spec that were sent last, in a world with a mark before each of them. Lines that begin alike share what was sent of them.
 #[derive(Drop)]
 pub struct MarkedPath<'a> {
-    pub(crate) world: MarkedWorld<'a>,
-    pub(crate) pairs: StepPairs,
+    pub(crate) world: KnownWorld<'a>,
     pub(crate) line: Line,
 }
 
@@ -37,10 +34,9 @@ impl<'a> MarkedPath<'a> {
         ensures told { IfOk result (λ path. path.world.told ≡ []) }
         ensures refused { IfErr result (λ error. IsRefusedBy error (start spec.now.run)) }
     {
-        let PairedWorld { world, pairs } = PairedWorld::start(alloc, spec)?;
+        let world = KnownWorld::start(alloc, spec)?;
         Ok(MarkedPath {
             world,
-            pairs,
             line: Line::new(),
         })
     }
@@ -72,11 +68,27 @@ impl<'a> MarkedPath<'a> {
         Ok(shared)
     }
 
-    /// The world behind all steps.
-    pub fn world(&self) -> &MarkedWorld<'a>
-        ensures { result.now ≡ self.now.world }
+    /// Sees to it that the machine stands behind all steps, for who looks at its world. The path stays as it is.
+    pub fn settle(&mut self) -> Result<(), AllocError>
+        requires { self.old.world.spent ≡ false }
+        ensures level { OnOk result (self.new.world.level ≡ true) }
+        ensures same { self.new ≡ record self.old { world = record self.old.world { level = self.new.world.level } } }
     {
-        &self.world
+        match self.world.catch_up() {
+            Ok(()) => Ok(()),
+            Err(_) => Err(AllocError),
+        }
+    }
+
+    /// The world behind all steps, of a path whose machine stands there.
+    pub fn world(&self) -> &MarkedWorld<'a>
+        requires { self.now.world.level ≡ true }
+        ensures world { result.now.world ≡ self.now.world.world }
+        ensures of_spec { result.now.file ≡ self.now.world.file }
+        ensures told { result.now.told ≡ self.now.world.told }
+        ensures whole { result.now.spent ≡ false }
+    {
+        self.world.machine()
     }
 
     /// Tells the transcripts behind all steps: the answer is their number among the outcomes that were told.
@@ -85,7 +97,7 @@ impl<'a> MarkedPath<'a> {
         ensures told { IfOk result (λ number. slice_get self.new.world.told number ≡ Some (outcome_of self.old.world.file.run.sessions
             (send_all self.old.world.file.run.steps (first_world self.old.world.file.run) self.old.line.items))) }
         ensures front { IsPrefix self.old.world.told self.new.world.told }
-        ensures same { self.new ≡ record self.old { world = record self.old.world { told = self.new.world.told } } }
+        ensures same { self.new ≡ record self.old { world = record self.old.world { told = self.new.world.told; level = self.new.world.level } } }
     {
         match self.world.outcome() {
             Ok(number) => Ok(number),
@@ -101,26 +113,16 @@ impl<'a> MarkedPath<'a> {
         self.world.told(number)
     }
 
-    /// Whether these are the transcripts behind all steps.
-    pub fn tells(&self, outcome: &Outcome) -> Result<bool, AllocError>
-        requires { IsPath self.now.world.file self.now }
-        ensures { IfOk result (λ yes. IsTrue yes ↔ outcome_of self.now.world.file.run.sessions
-            (send_all self.now.world.file.run.steps (first_world self.now.world.file.run) self.now.line.items) ≡ outcome.now) }
+    /// Whether two steps are quiet behind all steps. The path stays as it is, but for whether the machine stands behind all steps.
+    pub fn is_quiet(&mut self, step: u8, other: u8) -> Result<bool, AllocError>
+        requires path { IsPath self.old.world.file self.old }
+        requires step { step < length self.old.world.file.run.steps }
+        requires other { other < length self.old.world.file.run.steps }
+        ensures answer { IfOk result (λ yes. yes ≡ quiet.is_quiet (send_all self.old.world.file.run.steps (first_world self.old.world.file.run) self.old.line.items)
+            (get_or self.old.world.file.run.steps step no_step) (get_or self.old.world.file.run.steps other no_step)) }
+        ensures path { IsPath self.old.world.file self.new }
+        ensures same { self.new ≡ record self.old { world = record self.old.world { level = self.new.world.level } } }
     {
-        match self.world.tells(outcome) {
-            Ok(yes) => Ok(yes),
-            Err(_) => Err(AllocError),
-        }
-    }
-
-    /// Whether two steps are quiet behind all steps.
-    pub fn is_quiet(&self, step: u8, other: u8) -> bool
-        requires path { IsPath self.now.world.file self.now }
-        requires step { step < length self.now.world.file.run.steps }
-        requires other { other < length self.now.world.file.run.steps }
-        ensures { result ≡ quiet.is_quiet (send_all self.now.world.file.run.steps (first_world self.now.world.file.run) self.now.line.items)
-            (get_or self.now.world.file.run.steps step no_step) (get_or self.now.world.file.run.steps other no_step) }
-    {
-        quiet(&self.world, &self.pairs, step, other)
+        self.world.is_quiet(step, other)
     }
 }

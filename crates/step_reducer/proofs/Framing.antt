@@ -1,10 +1,9 @@
 -- Frames and the worlds at their marks.
-use Rattle.std.proofs.Common.{◌≡◌, refl, sym, ap, ◌∙◌, subst, Bool, false, List, [], ◌∷◌, ◌++◌, length, reverse, arith, length-append}
+use Rattle.std.proofs.Common.{◌≡◌, refl, sym, ap, ◌∙◌, false, List, [], ◌∷◌, ◌++◌, length, reverse, arith, length-append}
 use Rattle.std.proofs.lemmas.List.{reverse-append, length-reverse}
 use Rattle.bound_specs.specs.Spec.{SpecFile}
 use Rattle.machine_model.specs.World.{World}
-use Rattle.plan_pairs.specs.Pairs.{ArePairs}
-use Rattle.marked_worlds.specs.Worlds.{MarkedRunning}
+use Rattle.known_worlds.specs.Known.{KnownRunning}
 use Rattle.step_reducer.specs.declared.frame.Frame.{Frame}
 use Rattle.step_reducer.specs.Framed.{Framed, framed, framed_each, stacked, standing}
 
@@ -27,8 +26,8 @@ each-kept file fs f w ws e =
     ap (framed_each file (fs ++ f ∷ [])) (newest-last w ws) ∙ each-push file fs (reverse ws) f w (omega (arith, e, length-reverse ws))
 
 -- the topmost frame is kept below
-pub frame-kept : (fs gs : List Frame) (f copy : Frame) (r s : MarkedRunning) → length fs ≡ length r.marked → gs ≡ fs ++ copy ∷ [] → copy.block ≡ f.block
-    → copy.swaps.items ≡ f.swaps.items → r.spent ≡ false → s ≡ record r { marked = r.world ∷ r.marked }
+pub frame-kept : (fs gs : List Frame) (f copy : Frame) (r s : KnownRunning) → length fs ≡ length r.marked → gs ≡ fs ++ copy ∷ [] → copy.block ≡ f.block
+    → copy.swaps.items ≡ f.swaps.items → r.spent ≡ false → s ≡ record r { marked = r.world ∷ r.marked; level = false }
     → (stacked gs f s).below ≡ (stacked fs f r).below ++ (stacked fs f r).top ∷ []
 frame-kept fs gs f copy r s count more block swaps whole marked =
     (λ k. framed_each (marked k).file (more k) (reverse (marked k).marked))
@@ -36,10 +35,10 @@ frame-kept fs gs f copy r s count more block swaps whole marked =
     ∙ (λ k. framed_each r.file fs (reverse r.marked)
     ++ (let f : Framed = record { block = block k; swaps = swaps k; world = record { file = r.file; world = r.world; spent = sym whole k } } in f) ∷ [])
 
-pub top-kept : (f : Frame) (r s : MarkedRunning) → s ≡ record r { marked = r.world ∷ r.marked } → framed f (standing s) ≡ framed f (standing r)
-top-kept f r s marked = ap (λ (t : MarkedRunning). framed f (standing t)) marked
+pub top-kept : (f : Frame) (r s : KnownRunning) → s ≡ record r { marked = r.world ∷ r.marked; level = false } → framed f (standing s) ≡ framed f (standing r)
+top-kept f r s marked = ap (λ (t : KnownRunning). framed f (standing t)) marked
 
-pub count-popped : (fs gs : List Frame) (g : Frame) (r s : MarkedRunning) → length fs ≡ length r.marked → fs ≡ gs ++ g ∷ [] → r.marked ≡ s.world ∷ s.marked
+pub count-popped : (fs gs : List Frame) (g : Frame) (r s : KnownRunning) → length fs ≡ length r.marked → fs ≡ gs ++ g ∷ [] → r.marked ≡ s.world ∷ s.marked
     → length gs ≡ length s.marked
 count-popped fs gs g r s count less marked =
     let one = ap (λ (xs : List Frame). length xs) less in
@@ -47,7 +46,7 @@ count-popped fs gs g r s count less marked =
     omega (arith, count, one, two, length-append gs (g ∷ []))
 
 -- and the other way
-pub frame-popped : (fs gs : List Frame) (f g : Frame) (r s : MarkedRunning) → length fs ≡ length r.marked → fs ≡ gs ++ g ∷ []
+pub frame-popped : (fs gs : List Frame) (f g : Frame) (r s : KnownRunning) → length fs ≡ length r.marked → fs ≡ gs ++ g ∷ []
     → r.marked ≡ s.world ∷ s.marked → s.file ≡ r.file → s.spent ≡ false → (stacked fs f r).below ≡ (stacked gs g s).below ++ (stacked gs g s).top ∷ []
 frame-popped fs gs f g r s count less marked file whole =
     (λ k. framed_each (sym file k) (less k) (reverse (marked k)))
@@ -55,20 +54,16 @@ frame-popped fs gs f g r s count less marked file whole =
     ∙ (λ k. framed_each s.file gs (reverse s.marked)
     ++ framed g (record { file = s.file; world = s.world; spent = sym whole k }) ∷ [])
 
-pub count-kept : (fs gs : List Frame) (g : Frame) (r s : MarkedRunning) → length fs ≡ length r.marked → gs ≡ fs ++ g ∷ []
-    → s ≡ record r { marked = r.world ∷ r.marked } → length gs ≡ length s.marked
+pub count-kept : (fs gs : List Frame) (g : Frame) (r s : KnownRunning) → length fs ≡ length r.marked → gs ≡ fs ++ g ∷ []
+    → s ≡ record r { marked = r.world ∷ r.marked; level = false } → length gs ≡ length s.marked
 count-kept fs gs g r s count more marked =
     let one = ap (λ (xs : List Frame). length xs) more in
-    let two = ap (λ (t : MarkedRunning). length t.marked) marked in
+    let two = ap (λ (t : KnownRunning). length t.marked) marked in
     omega (arith, count, one, two, length-append fs (g ∷ []))
 
 -- where the marks stay, so do the frames below
-pub below-same : (fs : List Frame) (f g : Frame) (r s : MarkedRunning) → s.file ≡ r.file → s.marked ≡ r.marked → (stacked fs g s).below ≡ (stacked fs f r).below
+pub below-same : (fs : List Frame) (f g : Frame) (r s : KnownRunning) → s.file ≡ r.file → s.marked ≡ r.marked → (stacked fs g s).below ≡ (stacked fs f r).below
 below-same fs f g r s file marked = λ k. framed_each (file k) fs (reverse (marked k))
 
-pub count-same : (fs : List Frame) (r s : MarkedRunning) → length fs ≡ length r.marked → s.marked ≡ r.marked → length fs ≡ length s.marked
+pub count-same : (fs : List Frame) (r s : KnownRunning) → length fs ≡ length r.marked → s.marked ≡ r.marked → length fs ≡ length s.marked
 count-same fs r s count marked = count ∙ ap (λ (ws : List World). length ws) (sym marked)
-
--- the pairs are those of the same spec
-pub pairs-same : (r s : MarkedRunning) (pairs : List (List Bool)) → s.file ≡ r.file → ArePairs r.file.run pairs → ArePairs s.file.run pairs
-pairs-same r s pairs file are = subst (λ (f : SpecFile). ArePairs f.run pairs) (sym file) are

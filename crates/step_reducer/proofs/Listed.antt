@@ -9,8 +9,7 @@ use Rattle.machine_model.specs.World.{World}
 use Rattle.rank_facts.specs.Quiet.{is_quiet}
 use Rattle.rank_facts.specs.Swap.{quiet_heads}
 use Rattle.session_machine.specs.Running.{Running}
-use Rattle.marked_worlds.specs.Worlds.{MarkedRunning}
-use Rattle.marked_quiet.specs.Quiet.{is_quiet_at}
+use Rattle.known_worlds.specs.Known.{KnownRunning, is_quiet_in as is_known_quiet}
 use Rattle.step_reducer.specs.Pairs.{is_quiet_in}
 use Rattle.step_reducer.specs.Reduced.{is_pair}
 
@@ -49,6 +48,6 @@ pub quiet-whole : (r : Running) (a b : ℕ) → r.spent ≡ false
     → is_quiet_in r a b ≡ is_quiet r.world (get_or r.file.run.steps a no_step) (get_or r.file.run.steps b no_step)
 quiet-whole r a b e = unspent r.spent (is_quiet r.world (get_or r.file.run.steps a no_step) (get_or r.file.run.steps b no_step)) e
 
-pub quiet-unspent : (r : MarkedRunning) (a b : ℕ) → r.spent ≡ false
-    → is_quiet_at r a b ≡ is_quiet r.world (get_or r.file.run.steps a no_step) (get_or r.file.run.steps b no_step)
+pub quiet-unspent : (r : KnownRunning) (a b : ℕ) → r.spent ≡ false
+    → is_known_quiet r a b ≡ is_quiet r.world (get_or r.file.run.steps a no_step) (get_or r.file.run.steps b no_step)
 quiet-unspent r a b e = unspent r.spent (is_quiet r.world (get_or r.file.run.steps a no_step) (get_or r.file.run.steps b no_step)) e

@@ -193,10 +193,14 @@ pub empty-frames : (fs : List Framed) → length fs ≡ 0 → fs ≡ []
 empty-frames [] e = refl
 empty-frames (f ∷ fs) e = absurd (omega arith)
 
--- where more was told, the stack is the same
-pub at-told : (reduce : Bool) (file : SpecFile) (at end : ℕ) (x : Stacked) (told : List (List (List Event))) → IsAt reduce file at end x
-    → IsAt reduce file at end (record x { told = told })
-at-told reduce file at end x told is = record {
-  stack = record { below = is.stack.below; top = is.stack.top; to = is.stack.to; above = is.stack.above };
+-- where more was told and the machine has caught up, the stack is the same
+pub stack-told : (reduce : Bool) (file : SpecFile) (at end : ℕ) (x : Stacked) (told : List (List (List Event))) (level : Bool) → IsStack reduce file at end x
+    → IsStack reduce file at end (record x { told = told; level = level })
+stack-told reduce file at end x told level is = record { below = is.below; top = is.top; to = is.to; above = is.above }
+
+pub at-told : (reduce : Bool) (file : SpecFile) (at end : ℕ) (x : Stacked) (told : List (List (List Event))) (level : Bool) → IsAt reduce file at end x
+    → IsAt reduce file at end (record x { told = told; level = level })
+at-told reduce file at end x told level is = record {
+  stack = stack-told reduce file at end x told level is.stack;
   has = is.has;
 }

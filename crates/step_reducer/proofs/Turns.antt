@@ -3,7 +3,7 @@ use Rattle.std.proofs.Common.{◌≡◌, refl, sym, ap, ◌∙◌, subst, ℕ, �
 use Rattle.perm_ranks.specs.Blocks.{HasRank, narrowed}
 use Rattle.bound_specs.specs.Spec.{Spec, SpecFile, queues_of}
 use Rattle.machine_model.specs.World.{send}
-use Rattle.step_reducer.specs.Reduced.{tour_of, rest_after, is_pair, LeftOf, IsPlace}
+use Rattle.step_reducer.specs.Reduced.{tour_of, rest_after, LeftOf, AreSwaps, IsPlace}
 use Rattle.step_reducer.specs.Framed.{Framed}
 use Rattle.step_reducer.specs.declared.frame.Turn.{Turn}
 use Rattle.step_reducer.specs.Walks.{StandsAt, IsFrame, IsTurn, HasTurned}
@@ -12,10 +12,7 @@ use Rattle.step_reducer.proofs.Tables.{step-known}
 
 -- the letters listed are those that make a swap, wherever the frame stands
 abbrev pub Lists : Bool → Framed → List (List ℕ) → Turn → Type 0
-Lists reduce f table u =
-    (rest : List (List ℕ)) (ks : List ℕ) → get_or rest u.letter [] ≡ u.step ∷ ks
-    → ((a : ℕ) → LeftOf (get_or table a []) (get_or f.block.left a 0) (get_or rest a []))
-    → (b : ℕ) → get_or u.swaps.items b false ≡ is_pair reduce f.world.file.run.steps f.world.world rest u.letter b
+Lists reduce f table u = AreSwaps reduce f.world.file.run.steps f.world.world table f.block.left u.letter u.step u.swaps.items
 
 pub turn-is : (reduce : Bool) (f : Framed) (rank : ℕ) (table : List (List ℕ)) (u : Turn) (ks : List ℕ)
     → table ≡ queues_of f.world.file.run → 0 < get_or f.block.left u.letter 0 → u.block ≡ narrowed f.block u.letter → HasRank u.block rank

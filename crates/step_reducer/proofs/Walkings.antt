@@ -13,15 +13,15 @@ use Rattle.step_reducer.specs.declared.line_walk.LineWalk.{LineWalk}
 use Rattle.step_reducer.specs.declared.walk.Walk.{Walk}
 use Rattle.step_reducer.specs.declared.walk.Walk.TheVariants.{Words, Lines}
 use Rattle.marked_paths.specs.Fronts.{front}
+use Rattle.marked_paths.proofs.PathLemmas.{path-told-more}
 use Rattle.step_reducer.specs.Fronts.{line_before, new_steps, most_steps}
-use Rattle.step_reducer.specs.Framed.{standing}
 use Rattle.step_reducer.specs.Saying.{Giving, fact_of, giving_of}
 use Rattle.step_reducer.specs.Walks.{AllHave, LiesBehind, IsWalk, HasGiven}
 use Rattle.step_reducer.specs.Lines.{IsLines, HasRun}
-use Rattle.step_reducer.specs.Walking.{IsWords, IsLinesTo, IsWalkOf, IsGoing, walk_at, walk_end, walk_told, moved_to, standing_in, HasMoved, HasWalked}
+use Rattle.step_reducer.specs.Walking.{IsWords, IsLinesTo, IsWalkOf, IsGoing, walk_at, walk_end, walk_told, leveled, moved_to, standing_in, HasMoved, HasWalked}
 use Rattle.step_reducer.specs.Shardwise.{Shardwise, GivesPart, Shows, IsOnward, IsKept, behind_line, world_behind, was_run, shown_by}
 use Rattle.step_reducer.proofs.Sendings.{words-run}
-use Rattle.step_reducer.proofs.Stacks.{stack-later}
+use Rattle.step_reducer.proofs.Stacks.{stack-later, stack-told}
 
 -- ---- a walk of a shard is one of the spec, up to the shard's end and maybe further
 
@@ -193,35 +193,101 @@ world-shown file given v ran is lies = ap (λ b. shown_by b v) is ∙ at given.r
     at (Swap k) e = refl
 
 -- what it gives, and where it stands then
-pub part-given : (file : SpecFile) (reduce : Bool) (at end : ℕ) (behind : Option World) (told : List (List (List Event))) (spent ran : Bool) (w : Walk)
+pub part-given : (file : SpecFile) (reduce : Bool) (at end : ℕ) (behind : Option World) (told : List (List (List Event))) (spent level ran : Bool) (w : Walk)
     (given : Given) (v : Walk) (x : Shardwise) → IsOnward file reduce at w → HasMoved file reduce end w (giving_of (walk_told v) given) v
     → ran ≡ was_run (fact_of (walk_told v) given.run.said) → spent ≡ false
-    → (let y : Shardwise = record { file = file; reduce = reduce; at = at; end = end; behind = behind; told = told; spent = spent } in y) ≡ x
-    → GivesPart x (record { file = file; reduce = reduce; at = given.run.end; end = end; behind = shown_by ran v; told = walk_told v; spent = false })
-    (Some given.run)
-part-given file reduce at end behind told spent ran w given v x is moved ran_is unspent here =
-    let same : (let y : Shardwise = record { file = file; reduce = reduce; at = at; end = end; behind = behind; told = told; spent = false } in y) ≡ x =
-    (λ k. (let y : Shardwise = record { file = file; reduce = reduce; at = at; end = end; behind = behind; told = told; spent = sym unspent k } in y)) ∙ here in
+    → (let y : Shardwise = record { file = file; reduce = reduce; at = at; end = end; behind = behind; told = told; spent = spent; level = level } in y) ≡ x
+    → GivesPart x (record {
+      file = file;
+      reduce = reduce;
+      at = given.run.end;
+      end = end;
+      behind = shown_by ran v;
+      told = walk_told v;
+      spent = false;
+      level = false;
+    }) (Some given.run)
+part-given file reduce at end behind told spent level ran w given v x is moved ran_is unspent here =
+    let same : (let y : Shardwise = record { file = file; reduce = reduce; at = at; end = end; behind = behind; told = told; spent = false; level = level } in y) ≡ x =
+    (λ k. (let y : Shardwise = record { file = file; reduce = reduce; at = at; end = end; behind = behind; told = told; spent = sym unspent k; level = level } in y)) ∙ here in
     let shown = world-shown file (giving_of (walk_told v) given) v ran ran_is moved.ran in
-    subst (λ z. GivesPart z (record { file = file; reduce = reduce; at = given.run.end; end = end; behind = shown_by ran v; told = walk_told v; spent = false })
-    (Some given.run)) same (
+    subst (λ z. GivesPart z (record {
+      file = file;
+      reduce = reduce;
+      at = given.run.end;
+      end = end;
+      behind = shown_by ran v;
+      told = walk_told v;
+      spent = false;
+      level = false;
+    }) (Some given.run)) same (
       record { first = moved.begin ∙ is.here; some = moved.some; few = moved.few; one = moved.one; ran = moved.ran.one; facts = moved.facts },
-      λ k. (let y : Shardwise = record { file = file; reduce = reduce; at = given.run.end; end = end; behind = shown k; told = walk_told v; spent = false } in y),
+      λ k. (let y : Shardwise = record {
+        file = file;
+        reduce = reduce;
+        at = given.run.end;
+        end = end;
+        behind = shown k;
+        told = walk_told v;
+        spent = false;
+        level = false;
+      } in y),
     )
 
 -- the world that a walk shows, which is not spent then
-pub world-told : (file : SpecFile) (reduce : Bool) (at end : ℕ) (told : List (List (List Event))) (spent ran : Bool) (w : Walk) (r : MarkedRunning)
-    (x : Shardwise) → IsKept spent ran file reduce at end w → ran ≡ true → standing r ≡ standing_in w
-    → (let y : Shardwise = record { file = file; reduce = reduce; at = at; end = end; behind = shown_by ran w; told = told; spent = spent } in y) ≡ x
+pub world-told : (file : SpecFile) (reduce : Bool) (at end : ℕ) (told : List (List (List Event))) (spent ran level : Bool) (w : Walk) (r : MarkedRunning)
+    (x : Shardwise) → IsKept spent ran level file reduce at end w → ran ≡ true → r.world ≡ (standing_in w).world → r.file ≡ (standing_in w).file → r.spent ≡ false
+    → (let y : Shardwise = record { file = file; reduce = reduce; at = at; end = end; behind = shown_by ran w; told = told; spent = spent; level = level } in y) ≡ x
     → Shows x r
-world-told file reduce at end told spent ran w r x kept was is here = by spent refl
+world-told file reduce at end told spent ran level w r x kept was world_is file_is whole here = by spent refl
   where
     by : (b : Bool) → spent ≡ b → Shows x r
     by true e = absurd (let bad : true ≡ false = sym was ∙ kept.none e in cc)
     by false e =
         let stands = going-stands file reduce w (kept.walk e).going in
         record {
-          file_is = ap (λ (s : Running). s.file) is ∙ stands.0 ∙ ap (λ (v : Shardwise). v.file) here;
-          whole = ap (λ (s : Running). s.spent) is ∙ stands.1;
-          behind = sym (ap (λ (v : Shardwise). v.behind) here) ∙ ap (λ b. shown_by b w) was ∙ ap (λ (s : Running). Some s.world) (sym is);
+          file_is = file_is ∙ stands.0 ∙ ap (λ (v : Shardwise). v.file) here;
+          whole = whole;
+          behind = sym (ap (λ (v : Shardwise). v.behind) here) ∙ ap (λ b. shown_by b w) was ∙ ap (λ (v : World). Some v) (sym world_is);
         }
+
+-- ---- a walk whose machine has caught up
+
+pub going-leveled : (file : SpecFile) (reduce level : Bool) (w : Walk) → IsGoing file reduce w → IsGoing file reduce (leveled level w)
+going-leveled file reduce level (Words w) is = (
+  record {
+    tour = is.0.tour;
+    table = is.0.table;
+    steps = is.0.steps;
+    stack = stack-told w.reduce file (w.at - 1) w.end w.stack w.stack.told level is.0.stack;
+  },
+  is.1,
+)
+going-leveled file reduce level (Lines w) is = (path-told-more file w.path w.path.world.told level is.0, is.1)
+
+end-leveled : (file : SpecFile) (level : Bool) (w : Walk) → walk_end file (leveled level w) ≡ walk_end file w
+end-leveled file level (Words w) = refl
+end-leveled file level (Lines w) = refl
+
+at-leveled : (level : Bool) (w : Walk) → walk_at (leveled level w) ≡ walk_at w
+at-leveled level (Words w) = refl
+at-leveled level (Lines w) = refl
+
+pub onward-leveled : (file : SpecFile) (reduce : Bool) (at : ℕ) (level : Bool) (w : Walk) → IsOnward file reduce at w → IsOnward file reduce at (leveled level w)
+onward-leveled file reduce at level w is = record {
+  going = going-leveled file reduce level w is.going;
+  to = end-leveled file level w ∙ is.to;
+  here = at-leveled level w ∙ is.here;
+}
+
+pub told-leveled : (level : Bool) (w : Walk) → walk_told (leveled level w) ≡ walk_told w
+told-leveled level (Words w) = refl
+told-leveled level (Lines w) = refl
+
+standing-leveled : (level : Bool) (w : Walk) → standing_in (leveled level w) ≡ standing_in w
+standing-leveled level (Words w) = refl
+standing-leveled level (Lines w) = refl
+
+pub shown-leveled : (ran level : Bool) (w : Walk) → shown_by ran (leveled level w) ≡ shown_by ran w
+shown-leveled true level w = ap (λ (r : Running). Some r.world) (standing-leveled level w)
+shown-leveled false level w = refl

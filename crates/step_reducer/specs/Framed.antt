@@ -5,8 +5,7 @@ use Rattle.bound_specs.specs.Spec.{SpecFile}
 use Rattle.machine_model.specs.World.{World}
 use Rattle.transcripts.specs.declared.event.Event.{Event}
 use Rattle.session_machine.specs.Running.{Running}
-use Rattle.plan_pairs.specs.Pairs.{ArePairs}
-use Rattle.marked_worlds.specs.Worlds.{MarkedRunning}
+use Rattle.known_worlds.specs.Known.{KnownRunning}
 use Rattle.step_reducer.specs.declared.frame.Frame.{Frame}
 
 -- the words that begin with the same letters, with which next letters the last one makes a swap, and the world behind these letters
@@ -15,14 +14,16 @@ pub record Framed : Type 0 where
   pub swaps : List Bool
   pub world : Running
 
--- the frame of the most letters, and those below it, the lowest first, with the outcomes that were told
+-- the frame of the most letters, and those below it, the lowest first, with the outcomes that were told, and whether the machine stands in the world of
+-- the most letters
 pub record Stacked : Type 0 where
   pub below : List Framed
   pub top : Framed
   pub told : List (List (List Event))
+  pub level : Bool
 
 -- the world now, without those at marks
-abbrev pub standing : MarkedRunning → Running
+abbrev pub standing : KnownRunning → Running
 standing r = record { file = r.file; world = r.world; spent = r.spent }
 
 abbrev pub framed : Frame → Running → Framed
@@ -35,10 +36,9 @@ framed_each file (f ∷ fs) [] = []
 framed_each file (f ∷ fs) (w ∷ ws) = framed f (record { file = file; world = w; spent = false }) ∷ framed_each file fs ws
 
 -- the frames below stand at the marks, of which the newest is told first
-abbrev pub stacked : List Frame → Frame → MarkedRunning → Stacked
-stacked fs f r = record { below = framed_each r.file fs (reverse r.marked); top = framed f (standing r); told = r.told }
+abbrev pub stacked : List Frame → Frame → KnownRunning → Stacked
+stacked fs f r = record { below = framed_each r.file fs (reverse r.marked); top = framed f (standing r); told = r.told; level = r.level }
 
--- there is a mark for each frame below, and the pairs are those of the spec
-pub record IsStacked (fs : List Frame) (r : MarkedRunning) (pairs : List (List Bool)) : Type 0 where
-  pub count : length fs ≡ length r.marked
-  pub pairs_are : ArePairs r.file.run pairs
+-- there is a mark for each frame below
+abbrev pub IsStacked : List Frame → KnownRunning → Type 0
+IsStacked fs r = length fs ≡ length r.marked

@@ -47,6 +47,12 @@ is_pair reduce steps w q a b = reduce && (nat_lt b a && quiet_heads steps w (get
 abbrev pub LeftOf : List ℕ → ℕ → List ℕ → Type 0
 LeftOf all left now = (left ≤ length all) × (now ≡ drop (length all - left) all)
 
+-- of a letter and its step these next letters make a swap with it, whatever is left of each session as the counts tell
+abbrev pub AreSwaps : Bool → List Step → World → Queues → List ℕ → ℕ → ℕ → List Bool → Type 0
+AreSwaps reduce steps w all left letter step swaps =
+    (rest : Queues) (ks : List ℕ) → get_or rest letter [] ≡ step ∷ ks → ((a : ℕ) → LeftOf (get_or all a []) (get_or left a 0) (get_or rest a []))
+    → (b : ℕ) → get_or swaps b false ≡ is_pair reduce steps w rest letter b
+
 -- words that share these letters: their ranks, the world behind the letters, which next letters make a swap with the last one; no two of the letters make one
 pub record IsPlace (t : Tour) (shared : Word) (block : Block) (world : World) (swaps : List Bool) : Type 0 where
   pub ranks : IsBlockOf (counts_of (queues_of t.spec)) shared block

@@ -13,10 +13,10 @@ use Rattle.step_reducer.specs.Saying.{run_of}
 use Rattle.step_reducer.specs.declared.walk.Walk.{Walk}
 use Rattle.step_reducer.specs.Reduced.{line_world}
 use Rattle.step_reducer.specs.Walks.{AllHave}
-use Rattle.step_reducer.specs.Walking.{skips, walk_at, walk_end, standing_in, IsGoing}
+use Rattle.step_reducer.specs.Walking.{skips, walk_at, walk_end, walk_level, standing_in, IsGoing}
 
 -- the next rank and the end of the shard, the world behind the line of the rank that was given last, where it was run, the outcomes that were told, in
--- the order in which they were told first, and whether memory was refused
+-- the order in which they were told first, whether memory was refused, and whether the machine is known to stand in the walk's world
 pub record Shardwise : Type 0 where
   pub file : SpecFile
   pub reduce : Bool
@@ -25,10 +25,12 @@ pub record Shardwise : Type 0 where
   pub behind : Option World
   pub told : List (List (List Event))
   pub spent : Bool
+  pub level : Bool
 
 -- a walk that has given nothing of the shard, and told nothing before
 abbrev pub standing_at : SpecFile → Shard → Bool → Shardwise
-standing_at file shard reduce = record { file = file; reduce = reduce; at = shard.first; end = shard.end; behind = None; told = []; spent = false }
+standing_at file shard reduce =
+    record { file = file; reduce = reduce; at = shard.first; end = shard.end; behind = None; told = []; spent = false; level = false }
 
 -- the world behind the line of a rank that was run
 abbrev pub behind_line : Spec → ℕ → Fact → Option World
@@ -52,7 +54,7 @@ pub record IsPart (x : Shardwise) (run : FactRun) : Type 0 where
 abbrev pub GivesPart : Shardwise → Shardwise → Option SaidRun → Type 0
 GivesPart x y None = (x.at ≡ x.end) × (y ≡ x)
 GivesPart x y (Some run) =
-    IsPart x (run_of y.told run) × (y ≡ record x { at = run.end; behind = world_behind x.file.run (run_of y.told run); told = y.told })
+    IsPart x (run_of y.told run) × (y ≡ record x { at = run.end; behind = world_behind x.file.run (run_of y.told run); told = y.told; level = false })
 
 -- the walk shows this world, which may be asked
 pub record Shows (x : Shardwise) (r : MarkedRunning) : Type 0 where
@@ -78,9 +80,12 @@ pub record IsOnward (file : SpecFile) (reduce : Bool) (at : ℕ) (w : Walk) : Ty
   pub to : walk_end file w ≡ ranks file.run
   pub here : walk_at w ≡ at
 
--- a walk that is not spent stands before the next rank, one that is spent shows no world, and the shard is of ranks of the spec
-pub record IsKept (spent has_run : Bool) (file : SpecFile) (reduce : Bool) (at end : ℕ) (w : Walk) : Type 0 where
+-- a walk that is not spent stands before the next rank, one that is spent shows no world, the machine stands where it is said to, and the shard is of
+-- ranks of the spec
+pub record IsKept (spent has_run level : Bool) (file : SpecFile) (reduce : Bool) (at end : ℕ) (w : Walk) : Type 0 where
   pub walk : spent ≡ false → IsOnward file reduce at w
   pub none : spent ≡ true → has_run ≡ false
+  pub late : spent ≡ true → level ≡ false
+  pub level_is : level ≡ true → walk_level w ≡ true
   pub order : at ≤ end
   pub inside : end ≤ ranks file.run

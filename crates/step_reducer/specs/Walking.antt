@@ -98,6 +98,16 @@ abbrev pub standing_in : Walk → Running
 standing_in (Words w) = w.stack.top.world
 standing_in (Lines w) = standing w.path.world
 
+-- whether the machine stands in the walk's world
+abbrev pub walk_level : Walk → Bool
+walk_level (Words w) = w.stack.level
+walk_level (Lines w) = w.path.world.level
+
+-- the walk with its machine there, or behind
+abbrev pub leveled : Bool → Walk → Walk
+leveled level (Words w) = Words (record w { stack = record w.stack { level = level } })
+leveled level (Lines w) = Lines (record w { path = record w.path { world = record w.path.world { level = level } } })
+
 -- a walk of the spec's words from the first rank up to the end
 pub record IsWords (file : SpecFile) (reduce : Bool) (first end : ℕ) (w : WordWalk) : Type 0 where
   pub walk : IsWalk file w

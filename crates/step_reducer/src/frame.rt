@@ -1,21 +1,19 @@
 //! The words that begin with the same letters.
 
-ghost use Rattle.std.specs.Prelude.{◌≡◌, ℕ, ◌<◌, ◌≤◌, true, false, [], ◌∷◌, length, slice_index, get_or, List};
+ghost use Rattle.std.specs.Prelude.{◌≡◌, ℕ, ◌<◌, ◌≤◌, true, false, [], ◌∷◌, length, slice_index, get_or, List, IfOk};
 ghost use Rattle.perm_ranks.specs.Words.{total};
 ghost use Rattle.perm_ranks.specs.Blocks.{HasRank};
 ghost use Rattle.bound_specs.specs.Spec.{queues_of};
-ghost use Rattle.plan_pairs.specs.Pairs.{ArePairs};
 ghost use Rattle.rank_facts.specs.Swap.{quiet_heads};
 ghost use Rattle.step_reducer.specs.Framed.{framed, standing};
-ghost use Rattle.step_reducer.specs.Reduced.{is_pair, LeftOf};
+ghost use Rattle.step_reducer.specs.Reduced.{AreSwaps, LeftOf};
 ghost use Rattle.step_reducer.specs.Walks.{IsFrame, IsTurn, IsCovered};
 
 use crate::step_table::StepTable;
 use arrayvec::ArrayVec;
-use marked_quiet::quiet;
-use marked_worlds::MarkedWorld;
+use known_worlds::KnownWorld;
 use perm_ranks::{Block, MAX_SESSIONS};
-use plan_pairs::StepPairs;
+use std::alloc::AllocError;
 
 /// For each letter whether it and the one before it make a swap. Letters that are not listed make none.
 pub(crate) type Swaps = ArrayVec<bool, MAX_SESSIONS>;
@@ -75,83 +73,101 @@ impl Frame {
     }
 }
 
-/// How the word of a rank goes on from a frame, with the world behind its letters.
+/// How the word of a rank goes on from a frame, with the world behind its letters. The world stays, but for where its machine stands.
 pub(crate) fn turn_of(
     frame: &Frame,
-    world: &MarkedWorld<'_>,
-    pairs: &StepPairs,
+    world: &mut KnownWorld<'_>,
     table: &StepTable,
     reduce: bool,
     rank: u64,
-) -> Turn
-    requires table { table.now ≡ queues_of world.now.file.run }
-    requires pairs { ArePairs world.now.file.run pairs.now }
-    requires frame { IsFrame reduce world.now.file (framed frame.now (standing world.now)) }
+) -> Result<Turn, AllocError>
+    requires table { table.now ≡ queues_of world.old.file.run }
+    requires frame { IsFrame reduce world.old.file (framed frame.now (standing world.old)) }
     requires some { 0 < total frame.now.block.left }
     requires has { HasRank frame.now.block rank }
-    ensures { IsTurn reduce (framed frame.now (standing world.now)) rank result }
+    ensures turn { IfOk result (IsTurn reduce (framed frame.now (standing world.old)) rank) }
+    ensures same { world.new ≡ record world.old { level = world.new.level } }
 {
     let (letter, block) = frame.block.at(rank);
     let step = table.next(letter, frame.block.left_of(letter));
-    let swaps = if reduce {
-        swaps_with(&frame.block, world, pairs, table, letter, step)
-    } else {
-        Swaps::new()
-    };
-    Turn {
+    let swaps = swaps_of(&frame.block, world, table, reduce, letter, step)?;
+    Ok(Turn {
         letter,
         step,
         block,
         swaps,
+    })
+}
+
+/// With which letters the letter makes a swap. Where ranks are not reduced it makes none.
+fn swaps_of(
+    block: &Block,
+    world: &mut KnownWorld<'_>,
+    table: &StepTable,
+    reduce: bool,
+    letter: u8,
+    step: u8,
+) -> Result<Swaps, AllocError>
+    requires table { table.now ≡ queues_of world.old.file.run }
+    requires whole { world.old.spent ≡ false }
+    requires left { 0 < slice_index block.now.left letter }
+    requires step { step < length world.old.file.run.steps }
+    requires lefts { (a : ℕ) → get_or block.now.left a 0 ≤ length (get_or table.now a []) }
+    ensures swaps { IfOk result (λ swaps. AreSwaps reduce world.old.file.run.steps world.old.world table.now block.now.left letter step swaps.items) }
+    ensures same { world.new ≡ record world.old { level = world.new.level } }
+{
+    if !reduce {
+        return Ok(Swaps::new());
     }
+    swaps_with(block, world, table, letter, step)
 }
 
 /// With which smaller letters the letter makes a swap.
 fn swaps_with(
     block: &Block,
-    world: &MarkedWorld<'_>,
-    pairs: &StepPairs,
+    world: &mut KnownWorld<'_>,
     table: &StepTable,
     letter: u8,
     step: u8,
-) -> Swaps
-    requires table { table.now ≡ queues_of world.now.file.run }
-    requires pairs { ArePairs world.now.file.run pairs.now }
-    requires whole { world.now.spent ≡ false }
+) -> Result<Swaps, AllocError>
+    requires table { table.now ≡ queues_of world.old.file.run }
+    requires whole { world.old.spent ≡ false }
     requires left { 0 < slice_index block.now.left letter }
-    requires step { step < length world.now.file.run.steps }
+    requires step { step < length world.old.file.run.steps }
     requires lefts { (a : ℕ) → get_or block.now.left a 0 ≤ length (get_or table.now a []) }
-    ensures { (rest : List (List ℕ)) (ks : List ℕ) → get_or rest letter [] ≡ step ∷ ks
-        → ((a : ℕ) → LeftOf (get_or table.now a []) (get_or block.now.left a 0) (get_or rest a []))
-        → (b : ℕ) → get_or result.items b false ≡ is_pair true world.now.file.run.steps world.now.world rest letter b }
+    ensures swaps { IfOk result (λ swaps. AreSwaps true world.old.file.run.steps world.old.world table.now block.now.left letter step swaps.items) }
+    ensures same { world.new ≡ record world.old { level = world.new.level } }
 {
     let _sessions = world.spec().sessions(); // for the proof
     let mut swaps = Swaps::new();
     for smaller in 0..letter {
-        swaps.push(is_quiet_beside(block, world, pairs, table, step, smaller));
+        let is_quiet = is_quiet_beside(block, world, table, step, smaller)?;
+        swaps.push(is_quiet);
     }
-    swaps
+    Ok(swaps)
 }
 
 /// Whether the next step of a session is there and quiet beside the step.
 fn is_quiet_beside(
     block: &Block,
-    world: &MarkedWorld<'_>,
-    pairs: &StepPairs,
+    world: &mut KnownWorld<'_>,
     table: &StepTable,
     step: u8,
     smaller: u8,
-) -> bool
-    requires table { table.now ≡ queues_of world.now.file.run }
-    requires pairs { ArePairs world.now.file.run pairs.now }
-    requires whole { world.now.spent ≡ false }
-    requires step { step < length world.now.file.run.steps }
+) -> Result<bool, AllocError>
+    requires table { table.now ≡ queues_of world.old.file.run }
+    requires whole { world.old.spent ≡ false }
+    requires step { step < length world.old.file.run.steps }
     requires few { get_or block.now.left smaller 0 ≤ length (get_or table.now smaller []) }
-    ensures { (ks rest : List ℕ) → LeftOf (get_or table.now smaller []) (get_or block.now.left smaller 0) rest
-        → result ≡ quiet_heads world.now.file.run.steps world.now.world (step ∷ ks) rest }
+    ensures answer { IfOk result (λ yes. (ks rest : List ℕ) → LeftOf (get_or table.now smaller []) (get_or block.now.left smaller 0) rest
+        → yes ≡ quiet_heads world.old.file.run.steps world.old.world (step ∷ ks) rest) }
+    ensures same { world.new ≡ record world.old { level = world.new.level } }
 {
     let left = block.left_of(smaller);
-    left > 0 && quiet(world, pairs, step, table.next(smaller, left))
+    if left == 0 {
+        return Ok(false);
+    }
+    world.is_quiet(step, table.next(smaller, left))
 }
 
 fn copied(swaps: &Swaps) -> Swaps

@@ -22,8 +22,8 @@ use transcripts::Outcome;
 
 /// Gives the facts of the ranks of a shard as a walker does, and then goes on with a shard of later ranks: the spec starts once,
 /// and what the ranks of both share stays. Contracts see the spec, whether facts are reduced, the next rank, the end of the shard,
-/// the world behind the line of the rank that was given last, where it was run, the outcomes that were told, and whether memory was
-/// refused.
+/// the world behind the line of the rank that was given last, where it was run, the outcomes that were told, whether memory was
+/// refused, and whether the machine is known to stand in the walk's world.
 pub struct ShardWalk<'a> {
     spec: &'a Spec,
     reduce: bool,
@@ -32,6 +32,7 @@ pub struct ShardWalk<'a> {
     walk: Walk<'a>,
     has_run: bool,
     is_spent: bool,
+    is_level: bool,
 }
 
 // Written out and not derived, so that who owns one calls this and does not let its parts go one by one.
@@ -45,6 +46,7 @@ impl Drop for ShardWalk<'_> {
             walk: _walk,
             has_run: _,
             is_spent: _,
+            is_level: _,
         } = self;
     }
 }
@@ -72,9 +74,10 @@ impl<'a> Model for ShardWalk<'a> {
       behind = shown_by w.has_run w.walk;
       told = walk_told w.walk;
       spent = w.is_spent;
+      level = w.is_level;
     } };
 
-    ghost invariant = { λ w. IsKept w.is_spent w.has_run w.spec.now w.reduce w.at w.end w.walk };
+    ghost invariant = { λ w. IsKept w.is_spent w.has_run w.is_level w.spec.now w.reduce w.at w.end w.walk };
 }
 
 impl<'a> ShardWalk<'a> {
@@ -100,6 +103,7 @@ impl<'a> ShardWalk<'a> {
             walk,
             has_run: false,
             is_spent: false,
+            is_level: false,
         })
     }
 
@@ -121,6 +125,7 @@ impl<'a> ShardWalk<'a> {
         self.at = shard.first;
         self.end = shard.end;
         self.has_run = false;
+        self.is_level = false;
     }
 
     /// What is said of the next ranks, at least of one, in time that does not grow with their number. None at the end of the shard. Whatever
@@ -131,7 +136,7 @@ impl<'a> ShardWalk<'a> {
         ensures front { IsPrefix self.old.told self.new.told }
         ensures whole { OnOk result (self.new.spent ≡ false) }
         ensures spent { IsErrOf result walk_error.Spent ↔ (self.old.spent ≡ true) }
-        ensures after { OnErr result (self.new ≡ record self.old { behind = None; told = self.new.told; spent = true }) }
+        ensures after { OnErr result (self.new ≡ record self.old { behind = None; told = self.new.told; spent = true; level = false }) }
     {
         if self.is_spent {
             return Err(WalkError::Spent);
@@ -141,6 +146,7 @@ impl<'a> ShardWalk<'a> {
         }
         self.is_spent = true;
         self.has_run = false;
+        self.is_level = false;
         let given = self.walk.next_run(self.spec, self.reduce, self.end)?;
         let was_run = given.run.said.was_run();
         self.is_spent = false;
@@ -157,9 +163,34 @@ impl<'a> ShardWalk<'a> {
         self.walk.told(number)
     }
 
+    /// Sees to it that the machine stands in the walk's world, for who reads it behind a rank that was run. The machine may be behind, where what
+    /// steps led to was known. The walk stays as it is.
+    pub fn settle(&mut self) -> Result<(), WalkError>
+        ensures level { OnOk result (self.new ≡ record self.old { level = true }) }
+        ensures spent { IsErrOf result walk_error.Spent ↔ (self.old.spent ≡ true) }
+        ensures after { OnErr result (self.new ≡ record self.old { behind = None; spent = true; level = false }) }
+    {
+        if self.is_spent {
+            return Err(WalkError::Spent);
+        }
+        match self.walk.settle() {
+            Ok(()) => {
+                self.is_level = true;
+                Ok(())
+            }
+            Err(_) => {
+                self.is_spent = true;
+                self.has_run = false;
+                self.is_level = false;
+                Err(WalkError::NoMemory)
+            }
+        }
+    }
+
     /// The world behind the line of the rank that was given last, where it was run. None where that was a swap, before the shard's
     /// first rank is given, and once memory was refused.
     pub fn world(&self) -> Option<&MarkedWorld<'a>>
+        requires { self.now.level ≡ true }
         ensures { MatchOption result (self.now.behind ≡ None) (λ world. Shows self.now world.now) }
     {
         if self.has_run {

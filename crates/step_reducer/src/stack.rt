@@ -7,17 +7,15 @@ ghost use Rattle.perm_ranks.specs.Blocks.{HasRank, end_of};
 ghost use Rattle.perm_ranks.specs.declared.TheConstants.{MAX_STEPS};
 ghost use Rattle.bound_specs.specs.Spec.{SpecFile, queues_of};
 ghost use Rattle.machine_model.specs.World.{outcome_of};
-ghost use Rattle.plan_pairs.specs.Pairs.{ArePairs};
 ghost use Rattle.step_reducer.specs.Framed.{standing};
 ghost use Rattle.step_reducer.specs.Walks.{IsFrame, IsStack, IsAt, IsTurn, HasGone, HasParted, HasTurned};
 
 use crate::frame::{Frame, Turn, is_listed, turn_of};
 use crate::step_table::StepTable;
-use crate::worlds::{mark, outcome, send};
-use marked_paths::PairedWorld;
+use crate::worlds::{mark, outcome, send, settle};
+use known_worlds::KnownWorld;
 use marked_worlds::MarkedWorld;
 use perm_ranks::Block;
-use plan_pairs::StepPairs;
 use std::alloc::{AllocError, Global};
 use std::marker::Model;
 use transcripts::Outcome;
@@ -32,12 +30,12 @@ use transcripts::Outcome;
 ///          [ ]                    the start, while a later word is left
 /// ```
 ///
-/// Contracts see each frame with the world behind its letters, and the outcomes that were told.
+/// Contracts see each frame with the world behind its letters, the outcomes that were told, and whether the machine stands in the
+/// world of the longest prefix.
 pub(crate) struct Stack<'a> {
     below: Vec<Frame>,
     top: Frame,
-    world: MarkedWorld<'a>,
-    pairs: StepPairs,
+    world: KnownWorld<'a>,
 }
 
 // Written out and not derived, so that who owns one calls this and does not let its parts go one by one.
@@ -47,7 +45,6 @@ impl Drop for Stack<'_> {
             below: _below,
             top: _top,
             world: _world,
-            pairs: _pairs,
         } = self;
     }
 }
@@ -68,34 +65,34 @@ impl<'a> Model for Stack<'a> {
 
     ghost view = { λ s. stacked s.below.items s.top s.world };
 
-    ghost invariant = { λ s. IsStacked s.below.items s.world s.pairs };
+    ghost invariant = { λ s. IsStacked s.below.items s.world };
 }
 
 impl<'a> Stack<'a> {
     /// The frame of no letters, with the world in which the spec starts.
-    pub(crate) fn new(alloc: Global, start: PairedWorld<'a>, block: Block) -> Stack<'a>
-        requires marked { start.world.marked ≡ [] }
-        requires pairs { ArePairs start.world.file.run start.pairs }
+    pub(crate) fn new(alloc: Global, start: KnownWorld<'a>, block: Block) -> Stack<'a>
+        requires marked { start.marked ≡ [] }
         ensures below { result.below ≡ [] }
         ensures block { result.top.block ≡ block }
         ensures swaps { result.top.swaps ≡ [] }
-        ensures world { result.top.world ≡ standing start.entry.world }
-        ensures told { result.told ≡ start.entry.world.told }
+        ensures world { result.top.world ≡ standing start.entry }
+        ensures told { result.told ≡ start.entry.told }
     {
-        let PairedWorld { world, pairs } = start;
         Stack {
             below: Vec::new(alloc),
             top: Frame::new(block),
-            world,
-            pairs,
+            world: start,
         }
     }
 
-    /// The world behind the longest prefix.
+    /// The world behind the longest prefix, where the machine stands in it.
     pub(crate) fn world(&self) -> &MarkedWorld<'a>
-        ensures { standing result.now ≡ self.now.top.world }
+        requires { self.now.level ≡ true }
+        ensures world { result.now.world ≡ self.now.top.world.world }
+        ensures of_spec { result.now.file ≡ self.now.top.world.file }
+        ensures whole { result.now.spent ≡ false }
     {
-        &self.world
+        self.world.machine()
     }
 }
 
@@ -122,15 +119,30 @@ impl Stack<'_> {
         is_listed(&self.top.swaps, letter)
     }
 
-    /// How the word of a rank goes on.
-    pub(crate) fn turn(&self, table: &StepTable, reduce: bool, rank: u64) -> Turn
-        requires table { table.now ≡ queues_of self.now.top.world.file.run }
-        requires frame { IsFrame reduce self.now.top.world.file self.now.top }
-        requires some { 0 < total self.now.top.block.left }
-        requires has { HasRank self.now.top.block rank }
-        ensures { IsTurn reduce self.now.top rank result }
+    /// How the word of a rank goes on. The stack stays, but for where the machine stands.
+    pub(crate) fn turn(
+        &mut self,
+        table: &StepTable,
+        reduce: bool,
+        rank: u64,
+    ) -> Result<Turn, AllocError>
+        requires table { table.now ≡ queues_of self.old.top.world.file.run }
+        requires frame { IsFrame reduce self.old.top.world.file self.old.top }
+        requires some { 0 < total self.old.top.block.left }
+        requires has { HasRank self.old.top.block rank }
+        ensures turn { IfOk result (IsTurn reduce self.new.top rank) }
+        ensures same { self.new ≡ record self.old { level = self.new.level } }
     {
-        turn_of(&self.top, &self.world, &self.pairs, table, reduce, rank)
+        turn_of(&self.top, &mut self.world, table, reduce, rank)
+    }
+
+    /// Sees to it that the machine stands in the world behind the longest prefix.
+    pub(crate) fn settle(&mut self) -> Result<(), AllocError>
+        requires { self.old.top.world.spent ≡ false }
+        ensures level { OnOk result (self.new.level ≡ true) }
+        ensures same { self.new ≡ record self.old { level = self.new.level } }
+    {
+        settle(&mut self.world)
     }
 
     /// Tells what was told up to the end of the longest prefix: the answer is its number among the outcomes that were told.
@@ -138,7 +150,7 @@ impl Stack<'_> {
         requires { self.old.top.world.spent ≡ false }
         ensures told { IfOk result (λ number. slice_get self.new.told number ≡ Some (outcome_of self.old.top.world.file.run.sessions self.old.top.world.world)) }
         ensures front { IsPrefix self.old.told self.new.told }
-        ensures same { self.new ≡ record self.old { told = self.new.told } }
+        ensures same { self.new ≡ record self.old { told = self.new.told; level = self.new.level } }
     {
         outcome(&mut self.world)
     }

@@ -1,19 +1,18 @@
 //! A walk of words or of lines.
 
 ghost use mathlib.Core.List.{IsPrefix};
-ghost use Rattle.std.specs.Prelude.{◌≡◌, ℕ, ◌<◌, ◌≤◌, IfErr, IfOk, OnOk, Some, [], length, slice_get};
+ghost use Rattle.std.specs.Prelude.{◌≡◌, ℕ, ◌<◌, ◌≤◌, IfErr, IfOk, OnOk, Some, [], false, true, length, slice_get};
 ghost use Rattle.bound_specs.specs.Spec.{ranks};
 ghost use Rattle.machine_model.specs.Start.{start};
 ghost use Rattle.session_steps.specs.Refused.{IsRefusedBy};
-ghost use Rattle.step_reducer.specs.Framed.{standing};
 ghost use Rattle.step_reducer.specs.Saying.{IsTold, giving_of};
-ghost use Rattle.step_reducer.specs.Walking.{walk_at, walk_end, walk_told, moved_to, standing_in, IsGoing, IsWalkOf, HasMoved, HasWalked, Starts};
+ghost use Rattle.step_reducer.specs.Walking.{walk_at, walk_end, walk_level, walk_told, leveled, moved_to, standing_in, IsGoing, IsWalkOf, HasMoved, HasWalked, Starts};
 
 use crate::fact::Given;
 use crate::line_walk::LineWalk;
 use crate::word_walk::WordWalk;
 use bound_specs::Spec;
-use marked_paths::PairedWorld;
+use known_worlds::KnownWorld;
 use marked_worlds::MarkedWorld;
 use session_steps::StartError;
 use std::alloc::{AllocError, Global};
@@ -54,7 +53,7 @@ impl<'a> Walk<'a> {
     {
         match spec.shape() {
             Some(shape) => {
-                let start = PairedWorld::start(alloc, spec)?;
+                let start = KnownWorld::start(alloc, spec)?;
                 let walk = WordWalk::new(alloc, spec, shape, start, first, end, reduce)?;
                 Ok(Walk::Words(walk))
             }
@@ -88,9 +87,24 @@ impl<'a> Walk<'a> {
         }
     }
 
-    /// The world that the walk stands in. Where the rank given last was run, it is the world behind its line.
+    /// Sees to it that the machine stands in the walk's world.
+    pub(crate) fn settle(&mut self) -> Result<(), AllocError>
+        requires { (standing_in self.old).spent ≡ false }
+        ensures level { OnOk result (walk_level self.new ≡ true) }
+        ensures same { self.new ≡ leveled (walk_level self.new) self.old }
+    {
+        match self {
+            Walk::Words(walk) => walk.stack.settle(),
+            Walk::Lines(walk) => walk.path.settle(),
+        }
+    }
+
+    /// The world that the walk stands in, where the machine stands there. Where the rank given last was run, it is the world behind its line.
     pub(crate) fn world(&self) -> &MarkedWorld<'a>
-        ensures { standing result.now ≡ standing_in self.now }
+        requires { walk_level self.now ≡ true }
+        ensures world { result.now.world ≡ (standing_in self.now).world }
+        ensures of_spec { result.now.file ≡ (standing_in self.now).file }
+        ensures whole { result.now.spent ≡ false }
     {
         match self {
             Walk::Words(walk) => walk.stack.world(),

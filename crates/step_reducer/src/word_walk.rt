@@ -5,7 +5,6 @@ ghost use Rattle.std.specs.Prelude.{◌≡◌, ◌<◌, ◌≤◌, [], length, O
 ghost use Rattle.perm_ranks.specs.Words.{total, all_words};
 ghost use Rattle.bound_specs.specs.Spec.{counts_of, queues_of};
 ghost use Rattle.machine_model.specs.Start.{Started, start as begins};
-ghost use Rattle.plan_pairs.specs.Pairs.{ArePairs};
 ghost use Rattle.step_reducer.specs.Saying.{IsTold, fact_of, finding_of, giving_of};
 ghost use Rattle.step_reducer.specs.Walking.{IsWords};
 ghost use Rattle.step_reducer.specs.Reduced.{tour_of, IsTour};
@@ -16,7 +15,7 @@ use crate::said::{Said, SaidRun};
 use crate::stack::Stack;
 use crate::step_table::StepTable;
 use bound_specs::Spec;
-use marked_paths::PairedWorld;
+use known_worlds::KnownWorld;
 use perm_ranks::Shape;
 use std::alloc::{AllocError, Global};
 
@@ -57,19 +56,18 @@ impl<'a> WordWalk<'a> {
         alloc: Global,
         spec: &'a Spec,
         shape: &Shape,
-        start: PairedWorld<'a>,
+        start: KnownWorld<'a>,
         first: u64,
         end: u64,
         reduce: bool,
     ) -> Result<WordWalk<'a>, AllocError>
         requires shape { shape.now ≡ counts_of (queues_of spec.now.run) }
         requires words { spec.now.run.lines ≡ [] }
-        requires started { begins spec.now.run ≡ Started start.world.world }
-        requires whole { start.world.spent ≡ false }
-        requires of_spec { start.world.file ≡ spec.now }
-        requires marked { start.world.marked ≡ [] }
-        requires untold { start.world.told ≡ [] }
-        requires pairs { ArePairs spec.now.run start.pairs }
+        requires started { begins spec.now.run ≡ Started start.world }
+        requires whole { start.spent ≡ false }
+        requires of_spec { start.file ≡ spec.now }
+        requires marked { start.marked ≡ [] }
+        requires untold { start.told ≡ [] }
         requires few { end ≤ length (all_words shape.now) }
         requires order { first ≤ end }
         ensures walk { IfOk result (λ walk. IsWords spec.now reduce first end walk × (walk.at ≡ first)) }
@@ -147,7 +145,7 @@ fn find(
 {
     let before = stack.letters_left();
     'letter: while stack.letters_left() > 0 {
-        let turn = stack.turn(table, reduce, at);
+        let turn = stack.turn(table, reduce, at)?;
         let left = stack.letters_left();
         let behind = end.min(turn.block.end());
         if stack.is_swap(turn.letter) {

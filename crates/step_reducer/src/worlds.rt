@@ -1,17 +1,17 @@
 //! Calls on worlds that are not spent: only memory can be refused.
 
 ghost use mathlib.Core.List.{IsPrefix};
-ghost use Rattle.std.specs.Prelude.{◌≡◌, ◌<◌, ◌∷◌, false, length, slice_get, IfOk, OnErr, OnOk, Some};
+ghost use Rattle.std.specs.Prelude.{◌≡◌, ◌<◌, ◌∷◌, false, true, length, slice_get, IfOk, OnErr, OnOk, Some};
 ghost use Rattle.machine_model.specs.World.{send as world_sent, outcome_of};
 
-use marked_worlds::MarkedWorld;
+use known_worlds::KnownWorld;
 use session_steps::SendError;
 use std::alloc::AllocError;
 
 /// Sets a mark. Without memory everything stays as it was.
-pub(crate) fn mark(world: &mut MarkedWorld<'_>) -> Result<(), AllocError>
+pub(crate) fn mark(world: &mut KnownWorld<'_>) -> Result<(), AllocError>
     requires { world.old.spent ≡ false }
-    ensures marked { OnOk result (world.new ≡ record world.old { marked = world.old.world ∷ world.old.marked }) }
+    ensures marked { OnOk result (world.new ≡ record world.old { marked = world.old.world ∷ world.old.marked; level = false }) }
     ensures kept { OnErr result (world.new ≡ world.old) }
 {
     match world.mark() {
@@ -22,7 +22,7 @@ pub(crate) fn mark(world: &mut MarkedWorld<'_>) -> Result<(), AllocError>
 }
 
 /// Sends a step. What was at marks stays, whatever comes of it, and so do the outcomes that were told.
-pub(crate) fn send(world: &mut MarkedWorld<'_>, step: u8) -> Result<(), AllocError>
+pub(crate) fn send(world: &mut KnownWorld<'_>, step: u8) -> Result<(), AllocError>
     requires whole { world.old.spent ≡ false }
     requires known { step < length world.old.file.run.steps }
     ensures sent { OnOk result (world.new.world ≡ world_sent world.old.file.run.steps world.old.world step) }
@@ -39,14 +39,27 @@ pub(crate) fn send(world: &mut MarkedWorld<'_>, step: u8) -> Result<(), AllocErr
 }
 
 /// Tells the transcripts so far: the answer is their number among the outcomes that were told.
-pub(crate) fn outcome(world: &mut MarkedWorld<'_>) -> Result<usize, AllocError>
+pub(crate) fn outcome(world: &mut KnownWorld<'_>) -> Result<usize, AllocError>
     requires { world.old.spent ≡ false }
     ensures told { IfOk result (λ number. slice_get world.new.told number ≡ Some (outcome_of world.old.file.run.sessions world.old.world)) }
     ensures front { IsPrefix world.old.told world.new.told }
-    ensures same { world.new ≡ record world.old { told = world.new.told } }
+    ensures same { world.new ≡ record world.old { told = world.new.told; level = world.new.level } }
 {
     match world.outcome() {
         Ok(number) => Ok(number),
+        Err(SendError::NoMemory) => Err(AllocError),
+        Err(SendError::Spent) => unreachable!(),
+    }
+}
+
+/// Sees to it that the machine stands in the world, which stays as it is.
+pub(crate) fn settle(world: &mut KnownWorld<'_>) -> Result<(), AllocError>
+    requires { world.old.spent ≡ false }
+    ensures level { OnOk result (world.new.level ≡ true) }
+    ensures same { world.new ≡ record world.old { level = world.new.level } }
+{
+    match world.catch_up() {
+        Ok(()) => Ok(()),
         Err(SendError::NoMemory) => Err(AllocError),
         Err(SendError::Spent) => unreachable!(),
     }

@@ -9,7 +9,7 @@ use Rattle.book_audit.proofs.comparing.tells.Goals as goal
 pub returns-in-Some-clause-path : goal.returns-in-Some-clause-path
 returns-in-Some-clause-path c =
     let x = c.args.path.now in
-    subst (IsPath x.world.file) (sym c.in_ok-number.ensures.same) (path-told-more x.world.file x c.outcome.new.self.world.told c.requires.path)
+    subst (IsPath x.world.file) (sym c.in_ok-number.ensures.same) (path-told-more x.world.file x c.outcome.new.self.world.told c.outcome.new.self.world.level c.requires.path)
 
 pub returns-in-Some-clause-compared : goal.returns-in-Some-clause-compared
 returns-in-Some-clause-compared c =
@@ -28,7 +28,7 @@ returns-in-Some-clause-answer c =
 pub returns-clause-path : goal.returns-clause-path
 returns-clause-path c =
     let x = c.args.path.now in
-    subst (IsPath x.world.file) (sym c.in_ok-number.ensures.same) (path-told-more x.world.file x c.outcome.new.self.world.told c.requires.path)
+    subst (IsPath x.world.file) (sym c.in_ok-number.ensures.same) (path-told-more x.world.file x c.outcome.new.self.world.told c.outcome.new.self.world.level c.requires.path)
 
 -- what is noted is whether the text of what was told is the one at the place
 pub returns-clause-compared : goal.returns-clause-compared

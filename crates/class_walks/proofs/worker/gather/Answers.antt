@@ -1,4 +1,4 @@
-use Rattle.class_walks.proofs.Serving.{given-of, starts-on, gather-none, gather-next}
+use Rattle.class_walks.proofs.Serving.{given-of, starts-on, gather-none, gather-next, gather-leveled}
 use Rattle.class_walks.proofs.worker.gather.Goals as goal
 
 pub runs-init : goal.runs-init
@@ -18,4 +18,6 @@ add-requires-clause-given c =
 pub runs-preserved : goal.runs-preserved
 runs-preserved c =
     let so = c.in_ok-add-in-Ok-Some.ensures.so in
-    gather-next _ _ _ _ _ _ _ _ _ _ _ _ _ so.0 c.runs.invariant c.in-Ok-Some.field-0-is c.in-Ok-Some.ensures.run so.1 so.2 c.add.ensures.extends
+    gather-leveled _ _ _ _ _ c.next_run.new.self _ _ _
+    (gather-next _ _ _ _ _ _ c.next_run.new.self _ _ _ _ _ _ so.0 c.runs.invariant c.in-Ok-Some.field-0-is c.in-Ok-Some.ensures.run so.1 so.2 c.add.ensures.extends)
+    c.in_ok-add-in-Ok-Some.ensures.walk

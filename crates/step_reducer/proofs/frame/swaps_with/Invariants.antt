@@ -7,5 +7,6 @@ abbrev pub invariant-loop-smaller : goal.invariant-loop-smaller
 invariant-loop-smaller l = record {
   made : length l.swaps.items ≡ l.smaller;
   listed : (rest : List (List ℕ)) (ks : List ℕ) → ((a : ℕ) → LeftOf (get_or l.table a []) (get_or l.block.left a 0) (get_or rest a []))
-      → (b : ℕ) → b < l.smaller → get_or l.swaps.items b false ≡ quiet_heads l.world.file.run.steps l.world.world (l.step ∷ ks) (get_or rest b []);
+      → (b : ℕ) → b < l.smaller → get_or l.swaps.items b false ≡ quiet_heads l.initial.world.file.run.steps l.initial.world.world (l.step ∷ ks) (get_or rest b []);
+  same : l.world ≡ record l.initial.world { level = l.world.level };
 }

@@ -29,6 +29,11 @@ not-run spec first end k world = record { one = λ o e. not-ran k o e; world_is 
     not-ran : {A : Type 0} (k : ℕ) (o : List (List Event)) → Swap k ≡ Ran o → A
     not-ran k o e = cc
 
+-- behind a turn the stack is the same, wherever the machine stands
+turned : (reduce : Bool) (file : SpecFile) (at end : ℕ) (x y : Stacked) → y ≡ record x { level = y.level } → IsAt reduce file at end x
+    → IsAt reduce file at end y
+turned reduce file at end x y same is = subst (IsAt reduce file at end) (sym same) (at-told reduce file at end x x.told y.level is)
+
 pub returns-then-is_swap-clause-ran : goal.returns-then-is_swap-clause-ran
 returns-then-is_swap-clause-ran c = not-run _ _ _ _ _
 
@@ -38,10 +43,11 @@ returns-then-is_covered-clause-ran c = not-run _ _ _ _ _
 pub returns-then-is_swap-clause-found : goal.returns-then-is_swap-clause-found
 returns-then-is_swap-clause-found c =
     let file = c.args.stack.now.top.world.file in
-    let top = c.letter.stack.top in
-    let frame = c.letter.invariant.at.stack.top.frame in
-    let turn = c.turn-turn.ensures in
-    let u = c.turn-turn.result in
+    let top = c.turn.new.self.top in
+    let now = turned c.args.reduce file c.args.at c.args.all c.letter.stack c.turn.new.self c.in_ok-turn.ensures.same c.letter.invariant.at in
+    let frame = now.stack.top.frame in
+    let turn = c.in_ok-turn.ensures.turn in
+    let u = c.in_ok-turn.turn in
     let listed : get_or top.swaps u.letter false ≡ true = sym c.is_swap.ensures ∙ c.if-is_swap.true in
     let letters = frame.stands.ranks.letters in
     let some = frame.stands.some u.letter listed in
@@ -64,10 +70,11 @@ returns-then-is_swap-clause-found c =
 pub returns-then-is_swap-clause-sent : goal.returns-then-is_swap-clause-sent
 returns-then-is_swap-clause-sent c =
     let file = c.args.stack.now.top.world.file in
-    let top = c.letter.stack.top in
-    let frame = c.letter.invariant.at.stack.top.frame in
-    let turn = c.turn-turn.ensures in
-    let u = c.turn-turn.result in
+    let top = c.turn.new.self.top in
+    let now = turned c.args.reduce file c.args.at c.args.all c.letter.stack c.turn.new.self c.in_ok-turn.ensures.same c.letter.invariant.at in
+    let frame = now.stack.top.frame in
+    let turn = c.in_ok-turn.ensures.turn in
+    let u = c.in_ok-turn.turn in
     let listed : get_or top.swaps u.letter false ≡ true = sym c.is_swap.ensures ∙ c.if-is_swap.true in
     let letters = frame.stands.ranks.letters in
     let before = c.requires.has.stack.top.frame.stands.ranks.letters in
@@ -89,10 +96,11 @@ returns-then-is_swap-clause-sent c =
 pub returns-then-is_covered-clause-found : goal.returns-then-is_covered-clause-found
 returns-then-is_covered-clause-found c =
     let file = c.args.stack.now.top.world.file in
-    let top = c.letter.stack.top in
-    let frame = c.letter.invariant.at.stack.top.frame in
-    let turn = c.turn-turn.ensures in
-    let u = c.turn-turn.result in
+    let top = c.turn.new.self.top in
+    let now = turned c.args.reduce file c.args.at c.args.all c.letter.stack c.turn.new.self c.in_ok-turn.ensures.same c.letter.invariant.at in
+    let frame = now.stack.top.frame in
+    let turn = c.in_ok-turn.ensures.turn in
+    let u = c.in_ok-turn.turn in
     let unlisted : get_or top.swaps u.letter false ≡ false = sym c.is_swap.ensures ∙ c.if-is_swap.false in
     let covered = c.is_covered.ensures c.if-is_covered.true in
     let letters = frame.stands.ranks.letters in
@@ -116,10 +124,11 @@ returns-then-is_covered-clause-found c =
 pub returns-then-is_covered-clause-sent : goal.returns-then-is_covered-clause-sent
 returns-then-is_covered-clause-sent c =
     let file = c.args.stack.now.top.world.file in
-    let top = c.letter.stack.top in
-    let frame = c.letter.invariant.at.stack.top.frame in
-    let turn = c.turn-turn.ensures in
-    let u = c.turn-turn.result in
+    let top = c.turn.new.self.top in
+    let now = turned c.args.reduce file c.args.at c.args.all c.letter.stack c.turn.new.self c.in_ok-turn.ensures.same c.letter.invariant.at in
+    let frame = now.stack.top.frame in
+    let turn = c.in_ok-turn.ensures.turn in
+    let u = c.in_ok-turn.turn in
     let unlisted : get_or top.swaps u.letter false ≡ false = sym c.is_swap.ensures ∙ c.if-is_swap.false in
     let covered = c.is_covered.ensures c.if-is_covered.true in
     let letters = frame.stands.ranks.letters in
@@ -173,17 +182,27 @@ returns-clause-ran c =
 
 pub letter-smaller : goal.letter-smaller
 letter-smaller c =
-    (c.in_ok-descend.ensures.gone c.args.reduce c.args.stack.now.top.world.file c.args.at (omega (arith, c.requires.some, c.requires.inside))
-    c.letter.invariant.at c.turn-turn.ensures
-    (sym c.is_swap.ensures ∙ c.if-is_swap.false)).less
+    let file = c.args.stack.now.top.world.file in
+    let now = turned c.args.reduce file c.args.at c.args.all c.letter.stack c.turn.new.self c.in_ok-turn.ensures.same c.letter.invariant.at in
+    let gone = c.in_ok-descend.ensures.gone c.args.reduce file c.args.at (omega (arith, c.requires.some, c.requires.inside)) now c.in_ok-turn.ensures.turn
+    (sym c.is_swap.ensures ∙ c.if-is_swap.false) in
+    let less = gone.less in
+    let same = ap (λ (s : Stacked). total s.top.block.left) c.in_ok-turn.ensures.same in
+    omega (arith, less, same)
 
 pub letter-preserved : goal.letter-preserved
 letter-preserved c =
-    let gone = c.in_ok-descend.ensures.gone c.args.reduce c.args.stack.now.top.world.file c.args.at (omega (arith, c.requires.some, c.requires.inside))
-    c.letter.invariant.at c.turn-turn.ensures
+    let file = c.args.stack.now.top.world.file in
+    let now = turned c.args.reduce file c.args.at c.args.all c.letter.stack c.turn.new.self c.in_ok-turn.ensures.same c.letter.invariant.at in
+    let gone = c.in_ok-descend.ensures.gone c.args.reduce file c.args.at (omega (arith, c.requires.some, c.requires.inside)) now c.in_ok-turn.ensures.turn
     (sym c.is_swap.ensures ∙ c.if-is_swap.false) in
     let less = gone.less in
-    record { at = gone.now; letters = omega (arith, less, c.letter.invariant.letters); told = c.in_ok-descend.ensures.told ∙ c.letter.invariant.told }
+    let same = ap (λ (s : Stacked). total s.top.block.left) c.in_ok-turn.ensures.same in
+    record {
+      at = gone.now;
+      letters = omega (arith, less, same, c.letter.invariant.letters);
+      told = c.in_ok-descend.ensures.told ∙ ap (λ (s : Stacked). s.told) c.in_ok-turn.ensures.same ∙ c.letter.invariant.told;
+    }
 
 pub returns-clause-found : goal.returns-clause-found
 returns-clause-found c =
@@ -216,7 +235,7 @@ pub returns-clause-has : goal.returns-clause-has
 returns-clause-has c =
     let file = c.args.stack.now.top.world.file in
     subst (IsAt c.args.reduce file c.args.at c.args.all) (sym c.in_ok-number.ensures.same)
-    (at-told c.args.reduce file c.args.at c.args.all c.letter.stack c.outcome.new.self.told c.letter.invariant.at)
+    (at-told c.args.reduce file c.args.at c.args.all c.letter.stack c.outcome.new.self.told c.outcome.new.self.level c.letter.invariant.at)
 
 pub returns-clause-number : goal.returns-clause-number
 returns-clause-number c = slice_get_within c.outcome.new.self.told c.in_ok-number.number _ c.in_ok-number.ensures.told

@@ -4,7 +4,7 @@ use Rattle.step_reducer.specs.Fronts.{line_before}
 use Rattle.step_reducer.proofs.walk.Walk.start.Goals as goal
 
 pub returns-in_ok-walk-in-Some-clause-started : goal.returns-in_ok-walk-in-Some-clause-started
-returns-in_ok-walk-in-Some-clause-started c = (c.in_ok-start-in-Some.start.world.world, c.in_ok-start-in-Some.ensures.started)
+returns-in_ok-walk-in-Some-clause-started c = (c.in_ok-start-in-Some.start.world, c.in_ok-start-in-Some.ensures.started)
 
 pub returns-in_ok-walk-in-None-clause-walk : goal.returns-in_ok-walk-in-None-clause-walk
 returns-in_ok-walk-in-None-clause-walk c =
