@@ -1,7 +1,9 @@
-use Rattle.std.proofs.Common.{◌≡◌, sym, ap, ◌∙◌, subst, ℕ, suc, ◌+◌, ◌<◌, List, length, take, get_or, arith, add-one}
+use Rattle.std.proofs.Common.{◌≡◌, sym, ap, ◌∙◌, subst, ℕ, suc, ◌+◌, ◌<◌, Bool, List, length, take, get_or, arith, add-one}
 use Rattle.bound_specs.specs.Spec.{SpecFile, no_step, line_of}
 use Rattle.machine_model.specs.World.{send_all}
+use Rattle.std.proofs.lemmas.Result.{IfOk-weaker}
 use Rattle.rank_facts.specs.Quiet.{is_quiet}
+use Rattle.rank_facts.specs.Swap.{are_quiet_at}
 use Rattle.marked_paths.specs.Paths.{first_world}
 use Rattle.marked_paths.proofs.PathLemmas.{path-own}
 use Rattle.book_audit.proofs.testing.are_quiet.Goals as goal
@@ -39,5 +41,9 @@ returns-clause-answer c =
     ap (λ ks. get_or ks (place + 1) 0) (c.deref-2.ensures.0 ∙ all_is) ∙ ap (λ n. get_or all n 0) (add-one place) in
     let front : c.go_to.new.self.line.items ≡ take place all =
     c.in_ok-go_to.ensures.line ∙ c.truncate.ensures.items ∙ ap (λ ks. take place ks) all_is in
-    c.is_quiet.ensures ∙ (λ i. is_quiet (send_all (same i).run.steps (first_world (same i).run) (front i))
-    (get_or (same i).run.steps (first i) no_step) (get_or (same i).run.steps (second i) no_step))
+    let there = is_quiet (send_all (c.go_to.new.self.world.file).run.steps (first_world (c.go_to.new.self.world.file).run) c.go_to.new.self.line.items)
+    (get_or (c.go_to.new.self.world.file).run.steps (get_or c.deref.result.now place 0) no_step)
+    (get_or (c.go_to.new.self.world.file).run.steps (get_or c.deref-2.result.now (place + 1) 0) no_step) in
+    IfOk-weaker c.is_quiet.result (λ yes. yes ≡ there) (λ (yes : Bool). yes ≡ are_quiet_at run (first_world run) c.args.rank place)
+    (λ yes is. is ∙ (λ i. is_quiet (send_all (same i).run.steps (first_world (same i).run) (front i))
+    (get_or (same i).run.steps (first i) no_step) (get_or (same i).run.steps (second i) no_step))) c.is_quiet.ensures.answer
