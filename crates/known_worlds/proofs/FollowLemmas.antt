@@ -1,12 +1,12 @@
 -- A machine along its path.
-use Rattle.std.proofs.Common.{◌≡◌, ◌<◌, ◌+◌, ◌∙◌, sym, ap, arith, ℕ, Bool, true, false, List, [], ◌∷◌, ◌++◌, length, get_or, take}
-use Rattle.std.proofs.lemmas.List.{take_more, take_all}
+use Rattle.std.proofs.Common.{◌≡◌, ◌≢◌, ◌≤◌, ◌&&◌, not, ne_eqb, ◌<◌, ◌+◌, ◌∙◌, sym, ap, arith, ℕ, Bool, true, false, List, [], ◌∷◌, ◌++◌, length, get_or, take}
+use Rattle.std.proofs.lemmas.List.{length-append, take_more, take_all}
 use Rattle.bound_specs.specs.Spec.{SpecFile}
 use Rattle.marked_worlds.specs.Worlds.{MarkedRunning}
 use Rattle.known_worlds.specs.declared.moves.Move.{Move}
 use Rattle.known_worlds.specs.declared.follower.Follower.{Follower}
 use Rattle.known_worlds.specs.Moves.{first_world, world_after, world_behind, marked_after, marked_behind, IsNewestMark}
-use Rattle.known_worlds.specs.Following.{aside, led, root, Follows}
+use Rattle.known_worlds.specs.Following.{aside, is_level, led, root, Follows}
 use Rattle.known_worlds.proofs.MoveLemmas.{world-last, marked-last}
 
 abbrev pub at : MarkedRunning → ℕ → Bool → Follower
@@ -39,20 +39,27 @@ same-file x y same = ap (λ (m : MarkedRunning). m.file) same
 
 -- ---- the world behind the path
 
-pub led-moved : (x : MarkedRunning) (path : List Move) (m : Move) → led x (path ++ m ∷ []) ≡ record (led x path) {
-  world = world_after x.file.run.steps (led x path).world m;
-  marked = marked_after (led x path).world (led x path).marked m;
+pub led-moved : (x : MarkedRunning) (old new : Bool) (path : List Move) (m : Move) → led x new (path ++ m ∷ []) ≡ record (led x old path) {
+  world = world_after x.file.run.steps (led x old path).world m;
+  marked = marked_after (led x old path).world (led x old path).marked m;
+  level = new;
 }
-led-moved x path m =
+led-moved x old new path m =
     let steps = x.file.run.steps in
     let first = first_world x.file.run in
-    λ i. record x { world = world-last steps first path m i; marked = marked-last steps first [] path m i; spent = false }
+    λ i. record (led x new path) { world = world-last steps first path m i; marked = marked-last steps first [] path m i }
 
-pub led-back : (x y : MarkedRunning) (path : List Move) (place : ℕ) → aside y ≡ aside x → IsNewestMark path (length path) place
-    → (led x path).marked ≡ (led y (take place path)).world ∷ (led y (take place path)).marked
-led-back x y path place same mark =
+pub led-back : (x y : MarkedRunning) (old new : Bool) (path : List Move) (place : ℕ) → aside y ≡ aside x → IsNewestMark path (length path) place
+    → (led x old path).marked ≡ (led y new (take place path)).world ∷ (led y new (take place path)).marked
+led-back x y old new path place same mark =
     let first = first_world x.file.run in
     ap (marked_behind x.file.run.steps first []) (sym (take_all (length path) path (omega arith)))
     ∙ mark.newest (length path) mark.before (omega arith) x.file.run.steps first []
     ∙ ap (λ (f : SpecFile). world_behind f.run.steps (first_world f.run) (take place path) ∷ marked_behind f.run.steps (first_world f.run) [] (take place path))
     (sym (same-file x y same))
+
+-- where a move comes behind them, not all are made
+pub not-level : (f : Follower) (path new : List Move) (m : Move) → f.made ≤ length path → new ≡ path ++ m ∷ [] → is_level f new ≡ false
+not-level f path new m few is =
+    let apart : f.made ≢ length new = λ same. omega (arith, few, same, ap (λ (ms : List Move). length ms) is, length-append path (m ∷ [])) in
+    ap (λ b. b && not f.machine.spent) (ne_eqb f.made (length new) apart)

@@ -1,3 +1,3 @@
 mod MoveLemmas
 mod FollowLemmas
-mod KnownLemmas
+mod RememberedLemmas

@@ -1,9 +1,10 @@
 -- A machine that falls behind a path of moves. No public clause cites this module.
-use Rattle.std.specs.Prelude.{◌≡◌, ◌≤◌, Bool, true, false, List, [], ◌∷◌, length, take, All}
+use Rattle.std.specs.Prelude.{◌≡◌, ◌==◌, ◌&&◌, not, ◌≤◌, Bool, true, false, List, [], ◌∷◌, length, take, All}
 use Rattle.bound_specs.specs.Spec.{SpecFile}
 use Rattle.machine_model.specs.World.{World, blank}
 use Rattle.plan_pairs.specs.Pairs.{ArePairs}
 use Rattle.marked_worlds.specs.Worlds.{MarkedRunning}
+use Rattle.known_worlds.specs.Late.{LateRunning}
 use Rattle.known_worlds.specs.declared.moves.Move.{Move}
 use Rattle.known_worlds.specs.declared.follower.Follower.{Follower}
 use Rattle.known_worlds.specs.Moves.{first_world, world_behind, marked_behind, IsMoveOf}
@@ -27,12 +28,20 @@ pub record Follows (file : SpecFile) (path : List Move) (f : Follower) : Type 0 
   pub bare : f.is_rooted ≡ false → f.made ≡ 0
   pub whole : f.is_rooted ≡ false → f.machine.spent ≡ false
 
+-- the machine has made all moves of the path
+abbrev pub is_level : Follower → List Move → Bool
+is_level f path = (f.made == length path) && not f.machine.spent
+
 -- the world behind the path, of a machine that follows it
-abbrev pub led : MarkedRunning → List Move → MarkedRunning
-led m path = record m {
+abbrev pub led : MarkedRunning → Bool → List Move → LateRunning
+led m level path = record {
+  file = m.file;
+  numbers = m.numbers;
   world = world_behind m.file.run.steps (first_world m.file.run) path;
   marked = marked_behind m.file.run.steps (first_world m.file.run) [] path;
-  spent = false;
+  told = m.told;
+  seen = m.seen;
+  level = level;
 }
 
 -- what is kept: the machine follows the path, whose moves are of its spec, and so are the pairs

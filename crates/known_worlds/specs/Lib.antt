@@ -1,3 +1,5 @@
 pub mod Moves
 pub mod Following
 pub mod Known
+pub mod Late
+pub mod Remembered

@@ -3,7 +3,7 @@
 ghost use Rattle.std.specs.Prelude.{◌≡◌, ◌+◌, ◌<◌, ◌≤◌, All, IfSome, OnErr, OnOk, false, length, take, true};
 ghost use Rattle.known_worlds.specs.Moves.{first_world, HaveNoMark, IsMarkAt, IsMoveOf, IsNewestMark, marked_after, world_after, world_behind};
 ghost use Rattle.known_worlds.specs.declared.moves.Move.TheVariants.{Mark, Send};
-ghost use Rattle.known_worlds.specs.Following.{aside, Follows};
+ghost use Rattle.known_worlds.specs.Following.{aside, Follows, is_level};
 
 use crate::moves::{Move, newest_mark};
 use marked_worlds::MarkedWorld;
@@ -20,19 +20,15 @@ pub(crate) struct Follower<'a> {
 }
 
 impl<'a> Follower<'a> {
-    /// The machine, if it has made all moves.
-    pub(crate) fn caught_up(&self, path: &[Move]) -> Option<&MarkedWorld<'a>>
-        requires { Follows self.now.machine.file path.now self.now }
-        ensures { IfSome result (λ machine. machine.now ≡ record self.now.machine {
-          world = world_behind self.now.machine.file.run.steps (first_world self.now.machine.file.run) path.now;
-          spent = false;
-        }) }
+    /// The machine, when it has made all moves.
+    pub(crate) fn caught_up(&self, path: &[Move]) -> &MarkedWorld<'a>
+        requires follows { Follows self.now.machine.file path.now self.now }
+        requires level { is_level self.now path.now ≡ true }
+        ensures is { result.now ≡ self.now.machine }
+        ensures world { result.now.world ≡ world_behind self.now.machine.file.run.steps (first_world self.now.machine.file.run) path.now }
+        ensures whole { result.now.spent ≡ false }
     {
-        if self.made == path.len() && !self.machine.spent() {
-            Some(&self.machine)
-        } else {
-            None
-        }
+        &self.machine
     }
 }
 
@@ -42,6 +38,7 @@ impl Follower<'_> {
         requires follows { Follows self.old.machine.file path.now self.old }
         requires moves { All (IsMoveOf self.old.machine.file) path.now }
         ensures follows { Follows self.old.machine.file path.now self.new }
+        ensures level { OnOk result (is_level self.new path.now ≡ true) }
         ensures whole { OnOk result (self.new.machine.spent ≡ false) }
         ensures world { OnOk result (self.new.machine.world ≡ world_behind self.old.machine.file.run.steps (first_world self.old.machine.file.run) path.now) }
         ensures aside { aside self.new.machine ≡ aside self.old.machine }

@@ -2,8 +2,8 @@
 
 ghost use Rattle.std.specs.Prelude.{◌≡◌, IfSome};
 ghost use Rattle.machine_model.specs.World.{World, send};
-ghost use Rattle.marked_worlds.specs.Worlds.{MarkedRunning};
-ghost use Rattle.known_worlds.specs.Known.{are_quiet, IsGraph, IsNoted, IsToldAs};
+ghost use Rattle.known_worlds.specs.Late.{LateRunning};
+ghost use Rattle.known_worlds.specs.Remembered.{are_quiet, IsGraph, IsNoted, IsToldAs};
 
 use crate::places::{item_at, put_at};
 use bound_specs::Spec;
@@ -52,7 +52,7 @@ pub(crate) struct Graph {
 impl Graph {
     /// Nothing is known. It takes no memory.
     pub(crate) fn new(alloc: Global, spec: &Spec) -> Graph
-        ensures { (r : MarkedRunning) → IsGraph r result }
+        ensures { (r : LateRunning) → IsGraph r result }
     {
         Graph {
             steps: spec.steps(),
@@ -65,7 +65,7 @@ impl Graph {
 
     /// The number of the world to which a step leads, if it is known.
     pub(crate) fn next(&self, at: Option<u32>, step: u8) -> Option<u32>
-        ensures { (r : MarkedRunning) → IsGraph r self.now → IsNoted r.seen at r.world → IsNoted r.seen result (send r.file.run.steps r.world step) }
+        ensures { (r : LateRunning) → IsGraph r self.now → IsNoted r.seen at r.world → IsNoted r.seen result (send r.file.run.steps r.world step) }
     {
         let from = at?;
         let edge = item_at(self.edges.as_slice(), edge_place(self.steps, from, step))?;
@@ -78,7 +78,7 @@ impl Graph {
 
     /// Remembers where a step leads.
     pub(crate) fn note_next(&mut self, at: Option<u32>, step: u8, to: Option<u32>)
-        ensures { (r : MarkedRunning) (w : World) → IsGraph r self.old → IsNoted r.seen at w → IsNoted r.seen to (send r.file.run.steps w step) → IsGraph r self.new }
+        ensures { (r : LateRunning) (w : World) → IsGraph r self.old → IsNoted r.seen at w → IsNoted r.seen to (send r.file.run.steps w step) → IsGraph r self.new }
     {
         if let Some(from) = at {
             if let Some(to) = to {
@@ -93,7 +93,7 @@ impl Graph {
 
     /// The number of the outcome of a world, if it is known.
     pub(crate) fn outcome(&self, at: Option<u32>) -> Option<usize>
-        ensures { (r : MarkedRunning) → IsGraph r self.now → IsNoted r.seen at r.world → IfSome result (IsToldAs r r.world) }
+        ensures { (r : LateRunning) → IsGraph r self.now → IsNoted r.seen at r.world → IfSome result (IsToldAs r r.world) }
     {
         let at = at?;
         let told = item_at(self.told.as_slice(), at as usize)?;
@@ -106,7 +106,7 @@ impl Graph {
 
     /// Remembers the outcome of a world.
     pub(crate) fn note_outcome(&mut self, at: Option<u32>, outcome: usize)
-        ensures { (r : MarkedRunning) → IsGraph r self.old → IsNoted r.seen at r.world → IsToldAs r r.world outcome → IsGraph r self.new }
+        ensures { (r : LateRunning) → IsGraph r self.old → IsNoted r.seen at r.world → IsToldAs r r.world outcome → IsGraph r self.new }
     {
         if let Some(at) = at {
             put_at(&mut self.told, at as usize, ToldWorld { at, outcome });
@@ -115,7 +115,7 @@ impl Graph {
 
     /// Whether two steps are quiet in a world, if it is known.
     pub(crate) fn quiet(&self, at: Option<u32>, cell: usize, step: u8, other: u8) -> Option<bool>
-        ensures { (r : MarkedRunning) → IsGraph r self.now → IsNoted r.seen at r.world → IfSome result (λ yes. yes ≡ are_quiet r r.world step other) }
+        ensures { (r : LateRunning) → IsGraph r self.now → IsNoted r.seen at r.world → IfSome result (λ yes. yes ≡ are_quiet r r.world step other) }
     {
         let at = at?;
         let answer = item_at(self.quiet.as_slice(), pair_place(self.sessions, at, cell))?;
@@ -135,7 +135,7 @@ impl Graph {
         other: u8,
         is_quiet: bool,
     )
-        ensures { (r : MarkedRunning) → IsGraph r self.old → IsNoted r.seen at r.world → is_quiet ≡ are_quiet r r.world step other → IsGraph r self.new }
+        ensures { (r : LateRunning) → IsGraph r self.old → IsNoted r.seen at r.world → is_quiet ≡ are_quiet r r.world step other → IsGraph r self.new }
     {
         if let Some(at) = at {
             put_at(

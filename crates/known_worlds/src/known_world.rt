@@ -6,8 +6,8 @@ ghost use Rattle.machine_model.specs.Outcome.{IsOutcomeOf};
 ghost use Rattle.machine_model.specs.Start.{Started, start};
 ghost use Rattle.machine_model.specs.World.{World, outcome_of, send};
 ghost use Rattle.session_steps.specs.Refused.{IsRefusedBy};
-ghost use Rattle.marked_quiet.specs.Quiet.{is_quiet_at};
-ghost use Rattle.known_worlds.specs.Known.{are_quiet, AreNoted, IsGraph, IsNoted};
+ghost use Rattle.known_worlds.specs.Known.{is_quiet_in};
+ghost use Rattle.known_worlds.specs.Remembered.{are_quiet, AreNoted, IsGraph, IsNoted};
 
 use crate::graph::Graph;
 use crate::late_world::LateWorld;
@@ -21,7 +21,8 @@ use transcripts::Outcome;
 /// A world over a spec, with marks to go back to, that remembers which step led from which world to which, and what was answered of each world. Where that
 /// is known no machine runs.
 ///
-/// Contracts see what they see of a `MarkedWorld`, and its calls promise the same. What is remembered is not seen, nor which worlds were noted.
+/// Contracts see what they see of a `MarkedWorld`, and its calls promise the same. What is remembered is not seen, nor which worlds were noted; but
+/// whether the machine stands in the world now, for who asks it more.
 pub struct KnownWorld<'a> {
     late: LateWorld<'a>,
     graph: Graph,
@@ -54,10 +55,11 @@ impl<'a> Model for KnownWorld<'a> {
     ghost use Rattle.bound_statements.specs.contracts.statement.Bound as bound;
     ghost use Rattle.numbered_specs.specs.contracts.request.NumberedRequest as request;
     ghost use Rattle.transcripts.specs.contracts.event.Event as event;
-    ghost use Rattle.marked_worlds.specs.Worlds.{MarkedRunning};
-    ghost use Rattle.known_worlds.specs.Known.{IsKnown, shown};
+    ghost use Rattle.known_worlds.specs.Known.{KnownRunning};
+    ghost use Rattle.known_worlds.specs.Late.{shown};
+    ghost use Rattle.known_worlds.specs.Remembered.{IsKnown};
 
-    ghost Value = { MarkedRunning };
+    ghost Value = { KnownRunning };
 
     ghost coded = { Prim.hlevel (codes, map_code, value.the_row.coded, bound.the_row.coded, resource.the_row.coded, waiting.the_row.coded, request.the_row.coded, event.the_row.coded) };
 
@@ -94,13 +96,16 @@ impl<'a> KnownWorld<'a> {
         self.late.spec()
     }
 
-    /// The machine, if it has caught up with this world. It has marks of its own, and the worlds that it has noted.
-    pub fn machine(&self) -> Option<&MarkedWorld<'a>>
-        ensures { IfSome result (λ machine. machine.now ≡ record self.now { marked = machine.now.marked; seen = machine.now.seen }) }
+    /// The machine, when it stands in the world now. It has marks of its own, and the worlds that it has noted.
+    pub fn machine(&self) -> &MarkedWorld<'a>
+        requires { self.now.level ≡ true }
+        ensures world { result.now.world ≡ self.now.world }
+        ensures of_spec { result.now.file ≡ self.now.file }
+        ensures numbers { result.now.numbers ≡ self.now.numbers }
+        ensures told { result.now.told ≡ self.now.told }
+        ensures whole { result.now.spent ≡ false }
+        ensures now { self.now.spent ≡ false }
     {
-        if self.is_spent {
-            return None;
-        }
         self.late.machine()
     }
 }
@@ -139,7 +144,7 @@ impl KnownWorld<'_> {
 
     /// Sets a mark, to which the world can go back; a spent one sets none. Where it is refused everything stays as it was.
     pub fn mark(&mut self) -> Result<(), SendError>
-        ensures marked { OnOk result (self.new ≡ record self.old { marked = self.old.world ∷ self.old.marked }) }
+        ensures marked { OnOk result (self.new ≡ record self.old { marked = self.old.world ∷ self.old.marked; level = false }) }
         ensures spent { IsErrOf result SendError.Spent ↔ (self.old.spent ≡ true) }
         ensures kept { OnErr result (self.new ≡ self.old) }
     {
@@ -168,8 +173,9 @@ impl KnownWorld<'_> {
 
     /// Lets the machine catch up with this world, for who asks it more. A spent one does not.
     pub fn catch_up(&mut self) -> Result<(), SendError>
+        ensures level { OnOk result (self.new ≡ record self.old { level = true }) }
         ensures spent { IsErrOf result SendError.Spent ↔ (self.old.spent ≡ true) }
-        ensures same { self.new ≡ self.old }
+        ensures same { self.new ≡ record self.old { level = self.new.level } }
     {
         if self.is_spent {
             return Err(SendError::Spent);
@@ -185,7 +191,7 @@ impl KnownWorld<'_> {
         ensures own { IfOk result (λ number. IfSome (slice_get self.new.told number) (IsOutcomeOf self.old.file.run)) }
         ensures spent { IsErrOf result SendError.Spent ↔ (self.old.spent ≡ true) }
         ensures front { IsPrefix self.old.told self.new.told }
-        ensures same { self.new ≡ record self.old { told = self.new.told } }
+        ensures same { self.new ≡ record self.old { told = self.new.told; level = self.new.level } }
     {
         if self.is_spent {
             return Err(SendError::Spent);
@@ -205,7 +211,7 @@ impl KnownWorld<'_> {
     pub fn tells(&mut self, outcome: &Outcome) -> Result<bool, SendError>
         ensures told { IfOk result (λ yes. IsTrue yes ↔ outcome_of self.old.file.run.sessions self.old.world ≡ outcome.now) }
         ensures spent { IsErrOf result SendError.Spent ↔ (self.old.spent ≡ true) }
-        ensures same { self.new ≡ self.old }
+        ensures same { self.new ≡ record self.old { level = self.new.level } }
     {
         if self.is_spent {
             return Err(SendError::Spent);
@@ -217,8 +223,8 @@ impl KnownWorld<'_> {
     pub fn is_quiet(&mut self, step: u8, other: u8) -> Result<bool, AllocError>
         requires step { step < length self.old.file.run.steps }
         requires other { other < length self.old.file.run.steps }
-        ensures answer { IfOk result (λ yes. yes ≡ is_quiet_at self.old step other) }
-        ensures same { self.new ≡ self.old }
+        ensures answer { IfOk result (λ yes. yes ≡ is_quiet_in self.old step other) }
+        ensures same { self.new ≡ record self.old { level = self.new.level } }
     {
         if self.is_spent {
             return Ok(false);
@@ -242,7 +248,7 @@ fn newest(marks: &mut Vec<Option<u32>>) -> Option<u32>
 fn number_of(late: &mut LateWorld<'_>) -> Result<Option<u32>, AllocError>
     ensures known { IfOk result (λ at. IsNoted late.new.seen at late.old.world) }
     ensures front { IsPrefix late.old.seen late.new.seen }
-    ensures same { late.new ≡ record late.old { seen = late.new.seen } }
+    ensures same { late.new ≡ record late.old { seen = late.new.seen; level = late.new.level } }
 {
     Ok(small(late.number()?))
 }
@@ -270,7 +276,7 @@ fn step_on(
     ensures noted { IfOk result (λ to. IsNoted late.new.seen to late.new.world) }
     ensures graph { IsGraph late.new graph.new }
     ensures front { IsPrefix late.old.seen late.new.seen }
-    ensures same { late.new ≡ record late.old { world = late.new.world; seen = late.new.seen } }
+    ensures same { late.new ≡ record late.old { world = late.new.world; seen = late.new.seen; level = late.new.level } }
 {
     let known = graph.next(at, step);
     late.send(step)?;
@@ -296,7 +302,7 @@ fn outcome_in(
     ensures own { IfOk result (λ number. IfSome (slice_get late.new.told number) (IsOutcomeOf late.old.file.run)) }
     ensures graph { IsGraph late.new graph.new }
     ensures front { IsPrefix late.old.told late.new.told }
-    ensures same { late.new ≡ record late.old { told = late.new.told } }
+    ensures same { late.new ≡ record late.old { told = late.new.told; level = late.new.level } }
 {
     if let Some(number) = graph.outcome(at) {
         return Ok(number);
@@ -320,7 +326,7 @@ fn quiet_in(
     requires graph { IsGraph late.old graph.old }
     ensures answer { IfOk result (λ yes. yes ≡ are_quiet late.old late.old.world step other) }
     ensures graph { IsGraph late.new graph.new }
-    ensures same { late.new ≡ late.old }
+    ensures same { late.new ≡ record late.old { level = late.new.level } }
 {
     let spec = late.spec();
     let cell = graph.cell(spec.session_of(step), spec.session_of(other));

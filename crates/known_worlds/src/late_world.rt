@@ -1,12 +1,12 @@
 //! A world whose machine runs only when something is asked of it.
 
 ghost use mathlib.Core.List.{IsPrefix};
-ghost use Rattle.std.specs.Prelude.{◌≡◌, ◌<◌, ◌∷◌, ◌↔◌, [], IfErr, IfOk, IfSome, IsTrue, OnErr, OnOk, Some, false, length, slice_get};
+ghost use Rattle.std.specs.Prelude.{◌≡◌, ◌<◌, ◌∷◌, ◌↔◌, [], IfErr, IfOk, IfSome, IsTrue, OnErr, OnOk, Some, false, length, slice_get, true};
 ghost use Rattle.machine_model.specs.Outcome.{IsOutcomeOf};
 ghost use Rattle.machine_model.specs.Start.{Started, start};
 ghost use Rattle.machine_model.specs.World.{outcome_of, send};
 ghost use Rattle.session_steps.specs.Refused.{IsRefusedBy};
-ghost use Rattle.known_worlds.specs.Known.{are_quiet};
+ghost use Rattle.known_worlds.specs.Remembered.{are_quiet};
 
 use crate::follower::Follower;
 use crate::moves::{Move, newest_mark};
@@ -42,14 +42,14 @@ impl<'a> Model for LateWorld<'a> {
     ghost use Rattle.bound_statements.specs.contracts.statement.Bound as bound;
     ghost use Rattle.numbered_specs.specs.contracts.request.NumberedRequest as request;
     ghost use Rattle.transcripts.specs.contracts.event.Event as event;
-    ghost use Rattle.marked_worlds.specs.Worlds.{MarkedRunning};
-    ghost use Rattle.known_worlds.specs.Following.{IsLate, led};
+    ghost use Rattle.known_worlds.specs.Late.{LateRunning};
+    ghost use Rattle.known_worlds.specs.Following.{IsLate, is_level, led};
 
-    ghost Value = { MarkedRunning };
+    ghost Value = { LateRunning };
 
     ghost coded = { Prim.hlevel (codes, map_code, value.the_row.coded, bound.the_row.coded, resource.the_row.coded, waiting.the_row.coded, request.the_row.coded, event.the_row.coded) };
 
-    ghost view = { λ w. led w.follower.machine w.path.items };
+    ghost view = { λ w. led w.follower.machine (is_level w.follower w.path.items) w.path.items };
 
     ghost invariant = { λ w. IsLate w.follower w.pairs w.path.items };
 }
@@ -85,9 +85,14 @@ impl<'a> LateWorld<'a> {
         self.follower.machine.spec()
     }
 
-    /// The machine, if it has made all moves. It has marks of its own.
-    pub(crate) fn machine(&self) -> Option<&MarkedWorld<'a>>
-        ensures { IfSome result (λ machine. machine.now ≡ record self.now { marked = machine.now.marked; spent = false }) }
+    /// The machine, when it has made all moves. It has marks of its own.
+    pub(crate) fn machine(&self) -> &MarkedWorld<'a>
+        requires { self.now.level ≡ true }
+        ensures world { result.now.world ≡ self.now.world }
+        ensures of_spec { result.now.file ≡ self.now.file }
+        ensures numbers { result.now.numbers ≡ self.now.numbers }
+        ensures told { result.now.told ≡ self.now.told }
+        ensures whole { result.now.spent ≡ false }
     {
         self.follower.caught_up(self.path.as_slice())
     }
@@ -97,7 +102,7 @@ impl LateWorld<'_> {
     /// Sends a step.
     pub(crate) fn send(&mut self, step: u8) -> Result<(), AllocError>
         requires { step < length self.old.file.run.steps }
-        ensures sent { OnOk result (self.new ≡ record self.old { world = send self.old.file.run.steps self.old.world step }) }
+        ensures sent { OnOk result (self.new ≡ record self.old { world = send self.old.file.run.steps self.old.world step; level = self.new.level }) }
         ensures refused { OnErr result (self.new ≡ self.old) }
     {
         self.path.push(Move::Send(step))?;
@@ -106,7 +111,7 @@ impl LateWorld<'_> {
 
     /// Sets a mark.
     pub(crate) fn mark(&mut self) -> Result<(), AllocError>
-        ensures marked { OnOk result (self.new ≡ record self.old { marked = self.old.world ∷ self.old.marked }) }
+        ensures marked { OnOk result (self.new ≡ record self.old { marked = self.old.world ∷ self.old.marked; level = false }) }
         ensures refused { OnErr result (self.new ≡ self.old) }
     {
         self.path.push(Move::Mark)?;
@@ -117,7 +122,7 @@ impl LateWorld<'_> {
     pub(crate) fn go_back(&mut self)
         requires { 0 < length self.old.marked }
         ensures marked { self.old.marked ≡ self.new.world ∷ self.new.marked }
-        ensures same { self.new ≡ record self.old { world = self.new.world; marked = self.new.marked } }
+        ensures same { self.new ≡ record self.old { world = self.new.world; marked = self.new.marked; level = self.new.level } }
     {
         let Some(place) = newest_mark(self.path.as_slice(), self.path.len()) else {
             return;
@@ -128,7 +133,8 @@ impl LateWorld<'_> {
 
     /// Lets the machine make all moves.
     pub(crate) fn catch_up(&mut self) -> Result<(), AllocError>
-        ensures { self.new ≡ self.old }
+        ensures level { OnOk result (self.new ≡ record self.old { level = true }) }
+        ensures same { self.new ≡ record self.old { level = self.new.level } }
     {
         self.follower.catch_up(self.path.as_slice())?;
         Ok(())
@@ -138,7 +144,7 @@ impl LateWorld<'_> {
     pub(crate) fn number(&mut self) -> Result<Option<usize>, AllocError>
         ensures known { IfOk result (λ answer. IfSome answer (λ number. slice_get self.new.seen number ≡ Some self.old.world)) }
         ensures front { IsPrefix self.old.seen self.new.seen }
-        ensures same { self.new ≡ record self.old { seen = self.new.seen } }
+        ensures same { self.new ≡ record self.old { seen = self.new.seen; level = self.new.level } }
     {
         self.follower.catch_up(self.path.as_slice())?;
         match self.follower.machine.number() {
@@ -152,7 +158,7 @@ impl LateWorld<'_> {
         ensures told { IfOk result (λ number. slice_get self.new.told number ≡ Some (outcome_of self.old.file.run.sessions self.old.world)) }
         ensures own { IfOk result (λ number. IfSome (slice_get self.new.told number) (IsOutcomeOf self.old.file.run)) }
         ensures front { IsPrefix self.old.told self.new.told }
-        ensures same { self.new ≡ record self.old { told = self.new.told } }
+        ensures same { self.new ≡ record self.old { told = self.new.told; level = self.new.level } }
     {
         self.follower.catch_up(self.path.as_slice())?;
         match self.follower.machine.outcome() {
@@ -172,7 +178,7 @@ impl LateWorld<'_> {
     /// Whether these are the transcripts so far.
     pub(crate) fn tells(&mut self, outcome: &Outcome) -> Result<bool, AllocError>
         ensures told { IfOk result (λ yes. IsTrue yes ↔ outcome_of self.old.file.run.sessions self.old.world ≡ outcome.now) }
-        ensures same { self.new ≡ self.old }
+        ensures same { self.new ≡ record self.old { level = self.new.level } }
     {
         self.follower.catch_up(self.path.as_slice())?;
         match self.follower.machine.tells(outcome) {
@@ -186,7 +192,7 @@ impl LateWorld<'_> {
         requires step { step < length self.old.file.run.steps }
         requires other { other < length self.old.file.run.steps }
         ensures answer { IfOk result (λ yes. yes ≡ are_quiet self.old self.old.world step other) }
-        ensures same { self.new ≡ self.old }
+        ensures same { self.new ≡ record self.old { level = self.new.level } }
     {
         self.follower.catch_up(self.path.as_slice())?;
         Ok(quiet(&self.follower.machine, &self.pairs, step, other))

@@ -1,8 +1,8 @@
 use Rattle.std.proofs.Common.{subst}
 use Rattle.machine_model.specs.World.{send}
 use Rattle.known_worlds.specs.declared.graph.Edge.{Edge}
-use Rattle.known_worlds.specs.Known.{IsEdge, IsNoted}
-use Rattle.known_worlds.proofs.KnownLemmas.{each-put}
+use Rattle.known_worlds.specs.Remembered.{IsEdge, IsNoted}
+use Rattle.known_worlds.proofs.RememberedLemmas.{each-put}
 use Rattle.known_worlds.proofs.graph.Graph.note_next.Goals as goal
 
 pub returns-in-Some-to : goal.returns-in-Some-to

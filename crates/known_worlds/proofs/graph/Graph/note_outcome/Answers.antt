@@ -1,7 +1,7 @@
 use Rattle.std.proofs.Common.{subst}
 use Rattle.known_worlds.specs.declared.graph.ToldWorld.{ToldWorld}
-use Rattle.known_worlds.specs.Known.{IsNoted, IsToldWorld}
-use Rattle.known_worlds.proofs.KnownLemmas.{each-put}
+use Rattle.known_worlds.specs.Remembered.{IsNoted, IsToldWorld}
+use Rattle.known_worlds.proofs.RememberedLemmas.{each-put}
 use Rattle.known_worlds.proofs.graph.Graph.note_outcome.Goals as goal
 
 pub returns-in-Some : goal.returns-in-Some

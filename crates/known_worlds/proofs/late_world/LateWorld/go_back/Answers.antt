@@ -1,7 +1,7 @@
-use Rattle.std.proofs.Common.{◌∙◌, ◌∷◌, sym, ap, subst, length}
-use Rattle.marked_worlds.specs.Worlds.{MarkedRunning}
+use Rattle.std.proofs.Common.{◌∙◌, ◌∷◌, sym, ap, subst, length, false}
+use Rattle.known_worlds.specs.Late.{LateRunning}
 use Rattle.known_worlds.specs.Moves.{IsNewestMark}
-use Rattle.known_worlds.specs.Following.{led}
+use Rattle.known_worlds.specs.Following.{is_level, led}
 use Rattle.known_worlds.proofs.FollowLemmas.{led-back}
 use Rattle.known_worlds.proofs.late_world.LateWorld.go_back.Goals as goal
 
@@ -13,5 +13,5 @@ returns-clause-marked c =
     let place = c.in-Some.place in
     let mark : IsNewestMark path (length path) place = subst (λ p. IsNewestMark p (length p) place) c.as_slice.ensures.value
     (subst (λ n. IsNewestMark c.as_slice.result.now n place) (c.len.ensures ∙ sym c.as_slice.ensures.len) c.in-Some.ensures.found) in
-    ap (λ (v : MarkedRunning). v.marked) (sym c.self.view_is) ∙ led-back x y path place c.leave.ensures.aside mark
-    ∙ ap (λ p. (led y p).world ∷ (led y p).marked) (sym c.truncate.ensures.items)
+    ap (λ (v : LateRunning). v.marked) (sym c.self.view_is) ∙ led-back x y (is_level c.self.inside.follower path) false path place c.leave.ensures.aside mark
+    ∙ ap (λ p. (led y false p).world ∷ (led y false p).marked) (sym c.truncate.ensures.items)
