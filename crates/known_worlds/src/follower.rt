@@ -1,6 +1,6 @@
 //! A machine that falls behind what it is asked for, and catches up.
 
-ghost use Rattle.std.specs.Prelude.{◌≡◌, ◌+◌, ◌<◌, ◌≤◌, All, IfSome, OnErr, OnOk, false, length, take, true};
+ghost use Rattle.std.specs.Prelude.{◌≡◌, ◌+◌, ◌<◌, ◌≤◌, All, OnErr, OnOk, false, length, take, true};
 ghost use Rattle.known_worlds.specs.Moves.{first_world, HaveNoMark, IsMarkAt, IsMoveOf, IsNewestMark, marked_after, world_after, world_behind};
 ghost use Rattle.known_worlds.specs.declared.moves.Move.TheVariants.{Mark, Send};
 ghost use Rattle.known_worlds.specs.Following.{aside, Follows, is_level};

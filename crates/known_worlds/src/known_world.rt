@@ -1,7 +1,7 @@
 //! A world that remembers.
 
 ghost use mathlib.Core.List.{IsPrefix};
-ghost use Rattle.std.specs.Prelude.{◌≡◌, ◌≤◌, ◌<◌, ◌↔◌, ◌∷◌, [], List, IfErr, IfOk, IfSome, IsErrOf, IsTrue, OnErr, OnOk, Some, false, length, reverse, slice_get, true};
+ghost use Rattle.std.specs.Prelude.{◌≡◌, ◌<◌, ◌↔◌, ◌∷◌, [], List, IfErr, IfOk, IfSome, IsErrOf, IsTrue, OnErr, OnOk, Some, false, length, reverse, slice_get, true};
 ghost use Rattle.machine_model.specs.Outcome.{IsOutcomeOf};
 ghost use Rattle.machine_model.specs.Start.{Started, start};
 ghost use Rattle.machine_model.specs.World.{World, outcome_of, send};
