@@ -93,6 +93,38 @@ fn an_outcome_that_is_told_again_has_the_number_that_it_had(rt: HostRuntime) {
     );
 }
 
+/// The number of the world now is the wanted one.
+fn assert_number(rt: &impl Abort, world: &mut MarkedWorld<'_>, want: usize)
+    ensures { world.new ≡ record world.old { seen = world.new.seen } }
+{
+    let number = world.number().expect(rt, "memory");
+    let number = number.expect(rt, "a number");
+    assert!(rt; number == want, "{number}, and not {want}");
+}
+
+/// Two sessions that change a row each.
+const APART: &str =
+    "session a setup { BEGIN; } step a1 { UPDATE t SET v = v + 1 WHERE id = 1; } step a2 { COMMIT; }
+    session b setup { BEGIN; } step b1 { UPDATE t SET v = v + 10 WHERE id = 2; } step b2 { COMMIT; }";
+
+#[test]
+fn a_world_that_comes_again_is_found(rt: HostRuntime) {
+    let spec = spec_of(&rt, rt.alloc(), APART);
+    let mut world = start_of(&rt, rt.alloc(), &spec);
+    assert_number(&rt, &mut world, 0);
+    mark(&rt, &mut world);
+    go_on(&rt, &mut world, 0);
+    assert_number(&rt, &mut world, 1);
+    go_on(&rt, &mut world, 2);
+    assert_number(&rt, &mut world, 2);
+    world.go_back();
+    assert_number(&rt, &mut world, 0);
+    go_on(&rt, &mut world, 2);
+    assert_number(&rt, &mut world, 3);
+    go_on(&rt, &mut world, 0);
+    assert_number(&rt, &mut world, 2);
+}
+
 /// Sessions, and how many orders their steps have.
 static ORDERS: [(&str, u64); 5] = [
     (LOST_UPDATE_ORDERS, 6),
