@@ -18,12 +18,12 @@ pub(crate) struct SeenStage {
     pub(crate) sessions: usize,
 }
 
-/// Stages that were noted, in the order in which they were. The index has the newest one with a number made of what its sessions were told. What it tells
-/// is compared, so that nothing but speed and size depends on it.
+/// Stages that were noted, in the order in which they were. The index has the newest one with a number made of what its sessions were told, or none where
+/// a stage with it was passed over. What it tells is compared, so that nothing but speed and size depends on it.
 #[derive(Drop)]
 pub(crate) struct SeenTable {
     pub(crate) stages: Vec<SeenStage>,
-    pub(crate) newest: BTreeMap<u64, usize>,
+    pub(crate) newest: BTreeMap<u64, Option<usize>>,
 }
 
 impl SeenTable {

@@ -32,6 +32,9 @@ use transcripts::{Event, Fault, Outcome, Transcript};
 /// As many resources and sessions are noted at most, over all stages, so that what is noted takes some tens of megabytes.
 const MOST_SEEN: usize = 1 << 19;
 
+/// With so many resources a stage is noted when it comes first.
+const FEW_RESOURCES: usize = 64;
+
 /// A stage without resources is noted as if it had as many.
 const STAGE_SIZE: usize = 16;
 
@@ -157,8 +160,8 @@ impl MarkedStage {
         self.members.outcome(number)
     }
 
-    /// The number of the stage now, with so many sessions, among those that were noted. It is noted behind all others where it was not found, none where
-    /// no more are noted.
+    /// The number of the stage now, with so many sessions, among those that were noted. It is noted behind all others where it was not found; none where
+    /// it is passed over, since much was noted or it is large.
     pub(crate) fn note(&mut self, count: u8) -> Result<Option<usize>, AllocError>
         requires { count ≡ length self.old.now.members }
         ensures known { IfOk result (λ answer. IfSome answer (λ number. slice_get self.new.seen number ≡ Some self.old.now)) }
@@ -172,6 +175,10 @@ impl MarkedStage {
         if self.has_many() {
             return Ok(None);
         }
+        if self.is_large() && !self.seen.newest.contains_key(&print) {
+            self.seen.newest.insert(print, None)?;
+            return Ok(None);
+        }
         let number = self.seen.stages.len();
         let stage = SeenStage::of(
             self.alloc,
@@ -181,7 +188,7 @@ impl MarkedStage {
             count,
         )?;
         self.seen.stages.push(stage)?;
-        self.seen.newest.insert(print, number)?;
+        self.seen.newest.insert(print, Some(number))?;
         Ok(Some(number))
     }
 
@@ -190,13 +197,18 @@ impl MarkedStage {
         requires { count ≡ length self.now.now.members }
         ensures { IfSome result (λ number. slice_get self.now.seen number ≡ Some self.now.now) }
     {
-        let number = *self.seen.newest.get(&print)?;
+        let number = (*self.seen.newest.get(&print)?)?;
         let seen = self.seen.stages.as_slice().get(number)?;
         if seen.is(&self.rows, &self.locks, &self.members, count) {
             Some(number)
         } else {
             None
         }
+    }
+
+    /// Whether a stage is noted only when it may have come a second time, since a picture of it is as long as a table.
+    fn is_large(&self) -> bool {
+        self.numbers.count() > FEW_RESOURCES
     }
 
     /// Whether so much was noted that no more is.

@@ -175,8 +175,8 @@ impl MarkedWorld<'_> {
         Ok(self.stage.number(self.spec.sessions())?)
     }
 
-    /// The number of the world now among those that were noted. It is noted behind all others where it was not found among them; none where no more are
-    /// noted. A spent world is not.
+    /// The number of the world now among those that were noted. It is noted behind all others where it was not found among them; none where it is passed
+    /// over, since much was noted already, or it has many resources and seems to come for the first time. A spent world is not noted.
     pub fn number(&mut self) -> Result<Option<usize>, SendError>
         ensures known { IfOk result (λ answer. IfSome answer (λ number. slice_get self.new.seen number ≡ Some self.old.world)) }
         ensures spent { IsErrOf result SendError.Spent ↔ (self.old.spent ≡ true) }
