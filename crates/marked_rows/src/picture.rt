@@ -86,7 +86,7 @@ fn pictured_tables(
     requires { All (HasRows rows.now.list) cells.now }
     ensures { IfOk result (λ made. made.items ≡ pictured_from rows.now.list cells.now 0 (map vec_items tables.now)) }
 {
-    let mut made = Vec::new(alloc);
+    let mut made = Vec::with_capacity(alloc, cells.len())?;
     for table in 0..tables.len() {
         add_table(&mut made, table, tables[table].as_slice(), cells, rows)?;
     }
