@@ -1,7 +1,7 @@
 //! A world that remembers.
 
 ghost use mathlib.Core.List.{IsPrefix};
-ghost use Rattle.std.specs.Prelude.{◌≡◌, ◌<◌, ◌↔◌, ◌∷◌, [], List, IfErr, IfOk, IfSome, IsErrOf, IsTrue, OnErr, OnOk, Some, false, length, reverse, slice_get, true};
+ghost use Rattle.std.specs.Prelude.{◌≡◌, ◌<◌, ◌↔◌, ◌∷◌, [], List, IfErr, IfOk, IfSome, IsErrOf, OnErr, OnOk, Some, false, length, reverse, slice_get, true};
 ghost use Rattle.machine_model.specs.Outcome.{IsOutcomeOf};
 ghost use Rattle.machine_model.specs.Start.{Started, start};
 ghost use Rattle.machine_model.specs.World.{World, outcome_of, send};
@@ -205,18 +205,6 @@ impl KnownWorld<'_> {
         ensures { slice_get self.now.told number ≡ Some result.now }
     {
         self.late.told(number)
-    }
-
-    /// Whether these are the transcripts so far, of which none is copied. A spent world tells of none.
-    pub fn tells(&mut self, outcome: &Outcome) -> Result<bool, SendError>
-        ensures told { IfOk result (λ yes. IsTrue yes ↔ outcome_of self.old.file.run.sessions self.old.world ≡ outcome.now) }
-        ensures spent { IsErrOf result SendError.Spent ↔ (self.old.spent ≡ true) }
-        ensures same { self.new ≡ record self.old { level = self.new.level } }
-    {
-        if self.is_spent {
-            return Err(SendError::Spent);
-        }
-        Ok(self.late.tells(outcome)?)
     }
 
     /// Whether two steps of different sessions are quiet in the world now, as `marked_quiet` has it. In a spent world nothing is quiet.

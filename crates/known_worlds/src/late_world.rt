@@ -1,7 +1,7 @@
 //! A world whose machine runs only when something is asked of it.
 
 ghost use mathlib.Core.List.{IsPrefix};
-ghost use Rattle.std.specs.Prelude.{◌≡◌, ◌<◌, ◌∷◌, ◌↔◌, [], IfErr, IfOk, IfSome, IsTrue, OnErr, OnOk, Some, false, length, slice_get, true};
+ghost use Rattle.std.specs.Prelude.{◌≡◌, ◌<◌, ◌∷◌, [], IfErr, IfOk, IfSome, OnErr, OnOk, Some, false, length, slice_get, true};
 ghost use Rattle.machine_model.specs.Outcome.{IsOutcomeOf};
 ghost use Rattle.machine_model.specs.Start.{Started, start};
 ghost use Rattle.machine_model.specs.World.{outcome_of, send};
@@ -173,18 +173,6 @@ impl LateWorld<'_> {
         ensures { slice_get self.now.told number ≡ Some result.now }
     {
         self.follower.machine.told(number)
-    }
-
-    /// Whether these are the transcripts so far.
-    pub(crate) fn tells(&mut self, outcome: &Outcome) -> Result<bool, AllocError>
-        ensures told { IfOk result (λ yes. IsTrue yes ↔ outcome_of self.old.file.run.sessions self.old.world ≡ outcome.now) }
-        ensures same { self.new ≡ record self.old { level = self.new.level } }
-    {
-        self.follower.catch_up(self.path.as_slice())?;
-        match self.follower.machine.tells(outcome) {
-            Ok(yes) => Ok(yes),
-            Err(_) => Err(AllocError),
-        }
     }
 
     /// Whether two steps are quiet in the world now.

@@ -1,7 +1,7 @@
 //! The sessions of a world, now and at marks.
 
 ghost use mathlib.Core.List.{IsPrefix};
-ghost use Rattle.std.specs.Prelude.{◌≡◌, ◌≤◌, ◌<◌, ◌∷◌, ◌↔◌, [], IfOk, IsTrue, None, OnErr, OnOk, Some, get_or, length, map, replicate, set, slice_get, take, true};
+ghost use Rattle.std.specs.Prelude.{◌≡◌, ◌≤◌, ◌<◌, ◌∷◌, [], IfOk, None, OnErr, OnOk, Some, get_or, length, replicate, set, slice_get, take, true};
 ghost use Rattle.std.specs.List.{list_any};
 ghost use Rattle.row_tables.specs.Layers.{sight};
 ghost use Rattle.statement_evaluation.specs.Effect.{effect};
@@ -13,7 +13,6 @@ ghost use Rattle.marked_worlds.specs.Members.{silenced, told_all, with_rest, wit
 use crate::seen::SeenSessions;
 use crate::told::{ToldTable, print_of};
 use bound_statements::Bound;
-use event_tree::Same;
 use machine_model::Status;
 use marked_execution::run_statement;
 use marked_lists::MarkedList;
@@ -22,7 +21,7 @@ use marked_rows::MarkedRows;
 use session_steps::Rest;
 use std::alloc::{AllocError, Global};
 use std::marker::Model;
-use transcripts::{Event, Fault, Outcome, Transcript};
+use transcripts::{Event, Fault, Outcome};
 
 /// What is kept of a session beside what it was told.
 #[derive(Clone, Copy)]
@@ -142,36 +141,6 @@ impl MarkedMembers {
         ensures { result ≡ true → slice_get self.now.seen number ≡ Some self.now.list }
     {
         self.seen[number].are(&self.logs, &self.kept, count)
-    }
-
-    /// Whether this is what the session was told.
-    fn is_told(&self, alloc: Global, session: u8, told: &Transcript) -> Result<bool, AllocError>
-        requires { session < length self.now.list }
-        ensures { IfOk result (λ yes. IsTrue yes ↔ (get_or self.now.list session no_member).state.transcript ≡ told.now) }
-    {
-        let events = self.logs.events(alloc, self.logs.log(session))?;
-        Ok(are_same(events.as_slice(), told.events()))
-    }
-
-    /// Whether this is what the first so many sessions were told. Nothing is copied.
-    pub(crate) fn are_told(
-        &self,
-        alloc: Global,
-        count: u8,
-        told: &[Transcript],
-    ) -> Result<bool, AllocError>
-        requires { count ≤ length self.now.list }
-        ensures { IfOk result (λ yes. IsTrue yes ↔ transcripts_of (take count self.now.list) ≡ told.now) }
-    {
-        if told.len() != count as usize {
-            return Ok(false);
-        }
-        for session in 0..count {
-            if !self.is_told(alloc, session, &told[session as usize])? {
-                return Ok(false);
-            }
-        }
-        Ok(true)
     }
 
     pub(crate) fn tell(&mut self, session: u8, event: Event) -> Result<(), AllocError>
@@ -309,19 +278,4 @@ fn is_failure(event: &Event) -> bool
     ensures { result ≡ is_failure event.now }
 {
     matches!(event, Event::Failed(_))
-}
-
-/// Whether these are the same events.
-fn are_same(events: &[&Event], told: &[Event]) -> bool
-    ensures { IsTrue result ↔ map (λ e. e.now) events.now ≡ told.now }
-{
-    if events.len() != told.len() {
-        return false;
-    }
-    for place in 0..told.len() {
-        if !events[place].is_same(&told[place]) {
-            return false;
-        }
-    }
-    true
 }

@@ -27,7 +27,7 @@ use session_steps::{Origin, Rest, Stage};
 use std::alloc::{AllocError, Global};
 use std::marker::Model;
 use std::sync::Arc;
-use transcripts::{Event, Fault, Outcome, Transcript};
+use transcripts::{Event, Fault, Outcome};
 
 /// As many resources and sessions are noted at most, over all stages, so that what is noted takes some tens of megabytes.
 const MOST_SEEN: usize = 1 << 19;
@@ -214,14 +214,6 @@ impl MarkedStage {
     /// Whether so much was noted that no more is.
     fn has_many(&self) -> bool {
         self.seen.stages.len() >= MOST_SEEN / self.numbers.count().saturating_add(STAGE_SIZE)
-    }
-
-    /// Whether this is what the first so many members were told.
-    pub(crate) fn are_told(&self, count: u8, told: &[Transcript]) -> Result<bool, AllocError>
-        requires { count ≤ length self.now.now.members }
-        ensures { IfOk result (λ yes. IsTrue yes ↔ transcripts_of (take count self.now.now.members) ≡ told.now) }
-    {
-        self.members.are_told(self.alloc, count, told)
     }
 
     /// Sets a mark. Without memory everything stays as it was.

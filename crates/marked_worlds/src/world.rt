@@ -197,20 +197,6 @@ impl MarkedWorld<'_> {
         self.stage.outcome(number)
     }
 
-    /// Whether these are the transcripts so far, of which none is copied. A spent world tells of none.
-    pub fn tells(&self, outcome: &Outcome) -> Result<bool, SendError>
-        ensures told { IfOk result (λ yes. IsTrue yes ↔ outcome_of self.now.file.run.sessions self.now.world ≡ outcome.now) }
-        ensures spent { IsErrOf result SendError.Spent ↔ (self.now.spent ≡ true) }
-    {
-        if self.is_spent {
-            return Err(SendError::Spent);
-        }
-        Ok(
-            self.stage
-                .are_told(self.spec.sessions(), outcome.sessions())?,
-        )
-    }
-
     /// What holds of every world that is not spent, and of those at marks: held modes of different sessions are compatible, what a session wrote
     /// lies under its locks, no wait is ripe and no session waits for itself; and nobody was told of a step of another session. The numbers are those of
     /// the spec.
