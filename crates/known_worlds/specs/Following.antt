@@ -28,7 +28,7 @@ pub record Follows (file : SpecFile) (path : List Move) (f : Follower) : Type 0 
   pub bare : f.is_rooted ≡ false → f.made ≡ 0
   pub whole : f.is_rooted ≡ false → f.machine.spent ≡ false
 
--- the machine has made all moves of the path
+-- the machine has made all moves of the path, and is not spent
 abbrev pub is_level : Follower → List Move → Bool
 is_level f path = (f.made == length path) && not f.machine.spent
 

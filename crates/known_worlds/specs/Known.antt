@@ -7,7 +7,8 @@ use Rattle.rank_facts.specs.Quiet.{is_quiet}
 use Rattle.transcripts.specs.declared.event.Event.{Event}
 
 -- a spec with its numbers, the world now, the worlds at the marks that stand, the newest first, the outcomes that were told of it, in the order in which
--- they were told first, whether a step was refused memory and the world has not gone back since, and whether the machine stands in the world now
+-- they were told first, whether a step was refused memory and the world has not gone back since, and whether the machine has made all that was asked,
+-- and so stands in the world now
 pub record KnownRunning : Type 0 where
   pub file : SpecFile
   pub numbers : Numbers

@@ -7,7 +7,7 @@ use Rattle.transcripts.specs.declared.event.Event.{Event}
 use Rattle.known_worlds.specs.Known.{KnownRunning}
 
 -- a spec with its numbers, the world now, the worlds at the marks that stand, the newest first, the outcomes that were told of it, the worlds that were
--- noted, and whether the machine stands in the world now
+-- noted, and whether the machine has made all that was asked, and so stands in the world now
 pub record LateRunning : Type 0 where
   pub file : SpecFile
   pub numbers : Numbers

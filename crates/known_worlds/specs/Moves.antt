@@ -1,4 +1,4 @@
--- Where moves lead.
+-- Where moves lead. No public clause cites this module.
 use Rattle.std.specs.Prelude.{◌≡◌, ℕ, ◌<◌, ◌≤◌, List, [], ◌∷◌, length, take}
 use Rattle.bound_specs.specs.Spec.{Spec, SpecFile, Step}
 use Rattle.machine_model.specs.World.{World, blank, send}
@@ -40,7 +40,7 @@ abbrev pub IsMarkAt : List Move → ℕ → ℕ → Type 0
 IsMarkAt path n place = (steps : List Step) (w : World) (ws : List World)
     → marked_behind steps w ws (take n path) ≡ world_behind steps w (take place path) ∷ marked_behind steps w ws (take place path)
 
--- so it is from there on up to an end
+-- behind that move, up to an end, this stays the newest mark
 pub record IsNewestMark (path : List Move) (end place : ℕ) : Type 0 where
   pub before : place < end
   pub newest : (n : ℕ) → place < n → n ≤ end → IsMarkAt path n place

@@ -21,8 +21,8 @@ use transcripts::Outcome;
 /// A world over a spec, with marks to go back to, that remembers which step led from which world to which, and what was answered of each world. Where that
 /// is known no machine runs.
 ///
-/// Contracts see what they see of a `MarkedWorld`, and its calls promise the same. What is remembered is not seen, nor which worlds were noted; but
-/// whether the machine stands in the world now, for who asks it more.
+/// Contracts see what they see of a `MarkedWorld`, and the calls that both have promise the same. What is remembered is not seen, nor which worlds were
+/// noted; but whether the machine has made all that was asked (`level`), for who asks it more.
 pub struct KnownWorld<'a> {
     late: LateWorld<'a>,
     graph: Graph,
@@ -171,7 +171,7 @@ impl KnownWorld<'_> {
         self.is_spent = false;
     }
 
-    /// Lets the machine catch up with this world, for who asks it more. A spent one does not.
+    /// Lets the machine catch up with this world, for who asks it more. A spent one does not. Where memory is refused it may be asked again.
     pub fn catch_up(&mut self) -> Result<(), SendError>
         ensures level { OnOk result (self.new ≡ record self.old { level = true }) }
         ensures spent { IsErrOf result SendError.Spent ↔ (self.old.spent ≡ true) }

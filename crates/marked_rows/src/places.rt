@@ -55,6 +55,13 @@ impl Places {
         }
     }
 
+    /// How many places were ever written.
+    pub fn count(&self) -> usize
+        ensures { result ≡ self.now.next }
+    {
+        self.next
+    }
+
     /// The number of the cell for a key of a table, none where nothing was ever written.
     pub fn cell_of(&self, table: u16, key: &Value) -> Option<usize>
         ensures { MatchOption result (IsAbsent (table, key.now) self.now.entries) (IsPlaceOf self.now.entries (table, key.now)) }

@@ -106,6 +106,11 @@ impl MarkedRows {
         RowsPicture::new(alloc, &self.places, self.cells.as_slice(), &self.rows)
     }
 
+    /// At how many places something was ever written, also where it was gone back from. A picture has as many cells, so this says what it costs.
+    pub fn places(&self) -> usize {
+        self.places.count()
+    }
+
     /// Whether the rows now are those of a picture. Where something was written at a new place since the picture was taken the answer is false. It takes
     /// no memory.
     pub fn is_pictured(&self, picture: &RowsPicture) -> bool

@@ -24,6 +24,8 @@ pub(crate) struct SeenStage {
 pub(crate) struct SeenTable {
     pub(crate) stages: Vec<SeenStage>,
     pub(crate) newest: BTreeMap<u64, Option<usize>>,
+    /// How many cells, resources and sessions are noted, over all stages.
+    pub(crate) size: usize,
 }
 
 impl SeenTable {
@@ -34,6 +36,7 @@ impl SeenTable {
         SeenTable {
             stages: Vec::new(alloc),
             newest: BTreeMap::new(alloc),
+            size: 0,
         }
     }
 }

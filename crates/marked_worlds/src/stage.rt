@@ -29,13 +29,13 @@ use std::marker::Model;
 use std::sync::Arc;
 use transcripts::{Event, Fault, Outcome};
 
-/// As many resources and sessions are noted at most, over all stages, so that what is noted takes some tens of megabytes.
+/// So many cells and resources are noted, over all stages, until no more is, so that what is noted takes some tens of megabytes.
 const MOST_SEEN: usize = 1 << 19;
 
-/// With so many resources a stage is noted when it comes first.
-const FEW_RESOURCES: usize = 64;
+/// A stage with so many cells and resources is noted when it comes first.
+const SMALL_STAGE: usize = 128;
 
-/// A stage without resources is noted as if it had as many.
+/// What a stage takes beside its cells and resources, as if it had as many more.
 const STAGE_SIZE: usize = 16;
 
 /// The rows, the locks and the sessions of a world, with marks to go back to.
@@ -161,7 +161,7 @@ impl MarkedStage {
     }
 
     /// The number of the stage now, with so many sessions, among those that were noted. It is noted behind all others where it was not found; none where
-    /// it is passed over, since much was noted or it is large.
+    /// it is passed over, since much was noted or it is large. That a stage that was noted is found is not promised, so one may have two numbers.
     pub(crate) fn note(&mut self, count: u8) -> Result<Option<usize>, AllocError>
         requires { count ≡ length self.old.now.members }
         ensures known { IfOk result (λ answer. IfSome answer (λ number. slice_get self.new.seen number ≡ Some self.old.now)) }
@@ -188,6 +188,7 @@ impl MarkedStage {
             count,
         )?;
         self.seen.stages.push(stage)?;
+        self.seen.size = self.seen.size.saturating_add(self.size());
         self.seen.newest.insert(print, Some(number))?;
         Ok(Some(number))
     }
@@ -206,14 +207,22 @@ impl MarkedStage {
         }
     }
 
-    /// Whether a stage is noted only when it may have come a second time, since a picture of it is as long as a table.
+    /// How many cells and resources the stage has: a picture of it is as long.
+    fn size(&self) -> usize {
+        self.rows
+            .places()
+            .saturating_add(self.numbers.count())
+            .saturating_add(STAGE_SIZE)
+    }
+
+    /// Whether the stage is noted only when it may have come a second time, since a picture of it is as long as a table.
     fn is_large(&self) -> bool {
-        self.numbers.count() > FEW_RESOURCES
+        self.size() > SMALL_STAGE
     }
 
     /// Whether so much was noted that no more is.
     fn has_many(&self) -> bool {
-        self.seen.stages.len() >= MOST_SEEN / self.numbers.count().saturating_add(STAGE_SIZE)
+        self.seen.size >= MOST_SEEN
     }
 
     /// Sets a mark. Without memory everything stays as it was.

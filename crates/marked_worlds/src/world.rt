@@ -176,7 +176,8 @@ impl MarkedWorld<'_> {
     }
 
     /// The number of the world now among those that were noted. It is noted behind all others where it was not found among them; none where it is passed
-    /// over, since much was noted already, or it has many resources and seems to come for the first time. A spent world is not noted.
+    /// over, since much was noted already, or it has many rows and seems to come for the first time. A spent world
+    /// is not noted. That a world is found where it comes again is not promised, so one may have two numbers.
     pub fn number(&mut self) -> Result<Option<usize>, SendError>
         ensures known { IfOk result (λ answer. IfSome answer (λ number. slice_get self.new.seen number ≡ Some self.old.world)) }
         ensures spent { IsErrOf result SendError.Spent ↔ (self.old.spent ≡ true) }

@@ -164,7 +164,7 @@ impl<'a> ShardWalk<'a> {
     }
 
     /// Sees to it that the machine stands in the walk's world, for who reads it behind a rank that was run. The machine may be behind, where what
-    /// steps led to was known. The walk stays as it is.
+    /// steps led to was known. The walk stays as it is, but where memory is refused it is spent, and shows no world.
     pub fn settle(&mut self) -> Result<(), WalkError>
         ensures level { OnOk result (self.new ≡ record self.old { level = true }) }
         ensures spent { IsErrOf result walk_error.Spent ↔ (self.old.spent ≡ true) }
@@ -187,8 +187,8 @@ impl<'a> ShardWalk<'a> {
         }
     }
 
-    /// The world behind the line of the rank that was given last, where it was run. None where that was a swap, before the shard's
-    /// first rank is given, and once memory was refused.
+    /// The world behind the line of the rank that was given last, where it was run. None where that was a swap, and before the shard's
+    /// first rank is given.
     pub fn world(&self) -> Option<&MarkedWorld<'a>>
         requires { self.now.level ≡ true }
         ensures { MatchOption result (self.now.behind ≡ None) (λ world. Shows self.now world.now) }
