@@ -10,6 +10,9 @@ use std::alloc::{AllocError, Global};
 use std::marker::Model;
 use transcripts::Outcome;
 
+/// Room for the text of an outcome of some sixty events without rows, so that few texts grow while they are made. It costs time alone.
+const ROOM: usize = 1024;
+
 /// The compact JSON text of an outcome, which it owns, seen by contracts as the list of the outcome's transcripts. A `CompactOutcome` borrows one.
 pub struct CompactText {
     text: String,
@@ -40,7 +43,7 @@ impl CompactText {
         ensures { IfOk result (λ text. text ≡ outcome.now) }
     {
         outcome.known();
-        let mut text = String::new(alloc);
+        let mut text = String::with_capacity(alloc, ROOM)?;
         make_text(outcome, &mut text)?;
         let _text = text.as_str(); // for the proof
         Ok(CompactText { text })

@@ -26,7 +26,7 @@ impl MarkedLocks {
         Ok(LocksPicture { modes, waits })
     }
 
-    /// Whether the lock table now is that of a picture.
+    /// Whether the lock table now is that of a picture. Contracts promise what a yes means; a no costs time alone.
     pub fn is_pictured(&self, picture: &LocksPicture) -> bool
         ensures { result ≡ true → pictured self.now.resources picture.now ≡ self.now.now }
     {

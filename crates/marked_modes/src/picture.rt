@@ -24,7 +24,7 @@ impl MarkedModes {
         Ok(ModesPicture { rows: copy })
     }
 
-    /// Whether the modes now are those of a picture.
+    /// Whether the modes now are those of a picture. Contracts promise what a yes means; a no costs time alone.
     pub fn is_pictured(&self, picture: &ModesPicture) -> bool
         ensures { result ≡ true → pictured self.now.resources picture.now ≡ self.now.now }
     {

@@ -105,7 +105,8 @@ impl<'a> Walker<'a> {
     }
 
     /// The steps sent for the ranks given so far: where no rank is skipped, of each rank's line those behind the longest front that it
-    /// shares with the line of the rank before it, and of the first one all. The setups are no steps. A refused call adds none.
+    /// shares with the line of the rank before it, and of the first one all. The setups are no steps. A refused call adds none. What is known of
+    /// a world that came before counts as sent too, though no machine ran.
     pub fn sent(&self) -> u64
         ensures sent { result ≡ self.now.sent }
         ensures exact { AreSent self.now.reduce self.now.file.run self.now.first self.now.at result }
