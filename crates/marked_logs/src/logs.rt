@@ -9,6 +9,9 @@ use marked_lists::MarkedList;
 use std::alloc::{AllocError, Global};
 use std::marker::Model;
 
+/// Room for the events of a list of some ten steps, so that few lists of them grow while they are made. It costs time alone.
+const ROOM: usize = 32;
+
 /// What each of some sessions was told, event by event, with marks to go back to.
 ///
 /// What a session was told is a list of a tree, known by its node, so that equal transcripts are told by their nodes. Contracts see the lists of the
@@ -122,7 +125,7 @@ fn events_of<E: Same>(alloc: Global, tree: &EventTree<E>, id: NodeId) -> Result<
     requires { HasNode tree.now id }
     ensures { IfOk result (λ events. map (λ e. e.now) events.items ≡ list_of tree.now id) }
 {
-    let mut events = Vec::new(alloc);
+    let mut events = Vec::with_capacity(alloc, ROOM)?;
     let mut at = id;
     while let Some((event, before)) = tree.split_last(at) {
         events.push(event)?;

@@ -168,7 +168,7 @@ fn transcript_of(
 fn copied(alloc: Global, events: &[&Event]) -> Result<Transcript, AllocError>
     ensures { IfOk result (λ told. told ≡ map (λ e. e.now) events.now) }
 {
-    let mut told = Transcript::new(alloc);
+    let mut told = Transcript::with_room(alloc, events.len())?;
     for event in events {
         told.push(event.fork()?)?;
     }

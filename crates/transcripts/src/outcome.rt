@@ -49,8 +49,8 @@ impl Transcript {
         }
     }
 
-    /// A transcript without events that has room for so many.
-    pub(crate) fn with_room(alloc: Global, room: usize) -> Result<Transcript, AllocError>
+    /// A transcript without events, with room for so many. Contracts do not see the room.
+    pub fn with_room(alloc: Global, room: usize) -> Result<Transcript, AllocError>
         ensures { IfOk result (λ transcript. transcript ≡ []) }
     {
         Ok(Transcript {
