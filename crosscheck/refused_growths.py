@@ -46,6 +46,11 @@ TESTS = {
         "read_books::a_book_without_memory_is_refused_by_name",
         "told_books::all_is_told_unless_memory_runs_out",
     ],
+    "judgement_tests": [
+        "audits::an_audit_without_memory_is_refused_by_name",
+        "spec_tests::specs_are_tested_whole_unless_memory_runs_out",
+        "verdicts::answers_are_told_whole_unless_memory_runs_out",
+    ],
     "library_tests": [
         "event_trees::a_refused_list_leaves_the_tree",
         "lines::a_value_is_made_whole_unless_memory_runs_out",
@@ -63,7 +68,6 @@ TESTS = {
         "trees::a_refused_change_leaves_each_version",
     ],
     "program_tests": [
-        "audits::an_audit_without_memory_is_refused_by_name",
         "classes::classes_are_told_whole_unless_memory_runs_out",
         "memory::a_step_is_bound_whole_unless_memory_runs_out",
         "memory::a_step_is_refused_as_ever_unless_memory_runs_out",
@@ -74,8 +78,6 @@ TESTS = {
         "shows::an_order_is_shown_whole_unless_memory_runs_out",
         "outcomes::classes_of_books_are_told_whole_unless_memory_runs_out",
         "over_books::books_are_told_whole_unless_memory_runs_out",
-        "spec_tests::specs_are_tested_whole_unless_memory_runs_out",
-        "verdicts::answers_are_told_whole_unless_memory_runs_out",
     ],
 }
 # A test with such a name is one of those above.

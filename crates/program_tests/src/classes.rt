@@ -1,5 +1,6 @@
 //! All orders of a spec in classes. The test without memory is to be read under `rt try --test --fail-alloc` too.
-use crate::disks::{assert_tells, holding, tell};
+use crate::asserts::assert_tells;
+use crate::disks::{holding, tell};
 use crate::memory::assert_front;
 use std::test::Fail;
 

@@ -1,5 +1,7 @@
 //! The words of the command line: what each writes, and with which status.
-use crate::disks::{Disk, assert_tells, assert_text, holding, tell};
+use crate::asserts::{assert_tells, assert_text};
+use crate::disks::{Disk, FIRST, holding, tell};
+use crate::pipes::{BrokenPipe, FullDevice};
 use book_tests::words_of;
 use program_commands::{Folder, MAX_SPEC_READ, run, tell_words_fault};
 use std::alloc::{AllocError, Global};
@@ -10,39 +12,6 @@ use std::test::Fail;
 use std::thread::Threads;
 use std::time::Clock;
 use transcripts::Counted;
-
-pub const FIRST: &str =
-    "setup { CREATE TABLE t (id int PRIMARY KEY, v int); INSERT INTO t VALUES (1, 10), (2, 20); }
-session a step a1 { INSERT INTO t VALUES (3, 30); }
-session b step b1 { SELECT v FROM t WHERE id = 3; }";
-
-// Takes nothing.
-#[derive(Drop)]
-pub struct BrokenPipe;
-
-impl Write for BrokenPipe {
-    fn write(&mut self, _buf: &[u8]) -> io::Result<usize> {
-        Err(io::Error::from(io::ErrorKind::BrokenPipe))
-    }
-
-    fn flush(&mut self) -> io::Result<()> {
-        Err(io::Error::from(io::ErrorKind::BrokenPipe))
-    }
-}
-
-// Takes everything, and has no room for it when it is flushed.
-#[derive(Drop)]
-pub struct FullDevice;
-
-impl Write for FullDevice {
-    fn write(&mut self, buf: &[u8]) -> io::Result<usize> {
-        Ok(buf.len())
-    }
-
-    fn flush(&mut self) -> io::Result<()> {
-        Err(io::Error::from(io::ErrorKind::StorageFull))
-    }
-}
 
 /// Asserts what a rank of a spec tells.
 fn assert_rank(

@@ -3,11 +3,16 @@ use book_tests::{Told, words_of};
 use library_tests::ByteReader;
 use program_commands::{Entry, Folder, Opener, Watched, run};
 use std::alloc::{AllocError, Global};
-use std::process::Abort;
 use std::sync::Wait;
 use std::thread::Threads;
 use std::time::Clock;
 use transcripts::Counted;
+
+/// A spec of two sessions with two orders.
+pub const FIRST: &str =
+    "setup { CREATE TABLE t (id int PRIMARY KEY, v int); INSERT INTO t VALUES (1, 10), (2, 20); }
+session a step a1 { INSERT INTO t VALUES (3, 30); }
+session b step b1 { SELECT v FROM t WHERE id = 3; }";
 
 // A disk with one file, whose reader may fail at a call.
 #[derive(Drop)]
@@ -68,6 +73,7 @@ where
     Told { status, out, err }
 }
 
+/// What a line of words tells over a disk.
 pub fn tell(
     rt: &(impl Threads + Wait + Clock + Sync),
     alloc: Global,
@@ -76,29 +82,4 @@ pub fn tell(
 ) -> Result<Told, AllocError> {
     let words = words_of(alloc, line)?;
     Ok(told_by(rt, alloc, &words, disk))
-}
-
-/// Whether bytes are the text; else they are shown.
-pub fn assert_text(rt: &impl Abort, bytes: &[u8], want: &str, name: &str) {
-    match str::from_utf8(bytes) {
-        Ok(text) => assert_eq!(rt; text, want, "{name}"),
-        Err(_) => assert!(rt; false, "{name} is no UTF-8"),
-    }
-}
-
-pub fn assert_told(rt: &impl Abort, told: &Told, want: (u8, &str, &str), name: &str) {
-    assert_eq!(rt; told.texts(), Some(want), "{name}");
-}
-
-/// Asserts the status, and what is written to the two outputs, of a line of words over a disk.
-pub fn assert_tells(
-    rt: &(impl Abort + Threads + Wait + Clock + Sync),
-    alloc: Global,
-    line: &str,
-    disk: &Disk<'_>,
-    want: (u8, &str, &str),
-) -> Result<(), AllocError> {
-    let told = tell(rt, alloc, line, disk)?;
-    assert_told(rt, &told, want, line);
-    Ok(())
 }

@@ -1,28 +1,17 @@
-//! The tests of binding, of the machine by what the program tells, of audits and judgements, and of the program's commands, in one crate above
-//! them, so that each of these is proved once.
+//! The tests of binding, of the machine by what the program tells, and of the program's commands over specs, books and ranges, in one crate above
+//! them, so that each of these is proved once. It exports what they share with the tests of what judges.
 //!
 //! A test that speaks of a refusal of memory accepts the full answer or the named refusal with what it leaves: it is to be read under
 //! `rt try --test --fail-alloc` too.
 #![tactic(auto)]
 
 #[cfg(test)]
-mod again;
-#[cfg(test)]
-mod audits;
-#[cfg(test)]
-mod checks;
+mod asserts;
 #[cfg(test)]
 mod classes;
 #[cfg(test)]
 mod commands;
-#[cfg(test)]
 mod disks;
-#[cfg(test)]
-mod errors;
-#[cfg(test)]
-mod headlines;
-#[cfg(test)]
-mod limits;
 #[cfg(test)]
 mod memory;
 #[cfg(test)]
@@ -39,21 +28,17 @@ mod over_files;
 mod over_ranges;
 #[cfg(test)]
 mod over_reports;
-#[cfg(test)]
-mod progress;
+mod pipes;
 #[cfg(test)]
 mod runs;
-#[cfg(test)]
 mod shelf;
 #[cfg(test)]
 mod shown_orders;
 #[cfg(test)]
 mod shows;
 #[cfg(test)]
-mod spec_tests;
-#[cfg(test)]
 mod statements;
-#[cfg(test)]
-mod verdicts;
-#[cfg(test)]
-mod workers;
+
+pub use disks::{Disk, FIRST, holding, tell, told_by};
+pub use pipes::BrokenPipe;
+pub use shelf::Shelf;

@@ -1,6 +1,5 @@
 //! What a refused growth leaves: each test is to be read under `rt try --test --fail-alloc` too.
-use crate::commands::FIRST;
-use crate::disks::{holding, tell};
+use crate::disks::{FIRST, holding, tell};
 use crate::runs::{RUNS, Run, lines_of, run_of};
 use crate::statements::{PLANS, REFUSED_STEPS, bound_step, plans_of, refusal_of};
 use book_tests::{Told, spec_of};

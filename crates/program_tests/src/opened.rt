@@ -1,7 +1,9 @@
 //! Classes as a page that a browser opens. The test without memory is to be read under `rt try --test --fail-alloc` too.
-use crate::commands::{BrokenPipe, FullDevice, assert_no_command, assert_write_fault};
-use crate::disks::{assert_tells, holding, tell};
+use crate::asserts::assert_tells;
+use crate::commands::{assert_no_command, assert_write_fault};
+use crate::disks::{holding, tell};
 use crate::memory::assert_front;
+use crate::pipes::{BrokenPipe, FullDevice};
 use page_texts::Part;
 use std::alloc::{AllocError, Global};
 use std::test::Fail;

@@ -1,6 +1,7 @@
 //! Orders by the names of their steps: which rank each has, what is wrong with those that have none, and how they are written. The test without memory
 //! is to be read under `rt try --test --fail-alloc` too.
-use crate::disks::{assert_told, told_by};
+use crate::asserts::assert_told;
+use crate::disks::told_by;
 use crate::memory::assert_front;
 use crate::shelf::Shelf;
 use book_tests::{Told, words_of};

@@ -1,6 +1,7 @@
 //! What books tell of orders, in classes. The test without memory is to be read under `rt try --test --fail-alloc` too.
+use crate::asserts::assert_told;
 use crate::commands::assert_no_command;
-use crate::disks::{assert_told, told_by};
+use crate::disks::told_by;
 use crate::memory::assert_front;
 use crate::shelf::Shelf;
 use book_tests::{Told, words_of};

@@ -1,12 +1,14 @@
 //! The commands that join books and tell of them, over a disk with some files. The test without memory is to be read under
 //! `rt try --test --fail-alloc` too.
-use crate::commands::{BrokenPipe, FIRST, FullDevice, assert_no_command, assert_write_fault};
-use crate::disks::{Disk, assert_tells, assert_told};
+use crate::asserts::{assert_tells, assert_told};
+use crate::commands::{assert_no_command, assert_write_fault};
+use crate::disks::{Disk, FIRST};
 use crate::memory::assert_front;
 use crate::over_files::{
     FILES, assert_each_refused, assert_each_written, assert_refused, assert_written, refused_of,
     tell_of_files,
 };
+use crate::pipes::{BrokenPipe, FullDevice};
 use crate::shelf::Shelf;
 use std::alloc::{AllocError, Global};
 use std::process::Abort;

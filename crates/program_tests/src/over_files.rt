@@ -1,5 +1,6 @@
 //! Files of a disk for the commands that count and run ranks and that join and report books, and what lines of words tell over them.
-use crate::disks::{assert_told, told_by};
+use crate::asserts::assert_told;
+use crate::disks::told_by;
 use crate::shelf::{Shelf, file_of};
 use book_tests::{Told, words_of};
 use std::alloc::{AllocError, Global};

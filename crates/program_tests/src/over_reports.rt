@@ -1,5 +1,5 @@
 //! Reports of books, over a disk with some files.
-use crate::disks::assert_told;
+use crate::asserts::assert_told;
 use crate::over_files::tell_of_files;
 use crate::runs::lines_of;
 use std::alloc::Global;

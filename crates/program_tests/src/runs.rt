@@ -1,5 +1,6 @@
 //! What sessions are told, in tables of runs.
-use crate::disks::{assert_tells, assert_text, holding, tell};
+use crate::asserts::{assert_tells, assert_text};
+use crate::disks::{holding, tell};
 use book_tests::spec_of;
 use std::alloc::{AllocError, Global};
 use std::process::Abort;

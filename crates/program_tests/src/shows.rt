@@ -1,7 +1,7 @@
 //! What happens in an order: the same by its rank and by the names of its steps, as text and as JSON. What is refused is in `orders.rt`. The test
 //! without memory is to be read under `rt try --test --fail-alloc` too.
-use crate::commands::FIRST;
-use crate::disks::{assert_tells, holding, tell};
+use crate::asserts::assert_tells;
+use crate::disks::{FIRST, holding, tell};
 use crate::memory::assert_front;
 use crate::shown_orders::on_one_line;
 use std::test::Fail;

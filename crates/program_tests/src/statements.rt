@@ -2,7 +2,8 @@
 ghost use Rattle.std.specs.Prelude.{All};
 ghost use Rattle.bound_statements.specs.Plan.{HasKeys};
 
-use crate::disks::{assert_tells, assert_text, holding, tell};
+use crate::asserts::{assert_tells, assert_text};
+use crate::disks::{holding, tell};
 use bound_specs::Spec;
 use bound_statements::{Bound, lock_plan, nowait};
 use lock_modes::{Mode, Place, Value};

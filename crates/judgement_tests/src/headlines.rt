@@ -1,5 +1,5 @@
 //! What jobs and plans of one spec tell together, from its bytes to its report.
-use crate::disks::assert_text;
+use crate::asserts::assert_text;
 use book_commands::ReportFault;
 use book_jobs::{Boxed, Job};
 use fact_books::ReportError;

@@ -1,6 +1,4 @@
 //! The limits that the code has: those of the formats, by their numbers, and those that sentences and help spell.
-use crate::commands::FIRST;
-use crate::disks::{holding, tell};
 use book_format::{MAX_FACTS, MAX_TEXT};
 use book_jobs::MAX_LEVELS;
 use bound_specs::MAX_LINED_STEPS;
@@ -8,6 +6,7 @@ use fact_books::MAX_REPORTED;
 use fault_texts::{binding_sentence, text_sentence};
 use perm_ranks::{MAX_SESSIONS, MAX_STEPS, WORDS_LIMIT};
 use program_commands::MAX_SPEC_READ;
+use program_tests::{FIRST, holding, tell};
 use range_commands::MAX_RANGE;
 use rank_facts::{MAX_PLACES, MAX_RANKS};
 use shard_board::{MAX_SEATS, MAX_SHARDS, MAX_TURNS};

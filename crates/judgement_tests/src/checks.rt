@@ -1,11 +1,26 @@
 //! What a check tells of a spec, and where and why it refuses a file.
-use crate::disks::{assert_tells, holding};
+use crate::asserts::assert_told;
+use program_tests::{holding, tell};
 use std::alloc::{AllocError, Global};
 use std::process::Abort;
 use std::sync::Wait;
 use std::test::Fail;
 use std::thread::Threads;
 use std::time::Clock;
+
+const CHECK: &str = "isofarm check first.spec";
+
+/// Asserts the status of a check of a text, and what is written to the two outputs.
+fn assert_checked(
+    rt: &(impl Abort + Threads + Wait + Clock + Sync),
+    alloc: Global,
+    text: &[u8],
+    want: (u8, &str, &str),
+) -> Result<(), AllocError> {
+    let told = tell(rt, alloc, CHECK, &holding(text))?;
+    assert_told(rt, &told, want, CHECK);
+    Ok(())
+}
 
 /// Asserts what a check tells of a text that it refuses.
 fn assert_explained(
@@ -15,13 +30,7 @@ fn assert_explained(
     want: &str,
 ) -> Result<(), AllocError> {
     let want = format!(in alloc; "isofarm: first.spec: {want}")?;
-    assert_tells(
-        rt,
-        alloc,
-        "isofarm check first.spec",
-        &holding(text),
-        (3, "", want.as_str()),
-    )
+    assert_checked(rt, alloc, text, (3, "", want.as_str()))
 }
 
 /// Asserts what a check tells of a spec.
@@ -31,13 +40,7 @@ fn assert_counts(
     text: &str,
     want: &str,
 ) -> Result<(), AllocError> {
-    assert_tells(
-        rt,
-        alloc,
-        "isofarm check first.spec",
-        &holding(text.as_bytes()),
-        (0, want, ""),
-    )
+    assert_checked(rt, alloc, text.as_bytes(), (0, want, ""))
 }
 
 static COUNTS: [(&str, &str); 3] = [

@@ -1,8 +1,9 @@
 //! Specs beside their accepted texts, over files and folders of the test's own.
-use crate::disks::{Disk, assert_told, told_by};
+use crate::asserts::assert_told;
 use book_tests::{Told, words_of};
 use library_tests::ByteReader;
 use program_commands::{Entry, Folder, Opener, Watched};
+use program_tests::{Disk, told_by};
 use std::alloc::{AllocError, Global};
 use std::process::Abort;
 use std::sync::Wait;

@@ -1,8 +1,8 @@
 //! The commands that audit and judge books and tell what they miss, over a disk with some files. The test without memory is to be read under
 //! `rt try --test --fail-alloc` too.
-use crate::shelf::Shelf;
 use book_tests::{Told, words_of};
 use program_commands::run;
+use program_tests::Shelf;
 use std::alloc::{AllocError, Global};
 use std::io::{self, Write};
 use std::process::Abort;

@@ -1,8 +1,8 @@
 //! What a run tells while it goes on, by a clock that the tests set.
-use crate::commands::BrokenPipe;
-use crate::disks::{assert_text, holding, told_by};
+use crate::asserts::assert_text;
 use book_tests::{Told, words_of};
 use program_commands::run;
+use program_tests::{BrokenPipe, holding, told_by};
 use std::alloc::{AllocError, Global};
 use std::io::{self, Write};
 use std::process::Abort;
