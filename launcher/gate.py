@@ -3,7 +3,7 @@
 usage: python3 launcher/gate.py KIT
 
 Some kits make the sum of a crate's files anew for each way that leads down to it by crates.txt, and likewise the list of the crates below one. There are
-half a million ways below the highest crates, so the one thread that starts all checks would have an hour or two to do while the cores wait for it. Files
+half a million ways below the highest crates, so the one thread that starts all checks has an hour or two to do while the cores wait for it. Files
 do not change while the gate runs in a clone of its own, so here a crate is asked once. What is proved, tried and run stays the kit's, as do its words and
 its status. A kit that keeps what it proved finds that by such sums, and is run as it is.
 """
