@@ -93,11 +93,11 @@ def kit_that_keeps(kit, room):
 
 
 def scratch_top(kit, room, top):
-    """A repository of links to the crates of another one, with the crate of these tests."""
+    """A repository of the sources of the crates of another one, with the crate of these tests."""
     scratch, own = room / "top", room / "top/crates" / CRATE / "src"
     own.mkdir(parents=True)
     for crate in (top / "crates").iterdir():
-        (scratch / "crates" / crate.name).symlink_to(crate)
+        shutil.copytree(crate / "src", scratch / "crates" / crate.name / "src")
     text = ""
     for path in modules():
         shutil.copy(path, own / f"{path.stem}.rt")
