@@ -92,12 +92,21 @@ def kit_that_keeps(kit, room):
     return copy
 
 
-def scratch_top(kit, room, top):
-    """A repository of the sources of the crates of another one, with the crate of these tests."""
-    scratch, own = room / "top", room / "top/crates" / CRATE / "src"
-    own.mkdir(parents=True)
+def copied(room, top):
+    """A repository of the sources of the crates of another one. A crate that is a link would be built where it lies."""
+    scratch = room / "top"
     for crate in (top / "crates").iterdir():
         shutil.copytree(crate / "src", scratch / "crates" / crate.name / "src")
+    for name in ("crates.txt", "HANDLES"):
+        shutil.copy(top / name, scratch / name)
+    return scratch
+
+
+def scratch_top(kit, room, top):
+    """A repository of the sources of the crates of another one, with the crate of these tests."""
+    scratch = copied(room, top)
+    own = scratch / "crates" / CRATE / "src"
+    own.mkdir(parents=True)
     text = ""
     for path in modules():
         shutil.copy(path, own / f"{path.stem}.rt")
@@ -106,8 +115,8 @@ def scratch_top(kit, room, top):
     (own / "lib.rt").write_text(f"#![tactic(auto)]\n\n{declared}")
     libraries = {path.name.removesuffix(".rlib") for path in (kit / "rlibs").iterdir()} | {path.name for path in (top / "crates").iterdir()}
     used = sorted({*re.findall(r"\b(\w+)::", text)} & (libraries - {"std", "core"}))
-    (scratch / "crates.txt").write_text(f"{(top / 'crates.txt').read_text()}{CRATE}: {' '.join(used)}\n")
-    shutil.copy(top / "HANDLES", scratch / "HANDLES")
+    with open(scratch / "crates.txt", "a") as file:
+        file.write(f"{CRATE}: {' '.join(used)}\n")
     return scratch / "crates" / CRATE
 
 
@@ -127,9 +136,10 @@ def built(kit, room, top):
 
 def checked_program(top):
     """The bytes of isofarm as its sources at this top make it, with run-time checks."""
-    with TemporaryDirectory() as room:
-        words = [str(kit_that_keeps(kit_folder(), Path(room)) / "bin/rt"), "try", "--steps", "1", "--", "--version"]
-        return linked(Path(room), top / "crates/isofarm", words)
+    with TemporaryDirectory() as folder:
+        room = Path(folder)
+        words = [str(kit_that_keeps(kit_folder(), room) / "bin/rt"), "try", "--steps", "1", "--", "--version"]
+        return linked(room, copied(room, top) / "crates/isofarm", words)
 
 
 def program_of(top=TOP):
