@@ -1,4 +1,4 @@
-"""Compares the program that `./isofarm` compiles without its proof with the proved one, byte for byte.
+"""Compares the program that `./isofarm` compiles with the proved one, byte for byte.
 
 usage: python3 crosscheck/compare_compiled.py FIRST_SEED SEEDS
 
@@ -6,7 +6,6 @@ On the examples, and on specs of each kind made from the seeds: `check`, `count`
 where they are not too many, books reduced and not, and what the other commands tell of these.
 """
 
-import os
 import sys
 from collections import Counter
 from pathlib import Path
@@ -19,7 +18,6 @@ from examples import EXAMPLES
 from generate import KINDS, Maker
 
 LAUNCHER = EXAMPLES.parent / "isofarm"
-COMPILED = {"ISOFARM_COMPILED": "1"}
 MOST_RANKS = 300
 # Of so many orders classes are asked for, so often by filters, looks and expectations.
 MOST_CLASSED, RUNS_ASKED = 20_000, 3
@@ -36,10 +34,10 @@ def specs(first, seeds):
 
 def compiled_program():
     """The path of the compiled program, which is built where it is not there."""
-    ran = told(LAUNCHER, ["--version"], EXAMPLES, COMPILED)
-    programs = [*(EXAMPLES.parent / "out/compiled").glob("*/isofarm")]
-    if b"not proved here" not in ran[1] or len(programs) != 1:
-        sys.exit(f"no program was compiled: {ran}")
+    ran = told(LAUNCHER, ["--version"], EXAMPLES, {})
+    programs = [*(EXAMPLES.parent / "out").glob("isofarm-*")]
+    if b"compiled from proved sources" not in ran[1] or len(programs) != 1:
+        sys.exit(f"no program was compiled from proved sources: {ran}")
     return programs[0]
 
 
@@ -106,5 +104,4 @@ def main(first, seeds):
 if __name__ == "__main__":
     if len(sys.argv) != 3:
         sys.exit(__doc__)
-    os.environ.pop("ISOFARM_COMPILED", None)
     sys.exit(ended(main, int(sys.argv[1]), int(sys.argv[2])))

@@ -17,7 +17,6 @@ from binding import MAX_SESSIONS
 from book_file import NoBook, read_book, text_in_format_1
 from books import book_text, compact, facts_of, false_rank, first_difference, least_clash, report, report_text, session_text, to_run, untold
 from compare import PROGRAM, WORDS, compare, ended, usage
-from compare_books import MOST_RANKS, cut
 from damage import DAMAGES, spelled
 from facts import Worlds
 from generate import KINDS
@@ -27,6 +26,8 @@ from untrue import false_fact, outcomes_of, spec_of
 from worked import EMPTY_BOOK, LARGE
 
 MOST_A_RUN = 4_096_000
+MOST_RANKS = 1500
+MOST_SHARDS = 6
 RANKS_OF_LARGE = 40
 RANKS_OF_ALL = 100
 RANKS_OF_DAMAGED = 12
@@ -266,6 +267,16 @@ def no_ranges(random, number):
     if number > MOST_A_RUN:
         ranges += [(0, MOST_A_RUN + 1), (number - MOST_A_RUN - 1, number), (0, number), (0, number + 1), (MOST_A_RUN + 1, 0)]
     return random.sample(ranges, 2)
+
+
+def cut(random, number):
+    """Ranges that cover all ranks, in any order, some of them twice or beside others, each reduced or not."""
+    cuts = sorted(random.randint(0, number) for _ in range(random.randrange(MOST_SHARDS)))
+    ranges = list(zip([0, *cuts], [*cuts, number]))
+    ranges += [random.choice(ranges) for _ in range(random.randrange(2))]
+    random.shuffle(ranges)
+    how = random.choice([["reduce"], ["every"], ["reduce", "every"]])
+    return [(first, end, random.choice(how)) for first, end in ranges]
 
 
 def shards_of(random, number, most):

@@ -1,21 +1,18 @@
 """Refuses tests each growth in turn, one in each run.
 
-usage: python3 crosscheck/refused_growths.py [--most M] [--seed N] [--count K] [--jobs N] [CRATE..] [TEST..]
+usage: python3 crosscheck/refused_growths.py [--program PATH] [--most M] [--seed N] [--count K] [--jobs N] [MODULE::TEST..]
 
-Some tests accept the full answer or the named refusal, and then read what stands. `rt try --test --fail-alloc N` runs tests so that growth N is
-refused, and compiles them anew for each N. Here the tests of a crate are compiled once, with a number for N that stands nowhere else in
-the program; each run has its own number in that place. Each test is run for N = 1, 2, 3 .. up to the growths that it makes and one more, and
-has to pass each time. How many it makes is found by the same program with an unlawful instruction where it would refuse. Those of the
-crates CRATE and those named MODULE::TEST are run, without names all; with --count K of them, by the seed. Where a test makes more than M
-growths it is refused M of them: those that the seed takes, or without one the first. The programs are kept in out/refused_growths while sources and kit
-stay the same. The exit status is 1 where a test fails.
+Some tests of tests/calls accept the full answer or the named refusal, and then read what stands. They run here from the program of tests/calls.py, which is
+compiled once, or from that at PATH: a number stands in it that no run comes to, where `rt try --test --fail-alloc N` has the number of the growth that is
+refused. Each run here has a number of its own in that place. Each test runs for N = 1, 2, 3 .. up to the growths that it makes and one more, and has to pass
+each time. How many it makes is found by the same program with an unlawful instruction where it would refuse. Those that are named run, without names all; with
+--count K of them, by the seed. Where a test makes more than M growths it is refused M of them: those that the seed takes, or without one the first. The exit
+status is 1 where a test fails.
 """
 
 import argparse
-import hashlib
 import os
 import re
-import shlex
 import shutil
 import signal
 import subprocess
@@ -27,66 +24,58 @@ from random import Random
 from tempfile import TemporaryDirectory
 
 from compare import ended
-from wrong_bodies import run, stop
+from wrong_bodies import stop
 
-TOP = Path(__file__).resolve().parent.parent
-KEPT = TOP / "out/refused_growths"
-TESTS = {
-    "book_tests": [
-        "refusals::a_refused_turn_is_one_and_can_be_asked_for_again",
-        "refusals::a_farm_is_whole_or_names_what_is_missing",
-        "walks::a_shard_is_run_whole_unless_memory_runs_out",
-        "walks::a_new_walker_gives_the_rest_where_memory_ran_out",
-        "walks::runs_follow_on_each_other_where_memory_ran_out_too",
-        "marks::a_world_without_memory_goes_back_to_its_mark",
-        "worlds::a_world_without_memory_is_spent_and_its_forks_go_on",
-        "worlds::a_run_without_memory_is_refused",
-        "books::books_are_whole_unless_memory_runs_out",
-        "written_books::a_text_is_written_whole_unless_memory_runs_out",
-        "read_books::a_book_without_memory_is_refused_by_name",
-        "told_books::all_is_told_unless_memory_runs_out",
-    ],
-    "judgement_tests": [
-        "audits::an_audit_without_memory_is_refused_by_name",
-        "spec_tests::specs_are_tested_whole_unless_memory_runs_out",
-        "verdicts::answers_are_told_whole_unless_memory_runs_out",
-    ],
-    "library_tests": [
-        "event_trees::a_refused_list_leaves_the_tree",
-        "lines::a_value_is_made_whole_unless_memory_runs_out",
-        "lines::a_value_is_read_whole_unless_memory_runs_out",
-        "lines::a_value_of_no_outcome_is_refused_unless_memory_runs_out",
-        "lines::a_refused_event_leaves_the_log_and_its_forks",
-        "lines::an_input_is_read_whole_unless_memory_runs_out",
-        "marks::a_refused_call_leaves_the_list_and_its_marks",
-        "modes::a_refused_fork_leaves_what_is_forked",
-        "queues::a_refused_step_leaves_the_table_and_its_forks",
-        "queues::a_refused_request_for_a_key_leaves_it",
-        "spec_texts::a_text_is_read_whole_unless_memory_runs_out",
-        "sql_texts::want_of_memory_is_named",
-        "tables::a_refused_step_leaves_the_store_and_its_forks",
-        "trees::a_refused_change_leaves_each_version",
-    ],
-    "program_tests": [
-        "classes::classes_are_told_whole_unless_memory_runs_out",
-        "memory::a_step_is_bound_whole_unless_memory_runs_out",
-        "memory::a_step_is_refused_as_ever_unless_memory_runs_out",
-        "memory::a_run_tells_all_unless_memory_runs_out",
-        "memory::usage_is_told_unless_memory_runs_out",
-        "opened::a_page_is_told_whole_unless_memory_runs_out",
-        "orders::an_order_and_its_rank_are_told_unless_memory_runs_out",
-        "shows::an_order_is_shown_whole_unless_memory_runs_out",
-        "outcomes::classes_of_books_are_told_whole_unless_memory_runs_out",
-        "over_books::books_are_told_whole_unless_memory_runs_out",
-    ],
-}
+sys.path.insert(0, str(Path(__file__).resolve().parent.parent / "tests"))
+
+import calls
+
+TESTS = [
+    "audits::an_audit_without_memory_is_refused_by_name",
+    "books::a_text_is_written_whole_unless_memory_runs_out",
+    "books::books_are_whole_unless_memory_runs_out",
+    "event_trees::a_refused_list_leaves_the_tree",
+    "lines::a_refused_event_leaves_the_log_and_its_forks",
+    "lines::a_value_is_read_and_made_whole_unless_memory_runs_out",
+    "lines::a_value_of_no_outcome_is_refused_unless_memory_runs_out",
+    "lines::an_input_is_read_whole_unless_memory_runs_out",
+    "lists::a_refused_call_leaves_the_list_and_its_marks",
+    "marks::a_world_without_memory_goes_back_to_its_mark",
+    "modes::a_refused_fork_leaves_what_is_forked",
+    "no_memory::a_page_is_told_whole_unless_memory_runs_out",
+    "no_memory::a_run_tells_all_unless_memory_runs_out",
+    "no_memory::an_order_and_its_rank_are_told_unless_memory_runs_out",
+    "no_memory::an_order_is_shown_whole_unless_memory_runs_out",
+    "no_memory::answers_are_told_whole_unless_memory_runs_out",
+    "no_memory::books_are_told_whole_unless_memory_runs_out",
+    "no_memory::classes_are_told_whole_unless_memory_runs_out",
+    "no_memory::classes_of_books_are_told_whole_unless_memory_runs_out",
+    "no_memory::usage_is_told_unless_memory_runs_out",
+    "plans::a_step_is_bound_or_refused_as_ever_unless_memory_runs_out",
+    "queues::a_refused_request_for_a_key_leaves_it",
+    "queues::a_refused_step_leaves_the_table_and_its_forks",
+    "read_books::a_book_without_memory_is_refused_by_name",
+    "read_books::all_is_told_unless_memory_runs_out",
+    "refusals::a_farm_is_whole_or_names_what_is_missing",
+    "refusals::a_refused_turn_is_one_and_can_be_asked_for_again",
+    "spec_texts::a_text_is_read_whole_unless_memory_runs_out",
+    "spec_texts::a_text_is_refused_as_ever_unless_memory_runs_out",
+    "sql_texts::want_of_memory_is_named",
+    "tables::a_refused_step_leaves_the_store_and_its_forks",
+    "tested_specs::specs_are_tested_whole_unless_memory_runs_out",
+    "trees::a_refused_change_leaves_each_version",
+    "walks::a_new_walker_gives_the_rest_where_memory_ran_out",
+    "walks::a_shard_is_run_whole_unless_memory_runs_out",
+    "walks::runs_follow_on_each_other_where_memory_ran_out_too",
+    "worlds::a_run_without_memory_is_refused",
+    "worlds::a_world_without_memory_is_spent_and_its_forks_go_on",
+]
 # A test with such a name is one of those above.
 OF_MEMORY = re.compile(r"unless_memory|without_memory|memory_ran_out")
 
-# The number that is compiled, which stands for N, and the code that it stands in: where it is the growth's number, null is given.
-NUMBER = 1_836_311_903
+# The code that the number stands in which is compiled for N: where it is the growth's number, null is given.
 REFUSES, UNLAWFUL = b"\x31\xc0", b"\x0f\x0b"
-PLACE = re.compile(re.escape(NUMBER.to_bytes(4, "little")) + b"\x75." + re.escape(REFUSES), re.DOTALL)
+PLACE = re.compile(re.escape(calls.NUMBER.to_bytes(4, "little")) + b"\x75." + re.escape(REFUSES), re.DOTALL)
 BEHIND = 6
 # Where threads share the growths, one run makes more of them than another.
 TRIES = 5
@@ -95,82 +84,6 @@ MOST_SECONDS = 60
 AT_ONCE = 50
 LINES_TOLD = 5
 NOT_TOLD = re.compile(r"\s*$|test result: |=+$|\d+: |#\d")
-
-FOLDERS = ["", "bin", "toolchain", "toolchain/bin"]
-BUT_NO_CHECK = """#!/bin/sh
-[ "$1" != check ] || exit 0
-exec {real} "$@"
-"""
-AND_KEEP = """#!/bin/sh
-{real} "$@" || exit
-while [ $# -gt 1 ]; do
-  [ "$1" != -o ] || cp "$2" {kept}
-  shift
-done
-"""
-
-
-class Unfit(Exception):
-    """Why a crate's tests are not run."""
-
-
-# the program
-
-
-def sum_of_sources(kit):
-    """What the programs are made of."""
-    found = hashlib.sha256()
-    for path in [*sorted(TOP.glob("crates/*/src/**/*.rt")), TOP / "crates.txt", TOP / "HANDLES", kit / "KIT-ID"]:
-        if path.is_file():
-            found.update(f"{path} {path.stat().st_size}\n".encode() + path.read_bytes())
-    return found.hexdigest()[:16]
-
-
-def kit_that_keeps(kit, room):
-    """The kit, but for a linker that leaves the program that it made in the room, and no look at names, which a gate has had."""
-    copy, own = room / "kit", {"bin/rt", "bin/rtlib.py", "bin/rattle", "toolchain/bin/ld.lld"}
-    for folder in FOLDERS:
-        (copy / folder).mkdir()
-        for path in (kit / folder).iterdir():
-            if str(path.relative_to(kit)) not in own | {*FOLDERS}:
-                (copy / folder / path.name).symlink_to(path)
-    for name in ("bin/rt", "bin/rtlib.py"):
-        shutil.copy(kit / name, copy / name)
-    for name, script in (("bin/rattle", BUT_NO_CHECK), ("toolchain/bin/ld.lld", AND_KEEP)):
-        (copy / name).write_text(script.format(real=shlex.quote(str(kit / name)), kept=shlex.quote(str(room / "program"))))
-        (copy / name).chmod(0o755)
-    return copy
-
-
-def built(crate, kit, room):
-    """The bytes of the program of a crate's tests."""
-    words = [str(kit_that_keeps(kit, room) / "bin/rt"), "try", "--test", "--fail-alloc", str(NUMBER), "--", TESTS[crate][0]]
-    lines, status = run(words, TOP / "crates" / crate)
-    if not (room / "program").is_file():
-        lines = [line for line in lines if line.strip()] or [f"rt ended with {status} and said nothing"]
-        raise Unfit(f"is not built: {next((line for line in lines if 'error' in line), lines[-1])}")
-    return (room / "program").read_bytes()
-
-
-def program_of(crate):
-    """The path of a program that is kept, with the seconds that it took to build it."""
-    rt, began = shutil.which("rt"), time.monotonic()
-    if rt is None:
-        raise Unfit("is not built: there is no rt")
-    kit = Path(rt).resolve().parent.parent
-    path = KEPT / f"{crate}-{sum_of_sources(kit)}"
-    if not path.is_file():
-        with TemporaryDirectory() as room:
-            program = built(crate, kit, Path(room))
-        KEPT.mkdir(parents=True, exist_ok=True)
-        for old in KEPT.glob(f"{crate}-*"):
-            old.unlink()
-        part = path.with_name(f"part-{os.getpid()}")
-        part.write_bytes(program)
-        part.chmod(0o755)
-        part.rename(path)
-    return path, time.monotonic() - began
-
 
 # its runs, each process with a copy of its own
 
@@ -235,17 +148,17 @@ def lines_of(text):
     return [line.strip() for line in text.splitlines() if not NOT_TOLD.match(line.strip())][:LINES_TOLD]
 
 
-def fit(crate, program, tests):
+def fit(program, tests):
     """Whether the program is what it is taken for."""
     code = program.read_bytes()
-    if not places_of(code) or len(places_of(code)) != code.count(NUMBER.to_bytes(4, "little")):
-        raise Unfit("is refused growths in another way by this kit")
+    if not places_of(code) or len(places_of(code)) != code.count(calls.NUMBER.to_bytes(4, "little")):
+        raise calls.Unfit("is refused growths in another way by this kit")
     listed = subprocess.run([program, "--list"], env={}, stdin=subprocess.DEVNULL, capture_output=True, text=True, check=False).stdout
     names = re.findall(r"^(\S+): test$", listed, re.MULTILINE)
     if lacking := [test for test in tests if test not in names]:
-        raise Unfit(f"has no test {', '.join(lacking)}")
-    if unnamed := [name for name in names if OF_MEMORY.search(name) and name not in TESTS[crate]]:
-        raise Unfit(f"has tests that are not named in refused_growths.py: {', '.join(unnamed)}")
+        raise calls.Unfit(f"has no test {', '.join(lacking)}")
+    if unnamed := [name for name in names if OF_MEMORY.search(name) and name not in TESTS]:
+        raise calls.Unfit(f"has tests that are not named in refused_growths.py: {', '.join(unnamed)}")
 
 
 def numbers_of(last, asked):
@@ -271,11 +184,9 @@ def told(test, last, found, most):
     return count, failed
 
 
-def tell(crate, tests, asked):
-    """Runs tests of a crate: how many N, and how often one failed."""
-    program, seconds = program_of(crate)
-    fit(crate, program, tests)
-    print(f"{crate}: a program in {seconds:.0f} s", flush=True)
+def tell(program, tests, asked):
+    """Runs tests: how many N, and how often one failed."""
+    fit(program, tests)
     began = time.monotonic()
     with TemporaryDirectory() as room, ProcessPoolExecutor(asked.jobs, initializer=begin, initargs=(program, room)) as pool:
         try:
@@ -287,41 +198,39 @@ def tell(crate, tests, asked):
             ]
         finally:
             pool.shutdown(wait=False, cancel_futures=True)
-    print(f"{crate}: runs in {time.monotonic() - began:.0f} s", flush=True)
+    print(f"runs in {time.monotonic() - began:.0f} s", flush=True)
     return sum(count for count, _failed in ends), sum(failed for _count, failed in ends)
 
 
 def wanted(asked):
-    """The tests to be run, by crate."""
-    tests_of = {test: crate for crate, tests in TESTS.items() for test in tests}
+    """The tests to be run."""
     for name in asked.names:
-        if name not in TESTS and name not in tests_of:
+        if name not in TESTS:
             sys.exit(f"refused_growths.py: there is no {name}")
-    chosen = [test for test, crate in tests_of.items() if not asked.names or {crate, test} & {*asked.names}]
+    chosen = [test for test in TESTS if not asked.names or test in asked.names]
     if asked.count is not None:
         taken = Random(asked.seed).sample(chosen, min(asked.count, len(chosen)))
         chosen = [test for test in chosen if test in taken]
-    return {crate: tests for crate in TESTS if (tests := [test for test in chosen if tests_of[test] == crate])}
+    return chosen
 
 
 def main():
     words = argparse.ArgumentParser(usage=__doc__.split("usage: ")[1].split("\n\n")[0])
+    words.add_argument("--program", type=Path)
     words.add_argument("--most", type=int, default=1_000_000)
     words.add_argument("--jobs", type=int, default=os.cpu_count())
     words.add_argument("--seed", type=int)
     words.add_argument("--count", type=int)
     words.add_argument("names", nargs="*")
     asked = words.parse_args()
-    runs = failed = 0
-    chosen = wanted(asked)
-    for crate, tests in chosen.items():
-        try:
-            more = tell(crate, tests, asked)
-        except Unfit as fault:
-            print(f"FAILED {crate} {fault}", flush=True)
-            more = 0, 1
-        runs, failed = runs + more[0], failed + more[1]
-    print(f"{sum(map(len, chosen.values()))} tests, {runs} growths refused, {failed} failures")
+    tests = wanted(asked)
+    try:
+        program = asked.program or calls.program_of()[0]
+        runs, failed = tell(program, tests, asked)
+    except calls.Unfit as fault:
+        print(f"FAILED the program of the tests {fault}", flush=True)
+        runs, failed = 0, 1
+    print(f"{len(tests)} tests, {runs} growths refused, {failed} failures")
     return 1 if failed else 0
 
 

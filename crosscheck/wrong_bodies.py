@@ -1,59 +1,71 @@
-"""Puts wrong bodies into a copy of the repository, and looks whether the test that is named for each tells it.
+"""Puts wrong bodies into a copy of the repository, and looks whether what is named for each tells it: a case, a test or the prover.
 
-usage: python3 crosscheck/wrong_bodies.py [--seed N] [--count K] [NAME..]
-       python3 crosscheck/wrong_bodies.py --prove NAME..
+usage: python3 crosscheck/wrong_bodies.py [--prove] [--sample K] [--seed N] [--jobs N] [NAME..]
+       python3 crosscheck/wrong_bodies.py --landing
        python3 crosscheck/wrong_bodies.py --check
 
-Each file of wrong_bodies/ is a wrong body, or a wrong definition: wrong_bodies/CRATE/NAME.edit has lines `file:`, `old:` and `new:` as an edit of
-must-fail/ has, its files named from the top, and a line `test: CRATE MODULE::TEST`, or `growths: CRATE MODULE::TEST` where the test tells it only when
-it is refused its growths in turn, or, where no test is named, `clause: CRATE MODULE::FUNCTION LABEL`, without LABEL where the clause has none. A NAME is
-that of the file, or CRATE/NAME. Without names some that a test tells are tried, K of them (3), taken by the seed N, which is printed. One body at a time
-is put into the copy, and `rt try --test` builds it and runs the named test, which takes one to three minutes; refused_growths.py does so for growths. A
-body with a clause is tried where --prove stands before its name: then `rt check --only` has to refuse the function. --check builds nothing: it looks
-whether all that the files name is there. The exit status is 1 where a body is not told.
+Each file of wrong_bodies/ is a wrong body, or a wrong definition. wrong_bodies/CRATE/NAME.edit has lines `file:`, `old:` and `new:` as an edit of must-fail/
+has, its files named from the top, and one line before them that names what tells it:
+
+    case: GROUP/NAME              a case of tests/cases, or GROUP: one of that group's
+    test: MODULE::TEST            a test of tests/calls
+    growths: MODULE::TEST         such a test, when it is refused its growths in turn
+    clause: CRATE MODULE::FUNCTION LABEL   a contract; without LABEL where the clause has none
+
+A NAME is that of the file, or CRATE/NAME. Without names all are tried that a case or a test tells, and with --prove those that the prover refuses; with --sample
+K of them, half by the prover where --prove stands too. Which ones goes by the seed N, which is printed. --landing tries three by tests and three by the prover, taken by the newest
+commit. For a case or a test the program is compiled anew in a copy with that body. The prover looks at the one function, over the libraries that `rt ci` has
+left in this checkout. As many are tried side by side as there are processors. out/wrong_bodies.md gets a table of what was told by what. --check builds
+nothing: it looks whether all that the files name is there. The exit status is 1 where a body is not told.
 """
 
 import argparse
+import os
 import re
 import shutil
 import signal
 import subprocess
 import sys
 import time
-from dataclasses import dataclass
+from concurrent.futures import ThreadPoolExecutor
+from dataclasses import dataclass, field
 from pathlib import Path
 from random import Random, SystemRandom
 from tempfile import TemporaryDirectory
+from threading import Lock
 
 TOP = Path(__file__).resolve().parent.parent
+sys.path[:0] = [str(TOP / "tests"), str(TOP / "launcher")]
+
+import calls
+from proved import kit_command
+
 FOLDER = TOP / "wrong_bodies"
-PARTS = ["crates", "crosscheck", "crates.txt", "HANDLES"]
+TABLE = TOP / "out/wrong_bodies.md"
+BY_TESTS, BY_PROVER = ("case", "test", "growths"), ("clause",)
+SAMPLE_OF_LANDING = 3
 LINES_TOLD = 5
-SECONDS_TO_END = 20
-SLOWLY = ["nice", "-n", "15"]
+NOT_PROVED = re.compile(r"^fn \S+: (no proof|not proved)")
 
 
 @dataclass
 class Body:
     name: str
-    # The words behind `test:` or `growths:`, or those behind `clause:`.
-    test: list
-    clause: list
-    # Whether the test is refused its growths.
-    is_refused: bool
+    # How it is told (`case`, `test`, `growths` or `clause`), and the words behind that.
+    kind: str = ""
+    teller: list = field(default_factory=list)
     # Each a path from the top, what stands there, and what is put in its place.
-    changes: list
-    faults: list
+    changes: list = field(default_factory=list)
+    faults: list = field(default_factory=list)
 
 
 def body_of(path):
     """What a file says, with the lines that it should not have."""
-    body, file, old = Body(f"{path.parent.name}/{path.stem}", [], [], False, [], []), None, None
+    body, file, old = Body(f"{path.parent.name}/{path.stem}"), None, None
     for line in path.read_text().splitlines():
         key, _colon, text = line.partition(": ")
-        if key in ("test", "growths", "clause") and not body.test + body.clause:
-            setattr(body, "clause" if key == "clause" else "test", text.split())
-            body.is_refused = key == "growths"
+        if key in BY_TESTS + BY_PROVER and not body.kind:
+            body.kind, body.teller = key, text.split()
         elif key == "file":
             file = text
         elif key == "old" and file and old is None:
@@ -72,22 +84,25 @@ def bodies():
     return [body_of(path) for path in sorted(FOLDER.glob("*/*.edit"))]
 
 
-def changed(body, top):
-    """The texts of the files that a body changes, with it; and what cannot be changed."""
+def changed(body):
+    """The texts of the files that a body changes, by their path from the top, with it; and what cannot be changed."""
     texts, faults = {}, []
     for file, old, new in body.changes:
-        path = top / file
+        path = TOP / file
         if not re.fullmatch(r"crates/\w+/(src/[\w/]+\.rt|specs/[\w/]+\.antt)", file) or not path.is_file():
             faults.append(f"names {file}, which is not there")
             continue
-        text = texts.get(path, path.read_text())
+        text = texts.get(file, path.read_text())
         if text.count(old) != 1 or old == new:
             faults.append(f"wants to change what stands {text.count(old)} times in {file}: {old.strip()}")
-        texts[path] = text.replace(old, new)
+        texts[file] = text.replace(old, new)
     return texts, faults
 
 
-def contract_of(crate, path):
+# what the files name
+
+
+def contracts_of(crate, path):
     """The head of each function of that path, down to its body. A path is that of a module, of a type where there is one, and a name."""
     words, src = path.split("::"), TOP / "crates" / crate / "src"
     for length in range(len(words) - 1, 0, -1):
@@ -98,153 +113,201 @@ def contract_of(crate, path):
     return []
 
 
-def is_test(crate, path):
-    module, _colons, name = path.rpartition("::")
-    file = (TOP / "crates" / crate / "src").joinpath(*module.split("::")).with_suffix(".rt")
-    return file.is_file() and re.search(rf"#\[test\]\s+fn {name}\b", file.read_text()) is not None
+def is_told_by(body):
+    """Whether what tells a body is there."""
+    match body.kind, body.teller:
+        case "case", [name]:
+            return any((TOP / "tests/cases" / name).rglob("words"))
+        case "test" | "growths", [name]:
+            return name in calls.tests()
+        case "clause", [crate, path, *labels]:
+            heads = contracts_of(crate, path)
+            return any(f"ensures {label} {{" in head for head in heads for label in labels) if labels else bool(heads)
+    return False
 
 
 def faults_of(body):
     """What a file names that is not there."""
-    faults = body.faults + changed(body, TOP)[1]
-    match body.test, body.clause:
-        case [crate, path], []:
-            faults += [] if is_test(crate, path) else [f"names the test {path}, which is not in {crate}"]
-        case [], [crate, path, *labels]:
-            said = [f"ensures {label} {{" for label in labels] or ["ensures "]
-            heads = contract_of(crate, path)
-            faults += [] if any(words in head for head in heads for words in said) else [f"names the clause {' '.join([path, *labels])}, which is not in {crate}"]
-        case _:
-            faults.append("names neither a test nor a clause")
+    faults = body.faults + changed(body)[1]
+    if not is_told_by(body):
+        faults.append(f"names as what tells it: {body.kind} {' '.join(body.teller)}, which is not there")
     return [f"wrong_bodies/{body.name}.edit {fault}" for fault in faults]
 
 
 def check(all_bodies):
     faults = [fault for body in all_bodies for fault in faults_of(body)]
-    by_test = sum(bool(body.test) for body in all_bodies)
-    said = f"{len(all_bodies)} more, one in a file, each with what tells it: {by_test} by a test and {len(all_bodies) - by_test} by a clause"
+    by_test = sum(body.kind in BY_TESTS for body in all_bodies)
+    said = f"{len(all_bodies)} wrong bodies, one in a file, each with what tells it: {by_test} by a case or a test and {len(all_bodies) - by_test} by a clause"
     faults += [] if said in (TOP / "docs/PROMISES.md").read_text() else [f"docs/PROMISES.md does not say: {said}"]
     print("".join(f"{fault}\n" for fault in faults), end="")
-    print(f"{len(all_bodies)} wrong bodies, {by_test} by a test, {len(all_bodies) - by_test} by a clause; {len(faults)} faults")
+    print(f"{len(all_bodies)} wrong bodies, {by_test} by a case or a test, {len(all_bodies) - by_test} by a clause; {len(faults)} faults")
     return 1 if faults else 0
 
 
-def run(words, folder):
-    """What a command prints, both outputs in one, and its status. Where this is stopped the command is told to end what it started."""
-    ran = subprocess.Popen(
-        words, cwd=folder, stdin=subprocess.DEVNULL, stdout=subprocess.PIPE, stderr=subprocess.STDOUT, text=True, start_new_session=True
-    )
-    try:
-        text, _nothing = ran.communicate()
-        return text.splitlines(), ran.returncode
-    finally:
-        if ran.poll() is None:
-            ran.terminate()
-            ran.wait(SECONDS_TO_END)
+# by a case or a test
 
 
-def tested(crate, test, top):
-    """Whether a test fails, or none where it was not run; and what was printed."""
-    lines, _status = run([*SLOWLY, "rt", "try", "--test", "--", test], top / "crates" / crate)
-    ends = [line.rsplit(" ", 1)[1] for line in lines if line.startswith(f"test {test} ... ")]
-    return (ends[0] != "ok" if ends else None), lines
-
-
-def tested_without_memory(_crate, test, top):
-    """Whether a test fails with one of its growths refused, or none where it was not run; and what was printed."""
-    lines, _status = run([*SLOWLY, sys.executable, "crosscheck/refused_growths.py", "--jobs", "1", test], top)
-    ends = [line.split(" ", 1)[0] for line in lines if f" {test}: " in line]
-    return (ends[0] == "FAILED" if ends else None), lines
-
-
-def refused(crate, path, top):
-    """Whether a check refuses a function, and what it printed."""
-    lines, status = run([*SLOWLY, "rt", "check", "--only", path], top / "crates" / crate)
-    return status != 0, lines
-
-
-def with_body(files, look, *arguments):
-    """What a look finds while these are the texts of the files."""
-    before = {path: path.read_text() for path in files}
-    try:
-        for path, text in files.items():
-            path.write_text(text)
-        return look(*arguments)
-    finally:
-        for path, text in before.items():
-            path.write_text(text)
-
-
-def tried(body, top):
-    """Whether a body is told in the copy, or none where that is not known, and what was printed."""
-    files, faults = changed(body, top)
-    if faults + body.faults:
-        return None, faults + body.faults
-    if body.test:
-        return with_body(files, tested_without_memory if body.is_refused else tested, *body.test, top)
-    # Without the body the function has to be proved, or a refusal says nothing of it.
-    is_refused, lines = refused(*body.clause[:2], top)
-    return (None, lines) if is_refused else with_body(files, refused, *body.clause[:2], top)
-
-
-def tell(body, top):
-    began = time.monotonic()
-    told, lines = tried(body, top)
-    words = {True: "told", False: "NOT TOLD", None: "NOT TRIED"}[told]
-    print(f"{words} {body.name}: {' '.join(body.test or body.clause)}, {time.monotonic() - began:.0f} s", flush=True)
-    if not told:
-        print("".join(f"  {line.rstrip()}\n" for line in lines[-LINES_TOLD:]), end="", flush=True)
-    return told is True
-
-
-def copied(folder):
-    """A copy of what the crates are made of."""
-    for part in PARTS:
-        if (TOP / part).is_dir():
-            shutil.copytree(TOP / part, folder / part, ignore=shutil.ignore_patterns("out"))
+def top_with(texts, folder):
+    """A top whose crates are those here, but for the changed files."""
+    (folder / "crates").mkdir()
+    edited = {Path(file).parts[1] for file in texts}
+    for crate in (TOP / "crates").iterdir():
+        if crate.name in edited:
+            shutil.copytree(crate, folder / "crates" / crate.name, ignore=shutil.ignore_patterns("out"))
         else:
-            shutil.copy(TOP / part, folder / part)
+            (folder / "crates" / crate.name).symlink_to(crate)
+    for file, text in texts.items():
+        (folder / file).write_text(text)
+    for name in ("crates.txt", "HANDLES"):
+        shutil.copy(TOP / name, folder / name)
     return folder
+
+
+def run(words):
+    ran = subprocess.run(words, cwd=TOP, stdin=subprocess.DEVNULL, stdout=subprocess.PIPE, stderr=subprocess.STDOUT, text=True, errors="replace", check=False)
+    return ran.returncode, ran.stdout.splitlines()
+
+
+def tested(body, texts, room):
+    """Whether a case or a test tells a body, or none where that is not known, and what was printed."""
+    top, program = top_with(texts, room), room / "isofarm"
+    try:
+        if body.kind == "case":
+            program.write_bytes(calls.checked_program(top))
+            program.chmod(0o755)
+            status, lines = run([sys.executable, "tests/run", "--program", str(program), *body.teller])
+            return status == 1, lines
+        tests, _seconds = calls.program_of(top)
+    except calls.Unfit as fault:
+        return None, str(fault).splitlines()
+    try:
+        if body.kind == "test":
+            is_passed, text = calls.run(tests, body.teller[0])
+            return not is_passed, text.splitlines()
+        status, lines = run([sys.executable, "crosscheck/refused_growths.py", "--jobs", "1", "--program", str(tests), *body.teller])
+        return status == 1, lines
+    finally:
+        tests.unlink()
+
+
+# by the prover
+
+
+class Prover:
+    """The kit's own check of one function, over the libraries that the gate has left."""
+
+    def __init__(self):
+        self.rt, before = kit_command(str(calls.kit_folder())), os.getcwd()
+        os.chdir(TOP)
+        self.rt.rtlib.guarded()
+        self.rt.Crate.allowed = self.rt.handles_of(str(TOP))
+        self.crates = {crate.name: crate for crate in self.rt.rtlib.crates_below(str(TOP))}
+        os.chdir(before)
+
+    def check(self, crate, texts, path):
+        """The status of a check of the function, and what it printed. Where the path is not how the prover names it, the name alone is asked for."""
+        ran = self.rt.checked(crate, texts, ["--jobs", "1", "--only", path], None)
+        if "has no function" in ran.stdout:
+            ran = self.rt.checked(crate, texts, ["--jobs", "1", "--only", path.split("::")[-1]], None)
+        if "several functions are named" in ran.stdout:
+            parts = path.split("::")[:-1]
+            names = [name for name in re.findall(r"`([\w:]+)`", ran.stdout) if all(f"::{part}" in f"::{name}" for part in parts)]
+            if len(names) == 1:
+                ran = self.rt.checked(crate, texts, ["--jobs", "1", "--only", names[0]], None)
+        return ran.returncode, ran.stdout.splitlines()
+
+    def refuses(self, body, texts, _room):
+        """Whether the prover refuses a body, or none where that is not known, and what it printed."""
+        name, path = body.teller[:2]
+        crate, front = self.crates[name], f"crates/{name}/"
+        lacking = [dep.name for dep in crate.below() if not (TOP / "crates" / dep.name / "out/rlib").is_dir()]
+        if lacking:
+            return None, [f"rt ci has left no library of {lacking[0]}"]
+        if any(not file.startswith(front) for file in texts):
+            return None, ["changes another crate than that of its clause"]
+        status, lines = self.check(crate, {file.removeprefix(front): text for file, text in texts.items()}, path)
+        is_read = not any("error[" in line or self.rt.unread(line, {}) for line in lines)
+        told = [line for line in lines if NOT_PROVED.search(line)]
+        if status == 1 and told and is_read:
+            return True, told
+        return (False, lines) if status == 0 else (None, [line for line in lines if "error" in line] or lines)
+
+
+# all
+
+
+def tried(body, prover):
+    """Whether a body is told, or none where that is not known, with what was printed and the seconds that it took."""
+    began = time.monotonic()
+    texts, faults = changed(body)
+    if faults + body.faults:
+        return None, faults + body.faults, 0
+    with TemporaryDirectory() as room:
+        look = prover.refuses if body.kind in BY_PROVER else tested
+        told, lines = look(body, texts, Path(room))
+    return told, lines, time.monotonic() - began
+
+
+WORDS = {True: "told", False: "NOT TOLD", None: "NOT TRIED"}
+
+
+def try_all(wanted, jobs):
+    """Tries bodies side by side, prints what became of each, and leaves the table."""
+    prover = Prover() if any(body.kind in BY_PROVER for body in wanted) else None
+    rows, printing = [], Lock()
+
+    def one(body):
+        told, lines, seconds = tried(body, prover)
+        with printing:
+            print(f"{WORDS[told]} {body.name}: {body.kind} {' '.join(body.teller)}, {seconds:.0f} s", flush=True)
+            if not told:
+                print("".join(f"  {line.rstrip()[:300]}\n" for line in lines[-LINES_TOLD:]), end="", flush=True)
+        rows.append(f"| `{body.name}` | {body.kind} | `{' '.join(body.teller)}` | {WORDS[told]} |\n")
+        return told
+
+    with ThreadPoolExecutor(jobs) as pool:
+        ends = [*pool.map(one, wanted)]
+    TABLE.parent.mkdir(exist_ok=True)
+    TABLE.write_text("| Wrong body | Told by | Which | |\n|---|---|---|---|\n" + "".join(sorted(rows)))
+    print(f"{ends.count(True)} passed, {len(ends) - ends.count(True)} failed")
+    return 0 if all(ends) else 1
+
+
+def sample_of(some, count, seed):
+    return Random(seed).sample(some, min(count, len(some)))
 
 
 def taken(all_bodies, asked):
     """The bodies that are asked for."""
-    if not asked.names:
-        seed = SystemRandom().randrange(2**32) if asked.seed is None else asked.seed
-        by_test = [body for body in all_bodies if body.test]
-        print(f"seed {seed}", flush=True)
-        return Random(seed).sample(by_test, min(asked.count, len(by_test)))
-    wanted = [body for body in all_bodies if body.name in asked.names or body.name.split("/")[1] in asked.names]
-    for name in asked.names:
-        if not any(name in (body.name, body.name.split("/")[1]) for body in wanted):
-            sys.exit(f"wrong_bodies.py: there is no {name}")
-    return wanted
-
-
-def try_all(all_bodies, asked):
-    wanted = taken(all_bodies, asked)
-    by_clause = [body for body in wanted if body.clause and not asked.prove]
-    with TemporaryDirectory() as folder:
-        top = copied(Path(folder))
-        told = sum(tell(body, top) for body in wanted if body not in by_clause)
-    for body in by_clause:
-        print(f"by a clause, not tried without --prove: {body.name}")
-    missed = len(wanted) - len(by_clause) - told
-    print(f"{told} told, {missed} not told, {len(by_clause)} by a clause")
-    return 1 if missed else 0
+    by_tests, by_prover = ([body for body in all_bodies if body.kind in kinds] for kinds in (BY_TESTS, BY_PROVER))
+    if asked.landing:
+        commit = subprocess.run(["git", "rev-parse", "HEAD"], cwd=TOP, capture_output=True, text=True, check=True).stdout.strip()
+        print(f"chosen by {commit}", flush=True)
+        return [body for some in (by_tests, by_prover) for body in sample_of(some, SAMPLE_OF_LANDING, commit)]
+    if asked.names:
+        wanted = [body for body in all_bodies if body.name in asked.names or body.name.split("/")[1] in asked.names]
+        for name in asked.names:
+            if not any(name in (body.name, body.name.split("/")[1]) for body in wanted):
+                sys.exit(f"wrong_bodies.py: there is no {name}")
+        return wanted
+    kinds = [by_tests, by_prover] if asked.sample and asked.prove else [by_prover if asked.prove else by_tests]
+    if not asked.sample:
+        return kinds[0]
+    seed = SystemRandom().randrange(2**32) if asked.seed is None else asked.seed
+    print(f"seed {seed}", flush=True)
+    return [body for some in kinds for body in sample_of(some, asked.sample // len(kinds), seed)]
 
 
 def main():
     words = argparse.ArgumentParser(usage=__doc__.split("usage: ")[1].split("\n\n")[0])
-    words.add_argument("--check", action="store_true")
-    words.add_argument("--prove", action="store_true")
+    for flag in ("--check", "--landing", "--prove"):
+        words.add_argument(flag, action="store_true")
+    words.add_argument("--sample", type=int)
     words.add_argument("--seed", type=int)
-    words.add_argument("--count", type=int, default=3)
+    words.add_argument("--jobs", type=int, default=os.cpu_count())
     words.add_argument("names", nargs="*")
     asked = words.parse_args()
-    if asked.prove and not asked.names:
-        words.error("--prove wants names")
-    return check(bodies()) if asked.check else try_all(bodies(), asked)
+    return check(bodies()) if asked.check else try_all(taken(bodies(), asked), asked.jobs)
 
 
 def stop(_number, _frame):

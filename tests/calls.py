@@ -111,13 +111,25 @@ def scratch_top(kit, room, top):
     return scratch / "crates" / CRATE
 
 
-def built(kit, room, top):
-    """The bytes of the program of the tests over the crates of this top."""
-    words = [str(kit_that_keeps(kit, room) / "bin/rt"), "try", "--test", "--fail-alloc", str(NUMBER), "--", tests()[0]]
-    ran = subprocess.run(words, cwd=scratch_top(kit, room, top), stdin=subprocess.DEVNULL, capture_output=True, text=True, check=False)
+def linked(room, folder, words):
+    """The bytes of the program that the kit's command links with these words."""
+    ran = subprocess.run(words, cwd=folder, stdin=subprocess.DEVNULL, capture_output=True, text=True, check=False)
     if not (room / "program").is_file():
         raise Unfit(f"are not built:\n{ran.stdout}{ran.stderr}")
     return (room / "program").read_bytes()
+
+
+def built(kit, room, top):
+    """The bytes of the program of the tests over the crates of this top."""
+    words = [str(kit_that_keeps(kit, room) / "bin/rt"), "try", "--test", "--fail-alloc", str(NUMBER), "--", tests()[0]]
+    return linked(room, scratch_top(kit, room, top), words)
+
+
+def checked_program(top):
+    """The bytes of isofarm as its sources at this top make it, with run-time checks."""
+    with TemporaryDirectory() as room:
+        words = [str(kit_that_keeps(kit_folder(), Path(room)) / "bin/rt"), "try", "--steps", "1", "--", "--version"]
+        return linked(Path(room), top / "crates/isofarm", words)
 
 
 def program_of(top=TOP):

@@ -1,2 +1,0 @@
-mod OwnedLemmas
-mod RunLemmas

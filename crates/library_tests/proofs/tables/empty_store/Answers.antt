@@ -1,7 +1,0 @@
-use Rattle.std.proofs.Common.{sym, subst}
-use Rattle.library_tests.specs.Owned.{HasOwners}
-use Rattle.library_tests.proofs.OwnedLemmas.{no_rows-owned}
-use Rattle.library_tests.proofs.tables.empty_store.Goals as goal
-
-pub returns : goal.returns
-returns c = subst HasOwners (sym c.new.ensures) no_rows-owned

@@ -1,5 +1,0 @@
-use Rattle.library_tests.specs.Owned.{HasOwners}
-use Rattle.library_tests.proofs.tables.run.Given as goal
-
-abbrev pub invariant-loop-step : goal.invariant-loop-step
-invariant-loop-step g l = HasOwners l.store
