@@ -108,7 +108,7 @@ def contracts_of(crate, path):
     for length in range(len(words) - 1, 0, -1):
         file = src.joinpath(*words[:length]).with_suffix(".rt")
         if file.is_file():
-            heads = re.findall(rf"^ *(?:pub(?:\(crate\))? )?(?:extern \"C\" )?fn {words[-1]}\b.*?^ *\{{\}}?$", file.read_text(), re.M | re.S)
+            heads = re.findall(rf"^ *(?:pub(?:\(crate\))? )?(?:extern \"C\" )?fn {words[-1]}\b.*?(?:^ *\{{\}}?| \{{)$", file.read_text(), re.M | re.S)
             return [head for head in heads if length == len(words) - 1 or words[-2] in file.read_text()]
     return []
 
