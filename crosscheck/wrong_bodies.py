@@ -177,7 +177,7 @@ def tested(body, texts, room):
             program.chmod(0o755)
             status, lines = run([sys.executable, "tests/run", "--program", str(program), *body.teller])
             return status == 1, lines
-        tests, _seconds = calls.program_of(top)
+        tests, _seconds = calls.program_of(top, body.teller[0].split("::")[0])
     except calls.Unfit as fault:
         return None, str(fault).splitlines()
     try:

@@ -51,13 +51,21 @@ class Unfit(Exception):
     """Why the tests are not run."""
 
 
-def modules():
-    return sorted(SOURCES.glob(f"*{ENDING}"))
+def modules(wanted=None):
+    """The files of all modules, or of those that this one stands on and itself."""
+    paths = sorted(SOURCES.glob(f"*{ENDING}"))
+    names, left = set(), [path.stem for path in paths] if wanted is None else [wanted]
+    while left:
+        name = left.pop()
+        if name not in names:
+            names.add(name)
+            left += re.findall(r"\bcrate::(\w+)", (SOURCES / f"{name}{ENDING}").read_text())
+    return [path for path in paths if path.stem in names]
 
 
-def tests():
-    """The names of all tests, each behind its module."""
-    return [f"{path.stem}::{name}" for path in modules() for name in re.findall(r"#\[test\]\s+fn (\w+)", path.read_text())]
+def tests(wanted=None):
+    """The names of the tests of these modules, each behind its module."""
+    return [f"{path.stem}::{name}" for path in modules(wanted) for name in re.findall(r"#\[test\]\s+fn (\w+)", path.read_text())]
 
 
 def kit_folder():
@@ -67,10 +75,10 @@ def kit_folder():
     return Path(rt).resolve().parent.parent
 
 
-def sum_of_sources(kit, top):
+def sum_of_sources(kit, top, wanted):
     """What the program is made of."""
     found = hashlib.sha256()
-    for path in [*sorted(top.glob("crates/*/src/**/*.rt")), *modules(), top / "crates.txt", top / "HANDLES", kit / "KIT-ID"]:
+    for path in [*sorted(top.glob("crates/*/src/**/*.rt")), *modules(wanted), top / "crates.txt", top / "HANDLES", kit / "KIT-ID"]:
         if path.is_file():
             found.update(f"{path.name} {path.stat().st_size}\n".encode() + path.read_bytes())
     return found.hexdigest()[:16]
@@ -102,16 +110,16 @@ def copied(room, top):
     return scratch
 
 
-def scratch_top(kit, room, top):
+def scratch_top(kit, room, top, wanted):
     """A repository of the sources of the crates of another one, with the crate of these tests."""
     scratch = copied(room, top)
     own = scratch / "crates" / CRATE / "src"
     own.mkdir(parents=True)
     text = ""
-    for path in modules():
+    for path in modules(wanted):
         shutil.copy(path, own / f"{path.stem}.rt")
         text += path.read_text()
-    declared = "".join(f"#[cfg(test)]\nmod {path.stem};\n" for path in modules())
+    declared = "".join(f"#[cfg(test)]\nmod {path.stem};\n" for path in modules(wanted))
     (own / "lib.rt").write_text(f"#![tactic(auto)]\n\n{declared}")
     libraries = {path.name.removesuffix(".rlib") for path in (kit / "rlibs").iterdir()} | {path.name for path in (top / "crates").iterdir()}
     used = sorted({*re.findall(r"\b(\w+)::", text)} & (libraries - {"std", "core"}))
@@ -128,10 +136,10 @@ def linked(room, folder, words):
     return (room / "program").read_bytes()
 
 
-def built(kit, room, top):
+def built(kit, room, top, wanted):
     """The bytes of the program of the tests over the crates of this top."""
-    words = [str(kit_that_keeps(kit, room) / "bin/rt"), "try", "--test", "--fail-alloc", str(NUMBER), "--", tests()[0]]
-    return linked(room, scratch_top(kit, room, top), words)
+    words = [str(kit_that_keeps(kit, room) / "bin/rt"), "try", "--test", "--fail-alloc", str(NUMBER), "--", tests(wanted)[0]]
+    return linked(room, scratch_top(kit, room, top, wanted), words)
 
 
 def checked_program(top):
@@ -142,18 +150,18 @@ def checked_program(top):
         return linked(room, copied(room, top) / "crates/isofarm", words)
 
 
-def program_of(top=TOP):
-    """The path of the program of the tests, which is kept, with the seconds that it took to build it."""
+def program_of(top=TOP, wanted=None):
+    """The path of the program of the tests, all or those of one module, which is kept, with the seconds that it took to build it."""
     began, kit = time.monotonic(), kit_folder()
-    path = KEPT / sum_of_sources(kit, top)
+    path = KEPT / sum_of_sources(kit, top, wanted)
     if not path.is_file():
         with TemporaryDirectory() as room:
-            program = built(kit, Path(room), top)
+            program = built(kit, Path(room), top, wanted)
         KEPT.mkdir(parents=True, exist_ok=True)
         if top == TOP:
             for old in KEPT.iterdir():
                 old.unlink()
-        part = KEPT / f"part-{os.getpid()}"
+        part = KEPT / f"part-{os.getpid()}-{path.name}"
         part.write_bytes(program)
         part.chmod(0o755)
         part.rename(path)
