@@ -39,7 +39,7 @@ class Copy:
         self.top = folder
         (folder / "launcher").mkdir(parents=True)
         (folder / "crates/isofarm/src").mkdir(parents=True)
-        for name in ("isofarm", "launcher/sum", "launcher/parts.py", "launcher/without_checks.sed"):
+        for name in ("isofarm", "launcher/sum", "launcher/parts.py", "launcher/stops.ll", "launcher/without_checks.sed"):
             shutil.copy(TOP / name, folder / name)
         (folder / "launcher/compile").write_text(STUB)
         (folder / "launcher/compile").chmod(0o755)

@@ -281,9 +281,9 @@ def taken(all_bodies, asked):
     """The bodies that are asked for."""
     by_tests, by_prover = ([body for body in all_bodies if body.kind in kinds] for kinds in (BY_TESTS, BY_PROVER))
     if asked.landing:
-        commit = subprocess.run(["git", "rev-parse", "HEAD"], cwd=TOP, capture_output=True, text=True, check=True).stdout.strip()
-        print(f"chosen by {commit}", flush=True)
-        return [body for some in (by_tests, by_prover) for body in sample_of(some, SAMPLE_OF_LANDING, commit)]
+        tree = subprocess.run(["git", "rev-parse", "HEAD^{tree}"], cwd=TOP, capture_output=True, text=True, check=True).stdout.strip()
+        print(f"chosen by the tree {tree}", flush=True)
+        return [body for some in (by_tests, by_prover) for body in sample_of(some, SAMPLE_OF_LANDING, tree)]
     if asked.names:
         wanted = [body for body in all_bodies if body.name in asked.names or body.name.split("/")[1] in asked.names]
         for name in asked.names:
