@@ -30,7 +30,7 @@ CRATE = "calls"
 ENDING = ".rattle"
 # The number of the refused growth that is compiled: no test makes so many.
 NUMBER = 1_836_311_903
-SECONDS = 60
+SECONDS = 300
 LINES_TOLD = 12
 
 FOLDERS = ["", "bin", "toolchain", "toolchain/bin"]
