@@ -11,7 +11,8 @@ generic or short is in each part that names it; of any other one the other parts
 import re
 import sys
 
-# The crates of the first part are those that these stand on, but for those that the reader of specs stands on and the walk does not, and of the kit's all but these.
+# The crates of the first part are those that these stand on, but for those that the reader of specs stands on and the walk does not; and of the kit's crates
+# all but these.
 RUNS, READS, WALKS = ["book_audit", "book_files", "class_groups"], "spec_binding", "step_reducer"
 NOT_OF_KIT = {"clap", "json", "serde_json"}
 PARTS = 3
@@ -23,8 +24,8 @@ FUNCTION = re.compile(r"^define [^\n]*\{\n.*?^\}\n", re.MULTILINE | re.DOTALL)
 
 
 class Module:
-    """The functions of a module, each by its name with the pieces of its text between names and the names; what stands between functions, by lines; and of those
-    lines which names a global has in it."""
+    """The functions of a module, each by its name with the pieces of its text between names, and the names; what stands between functions, by lines; and the
+    names that a global has in it."""
 
     def __init__(self, text):
         self.functions, self.rest, end = {}, [], 0
@@ -57,7 +58,8 @@ class Module:
         count, kinds = 0, texts
         while count != len(kinds):
             count, kinds = len(kinds), {}
-            number = {name: kinds.setdefault((number[name], *("" if it == name else number.get(it, it) for it in self.functions[name][1])), len(kinds)) for name in names}
+            told = {name: (number[name], *("" if it == name else number.get(it, it) for it in self.functions[name][1])) for name in names}
+            number = {name: kinds.setdefault(told[name], len(kinds)) for name in names}
         first = {}
         one_of = {name: first.setdefault(number[name], name) for name in names}
         self.rest = [NAME.sub(lambda it: f"@{one_of.get(it[1], it[1])}", line) for line in self.rest]
@@ -82,7 +84,8 @@ def below(deps, crate):
 
 def homes_of(module, deps):
     """The part of each function that has one."""
-    first, order = set().union(*(below(deps, it) for it in RUNS)) - (below(deps, READS) - below(deps, WALKS)), {crate: place for place, crate in enumerate(deps)}
+    runs, order = set().union(*(below(deps, it) for it in RUNS)), {crate: place for place, crate in enumerate(deps)}
+    first = runs - (below(deps, READS) - below(deps, WALKS))
     lines = {name: sum(piece.count("\n") for piece in pieces) for name, (pieces, _names) in module.functions.items()}
     homes, others = {}, []
     for name in module.functions:
