@@ -38,7 +38,7 @@ TOP = Path(__file__).resolve().parent.parent
 sys.path[:0] = [str(TOP / "tests"), str(TOP / "launcher")]
 
 import calls
-from proved import kit_command
+from kit import kit_command
 
 FOLDER = TOP / "wrong_bodies"
 TABLE = TOP / "out/wrong_bodies.md"

@@ -18,7 +18,7 @@ import threading
 import time
 from dataclasses import dataclass, field
 
-from proved import kit_command
+from kit import kit_command
 
 # By the first word of KIT-ID: what was read in these kits, and depends on a crate's files and its line of crates.txt alone.
 ASKED_ONCE = {"rattle-kit-13b": ["below", "stamp"], "rattle-kit-13f": ["below"]}
