@@ -3,7 +3,7 @@
 ghost use Rattle.std.specs.Prelude.{◌≢◌, ◌<◌, length};
 ghost use Rattle.accepted_outputs.specs.Judging.{DifferFirstAt};
 
-use transcripts::Transcript;
+use events::Transcript;
 
 /// The first session that is not told the same in two outcomes.
 pub(crate) fn first_session(told: &[Transcript], accepted: &[Transcript]) -> u8

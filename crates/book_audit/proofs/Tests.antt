@@ -4,7 +4,7 @@ use Rattle.std.proofs.Common.{◌⊎◌, ⊎_elim, arith, Result, Ok, Err, IfOk}
 use Rattle.perm_ranks.specs.Words.{total, all_words, word_at}
 use Rattle.perm_ranks.proofs.WordLemmas.{Takes, takes-length, words-take, each-at}
 use Rattle.bound_specs.specs.Spec.{Spec, ranks, ranks_by, line_of, counts_of, queues_of}
-use Rattle.transcripts.specs.declared.event.Event.{Event}
+use Rattle.events.specs.declared.event.Event.{Event}
 use Rattle.machine_model.specs.World.{World, send_all, outcome_of}
 use Rattle.machine_model.specs.Start.{Start, Started, SetupFailed, SessionSetupFailed, SessionSetupWaits, start}
 use Rattle.rank_facts.specs.Swap.{falls_at, word_of, are_quiet_at}

@@ -7,7 +7,7 @@ use Rattle.machine_model.specs.World.{World}
 use Rattle.machine_model.specs.Start.{Started, start}
 use Rattle.rank_facts.specs.Facts.{IsTrueAt}
 use Rattle.rank_facts.specs.declared.fact.Fact.{Fact}
-use Rattle.marked_paths.specs.Paths.{IsPath}
+use Rattle.known_worlds.specs.Paths.{IsPath}
 use Rattle.fact_books.specs.Runs.{Table}
 use Rattle.book_audit.specs.Compared.{AreCompared}
 use Rattle.book_audit.specs.declared.ground.Ground.{Ground}

@@ -2,13 +2,13 @@
 
 ghost use Rattle.std.specs.Prelude.{◌≡◌, ◌<◌, ◌↔◌, ℕ, [], IfOk, IfSome, IsTrue, List, OnOk, Some, length, slice_get, slice_index_or};
 ghost use Rattle.machine_model.specs.World.{outcome_of, send_all};
-ghost use Rattle.marked_paths.specs.Paths.{first_world, IsPath};
+ghost use Rattle.known_worlds.specs.Paths.{first_world, IsPath};
 ghost use Rattle.fact_books.specs.Runs.{Table};
 ghost use Rattle.fact_books.specs.Entries.{Told};
 ghost use Rattle.book_audit.specs.Compared.{AreCompared, IsCompared};
 
 use compact_outcomes::{CompactOutcomes, CompactText};
-use marked_paths::MarkedPath;
+use known_worlds::MarkedPath;
 use std::alloc::{AllocError, Global};
 
 /// Whether the outcome that was told with a number is the one at a place of a table.

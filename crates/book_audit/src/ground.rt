@@ -3,7 +3,7 @@
 ghost use Rattle.std.specs.Prelude.{◌≡◌, ◌<◌, [], length, slice_index_or, IfOk, OnOk};
 ghost use Rattle.rank_facts.specs.declared.fact.Fact.TheVariants as fact;
 ghost use Rattle.fact_books.specs.Runs.{IsNumbered, Table, fact_in};
-ghost use Rattle.marked_paths.specs.Paths.{IsPath};
+ghost use Rattle.known_worlds.specs.Paths.{IsPath};
 ghost use Rattle.book_audit.specs.Compared.{AreCompared};
 ghost use Rattle.book_audit.specs.Grounds.{IsGround, IsTrueUntil};
 ghost use Rattle.book_audit.specs.Findings.{IsFirstFalse};
@@ -13,7 +13,7 @@ use crate::testing::{is_ran, swap_until};
 use bound_specs::Spec;
 use compact_outcomes::CompactOutcomes;
 use fact_books::{Run, Tag};
-use marked_paths::MarkedPath;
+use known_worlds::MarkedPath;
 use session_steps::StartError;
 use std::alloc::{AllocError, Global};
 

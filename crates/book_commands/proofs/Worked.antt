@@ -3,7 +3,7 @@ use Rattle.std.specs.Prelude.{◌≡◌, ◌<◌, refl, ℕ, zero, suc, List, []
 use Rattle.std.specs.Fmt.{digits}
 use Rattle.std.proofs.Common.{inl, inr, arith}
 use Rattle.bound_specs.specs.Spec.{SpecFile}
-use Rattle.transcripts.specs.declared.event.Event.TheVariants.{Sent, Rows, Done}
+use Rattle.events.specs.declared.event.Event.TheVariants.{Sent, Rows, Done}
 use Rattle.fact_books.specs.Entries.{Told}
 use Rattle.book_commands.specs.Nearest.{IsFurther, IsNearest, difference_at, side_text}
 

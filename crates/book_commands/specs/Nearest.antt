@@ -3,7 +3,7 @@ use Rattle.std.specs.Prelude.{◌≡◌, ℕ, ◌<◌, ◌⊎◌, ◌++◌, List
 use Rattle.bound_specs.specs.Spec.{SpecFile, line_of}
 use Rattle.transcripts.specs.Lines.{number_line}
 use Rattle.transcripts.specs.Text.{session_text}
-use Rattle.transcripts.specs.declared.event.Event.{Event}
+use Rattle.events.specs.declared.event.Event.{Event}
 use Rattle.order_names.specs.Spelling.{names_of, order_text}
 use Rattle.fact_books.specs.Entries.{Told}
 use Rattle.fact_books.specs.Books.{Contents}

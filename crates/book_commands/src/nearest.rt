@@ -4,7 +4,7 @@ ghost use Rattle.std.specs.Prelude.{◌≡◌, ◌<◌, ◌↔◌, ◌++◌, ◌
 ghost use Rattle.bound_specs.specs.Spec.{line_of, ranks};
 ghost use Rattle.machine_model.specs.Outcome.{IsOutcomeOf};
 ghost use Rattle.transcripts.specs.Lines.{number_line};
-ghost use Rattle.transcripts.specs.Outcome.{HasStep};
+ghost use Rattle.events.specs.Fits.{HasStep};
 ghost use Rattle.transcripts.specs.Text.{session_text};
 ghost use Rattle.order_names.specs.Spelling.{names_of, order_text};
 ghost use Rattle.accepted_outputs.specs.Judging.{IsVerdict};
@@ -14,12 +14,13 @@ ghost use Rattle.book_commands.specs.Nearest.{IsAskedBeneath, IsBeneathThese, Is
 
 use accepted_outputs::Verdict;
 use bound_specs::Spec;
+use events::Transcript;
 use fact_books::Report;
 use finite_maps::Fork;
 use itoa::Buffer;
 use order_names::order_text;
 use std::alloc::{AllocError, Global};
-use transcripts::{Counted, Names, Outcome, Transcript, print};
+use transcripts::{Counted, Names, Outcome, print};
 
 /// The spec of a book, and its report.
 #[derive(Drop)]

@@ -2,8 +2,9 @@
 
 use crate::cursor::Cursor;
 use crate::rows::row_at;
+use events::{Event, Fault, Transcript, Warning};
 use std::alloc::Global;
-use transcripts::{Event, Fault, Outcome, Transcript, Warning};
+use transcripts::Outcome;
 
 /// The outcome that is next.
 pub(crate) fn outcome_at(alloc: Global, cursor: &mut Cursor<'_>) -> Option<Outcome> {

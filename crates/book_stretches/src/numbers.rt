@@ -20,7 +20,7 @@ impl<'a> Model for Numbers<'a> {
     ghost use Rattle.finite_maps.specs.Codes.{map_code};
     ghost use Rattle.finite_maps.specs.Map.{of_entries};
     ghost use Rattle.lock_modes.specs.contracts.value.Value as value;
-    ghost use Rattle.transcripts.specs.contracts.event.Event as event;
+    ghost use Rattle.events.specs.contracts.event.Event as event;
     ghost use Rattle.book_stretches.specs.Classes.{ByOutcome};
     ghost use Rattle.transcripts.proofs.OutcomeOrder.{outcome_order};
 

@@ -9,7 +9,7 @@ use Rattle.session_machine.specs.Running.{IsNotRunBy}
 use Rattle.session_machine.specs.declared.error.RunError.{RunError}
 use Rattle.transcripts.specs.Counted.{Wrote, Stopped}
 use Rattle.transcripts.specs.declared.counted.Counted.{Counted}
-use Rattle.transcripts.specs.declared.event.Event.{Event}
+use Rattle.events.specs.declared.event.Event.{Event}
 use Rattle.spec_binding.specs.SpecFiles.{IsNoSpec}
 use Rattle.spec_texts.specs.Texts.{Declares}
 use Rattle.order_classes.specs.Looks.{one_row}

@@ -18,9 +18,9 @@ use bound_specs::Spec;
 use class_looks::Look;
 use class_rows::Classed;
 use class_texts::{ClassKind, Expected, Looked, Page, one_row_is_met};
+use events::Event;
 use order_classes::{ClassRow, Filter};
 use std::alloc::{AllocError, Global};
-use transcripts::Event;
 use wanted_classes::WantedClasses;
 
 /// What is written of what is found, with these orders where the form has any, and whether all is as expected.

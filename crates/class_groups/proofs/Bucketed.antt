@@ -5,7 +5,7 @@ use Rattle.std.specs.FinMap.Entries.{find}
 use Rattle.std.specs.Map.{lookup}
 use Rattle.std.specs.BTreeMap.{is_at}
 use Rattle.finite_maps.specs.Map.{get, insert, get-insert, same_key, same_map, of_entries, get-of_entries}
-use Rattle.transcripts.specs.declared.event.Event.{Event}
+use Rattle.events.specs.declared.event.Event.{Event}
 use Rattle.transcripts.specs.Compact.{outcome_cmp, outcome_total}
 use Rattle.transcripts.proofs.OutcomeOrder.{outcome_order}
 

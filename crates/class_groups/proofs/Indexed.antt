@@ -2,7 +2,7 @@
 use Rattle.std.proofs.Common.{◌≡◌, ◌≢◌, refl, sym, ap, ◌∙◌, subst, ℕ, ◌+◌, ◌<◌, ◌≤◌, cond, Bool, true, false, List, [], ◌∷◌, ◌++◌, length, slice_get, Option, Some, None, ◌⊎◌, inl, ⊎_elim, arith}
 use Rattle.std.specs.Option.{MatchOption}
 use Rattle.finite_maps.specs.Map.{get, insert, get-insert, same_key, same_key-true, same_key-refl}
-use Rattle.transcripts.specs.declared.event.Event.{Event}
+use Rattle.events.specs.declared.event.Event.{Event}
 use Rattle.transcripts.proofs.OutcomeOrder.{outcome_order}
 use Rattle.lock_queues.specs.Reasons.{Among}
 use Rattle.order_classes.specs.declared.shows.Shows.{Shows}

@@ -1,7 +1,7 @@
 -- What is shown, each once, found by what is told.
 use Rattle.std.specs.Prelude.{◌≡◌, ℕ, ◌⊎◌, List, [], ◌∷◌, ◌++◌, length, slice_get, Some}
 use Rattle.finite_maps.specs.Map.{Map, get}
-use Rattle.transcripts.specs.declared.event.Event.{Event}
+use Rattle.events.specs.declared.event.Event.{Event}
 use Rattle.transcripts.proofs.OutcomeOrder.{outcome_order}
 use Rattle.lock_queues.specs.Reasons.{Among}
 use Rattle.order_classes.specs.declared.shows.Shows.{Shows}

@@ -22,7 +22,7 @@ impl Model for Buckets {
     ghost use Rattle.finite_maps.specs.Codes.{map_code};
     ghost use Rattle.finite_maps.specs.Map.{of_entries};
     ghost use Rattle.lock_modes.specs.contracts.value.Value as value;
-    ghost use Rattle.transcripts.specs.contracts.event.Event as event;
+    ghost use Rattle.events.specs.contracts.event.Event as event;
     ghost use Rattle.class_groups.specs.Different.{ByTold};
     ghost use Rattle.transcripts.proofs.OutcomeOrder.{outcome_order};
 

@@ -26,9 +26,9 @@ use Rattle.statement_evaluation.specs.Effect.{number_in, total_of, aggregated, c
 use Rattle.statement_evaluation.specs.Evaluate.{checked, holds}
 use Rattle.statement_evaluation.specs.Matched.{selected}
 use Rattle.statement_evaluation.proofs.ListLemmas.{onto, onto-passed}
-use Rattle.transcripts.specs.declared.event.Event.{Event}
-use Rattle.transcripts.specs.declared.event.Event.TheVariants.{Row as RowEvent, Rows, Failed}
-use Rattle.transcripts.specs.declared.event.Fault.TheVariants.{OutOfRange}
+use Rattle.events.specs.declared.event.Event.{Event}
+use Rattle.events.specs.declared.event.Event.TheVariants.{Row as RowEvent, Rows, Failed}
+use Rattle.events.specs.declared.event.Fault.TheVariants.{OutOfRange}
 use Rattle.binding_model.specs.Tables.{no_table, key_column}
 use Rattle.binding_model.specs.declared.tables.Table.{Table}
 use Rattle.bound_specs.specs.Spec.{Spec, line_of}

@@ -8,9 +8,9 @@ use Rattle.lock_modes.specs.Rows.{Tuple}
 use Rattle.lock_modes.specs.declared.value.Value.{Value}
 use Rattle.lock_modes.specs.declared.value.Value.TheVariants.{Int, Text}
 use Rattle.transcripts.specs.Text.{value_text, doubled}
-use Rattle.transcripts.specs.declared.event.Event.{Event}
-use Rattle.transcripts.specs.declared.event.Event.TheVariants.{Row as RowEvent, Rows, Failed}
-use Rattle.transcripts.specs.declared.event.Fault.TheVariants.{OutOfRange}
+use Rattle.events.specs.declared.event.Event.{Event}
+use Rattle.events.specs.declared.event.Event.TheVariants.{Row as RowEvent, Rows, Failed}
+use Rattle.events.specs.declared.event.Fault.TheVariants.{OutOfRange}
 use Rattle.bound_statements.specs.declared.condition.Condition.{Condition}
 use Rattle.bound_statements.specs.declared.condition.Condition.TheVariants.{Always, Compares}
 use Rattle.bound_statements.specs.declared.condition.Comparison.TheVariants.{Above}

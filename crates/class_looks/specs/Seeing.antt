@@ -3,8 +3,8 @@ use Rattle.std.specs.Prelude.{◌≡◌, ℕ, cond, List, [], ◌∷◌, get_or,
 use Rattle.lock_modes.specs.RowPlace.{RowPlace}
 use Rattle.lock_modes.specs.Rows.{Tuple}
 use Rattle.lock_modes.specs.declared.value.Value.{Value}
-use Rattle.transcripts.specs.declared.event.Event.{Event}
-use Rattle.transcripts.specs.declared.event.Event.TheVariants.{Failed}
+use Rattle.events.specs.declared.event.Event.{Event}
+use Rattle.events.specs.declared.event.Event.TheVariants.{Failed}
 use Rattle.bound_statements.specs.declared.statement.Bound.{Bound}
 use Rattle.bound_statements.specs.declared.statement.Bound.TheVariants.{Select}
 use Rattle.bound_statements.specs.Plan.{at_key}

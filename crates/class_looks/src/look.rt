@@ -8,12 +8,12 @@ ghost use Rattle.statement_evaluation.specs.Borrowed.{effect_at};
 ghost use Rattle.class_looks.specs.Seeing.{told_by, entries_at, sees, SeesRanks};
 
 use bound_statements::{Bound, Condition};
+use events::Event;
 use lock_modes::{Row, Value};
 use sqlite_items::Items;
 use statement_evaluation::{Entries, Entry, Few, Given, holds, selected};
 use std::alloc::{AllocError, Global};
 use std::marker::Model;
-use transcripts::Event;
 
 /// A SELECT that is bound over the tables of a spec, seen by contracts as the statement.
 #[derive(Drop)]

@@ -3,12 +3,13 @@
 ghost use Rattle.std.specs.Prelude.{◌≡◌, ◌++◌, ◌∷◌, [], map, IfOk, OnOk};
 ghost use Rattle.order_classes.specs.Letters.{answers_in, answers_of, is_answer};
 
+use events::{Event, Transcript};
 use finite_maps::Fork;
 use lock_modes::{Row, Value};
 use order_classes::{Shows, copied_rows};
 use sqlite_items::Items;
 use std::alloc::{AllocError, Global};
-use transcripts::{Event, Outcome, Transcript};
+use transcripts::Outcome;
 
 /// What is answered where this is shown.
 pub(crate) fn answers_of(alloc: Global, shows: &Shows) -> Result<Shows, AllocError>

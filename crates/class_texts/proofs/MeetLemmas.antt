@@ -9,9 +9,9 @@ use Rattle.std.proofs.lemmas.Bool.{and_from, and_parts, eqb-true}
 use Rattle.finite_maps.specs.Map.{same_key-refl, same_key-true}
 use Rattle.lock_modes.specs.Value.{value_cmp, value_order}
 use Rattle.lock_modes.specs.declared.value.Value.{Value}
-use Rattle.transcripts.specs.declared.event.Event.{Event}
-use Rattle.transcripts.specs.declared.event.Event.TheVariants.{Sent, Row, Rows, Inserted, Updated, Deleted, Began, Committed, RolledBack, Locked}
-use Rattle.transcripts.specs.declared.event.Event.TheVariants.{Set, Warned, Failed, Waiting, Resumed, Done, NotSent}
+use Rattle.events.specs.declared.event.Event.{Event}
+use Rattle.events.specs.declared.event.Event.TheVariants.{Sent, Row, Rows, Inserted, Updated, Deleted, Began, Committed, RolledBack, Locked}
+use Rattle.events.specs.declared.event.Event.TheVariants.{Set, Warned, Failed, Waiting, Resumed, Done, NotSent}
 use Rattle.class_texts.specs.Expected.{is_one, is_row, meets, same_values}
 
 -- values that are told to be the same are

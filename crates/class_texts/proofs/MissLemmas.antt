@@ -5,7 +5,7 @@ use Rattle.order_classes.specs.declared.rows.ClassRow.{ClassRow}
 use Rattle.shown_texts.specs.Characters.{blanks}
 use Rattle.shown_texts.specs.Breaking.{broken, filled, fits, pieces}
 use Rattle.class_texts.specs.Beneath.{events_lines}
-use Rattle.transcripts.specs.declared.event.Event.{Event}
+use Rattle.events.specs.declared.event.Event.{Event}
 use Rattle.class_texts.specs.Expected.{Expectation, first_miss, is_met_at, met_from, miss_from, miss_lines, miss_of, miss_text}
 use Rattle.class_texts.specs.Laws.{HaveOrders, orders_of}
 

@@ -8,7 +8,7 @@ use Rattle.std.proofs.lemmas.List.Elements.{All-from_recursion}
 use Rattle.std.proofs.Math.Nat.{div-le_of_le-mul, mod-lt}
 use Rattle.std.specs.Prelude.{All, ◌==◌, codes, decimal, nat_le}
 use Rattle.std.specs.List.{AllByRecursion, list_any}
-use Rattle.transcripts.specs.declared.event.Event.{Event}
+use Rattle.events.specs.declared.event.Event.{Event}
 use Rattle.order_names.specs.Spelling.{spelled}
 use Rattle.order_classes.specs.declared.rows.ClassRow.{ClassRow}
 use Rattle.order_classes.specs.declared.rows.Letters.{Letters}

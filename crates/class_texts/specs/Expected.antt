@@ -4,8 +4,8 @@ use Rattle.std.specs.List.{list_all}
 use Rattle.std.specs.Ordering.{eq_by_cmp}
 use Rattle.lock_modes.specs.Value.{value_cmp}
 use Rattle.lock_modes.specs.declared.value.Value.{Value}
-use Rattle.transcripts.specs.declared.event.Event.{Event}
-use Rattle.transcripts.specs.declared.event.Event.TheVariants.{Row, Rows}
+use Rattle.events.specs.declared.event.Event.{Event}
+use Rattle.events.specs.declared.event.Event.TheVariants.{Row, Rows}
 use Rattle.order_classes.specs.declared.rows.ClassRow.{ClassRow}
 use Rattle.shown_texts.specs.Characters.{shown_text}
 use Rattle.shown_texts.specs.Breaking.{broken}

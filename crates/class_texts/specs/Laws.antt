@@ -1,8 +1,8 @@
 -- The laws of the text of classes.
 use Rattle.std.specs.Prelude.{◌≡◌, ◌≢◌, ◌↔◌, ℕ, ◌+◌, ◌^◌, ◌<◌, ◌≤◌, true, Some, List, [], ◌∷◌, ◌++◌, length, drop, map, flat_map, All}
 use Rattle.lock_modes.specs.declared.value.Value.{Value}
-use Rattle.transcripts.specs.declared.event.Event.{Event}
-use Rattle.transcripts.specs.declared.event.Event.TheVariants.{Row, Rows}
+use Rattle.events.specs.declared.event.Event.{Event}
+use Rattle.events.specs.declared.event.Event.TheVariants.{Row, Rows}
 use Rattle.binding_model.specs.declared.tables.Table.{Table}
 use Rattle.line_moments.specs.declared.shown.Left.{Left}
 use Rattle.line_moments.specs.declared.shown.Standing.{Standing}

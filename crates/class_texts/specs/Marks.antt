@@ -1,8 +1,8 @@
 -- What becomes of the steps of an order, by what sessions are told in it.
 use Rattle.std.specs.Prelude.{ℕ, Bool, true, false, cond, ◌||◌, ◌==◌, List, [], ◌∷◌}
 use Rattle.std.specs.List.{list_any}
-use Rattle.transcripts.specs.declared.event.Event.{Event}
-use Rattle.transcripts.specs.declared.event.Event.TheVariants.{Sent, NotSent}
+use Rattle.events.specs.declared.event.Event.{Event}
+use Rattle.events.specs.declared.event.Event.TheVariants.{Sent, NotSent}
 use Rattle.order_classes.specs.Letters.{is_wait}
 use Rattle.shown_texts.specs.Orders.{is_fault}
 use Rattle.class_texts.specs.declared.marks.Marks.{Marks}

@@ -1,6 +1,6 @@
 -- The order of a class: its steps with their marks, in lines.
 use Rattle.std.specs.Prelude.{ℕ, suc, ◌+◌, nat_le, Bool, cond, List, [], ◌∷◌, ◌++◌, length, take, get_or, codes}
-use Rattle.transcripts.specs.declared.event.Event.{Event}
+use Rattle.events.specs.declared.event.Event.{Event}
 use Rattle.order_names.specs.Spelling.{spelled}
 use Rattle.shown_texts.specs.Characters.{blanks, shown_text}
 use Rattle.shown_texts.specs.Names.{cut}

@@ -8,10 +8,10 @@ use crate::looks::{Looked, looks_lines};
 use crate::outcomes::push_outcome;
 use crate::page::Page;
 use crate::ranks::{ranks_lines, runs_at};
+use events::Transcript;
 use order_classes::{ClassRow, Shows};
 use shown_texts::push_lines;
 use std::alloc::{AllocError, Global};
-use transcripts::Transcript;
 
 /// Puts the ranks of the class at a place behind a text, if they are told.
 fn push_ranks(

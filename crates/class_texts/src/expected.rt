@@ -10,6 +10,7 @@ ghost use Rattle.class_texts.specs.Expected as spec;
 use crate::looks::{put_events, seen_at};
 use crate::orders::put_steps;
 use crate::totals::put_counted;
+use events::{Event, are_same_values};
 use itoa::Buffer;
 use lock_modes::{Text, Value};
 use order_classes::ClassRow;
@@ -19,7 +20,6 @@ use shown_texts::{
 use sqlite_items::Items;
 use std::alloc::{AllocError, Global};
 use std::marker::Model;
-use transcripts::{Event, are_same_values};
 
 /// What is expected: that a SELECT sees one row of what an order leaves, with these values.
 #[derive(Drop)]
@@ -35,7 +35,7 @@ impl<'a> Model for Expected<'a> {
     ghost use Rattle.std.specs.Prelude.{Vec, map};
     ghost use Rattle.std.specs.Coded.{codes};
     ghost use Rattle.lock_modes.specs.contracts.value.Value as value;
-    ghost use Rattle.transcripts.specs.contracts.event.Event as event;
+    ghost use Rattle.events.specs.contracts.event.Event as event;
     ghost use Rattle.class_texts.specs.Expected as expected;
 
     ghost Value = { expected.Expectation };

@@ -3,12 +3,12 @@
 ghost use Rattle.std.specs.Prelude.{◌≡◌, ◌++◌, [], IfOk, OnOk, flat_map, get_or, map};
 ghost use Rattle.class_texts.specs.Beneath as spec;
 
+use events::Event;
 use lock_modes::Text;
 use shown_texts::{COLUMNS, broken, hanging_lines, put, put_shown, words_of};
 use sqlite_items::Items;
 use std::alloc::{AllocError, Global};
 use std::marker::Model;
-use transcripts::Event;
 
 /// What a SELECT sees of what the orders of each class leave.
 #[derive(Drop)]
@@ -22,7 +22,7 @@ pub struct Looked<'a> {
 impl<'a> Model for Looked<'a> {
     ghost use Rattle.std.specs.Prelude.{Vec, map};
     ghost use Rattle.std.specs.Coded.{codes};
-    ghost use Rattle.transcripts.specs.contracts.event.Event as event;
+    ghost use Rattle.events.specs.contracts.event.Event as event;
     ghost use Rattle.class_texts.specs.Beneath as beneath;
 
     ghost Value = { beneath.Look };

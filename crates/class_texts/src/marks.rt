@@ -4,7 +4,7 @@ ghost use Rattle.std.specs.Prelude.{◌≡◌, cond};
 ghost use Rattle.std.specs.List.{list_any};
 ghost use Rattle.class_texts.specs.Marks as spec;
 
-use transcripts::{Event, Transcript};
+use events::{Event, Transcript};
 
 /// What becomes of a step in an order. A step that is skipped has no other mark, and one that no session is told of has none.
 #[derive(Clone, Copy)]

@@ -4,11 +4,11 @@ ghost use Rattle.std.specs.Prelude.{◌≡◌, ◌≤◌, ◌++◌, ◌∷◌, [
 ghost use Rattle.class_texts.specs.Orders as spec;
 
 use crate::marks::{Marks, marks_of};
+use events::Transcript;
 use lock_modes::Text;
 use shown_texts::{COLUMNS, begun, put_cut, put_if, put_line, put_name, step_name};
 use sqlite_items::Items;
 use std::alloc::{AllocError, Global};
-use transcripts::Transcript;
 
 /// The characters of a name, at most.
 const MOST_NAME: usize = 24;

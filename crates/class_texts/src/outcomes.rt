@@ -3,10 +3,10 @@
 ghost use Rattle.std.specs.Prelude.{◌≡◌, ◌++◌, OnOk, flat_map, string_bytes, zip};
 ghost use Rattle.transcripts.specs.Text.{event_line, outcome_text, session_text};
 
+use events::{Event, Transcript};
 use lock_modes::Text;
 use shown_texts::push_event;
 use std::alloc::AllocError;
-use transcripts::{Event, Transcript};
 
 fn push_line(text: &mut String, steps: &[Text], event: &Event) -> Result<(), AllocError>
     ensures { OnOk result (string_bytes text.new ≡ string_bytes text.old ++ event_line steps.now event.now) }

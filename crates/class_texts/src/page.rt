@@ -52,7 +52,7 @@ pub struct Page<'a> {
 impl<'a> Model for Page<'a> {
     ghost use Rattle.std.specs.Coded.{codes};
     ghost use Rattle.lock_modes.specs.contracts.value.Value as value;
-    ghost use Rattle.transcripts.specs.contracts.event.Event as event;
+    ghost use Rattle.events.specs.contracts.event.Event as event;
     ghost use Rattle.binding_model.specs.contracts.tables.Table as table;
     ghost use Rattle.class_stretches.specs.contracts.rank_run.RankRun as run;
     ghost use Rattle.order_classes.specs.contracts.rows.ClassRow as row;

@@ -3,7 +3,7 @@ use Rattle.std.specs.Prelude.{◌≡◌, refl, ℕ, pos, true, false, [], ◌∷
 use Rattle.std.specs.Fmt.{digits}
 use Rattle.json.specs.Print.{escape_byte}
 use Rattle.lock_modes.specs.declared.value.Value.TheVariants.{Int, Text}
-use Rattle.transcripts.specs.declared.event.Event.TheVariants.{Sent, Row, Rows, Updated, Waiting, Done}
+use Rattle.events.specs.declared.event.Event.TheVariants.{Sent, Row, Rows, Updated, Waiting, Done}
 use Rattle.order_classes.specs.declared.rows.ClassRow.{ClassRow}
 use Rattle.order_classes.specs.declared.rows.Letters.{Letters}
 use Rattle.order_classes.specs.declared.rows.Total.{Total}

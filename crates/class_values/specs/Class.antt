@@ -1,7 +1,7 @@
 -- The JSON of each class.
 use Rattle.std.specs.Prelude.{ℕ, ◌+◌, ◌-◌, cond, List, [], ◌∷◌, ◌++◌, get_or, codes, decimal}
 use Rattle.lock_modes.specs.declared.value.Value.{Value}
-use Rattle.transcripts.specs.declared.event.Event.{Event}
+use Rattle.events.specs.declared.event.Event.{Event}
 use Rattle.binding_model.specs.declared.tables.Table.{Table}
 use Rattle.class_stretches.specs.declared.rank_run.RankRun.{RankRun}
 use Rattle.order_classes.specs.declared.rows.ClassRow.{ClassRow}

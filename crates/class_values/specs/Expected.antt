@@ -1,7 +1,7 @@
 -- The JSON of what is expected of orders.
 use Rattle.std.specs.Prelude.{ℕ, List, ◌++◌, option_map, codes, decimal}
 use Rattle.lock_modes.specs.declared.value.Value.{Value}
-use Rattle.transcripts.specs.declared.event.Event.{Event}
+use Rattle.events.specs.declared.event.Event.{Event}
 use Rattle.transcripts.specs.Text.{value_text}
 use Rattle.order_classes.specs.declared.rows.ClassRow.{ClassRow}
 use Rattle.shown_values.specs.Strings.{array_json, string_json}

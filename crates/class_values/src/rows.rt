@@ -7,13 +7,13 @@ ghost use Rattle.class_values.specs.Class as spec;
 use crate::left::push_left_part;
 use class_stretches::RankRun;
 use class_texts::{ClassKind, Looked, Page, letters_text, runs_at, seen_at};
+use events::Transcript;
 use lock_modes::Text;
 use order_classes::{ClassRow, Letters, Shows};
 use shown_values::{
     push, push_before, push_count, push_indices, push_lines, push_string, push_word,
 };
 use std::alloc::AllocError;
-use transcripts::Transcript;
 
 /// Pushes the classes, unless the totals are told alone.
 pub(crate) fn push_classes(page: &Page<'_>, out: &mut Vec<u8>) -> Result<(), AllocError>

@@ -3,14 +3,14 @@ use Rattle.std.proofs.Common.{◌≡◌, sym, ap, ◌∙◌, subst, ℕ, ◌<◌
 use Rattle.std.proofs.lemmas.Option.{none-some}
 use Rattle.binding_model.specs.declared.tables.Table.{Table}
 use Rattle.bound_specs.specs.Spec.{Spec, line_of}
-use Rattle.transcripts.specs.declared.event.Event.{Event}
+use Rattle.events.specs.declared.event.Event.{Event}
 use Rattle.machine_model.specs.World.{World, blank, send_all, outcome_of}
 use Rattle.machine_model.specs.Start.{Start, Started, start}
 use Rattle.machine_model.specs.Outcome.{outcome_of_line}
 use Rattle.rank_facts.specs.Facts.{IsTrueAt, IsFactOf}
 use Rattle.rank_facts.specs.declared.fact.Fact.TheVariants.{Ran, Swap}
 use Rattle.marked_worlds.specs.Worlds.{MarkedRunning}
-use Rattle.marked_paths.specs.Paths.{first_world}
+use Rattle.known_worlds.specs.Paths.{first_world}
 use Rattle.step_reducer.specs.Reduced.{line_world}
 use Rattle.step_reducer.specs.Shardwise.{Shardwise, behind_line, Shows as ShowsWorld}
 use Rattle.step_reducer.specs.Walking.{Starts}

@@ -19,7 +19,7 @@ use bound_specs::Spec;
 use range_progress::SHARD_RANKS;
 use rank_facts::Shard;
 use shard_board::Gate;
-use shard_farm::{bound_again, walk_at};
+use spec_binding::bound_again;
 use sqlite_items::Items;
 use std::alloc::{AllocError, Global};
 use step_reducer::{Said, SaidRun, ShardWalk};
@@ -95,7 +95,7 @@ fn serve_all<G: Gate>(
     let Some(first) = shard_from(ranks, u64::from(number)) else {
         return Ok(());
     };
-    let Ok(mut walk) = walk_at(alloc, spec, first, true) else {
+    let Ok(mut walk) = ShardWalk::of_started(alloc, spec, first, true) else {
         return Err(AllocError);
     };
     serve_on(

@@ -4,9 +4,9 @@ use Rattle.serde_json.specs.Data.{Data, depth, items_depth}
 use Rattle.serde_json.specs.View.{items_of}
 use Rattle.lock_modes.specs.declared.value.Value.{Value}
 use Rattle.lock_modes.specs.declared.value.Value.TheVariants.{Int, Text}
-use Rattle.transcripts.specs.declared.event.Event.{Event}
-use Rattle.transcripts.specs.declared.event.Event.TheVariants.{Sent, Row, Rows, Inserted, Updated, Deleted, Began, Committed, RolledBack, Locked, Set}
-use Rattle.transcripts.specs.declared.event.Event.TheVariants.{Warned, Failed, Waiting, Resumed, Done, NotSent}
+use Rattle.events.specs.declared.event.Event.{Event}
+use Rattle.events.specs.declared.event.Event.TheVariants.{Sent, Row, Rows, Inserted, Updated, Deleted, Began, Committed, RolledBack, Locked, Set}
+use Rattle.events.specs.declared.event.Event.TheVariants.{Warned, Failed, Waiting, Resumed, Done, NotSent}
 use Rattle.transcripts.specs.Json.{cell_data, event_data, session_data, outcome_data}
 
 pub items-deep : {X : Type 0} (enc : X → Data) (n : ℕ) → ((x : X) → depth (enc x) ≤ n) → (xs : List X) → items_depth (items_of (map enc xs)) ≤ n

@@ -4,11 +4,11 @@ use Rattle.serde_json.specs.Data.{unsigned, negative, Data, number, string, arra
 use Rattle.serde_json.specs.View.{items_of}
 use Rattle.lock_modes.specs.declared.value.Value.{Value}
 use Rattle.lock_modes.specs.declared.value.Value.TheVariants.{Int, Text}
-use Rattle.transcripts.specs.declared.event.Fault.TheVariants.{Duplicate, OutOfRange, Deadlock, Aborted, Unavailable}
-use Rattle.transcripts.specs.declared.event.Warning.TheVariants.{InBlock, NoBlock}
-use Rattle.transcripts.specs.declared.event.Event.{Event}
-use Rattle.transcripts.specs.declared.event.Event.TheVariants.{Sent, Row, Rows, Inserted, Updated, Deleted, Began, Committed, RolledBack, Locked, Set, Warned}
-use Rattle.transcripts.specs.declared.event.Event.TheVariants.{Failed, Waiting, Resumed, Done, NotSent}
+use Rattle.events.specs.declared.event.Fault.TheVariants.{Duplicate, OutOfRange, Deadlock, Aborted, Unavailable}
+use Rattle.events.specs.declared.event.Warning.TheVariants.{InBlock, NoBlock}
+use Rattle.events.specs.declared.event.Event.{Event}
+use Rattle.events.specs.declared.event.Event.TheVariants.{Sent, Row, Rows, Inserted, Updated, Deleted, Began, Committed, RolledBack, Locked, Set, Warned}
+use Rattle.events.specs.declared.event.Event.TheVariants.{Failed, Waiting, Resumed, Done, NotSent}
 use Rattle.transcripts.specs.Json.{cell_data, event_data, session_data, outcome_data}
 use Rattle.transcripts.specs.JsonReading.{word_event}
 

@@ -18,15 +18,16 @@ use Rattle.serde_json.proofs.Texts.{print-outline}
 use Rattle.lock_modes.specs.declared.value.Value.{Value}
 use Rattle.lock_modes.specs.declared.value.Value.TheVariants.{Int, Text}
 use Rattle.transcripts.specs.declared.error.ValueError.TheVariants.{BadField}
-use Rattle.transcripts.specs.declared.event.Fault.TheVariants.{Duplicate, OutOfRange, Deadlock, Aborted, Unavailable}
-use Rattle.transcripts.specs.declared.event.Warning.TheVariants.{InBlock, NoBlock}
-use Rattle.transcripts.specs.declared.event.Event.{Event}
-use Rattle.transcripts.specs.declared.event.Event.TheVariants.{Sent, Row, Rows, Inserted, Updated, Deleted, Began, Committed, RolledBack, Locked, Set, Warned}
-use Rattle.transcripts.specs.declared.event.Event.TheVariants.{Failed, Waiting, Resumed, Done, NotSent}
+use Rattle.events.specs.declared.event.Fault.TheVariants.{Duplicate, OutOfRange, Deadlock, Aborted, Unavailable}
+use Rattle.events.specs.declared.event.Warning.TheVariants.{InBlock, NoBlock}
+use Rattle.events.specs.declared.event.Event.{Event}
+use Rattle.events.specs.declared.event.Event.TheVariants.{Sent, Row, Rows, Inserted, Updated, Deleted, Began, Committed, RolledBack, Locked, Set, Warned}
+use Rattle.events.specs.declared.event.Event.TheVariants.{Failed, Waiting, Resumed, Done, NotSent}
 use Rattle.transcripts.specs.Compact.{outcome_json}
 use Rattle.transcripts.specs.Json.{cell_data, event_data, session_data, outcome_data}
 use Rattle.transcripts.specs.JsonReading.{outcome_in}
-use Rattle.transcripts.specs.Outcome.{CellFits, EventFits, OutcomeFits}
+use Rattle.events.specs.Fits.{CellFits, EventFits}
+use Rattle.transcripts.specs.Outcome.{OutcomeFits}
 use Rattle.transcripts.proofs.CompactText.{outcome-text}
 use Rattle.transcripts.proofs.JsonLaws.{stands, stands_for_none}
 use Rattle.compact_outcomes.specs.Told.{told_in, IsCompactOutcome}

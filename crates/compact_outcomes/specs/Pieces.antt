@@ -1,6 +1,6 @@
 -- Outcomes whose texts stand in one text, one behind the other.
 use Rattle.std.specs.Prelude.{◌≡◌, ℕ, zero, suc, ◌-◌, ◌≤◌, List, [], ◌∷◌, take, drop, length, map, All}
-use Rattle.transcripts.specs.declared.event.Event.{Event}
+use Rattle.events.specs.declared.event.Event.{Event}
 use Rattle.compact_outcomes.specs.Told.{told_in, IsCompactOutcome}
 
 -- the pieces of a text: each from where the one before ends, the first from the start, up to its own end

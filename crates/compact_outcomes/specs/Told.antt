@@ -1,7 +1,7 @@
 -- The outcome that a text tells.
 use Rattle.std.specs.Prelude.{◌≡◌, ℕ, List, [], IsUtf8, option_and_then, unwrap_or}
 use Rattle.serde_json.specs.Read.{read}
-use Rattle.transcripts.specs.declared.event.Event.{Event}
+use Rattle.events.specs.declared.event.Event.{Event}
 use Rattle.transcripts.specs.Compact.{outcome_json}
 use Rattle.transcripts.specs.JsonReading.{outcome_in}
 use Rattle.transcripts.specs.Outcome.{OutcomeFits}

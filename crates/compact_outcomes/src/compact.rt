@@ -5,10 +5,10 @@ ghost use Rattle.json.specs.Print.{quoted};
 ghost use Rattle.compact_outcomes.specs.CompactTexts.{IsPlain, array_text, cell_text, event_text, numbered_text, others_text, row_text, session_text};
 
 use crate::quoted::string_text;
+use events::{Event, Transcript, fault_number, warning_number};
 use itoa::Buffer;
 use lock_modes::Value;
 use std::alloc::AllocError;
-use transcripts::{Event, Transcript, fault_number, warning_number};
 
 /// Pushes the text of an outcome, whose sessions these are.
 pub(crate) fn push_sessions(sessions: &[Transcript], text: &mut String) -> Result<(), AllocError>

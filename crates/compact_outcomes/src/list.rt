@@ -28,7 +28,7 @@ impl Drop for CompactOutcomes {
 
 impl Model for CompactOutcomes {
     ghost use Rattle.std.specs.Prelude.{List};
-    ghost use Rattle.transcripts.specs.declared.event.Event.{Event};
+    ghost use Rattle.events.specs.declared.event.Event.{Event};
     ghost use Rattle.compact_outcomes.specs.Pieces.{told_pieces, AreCompactOutcomes};
 
     ghost Value = { List (List (List Event)) };

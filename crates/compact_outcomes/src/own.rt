@@ -27,7 +27,7 @@ impl Drop for CompactText {
 
 impl Model for CompactText {
     ghost use Rattle.std.specs.Prelude.{List, string_bytes};
-    ghost use Rattle.transcripts.specs.declared.event.Event.{Event};
+    ghost use Rattle.events.specs.declared.event.Event.{Event};
     ghost use Rattle.compact_outcomes.specs.Told.{told_in, IsCompactOutcome};
 
     ghost Value = { List (List Event) };

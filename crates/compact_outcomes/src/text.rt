@@ -26,7 +26,7 @@ pub struct CompactOutcome<'a> {
 
 impl<'a> Model for CompactOutcome<'a> {
     ghost use Rattle.std.specs.Prelude.{List};
-    ghost use Rattle.transcripts.specs.declared.event.Event.{Event};
+    ghost use Rattle.events.specs.declared.event.Event.{Event};
     ghost use Rattle.compact_outcomes.specs.Told.{told_in, IsCompactOutcome};
 
     ghost Value = { List (List Event) };

@@ -3,7 +3,7 @@ use Rattle.std.specs.Prelude.{ℕ, Bool, List, []}
 use Rattle.std.specs.declared.cmp.Ordering.{Ordering}
 use Rattle.std.specs.Ordering.{on, then_cmp, nat_cmp}
 use Rattle.std.specs.FinSet.{FinSet, contains}
-use Rattle.transcripts.specs.declared.event.Event.{Event}
+use Rattle.events.specs.declared.event.Event.{Event}
 use Rattle.transcripts.specs.Compact.{outcome_cmp}
 use Rattle.rank_facts.specs.declared.fact.Fact.{Fact}
 use Rattle.rank_facts.specs.declared.fact.Fact.TheVariants.{Ran, Swap}

@@ -6,7 +6,7 @@ use Rattle.machine_model.specs.Start.{Start, Started, SetupFailed, SessionSetupF
 use Rattle.machine_model.specs.World.{send_all, outcome_of}
 use Rattle.serial_history.specs.Serial.{IsSerial}
 use Rattle.serial_history.proofs.StartsTold.{bound-serial, bound-shown}
-use Rattle.transcripts.specs.declared.event.Event.{Event}
+use Rattle.events.specs.declared.event.Event.{Event}
 use Rattle.farm_headline.specs.Laws.{AreSerial, OutcomesAreSerial}
 
 some-same : {A : Type 0} (a b : A) → Some a ≡ Some b → a ≡ b

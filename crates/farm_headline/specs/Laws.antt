@@ -5,7 +5,7 @@ use Rattle.bound_specs.specs.Spec.{Spec, SpecFile, ranks, line_of}
 use Rattle.bound_specs.specs.Binding.{IsFileOf}
 use Rattle.machine_model.specs.Outcome.{outcome_of_line}
 use Rattle.serial_history.specs.Serial.{IsSerial}
-use Rattle.transcripts.specs.declared.event.Event.{Event}
+use Rattle.events.specs.declared.event.Event.{Event}
 use Rattle.rank_facts.specs.Values.{AllTrue, CoverEachRank}
 use Rattle.fact_books.specs.declared.error.ReportError.TheVariants.{Missing, Clash}
 use Rattle.fact_books.specs.Entries.{FactSet, recorded}

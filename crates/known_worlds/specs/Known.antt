@@ -4,7 +4,7 @@ use Rattle.bound_specs.specs.Spec.{SpecFile, no_step}
 use Rattle.numbered_specs.specs.Numbers.{Numbers}
 use Rattle.machine_model.specs.World.{World}
 use Rattle.rank_facts.specs.Quiet.{is_quiet}
-use Rattle.transcripts.specs.declared.event.Event.{Event}
+use Rattle.events.specs.declared.event.Event.{Event}
 
 -- a spec with its numbers, the world now, the worlds at the marks that stand, the newest first, the outcomes that were told of it, in the order in which
 -- they were told first, whether a step was refused memory and the world has not gone back since, and whether the machine has made all that was asked,

@@ -3,7 +3,7 @@ use Rattle.std.specs.Prelude.{Bool, not, ◌&&◌, List}
 use Rattle.bound_specs.specs.Spec.{SpecFile}
 use Rattle.numbered_specs.specs.Numbers.{Numbers}
 use Rattle.machine_model.specs.World.{World}
-use Rattle.transcripts.specs.declared.event.Event.{Event}
+use Rattle.events.specs.declared.event.Event.{Event}
 use Rattle.known_worlds.specs.Known.{KnownRunning}
 
 -- a spec with its numbers, the world now, the worlds at the marks that stand, the newest first, the outcomes that were told of it, the worlds that were

@@ -3,3 +3,5 @@ pub mod Following
 pub mod Known
 pub mod Late
 pub mod Remembered
+pub mod Fronts
+pub mod Paths

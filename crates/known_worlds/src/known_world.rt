@@ -54,7 +54,7 @@ impl<'a> Model for KnownWorld<'a> {
     ghost use Rattle.lock_queues.specs.contracts.wait.Wait as waiting;
     ghost use Rattle.bound_statements.specs.contracts.statement.Bound as bound;
     ghost use Rattle.numbered_specs.specs.contracts.request.NumberedRequest as request;
-    ghost use Rattle.transcripts.specs.contracts.event.Event as event;
+    ghost use Rattle.events.specs.contracts.event.Event as event;
     ghost use Rattle.known_worlds.specs.Known.{KnownRunning};
     ghost use Rattle.known_worlds.specs.Late.{shown};
     ghost use Rattle.known_worlds.specs.Remembered.{IsKnown};

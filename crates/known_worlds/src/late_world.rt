@@ -41,7 +41,7 @@ impl<'a> Model for LateWorld<'a> {
     ghost use Rattle.lock_queues.specs.contracts.wait.Wait as waiting;
     ghost use Rattle.bound_statements.specs.contracts.statement.Bound as bound;
     ghost use Rattle.numbered_specs.specs.contracts.request.NumberedRequest as request;
-    ghost use Rattle.transcripts.specs.contracts.event.Event as event;
+    ghost use Rattle.events.specs.contracts.event.Event as event;
     ghost use Rattle.known_worlds.specs.Late.{LateRunning};
     ghost use Rattle.known_worlds.specs.Following.{IsLate, is_level, led};
 

@@ -4,8 +4,8 @@ use Rattle.std.proofs.Common.{⊎_elim, append-nil, length-set, get_or-set_other
 use Rattle.lock_queues.specs.declared.wait.Wait.{Wait}
 use Rattle.lock_queues.specs.Locks.{Spot}
 use Rattle.bound_specs.specs.Spec.{Step, no_step}
-use Rattle.transcripts.specs.declared.event.Event.{Event}
-use Rattle.transcripts.specs.declared.event.Event.TheVariants.{Sent, Resumed, NotSent}
+use Rattle.events.specs.declared.event.Event.{Event}
+use Rattle.events.specs.declared.event.Event.TheVariants.{Sent, Resumed, NotSent}
 use Rattle.machine_model.specs.Session.{Session, Task, note, tasks_of}
 use Rattle.machine_model.specs.Go.{Run, go}
 use Rattle.machine_model.specs.World.{World, fresh, session_at, look_of, scene_of, goes, granted}

@@ -11,8 +11,8 @@ use Rattle.row_tables.specs.Overlay.{lay}
 use Rattle.statement_evaluation.specs.Effect.{Effect, Gives, Faults, effect}
 use Rattle.bound_specs.specs.Spec.{Step, no_step}
 use Rattle.bound_statements.specs.declared.statement.Bound.{Bound}
-use Rattle.transcripts.specs.declared.event.Event.TheVariants.{Sent, NotSent, Resumed}
-use Rattle.transcripts.specs.declared.event.Fault.TheVariants.{Aborted}
+use Rattle.events.specs.declared.event.Event.TheVariants.{Sent, NotSent, Resumed}
+use Rattle.events.specs.declared.event.Fault.TheVariants.{Aborted}
 use Rattle.machine_model.specs.declared.reply.Reply.{Reply}
 use Rattle.machine_model.specs.declared.reply.Reply.TheVariants.{Had as IsHad, Waits, Refused}
 use Rattle.machine_model.specs.declared.status.Status.{Status}

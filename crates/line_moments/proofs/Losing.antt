@@ -17,8 +17,8 @@ use Rattle.lock_queues.proofs.WaitLists.{distinct-push, distinct-without, wait-a
 use Rattle.lock_queues.proofs.Edges.{want-exact}
 use Rattle.lock_queues.proofs.Hops.{ring-told}
 use Rattle.bound_specs.specs.Spec.{Step, no_step}
-use Rattle.transcripts.specs.declared.event.Event.TheVariants.{Sent, Resumed}
-use Rattle.transcripts.specs.declared.event.Fault.{Fault}
+use Rattle.events.specs.declared.event.Event.TheVariants.{Sent, Resumed}
+use Rattle.events.specs.declared.event.Fault.{Fault}
 use Rattle.machine_model.specs.declared.reply.Reply.{Reply}
 use Rattle.machine_model.specs.declared.reply.Reply.TheVariants.{Had as IsHad, Waits, Refused}
 use Rattle.machine_model.specs.Session.{Session, Held, Task, Ask, Do, Performed, Goes, Fails, kind, perform, note, tasks_of}

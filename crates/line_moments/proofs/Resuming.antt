@@ -8,7 +8,7 @@ use Rattle.lock_queues.specs.Sound.{EachWait, Distinct}
 use Rattle.std.proofs.lemmas.Bool.{or_left, or_right}
 use Rattle.lock_queues.proofs.Edges.{among-left, among-right}
 use Rattle.bound_specs.specs.Spec.{Step, no_step}
-use Rattle.transcripts.specs.declared.event.Event.TheVariants.{Sent, Resumed}
+use Rattle.events.specs.declared.event.Event.TheVariants.{Sent, Resumed}
 use Rattle.machine_model.specs.Laws.{IsOf}
 use Rattle.machine_model.specs.Session.{Session, note, tasks_of}
 use Rattle.machine_model.specs.Go.{go}

@@ -7,7 +7,7 @@ use Rattle.lock_queues.proofs.WaitLists.{wait-map}
 use Rattle.lock_queues.proofs.Edges.{among-parts, want-found, want-waits, want-exact}
 use Rattle.bound_specs.specs.Spec.{Step, no_step}
 use Rattle.bound_statements.specs.declared.statement.Bound.{Bound}
-use Rattle.transcripts.specs.declared.event.Event.TheVariants.{Sent, NotSent}
+use Rattle.events.specs.declared.event.Event.TheVariants.{Sent, NotSent}
 use Rattle.machine_model.specs.Session.{note, tasks_of}
 use Rattle.machine_model.specs.World.{World, session_at, look_of, left_to_do, granted, send}
 use Rattle.machine_model.specs.Sound.{Steady, Sound, Ready}

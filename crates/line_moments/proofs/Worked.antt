@@ -15,8 +15,8 @@ use Rattle.statement_evaluation.specs.Effect.{effect}
 use Rattle.binding_model.specs.Tables.{no_table}
 use Rattle.bound_specs.specs.Spec.{Spec}
 use Rattle.bound_statements.specs.declared.statement.Bound.TheVariants.{Insert, Delete, Begin, Commit}
-use Rattle.transcripts.specs.declared.event.Event.TheVariants.{Sent, Row as RowEvent, Rows, Updated, Committed, Failed, Waiting, Resumed, Done, NotSent}
-use Rattle.transcripts.specs.declared.event.Fault.TheVariants.{Deadlock, Unavailable}
+use Rattle.events.specs.declared.event.Event.TheVariants.{Sent, Row as RowEvent, Rows, Updated, Committed, Failed, Waiting, Resumed, Done, NotSent}
+use Rattle.events.specs.declared.event.Fault.TheVariants.{Deadlock, Unavailable}
 use Rattle.machine_model.specs.declared.status.Status.TheVariants.{Outside, InBlock, Broken}
 use Rattle.machine_model.specs.Start.{Started, start}
 use Rattle.machine_model.proofs.Worked.{number, id_is, step, in_blocks, two_rows, sets, reads_one, waits_row, ring_row, not_waiting_row, ring_or_not}

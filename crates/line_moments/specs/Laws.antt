@@ -4,8 +4,8 @@ use Rattle.lock_queues.specs.Locks.{Spot, waits_now}
 use Rattle.lock_queues.specs.declared.reason.Edge.{Edge}
 use Rattle.lock_queues.specs.Reasons.{Want, Among, IsExact}
 use Rattle.lock_queues.specs.declared.told.Hop.{Hop}
-use Rattle.transcripts.specs.declared.event.Event.TheVariants.{Failed}
-use Rattle.transcripts.specs.declared.event.Fault.TheVariants.{Deadlock, Unavailable}
+use Rattle.events.specs.declared.event.Event.TheVariants.{Failed}
+use Rattle.events.specs.declared.event.Fault.TheVariants.{Deadlock, Unavailable}
 use Rattle.bound_specs.specs.Spec.{Spec, SpecFile, Step, IsBound}
 use Rattle.bound_specs.specs.Fits.{SpecFits}
 use Rattle.binding_model.specs.declared.tables.Table.{Table}

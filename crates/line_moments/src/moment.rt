@@ -3,11 +3,11 @@
 ghost use Rattle.std.specs.Prelude.{◌≡◌, Some, None};
 ghost use Rattle.line_moments.specs.Moments.{ending_by};
 
+use events::Transcript;
 use lock_modes::{Mode, Resource};
 use lock_queues::{Edge, Hop, Want};
 use machine_model::Status;
 use sqlite_items::Items;
-use transcripts::Transcript;
 
 /// What a session's locks come to while it goes.
 pub enum Change {

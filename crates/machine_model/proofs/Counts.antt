@@ -5,7 +5,7 @@ use Rattle.lock_queues.specs.Locks.{Spot, next_grant, waits_now}
 use Rattle.machine_model.specs.World.{World, session_at, look_of, noted, goes, granted, settle, settle_for, left_to_do, send, send_all}
 use Rattle.bound_specs.specs.Spec.{Step, no_step, Spec, EachStep, IsBound}
 use Rattle.machine_model.specs.Session.{note, tasks_of}
-use Rattle.transcripts.specs.declared.event.Event.TheVariants.{Sent, NotSent}
+use Rattle.events.specs.declared.event.Event.TheVariants.{Sent, NotSent}
 use Rattle.machine_model.specs.Start.{Started, start}
 use Rattle.machine_model.specs.Sound.{Sound}
 use Rattle.machine_model.proofs.Settles.{send-sound}

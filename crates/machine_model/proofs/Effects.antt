@@ -10,8 +10,8 @@ use Rattle.statement_evaluation.specs.Effect.{visible, Effect, Gives, Faults, ef
 use Rattle.machine_model.specs.Claims.{Claims, may_write}
 use Rattle.bound_statements.specs.declared.statement.Assignment.{Assignment}
 use Rattle.bound_statements.specs.declared.condition.Condition.{Condition}
-use Rattle.transcripts.specs.declared.event.Fault.TheVariants.{Duplicate, OutOfRange}
-use Rattle.transcripts.specs.declared.event.Event.TheVariants.{Inserted, Updated, Deleted}
+use Rattle.events.specs.declared.event.Fault.TheVariants.{Duplicate, OutOfRange}
+use Rattle.events.specs.declared.event.Event.TheVariants.{Inserted, Updated, Deleted}
 use Rattle.lock_modes.specs.declared.value.Value.{Value}
 use Rattle.lock_modes.specs.declared.mode.Mode.{Mode}
 use Rattle.lock_modes.specs.declared.mode.Mode.TheVariants.{IntentShare, IntentExclusive, Share, ShareIntent, Exclusive}

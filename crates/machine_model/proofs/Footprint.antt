@@ -12,8 +12,8 @@ use Rattle.machine_model.specs.Session.{worked}
 use Rattle.machine_model.specs.Go.{Stop, taking, solo, failed, finished_by, is_broken}
 use Rattle.machine_model.specs.Footprint.{AgreeBut, ReadsBut, SameChanges, EndsSame, EachDo}
 use Rattle.machine_model.specs.Claims.{Claims, may_write}
-use Rattle.transcripts.specs.declared.event.Fault.{Fault}
-use Rattle.transcripts.specs.declared.event.Fault.TheVariants.{Aborted}
+use Rattle.events.specs.declared.event.Fault.{Fault}
+use Rattle.events.specs.declared.event.Fault.TheVariants.{Aborted}
 use Rattle.machine_model.specs.declared.status.Status.{Status}
 use Rattle.machine_model.specs.declared.status.Status.TheVariants.{Outside, InBlock, Broken}
 use Rattle.bound_statements.specs.declared.statement.Bound.{Bound}

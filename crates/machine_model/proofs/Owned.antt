@@ -7,13 +7,13 @@ use Rattle.std.proofs.Common.{get_or, Option, Some, None, ◌⊎◌, ⊎_elim, a
 use Rattle.lock_queues.specs.Locks.{Spot, next_grant, waits_now}
 use Rattle.bound_statements.specs.declared.statement.Bound.{Bound}
 use Rattle.bound_specs.specs.Spec.{Spec, Step, no_step, IsBound}
-use Rattle.transcripts.specs.Outcome.{HasStep}
-use Rattle.transcripts.specs.declared.event.Event.{Event}
-use Rattle.transcripts.specs.declared.event.Event.TheVariants.{Sent, Row as RowEvent, Rows, Inserted, Updated, Deleted, Began, Committed, RolledBack, Locked}
-use Rattle.transcripts.specs.declared.event.Event.TheVariants.{Set, Warned, Failed, Waiting, Resumed, Done, NotSent}
-use Rattle.transcripts.specs.declared.event.Fault.{Fault}
-use Rattle.transcripts.specs.declared.event.Fault.TheVariants.{Aborted}
-use Rattle.transcripts.specs.declared.event.Warning.TheVariants.{InBlock as AlreadyInBlock, NoBlock}
+use Rattle.events.specs.Fits.{HasStep}
+use Rattle.events.specs.declared.event.Event.{Event}
+use Rattle.events.specs.declared.event.Event.TheVariants.{Sent, Row as RowEvent, Rows, Inserted, Updated, Deleted, Began, Committed, RolledBack, Locked}
+use Rattle.events.specs.declared.event.Event.TheVariants.{Set, Warned, Failed, Waiting, Resumed, Done, NotSent}
+use Rattle.events.specs.declared.event.Fault.{Fault}
+use Rattle.events.specs.declared.event.Fault.TheVariants.{Aborted}
+use Rattle.events.specs.declared.event.Warning.TheVariants.{InBlock as AlreadyInBlock, NoBlock}
 use Rattle.lock_modes.specs.Rows.{Rows'}
 use Rattle.row_tables.specs.Overlay.{lay}
 use Rattle.statement_evaluation.specs.Effect.{Effect, Gives, Faults, effect}

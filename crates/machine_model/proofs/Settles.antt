@@ -19,7 +19,7 @@ use Rattle.machine_model.specs.World.{send}
 use Rattle.bound_specs.specs.Spec.{Step, no_step}
 use Rattle.machine_model.specs.Sound.{HeldTogether, NoRing, HoldsAll, IsIn, here, there, AllIn, Backed, UnderLocks, Ready, EachWait, Distinct, Steady, Sound}
 use Rattle.lock_modes.specs.declared.mode.Mode.{Mode}
-use Rattle.transcripts.specs.declared.event.Event.TheVariants.{Sent, NotSent, Resumed}
+use Rattle.events.specs.declared.event.Event.TheVariants.{Sent, NotSent, Resumed}
 use Rattle.lock_modes.specs.declared.resource.Resource.{Resource}
 use Rattle.bound_statements.specs.declared.statement.Bound.{Bound}
 use Rattle.machine_model.proofs.Basics.{both_true, known, not_both, cases-eq}

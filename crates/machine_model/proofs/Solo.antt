@@ -14,7 +14,7 @@ use Rattle.machine_model.specs.declared.reply.Reply.TheVariants.{Had, Waits, Ref
 use Rattle.lock_modes.specs.declared.mode.Mode.{Mode}
 use Rattle.lock_modes.specs.declared.resource.Resource.{Resource}
 use Rattle.machine_model.specs.Footprint.{EachAsk, HeldFits, IsFree}
-use Rattle.transcripts.specs.declared.event.Fault.TheVariants.{Aborted}
+use Rattle.events.specs.declared.event.Fault.TheVariants.{Aborted}
 use Rattle.machine_model.specs.declared.status.Status.{Status}
 use Rattle.machine_model.specs.declared.status.Status.TheVariants.{Outside, InBlock, Broken}
 use Rattle.bound_statements.specs.declared.statement.Bound.{Bound}

@@ -41,8 +41,8 @@ use Rattle.bound_specs.specs.Fits.{AssignmentFits, Takes, IsColumn, ColumnOf, Va
 use Rattle.binding_model.specs.Statements.{sets_column, sets_key}
 use Rattle.binding_model.specs.Tables.{no_table, key_column, type_of, width}
 use Rattle.binding_model.specs.Types.{value_type}
-use Rattle.transcripts.specs.declared.event.Fault.TheVariants.{Duplicate, OutOfRange}
-use Rattle.transcripts.specs.declared.event.Event.TheVariants.{Inserted, Updated, Deleted}
+use Rattle.events.specs.declared.event.Fault.TheVariants.{Duplicate, OutOfRange}
+use Rattle.events.specs.declared.event.Event.TheVariants.{Inserted, Updated, Deleted}
 use Rattle.statement_evaluation.specs.Evaluate.{in_range, checked, on_numbers, operand_value, times_each, product_value, plus_or_minus, plus_each, value_of}
 use Rattle.statement_evaluation.specs.Effect.{visible, Effect, Gives, Faults, effect, matching, assigned, all_assigned, placed, next_number, numbered, or_fault}
 use Rattle.statement_evaluation.specs.Effect.{counted}

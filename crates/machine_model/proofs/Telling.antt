@@ -7,10 +7,10 @@ use Rattle.bound_statements.specs.Plan.{Tuple}
 use Rattle.statement_evaluation.specs.Effect.{Effect, Gives, Faults, effect, visible, matching, sorted_by, shown, projected, all_aggregated, all_assigned, placed}
 use Rattle.statement_evaluation.specs.Effect.{or_fault, counted}
 use Rattle.machine_model.specs.Events.{is_effect}
-use Rattle.transcripts.specs.declared.event.Event.{Event}
-use Rattle.transcripts.specs.declared.event.Event.TheVariants.{Row as RowEvent, Rows, Inserted, Updated, Deleted}
-use Rattle.transcripts.specs.declared.event.Fault.{Fault}
-use Rattle.transcripts.specs.declared.event.Fault.TheVariants.{OutOfRange, Duplicate}
+use Rattle.events.specs.declared.event.Event.{Event}
+use Rattle.events.specs.declared.event.Event.TheVariants.{Row as RowEvent, Rows, Inserted, Updated, Deleted}
+use Rattle.events.specs.declared.event.Fault.{Fault}
+use Rattle.events.specs.declared.event.Fault.TheVariants.{OutOfRange, Duplicate}
 use Rattle.bound_statements.specs.declared.statement.Output.{Output}
 use Rattle.bound_statements.specs.declared.statement.Output.TheVariants.{Columns, Aggregates}
 use Rattle.bound_statements.specs.declared.statement.Bound.{Bound}

@@ -14,9 +14,9 @@ use Rattle.bound_statements.specs.declared.statement.Bound.{Bound}
 use Rattle.binding_model.specs.declared.tables.Table.{Table}
 use Rattle.bound_specs.specs.Fits.{Fits, SpecFits}
 use Rattle.bound_specs.specs.Spec.{Spec, Step, no_step}
-use Rattle.transcripts.specs.declared.event.Fault.{Fault}
-use Rattle.transcripts.specs.declared.event.Fault.TheVariants.{Aborted}
-use Rattle.transcripts.specs.declared.event.Event.TheVariants.{Sent, Resumed, NotSent}
+use Rattle.events.specs.declared.event.Fault.{Fault}
+use Rattle.events.specs.declared.event.Fault.TheVariants.{Aborted}
+use Rattle.events.specs.declared.event.Event.TheVariants.{Sent, Resumed, NotSent}
 use Rattle.statement_evaluation.specs.Effect.{Effect, Gives, Faults, effect}
 use Rattle.statement_evaluation.proofs.ListLemmas.{Each}
 use Rattle.statement_evaluation.proofs.WriteLemmas.{OnGives}

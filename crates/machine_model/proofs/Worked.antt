@@ -9,11 +9,11 @@ use Rattle.machine_model.specs.World.{send_all, outcome_of}
 use Rattle.lock_modes.specs.declared.mode.Mode.TheVariants.{Share, Exclusive}
 use Rattle.lock_modes.specs.declared.value.Value.{Value}
 use Rattle.lock_modes.specs.declared.value.Value.TheVariants.{Int}
-use Rattle.transcripts.specs.declared.event.Event.{Event}
-use Rattle.transcripts.specs.declared.event.Event.TheVariants.{Sent, Row as RowEvent, Rows, Inserted, Updated, Deleted, Committed, RolledBack, Locked, Warned}
-use Rattle.transcripts.specs.declared.event.Event.TheVariants.{Failed, Waiting, Resumed, Done, NotSent}
-use Rattle.transcripts.specs.declared.event.Warning.TheVariants.{NoBlock}
-use Rattle.transcripts.specs.declared.event.Fault.TheVariants.{Duplicate, OutOfRange, Deadlock, Aborted, Unavailable}
+use Rattle.events.specs.declared.event.Event.{Event}
+use Rattle.events.specs.declared.event.Event.TheVariants.{Sent, Row as RowEvent, Rows, Inserted, Updated, Deleted, Committed, RolledBack, Locked, Warned}
+use Rattle.events.specs.declared.event.Event.TheVariants.{Failed, Waiting, Resumed, Done, NotSent}
+use Rattle.events.specs.declared.event.Warning.TheVariants.{NoBlock}
+use Rattle.events.specs.declared.event.Fault.TheVariants.{Duplicate, OutOfRange, Deadlock, Aborted, Unavailable}
 use Rattle.bound_statements.specs.declared.expression.Operand.{Operand}
 use Rattle.bound_statements.specs.declared.expression.Operand.TheVariants.{Literal, Column}
 use Rattle.bound_statements.specs.declared.expression.AddSign.TheVariants.{Plus}

@@ -7,9 +7,9 @@ use Rattle.lock_modes.specs.Rows.{Rows'}
 use Rattle.row_tables.specs.Overlay.{lay}
 use Rattle.lock_modes.specs.declared.mode.Mode.{Mode}
 use Rattle.lock_modes.specs.declared.resource.Resource.{Resource}
-use Rattle.transcripts.specs.declared.event.Fault.{Fault}
-use Rattle.transcripts.specs.declared.event.Fault.TheVariants.{Deadlock, Aborted, Unavailable}
-use Rattle.transcripts.specs.declared.event.Event.TheVariants.{Failed, Waiting, Done}
+use Rattle.events.specs.declared.event.Fault.{Fault}
+use Rattle.events.specs.declared.event.Fault.TheVariants.{Deadlock, Aborted, Unavailable}
+use Rattle.events.specs.declared.event.Event.TheVariants.{Failed, Waiting, Done}
 use Rattle.machine_model.specs.declared.status.Status.{Status}
 use Rattle.machine_model.specs.declared.status.Status.TheVariants.{Outside, InBlock, Broken}
 use Rattle.machine_model.specs.declared.reply.Reply.{Reply}

@@ -4,8 +4,8 @@ use Rattle.finite_maps.specs.Map.{get, empty}
 use Rattle.lock_queues.specs.declared.wait.Wait.{Wait}
 use Rattle.lock_queues.specs.Locks.{Spot, Look, next_grant, waits_now}
 use Rattle.lock_modes.specs.Rows.{Rows'}
-use Rattle.transcripts.specs.declared.event.Event.{Event}
-use Rattle.transcripts.specs.declared.event.Event.TheVariants.{Sent, Resumed, NotSent}
+use Rattle.events.specs.declared.event.Event.{Event}
+use Rattle.events.specs.declared.event.Event.TheVariants.{Sent, Resumed, NotSent}
 use Rattle.machine_model.specs.declared.status.Status.TheVariants.{Outside}
 use Rattle.machine_model.specs.Go.{Run, Scene, go, taking}
 use Rattle.machine_model.specs.Session.{Session, Task, note, tasks_of}

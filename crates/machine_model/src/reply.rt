@@ -1,4 +1,4 @@
-use transcripts::Fault;
+use events::Fault;
 
 /// What a request of a session that goes gets.
 #[derive(Clone, Copy, PartialEq, Eq)]

@@ -9,12 +9,12 @@ ghost use Rattle.marked_logs.specs.Logs.{told_to};
 
 use crate::marked_sight::MarkedSight;
 use bound_statements::Bound;
+use events::{Event, Fault};
 use marked_logs::MarkedLogs;
 use marked_rows::MarkedRows;
 use statement_evaluation::{Few, Given, Write, Writes};
 use statement_execution::effect_of;
 use std::alloc::{AllocError, Global};
-use transcripts::{Event, Fault};
 
 /// Runs a statement whose locks are had: its whole effect on the rows that its session sees now, or none where it fails. Tells the session of it; where it
 /// fails, the fault is the answer and nothing is told.

@@ -10,7 +10,7 @@ use Rattle.event_tree.specs.Lists.{HasNode, Keeps, list_of}
 use Rattle.std.specs.List.{AllZip, list_any}
 use Rattle.marked_lists.specs.Versions.{Versions}
 use Rattle.marked_logs.specs.Logs.{Logs}
-use Rattle.transcripts.specs.declared.event.Event.{Event}
+use Rattle.events.specs.declared.event.Event.{Event}
 use Rattle.session_steps.specs.declared.point.Rest.{Rest}
 use Rattle.session_steps.specs.Stage.{Member, no_member, transcripts_of}
 use Rattle.marked_worlds.specs.declared.members.StatusAndRest.{StatusAndRest}

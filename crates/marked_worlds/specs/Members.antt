@@ -2,7 +2,7 @@
 use Rattle.std.specs.Prelude.{◌≡◌, List, [], ◌∷◌, ◌++◌, length, map, All, Option, None}
 use Rattle.std.specs.List.{AllZip}
 use Rattle.event_tree.specs.Lists.{HasNode, list_of}
-use Rattle.transcripts.specs.declared.event.Event.{Event}
+use Rattle.events.specs.declared.event.Event.{Event}
 use Rattle.machine_model.specs.declared.status.Status.{Status}
 use Rattle.machine_model.specs.declared.status.Status.TheVariants.{Outside}
 use Rattle.session_steps.specs.declared.point.Rest.{Rest}

@@ -12,7 +12,7 @@ use Rattle.marked_rows.specs.Cells.{MarkedRows}
 use Rattle.session_steps.specs.declared.point.Origin.{Origin}
 use Rattle.session_steps.specs.declared.point.Origin.TheVariants.{Setup, Step}
 use Rattle.session_steps.specs.Stage.{Member, Staged}
-use Rattle.transcripts.specs.declared.event.Event.{Event}
+use Rattle.events.specs.declared.event.Event.{Event}
 use Rattle.marked_worlds.specs.Members.{MarkedSessions}
 use Rattle.marked_worlds.specs.declared.seen_stages.SeenStage.{SeenStage}
 

@@ -1,7 +1,7 @@
 -- Outcomes that were told, as they are kept.
 use Rattle.std.specs.Prelude.{◌≡◌, List, All, map}
 use Rattle.event_tree.specs.Lists.{HasNode, list_of}
-use Rattle.transcripts.specs.declared.event.Event.{Event}
+use Rattle.events.specs.declared.event.Event.{Event}
 use Rattle.marked_worlds.specs.declared.told.ToldOutcome.{ToldOutcome}
 
 -- the nodes are some of the tree's, and the outcome is their lists

@@ -5,7 +5,7 @@ use Rattle.numbered_specs.specs.Numbers.{IsNumbering, Numbers}
 use Rattle.machine_model.specs.World.{World, outcome_of}
 use Rattle.machine_model.specs.Outcome.{IsOutcomeOf}
 use Rattle.machine_model.specs.Sound.{Sound}
-use Rattle.transcripts.specs.declared.event.Event.{Event}
+use Rattle.events.specs.declared.event.Event.{Event}
 use Rattle.session_steps.specs.Stage.{world_in, IsSettled, IsSettledUnless}
 use Rattle.marked_worlds.specs.Stages.{MarkedStages}
 

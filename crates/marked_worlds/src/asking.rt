@@ -12,6 +12,7 @@ ghost use Rattle.session_steps.specs.Going.{IsReply, after_reply};
 ghost use Rattle.marked_worlds.specs.Stages.{IsKnown};
 
 use bound_statements::{Bound, lock_plan, nowait};
+use events::Fault;
 use lock_queues::{Answer, Taken};
 use machine_model::Reply;
 use marked_locks::MarkedLocks;
@@ -19,7 +20,6 @@ use marked_modes::MAX_HOLDERS;
 use numbered_specs::{NumberedRequest, SpecNumbers};
 use session_steps::Origin;
 use std::alloc::AllocError;
-use transcripts::Fault;
 
 /// The request with a number of the lock plan of a statement, which stands at this place of what is sent; none where there is no such request.
 pub(crate) fn request_at(

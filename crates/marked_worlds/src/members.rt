@@ -13,6 +13,7 @@ ghost use Rattle.marked_worlds.specs.Members.{silenced, told_all, with_rest, wit
 use crate::seen::SeenSessions;
 use crate::told::{ToldTable, print_of};
 use bound_statements::Bound;
+use events::{Event, Fault};
 use machine_model::Status;
 use marked_execution::run_statement;
 use marked_lists::MarkedList;
@@ -21,7 +22,7 @@ use marked_rows::MarkedRows;
 use session_steps::Rest;
 use std::alloc::{AllocError, Global};
 use std::marker::Model;
-use transcripts::{Event, Fault, Outcome};
+use transcripts::Outcome;
 
 /// What is kept of a session beside what it was told.
 #[derive(Clone, Copy)]
@@ -46,7 +47,7 @@ pub(crate) struct MarkedMembers {
 
 impl Model for MarkedMembers {
     ghost use Rattle.std.specs.Coded.{codes};
-    ghost use Rattle.transcripts.specs.contracts.event.Event as event;
+    ghost use Rattle.events.specs.contracts.event.Event as event;
     ghost use Rattle.marked_worlds.specs.Members.{AreKept, MarkedSessions, sessions_of};
 
     ghost Value = { MarkedSessions };

@@ -6,11 +6,11 @@ ghost use Rattle.marked_worlds.specs.Members.{IsSeen, members_of, sessions_seen}
 use crate::members::StatusAndRest;
 use crate::told::{are_of, nodes_of};
 use event_tree::NodeId;
+use events::Event;
 use marked_lists::MarkedList;
 use marked_logs::MarkedLogs;
 use session_steps::Rest;
 use std::alloc::{AllocError, Global};
-use transcripts::Event;
 
 /// The sessions as they were noted, with the nodes of what they were told.
 #[derive(Drop)]

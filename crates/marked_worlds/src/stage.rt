@@ -17,6 +17,7 @@ use crate::asking::{ask_one, request_at};
 use crate::members::MarkedMembers;
 use crate::seen_stages::{SeenStage, SeenTable};
 use bound_statements::Bound;
+use events::{Event, Fault};
 use lock_modes::Mode;
 use machine_model::{Reply, Status};
 use marked_locks::MarkedLocks;
@@ -27,7 +28,7 @@ use session_steps::{Origin, Rest, Stage};
 use std::alloc::{AllocError, Global};
 use std::marker::Model;
 use std::sync::Arc;
-use transcripts::{Event, Fault, Outcome};
+use transcripts::Outcome;
 
 /// So many cells and resources are noted, over all stages, until no more is, so that what is noted takes some tens of megabytes.
 const MOST_SEEN: usize = 1 << 19;
@@ -59,7 +60,7 @@ impl Model for MarkedStage {
     ghost use Rattle.lock_modes.specs.contracts.resource.Resource as resource;
     ghost use Rattle.lock_queues.specs.contracts.wait.Wait as waiting;
     ghost use Rattle.numbered_specs.specs.contracts.request.NumberedRequest as request;
-    ghost use Rattle.transcripts.specs.contracts.event.Event as event;
+    ghost use Rattle.events.specs.contracts.event.Event as event;
     ghost use Rattle.marked_worlds.specs.Stages.{IsKept, MarkedStages, marked_stages};
 
     ghost Value = { MarkedStages };

@@ -7,12 +7,13 @@ ghost use Rattle.marked_logs.specs.Logs.{told_to};
 ghost use Rattle.marked_worlds.specs.Told.{AreTold, outcomes_of};
 
 use event_tree::NodeId;
+use events::{Event, Transcript};
 use finite_maps::Fork;
 use marked_logs::MarkedLogs;
 use std::alloc::{AllocError, Global};
 use std::collections::BTreeMap;
 use std::hash::{FoldHasher, Hasher};
-use transcripts::{Event, Outcome, Transcript};
+use transcripts::Outcome;
 
 /// An outcome, with the node of what each session was told.
 #[derive(Drop)]

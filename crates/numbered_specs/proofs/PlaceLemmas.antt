@@ -22,8 +22,8 @@ use Rattle.bound_statements.specs.Plan.{Request, key_at, looks_at, key_lock}
 use Rattle.statement_evaluation.specs.Effect.{Effect, Gives, Faults, effect, visible, matching, placed}
 use Rattle.statement_evaluation.proofs.ListLemmas.{Each, Each-map}
 use Rattle.statement_evaluation.proofs.WriteLemmas.{OnGives, each-any, each-placed, each-numbered, on-or_fault, on-selected, updated-each, deleted-each}
-use Rattle.transcripts.specs.declared.event.Event.TheVariants.{Inserted}
-use Rattle.transcripts.specs.declared.event.Fault.TheVariants.{Duplicate}
+use Rattle.events.specs.declared.event.Event.TheVariants.{Inserted}
+use Rattle.events.specs.declared.event.Fault.TheVariants.{Duplicate}
 use Rattle.bound_specs.specs.Spec.{Spec}
 use Rattle.numbered_specs.specs.declared.request.ResourceNumber.{ResourceNumber}
 use Rattle.numbered_specs.specs.Numbers.{place_of, resource_of, HasNumber, IsNumbering, Numbers}

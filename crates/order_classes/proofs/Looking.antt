@@ -22,8 +22,8 @@ use Rattle.bound_statements.specs.declared.statement.SortKey.{SortKey}
 use Rattle.statement_evaluation.specs.Effect.{Effect, Gives, Faults, effect, effect_on, consed, passed, matching, sort_cmp, put_in, sorted_by, projected}
 use Rattle.statement_evaluation.specs.Effect.{number_in, total_of, aggregated, consed_value, all_aggregated, shown}
 use Rattle.statement_evaluation.specs.Evaluate.{checked, holds}
-use Rattle.transcripts.specs.declared.event.Event.TheVariants.{Row as RowEvent, Rows}
-use Rattle.transcripts.specs.declared.event.Fault.TheVariants.{OutOfRange}
+use Rattle.events.specs.declared.event.Event.TheVariants.{Row as RowEvent, Rows}
+use Rattle.events.specs.declared.event.Fault.TheVariants.{OutOfRange}
 use Rattle.lock_modes.specs.declared.value.Value.TheVariants.{Int}
 use Rattle.binding_model.specs.Tables.{no_table, key_column}
 use Rattle.binding_model.specs.declared.tables.Table.{Table}

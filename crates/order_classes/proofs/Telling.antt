@@ -6,7 +6,7 @@ use Rattle.std.proofs.lemmas.Bool.{or_cases, or_left, or_right}
 use Rattle.lock_queues.specs.Locks.{waits_now}
 use Rattle.lock_queues.specs.Reasons.{Among, Want}
 use Rattle.lock_queues.proofs.Edges.{want-found, want-waits}
-use Rattle.transcripts.specs.declared.event.Event.{Event}
+use Rattle.events.specs.declared.event.Event.{Event}
 use Rattle.binding_model.specs.declared.tables.Table.{Table}
 use Rattle.machine_model.specs.declared.status.Status.{Status}
 use Rattle.machine_model.specs.declared.status.Status.TheVariants.{Outside, InBlock, Broken}

@@ -9,8 +9,8 @@ use Rattle.bound_statements.specs.declared.statement.Aggregate.TheVariants.{Sum}
 use Rattle.bound_statements.specs.declared.statement.Output.TheVariants.{Columns, Aggregates}
 use Rattle.bound_statements.specs.declared.statement.Bound.{Bound}
 use Rattle.bound_statements.specs.declared.statement.Bound.TheVariants.{Select, Insert, Delete}
-use Rattle.transcripts.specs.declared.event.Event.{Event}
-use Rattle.transcripts.specs.declared.event.Event.TheVariants.{Sent, Row as RowEvent, Rows, Updated, Done}
+use Rattle.events.specs.declared.event.Event.{Event}
+use Rattle.events.specs.declared.event.Event.TheVariants.{Sent, Row as RowEvent, Rows, Updated, Done}
 use Rattle.binding_model.specs.Tables.{no_table}
 use Rattle.bound_specs.specs.Spec.{Spec}
 use Rattle.machine_model.proofs.Worked.{number, step, two_rows, sets, id_is, shares, in_blocks, waits_row, not_waiting_row, ring_row}

@@ -15,7 +15,7 @@ use Rattle.lock_queues.specs.Reasons.{Among}
 use Rattle.machine_model.specs.World.{World, session_at}
 use Rattle.machine_model.specs.Typed.{RowsFit}
 use Rattle.line_moments.specs.Left.{left_in, LeaveSame}
-use Rattle.transcripts.specs.declared.event.Event.{Event}
+use Rattle.events.specs.declared.event.Event.{Event}
 use Rattle.order_classes.specs.declared.shows.Shows.{Shows}
 use Rattle.order_classes.specs.Shows.{seen, shows_in, world_of_line, shows_at}
 use Rattle.order_classes.specs.Classes.{Class, in_runs, IsNumber, total_in}

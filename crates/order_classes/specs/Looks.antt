@@ -1,7 +1,7 @@
 -- What a SELECT sees of the rows that are left, and what is expected of it.
 use Rattle.std.specs.Prelude.{◌≡◌, ℕ, ◌<◌, ◌≤◌, List, [], ◌∷◌, length, get_or, Option, Some, None, option_map}
 use Rattle.lock_modes.specs.declared.value.Value.{Value}
-use Rattle.transcripts.specs.declared.event.Event.TheVariants.{Row as RowEvent, Rows}
+use Rattle.events.specs.declared.event.Event.TheVariants.{Row as RowEvent, Rows}
 use Rattle.bound_statements.specs.declared.statement.Bound.{Bound}
 use Rattle.bound_statements.specs.declared.statement.Bound.TheVariants.{Select}
 use Rattle.statement_evaluation.specs.Effect.{Effect, Gives, effect}

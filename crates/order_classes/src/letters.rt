@@ -6,7 +6,7 @@ ghost use Rattle.order_classes.specs.Letters.{is_other_fault, is_waiting, letter
 ghost use Rattle.order_classes.specs.Asked.{is_sign, loses, passes_test, passes_filter, pass_all};
 
 use crate::shows::{Rest, Shows};
-use transcripts::{Event, Fault, Transcript};
+use events::{Event, Fault, Transcript};
 
 /// What an order may show.
 #[derive(Clone, Copy)]

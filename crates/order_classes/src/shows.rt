@@ -2,12 +2,13 @@
 
 ghost use Rattle.std.specs.Prelude.{◌≡◌, ◌↔◌, IfOk, IsTrue};
 
+use events::{are_same_values, is_same_value};
 use finite_maps::Fork;
 use lock_modes::{Row, Value};
 use sqlite_items::Items;
 use std::alloc::{AllocError, Global};
 use std::hash::{FoldHasher, Hasher};
-use transcripts::{Outcome, are_same_values, fingerprint, hash_values, is_same_value};
+use transcripts::{Outcome, fingerprint, hash_values};
 
 /// How a session stands at the end of an order.
 #[derive(Clone, Copy)]

@@ -11,11 +11,11 @@ use Rattle.rank_facts.specs.Quiet.{is_calm, AllCalm, SentCalmly, is_quiet}
 use Rattle.machine_model.specs.Claims.{plans}
 use Rattle.machine_model.specs.Sound.{Sound}
 use Rattle.machine_model.specs.Events.{is_effect}
-use Rattle.transcripts.specs.declared.event.Event.{Event}
-use Rattle.transcripts.specs.declared.event.Event.TheVariants.{Sent, Row as RowEvent, Rows, Inserted, Updated, Deleted, Began, Committed, RolledBack, Locked}
-use Rattle.transcripts.specs.declared.event.Event.TheVariants.{Set, Warned, Failed, Waiting, Resumed, Done, NotSent}
-use Rattle.transcripts.specs.declared.event.Fault.{Fault}
-use Rattle.transcripts.specs.declared.event.Fault.TheVariants.{Aborted}
+use Rattle.events.specs.declared.event.Event.{Event}
+use Rattle.events.specs.declared.event.Event.TheVariants.{Sent, Row as RowEvent, Rows, Inserted, Updated, Deleted, Began, Committed, RolledBack, Locked}
+use Rattle.events.specs.declared.event.Event.TheVariants.{Set, Warned, Failed, Waiting, Resumed, Done, NotSent}
+use Rattle.events.specs.declared.event.Fault.{Fault}
+use Rattle.events.specs.declared.event.Fault.TheVariants.{Aborted}
 use Rattle.machine_model.specs.declared.status.Status.{Status}
 use Rattle.machine_model.specs.declared.status.Status.TheVariants.{Outside, InBlock, Broken}
 use Rattle.bound_statements.specs.declared.statement.Bound.{Bound}
@@ -89,12 +89,12 @@ worked-on s rows (Faults f) c = tt
 perform_by-on : (status : Status) (k : Kind) (s : Session) (rows : Rows') (st : Bound)
     → OnGoes (perform_by status k s rows st) (λ s2 rows2. GoesOn s.transcript s2.transcript)
 perform_by-on Outside Begins s rows st = by-one s.transcript Began refl
-perform_by-on InBlock Begins s rows st = by-two s.transcript (Warned Rattle.transcripts.specs.declared.event.Warning.TheVariants.InBlock) Began refl refl
+perform_by-on InBlock Begins s rows st = by-two s.transcript (Warned Rattle.events.specs.declared.event.Warning.TheVariants.InBlock) Began refl refl
 perform_by-on Broken Begins s rows st = tt
-perform_by-on Outside Commits s rows st = by-two s.transcript (Warned Rattle.transcripts.specs.declared.event.Warning.TheVariants.NoBlock) Committed refl refl
+perform_by-on Outside Commits s rows st = by-two s.transcript (Warned Rattle.events.specs.declared.event.Warning.TheVariants.NoBlock) Committed refl refl
 perform_by-on InBlock Commits s rows st = by-one s.transcript Committed refl
 perform_by-on Broken Commits s rows st = by-one s.transcript RolledBack refl
-perform_by-on Outside RollsBack s rows st = by-two s.transcript (Warned Rattle.transcripts.specs.declared.event.Warning.TheVariants.NoBlock)
+perform_by-on Outside RollsBack s rows st = by-two s.transcript (Warned Rattle.events.specs.declared.event.Warning.TheVariants.NoBlock)
     RolledBack refl refl
 perform_by-on InBlock RollsBack s rows st = by-one s.transcript RolledBack refl
 perform_by-on Broken RollsBack s rows st = by-one s.transcript RolledBack refl

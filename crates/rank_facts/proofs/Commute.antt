@@ -17,7 +17,7 @@ use Rattle.machine_model.specs.World.{World, fresh, session_at, look_of, scene_o
 use Rattle.bound_specs.specs.Spec.{Step, no_step}
 use Rattle.machine_model.specs.Claims.{Claims, may_write, claims_of, plans}
 use Rattle.lock_modes.specs.declared.mode.Mode.{Mode}
-use Rattle.transcripts.specs.declared.event.Event.TheVariants.{Sent, NotSent}
+use Rattle.events.specs.declared.event.Event.TheVariants.{Sent, NotSent}
 use Rattle.lock_modes.specs.declared.resource.Resource.{Resource}
 use Rattle.bound_statements.specs.declared.statement.Bound.{Bound}
 use Rattle.machine_model.proofs.Basics.{Each-left, Each-right, filter_same, both_true, and_true, or_true_right, known, cases-eq}

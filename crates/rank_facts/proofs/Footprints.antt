@@ -8,7 +8,7 @@ use Rattle.row_tables.specs.Overlay.{Overlay, lay}
 use Rattle.bound_statements.specs.Plan.{Request, request, plan}
 use Rattle.bound_statements.specs.declared.statement.Bound.{Bound}
 use Rattle.statement_evaluation.specs.Effect.{Effect, Gives, Faults, effect}
-use Rattle.transcripts.specs.declared.event.Fault.TheVariants.{Aborted}
+use Rattle.events.specs.declared.event.Fault.TheVariants.{Aborted}
 use Rattle.machine_model.specs.declared.status.Status.{Status}
 use Rattle.machine_model.specs.declared.status.Status.TheVariants.{Outside, InBlock, Broken}
 use Rattle.machine_model.specs.Session.{Task, Ask, Do, Session, Held, Kind, Begins, Commits, RollsBack, Works, kind, Performed, Goes, Fails, perform}

@@ -7,7 +7,7 @@ use Rattle.perm_ranks.specs.Swapped.{exchanged}
 use Rattle.perm_ranks.proofs.SwapLemmas.{exchanged-takes, exchanged-less}
 use Rattle.perm_ranks.proofs.WordLemmas.{words-rise, stands-before, place-is, in-place, takes-in, words-take, each-at, entry-place, Takes}
 use Rattle.bound_specs.specs.Spec.{Step, Spec, Queues, line, line_by, line_of, ranks, ranks_by, counts_of, queues_of, IsBound}
-use Rattle.transcripts.specs.declared.event.Event.{Event}
+use Rattle.events.specs.declared.event.Event.{Event}
 use Rattle.machine_model.specs.World.{World, send_all, outcome_of}
 use Rattle.machine_model.specs.Start.{Start, Started, start}
 use Rattle.machine_model.specs.Sound.{Sound}

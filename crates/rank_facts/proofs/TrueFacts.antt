@@ -3,7 +3,7 @@ use Rattle.std.proofs.Common.{◌≡◌, ◌≢◌, refl, sym, ap, ◌∙◌, su
 use Rattle.std.proofs.Common.{Some, None, is_some, ◌↔◌, ◌⊎◌, ⊎_elim, arith, ltb-true, lt-ltb}
 use Rattle.perm_ranks.proofs.SwapLemmas.{exchanged-short}
 use Rattle.bound_specs.specs.Spec.{Spec, line_of, ranks}
-use Rattle.transcripts.specs.declared.event.Event.{Event}
+use Rattle.events.specs.declared.event.Event.{Event}
 use Rattle.machine_model.specs.World.{World, send_all, outcome_of}
 use Rattle.machine_model.specs.Start.{Start, Started, SetupFailed, SessionSetupFailed, SessionSetupWaits, start}
 use Rattle.machine_model.proofs.Basics.{both_true, and_true}

@@ -1,7 +1,7 @@
 -- What sets of true facts tell.
 use Rattle.std.proofs.Common.{◌≡◌, sym, ap, ◌∙◌, ℕ, zero, suc, ◌<◌, true, List, Some, arith}
 use Rattle.bound_specs.specs.Spec.{Spec, line_of, ranks, IsBound}
-use Rattle.transcripts.specs.declared.event.Event.{Event}
+use Rattle.events.specs.declared.event.Event.{Event}
 use Rattle.machine_model.specs.Outcome.{outcome_of_line}
 use Rattle.rank_facts.specs.Swap.{leads_in}
 use Rattle.rank_facts.specs.Values.{Facts, IsValue, ran, swap, AllTrue, CoverEachRank, TellTheMachine}

@@ -7,7 +7,7 @@ use Rattle.bound_specs.specs.Spec.{Spec, Queues, queues_of, ranks, line_of, coun
 use Rattle.machine_model.specs.Start.{Started, start}
 use Rattle.machine_model.specs.World.{World}
 use Rattle.perm_ranks.specs.Words.{all_words}
-use Rattle.transcripts.specs.declared.event.Event.{Event}
+use Rattle.events.specs.declared.event.Event.{Event}
 use Rattle.bound_statements.specs.declared.statement.Output.TheVariants.{Columns}
 use Rattle.bound_statements.specs.declared.statement.Bound.TheVariants.{Select, Insert, Delete}
 use Rattle.machine_model.proofs.Worked.{number, id_is, step, two_rows, waits_row, waiters_row, shares}

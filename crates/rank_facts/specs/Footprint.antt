@@ -3,7 +3,7 @@ use Rattle.std.specs.Prelude.{◌≡◌, ℕ, Bool, true, false, List, [], ◌�
 use Rattle.finite_maps.specs.Map.{get}
 use Rattle.lock_modes.specs.RowPlace.{RowPlace}
 use Rattle.lock_modes.specs.Rows.{Rows'}
-use Rattle.transcripts.specs.declared.event.Fault.TheVariants.{Aborted}
+use Rattle.events.specs.declared.event.Fault.TheVariants.{Aborted}
 use Rattle.bound_statements.specs.declared.statement.Bound.{Bound}
 use Rattle.machine_model.specs.Session.{Task, Ask, Do, Session, Held, Goes, Fails, perform, tasks_of}
 use Rattle.machine_model.specs.Go.{go, solo, stopped, failed, taking, is_broken, finished_by}

@@ -19,7 +19,7 @@ use Rattle.rank_facts.specs.declared.fact.Fact.{Fact}
 use Rattle.rank_facts.specs.declared.fact.Fact.TheVariants.{Ran, Swap}
 use Rattle.machine_model.specs.Outcome.{outcome_of_line}
 use Rattle.bound_statements.specs.Plan.{plan, opened, looks_at}
-use Rattle.transcripts.specs.declared.event.Event.{Event}
+use Rattle.events.specs.declared.event.Event.{Event}
 use Rattle.machine_model.specs.Laws.{IsOf}
 
 abbrev pub QuietStepsCommute : Type 0

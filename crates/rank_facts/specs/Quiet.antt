@@ -7,8 +7,8 @@ use Rattle.lock_modes.specs.Resource.{same_resource}
 use Rattle.bound_statements.specs.Plan.{Request}
 use Rattle.machine_model.specs.World.{World, session_at, look_of}
 use Rattle.bound_specs.specs.Spec.{Step}
-use Rattle.transcripts.specs.declared.event.Event.{Event}
-use Rattle.transcripts.specs.declared.event.Event.TheVariants.{Sent, Row as RowEvent, Rows, Inserted, Updated, Deleted, Began, Committed, RolledBack, Locked, Set, Warned, Failed, Waiting, Resumed, Done, NotSent}
+use Rattle.events.specs.declared.event.Event.{Event}
+use Rattle.events.specs.declared.event.Event.TheVariants.{Sent, Row as RowEvent, Rows, Inserted, Updated, Deleted, Began, Committed, RolledBack, Locked, Set, Warned, Failed, Waiting, Resumed, Done, NotSent}
 use Rattle.machine_model.specs.Claims.{plans}
 
 -- each request fits beside what sessions other than i hold

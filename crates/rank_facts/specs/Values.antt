@@ -1,7 +1,7 @@
 -- The values that a set of facts gives to ranks.
 use Rattle.std.specs.Prelude.{◌≡◌, ℕ, ◌<◌, Bool, true, List, Option, Some}
 use Rattle.bound_specs.specs.Spec.{Spec, line_of, ranks}
-use Rattle.transcripts.specs.declared.event.Event.{Event}
+use Rattle.events.specs.declared.event.Event.{Event}
 use Rattle.machine_model.specs.Outcome.{outcome_of_line}
 use Rattle.rank_facts.specs.Swap.{leads_in}
 use Rattle.rank_facts.specs.Facts.{IsTrueAt}

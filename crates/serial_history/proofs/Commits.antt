@@ -15,7 +15,7 @@ use Rattle.machine_model.specs.declared.reply.Reply.TheVariants.{Had, Waits, Ref
 use Rattle.machine_model.specs.World.{World, session_at, look_of, scene_of, granted, goes, left_to_do, send, send_all}
 use Rattle.machine_model.specs.declared.status.Status.{Status}
 use Rattle.machine_model.specs.declared.status.Status.TheVariants.{Outside, InBlock, Broken}
-use Rattle.transcripts.specs.declared.event.Event.TheVariants.{Sent, Resumed}
+use Rattle.events.specs.declared.event.Event.TheVariants.{Sent, Resumed}
 use Rattle.serial_history.specs.Laws.{ComeFirst}
 use Rattle.serial_history.specs.Serial.{Transaction, Tally, History, commit_of, ended_well, dropped, did, tally_by, tally_end, go_tally, tally_of, goes_told, granted_told, settle_told, send_told, send_all_told}
 

@@ -16,7 +16,7 @@ use Rattle.machine_model.specs.Claims.{Claims, may_write, claims_of}
 use Rattle.machine_model.specs.Sound.{HoldsAll, Backed, UnderLocks}
 use Rattle.serial_history.specs.Serial.{Transaction, Did, is_work, commit_of, Tally, ended_well, dropped, did, tally_by, tally_end, go_tally, Replay, SerialRun}
 use Rattle.serial_history.specs.Serial.{WorkHeld, Repeats}
-use Rattle.transcripts.specs.declared.event.Fault.TheVariants.{Aborted}
+use Rattle.events.specs.declared.event.Fault.TheVariants.{Aborted}
 use Rattle.lock_modes.specs.declared.mode.Mode.{Mode}
 use Rattle.lock_modes.specs.declared.mode.Mode.TheVariants.{IntentShare, IntentExclusive, Share, ShareIntent, Exclusive}
 use Rattle.lock_modes.specs.declared.resource.Resource.{Resource}

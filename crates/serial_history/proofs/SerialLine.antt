@@ -13,7 +13,7 @@ use Rattle.bound_specs.specs.Spec.{Step, no_step}
 use Rattle.machine_model.specs.Sound.{Steady, Sound, UnderLocks}
 use Rattle.serial_history.specs.Serial.{Tally, go_tally, History, tally_of, goes_told, granted_told, settle_told, send_told, send_all_told, Repeats, Told}
 use Rattle.serial_history.specs.Serial.{Replay, WorkHeld}
-use Rattle.transcripts.specs.declared.event.Event.TheVariants.{Sent, NotSent, Resumed}
+use Rattle.events.specs.declared.event.Event.TheVariants.{Sent, NotSent, Resumed}
 use Rattle.bound_statements.specs.declared.statement.Bound.{Bound}
 use Rattle.machine_model.proofs.Basics.{cases-eq}
 use Rattle.machine_model.specs.Footprint.{HeldFits}

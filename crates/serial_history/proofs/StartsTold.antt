@@ -14,7 +14,7 @@ use Rattle.machine_model.specs.Start.{session_setups, after_setup, forgotten, ha
 use Rattle.serial_history.specs.Serial.{Shown, reading_in, reading_of, session_setups_said, after_setups, AllTell, EndedTell, commits_of, committed_in, Repeats}
 use Rattle.serial_history.specs.Serial.{Told, History, no_history, goes_told, session_setups_told, first_rows, start_told, send_all_told}
 use Rattle.serial_history.specs.Reading.{Reading, nothing_read, read}
-use Rattle.transcripts.specs.declared.event.Fault.TheVariants.{Aborted}
+use Rattle.events.specs.declared.event.Fault.TheVariants.{Aborted}
 use Rattle.lock_modes.specs.declared.mode.Mode.{Mode}
 use Rattle.machine_model.specs.declared.status.Status.{Status}
 use Rattle.machine_model.specs.declared.status.Status.TheVariants.{Outside, InBlock, Broken}

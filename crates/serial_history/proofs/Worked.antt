@@ -6,7 +6,7 @@ use Rattle.row_tables.specs.Overlay.{lay}
 use Rattle.bound_specs.specs.Spec.{Spec}
 use Rattle.machine_model.specs.Start.{Started, start}
 use Rattle.machine_model.specs.World.{send_all, session_at}
-use Rattle.transcripts.specs.declared.event.Event.TheVariants.{Row as RowEvent, Rows, Updated}
+use Rattle.events.specs.declared.event.Event.TheVariants.{Row as RowEvent, Rows, Updated}
 use Rattle.bound_statements.specs.declared.statement.Output.TheVariants.{Columns}
 use Rattle.bound_statements.specs.declared.statement.Bound.{Bound}
 use Rattle.bound_statements.specs.declared.statement.Bound.TheVariants.{Select, Begin, Commit, Lock, SetVariable}

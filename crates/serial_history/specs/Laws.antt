@@ -8,7 +8,7 @@ use Rattle.machine_model.specs.Sound.{Sound}
 use Rattle.lock_modes.specs.Rows.{Rows'}
 use Rattle.serial_history.specs.Serial.{History, Transaction, Told, Shown, after_setups, goes_told, settle_told, send_all_told, first_rows, start_told}
 use Rattle.serial_history.specs.Reading.{Reading, read, told_in, data_of}
-use Rattle.transcripts.specs.declared.event.Event.{Event}
+use Rattle.events.specs.declared.event.Event.{Event}
 use Rattle.machine_model.specs.Laws.{IsOf}
 
 -- the commits of a line, run one after another without locks, give their events and leave the line's rows, and the open transactions run

@@ -14,8 +14,8 @@ use Rattle.machine_model.specs.declared.reply.Reply.TheVariants.{Had, Waits, Ref
 use Rattle.machine_model.specs.World.{World, session_at, look_of, scene_of, granted, goes, left_to_do, send, send_all, outcome_of}
 use Rattle.bound_specs.specs.Spec.{Step, no_step, Spec}
 use Rattle.machine_model.specs.Start.{Started, set_up, start, after_setup, forgotten}
-use Rattle.transcripts.specs.declared.event.Event.{Event}
-use Rattle.transcripts.specs.declared.event.Event.TheVariants.{Sent, Resumed}
+use Rattle.events.specs.declared.event.Event.{Event}
+use Rattle.events.specs.declared.event.Event.TheVariants.{Sent, Resumed}
 use Rattle.machine_model.specs.declared.status.Status.{Status}
 use Rattle.machine_model.specs.declared.status.Status.TheVariants.{Outside, InBlock, Broken}
 use Rattle.bound_statements.specs.declared.statement.Bound.{Bound}

@@ -10,8 +10,8 @@ use Rattle.lock_queues.specs.Reasons.{same_reason, same_edges, want_of}
 use Rattle.lock_queues.specs.Sound.{EachWait}
 use Rattle.bound_specs.specs.Spec.{Step}
 use Rattle.bound_statements.specs.declared.statement.Bound.{Bound}
-use Rattle.transcripts.specs.declared.event.Event.{Event}
-use Rattle.transcripts.specs.declared.event.Event.TheVariants.{Resumed}
+use Rattle.events.specs.declared.event.Event.{Event}
+use Rattle.events.specs.declared.event.Event.TheVariants.{Resumed}
 use Rattle.line_moments.specs.Moments.{ending_by, last_sent}
 use Rattle.line_moments.specs.declared.moment.Change.{Change}
 use Rattle.line_moments.specs.declared.moment.Manner.{Manner}

@@ -13,7 +13,7 @@ use Rattle.lock_queues.proofs.Slices.{get-slice}
 use Rattle.bound_statements.specs.Plan.{plan, nowait}
 use Rattle.bound_statements.specs.declared.statement.Bound.{Bound}
 use Rattle.row_tables.specs.Layers.{Layers}
-use Rattle.transcripts.specs.declared.event.Fault.{Fault}
+use Rattle.events.specs.declared.event.Fault.{Fault}
 use Rattle.machine_model.specs.declared.status.Status.TheVariants.{Outside}
 use Rattle.machine_model.specs.declared.reply.Reply.{Reply}
 use Rattle.machine_model.specs.declared.reply.Reply.TheVariants.{Had as IsHad, Waits, Refused}

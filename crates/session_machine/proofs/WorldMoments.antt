@@ -14,8 +14,8 @@ use Rattle.lock_queues.specs.declared.wait.Wait.{Wait}
 use Rattle.lock_queues.specs.Locks.{wanted_by}
 use Rattle.lock_queues.proofs.Keeping.{found-is}
 use Rattle.lock_queues.proofs.Slices.{get-slice}
-use Rattle.transcripts.specs.declared.event.Event.{Event}
-use Rattle.transcripts.specs.declared.event.Event.TheVariants.{Sent, Resumed, NotSent}
+use Rattle.events.specs.declared.event.Event.{Event}
+use Rattle.events.specs.declared.event.Event.TheVariants.{Sent, Resumed, NotSent}
 use Rattle.bound_specs.specs.Spec.{Step, no_step}
 use Rattle.machine_model.specs.Session.{Session, note, tasks_of}
 use Rattle.machine_model.specs.Go.{taking}

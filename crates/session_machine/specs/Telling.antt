@@ -7,8 +7,8 @@ use Rattle.lock_queues.specs.LockTable.{Locks, look_in, grant}
 use Rattle.lock_queues.specs.Rules.{wait_of}
 use Rattle.lock_queues.specs.Reasons.{want_of}
 use Rattle.lock_queues.specs.declared.reason.Edge.{Edge}
-use Rattle.transcripts.specs.declared.event.Event.{Event}
-use Rattle.transcripts.specs.declared.event.Event.TheVariants.{Sent, Resumed}
+use Rattle.events.specs.declared.event.Event.{Event}
+use Rattle.events.specs.declared.event.Event.TheVariants.{Sent, Resumed}
 use Rattle.bound_specs.specs.Spec.{Step}
 use Rattle.machine_model.specs.Session.{Task}
 use Rattle.machine_model.specs.World.{World, left_to_do}

@@ -7,11 +7,11 @@ ghost use Rattle.bound_statements.specs.Plan as plan;
 ghost use Rattle.session_steps.specs.Going.{IsReply, after_reply};
 
 use bound_statements::{Bound, nowait};
+use events::Fault;
 use lock_modes::{Mode, Place};
 use lock_queues::{Answer, LockTable, Taken};
 use machine_model::Reply;
 use std::alloc::AllocError;
-use transcripts::Fault;
 
 /// Asks for one mode of a statement. The request waits where it may not be had at once, unless it would close a ring or refuses to wait.
 pub(crate) fn ask_one(

@@ -9,6 +9,7 @@ ghost use Rattle.machine_model.specs.Start.{is_failure};
 ghost use Rattle.session_steps.specs.Stage.{no_member, note_member};
 
 use bound_statements::Bound;
+use events::{Event, Fault, Log};
 use finite_maps::Fork;
 use machine_model::Status;
 use row_tables::Store;
@@ -16,7 +17,6 @@ use session_steps::Rest;
 use statement_execution::run_statement;
 use std::alloc::{AllocError, Global};
 use std::marker::Model;
-use transcripts::{Event, Fault, Log};
 
 /// A session of a world: how it stands with its block, what it was told, and what is left of its step while it waits.
 pub(crate) struct Member {
@@ -38,7 +38,7 @@ impl Drop for Member {
 
 impl Model for Member {
     ghost use Rattle.std.specs.Coded.{codes};
-    ghost use Rattle.transcripts.specs.contracts.event.Event as event;
+    ghost use Rattle.events.specs.contracts.event.Event as event;
     ghost use Rattle.session_steps.specs.Stage.{Member as Kept};
 
     ghost Value = { Kept };

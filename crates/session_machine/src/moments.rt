@@ -12,17 +12,17 @@ ghost use Rattle.session_machine.specs.SharedStage.{staged_of};
 ghost use Rattle.session_machine.specs.Telling as telling;
 ghost use Rattle.session_steps.specs.Going.{tasks_from};
 ghost use Rattle.session_steps.specs.Stage.{statements_of, world_in, member_at, IsStage, IsSettled, HasTold, HasStarted, HasResumed};
-ghost use Rattle.transcripts.specs.declared.event.Event.TheVariants as event;
+ghost use Rattle.events.specs.declared.event.Event.TheVariants as event;
 
 use crate::stage::SharedStage;
 use crate::telling::{events_behind, had_of, last_step, still_of};
 use crate::trace::{Trace, trace_on};
 use bound_specs::Spec;
+use events::{Event, Log, Transcript};
 use line_moments::{Ending, Manner, Moment, Still};
 use session_steps::{Point, Stage, resume, start_step};
 use sqlite_items::Items;
 use std::alloc::{AllocError, Global};
-use transcripts::{Event, Log, Transcript};
 
 impl SharedStage {
     /// What a session was told.

@@ -7,13 +7,13 @@ ghost use Rattle.session_steps.specs.Stage.{IsBlank};
 use crate::asking::ask_one;
 use crate::member::Member;
 use bound_statements::{Bound, lock_plan};
+use events::{Event, Fault};
 use finite_maps::Fork;
 use lock_queues::LockTable;
 use machine_model::{Reply, Status};
 use row_tables::Store;
 use session_steps::{Origin, Rest, Stage};
 use std::alloc::{AllocError, Global};
-use transcripts::{Event, Fault};
 
 /// The rows, the locks and the sessions of a world. A fork shares them with this one.
 pub(crate) struct SharedStage {

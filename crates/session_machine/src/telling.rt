@@ -6,12 +6,12 @@ ghost use Rattle.lock_queues.specs.Reasons.{same_edges};
 ghost use Rattle.lock_queues.specs.Rules.{wait_of};
 ghost use Rattle.session_machine.specs.Telling as spec;
 
+use events::{Event, Log, Transcript};
 use finite_maps::Fork;
 use line_moments::{Change, Still};
 use lock_queues::{Edge, LockTable};
 use sqlite_items::Items;
 use std::alloc::{AllocError, Global};
-use transcripts::{Event, Log, Transcript};
 
 /// The events of a list from a place on.
 fn events_from(alloc: Global, events: &[Event], from: usize) -> Result<Transcript, AllocError>

@@ -17,6 +17,7 @@ use crate::member::Member;
 use crate::stage::SharedStage;
 use binding_model::Table;
 use bound_specs::Spec;
+use events::Transcript;
 use finite_maps::Fork;
 use line_moments::{Begun, Left, Moment, Shown, Standing};
 use lock_modes::{Mode, Place};
@@ -24,7 +25,7 @@ use session_steps::{SendError, StartError, run_setups, send};
 use sqlite_items::Items;
 use std::alloc::{AllocError, Global};
 use std::marker::Model;
-use transcripts::{Outcome, Transcript};
+use transcripts::Outcome;
 
 /// The sequential machine over a spec. Contracts see the spec, the world and whether it is spent.
 pub struct World<'a> {
@@ -53,7 +54,7 @@ impl<'a> Model for World<'a> {
     ghost use Rattle.lock_modes.specs.contracts.resource.Resource as resource;
     ghost use Rattle.lock_queues.specs.contracts.wait.Wait as waiting;
     ghost use Rattle.bound_statements.specs.contracts.statement.Bound as bound;
-    ghost use Rattle.transcripts.specs.contracts.event.Event as event;
+    ghost use Rattle.events.specs.contracts.event.Event as event;
     ghost use Rattle.session_steps.specs.Stage.{world_in, IsSettledUnless};
     ghost use Rattle.session_machine.specs.SharedStage.{staged_of};
     ghost use Rattle.session_machine.specs.Running.{Running};

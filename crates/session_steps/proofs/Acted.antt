@@ -2,9 +2,9 @@
 use Rattle.std.proofs.Common.{◌≡◌, refl, sym, ap, ◌∙◌, subst, ℕ, ◌<◌, List, [], ◌∷◌, length, set, get_or, drop, Option, Some, None, is_some, append_assoc}
 use Rattle.std.proofs.Common.{length-set, get_or-set_same, set-set}
 use Rattle.std.proofs.lemmas.List.{set-get_or}
-use Rattle.transcripts.specs.declared.event.Event.{Event}
-use Rattle.transcripts.specs.declared.event.Event.TheVariants.{Failed, Done}
-use Rattle.transcripts.specs.declared.event.Fault.{Fault}
+use Rattle.events.specs.declared.event.Event.{Event}
+use Rattle.events.specs.declared.event.Event.TheVariants.{Failed, Done}
+use Rattle.events.specs.declared.event.Fault.{Fault}
 use Rattle.bound_specs.specs.Spec.{Step}
 use Rattle.lock_queues.specs.LockTable.{Locks}
 use Rattle.row_tables.specs.Layers.{Layers}

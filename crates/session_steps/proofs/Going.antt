@@ -21,7 +21,7 @@ use Rattle.machine_model.specs.Session.{Held, Session}
 use Rattle.machine_model.specs.Go.{Scene, replied, reply_in, look_with, waiting_with}
 use Rattle.machine_model.specs.declared.reply.Reply.{Reply}
 use Rattle.machine_model.specs.declared.reply.Reply.TheVariants as reply
-use Rattle.transcripts.specs.declared.event.Fault.TheVariants.{Deadlock, Unavailable}
+use Rattle.events.specs.declared.event.Fault.TheVariants.{Deadlock, Unavailable}
 use Rattle.lock_queues.specs.declared.answer.Taken.TheVariants as at_once
 use Rattle.session_steps.specs.Going.{IsScene, IsReply}
 use Rattle.machine_model.specs.Claims.{claims_of}

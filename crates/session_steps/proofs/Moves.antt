@@ -9,11 +9,11 @@ use Rattle.lock_queues.specs.Locks.{waits_now}
 use Rattle.lock_queues.specs.LockTable.{Locks, look_in, taken, let_go, slice}
 use Rattle.lock_queues.proofs.Slices.{get-slice}
 use Rattle.bound_statements.specs.declared.statement.Bound.{Bound}
-use Rattle.transcripts.specs.declared.event.Fault.{Fault}
-use Rattle.transcripts.specs.declared.event.Fault.TheVariants.{Aborted}
-use Rattle.transcripts.specs.declared.event.Event.{Event}
-use Rattle.transcripts.specs.declared.event.Event.TheVariants.{Done, Warned, Committed, RolledBack}
-use Rattle.transcripts.specs.declared.event.Warning.TheVariants.{NoBlock}
+use Rattle.events.specs.declared.event.Fault.{Fault}
+use Rattle.events.specs.declared.event.Fault.TheVariants.{Aborted}
+use Rattle.events.specs.declared.event.Event.{Event}
+use Rattle.events.specs.declared.event.Event.TheVariants.{Done, Warned, Committed, RolledBack}
+use Rattle.events.specs.declared.event.Warning.TheVariants.{NoBlock}
 use Rattle.statement_evaluation.specs.Effect.{Effect, Gives, Faults, effect}
 use Rattle.statement_execution.specs.Run.{events_of, fault_of, left_by}
 use Rattle.row_tables.specs.Layers.{Layers, sight, undone, kept}

@@ -35,7 +35,7 @@ use Rattle.machine_model.proofs.Settles.{Entering, entering, goes-steady, touche
 use Rattle.machine_model.proofs.Starts.{first_world, first-steady, get_or-replicate, alone-goes, alone-forgets, idle-goes}
 use Rattle.session_steps.proofs.Stages.{get_or-owns, world-set, stage-gone}
 use Rattle.session_steps.proofs.Worlds.{goes-is, to-go}
-use Rattle.transcripts.specs.declared.event.Event.{Event}
+use Rattle.events.specs.declared.event.Event.{Event}
 use Rattle.machine_model.specs.Outcome.{IsToldOf, TellsOwn}
 use Rattle.session_steps.specs.declared.error.StartError.{StartError}
 use Rattle.session_steps.specs.declared.error.StartError.TheVariants.{SetupFailed as SetupFailedAt, SessionSetupFailed as SessionSetupFailedAt}

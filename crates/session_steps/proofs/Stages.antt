@@ -10,8 +10,8 @@ use Rattle.lock_queues.specs.LockTable.{Locks, grant}
 use Rattle.lock_queues.specs.Rules.{IsNext, NothingRipe}
 use Rattle.lock_queues.specs.Sound.{EachWait}
 use Rattle.lock_queues.proofs.Bounded.{tests-decide}
-use Rattle.transcripts.specs.declared.event.Event.{Event}
-use Rattle.transcripts.specs.declared.event.Event.TheVariants.{Sent, Resumed, NotSent}
+use Rattle.events.specs.declared.event.Event.{Event}
+use Rattle.events.specs.declared.event.Event.TheVariants.{Sent, Resumed, NotSent}
 use Rattle.bound_specs.specs.Spec.{Step, no_step}
 use Rattle.session_steps.specs.declared.point.Rest.{Rest}
 use Rattle.session_steps.specs.Stage.{Member}

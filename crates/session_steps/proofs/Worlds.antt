@@ -1,5 +1,5 @@
 -- A session of a world goes: the world afterwards, from the store, the lock table and what is kept of each session.
-use Rattle.transcripts.specs.declared.event.Event.{Event}
+use Rattle.events.specs.declared.event.Event.{Event}
 use Rattle.std.proofs.Common.{◌≡◌, ◌≢◌, refl, sym, ap, ◌∙◌, subst, ℕ, ◌<◌, ◌≤◌, false, List, [], ◌∷◌, ◌++◌, length, drop, set, get_or, ◌==◌, eqb-true, ◌⊎◌}
 use Rattle.std.proofs.Common.{⊎_elim, arith, true, Some}
 use Rattle.finite_maps.specs.Map.{get}
@@ -14,7 +14,7 @@ use Rattle.lock_queues.proofs.Slices.{get-slice}
 use Rattle.lock_queues.proofs.Bounded.{tests-decide}
 use Rattle.row_tables.specs.Layers.{Layers, overlay_of}
 use Rattle.bound_statements.specs.declared.statement.Bound.{Bound}
-use Rattle.transcripts.specs.declared.event.Event.TheVariants.{Sent, Resumed, NotSent}
+use Rattle.events.specs.declared.event.Event.TheVariants.{Sent, Resumed, NotSent}
 use Rattle.machine_model.specs.Session.{Task, Session, note, tasks_of}
 use Rattle.machine_model.specs.Go.{Run, taking}
 use Rattle.machine_model.specs.World.{scene_of, placed_back, goes, granted, settle, noted, send, look_of, session_at, World}

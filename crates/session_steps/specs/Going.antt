@@ -10,11 +10,11 @@ use Rattle.lock_queues.specs.Laws.{IsBelow}
 use Rattle.row_tables.specs.Layers.{Layers, overlay_of, undone, kept}
 use Rattle.bound_statements.specs.Plan.{Request, plan, nowait}
 use Rattle.bound_statements.specs.declared.statement.Bound.{Bound}
-use Rattle.transcripts.specs.declared.event.Fault.{Fault}
-use Rattle.transcripts.specs.declared.event.Fault.TheVariants.{Deadlock, Unavailable}
-use Rattle.transcripts.specs.declared.event.Event.{Event}
-use Rattle.transcripts.specs.declared.event.Warning.TheVariants.{InBlock as AlreadyInBlock, NoBlock}
-use Rattle.transcripts.specs.declared.event.Event.TheVariants.{Failed, Waiting, Done, Began, Committed, RolledBack, Warned}
+use Rattle.events.specs.declared.event.Fault.{Fault}
+use Rattle.events.specs.declared.event.Fault.TheVariants.{Deadlock, Unavailable}
+use Rattle.events.specs.declared.event.Event.{Event}
+use Rattle.events.specs.declared.event.Warning.TheVariants.{InBlock as AlreadyInBlock, NoBlock}
+use Rattle.events.specs.declared.event.Event.TheVariants.{Failed, Waiting, Done, Began, Committed, RolledBack, Warned}
 use Rattle.machine_model.specs.declared.status.Status.{Status}
 use Rattle.machine_model.specs.declared.status.Status.TheVariants.{Outside, InBlock, Broken}
 use Rattle.session_steps.specs.State.{SessionState}

@@ -7,8 +7,8 @@ use Rattle.lock_queues.specs.LockTable.{Locks, no_locks}
 use Rattle.lock_queues.specs.Laws.{IsBelow}
 use Rattle.row_tables.specs.Layers.{Layers, overlay_of, no_rows}
 use Rattle.machine_model.specs.Outcome.{TellsOwn}
-use Rattle.transcripts.specs.declared.event.Event.{Event}
-use Rattle.transcripts.specs.declared.event.Event.TheVariants.{Sent}
+use Rattle.events.specs.declared.event.Event.{Event}
+use Rattle.events.specs.declared.event.Event.TheVariants.{Sent}
 use Rattle.bound_statements.specs.declared.statement.Bound.{Bound}
 use Rattle.bound_specs.specs.Spec.{Spec, Step, no_step}
 use Rattle.machine_model.specs.declared.status.Status.TheVariants.{Outside}

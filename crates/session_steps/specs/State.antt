@@ -2,7 +2,7 @@
 use Rattle.std.specs.Prelude.{◌≡◌, ◌≢◌, ℕ, suc, List, [], ◌∷◌}
 use Rattle.row_tables.specs.Layers.{Layers, overlay_of}
 use Rattle.lock_queues.specs.LockTable.{Locks, slice}
-use Rattle.transcripts.specs.declared.event.Event.{Event}
+use Rattle.events.specs.declared.event.Event.{Event}
 use Rattle.machine_model.specs.declared.status.Status.{Status}
 use Rattle.machine_model.specs.declared.status.Status.TheVariants.{Outside}
 use Rattle.machine_model.specs.Session.{Task, Session}

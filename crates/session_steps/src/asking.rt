@@ -12,9 +12,9 @@ ghost use Rattle.session_steps.specs.Stage.{member_at, others, standing_at};
 use crate::point::Origin;
 use crate::stage::Stage;
 use bound_statements::{Bound, lock_plan};
+use events::Fault;
 use machine_model::Reply;
 use std::alloc::AllocError;
-use transcripts::Fault;
 
 /// What asking for the locks of a statement came to.
 #[derive(Clone, Copy, PartialEq, Eq)]

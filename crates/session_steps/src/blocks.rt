@@ -8,9 +8,9 @@ ghost use Rattle.session_steps.specs.Going.{begins_in, commits_in, ends_block_in
 ghost use Rattle.session_steps.specs.Stage.{member_at, others, standing_at};
 
 use crate::stage::Stage;
+use events::{Event, Fault, Warning};
 use machine_model::Status;
 use std::alloc::AllocError;
-use transcripts::{Event, Fault, Warning};
 
 /// Drops what a session wrote in its transaction, and its locks.
 fn drop_transaction<S: Stage>(stage: &mut S, session: u8) -> Result<(), AllocError>

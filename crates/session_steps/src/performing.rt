@@ -10,8 +10,8 @@ ghost use Rattle.session_steps.specs.Stage.{others, standing_at};
 use crate::blocks::{begin, commit, roll_back};
 use crate::stage::Stage;
 use bound_statements::Bound;
+use events::Fault;
 use std::alloc::{AllocError, Global};
-use transcripts::Fault;
 
 /// Does a statement whose requests are had. Where it fails, its fault is returned and nothing is changed.
 pub fn perform<S: Stage>(

@@ -13,8 +13,8 @@ use crate::point::{Origin, Point, Rest};
 use crate::stage::Stage;
 use crate::stepping::go_on;
 use bound_specs::Spec;
+use events::Event;
 use std::alloc::{AllocError, Global};
-use transcripts::Event;
 
 /// Sends a step: its session goes, and then each wait that is ripe is granted, the first one first. A session that waits is told that it was not sent.
 /// It fails for want of memory alone; of the stage no more than its past is told then.

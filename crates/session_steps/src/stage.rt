@@ -18,9 +18,9 @@ ghost use Rattle.session_steps.specs.declared.point.Origin.{Origin as From};
 
 use crate::point::{Origin, Rest};
 use bound_statements::Bound;
+use events::{Event, Fault};
 use machine_model::{Reply, Status};
 use std::alloc::{AllocError, Global};
-use transcripts::{Event, Fault};
 
 /// The rows, the locks and the sessions of a world, with the calls of which a session's step is made.
 ///

@@ -11,8 +11,8 @@ use crate::performing::perform;
 use crate::point::{Origin, Point};
 use crate::stage::Stage;
 use bound_statements::Bound;
+use events::Event;
 use std::alloc::{AllocError, Global};
-use transcripts::Event;
 
 /// Goes on with statements from a request of one of them. Where a request waits, it returns the place behind it, from which the
 /// session goes on once it is had. A fault ends the step.

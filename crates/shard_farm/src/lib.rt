@@ -14,4 +14,3 @@ pub use error::{FarmError, Unfinished};
 pub use farm::farm_run;
 pub use numbers::ShardNumbers;
 pub use shard_board::{Gate, OpenGate};
-pub use worker::{bound_again, walk_at};

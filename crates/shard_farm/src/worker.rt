@@ -1,11 +1,8 @@
 //! One worker.
 
 ghost use Rattle.std.specs.Prelude.{◌≡◌, ◌<◌, true, false, length, IfOk, OnOk};
-ghost use Rattle.bound_specs.specs.Spec.{SpecFile};
 ghost use Rattle.bound_specs.specs.Binding.{IsFileOf};
-ghost use Rattle.spec_binding.specs.SpecFiles.{IsMemory};
 ghost use Rattle.rank_facts.specs.Shards.{IsShardOf};
-ghost use Rattle.session_machine.specs.declared.error.RunError.TheVariants as run_error;
 ghost use Rattle.step_reducer.specs.Shardwise.{standing_at};
 ghost use Rattle.step_reducer.specs.Walking.{Starts};
 ghost use Rattle.shard_board.specs.declared.error.DeliverErrorKind.TheVariants as deliver_error;
@@ -14,10 +11,9 @@ ghost use Rattle.shard_farm.specs.Working.{is_marked, AreRunnable, AreFactsAt, H
 use crate::plan::Plan;
 use bound_specs::Spec;
 use fact_books::Book;
-use session_machine::RunError;
 use shard_board::{Board, DeliverErrorKind, Gate, Seat};
 use shard_books::of_walk;
-use spec_binding::{SpecFault, spec_of};
+use spec_binding::bound_again;
 use std::alloc::{AllocError, Global};
 use std::sync::Wait;
 use step_reducer::{Shard, ShardWalk};
@@ -39,48 +35,6 @@ impl Worker {
     }
 }
 
-/// The spec of a text that was bound before, so that only memory can be wanted for it.
-pub fn bound_again(alloc: Global, text: &str) -> Result<Spec, AllocError>
-    requires known { (file : SpecFile) × IsFileOf text.now file }
-    ensures { (file : SpecFile) → IsFileOf text.now file → IfOk result (λ spec. spec ≡ file) }
-{
-    match spec_of(alloc, text.as_bytes()) {
-        Ok(spec) => Ok(spec),
-        Err(fault) => Err(not_bound(fault)),
-    }
-}
-
-/// A refusal of a spec file that has no other reason than want of memory.
-fn not_bound(_fault: SpecFault) -> AllocError
-    requires { IsMemory _fault }
-{
-    AllocError
-}
-
-/// A walk at the first rank of a shard of a spec that starts, so that only memory can be wanted for it.
-pub fn walk_at<'a>(
-    alloc: Global,
-    spec: &'a Spec,
-    shard: Shard,
-    reduce: bool,
-) -> Result<ShardWalk<'a>, AllocError>
-    requires started { Starts spec.now.run }
-    requires lawful { IsShardOf spec.now.run shard }
-    ensures { IfOk result (λ walk. walk ≡ standing_at spec.now shard reduce) }
-{
-    match ShardWalk::new(alloc, spec, shard, reduce) {
-        Ok(walk) => Ok(walk),
-        Err(error) => Err(not_walked(error)),
-    }
-}
-
-/// A refusal of a walk that has no other reason than want of memory.
-fn not_walked(_error: RunError) -> AllocError
-    requires { _error ≡ run_error.NoMemory }
-{
-    AllocError
-}
-
 /// Has a walk go on to a shard, or begin anew where it stands behind the first of the shard's ranks.
 fn go_to<'a>(
     alloc: Global,
@@ -98,7 +52,7 @@ fn go_to<'a>(
         walk.reach(shard);
         return Ok(());
     }
-    *walk = walk_at(alloc, spec, shard, reduce)?;
+    *walk = ShardWalk::of_started(alloc, spec, shard, reduce)?;
     Ok(())
 }
 
@@ -186,7 +140,8 @@ fn work_on<R: Wait, G: Gate>(
     ensures again { result ≡ true → Serves plan.entry.reduce board.now.file.run plan.entry.shards.now worker.new.seat worker.new.missed.items }
     ensures worked { result ≡ false → HasWorked plan.entry.reduce board.now.file.run plan.entry.shards.now worker.new.seat worker.new.missed.items }
 {
-    let Ok(mut walk) = walk_at(alloc, spec, plan.shards[first as usize], plan.reduce) else {
+    let Ok(mut walk) = ShardWalk::of_started(alloc, spec, plan.shards[first as usize], plan.reduce)
+    else {
         worker.missed[first as usize] = true;
         return true;
     };

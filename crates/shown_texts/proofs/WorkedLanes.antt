@@ -11,9 +11,9 @@ use Rattle.lock_modes.specs.declared.value.Value.TheVariants.{Int}
 use Rattle.lock_queues.specs.declared.reason.Edge.{Edge}
 use Rattle.lock_queues.specs.declared.reason.Reason.TheVariants.{Holds}
 use Rattle.lock_queues.specs.Reasons.{Want}
-use Rattle.transcripts.specs.declared.event.Event.{Event}
-use Rattle.transcripts.specs.declared.event.Event.TheVariants as event
-use Rattle.transcripts.specs.declared.event.Fault.TheVariants.{Deadlock}
+use Rattle.events.specs.declared.event.Event.{Event}
+use Rattle.events.specs.declared.event.Event.TheVariants as event
+use Rattle.events.specs.declared.event.Fault.TheVariants.{Deadlock}
 use Rattle.machine_model.specs.declared.status.Status.{Status}
 use Rattle.machine_model.specs.declared.status.Status.TheVariants.{Outside, InBlock, Broken}
 use Rattle.line_moments.specs.declared.moment.Ending.{Ending}

@@ -1,8 +1,8 @@
 -- The order of a line, with what becomes of its steps.
 use Rattle.std.specs.Prelude.{ℕ, ◌+◌, max, Bool, true, false, cond, ◌||◌, ◌==◌, List, [], ◌∷◌, ◌++◌, length, Option, Some, None, codes, unwrap_or}
 use Rattle.std.specs.List.{list_any}
-use Rattle.transcripts.specs.declared.event.Event.{Event}
-use Rattle.transcripts.specs.declared.event.Event.TheVariants.{Failed}
+use Rattle.events.specs.declared.event.Event.{Event}
+use Rattle.events.specs.declared.event.Event.TheVariants.{Failed}
 use Rattle.line_moments.specs.declared.moment.Ending.{Ending}
 use Rattle.line_moments.specs.declared.moment.Ending.TheVariants.{Awaits}
 use Rattle.line_moments.specs.declared.moment.Manner.{Manner}

@@ -9,13 +9,13 @@ use crate::frame::Frame;
 use crate::lane::{Cell, Tone};
 use crate::told::push_event;
 use crate::words::{put_hop, put_reason, put_ring, put_want};
+use events::Event;
 use line_moments::{Ending, Moment, Still};
 use lock_modes::Text;
 use lock_queues::{Edge, Hop, Want};
 use machine_model::Status;
 use sqlite_items::Items;
 use std::alloc::{AllocError, Global};
-use transcripts::Event;
 
 /// How wide a text in a lane is: without its rail, a blank behind that, and one before the next lane.
 pub(crate) fn width(frame: &Frame) -> usize

@@ -7,12 +7,12 @@ ghost use Rattle.shown_texts.specs.Orders as spec;
 
 use crate::characters::{put, put_shown};
 use crate::told::step_name;
+use events::Event;
 use line_moments::{Ending, Manner, Moment};
 use lock_modes::Text;
 use order_names::push_name;
 use sqlite_items::Items;
 use std::alloc::{AllocError, Global};
-use transcripts::Event;
 
 /// What becomes of a step.
 #[derive(Clone, Copy, PartialEq, Eq)]

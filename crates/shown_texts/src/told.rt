@@ -6,10 +6,10 @@ ghost use Rattle.transcripts.specs.Text.{barred, doubled, event_text, fault_text
 ghost use Rattle.shown_texts.specs.Words.{begins_quote};
 
 use byte_runs::{Class, after_first, run_of};
+use events::{Event, Fault, Warning};
 use itoa::Buffer;
 use lock_modes::{Text, Value};
 use std::alloc::AllocError;
-use transcripts::{Event, Fault, Warning};
 
 /// Puts a value behind a text.
 pub(crate) fn push_value(text: &mut String, value: &Value) -> Result<(), AllocError>

@@ -9,8 +9,8 @@ use Rattle.lock_modes.specs.declared.value.Value.TheVariants.{Int, Text}
 use Rattle.lock_queues.specs.declared.reason.Edge.{Edge}
 use Rattle.lock_queues.specs.declared.reason.Reason.TheVariants.{Holds, Ahead}
 use Rattle.machine_model.specs.declared.status.Status.TheVariants.{Outside, InBlock, Broken}
-use Rattle.transcripts.specs.declared.event.Event.TheVariants.{Sent, Failed, Done, NotSent}
-use Rattle.transcripts.specs.declared.event.Fault.TheVariants.{Deadlock}
+use Rattle.events.specs.declared.event.Event.TheVariants.{Sent, Failed, Done, NotSent}
+use Rattle.events.specs.declared.event.Fault.TheVariants.{Deadlock}
 use Rattle.line_moments.specs.declared.moment.Change.TheVariants.{Had, LetGo}
 use Rattle.line_moments.specs.declared.moment.Ending.TheVariants.{Ended, Awaits, Loses}
 use Rattle.line_moments.specs.declared.moment.Manner.TheVariants.{IsSent, IsNotSent}

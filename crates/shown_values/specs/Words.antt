@@ -11,8 +11,8 @@ use Rattle.machine_model.specs.declared.status.Status.TheVariants.{Outside, InBl
 use Rattle.line_moments.specs.declared.moment.Manner.{Manner}
 use Rattle.line_moments.specs.declared.moment.Manner.TheVariants.{IsSent, IsResumed, IsNotSent}
 use Rattle.line_moments.specs.declared.shown.Left.{Left}
-use Rattle.transcripts.specs.declared.event.Event.{Event}
-use Rattle.transcripts.specs.declared.event.Event.TheVariants.{Sent}
+use Rattle.events.specs.declared.event.Event.{Event}
+use Rattle.events.specs.declared.event.Event.TheVariants.{Sent}
 use Rattle.transcripts.specs.Text.{event_text, value_text}
 use Rattle.shown_values.specs.Strings.{string_json}
 

@@ -8,12 +8,12 @@ ghost use Rattle.shown_values.specs.Moments as spec;
 use crate::strings::{push, push_before, push_index, push_word};
 use crate::texts::{push_line, push_resource};
 use crate::words::{push_manner, push_mode, push_status, push_step_number};
+use events::{Event, Transcript};
 use line_moments::{Change, Ending, Left, Moment, Still};
 use lock_modes::{Mode, Resource, Text};
 use lock_queues::{Edge, Hop, Reason, Want};
 use sqlite_items::Items;
 use std::alloc::AllocError;
-use transcripts::{Event, Transcript};
 
 /// Pushes a label and the moments of a line behind it.
 pub(crate) fn push_moments(

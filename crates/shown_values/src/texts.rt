@@ -6,12 +6,12 @@ ghost use Rattle.transcripts.specs.Text.{doubled, event_text, fault_text, quoted
 ghost use Rattle.shown_values.specs.Words as spec;
 
 use crate::strings::{push, push_before, push_count, push_string, push_word};
+use events::{Event, Fault, Warning};
 use itoa::Buffer;
 use line_moments::Left;
 use lock_modes::{Resource, Row, Text, Value};
 use sqlite_items::Items;
 use std::alloc::AllocError;
-use transcripts::{Event, Fault, Warning};
 
 /// Pushes a label and what a lock is taken on behind it, as a JSON string.
 pub(crate) fn push_resource(

@@ -13,4 +13,4 @@ pub use blocks::setups;
 pub use laws::{
     blocks_are_spelled, bound_files_fit, bound_statements_fit, one_file, refusals_are_named,
 };
-pub use spec::{SpecFault, spec_of};
+pub use spec::{SpecFault, bound_again, spec_of};

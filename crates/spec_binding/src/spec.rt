@@ -9,7 +9,7 @@ use crate::binding::bind;
 use binding_model::BindError;
 use bound_specs::Spec;
 use spec_reader::{SpecError, read_spec};
-use std::alloc::Global;
+use std::alloc::{AllocError, Global};
 
 /// Why bytes are no spec file. The first is tried before the second, but for want of memory.
 #[derive(Clone, Copy, PartialEq, Eq)]
@@ -35,4 +35,22 @@ pub fn spec_of(alloc: Global, bytes: &[u8]) -> Result<Spec, SpecFault>
         Ok(spec) => Ok(spec),
         Err(error) => Err(SpecFault::Binding(error)),
     }
+}
+
+/// The spec of a text that was bound before, so that only memory can be wanted for it.
+pub fn bound_again(alloc: Global, text: &str) -> Result<Spec, AllocError>
+    requires known { (file : SpecFile) × IsFileOf text.now file }
+    ensures { (file : SpecFile) → IsFileOf text.now file → IfOk result (λ spec. spec ≡ file) }
+{
+    match spec_of(alloc, text.as_bytes()) {
+        Ok(spec) => Ok(spec),
+        Err(fault) => Err(not_bound(fault)),
+    }
+}
+
+/// A refusal of a spec file that has no other reason than want of memory.
+fn not_bound(_fault: SpecFault) -> AllocError
+    requires { IsMemory _fault }
+{
+    AllocError
 }

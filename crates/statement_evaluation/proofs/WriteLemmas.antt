@@ -8,10 +8,10 @@ use Rattle.lock_modes.specs.Rows.{Tuple, Rows', Write}
 use Rattle.lock_modes.specs.Value.{value_order}
 use Rattle.lock_modes.specs.declared.value.Value.{Value}
 use Rattle.lock_modes.specs.declared.value.Value.TheVariants.{Int}
-use Rattle.transcripts.specs.declared.event.Fault.{Fault}
-use Rattle.transcripts.specs.declared.event.Fault.TheVariants.{Duplicate, OutOfRange}
-use Rattle.transcripts.specs.declared.event.Event.{Event}
-use Rattle.transcripts.specs.declared.event.Event.TheVariants.{Row as RowEvent, Rows, Inserted, Updated, Deleted}
+use Rattle.events.specs.declared.event.Fault.{Fault}
+use Rattle.events.specs.declared.event.Fault.TheVariants.{Duplicate, OutOfRange}
+use Rattle.events.specs.declared.event.Event.{Event}
+use Rattle.events.specs.declared.event.Event.TheVariants.{Row as RowEvent, Rows, Inserted, Updated, Deleted}
 use Rattle.bound_statements.specs.Plan.{key_at, at_key, looks_at}
 use Rattle.bound_statements.specs.declared.condition.Condition.{Condition}
 use Rattle.bound_statements.specs.declared.statement.Assignment.{Assignment}

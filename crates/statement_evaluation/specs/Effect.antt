@@ -8,10 +8,10 @@ pub use Rattle.lock_modes.specs.Rows.{Rows', Write}
 use Rattle.lock_modes.specs.Value.{value_cmp}
 use Rattle.lock_modes.specs.declared.value.Value.{Value}
 use Rattle.lock_modes.specs.declared.value.Value.TheVariants.{Int, Text}
-use Rattle.transcripts.specs.declared.event.Fault.{Fault}
-use Rattle.transcripts.specs.declared.event.Fault.TheVariants.{Duplicate, OutOfRange}
-use Rattle.transcripts.specs.declared.event.Event.{Event}
-use Rattle.transcripts.specs.declared.event.Event.TheVariants.{Row as RowEvent, Rows, Inserted, Updated, Deleted, Locked, Set}
+use Rattle.events.specs.declared.event.Fault.{Fault}
+use Rattle.events.specs.declared.event.Fault.TheVariants.{Duplicate, OutOfRange}
+use Rattle.events.specs.declared.event.Event.{Event}
+use Rattle.events.specs.declared.event.Event.TheVariants.{Row as RowEvent, Rows, Inserted, Updated, Deleted, Locked, Set}
 use Rattle.bound_statements.specs.declared.condition.Condition.{Condition}
 use Rattle.bound_statements.specs.declared.statement.Aggregate.{Aggregate}
 use Rattle.bound_statements.specs.declared.statement.Aggregate.TheVariants.{Count, Sum}

@@ -5,8 +5,8 @@ use Rattle.bound_statements.specs.Plan.{Tuple}
 use Rattle.bound_statements.specs.declared.statement.Assignment.{Assignment}
 use Rattle.bound_statements.specs.declared.statement.SortKey.{SortKey}
 use Rattle.bound_statements.specs.declared.statement.Output.{Output}
-use Rattle.transcripts.specs.declared.event.Fault.TheVariants.{OutOfRange}
-use Rattle.transcripts.specs.declared.event.Event.TheVariants.{Updated, Deleted}
+use Rattle.events.specs.declared.event.Fault.TheVariants.{OutOfRange}
+use Rattle.events.specs.declared.event.Event.TheVariants.{Updated, Deleted}
 use Rattle.statement_evaluation.specs.Effect.{Effect, Faults, shown, sorted_by, all_assigned, or_fault, counted}
 
 abbrev pub selected : List SortKey → Output → Option (List (RowPlace × Tuple)) → Effect

@@ -6,8 +6,8 @@ ghost use Rattle.statement_evaluation.specs.Borrowed.{effect_at};
 
 use crate::few::Few;
 use crate::write::Writes;
+use events::{Event, Fault};
 use std::alloc::Global;
-use transcripts::{Event, Fault};
 
 /// What a statement tells and writes, or why it fails.
 #[derive(Drop)]

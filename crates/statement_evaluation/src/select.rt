@@ -1,7 +1,7 @@
 //! What a select tells of the rows that match.
 
 ghost use Rattle.std.specs.Prelude.{◌≡◌, [], ◌∷◌, ◌++◌, IfOk, length, map, true};
-ghost use Rattle.transcripts.specs.declared.event.Event.TheVariants.{Row as RowEvent, Rows};
+ghost use Rattle.events.specs.declared.event.Event.TheVariants.{Row as RowEvent, Rows};
 ghost use Rattle.statement_evaluation.specs.Effect as spec;
 ghost use Rattle.statement_evaluation.specs.Borrowed.{effect_at};
 ghost use Rattle.statement_evaluation.specs.Evaluate.{checked};
@@ -13,10 +13,10 @@ use crate::few::Few;
 use crate::value_ref::ValueRef;
 use crate::write::Writes;
 use bound_statements::{Aggregate, Output, SortKey};
+use events::{Event, Fault};
 use finite_maps::Fork;
 use lock_modes::{Row, Value};
 use std::alloc::{AllocError, Global};
-use transcripts::{Event, Fault};
 
 /// What showing the rows that match, sorted, comes to. Where the condition has faulted, `found` is none, and the statement fails for
 /// a number out of range. The call fails for want of memory alone.

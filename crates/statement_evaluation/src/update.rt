@@ -12,10 +12,10 @@ use crate::entry::{Entries, Entry};
 use crate::evaluate::value_of;
 use crate::write::{Write, Writes};
 use bound_statements::Assignment;
+use events::{Event, Fault};
 use finite_maps::Fork;
 use lock_modes::{Row, Value};
 use std::alloc::{AllocError, Global};
-use transcripts::{Event, Fault};
 
 /// What setting columns of the rows that match comes to. Where the condition has faulted, `found` is none, and the statement fails for
 /// a number out of range. The call fails for want of memory alone.

@@ -6,7 +6,7 @@ use Rattle.lock_modes.specs.RowPlace.{RowPlace, place_order}
 use Rattle.lock_modes.specs.Rows.{Tuple, Rows', Write}
 use Rattle.row_tables.specs.Overlay.{Overlay}
 use Rattle.row_tables.specs.Layers.{Layers, session_order, overlay_of, IsOnlyWriterAt, wrote, no_rows}
-use Rattle.transcripts.specs.declared.event.Event.{Event}
+use Rattle.events.specs.declared.event.Event.{Event}
 use Rattle.bound_statements.specs.declared.statement.Bound.{Bound}
 use Rattle.statement_evaluation.specs.Effect.{Effect, Gives, Faults, effect}
 use Rattle.statement_evaluation.proofs.ListLemmas.{Each}

@@ -5,8 +5,8 @@ use Rattle.lock_modes.specs.RowPlace.{RowPlace}
 use Rattle.lock_modes.specs.Rows.{Tuple, Rows'}
 use Rattle.lock_modes.specs.declared.mode.Mode.{Mode}
 use Rattle.lock_modes.specs.declared.value.Value.{Value}
-use Rattle.transcripts.specs.declared.event.Fault.TheVariants.{Duplicate, OutOfRange}
-use Rattle.transcripts.specs.declared.event.Event.TheVariants.{Inserted, Updated, Deleted, Locked, Set}
+use Rattle.events.specs.declared.event.Fault.TheVariants.{Duplicate, OutOfRange}
+use Rattle.events.specs.declared.event.Event.TheVariants.{Inserted, Updated, Deleted, Locked, Set}
 use Rattle.bound_statements.specs.Plan.{key_at, looks_at}
 use Rattle.bound_statements.specs.declared.condition.Condition.{Condition}
 use Rattle.bound_statements.specs.declared.statement.Assignment.{Assignment}

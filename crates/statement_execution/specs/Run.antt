@@ -2,8 +2,8 @@
 use Rattle.std.specs.Prelude.{◌≡◌, ⊤, ℕ, true, List, [], ◌∷◌, Option, Some, None}
 use Rattle.lock_modes.specs.RowPlace.{RowPlace}
 use Rattle.lock_modes.specs.Rows.{Write}
-use Rattle.transcripts.specs.declared.event.Fault.{Fault}
-use Rattle.transcripts.specs.declared.event.Event.{Event}
+use Rattle.events.specs.declared.event.Fault.{Fault}
+use Rattle.events.specs.declared.event.Event.{Event}
 use Rattle.bound_statements.specs.declared.statement.Bound.{Bound}
 use Rattle.bound_statements.specs.Plan.{looks_at}
 use Rattle.row_tables.specs.Layers.{Layers, wrote, IsOnlyWriterAt}

@@ -10,9 +10,9 @@ use crate::insert::{inserted, made};
 use crate::matching::matching;
 use crate::sights::Sight;
 use bound_statements::Bound;
+use events::Event;
 use statement_evaluation::{Given, Writes, deleted, nothing, selected, telling, updated};
 use std::alloc::{AllocError, Global};
-use transcripts::Event;
 
 /// The effect of a statement on the rows that a session sees: what it tells and leaves, or why it fails. Nothing of it is done yet. No other session
 /// may have a write, neither kept nor undone, where the statement looks. It fails for want of memory alone.

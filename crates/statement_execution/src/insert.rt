@@ -4,8 +4,8 @@ ghost use Rattle.std.specs.Prelude.{◌≡◌, ◌||◌, IfOk, Some, None, is_so
 ghost use Rattle.std.specs.FinMap.Entries.{find};
 ghost use Rattle.finite_maps.specs.Map.{get};
 ghost use Rattle.lock_modes.specs.Value.{value_cmp};
-ghost use Rattle.transcripts.specs.declared.event.Fault.TheVariants.{Duplicate};
-ghost use Rattle.transcripts.specs.declared.event.Event.TheVariants.{Inserted};
+ghost use Rattle.events.specs.declared.event.Fault.TheVariants.{Duplicate};
+ghost use Rattle.events.specs.declared.event.Event.TheVariants.{Inserted};
 ghost use Rattle.bound_statements.specs.declared.statement.Bound.TheVariants.{Insert};
 ghost use Rattle.row_tables.specs.Layers.{sight, IsOnlyWriterAt, IsOnlyWriterIn};
 ghost use Rattle.statement_evaluation.specs.Effect as spec;
@@ -14,11 +14,11 @@ ghost use Rattle.statement_execution.specs.Run.{SeesAlone};
 ghost use Rattle.statement_execution.specs.Seen.{named, number_after, KeysAlone};
 
 use crate::sights::Sight;
+use events::{Event, Fault};
 use finite_maps::Fork;
 use lock_modes::{Row, Value};
 use statement_evaluation::{Given, ValueRef, Write, Writes, telling};
 use std::alloc::{AllocError, Global};
-use transcripts::{Event, Fault};
 use version_tree::VMap;
 
 /// How many rows are made, or a fault where a key is there already or comes twice.

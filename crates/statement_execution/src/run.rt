@@ -7,10 +7,10 @@ ghost use Rattle.statement_execution.specs.Run.{SeesAlone, fault_of, left_by, ev
 
 use crate::effects::effect_of;
 use bound_statements::Bound;
+use events::{Event, Fault, Log};
 use row_tables::Store;
 use statement_evaluation::{Few, Given, Write, Writes};
 use std::alloc::{AllocError, Global};
-use transcripts::{Event, Fault, Log};
 
 /// Runs a statement whose locks are had: its whole effect on the rows that its session sees, or none where it fails. Tells of
 /// it; where it fails, the fault is the answer and nothing is told.

@@ -8,8 +8,8 @@ use Rattle.machine_model.specs.Start.{Started, start}
 use Rattle.machine_model.specs.Outcome.{outcome_of_line}
 use Rattle.rank_facts.specs.Facts.{IsFactOf}
 use Rattle.rank_facts.specs.declared.fact.Fact.TheVariants.{Ran}
-use Rattle.transcripts.specs.declared.event.Event.{Event}
-use Rattle.marked_paths.specs.Paths.{first_world}
+use Rattle.events.specs.declared.event.Event.{Event}
+use Rattle.known_worlds.specs.Paths.{first_world}
 use Rattle.step_reducer.specs.Reduced.{tour_of, IsTour, IsPlace}
 use Rattle.step_reducer.specs.Framed.{Framed}
 use Rattle.step_reducer.specs.declared.word_walk.WordWalk.{WordWalk}

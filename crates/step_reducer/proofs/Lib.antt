@@ -14,4 +14,5 @@ pub mod Firsts
 pub mod Walkings
 pub mod Givings
 pub mod Shards
+mod Refusals
 pub mod Covering

@@ -11,10 +11,10 @@ use Rattle.bound_specs.specs.Spec.{no_step, Spec, Queues, line, line_by, line_of
 use Rattle.bound_specs.proofs.WalkLemmas.{get_or-counts, counts-set}
 use Rattle.machine_model.specs.World.{World}
 use Rattle.rank_facts.proofs.Swaps.{line-at}
-use Rattle.marked_paths.specs.Fronts.{front}
+use Rattle.known_worlds.specs.Fronts.{front}
 use Rattle.step_reducer.specs.Reduced.{rest_after, tour_of, LeftOf, IsPlace}
 use Rattle.step_reducer.proofs.FactsAt.{begins}
-use Rattle.marked_paths.proofs.FrontLemmas.{front-behind, front-apart}
+use Rattle.known_worlds.proofs.FrontLemmas.{front-behind, front-apart}
 use Rattle.step_reducer.proofs.Tables.{step-owned, drop-some}
 
 -- ---- the line of a word by its front

@@ -6,7 +6,7 @@ use Rattle.bound_specs.specs.Spec.{Spec, SpecFile, line_of, counts_of, queues_of
 use Rattle.rank_facts.specs.Facts.{has_no_lines}
 use Rattle.step_reducer.specs.Framed.{Stacked}
 use Rattle.step_reducer.specs.declared.word_walk.WordWalk.{WordWalk}
-use Rattle.marked_paths.specs.Fronts.{front}
+use Rattle.known_worlds.specs.Fronts.{front}
 use Rattle.step_reducer.specs.Fronts.{new_steps}
 use Rattle.step_reducer.specs.Walks.{IsAt, HasParted, IsFresh, IsBehind, Follows}
 use Rattle.step_reducer.specs.Walking.{skips}

@@ -10,7 +10,7 @@ use Rattle.perm_ranks.specs.Blocks.{Block, HasRank, end_of, narrowed}
 use Rattle.perm_ranks.proofs.BlockLemmas.{narrowed-le}
 use Rattle.perm_ranks.proofs.CountLemmas.{total-taken}
 use Rattle.bound_specs.specs.Spec.{SpecFile}
-use Rattle.transcripts.specs.declared.event.Event.{Event}
+use Rattle.events.specs.declared.event.Event.{Event}
 use Rattle.step_reducer.specs.declared.frame.Turn.{Turn}
 use Rattle.step_reducer.specs.Framed.{Framed, Stacked}
 use Rattle.step_reducer.specs.Walks.{IsTurn, HasTurned, IsBefore, lowest, IsAbove, AreAbove, IsStack, HasParted, IsAt, HasGone}

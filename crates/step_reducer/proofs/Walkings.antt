@@ -3,7 +3,7 @@ use Rattle.std.proofs.Common.{◌≡◌, refl, sym, ap, ◌∙◌, subst, ℕ, s
 use Rattle.bound_specs.specs.Spec.{SpecFile, ranks, line_of}
 use Rattle.machine_model.specs.World.{World}
 use Rattle.session_machine.specs.Running.{Running}
-use Rattle.transcripts.specs.declared.event.Event.{Event}
+use Rattle.events.specs.declared.event.Event.{Event}
 use Rattle.rank_facts.specs.declared.fact.Fact.{Fact}
 use Rattle.rank_facts.specs.declared.fact.Fact.TheVariants.{Ran, Swap}
 use Rattle.marked_worlds.specs.Worlds.{MarkedRunning}
@@ -12,8 +12,8 @@ use Rattle.step_reducer.specs.declared.word_walk.WordWalk.{WordWalk}
 use Rattle.step_reducer.specs.declared.line_walk.LineWalk.{LineWalk}
 use Rattle.step_reducer.specs.declared.walk.Walk.{Walk}
 use Rattle.step_reducer.specs.declared.walk.Walk.TheVariants.{Words, Lines}
-use Rattle.marked_paths.specs.Fronts.{front}
-use Rattle.marked_paths.proofs.PathLemmas.{path-told-more}
+use Rattle.known_worlds.specs.Fronts.{front}
+use Rattle.known_worlds.proofs.PathLemmas.{path-told-more}
 use Rattle.step_reducer.specs.Fronts.{line_before, new_steps, most_steps}
 use Rattle.step_reducer.specs.Saying.{Giving, fact_of, giving_of}
 use Rattle.step_reducer.specs.Walks.{AllHave, LiesBehind, IsWalk, HasGiven}

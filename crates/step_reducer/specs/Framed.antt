@@ -3,7 +3,7 @@ use Rattle.std.specs.Prelude.{◌≡◌, Bool, false, List, [], ◌∷◌, lengt
 use Rattle.perm_ranks.specs.Blocks.{Block}
 use Rattle.bound_specs.specs.Spec.{SpecFile}
 use Rattle.machine_model.specs.World.{World}
-use Rattle.transcripts.specs.declared.event.Event.{Event}
+use Rattle.events.specs.declared.event.Event.{Event}
 use Rattle.session_machine.specs.Running.{Running}
 use Rattle.known_worlds.specs.Known.{KnownRunning}
 use Rattle.step_reducer.specs.declared.frame.Frame.{Frame}

@@ -1,7 +1,7 @@
 -- The steps sent for lines that share what they can.
 use Rattle.std.specs.Prelude.{ℕ, zero, suc, ◌+◌, ◌-◌, List, [], length}
 use Rattle.bound_specs.specs.Spec.{Spec, line_of}
-use Rattle.marked_paths.specs.Fronts.{front}
+use Rattle.known_worlds.specs.Fronts.{front}
 use Rattle.rank_facts.specs.declared.fact.Fact.{Fact}
 use Rattle.rank_facts.specs.declared.fact.Fact.TheVariants.{Ran, Swap}
 

@@ -2,8 +2,8 @@
 use Rattle.std.specs.Prelude.{◌≡◌, ◌+◌, ◌≤◌, Bool, length}
 use Rattle.spec_reader.specs.declared.TheConstants.{MAX_ITEMS}
 use Rattle.bound_specs.specs.Spec.{SpecFile, line_of}
-use Rattle.marked_paths.specs.Fronts.{front}
-use Rattle.marked_paths.specs.Paths.{IsPath}
+use Rattle.known_worlds.specs.Fronts.{front}
+use Rattle.known_worlds.specs.Paths.{IsPath}
 use Rattle.step_reducer.specs.Fronts.{most_steps}
 use Rattle.step_reducer.specs.Walks.{AllHave, LiesBehind}
 use Rattle.step_reducer.specs.declared.line_walk.LineWalk.{LineWalk}

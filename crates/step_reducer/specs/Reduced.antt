@@ -5,7 +5,7 @@ use Rattle.perm_ranks.specs.Blocks.{Block, IsBlockOf}
 use Rattle.bound_specs.specs.Spec.{Step, Spec, Queues, line, line_of, counts_of, queues_of}
 use Rattle.machine_model.specs.World.{World, send_all}
 use Rattle.machine_model.specs.Start.{Started, start}
-use Rattle.marked_paths.specs.Paths.{first_world}
+use Rattle.known_worlds.specs.Paths.{first_world}
 use Rattle.rank_facts.specs.Swap.{quiet_heads, quiet_at, falls_at}
 
 -- a spec, a world, and whether the ranks are reduced

@@ -1,6 +1,6 @@
 -- What a walk says of ranks, read by the outcomes that it told.
 use Rattle.std.specs.Prelude.{ℕ, ◌<◌, List, [], length, get_or}
-use Rattle.transcripts.specs.declared.event.Event.{Event}
+use Rattle.events.specs.declared.event.Event.{Event}
 use Rattle.rank_facts.specs.declared.fact.Fact.{Fact}
 use Rattle.rank_facts.specs.declared.fact.Fact.TheVariants.{Ran, Swap}
 use Rattle.step_reducer.specs.declared.fact.FactRun.{FactRun}

@@ -3,7 +3,7 @@ use Rattle.std.specs.Prelude.{◌≡◌, ℕ, ◌+◌, ◌<◌, ◌≤◌, Bool,
 use Rattle.bound_specs.specs.Spec.{Spec, SpecFile, ranks}
 use Rattle.machine_model.specs.World.{World}
 use Rattle.marked_worlds.specs.Worlds.{MarkedRunning}
-use Rattle.transcripts.specs.declared.event.Event.{Event}
+use Rattle.events.specs.declared.event.Event.{Event}
 use Rattle.rank_facts.specs.declared.fact.Fact.{Fact}
 use Rattle.rank_facts.specs.declared.fact.Fact.TheVariants.{Ran, Swap}
 use Rattle.rank_facts.specs.declared.shard.Shard.{Shard}

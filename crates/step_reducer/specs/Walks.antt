@@ -8,7 +8,7 @@ use Rattle.machine_model.specs.World.{World, send}
 use Rattle.rank_facts.specs.Facts.{IsFactOf}
 use Rattle.rank_facts.specs.declared.fact.Fact.{Fact}
 use Rattle.rank_facts.specs.declared.fact.Fact.TheVariants.{Ran}
-use Rattle.transcripts.specs.declared.event.Event.{Event}
+use Rattle.events.specs.declared.event.Event.{Event}
 use Rattle.step_reducer.specs.Fronts.{new_steps, most_steps}
 use Rattle.step_reducer.specs.Reduced.{tour_of, line_world, IsTour, IsPlace}
 use Rattle.step_reducer.specs.Framed.{Framed, Stacked}

@@ -11,7 +11,7 @@ ghost use Rattle.step_reducer.specs.Lines.{IsLines, HasRun};
 use crate::fact::Given;
 use crate::said::{Said, SaidRun};
 use bound_specs::Spec;
-use marked_paths::MarkedPath;
+use known_worlds::MarkedPath;
 use session_steps::StartError;
 use std::alloc::{AllocError, Global};
 

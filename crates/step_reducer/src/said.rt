@@ -1,7 +1,7 @@
 //! What a walk says of ranks.
 
 ghost use Rattle.std.specs.Prelude.{◌≡◌, List};
-ghost use Rattle.transcripts.specs.declared.event.Event.{Event};
+ghost use Rattle.events.specs.declared.event.Event.{Event};
 ghost use Rattle.step_reducer.specs.Saying.{fact_of};
 ghost use Rattle.step_reducer.specs.Shardwise.{was_run};
 

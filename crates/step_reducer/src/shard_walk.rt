@@ -4,6 +4,7 @@ ghost use mathlib.Core.List.{IsPrefix};
 ghost use Rattle.std.specs.Prelude.{◌≡◌, ◌↔◌, ◌≤◌, ◌<◌, true, false, None, Some, IfOk, IfErr, IfSome, OnOk, OnErr, IsErrOf, MatchOption, length, slice_get};
 ghost use Rattle.step_reducer.specs.declared.error.WalkError.TheVariants as walk_error;
 ghost use Rattle.rank_facts.specs.Shards.{IsShardOf};
+ghost use Rattle.session_machine.specs.declared.error.RunError.TheVariants as run_error;
 ghost use Rattle.step_reducer.specs.Walking.{IsNotWalked, Starts};
 ghost use Rattle.step_reducer.specs.Saying.{IsTold};
 ghost use Rattle.step_reducer.specs.Shardwise.{standing_at, GivesPart, Shows};
@@ -16,7 +17,7 @@ use bound_specs::Spec;
 use marked_worlds::MarkedWorld;
 use rank_facts::Shard;
 use session_machine::RunError;
-use std::alloc::Global;
+use std::alloc::{AllocError, Global};
 use std::marker::Model;
 use transcripts::Outcome;
 
@@ -58,7 +59,7 @@ impl<'a> Model for ShardWalk<'a> {
     ghost use Rattle.lock_modes.specs.contracts.resource.Resource as resource;
     ghost use Rattle.lock_queues.specs.contracts.wait.Wait as waiting;
     ghost use Rattle.bound_statements.specs.contracts.statement.Bound as bound;
-    ghost use Rattle.transcripts.specs.contracts.event.Event as event;
+    ghost use Rattle.events.specs.contracts.event.Event as event;
     ghost use Rattle.step_reducer.specs.Walking.{walk_told};
     ghost use Rattle.step_reducer.specs.Shardwise.{Shardwise, IsKept, shown_by};
 
@@ -105,6 +106,23 @@ impl<'a> ShardWalk<'a> {
             is_spent: false,
             is_level: false,
         })
+    }
+
+    /// A walk at the first rank of a shard of a spec that starts, so that only memory can be wanted for it.
+    pub fn of_started(
+        alloc: Global,
+        spec: &'a Spec,
+        shard: Shard,
+        reduce: bool,
+    ) -> Result<ShardWalk<'a>, AllocError>
+        requires started { Starts spec.now.run }
+        requires lawful { IsShardOf spec.now.run shard }
+        ensures { IfOk result (λ walk. walk ≡ standing_at spec.now shard reduce) }
+    {
+        match ShardWalk::new(alloc, spec, shard, reduce) {
+            Ok(walk) => Ok(walk),
+            Err(error) => Err(not_walked(error)),
+        }
     }
 
     /// The next rank.
@@ -199,4 +217,11 @@ impl<'a> ShardWalk<'a> {
             None
         }
     }
+}
+
+/// A refusal of a walk that has no other reason than want of memory.
+fn not_walked(_error: RunError) -> AllocError
+    requires { _error ≡ run_error.NoMemory }
+{
+    AllocError
 }

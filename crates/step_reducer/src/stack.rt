@@ -56,7 +56,7 @@ impl<'a> Model for Stack<'a> {
     ghost use Rattle.lock_modes.specs.contracts.resource.Resource as resource;
     ghost use Rattle.lock_queues.specs.contracts.wait.Wait as waiting;
     ghost use Rattle.bound_statements.specs.contracts.statement.Bound as bound;
-    ghost use Rattle.transcripts.specs.contracts.event.Event as event;
+    ghost use Rattle.events.specs.contracts.event.Event as event;
     ghost use Rattle.step_reducer.specs.Framed.{IsStacked, Stacked, stacked};
 
     ghost Value = { Stacked };

@@ -13,15 +13,16 @@ use Rattle.std.specs.Fmt.{signed_decimal}
 use Rattle.json.specs.Print.{quoted}
 use Rattle.lock_modes.specs.declared.value.Value.{Value}
 use Rattle.lock_modes.specs.declared.value.Value.TheVariants.{Int, Text}
-use Rattle.transcripts.specs.declared.event.Warning.{Warning}
-use Rattle.transcripts.specs.declared.event.Warning.TheVariants.{InBlock, NoBlock}
-use Rattle.transcripts.specs.declared.event.Fault.{Fault}
-use Rattle.transcripts.specs.declared.event.Fault.TheVariants.{Duplicate, OutOfRange, Deadlock, Aborted, Unavailable}
-use Rattle.transcripts.specs.declared.event.Event.{Event}
-use Rattle.transcripts.specs.declared.event.Event.TheVariants.{Sent, Row, Rows, Inserted, Updated, Deleted, Began, Committed, RolledBack, Locked, Set, Warned}
-use Rattle.transcripts.specs.declared.event.Event.TheVariants.{Failed, Waiting, Resumed, Done, NotSent}
+use Rattle.events.specs.declared.event.Warning.{Warning}
+use Rattle.events.specs.declared.event.Warning.TheVariants.{InBlock, NoBlock}
+use Rattle.events.specs.declared.event.Fault.{Fault}
+use Rattle.events.specs.declared.event.Fault.TheVariants.{Duplicate, OutOfRange, Deadlock, Aborted, Unavailable}
+use Rattle.events.specs.declared.event.Event.{Event}
+use Rattle.events.specs.declared.event.Event.TheVariants.{Sent, Row, Rows, Inserted, Updated, Deleted, Began, Committed, RolledBack, Locked, Set, Warned}
+use Rattle.events.specs.declared.event.Event.TheVariants.{Failed, Waiting, Resumed, Done, NotSent}
 use Rattle.transcripts.specs.Compact.{whole_json, cell_json, array_json, event_json, bytes_cmp}
-use Rattle.transcripts.specs.EventParts.{kind_of, number_of, values_of, front_by}
+use Rattle.events.specs.Parts.{kind_of, number_of, values_of}
+use Rattle.transcripts.specs.EventParts.{front_by}
 use Rattle.transcripts.proofs.Tables.{all_below, passes_both}
 use Rattle.transcripts.proofs.Codes.{is_apart, first_decides, below, bytes_tied, IsEnd, IsCode, closed_code}
 use Rattle.transcripts.proofs.Digits.{AreInner, inner-order, inner-same, IsDigits, are-digits, whole-same, whole-decimal}

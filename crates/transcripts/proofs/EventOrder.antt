@@ -3,14 +3,15 @@ use Rattle.std.specs.Prelude.{◌≡◌, refl, ℕ, ◌==◌, ◌||◌, Bool, tr
 use Rattle.std.proofs.Common.{sym, ap, ◌∙◌, inl, inr, append_assoc, append-nil}
 use Rattle.std.specs.declared.cmp.Ordering.{Ordering}
 use Rattle.std.specs.declared.cmp.Ordering.TheVariants.{Less, Equal, Greater}
-use Rattle.transcripts.specs.declared.event.Event.TheVariants.{Sent, Row, Rows, Inserted, Updated, Deleted, Began, Committed, RolledBack, Locked, Set, Warned}
-use Rattle.transcripts.specs.declared.event.Event.TheVariants.{Failed, Waiting, Resumed, Done, NotSent}
+use Rattle.events.specs.declared.event.Event.TheVariants.{Sent, Row, Rows, Inserted, Updated, Deleted, Began, Committed, RolledBack, Locked, Set, Warned}
+use Rattle.events.specs.declared.event.Event.TheVariants.{Failed, Waiting, Resumed, Done, NotSent}
 use Rattle.std.specs.Ordering.{ordering_then}
 use Rattle.lock_modes.specs.declared.value.Value.{Value}
 use Rattle.lock_modes.specs.Resource.{both_equal}
-use Rattle.transcripts.specs.declared.event.Event.{Event}
+use Rattle.events.specs.declared.event.Event.{Event}
 use Rattle.transcripts.specs.Compact.{whole_json, cell_json, array_json, event_json, session_json, outcome_json, bytes_cmp}
-use Rattle.transcripts.specs.EventParts.{kind_of, number_of, values_of, front_by}
+use Rattle.events.specs.Parts.{kind_of, number_of, values_of}
+use Rattle.transcripts.specs.EventParts.{front_by}
 use Rattle.transcripts.proofs.Tables.{passes_both}
 use Rattle.transcripts.proofs.Codes.{is_apart, apart-order, then-assoc, then-equal, then-decided, bytes_same, bytes_tied, IsClosed, IsCode, closed_code}
 use Rattle.transcripts.proofs.Codes.{items_cmp, items-same, array-order, array-cmp, array_closed}

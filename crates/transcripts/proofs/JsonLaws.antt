@@ -11,15 +11,16 @@ use Rattle.serde_json.specs.View.{view, items_of, items_view}
 use Rattle.serde_json.specs.declared.value.Value.{Value as Json}
 use Rattle.lock_modes.specs.declared.value.Value.{Value}
 use Rattle.lock_modes.specs.declared.value.Value.TheVariants.{Int, Text}
-use Rattle.transcripts.specs.declared.event.Fault.{Fault}
-use Rattle.transcripts.specs.declared.event.Warning.{Warning}
-use Rattle.transcripts.specs.declared.event.Fault.TheVariants.{Duplicate, OutOfRange, Deadlock, Aborted, Unavailable}
-use Rattle.transcripts.specs.declared.event.Warning.TheVariants.{InBlock, NoBlock}
-use Rattle.transcripts.specs.declared.event.Event.{Event}
-use Rattle.transcripts.specs.declared.event.Event.TheVariants.{Sent, Row, Rows, Inserted, Updated, Deleted, Began, Committed, RolledBack, Locked, Set, Warned}
-use Rattle.transcripts.specs.declared.event.Event.TheVariants.{Failed, Waiting, Resumed, Done, NotSent}
-use Rattle.transcripts.specs.Numbers.{warning_number, fault_number}
-use Rattle.transcripts.specs.Outcome.{CellFits, EventFits, OutcomeFits}
+use Rattle.events.specs.declared.event.Fault.{Fault}
+use Rattle.events.specs.declared.event.Warning.{Warning}
+use Rattle.events.specs.declared.event.Fault.TheVariants.{Duplicate, OutOfRange, Deadlock, Aborted, Unavailable}
+use Rattle.events.specs.declared.event.Warning.TheVariants.{InBlock, NoBlock}
+use Rattle.events.specs.declared.event.Event.{Event}
+use Rattle.events.specs.declared.event.Event.TheVariants.{Sent, Row, Rows, Inserted, Updated, Deleted, Began, Committed, RolledBack, Locked, Set, Warned}
+use Rattle.events.specs.declared.event.Event.TheVariants.{Failed, Waiting, Resumed, Done, NotSent}
+use Rattle.events.specs.Numbers.{warning_number, fault_number}
+use Rattle.events.specs.Fits.{CellFits, EventFits}
+use Rattle.transcripts.specs.Outcome.{OutcomeFits}
 use Rattle.transcripts.specs.Json.{list, whole, tagged, cell_data, event_data, session_data, outcome_data}
 use Rattle.transcripts.specs.JsonReading.{consed, each_in, list_in, count_in, step_in, integer_of_number, cell_in, warning_of, fault_of, word_event}
 use Rattle.transcripts.specs.JsonReading.{numbered_event, tagged_event, tagged_by, pair_event, event_in, outcome_in, Reads}

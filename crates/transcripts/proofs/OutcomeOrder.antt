@@ -2,7 +2,7 @@
 use Rattle.std.specs.Prelude.{◌≡◌, List}
 use Rattle.std.specs.declared.cmp.Ordering.TheVariants.{Equal}
 use Rattle.finite_maps.specs.Map.{Order}
-use Rattle.transcripts.specs.declared.event.Event.{Event}
+use Rattle.events.specs.declared.event.Event.{Event}
 use Rattle.transcripts.specs.Compact.{outcome_cmp, outcome_total}
 use Rattle.transcripts.proofs.EventOrder.{outcome_closed}
 

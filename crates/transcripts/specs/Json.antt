@@ -5,9 +5,9 @@ use Rattle.serde_json.specs.Find.{of_integer}
 use Rattle.serde_json.specs.View.{items_of}
 use Rattle.lock_modes.specs.declared.value.Value.{Value}
 use Rattle.lock_modes.specs.declared.value.Value.TheVariants.{Int, Text}
-use Rattle.transcripts.specs.declared.event.Event.{Event}
-use Rattle.transcripts.specs.declared.event.Event.TheVariants.{Sent, Row, Rows, Inserted, Updated, Deleted, Began, Committed, RolledBack, Locked, Set, Warned, Failed, Waiting, Resumed, Done, NotSent}
-use Rattle.transcripts.specs.Numbers.{warning_number, fault_number}
+use Rattle.events.specs.declared.event.Event.{Event}
+use Rattle.events.specs.declared.event.Event.TheVariants.{Sent, Row, Rows, Inserted, Updated, Deleted, Began, Committed, RolledBack, Locked, Set, Warned, Failed, Waiting, Resumed, Done, NotSent}
+use Rattle.events.specs.Numbers.{warning_number, fault_number}
 
 abbrev pub list : List Data → Data
 list ds = array (items_of ds)

@@ -1,7 +1,4 @@
-pub mod Numbers
 pub mod Outcome
-pub mod Log
-pub mod Turned
 pub mod Compact
 pub mod EventParts
 pub mod Counted

@@ -1,7 +1,7 @@
 -- The names that an outcome is printed with.
 use Rattle.std.specs.Prelude.{ℕ, ◌≤◌, List, length, All}
-use Rattle.transcripts.specs.declared.event.Event.{Event}
-use Rattle.transcripts.specs.Outcome.{HasStep}
+use Rattle.events.specs.declared.event.Event.{Event}
+use Rattle.events.specs.Fits.{HasStep}
 
 -- there is a name for each session of the outcome, and for each step that it names
 pub record HasNames (sessions steps : List (List ℕ)) (outcome : List (List Event)) : Type 0 where

@@ -1,7 +1,7 @@
 //! A number by which an outcome is looked for.
 
-use crate::event::{Event, Fault, Warning};
-use crate::outcome::{Outcome, Transcript};
+use crate::outcome::Outcome;
+use events::{Event, Fault, Transcript, Warning};
 use lock_modes::Value;
 use std::hash::{FoldHasher, Hasher};
 

@@ -1,8 +1,9 @@
 ghost use Rattle.std.specs.Prelude.{◌↔◌, All, IsTrue, length};
-ghost use Rattle.transcripts.specs.Outcome.{HasStep};
+ghost use Rattle.events.specs.Fits.{HasStep};
 ghost use Rattle.transcripts.specs.Names.{HasNames};
 
-use crate::{Event, Outcome, Transcript};
+use crate::Outcome;
+use events::{Event, Transcript};
 use lock_modes::Text;
 
 /// The names that an outcome is printed with.

@@ -3,15 +3,16 @@
 ghost use Rattle.std.specs.Prelude.{◌≡◌, ◌≢◌, List, Some, None, IfOk, IfErr, MatchResult, option_and_then, option_map};
 ghost use Rattle.serde_json.specs.Find.{as_array};
 ghost use Rattle.serde_json.specs.View.{view, items_view};
-ghost use Rattle.transcripts.specs.declared.event.Event.{Event as Told};
-ghost use Rattle.transcripts.specs.declared.event.Event.TheVariants.{Failed, Warned};
+ghost use Rattle.events.specs.declared.event.Event.{Event as Told};
+ghost use Rattle.events.specs.declared.event.Event.TheVariants.{Failed, Warned};
 ghost use Rattle.transcripts.specs.Outcome.{OutcomeFits};
 ghost use Rattle.transcripts.specs.Json.{outcome_data};
 ghost use Rattle.transcripts.specs.JsonReading.{cell_in, count_in, event_in, fault_of, list_in, numbered_event, outcome_in, pair_event, step_in, tagged_event, warning_of, word_event, Reads};
 ghost use Rattle.transcripts.specs.declared.error.ValueError.TheVariants.{BadField};
 
+use crate::Outcome;
 use crate::error::ValueError;
-use crate::{Event, Fault, Outcome, Transcript, Warning};
+use events::{Event, Fault, Transcript, Warning};
 use lock_modes::{Row, Text, Value};
 use serde_json::Value as Json;
 use std::alloc::Global;

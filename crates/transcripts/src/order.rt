@@ -3,11 +3,10 @@
 ghost use Rattle.std.specs.Prelude.{◌≡◌, ◌<◌, ◌++◌, ◌∷◌, [], length};
 ghost use Rattle.json.specs.Print.{escape_byte, escape_letter, quoted};
 ghost use Rattle.transcripts.specs.Compact.{bytes_cmp, cell_json, event_json, first_written, outcome_json, array_json, second_written, session_json, whole_json};
-ghost use Rattle.transcripts.specs.EventParts.{end_at, front_by, kind_of, number_of, values_of};
+ghost use Rattle.transcripts.specs.EventParts.{end_at, front_by};
+ghost use Rattle.events.specs.Parts.{kind_of};
 
-use crate::event::Event;
-use crate::numbers::{fault_number, warning_number};
-use crate::outcome::Transcript;
+use events::{Event, Transcript};
 use itoa::Buffer;
 use lock_modes::Value;
 use std::cmp::Ordering;
@@ -78,46 +77,21 @@ fn event_order(a: &Event, b: &Event) -> Ordering
     if fronts.is_ne() {
         return fronts;
     }
-    let numbers = number_order(number(a), number(b));
+    let numbers = number_order(a.number(), b.number());
     if numbers.is_ne() {
         return numbers;
     }
-    row_order(values(a), values(b))
+    row_order(a.values(), b.values())
 }
 
 /// The order of what two events' texts begin with. Where both are of one kind, no texts are compared.
 fn front_order(a: &Event, b: &Event) -> Ordering
     ensures { result ≡ bytes_cmp (front_by (kind_of a.now)) (front_by (kind_of b.now)) }
 {
-    if kind(a) == kind(b) {
+    if a.kind() == b.kind() {
         return Ordering::Equal;
     }
     front(a).cmp(front(b))
-}
-
-/// The place of an event in the table of the format.
-pub(crate) fn kind(event: &Event) -> u8
-    ensures { result ≡ kind_of event.now }
-{
-    match event {
-        Event::Sent(_) => 0,
-        Event::Row(_) => 1,
-        Event::Rows(_) => 2,
-        Event::Inserted(_) => 3,
-        Event::Updated(_) => 4,
-        Event::Deleted(_) => 5,
-        Event::Began => 6,
-        Event::Committed => 7,
-        Event::RolledBack => 8,
-        Event::Locked => 9,
-        Event::Set => 10,
-        Event::Warned(_) => 11,
-        Event::Failed(_) => 12,
-        Event::Waiting => 13,
-        Event::Resumed => 14,
-        Event::Done => 15,
-        Event::NotSent(_) => 16,
-    }
 }
 
 /// What the text of an event begins with, up to a number or a row.
@@ -142,55 +116,6 @@ fn front(event: &Event) -> &'static str
         Event::Resumed => "\"resumed\"",
         Event::Done => "\"done\"",
         Event::NotSent(_) => "[\"notsent\",",
-    }
-}
-
-/// The number that an event tells, or 0.
-pub(crate) fn number(event: &Event) -> u64
-    ensures { result ≡ number_of event.now }
-{
-    match event {
-        Event::Sent(step) | Event::NotSent(step) => u64::from(*step),
-        Event::Rows(count)
-        | Event::Inserted(count)
-        | Event::Updated(count)
-        | Event::Deleted(count) => *count,
-        Event::Warned(warning) => u64::from(warning_number(*warning)),
-        Event::Failed(fault) => u64::from(fault_number(*fault)),
-        Event::Row(_)
-        | Event::Began
-        | Event::Committed
-        | Event::RolledBack
-        | Event::Locked
-        | Event::Set
-        | Event::Waiting
-        | Event::Resumed
-        | Event::Done => 0,
-    }
-}
-
-/// The values of the row that an event shows, or none.
-pub(crate) fn values(event: &Event) -> &[Value]
-    ensures { result.now ≡ values_of event.now }
-{
-    match event {
-        Event::Row(row) => row.values(),
-        Event::Sent(_)
-        | Event::Rows(_)
-        | Event::Inserted(_)
-        | Event::Updated(_)
-        | Event::Deleted(_)
-        | Event::Began
-        | Event::Committed
-        | Event::RolledBack
-        | Event::Locked
-        | Event::Set
-        | Event::Warned(_)
-        | Event::Failed(_)
-        | Event::Waiting
-        | Event::Resumed
-        | Event::Done
-        | Event::NotSent(_) => &[],
     }
 }
 

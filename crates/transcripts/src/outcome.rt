@@ -1,106 +1,22 @@
-ghost use Rattle.std.specs.Prelude.{◌≡◌, ◌↔◌, [], ◌∷◌, ◌++◌, All, Some, IfOk, IsTrue, OnOk, OnErr};
+ghost use Rattle.std.specs.Prelude.{◌≡◌, ◌↔◌, All, Some, IfOk, IsTrue};
 ghost use Rattle.std.proofs.Common.{rules};
 ghost use Rattle.std.specs.Ordering.{eq_by_cmp};
 ghost use Rattle.std.specs.Cmp.{po, eq_by_cmp_equiv, partial_equiv_from_equiv};
 ghost use Rattle.std.specs.declared.cmp.Ordering.TheVariants.{Equal};
 ghost use Rattle.transcripts.specs.Compact.{bytes_cmp, outcome_json};
-ghost use Rattle.transcripts.specs.Outcome.{CellFits, EventFits, OutcomeFits};
+ghost use Rattle.events.specs.Fits.{CellFits, EventFits};
+ghost use Rattle.transcripts.specs.Outcome.{OutcomeFits};
 
-use crate::event::Event;
 use crate::fingerprinting::print_of;
 use crate::order::outcome_order;
-use crate::same::{are_same_events, are_same_sessions};
-use crate::turn::copied;
+use crate::same::are_same_sessions;
+use events::{Event, Transcript};
 use finite_maps::Fork;
 use lock_modes::Value;
 use std::alloc::{AllocError, Global};
 use std::cmp::Ordering;
 use std::marker::Model;
 use std::sync::Arc;
-
-/// What one session is told, seen by contracts as the list of its events in order.
-pub struct Transcript {
-    events: Vec<Event>,
-}
-
-// Written out and not derived, so that who owns one calls this and does not let its parts go one by one.
-impl Drop for Transcript {
-    fn drop(self) {
-        let Transcript { events: _events } = self;
-    }
-}
-
-impl Model for Transcript {
-    ghost use Rattle.std.specs.Prelude.{List};
-    ghost use Rattle.transcripts.specs.declared.event.Event.{Event as Told};
-
-    ghost Value = { List Told };
-
-    ghost view = { λ t. t.events.items };
-}
-
-impl Transcript {
-    /// A transcript without events.
-    pub fn new(alloc: Global) -> Transcript
-        ensures { result ≡ [] }
-    {
-        Transcript {
-            events: Vec::new(alloc),
-        }
-    }
-
-    /// A transcript without events, with room for so many. Contracts do not see the room.
-    pub fn with_room(alloc: Global, room: usize) -> Result<Transcript, AllocError>
-        ensures { IfOk result (λ transcript. transcript ≡ []) }
-    {
-        Ok(Transcript {
-            events: Vec::with_capacity(alloc, room)?,
-        })
-    }
-
-    /// Adds an event at the end. It fails for want of memory alone.
-    pub fn push(&mut self, event: Event) -> Result<(), AllocError>
-        ensures ok { OnOk result (self.new ≡ self.old ++ event ∷ []) }
-        ensures err { OnErr result (self.new ≡ self.old) }
-    {
-        self.events.push(event)?;
-        Ok(())
-    }
-
-    /// Adds copies of events at the end.
-    pub(crate) fn extend(&mut self, events: &[Event]) -> Result<(), AllocError>
-        ensures { OnOk result (self.new ≡ self.old ++ events.now) }
-    {
-        self.events.reserve(events.len())?;
-        for event in events {
-            self.events.push_reserved(event.fork()?);
-        }
-        Ok(())
-    }
-
-    /// Whether both sessions are told the same.
-    pub fn is_same(&self, other: &Transcript) -> bool
-        ensures { IsTrue result ↔ (self.now ≡ other.now) }
-    {
-        are_same_events(self.events(), other.events())
-    }
-
-    /// The events in order.
-    pub fn events(&self) -> &[Event]
-        ensures { result.now ≡ self.now }
-    {
-        self.events.as_slice()
-    }
-}
-
-impl Fork for Transcript {
-    fn fork(&self) -> Result<Transcript, AllocError> {
-        let alloc = *self.events.allocator();
-        Ok(Transcript {
-            events: copied(alloc, self.events.as_slice())?,
-        })
-    }
-}
 
 /// What a run tells: a transcript for each session in order, seen by contracts as their list. A fork shares them and
 /// copies none.
@@ -122,7 +38,7 @@ impl Drop for Outcome {
 
 impl Model for Outcome {
     ghost use Rattle.std.specs.Prelude.{List};
-    ghost use Rattle.transcripts.specs.declared.event.Event.{Event as Told};
+    ghost use Rattle.events.specs.declared.event.Event.{Event as Told};
 
     ghost Value = { List (List Told) };
 

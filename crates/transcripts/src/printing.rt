@@ -1,13 +1,14 @@
 ghost use Rattle.std.specs.Prelude.{◌≡◌, ◌++◌, ◌<◌, All, codes, decimal, flat_map, length};
 ghost use Rattle.std.specs.List.{join_by};
-ghost use Rattle.transcripts.specs.Outcome.{HasStep};
+ghost use Rattle.events.specs.Fits.{HasStep};
 ghost use Rattle.transcripts.specs.Counted.{Prints, failures_of};
 ghost use Rattle.transcripts.specs.Names.{HasNames};
 ghost use Rattle.transcripts.specs.Text.{barred, doubled, event_line, event_text, fault_text, outcome_text, quoted, rank_text, row_text, session_text, value_text, warning_text};
 
+use crate::Outcome;
 use crate::counted::{Counted, WriteFault};
 use crate::names::Names;
-use crate::{Event, Fault, Outcome, Transcript, Warning};
+use events::{Event, Fault, Transcript, Warning};
 use itoa::Buffer;
 use lock_modes::{Text, Value};
 use std::io::Write;

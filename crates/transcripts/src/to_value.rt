@@ -7,7 +7,8 @@ ghost use Rattle.serde_json.specs.Written.{compact_text};
 ghost use Rattle.transcripts.specs.Compact.{outcome_json};
 ghost use Rattle.transcripts.specs.Json.{cell_data, event_data, list, outcome_data, session_data, tagged, whole};
 
-use crate::{Event, Outcome, Transcript, fault_number, warning_number};
+use crate::Outcome;
+use events::{Event, Transcript, fault_number, warning_number};
 use lock_modes::Value;
 use serde_json::Value as Json;
 use std::alloc::{AllocError, Global};

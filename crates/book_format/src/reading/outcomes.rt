@@ -10,9 +10,10 @@ ghost use Rattle.book_format.specs.Reading.{AreOutcomes, IsNextOutcome, IsOutcom
 use crate::error::BookError;
 use bound_specs::Spec;
 use compact_outcomes::{CompactOutcome, CompactOutcomes, CompactText};
+use events::{Event, Transcript};
 use serde_json::Value as Json;
 use std::alloc::Global;
-use transcripts::{Event, Outcome, Transcript, ValueError, outcome_of_value};
+use transcripts::{Outcome, ValueError, outcome_of_value};
 
 /// The outcomes that these values are, which have to rise by their texts.
 pub(crate) fn outcomes_of(

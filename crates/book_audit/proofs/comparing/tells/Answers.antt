@@ -1,6 +1,6 @@
 use Rattle.std.proofs.Common.{◌≡◌, ◌↔◌, ◌∙◌, sym, subst, [], IsTrue, slice_index_or}
-use Rattle.marked_paths.specs.Paths.{IsPath}
-use Rattle.marked_paths.proofs.PathLemmas.{path-told-more}
+use Rattle.known_worlds.specs.Paths.{IsPath}
+use Rattle.known_worlds.proofs.PathLemmas.{path-told-more}
 use Rattle.book_audit.specs.Compared.{IsCompared}
 use Rattle.book_audit.specs.declared.comparing.Comparison.{Comparison}
 use Rattle.book_audit.proofs.CompareLemmas.{compared-more, compared-at, compared-answers}

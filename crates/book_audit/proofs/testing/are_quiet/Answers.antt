@@ -4,8 +4,8 @@ use Rattle.machine_model.specs.World.{send_all}
 use Rattle.std.proofs.lemmas.Result.{IfOk-weaker}
 use Rattle.rank_facts.specs.Quiet.{is_quiet}
 use Rattle.rank_facts.specs.Swap.{are_quiet_at}
-use Rattle.marked_paths.specs.Paths.{first_world}
-use Rattle.marked_paths.proofs.PathLemmas.{path-own}
+use Rattle.known_worlds.specs.Paths.{first_world}
+use Rattle.known_worlds.proofs.PathLemmas.{path-own}
 use Rattle.book_audit.proofs.testing.are_quiet.Goals as goal
 
 pub is_quiet-requires-clause-path : goal.is_quiet-requires-clause-path

@@ -2,8 +2,8 @@ use Rattle.std.proofs.Common.{refl, sym, ap, ◌∙◌, subst, ◌<◌, [], OnOk
 use Rattle.std.proofs.lemmas.Bool.{false≢true}
 use Rattle.bound_specs.specs.Spec.{SpecFile, ranks, line_of}
 use Rattle.machine_model.specs.World.{send_all, outcome_of}
-use Rattle.marked_paths.specs.Paths.{first_world, IsPath}
-use Rattle.marked_paths.proofs.PathLemmas.{path-own, path-told}
+use Rattle.known_worlds.specs.Paths.{first_world, IsPath}
+use Rattle.known_worlds.proofs.PathLemmas.{path-own, path-told}
 use Rattle.book_audit.proofs.Tests.{ran-told}
 use Rattle.book_audit.proofs.testing.is_ran.Goals as goal
 

@@ -3,7 +3,7 @@ use Rattle.perm_ranks.specs.Words.{total}
 use Rattle.bound_specs.specs.Spec.{SpecFile, ranks, counts_of, queues_of}
 use Rattle.rank_facts.specs.Swap.{falls_at, word_of}
 use Rattle.rank_facts.specs.declared.fact.Fact.TheVariants.{Swap}
-use Rattle.marked_paths.specs.Paths.{first_world}
+use Rattle.known_worlds.specs.Paths.{first_world}
 use Rattle.book_audit.specs.Grounds.{AreAlikeTo}
 use Rattle.book_audit.proofs.Tests.{in-words, falls-inside, line-inside, swap-from, swap-alike, true-once}
 use Rattle.book_audit.proofs.testing.swap_until.Goals as goal

@@ -2,8 +2,8 @@ use Rattle.std.proofs.Common.{◌≡◌, ◌<◌, ◌∙◌, sym, ap, subst, get
 use Rattle.std.proofs.lemmas.Option.{slice_get-get_or, slice_get_past}
 use Rattle.std.proofs.lemmas.Result.{on_ok_weaker}
 use Rattle.std.specs.List.{All}
-use Rattle.transcripts.specs.Outcome.{HasStep}
-use Rattle.transcripts.specs.declared.event.Event.{Event}
+use Rattle.events.specs.Fits.{HasStep}
+use Rattle.events.specs.declared.event.Event.{Event}
 use Rattle.machine_model.proofs.Owned.{outcome-named}
 use Rattle.book_commands.proofs.SideLemmas.{part-pushed}
 use Rattle.book_commands.proofs.nearest.push_outcome.Goals as goal

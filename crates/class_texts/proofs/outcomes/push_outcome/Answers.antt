@@ -1,7 +1,7 @@
 use Rattle.std.proofs.Common.{ℕ, List, ◌++◌, sym, ap, ◌∙◌, append-nil, flat_map, arith}
 use Rattle.std.specs.String.{string_bytes}
 use Rattle.transcripts.specs.Text.{session_text}
-use Rattle.transcripts.specs.declared.event.Event.{Event}
+use Rattle.events.specs.declared.event.Event.{Event}
 use Rattle.class_texts.proofs.ZipLemmas.{zip-spent}
 use Rattle.class_texts.proofs.outcomes.push_outcome.Goals as goal
 

@@ -1,7 +1,7 @@
 use Rattle.std.proofs.Common.{◌≡◌, ◌<◌, sym, ap, ◌∙◌, subst, [], ◌∷◌, List, length, length-set, lt-length-set}
 use Rattle.std.specs.Vec.Iter.{into_iter_deque, into_iter_items}
 use Rattle.std.proofs.lemmas.List.{nil_from_length}
-use Rattle.transcripts.specs.declared.event.Event.{Event}
+use Rattle.events.specs.declared.event.Event.{Event}
 use Rattle.marked_logs.specs.Logs.{telling}
 use Rattle.marked_execution.proofs.LogLemmas.{telling_each, telling_each-nil, telling_each-cons}
 use Rattle.marked_execution.proofs.run.tell_items.Goals as goal

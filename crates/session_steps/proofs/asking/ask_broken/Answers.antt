@@ -1,7 +1,7 @@
 use Rattle.std.proofs.Common.{◌+◌, sym, subst, drop, refl}
 use Rattle.lock_modes.specs.Resource.{resource_at}
 use Rattle.bound_statements.specs.Plan.{request, plan, nowait}
-use Rattle.transcripts.specs.declared.event.Fault.TheVariants.{Aborted}
+use Rattle.events.specs.declared.event.Fault.TheVariants.{Aborted}
 use Rattle.machine_model.specs.Session.{asks}
 use Rattle.session_steps.specs.Going.{standing, failed_in, GoesOnTo, StopsIn}
 use Rattle.session_steps.proofs.Moves.{goes-on-here, asks-broken}

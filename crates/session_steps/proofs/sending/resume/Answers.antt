@@ -1,7 +1,7 @@
 use Rattle.std.proofs.lemmas.List.Elements.{All-get_or}
 use Rattle.std.proofs.Common.{◌≡◌, sym, ap, ◌∙◌, subst, ◌<◌, length, drop, set, get_or, is_some, Some, true, false}
 use Rattle.lock_queues.specs.LockTable.{grant}
-use Rattle.transcripts.specs.declared.event.Event.TheVariants.{Resumed}
+use Rattle.events.specs.declared.event.Event.TheVariants.{Resumed}
 use Rattle.session_steps.specs.Going.{Standing, tasks_from, IsToGo}
 use Rattle.session_steps.specs.Stage.{Member, no_member, statements_of, member_at, RestIsOf, note_member, HasGone, HasResumed}
 use Rattle.session_steps.proofs.Acted.{same-members}

@@ -1,6 +1,6 @@
 use Rattle.std.proofs.Common.{◌≡◌, sym, ap, ◌∙◌, subst, suc, ◌<◌, false, length, get_or, arith, length-set}
 use Rattle.lock_queues.specs.Locks.{waits_now}
-use Rattle.transcripts.specs.declared.event.Event.TheVariants.{NotSent}
+use Rattle.events.specs.declared.event.Event.TheVariants.{NotSent}
 use Rattle.bound_specs.specs.Spec.{no_step}
 use Rattle.machine_model.specs.World.{send, settle}
 use Rattle.machine_model.specs.Sound.{Steady}

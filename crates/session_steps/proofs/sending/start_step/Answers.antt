@@ -1,5 +1,5 @@
 use Rattle.std.proofs.Common.{sym, subst, drop}
-use Rattle.transcripts.specs.declared.event.Event.TheVariants.{Sent}
+use Rattle.events.specs.declared.event.Event.TheVariants.{Sent}
 use Rattle.session_steps.specs.declared.point.Point.{Point}
 use Rattle.session_steps.specs.Going.{tasks_from, IsToGo}
 use Rattle.session_steps.specs.Stage.{statements_of, HasGone, HasStarted}

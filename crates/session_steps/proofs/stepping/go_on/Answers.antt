@@ -1,7 +1,7 @@
 use Rattle.std.proofs.lemmas.List.{drop_all}
 use Rattle.std.proofs.Common.{◌≡◌, ◌+◌, sym, ap, ◌∙◌, subst, List, drop, [], ◌∷◌, ◌++◌, drop-cons, add-one}
 use Rattle.lock_queues.specs.Locks.{waits_now}
-use Rattle.transcripts.specs.declared.event.Event.TheVariants.{Waiting}
+use Rattle.events.specs.declared.event.Event.TheVariants.{Waiting}
 use Rattle.machine_model.specs.Session.{Task}
 use Rattle.statement_execution.specs.Run.{SeesAlone}
 use Rattle.session_steps.specs.declared.asking.Asked.TheVariants.{Had, Waits, Refused}

@@ -1,6 +1,6 @@
 use Rattle.std.proofs.Common.{◌≡◌, sym, subst, length, arith}
 use Rattle.std.specs.List.{All}
-use Rattle.transcripts.specs.Outcome.{HasStep}
+use Rattle.events.specs.Fits.{HasStep}
 use Rattle.machine_model.proofs.Owned.{outcome-named}
 use Rattle.spec_commands.proofs.single.write_outcome.Goals as goal
 

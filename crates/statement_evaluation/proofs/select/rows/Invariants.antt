@@ -1,5 +1,5 @@
 use Rattle.std.proofs.Common.{◌≡◌, map, take}
-use Rattle.transcripts.specs.declared.event.Event.TheVariants.{Row as RowEvent}
+use Rattle.events.specs.declared.event.Event.TheVariants.{Row as RowEvent}
 use Rattle.statement_evaluation.specs.Effect.{projected}
 use Rattle.statement_evaluation.proofs.select.rows.Given as goal
 

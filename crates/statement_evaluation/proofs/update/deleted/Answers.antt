@@ -1,5 +1,5 @@
 use Rattle.std.proofs.Common.{◌≡◌, sym, ap, ◌∙◌, ◌∷◌, [], map, None}
-use Rattle.transcripts.specs.declared.event.Event.TheVariants.{Deleted}
+use Rattle.events.specs.declared.event.Event.TheVariants.{Deleted}
 use Rattle.lock_modes.specs.RowPlace.{RowPlace}
 use Rattle.lock_modes.specs.Rows.{Tuple}
 use Rattle.statement_evaluation.specs.Effect.{Gives, counted}

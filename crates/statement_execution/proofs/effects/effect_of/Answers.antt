@@ -2,7 +2,7 @@ use Rattle.std.proofs.Common.{◌≡◌, sym, ap, ◌∙◌, subst, [], ◌∷�
 use Rattle.std.specs.Result.{IfOk}
 use Rattle.row_tables.specs.Layers.{sight}
 use Rattle.bound_statements.specs.declared.statement.Bound.{Bound}
-use Rattle.transcripts.specs.declared.event.Event.TheVariants.{Locked, Set}
+use Rattle.events.specs.declared.event.Event.TheVariants.{Locked, Set}
 use Rattle.statement_evaluation.specs.Effect.{Effect, effect, Gives, matching}
 use Rattle.statement_evaluation.specs.Matched.{selected, updated, deleted}
 use Rattle.statement_evaluation.specs.Borrowed.{effect_at}

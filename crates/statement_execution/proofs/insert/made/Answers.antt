@@ -1,8 +1,8 @@
 use Rattle.std.proofs.Common.{refl, sym, ap, ◌∙◌, subst, Option, ℕ}
 use Rattle.std.specs.Prelude.{Result, Ok, Err}
 use Rattle.std.specs.Result.{IfOk}
-use Rattle.transcripts.specs.declared.event.Fault.TheVariants.{Duplicate}
-use Rattle.transcripts.specs.declared.event.Event.TheVariants.{Inserted}
+use Rattle.events.specs.declared.event.Fault.TheVariants.{Duplicate}
+use Rattle.events.specs.declared.event.Event.TheVariants.{Inserted}
 use Rattle.bound_statements.specs.declared.statement.Bound.TheVariants.{Insert}
 use Rattle.row_tables.specs.Layers.{sight}
 use Rattle.statement_evaluation.specs.Effect.{effect, or_fault, counted}

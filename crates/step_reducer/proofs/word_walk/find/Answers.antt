@@ -8,7 +8,7 @@ use Rattle.bound_specs.specs.Spec.{Spec, SpecFile}
 use Rattle.machine_model.specs.World.{World, send, outcome_of}
 use Rattle.rank_facts.specs.Facts.{IsFactOf}
 use Rattle.rank_facts.specs.declared.fact.Fact.TheVariants.{Ran, Swap}
-use Rattle.transcripts.specs.declared.event.Event.{Event}
+use Rattle.events.specs.declared.event.Event.{Event}
 use Rattle.step_reducer.specs.Reduced.{tour_of, line_world}
 use Rattle.step_reducer.specs.Framed.{Stacked}
 use Rattle.step_reducer.specs.Walks.{LiesBehind, IsAt}

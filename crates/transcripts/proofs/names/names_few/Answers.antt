@@ -1,6 +1,6 @@
 use Rattle.std.proofs.Common.{refl, subst}
 use Rattle.std.specs.Prelude.{All}
-use Rattle.transcripts.specs.Outcome.{HasStep}
+use Rattle.events.specs.Fits.{HasStep}
 use Rattle.transcripts.proofs.Walking.{all-next, all-past}
 use Rattle.transcripts.proofs.names.names_few.Goals as goal
 

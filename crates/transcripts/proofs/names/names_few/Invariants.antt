@@ -1,5 +1,5 @@
 use Rattle.std.specs.Prelude.{All, take}
-use Rattle.transcripts.specs.Outcome.{HasStep}
+use Rattle.events.specs.Fits.{HasStep}
 use Rattle.transcripts.proofs.names.names_few.Given as goal
 
 -- the first events name steps below the count

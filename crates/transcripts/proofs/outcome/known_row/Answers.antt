@@ -1,4 +1,4 @@
-use Rattle.transcripts.specs.Outcome.{CellFits}
+use Rattle.events.specs.Fits.{CellFits}
 use Rattle.transcripts.proofs.Walking.{all-next, all-past}
 use Rattle.transcripts.proofs.outcome.known_row.Goals as goal
 

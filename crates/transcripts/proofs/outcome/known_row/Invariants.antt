@@ -1,5 +1,5 @@
 use Rattle.std.proofs.Common.{All, take}
-use Rattle.transcripts.specs.Outcome.{CellFits}
+use Rattle.events.specs.Fits.{CellFits}
 use Rattle.transcripts.proofs.outcome.known_row.Given as goal
 
 -- the values so far fit

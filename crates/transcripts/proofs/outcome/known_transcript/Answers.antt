@@ -1,6 +1,6 @@
 use Rattle.std.proofs.Common.{subst}
 use Rattle.std.specs.Prelude.{All}
-use Rattle.transcripts.specs.Outcome.{EventFits}
+use Rattle.events.specs.Fits.{EventFits}
 use Rattle.transcripts.proofs.Walking.{all-next, all-past}
 use Rattle.transcripts.proofs.outcome.known_transcript.Goals as goal
 

@@ -1,5 +1,5 @@
 use Rattle.std.proofs.Common.{All, take}
-use Rattle.transcripts.specs.Outcome.{EventFits}
+use Rattle.events.specs.Fits.{EventFits}
 use Rattle.transcripts.proofs.outcome.known_transcript.Given as goal
 
 -- the events so far fit

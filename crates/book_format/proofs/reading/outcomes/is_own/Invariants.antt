@@ -1,5 +1,5 @@
 use Rattle.std.proofs.Common.{ℕ, ◌<◌, get_or}
-use Rattle.transcripts.specs.declared.event.Event.{Event}
+use Rattle.events.specs.declared.event.Event.{Event}
 use Rattle.machine_model.specs.Outcome.{IsToldOf}
 use Rattle.book_format.proofs.reading.outcomes.is_own.Given as goal
 

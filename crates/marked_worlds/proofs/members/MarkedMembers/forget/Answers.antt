@@ -1,5 +1,5 @@
 use Rattle.std.proofs.Common.{◌≡◌, ap, set, []}
-use Rattle.transcripts.specs.declared.event.Event.{Event}
+use Rattle.events.specs.declared.event.Event.{Event}
 use Rattle.marked_logs.specs.Logs.{Logs, forgetting}
 use Rattle.session_steps.proofs.Answered.{on_ok}
 use Rattle.marked_worlds.proofs.MemberLemmas.{inside-logs, told-by}

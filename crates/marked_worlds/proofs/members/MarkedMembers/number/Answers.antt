@@ -1,7 +1,7 @@
 use Rattle.std.proofs.Common.{◌≡◌, subst, List, Some}
 use Rattle.std.specs.Prelude.{slice_get}
 use Rattle.std.specs.Result.{IfOk}
-use Rattle.transcripts.specs.declared.event.Event.{Event}
+use Rattle.events.specs.declared.event.Event.{Event}
 use Rattle.marked_worlds.specs.Told.{outcomes_of}
 use Rattle.marked_worlds.proofs.MemberLemmas.{first-is, up-to-logs}
 use Rattle.marked_worlds.proofs.members.MarkedMembers.number.Goals as goal

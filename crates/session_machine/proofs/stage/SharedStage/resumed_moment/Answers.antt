@@ -6,7 +6,7 @@ use Rattle.lock_queues.specs.Reasons.{want_of}
 use Rattle.lock_queues.specs.Rules.{wait_of}
 use Rattle.line_moments.specs.Moments.{ending_by, last_sent}
 use Rattle.line_moments.specs.declared.moment.Manner.TheVariants.{IsResumed}
-use Rattle.transcripts.specs.declared.event.Event.TheVariants.{Resumed}
+use Rattle.events.specs.declared.event.Event.TheVariants.{Resumed}
 use Rattle.session_machine.specs.SharedStage.{staged_of}
 use Rattle.session_machine.specs.Telling.{had_of}
 use Rattle.session_steps.specs.Acting.{forgot}

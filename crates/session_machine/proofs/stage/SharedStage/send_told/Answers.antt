@@ -1,6 +1,6 @@
 use Rattle.std.proofs.Common.{◌≡◌, ◌++◌, sym, ap, ◌∙◌, subst, suc, ◌<◌, false, true, [], ◌∷◌, length, get_or, arith, length-set, append_assoc}
 use Rattle.lock_queues.specs.Locks.{waits_now}
-use Rattle.transcripts.specs.declared.event.Event.TheVariants.{NotSent}
+use Rattle.events.specs.declared.event.Event.TheVariants.{NotSent}
 use Rattle.bound_specs.specs.Spec.{no_step}
 use Rattle.line_moments.specs.Moments.{Sends}
 use Rattle.machine_model.specs.World.{send, settle}

@@ -1,7 +1,7 @@
 use Rattle.std.proofs.Common.{◌≡◌, ◌+◌, ◌<◌, sym, ap, ◌∙◌, subst, suc, drop, length, [], Some, arith}
 use Rattle.line_moments.specs.declared.moment.Manner.TheVariants.{IsSent}
 use Rattle.lock_queues.specs.Laws.{IsBelow}
-use Rattle.transcripts.specs.declared.event.Event.TheVariants.{Sent}
+use Rattle.events.specs.declared.event.Event.TheVariants.{Sent}
 use Rattle.session_machine.specs.SharedStage.{staged_of}
 use Rattle.session_machine.specs.Telling.{sent_standing}
 use Rattle.session_steps.specs.declared.point.Point.{Point}

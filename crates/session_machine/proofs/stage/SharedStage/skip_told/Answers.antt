@@ -1,6 +1,6 @@
 use Rattle.std.proofs.Common.{◌≡◌, ◌++◌, sym, ap, ◌∙◌, ◌∷◌, [], length, suc, subst, ◌<◌, Some, length-set}
 use Rattle.line_moments.specs.declared.moment.Manner.TheVariants.{IsNotSent}
-use Rattle.transcripts.specs.declared.event.Event.TheVariants.{NotSent}
+use Rattle.events.specs.declared.event.Event.TheVariants.{NotSent}
 use Rattle.machine_model.specs.Sound.{Steady}
 use Rattle.machine_model.specs.World.{send}
 use Rattle.session_machine.specs.SharedStage.{staged_of}

@@ -4,12 +4,12 @@ use Rattle.bound_specs.specs.Spec.{SpecFile, line_of}
 use Rattle.machine_model.specs.World.{send_all, outcome_of}
 use Rattle.rank_facts.specs.Facts.{IsFactOf}
 use Rattle.rank_facts.specs.declared.fact.Fact.TheVariants.{Ran}
-use Rattle.marked_paths.specs.Fronts.{front}
-use Rattle.marked_paths.specs.Paths.{first_world}
-use Rattle.marked_paths.proofs.FrontLemmas.{front-new}
-use Rattle.marked_paths.specs.declared.path.MarkedPath.{MarkedPath}
-use Rattle.marked_paths.specs.Paths.{IsPath}
-use Rattle.marked_paths.proofs.PathLemmas.{path-own, path-told, path-told-more, path-world}
+use Rattle.known_worlds.specs.Fronts.{front}
+use Rattle.known_worlds.specs.Paths.{first_world}
+use Rattle.known_worlds.proofs.FrontLemmas.{front-new}
+use Rattle.known_worlds.specs.declared.path.MarkedPath.{MarkedPath}
+use Rattle.known_worlds.specs.Paths.{IsPath}
+use Rattle.known_worlds.proofs.PathLemmas.{path-own, path-told, path-told-more, path-world}
 use Rattle.step_reducer.proofs.Firsts.{line-fact, line-ran}
 use Rattle.step_reducer.proofs.line_walk.LineWalk.next_run.Goals as goal
 

@@ -1,5 +1,5 @@
 use Rattle.std.proofs.Common.{◌≡◌, ap, ◌∙◌, ◌-◌, false, true, arith}
-use Rattle.marked_paths.specs.Paths.{first_world}
+use Rattle.known_worlds.specs.Paths.{first_world}
 use Rattle.step_reducer.specs.Fronts.{line_before}
 use Rattle.step_reducer.proofs.walk.Walk.start.Goals as goal
 

@@ -1,5 +1,5 @@
 use Rattle.std.specs.Prelude.{All, length, take}
-use Rattle.transcripts.specs.Outcome.{HasStep}
+use Rattle.events.specs.Fits.{HasStep}
 use Rattle.transcripts.proofs.names.Names.fit.Given as goal
 
 -- the first sessions name steps that have names

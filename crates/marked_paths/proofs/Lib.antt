@@ -1,3 +1,0 @@
-mod AlongLemmas
-pub mod FrontLemmas
-pub mod PathLemmas
