@@ -1,8 +1,11 @@
 -- One part after another is bound, with the tables that are declared so far.
 use Rattle.std.proofs.Common.{◌≡◌, refl, sym, ap, ◌∙◌, ℕ, suc, ◌+◌, ◌<◌, List, [], ◌∷◌, ◌++◌, length, map, get_or, drop, Ok, Err, drop-cons, add-one}
 use Rattle.std.proofs.Common.{append_assoc}
+use Rattle.binding_model.specs.declared.error.BindError.{BindError}
+use Rattle.binding_model.specs.declared.error.BindStop.{BindStop}
+use Rattle.binding_model.specs.declared.error.BindStop.TheVariants.{Memory, Refused}
 use Rattle.binding_model.specs.declared.tables.Table.{Table}
-use Rattle.binding_model.specs.Refusals.{Bind, ◌>>=◌}
+use Rattle.binding_model.specs.Refusals.{Bind, Binds, ◌>>=◌}
 use Rattle.bound_specs.specs.Binding.{then_more, declared}
 
 more_twice : {X : Type 0} (xs ys : List X) (r : Bind (List Table × List X)) → then_more xs (then_more ys r) ≡ then_more (xs ++ ys) r
@@ -28,6 +31,17 @@ module _ {A X : Type 0} (f : List Table → A → Bind (List Table × List X)) w
       ∙ step_by xs (f tables (get_or as' k d)) (drop (suc k) as') new ys e
       ∙ ap (λ n. then_more ys (declared f new (drop n as'))) (sym (add-one k))
 
+  -- what is refused of the next part is refused of all
+  pub declared-refused : (tables : List Table) (xs : List X) (as' : List A) (k : ℕ) (d : A) (e : BindError) → k < length as'
+      → then_more xs (f tables (get_or as' k d)) ≡ Err e → then_more xs (declared f tables (drop k as')) ≡ Err e
+  declared-refused tables xs as' k d e h told =
+      ap (λ bs. then_more xs (declared f tables bs)) (drop-cons as' k d h) ∙ refused_by xs (f tables (get_or as' k d)) told
+    where
+      refused_by : (xs : List X) (r : Bind (List Table × List X)) → then_more xs r ≡ Err e
+          → then_more xs (r >>= λ x. then_more x.1 (declared f x.0 (drop (suc k) as'))) ≡ Err e
+      refused_by xs (Ok y) told = absurd (cc told)
+      refused_by xs (Err e') told = told
+
   pub declared-starts : (tables : List Table) (as' : List A) → then_more [] (declared f tables as') ≡ declared f tables as'
   declared-starts tables as' = none_more (declared f tables as')
     where
@@ -44,3 +58,9 @@ pub declared-map : {A B X : Type 0} (g : A → B) (f : List Table → B → Bind
     → declared f tables (map g as') ≡ declared (λ t a. f t (g a)) tables as'
 declared-map g f [] tables = refl
 declared-map g f (a ∷ as') tables = more_map (f tables (g a)) (λ t. declared f t (map g as')) (λ t. declared (λ t a. f t (g a)) t as') (declared-map g f as')
+
+-- what is refused of one is refused of the other
+pub still-refused : {Y : Type 0} (y : Y) (e : BindStop) (r s : Bind Y) → Binds {X = Unit {0}} (λ u. y) (Err e) r
+    → ((e' : BindError) → r ≡ Err e' → s ≡ Err e') → Binds {X = Unit {0}} (λ u. y) (Err e) s
+still-refused y Memory r s told h = tt
+still-refused y (Refused e') r s told h = h e' told
