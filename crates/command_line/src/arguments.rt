@@ -8,64 +8,300 @@ use std::alloc::{AllocError, Global};
 /// The words of an expectation, at most: a SELECT, and more values than a row has.
 const MAX_EXPECTED: usize = 1_000;
 
-/// A word that a command takes.
+/// A word that a command takes: what it is called, what is told of it, and its form.
 #[derive(Clone, Copy, Drop)]
-pub enum Word {
-    Spec,
-    SpecOrBooks,
-    OfBooks,
-    Rank,
-    Names,
-    Order,
-    Json,
-    Html,
-    Answers,
-    Waits,
-    NoWaits,
-    Deadlock,
-    NoDeadlock,
-    Error,
-    NoError,
-    Unsent,
-    NoUnsent,
-    Stuck,
-    NoStuck,
-    NoSerial,
-    Serial,
-    Look,
-    Expect,
-    Ranks,
-    Outcomes,
-    Left,
-    Brief,
-    First,
-    End,
-    FirstOfAll,
-    EndOfAll,
-    Every,
-    Workers,
-    Progress,
-    Books,
-    Lines,
-    Book,
-    Accepted,
-    Show,
-    Specs,
-    Update,
-    Junit,
+pub struct Word {
+    name: &'static str,
+    help: &'static str,
+    form: Form,
 }
 
-/// The word with what it takes of others.
-pub fn ruled<'a>(word: Word, arg: Arg<'a>) -> Result<Arg<'a>, AllocError> {
-    match word {
-        Word::SpecOrBooks => arg.required(false).required_unless_present("book"),
-        Word::OfBooks => arg.conflicts_with_all(NOT_OF_BOOKS),
-        Word::Html => arg.conflicts_with_all(NOT_OF_PAGES),
-        Word::FirstOfAll => arg.required(false).requires_arg("END"),
-        Word::EndOfAll => Ok(arg.required(false)),
-        _ => Ok(arg),
-    }
+/// The forms of words.
+#[derive(Clone, Copy, Drop)]
+enum Form {
+    /// One value.
+    One,
+    /// One value, unless books are named.
+    OneOrBooks,
+    /// A number.
+    Number,
+    /// A number, or none; with it there is an END.
+    FirstOfAll,
+    /// A number, or none.
+    EndOfAll,
+    /// Names of steps.
+    Names,
+    /// Paths of files.
+    Books,
+    /// `--name`
+    Flag,
+    /// `--name`, of which some flags are refused.
+    Page,
+    /// `--name` or `--name=SESSION`, as often as wanted.
+    Session,
+    /// `--name SELECT`, as often as wanted.
+    Select,
+    /// `--name SELECT VALUE..`, as often as wanted.
+    Expectation,
+    /// `--name N`
+    Workers,
+    /// `--name FILE`
+    File,
+    /// `--name BOOK`, as often as wanted, in place of a spec.
+    InPlaceOfSpec,
 }
+
+pub const SPEC: Word = Word {
+    name: "SPEC",
+    help: "A spec file",
+    form: Form::One,
+};
+
+pub const SPEC_OR_BOOKS: Word = Word {
+    name: "SPEC",
+    help: "A spec file",
+    form: Form::OneOrBooks,
+};
+
+pub const OF_BOOKS: Word = Word {
+    name: "book",
+    help: "Groups what these books of one spec tell, in place of all orders of a spec",
+    form: Form::InPlaceOfSpec,
+};
+
+pub const RANK: Word = Word {
+    name: "RANK",
+    help: "The number of a permutation, from 0",
+    form: Form::Number,
+};
+
+pub const NAMES: Word = Word {
+    name: "STEP",
+    help: "The names of the steps, in their order",
+    form: Form::Names,
+};
+
+pub const ORDER: Word = Word {
+    name: "ORDER",
+    help: "The number of a permutation, or the names of its steps in their order",
+    form: Form::Names,
+};
+
+pub const JSON: Word = Word {
+    name: "json",
+    help: "Prints it as JSON",
+    form: Form::Flag,
+};
+
+pub const HTML: Word = Word {
+    name: "html",
+    help: "Prints a page that a browser opens, with what happens in the first of each class",
+    form: Form::Page,
+};
+
+pub const ANSWERS: Word = Word {
+    name: "answers",
+    help: "Groups them by rows, counts and errors, and by the rows left, alone",
+    form: Form::Flag,
+};
+
+pub const WAITS: Word = Word {
+    name: "waits",
+    help: "Only those in which a session waits",
+    form: Form::Flag,
+};
+
+pub const NO_WAITS: Word = Word {
+    name: "no-waits",
+    help: "Only those in which no session waits",
+    form: Form::Flag,
+};
+
+pub const DEADLOCK: Word = Word {
+    name: "deadlock",
+    help: "Only those in which a session, or this one, loses a deadlock",
+    form: Form::Session,
+};
+
+pub const NO_DEADLOCK: Word = Word {
+    name: "no-deadlock",
+    help: "Only those in which no session, or not this one, loses a deadlock",
+    form: Form::Session,
+};
+
+pub const ERROR: Word = Word {
+    name: "error",
+    help: "Only those in which a session has another error of its own",
+    form: Form::Flag,
+};
+
+pub const NO_ERROR: Word = Word {
+    name: "no-error",
+    help: "Only those in which no session has another error of its own",
+    form: Form::Flag,
+};
+
+pub const UNSENT: Word = Word {
+    name: "unsent",
+    help: "Only those in which a step is not sent",
+    form: Form::Flag,
+};
+
+pub const NO_UNSENT: Word = Word {
+    name: "no-unsent",
+    help: "Only those in which each step is sent",
+    form: Form::Flag,
+};
+
+pub const STUCK: Word = Word {
+    name: "stuck",
+    help: "Only those in which a session still waits at the end",
+    form: Form::Flag,
+};
+
+pub const NO_STUCK: Word = Word {
+    name: "no-stuck",
+    help: "Only those in which no session waits at the end",
+    form: Form::Flag,
+};
+
+pub const NO_SERIAL: Word = Word {
+    name: "no-serial",
+    help: "Only those that answer as no serial order does",
+    form: Form::Flag,
+};
+
+pub const SERIAL: Word = Word {
+    name: "serial",
+    help: "Only those that answer as some serial order does",
+    form: Form::Flag,
+};
+
+pub const LOOK: Word = Word {
+    name: "look",
+    help: "Prints what it sees of what each class leaves too",
+    form: Form::Select,
+};
+
+pub const EXPECT: Word = Word {
+    name: "expect",
+    help: "Tells of how many it sees one row with these values, and which is the first of the others",
+    form: Form::Expectation,
+};
+
+pub const RANKS: Word = Word {
+    name: "ranks",
+    help: "Prints the numbers of each class too",
+    form: Form::Flag,
+};
+
+pub const OUTCOMES: Word = Word {
+    name: "outcomes",
+    help: "Prints what each session saw in the first of each class too",
+    form: Form::Flag,
+};
+
+pub const LEFT: Word = Word {
+    name: "left",
+    help: "Prints what each class leaves too",
+    form: Form::Flag,
+};
+
+pub const BRIEF: Word = Word {
+    name: "brief",
+    help: "Prints the totals alone",
+    form: Form::Flag,
+};
+
+pub const FIRST: Word = Word {
+    name: "FIRST",
+    help: "The number of the first permutation",
+    form: Form::Number,
+};
+
+pub const END: Word = Word {
+    name: "END",
+    help: "The number behind that of the last permutation",
+    form: Form::Number,
+};
+
+pub const FIRST_OF_ALL: Word = Word {
+    name: "FIRST",
+    help: "The number of the first permutation; all are run where none is named",
+    form: Form::FirstOfAll,
+};
+
+pub const END_OF_ALL: Word = Word {
+    name: "END",
+    help: "The number behind that of the last permutation",
+    form: Form::EndOfAll,
+};
+
+pub const EVERY: Word = Word {
+    name: "every",
+    help: "Runs every permutation, and skips none that a smaller one covers",
+    form: Form::Flag,
+};
+
+pub const WORKERS: Word = Word {
+    name: "workers",
+    help: "How many workers run it, from 1 to 16",
+    form: Form::Workers,
+};
+
+pub const PROGRESS: Word = Word {
+    name: "progress",
+    help: "Tells on standard error how far it is",
+    form: Form::Flag,
+};
+
+pub const BOOKS: Word = Word {
+    name: "BOOK",
+    help: "Book files of one spec",
+    form: Form::Books,
+};
+
+pub const LINES: Word = Word {
+    name: "lines",
+    help: "Prints FIRST and END of each range that is to be run, so that none is missing",
+    form: Form::Flag,
+};
+
+pub const BOOK: Word = Word {
+    name: "BOOK",
+    help: "A book file",
+    form: Form::One,
+};
+
+pub const ACCEPTED: Word = Word {
+    name: "ACCEPTED",
+    help: "Book files of outcomes that are accepted",
+    form: Form::Books,
+};
+
+pub const SHOW: Word = Word {
+    name: "show",
+    help: "Prints also what the nearest accepted book and this one tell where they differ",
+    form: Form::Flag,
+};
+
+pub const SPECS: Word = Word {
+    name: "PATH",
+    help: "Spec files, or folders of them",
+    form: Form::Books,
+};
+
+pub const UPDATE: Word = Word {
+    name: "update",
+    help: "Accepts the classes as they are: writes NAME.accepted beside each NAME.spec",
+    form: Form::Flag,
+};
+
+pub const JUNIT: Word = Word {
+    name: "junit",
+    help: "Writes a report in the form of JUnit to this file",
+    form: Form::File,
+};
 
 /// What is not asked of books.
 static NOT_OF_BOOKS: &[&str] = &[
@@ -94,231 +330,95 @@ static NOT_OF_BOOKS: &[&str] = &[
 /// What does not go with a page.
 static NOT_OF_PAGES: &[&str] = &["json", "brief"];
 
-pub fn arg_of<'a>(alloc: Global, word: Word) -> Arg<'a> {
-    match word {
-        Word::Spec | Word::SpecOrBooks => spec_word(alloc),
-        Word::OfBooks => of_books_word(alloc),
-        Word::Rank => number_word(alloc, "RANK", "The number of a permutation, from 0"),
-        Word::Names => names_word(alloc, "STEP", "The names of the steps, in their order"),
-        Word::Order => names_word(
-            alloc,
-            "ORDER",
-            "The number of a permutation, or the names of its steps in their order",
-        ),
-        Word::Json => flag_word(alloc, "json", "Prints it as JSON"),
-        Word::Html => flag_word(
-            alloc,
-            "html",
-            "Prints a page that a browser opens, with what happens in the first of each class",
-        ),
-        Word::Answers => flag_word(
-            alloc,
-            "answers",
-            "Groups them by rows, counts and errors, and by the rows left, alone",
-        ),
-        Word::Waits => flag_word(alloc, "waits", "Only those in which a session waits"),
-        Word::NoWaits => flag_word(alloc, "no-waits", "Only those in which no session waits"),
-        Word::Deadlock => session_word(
-            alloc,
-            "deadlock",
-            "Only those in which a session, or this one, loses a deadlock",
-        ),
-        Word::NoDeadlock => session_word(
-            alloc,
-            "no-deadlock",
-            "Only those in which no session, or not this one, loses a deadlock",
-        ),
-        Word::Error => flag_word(
-            alloc,
-            "error",
-            "Only those in which a session has another error of its own",
-        ),
-        Word::NoError => flag_word(
-            alloc,
-            "no-error",
-            "Only those in which no session has another error of its own",
-        ),
-        Word::Unsent => flag_word(alloc, "unsent", "Only those in which a step is not sent"),
-        Word::NoUnsent => flag_word(alloc, "no-unsent", "Only those in which each step is sent"),
-        Word::Stuck => flag_word(
-            alloc,
-            "stuck",
-            "Only those in which a session still waits at the end",
-        ),
-        Word::NoStuck => flag_word(
-            alloc,
-            "no-stuck",
-            "Only those in which no session waits at the end",
-        ),
-        Word::NoSerial => flag_word(
-            alloc,
-            "no-serial",
-            "Only those that answer as no serial order does",
-        ),
-        Word::Serial => flag_word(
-            alloc,
-            "serial",
-            "Only those that answer as some serial order does",
-        ),
-        Word::Look => look_word(alloc),
-        Word::Expect => expect_word(alloc),
-        Word::Ranks => flag_word(alloc, "ranks", "Prints the numbers of each class too"),
-        Word::Outcomes => flag_word(
-            alloc,
-            "outcomes",
-            "Prints what each session saw in the first of each class too",
-        ),
-        Word::Left => flag_word(alloc, "left", "Prints what each class leaves too"),
-        Word::Brief => flag_word(alloc, "brief", "Prints the totals alone"),
-        Word::First => number_word(alloc, "FIRST", "The number of the first permutation"),
-        Word::End => number_word(
-            alloc,
-            "END",
-            "The number behind that of the last permutation",
-        ),
-        Word::FirstOfAll => number_word(
-            alloc,
-            "FIRST",
-            "The number of the first permutation; all are run where none is named",
-        ),
-        Word::EndOfAll => number_word(
-            alloc,
-            "END",
-            "The number behind that of the last permutation",
-        ),
-        Word::Every => flag_word(
-            alloc,
-            "every",
-            "Runs every permutation, and skips none that a smaller one covers",
-        ),
-        Word::Workers => workers_word(alloc),
-        Word::Progress => flag_word(alloc, "progress", "Tells on standard error how far it is"),
-        Word::Books => books_word(alloc, "BOOK", "Book files of one spec"),
-        Word::Lines => flag_word(
-            alloc,
-            "lines",
-            "Prints FIRST and END of each range that is to be run, so that none is missing",
-        ),
-        Word::Book => book_word(alloc),
-        Word::Accepted => books_word(
-            alloc,
-            "ACCEPTED",
-            "Book files of outcomes that are accepted",
-        ),
-        Word::Show => flag_word(
-            alloc,
-            "show",
-            "Prints also what the nearest accepted book and this one tell where they differ",
-        ),
-        Word::Junit => junit_word(alloc),
-        Word::Specs => books_word(alloc, "PATH", "Spec files, or folders of them"),
-        Word::Update => flag_word(
-            alloc,
-            "update",
-            "Accepts the classes as they are: writes NAME.accepted beside each NAME.spec",
-        ),
+/// The word as `clap` takes it.
+pub fn arg_of<'a>(alloc: Global, word: &Word) -> Result<Arg<'a>, AllocError> {
+    match word.form {
+        Form::One => Ok(one(alloc, word)),
+        Form::OneOrBooks => one(alloc, word)
+            .required(false)
+            .required_unless_present("book"),
+        Form::Number => Ok(number(alloc, word)),
+        Form::FirstOfAll => number(alloc, word).required(false).requires_arg("END"),
+        Form::EndOfAll => Ok(number(alloc, word).required(false)),
+        Form::Names => Ok(some(alloc, word, MAX_NAMES)),
+        Form::Books => Ok(some(alloc, word, MAX_BOOKS)),
+        Form::Flag => Ok(flag(alloc, word)),
+        Form::Page => flag(alloc, word).conflicts_with_all(NOT_OF_PAGES),
+        Form::Session => Ok(session(alloc, word)),
+        Form::Select => Ok(select(alloc, word)),
+        Form::Expectation => Ok(expectation(alloc, word)),
+        Form::Workers => Ok(workers(alloc, word)),
+        Form::File => Ok(file(alloc, word)),
+        Form::InPlaceOfSpec => books(alloc, word).conflicts_with_all(NOT_OF_BOOKS),
     }
 }
 
-/// A word that is there or not.
-fn flag_word<'a>(alloc: Global, name: &'a str, help: &'a str) -> Arg<'a> {
-    Arg::new(alloc, name)
-        .long(name)
-        .action(ArgAction::SetTrue)
-        .help(help)
+/// A word in its place.
+fn place<'a>(alloc: Global, word: &Word) -> Arg<'a> {
+    Arg::new(alloc, word.name).required(true).help(word.help)
 }
 
-/// A word that is there or not, as often as wanted, and may have a session behind an equals sign.
-fn session_word<'a>(alloc: Global, name: &'a str, help: &'a str) -> Arg<'a> {
-    Arg::new(alloc, name)
-        .long(name)
+fn one<'a>(alloc: Global, word: &Word) -> Arg<'a> {
+    place(alloc, word).action(ArgAction::Set)
+}
+
+fn number<'a>(alloc: Global, word: &Word) -> Arg<'a> {
+    one(alloc, word).value_parser(value_parser!(u64))
+}
+
+/// One or more, and so many at most.
+fn some<'a>(alloc: Global, word: &Word, most: usize) -> Arg<'a> {
+    place(alloc, word)
+        .action(ArgAction::Append)
+        .num_args(1..=most)
+}
+
+/// A word behind two hyphens.
+fn named<'a>(alloc: Global, word: &Word) -> Arg<'a> {
+    Arg::new(alloc, word.name).long(word.name).help(word.help)
+}
+
+fn flag<'a>(alloc: Global, word: &Word) -> Arg<'a> {
+    named(alloc, word).action(ArgAction::SetTrue)
+}
+
+fn session<'a>(alloc: Global, word: &Word) -> Arg<'a> {
+    named(alloc, word)
         .value_name("SESSION")
         .action(ArgAction::Append)
         .num_args(0..=1)
         .require_equals(true)
-        .help(help)
 }
 
-fn look_word<'a>(alloc: Global) -> Arg<'a> {
-    Arg::new(alloc, "look")
-        .long("look")
+fn select<'a>(alloc: Global, word: &Word) -> Arg<'a> {
+    named(alloc, word)
         .value_name("SELECT")
         .action(ArgAction::Append)
-        .help("Prints what it sees of what each class leaves too")
 }
 
-fn expect_word<'a>(alloc: Global) -> Arg<'a> {
-    Arg::new(alloc, "expect")
-        .long("expect")
+fn expectation<'a>(alloc: Global, word: &Word) -> Arg<'a> {
+    named(alloc, word)
         .value_names(&["SELECT", "VALUE"])
         .action(ArgAction::Append)
         .num_args(2..=MAX_EXPECTED)
         .allow_negative_numbers(true)
-        .help(
-            "Tells of how many it sees one row with these values, and which is the first of the others",
-        )
 }
 
-fn workers_word<'a>(alloc: Global) -> Arg<'a> {
-    Arg::new(alloc, "workers")
-        .long("workers")
+fn workers<'a>(alloc: Global, word: &Word) -> Arg<'a> {
+    named(alloc, word)
         .value_name("N")
         .action(ArgAction::Set)
         .value_parser(value_parser!(u8).range(1..=i64::from(MAX_SEATS)))
         .default_value(DEFAULT_WORKERS_WORD)
-        .help("How many workers run it, from 1 to 16")
 }
 
-fn junit_word<'a>(alloc: Global) -> Arg<'a> {
-    Arg::new(alloc, "junit")
-        .long("junit")
-        .value_name("FILE")
-        .help("Writes a report in the form of JUnit to this file")
+fn file<'a>(alloc: Global, word: &Word) -> Arg<'a> {
+    named(alloc, word).value_name("FILE")
 }
 
-fn books_word<'a>(alloc: Global, name: &'a str, help: &'a str) -> Arg<'a> {
-    Arg::new(alloc, name)
-        .required(true)
-        .action(ArgAction::Append)
-        .num_args(1..=MAX_BOOKS)
-        .help(help)
-}
-
-fn of_books_word<'a>(alloc: Global) -> Arg<'a> {
-    Arg::new(alloc, "book")
-        .long("book")
+fn books<'a>(alloc: Global, word: &Word) -> Arg<'a> {
+    named(alloc, word)
         .value_name("BOOK")
         .action(ArgAction::Append)
         .num_args(1..=MAX_BOOKS)
-        .help("Groups what these books of one spec tell, in place of all orders of a spec")
-}
-
-fn names_word<'a>(alloc: Global, name: &'a str, help: &'a str) -> Arg<'a> {
-    Arg::new(alloc, name)
-        .required(true)
-        .action(ArgAction::Append)
-        .num_args(1..=MAX_NAMES)
-        .help(help)
-}
-
-fn book_word<'a>(alloc: Global) -> Arg<'a> {
-    Arg::new(alloc, "BOOK")
-        .required(true)
-        .action(ArgAction::Set)
-        .help("A book file")
-}
-
-fn spec_word<'a>(alloc: Global) -> Arg<'a> {
-    Arg::new(alloc, "SPEC")
-        .required(true)
-        .action(ArgAction::Set)
-        .help("A spec file")
-}
-
-fn number_word<'a>(alloc: Global, name: &'a str, help: &'a str) -> Arg<'a> {
-    Arg::new(alloc, name)
-        .required(true)
-        .action(ArgAction::Set)
-        .value_parser(value_parser!(u64))
-        .help(help)
 }

@@ -1,6 +1,11 @@
 //! The commands of the command line, each with its words.
 
-use crate::arguments::{Word, arg_of, ruled};
+use crate::arguments::{
+    ACCEPTED, ANSWERS, BOOK, BOOKS, BRIEF, DEADLOCK, END, END_OF_ALL, ERROR, EVERY, EXPECT, FIRST,
+    FIRST_OF_ALL, HTML, JSON, JUNIT, LEFT, LINES, LOOK, NAMES, NO_DEADLOCK, NO_ERROR, NO_SERIAL,
+    NO_STUCK, NO_UNSENT, NO_WAITS, OF_BOOKS, ORDER, OUTCOMES, PROGRESS, RANK, RANKS, SERIAL, SHOW,
+    SPEC, SPEC_OR_BOOKS, SPECS, STUCK, UNSENT, UPDATE, WAITS, WORKERS, Word, arg_of,
+};
 use clap::Command;
 use std::alloc::{AllocError, Global};
 
@@ -22,110 +27,103 @@ static COMMANDS: [Row; 15] = [
     Row {
         spelled: "check",
         about: "Prints how much a spec has, or where it is wrong and why",
-        words: &[Word::Spec],
+        words: &[SPEC],
     },
     Row {
         spelled: "one",
         about: "Runs one permutation and prints what each session saw",
-        words: &[Word::Spec, Word::Rank],
+        words: &[SPEC, RANK],
     },
     Row {
         spelled: "count",
         about: "Prints how many permutations a spec has",
-        words: &[Word::Spec],
+        words: &[SPEC],
     },
     Row {
         spelled: "rank",
         about: "Prints the number of the permutation with these steps",
-        words: &[Word::Spec, Word::Names],
+        words: &[SPEC, NAMES],
     },
     Row {
         spelled: "order",
         about: "Prints the steps of a permutation",
-        words: &[Word::Spec, Word::Rank],
+        words: &[SPEC, RANK],
     },
     Row {
         spelled: "show",
         about: "Prints what happens in one order, moment by moment, and why",
-        words: &[Word::Spec, Word::Order, Word::Json],
+        words: &[SPEC, ORDER, JSON],
     },
     Row {
         spelled: "classes",
         about: "Prints which different things all permutations show, how often, and which one shows each first",
         words: &[
-            Word::SpecOrBooks,
-            Word::OfBooks,
-            Word::Answers,
-            Word::Waits,
-            Word::NoWaits,
-            Word::Deadlock,
-            Word::NoDeadlock,
-            Word::Error,
-            Word::NoError,
-            Word::Unsent,
-            Word::NoUnsent,
-            Word::Stuck,
-            Word::NoStuck,
-            Word::NoSerial,
-            Word::Serial,
-            Word::Look,
-            Word::Expect,
-            Word::Ranks,
-            Word::Outcomes,
-            Word::Left,
-            Word::Brief,
-            Word::Json,
-            Word::Html,
-            Word::Workers,
-            Word::Progress,
+            SPEC_OR_BOOKS,
+            OF_BOOKS,
+            ANSWERS,
+            WAITS,
+            NO_WAITS,
+            DEADLOCK,
+            NO_DEADLOCK,
+            ERROR,
+            NO_ERROR,
+            UNSENT,
+            NO_UNSENT,
+            STUCK,
+            NO_STUCK,
+            NO_SERIAL,
+            SERIAL,
+            LOOK,
+            EXPECT,
+            RANKS,
+            OUTCOMES,
+            LEFT,
+            BRIEF,
+            JSON,
+            HTML,
+            WORKERS,
+            PROGRESS,
         ],
     },
     Row {
         spelled: "run",
         about: "Runs all permutations, or a range of them, and prints the book of what they show",
-        words: &[
-            Word::Spec,
-            Word::FirstOfAll,
-            Word::EndOfAll,
-            Word::Every,
-            Word::Workers,
-            Word::Progress,
-        ],
+        words: &[SPEC, FIRST_OF_ALL, END_OF_ALL, EVERY, WORKERS, PROGRESS],
     },
     Row {
         spelled: "join",
         about: "Prints one book with the facts of all",
-        words: &[Word::Books],
+        words: &[BOOKS],
     },
     Row {
         spelled: "missing",
         about: "Prints the numbers of the permutations of which books tell nothing",
-        words: &[Word::Books, Word::Lines],
+        words: &[BOOKS, LINES],
     },
     Row {
         spelled: "holds",
         about: "Prints whether a book is of a spec and has a fact of each permutation of a range",
-        words: &[Word::Book, Word::Spec, Word::First, Word::End],
+        words: &[BOOK, SPEC, FIRST, END],
     },
     Row {
         spelled: "report",
         about: "Prints what each session saw in each permutation",
-        words: &[Word::Book],
+        words: &[BOOK],
     },
     Row {
         spelled: "audit",
         about: "Tests each fact of a book again, and prints the first permutation with a false one",
-        words: &[Word::Book],
+        words: &[BOOK],
     },
     Row {
         spelled: "judge",
         about: "Prints which accepted book tells the same, or where each differs first",
-        words: &[Word::Book, Word::Accepted, Word::Show],
+        words: &[BOOK, ACCEPTED, SHOW],
     },
     Row {
         spelled: "test",
         about: "Prints whether the classes of specs are as accepted, or how they differ",
-        words: &[Word::Specs, Word::Update, Word::Junit, Word::Workers],
+        words: &[SPECS, UPDATE, JUNIT, WORKERS],
     },
 ];
 
@@ -157,7 +155,7 @@ fn with<'a>(
 fn command_of<'a>(alloc: Global, row: &'static Row) -> Result<Command<'a>, AllocError> {
     let mut command = Command::new(alloc, row.spelled).about(row.about);
     for word in row.words {
-        command = command.arg(ruled(*word, arg_of(alloc, *word))?)?;
+        command = command.arg(arg_of(alloc, word)?)?;
     }
     Ok(command)
 }
