@@ -40,8 +40,8 @@ def letters_by_moments(order, is_serial_answer):
         "E": bool(events & ({*FAULTS} - {DEADLOCK, ABORTED})),
         "N": any(moment.kind == NOT_SENT for moment in order.moments),
         "S": WAITS in order.standing,
-        "R": not is_serial_answer,
     }
+    has["R"] = not (has["D"] or has["E"] or has["S"] or is_serial_answer)
     return {letter for letter, is_so in has.items() if is_so}
 
 

@@ -84,7 +84,7 @@ def wrong_total(letter, total, rows, by_answers):
     if not total:
         if letter != "R" or having:
             yield f"{letter} is not told, or has a class"
-    elif total[1] != len(having) or (total[0] != sum(having) and not (by_answers and letter == "S")):
+    elif total[1] != len(having) or (total[0] != sum(having) and not (by_answers and letter in ("S", "R"))):
         yield f"{letter} has not so many orders or classes as its rows"
     elif not len(having) <= total[0] <= sum(having):
         yield f"{letter} has more orders than its rows, or not one in each"

@@ -34,7 +34,7 @@ WORDS = {
     "E": "another error of its own",
     "N": "a step is not sent, since its session waits",
     "S": "a session still waits at the end",
-    "R": "no serial order answers so",
+    "R": "anomaly: no error, yet no serial order gives this result",
 }
 OF_SHOWS, OF_ANSWERS, OF_BOOKS = "WDENSR", "DESR", "WDEN"
 LEAST_ORDERS, OF_SHARE, LEAST_CLASSES, LEAST_LETTERS, LEAST_RANK = 6, 9, 7, 5, 4
@@ -150,7 +150,8 @@ class Classes:
 
     def group(self, one, ranges, serial):
         letters, orders = one.letters(), sum(last - first + 1 for first, last in ranges)
-        letters |= {"R"} if self.spec.lines is None and one.answer not in serial else set()
+        is_through = letters.isdisjoint({"D", "E", "S"})
+        letters |= {"R"} if self.spec.lines is None and is_through and one.answer not in serial else set()
         return Class(one, orders, Counter(dict.fromkeys(letters, orders)), ranges)
 
     def groups(self, asked):

@@ -44,7 +44,7 @@ BETWEEN = b'</script><script type="application/json" class="order">'
 MOST_CLASSES = 30
 LEAST_CONTRAST = 4.5
 FAULTS_TOLD = 5
-WORDS = {"W": "waits", "D": "deadlock", "E": "error", "N": "not sent", "S": "still waits", "R": "not serial"}
+WORDS = {"W": "waits", "D": "deadlock", "E": "error", "N": "not sent", "S": "still waits", "R": "anomaly"}
 OPEN = {"in": "is in a transaction", "failed": "is in a failed block"}
 BLOCKS = {"in": "is in a transaction", "failed": "is in a failed block, which takes COMMIT and ROLLBACK alone,", "out": "has no transaction open"}
 # Words of `isofarm classes` with which pages are made beside those without words.

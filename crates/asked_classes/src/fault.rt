@@ -8,7 +8,7 @@ use class_looks::LookFault;
 pub enum AskedFault<'a> {
     /// A filter asks for a session of this name, which the spec does not have.
     UnknownSession(&'a str),
-    /// A filter asks whether orders answer as no serial order does, which is not told of a file with permutation lines.
+    /// A filter asks whether orders are anomalies, which is not told of a file with permutation lines.
     NotTold,
     /// This text is no SELECT over the tables of the spec.
     NoLook(&'a str, LookFault),

@@ -63,7 +63,7 @@ module _ (tables : List Table) (spec : Spec) (filters : List Filter) (cs : List 
       (letter-number (λ l. true) (λ s. Unit {0}) (λ s r is. (λ h. tt, λ u. refl)))
 
 letter-r : (tables : List Table) (spec : Spec) → IsLetter tables spec has_r (LetterR tables spec)
-letter-r tables spec s None is = (λ h. absurd (let bad : false ≡ true = h in cc), λ odd. absurd (is odd.words))
+letter-r tables spec s None is = (λ h. absurd (let bad : false ≡ true = h in cc), λ odd. absurd (is odd.other.words))
 letter-r tables spec s (Some odd) is = is.1
 
 pub totals-told : (tables : List Table) (spec : Spec) (filters : List Filter) (by : Grouping) (x : Classed) → IsClassed tables spec filters by x

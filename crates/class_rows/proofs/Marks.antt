@@ -1,5 +1,5 @@
--- What answers as no serial order does, by marks.
-use Rattle.std.proofs.Common.{◌≡◌, ◌≢◌, ◌↔◌, refl, sym, ap, ◌∙◌, subst, ℕ, zero, suc, ◌<◌, Bool, true, false, not, Option, Some, None, List, [], ◌∷◌, length, get_or, set, map, replicate, ◌⊎◌, inl, inr, ⊎_elim, option_map, arith}
+-- What is an anomaly, by marks.
+use Rattle.std.proofs.Common.{◌≡◌, ◌≢◌, ◌↔◌, refl, sym, ap, ◌∙◌, subst, ℕ, zero, suc, ◌<◌, Bool, true, false, not, ◌&&◌, Option, Some, None, List, [], ◌∷◌, length, get_or, set, map, replicate, ◌⊎◌, inl, inr, ⊎_elim, option_map, arith}
 use Rattle.std.proofs.Common.{length-set, get_or-set_same, get_or-set_other}
 use Rattle.std.proofs.lemmas.List.{get_or-replicate}
 use Rattle.std.specs.List.{slice_get}
@@ -10,13 +10,13 @@ use Rattle.bound_specs.specs.Spec.{Spec, ranks}
 use Rattle.order_classes.specs.declared.shows.Shows.{Shows}
 use Rattle.order_classes.specs.declared.rows.Grouping.TheVariants as by
 use Rattle.order_classes.specs.Shows.{shows_at, shows_of_line}
-use Rattle.order_classes.specs.Letters.{answers_of, serial_line, LetterR, IsR}
+use Rattle.order_classes.specs.Letters.{answers_of, is_through, serial_line, IsNotSerial, LetterR, IsR}
 use Rattle.class_stretches.specs.Mapping.{number_of}
 use Rattle.class_groups.specs.declared.sweep.Groups.{Groups}
 use Rattle.class_groups.specs.Groups.{IsSwept}
 use Rattle.class_rows.specs.Serial.{AreSerialRanks}
-use Rattle.class_rows.specs.Numbering.{IsNumberOf, AreNumbered, marked, number_at, marks_by, not_marked, AreR}
-use Rattle.class_rows.proofs.Numbers.{order-few}
+use Rattle.class_rows.specs.Numbering.{IsNumberOf, AreNumbered, marked, number_at, marks_by, not_marked, anomaly_by, each_by, AreR}
+use Rattle.class_rows.proofs.Numbers.{order-few, each-length, each-get}
 
 pub same-or-not : (n m : ℕ) → (n ≡ m) ⊎ (n ≢ m)
 same-or-not n m =
@@ -55,9 +55,21 @@ map-among f y [] m = absurd m
 map-among f y (x ∷ xs) (inl e) = (x, inl refl, e)
 map-among f y (x ∷ xs) (inr m) = let r = map-among f y xs m in (r.0, inr r.1, r.2)
 
+both-true : (a b : Bool) → (a && b) ≡ true → (a ≡ true) × (b ≡ true)
+both-true true b h = (refl, h)
+both-true false b h = cc
+
+true-both : (a b : Bool) → a ≡ true → b ≡ true → (a && b) ≡ true
+true-both true b h k = k
+true-both false b h k = cc
+
 not-true : (b : Bool) → not b ≡ true → b ≡ false
 not-true true h = cc
 not-true false h = refl
+
+pub not-marked-length : (ns : List (Option ℕ)) (marks : List Bool) → length (map (not_marked marks) ns) ≡ length ns
+not-marked-length [] marks = refl
+not-marked-length (n ∷ ns) marks = ap suc (not-marked-length ns marks)
 
 module _ (tables : List Table) (spec : Spec) (g : Groups) (swept : IsSwept tables spec g) (rs : List ℕ) (serial : AreSerialRanks spec rs)
     (none : spec.lines ≡ []) (chosen : List Bool) (all : (c : ℕ) → c < length g.shows.items → get_or chosen c false ≡ true)
@@ -95,7 +107,7 @@ module _ (tables : List Table) (spec : Spec) (g : Groups) (swept : IsSwept table
       replicated (suc k) = ap suc (replicated k)
 
   told-r : (s : Shows) (n : ℕ) → slice_get numbered.items n ≡ Some (answers_of s)
-      → (not (get_or (marks_by g.stretches.list numbers rs) n false) ≡ true) ↔ LetterR tables spec s
+      → (not (get_or (marks_by g.stretches.list numbers rs) n false) ≡ true) ↔ IsNotSerial tables spec (answers_of s)
   told-r s n at = (
     λ h. record {
       words = none;
@@ -117,7 +129,7 @@ module _ (tables : List Table) (spec : Spec) (g : Groups) (swept : IsSwept table
     λ letter. by-mark letter (get_or (marks_by g.stretches.list numbers rs) n false) refl,
   )
     where
-      by-mark : LetterR tables spec s → (b : Bool) → get_or (marks_by g.stretches.list numbers rs) n false ≡ b → not b ≡ true
+      by-mark : IsNotSerial tables spec (answers_of s) → (b : Bool) → get_or (marks_by g.stretches.list numbers rs) n false ≡ b → not b ≡ true
       by-mark letter false is = refl
       by-mark letter true is =
           let x = map-among (number_at g.stretches.list numbers) (Some n) rs ((marks-have n (answers_of s) at).0 is) in
@@ -128,24 +140,40 @@ module _ (tables : List Table) (spec : Spec) (g : Groups) (swept : IsSwept table
           absurd (letter.none order.0 order.1
           (ap (λ line. option_map answers_of (shows_of_line tables spec line)) (sym order.2.1) ∙ ap (option_map answers_of) y.2 ∙ equal))
 
-  not-marked-length : (ns : List (Option ℕ)) (marks : List Bool) → length (map (not_marked marks) ns) ≡ length ns
-  not-marked-length [] marks = refl
-  not-marked-length (n ∷ ns) marks = ap suc (not-marked-length ns marks)
-
   get-map : (ns : List (Option ℕ)) (marks : List Bool) (c : ℕ) → c < length ns → get_or (map (not_marked marks) ns) c None ≡ not_marked marks (get_or ns c None)
   get-map [] marks c lt = absurd (omega (arith, lt))
   get-map (n ∷ ns) marks zero lt = refl
   get-map (n ∷ ns) marks (suc c) lt = get-map ns marks c (omega (arith, lt))
 
-  pub told-by-marks : AreR tables spec g.shows.items (map (not_marked (marks_by g.stretches.list numbers rs)) numbers)
+  others : List (Option Bool)
+  others = map (not_marked (marks_by g.stretches.list numbers rs)) numbers
+
+  others-long : length others ≡ length g.shows.items
+  others-long = not-marked-length numbers (marks_by g.stretches.list numbers rs) ∙ numbered.all.long
+
+  -- it is an anomaly where its sessions are through and its number is not marked
+  told-of : (s : Shows) (n : ℕ) → slice_get numbered.items n ≡ Some (answers_of s)
+      → IsR tables spec s (anomaly_by s (not_marked (marks_by g.stretches.list numbers rs) (Some n)))
+  told-of s n at =
+      let told = told-r s n at in
+      let b : Bool = not (get_or (marks_by g.stretches.list numbers rs) n false) in (
+        none,
+        (
+          λ h. let both = both-true (is_through s) b h in record { through = both.0; other = told.0 both.1 },
+          λ letter. true-both (is_through s) b letter.through (told.1 letter.other),
+        ),
+      )
+
+  pub told-by-marks : AreR tables spec g.shows.items (each_by anomaly_by g.shows.items others)
   told-by-marks = record {
-    long = not-marked-length numbers (marks_by g.stretches.list numbers rs) ∙ numbered.all.long;
+    long = each-length anomaly_by g.shows.items others others-long;
     each = λ c s at.
         (let o = own c s at in
         let inside = slice_get_within g.shows.items c s at in
         let long = numbered.all.long in
         let is = get-map numbers (marks_by g.stretches.list numbers rs) c (omega (arith, inside, long)) in
-        subst (IsR tables spec s) (sym (is ∙ ap (not_marked (marks_by g.stretches.list numbers rs)) o.1)) (none, told-r s o.0 o.2));
+        let here = each-get anomaly_by g.shows.items others c s None others-long at in
+        subst (IsR tables spec s) (sym (here ∙ ap (anomaly_by s) (is ∙ ap (not_marked (marks_by g.stretches.list numbers rs)) o.1))) (told-of s o.0 o.2));
   }
 
 -- of a spec with lines nothing is told

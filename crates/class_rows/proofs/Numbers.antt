@@ -10,7 +10,7 @@ use Rattle.order_classes.specs.declared.rows.Grouping.{Grouping}
 use Rattle.class_stretches.specs.Stretches.{MayCome, with_class}
 use Rattle.class_stretches.specs.Mapping.{ComeInOrder}
 use Rattle.class_stretches.proofs.Ranks.{with-known, with-next, known-or-next}
-use Rattle.class_rows.specs.Numbering.{told_by, IsNumberOf, AreNumberedTo, HasNumberIf}
+use Rattle.class_rows.specs.Numbering.{told_by, IsNumberOf, AreNumberedTo, HasNumberIf, each_by}
 
 -- ---- the order of numbers
 
@@ -109,3 +109,33 @@ numbered-next by shows chosen i old new numbers s number so at h = record {
       (number-new (get_or chosen i false) old new (told_by by s) number h)))))
       (known-or-next i c (omega (arith, lt)));
 }
+
+-- ---- lists of what is shown
+
+pub each-length : {X : Type 0} (f : Shows → Option Bool → X) (ss : List Shows) (rs : List (Option Bool)) → length rs ≡ length ss
+    → length (each_by f ss rs) ≡ length ss
+each-length f [] rs long = refl
+each-length f (s ∷ ss) [] long = absurd (omega (arith, long))
+each-length f (s ∷ ss) (r ∷ rs) long = ap suc (each-length f ss rs (omega (arith, long)))
+
+pub each-get : {X : Type 0} (f : Shows → Option Bool → X) (ss : List Shows) (rs : List (Option Bool)) (c : ℕ) (s : Shows) (d : X) → length rs ≡ length ss
+    → slice_get ss c ≡ Some s → get_or (each_by f ss rs) c d ≡ f s (get_or rs c None)
+each-get f [] rs c s d long at = absurd (let e : None ≡ Some s = at in cc)
+each-get f (t ∷ ss) [] c s d long at = absurd (omega (arith, long))
+each-get f (t ∷ ss) (r ∷ rs) zero s d long at = (let e : Some t ≡ Some s = at in let same : t ≡ s = cc in ap (λ x. f x r) same)
+each-get f (t ∷ ss) (r ∷ rs) (suc c) s d long at = each-get f ss rs c s d (omega (arith, long)) at
+
+-- an item of such a list is of what is shown there
+pub each-slice : {X : Type 0} (f : Shows → Option Bool → X) (ss : List Shows) (rs : List (Option Bool)) (c : ℕ) (x : X) → slice_get (each_by f ss rs) c ≡ Some x
+    → (s : Shows) × (slice_get ss c ≡ Some s) × (x ≡ f s (get_or rs c None))
+each-slice f [] rs c x at = absurd (let e : None ≡ Some x = at in cc)
+each-slice f (t ∷ ss) [] c x at = absurd (let e : None ≡ Some x = at in cc)
+each-slice f (t ∷ ss) (r ∷ rs) zero x at = (t, refl, (let e : Some (f t r) ≡ Some x = at in cc))
+each-slice f (t ∷ ss) (r ∷ rs) (suc c) x at = each-slice f ss rs c x at
+
+pub slice-each : {X : Type 0} (f : Shows → Option Bool → X) (ss : List Shows) (rs : List (Option Bool)) (c : ℕ) (s : Shows) → length rs ≡ length ss
+    → slice_get ss c ≡ Some s → slice_get (each_by f ss rs) c ≡ Some (f s (get_or rs c None))
+slice-each f [] rs c s long at = absurd (let e : None ≡ Some s = at in cc)
+slice-each f (t ∷ ss) [] c s long at = absurd (omega (arith, long))
+slice-each f (t ∷ ss) (r ∷ rs) zero s long at = (let e : Some t ≡ Some s = at in let same : t ≡ s = cc in ap (λ x. Some (f x r)) same)
+slice-each f (t ∷ ss) (r ∷ rs) (suc c) s long at = slice-each f ss rs c s (omega (arith, long)) at

@@ -36,39 +36,9 @@ use Rattle.class_rows.specs.Numbering.{told_by, IsNumberOf, AreNumbered, each_by
 use Rattle.class_rows.specs.Pages.{letters_of, AreLetters, has_r, IsJoined, IsRow, orders_with, rows_with, total, AreTotals, HaveRuns, AreGroupedBy, IsClassed}
 use Rattle.class_rows.specs.Telling.{either_r, either, unless_lines, no_letters, r_of_none, joined, IsTallied, no_tally, AreTallied, orders_in, total_by, IsTold}
 use Rattle.class_rows.specs.declared.rows.Classed.{Classed}
-use Rattle.class_rows.proofs.Numbers.{order-one}
+use Rattle.class_rows.proofs.Numbers.{order-one, each-length, each-get, each-slice, slice-each}
 use Rattle.class_rows.proofs.Joins.{HasOne, joined-has, joined-length}
 use Rattle.class_rows.proofs.Groups.{groups-by, groups-unique, kept, kept-groups}
-
--- ---- lists of what is shown
-
-pub each-length : {X : Type 0} (f : Shows → Option Bool → X) (ss : List Shows) (rs : List (Option Bool)) → length rs ≡ length ss
-    → length (each_by f ss rs) ≡ length ss
-each-length f [] rs long = refl
-each-length f (s ∷ ss) [] long = absurd (omega (arith, long))
-each-length f (s ∷ ss) (r ∷ rs) long = ap suc (each-length f ss rs (omega (arith, long)))
-
-each-get : {X : Type 0} (f : Shows → Option Bool → X) (ss : List Shows) (rs : List (Option Bool)) (c : ℕ) (s : Shows) (d : X) → length rs ≡ length ss
-    → slice_get ss c ≡ Some s → get_or (each_by f ss rs) c d ≡ f s (get_or rs c None)
-each-get f [] rs c s d long at = absurd (let e : None ≡ Some s = at in cc)
-each-get f (t ∷ ss) [] c s d long at = absurd (omega (arith, long))
-each-get f (t ∷ ss) (r ∷ rs) zero s d long at = (let e : Some t ≡ Some s = at in let same : t ≡ s = cc in ap (λ x. f x r) same)
-each-get f (t ∷ ss) (r ∷ rs) (suc c) s d long at = each-get f ss rs c s d (omega (arith, long)) at
-
--- an item of such a list is of what is shown there
-each-slice : {X : Type 0} (f : Shows → Option Bool → X) (ss : List Shows) (rs : List (Option Bool)) (c : ℕ) (x : X) → slice_get (each_by f ss rs) c ≡ Some x
-    → (s : Shows) × (slice_get ss c ≡ Some s) × (x ≡ f s (get_or rs c None))
-each-slice f [] rs c x at = absurd (let e : None ≡ Some x = at in cc)
-each-slice f (t ∷ ss) [] c x at = absurd (let e : None ≡ Some x = at in cc)
-each-slice f (t ∷ ss) (r ∷ rs) zero x at = (t, refl, (let e : Some (f t r) ≡ Some x = at in cc))
-each-slice f (t ∷ ss) (r ∷ rs) (suc c) x at = each-slice f ss rs c x at
-
-slice-each : {X : Type 0} (f : Shows → Option Bool → X) (ss : List Shows) (rs : List (Option Bool)) (c : ℕ) (s : Shows) → length rs ≡ length ss
-    → slice_get ss c ≡ Some s → slice_get (each_by f ss rs) c ≡ Some (f s (get_or rs c None))
-slice-each f [] rs c s long at = absurd (let e : None ≡ Some s = at in cc)
-slice-each f (t ∷ ss) [] c s long at = absurd (omega (arith, long))
-slice-each f (t ∷ ss) (r ∷ rs) zero s long at = (let e : Some t ≡ Some s = at in let same : t ≡ s = cc in ap (λ x. Some (f x r)) same)
-slice-each f (t ∷ ss) (r ∷ rs) (suc c) s long at = slice-each f ss rs c s (omega (arith, long)) at
 
 kept-zip : {A B : Type 0} (R : A → B → Type 0) (ns : List (Option ℕ)) (xs : List A) (ys : List B) → AllZip R xs ys → AllZip R (kept ns xs) (kept ns ys)
 kept-zip R [] xs ys z = tt

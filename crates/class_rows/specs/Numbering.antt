@@ -1,12 +1,12 @@
 -- Classes numbered by what is told of them.
-use Rattle.std.specs.Prelude.{◌≡◌, ℕ, ◌<◌, Bool, true, false, not, List, [], ◌∷◌, length, get_or, set, slice_get, replicate, map, Option, Some, None, unwrap_or}
+use Rattle.std.specs.Prelude.{◌≡◌, ℕ, ◌<◌, Bool, true, false, not, List, [], ◌∷◌, length, get_or, set, slice_get, replicate, map, Option, Some, None, option_map, unwrap_or, ◌&&◌}
 use Rattle.binding_model.specs.declared.tables.Table.{Table}
 use Rattle.bound_specs.specs.Spec.{Spec}
 use Rattle.order_classes.specs.declared.shows.Shows.{Shows}
 use Rattle.order_classes.specs.declared.letters.Filter.{Filter}
 use Rattle.order_classes.specs.declared.rows.Grouping.{Grouping}
 use Rattle.order_classes.specs.declared.rows.Grouping.TheVariants as the
-use Rattle.order_classes.specs.Letters.{answers_of, IsR}
+use Rattle.order_classes.specs.Letters.{answers_of, is_through, IsR}
 use Rattle.order_classes.specs.Asked.{pass_all}
 use Rattle.class_stretches.specs.declared.stretch.Stretch.{Stretch}
 use Rattle.class_stretches.specs.Stretches.{class_at}
@@ -80,3 +80,7 @@ mark_at marks (Some n) = get_or marks n false
 -- what has no marked number answers as no serial order does
 abbrev pub not_marked : List Bool → Option ℕ → Option Bool
 not_marked marks number = Some (not (mark_at marks number))
+
+-- what is told of R where it is known whether the answers are those of no serial order: whether also every session is through
+abbrev pub anomaly_by : Shows → Option Bool → Option Bool
+anomaly_by s other = option_map (λ is_other. is_through s && is_other) other

@@ -1,20 +1,20 @@
-//! Which classes answer as no serial order does.
+//! Which classes are anomalies.
 
 ghost use Rattle.std.specs.Prelude.{◌≡◌, ◌∷◌, [], true, List, None, IfOk, length, replicate, map};
 ghost use Rattle.binding_model.specs.declared.tables.Table.{Table as Declared};
 ghost use Rattle.order_classes.specs.declared.rows.Grouping.TheVariants.{Answers};
 ghost use Rattle.class_groups.specs.Groups.{IsSwept};
-ghost use Rattle.class_rows.specs.Numbering.{AreNumbered, AreR, mark_at, marked, marks_by, not_marked, number_at};
+ghost use Rattle.class_rows.specs.Numbering.{AreNumbered, AreR, anomaly_by, each_by, mark_at, marked, marks_by, not_marked, number_at};
 
 use crate::numbering::numbers_of;
 use crate::serial::serial_ranks;
 use bound_specs::Spec;
 use class_groups::Groups;
 use class_stretches::Stretches;
-use order_classes::Grouping;
+use order_classes::{Grouping, Shows};
 use std::alloc::{AllocError, Global};
 
-/// Of each class whether no serial order answers as its orders do, which is not told of a spec with permutation lines.
+/// Of each class whether it is an anomaly, which is not told of a spec with permutation lines.
 pub(crate) fn not_serial(
     alloc: Global,
     spec: &Spec,
@@ -34,7 +34,7 @@ fn not_told(alloc: Global, classes: usize) -> Result<Vec<Option<bool>>, AllocErr
     vec![in alloc; None; classes]
 }
 
-/// Of each class whether it has other answers than the classes of all serial orders.
+/// Of each class whether it is an anomaly: every session is through, and it has other answers than the classes of all serial orders.
 fn compared(alloc: Global, spec: &Spec, groups: &Groups) -> Result<Vec<Option<bool>>, AllocError>
     requires { spec.now.run.lines ≡ [] }
     ensures { IfOk result (λ rs. (tables : List Declared) → IsSwept tables spec.now.run groups.now → AreR tables spec.now.run groups.now.shows.items rs.items) }
@@ -47,7 +47,8 @@ fn compared(alloc: Global, spec: &Spec, groups: &Groups) -> Result<Vec<Option<bo
         numbers.as_slice(),
         ranks.as_slice(),
     )?;
-    not_marked(alloc, marks.as_slice(), numbers.as_slice())
+    let others = not_marked(alloc, marks.as_slice(), numbers.as_slice())?;
+    anomalies(alloc, groups.shows.as_slice(), others.as_slice())
 }
 
 /// The numbers of all classes by their answers.
@@ -140,5 +141,30 @@ fn mark_at(marks: &[bool], number: Option<u32>) -> bool
             }
             false
         }
+    }
+}
+
+/// Of each class whether it is an anomaly, where it is known of each whether its answers are those of no serial order.
+fn anomalies(
+    alloc: Global,
+    shows: &[Shows],
+    others: &[Option<bool>],
+) -> Result<Vec<Option<bool>>, AllocError>
+    requires { length others.now ≡ length shows.now }
+    ensures { IfOk result (λ rs. rs.items ≡ each_by anomaly_by shows.now others.now) }
+{
+    let mut rs = Vec::with_capacity(alloc, shows.len())?;
+    for place in 0..shows.len() {
+        rs.push(anomaly_of(&shows[place], others[place]))?;
+    }
+    Ok(rs)
+}
+
+fn anomaly_of(shows: &Shows, is_other: Option<bool>) -> Option<bool>
+    ensures { result ≡ anomaly_by shows.now is_other }
+{
+    match is_other {
+        Some(is_other) => Some(shows.is_through() && is_other),
+        None => None,
     }
 }

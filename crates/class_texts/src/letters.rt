@@ -20,7 +20,7 @@ pub enum Letter {
     Unsent,
     /// S: a session still waits at the end.
     Stuck,
-    /// R: no serial order answers so.
+    /// R: an anomaly.
     NotSerial,
 }
 
@@ -82,7 +82,7 @@ impl Letter {
             Letter::Error => "another error of its own",
             Letter::Unsent => "a step is not sent, since its session waits",
             Letter::Stuck => "a session still waits at the end",
-            Letter::NotSerial => "no serial order answers so",
+            Letter::NotSerial => "anomaly: no error, yet no serial order gives this result",
         }
     }
 

@@ -167,13 +167,13 @@ pub const NO_STUCK: Word = Word {
 
 pub const NO_SERIAL: Word = Word {
     name: "no-serial",
-    help: "Only those that answer as no serial order does",
+    help: "Only anomalies: no error, yet no serial order gives this result",
     form: Form::Flag,
 };
 
 pub const SERIAL: Word = Word {
     name: "serial",
-    help: "Only those that answer as some serial order does",
+    help: "Only those that are no anomaly",
     form: Form::Flag,
 };
 

@@ -27,7 +27,7 @@ abbrev pub loses : Option ℕ → Shows → Bool
 loses None s = letter_d s
 loses (Some i) s = tells_to i is_deadlock s
 
--- what is shown passes, where it is known whether it answers as no serial order does
+-- what is shown passes, where it is known whether it is an anomaly
 abbrev pub passes_test : Bool → Test → Shows → Bool
 passes_test odd the.Waits s = letter_w s
 passes_test odd (the.Deadlock session) s = loses session s

@@ -19,7 +19,7 @@ use Rattle.events.specs.declared.event.Event.{Event}
 use Rattle.order_classes.specs.declared.shows.Shows.{Shows}
 use Rattle.order_classes.specs.Shows.{seen, shows_in, world_of_line, shows_at}
 use Rattle.order_classes.specs.Classes.{Class, in_runs, IsNumber, total_in}
-use Rattle.order_classes.specs.Letters.{Answers, answers_of, answers_at, session_orders, IsOrder, serial_line, IsSerialRank, LetterR}
+use Rattle.order_classes.specs.Letters.{Answers, answers_of, answers_at, session_orders, IsOrder, is_through, serial_line, IsSerialRank, LetterR}
 use Rattle.order_classes.specs.Letters.{is_wait, is_deadlock, is_other_error, is_unsent, letter_w, letter_d, letter_e, letter_n, letter_s}
 use Rattle.order_classes.specs.Growing.{grown, TellsSame}
 use Rattle.order_classes.specs.Copying.{copied}
@@ -145,11 +145,11 @@ SerialOrdersAreRanks =
 abbrev pub SessionOrdersAreAll : Type 0
 SessionOrdersAreAll = (sessions : ℕ) (order : List ℕ) → Among order (session_orders sessions) ↔ IsOrder sessions order
 
--- R is told exactly of what no rank answers that runs the sessions one behind the other, each whole
+-- R is told exactly of what every session is through with and no rank answers that runs the sessions one behind the other, each whole
 abbrev pub LetterRIsExact : Type 0
 LetterRIsExact =
     (tables : List Table) (spec : Spec) (s : Shows) → spec.lines ≡ []
-    → LetterR tables spec s ↔ ((r : ℕ) → r < ranks spec → IsSerialRank spec r → answers_at tables spec r ≢ Some (answers_of s))
+    → LetterR tables spec s ↔ ((is_through s ≡ true) × ((r : ℕ) → r < ranks spec → IsSerialRank spec r → answers_at tables spec r ≢ Some (answers_of s)))
 
 -- ---- by runs
 

@@ -1,5 +1,5 @@
 -- The letters of a class, what is told as an answer, and the orders that run sessions one behind the other.
-use Rattle.std.specs.Prelude.{◌≡◌, ◌≢◌, ◌↔◌, ℕ, ◌+◌, ◌<◌, ◌≤◌, ◌==◌, Bool, true, false, cond, List, [], ◌∷◌, ◌++◌, map, get_or, replicate, Option, Some, None, option_map}
+use Rattle.std.specs.Prelude.{◌≡◌, ◌≢◌, ◌↔◌, ℕ, ◌+◌, ◌<◌, ◌≤◌, ◌==◌, Bool, true, false, not, ◌||◌, cond, List, [], ◌∷◌, ◌++◌, map, get_or, replicate, Option, Some, None, option_map}
 use Rattle.std.specs.List.{list_any}
 use Rattle.perm_ranks.specs.Words.{Word, all_words}
 use Rattle.events.specs.declared.event.Event.{Event}
@@ -97,6 +97,10 @@ is_waiting StillWaits = true
 abbrev pub letter_s : Shows → Bool
 letter_s s = list_any is_waiting s.rests
 
+-- every session is through: none waits at the end, and none was told a deadlock or another error of its own
+abbrev pub is_through : Shows → Bool
+is_through s = not (letter_d s || letter_e s || letter_s s)
+
 -- ---- answers
 
 abbrev pub answers_in : List Event → List Event
@@ -138,16 +142,18 @@ whole_word counts (i ∷ order) = replicate (get_or counts i 0) i ++ whole_word 
 abbrev pub serial_line : Spec → List ℕ → List ℕ
 serial_line spec order = line (queues_of spec) (whole_word (counts_of (queues_of spec)) order)
 
--- R, told of a spec without lines: the answers are those of no order that runs the sessions one behind the other, each whole
+-- of a spec without lines: the answers are those of no order that runs the sessions one behind the other, each whole
 pub record IsNotSerial (tables : List Table) (spec : Spec) (a : Answers) : Type 0 where
   pub words : spec.lines ≡ []
   pub none : (order : List ℕ) → Among order (session_orders spec.sessions)
       → option_map answers_of (shows_of_line tables spec (serial_line spec order)) ≢ Some a
 
-abbrev pub LetterR : List Table → Spec → Shows → Type 0
-LetterR tables spec s = IsNotSerial tables spec (answers_of s)
+-- R, an anomaly: every session is through, and yet no serial order answers so
+pub record LetterR (tables : List Table) (spec : Spec) (s : Shows) : Type 0 where
+  pub through : is_through s ≡ true
+  pub other : IsNotSerial tables spec (answers_of s)
 
--- what is told of R: nothing of a spec with lines, and else whether the answers are those of no such order
+-- what is told of R: nothing of a spec with lines, and else whether it is an anomaly
 abbrev pub IsR : List Table → Spec → Shows → Option Bool → Type 0
 IsR tables spec s None = spec.lines ≢ []
 IsR tables spec s (Some odd) = (spec.lines ≡ []) × ((odd ≡ true) ↔ LetterR tables spec s)

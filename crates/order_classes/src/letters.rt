@@ -2,7 +2,7 @@
 
 ghost use Rattle.std.specs.Prelude.{◌≡◌, get_or, [], Some};
 ghost use Rattle.std.specs.List.{list_any};
-ghost use Rattle.order_classes.specs.Letters.{is_other_fault, is_waiting, letter_w, letter_d, letter_e, letter_n, letter_s, tells, tells_to, is_deadlock};
+ghost use Rattle.order_classes.specs.Letters.{is_other_fault, is_waiting, letter_w, letter_d, letter_e, letter_n, letter_s, is_through, tells, tells_to, is_deadlock};
 ghost use Rattle.order_classes.specs.Asked.{is_sign, loses, passes_test, passes_filter, pass_all};
 
 use crate::shows::{Rest, Shows};
@@ -21,7 +21,7 @@ pub enum Test {
     Unsent,
     /// A session still waits at the end.
     Stuck,
-    /// It answers as no serial order does.
+    /// It is an anomaly: every session is through, and yet no serial order answers so.
     NotSerial,
 }
 
@@ -42,7 +42,7 @@ enum Sign {
 }
 
 impl Test {
-    /// Whether what is shown passes, where it is known whether it answers as no serial order does.
+    /// Whether what is shown passes, where it is known whether it is an anomaly.
     pub fn passes(self, shows: &Shows, is_not_serial: bool) -> bool
         ensures { result ≡ passes_test is_not_serial self shows.now }
     {
@@ -122,6 +122,13 @@ impl Shows {
         ensures { result ≡ letter_n self.now }
     {
         is_told(Sign::Unsent, self.told.sessions())
+    }
+
+    /// Every session is through: none waits at the end, and none was told a deadlock or another error of its own.
+    pub fn is_through(&self) -> bool
+        ensures { result ≡ is_through self.now }
+    {
+        !(self.has_deadlock() || self.has_error() || self.is_stuck())
     }
 
     /// A session still waits at the end.

@@ -25,7 +25,7 @@ pub struct Letters {
     pub unsent: bool,
     /// S: a session still waits at the end.
     pub stuck: bool,
-    /// R: no serial order answers so. None of a spec with permutation lines.
+    /// R: an anomaly. None of a spec with permutation lines.
     pub not_serial: Option<bool>,
 }
 

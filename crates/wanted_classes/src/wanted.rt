@@ -15,7 +15,7 @@ pub enum WantedTest<'a> {
     Unsent,
     /// A session still waits at the end.
     Stuck,
-    /// It answers as no serial order does.
+    /// It is an anomaly: every session is through, and yet no serial order answers so.
     NotSerial,
 }
 

@@ -4,7 +4,8 @@ use Rattle.order_classes.specs.declared.shows.Shows.{Shows}
 use Rattle.order_classes.specs.declared.rows.Letters.{Letters}
 use Rattle.class_rows.specs.Numbering.{passes_by}
 use Rattle.class_rows.specs.Pages.{letters_of}
-use Rattle.class_rows.proofs.Told.{each-length, all-told}
+use Rattle.class_rows.proofs.Numbers.{each-length}
+use Rattle.class_rows.proofs.Told.{all-told}
 use Rattle.class_rows.proofs.classing.classed.Goals as goal
 
 pub letters_in-requires : goal.letters_in-requires
