@@ -41,7 +41,7 @@ def letters_by_moments(order, is_serial_answer):
         "N": any(moment.kind == NOT_SENT for moment in order.moments),
         "S": WAITS in order.standing,
     }
-    has["R"] = not (has["D"] or has["E"] or has["S"] or is_serial_answer)
+    has["R"] = not (has["D"] or has["E"] or has["N"] or has["S"] or is_serial_answer)
     return {letter for letter, is_so in has.items() if is_so}
 
 

@@ -150,7 +150,7 @@ class Classes:
 
     def group(self, one, ranges, serial):
         letters, orders = one.letters(), sum(last - first + 1 for first, last in ranges)
-        is_through = letters.isdisjoint({"D", "E", "S"})
+        is_through = letters.isdisjoint({"D", "E", "N", "S"})
         letters |= {"R"} if self.spec.lines is None and is_through and one.answer not in serial else set()
         return Class(one, orders, Counter(dict.fromkeys(letters, orders)), ranges)
 

@@ -97,9 +97,9 @@ is_waiting StillWaits = true
 abbrev pub letter_s : Shows → Bool
 letter_s s = list_any is_waiting s.rests
 
--- every session is through: none waits at the end, and none was told a deadlock or another error of its own
+-- every session is through: each of its steps was sent, none waits at the end, and none was told a deadlock or another error of its own
 abbrev pub is_through : Shows → Bool
-is_through s = not (letter_d s || letter_e s || letter_s s)
+is_through s = not (letter_d s || letter_e s || letter_n s || letter_s s)
 
 -- ---- answers
 

@@ -124,11 +124,11 @@ impl Shows {
         is_told(Sign::Unsent, self.told.sessions())
     }
 
-    /// Every session is through: none waits at the end, and none was told a deadlock or another error of its own.
+    /// Every session is through: each of its steps was sent, none waits at the end, and none was told a deadlock or another error of its own.
     pub fn is_through(&self) -> bool
         ensures { result ≡ is_through self.now }
     {
-        !(self.has_deadlock() || self.has_error() || self.is_stuck())
+        !(self.has_deadlock() || self.has_error() || self.is_unsent() || self.is_stuck())
     }
 
     /// A session still waits at the end.
