@@ -34,7 +34,7 @@ WORDS = {
     "E": "another error of its own",
     "N": "a step is not sent, since its session waits",
     "S": "a session still waits at the end",
-    "R": "anomaly: no error, yet no serial order gives this result",
+    "R": "anomaly: no serial order gives this result",
 }
 OF_SHOWS, OF_ANSWERS, OF_BOOKS = "WDENSR", "DESR", "WDEN"
 LEAST_ORDERS, OF_SHARE, LEAST_CLASSES, LEAST_LETTERS, LEAST_RANK = 6, 9, 7, 5, 4

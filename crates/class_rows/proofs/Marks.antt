@@ -145,7 +145,7 @@ module _ (tables : List Table) (spec : Spec) (g : Groups) (swept : IsSwept table
   get-map (n ∷ ns) marks zero lt = refl
   get-map (n ∷ ns) marks (suc c) lt = get-map ns marks c (omega (arith, lt))
 
-  others : List (Option Bool)
+  abbrev others : List (Option Bool)
   others = map (not_marked (marks_by g.stretches.list numbers rs)) numbers
 
   others-long : length others ≡ length g.shows.items

@@ -126,7 +126,7 @@ without_blocks_page : page_bytes without_blocks ≡ flat_map line (
     ∷ codes "    E       0        0        0  another error of its own"
     ∷ codes "    N       0        0        0  a step is not sent, since its session waits"
     ∷ codes "    S       0        0        0  a session still waits at the end"
-    ∷ codes "    R       4     66.6        1  anomaly: no error, yet no serial order gives this result"
+    ∷ codes "    R       4     66.6        1  anomaly: no serial order gives this result"
     ∷ codes ""
     ∷ codes "class  orders  share %  shows   rank  order"
     ∷ codes "    1       1     16.6  ------     0  a1 a2 b1 b2"
@@ -178,7 +178,7 @@ lined_page : page_bytes lined ≡ flat_map line (
     ∷ codes "    D       1    100.0        1  a session loses a deadlock"
     ∷ codes "    E       0        0        0  another error of its own"
     ∷ codes "    S       1    100.0        1  a session still waits at the end"
-    ∷ codes "    R       -        -        -  anomaly: no error, yet no serial order gives this result"
+    ∷ codes "    R       -        -        -  anomaly: no serial order gives this result"
     ∷ codes ""
     ∷ codes "answer  orders  share %  shows  rank  order"
     ∷ codes "     1       1    100.0  D-S-      0  a1 b1 a2:! a3- b2! b3:"
@@ -221,7 +221,7 @@ top title =
     ∷ codes "    S       0        0        0  a session still waits at the end" ∷ []))
 
 brief_page : page_bytes (record without_blocks { is_brief = true })
-    ≡ top (codes "lost_update_without_blocks.spec: 6 orders, 3 classes" ∷ []) ++ line (codes "    R       4     66.6        1  anomaly: no error, yet no serial order gives this result")
+    ≡ top (codes "lost_update_without_blocks.spec: 6 orders, 3 classes" ∷ []) ++ line (codes "    R       4     66.6        1  anomaly: no serial order gives this result")
 unfolding chars digits encode_utf8
 brief_page = refl
 
@@ -238,7 +238,7 @@ empty_page : page_bytes (record without_blocks {
     not_serial = Some (total 0 0);
   };
 })
-    ≡ top (codes "lost_update_without_blocks.spec: 0 of 6 orders, 0 classes" ∷ []) ++ line (codes "    R       0        0        0  anomaly: no error, yet no serial order gives this result")
+    ≡ top (codes "lost_update_without_blocks.spec: 0 of 6 orders, 0 classes" ∷ []) ++ line (codes "    R       0        0        0  anomaly: no serial order gives this result")
 unfolding chars digits encode_utf8
 empty_page = refl
 
@@ -340,7 +340,7 @@ totals_without_blocks =
     ∷ codes "    E       0        0        0  another error of its own"
     ∷ codes "    N       0        0        0  a step is not sent, since its session waits"
     ∷ codes "    S       0        0        0  a session still waits at the end"
-    ∷ codes "    R       4     66.6        1  anomaly: no error, yet no serial order gives this result" ∷ []
+    ∷ codes "    R       4     66.6        1  anomaly: no serial order gives this result" ∷ []
 
 with_left_page : page_bytes with_left ≡ flat_map line (
     codes "lost_update_without_blocks.spec: 6 orders, 3 classes"

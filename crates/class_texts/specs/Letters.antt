@@ -24,7 +24,7 @@ meaning Deadlock = codes "a session loses a deadlock"
 meaning Error = codes "another error of its own"
 meaning Unsent = codes "a step is not sent, since its session waits"
 meaning Stuck = codes "a session still waits at the end"
-meaning NotSerial = codes "anomaly: no error, yet no serial order gives this result"
+meaning NotSerial = codes "anomaly: no serial order gives this result"
 
 -- the classes that orders of a spec are grouped into
 abbrev pub kind_of : Grouping → ClassKind

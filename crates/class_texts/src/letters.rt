@@ -82,7 +82,7 @@ impl Letter {
             Letter::Error => "another error of its own",
             Letter::Unsent => "a step is not sent, since its session waits",
             Letter::Stuck => "a session still waits at the end",
-            Letter::NotSerial => "anomaly: no error, yet no serial order gives this result",
+            Letter::NotSerial => "anomaly: no serial order gives this result",
         }
     }
 

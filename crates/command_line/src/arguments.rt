@@ -332,24 +332,34 @@ static NOT_OF_PAGES: &[&str] = &["json", "brief"];
 
 /// The word as `clap` takes it.
 pub fn arg_of<'a>(alloc: Global, word: &Word) -> Result<Arg<'a>, AllocError> {
+    ruled(word.form, formed(alloc, word))
+}
+
+fn formed<'a>(alloc: Global, word: &Word) -> Arg<'a> {
     match word.form {
-        Form::One => Ok(one(alloc, word)),
-        Form::OneOrBooks => one(alloc, word)
-            .required(false)
-            .required_unless_present("book"),
-        Form::Number => Ok(number(alloc, word)),
-        Form::FirstOfAll => number(alloc, word).required(false).requires_arg("END"),
-        Form::EndOfAll => Ok(number(alloc, word).required(false)),
-        Form::Names => Ok(some(alloc, word, MAX_NAMES)),
-        Form::Books => Ok(some(alloc, word, MAX_BOOKS)),
-        Form::Flag => Ok(flag(alloc, word)),
-        Form::Page => flag(alloc, word).conflicts_with_all(NOT_OF_PAGES),
-        Form::Session => Ok(session(alloc, word)),
-        Form::Select => Ok(select(alloc, word)),
-        Form::Expectation => Ok(expectation(alloc, word)),
-        Form::Workers => Ok(workers(alloc, word)),
-        Form::File => Ok(file(alloc, word)),
-        Form::InPlaceOfSpec => books(alloc, word).conflicts_with_all(NOT_OF_BOOKS),
+        Form::One | Form::OneOrBooks => one(alloc, word),
+        Form::Number | Form::FirstOfAll | Form::EndOfAll => number(alloc, word),
+        Form::Names => some(alloc, word, MAX_NAMES),
+        Form::Books => some(alloc, word, MAX_BOOKS),
+        Form::Flag | Form::Page => flag(alloc, word),
+        Form::Session => session(alloc, word),
+        Form::Select => select(alloc, word),
+        Form::Expectation => expectation(alloc, word),
+        Form::Workers => workers(alloc, word),
+        Form::File => file(alloc, word),
+        Form::InPlaceOfSpec => books(alloc, word),
+    }
+}
+
+/// The word with what its form takes of others.
+fn ruled<'a>(form: Form, arg: Arg<'a>) -> Result<Arg<'a>, AllocError> {
+    match form {
+        Form::OneOrBooks => arg.required(false).required_unless_present("book"),
+        Form::FirstOfAll => arg.required(false).requires_arg("END"),
+        Form::EndOfAll => Ok(arg.required(false)),
+        Form::Page => arg.conflicts_with_all(NOT_OF_PAGES),
+        Form::InPlaceOfSpec => arg.conflicts_with_all(NOT_OF_BOOKS),
+        _ => Ok(arg),
     }
 }
 

@@ -328,7 +328,7 @@ const LETTERS = {
   E: ['error', 'another error of its own'],
   N: ['not sent', 'a step is not sent, since its session waits'],
   S: ['still waits', 'a session still waits at the end'],
-  R: ['anomaly', 'anomaly: no error, yet no serial order gives this result'],
+  R: ['anomaly', 'anomaly: no serial order gives this result'],
 };
 const KEYWORDS = ['notices', 'permutation', 'session', 'setup', 'step', 'teardown'];
 const OPEN = { in: ' is in a transaction', failed: ' is in a failed block', waits: ' waits' };

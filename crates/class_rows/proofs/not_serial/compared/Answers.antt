@@ -1,4 +1,4 @@
-use Rattle.std.proofs.Common.{sym, subst, length, replicate, false, true}
+use Rattle.std.proofs.Common.{sym, ◌∙◌, subst, length, replicate, false, true}
 use Rattle.std.proofs.lemmas.List.{get_or-replicate}
 use Rattle.std.proofs.lemmas.Result.{IfOk-weaker}
 use Rattle.class_rows.specs.Numbering.{AreR}
