@@ -291,7 +291,8 @@ def main(path, *flags):
         print(f"{counted.orders:>20} {''.join(sorted(ending.letters)):5} {counted.first_rank:>20}  {' '.join(names)}")
     orders = sum(counted.orders for counted in layers.endings.values())
     seconds = time.perf_counter() - begun
-    print(f"{orders} orders in {len(layers.endings)} classes; {layers.states} states, {layers.steps} steps, {layers.last_states} last states, {seconds:.1f} s")
+    print(f"{orders} orders in {len(layers.endings)} classes, {seconds:.1f} seconds")
+    print(f"{layers.states} states, {layers.last_states} of them last ones, {layers.steps} steps")
 
 
 if __name__ == "__main__":

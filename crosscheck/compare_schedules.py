@@ -1,0 +1,181 @@
+"""Compares the two ways in which orders are counted (`schedules.py`) with each other and with what `isofarm classes --json` prints.
+
+usage: python3 crosscheck/compare_schedules.py PROGRAM|--alone KIND FIRST_SEED SEEDS
+
+Of the spec of each seed schedules and permutations are counted by layers of states, and where there are not too many permutations one by one: endings,
+their numbers of orders and their least ranks are the same, and so are the results of serial orders. By layers also holds what has to hold of both kinds:
+the permutations of which every step is sent are the schedules that have all steps. PROGRAM prints the classes of all permutations as JSON; they have
+the same least ranks, numbers of orders, transcripts, rows left, sessions that have not ended, and letters but for R. Before the seeds come the pages of
+`schedules/`, which were worked out by hand. KIND is one of those of `compare_classes.py`, or `all`. The last lines count what was compared.
+"""
+
+import json
+import sys
+from collections import Counter
+from pathlib import Path
+from shlex import split
+from subprocess import run
+from tempfile import TemporaryDirectory
+
+from compare import ended
+from compare_classes import CLASS_KINDS, specs_made
+from compare_shown import ALL, ALONE, bound
+from machine import start
+from refusal import Refusal
+from schedule_classes import Asking, OrderClasses, share, table_lines
+from schedule_values import class_value
+from schedule_classes import ClassPage
+from schedule_request import ALL_ORDERS, request_of
+from schedules import by_layers, in_order, one_by_one, serial_results, serial_results_one_by_one
+
+WORKED = Path(__file__).resolve().parent / "schedules"
+# Of so many permutations all are run one by one, and of so many the program counts those of a spec. A line is run alone.
+MOST_ONE_BY_ONE, MOST_OF_PROGRAM = 3_000, 300_000
+
+
+# ---- worked out by hand
+
+
+# The words of each page of `schedules/` that has some behind its spec's name, and the status.
+ASKED = {
+    "counter.expected": ("--expect 'SELECT n FROM counter' 2 --expect 'SELECT count(*) FROM counter' 1 --query 'SELECT n FROM counter'", 1),
+    "stuck.final": ("--final-rows", 0),
+    "stuck.all": (ALL_ORDERS, 0),
+    "stuck.some": ("--no-stuck --waits --all-orders", 0),
+    "twice.result": ("--by-result --error --outcomes", 0),
+}
+SHARES = [((0, 5), "0.0%"), ((1, 1), "100.0%"), ((2, 3), "66.7%"), ((1, 3), "33.3%"), ((0, 0), "0.0%"), ((1, 16), "6.3%"), ((1, 80), "1.3%")]
+SHARES += [((1, 2000), "0.1%"), ((1, 2001), "<0.1%"), ((3, 2000), "0.2%"), ((1999, 2000), "100.0%"), ((1998, 2000), "99.9%")]
+SHARES += [((1, 2**63), "<0.1%"), ((2**63 - 1, 2**63), "100.0%")]
+COLUMNS = [
+    ([["", "orders", ""], ["  W ", "7", "waits"], ["  D ", "1,000,000", ""]], {1}, ["         orders", "  W           7  waits", "  D   1,000,000"]),
+    ([["a", "bb", "c"], ["aa", "b", "c c"]], set(), ["a   bb  c", "aa  b   c c"]),
+]
+
+
+def pages_by_hand():
+    """Each page of `schedules/`: the spec's path, the words behind it, what is printed, and the status."""
+    for path in sorted([*WORKED.glob("*.txt"), *WORKED.glob("*.json")]):
+        words, status = ASKED.get(path.stem, ("", 0))
+        yield path.with_name(f"{path.stem.partition('.')[0]}.spec"), [*split(words), *["--json"] * (path.suffix == ".json")], path.read_bytes(), status
+
+
+def wrong_by_hand():
+    """What is told otherwise than was worked out by hand."""
+    for path, words, out, status in pages_by_hand():
+        if Asking(path.read_bytes()).answer(path.name, words) != (status, out, b""):
+            yield f"{path.name} {' '.join(words)}"
+    yield from (f"the share of {orders} is {share(*orders)}" for orders, text in SHARES if share(*orders) != text)
+    yield from (f"{rows} stand as {[*table_lines(rows, right)]}" for rows, right, lines in COLUMNS if [*table_lines(rows, right)] != lines)
+
+
+# ---- the two ways
+
+
+def counted(endings):
+    """What can be compared: each ending with how many orders have it and the least rank."""
+    return {ending: (one.orders, one.first_rank) for ending, one in endings.items()}
+
+
+def wrong_ways(spec, sent, every):
+    """What is counted otherwise one by one than by layers."""
+    if counted(sent) != counted(one_by_one(spec, False)):
+        yield "schedules are counted otherwise one by one"
+    if counted(every) != counted(one_by_one(spec, True)):
+        yield "permutations are counted otherwise one by one"
+    if serial_results(spec) != serial_results_one_by_one(spec):
+        yield "serial orders have other results one by one"
+
+
+def wrong_laws(spec, sent, every):
+    """What does not hold of schedules beside permutations."""
+    whole = {ending: one for ending, one in counted(sent).items() if ending.steps() == len(spec.steps)}
+    if whole != {ending: one for ending, one in counted(every).items() if "N" not in ending.letters}:
+        yield "the permutations of which every step is sent are not the schedules that have all steps"
+    if sum(one.orders for one in every.values()) != spec.ranks():
+        yield "permutations are not all counted"
+    if any("N" in ending.letters for ending in sent):
+        yield "a step of a schedule is not sent"
+    if any(not ending.letters & {"S"} for ending in sent if ending.steps() < len(spec.steps)):
+        yield "a schedule has not all steps, and nobody waits"
+
+
+# ---- beside the program
+
+
+OF_CLASS = {"least": "first_rank", "orders": "orders", "order": "order", "told": "transcripts", "left": "final_rows", "open": "open"}
+
+
+def without_anomaly(letters):
+    return letters.replace("R", "-")
+
+
+def wrong_beside(program, path, text):
+    """What the program tells otherwise of all permutations of a spec."""
+    Path(path).write_bytes(text)
+    ended_run = run([program, "classes", path, "--json"], capture_output=True, check=False)
+    if ended_run.returncode:
+        yield f"status {ended_run.returncode}: {ended_run.stderr.decode()}"
+        return
+    told = json.loads(ended_run.stdout)
+    spec = bound(text)
+    page = ClassPage(OrderClasses(spec, True), str(path), request_of([ALL_ORDERS]))
+    classes = [class_value(page, one) for one in page.rows]
+    if told["orders"] != page.orders or len(told["classes"]) != len(classes):
+        yield f"the program tells {told['orders']} orders in {len(told['classes'])} classes, and here are {page.orders} in {len(classes)}"
+        return
+    for one, other in zip(told["classes"], classes, strict=True):
+        if any(one[old] != other[new] for old, new in OF_CLASS.items()) or without_anomaly(one["shows"]) != without_anomaly(other["letters"]):
+            yield f"the class of rank {one['least']} is another one"
+    if any(told["totals"][letter] != [*page.total(letter)] for letter in "WDENS"):
+        yield "other totals"
+
+
+# ---- specs
+
+
+def is_started(spec):
+    try:
+        return bool(start(spec))
+    except Refusal:
+        return False
+
+
+def wrong_of(program, path, text, counts):
+    """What is wrong with a spec. What was looked at is counted."""
+    spec = bound(text)
+    if spec is None or spec.lines is not None or not is_started(spec) or spec.ranks() > MOST_OF_PROGRAM:
+        counts["specs left out"] += 1
+        return
+    sent, every = in_order(by_layers(spec, False)), in_order(by_layers(spec, True))
+    counts.update({"specs": 1, "schedules": sum(one.orders for one in sent.values()), "permutations": spec.ranks()})
+    counts.update({"classes of schedules": len(sent), "classes of permutations": len(every)})
+    counts["specs with fewer schedules than permutations"] += sum(one.orders for one in sent.values()) < spec.ranks()
+    counts["specs with a schedule behind which somebody waits"] += any("S" in ending.letters for ending in sent)
+    counts["specs with an anomaly"] += any(ending.is_anomaly(serial_results(spec)) for ending in sent)
+    yield from wrong_laws(spec, sent, every)
+    if spec.ranks() <= MOST_ONE_BY_ONE:
+        counts["specs gone through one by one"] += 1
+        yield from wrong_ways(spec, sent, every)
+    if program != ALONE:
+        counts["specs compared with the program"] += 1
+        yield from wrong_beside(program, path, text)
+
+
+def main(program, kind, first, seeds):
+    counts, wrong = Counter(), [f"by hand: {one}" for one in wrong_by_hand()]
+    with TemporaryDirectory() as folder:
+        for one in [*CLASS_KINDS] if kind == ALL else [kind]:
+            for name, _seed, text in specs_made(one, first, seeds):
+                wrong += [f"{one}, {name}: {told}" for told in wrong_of(program, f"{folder}/made.spec", text, counts)]
+    print("".join(f"{one}\n" for one in wrong), end="")
+    print(f"{len(wrong)} differences")
+    for word, count in counts.items():
+        print(f"  {count:>12} {word}")
+    return 1 if wrong else 0
+
+
+if __name__ == "__main__":
+    if len(sys.argv) != 5 or sys.argv[2] not in {ALL, *CLASS_KINDS}:
+        sys.exit(f"{__doc__}\nKIND is one of {', '.join([ALL, *CLASS_KINDS])}.")
+    sys.exit(ended(main, sys.argv[1] if sys.argv[1] == ALONE else str(Path(sys.argv[1]).resolve()), sys.argv[2], int(sys.argv[3]), int(sys.argv[4])))
