@@ -2,35 +2,40 @@
 
 usage: python3 crosscheck/compare_schedules.py PROGRAM|--alone KIND FIRST_SEED SEEDS
 
-Of the spec of each seed schedules and permutations are counted by layers of states, and where there are not too many permutations one by one: endings,
-their numbers of orders and their least ranks are the same, and so are the results of serial orders. By layers also holds what has to hold of both kinds:
-the permutations of which every step is sent are the schedules that have all steps. PROGRAM prints the classes of all permutations as JSON; they have
-the same least ranks, numbers of orders, transcripts, rows left, sessions that have not ended, and letters but for R. Before the seeds come the pages of
-`schedules/`, which were worked out by hand. KIND is one of those of `compare_classes.py`, or `all`. The last lines count what was compared.
+Of the spec of each seed schedules and permutations are counted by layers of states, and where there are not too many permutations one by one:
+endings, their numbers of orders and their least ranks are the same, and so are the results of serial orders. By layers also holds what has to hold of
+both: the permutations of which every step is sent are the schedules that have all steps. The first order of a class is led from moment to moment, and
+a filter and its opposite have all orders. PROGRAM prints the classes of all permutations as JSON; they have the same least ranks, numbers of orders,
+transcripts, rows left, sessions that have not ended, and letters but for R. Before the seeds come the pages of `schedules/`, which were worked out by
+hand. KIND is one of those of `compare_classes.py`, or `all`. The last lines count what was compared.
 """
 
 import json
 import sys
 from collections import Counter
 from pathlib import Path
+from random import Random
 from shlex import split
 from subprocess import run
 from tempfile import TemporaryDirectory
 
+from class_laws import letters_by_moments, shows_by_moments
 from compare import ended
 from compare_classes import CLASS_KINDS, specs_made
 from compare_shown import ALL, ALONE, bound
+from facts import ranks_with
 from machine import start
+from moments import shown
 from refusal import Refusal
-from schedule_classes import Asking, OrderClasses, share, table_lines
+from schedule_classes import Asking, ClassPage, OrderClasses, share, table_lines
+from schedule_request import ALL_ORDERS, BY_RESULT, FILTERS, request_of
 from schedule_values import class_value
-from schedule_classes import ClassPage
-from schedule_request import ALL_ORDERS, request_of
 from schedules import by_layers, in_order, one_by_one, serial_results, serial_results_one_by_one
 
 WORKED = Path(__file__).resolve().parent / "schedules"
 # Of so many permutations all are run one by one, and of so many the program counts those of a spec. A line is run alone.
 MOST_ONE_BY_ONE, MOST_OF_PROGRAM = 3_000, 300_000
+CLASSES_LOOKED_AT, FILTERS_LOOKED_AT = 4, 2
 
 
 # ---- worked out by hand
@@ -39,10 +44,14 @@ MOST_ONE_BY_ONE, MOST_OF_PROGRAM = 3_000, 300_000
 # The words of each page of `schedules/` that has some behind its spec's name, and the status.
 ASKED = {
     "counter.expected": ("--expect 'SELECT n FROM counter' 2 --expect 'SELECT count(*) FROM counter' 1 --query 'SELECT n FROM counter'", 1),
-    "stuck.final": ("--final-rows", 0),
+    "lines": ("--query 'SELECT * FROM t WHERE v * 9223372036854775807 > 0' --query 'SELECT v, id FROM t ORDER BY id'", 0),
     "stuck.all": (ALL_ORDERS, 0),
-    "stuck.some": ("--no-stuck --waits --all-orders", 0),
-    "twice.result": ("--by-result --error --outcomes", 0),
+    "stuck.final": ("--final-rows", 0),
+    "stuck.none": ("--no-stuck --waits --all-orders", 0),
+    "twice.result": (
+        """--by-result --error --outcomes --final-rows --expect 'SELECT w FROM t' "'a'" --expect "SELECT w FROM t WHERE w > 'b'" "'a'\"""",
+        1,
+    ),
 }
 SHARES = [((0, 5), "0.0%"), ((1, 1), "100.0%"), ((2, 3), "66.7%"), ((1, 3), "33.3%"), ((0, 0), "0.0%"), ((1, 16), "6.3%"), ((1, 80), "1.3%")]
 SHARES += [((1, 2000), "0.1%"), ((1, 2001), "<0.1%"), ((3, 2000), "0.2%"), ((1999, 2000), "100.0%"), ((1998, 2000), "99.9%")]
@@ -57,14 +66,16 @@ def pages_by_hand():
     """Each page of `schedules/`: the spec's path, the words behind it, what is printed, and the status."""
     for path in sorted([*WORKED.glob("*.txt"), *WORKED.glob("*.json")]):
         words, status = ASKED.get(path.stem, ("", 0))
-        yield path.with_name(f"{path.stem.partition('.')[0]}.spec"), [*split(words), *["--json"] * (path.suffix == ".json")], path.read_bytes(), status
+        flags = ["--json"] * (path.suffix == ".json")
+        yield path.with_name(f"{path.stem.partition('.')[0]}.spec"), [*split(words), *flags], path.read_bytes(), status
 
 
 def wrong_by_hand():
     """What is told otherwise than was worked out by hand."""
     for path, words, out, status in pages_by_hand():
-        if Asking(path.read_bytes()).answer(path.name, words) != (status, out, b""):
-            yield f"{path.name} {' '.join(words)}"
+        told = Asking(path.read_bytes()).answer(path.name, words)
+        if told != (status, out, b""):
+            yield f"{path.name} {' '.join(words)}: {told[0]}\n{(told[1] or told[2]).decode()}"
     yield from (f"the share of {orders} is {share(*orders)}" for orders, text in SHARES if share(*orders) != text)
     yield from (f"{rows} stand as {[*table_lines(rows, right)]}" for rows, right, lines in COLUMNS if [*table_lines(rows, right)] != lines)
 
@@ -98,6 +109,56 @@ def wrong_laws(spec, sent, every):
         yield "a step of a schedule is not sent"
     if any(not ending.letters & {"S"} for ending in sent if ending.steps() < len(spec.steps)):
         yield "a schedule has not all steps, and nobody waits"
+
+
+# ---- classes
+
+
+def wrong_first_orders(classes, random):
+    """The first order of a class has its rank, and ends as the class does where it is led from moment to moment. Each step of a schedule is sent."""
+    spec = classes.spec
+    for one in random.sample(classes.all, min(len(classes.all), CLASSES_LOOKED_AT)):
+        order = classes.first_order(one)
+        if ranks_with(spec, [spec.steps[step][0] for step in order]).start != one.first_rank:
+            yield f"the first order of rank {one.first_rank} has another rank"
+        led = shown(spec, order)
+        told = shows_by_moments(spec, led)
+        if (told.told, told.left, told.standing) != (one.ending.transcripts, one.ending.final_rows, one.ending.standing):
+            yield f"the first order of rank {one.first_rank} ends otherwise, led from moment to moment"
+        if letters_by_moments(led, True) != {*one.letters} - {"R"} or (not classes.all_orders and "N" in one.letters):
+            yield f"the first order of rank {one.first_rank} has other letters, led from moment to moment"
+
+
+def wrong_anomalies(classes, serial):
+    """A class has R where it has none of S, D and E and its result is none of these."""
+    for one in classes.all:
+        is_anomaly = not {"S", "D", "E"} & {*one.letters} and one.ending.result not in serial
+        if ("R" in one.letters) != is_anomaly:
+            yield f"the class of rank {one.first_rank} has R where it has not, or has it not"
+
+
+def wrong_filters(classes, random):
+    """A filter and its opposite have all orders together, no class is in both, and results have the orders of the classes."""
+    names = [name for name in FILTERS if name != "not-sent" or classes.all_orders]
+    words = [[ALL_ORDERS] * classes.all_orders + [f"--{no}{name}"] for name in random.sample(names, FILTERS_LOOKED_AT) for no in ("", "no-")]
+    pages = [ClassPage(classes, "made.spec", request_of(one)) for one in words]
+    for page, other in zip(pages[::2], pages[1::2], strict=True):
+        if page.orders + other.orders != classes.orders or {one.first_rank for one in page.rows} & {one.first_rank for one in other.rows}:
+            yield f"{page.request.filter_words()} and its opposite have not all orders"
+    for page, some in zip(pages, words, strict=True):
+        results = ClassPage(classes, "made.spec", request_of([*some, BY_RESULT]))
+        if results.orders != page.orders or any(results.total(letter)[0] != page.total(letter)[0] for letter in "DESR"):
+            yield f"{some} has other orders by result"
+        if any(results.total(letter)[1] > page.total(letter)[1] for letter in "DESR"):
+            yield f"{some} has more results than classes"
+
+
+def wrong_classes(spec, random, serial):
+    for all_orders in (False, True):
+        classes = OrderClasses(spec, all_orders)
+        yield from wrong_first_orders(classes, random)
+        yield from wrong_anomalies(classes, serial)
+        yield from wrong_filters(classes, random)
 
 
 # ---- beside the program
@@ -141,19 +202,20 @@ def is_started(spec):
         return False
 
 
-def wrong_of(program, path, text, counts):
+def wrong_of(program, path, text, seed, counts):
     """What is wrong with a spec. What was looked at is counted."""
     spec = bound(text)
     if spec is None or spec.lines is not None or not is_started(spec) or spec.ranks() > MOST_OF_PROGRAM:
         counts["specs left out"] += 1
         return
-    sent, every = in_order(by_layers(spec, False)), in_order(by_layers(spec, True))
+    sent, every, serial = in_order(by_layers(spec, False)), in_order(by_layers(spec, True)), serial_results(spec)
     counts.update({"specs": 1, "schedules": sum(one.orders for one in sent.values()), "permutations": spec.ranks()})
     counts.update({"classes of schedules": len(sent), "classes of permutations": len(every)})
     counts["specs with fewer schedules than permutations"] += sum(one.orders for one in sent.values()) < spec.ranks()
     counts["specs with a schedule behind which somebody waits"] += any("S" in ending.letters for ending in sent)
-    counts["specs with an anomaly"] += any(ending.is_anomaly(serial_results(spec)) for ending in sent)
+    counts["specs with an anomaly"] += any(ending.is_anomaly(serial) for ending in sent)
     yield from wrong_laws(spec, sent, every)
+    yield from wrong_classes(spec, Random(seed), serial)
     if spec.ranks() <= MOST_ONE_BY_ONE:
         counts["specs gone through one by one"] += 1
         yield from wrong_ways(spec, sent, every)
@@ -166,8 +228,8 @@ def main(program, kind, first, seeds):
     counts, wrong = Counter(), [f"by hand: {one}" for one in wrong_by_hand()]
     with TemporaryDirectory() as folder:
         for one in [*CLASS_KINDS] if kind == ALL else [kind]:
-            for name, _seed, text in specs_made(one, first, seeds):
-                wrong += [f"{one}, {name}: {told}" for told in wrong_of(program, f"{folder}/made.spec", text, counts)]
+            for name, seed, text in specs_made(one, first, seeds):
+                wrong += [f"{one}, {name}: {told}" for told in wrong_of(program, f"{folder}/made.spec", text, seed, counts)]
     print("".join(f"{one}\n" for one in wrong), end="")
     print(f"{len(wrong)} differences")
     for word, count in counts.items():

@@ -147,10 +147,11 @@ def share(orders, of):
 
 
 def table_lines(rows, to_right):
-    """Rows of cells in columns, two blanks between each two: each as wide as its widest cell, but the last one. Those that are named go to the right."""
+    """Rows of cells in columns with two blanks between, each but the last one as wide as its widest cell. Those that are named go to the right."""
     widths = [max(map(len, column)) for column in zip(*rows, strict=True)][:-1]
     for *cells, last in rows:
-        fronts = [cell.rjust(width) if place in to_right else cell.ljust(width) for place, (cell, width) in enumerate(zip(cells, widths, strict=True))]
+        pairs = enumerate(zip(cells, widths, strict=True))
+        fronts = [cell.rjust(width) if place in to_right else cell.ljust(width) for place, (cell, width) in pairs]
         yield "  ".join([*fronts, last]).rstrip(" ")
 
 
