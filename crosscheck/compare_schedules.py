@@ -53,6 +53,24 @@ ASKED = {
         1,
     ),
 }
+# A spec, words, the status, and what stands on standard error. What the command line refuses is told there in words of its own.
+REFUSED = [
+    ("stuck", "--answers", 2, "--answers is --by-result now"),
+    ("stuck", "--brief --look 'SELECT v FROM t'", 2, "--look is --query now"),
+    ("stuck", "--left", 2, "--left is --final-rows now"),
+    ("stuck", "--no-serial", 2, "--no-serial is --anomaly now"),
+    ("stuck", "--serial --unsent", 2, "--serial is --no-anomaly now"),
+    ("stuck", "--no-unsent --all-orders", 2, "--no-unsent is --no-not-sent now"),
+    ("stuck", "--not-sent", 2, "--not-sent goes with --all-orders alone"),
+    ("stuck", "--json --no-not-sent", 2, "--not-sent goes with --all-orders alone"),
+    ("stuck", "--ranks", 2, "--ranks is no option"),
+    ("stuck", "--stuck=a", 2, "--stuck=a is no option"),
+    ("stuck", "--expect 'SELECT v FROM t'", 2, "--expect has no value"),
+    ("lines", "--no-anomaly", 3, "isofarm: lines.spec: no serial orders"),
+    ("stuck", "--deadlock=a --no-deadlock=c", 3, 'isofarm: stuck.spec: no session "c"'),
+    ("stuck", "--query 'SELECT w FROM t' --all-orders", 3, 'isofarm: "SELECT w FROM t": bind error 3 at 0'),
+    ("stuck", "--expect 'SELECT v FROM t' 01", 3, 'isofarm: "01": no value'),
+]
 SHARES = [((0, 5), "0.0%"), ((1, 1), "100.0%"), ((2, 3), "66.7%"), ((1, 3), "33.3%"), ((0, 0), "0.0%"), ((1, 16), "6.3%"), ((1, 80), "1.3%")]
 SHARES += [((1, 2000), "0.1%"), ((1, 2001), "<0.1%"), ((3, 2000), "0.2%"), ((1999, 2000), "100.0%"), ((1998, 2000), "99.9%")]
 SHARES += [((1, 2**63), "<0.1%"), ((2**63 - 1, 2**63), "100.0%")]
@@ -76,6 +94,10 @@ def wrong_by_hand():
         told = Asking(path.read_bytes()).answer(path.name, words)
         if told != (status, out, b""):
             yield f"{path.name} {' '.join(words)}: {told[0]}\n{(told[1] or told[2]).decode()}"
+    for name, words, status, error in REFUSED:
+        told = Asking((WORKED / f"{name}.spec").read_bytes()).answer(f"{name}.spec", split(words))
+        if told != (status, b"", f"{error}\n".encode()):
+            yield f"{name}.spec {words}: {told[0]}, {told[2].decode()}"
     yield from (f"the share of {orders} is {share(*orders)}" for orders, text in SHARES if share(*orders) != text)
     yield from (f"{rows} stand as {[*table_lines(rows, right)]}" for rows, right, lines in COLUMNS if [*table_lines(rows, right)] != lines)
 

@@ -82,17 +82,10 @@ class Counted:
     orders: int
     first_rank: int
 
-    def add(self, orders, rank):
-        self.orders += orders
-        self.first_rank = min(self.first_rank, rank)
-
-
-def count_in(counted, kind, orders, rank):
-    """Adds orders to those of their kind."""
-    if kind in counted:
-        counted[kind].add(orders, rank)
-    else:
-        counted[kind] = Counted(orders, rank)
+    def join(self, other):
+        """Adds other orders to these."""
+        self.orders += other.orders
+        self.first_rank = min(self.first_rank, other.first_rank)
 
 
 def in_order(endings):
@@ -133,16 +126,13 @@ def is_schedule(line, worlds, length):
 
 def one_by_one(spec, all_orders):
     """Of each ending how many orders have it, and the least rank: every permutation is run, and a schedule counts at the first one that has it."""
-    endings, schedules = {}, set()
+    endings, seen = {}, set()
     for rank, (line, worlds) in enumerate(lines_run(spec)):
-        if all_orders or spec.lines is not None:
-            count_in(endings, ending_of(worlds[-1]), 1, rank)
-            continue
-        length = length_sent(line, worlds)
-        schedule = (*line[:length],)
-        if is_schedule(line, worlds, length) and schedule not in schedules:
-            schedules.add(schedule)
-            count_in(endings, ending_of(worlds[length]), 1, rank)
+        length = len(line) if all_orders or spec.lines is not None else length_sent(line, worlds)
+        order = rank if spec.lines is not None else (*line[:length],)
+        if is_schedule(line, worlds, length) and order not in seen:
+            seen.add(order)
+            endings.setdefault(ending_of(worlds[length]), Counted(0, rank)).orders += 1
     return endings
 
 
@@ -191,6 +181,14 @@ class Layers:
     steps: int = 0
     last_states: int = 0
 
+    def add(self, ending, counted):
+        """Adds the orders that lead to one of the states that have this ending."""
+        self.last_states += 1
+        if ending in self.endings:
+            self.endings[ending].join(counted)
+        else:
+            self.endings[ending] = counted
+
 
 def taken(left, session):
     return left[:session] + (left[session] - 1,) + left[session + 1 :]
@@ -216,17 +214,17 @@ def next_layer(spec, layer, keys, all_orders, layers):
     for state in layer.values():
         sessions = open_sessions(state, all_orders)
         if not sessions:
-            layers.last_states += 1
-            count_in(layers.endings, ending_of(state.world), state.counted.orders, state.counted.first_rank)
+            layers.add(ending_of(state.world), state.counted)
         for session in sessions:
             world, left = state.world.fork(), taken(state.left, session)
             world.send(steps[session][-state.left[session]])
             rank = state.counted.first_rank + ranks_before(state.left, session)
             key = keys.key(world, left)
+            counted = Counted(state.counted.orders, rank)
             if key in following:
-                following[key].counted.add(state.counted.orders, rank)
+                following[key].counted.join(counted)
             else:
-                following[key] = State(world, left, Counted(state.counted.orders, rank))
+                following[key] = State(world, left, counted)
         layers.steps += len(sessions)
     layers.states += len(layer)
     return following
