@@ -44,7 +44,12 @@ CLASSES_LOOKED_AT, FILTERS_LOOKED_AT = 4, 2
 # The words of each page of `schedules/` that has some behind its spec's name, and the status.
 ASKED = {
     "counter.expected": ("--expect 'SELECT n FROM counter' 2 --expect 'SELECT count(*) FROM counter' 1 --query 'SELECT n FROM counter'", 1),
+    "deadlock.result": ("--by-result", 0),
+    "deadlock.victim": ("--no-deadlock=b --deadlock=a --waits", 0),
+    "deadlock.victims": ("--deadlock", 0),
     "lines": ("--query 'SELECT * FROM t WHERE v * 9223372036854775807 > 0' --query 'SELECT v, id FROM t ORDER BY id'", 0),
+    "queue.result": ("--by-result --final-rows", 0),
+    "queue.some": ("--by-result --final-rows --waits --expect 'SELECT v FROM t' 3 --query 'SELECT v, id FROM t'", 1),
     "stuck.all": (ALL_ORDERS, 0),
     "stuck.final": ("--final-rows", 0),
     "stuck.none": ("--no-stuck --waits --all-orders", 0),
