@@ -19,7 +19,7 @@ from shlex import split
 from subprocess import run
 from tempfile import TemporaryDirectory
 
-from class_laws import letters_by_moments, shows_by_moments
+from class_laws import letters_by_moments, serial_answers, shows_by_moments
 from compare import ended
 from compare_classes import CLASS_KINDS, specs_made
 from compare_shown import ALL, ALONE, bound
@@ -30,12 +30,13 @@ from refusal import Refusal
 from schedule_classes import Asking, ClassPage, OrderClasses, share, table_lines
 from schedule_request import ALL_ORDERS, BY_RESULT, FILTERS, request_of
 from schedule_values import class_value
-from schedules import by_layers, in_order, one_by_one, serial_results, serial_results_one_by_one
+from schedules import one_by_one, serial_results_one_by_one
 
 WORKED = Path(__file__).resolve().parent / "schedules"
 # Of so many permutations all are run one by one, and of so many the program counts those of a spec. A line is run alone.
 MOST_ONE_BY_ONE, MOST_OF_PROGRAM = 3_000, 300_000
-CLASSES_LOOKED_AT, FILTERS_LOOKED_AT = 4, 2
+# Of so many sessions all serial orders are led from moment to moment.
+CLASSES_LOOKED_AT, FILTERS_LOOKED_AT, MOST_SESSIONS = 4, 2, 4
 
 
 # ---- worked out by hand
@@ -115,26 +116,25 @@ def counted(endings):
     return {ending: (one.orders, one.first_rank) for ending, one in endings.items()}
 
 
-def wrong_ways(spec, sent, every):
+def wrong_ways(classes):
     """What is counted otherwise one by one than by layers."""
-    if counted(sent) != counted(one_by_one(spec, False)):
-        yield "schedules are counted otherwise one by one"
-    if counted(every) != counted(one_by_one(spec, True)):
-        yield "permutations are counted otherwise one by one"
-    if serial_results(spec) != serial_results_one_by_one(spec):
+    if counted(classes.endings) != counted(one_by_one(classes.spec, classes.all_orders)):
+        yield f"{'permutations' if classes.all_orders else 'schedules'} are counted otherwise one by one"
+    if classes.serial != serial_results_one_by_one(classes.spec):
         yield "serial orders have other results one by one"
 
 
-def wrong_laws(spec, sent, every):
+def wrong_laws(sent, every):
     """What does not hold of schedules beside permutations."""
-    whole = {ending: one for ending, one in counted(sent).items() if ending.steps() == len(spec.steps)}
-    if whole != {ending: one for ending, one in counted(every).items() if "N" not in ending.letters}:
+    steps = len(sent.spec.steps)
+    whole = {ending: one for ending, one in counted(sent.endings).items() if ending.steps() == steps}
+    if whole != {ending: one for ending, one in counted(every.endings).items() if "N" not in ending.letters}:
         yield "the permutations of which every step is sent are not the schedules that have all steps"
-    if sum(one.orders for one in every.values()) != spec.ranks():
+    if every.orders != every.spec.ranks():
         yield "permutations are not all counted"
-    if any("N" in ending.letters for ending in sent):
+    if any("N" in ending.letters for ending in sent.endings):
         yield "a step of a schedule is not sent"
-    if any(not ending.letters & {"S"} for ending in sent if ending.steps() < len(spec.steps)):
+    if any("S" not in ending.letters for ending in sent.endings if ending.steps() < steps):
         yield "a schedule has not all steps, and nobody waits"
 
 
@@ -156,8 +156,9 @@ def wrong_first_orders(classes, random):
             yield f"the first order of rank {one.first_rank} has other letters, led from moment to moment"
 
 
-def wrong_anomalies(classes, serial):
-    """A class has R where it has none of S, D and E and its result is none of these."""
+def wrong_anomalies(classes):
+    """A class has R where it has none of S, D and E and its result is none of those of serial orders."""
+    serial = serial_answers(classes.spec)
     for one in classes.all:
         is_anomaly = not {"S", "D", "E"} & {*one.letters} and one.ending.result not in serial
         if ("R" in one.letters) != is_anomaly:
@@ -180,12 +181,12 @@ def wrong_filters(classes, random):
             yield f"{some} has more results than classes"
 
 
-def wrong_classes(spec, random, serial):
-    for all_orders in (False, True):
-        classes = OrderClasses(spec, all_orders)
-        yield from wrong_first_orders(classes, random)
-        yield from wrong_anomalies(classes, serial)
-        yield from wrong_filters(classes, random)
+def wrong_classes(classes, random):
+    """What is wrong with the classes of a spec."""
+    yield from wrong_first_orders(classes, random)
+    yield from wrong_filters(classes, random)
+    if len(classes.spec.session_names) <= MOST_SESSIONS:
+        yield from wrong_anomalies(classes)
 
 
 # ---- beside the program
@@ -198,7 +199,7 @@ def without_anomaly(letters):
     return letters.replace("R", "-")
 
 
-def wrong_beside(program, path, text):
+def wrong_beside(program, path, text, every):
     """What the program tells otherwise of all permutations of a spec."""
     Path(path).write_bytes(text)
     ended_run = run([program, "classes", path, "--json"], capture_output=True, check=False)
@@ -206,8 +207,7 @@ def wrong_beside(program, path, text):
         yield f"status {ended_run.returncode}: {ended_run.stderr.decode()}"
         return
     told = json.loads(ended_run.stdout)
-    spec = bound(text)
-    page = ClassPage(OrderClasses(spec, True), str(path), request_of([ALL_ORDERS]))
+    page = ClassPage(every, str(path), request_of([ALL_ORDERS]))
     classes = [class_value(page, one) for one in page.rows]
     if told["orders"] != page.orders or len(told["classes"]) != len(classes):
         yield f"the program tells {told['orders']} orders in {len(told['classes'])} classes, and here are {page.orders} in {len(classes)}"
@@ -235,20 +235,21 @@ def wrong_of(program, path, text, seed, counts):
     if spec is None or spec.lines is not None or not is_started(spec) or spec.ranks() > MOST_OF_PROGRAM:
         counts["specs left out"] += 1
         return
-    sent, every, serial = in_order(by_layers(spec, False)), in_order(by_layers(spec, True)), serial_results(spec)
-    counts.update({"specs": 1, "schedules": sum(one.orders for one in sent.values()), "permutations": spec.ranks()})
-    counts.update({"classes of schedules": len(sent), "classes of permutations": len(every)})
-    counts["specs with fewer schedules than permutations"] += sum(one.orders for one in sent.values()) < spec.ranks()
-    counts["specs with a schedule behind which somebody waits"] += any("S" in ending.letters for ending in sent)
-    counts["specs with an anomaly"] += any(ending.is_anomaly(serial) for ending in sent)
-    yield from wrong_laws(spec, sent, every)
-    yield from wrong_classes(spec, Random(seed), serial)
-    if spec.ranks() <= MOST_ONE_BY_ONE:
-        counts["specs gone through one by one"] += 1
-        yield from wrong_ways(spec, sent, every)
+    random, sent, every = Random(seed), OrderClasses(spec, False), OrderClasses(spec, True)
+    counts.update({"specs": 1, "schedules": sent.orders, "permutations": every.orders})
+    counts.update({"classes of schedules": len(sent.all), "classes of permutations": len(every.all)})
+    counts["specs with fewer schedules than permutations"] += sent.orders < every.orders
+    counts["specs with a schedule behind which somebody waits"] += any("S" in one.letters for one in sent.all)
+    counts["specs with an anomaly"] += any("R" in one.letters for one in sent.all)
+    yield from wrong_laws(sent, every)
+    for classes in (sent, every):
+        yield from wrong_classes(classes, random)
+        if spec.ranks() <= MOST_ONE_BY_ONE:
+            yield from wrong_ways(classes)
+    counts["specs gone through one by one"] += spec.ranks() <= MOST_ONE_BY_ONE
     if program != ALONE:
         counts["specs compared with the program"] += 1
-        yield from wrong_beside(program, path, text)
+        yield from wrong_beside(program, path, text, every)
 
 
 def main(program, kind, first, seeds):

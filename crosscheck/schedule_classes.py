@@ -61,16 +61,16 @@ class OrderClasses:
     def __init__(self, spec, all_orders):
         self.spec, self.all_orders, self.known = spec, all_orders, {}
         self.is_lined = spec.lines is not None
-        serial = set() if self.is_lined else serial_results(spec)
-        endings = (one_by_one if self.is_lined else by_layers)(spec, all_orders)
-        self.all = [self.of_ending(ending, counted, serial) for ending, counted in in_order(endings).items()]
+        self.serial = set() if self.is_lined else serial_results(spec)
+        self.endings = in_order((one_by_one if self.is_lined else by_layers)(spec, all_orders))
+        self.all = [self.of_ending(ending, counted) for ending, counted in self.endings.items()]
 
     @property
     def orders(self):
         return sum(one.orders for one in self.all)
 
-    def of_ending(self, ending, counted, serial):
-        letters = ending.letters | ({"R"} if not self.is_lined and ending.is_anomaly(serial) else set())
+    def of_ending(self, ending, counted):
+        letters = ending.letters | ({"R"} if not self.is_lined and ending.is_anomaly(self.serial) else set())
         return OrderClass(ending, counted.orders, counted.first_rank, Counter(dict.fromkeys(letters, counted.orders)))
 
     def asked(self, request):
