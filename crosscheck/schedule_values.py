@@ -1,5 +1,6 @@
 """The JSON of the classes of orders in its new form, from their page (`schedule_classes.py`)."""
 
+from schedule_request import BRIEF
 from shown import json_text, lines_value, open_value, steps_value, tables_value
 
 FORMAT, LETTERS = 2, "WDENSR"
@@ -43,7 +44,7 @@ def classes_value(page, statements):
         "expectations": [expectation_value(page, one) for one in request.expectations],
         "queries": request.queries,
     }
-    if not request.has("--brief"):
+    if not request.has(BRIEF):
         value["classes"] = [class_value(page, one) for one in page.rows]
     return value
 
