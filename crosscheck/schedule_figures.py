@@ -10,7 +10,6 @@ known apart from the machine too: by a formula, by row queues alone (`orders_by_
 
 import json
 import sys
-from collections import Counter
 from dataclasses import dataclass
 from functools import cache
 from math import factorial
@@ -20,7 +19,7 @@ from subprocess import run
 from binding import bind
 from compare_shown import ALONE
 from schedule_classes import Asking
-from schedule_request import BY_RESULT, JSON
+from schedule_request import JSON
 from spec_file import read_spec
 
 SPECS = Path(__file__).resolve().parent / "schedules"
