@@ -123,7 +123,11 @@ class Lock:
 
 @dataclass
 class Begin:
-    has_level: bool
+    level: str | None  # its first word
+
+    @property
+    def has_level(self):
+        return self.level is not None
 
 
 @dataclass
@@ -393,15 +397,15 @@ class Reader(Tokens):
         return self.isolation()
 
     def isolation(self):
-        has_level = self.take_if("isolation") is not None
-        if has_level:
-            self.word("level")
-            level = self.word("serializable", "repeatable", "read")
-            if level == "repeatable":
-                self.word("read")
-            elif level == "read":
-                self.word("committed", "uncommitted")
-        return Begin(has_level)
+        if self.take_if("isolation") is None:
+            return Begin(None)
+        self.word("level")
+        level = self.word("serializable", "repeatable", "read")
+        if level == "repeatable":
+            self.word("read")
+        elif level == "read":
+            self.word("committed", "uncommitted")
+        return Begin(level)
 
     def end(self, keeps):
         self.take_if("work", "transaction")

@@ -1,0 +1,362 @@
+"""What `isofarm classes` prints in its new form: the orders that clients can send, or all permutations, in classes or by their results.
+
+usage: python3 crosscheck/schedule_classes.py SPEC [FLAG..]
+
+The flags are those of `schedule_request.py`. Orders are counted by `schedules.py`: by layers of states, and the lines of a file with permutation
+lines one by one. The text is that of a pipe or a file: a class has one line, however wide that is.
+"""
+
+import sys
+from collections import Counter
+from dataclasses import dataclass
+from functools import cached_property
+from pathlib import Path
+
+import sql
+from asked import NotAsked, NoWords
+from binding import bind
+from checks import blocks
+from looks import NoLook, look_of, rows_in, seen
+from machine import LINES, outcome_text
+from moments import shown
+from orders import spelled
+from refusal import Refusal
+from schedule_request import ALL_ORDERS, BRIEF, BY_RESULT, FINAL_ROWS, JSON, OUTCOMES, request_of
+from schedule_values import classes_json
+from schedules import Ending, by_layers, in_order, one_by_one, serial_results
+from shown import LEFT_IN, cut, marks, row_text, statements_of, visible
+from spec_file import read_spec
+
+WORDS = {
+    "W": "a session waits",
+    "D": "a session is the victim of a deadlock",
+    "E": "another error",
+    "N": "a step is not sent: its session waits",
+    "S": "a session waits for ever",
+    "R": "anomaly: no error, yet no serial order gives this result",
+}
+NOT_KNOWN = "anomaly: not known for permutation lines"
+OF_SENT, OF_ALL, OF_RESULTS = "WDESR", "WDENSR", "DESR"
+MEANINGS = {":": "waits", "!": "fails", "-": "is not sent"}
+OF_NAME = 24
+BENEATH = " " * 10
+
+
+# ---- classes
+
+
+@dataclass
+class OrderClass:
+    """Orders of one ending or of one result: how the first of them ends, how many they are, the least rank, and how many have each letter."""
+
+    ending: Ending
+    orders: int
+    first_rank: int
+    letters: Counter
+
+
+class OrderClasses:
+    """The classes of a spec: of the orders that clients can send, or of all permutations. Of a file with permutation lines those of its lines."""
+
+    def __init__(self, spec, all_orders):
+        self.spec, self.all_orders, self.known = spec, all_orders, {}
+        self.is_lined = spec.lines is not None
+        self.serial = set() if self.is_lined else serial_results(spec)
+        self.endings = in_order((one_by_one if self.is_lined else by_layers)(spec, all_orders))
+        self.all = [self.of_ending(ending, counted) for ending, counted in self.endings.items()]
+
+    @property
+    def orders(self):
+        return sum(one.orders for one in self.all)
+
+    def of_ending(self, ending, counted):
+        letters = ending.letters | ({"R"} if not self.is_lined and ending.is_anomaly(self.serial) else set())
+        return OrderClass(ending, counted.orders, counted.first_rank, Counter(dict.fromkeys(letters, counted.orders)))
+
+    def asked(self, request):
+        """The classes, or results, of the orders that pass the filters, by their least ranks."""
+        passing = [one for one in self.all if request.passes(self.spec, one)]
+        return by_result(passing) if request.has(BY_RESULT) else passing
+
+    def first_order(self, one):
+        """The steps of the order of the least rank."""
+        return self.spec.line(one.first_rank)[: one.ending.steps()]
+
+    def steps(self, one):
+        """The names of the steps of a class's first order, each cut, with its marks."""
+        if one.first_rank not in self.known:
+            order = self.first_order(one)
+            names = [cut(visible(spelled(self.spec.step_names[step])), OF_NAME) for step in order]
+            self.known[one.first_rank] = ["".join(pair) for pair in zip(names, marks(shown(self.spec, order).moments), strict=True)]
+        return self.known[one.first_rank]
+
+    def seen(self, text, one):
+        """The events of a query on the final rows of a class."""
+        place = text, one.ending.final_rows
+        if place not in self.known:
+            self.known[place] = seen(self.spec, look_of(self.spec, text), one.ending.final_rows)
+        return self.known[place]
+
+
+def by_result(classes):
+    """The same orders by their results."""
+    joint = {}
+    for one in classes:
+        joint.setdefault(one.ending.result, []).append(one)
+    return [
+        OrderClass(several[0].ending, sum(one.orders for one in several), several[0].first_rank, sum((one.letters for one in several), Counter()))
+        for several in joint.values()
+    ]
+
+
+# ---- levels
+
+
+def line_of(text, place):
+    return 1 + text[:place].count(b"\n")
+
+
+def lines_with_levels(text, file):
+    """The lines of a file on which a transaction begins with another level than SERIALIZABLE, each once."""
+    begun = [(block.start + one.at, one) for block, _declares in blocks(file) for one in sql.read_sql(block.text) if isinstance(one, sql.Begin)]
+    return [*dict.fromkeys(line_of(text, place) for place, one in begun if one.level not in (None, "serializable"))]
+
+
+def level_lines(lines):
+    """The line that says that levels have no effect, where there are any."""
+    if lines:
+        told = "isolation level" + (f" (line {lines[0]}) has" if len(lines) == 1 else f"s (lines {', '.join(map(str, lines))}) have")
+        yield f"locking: strict two-phase locking; {told} no effect"
+
+
+# ---- numbers and columns
+
+
+def number(count):
+    return f"{count:,}"
+
+
+def number_of(count, one, more):
+    return f"{number(count)} {one if count == 1 else more}"
+
+
+def share(orders, of):
+    """A part of all orders in percent, rounded to one place; a half is rounded up."""
+    tenths = (2000 * orders + of) // (2 * of) if of else 0
+    return "<0.1%" if orders and not tenths else f"{tenths // 10}.{tenths % 10}%"
+
+
+def table_lines(rows, to_right):
+    """Rows of cells in columns with two blanks between, each but the last one as wide as its widest cell. Those that are named go to the right."""
+    widths = [max(map(len, column)) for column in zip(*rows, strict=True)][:-1]
+    for *cells, last in rows:
+        pairs = enumerate(zip(cells, widths, strict=True))
+        fronts = [cell.rjust(width) if place in to_right else cell.ljust(width) for place, (cell, width) in pairs]
+        yield "  ".join([*fronts, last]).rstrip(" ")
+
+
+# ---- the page
+
+
+class ClassPage:
+    """What is asked of the classes of a spec, and its text."""
+
+    def __init__(self, classes, path, request, lines_with_levels=()):
+        self.classes, self.path, self.request, self.lines_with_levels = classes, path, request, lines_with_levels
+        self.rows = classes.asked(request)
+        self.by_result = request.has(BY_RESULT)
+        self.one, self.more = ("result", "results") if self.by_result else ("class", "classes")
+        self.letters = OF_RESULTS if self.by_result else OF_ALL if classes.all_orders else OF_SENT
+        self.orders = sum(one.orders for one in self.rows)
+
+    # the head
+
+    def remarks(self):
+        """What the head says of the orders behind their numbers."""
+        if self.classes.all_orders:
+            dropped = sum(one.letters["N"] for one in self.rows)
+            yield from ["all permutations"] * (not self.classes.is_lined)
+            if dropped:
+                yield f"{number(dropped)} {'contains' if dropped == 1 else 'contain'} a step that is not sent"
+        if self.request.filters:
+            yield visible(" ".join(self.request.filter_words()))
+
+    def head_lines(self):
+        some = f"{number(self.orders)} of " if self.request.filters else ""
+        orders = number_of(self.classes.orders, "order", "orders")
+        remarks = "; ".join(self.remarks())
+        yield f"{visible(self.path)}: {some}{orders} in {number_of(len(self.rows), self.one, self.more)}" + (f" ({remarks})" if remarks else "")
+        yield from level_lines(self.lines_with_levels)
+
+    # expectations
+
+    def missing(self, expected):
+        """The classes whose orders are not as expected."""
+        return [one for one in self.rows if not expected.is_in(self.classes.seen(expected.select, one))]
+
+    def holds_in(self, expected):
+        """How many orders are as expected."""
+        return self.orders - sum(one.orders for one in self.missing(expected))
+
+    def is_as_expected(self):
+        return not any(self.missing(one) for one in self.request.expectations)
+
+    def found(self, expected, one):
+        """What the SELECT of an expectation finds in place of the one row."""
+        events = self.classes.seen(expected.select, one)
+        if events[-1] in LINES:
+            return LINES[events[-1]]
+        rows = ["|".join(row) for row in rows_in(events)]
+        return f"{number(len(rows))} rows, first {rows[0]}" if rows[1:] else rows[0] if rows else "no row"
+
+    def expectation_lines(self):
+        for expected in self.request.expectations:
+            head, missing = f"expect {expected.select} = {', '.join(expected.values)}", self.missing(expected)
+            of = f"of {number_of(self.orders, 'order', 'orders')}"
+            if not missing:
+                yield visible(f"{head}: holds in {number(self.orders)} {of}")
+                continue
+            yield visible(head)
+            yield f"  FAILED in {number(sum(one.orders for one in missing))} {of}"
+            yield f"  first: {' '.join(self.classes.steps(missing[0]))}    (rank {missing[0].first_rank})"
+            yield visible(f"  found: {self.found(expected, missing[0])}")
+
+    # totals
+
+    def total(self, letter):
+        """How many orders have a letter, and how many classes; none where it is not known."""
+        if letter not in self.letters or (letter == "R" and self.classes.is_lined):
+            return None
+        return sum(one.letters[letter] for one in self.rows), sum(letter in one.letters for one in self.rows)
+
+    def total_cells(self, letter):
+        total = self.total(letter)
+        if total is None:
+            return [f"  {letter} ", "-", "-", "-", NOT_KNOWN]
+        return [f"  {letter} ", number(total[0]), share(total[0], self.orders), number(total[1]), WORDS[letter]]
+
+    def total_lines(self):
+        yield from table_lines([["", "orders", "share", self.more, ""], *map(self.total_cells, self.letters)], {1, 2, 3})
+
+    # classes
+
+    def letters_of(self, one, without):
+        """A character for each letter that has a place: the letter, or this one."""
+        return "".join(letter if letter in one.letters else without for letter in self.letters)
+
+    def class_cells(self, place, one):
+        counted = [number(one.orders), share(one.orders, self.orders)]
+        return [f"{place}", *counted, self.letters_of(one, "."), f"{one.first_rank}", " ".join(self.classes.steps(one))]
+
+    def class_lines(self):
+        if self.rows:
+            head = [self.one, "orders", "share", self.letters, "rank", "first order"]
+            first, *lines = table_lines([head, *(self.class_cells(place, one) for place, one in enumerate(self.rows, 1))], {0, 1, 2, 4})
+            yield first
+            for line, one in zip(lines, self.rows, strict=True):
+                yield line
+                yield from (f"{BENEATH}{told}" for told in self.beneath(one))
+
+    def beneath(self, one):
+        """What stands beneath a class."""
+        spec = self.classes.spec
+        if self.request.has(OUTCOMES):
+            yield from outcome_text(spec, one.ending.transcripts).decode().removesuffix("\n").split("\n")
+        if self.request.has(FINAL_ROWS):
+            yield from self.final_lines(one)
+        for text in self.request.queries:
+            yield visible(f"query {text}: {self.query_rows(text, one)}")
+
+    def final_lines(self, one):
+        """The final rows of each table, and how each session stands that has not ended."""
+        lines = [visible(f"{name}: {rows_text(map(row_text, rows))}") for name, rows in one.ending.final_rows]
+        if not self.by_result:
+            names = map(visible, self.classes.spec.session_names)
+            lines += [f"{name} {LEFT_IN[at]}" for name, at in zip(names, one.ending.standing, strict=True) if at in LEFT_IN]
+        return lines or ["nothing"]
+
+    def query_rows(self, text, one):
+        events = self.classes.seen(text, one)
+        return LINES[events[-1]] if events[-1] in LINES else rows_text("|".join(row) for row in rows_in(events))
+
+    # the legend
+
+    def legend_lines(self):
+        """What the marks mean that stand in the table, each on the first step that has it."""
+        steps = [step for one in self.rows for step in self.classes.steps(one)]
+        firsts = [(mark, next((step for step in steps if mark in marks_of(step)), None)) for mark in MEANINGS]
+        meant = [f"{step.removesuffix(marks_of(step))}{mark} {MEANINGS[mark]}" for mark, step in firsts if step]
+        if meant:
+            yield "   ".join(meant)
+
+    def text(self):
+        parts = [self.head_lines(), self.expectation_lines(), self.total_lines()]
+        parts += [] if self.request.has(BRIEF) else [self.class_lines(), self.legend_lines()]
+        texts = ["".join(f"{line}\n" for line in part) for part in parts]
+        return "\n".join(text for text in texts if text)
+
+
+def rows_text(rows):
+    return ", ".join(rows) or "no row"
+
+
+def marks_of(step):
+    """The marks behind a step's name. A name in quotes ends with its quote, and a plain one has none of the marks."""
+    return step[len(step.rstrip("-:!")) :]
+
+
+# ---- the command
+
+
+class Asking:
+    """A spec's text, of which several things may be asked."""
+
+    def __init__(self, text):
+        self.text, self.known = text, {}
+
+    @cached_property
+    def file(self):
+        return read_spec(self.text)
+
+    @cached_property
+    def spec(self):
+        return bind(self.file)
+
+    def classes(self, all_orders):
+        if all_orders not in self.known:
+            self.known[all_orders] = OrderClasses(self.spec, all_orders)
+        return self.known[all_orders]
+
+    def page(self, path, request):
+        """Raises a Refusal where the text has no spec or does not start, NotAsked or NoLook where the request is not one of this spec."""
+        request.check(self.spec)
+        return ClassPage(self.classes(request.has(ALL_ORDERS)), path, request, lines_with_levels(self.text, self.file))
+
+    def answer(self, path, words):
+        """The exit status, and what stands on the two outputs."""
+        try:
+            request = request_of(words)
+            page = self.page(path, request)
+        except NoWords as wrong:
+            return 2, b"", f"{wrong.args[0]}\n".encode()
+        except Refusal as refusal:
+            return 3, b"", refusal.line(path)
+        except NotAsked as wrong:
+            return 3, b"", f"isofarm: {path}: {wrong.args[0]}\n".encode()
+        except NoLook as wrong:
+            return 3, b"", f"isofarm: {wrong.args[0]}\n".encode()
+        text = classes_json(page, statements_of(self.file)) if request.has(JSON) else page.text()
+        return 0 if page.is_as_expected() else 1, text.encode(), b""
+
+
+def main(path, *words):
+    status, out, error = Asking(Path(path).read_bytes()).answer(path, words)
+    sys.stdout.buffer.write(out)
+    sys.stderr.buffer.write(error)
+    sys.exit(status)
+
+
+if __name__ == "__main__":
+    if len(sys.argv) < 2:
+        sys.exit(__doc__)
+    main(*sys.argv[1:])
