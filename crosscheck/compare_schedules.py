@@ -6,7 +6,7 @@ Of the spec of each seed schedules and permutations are counted by layers of sta
 endings, their numbers of orders and their least ranks are the same, and so are the results of serial orders. By layers also holds what has to hold of
 both: the permutations of which every step is sent are the schedules that have all steps. The first order of a class is led from moment to moment, and
 a filter and its opposite have all orders. PROGRAM prints the classes of all permutations as JSON; they have the same least ranks, numbers of orders,
-transcripts, rows left, sessions that have not ended, and letters but for R. Before the seeds come the pages of `schedules/`, which were worked out by
+transcripts, rows left, sessions that have not ended, and letters. Before the seeds come the pages of `schedules/`, which were worked out by
 hand. KIND is one of those of `compare_classes.py`, or `all`. The last lines count what was compared.
 """
 
@@ -157,10 +157,10 @@ def wrong_first_orders(classes, random):
 
 
 def wrong_anomalies(classes):
-    """A class has R where it has none of S, D and E and its result is none of those of serial orders."""
+    """A class has R where it has none of D, E, N and S and its result is none of those of serial orders."""
     serial = serial_answers(classes.spec)
     for one in classes.all:
-        is_anomaly = not {"S", "D", "E"} & {*one.letters} and one.ending.result not in serial
+        is_anomaly = not {"D", "E", "N", "S"} & {*one.letters} and one.ending.result not in serial
         if ("R" in one.letters) != is_anomaly:
             yield f"the class of rank {one.first_rank} has R where it has not, or has it not"
 
@@ -195,10 +195,6 @@ def wrong_classes(classes, random):
 OF_CLASS = {"least": "first_rank", "orders": "orders", "order": "order", "told": "transcripts", "left": "final_rows", "open": "open"}
 
 
-def without_anomaly(letters):
-    return letters.replace("R", "-")
-
-
 def wrong_beside(program, path, text, every):
     """What the program tells otherwise of all permutations of a spec."""
     Path(path).write_bytes(text)
@@ -213,7 +209,7 @@ def wrong_beside(program, path, text, every):
         yield f"the program tells {told['orders']} orders in {len(told['classes'])} classes, and here are {page.orders} in {len(classes)}"
         return
     for one, other in zip(told["classes"], classes, strict=True):
-        if any(one[old] != other[new] for old, new in OF_CLASS.items()) or without_anomaly(one["shows"]) != without_anomaly(other["letters"]):
+        if any(one[old] != other[new] for old, new in OF_CLASS.items()) or one["shows"] != other["letters"]:
             yield f"the class of rank {one['least']} is another one"
     if any(told["totals"][letter] != [*page.total(letter)] for letter in "WDENS"):
         yield "other totals"

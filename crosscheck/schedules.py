@@ -61,8 +61,8 @@ class Ending:
         return {letter for letter, is_so in has.items() if is_so}
 
     def is_anomaly(self, serial_results):
-        """Whether all sessions are through, without an error of their own, and no serial order has this result."""
-        return self.letters.isdisjoint("SDE") and self.result not in serial_results
+        """Whether every session is through, each of its steps sent and none an error of its own, and no serial order has this result."""
+        return self.letters.isdisjoint("DENS") and self.result not in serial_results
 
     def steps(self):
         """How many steps were sent or dropped."""
