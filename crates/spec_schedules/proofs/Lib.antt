@@ -1,0 +1,5 @@
+pub mod Ranks
+pub mod Letters
+pub mod Words
+pub mod Few
+pub mod Finals
