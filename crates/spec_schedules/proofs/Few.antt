@@ -44,8 +44,8 @@ one-rank q ks a b h k = (let x = h.least b k.inside k.begins in let y = k.least 
 pub never-back : LeadsBack point_rules → ⊥
 never-back b =
     let p = b.world in
-    let v = runs-serve p.kind p.steps p.left p.world b.word b.runs in
-    let same : rest_of p.left b.word ≡ p.left = sym (ap (λ (x : Point). x.left) (behind-line p.kind p.steps p.left p.world b.word b.runs)) ∙ ap (λ (x : Point). x.left) b.back in
+    let v = runs-serve p.kind p.run p.left p.world b.word b.runs in
+    let same : rest_of p.left b.word ≡ p.left = sym (ap (λ (x : Point). x.left) (behind-line p.kind p.run p.left p.world b.word b.runs)) ∙ ap (λ (x : Point). x.left) b.back in
     let t = total-rest p.left b.word v in
     let e = ap (λ q. total (counts_of q)) same in
     let some = b.some in
@@ -113,10 +113,10 @@ point-few p few = record {
   few = λ w words apart each.
       (let le = words-few p.left w.left words apart (λ s h.
       (let e = each s h in
-      (runs-serve p.kind p.steps p.left p.world s e.0, sym (ap (λ (x : Point). x.left) (behind-line p.kind p.steps p.left p.world s e.0)) ∙ ap (λ (x : Point). x.left) e.1))) in
+      (runs-serve p.kind p.run p.left p.world s e.0, sym (ap (λ (x : Point). x.left) (behind-line p.kind p.run p.left p.world s e.0)) ∙ ap (λ (x : Point). x.left) e.1))) in
       omega arith);
   light = λ s h.
-      (let is = rank-line p.kind p.steps p.left p.world s h in
-      let lt = rank-within (counts_of p.left) s (left-served p.left s (runs-serve p.kind p.steps p.left p.world s h)) in
+      (let is = rank-line p.kind p.run p.left p.world s h in
+      let lt = rank-within (counts_of p.left) s (left-served p.left s (runs-serve p.kind p.run p.left p.world s h)) in
       omega arith);
 }

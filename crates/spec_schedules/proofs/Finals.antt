@@ -32,15 +32,15 @@ module _ (kind : Kind) (run : Spec) (start : World) (sessions : run.sessions ≤
   -- words that run and send the same are the same
   one-line : (s t : Word) → Runs point_rules (start_point kind run start) s → Runs point_rules (start_point kind run start) t → line q s ≡ line q t → s ≡ t
   one-line s t h k e =
-      sym (sessions-line run.steps q s queued (runs-serve kind run.steps q start s h)) ∙ ap (map (session_of run.steps)) e ∙ sessions-line run.steps q t queued (runs-serve kind run.steps q start t k)
+      sym (sessions-line run.steps q s queued (runs-serve kind run q start s h)) ∙ ap (map (session_of run.steps)) e ∙ sessions-line run.steps q t queued (runs-serve kind run q start t k)
 
   rank-of-word : (s : Word) → Runs point_rules (start_point kind run start) s → IsRank q (line q s) (rank point_rules (start_point kind run start) s)
-  rank-of-word s h = subst (λ n. IsRank q (line q s) n) (sym (rank-line kind run.steps q start s h)) (word-rank-is run.steps q s queued (runs-serve kind run.steps q start s h))
+  rank-of-word s h = subst (λ n. IsRank q (line q s) n) (sym (rank-line kind run q start s h)) (word-rank-is run.steps q s queued (runs-serve kind run q start s h))
 
   pub order-rank : (ks : List ℕ) → IsOrder kind run.steps q start ks → (first : ℕ) × IsRank q ks first
   order-rank ks h =
-      let x = order-word kind run.steps q start ks few queued h in
-      let s = word_of kind run.steps ks in
+      let x = order-word kind run q start ks few queued h in
+      let s = word_of kind run ks in
       (rank point_rules (start_point kind run start) s, subst (λ l. IsRank q l (rank point_rules (start_point kind run start) s)) x.line_is (rank-of-word s x.runs))
 
   module _ (seen : List Point) (finals : List Final) (is : AreFinals point_rules seen (start_point kind run start) finals) where
@@ -54,8 +54,8 @@ module _ (kind : Kind) (run : Spec) (start : World) (sessions : run.sessions ≤
           let s = m.0 in
           let maximal = is.schedules f s has m.1 in
           subst (λ l. IsOrder kind run.steps q start l × (send_all run.steps start l ≡ t.world.world)) (sym m.2) (
-            word-order kind run.steps q start s few queued maximal.0 maximal.1,
-            sym (ap (λ (x : Point). x.world) (behind-line kind run.steps q start s maximal.0)) ∙ ap (λ (x : Point). x.world) (t.runs s m.1).1,
+            word-order kind run q start s few queued maximal.0 maximal.1,
+            sym (ap (λ (x : Point). x.world) (behind-line kind run q start s maximal.0)) ∙ ap (λ (x : Point). x.world) (t.runs s m.1).1,
           ));
       below = λ ks n h r.
           (let m = has-mapped (line q) ks (is.words f.node) h in
@@ -74,8 +74,8 @@ module _ (kind : Kind) (run : Spec) (start : World) (sessions : run.sessions ≤
       orders = λ node. map (line q) (is.words node);
       entries = λ f has. let t = is.tallies f has in (t.world, t.at, counted-at f has t);
       some = λ ks h.
-          (let x = order-word kind run.steps q start ks few queued h in
-          let s = word_of kind run.steps ks in
+          (let x = order-word kind run q start ks few queued h in
+          let s = word_of kind run ks in
           let e = is.some s (x.runs, x.over) in
           (e.0, e.1, subst (λ l. Has l (map (line q) (is.words e.0.node))) x.line_is (has-map (line q) s (is.words e.0.node) e.2)));
       one = λ ks f h hf hh a b.

@@ -1,22 +1,22 @@
 -- Where the steps of a spec have led, as a world of a graph: letters are sessions.
 use Rattle.std.specs.Prelude.{◌≡◌, ℕ, ◌&&◌, Bool, true, false, List, [], ◌∷◌, length, get_or, set}
 use Rattle.perm_ranks.specs.Counting.{words_before}
-use Rattle.bound_specs.specs.Spec.{Spec, Step, Queues, counts_of, queues_of}
+use Rattle.bound_specs.specs.Spec.{Spec, Queues, counts_of, queues_of}
 use Rattle.machine_model.specs.World.{World, send}
 use Rattle.world_graph.specs.Worlds.{Rules}
 use Rattle.spec_schedules.specs.declared.kind.Kind.{Kind}
 use Rattle.spec_schedules.specs.Schedules.{may_come}
 
--- a world of the machine, with what is still to be sent: for each session its step numbers, in order
+-- a world of a spec's machine, with what is still to be sent: for each session its step numbers, in order
 pub record Point : Type 0 where
   pub kind : Kind
-  pub steps : List Step
+  pub run : Spec
   pub left : Queues
   pub world : World
 
 -- the start of a spec
 abbrev pub start_point : Kind → Spec → World → Point
-start_point kind run start = record { kind = kind; steps = run.steps; left = queues_of run; world = start }
+start_point kind run start = record { kind = kind; run = run; left = queues_of run; world = start }
 
 abbrev pub is_some_left : List ℕ → Bool
 is_some_left [] = false
@@ -25,7 +25,7 @@ is_some_left (k ∷ ks) = true
 -- the session's next step is sent, if one is left
 abbrev pub point_with : Point → ℕ → List ℕ → Point
 point_with p i [] = p
-point_with p i (k ∷ ks) = record { kind = p.kind; steps = p.steps; left = set p.left i ks; world = send p.steps p.world k }
+point_with p i (k ∷ ks) = record { kind = p.kind; run = p.run; left = set p.left i ks; world = send p.run.steps p.world k }
 
 -- a session is enabled where a step of it is left and may come
 abbrev pub point_rules : Rules Point
