@@ -1,16 +1,15 @@
 -- The rank of an order, and how many orders there are.
-use Rattle.std.proofs.Common.{◌≡◌, refl, sym, ap, ◌∙◌, subst, ℕ, zero, suc, ◌+◌, ◌<◌, ◌≤◌, ◌^◌, ◌==◌, ◌||◌, ◌⊎◌, inl, inr, Bool, true, false, List, [], ◌∷◌, ◌++◌, length, get_or, map, arith, eqb-true}
+use Rattle.std.proofs.Common.{◌≡◌, refl, sym, ap, ◌∙◌, subst, ℕ, ◌<◌, ◌≤◌, ◌^◌, ◌==◌, ◌||◌, inl, inr, Bool, true, false, List, [], ◌∷◌, ◌++◌, length, map, arith, eqb-true}
 use Rattle.std.specs.List.{IsDistinct, list_any, AllByRecursion}
 use Rattle.std.proofs.lemmas.List.{length-map, map-append}
 use Rattle.std.proofs.lemmas.Map.Steps.{length-le_from_distinct_below}
-use mathlib.Core.List.{IsPrefix}
 use Rattle.path_counts.specs.Paths.{Has, AreApart}
 use Rattle.path_counts.proofs.Lists.{has-mapped, apart-map}
-use Rattle.perm_ranks.specs.Words.{Word, total, all_words, words_of, word_at}
+use Rattle.perm_ranks.specs.Words.{Word, total, words_of, word_at}
 use Rattle.perm_ranks.proofs.WordLemmas.{Takes, words-take, each-at}
 use Rattle.bound_specs.specs.Spec.{Step, Queues, line, counts_of}
-use Rattle.world_graph.specs.Worlds.{Runs, behind, rank, LeadsBack, AreFewWords}
-use Rattle.spec_schedules.specs.Schedules.{session_of, permutations, permutation_of, IsRank}
+use Rattle.world_graph.specs.Worlds.{LeadsBack, AreFewWords}
+use Rattle.spec_schedules.specs.Schedules.{session_of, permutations, IsRank}
 use Rattle.spec_schedules.specs.Points.{Point, point_rules}
 use Rattle.spec_schedules.proofs.Ranks.{word_rank, rank-within, rank-begins, rank-least}
 use Rattle.spec_schedules.proofs.Letters.{AreQueued, Serves, rest_of, line-append, sessions-line, left-served, served-takes, total-rest}

@@ -1,21 +1,19 @@
 -- What is counted of maximal words is counted of orders.
-use Rattle.std.proofs.Common.{◌≡◌, refl, sym, ap, ◌∙◌, subst, ℕ, ◌≤◌, List, length, map, arith}
-use Rattle.std.specs.Prelude.{slice_get, Some}
+use Rattle.std.proofs.Common.{◌≡◌, sym, ap, ◌∙◌, subst, ℕ, ◌≤◌, List, length, map, arith}
 use Rattle.std.proofs.lemmas.List.{length-map}
-use Rattle.path_counts.specs.Paths.{Has, AreApart}
+use Rattle.path_counts.specs.Paths.{Has}
 use Rattle.path_counts.proofs.Lists.{has-map, has-mapped, apart-map}
 use Rattle.perm_ranks.specs.Words.{Word}
-use Rattle.bound_specs.specs.Spec.{Spec, Queues, line, counts_of, queues_of}
+use Rattle.bound_specs.specs.Spec.{Spec, Queues, line, queues_of}
 use Rattle.machine_model.specs.World.{World, send_all}
-use Rattle.world_graph.specs.Worlds.{Runs, behind, rank, IsOver}
+use Rattle.world_graph.specs.Worlds.{Runs, rank}
 use Rattle.world_graph.specs.Census.{AreFinals, IsTally}
 use Rattle.world_graph.specs.declared.schedules.Final.{Final}
 use Rattle.spec_schedules.specs.declared.kind.Kind.{Kind}
 use Rattle.spec_schedules.specs.Schedules.{session_of, IsOrder, IsRank}
 use Rattle.spec_schedules.specs.Points.{Point, point_rules, start_point}
 use Rattle.spec_schedules.specs.Counted.{AreCounted, AreAllCounted}
-use Rattle.spec_schedules.proofs.Ranks.{word_rank}
-use Rattle.spec_schedules.proofs.Letters.{AreQueued, Serves, sessions-line, spec-queued, length-queues}
+use Rattle.spec_schedules.proofs.Letters.{AreQueued, sessions-line, spec-queued, length-queues}
 use Rattle.spec_schedules.proofs.Words.{word_of, runs-serve, behind-line, rank-line, word-order, order-word}
 use Rattle.spec_schedules.proofs.Few.{word-rank-is, one-rank}
 

@@ -1,14 +1,14 @@
 -- Words whose letters all find a step, and what they send.
-use Rattle.std.proofs.Common.{◌≡◌, refl, sym, ap, ◌∙◌, subst, ℕ, zero, suc, ◌+◌, ◌-◌, ◌<◌, ◌≤◌, ◌==◌, ◌⊎◌, inl, inr, Bool, true, false, cond, List, [], ◌∷◌, ◌++◌, length, get_or, set, map, All, arith, eqb-true, eq-eqb, get_or-set_same, get_or-set_other}
-use Rattle.std.proofs.lemmas.Bool.{cases_eq, cases_lt, false≢true}
+use Rattle.std.proofs.Common.{◌≡◌, refl, sym, ap, ◌∙◌, subst, ℕ, zero, suc, ◌+◌, ◌-◌, ◌<◌, ◌==◌, ◌⊎◌, inl, inr, Bool, true, false, cond, List, [], ◌∷◌, ◌++◌, length, get_or, set, map, All, arith, eqb-true, eq-eqb, get_or-set_same, get_or-set_other}
+use Rattle.std.proofs.lemmas.Bool.{cases_eq, cases_lt}
 use Rattle.std.proofs.lemmas.List.{get_or_past, length-set}
-use Rattle.std.proofs.lemmas.List.Elements.{All-nil, All-cons, All-head, All-tail}
+use Rattle.std.proofs.lemmas.List.Elements.{All-nil, All-cons}
 use Rattle.path_counts.specs.Paths.{Has}
 use Rattle.perm_ranks.specs.Words.{Word, total}
 use Rattle.perm_ranks.specs.Counting.{taken}
 use Rattle.perm_ranks.proofs.CountLemmas.{total-taken}
 use Rattle.perm_ranks.proofs.WordLemmas.{Takes, done, takes}
-use Rattle.bound_specs.specs.Spec.{Step, Queues, no_step, line, counts_of, steps_of, queues_from}
+use Rattle.bound_specs.specs.Spec.{Step, Queues, line, counts_of, steps_of, queues_from}
 use Rattle.bound_specs.proofs.WalkLemmas.{get_or-counts, counts-set, line-takes}
 use Rattle.spec_schedules.specs.Schedules.{session_of, own_steps}
 use Rattle.spec_schedules.proofs.Ranks.{AreLeft}

@@ -1,5 +1,5 @@
 -- The rank of the least word that begins with letters.
-use Rattle.std.proofs.Common.{◌≡◌, refl, sym, ap, ◌∙◌, subst, ℕ, zero, suc, ◌+◌, ◌-◌, ◌<◌, ◌≤◌, List, [], ◌∷◌, ◌++◌, length, get_or, arith, Option, Some, None}
+use Rattle.std.proofs.Common.{◌≡◌, refl, sym, ap, ◌∙◌, ℕ, ◌+◌, ◌<◌, ◌≤◌, List, [], ◌∷◌, ◌++◌, length, get_or, arith, Option, Some, None}
 use Rattle.std.specs.Prelude.{option_map}
 use Rattle.perm_ranks.specs.Words.{Word, total, all_words, word_at, place_of}
 use Rattle.perm_ranks.specs.Counting.{taken, words_before, words_starting}

@@ -1,11 +1,11 @@
 -- The orders of a spec are the maximal words of its graph.
-use Rattle.std.proofs.Common.{◌≡◌, refl, sym, ap, ◌∙◌, subst, ℕ, zero, suc, ◌+◌, ◌<◌, ◌≤◌, ◌⊎◌, ◌&&◌, inl, inr, Bool, true, false, List, [], ◌∷◌, ◌++◌, length, get_or, set, map, All, arith, get_or-set_same, get_or-set_other}
+use Rattle.std.proofs.Common.{◌≡◌, refl, sym, ap, ◌∙◌, subst, ℕ, ◌+◌, ◌<◌, ◌≤◌, ◌⊎◌, ◌&&◌, inl, inr, Bool, true, false, List, [], ◌∷◌, ◌++◌, length, get_or, set, map, All, arith, get_or-set_same, get_or-set_other}
 use Rattle.std.proofs.lemmas.Bool.{cases_eq, cases_lt, false≢true}
 use Rattle.std.proofs.lemmas.List.{get_or_past, length-set, append-nil, length-append}
 use Rattle.std.proofs.lemmas.List.Elements.{All-head, All-tail}
 use mathlib.Core.List.{IsPrefix}
 use Rattle.perm_ranks.specs.Words.{Word}
-use Rattle.perm_ranks.specs.Counting.{taken, words_before}
+use Rattle.perm_ranks.specs.Counting.{words_before}
 use Rattle.bound_specs.specs.Spec.{Spec, Queues, line, counts_of}
 use Rattle.bound_specs.proofs.WalkLemmas.{line-takes}
 use Rattle.machine_model.specs.World.{World, send, send_all}
@@ -14,7 +14,7 @@ use Rattle.spec_schedules.specs.declared.kind.Kind.{Kind}
 use Rattle.spec_schedules.specs.Schedules.{session_of, own_steps, may_come, EachMayCome, IsOrder}
 use Rattle.spec_schedules.specs.Points.{Point, point_rules, point_with, is_some_left}
 use Rattle.spec_schedules.proofs.Ranks.{word_rank}
-use Rattle.spec_schedules.proofs.Letters.{AreQueued, Serves, rest_of, tail_of, nonempty-within, own-here, own-other, queued-head, queued-set, sessions-line, own-line, known-line, length-rest, counts-taken}
+use Rattle.spec_schedules.proofs.Letters.{AreQueued, Serves, rest_of, tail_of, own-here, own-other, queued-head, queued-set, own-line, known-line, length-rest, counts-taken}
 
 nothing-behind : (xs ys : List ℕ) → xs ++ ys ≡ xs → ys ≡ []
 nothing-behind xs [] e = refl

@@ -1,5 +1,5 @@
 -- Where the steps of a spec have led, as a world of a graph: letters are sessions.
-use Rattle.std.specs.Prelude.{◌≡◌, ℕ, ◌&&◌, Bool, true, false, List, [], ◌∷◌, length, get_or, set}
+use Rattle.std.specs.Prelude.{ℕ, ◌&&◌, Bool, true, false, List, [], ◌∷◌, length, get_or, set}
 use Rattle.perm_ranks.specs.Counting.{words_before}
 use Rattle.bound_specs.specs.Spec.{Spec, Queues, counts_of, queues_of}
 use Rattle.machine_model.specs.World.{World, send}

@@ -1,7 +1,7 @@
-use Rattle.std.proofs.Common.{◌≡◌, refl, ℕ, true, false, List, [], ◌∷◌, inl, inr}
+use Rattle.std.proofs.Common.{refl, ℕ, List, [], ◌∷◌, inl, inr}
 use Rattle.bound_specs.specs.Spec.{Step}
 use Rattle.machine_model.specs.World.{World, send}
-use Rattle.spec_schedules.specs.declared.kind.Kind.TheVariants.{Schedules, Permutations}
+use Rattle.spec_schedules.specs.declared.kind.Kind.TheVariants.{Permutations}
 use Rattle.spec_schedules.specs.Schedules.{EachMayCome}
 use Rattle.spec_schedules.proofs.laws.schedules_and_permutations.Goals as goal
 
