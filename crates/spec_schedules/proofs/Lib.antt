@@ -3,3 +3,4 @@ pub mod Letters
 pub mod Words
 pub mod Few
 pub mod Finals
+pub mod Worked
