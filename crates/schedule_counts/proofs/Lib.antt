@@ -1,3 +1,4 @@
 pub mod Places
 pub mod Searches
 pub mod Ends
+pub mod Sums

@@ -9,8 +9,10 @@ ghost use Rattle.spec_schedules.specs.Points.{start_point};
 ghost use Rattle.schedule_counts.specs.declared.counting.StatesError.TheVariants.{Memory, Start};
 ghost use Rattle.machine_model.specs.World.{World};
 ghost use Rattle.machine_model.specs.Start.{Started, start};
+ghost use Rattle.schedule_counts.specs.Classes.{AreClasses};
 ghost use Rattle.schedule_counts.specs.States.{AreFinalStates, AreOver, AreStatesOf, IsOverAt, IsStateOf, error_of};
 
+use crate::laws::sums_are_exact;
 use crate::place::Place;
 use crate::search::Search;
 use bound_specs::Spec;
@@ -78,13 +80,14 @@ pub fn final_states<'a>(
     most: usize,
 ) -> Result<FinalStates<'a>, StatesError>
     requires { spec.now.run.lines ≡ [] }
-    ensures counted { IfOk result (λ found. (w : World) × (start spec.now.run ≡ Started w) × AreFinalStates kind spec.now.run w found.machine.told found.states.items) }
+    ensures counted { IfOk result (λ found. (w : World) × (start spec.now.run ≡ Started w) × AreFinalStates kind spec.now.run w found.machine.told found.states.items × AreClasses kind spec.now.run w found.machine.told found.states.items) }
     ensures refused { (error : StartError) → IsErrOf result (StatesError.Start error) → IsRefusedBy error (start spec.now.run) }
 {
     let mut search = started(alloc, spec, kind)?;
     no_order_leads_back();
     orders_are_few();
     orders_are_words();
+    sums_are_exact();
     match finals(alloc, &mut search, most) {
         Ok(finals) => {
             let states = states_of(alloc, &search, finals.as_slice())?;

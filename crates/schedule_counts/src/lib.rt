@@ -3,8 +3,10 @@
 #![tactic(auto)]
 
 mod counting;
+mod laws;
 mod machine;
 mod place;
 mod search;
 
 pub use counting::{FinalState, FinalStates, StatesError, final_states};
+pub use laws::sums_are_exact;

@@ -28,9 +28,8 @@ returns-in-Ok-clause-counted c =
     let few : run.sessions ≤ 8 = subst (λ (r : Spec). r.sessions ≤ 8) same c.search.invariant.sessions in
     let all = c.orders_are_words.ensures c.args.kind run p.0 seen finals few is in
     let of : AreStatesOf seen c.finals.new.explored.told finals c.in_ok-states-in-Ok.states.items =
-    subst (λ fs. AreStatesOf seen c.finals.new.explored.told fs c.in_ok-states-in-Ok.states.items) c.as_slice.ensures.value c.in_ok-states-in-Ok.ensures in (
-      p.0,
-      p.1,
-      subst (λ t. AreFinalStates c.args.kind run p.0 t c.in_ok-states-in-Ok.states.items) told
-          (states-counted c.args.kind run p.0 seen finals c.finals.new.explored.told c.in_ok-states-in-Ok.states.items of all (finals-run c.args.kind run p.0 seen finals is)),
-    )
+    subst (λ fs. AreStatesOf seen c.finals.new.explored.told fs c.in_ok-states-in-Ok.states.items) c.as_slice.ensures.value c.in_ok-states-in-Ok.ensures in
+    let states : AreFinalStates c.args.kind run p.0 c.search.inside.machine.told c.in_ok-states-in-Ok.states.items =
+    subst (λ t. AreFinalStates c.args.kind run p.0 t c.in_ok-states-in-Ok.states.items) told
+    (states-counted c.args.kind run p.0 seen finals c.finals.new.explored.told c.in_ok-states-in-Ok.states.items of all (finals-run c.args.kind run p.0 seen finals is)) in
+    (p.0, p.1, states, c.sums_are_exact.ensures c.args.kind run p.0 c.search.inside.machine.told c.in_ok-states-in-Ok.states.items few c.in_ok-search.ensures.few states)
