@@ -230,6 +230,11 @@ module _ (kind : Kind) (run : Spec) (start : World) (sessions : run.sessions ≤
       some = λ ks h.
           (let x = is.some ks h in
           (x.0.outcome, in-orders (with_number x.0.outcome all) x.0 ks (in-with all x.0 x.1) x.2));
+      below = λ n ks rank h r.
+          (let x = orders-in (with_number n all) ks h in
+          let f = with-in n all x.0 x.1 in
+          (x.0, f.0, f.1, (is.entries x.0 f.0).1.below ks rank x.2 r));
+      met = λ f h. let x = (is.entries f h).1.met in (x.0, in-orders (with_number f.outcome all) f x.0 (in-with all f h) x.1, x.2);
       few =
           (let le = orders-few (orders_at all) (orders-apart all is.apart (λ f h. h)) (λ ks h. let r = orders-in all ks h in (each-at r.0 ks r.1 r.2).0) in
           let l = orders-long all (λ f h. h) in
