@@ -1,0 +1,4 @@
+pub mod Places
+pub mod Searches
+pub mod Ends
+pub mod Sums

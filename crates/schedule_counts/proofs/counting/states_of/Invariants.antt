@@ -1,0 +1,6 @@
+use Rattle.std.proofs.Common.{take}
+use Rattle.schedule_counts.specs.States.{AreStatesOf}
+use Rattle.schedule_counts.proofs.counting.states_of.Given as goal
+
+abbrev pub invariant-loop-place : goal.invariant-loop-place
+invariant-loop-place l = AreStatesOf l.search.seen l.search.told (take l.place l.finals) l.states.items

@@ -1,0 +1,5 @@
+use Rattle.schedule_counts.proofs.Sums.{classes-of}
+use Rattle.schedule_counts.proofs.laws.sums_are_exact.Goals as goal
+
+pub returns : goal.returns
+returns c = λ kind run start told states sessions few is. classes-of kind run start sessions told states is few

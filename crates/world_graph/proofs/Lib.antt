@@ -1,0 +1,5 @@
+pub mod Books
+pub mod Turns
+pub mod Walks
+pub mod Words
+pub mod LastNodes
