@@ -47,7 +47,7 @@ BY_QUEUES = {
     "diamond": [[FREE, high, low, ENDS, FREE] for high, low in ((1, 2), (1, 3), (2, 4), (3, 4))],
     "disjoint": [[FREE, session, FREE, ENDS] for session in range(6)],
 }
-# Counted by another hand, with another program.
+# Counted by another hand, with another program. Of the ring the number alone was known, and its steps were chosen from many so that they have it.
 BY_ANOTHER_HAND = {"ring": 634_126_816, "transfers": 2_563_384, "mixed": 3_330_788, "clashing": 91_390}
 
 
