@@ -1,4 +1,4 @@
-"""Checks that specs with 10^9 to 10^15 orders have the figures that are known of them.
+"""Checks that specs with up to 10^15 orders have the figures that are known of them.
 
 usage: python3 crosscheck/schedule_figures.py PROGRAM|--alone [NAME..]
 
@@ -47,8 +47,8 @@ BY_QUEUES = {
     "diamond": [[FREE, high, low, ENDS, FREE] for high, low in ((1, 2), (1, 3), (2, 4), (3, 4))],
     "disjoint": [[FREE, session, FREE, ENDS] for session in range(6)],
 }
-# Four transfers of five steps in a ring: counted by another hand, by another program.
-BY_ANOTHER_HAND = {"ring": 634_126_816}
+# Counted by another hand, with another program. Of the ring the number alone was known, and its steps were chosen from many so that they have it.
+BY_ANOTHER_HAND = {"ring": 634_126_816, "transfers": 2_563_384, "mixed": 3_330_788, "clashing": 91_390}
 
 
 def behind_step(queues, session, step):
@@ -102,6 +102,9 @@ FIGURES = {
     "diamond": Figures(11_732_745_024, 1_678_874_664, 75, 1, {"W": (1_335_537_800, 74)}, 24_522_617_061),
     "one_row": Figures(305_540_235_000, 28_929_668_400, 31, 1, {"W": (26_787_094_200, 30)}, 203_703_218_647),
     "disjoint": Figures(3_246_670_537_110_000, 3_246_670_537_110_000, 1, 1, {}, 0),
+    "transfers": Figures(63_063_000, 2_563_384, 188, 18, {"W": (2_476_496, 174), "D": (1_193_616, 4)}, 2_681_149_592),
+    "mixed": Figures(63_063_000, 3_330_788, 365, 32, {"W": (3_276_000, 351), "D": (2_928_754, 129), "R": (7_325, 24)}, 5_719_810_088),
+    "clashing": Figures(756_756, 91_390, 76, 20, {"W": (91_384, 75), "D": (91_337, 69)}, 21_611_376),
 }
 
 
