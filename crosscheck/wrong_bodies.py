@@ -105,8 +105,8 @@ def changed(body):
 def contracts_of(crate, path):
     """The head of each function of that path, down to its body. A path is that of a module, of a type where there is one, and a name."""
     words, src = path.split("::"), TOP / "crates" / crate / "src"
-    for length in range(len(words) - 1, 0, -1):
-        file = src.joinpath(*words[:length]).with_suffix(".rt")
+    for length in range(len(words) - 1, -1, -1):
+        file = src.joinpath(*words[:length]).with_suffix(".rt") if length else src / "lib.rt"
         if file.is_file():
             heads = re.findall(rf"^ *(?:pub(?:\(crate\))? )?(?:extern \"C\" )?fn {words[-1]}\b.*?(?:^ *\{{\}}?| \{{)$", file.read_text(), re.M | re.S)
             return [head for head in heads if length == len(words) - 1 or words[-2] in file.read_text()]
