@@ -5,7 +5,7 @@ pub(crate) const FRONT: &[u8] = br#"<!doctype html>
 <html lang="en">
 <head>
 <meta charset="utf-8">
-<meta http-equiv="Content-Security-Policy" content="default-src 'none'; style-src 'sha256-YEVDhIYea/qvrNTK0fPxoYR0p7T8+yAAsWAg/O3YZOI='; script-src 'sha256-NFKpefPKqZYPEOd6HYuWwh2GppP1dafIauRBrhrJoLQ='; base-uri 'none'; form-action 'none'">
+<meta http-equiv="Content-Security-Policy" content="default-src 'none'; style-src 'sha256-YEVDhIYea/qvrNTK0fPxoYR0p7T8+yAAsWAg/O3YZOI='; script-src 'sha256-hdZbRS6jI+ODwA1fmrds9eEMnzQitOZO1iMUfA83Pwk='; base-uri 'none'; form-action 'none'">
 <meta name="viewport" content="width=device-width, initial-scale=1">
 <title>isofarm classes</title>
 <style>"#;
