@@ -13,8 +13,8 @@ has, its files named from the top, and one line before them that names what tell
     clause: CRATE MODULE::FUNCTION LABEL   a contract; without LABEL where the clause has none
 
 A NAME is that of the file, or CRATE/NAME. Without names all are tried that a case or a test tells, and with --prove those that the prover refuses; with --sample
-K of them, half by the prover where --prove stands too. Which ones goes by the seed N, which is printed. --landing tries three by tests and three by the prover, taken by the newest
-commit. For a case or a test the program is compiled anew in a copy with that body. The prover looks at the one function, over the libraries that `rt ci` has
+K of them, half by the prover where --prove stands too. Which ones goes by the seed N, which is printed. --landing tries three by tests and three by the prover, taken by the files of
+the newest commit. For a case or a test the program is compiled anew in a copy with that body. The prover looks at the one function, over the libraries that `rt ci` has
 left in this checkout. As many are tried side by side as there are processors. out/wrong_bodies.md gets a table of what was told by what. --check builds
 nothing: it looks whether all that the files name is there. The exit status is 1 where a body is not told.
 """
