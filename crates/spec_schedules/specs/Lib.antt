@@ -1,3 +1,4 @@
 pub mod Schedules
 pub mod Points
 pub mod Counted
+pub mod Ranked

@@ -1,2 +1,0 @@
-pub mod Different
-pub mod Groups

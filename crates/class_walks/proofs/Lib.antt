@@ -1,5 +1,0 @@
-pub mod Noting
-pub mod Parting
-pub mod ReadLemmas
-pub mod Serving
-pub mod Showing

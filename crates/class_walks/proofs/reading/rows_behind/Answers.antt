@@ -1,5 +1,0 @@
-use Rattle.std.proofs.Common.{◌++◌, sym, ap, ◌∙◌, append-nil}
-use Rattle.class_walks.proofs.reading.rows_behind.Goals as goal
-
-pub returns : goal.returns
-returns c = sym (append-nil c.loop-key.rows) ∙ sym (ap (λ es. c.loop-key.rows ++ es) c.in-None.ensures.steps.0) ∙ c.loop-key.invariant

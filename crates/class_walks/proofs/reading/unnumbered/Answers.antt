@@ -1,7 +1,0 @@
-use Rattle.std.proofs.Common.{◌++◌, sym, ap, ◌∙◌, append-nil, map}
-use Rattle.class_walks.specs.Working.{at_zero}
-use Rattle.class_walks.proofs.reading.unnumbered.Goals as goal
-
-pub returns : goal.returns
-returns c =
-    sym (append-nil c.loop-key.rows) ∙ sym (ap (λ es. c.loop-key.rows ++ map at_zero es) c.in-None.ensures.steps.0) ∙ c.loop-key.invariant

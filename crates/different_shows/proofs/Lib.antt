@@ -1,0 +1,3 @@
+pub mod Bucketed
+pub mod Places
+pub mod Indexed

@@ -1,0 +1,125 @@
+//! What is shown, each once, under numbers.
+
+ghost use Rattle.std.specs.Prelude.{◌≡◌, ◌↔◌, ◌≢◌, ℕ, ◌<◌, ◌++◌, ◌∷◌, [], Some, None, IfOk, IsTrue, OnOk, OnErr, MatchOption, length, slice_get};
+ghost use Rattle.lock_queues.specs.Reasons.{Among};
+ghost use Rattle.different_shows.specs.Different.{AreDifferent, HasNumber};
+
+use crate::buckets::Buckets;
+use finite_maps::Fork;
+use order_classes::Shows;
+use std::alloc::{AllocError, Global};
+use std::marker::Model;
+
+/// What is shown, each once, in the order of numbers, seen by contracts as that list.
+pub struct Different {
+    alloc: Global,
+    shows: Vec<Shows>,
+    buckets: Buckets,
+}
+
+// Written out and not derived, so that who owns one calls this and does not let its parts go one by one.
+impl Drop for Different {
+    fn drop(self) {
+        let Different {
+            alloc: _,
+            shows: _shows,
+            buckets: _buckets,
+        } = self;
+    }
+}
+
+impl Model for Different {
+    ghost use Rattle.std.specs.Prelude.{List};
+    ghost use Rattle.order_classes.specs.declared.shows.Shows.{Shows as Shown};
+    ghost use Rattle.different_shows.specs.Different.{AreIndexed};
+
+    ghost Value = { List Shown };
+
+    ghost view = { λ d. d.shows.items };
+
+    ghost invariant = { λ d. AreIndexed d.shows.items d.buckets };
+}
+
+impl Different {
+    pub fn new(alloc: Global) -> Different
+        ensures { result ≡ [] }
+    {
+        Different {
+            alloc,
+            shows: Vec::new(alloc),
+            buckets: Buckets::new(alloc),
+        }
+    }
+
+    /// Each is there once.
+    pub fn known(&self)
+        ensures { AreDifferent self.now }
+    {
+        let _shows = &self.shows; // for the proof
+    }
+
+    /// All of them, in the order of numbers.
+    pub fn shows(&self) -> &[Shows]
+        ensures { result.now ≡ self.now }
+    {
+        self.shows.as_slice()
+    }
+
+    /// The number of what is shown, if it is there.
+    pub fn find(&self, shows: &Shows) -> Option<u32>
+        ensures { MatchOption result (Among shows.now self.now → ⊥) (λ n. slice_get self.now n ≡ Some shows.now) }
+    {
+        match self.buckets.get(&shows.told) {
+            Some(numbers) => self.find_in(numbers.as_slice(), shows),
+            None => None,
+        }
+    }
+
+    fn find_in(&self, numbers: &[u32], shows: &Shows) -> Option<u32>
+        ensures { MatchOption result ((n : ℕ) → Among n numbers.now → slice_get self.now n ≢ Some shows.now) (λ n. slice_get self.now n ≡ Some shows.now) }
+    {
+        for number in numbers {
+            if self.is_at(*number, shows) {
+                return Some(*number);
+            }
+        }
+        None
+    }
+
+    fn is_at(&self, number: u32, shows: &Shows) -> bool
+        ensures { IsTrue result ↔ (slice_get self.now number ≡ Some shows.now) }
+    {
+        let place = number as usize;
+        place < self.shows.len() && self.shows[place].is_same(shows)
+    }
+
+    /// The number of what is shown, which is added behind the others where it is not there.
+    pub fn number(&mut self, shows: &Shows) -> Result<u32, AllocError>
+        ensures ok { IfOk result (HasNumber self.old self.new shows.now) }
+        ensures err { OnErr result (self.new ≡ self.old) }
+    {
+        if let Some(number) = self.find(shows) {
+            return Ok(number);
+        }
+        self.add(shows)
+    }
+
+    /// Adds what is not there.
+    fn add(&mut self, shows: &Shows) -> Result<u32, AllocError>
+        requires { Among shows.now self.old → ⊥ }
+        ensures ok { IfOk result (λ n. (n ≡ length self.old) × (self.new ≡ self.old ++ shows.now ∷ [])) }
+        ensures err { OnErr result (self.new ≡ self.old) }
+    {
+        // No memory has room for so many.
+        let Ok(number) = u32::try_from(self.shows.len()) else {
+            return Err(AllocError);
+        };
+        let copy = shows.copied(self.alloc)?;
+        let told = shows.told.fork()?;
+        let numbers = self.buckets.with_number(self.alloc, &shows.told, number)?;
+        self.shows.reserve(1)?;
+        self.buckets.put(told, numbers)?;
+        self.shows.push_reserved(copy);
+        Ok(number)
+    }
+}

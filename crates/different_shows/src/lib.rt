@@ -1,0 +1,7 @@
+//! What is shown, each once, under numbers.
+#![tactic(auto)]
+
+mod buckets;
+mod different;
+
+pub use different::Different;

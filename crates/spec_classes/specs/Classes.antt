@@ -1,0 +1,57 @@
+-- The orders of a spec in classes, by what they show.
+use Rattle.std.specs.Prelude.{◌≡◌, ℕ, ◌+◌, ◌<◌, ◌^◌, List, [], ◌∷◌, Some, option_map}
+use Rattle.path_counts.specs.Paths.{Has}
+use Rattle.lock_queues.specs.Reasons.{Among}
+use Rattle.binding_model.specs.declared.tables.Table.{Table}
+use Rattle.bound_specs.specs.Spec.{Spec}
+use Rattle.spec_schedules.specs.declared.kind.Kind.{Kind}
+use Rattle.spec_schedules.specs.Ranked.{IsOrderAt}
+use Rattle.order_classes.specs.declared.shows.Shows.{Shows}
+use Rattle.order_classes.specs.Shows.{shows_of_line}
+use Rattle.order_classes.specs.Letters.{Answers, answers_of, session_orders, serial_line}
+use Rattle.order_classes.specs.Numbers.{IsNumberOf, IsLeastOf}
+use Rattle.spec_classes.specs.declared.classes.OrderClass.{OrderClass}
+
+-- the order of a rank shows this
+abbrev pub ShowsAt : Kind → List Table → Spec → ℕ → Shows → Type 0
+ShowsAt kind tables run rank s = (ks : List ℕ) × IsOrderAt kind run rank ks × (shows_of_line tables run ks ≡ Some s)
+
+-- a class has all orders that show what it does: so many, with this first rank and the steps of the order of that rank
+pub record IsClassOf (kind : Kind) (tables : List Table) (run : Spec) (c : OrderClass) : Type 0 where
+  pub count : IsNumberOf (λ rank. ShowsAt kind tables run rank c.shows) c.count
+  pub first : IsLeastOf (λ rank. ShowsAt kind tables run rank c.shows) c.first
+  pub line : IsOrderAt kind run c.first c.line.items
+  pub shows : shows_of_line tables run c.line.items ≡ Some c.shows
+
+-- all counts
+abbrev pub total_count : List OrderClass → ℕ
+total_count [] = 0
+total_count (c ∷ cs) = c.count + total_count cs
+
+abbrev pub AllBehind : ℕ → List OrderClass → Type 0
+AllBehind first [] = Unit {0}
+AllBehind first (c ∷ cs) = (first < c.first) × AllBehind first cs
+
+-- they stand in the order of their first ranks
+abbrev pub FirstsRise : List OrderClass → Type 0
+FirstsRise [] = Unit {0}
+FirstsRise (c ∷ cs) = AllBehind c.first cs × FirstsRise cs
+
+-- the classes of all orders of the kind, by what they show: a rank has one order, and all counts have a sum below 2^63
+pub record AreClassesOf (kind : Kind) (tables : List Table) (run : Spec) (cs : List OrderClass) : Type 0 where
+  pub each : (c : OrderClass) → Has c cs → IsClassOf kind tables run c
+  pub all : (rank : ℕ) (s : Shows) → ShowsAt kind tables run rank s → (c : OrderClass) × Has c cs × (c.shows ≡ s)
+  pub alone : (rank : ℕ) (ks ls : List ℕ) → IsOrderAt kind run rank ks → IsOrderAt kind run rank ls → ks ≡ ls
+  pub rise : FirstsRise cs
+  pub few : total_count cs < 2 ^ 63
+
+-- ---- serial orders
+
+-- the sessions, one behind the other in this order, each whole, answer so
+abbrev pub AnswersSerially : List Table → Spec → List ℕ → Answers → Type 0
+AnswersSerially tables run order a = option_map answers_of (shows_of_line tables run (serial_line run order)) ≡ Some a
+
+-- the answers of all serial orders of a spec, and no others
+pub record AreSerialAnswers (tables : List Table) (run : Spec) (answers : List Answers) : Type 0 where
+  pub each : (a : Answers) → Among a answers → (order : List ℕ) × Among order (session_orders run.sessions) × AnswersSerially tables run order a
+  pub all : (order : List ℕ) → Among order (session_orders run.sessions) → (a : Answers) × Among a answers × AnswersSerially tables run order a

@@ -1,0 +1,8 @@
+//! The orders of a spec in classes by what they show, each with the exact number of its orders and its first one; and what serial orders answer.
+#![tactic(auto)]
+
+mod classes;
+mod serial;
+
+pub use classes::{OrderClass, classes_of};
+pub use serial::serial_answers;
