@@ -2,8 +2,8 @@
 use Rattle.std.proofs.Common.{◌≡◌, refl, ap, ◌∙◌, ℕ, suc, ◌+◌, ◌≤◌, Bool, true, false, nat_lt, cond, List, [], ◌∷◌, length, ◌⊎◌, inl, inr, ⊎_elim, arith}
 use Rattle.std.proofs.lemmas.Bool.{ltb-true, ltb-false}
 use Rattle.lock_queues.specs.Reasons.{Among}
-use Rattle.order_classes.specs.Classes.{RiseFrom}
-use Rattle.class_numbers.specs.Numbers.{IsNumberOf}
+use Rattle.order_classes.specs.Numbers.{RiseFrom}
+use Rattle.order_classes.specs.Numbers.{IsNumberOf}
 
 -- ---- one rank more
 
@@ -117,3 +117,32 @@ module _ (P Q : ℕ → Type 0) where
 
 pub number-none : (P : ℕ → Type 0) → ((r : ℕ) → P r → ⊥) → IsNumberOf P 0
 number-none P none = record { ranks = []; rise = tt; has = λ r. (λ m. absurd m, λ p. absurd (none r p)); count = refl }
+
+-- the numbers of a list in which none is there twice
+abbrev sorted : List ℕ → List ℕ
+sorted [] = []
+sorted (x ∷ xs) = put x (sorted xs)
+
+sorted-in : (xs : List ℕ) (r : ℕ) → Among r (sorted xs) → Among r xs
+sorted-in [] r m = m
+sorted-in (x ∷ xs) r m = ⊎_elim (λ e. inl e) (λ n. inr (sorted-in xs r n)) (put-in x r (sorted xs) m)
+
+in-sorted : (xs : List ℕ) (r : ℕ) → Among r xs → Among r (sorted xs)
+in-sorted [] r m = m
+in-sorted (x ∷ xs) r (inl e) = in-put x r (sorted xs) (inl e)
+in-sorted (x ∷ xs) r (inr m) = in-put x r (sorted xs) (inr (in-sorted xs r m))
+
+sorted-length : (xs : List ℕ) → length (sorted xs) ≡ length xs
+sorted-length [] = refl
+sorted-length (x ∷ xs) = put-length x (sorted xs) ∙ ap suc (sorted-length xs)
+
+abbrev pub AreOnce : List ℕ → Type 0
+AreOnce [] = Unit {0}
+AreOnce (x ∷ xs) = (Among x xs → ⊥) × AreOnce xs
+
+sorted-rise : (xs : List ℕ) → AreOnce xs → RiseFrom 0 (sorted xs)
+sorted-rise [] once = tt
+sorted-rise (x ∷ xs) once = put-rise 0 x (sorted xs) (omega arith) (sorted-rise xs once.1) (λ m. once.0 (sorted-in xs x m))
+
+pub number-list : (xs : List ℕ) → AreOnce xs → IsNumberOf (λ r. Among r xs) (length xs)
+number-list xs once = record { ranks = sorted xs; rise = sorted-rise xs once; has = λ r. (sorted-in xs r, in-sorted xs r); count = sorted-length xs }
