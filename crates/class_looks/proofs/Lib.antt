@@ -1,6 +1,5 @@
 pub mod SeeingLemmas
 pub mod ReadingLemmas
-pub mod ExpectingLemmas
 pub mod ValueLemmas
 pub mod Worked
 pub mod WorkedTexts

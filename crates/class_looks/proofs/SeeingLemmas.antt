@@ -31,13 +31,13 @@ use Rattle.events.specs.declared.event.Event.TheVariants.{Row as RowEvent, Rows,
 use Rattle.events.specs.declared.event.Fault.TheVariants.{OutOfRange}
 use Rattle.binding_model.specs.Tables.{no_table, key_column}
 use Rattle.binding_model.specs.declared.tables.Table.{Table}
-use Rattle.bound_specs.specs.Spec.{Spec, line_of}
+use Rattle.bound_specs.specs.Spec.{Spec}
 use Rattle.machine_model.specs.World.{World}
 use Rattle.line_moments.specs.Left.{left_from, left_in}
 use Rattle.order_classes.specs.declared.shows.Shows.{Shows}
-use Rattle.order_classes.specs.Shows.{unnumbered, seen_by, seen, shows_in, world_of_line, shows_at}
-use Rattle.order_classes.specs.Looks.{HasKeyFor, IsLook, look_in, look_at, one_row, Meets}
-use Rattle.class_looks.specs.Seeing.{told_by, entries_at, sees, SeesRanks}
+use Rattle.order_classes.specs.Shows.{unnumbered, seen_by, seen, shows_in, world_of_line, shows_of_line}
+use Rattle.order_classes.specs.Looks.{HasKeyFor, IsLook, look_in, look_behind, one_row, Meets}
+use Rattle.class_looks.specs.Seeing.{told_by, entries_at, sees, SeesLines}
 
 abbrev Entry : Type 0
 Entry = RowPlace × Tuple
@@ -174,9 +174,9 @@ look-sees tables Rollback w l = absurd l
 look-sees tables (Lock t m nowait) w l = absurd l
 look-sees tables SetVariable w l = absurd l
 
-pub sees-ranks : (tables : List Table) (spec : Spec) (st : Bound) (r : ℕ) (s : Shows) → IsLook tables st → shows_at tables spec r ≡ Some s
-    → look_at spec st r ≡ Some (sees st s.left)
-sees-ranks tables spec st r s look shows = at (world_of_line spec (line_of spec r)) shows
+pub sees-lines : (tables : List Table) (spec : Spec) (st : Bound) (ks : List ℕ) (s : Shows) → IsLook tables st → shows_of_line tables spec ks ≡ Some s
+    → look_behind spec st ks ≡ Some (sees st s.left)
+sees-lines tables spec st ks s look shows = at (world_of_line spec ks) shows
   where
     at : (o : Option World) → option_map (shows_in tables spec.sessions) o ≡ Some s → option_map (look_in st) o ≡ Some (sees st s.left)
     at None h = absurd (cc h)
@@ -184,9 +184,9 @@ sees-ranks tables spec st r s look shows = at (world_of_line spec (line_of spec 
         let same : shows_in tables spec.sessions w ≡ s = cc (h) in
         ap Some (look-sees tables st w look ∙ ap (λ (x : Shows). sees st x.left) same)
 
-pub told-ranks : (st : Bound) (left : List (List (Value × Tuple))) (events : List Event) → events ≡ told_by (sees st left) → SeesRanks st left events
-told-ranks st left events e tables spec r s look shows is =
-    ap (option_map told_by) (sees-ranks tables spec st r s look shows) ∙ ap (λ rows. Some (told_by (sees st rows))) is ∙ sym (ap Some e)
+pub told-lines : (st : Bound) (left : List (List (Value × Tuple))) (events : List Event) → events ≡ told_by (sees st left) → SeesLines st left events
+told-lines st left events e tables spec ks s look shows is =
+    ap (option_map told_by) (sees-lines tables spec st ks s look shows) ∙ ap (λ rows. Some (told_by (sees st rows))) is ∙ sym (ap Some e)
 
 -- ---- expectations
 
@@ -222,10 +222,10 @@ one-told : (vs : List Value) (e : Effect) → WritesNothing e → told_by e ≡ 
 one-told vs (Gives events writes) nothing told = λ i. Gives (told i) (nothing i)
 one-told vs (Faults f) nothing told = absurd (let x : Failed f ∷ [] ≡ RowEvent vs ∷ Rows 1 ∷ [] = told in cc)
 
-pub expectations-seen : (tables : List Table) (spec : Spec) (st : Bound) (vs : List Value) (r : ℕ) (s : Shows) → IsLook tables st
-    → shows_at tables spec r ≡ Some s → Meets spec st vs r ↔ (told_by (sees st s.left) ≡ told_by (one_row vs))
-expectations-seen tables spec st vs r s look shows =
-    let is = sees-ranks tables spec st r s look shows in (
+pub expectations-seen : (tables : List Table) (spec : Spec) (st : Bound) (vs : List Value) (ks : List ℕ) (s : Shows) → IsLook tables st
+    → shows_of_line tables spec ks ≡ Some s → Meets spec st vs ks ↔ (told_by (sees st s.left) ≡ told_by (one_row vs))
+expectations-seen tables spec st vs ks s look shows =
+    let is = sees-lines tables spec st ks s look shows in (
       λ h. (let both : Some (sees st s.left) ≡ Some (one_row vs) = sym is ∙ h in let same : sees st s.left ≡ one_row vs = cc in ap told_by same),
       λ h. is ∙ ap Some (one-told vs (sees st s.left) (sees-nothing st s.left) h),
     )
@@ -254,7 +254,7 @@ module _ (t : ℕ) (key : Option Value) (c : Condition) (rows : List (Value × T
 
 -- ---- what the code answers
 
-pub ranks-told : {V E : Type 0} (view : V → List Event) (st : Bound) (left : List (List (Value × Tuple))) (r : Result V E)
-    → IfOk r (λ v. view v ≡ told_by (sees st left)) → IfOk r (λ v. SeesRanks st left (view v))
-ranks-told view st left (Ok v) h = told-ranks st left (view v) h
-ranks-told view st left (Err e) h = tt
+pub lines-told : {V E : Type 0} (view : V → List Event) (st : Bound) (left : List (List (Value × Tuple))) (r : Result V E)
+    → IfOk r (λ v. view v ≡ told_by (sees st left)) → IfOk r (λ v. SeesLines st left (view v))
+lines-told view st left (Ok v) h = told-lines st left (view v) h
+lines-told view st left (Err e) h = tt

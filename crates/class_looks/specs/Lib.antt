@@ -1,5 +1,4 @@
 pub mod Reading
 pub mod Seeing
 pub mod Values
-pub mod Expecting
 pub mod Laws

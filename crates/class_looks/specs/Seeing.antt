@@ -13,8 +13,8 @@ use Rattle.statement_evaluation.specs.Matched.{selected}
 use Rattle.binding_model.specs.declared.tables.Table.{Table}
 use Rattle.bound_specs.specs.Spec.{Spec}
 use Rattle.order_classes.specs.declared.shows.Shows.{Shows}
-use Rattle.order_classes.specs.Looks.{IsLook, look_at}
-use Rattle.order_classes.specs.Shows.{shows_at}
+use Rattle.order_classes.specs.Looks.{IsLook, look_behind}
+use Rattle.order_classes.specs.Shows.{shows_of_line}
 
 -- what is told of an effect: its events, or that it fails
 abbrev pub told_by : Effect → List Event
@@ -31,8 +31,8 @@ abbrev pub sees : Bound → List (List (Value × Tuple)) → Effect
 sees (Select t key c by out lock) left = selected by out (matching c (entries_at t key (get_or left t [])))
 sees _ left = Gives [] []
 
--- the events are what the SELECT tells in the world behind each rank that leaves these rows
-abbrev pub SeesRanks : Bound → List (List (Value × Tuple)) → List Event → Type 0
-SeesRanks st left events =
-    (tables : List Table) (spec : Spec) (r : ℕ) (s : Shows) → IsLook tables st → shows_at tables spec r ≡ Some s → s.left ≡ left
-    → option_map told_by (look_at spec st r) ≡ Some events
+-- the events are what the SELECT tells in the world behind each line that leaves these rows
+abbrev pub SeesLines : Bound → List (List (Value × Tuple)) → List Event → Type 0
+SeesLines st left events =
+    (tables : List Table) (spec : Spec) (ks : List ℕ) (s : Shows) → IsLook tables st → shows_of_line tables spec ks ≡ Some s → s.left ≡ left
+    → option_map told_by (look_behind spec st ks) ≡ Some events

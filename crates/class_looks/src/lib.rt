@@ -8,7 +8,7 @@ mod reading;
 mod values;
 
 pub use fault::LookFault;
-pub use laws::{asked_are_decided, expectations_are_seen, looks_are_spelled, looks_see_ranks};
+pub use laws::{expectations_are_seen, looks_are_spelled, looks_see_lines};
 pub use look::Look;
 pub use reading::look_of;
 pub use values::value_of;

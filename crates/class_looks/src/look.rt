@@ -5,7 +5,7 @@ ghost use Rattle.std.specs.Option.{option_copied};
 ghost use Rattle.bound_statements.specs.Plan.{at_key};
 ghost use Rattle.statement_evaluation.specs.Effect as effect;
 ghost use Rattle.statement_evaluation.specs.Borrowed.{effect_at};
-ghost use Rattle.class_looks.specs.Seeing.{told_by, entries_at, sees, SeesRanks};
+ghost use Rattle.class_looks.specs.Seeing.{told_by, entries_at, sees, SeesLines};
 
 use bound_statements::{Bound, Condition};
 use events::Event;
@@ -50,7 +50,7 @@ impl Look {
     ) -> Result<Vec<Event>, AllocError>
         ensures told { IfOk result (λ events. events.items ≡ told_by (sees self.now left.now)) }
         // So it is what the SELECT tells in the world of each rank that leaves these rows.
-        ensures ranks { IfOk result (λ events. SeesRanks self.now left.now events.items) }
+        ensures lines { IfOk result (λ events. SeesLines self.now left.now events.items) }
     {
         seen_by(alloc, &self.statement, left)
     }

@@ -1,6 +1,5 @@
-pub mod Numbers
-pub mod Marks
-pub mod Joins
-pub mod Groups
+pub mod Lists
+pub mod Passes
+pub mod Anomalies
+pub mod Putting
 pub mod Told
-pub mod WholeWords

@@ -1,4 +1,2 @@
-pub mod Serial
-pub mod Numbering
 pub mod Pages
 pub mod Telling

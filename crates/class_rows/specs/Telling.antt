@@ -1,20 +1,39 @@
--- How classes come to be told: their letters are joined to those of rows, rows tell tallies, and counts are added up.
-use Rattle.std.specs.Prelude.{◌≡◌, ℕ, ◌+◌, Bool, true, false, ◌||◌, cond, List, [], ◌∷◌, length, get_or, set, slice_get, replicate, Option, Some, None}
+-- How classes come to be told. No public clause cites this module but for what is given.
+use Rattle.std.specs.Prelude.{◌≡◌, ◌≢◌, ◌↔◌, ℕ, ◌+◌, ◌<◌, ◌≤◌, ◌^◌, ◌⊎◌, Bool, true, ◌||◌, cond, List, [], ◌∷◌, ◌++◌, length, set, slice_get, Option, Some, None}
+use Rattle.path_counts.specs.Paths.{Has}
 use Rattle.binding_model.specs.declared.tables.Table.{Table}
-use Rattle.bound_specs.specs.Spec.{Spec, line_of}
+use Rattle.bound_specs.specs.Spec.{Spec}
+use Rattle.spec_schedules.specs.declared.kind.Kind.{Kind}
+use Rattle.spec_schedules.specs.Ranked.{IsOrderAt}
+use Rattle.spec_classes.specs.declared.classes.OrderClass.{OrderClass}
+use Rattle.spec_classes.specs.Classes.{ShowsAt, IsClassOf, AreClassesOf, AreSerialAnswers}
+use Rattle.order_classes.specs.declared.shows.Shows.{Shows}
 use Rattle.order_classes.specs.declared.rows.Letters.{Letters}
 use Rattle.order_classes.specs.declared.rows.Total.{Total}
 use Rattle.order_classes.specs.declared.rows.Totals.{Totals}
 use Rattle.order_classes.specs.declared.rows.ClassRow.{ClassRow}
-use Rattle.order_classes.specs.Shows.{shows_at}
-use Rattle.class_stretches.specs.declared.tally.Tally.{Tally}
-use Rattle.class_stretches.specs.Stretches.{IsStretched, AreTallies}
-use Rattle.class_stretches.specs.Mapping.{IsMapped}
-use Rattle.class_groups.specs.declared.sweep.Groups.{Groups}
+use Rattle.order_classes.specs.declared.rows.Grouping.{Grouping}
+use Rattle.order_classes.specs.declared.letters.Filter.{Filter}
+use Rattle.order_classes.specs.Asked.{Passes}
+use Rattle.order_classes.specs.Shows.{shows_of_line}
+use Rattle.order_classes.specs.Numbers.{IsNumberOf, IsLeastOf}
+use Rattle.different_shows.specs.Different.{HasNumber}
+use Rattle.class_rows.specs.declared.found.FoundOrders.{FoundOrders}
 use Rattle.class_rows.specs.declared.letters.Letter.{Letter}
 use Rattle.class_rows.specs.declared.letters.Letter.TheVariants as letter
-use Rattle.class_rows.specs.declared.rows.Classed.{Classed}
-use Rattle.class_rows.specs.Pages.{has_r, rows_with}
+use Rattle.class_rows.specs.declared.passing.Passing.{Passing}
+use Rattle.class_rows.specs.Pages.{told_by, AreLetters, has_r, rows_with}
+
+-- ---- what is given
+
+-- of a spec without permutation lines these are the answers of its serial orders
+abbrev pub AreSerialOf : List Table → Spec → List Shows → Type 0
+AreSerialOf tables run answers = run.lines ≡ [] → AreSerialAnswers tables run answers
+
+-- the classes of the orders of a spec, and what its serial orders answer
+pub record AreFound (x : FoundOrders) : Type 0 where
+  pub classes : AreClassesOf x.kind x.tables.now x.spec.now.run x.classes.now
+  pub serial : AreSerialOf x.tables.now x.spec.now.run x.serial.now
 
 -- ---- letters
 
@@ -34,45 +53,6 @@ either a b = record {
   not_serial = either_r a.not_serial b.not_serial;
 }
 
--- what is told of a spec without lines alone
-abbrev pub unless_lines : {X : Type 0} → List (List ℕ) → X → Option X
-unless_lines [] x = Some x
-unless_lines (l ∷ ls) x = None
-
--- no letter: R is not told, or it is told that no order has it
-abbrev pub no_letters : Option Bool → Letters
-no_letters r = record { waits = false; deadlock = false; error = false; unsent = false; stuck = false; not_serial = r }
-
-abbrev pub r_of_none : Spec → Option Bool
-r_of_none spec = unless_lines spec.lines false
-
--- the letters of classes are joined to those of the rows whose numbers they have
-abbrev pub joined : List Letters → List (Option ℕ) → List Letters → List Letters
-joined all [] ls = all
-joined all (n ∷ ns) [] = all
-joined all (None ∷ ns) (l ∷ ls) = joined all ns ls
-joined all (Some n ∷ ns) (l ∷ ls) = joined (set all n (either (get_or all n l) l)) ns ls
-
--- ---- rows
-
--- the row of a tally and letters
-pub record IsTallied (tables : List Table) (spec : Spec) (t : Tally) (l : Letters) (row : ClassRow) : Type 0 where
-  pub least : row.least ≡ t.least
-  pub count : row.count ≡ t.count
-  pub letters : row.letters ≡ l
-  pub line : row.line.items ≡ line_of spec t.least
-  pub shows : shows_at tables spec t.least ≡ Some row.shows
-
-abbrev pub no_tally : Tally
-no_tally = record { least = 0; count = 0 }
-
--- the rows of the first tallies and letters
-pub record AreTallied (tables : List Table) (spec : Spec) (ts : List Tally) (ls : List Letters) (i : ℕ) (rows : List ClassRow) : Type 0 where
-  pub long : length rows ≡ i
-  pub each : (k : ℕ) (row : ClassRow) → slice_get rows k ≡ Some row → IsTallied tables spec (get_or ts k no_tally) (get_or ls k (no_letters None)) row
-
--- ---- totals
-
 -- what is counted has the letter
 abbrev pub has_letter : Letter → Letters → Bool
 has_letter letter.All l = true
@@ -83,46 +63,112 @@ has_letter letter.Unsent l = l.unsent
 has_letter letter.Stuck l = l.stuck
 has_letter letter.NotSerial l = has_r l
 
--- the orders of a class that is asked for, where it has the letter
-abbrev pub orders_of : (Letters → Bool) → Option ℕ → Letters → Tally → ℕ
-orders_of has None l t = 0
-orders_of has (Some n) l t = cond (has l) t.count 0
+-- ---- the classes that pass
 
--- of all classes, by their numbers of rows, their letters and their tallies
-abbrev pub orders_in : (Letters → Bool) → List (Option ℕ) → List Letters → List Tally → ℕ
-orders_in has [] ls ts = 0
-orders_in has (n ∷ ns) [] ts = 0
-orders_in has (n ∷ ns) (l ∷ ls) [] = 0
-orders_in has (n ∷ ns) (l ∷ ls) (t ∷ ts) = orders_of has n l t + orders_in has ns ls ts
+-- these are those of the classes that pass, each with its letters, in their order
+abbrev pub ArePassing : List Table → Spec → List Filter → List OrderClass → List Passing → Type 0
+ArePassing tables run filters [] ps = ps ≡ []
+ArePassing tables run filters (c ∷ cs) ps =
+    ((p : Passing) × (rest : List Passing) × (ps ≡ p ∷ rest) × (p.class.now ≡ c) × Passes tables run filters c.shows
+    × AreLetters tables run c.shows p.letters × ArePassing tables run filters cs rest)
+    ⊎ ((Passes tables run filters c.shows → ⊥) × ArePassing tables run filters cs ps)
 
-abbrev pub total_by : (Letters → Bool) → List (Option ℕ) → List Letters → List Tally → List ClassRow → Total
-total_by has ns ls ts rows = record { orders = orders_in has ns ls ts; classes = rows_with has rows }
+abbrev pub AllBehind : ℕ → List Passing → Type 0
+AllBehind first [] = Unit {0}
+AllBehind first (p ∷ ps) = (first < p.class.now.first) × AllBehind first ps
 
-abbrev pub total_of_r : Spec → Total → Option Total
-total_of_r spec t = unless_lines spec.lines t
+abbrev pub FirstsRise : List Passing → Type 0
+FirstsRise [] = Unit {0}
+FirstsRise (p ∷ ps) = AllBehind p.class.now.first ps × FirstsRise ps
 
-abbrev pub totals_by : Spec → List (Option ℕ) → List Letters → List Tally → List ClassRow → Totals
-totals_by spec ns ls ts rows = record {
-  all = total_by (has_letter letter.All) ns ls ts rows;
-  waits = total_by (has_letter letter.Waits) ns ls ts rows;
-  deadlock = total_by (has_letter letter.Deadlock) ns ls ts rows;
-  error = total_by (has_letter letter.Error) ns ls ts rows;
-  unsent = total_by (has_letter letter.Unsent) ns ls ts rows;
-  stuck = total_by (has_letter letter.Stuck) ns ls ts rows;
-  not_serial = total_of_r spec (total_by (has_letter letter.NotSerial) ns ls ts rows);
+-- all their counts
+abbrev pub count_of : List Passing → ℕ
+count_of [] = 0
+count_of (p ∷ ps) = p.class.now.count + count_of ps
+
+-- classes of the orders of a spec, each with its letters, in the order of their first ranks
+pub record AreAdded (kind : Kind) (tables : List Table) (run : Spec) (ps : List Passing) : Type 0 where
+  pub each : (p : Passing) → Has p ps → IsClassOf kind tables run p.class.now
+  pub told : (p : Passing) → Has p ps → (p.letters.not_serial ≡ None) ↔ (run.lines ≢ [])
+  pub rise : FirstsRise ps
+  pub alone : (rank : ℕ) (s t : Shows) → ShowsAt kind tables run rank s → ShowsAt kind tables run rank t → s ≡ t
+  pub few : count_of ps < 2 ^ 63
+
+-- ---- rows
+
+module _ (kind : Kind) (tables : List Table) (run : Spec) (by : Grouping) where
+  -- the class is told by the row
+  abbrev pub IsOf : ClassRow → Passing → Type 0
+  IsOf row p = told_by by p.class.now.shows ≡ told_by by row.shows
+
+  -- the rank's order is of one of these classes, and that is told by the row
+  abbrev pub IsInRow : List Passing → ClassRow → ℕ → Type 0
+  IsInRow ps row rank = (p : Passing) × Has p ps × IsOf row p × ShowsAt kind tables run rank p.class.now.shows
+
+  -- a letter is told of the row exactly where one of its classes has it
+  abbrev pub IsLettered : List Passing → ClassRow → (Letters → Bool) → Type 0
+  IsLettered ps row has = (has row.letters ≡ true) ↔ ((p : Passing) × Has p ps × IsOf row p × (has p.letters ≡ true))
+
+  -- the row tells those of these classes that are told alike
+  pub record IsRowOf (ps : List Passing) (row : ClassRow) : Type 0 where
+    pub count : IsNumberOf (IsInRow ps row) row.count
+    pub least : IsLeastOf (IsInRow ps row) row.least
+    pub line : IsOrderAt kind run row.least row.line.items
+    pub shows : shows_of_line tables run row.line.items ≡ Some row.shows
+    pub lettered : (l : Letter) → IsLettered ps row (has_letter l)
+    pub told : (row.letters.not_serial ≡ None) ↔ (run.lines ≢ [])
+    pub few : row.count ≤ count_of ps
+
+  -- the rows of these classes, with what each tells, in the order of their first ranks, of which each is that of a class
+  pub record AreRowsOf (ps : List Passing) (keys : List Shows) (rows : List ClassRow) : Type 0 where
+    pub long : length rows ≡ length keys
+    pub keys_are : (n : ℕ) (row : ClassRow) → slice_get rows n ≡ Some row → slice_get keys n ≡ Some (told_by by row.shows)
+    pub each : (n : ℕ) (row : ClassRow) → slice_get rows n ≡ Some row → IsRowOf ps row
+    pub all : (p : Passing) → Has p ps → (n : ℕ) × (row : ClassRow) × (slice_get rows n ≡ Some row) × IsOf row p
+    pub rise : (n m : ℕ) (row other : ClassRow) → n < m → slice_get rows n ≡ Some row → slice_get rows m ≡ Some other → row.least < other.least
+    pub before : (n : ℕ) (row : ClassRow) → slice_get rows n ≡ Some row → (p : Passing) × Has p ps × (row.least ≡ p.class.now.first)
+
+-- the row of the first class that is told so
+pub record IsFirst (p : Passing) (row : ClassRow) : Type 0 where
+  pub least : row.least ≡ p.class.now.first
+  pub count : row.count ≡ p.class.now.count
+  pub letters : row.letters ≡ p.letters
+  pub line : row.line.items ≡ p.class.now.line.items
+  pub shows : row.shows ≡ p.class.now.shows
+
+-- the row with a class more
+abbrev pub with_class : Passing → ClassRow → ClassRow
+with_class p row = record { least = row.least; count = row.count + p.class.now.count; letters = either row.letters p.letters; line = row.line; shows = row.shows }
+
+-- a class is put to the row of what it tells, or has a new one behind the others
+abbrev pub IsPut : Grouping → Passing → List Shows → List Shows → List ClassRow → List ClassRow → Type 0
+IsPut by p keys keys' rows rows' =
+    (n : ℕ) × HasNumber keys keys' (told_by by p.class.now.shows) n
+    × (((row : ClassRow) × (slice_get rows n ≡ Some row) × (rows' ≡ set rows n (with_class p row)))
+    ⊎ ((length rows ≤ n) × ((row : ClassRow) × IsFirst p row × (rows' ≡ rows ++ row ∷ []))))
+
+-- ---- totals
+
+-- the orders of the classes that have a letter, and how many rows do
+abbrev pub orders_with : (Letters → Bool) → List Passing → ℕ
+orders_with has [] = 0
+orders_with has (p ∷ ps) = cond (has p.letters) p.class.now.count 0 + orders_with has ps
+
+abbrev pub total_by : (Letters → Bool) → List Passing → List ClassRow → Total
+total_by has ps rows = record { orders = orders_with has ps; classes = rows_with has rows }
+
+-- what is told of a spec without permutation lines alone
+abbrev pub unless_lines : {X : Type 0} → List (List ℕ) → X → Option X
+unless_lines [] x = Some x
+unless_lines (l ∷ ls) x = None
+
+abbrev pub totals_by : Spec → List Passing → List ClassRow → Totals
+totals_by run ps rows = record {
+  all = total_by (has_letter letter.All) ps rows;
+  waits = total_by (has_letter letter.Waits) ps rows;
+  deadlock = total_by (has_letter letter.Deadlock) ps rows;
+  error = total_by (has_letter letter.Error) ps rows;
+  unsent = total_by (has_letter letter.Unsent) ps rows;
+  stuck = total_by (has_letter letter.Stuck) ps rows;
+  not_serial = unless_lines run.lines (total_by (has_letter letter.NotSerial) ps rows);
 }
-
--- ---- all of it
-
--- classes with these letters and numbers of rows are told so: ranks are in the classes of their rows, which tell the tallies of these and the letters
--- joined, and totals add up the tallies of the classes that are asked for
-pub record IsTold (tables : List Table) (spec : Spec) (g : Groups) (letters : List Letters) (numbers : List (Option ℕ)) (x : Classed) : Type 0 where
-  pub mapped : IsMapped g.stretches x.stretches numbers
-  pub stretched : IsStretched x.stretches
-  pub old_stretched : IsStretched g.stretches
-  pub tallies : List Tally
-  pub tallied : AreTallies x.stretches.list x.stretches.classes tallies
-  pub rows : AreTallied tables spec tallies (joined (replicate (length tallies) (no_letters (r_of_none spec))) numbers letters) (length tallies) x.rows.items
-  pub all : List Tally
-  pub all_tallied : AreTallies g.stretches.list g.stretches.classes all
-  pub totals : x.totals ≡ totals_by spec numbers letters all x.rows.items

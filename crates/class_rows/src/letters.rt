@@ -1,12 +1,10 @@
 //! The letters of classes.
 
-ghost use Rattle.std.specs.Prelude.{◌≡◌, ◌||◌, IfOk, length};
-ghost use Rattle.class_rows.specs.Numbering.{each_by};
+ghost use Rattle.std.specs.Prelude.{◌≡◌, ◌||◌};
 ghost use Rattle.class_rows.specs.Pages.{has_r, letters_of};
 ghost use Rattle.class_rows.specs.Telling.{either, either_r, has_letter};
 
 use order_classes::{Letters, Shows};
-use std::alloc::{AllocError, Global};
 
 /// What is counted: all classes, or those with a letter.
 #[derive(Clone, Copy)]
@@ -20,24 +18,8 @@ pub(crate) enum Letter {
     NotSerial,
 }
 
-/// The letters of all classes by what they show, where it is known of each whether it answers as no serial order does.
-pub(crate) fn letters_in(
-    alloc: Global,
-    shows: &[Shows],
-    not_serial: &[Option<bool>],
-) -> Result<Vec<Letters>, AllocError>
-    requires { length not_serial.now ≡ length shows.now }
-    ensures { IfOk result (λ letters. letters.items ≡ each_by letters_of shows.now not_serial.now) }
-{
-    let mut letters = Vec::with_capacity(alloc, shows.len())?;
-    for place in 0..shows.len() {
-        letters.push(letters_of(&shows[place], not_serial[place]))?;
-    }
-    Ok(letters)
-}
-
 /// The letters of what is shown, where it is known whether it answers as no serial order does, unless that is not told.
-fn letters_of(shows: &Shows, not_serial: Option<bool>) -> Letters
+pub(crate) fn letters_of(shows: &Shows, not_serial: Option<bool>) -> Letters
     ensures { result ≡ letters_of shows.now not_serial }
 {
     Letters {

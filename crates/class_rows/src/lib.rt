@@ -1,19 +1,16 @@
 //! Classes as they are told: letters, filters, answers and totals.
 #![tactic(auto)]
 
-mod answers;
+mod anomaly;
 mod asked;
-mod choosing;
 mod classing;
-mod joining;
+mod found;
 mod letters;
-mod not_serial;
-mod numbering;
+mod passing;
 mod rows;
-mod serial;
-mod tallied;
 mod totals;
 
 pub use asked::Asked;
 pub use classing::classed;
+pub use found::FoundOrders;
 pub use rows::Classed;
